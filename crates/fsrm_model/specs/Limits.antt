@@ -1,0 +1,33 @@
+-- The numbers that limit something.
+use Rattle.std.specs.Prelude.{ℕ, ◌^◌, ◌-◌}
+
+-- the last moment: 2099-12-31 23:59:59 UTC, in seconds since 1970-01-01 00:00:00 UTC
+abbrev pub last_moment : ℕ
+last_moment = 4102444799
+
+-- the bytes of the longest file, 2^44 - 65,536
+abbrev pub longest_file : ℕ
+longest_file = 17592185978880
+
+-- the greatest owner
+abbrev pub last_owner : ℕ
+last_owner = 2 ^ 32 - 1
+
+-- the bytes of the longest line that is looked at
+abbrev pub longest_line : ℕ
+longest_line = 65536
+
+-- the bytes of a script that are read
+abbrev pub longest_script : ℕ
+longest_script = 2 ^ 32
+
+-- the bytes of the longest name
+abbrev pub longest_name : ℕ
+longest_name = 255
+
+-- the nodes, and the bytes of their names, of the largest store
+abbrev pub most_nodes : ℕ
+most_nodes = 1048576
+
+abbrev pub most_names : ℕ
+most_names = 268435456

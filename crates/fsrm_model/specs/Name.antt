@@ -1,0 +1,44 @@
+-- Names, compared after simple case folding (The Unicode Standard, section 3.13, toSimpleCasefold).
+use Rattle.std.specs.Prelude.{ℕ, ◌==◌, ◌&&◌, ◌||◌, nat_lt, nat_le, not, Bool, true, false, List, [], ◌∷◌, length, map, chars, bytes_eq, codes}
+use Rattle.std.specs.List.{list_all, list_any}
+use Rattle.std.specs.Ordering.{is_lt, nat_cmp}
+use Rattle.std.specs.Cmp.Lexicographic.{slice_cmp}
+use Rattle.ucd_case.specs.CaseFolding.{simple_fold}
+use Rattle.fsrm_model.specs.Limits.{longest_name}
+
+-- the characters of a text, each one folded to one
+abbrev pub folded : List ℕ → List ℕ
+folded text = map simple_fold (chars text)
+
+-- whether two spellings are one name
+abbrev pub same_name : List ℕ → List ℕ → Bool
+same_name a b = bytes_eq (folded a) (folded b)
+
+-- whether two paths spell the same names
+abbrev pub same_names : List (List ℕ) → List (List ℕ) → Bool
+same_names [] [] = true
+same_names [] (b ∷ bs) = false
+same_names (a ∷ as') [] = false
+same_names (a ∷ as') (b ∷ bs) = same_name a b && same_names as' bs
+
+-- whether a name comes before another, by their folded characters
+abbrev pub name_before : List ℕ → List ℕ → Bool
+name_before a b = is_lt (slice_cmp nat_cmp (folded a) (folded b))
+
+-- A byte that may stand in a name: none of < > : " / \ | ? *, no control character. All of these
+-- are ASCII, and each byte of another character is above them.
+abbrev pub is_name_byte : ℕ → Bool
+is_name_byte b = (nat_le 32 b && not (b == 127)) && not (list_any (λ c. b == c) (codes "<>:\"/\\|?*"))
+
+-- whether a text, which is UTF-8, is a name: 1 to 255 bytes, but neither . nor ..
+abbrev pub is_name : List ℕ → Bool
+is_name text =
+    ((nat_lt 0 (length text) && nat_le (length text) longest_name) && list_all is_name_byte text)
+    && not (bytes_eq text (codes ".") || bytes_eq text (codes ".."))
+
+-- the names that a line can spell so far: 1 to 64 small letters of ASCII, digits and underscores
+abbrev pub is_plain_byte : ℕ → Bool
+is_plain_byte b = (nat_le 97 b && nat_le b 122) || ((nat_le 48 b && nat_le b 57) || b == 95)
+
+abbrev pub is_plain_name : List ℕ → Bool
+is_plain_name text = (nat_lt 0 (length text) && nat_le (length text) 64) && list_all is_plain_byte text

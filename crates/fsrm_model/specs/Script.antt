@@ -1,0 +1,69 @@
+-- A script, and the text of its replies.
+use Rattle.std.specs.Prelude.{ℕ, ◌+◌, ◌==◌, List, [], ◌∷◌, ◌++◌, take, Ok, Err, Option, Some, None, if◌then◌else◌}
+use Rattle.fsrm_model.specs.declared.row.Capacity.{Capacity}
+use Rattle.fsrm_model.specs.declared.row.Rows.{Rows}
+use Rattle.fsrm_model.specs.declared.command.Command.{Command}
+use Rattle.fsrm_model.specs.declared.command.Outcome.TheVariants.{Refused}
+use Rattle.fsrm_model.specs.Reading.{Read}
+use Rattle.fsrm_model.specs.Line.{read_line}
+use Rattle.fsrm_model.specs.Step.{step}
+use Rattle.fsrm_model.specs.Cost.{cost}
+use Rattle.fsrm_model.specs.Text.{reply}
+
+-- a byte in front of the first line
+abbrev pub onto_first : ℕ → List (List ℕ) → List (List ℕ)
+onto_first b [] = (b ∷ []) ∷ []
+onto_first b (line ∷ lines) = (b ∷ line) ∷ lines
+
+-- the lines of a script: what stands before each LF, and what is left behind the last where that isn't empty
+abbrev pub lines : List ℕ → List (List ℕ)
+lines [] = []
+lines (b ∷ bs) = if b == 10 then [] ∷ lines bs else onto_first b (lines bs)
+
+-- what a line leaves, and what is written for it
+pub record Replied : Type 0 where
+  pub rows : Rows
+  pub text : List ℕ
+
+-- a refused line has no moment
+abbrev pub replied_to : Capacity → Rows → ℕ → Option (Read Command) → Replied
+replied_to K R line None = record { rows = R; text = [] }
+replied_to K R line (Some (Err refusal)) = record { rows = R; text = reply K R 0 line (Refused refusal) }
+replied_to K R line (Some (Ok c)) = let s = step K R c in record { rows = s.rows; text = reply K s.rows c.moment line s.outcome }
+
+unfoldable pub replied : Capacity → Rows → ℕ → List ℕ → Replied
+replied K R line bytes = replied_to K R line (read_line bytes)
+
+-- the text of lines that are numbered from a number on, and the rows after them
+abbrev pub text_from : Capacity → Rows → ℕ → List (List ℕ) → List ℕ
+text_from K R line [] = []
+text_from K R line (l ∷ ls) = let r = replied K R line l in r.text ++ text_from K r.rows (line + 1) ls
+
+abbrev pub fold_from : Capacity → Rows → ℕ → List (List ℕ) → Rows
+fold_from K R line [] = R
+fold_from K R line (l ∷ ls) = fold_from K (replied K R line l).rows (line + 1) ls
+
+-- the text of a script's replies: what the program writes
+abbrev pub text : Capacity → Rows → List ℕ → List ℕ
+text K R script = text_from K R 1 (lines script)
+
+-- the rows after the commands of the script's first lines
+abbrev pub fold_script : Capacity → Rows → List ℕ → ℕ → Rows
+fold_script K R script j = fold_from K R 1 (take j (lines script))
+
+-- how many looks at nodes a line may take
+abbrev pub read_cost : Rows → Option (Read Command) → ℕ
+read_cost R None = 0
+read_cost R (Some (Err refusal)) = 0
+read_cost R (Some (Ok c)) = cost R c.deed
+
+unfoldable pub line_cost : Rows → List ℕ → ℕ
+line_cost R bytes = read_cost R (read_line bytes)
+
+-- and all lines, each over the rows before it
+abbrev pub cost_from : Capacity → Rows → ℕ → List (List ℕ) → ℕ
+cost_from K R line [] = 0
+cost_from K R line (l ∷ ls) = line_cost R l + cost_from K (replied K R line l).rows (line + 1) ls
+
+abbrev pub script_cost : Capacity → Rows → List ℕ → ℕ
+script_cost K R script = cost_from K R 1 (lines script)

@@ -1,0 +1,65 @@
+-- One command: the machine's step.
+use Rattle.std.specs.Prelude.{ℕ, nat_lt, Bool, true, false, List, [], ◌∷◌, Option, Some, None, if◌then◌else◌}
+use Rattle.fsrm_model.specs.declared.row.Capacity.{Capacity}
+use Rattle.fsrm_model.specs.declared.row.Rows.{Rows}
+use Rattle.fsrm_model.specs.declared.command.Act.{Act}
+use Rattle.fsrm_model.specs.declared.command.Command.{Command}
+use Rattle.fsrm_model.specs.declared.command.Deed.{Deed}
+use Rattle.fsrm_model.specs.declared.command.Deed.TheVariants.{File, Usage}
+use Rattle.fsrm_model.specs.declared.command.Outcome.{Outcome}
+use Rattle.fsrm_model.specs.declared.command.Outcome.TheVariants.{Refused}
+use Rattle.fsrm_model.specs.declared.command.Refusal.{Refusal}
+use Rattle.fsrm_model.specs.declared.command.Refusal.TheVariants.{ClockBack}
+use Rattle.fsrm_model.specs.Check.{◌when◌, first}
+use Rattle.fsrm_model.specs.Work.{Work}
+use Rattle.fsrm_model.specs.FileWork.{file_work, usage_work}
+
+-- what a command asks for, family by family
+abbrev pub work : Capacity → Rows → ℕ → Deed → Work
+work K R moment (File op) = file_work K R op moment
+work K R moment (Usage path) = usage_work K R path
+
+-- what a command leaves and answers, and the actions that it runs
+pub record Stepped : Type 0 where
+  pub rows : Rows
+  pub outcome : Outcome
+  pub lasting : Bool
+  pub acts : List Act
+
+-- rows, and the actions that led to them
+pub record Acted : Type 0 where
+  pub rows : Rows
+  pub acts : List Act
+
+-- no command that is built runs an action
+abbrev pub unacted : Rows → Acted
+unacted R = record { rows = R; acts = [] }
+
+-- the end of a command that lasts: its moment becomes the last one
+abbrev pub concluded : Acted → ℕ → Acted
+concluded after moment = record { rows = record after.rows { last_moment = moment }; acts = after.acts }
+
+abbrev pub lasted : Acted → ℕ → Outcome → Stepped
+lasted after moment outcome =
+    let end = concluded after moment in
+    record { rows = end.rows; outcome = outcome; lasting = true; acts = end.acts }
+
+abbrev pub unlasting : Rows → Outcome → Stepped
+unlasting R outcome = record { rows = R; outcome = outcome; lasting = false; acts = [] }
+
+-- a refused command leaves everything as it was
+abbrev pub refused : Rows → Refusal → Stepped
+refused R refusal = unlasting R (Refused refusal)
+
+abbrev pub accepted : ℕ → Work → Stepped
+accepted moment w = if w.lasts then lasted (unacted w.effect) moment w.outcome else unlasting w.effect w.outcome
+
+abbrev pub decided : Rows → ℕ → Work → Option Refusal → Stepped
+decided R moment w (Some refusal) = refused R refusal
+decided R moment w None = accepted moment w
+
+-- a command is refused for its moment first, and then by the first of its own refusals that holds
+abbrev pub step : Capacity → Rows → Command → Stepped
+step K R c =
+    let w = work K R c.moment c.deed in
+    decided R c.moment w (first ((ClockBack when nat_lt c.moment R.last_moment) ∷ w.checks))

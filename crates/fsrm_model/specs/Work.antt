@@ -1,0 +1,18 @@
+-- What a command asks for: why it may be refused, and what it does where it isn't.
+use Rattle.std.specs.Prelude.{Bool, List}
+use Rattle.fsrm_model.specs.declared.row.Rows.{Rows}
+use Rattle.fsrm_model.specs.declared.command.Outcome.{Outcome}
+use Rattle.fsrm_model.specs.Check.{Check}
+
+pub record Work : Type 0 where
+  -- its refusals, in their order
+  pub checks : List Check
+  -- the rows that its effect leaves
+  pub effect : Rows
+  pub outcome : Outcome
+  -- whether it lasts where it is accepted
+  pub lasts : Bool
+
+-- the one way to make a command's work
+abbrev pub asks : List Check → Rows → Outcome → Bool → Work
+asks checks effect outcome lasts = record { checks = checks; effect = effect; outcome = outcome; lasts = lasts }

@@ -1,0 +1,26 @@
+//! What every part of the file server resource manager speaks of: the rows that
+//! a store holds, commands and their outcomes, and, in `specs/`, the plain machine.
+#![tactic(auto)]
+
+pub mod command;
+pub mod copies;
+pub mod laws;
+pub mod list;
+pub mod memory;
+pub mod path;
+pub mod row;
+pub mod steps;
+#[cfg(test)]
+mod tests;
+pub mod text;
+
+pub use command::{Act, Answer, Command, Deed, FileOp, Outcome, Refusal, Subject};
+pub use list::List;
+pub use memory::{Duplicate, NoMemory};
+pub use path::Path;
+pub use row::{
+    ActRow, Action, ActionKind, AuditRow, AutoRow, Capacity, ExceptRow, Filter, GroupRow, JobRow,
+    NodeRow, QuotaRow, QuotaState, ReportKind, Rows, ScreenRow, TemplateRow, Threshold,
+};
+pub use steps::{Ledger, Steps, Weightless, WeightlessPage};
+pub use text::Text;

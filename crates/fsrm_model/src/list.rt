@@ -1,0 +1,75 @@
+//! An owned list.
+
+ghost use Rattle.std.specs.Prelude.{◌≡◌, ◌==◌, ◌∷◌, [], ◌++◌, OnOk, OnErr, length, slice_get};
+ghost use Rattle.std.specs.Option.{option_copied};
+
+use crate::memory::{Duplicate, NoMemory};
+use std::alloc::Global;
+use std::marker::Model;
+
+/// An owned list. Contracts see it as the list of its items.
+#[derive(Drop)]
+pub struct List<T> {
+    inner: Vec<T>,
+}
+
+impl<T> Model for List<T> {
+    ghost use Rattle.std.specs.Prelude.{List as Items};
+
+    ghost Value = { Items T };
+
+    ghost view = { λ l. l.inner.items };
+}
+
+impl<T> List<T> {
+    /// A list without items. It takes no memory.
+    pub fn new(alloc: Global) -> List<T>
+        ensures { result ≡ [] }
+    {
+        List {
+            inner: Vec::new(alloc),
+        }
+    }
+
+    /// How many items it has.
+    pub fn len(&self) -> usize
+        ensures { result ≡ length self.now }
+    {
+        self.inner.len()
+    }
+
+    /// Whether it has no items.
+    pub fn is_empty(&self) -> bool
+        ensures { result ≡ (length self.now == 0) }
+    {
+        self.inner.is_empty()
+    }
+
+    /// The item at a place, from 0. None exactly past the end.
+    pub fn get(&self, place: usize) -> Option<&T>
+        ensures { option_copied result ≡ slice_get self.now place }
+    {
+        self.inner.get(place)
+    }
+}
+
+impl<T: Drop> List<T> {
+    /// Adds an item at the end. Where memory is wanting the item is dropped and the list stays.
+    pub fn push(&mut self, item: T) -> Result<(), NoMemory>
+        ensures ok { OnOk result (self.new ≡ self.old ++ item ∷ []) }
+        ensures err { OnErr result (self.new ≡ self.old) }
+    {
+        self.inner.push(item)?;
+        Ok(())
+    }
+}
+
+impl<T: Duplicate> Duplicate for List<T> {
+    fn copy(&self, alloc: Global) -> Result<Self, NoMemory> {
+        let mut copy = List::new(alloc);
+        for item in &self.inner {
+            copy.push(item.copy(alloc)?)?;
+        }
+        Ok(copy)
+    }
+}

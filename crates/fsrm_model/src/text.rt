@@ -1,0 +1,45 @@
+//! An owned text.
+
+ghost use Rattle.std.specs.Prelude.{◌≡◌, IfOk};
+
+use crate::memory::{Duplicate, NoMemory};
+use std::alloc::Global;
+use std::marker::Model;
+
+/// An owned UTF-8 text. Contracts see it as the list of its bytes.
+#[derive(Drop)]
+pub struct Text {
+    inner: String,
+}
+
+impl Model for Text {
+    ghost use Rattle.std.specs.Prelude.{List, ℕ};
+    ghost use Rattle.std.specs.String.{string_bytes};
+
+    ghost Value = { List ℕ };
+
+    ghost view = { λ t. string_bytes t.inner };
+}
+
+impl Text {
+    /// A text of its own, equal to the one that is lent.
+    pub fn from_str(alloc: Global, text: &str) -> Result<Text, NoMemory>
+        ensures { IfOk result (λ made. made ≡ text.now) }
+    {
+        let inner = String::from_str(alloc, text)?;
+        Ok(Text { inner })
+    }
+
+    /// The text, lent.
+    pub fn as_str(&self) -> &str
+        ensures { result.now ≡ self.now }
+    {
+        self.inner.as_str()
+    }
+}
+
+impl Duplicate for Text {
+    fn copy(&self, alloc: Global) -> Result<Self, NoMemory> {
+        Text::from_str(alloc, self.as_str())
+    }
+}
