@@ -1,5 +1,5 @@
 -- How many looks at nodes a command may take. A look is one call of the tree's `node`, `child_count`
--- or `child_at`, or one node that another call of the tree compares.
+-- or `child_at`, or one node that another call of the tree compares or passes.
 use Rattle.std.specs.Prelude.{ℕ, ◌+◌, ◌*◌, length, if◌then◌else◌}
 use Rattle.fsrm_model.specs.declared.row.Rows.{Rows}
 use Rattle.fsrm_model.specs.declared.command.Deed.{Deed}
@@ -18,10 +18,11 @@ abbrev pub names_of : Deed → ℕ
 names_of (File op) = names_of_op op
 names_of (Usage path) = length path
 
--- beside the ways along its paths a sum looks at each node that it is of
+-- a sum looks at each node that it is of, up to 4 times
 abbrev pub more_cost : Rows → Deed → ℕ
 more_cost R (File op) = 0
 more_cost R (Usage path) = if leads R.nodes path then 4 * length (under R.nodes (target R.nodes path)) else 0
 
+-- up to 40 looks for each name of its paths, and 80 beside
 abbrev pub cost : Rows → Deed → ℕ
 cost R deed = 40 * (names_of deed + 2) + more_cost R deed

@@ -12,7 +12,7 @@ use Rattle.fsrm_model.specs.Check.{Check, ◌when◌, volume_full, names_full}
 use Rattle.fsrm_model.specs.Work.{Work, asks}
 use Rattle.fsrm_model.specs.Leads.{is_root, leads, leads_to_folder}
 
--- the refusals of a path that is to be a new node's, after which the rows would be these
+-- the refusals, in order, of making a node of this path, which would leave the rows `after`
 abbrev pub new_checks : Capacity → Rows → List (List ℕ) → Rows → List Check
 new_checks K R path after =
     (AlreadyExists when is_root path)
@@ -20,7 +20,7 @@ new_checks K R path after =
     ∷ (AlreadyExists when leads R.nodes path)
     ∷ volume_full K after ∷ names_full K after ∷ []
 
--- the refusals of a file operation, after which the rows would be these
+-- the refusals of a file operation that would leave the rows `after`
 abbrev pub file_checks : Capacity → Rows → FileOp → Rows → List Check
 file_checks K R (Create path length owner) after = new_checks K R path after
 

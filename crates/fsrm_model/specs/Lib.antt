@@ -15,5 +15,6 @@ pub mod Cost
 pub mod Text
 pub mod Reading
 pub mod Line
+pub mod Spelling
 pub mod Script
 pub mod WorkedRows

@@ -1,9 +1,9 @@
 -- The numbers that limit something.
 use Rattle.std.specs.Prelude.{ℕ, ◌^◌, ◌-◌}
 
--- the last moment: 2099-12-31 23:59:59 UTC, in seconds since 1970-01-01 00:00:00 UTC
-abbrev pub last_moment : ℕ
-last_moment = 4102444799
+-- the greatest moment that a command may carry: 2099-12-31 23:59:59 UTC, in seconds since 1970-01-01 00:00:00 UTC
+abbrev pub latest_moment : ℕ
+latest_moment = 4102444799
 
 -- the bytes of the longest file, 2^44 - 65,536
 abbrev pub longest_file : ℕ
@@ -13,7 +13,7 @@ longest_file = 17592185978880
 abbrev pub last_owner : ℕ
 last_owner = 2 ^ 32 - 1
 
--- the bytes of the longest line that is looked at
+-- the bytes of the longest line that is looked at. No command is spelled with so many
 abbrev pub longest_line : ℕ
 longest_line = 65536
 

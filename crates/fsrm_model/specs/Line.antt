@@ -1,7 +1,8 @@
 -- What a line spells. So far a line has one of two forms, with single spaces and nothing else:
 --     0 create D:\NAME LENGTH OWNER
 --     0 usage D:\
--- NAME is a plain name, LENGTH has 1 to 14 digits and OWNER 1 to 10.
+-- NAME is a plain name. LENGTH has 1 to 14 digits and is at most 17,592,185,978,880. OWNER has 1 to 10 and
+-- is 1 to 4,294,967,295. Zeros in front of a number count as digits.
 use Rattle.std.specs.Prelude.{ℕ, nat_lt, nat_eq, List, [], ◌∷◌, length, drop, codes, bytes_eq, Ok, Err, Option, Some, None, if◌then◌else◌}
 use Rattle.std.specs.List.{starts_with}
 use Rattle.fsrm_model.specs.declared.command.Command.{Command}
@@ -12,6 +13,7 @@ use Rattle.fsrm_model.specs.Limits.{longest_line, longest_file, last_owner}
 use Rattle.fsrm_model.specs.Name.{is_plain_name}
 use Rattle.fsrm_model.specs.Reading.{Read, number_of, at_space}
 
+-- the command, where NAME, LENGTH and OWNER all have their form
 abbrev pub create_of : List ℕ → Option ℕ → Option ℕ → Option Command
 create_of name None owner = None
 create_of name (Some size) None = None
@@ -34,7 +36,7 @@ form_of line =
     if starts_with nat_eq line (codes "0 create D:\\") then named (at_space (drop 12 line))
     else if bytes_eq line (codes "0 usage D:\\") then Some (record { moment = 0; deed = Usage [] }) else None
 
--- the command that a line spells, if any. No line of more than 65,536 bytes is looked at
+-- The command that a line spells, if any. No command has as many as 65,536 bytes, so a reader need not keep more.
 unfoldable pub command_of : List ℕ → Option Command
 command_of line = if nat_lt longest_line (length line) then None else form_of line
 

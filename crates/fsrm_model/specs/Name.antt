@@ -1,4 +1,4 @@
--- Names, compared after simple case folding (The Unicode Standard, section 3.13, toSimpleCasefold).
+-- Names, compared after simple case folding (The Unicode Standard, section 3.13; CaseFolding.txt, statuses C and S).
 use Rattle.std.specs.Prelude.{ℕ, ◌==◌, ◌&&◌, ◌||◌, nat_lt, nat_le, not, Bool, true, false, List, [], ◌∷◌, length, map, chars, bytes_eq, codes}
 use Rattle.std.specs.List.{list_all, list_any}
 use Rattle.std.specs.Ordering.{is_lt, nat_cmp}
@@ -25,8 +25,8 @@ same_names (a ∷ as') (b ∷ bs) = same_name a b && same_names as' bs
 abbrev pub name_before : List ℕ → List ℕ → Bool
 name_before a b = is_lt (slice_cmp nat_cmp (folded a) (folded b))
 
--- A byte that may stand in a name: none of < > : " / \ | ? *, no control character. All of these
--- are ASCII, and each byte of another character is above them.
+-- A byte that may stand in a name: none of < > : " / \ | ? *, no control character of ASCII (0 to 31
+-- and 127). Each byte of a character outside ASCII may.
 abbrev pub is_name_byte : ℕ → Bool
 is_name_byte b = (nat_le 32 b && not (b == 127)) && not (list_any (λ c. b == c) (codes "<>:\"/\\|?*"))
 

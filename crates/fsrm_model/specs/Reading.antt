@@ -21,9 +21,9 @@ ranged low high n = if nat_le low n && nat_le n high then Some n else None
 abbrev pub number_of : ℕ → ℕ → ℕ → List ℕ → Option ℕ
 number_of most low high text = if are_digits most text then ranged low high (digits_value 10 text) else None
 
--- what stands before the first space, and what behind it
 abbrev pub is_space : ℕ → Bool
 is_space byte = byte == 32
 
+-- what stands before the first space, and what behind it; None where there is no space
 abbrev pub at_space : List ℕ → Option (List ℕ × List ℕ)
 at_space text = option_map (λ i. (take i text, drop (i + 1) text)) (position is_space text)

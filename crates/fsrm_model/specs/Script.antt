@@ -1,5 +1,6 @@
 -- A script, and the text of its replies.
-use Rattle.std.specs.Prelude.{ℕ, ◌+◌, ◌==◌, List, [], ◌∷◌, ◌++◌, take, Ok, Err, Option, Some, None, if◌then◌else◌}
+use Rattle.std.specs.Prelude.{◌≡◌, ℕ, ◌+◌, ◌==◌, Bool, false, List, [], ◌∷◌, ◌++◌, take, Ok, Err, Option, Some, None, if◌then◌else◌}
+use Rattle.std.specs.List.{list_any}
 use Rattle.fsrm_model.specs.declared.row.Capacity.{Capacity}
 use Rattle.fsrm_model.specs.declared.row.Rows.{Rows}
 use Rattle.fsrm_model.specs.declared.command.Command.{Command}
@@ -10,6 +11,10 @@ use Rattle.fsrm_model.specs.Step.{step}
 use Rattle.fsrm_model.specs.Cost.{cost}
 use Rattle.fsrm_model.specs.Text.{reply}
 
+-- the byte that ends a line, LF
+abbrev pub is_end : ℕ → Bool
+is_end b = b == 10
+
 -- a byte in front of the first line
 abbrev pub onto_first : ℕ → List (List ℕ) → List (List ℕ)
 onto_first b [] = (b ∷ []) ∷ []
@@ -18,7 +23,17 @@ onto_first b (line ∷ lines) = (b ∷ line) ∷ lines
 -- the lines of a script: what stands before each LF, and what is left behind the last where that isn't empty
 abbrev pub lines : List ℕ → List (List ℕ)
 lines [] = []
-lines (b ∷ bs) = if b == 10 then [] ∷ lines bs else onto_first b (lines bs)
+lines (b ∷ bs) = if is_end b then [] ∷ lines bs else onto_first b (lines bs)
+
+-- lines as they stand in a script, each with its LF
+abbrev pub spelled_lines : List (List ℕ) → List ℕ
+spelled_lines [] = []
+spelled_lines (line ∷ lines) = line ++ 10 ∷ spelled_lines lines
+
+-- no LF in any of them
+abbrev pub AreLines : List (List ℕ) → Type 0
+AreLines [] = Unit {0}
+AreLines (line ∷ lines) = (list_any is_end line ≡ false) × AreLines lines
 
 -- what a line leaves, and what is written for it
 pub record Replied : Type 0 where
@@ -43,11 +58,11 @@ abbrev pub fold_from : Capacity → Rows → ℕ → List (List ℕ) → Rows
 fold_from K R line [] = R
 fold_from K R line (l ∷ ls) = fold_from K (replied K R line l).rows (line + 1) ls
 
--- the text of a script's replies: what the program writes
+-- the text of a script's replies: what the program writes where it comes to the end, and else a front of it
 abbrev pub text : Capacity → Rows → List ℕ → List ℕ
 text K R script = text_from K R 1 (lines script)
 
--- the rows after the commands of the script's first lines
+-- the rows after the commands of the script's first j lines
 abbrev pub fold_script : Capacity → Rows → List ℕ → ℕ → Rows
 fold_script K R script j = fold_from K R 1 (take j (lines script))
 

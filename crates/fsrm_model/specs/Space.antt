@@ -3,7 +3,7 @@ use Rattle.std.specs.Prelude.{ℕ, ◌+◌, ◌-◌, ◌*◌, ◌/◌, if◌then
 use Rattle.fsrm_model.specs.declared.row.Capacity.{Capacity}
 use Rattle.fsrm_model.specs.declared.row.NodeRow.{NodeRow}
 
--- the bytes of a cluster
+-- the bytes of a cluster, so far the same in every store
 abbrev pub cluster : Capacity → ℕ
 cluster K = 4096
 

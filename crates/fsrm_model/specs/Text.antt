@@ -46,7 +46,7 @@ abbrev pub passive_line : List NodeRow → Option ℕ → List ℕ
 passive_line nodes None = []
 passive_line nodes (Some screen) = body_line (codes "passive" ∷ path_text nodes screen ∷ [])
 
--- the lines below the first, for a command of this moment
+-- the lines below the first, for a command of this moment. So far no line depends on the capacity or the moment
 abbrev pub body : Capacity → Rows → ℕ → Outcome → List ℕ
 body K R moment (Done passive) = passive_line R.nodes passive
 body K R moment (Sum node bytes) = body_line (decimal bytes ∷ path_text R.nodes node ∷ [])

@@ -1,4 +1,5 @@
--- The tree of folders and files. Its nodes are rows that ascend by their number; node 0 is the root.
+-- The tree of folders and files. Its nodes are rows that ascend by their number; node 0 is the root, and each
+-- other node's parents lead to it. Of rows that are no such tree these words mean nothing.
 use Rattle.std.specs.Prelude.{ℕ, zero, suc, ◌-◌, ◌==◌, Bool, false, not, ◌&&◌, List, [], ◌∷◌, map, reverse, drop, take, length, filter, find, sum_by, Option, option_map, slice_index_or}
 use Rattle.std.specs.Option.{option_map_or}
 use Rattle.std.specs.List.{list_any}
@@ -12,7 +13,8 @@ use Rattle.fsrm_model.specs.Space.{space}
 abbrev pub number : NodeRow → ℕ
 number node = node.number
 
--- the node of a number, and what it has; of a number that is no node's, 0, nothing and false
+-- the node of a number; its parent, its name, and whether it is a folder. Where no node has the number: None,
+-- 0, no bytes and false
 abbrev pub node_of : List NodeRow → ℕ → Option NodeRow
 node_of nodes n = row_of number n nodes
 
@@ -62,7 +64,7 @@ is_under nodes folder n = list_any (λ k. k == folder) (chain nodes n)
 abbrev pub under : List NodeRow → ℕ → List NodeRow
 under nodes folder = filter (λ node. is_under nodes folder node.number) nodes
 
--- the usage of a folder: the space of all files at and below it (MS-FSRM, IFsrmQuota, QuotaUsed)
+-- the usage of a node: the space of all files at and below it (MS-FSRM, IFsrmQuota, QuotaUsed)
 abbrev pub usage : Capacity → List NodeRow → ℕ → ℕ
 usage K nodes folder = sum_by (space K) (under nodes folder)
 
@@ -70,7 +72,7 @@ usage K nodes folder = sum_by (space K) (under nodes folder)
 abbrev pub path_of : List NodeRow → ℕ → List (List ℕ)
 path_of nodes n = drop 1 (map (name_of nodes) (reverse (chain nodes n)))
 
--- the node of a path: the one whose own path has the same names
+-- the node of a path: the one whose own path has the same names after folding
 abbrev pub resolve : List NodeRow → List (List ℕ) → Option ℕ
 resolve nodes path = option_map number (find (λ node. same_names (path_of nodes node.number) path) nodes)
 

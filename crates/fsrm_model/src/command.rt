@@ -6,12 +6,12 @@ use crate::row::ActionKind;
 /// Why a command is refused. A refused command changes nothing.
 #[derive(Clone, Copy, Debug, PartialEq, Eq)]
 pub enum Refusal {
-    /// The line spells no command. The column, from 1, is where it stops to.
+    /// The line spells no command. The column, from 1, is where it fails: so far always 1.
     BadLine { column: u32 },
     /// The command's moment is earlier than that of the last command that lasts.
     ClockBack,
     /// The path, or the folder that it names a new node in, leads to nothing (MS-FSRM,
-    /// FSRM_E_INVALID_PATH and FSRM_E_PATH_NOT_FOUND).
+    /// FSRM_E_PATH_NOT_FOUND).
     PathNotFound,
     /// The place is taken (MS-FSRM, FSRM_E_ALREADY_EXISTS).
     AlreadyExists,

@@ -20,3 +20,15 @@ returns-clause-forms c = refl
 pub returns-clause-order : goal.returns-clause-order
 unfolding replied command_of simple_folding simple_folding_rows value_in chars digits
 returns-clause-order c = refl
+
+pub returns-clause-full_names : goal.returns-clause-full_names
+unfolding replied command_of simple_folding simple_folding_rows value_in chars digits
+returns-clause-full_names c = refl
+
+pub returns-clause-names : goal.returns-clause-names
+unfolding replied command_of simple_folding simple_folding_rows value_in chars digits
+returns-clause-names c = refl
+
+pub returns-clause-owners : goal.returns-clause-owners
+unfolding replied command_of simple_folding simple_folding_rows value_in chars digits
+returns-clause-owners c = refl

@@ -1,0 +1,96 @@
+-- Laws of lines and of the text of their replies.
+use Rattle.std.proofs.Common.{◌≡◌, ℕ, ◌+◌, List, [], ◌∷◌, ◌++◌, length, take, refl, sym, ap, ◌∙◌, true, false, arith, append_assoc, Bool, inl, inr, Some}
+use Rattle.std.specs.Prelude.{nat_lt, ◌||◌}
+use Rattle.std.specs.List.{list_any}
+use Rattle.std.proofs.lemmas.Bool.{lt-ltb, cases_lt, true≢false}
+use Rattle.std.proofs.lemmas.List.{take_all, length-take}
+use Rattle.fsrm_model.specs.declared.row.Capacity.{Capacity}
+use Rattle.fsrm_model.specs.declared.row.Rows.{Rows}
+use Rattle.fsrm_model.specs.Line.{command_of, spelled}
+use Rattle.fsrm_model.specs.Script.{is_end, lines, onto_first, spelled_lines, AreLines, replied, replied_to, text_from, fold_from, line_cost, read_cost, cost_from}
+
+-- neither passes
+pub neither : (a b : Bool) → (a || b) ≡ false → (a ≡ false) × (b ≡ false)
+neither true b h = absurd (true≢false h)
+neither false b h = (refl, h)
+
+pub nor : (a b : Bool) → a ≡ false → b ≡ false → (a || b) ≡ false
+nor a b p q = rw p q
+
+-- a line that has ended
+pub lines_ended : (line rest : List ℕ) → list_any is_end line ≡ false → lines (line ++ 10 ∷ rest) ≡ line ∷ lines rest
+lines_ended [] rest h = refl
+lines_ended (byte ∷ line) rest h =
+    let tests = neither (is_end byte) (list_any is_end line) h in
+    rw tests.0 (ap (onto_first byte) (lines_ended line rest tests.1))
+
+-- the last line, which has no LF
+pub lines_last : (byte : ℕ) (line : List ℕ) → list_any is_end (byte ∷ line) ≡ false → lines (byte ∷ line) ≡ (byte ∷ line) ∷ []
+lines_last byte [] h = rw (neither (is_end byte) false h).0 refl
+lines_last byte (next ∷ line) h =
+    let tests = neither (is_end byte) (list_any is_end (next ∷ line)) h in
+    rw tests.0 (ap (onto_first byte) (lines_last next line tests.1))
+
+-- whole lines in front
+pub lines_spelled : (ended : List (List ℕ)) (rest : List ℕ) → AreLines ended → lines (spelled_lines ended ++ rest) ≡ ended ++ lines rest
+lines_spelled [] rest each = refl
+lines_spelled (line ∷ ended) rest each =
+    ap lines (append_assoc line (10 ∷ spelled_lines ended) rest)
+    ∙ lines_ended line (spelled_lines ended ++ rest) each.0
+    ∙ ap (λ (ls : List (List ℕ)). line ∷ ls) (lines_spelled ended rest each.1)
+
+pub spelled_lines-append : (xs ys : List (List ℕ)) → spelled_lines (xs ++ ys) ≡ spelled_lines xs ++ spelled_lines ys
+spelled_lines-append [] ys = refl
+spelled_lines-append (x ∷ xs) ys =
+    ap (λ (bs : List ℕ). x ++ 10 ∷ bs) (spelled_lines-append xs ys)
+    ∙ sym (append_assoc x (10 ∷ spelled_lines xs) (spelled_lines ys))
+
+pub AreLines-append : (xs ys : List (List ℕ)) → AreLines xs → AreLines ys → AreLines (xs ++ ys)
+AreLines-append [] ys p q = q
+AreLines-append (x ∷ xs) ys p q = (p.0, AreLines-append xs ys p.1 q)
+
+-- a byte more than a line may have tells that it is too long
+pub command_of-held : (line : List ℕ) → command_of (take 65537 line) ≡ command_of line
+unfolding command_of
+command_of-held line = elim (cases_lt 65536 (length line)) [
+  | inl longer ↦
+      let one : nat_lt 65536 (length line) ≡ true = lt-ltb 65536 (length line) longer in
+      let two : nat_lt 65536 (length (take 65537 line)) ≡ true = lt-ltb 65536 (length (take 65537 line)) (omega (arith, length-take 65537 line)) in
+      rw (one, two) refl
+  | inr short ↦ rw (take_all 65537 line (omega arith)) refl
+]
+
+pub replied-held : (K : Capacity) (R : Rows) (number : ℕ) (line : List ℕ) → replied K R number (take 65537 line) ≡ replied K R number line
+unfolding replied
+replied-held K R number line = ap (λ c. replied_to K R number (Some (spelled c))) (command_of-held line)
+
+pub line_cost-held : (R : Rows) (line : List ℕ) → line_cost R (take 65537 line) ≡ line_cost R line
+unfolding line_cost
+line_cost-held R line = ap (λ c. read_cost R (Some (spelled c))) (command_of-held line)
+
+-- the replies to lines and to more lines
+pub text_from-append : (K : Capacity) (R : Rows) (number : ℕ) (xs ys : List (List ℕ)) → text_from K R number (xs ++ ys) ≡ text_from K R number xs ++ text_from K (fold_from K R number xs) (number + length xs) ys
+text_from-append K R number [] ys = ap (λ (n : ℕ). text_from K R n ys) (omega arith)
+text_from-append K R number (x ∷ xs) ys =
+    let r = replied K R number x in
+    let more : (number + 1) + length xs ≡ number + length (x ∷ xs) = omega arith in
+    ap (λ (ts : List ℕ). r.text ++ ts) (text_from-append K r.rows (number + 1) xs ys ∙ ap (λ (n : ℕ). text_from K r.rows (number + 1) xs ++ text_from K (fold_from K r.rows (number + 1) xs) n ys) more)
+    ∙ sym (append_assoc r.text (text_from K r.rows (number + 1) xs) (text_from K (fold_from K R number (x ∷ xs)) (number + length (x ∷ xs)) ys))
+
+pub fold_from-append : (K : Capacity) (R : Rows) (number : ℕ) (xs ys : List (List ℕ)) → fold_from K R number (xs ++ ys) ≡ fold_from K (fold_from K R number xs) (number + length xs) ys
+fold_from-append K R number [] ys = ap (λ (n : ℕ). fold_from K R n ys) (omega arith)
+fold_from-append K R number (x ∷ xs) ys =
+    let r = replied K R number x in
+    let more : (number + 1) + length xs ≡ number + length (x ∷ xs) = omega arith in
+    fold_from-append K r.rows (number + 1) xs ys ∙ ap (λ (n : ℕ). fold_from K (fold_from K r.rows (number + 1) xs) n ys) more
+
+-- and the looks at nodes that they may take
+pub cost_from-append : (K : Capacity) (R : Rows) (number : ℕ) (xs ys : List (List ℕ)) → cost_from K R number (xs ++ ys) ≡ cost_from K R number xs + cost_from K (fold_from K R number xs) (number + length xs) ys
+cost_from-append K R number [] ys =
+    let e : number ≡ number + 0 = omega arith in
+    let same : cost_from K R number ys ≡ cost_from K R (number + 0) ys = ap (λ (n : ℕ). cost_from K R n ys) e in
+    same ∙ (let sum : cost_from K R (number + 0) ys ≡ 0 + cost_from K R (number + 0) ys = omega arith in sum)
+cost_from-append K R number (x ∷ xs) ys =
+    let r = replied K R number x in
+    let more : (number + 1) + length xs ≡ number + length (x ∷ xs) = omega arith in
+    omega (arith, cost_from-append K r.rows (number + 1) xs ys, ap (λ (n : ℕ). cost_from K (fold_from K r.rows (number + 1) xs) n ys) more)
