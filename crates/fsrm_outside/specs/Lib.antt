@@ -1,0 +1,6 @@
+pub mod Causes
+pub mod Told
+pub mod Kept
+pub mod Plan
+pub mod MemoryOutside
+pub mod RealOutside
