@@ -1,0 +1,11 @@
+pub mod Searches
+pub mod Names
+pub mod Sorted
+pub mod Nodes
+pub mod Places
+pub mod Search
+pub mod Faults
+pub mod Kept
+pub mod Root
+pub mod Made
+pub mod There

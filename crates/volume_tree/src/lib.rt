@@ -1,0 +1,13 @@
+//! The tree of folders and files of a volume. So far its root is the only folder.
+#![tactic(auto)]
+
+mod fault;
+mod index;
+mod name;
+mod rows;
+#[cfg(test)]
+mod tests;
+mod tree;
+
+pub use fault::{NodeView, TreeFault};
+pub use tree::Tree;
