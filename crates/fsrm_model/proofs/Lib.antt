@@ -1,2 +1,3 @@
+pub mod PlainMachine
 pub mod ScriptLaws
 pub mod SpellingLaws

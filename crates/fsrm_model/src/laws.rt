@@ -1,9 +1,19 @@
 //! Laws of the definitions, and worked examples.
 
-ghost use Rattle.std.specs.Prelude.{◌≡◌, ◌↔◌, ℕ, List, Some};
+ghost use Rattle.std.specs.Prelude.{◌≡◌, ◌↔◌, ℕ, List, Some, sum_by};
 ghost use Rattle.fsrm_model.specs.declared.command.Command.{Command};
+ghost use Rattle.fsrm_model.specs.declared.command.Outcome.TheVariants.{Refused, Sum};
+ghost use Rattle.fsrm_model.specs.declared.command.Refusal.{Refusal};
+ghost use Rattle.fsrm_model.specs.declared.command.Refusal.TheVariants.{BadLine};
+ghost use Rattle.fsrm_model.specs.declared.row.Capacity.{Capacity};
+ghost use Rattle.fsrm_model.specs.declared.row.Rows.{Rows};
 ghost use Rattle.fsrm_model.specs.Line.{command_of};
+ghost use Rattle.fsrm_model.specs.Script.{replied};
+ghost use Rattle.fsrm_model.specs.Space.{space};
 ghost use Rattle.fsrm_model.specs.Spelling.{Spells};
+ghost use Rattle.fsrm_model.specs.Step.{step};
+ghost use Rattle.fsrm_model.specs.Text.{reply};
+ghost use Rattle.fsrm_model.specs.Tree.{under};
 ghost use Rattle.fsrm_model.specs.WorkedRows.{nothing_done, first_files, forms, refusal_order, full_names, name_forms, owner_forms};
 
 /// The plain machine's text of worked scripts.
@@ -20,4 +30,19 @@ pub fn worked_rows()
 /// What a line is read as is what it spells, and a line that spells a command is read as it.
 pub fn spelling()
     ensures { (line : List ℕ) (c : Command) → (command_of line ≡ Some c) ↔ Spells line c }
+{}
+
+/// What each line of a script does to the rows, and what is written for it. A script's text is these
+/// texts one behind the other, each over the rows that the lines before it leave.
+pub fn plain_machine()
+    // A line that spells a command takes that command's step.
+    ensures spelled_rows { (K : Capacity) (R : Rows) (n : ℕ) (line : List ℕ) (c : Command) → Spells line c → (replied K R n line).rows ≡ (step K R c).rows }
+    ensures spelled_text { (K : Capacity) (R : Rows) (n : ℕ) (line : List ℕ) (c : Command) → Spells line c → (replied K R n line).text ≡ reply K (step K R c).rows c.moment n (step K R c).outcome }
+    // Every other line is refused, and changes nothing.
+    ensures other_rows { (K : Capacity) (R : Rows) (n : ℕ) (line : List ℕ) → ((c : Command) → Spells line c → ⊥) → (replied K R n line).rows ≡ R }
+    ensures other_text { (K : Capacity) (R : Rows) (n : ℕ) (line : List ℕ) → ((c : Command) → Spells line c → ⊥) → (replied K R n line).text ≡ reply K R 0 n (Refused (BadLine 1)) }
+    // A command that is refused changes nothing.
+    ensures refused { (K : Capacity) (R : Rows) (c : Command) (refusal : Refusal) → (step K R c).outcome ≡ Refused refusal → (step K R c).rows ≡ R }
+    // A sum is made afresh from the tree: the space of all files at and below the folder.
+    ensures sum { (K : Capacity) (R : Rows) (c : Command) (folder bytes : ℕ) → (step K R c).outcome ≡ Sum folder bytes → bytes ≡ sum_by (space K) (under R.nodes folder) }
 {}

@@ -81,6 +81,7 @@ impl<N: Named> Weightless<N> {
         requires name { blank.name ≡ N.name }
         requires parts { blank.parts ≡ N.parts }
         requires some { 0 < N.parts }
+        ensures { result ≡ blank.parts }
     {
         Weightless {
             blank,
