@@ -1,0 +1,10 @@
+pub mod CommandLaws
+pub mod Completing
+pub mod Cutting
+pub mod Feeding
+pub mod Passing
+pub mod Shown
+pub mod Taking
+pub mod Texts
+pub mod Whole
+pub mod Words

@@ -1,0 +1,56 @@
+use Rattle.std.proofs.Common.{arith, ap, ◌+◌, Err}
+use Rattle.fsrm_program.specs.Held.{state_of}
+use Rattle.fsrm_program.proofs.Passing.{takes_nothing, takes_then, stops_after}
+use Rattle.fsrm_program.proofs.replay.read_all.Goals as goal
+
+pub pieces-init : goal.pieces-init
+pieces-init g c =
+    record {
+      takes = takes_nothing (state_of c.args.session.now c.args.steps.now) (g.O.Source.left c.args.outside.now) (g.O.Sink.shown c.args.outside.now);
+      within = omega arith;
+      number = omega arith;
+      written = c.requires.written;
+      read_later = omega arith;
+      write_later = omega arith;
+    }
+
+pub pieces-preserved : goal.pieces-preserved
+pieces-preserved g c =
+    let source = g.O.Source in
+    let sink = g.O.Sink in
+    let first = c.args.outside.now in
+    let mid = c.pieces.outside in
+    let last = c.pass.new.outside in
+    let kept = c.pieces.invariant in
+    record {
+      takes = takes_then (state_of c.args.session.now c.args.steps.now) (state_of c.pieces.session c.pieces.steps) (state_of c.pass.new.session c.pass.new.steps) (source.left first) (source.left mid) (source.left last) (sink.shown first) (sink.shown mid) (sink.shown last) c.pieces.taken c.in-Ok.count kept.takes c.in-Ok.ensures.takes;
+      within = c.in-Ok.ensures.within;
+      number = omega (arith, kept.number, c.in-Ok.ensures.number);
+      written = c.in-Ok.ensures.written;
+      read_later = omega (arith, kept.read_later, c.pass.ensures.read_later);
+      write_later = omega (arith, kept.write_later, c.pass.ensures.write_later);
+    }
+
+pub returns-in-Ok-eq0-clause-reads : goal.returns-in-Ok-eq0-clause-reads
+returns-in-Ok-eq0-clause-reads g c =
+    let source = g.O.Source in
+    let sink = g.O.Sink in
+    let first = c.args.outside.now in
+    let mid = c.pieces.outside in
+    let last = c.pass.new.outside in
+    let count = c.in-Ok-eq0.field-0 in
+    record {
+      count = c.pieces.taken + count;
+      short = c.in-Ok-eq0.ensures.within;
+      takes = takes_then (state_of c.args.session.now c.args.steps.now) (state_of c.pieces.session c.pieces.steps) (state_of c.pass.new.session c.pass.new.steps) (source.left first) (source.left mid) (source.left last) (sink.shown first) (sink.shown mid) (sink.shown last) c.pieces.taken count c.pieces.invariant.takes c.in-Ok-eq0.ensures.takes;
+      at_end = c.in-Ok-eq0.ensures.end c.in-Ok-eq0.field-0-test;
+    }
+
+pub returns-in-Err-clause-stops : goal.returns-in-Err-clause-stops
+returns-in-Err-clause-stops g c =
+    let source = g.O.Source in
+    let sink = g.O.Sink in
+    let first = c.args.outside.now in
+    let mid = c.pieces.outside in
+    let last = c.pass.new.outside in
+    stops_after c.in-Err.status (state_of c.args.session.now c.args.steps.now) (state_of c.pieces.session c.pieces.steps) (state_of c.pass.new.session c.pass.new.steps) (source.left first) (source.left mid) (source.left last) (sink.shown first) (sink.shown mid) (sink.shown last) c.pieces.taken c.pieces.invariant.takes (λ e. c.in-Err.ensures.full (ap Err e)) c.in-Err.ensures.stops

@@ -1,0 +1,17 @@
+use Rattle.std.proofs.Common.{◌≡◌, ◌≤◌, ◌+◌, ◌++◌, List, ℕ, length}
+use Rattle.std.specs.String.{string_bytes}
+use Rattle.fsrm_program.specs.Progress.{Feeds}
+use Rattle.fsrm_program.specs.Held.{state_of}
+use Rattle.fsrm_program.proofs.session.feed.Given as goal
+
+-- what was cut off the piece is fed
+abbrev pub invariant-lines : goal.invariant-lines
+invariant-lines g l =
+    (done : List ℕ) × record {
+      cut : l.piece ≡ done ++ l.rest;
+      fed : Feeds (state_of l.fn.session l.fn.steps) (state_of l.session l.steps) done (string_bytes l.fn.session.replies) (string_bytes l.session.replies);
+      number : l.session.line ≤ l.fn.session.line + length done;
+    }
+
+abbrev pub decreases-lines : goal.decreases-lines
+decreases-lines g l = length l.rest

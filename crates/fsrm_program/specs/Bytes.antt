@@ -1,0 +1,28 @@
+-- What is taken from a script, and what is written.
+use Rattle.std.specs.Prelude.{◌≡◌, ℕ, List, [], ◌∷◌, ◌++◌, false, Option, Some}
+use Rattle.std.specs.List.{list_any}
+use Rattle.std.specs.Io.KnownBytes.{append_known}
+use Rattle.fsrm_model.specs.Script.{is_end}
+
+-- the whole begins with the front
+abbrev pub IsFront : List ℕ → List ℕ → Type 0
+IsFront front whole = (back : List ℕ) × (whole ≡ front ++ back)
+
+-- a front of the whole was shown
+pub record ShowsFront (before after : Option (List ℕ)) (whole : List ℕ) : Type 0 where
+  pub front : List ℕ
+  pub shown : after ≡ append_known before front
+  pub is_front : IsFront front whole
+
+-- these bytes were taken from the front of what was left, where that is told
+pub record Taken (before after : Option (List ℕ)) (bytes : List ℕ) : Type 0 where
+  pub rest : (script : List ℕ) → before ≡ Some script → (rest : List ℕ) × (script ≡ bytes ++ rest) × (after ≡ Some rest)
+
+-- the bytes are a line, its LF, and the rest
+pub record CutsLine (bytes line rest : List ℕ) : Type 0 where
+  pub one_line : list_any is_end line ≡ false
+  pub cut : bytes ≡ line ++ 10 ∷ rest
+
+-- nothing is left, where that is told
+pub record IsAtEnd (left : Option (List ℕ)) : Type 0 where
+  pub ended : (script : List ℕ) → left ≡ Some script → script ≡ []

@@ -1,0 +1,17 @@
+//! The program as a library: `run` reads a script and writes the replies.
+#![tactic(auto)]
+
+mod answering;
+mod pieces;
+mod program;
+mod reading;
+mod replay;
+mod replies;
+mod session;
+mod status;
+#[cfg(test)]
+mod tests;
+mod writing;
+
+pub use program::run;
+pub use status::Status;

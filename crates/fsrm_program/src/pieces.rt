@@ -1,0 +1,75 @@
+//! Reads a script in pieces, up to the longest script.
+
+ghost use Rattle.std.specs.Prelude.{◌≡◌, ◌≤◌, ◌<◌, ◌+◌, length, take, IfOk, IfErr, OnErr, IsErrOf};
+ghost use Rattle.fsrm_model.specs.Limits.{longest_script};
+ghost use Rattle.fsrm_outside.specs.Causes.{HasCause, Rose};
+ghost use Rattle.fsrm_program.specs.Bytes.{Taken, IsAtEnd};
+ghost use Rattle.fsrm_program.specs.Stops.{Loses};
+
+use crate::status::Status;
+use fsrm_outside::{Failed, Outside, Source};
+
+const LONGEST_SCRIPT: u64 = 4_294_967_296;
+
+// Reads a piece of at most so many bytes to the front of the buffer. None come only at the end.
+fn read_piece<S: Source>(source: &mut S, buffer: &mut [u8], room: usize) -> Result<usize, Failed>
+    requires fits { room ≤ length buffer.old }
+    requires some { 0 < room }
+    ensures bound { IfOk result (λ count. count ≤ room) }
+    ensures taken { IfOk result (λ count. Taken (S.left source.old) (S.left source.new) (take count buffer.new)) }
+    ensures end { IfOk result (λ count. count ≡ 0 → IsAtEnd (S.left source.new)) }
+    ensures failed { OnErr result (S.left source.new ≡ S.left source.old) }
+    ensures cause { HasCause (S.read_faults source.old) (S.read_faults source.new) result }
+    ensures by { S.by_read source.old source.new }
+{
+    match source.read(&mut buffer[..room]) {
+        Ok(count) => Ok(count),
+        Err(Failed) => Err(Failed),
+    }
+}
+
+// How much may be read: never past the longest script, but one byte where that was read, to see whether more comes.
+fn room_for(taken: u64, size: usize) -> usize
+    requires taken { taken ≤ longest_script }
+    requires some { 0 < size }
+    ensures some { 0 < result }
+    ensures fits { result ≤ size }
+    ensures within { taken < longest_script → taken + result ≤ longest_script }
+    ensures last { taken ≡ longest_script → result ≡ 1 }
+{
+    if taken == LONGEST_SCRIPT {
+        return 1;
+    }
+    let room = LONGEST_SCRIPT - taken;
+    if room < size as u64 {
+        room as usize
+    } else {
+        size
+    }
+}
+
+/// Reads the next piece to the front of the buffer, and answers its length: 0 at the script's end.
+pub fn next_piece<O: Outside>(
+    outside: &mut O,
+    buffer: &mut [u8],
+    taken: u64,
+) -> Result<usize, Status>
+    requires taken { taken ≤ longest_script }
+    requires buffer { 0 < length buffer.old }
+    ensures bound { IfOk result (λ count. count ≤ length buffer.new) }
+    ensures bytes { IfOk result (λ count. Taken (O.left outside.old) (O.left outside.new) (take count buffer.new)) }
+    ensures within { IfOk result (λ count. taken + count ≤ longest_script) }
+    ensures end { IfOk result (λ count. count ≡ 0 → IsAtEnd (O.left outside.new)) }
+    ensures lost { IfErr result (λ status. Loses status (O.left outside.old) (O.left outside.new)) }
+    ensures full { IsErrOf result Status.TooLong → taken ≡ longest_script }
+    ensures later { O.read_faults outside.old ≤ O.read_faults outside.new }
+    ensures cause { IsErrOf result Status.ReadFault → Rose (O.read_faults outside.old) (O.read_faults outside.new) }
+    ensures by { O.by_read outside.old outside.new }
+{
+    let room = room_for(taken, buffer.len());
+    match read_piece(outside, buffer, room) {
+        Err(Failed) => Err(Status::ReadFault),
+        Ok(count) if count > 0 && taken == LONGEST_SCRIPT => Err(Status::TooLong),
+        Ok(count) => Ok(count),
+    }
+}

@@ -1,0 +1,170 @@
+//! Runs a script over a new volume.
+
+ghost use Rattle.std.specs.Prelude.{◌≡◌, ℕ, ◌≤◌, ◌<◌, ◌+◌, [], length, IfOk, IfErr, OnOk, OnErr, IsErrOf};
+ghost use Rattle.std.specs.Option.{ForSome};
+ghost use Rattle.std.specs.String.{string_bytes};
+ghost use Rattle.fsrm_model.specs.Limits.{longest_script};
+ghost use Rattle.fsrm_outside.specs.Causes.{Rose};
+ghost use Rattle.fsrm_program.specs.Bytes.{IsAtEnd};
+ghost use Rattle.fsrm_program.specs.Progress.{State, Takes, start};
+ghost use Rattle.fsrm_program.specs.Held.{state_of};
+ghost use Rattle.fsrm_program.specs.Stops.{Stops, StopsAt, Reads, Finishes, FinishesFront, IsGivenUp};
+ghost use Rattle.fsrm_program.specs.Answers.{IsRun};
+
+use crate::pieces::next_piece;
+use crate::session::{Session, end, feed};
+use crate::status::Status;
+use crate::writing::flush;
+use fsrm_model::{Capacity, Ledger, NoMemory, Steps};
+use fsrm_outside::{Failed, Outside, Sink};
+use std::alloc::Global;
+use volume_tree::Tree;
+
+const PIECE: usize = 65_536;
+
+// Reads a piece, answers the lines that end in it, and writes the replies. It answers the piece's length:
+// 0 at the script's end.
+fn pass<O: Outside, L: Ledger>(
+    outside: &mut O,
+    session: &mut Session,
+    buffer: &mut [u8],
+    taken: u64,
+    steps: &mut Steps<L>,
+) -> Result<usize, Status>
+    requires taken { taken ≤ longest_script }
+    requires buffer { 0 < length buffer.old }
+    requires number { session.old.line ≤ taken + 1 }
+    requires written { string_bytes session.old.replies ≡ [] }
+    ensures takes { IfOk result (λ count. Takes (state_of session.old steps.old) (state_of session.new steps.new) (O.left outside.old) (O.left outside.new) (O.shown outside.old) (O.shown outside.new) count) }
+    ensures within { IfOk result (λ count. taken + count ≤ longest_script) }
+    ensures end { IfOk result (λ count. count ≡ 0 → IsAtEnd (O.left outside.new)) }
+    ensures number { IfOk result (λ count. session.new.line ≤ session.old.line + count) }
+    ensures written { OnOk result (string_bytes session.new.replies ≡ []) }
+    ensures stops { IfErr result (λ status. Stops status (state_of session.old steps.old) (state_of session.new steps.new) (O.left outside.old) (O.left outside.new) (O.shown outside.old) (O.shown outside.new) 0) }
+    ensures full { IsErrOf result Status.TooLong → taken ≡ longest_script }
+    ensures read_later { O.read_faults outside.old ≤ O.read_faults outside.new }
+    ensures write_later { O.write_faults outside.old ≤ O.write_faults outside.new }
+    ensures read_cause { IsErrOf result Status.ReadFault → Rose (O.read_faults outside.old) (O.read_faults outside.new) }
+    ensures write_cause { IsErrOf result Status.WriteFault → Rose (O.write_faults outside.old) (O.write_faults outside.new) }
+{
+    let count = match next_piece(outside, buffer, taken) {
+        Ok(count) => count,
+        Err(status) => return Err(status),
+    };
+    match feed(session, &buffer[..count], steps) {
+        Ok(()) => {}
+        Err(NoMemory) => return Err(Status::NoMemory),
+    }
+    match flush(outside, &mut session.replies) {
+        Ok(()) => Ok(count),
+        Err(Failed) => Err(Status::WriteFault),
+    }
+}
+
+// Reads the script to its end, and answers each line that has an LF.
+fn read_all<O: Outside, L: Ledger>(
+    outside: &mut O,
+    session: &mut Session,
+    steps: &mut Steps<L>,
+) -> Result<(), Status>
+    requires number { session.old.line ≤ 1 }
+    requires written { string_bytes session.old.replies ≡ [] }
+    ensures reads { OnOk result (Reads (state_of session.old steps.old) (state_of session.new steps.new) (O.left outside.old) (O.left outside.new) (O.shown outside.old) (O.shown outside.new)) }
+    ensures written { OnOk result (string_bytes session.new.replies ≡ []) }
+    ensures stops { IfErr result (λ status. StopsAt status (state_of session.old steps.old) (state_of session.new steps.new) (O.left outside.old) (O.left outside.new) (O.shown outside.old) (O.shown outside.new)) }
+    ensures read_later { O.read_faults outside.old ≤ O.read_faults outside.new }
+    ensures write_later { O.write_faults outside.old ≤ O.write_faults outside.new }
+    ensures read_cause { IsErrOf result Status.ReadFault → Rose (O.read_faults outside.old) (O.read_faults outside.new) }
+    ensures write_cause { IsErrOf result Status.WriteFault → Rose (O.write_faults outside.old) (O.write_faults outside.new) }
+{
+    let mut buffer = [0u8; PIECE];
+    let mut taken = 0u64;
+    'pieces: loop {
+        match pass(outside, session, &mut buffer, taken, steps) {
+            Ok(0) => return Ok(()),
+            Ok(count) => taken += count as u64,
+            Err(status) => return Err(status),
+        }
+    }
+}
+
+// Answers the last line, where it has no LF, and writes the reply.
+fn finish<S: Sink, L: Ledger>(
+    sink: &mut S,
+    session: &mut Session,
+    steps: &mut Steps<L>,
+) -> Result<(), Status>
+    requires { string_bytes session.old.replies ≡ [] }
+    ensures ok { OnOk result (Finishes (state_of session.old steps.old) steps.new (S.shown sink.old) (S.shown sink.new)) }
+    ensures err { OnErr result (FinishesFront (state_of session.old steps.old) steps.new (S.shown sink.old) (S.shown sink.new)) }
+    ensures later { S.write_faults sink.old ≤ S.write_faults sink.new }
+    ensures cause { IsErrOf result Status.WriteFault → Rose (S.write_faults sink.old) (S.write_faults sink.new) }
+    ensures only { IfErr result IsGivenUp }
+    ensures by { S.by_write sink.old sink.new }
+{
+    match end(session, steps) {
+        Ok(()) => {}
+        Err(NoMemory) => return Err(Status::NoMemory),
+    }
+    match flush(sink, &mut session.replies) {
+        Ok(()) => Ok(()),
+        Err(Failed) => Err(Status::WriteFault),
+    }
+}
+
+// Before the first byte: a volume with the root alone, of the default size.
+fn new_session(alloc: Global) -> Result<Session, NoMemory>
+    ensures state { IfOk result (λ session. (looks : ℕ) → state_of session looks ≡ start looks) }
+    ensures written { IfOk result (λ session. string_bytes session.replies ≡ []) }
+{
+    let size = Capacity {
+        nodes: 65_536,
+        names: 4_194_304,
+    };
+    Ok(Session {
+        tree: Tree::reserve(alloc, size)?,
+        line: 1,
+        held: Vec::new(alloc),
+        replies: String::new(alloc),
+    })
+}
+
+// Runs the script over this volume.
+fn run_session<O: Outside, L: Ledger>(
+    outside: &mut O,
+    session: &mut Session,
+    steps: &mut Steps<L>,
+) -> Status
+    requires state { state_of session.old steps.old ≡ start steps.old }
+    requires written { string_bytes session.old.replies ≡ [] }
+    ensures run { ForSome (O.left outside.old) (λ script. IsRun result script steps.old steps.new (O.left outside.new) (O.shown outside.old) (O.shown outside.new)) }
+    ensures read_later { O.read_faults outside.old ≤ O.read_faults outside.new }
+    ensures write_later { O.write_faults outside.old ≤ O.write_faults outside.new }
+    ensures read_cause { result ≡ Status.ReadFault → Rose (O.read_faults outside.old) (O.read_faults outside.new) }
+    ensures write_cause { result ≡ Status.WriteFault → Rose (O.write_faults outside.old) (O.write_faults outside.new) }
+    ensures no_usage { result ≡ Status.Usage → ⊥ }
+{
+    match read_all(outside, session, steps) {
+        Ok(()) => {}
+        Err(status) => return status,
+    }
+    match finish(outside, session, steps) {
+        Ok(()) => Status::Done,
+        Err(status) => status,
+    }
+}
+
+/// Runs the script over a new volume.
+pub fn replay<O: Outside, L: Ledger>(alloc: Global, outside: &mut O, steps: &mut Steps<L>) -> Status
+    ensures run { ForSome (O.left outside.old) (λ script. IsRun result script steps.old steps.new (O.left outside.new) (O.shown outside.old) (O.shown outside.new)) }
+    ensures read_later { O.read_faults outside.old ≤ O.read_faults outside.new }
+    ensures write_later { O.write_faults outside.old ≤ O.write_faults outside.new }
+    ensures read_cause { result ≡ Status.ReadFault → Rose (O.read_faults outside.old) (O.read_faults outside.new) }
+    ensures write_cause { result ≡ Status.WriteFault → Rose (O.write_faults outside.old) (O.write_faults outside.new) }
+    ensures no_usage { result ≡ Status.Usage → ⊥ }
+{
+    match new_session(alloc) {
+        Ok(mut session) => run_session(outside, &mut session, steps),
+        Err(NoMemory) => Status::NoMemory,
+    }
+}

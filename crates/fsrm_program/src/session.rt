@@ -1,0 +1,186 @@
+//! Cuts a script that comes in pieces into its lines, and answers each.
+
+ghost use Rattle.std.specs.Prelude.{◌≡◌, ℕ, ◌≤◌, ◌<◌, ◌+◌, ◌^◌, ◌++◌, ◌∷◌, [], length, take, false, OnOk, OnErr, MatchOption};
+ghost use Rattle.std.specs.String.{string_bytes};
+ghost use Rattle.std.specs.List.{list_any};
+ghost use Rattle.fsrm_model.specs.Script.{is_end};
+ghost use Rattle.fsrm_program.specs.Bytes.{CutsLine};
+ghost use Rattle.fsrm_program.specs.Progress.{Feeds, Broken, EndsBehind, EndsBroken};
+ghost use Rattle.fsrm_program.specs.Held.{state_of};
+
+use crate::answering::answer;
+use fsrm_model::{Ledger, NoMemory, Steps};
+use memchr::memchr;
+use volume_tree::Tree;
+
+const LINE_FEED: u8 = 10;
+// A byte more than the longest line that is looked at, so that a longer one is known by its length.
+const MOST_HELD: usize = 65_537;
+
+/// A run between two pieces of its script.
+#[derive(Drop)]
+pub struct Session {
+    pub tree: Tree,
+    /// The number of the line that is being read.
+    pub line: u64,
+    /// The beginning of that line.
+    pub held: Vec<u8>,
+    /// Replies that are still to be written.
+    pub replies: String,
+}
+
+// The first line, and what is behind its LF.
+fn next_line(bytes: &[u8]) -> Option<(&[u8], &[u8])>
+    ensures { MatchOption result (list_any is_end bytes.now ≡ false) (λ parts. CutsLine bytes.now parts.0.now parts.1.now) }
+{
+    match memchr(LINE_FEED, bytes) {
+        Some(end) => Some((&bytes[..end], &bytes[end + 1..])),
+        None => None,
+    }
+}
+
+// Keeps more of a line, up to as much as is looked at.
+fn hold(held: &mut Vec<u8>, bytes: &[u8]) -> Result<(), NoMemory>
+    ensures ok { OnOk result (length held.old.items ≤ 65537 → held.new.items ≡ take 65537 (held.old.items ++ bytes.now)) }
+{
+    let room = MOST_HELD.saturating_sub(held.len());
+    held.extend_from_slice(&bytes[..room.min(bytes.len())])?;
+    Ok(())
+}
+
+// Answers a line that is whole in its piece.
+fn answer_whole<L: Ledger>(
+    session: &mut Session,
+    line: &[u8],
+    steps: &mut Steps<L>,
+) -> Result<(), NoMemory>
+    requires number { session.old.line + 1 < 2 ^ 64 }
+    requires one_line { list_any is_end line.now ≡ false }
+    requires nothing_held { session.old.held.items ≡ [] }
+    ensures ok { OnOk result (Feeds (state_of session.old steps.old) (state_of session.new steps.new) (line.now ++ 10 ∷ []) (string_bytes session.old.replies) (string_bytes session.new.replies)) }
+    ensures err { OnErr result (Broken (state_of session.old steps.old) steps.new (line.now ++ 10 ∷ []) []) }
+    ensures number { OnOk result (session.new.line ≡ session.old.line + 1) }
+{
+    match answer(
+        &mut session.tree,
+        &mut session.replies,
+        session.line,
+        line,
+        steps,
+    ) {
+        Ok(()) => {
+            session.line += 1;
+            Ok(())
+        }
+        Err(NoMemory) => Err(NoMemory),
+    }
+}
+
+// Answers the line whose beginning is held.
+fn answer_held<L: Ledger>(
+    session: &mut Session,
+    rest: &[u8],
+    steps: &mut Steps<L>,
+) -> Result<(), NoMemory>
+    requires number { session.old.line + 1 < 2 ^ 64 }
+    requires one_line { list_any is_end rest.now ≡ false }
+    ensures ok { OnOk result (Feeds (state_of session.old steps.old) (state_of session.new steps.new) (rest.now ++ 10 ∷ []) (string_bytes session.old.replies) (string_bytes session.new.replies)) }
+    ensures err { OnErr result (Broken (state_of session.old steps.old) steps.new (rest.now ++ 10 ∷ []) []) }
+    ensures number { OnOk result (session.new.line ≡ session.old.line + 1) }
+{
+    match hold(&mut session.held, rest) {
+        Ok(()) => {}
+        Err(NoMemory) => return Err(NoMemory),
+    }
+    match answer(
+        &mut session.tree,
+        &mut session.replies,
+        session.line,
+        &session.held,
+        steps,
+    ) {
+        Ok(()) => {
+            session.line += 1;
+            session.held.clear();
+            Ok(())
+        }
+        Err(NoMemory) => Err(NoMemory),
+    }
+}
+
+// Answers the line that ends with these bytes.
+fn end_line<L: Ledger>(
+    session: &mut Session,
+    rest: &[u8],
+    steps: &mut Steps<L>,
+) -> Result<(), NoMemory>
+    requires number { session.old.line + 1 < 2 ^ 64 }
+    requires one_line { list_any is_end rest.now ≡ false }
+    ensures ok { OnOk result (Feeds (state_of session.old steps.old) (state_of session.new steps.new) (rest.now ++ 10 ∷ []) (string_bytes session.old.replies) (string_bytes session.new.replies)) }
+    ensures err { OnErr result (Broken (state_of session.old steps.old) steps.new (rest.now ++ 10 ∷ []) []) }
+    ensures number { OnOk result (session.new.line ≡ session.old.line + 1) }
+{
+    if session.held.is_empty() {
+        answer_whole(session, rest, steps)
+    } else {
+        answer_held(session, rest, steps)
+    }
+}
+
+// Keeps the beginning of a line, which the next piece goes on with.
+fn hold_rest(session: &mut Session, rest: &[u8]) -> Result<(), NoMemory>
+    requires { list_any is_end rest.now ≡ false }
+    ensures ok { (looks : ℕ) → OnOk result (Feeds (state_of session.old looks) (state_of session.new looks) rest.now (string_bytes session.old.replies) (string_bytes session.new.replies)) }
+    ensures number { session.new.line ≡ session.old.line }
+{
+    match hold(&mut session.held, rest) {
+        Ok(()) => Ok(()),
+        Err(NoMemory) => Err(NoMemory),
+    }
+}
+
+/// Takes the next piece of the script: answers each line that ends in it, and keeps the beginning of
+/// the one that doesn't.
+pub fn feed<L: Ledger>(
+    session: &mut Session,
+    piece: &[u8],
+    steps: &mut Steps<L>,
+) -> Result<(), NoMemory>
+    requires { session.old.line + length piece.now < 2 ^ 64 }
+    ensures ok { OnOk result (Feeds (state_of session.old steps.old) (state_of session.new steps.new) piece.now (string_bytes session.old.replies) (string_bytes session.new.replies)) }
+    ensures err { OnErr result (Broken (state_of session.old steps.old) steps.new piece.now []) }
+    ensures number { OnOk result (session.new.line ≤ session.old.line + length piece.now) }
+{
+    let mut rest = piece;
+    'lines: while let Some((line, behind)) = next_line(rest) {
+        match end_line(session, line, steps) {
+            Ok(()) => {}
+            Err(NoMemory) => return Err(NoMemory),
+        }
+        rest = behind;
+    }
+    match hold_rest(session, rest) {
+        Ok(()) => Ok(()),
+        Err(NoMemory) => Err(NoMemory),
+    }
+}
+
+/// Answers the last line, where it has no LF.
+pub fn end<L: Ledger>(session: &mut Session, steps: &mut Steps<L>) -> Result<(), NoMemory>
+    ensures ok { OnOk result (EndsBehind (state_of session.old steps.old) steps.new (string_bytes session.old.replies) (string_bytes session.new.replies)) }
+    ensures err { OnErr result (EndsBroken (state_of session.old steps.old) steps.new) }
+{
+    if session.held.is_empty() {
+        return Ok(());
+    }
+    match answer(
+        &mut session.tree,
+        &mut session.replies,
+        session.line,
+        &session.held,
+        steps,
+    ) {
+        Ok(()) => Ok(()),
+        Err(NoMemory) => Err(NoMemory),
+    }
+}
