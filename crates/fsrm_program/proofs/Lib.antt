@@ -2,6 +2,7 @@ pub mod CommandLaws
 pub mod Completing
 pub mod Cutting
 pub mod Feeding
+pub mod MostTaken
 pub mod Passing
 pub mod Shown
 pub mod Taking

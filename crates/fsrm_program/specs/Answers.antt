@@ -28,6 +28,11 @@ pub record IsTooLong (script : List ℕ) (left : Option (List ℕ)) : Type 0 whe
   pub longer : longest_script < length script
   pub taken : left ≡ Some (drop (longest_script + 1) script)
 
+-- how many bytes a run takes: one more than a script may have, where it is too long
+abbrev pub most_taken : Status → ℕ
+most_taken TooLong = longest_script + 1
+most_taken other = longest_script
+
 -- the text of the lines that an LF ended in what was taken was shown, and nothing else
 pub record ShowsEnded (script : List ℕ) (taken : List ℕ) (shown_before shown_after : Option (List ℕ)) : Type 0 where
   pub ended : List (List ℕ)

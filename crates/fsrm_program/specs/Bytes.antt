@@ -1,5 +1,5 @@
 -- What is taken from a script, and what is written.
-use Rattle.std.specs.Prelude.{◌≡◌, ℕ, List, [], ◌∷◌, ◌++◌, false, Option, Some}
+use Rattle.std.specs.Prelude.{◌≡◌, ℕ, ◌≤◌, List, [], ◌∷◌, ◌++◌, length, false, Option, Some}
 use Rattle.std.specs.List.{list_any}
 use Rattle.std.specs.Io.KnownBytes.{append_known}
 use Rattle.fsrm_model.specs.Script.{is_end}
@@ -17,6 +17,12 @@ pub record ShowsFront (before after : Option (List ℕ)) (whole : List ℕ) : Ty
 -- these bytes were taken from the front of what was left, where that is told
 pub record Taken (before after : Option (List ℕ)) (bytes : List ℕ) : Type 0 where
   pub rest : (script : List ℕ) → before ≡ Some script → (rest : List ℕ) × (script ≡ bytes ++ rest) × (after ≡ Some rest)
+
+-- no more bytes than these were taken
+pub record TakenMost (before after : Option (List ℕ)) (most : ℕ) : Type 0 where
+  pub bytes : List ℕ
+  pub few : length bytes ≤ most
+  pub taken : Taken before after bytes
 
 -- the bytes are a line, its LF, and the rest
 pub record CutsLine (bytes line rest : List ℕ) : Type 0 where

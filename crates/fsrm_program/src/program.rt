@@ -7,8 +7,8 @@ ghost use Rattle.fsrm_model.specs.Fresh.{default_capacity, new_rows};
 ghost use Rattle.fsrm_model.specs.Limits.{longest_script};
 ghost use Rattle.fsrm_model.specs.Script.{script_cost};
 ghost use Rattle.fsrm_outside.specs.Causes.{Rose};
-ghost use Rattle.fsrm_program.specs.Bytes.{ShowsFront};
-ghost use Rattle.fsrm_program.specs.Answers.{AreWords, whole_text, IsWhole, IsTooLong, IsEnded, OnReadStop, IsDoneOrNoMemory};
+ghost use Rattle.fsrm_program.specs.Bytes.{ShowsFront, TakenMost};
+ghost use Rattle.fsrm_program.specs.Answers.{AreWords, whole_text, IsWhole, IsTooLong, most_taken, IsEnded, OnReadStop, IsDoneOrNoMemory};
 
 use crate::replay::replay;
 use crate::status::Status;
@@ -46,8 +46,10 @@ pub fn run<O: Outside, L: Ledger>(
     // The answer is Usage exactly where the words aren't the one word; then nothing was read or written.
     ensures usage { (result ≡ Status.Usage) ↔ (AreWords (map string_bytes words.now) → ⊥) }
     ensures idle { result ≡ Status.Usage → outside.new ≡ outside.old }
-    // 2^32 bytes were taken, and one more.
-    ensures too_long { ForSome (O.left outside.old) (λ script. result ≡ Status.TooLong → IsTooLong script (O.left outside.new)) }
+    // The answer is TooLong exactly where 2^32 bytes were taken, and one more.
+    ensures too_long { ForSome (O.left outside.old) (λ script. (result ≡ Status.TooLong) ↔ IsTooLong script (O.left outside.new)) }
+    // At every other status no more than 2^32 were taken.
+    ensures taken { TakenMost (O.left outside.old) (O.left outside.new) (most_taken result) }
     ensures read_fault { result ≡ Status.ReadFault → Rose (O.read_faults outside.old) (O.read_faults outside.new) }
     ensures write_fault { result ≡ Status.WriteFault → Rose (O.write_faults outside.old) (O.write_faults outside.new) }
     // Over devices that don't fail, a script of at most 2^32 bytes is done, but for want of memory.

@@ -1,15 +1,15 @@
 //! Runs a script over a new volume.
 
-ghost use Rattle.std.specs.Prelude.{◌≡◌, ℕ, ◌≤◌, ◌<◌, ◌+◌, [], length, IfOk, IfErr, OnOk, OnErr, IsErrOf};
+ghost use Rattle.std.specs.Prelude.{◌≡◌, ℕ, ◌≤◌, ◌<◌, ◌+◌, ◌-◌, [], length, IfOk, IfErr, OnOk, OnErr, IsErrOf};
 ghost use Rattle.std.specs.Option.{ForSome};
 ghost use Rattle.std.specs.String.{string_bytes};
 ghost use Rattle.fsrm_model.specs.Limits.{longest_script};
 ghost use Rattle.fsrm_outside.specs.Causes.{Rose};
-ghost use Rattle.fsrm_program.specs.Bytes.{IsAtEnd};
+ghost use Rattle.fsrm_program.specs.Bytes.{IsAtEnd, TakenMost};
 ghost use Rattle.fsrm_program.specs.Progress.{State, Takes, start};
 ghost use Rattle.fsrm_program.specs.Held.{state_of};
 ghost use Rattle.fsrm_program.specs.Stops.{Stops, StopsAt, Reads, Finishes, FinishesFront, IsGivenUp};
-ghost use Rattle.fsrm_program.specs.Answers.{IsRun};
+ghost use Rattle.fsrm_program.specs.Answers.{IsRun, most_taken};
 
 use crate::pieces::next_piece;
 use crate::session::{Session, end, feed};
@@ -41,6 +41,7 @@ fn pass<O: Outside, L: Ledger>(
     ensures number { IfOk result (λ count. session.new.line ≤ session.old.line + count) }
     ensures written { OnOk result (string_bytes session.new.replies ≡ []) }
     ensures stops { IfErr result (λ status. Stops status (state_of session.old steps.old) (state_of session.new steps.new) (O.left outside.old) (O.left outside.new) (O.shown outside.old) (O.shown outside.new) 0) }
+    ensures taken { IfErr result (λ status. TakenMost (O.left outside.old) (O.left outside.new) (most_taken status - taken)) }
     ensures full { IsErrOf result Status.TooLong → taken ≡ longest_script }
     ensures read_later { O.read_faults outside.old ≤ O.read_faults outside.new }
     ensures write_later { O.write_faults outside.old ≤ O.write_faults outside.new }
@@ -72,6 +73,7 @@ fn read_all<O: Outside, L: Ledger>(
     ensures reads { OnOk result (Reads (state_of session.old steps.old) (state_of session.new steps.new) (O.left outside.old) (O.left outside.new) (O.shown outside.old) (O.shown outside.new)) }
     ensures written { OnOk result (string_bytes session.new.replies ≡ []) }
     ensures stops { IfErr result (λ status. StopsAt status (state_of session.old steps.old) (state_of session.new steps.new) (O.left outside.old) (O.left outside.new) (O.shown outside.old) (O.shown outside.new)) }
+    ensures taken { IfErr result (λ status. TakenMost (O.left outside.old) (O.left outside.new) (most_taken status)) }
     ensures read_later { O.read_faults outside.old ≤ O.read_faults outside.new }
     ensures write_later { O.write_faults outside.old ≤ O.write_faults outside.new }
     ensures read_cause { IsErrOf result Status.ReadFault → Rose (O.read_faults outside.old) (O.read_faults outside.new) }
@@ -138,6 +140,7 @@ fn run_session<O: Outside, L: Ledger>(
     requires state { state_of session.old steps.old ≡ start steps.old }
     requires written { string_bytes session.old.replies ≡ [] }
     ensures run { ForSome (O.left outside.old) (λ script. IsRun result script steps.old steps.new (O.left outside.new) (O.shown outside.old) (O.shown outside.new)) }
+    ensures taken { TakenMost (O.left outside.old) (O.left outside.new) (most_taken result) }
     ensures read_later { O.read_faults outside.old ≤ O.read_faults outside.new }
     ensures write_later { O.write_faults outside.old ≤ O.write_faults outside.new }
     ensures read_cause { result ≡ Status.ReadFault → Rose (O.read_faults outside.old) (O.read_faults outside.new) }
@@ -157,6 +160,7 @@ fn run_session<O: Outside, L: Ledger>(
 /// Runs the script over a new volume.
 pub fn replay<O: Outside, L: Ledger>(alloc: Global, outside: &mut O, steps: &mut Steps<L>) -> Status
     ensures run { ForSome (O.left outside.old) (λ script. IsRun result script steps.old steps.new (O.left outside.new) (O.shown outside.old) (O.shown outside.new)) }
+    ensures taken { TakenMost (O.left outside.old) (O.left outside.new) (most_taken result) }
     ensures read_later { O.read_faults outside.old ≤ O.read_faults outside.new }
     ensures write_later { O.write_faults outside.old ≤ O.write_faults outside.new }
     ensures read_cause { result ≡ Status.ReadFault → Rose (O.read_faults outside.old) (O.read_faults outside.new) }

@@ -1,5 +1,7 @@
-use Rattle.std.proofs.Common.{arith, ap, ◌+◌, Err}
+use Rattle.std.proofs.Common.{arith, ap, ◌+◌, ◌≤◌, Err}
+use Rattle.fsrm_program.specs.Answers.{most_taken}
 use Rattle.fsrm_program.specs.Held.{state_of}
+use Rattle.fsrm_program.proofs.MostTaken.{most_then, whole_script}
 use Rattle.fsrm_program.proofs.Passing.{takes_nothing, takes_then, stops_after}
 use Rattle.fsrm_program.proofs.replay.read_all.Goals as goal
 
@@ -54,3 +56,13 @@ returns-in-Err-clause-stops g c =
     let mid = c.pieces.outside in
     let last = c.pass.new.outside in
     stops_after c.in-Err.status (state_of c.args.session.now c.args.steps.now) (state_of c.pieces.session c.pieces.steps) (state_of c.pass.new.session c.pass.new.steps) (source.left first) (source.left mid) (source.left last) (sink.shown first) (sink.shown mid) (sink.shown last) c.pieces.taken c.pieces.invariant.takes (λ e. c.in-Err.ensures.full (ap Err e)) c.in-Err.ensures.stops
+
+pub returns-in-Err-clause-taken : goal.returns-in-Err-clause-taken
+returns-in-Err-clause-taken g c =
+    let source = g.O.Source in
+    let sink = g.O.Sink in
+    let first = c.args.outside.now in
+    let mid = c.pieces.outside in
+    let last = c.pass.new.outside in
+    let short : c.pieces.taken ≤ most_taken c.in-Err.status = omega (arith, c.pieces.invariant.within, whole_script c.in-Err.status) in
+    most_then (state_of c.args.session.now c.args.steps.now) (state_of c.pieces.session c.pieces.steps) (source.left first) (source.left mid) (source.left last) (sink.shown first) (sink.shown mid) c.pieces.taken (most_taken c.in-Err.status) short c.pieces.invariant.takes c.in-Err.ensures.taken
