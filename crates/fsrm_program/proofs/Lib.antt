@@ -5,6 +5,7 @@ pub mod Feeding
 pub mod MostTaken
 pub mod Passing
 pub mod Shown
+pub mod Spaces
 pub mod Taking
 pub mod Texts
 pub mod Whole

@@ -9,6 +9,8 @@ ghost use Rattle.fsrm_model.specs.Name.{is_plain_name, is_plain_byte};
 ghost use Rattle.fsrm_model.specs.Reading.{are_digits, at_space, number_of, is_space};
 ghost use Rattle.fsrm_program.specs.Form.{command_of_form, IsForm};
 
+use memchr::memchr;
+
 const CREATE: &[u8] = b"0 create D:\\";
 
 const USAGE: &[u8] = b"0 usage D:\\";
@@ -43,7 +45,7 @@ fn first_space(text: &[u8]) -> Option<usize>
     ensures place { result ≡ position is_space text.now }
     ensures within { IfSome result (λ place. place < length text.now) }
 {
-    text.iter().position(|b| *b == b' ')
+    memchr(b' ', text)
 }
 
 // What stands before the first space, and what behind it.
