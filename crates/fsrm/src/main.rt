@@ -8,14 +8,17 @@ use fsrm_outside::RealOutside;
 use fsrm_program::{Status, run};
 use std::alloc::Global;
 use std::env;
+use std::io::ErrorKind;
 use std::marker::Brand;
 use std::process::ExitCode;
 use std::sync::ledger::{Blank, Ledger};
 
 // The words after the program's name. A word that isn't text is not understood.
 fn words_given(rt: &HostRuntime, alloc: Global) -> Result<Vec<String>, Status> {
-    let Ok(args) = env::args(rt) else {
-        return Err(Status::Usage);
+    let args = match env::args(rt) {
+        Ok(args) => args,
+        Err(error) if error.kind() == ErrorKind::OutOfMemory => return Err(Status::NoMemory),
+        Err(_) => return Err(Status::Usage),
     };
     let mut words = Vec::new(alloc);
     for word in args.skip(1) {
