@@ -87,7 +87,7 @@ same_first false true gone taken full names a b c = cc
 same_first false false true taken full names a b c = cc
 
 -- the rows and the refusals of a file in the root
-after_is : (K : Capacity) (nodes : List NodeRow) (name : List ℕ) (bytes owner : ℕ) → IsVolume K nodes → plain nodes (Create (name ∷ []) bytes owner) 0 ≡ with_row number (made_node nodes 0 name false bytes owner 0) nodes
+pub after_is : (K : Capacity) (nodes : List NodeRow) (name : List ℕ) (bytes owner : ℕ) → IsVolume K nodes → plain nodes (Create (name ∷ []) bytes owner) 0 ≡ with_row number (made_node nodes 0 name false bytes owner 0) nodes
 after_is K nodes name bytes owner v = ap (λ (o : Option ℕ). with_row number (made_node nodes (unwrap_or o 0) name false bytes owner 0) nodes) (resolve_root K nodes v)
 
 lt_suc : (a b : ℕ) → nat_lt a (suc b) ≡ nat_le a b
@@ -107,7 +107,7 @@ first_is K nodes name bytes owner v =
     ∙ ap (λ (b : Bool). refusal_for (first_fault (fault_if AlreadyThere (is_some (child_number nodes 0 name)) ∷ fault_if NodesFull b ∷ fault_if BytesFull (nat_lt K.names (name_bytes after)) ∷ []))) full
     ∙ ap (λ (b : Bool). refusal_for (first_fault (fault_if AlreadyThere (is_some (child_number nodes 0 name)) ∷ fault_if NodesFull (nat_le K.nodes (length nodes)) ∷ fault_if BytesFull b ∷ []))) names
 
-step_is : (v : Volume) (name : List ℕ) (bytes owner : ℕ) (fault : Option TreeFault) → IsVolume v.size v.nodes → new_fault v 0 name ≡ fault → step v.size (rows_of_nodes v.nodes) (create_command name bytes owner) ≡ decided (rows_of_nodes v.nodes) 0 (work v.size (rows_of_nodes v.nodes) 0 (File (Create (name ∷ []) bytes owner))) (refusal_for fault)
+pub step_is : (v : Volume) (name : List ℕ) (bytes owner : ℕ) (fault : Option TreeFault) → IsVolume v.size v.nodes → new_fault v 0 name ≡ fault → step v.size (rows_of_nodes v.nodes) (create_command name bytes owner) ≡ decided (rows_of_nodes v.nodes) 0 (work v.size (rows_of_nodes v.nodes) 0 (File (Create (name ∷ []) bytes owner))) (refusal_for fault)
 step_is v name bytes owner fault is e = ap (decided (rows_of_nodes v.nodes) 0 (work v.size (rows_of_nodes v.nodes) 0 (File (Create (name ∷ []) bytes owner)))) (first_is v.size v.nodes name bytes owner is ∙ ap refusal_for e)
 
 -- the file was made
@@ -148,7 +148,7 @@ create_refused v w root line bytes owner name before last answer fault refusal i
     }
 
 -- the root's sum
-usage_step : (K : Capacity) (nodes : List NodeRow) → IsVolume K nodes → step K (rows_of_nodes nodes) usage_command ≡ unlasting (rows_of_nodes nodes) (Sum 0 (usage K nodes 0))
+pub usage_step : (K : Capacity) (nodes : List NodeRow) → IsVolume K nodes → step K (rows_of_nodes nodes) usage_command ≡ unlasting (rows_of_nodes nodes) (Sum 0 (usage K nodes 0))
 usage_step K nodes v =
     let R = rows_of_nodes nodes in
     let at : Option ℕ → Stepped = λ o. decided R 0 (asks [] R (Sum (unwrap_or o 0) (usage K nodes (unwrap_or o 0))) false) (first ((ClockBack when nat_lt 0 0) ∷ (PathNotFound when not (is_some o)) ∷ [])) in

@@ -4,6 +4,7 @@ pub mod Cutting
 pub mod Feeding
 pub mod MostTaken
 pub mod Passing
+pub mod Reached
 pub mod Shown
 pub mod Spaces
 pub mod Taking

@@ -1,4 +1,5 @@
 pub mod Bytes
+pub mod Causes
 pub mod Commands
 pub mod Form
 pub mod Progress

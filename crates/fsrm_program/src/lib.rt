@@ -2,6 +2,7 @@
 #![tactic(auto)]
 
 mod answering;
+pub mod laws;
 mod pieces;
 mod program;
 mod reading;

@@ -12,7 +12,7 @@ use Rattle.fsrm_model.specs.Fresh.{root_node}
 use Rattle.fsrm_model.specs.Name.{same_name, name_before}
 use Rattle.fsrm_model.specs.Order.{in_order}
 use Rattle.fsrm_model.specs.Tree.{number, node_of, is_child, children, name_bytes}
-use Rattle.volume_tree.specs.Volume.{IsFile, IsNode, child_number}
+use Rattle.volume_tree.specs.Volume.{IsFile, IsNode, IsVolume, child_number}
 use Rattle.volume_tree.specs.Index.{files, file_at, IsIndex, IsPlace, IsKept}
 use Rattle.volume_tree.proofs.Searches.{none_found}
 use Rattle.volume_tree.proofs.Names.{before_turned, before_or_after}
@@ -71,21 +71,28 @@ index_push rows order row place h some e file at none =
     child_is row zero l e f = absurd (omega arith)
     child_is row (suc n) l e f = file_is_child row n (e, f)
 
+-- one more file in the volume
+pub volume_push : (K : Capacity) (rows : List NodeRow) (row : NodeRow) → IsVolume K rows → row.number ≡ length rows → IsFile row → length rows < K.nodes → name_bytes rows + length row.name ≤ K.names → IsVolume K (rows ++ row ∷ [])
+volume_push K rows row v e file room names =
+    let some = some_nodes rows v.root in
+    let size : length (rows ++ row ∷ []) ≡ length rows + 1 = length_push rows row in
+    let sum : name_bytes (rows ++ row ∷ []) ≡ name_bytes rows + length row.name = sum_by_push (λ (node : NodeRow). length node.name) rows row in
+    record {
+      root = find-append (λ node. number node == 0) rows (row ∷ []) ∙ ap (λ o. option_or o (node_of (row ∷ []) 0)) v.root;
+      each = nodes_push 0 rows row v.each (node_is (0 + length rows) row (omega arith) (omega arith) file);
+      few = omega arith;
+      most = v.most;
+      names = omega arith;
+    }
+
 pub kept_push : (K : Capacity) (bytes : ℕ) (rows : List NodeRow) (order : List ℕ) (row : NodeRow) (place : ℕ) → IsKept K bytes rows order → row.number ≡ length rows → IsFile row → IsPlace rows row.name place → child_number rows 0 row.name ≡ None → length rows < K.nodes → bytes + length row.name ≤ K.names → IsKept K (bytes + length row.name) (rows ++ row ∷ []) (insert order place row.number)
 kept_push K bytes rows order row place h e file at none room names =
     let some = some_nodes rows h.volume.root in
     let index = index_push rows order row place h.index some e file at none in
-    let size : length (rows ++ row ∷ []) ≡ length rows + 1 = length_push rows row in
     let sum : name_bytes (rows ++ row ∷ []) ≡ name_bytes rows + length row.name = sum_by_push (λ (node : NodeRow). length node.name) rows row in
     let used = h.used in
     record {
-      volume = record {
-        root = find-append (λ node. number node == 0) rows (row ∷ []) ∙ ap (λ o. option_or o (node_of (row ∷ []) 0)) h.volume.root;
-        each = index.each;
-        few = omega arith;
-        most = h.volume.most;
-        names = omega arith;
-      };
+      volume = volume_push K rows row h.volume e file room (omega arith);
       size = h.size;
       used = omega arith;
       index = index;

@@ -5,6 +5,7 @@ pub mod Nodes
 pub mod Places
 pub mod Search
 pub mod Faults
+pub mod Grown
 pub mod Kept
 pub mod Root
 pub mod Made

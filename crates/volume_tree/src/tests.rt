@@ -172,6 +172,7 @@ fn nodes_are_shown<N: Named>(rt: &HostRuntime, end: &impl Abort, blank: Blank) -
     assert_eq!(end; file.owner, 3);
     assert_eq!(end; (file.created, file.modified, file.accessed), (7, 7, 7));
     assert!(end; tree.live(0));
+    assert_eq!(end; tree.root(), 0);
     let root = tree.node(0, &mut steps);
     assert!(end; root.folder);
     assert_eq!(end; root.name, "");
