@@ -2,6 +2,7 @@
 #![tactic(auto)]
 
 ghost use Rattle.std.specs.Prelude.{◌≡◌, ◌<◌};
+ghost use Rattle.fsrm.specs.Exit.{exit_status, exit_message};
 
 use fsrm_model::{Steps, Weightless};
 use fsrm_outside::RealOutside;
@@ -47,7 +48,10 @@ fn run_counted<B: Ledger>(rt: &HostRuntime, alloc: Global, blank: Blank) -> Stat
 }
 
 // The exit status, and what is said of it on standard error.
-fn exit_of(status: Status) -> (u8, &'static str) {
+fn exit_of(status: Status) -> (u8, &'static str)
+    ensures status { result.0 ≡ exit_status status }
+    ensures message { result.1.now ≡ exit_message status }
+{
     match status {
         Status::Done => (0, ""),
         Status::Usage => (2, "fsrm: words not understood"),
