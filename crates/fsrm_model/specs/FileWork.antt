@@ -24,9 +24,11 @@ new_checks K R path after =
 abbrev pub file_checks : Capacity → Rows → FileOp → Rows → List Check
 file_checks K R (Create path length owner) after = new_checks K R path after
 
+-- the rows that a file operation leaves
 abbrev pub file_effect : Rows → FileOp → ℕ → Rows
 file_effect R op moment = record R { nodes = plain R.nodes op moment }
 
+-- a file operation lasts, and answers no more than that it was done
 abbrev pub file_work : Capacity → Rows → FileOp → ℕ → Work
 file_work K R op moment =
     let after = file_effect R op moment in

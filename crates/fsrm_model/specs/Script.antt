@@ -46,14 +46,16 @@ replied_to K R line None = record { rows = R; text = [] }
 replied_to K R line (Some (Err refusal)) = record { rows = R; text = reply K R 0 line (Refused refusal) }
 replied_to K R line (Some (Ok c)) = let s = step K R c in record { rows = s.rows; text = reply K s.rows c.moment line s.outcome }
 
+-- what a line of these bytes leaves, and its reply
 unfoldable pub replied : Capacity → Rows → ℕ → List ℕ → Replied
 replied K R line bytes = replied_to K R line (read_line bytes)
 
--- the text of lines that are numbered from a number on, and the rows after them
+-- the text of lines that are numbered from a number on
 abbrev pub text_from : Capacity → Rows → ℕ → List (List ℕ) → List ℕ
 text_from K R line [] = []
 text_from K R line (l ∷ ls) = let r = replied K R line l in r.text ++ text_from K r.rows (line + 1) ls
 
+-- the rows after lines that are numbered from a number on
 abbrev pub fold_from : Capacity → Rows → ℕ → List (List ℕ) → Rows
 fold_from K R line [] = R
 fold_from K R line (l ∷ ls) = fold_from K (replied K R line l).rows (line + 1) ls
@@ -72,6 +74,7 @@ read_cost R None = 0
 read_cost R (Some (Err refusal)) = 0
 read_cost R (Some (Ok c)) = cost R c.deed
 
+-- the same of a line of these bytes
 unfoldable pub line_cost : Rows → List ℕ → ℕ
 line_cost R bytes = read_cost R (read_line bytes)
 

@@ -39,11 +39,13 @@ unacted R = record { rows = R; acts = [] }
 abbrev pub concluded : Acted → ℕ → Acted
 concluded after moment = record { rows = record after.rows { last_moment = moment }; acts = after.acts }
 
+-- what a command leaves that lasts
 abbrev pub lasted : Acted → ℕ → Outcome → Stepped
 lasted after moment outcome =
     let end = concluded after moment in
     record { rows = end.rows; outcome = outcome; lasting = true; acts = end.acts }
 
+-- what a command leaves that doesn't
 abbrev pub unlasting : Rows → Outcome → Stepped
 unlasting R outcome = record { rows = R; outcome = outcome; lasting = false; acts = [] }
 
@@ -51,9 +53,11 @@ unlasting R outcome = record { rows = R; outcome = outcome; lasting = false; act
 abbrev pub refused : Rows → Refusal → Stepped
 refused R refusal = unlasting R (Refused refusal)
 
+-- a command that no check refuses
 abbrev pub accepted : ℕ → Work → Stepped
 accepted moment w = if w.lasts then lasted (unacted w.effect) moment w.outcome else unlasting w.effect w.outcome
 
+-- a command, by the check that refuses it
 abbrev pub decided : Rows → ℕ → Work → Option Refusal → Stepped
 decided R moment w (Some refusal) = refused R refusal
 decided R moment w None = accepted moment w

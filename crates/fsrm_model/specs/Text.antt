@@ -29,6 +29,7 @@ refusal_words AlreadyExists = codes "AlreadyExists" ∷ []
 refusal_words VolumeFull = codes "VolumeFull" ∷ []
 refusal_words NamesFull = codes "NamesFull" ∷ []
 
+-- the words behind the number of the line
 abbrev pub head_words : Outcome → List (List ℕ)
 head_words (Done passive) = codes "ok" ∷ []
 head_words (Sum node bytes) = codes "ok" ∷ []
@@ -42,6 +43,7 @@ head_line line outcome = line_of (decimal line ∷ head_words outcome)
 abbrev pub body_line : List (List ℕ) → List ℕ
 body_line words = 32 ∷ 32 ∷ line_of words
 
+-- the folder of a passive screen that a file would have been kept out by, where there is one
 abbrev pub passive_line : List NodeRow → Option ℕ → List ℕ
 passive_line nodes None = []
 passive_line nodes (Some screen) = body_line (codes "passive" ∷ path_text nodes screen ∷ [])

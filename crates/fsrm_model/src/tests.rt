@@ -38,6 +38,7 @@ fn texts_are_copied(rt: HostRuntime) -> Result<(), Fail> {
     list.push(Text::from_str(alloc, "a")?)?;
     let copy = list.copy(alloc)?;
     assert_eq!(rt; copy.len(), 1);
+    assert!(rt; !copy.is_empty());
     assert_eq!(rt; copy.get(0).map(|text| text.as_str().len()), Some(1));
     assert!(rt; copy.get(1).is_none());
     Ok(())

@@ -1,4 +1,5 @@
-// A source and a sink in memory, which fail where they are told to.
+//! A source and a sink in memory, which fail where they are told to.
+
 ghost use Rattle.std.specs.Prelude.{◌≡◌, ◌≤◌, ◌<◌, ◌↔◌, refl, List, [], min, IfOk, OnErr, IsErr, IsTrue, Contains, Some, take, drop, length, ◌++◌, vec_len};
 ghost use Rattle.std.proofs.Common.{◌∙◌, ap};
 ghost use Rattle.fsrm_outside.specs.Causes.{HasCause, count_after};

@@ -1,4 +1,5 @@
-// The standard streams of the process.
+//! The standard streams of the process.
+
 ghost use Rattle.std.specs.Prelude.{◌≡◌, ◌≤◌, ◌<◌, length, IfOk, None, refl};
 ghost use Rattle.std.proofs.Common.{◌∙◌};
 ghost use Rattle.fsrm_outside.specs.Causes.{HasCause, count_after};
@@ -26,8 +27,8 @@ pub struct RealOutside {
 }
 
 impl RealOutside {
-    /// The streams of the process, which are open already, with no failed call counted.
-    /// `NoMemory`: there is no memory for the device. The streams need none.
+    /// The streams of the process, which are open already, with no failed call counted. The streams
+    /// need no memory, so this never answers `NoMemory`; a device with more to open may.
     pub fn new(rt: &HostRuntime, _alloc: Global) -> Result<RealOutside, NoMemory>
         ensures read_faults { IfOk result (λ o. ⟦<RealOutside as Source>⟧.read_faults o ≡ 0) }
         ensures write_faults { IfOk result (λ o. ⟦<RealOutside as Sink>⟧.write_faults o ≡ 0) }

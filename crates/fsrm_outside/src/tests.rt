@@ -1,4 +1,5 @@
-// Devices in memory that give a script in pieces and fail as told, and the streams of the process.
+//! Devices in memory that give a script in pieces and fail as told, and the streams of the process.
+
 ghost use Rattle.std.specs.Prelude.{◌≤◌};
 
 use crate::{Failed, MemoryOutside, RealOutside, Sink, Source};

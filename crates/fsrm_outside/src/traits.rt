@@ -1,4 +1,5 @@
-// A source of bytes, a sink for bytes, and both at once.
+//! A source of bytes, a sink for bytes, and both at once.
+
 ghost use Rattle.std.specs.Prelude.{◌≡◌, ℕ, ◌≤◌, ◌<◌, Option, List, length, take, drop, IfOk, OnErr};
 ghost use Rattle.std.specs.Io.KnownBytes.{append_known};
 ghost use Rattle.std.specs.Option.{option_map, ForSome};

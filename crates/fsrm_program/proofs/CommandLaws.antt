@@ -31,9 +31,9 @@ use Rattle.fsrm_model.specs.Space.{space, alloc}
 use Rattle.fsrm_model.specs.Step.{step, Stepped, work, decided, unlasting}
 use Rattle.fsrm_model.specs.Text.{head_line, body_line, path_text, reply}
 use Rattle.fsrm_model.specs.Tree.{number, node_of, is_folder, children, children_in_order, name_bytes, usage, under}
-use Rattle.volume_tree.specs.declared.fault.TreeFault.{TreeFault}
-use Rattle.volume_tree.specs.declared.fault.TreeFault.TheVariants.{AlreadyExists as AlreadyThere, VolumeFull as NodesFull, NamesFull as BytesFull, NoMemory}
-use Rattle.volume_tree.specs.declared.fault.NodeView.{NodeView}
+use Rattle.volume_tree.specs.declared.answer.TreeFault.{TreeFault}
+use Rattle.volume_tree.specs.declared.answer.TreeFault.TheVariants.{AlreadyExists as AlreadyThere, VolumeFull as NodesFull, NamesFull as BytesFull, NoMemory}
+use Rattle.volume_tree.specs.declared.answer.NodeView.{NodeView}
 use Rattle.volume_tree.specs.Volume.{Volume, IsVolume, IsFault, Shows, IsChildAt, child_number, new_fault, first_fault, fault_if, with_node}
 use Rattle.volume_tree.proofs.Root.{resolve_name, resolve_root, root_folder, path_root, usage_root, under_root}
 use Rattle.fsrm_program.specs.Commands.{create_command, usage_command, AnswersTo}

@@ -21,8 +21,8 @@ use Rattle.fsrm_model.specs.Step.{Stepped, step, work, decided}
 use Rattle.fsrm_model.specs.Tree.{usage, name_bytes}
 use Rattle.fsrm_model.proofs.PlainMachine.{replied-command, replied-none}
 use Rattle.fsrm_model.proofs.SpellingLaws.{read_spells}
-use Rattle.volume_tree.specs.declared.fault.TreeFault.{TreeFault}
-use Rattle.volume_tree.specs.declared.fault.TreeFault.TheVariants.{AlreadyExists as AlreadyThere, VolumeFull as NodesFull, NamesFull as BytesFull, NoMemory}
+use Rattle.volume_tree.specs.declared.answer.TreeFault.{TreeFault}
+use Rattle.volume_tree.specs.declared.answer.TreeFault.TheVariants.{AlreadyExists as AlreadyThere, VolumeFull as NodesFull, NamesFull as BytesFull, NoMemory}
 use Rattle.volume_tree.specs.Volume.{IsVolume, child_number, new_fault, first_fault, fault_if}
 use Rattle.volume_tree.proofs.Grown.{due_fault, volume_new, short_names, short_plain}
 use Rattle.volume_tree.proofs.Root.{resolve_name}

@@ -5,6 +5,7 @@ use Rattle.std.specs.Io.KnownBytes.{append_known}
 use Rattle.fsrm_model.specs.declared.row.Capacity.{Capacity}
 use Rattle.fsrm_model.specs.declared.row.Rows.{Rows}
 use Rattle.fsrm_model.specs.Fresh.{default_capacity, new_rows}
+use Rattle.fsrm_model.specs.Limits.{longest_line}
 use Rattle.fsrm_model.specs.Script.{is_end, lines, spelled_lines, AreLines, text_from, fold_from, cost_from}
 use Rattle.fsrm_program.specs.Bytes.{IsFront, Taken}
 
@@ -25,7 +26,7 @@ start looks = record { size = default_capacity; line = 1; rows = new_rows; held 
 -- What is kept of the beginning of a line: all of one that may be a command, and of a longer one a
 -- byte more than that.
 pub record IsHeld (line held : List ℕ) : Type 0 where
-  pub kept : held ≡ take 65537 line
+  pub kept : held ≡ take (longest_line + 1) line
   pub one_line : list_any is_end line ≡ false
 
 -- a stream is these whole lines and the beginning of the next, and leads from one state to the other; this is their text

@@ -40,12 +40,7 @@ fn room_for(taken: u64, size: usize) -> usize
     if taken == LONGEST_SCRIPT {
         return 1;
     }
-    let room = LONGEST_SCRIPT - taken;
-    if room < size as u64 {
-        room as usize
-    } else {
-        size
-    }
+    (LONGEST_SCRIPT - taken).min(size as u64) as usize
 }
 
 /// Reads the next piece to the front of the buffer, and answers its length: 0 at the script's end.

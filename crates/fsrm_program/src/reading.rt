@@ -15,8 +15,8 @@ const CREATE: &[u8] = b"0 create D:\\";
 
 const USAGE: &[u8] = b"0 usage D:\\";
 
-// No longer line is looked at.
-const LONGEST_LINE: usize = 65_536;
+/// No longer line is looked at.
+pub const LONGEST_LINE: usize = 65_536;
 
 const LONGEST_PLAIN_NAME: usize = 64;
 

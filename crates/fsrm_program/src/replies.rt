@@ -14,7 +14,7 @@ use std::fmt::Write;
 pub fn append_done(replies: &mut String, line: u64) -> Result<(), NoMemory>
     ensures { OnOk result (string_bytes replies.new ≡ string_bytes replies.old ++ head_line line (Done None)) }
 {
-    write!(replies, "{line} ok\n")?;
+    writeln!(replies, "{line} ok")?;
     Ok(())
 }
 
@@ -22,7 +22,7 @@ pub fn append_done(replies: &mut String, line: u64) -> Result<(), NoMemory>
 pub fn append_sum(replies: &mut String, line: u64, bytes: u64) -> Result<(), NoMemory>
     ensures { OnOk result (string_bytes replies.new ≡ string_bytes replies.old ++ whole_sum line bytes) }
 {
-    write!(replies, "{line} ok\n  {bytes} D:\\\n")?;
+    writeln!(replies, "{line} ok\n  {bytes} D:\\")?;
     Ok(())
 }
 
@@ -30,7 +30,7 @@ pub fn append_sum(replies: &mut String, line: u64, bytes: u64) -> Result<(), NoM
 fn append_named(replies: &mut String, line: u64, name: &str) -> Result<(), NoMemory>
     ensures { OnOk result (string_bytes replies.new ≡ string_bytes replies.old ++ line_of (decimal line ∷ codes "refused" ∷ name.now ∷ [])) }
 {
-    write!(replies, "{line} refused {name}\n")?;
+    writeln!(replies, "{line} refused {name}")?;
     Ok(())
 }
 
@@ -38,7 +38,7 @@ fn append_named(replies: &mut String, line: u64, name: &str) -> Result<(), NoMem
 fn append_bad_line(replies: &mut String, line: u64, column: u32) -> Result<(), NoMemory>
     ensures { OnOk result (string_bytes replies.new ≡ string_bytes replies.old ++ head_line line (Refused (BadLine column))) }
 {
-    write!(replies, "{line} refused BadLine {column}\n")?;
+    writeln!(replies, "{line} refused BadLine {column}")?;
     Ok(())
 }
 

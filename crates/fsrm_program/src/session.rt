@@ -3,19 +3,21 @@
 ghost use Rattle.std.specs.Prelude.{◌≡◌, ℕ, ◌≤◌, ◌<◌, ◌+◌, ◌^◌, ◌++◌, ◌∷◌, [], length, take, false, OnOk, OnErr, MatchOption};
 ghost use Rattle.std.specs.String.{string_bytes};
 ghost use Rattle.std.specs.List.{list_any};
+ghost use Rattle.fsrm_model.specs.Limits.{longest_line};
 ghost use Rattle.fsrm_model.specs.Script.{is_end};
 ghost use Rattle.fsrm_program.specs.Bytes.{CutsLine};
 ghost use Rattle.fsrm_program.specs.Progress.{Feeds, Broken, EndsBehind, EndsBroken};
 ghost use Rattle.fsrm_program.specs.Held.{state_of};
 
 use crate::answering::answer;
+use crate::reading::LONGEST_LINE;
 use fsrm_model::{Ledger, NoMemory, Steps};
 use memchr::memchr;
 use volume_tree::Tree;
 
-const LINE_FEED: u8 = 10;
+const LINE_FEED: u8 = b'\n';
 // A byte more than the longest line that is looked at, so that a longer one is known by its length.
-const MOST_HELD: usize = 65_537;
+const MOST_HELD: usize = LONGEST_LINE + 1;
 
 /// A run between two pieces of its script.
 #[derive(Drop)]
@@ -41,7 +43,7 @@ fn next_line(bytes: &[u8]) -> Option<(&[u8], &[u8])>
 
 // Keeps more of a line, up to as much as is looked at.
 fn hold(held: &mut Vec<u8>, bytes: &[u8]) -> Result<(), NoMemory>
-    ensures ok { OnOk result (length held.old.items ≤ 65537 → held.new.items ≡ take 65537 (held.old.items ++ bytes.now)) }
+    ensures ok { OnOk result (length held.old.items ≤ longest_line + 1 → held.new.items ≡ take (longest_line + 1) (held.old.items ++ bytes.now)) }
 {
     let room = MOST_HELD.saturating_sub(held.len());
     held.extend_from_slice(&bytes[..room.min(bytes.len())])?;

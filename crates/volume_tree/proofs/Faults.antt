@@ -3,7 +3,7 @@ use Rattle.std.proofs.Common.{◌≡◌, ℕ, ◌+◌, ◌<◌, ◌≤◌, nat_l
 use Rattle.std.proofs.lemmas.Bool.Decides.{nat_tests}
 use Rattle.fsrm_model.specs.declared.row.NodeRow.{NodeRow}
 use Rattle.fsrm_model.specs.Tree.{is_folder, name_bytes}
-use Rattle.volume_tree.specs.declared.fault.TreeFault.TheVariants.{AlreadyExists, VolumeFull, NamesFull}
+use Rattle.volume_tree.specs.declared.answer.TreeFault.TheVariants.{AlreadyExists, VolumeFull, NamesFull}
 use Rattle.volume_tree.specs.Volume.{Volume, AreNodes, child_number, first_fault, fault_if, new_fault}
 use Rattle.volume_tree.proofs.Nodes.{folder_is_root}
 

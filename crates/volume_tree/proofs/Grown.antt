@@ -13,7 +13,7 @@ use Rattle.fsrm_model.specs.Keyed.{with_row}
 use Rattle.fsrm_model.specs.Limits.{longest_file, latest_moment}
 use Rattle.fsrm_model.specs.Name.{is_plain_name, is_plain_byte}
 use Rattle.fsrm_model.specs.Tree.{number, name_bytes}
-use Rattle.volume_tree.specs.declared.fault.TreeFault.TheVariants.{AlreadyExists, VolumeFull, NamesFull, NoMemory}
+use Rattle.volume_tree.specs.declared.answer.TreeFault.TheVariants.{AlreadyExists, VolumeFull, NamesFull, NoMemory}
 use Rattle.volume_tree.specs.Volume.{Volume, IsFile, AreNodes, IsVolume, child_number, new_fault, first_fault, fault_if}
 use Rattle.volume_tree.proofs.Kept.{volume_push}
 use Rattle.volume_tree.proofs.Nodes.{fresh_is, with_last}

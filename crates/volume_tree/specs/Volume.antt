@@ -7,9 +7,9 @@ use Rattle.fsrm_model.specs.Keyed.{with_row}
 use Rattle.fsrm_model.specs.Name.{is_plain_name}
 use Rattle.fsrm_model.specs.Tree.{number, node_of, child_of, children_in_order, name_bytes}
 use Rattle.fsrm_model.specs.Fresh.{root_node}
-use Rattle.volume_tree.specs.declared.fault.TreeFault.{TreeFault}
-use Rattle.volume_tree.specs.declared.fault.TreeFault.TheVariants.{AlreadyExists, VolumeFull, NamesFull, NoMemory}
-use Rattle.volume_tree.specs.declared.fault.NodeView.{NodeView}
+use Rattle.volume_tree.specs.declared.answer.TreeFault.{TreeFault}
+use Rattle.volume_tree.specs.declared.answer.TreeFault.TheVariants.{AlreadyExists, VolumeFull, NamesFull, NoMemory}
+use Rattle.volume_tree.specs.declared.answer.NodeView.{NodeView}
 
 -- a tree: how much of it there may be, and its nodes
 pub record Volume : Type 0 where
@@ -63,11 +63,13 @@ IsFault AlreadyExists due = due ≡ Some AlreadyExists
 IsFault VolumeFull due = due ≡ Some VolumeFull
 IsFault NamesFull due = due ≡ Some NamesFull
 
+-- the first fault of a list
 abbrev pub first_fault : List (Option TreeFault) → Option TreeFault
 first_fault [] = None
 first_fault (None ∷ faults) = first_fault faults
 first_fault (Some fault ∷ faults) = Some fault
 
+-- the fault, where its condition holds
 abbrev pub fault_if : TreeFault → Bool → Option TreeFault
 fault_if fault b = if b then Some fault else None
 

@@ -1,7 +1,7 @@
 //! The tree of folders and files of a volume. So far its root is the only folder.
 #![tactic(auto)]
 
-mod fault;
+mod answer;
 mod index;
 mod name;
 mod rows;
@@ -9,5 +9,5 @@ mod rows;
 mod tests;
 mod tree;
 
-pub use fault::{NodeView, TreeFault};
+pub use answer::{NodeView, TreeFault};
 pub use tree::Tree;

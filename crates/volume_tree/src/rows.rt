@@ -7,7 +7,7 @@ ghost use Rattle.fsrm_model.specs.Limits.{longest_file};
 ghost use Rattle.fsrm_model.specs.Tree.{number as key};
 ghost use Rattle.volume_tree.specs.Volume.{AreNodes, Shows};
 
-use crate::fault::NodeView;
+use crate::answer::NodeView;
 use fsrm_model::{NoMemory, NodeRow, Text};
 use std::alloc::Global;
 

@@ -6,7 +6,7 @@ ghost use Rattle.fsrm_model.specs.Name.{is_plain_name};
 ghost use Rattle.fsrm_model.specs.Tree.{children};
 ghost use Rattle.volume_tree.specs.Volume.{IsVolume};
 
-use crate::fault::TreeFault;
+use crate::answer::TreeFault;
 use crate::tree::Tree;
 use fsrm_model::{Capacity, Ledger, Steps, Weightless};
 use std::marker::Brand;

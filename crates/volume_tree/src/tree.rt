@@ -9,7 +9,7 @@ ghost use Rattle.fsrm_model.specs.Name.{is_plain_name};
 ghost use Rattle.fsrm_model.specs.Tree.{number as key, fresh, is_folder, children};
 ghost use Rattle.volume_tree.specs.Volume.{IsCapacity, IsVolume, IsFault, child_number, new_fault, with_node, Shows, IsChildAt};
 
-use crate::fault::{NodeView, TreeFault};
+use crate::answer::{NodeView, TreeFault};
 use crate::{index, rows};
 use fsrm_model::{Capacity, Ledger, NoMemory, NodeRow, Steps, Text};
 use std::alloc::Global;

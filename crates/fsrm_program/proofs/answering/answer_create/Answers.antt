@@ -1,7 +1,7 @@
 use Rattle.std.proofs.Common.{refl}
 use Rattle.std.specs.String.{string_bytes}
 use Rattle.fsrm_model.specs.declared.command.Refusal.TheVariants.{AlreadyExists, VolumeFull, NamesFull}
-use Rattle.volume_tree.specs.declared.fault.TreeFault.TheVariants.{AlreadyExists as AlreadyThere, VolumeFull as NodesFull, NamesFull as BytesFull}
+use Rattle.volume_tree.specs.declared.answer.TreeFault.TheVariants.{AlreadyExists as AlreadyThere, VolumeFull as NodesFull, NamesFull as BytesFull}
 use Rattle.fsrm_program.proofs.CommandLaws.{create_done, create_refused, on_ok}
 use Rattle.fsrm_program.proofs.answering.answer_create.Goals as goal
 

@@ -2,7 +2,7 @@ use Rattle.std.proofs.Common.{◌≡◌, ◌+◌, ◌<◌, true, false, List, le
 use Rattle.fsrm_model.specs.declared.row.NodeRow.{NodeRow}
 use Rattle.fsrm_model.specs.FileOps.{made_node}
 use Rattle.fsrm_model.specs.Tree.{fresh, is_folder}
-use Rattle.volume_tree.specs.declared.fault.TreeFault.TheVariants.{AlreadyExists, VolumeFull, NamesFull}
+use Rattle.volume_tree.specs.declared.answer.TreeFault.TheVariants.{AlreadyExists, VolumeFull, NamesFull}
 use Rattle.volume_tree.specs.Volume.{Volume, child_number, new_fault, with_node}
 use Rattle.volume_tree.specs.Index.{IsPlace, IsKept}
 use Rattle.volume_tree.proofs.Faults.{named_in, taken_fault, full_fault, names_fault, no_fault}
