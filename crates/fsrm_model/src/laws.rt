@@ -1,6 +1,7 @@
 //! Laws of the definitions, and worked examples.
 
-ghost use Rattle.std.specs.Prelude.{◌≡◌, ◌↔◌, ℕ, List, Some, sum_by};
+ghost use Rattle.std.specs.Prelude.{◌≡◌, ◌↔◌, ℕ, ◌+◌, List, [], ◌∷◌, ◌++◌, false, Some, sum_by};
+ghost use Rattle.std.specs.List.{list_any};
 ghost use Rattle.fsrm_model.specs.declared.command.Command.{Command};
 ghost use Rattle.fsrm_model.specs.declared.command.Outcome.TheVariants.{Refused, Sum};
 ghost use Rattle.fsrm_model.specs.declared.command.Refusal.{Refusal};
@@ -8,7 +9,7 @@ ghost use Rattle.fsrm_model.specs.declared.command.Refusal.TheVariants.{BadLine}
 ghost use Rattle.fsrm_model.specs.declared.row.Capacity.{Capacity};
 ghost use Rattle.fsrm_model.specs.declared.row.Rows.{Rows};
 ghost use Rattle.fsrm_model.specs.Line.{command_of};
-ghost use Rattle.fsrm_model.specs.Script.{replied};
+ghost use Rattle.fsrm_model.specs.Script.{is_end, lines, spelled_lines, AreLines, replied, text, text_from};
 ghost use Rattle.fsrm_model.specs.Space.{space};
 ghost use Rattle.fsrm_model.specs.Spelling.{Spells};
 ghost use Rattle.fsrm_model.specs.Step.{step};
@@ -32,9 +33,19 @@ pub fn spelling()
     ensures { (line : List ℕ) (c : Command) → (command_of line ≡ Some c) ↔ Spells line c }
 {}
 
-/// What each line of a script does to the rows, and what is written for it. A script's text is these
-/// texts one behind the other, each over the rows that the lines before it leave.
+/// The lines of a script are what stands before each LF, and what is left behind the last one where
+/// that isn't empty.
+pub fn script_lines()
+    ensures ended { (ended : List (List ℕ)) → AreLines ended → lines (spelled_lines ended) ≡ ended }
+    ensures last { (ended : List (List ℕ)) (byte : ℕ) (rest : List ℕ) → AreLines ended → list_any is_end (byte ∷ rest) ≡ false → lines (spelled_lines ended ++ byte ∷ rest) ≡ ended ++ (byte ∷ rest) ∷ [] }
+{}
+
+/// A script's text is the replies to its lines, numbered from 1, each over the rows that the lines
+/// before it leave; and what each line does to the rows, and is replied.
 pub fn plain_machine()
+    ensures text { (K : Capacity) (R : Rows) (script : List ℕ) → text K R script ≡ text_from K R 1 (lines script) }
+    ensures no_line { (K : Capacity) (R : Rows) (n : ℕ) → text_from K R n [] ≡ [] }
+    ensures next_line { (K : Capacity) (R : Rows) (n : ℕ) (line : List ℕ) (more : List (List ℕ)) → text_from K R n (line ∷ more) ≡ (replied K R n line).text ++ text_from K (replied K R n line).rows (n + 1) more }
     // A line that spells a command takes that command's step.
     ensures spelled_rows { (K : Capacity) (R : Rows) (n : ℕ) (line : List ℕ) (c : Command) → Spells line c → (replied K R n line).rows ≡ (step K R c).rows }
     ensures spelled_text { (K : Capacity) (R : Rows) (n : ℕ) (line : List ℕ) (c : Command) → Spells line c → (replied K R n line).text ≡ reply K (step K R c).rows c.moment n (step K R c).outcome }

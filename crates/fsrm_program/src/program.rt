@@ -40,7 +40,8 @@ pub fn run<O: Outside, L: Ledger>(
     ensures text { ForSome (O.left outside.old) (λ script. result ≡ Status.Done → IsWhole script (O.left outside.new) (O.shown outside.old) (O.shown outside.new)) }
     // At every status what was added is a prefix of it.
     ensures prefix { ForSome (O.left outside.old) (λ script. ShowsFront (O.shown outside.old) (O.shown outside.new) (whole_text script)) }
-    // Where a read ended the run, it is the whole text of the lines that an LF ended in what was taken.
+    // Where a read ended the run, it is the whole text of the lines that an LF ended in what was taken: at TooLong,
+    // in the first 2^32 bytes.
     ensures ended { ForSome (O.left outside.old) (λ script. OnReadStop result (IsEnded result script (O.left outside.new) (O.shown outside.old) (O.shown outside.new))) }
 
     // The answer is Usage exactly where the words aren't the one word; then nothing was read or written.

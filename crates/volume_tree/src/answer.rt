@@ -9,7 +9,7 @@ pub enum TreeFault {
     VolumeFull,
     /// The names would take more bytes than they may.
     NamesFull,
-    /// There was no memory. It says nothing of the volume.
+    /// There was no memory. Nothing in the volume is the cause.
     NoMemory,
 }
 
