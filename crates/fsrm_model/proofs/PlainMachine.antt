@@ -1,41 +1,27 @@
 -- What a line does that spells a command, and one that spells none.
-use Rattle.std.proofs.Common.{◌≡◌, ℕ, List, ◌∷◌, refl, sym, ap}
-use Rattle.std.specs.Prelude.{Option, Some, None, Ok, Err, sum_by, nat_lt}
+use Rattle.std.proofs.Common.{◌≡◌, ℕ, List, ◌∷◌, refl, ap}
+use Rattle.std.specs.Prelude.{Option, Some, None, sum_by, nat_lt}
 use Rattle.fsrm_model.specs.declared.command.Command.{Command}
 use Rattle.fsrm_model.specs.declared.command.Deed.{Deed}
 use Rattle.fsrm_model.specs.declared.command.Deed.TheVariants.{File, Usage}
 use Rattle.fsrm_model.specs.declared.command.Outcome.TheVariants.{Refused, Sum}
 use Rattle.fsrm_model.specs.declared.command.Refusal.{Refusal}
-use Rattle.fsrm_model.specs.declared.command.Refusal.TheVariants.{BadLine, ClockBack}
+use Rattle.fsrm_model.specs.declared.command.Refusal.TheVariants.{ClockBack}
 use Rattle.fsrm_model.specs.declared.row.Capacity.{Capacity}
 use Rattle.fsrm_model.specs.declared.row.Rows.{Rows}
 use Rattle.fsrm_model.specs.Check.{◌when◌, first}
 use Rattle.fsrm_model.specs.FileOps.{target}
-use Rattle.fsrm_model.specs.Line.{command_of, spelled}
-use Rattle.fsrm_model.specs.Script.{replied, replied_to}
+use Rattle.fsrm_model.specs.Line.{read_line}
+use Rattle.fsrm_model.specs.Reading.{Read}
+use Rattle.fsrm_model.specs.Script.{without_cr, replied, replied_to, line_cost, read_cost}
 use Rattle.fsrm_model.specs.Space.{space}
-use Rattle.fsrm_model.specs.Spelling.{Spells}
 use Rattle.fsrm_model.specs.Step.{step, work, decided}
 use Rattle.fsrm_model.specs.Tree.{usage, under}
-use Rattle.fsrm_model.proofs.SpellingLaws.{read_spells, spelled_reads}
 
-pub replied-command : (K : Capacity) (R : Rows) (n : ℕ) (line : List ℕ) (c : Command) → Some c ≡ command_of line → replied K R n line ≡ replied_to K R n (Some (Ok c))
+-- what a line does goes by what it reads as
+pub replied-read : (K : Capacity) (R : Rows) (n : ℕ) (line : List ℕ) (r : Option (Read Command)) → read_line (without_cr line) ≡ r → replied K R n line ≡ replied_to K R n r
 unfolding replied
-replied-command K R n line c e = ap (λ o. replied_to K R n (Some (spelled o))) (sym e)
-
-pub replied-none : (K : Capacity) (R : Rows) (n : ℕ) (line : List ℕ) → None ≡ command_of line → replied K R n line ≡ replied_to K R n (Some (Err (BadLine 1)))
-unfolding replied
-replied-none K R n line e = ap (λ o. replied_to K R n (Some (spelled o))) (sym e)
-
-pub replied-spelled : (K : Capacity) (R : Rows) (n : ℕ) (line : List ℕ) (c : Command) → Spells line c → replied K R n line ≡ replied_to K R n (Some (Ok c))
-replied-spelled K R n line c s = replied-command K R n line c (sym (spelled_reads line c s))
-
-no_command : (line : List ℕ) (o : Option Command) → command_of line ≡ o → ((c : Command) → Spells line c → ⊥) → None ≡ command_of line
-no_command line None e none = sym e
-no_command line (Some c) e none = absurd (none c (read_spells line c e))
-
-pub replied-other : (K : Capacity) (R : Rows) (n : ℕ) (line : List ℕ) → ((c : Command) → Spells line c → ⊥) → replied K R n line ≡ replied_to K R n (Some (Err (BadLine 1)))
-replied-other K R n line none = replied-none K R n line (no_command line (command_of line) refl none)
+replied-read K R n line r e = ap (replied_to K R n) e
 
 -- a refusal changes nothing
 pub refused_same : (K : Capacity) (R : Rows) (c : Command) (refusal : Refusal) → (step K R c).outcome ≡ Refused refusal → (step K R c).rows ≡ R
@@ -56,3 +42,8 @@ sum_fresh K R c folder bytes h = by c.deed (first ((ClockBack when nat_lt c.mome
     by deed (Some r) e = cc
     by (File op) None e = cc
     by (Usage path) None e = same (target R.nodes path) e
+
+-- the looks that a line may take go by what it reads as, too
+pub line_cost-read : (K : Capacity) (R : Rows) (line : List ℕ) (r : Option (Read Command)) → read_line (without_cr line) ≡ r → line_cost K R line ≡ read_cost K R r
+unfolding line_cost
+line_cost-read K R line r e = ap (read_cost K R) e

@@ -1,13 +1,14 @@
 -- Laws of lines and of the text of their replies.
-use Rattle.std.proofs.Common.{◌≡◌, ℕ, ◌+◌, List, [], ◌∷◌, ◌++◌, length, take, refl, sym, ap, ◌∙◌, true, false, arith, append_assoc, Bool, inl, inr, Some}
-use Rattle.std.specs.Prelude.{nat_lt, ◌||◌}
+use Rattle.std.proofs.Common.{◌≡◌, ℕ, ◌+◌, ◌<◌, ◌≤◌, List, [], ◌∷◌, ◌++◌, length, take, refl, sym, ap, ◌∙◌, true, false, arith, append_assoc, Bool, inl, inr, Some}
+use Rattle.std.specs.Prelude.{nat_lt, ◌||◌, Err}
 use Rattle.std.specs.List.{list_any}
 use Rattle.std.proofs.lemmas.Bool.{lt-ltb, cases_lt, true≢false}
 use Rattle.std.proofs.lemmas.List.{take_all, length-take}
 use Rattle.fsrm_model.specs.declared.row.Capacity.{Capacity}
 use Rattle.fsrm_model.specs.declared.row.Rows.{Rows}
-use Rattle.fsrm_model.specs.Line.{command_of, spelled}
-use Rattle.fsrm_model.specs.Script.{is_end, lines, onto_first, spelled_lines, AreLines, replied, replied_to, text_from, fold_from, line_cost, read_cost, cost_from}
+use Rattle.fsrm_model.specs.declared.command.Refusal.TheVariants.{LineTooLong}
+use Rattle.fsrm_model.specs.Line.{read_line}
+use Rattle.fsrm_model.specs.Script.{is_end, lines, onto_first, spelled_lines, AreLines, without_cr, replied, replied_to, text_from, fold_from, line_cost, read_cost, cost_from}
 
 -- neither passes
 pub neither : (a b : Bool) → (a || b) ≡ false → (a ≡ false) × (b ≡ false)
@@ -49,24 +50,33 @@ pub AreLines-append : (xs ys : List (List ℕ)) → AreLines xs → AreLines ys 
 AreLines-append [] ys p q = q
 AreLines-append (x ∷ xs) ys p q = (p.0, AreLines-append xs ys p.1 q)
 
--- a byte more than a line may have tells that it is too long
-pub command_of-held : (line : List ℕ) → command_of (take 65537 line) ≡ command_of line
-unfolding command_of
-command_of-held line = elim (cases_lt 65536 (length line)) [
+without_cr_long : (line : List ℕ) → length line ≤ length (without_cr line) + 1
+without_cr_long [] = omega arith
+without_cr_long (b ∷ []) = omega arith
+without_cr_long (b ∷ c ∷ bs) = omega (arith, without_cr_long (c ∷ bs))
+
+too_long : (line : List ℕ) → 65536 < length line → read_line line ≡ Some (Err LineTooLong)
+unfolding read_line
+too_long line h = let test : nat_lt 65536 (length line) ≡ true = lt-ltb 65536 (length line) h in rw test refl
+
+-- two bytes more than a line may have tell that it is too long, one of which may be a CR
+pub read_line-held : (line : List ℕ) → read_line (without_cr (take 65538 line)) ≡ read_line (without_cr line)
+read_line-held line = elim (cases_lt 65537 (length line)) [
   | inl longer ↦
-      let one : nat_lt 65536 (length line) ≡ true = lt-ltb 65536 (length line) longer in
-      let two : nat_lt 65536 (length (take 65537 line)) ≡ true = lt-ltb 65536 (length (take 65537 line)) (omega (arith, length-take 65537 line)) in
-      rw (one, two) refl
-  | inr short ↦ rw (take_all 65537 line (omega arith)) refl
+      let some = without_cr_long line in
+      let front = without_cr_long (take 65538 line) in
+      let taken = length-take 65538 line in
+      too_long (without_cr (take 65538 line)) (omega arith) ∙ sym (too_long (without_cr line) (omega arith))
+  | inr short ↦ ap (λ (bs : List ℕ). read_line (without_cr bs)) (take_all 65538 line (omega arith))
 ]
 
-pub replied-held : (K : Capacity) (R : Rows) (number : ℕ) (line : List ℕ) → replied K R number (take 65537 line) ≡ replied K R number line
+pub replied-held : (K : Capacity) (R : Rows) (number : ℕ) (line : List ℕ) → replied K R number (take 65538 line) ≡ replied K R number line
 unfolding replied
-replied-held K R number line = ap (λ c. replied_to K R number (Some (spelled c))) (command_of-held line)
+replied-held K R number line = ap (replied_to K R number) (read_line-held line)
 
-pub line_cost-held : (R : Rows) (line : List ℕ) → line_cost R (take 65537 line) ≡ line_cost R line
+pub line_cost-held : (K : Capacity) (R : Rows) (line : List ℕ) → line_cost K R (take 65538 line) ≡ line_cost K R line
 unfolding line_cost
-line_cost-held R line = ap (λ c. read_cost R (Some (spelled c))) (command_of-held line)
+line_cost-held K R line = ap (read_cost K R) (read_line-held line)
 
 -- the replies to lines and to more lines
 pub text_from-append : (K : Capacity) (R : Rows) (number : ℕ) (xs ys : List (List ℕ)) → text_from K R number (xs ++ ys) ≡ text_from K R number xs ++ text_from K (fold_from K R number xs) (number + length xs) ys

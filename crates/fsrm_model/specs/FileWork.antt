@@ -1,16 +1,16 @@
 -- File operations and sums: their refusals in order, and what they do.
-use Rattle.std.specs.Prelude.{ℕ, not, true, false, List, [], ◌∷◌, None}
+use Rattle.std.specs.Prelude.{ℕ, ◌==◌, ◌&&◌, not, true, false, List, [], ◌∷◌, length, None}
 use Rattle.fsrm_model.specs.declared.row.Capacity.{Capacity}
 use Rattle.fsrm_model.specs.declared.row.Rows.{Rows}
 use Rattle.fsrm_model.specs.declared.command.FileOp.{FileOp}
-use Rattle.fsrm_model.specs.declared.command.FileOp.TheVariants.{Create}
-use Rattle.fsrm_model.specs.declared.command.Refusal.TheVariants.{PathNotFound, AlreadyExists}
+use Rattle.fsrm_model.specs.declared.command.FileOp.TheVariants.{Mkdir, Create, Resize, Touch, Move, Remove}
+use Rattle.fsrm_model.specs.declared.command.Refusal.TheVariants.{PathNotFound, AlreadyExists, NotEmpty, InvalidMove}
 use Rattle.fsrm_model.specs.declared.command.Outcome.TheVariants.{Done, Sum}
-use Rattle.fsrm_model.specs.Tree.{folder_part, usage}
-use Rattle.fsrm_model.specs.FileOps.{plain, target}
+use Rattle.fsrm_model.specs.Tree.{folder_part, usage, children, is_under}
+use Rattle.fsrm_model.specs.FileOps.{plain, target, target_folder}
 use Rattle.fsrm_model.specs.Check.{Check, ◌when◌, volume_full, names_full}
 use Rattle.fsrm_model.specs.Work.{Work, asks}
-use Rattle.fsrm_model.specs.Leads.{is_root, leads, leads_to_folder}
+use Rattle.fsrm_model.specs.Leads.{is_root, leads, leads_to_folder, leads_to_file, leads_to_other}
 
 -- the refusals, in order, of making a node of this path, which would leave the rows `after`
 abbrev pub new_checks : Capacity → Rows → List (List ℕ) → Rows → List Check
@@ -20,15 +20,38 @@ new_checks K R path after =
     ∷ (AlreadyExists when leads R.nodes path)
     ∷ volume_full K after ∷ names_full K after ∷ []
 
+-- The refusals of a move. A place that is the node's own, as where the spelling alone changes, isn't taken
+abbrev pub move_checks : Capacity → Rows → List (List ℕ) → List (List ℕ) → Rows → List Check
+move_checks K R from to after =
+    (PathNotFound when not (leads R.nodes from))
+    ∷ (InvalidMove when is_root from)
+    ∷ (AlreadyExists when is_root to)
+    ∷ (PathNotFound when not (leads_to_folder R.nodes (folder_part to)))
+    ∷ (InvalidMove when leads_to_folder R.nodes from && is_under R.nodes (target R.nodes from) (target_folder R.nodes to))
+    ∷ (AlreadyExists when leads_to_other R.nodes to (target R.nodes from))
+    ∷ names_full K after ∷ []
+
+-- the refusals of a removal
+abbrev pub remove_checks : Rows → List (List ℕ) → List Check
+remove_checks R path =
+    (PathNotFound when not (leads R.nodes path))
+    ∷ (InvalidMove when is_root path)
+    ∷ (NotEmpty when not (length (children R.nodes (target R.nodes path)) == 0)) ∷ []
+
 -- the refusals of a file operation that would leave the rows `after`
 abbrev pub file_checks : Capacity → Rows → FileOp → Rows → List Check
+file_checks K R (Mkdir path owner) after = new_checks K R path after
 file_checks K R (Create path length owner) after = new_checks K R path after
+file_checks K R (Resize path length) after = (PathNotFound when not (leads_to_file R.nodes path)) ∷ []
+file_checks K R (Touch path) after = (PathNotFound when not (leads_to_file R.nodes path)) ∷ []
+file_checks K R (Move from to) after = move_checks K R from to after
+file_checks K R (Remove path) after = remove_checks R path
 
 -- the rows that a file operation leaves
 abbrev pub file_effect : Rows → FileOp → ℕ → Rows
 file_effect R op moment = record R { nodes = plain R.nodes op moment }
 
--- a file operation lasts, and answers no more than that it was done
+-- a file operation lasts where it is accepted, and answers no more than that it was done
 abbrev pub file_work : Capacity → Rows → FileOp → ℕ → Work
 file_work K R op moment =
     let after = file_effect R op moment in

@@ -6,6 +6,8 @@ pub mod Space
 pub mod Tree
 pub mod Fresh
 pub mod FileOps
+pub mod Valid
+pub mod Valued
 pub mod Check
 pub mod Work
 pub mod Leads
@@ -14,6 +16,7 @@ pub mod Step
 pub mod Cost
 pub mod Text
 pub mod Reading
+pub mod Words
 pub mod Line
 pub mod Spelling
 pub mod Script

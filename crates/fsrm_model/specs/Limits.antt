@@ -13,7 +13,7 @@ longest_file = 17592185978880
 abbrev pub last_owner : ℕ
 last_owner = 2 ^ 32 - 1
 
--- the bytes of the longest line that is looked at. No command is spelled with so many
+-- the bytes of the longest line that is read
 abbrev pub longest_line : ℕ
 longest_line = 65536
 

@@ -1,50 +1,124 @@
--- What a line spells. So far a line has one of two forms, with single spaces and nothing else:
---     0 create D:\NAME LENGTH OWNER
---     0 usage D:\
--- NAME is a plain name. LENGTH has 1 to 14 digits and is at most 17,592,185,978,880. OWNER has 1 to 10 and
--- is 1 to 4,294,967,295. Zeros in front of a number count as digits.
-use Rattle.std.specs.Prelude.{ℕ, nat_lt, nat_eq, List, [], ◌∷◌, length, drop, codes, bytes_eq, Ok, Err, Option, Some, None, if◌then◌else◌}
-use Rattle.std.specs.List.{starts_with}
+-- The lines of a script: which are skipped, which spell a command, and the refusal of each other.
+use Rattle.std.specs.Prelude.{ℕ, ◌+◌, ◌==◌, ◌&&◌, ◌||◌, not, Bool, true, false, nat_lt, List, [], ◌∷◌, length, codes, Ok, Err, Option, Some, None, if◌then◌else◌}
+use Rattle.std.specs.Str.{str_eq_ignore_ascii_case, is_utf8}
+use Rattle.std.specs.Str.Lossy.{utf8_valid_len}
 use Rattle.fsrm_model.specs.declared.command.Command.{Command}
+use Rattle.fsrm_model.specs.declared.command.Deed.{Deed}
 use Rattle.fsrm_model.specs.declared.command.Deed.TheVariants.{File, Usage}
-use Rattle.fsrm_model.specs.declared.command.FileOp.TheVariants.{Create}
-use Rattle.fsrm_model.specs.declared.command.Refusal.TheVariants.{BadLine}
-use Rattle.fsrm_model.specs.Limits.{longest_line, longest_file, last_owner}
-use Rattle.fsrm_model.specs.Name.{is_plain_name}
-use Rattle.fsrm_model.specs.Reading.{Read, number_of, at_space}
+use Rattle.fsrm_model.specs.declared.command.FileOp.TheVariants.{Mkdir, Create, Resize, Touch, Move, Remove}
+use Rattle.fsrm_model.specs.declared.command.Refusal.TheVariants.{BadLine, LineTooLong}
+use Rattle.fsrm_model.specs.Limits.{latest_moment, longest_line, longest_file, last_owner}
+use Rattle.fsrm_model.specs.Reading.{Read, ◌>>=◌, number_from, path_from}
+use Rattle.fsrm_model.specs.Words.{Word, words, is_blank}
 
--- the command, where NAME, LENGTH and OWNER all have their form
-abbrev pub create_of : List ℕ → Option ℕ → Option ℕ → Option Command
-create_of name None owner = None
-create_of name (Some size) None = None
-create_of name (Some size) (Some owner) =
-    if is_plain_name name then Some (record { moment = 0; deed = File (Create (name ∷ []) size owner) }) else None
+-- the next word and those behind it. One that is missing is refused behind the line's end
+abbrev pub next_word : ℕ → List Word → Read (Word × List Word)
+next_word end [] = Err (BadLine end)
+next_word end (word ∷ words) = Ok (word, words)
 
--- LENGTH OWNER
-abbrev pub sized : List ℕ → Option (List ℕ × List ℕ) → Option Command
-sized name None = None
-sized name (Some parts) = create_of name (number_of 14 0 longest_file parts.0) (number_of 10 1 last_owner parts.1)
+-- x, where no word is left
+abbrev pub no_more : {X : Type 0} → List Word → X → Read X
+no_more [] x = Ok x
+no_more (word ∷ words) x = Err (BadLine word.column)
 
--- NAME LENGTH OWNER
-abbrev pub named : Option (List ℕ × List ℕ) → Option Command
-named None = None
-named (Some parts) = sized parts.0 (at_space parts.1)
+-- the next word's value, and the words behind it
+abbrev pub number_word : ℕ → ℕ → ℕ → List Word → Read (ℕ × List Word)
+number_word low high end given = do
+  word ← next_word end given
+  n ← number_from low high word.0.column word.0.text
+  Ok (n, word.1)
 
--- the command of one of the two forms
-abbrev pub form_of : List ℕ → Option Command
-form_of line =
-    if starts_with nat_eq line (codes "0 create D:\\") then named (at_space (drop 12 line))
-    else if bytes_eq line (codes "0 usage D:\\") then Some (record { moment = 0; deed = Usage [] }) else None
+abbrev pub path_word : ℕ → List Word → Read (List (List ℕ) × List Word)
+path_word end given = do
+  word ← next_word end given
+  path ← path_from word.0.text
+  Ok (path, word.1)
 
--- The command that a line spells, if any. No command has as many as 65,536 bytes, so a reader need not keep more.
-unfoldable pub command_of : List ℕ → Option Command
-command_of line = if nat_lt longest_line (length line) then None else form_of line
+abbrev pub owner_word : ℕ → List Word → Read (ℕ × List Word)
+owner_word end given = number_word 1 last_owner end given
 
--- every other line is refused at its first column
-abbrev pub spelled : Option Command → Read Command
-spelled None = Err (BadLine 1)
-spelled (Some command) = Ok command
+abbrev pub length_word : ℕ → List Word → Read (ℕ × List Word)
+length_word end given = number_word 0 longest_file end given
 
--- A line is a command, or has a refusal. None is for a line that is skipped without a reply; so far none is.
-abbrev pub read_line : List ℕ → Option (Read Command)
-read_line line = Some (spelled (command_of line))
+-- the words behind each command's name
+abbrev pub mkdir_words : ℕ → List Word → Read Deed
+mkdir_words end given = do
+  path ← path_word end given
+  owner ← owner_word end path.1
+  no_more owner.1 (File (Mkdir path.0 owner.0))
+
+abbrev pub create_words : ℕ → List Word → Read Deed
+create_words end given = do
+  path ← path_word end given
+  size ← length_word end path.1
+  owner ← owner_word end size.1
+  no_more owner.1 (File (Create path.0 size.0 owner.0))
+
+abbrev pub resize_words : ℕ → List Word → Read Deed
+resize_words end given = do
+  path ← path_word end given
+  size ← length_word end path.1
+  no_more size.1 (File (Resize path.0 size.0))
+
+abbrev pub touch_words : ℕ → List Word → Read Deed
+touch_words end given = do
+  path ← path_word end given
+  no_more path.1 (File (Touch path.0))
+
+abbrev pub move_words : ℕ → List Word → Read Deed
+move_words end given = do
+  from ← path_word end given
+  to ← path_word end from.1
+  no_more to.1 (File (Move from.0 to.0))
+
+abbrev pub remove_words : ℕ → List Word → Read Deed
+remove_words end given = do
+  path ← path_word end given
+  no_more path.1 (File (Remove path.0))
+
+abbrev pub usage_words : ℕ → List Word → Read Deed
+usage_words end given = do
+  path ← path_word end given
+  no_more path.1 (Usage path.0)
+
+-- names, each with what reads the words behind it
+abbrev pub Table : Type 0
+Table = List (List ℕ × (ℕ → List Word → Read Deed))
+
+-- names are read without regard to the case of ASCII letters
+abbrev pub by_name : Table → Word → ℕ → List Word → Read Deed
+by_name [] word end given = Err (BadLine word.column)
+by_name (row ∷ rows) word end given =
+    elim (str_eq_ignore_ascii_case row.0 word.text) [ true ↦ row.1 end given | false ↦ by_name rows word end given ]
+
+abbrev pub command_table : Table
+command_table =
+    (codes "mkdir", mkdir_words) ∷ (codes "create", create_words) ∷ (codes "resize", resize_words) ∷ (codes "touch", touch_words)
+    ∷ (codes "move", move_words) ∷ (codes "remove", remove_words) ∷ (codes "usage", usage_words) ∷ []
+
+-- the moment, the command's name, and its words
+abbrev pub command_of : ℕ → List Word → Read Command
+command_of end given = do
+  moment ← number_word 0 latest_moment end given
+  name ← next_word end moment.1
+  deed ← by_name command_table name.0 end name.1
+  Ok (record { moment = moment.0; deed = deed })
+
+-- a line of blanks alone, or whose first byte that isn't blank is #
+abbrev pub is_skipped : List ℕ → Bool
+is_skipped [] = true
+is_skipped (b ∷ bs) = (b == 35) || (is_blank b && is_skipped bs)
+
+-- a line that isn't skipped
+abbrev pub read_words : List ℕ → Read Command
+read_words line = do
+  given ← words line
+  command_of (length line + 1) given
+
+-- None where the line is skipped without a reply. Its length is judged first, then its bytes, then its words
+unfoldable pub read_line : List ℕ → Option (Read Command)
+read_line line =
+    if nat_lt longest_line (length line) then Some (Err LineTooLong)
+    else if not (is_utf8 line) then Some (Err (BadLine (utf8_valid_len line + 1)))
+    else if is_skipped line then None
+    else Some (read_words line)

@@ -1,6 +1,7 @@
 -- Names, compared after simple case folding (The Unicode Standard, section 3.13; CaseFolding.txt, statuses C and S).
 use Rattle.std.specs.Prelude.{ℕ, ◌==◌, ◌&&◌, ◌||◌, nat_lt, nat_le, not, Bool, true, false, List, [], ◌∷◌, length, map, chars, bytes_eq, codes}
 use Rattle.std.specs.List.{list_all, list_any}
+use Rattle.std.specs.declared.cmp.Ordering.{Ordering}
 use Rattle.std.specs.Ordering.{is_lt, nat_cmp}
 use Rattle.std.specs.Cmp.Lexicographic.{slice_cmp}
 use Rattle.ucd_case.specs.CaseFolding.{simple_fold}
@@ -21,9 +22,12 @@ same_names [] (b ∷ bs) = false
 same_names (a ∷ as') [] = false
 same_names (a ∷ as') (b ∷ bs) = same_name a b && same_names as' bs
 
--- whether a name comes before another, by their folded characters
+-- the order of two names, by their folded characters
+abbrev pub name_cmp : List ℕ → List ℕ → Ordering
+name_cmp a b = slice_cmp nat_cmp (folded a) (folded b)
+
 abbrev pub name_before : List ℕ → List ℕ → Bool
-name_before a b = is_lt (slice_cmp nat_cmp (folded a) (folded b))
+name_before a b = is_lt (name_cmp a b)
 
 -- A byte that may stand in a name: none of < > : " / \ | ? *, no control character of ASCII (0 to 31
 -- and 127). Each byte of a character outside ASCII may.
@@ -35,10 +39,3 @@ abbrev pub is_name : List ℕ → Bool
 is_name text =
     ((nat_lt 0 (length text) && nat_le (length text) longest_name) && list_all is_name_byte text)
     && not (bytes_eq text (codes ".") || bytes_eq text (codes ".."))
-
--- the names that a line can spell so far: 1 to 64 small letters of ASCII, digits and underscores
-abbrev pub is_plain_byte : ℕ → Bool
-is_plain_byte b = (nat_le 97 b && nat_le b 122) || ((nat_le 48 b && nat_le b 57) || b == 95)
-
-abbrev pub is_plain_name : List ℕ → Bool
-is_plain_name text = (nat_lt 0 (length text) && nat_le (length text) 64) && list_all is_plain_byte text

@@ -1,29 +1,61 @@
--- Values that a line spells.
-use Rattle.std.specs.Prelude.{ℕ, ◌+◌, ◌&&◌, nat_lt, nat_le, Bool, List, length, take, drop, position, ◌==◌, Option, Some, None, option_map, Result, if◌then◌else◌}
-use Rattle.std.specs.List.{list_all}
+-- Values that words spell, each as it reads or with the refusal of the line.
+use Rattle.std.specs.Prelude.{ℕ, ◌==◌, ◌&&◌, ◌||◌, nat_lt, nat_le, Bool, true, false, List, [], ◌∷◌, length, take, drop, codes, bytes_eq, Result, Ok, Err}
+use Rattle.std.specs.List.{list_all, slice_split}
 use Rattle.std.specs.Char.{is_ascii_digit}
 use Rattle.std.specs.Str.Parse.{digits_value}
 use Rattle.fsrm_model.specs.declared.command.Refusal.{Refusal}
+use Rattle.fsrm_model.specs.declared.command.Refusal.TheVariants.{BadLine, OutOfRange, InvalidPath, InvalidName}
+use Rattle.fsrm_model.specs.Name.{is_name}
 
 -- a value, or the refusal of the line
 abbrev pub Read : Type 0 → Type 0
 Read X = Result X Refusal
 
--- 1 to so many digits
-abbrev pub are_digits : ℕ → List ℕ → Bool
-are_digits most text = (nat_lt 0 (length text) && nat_le (length text) most) && list_all is_ascii_digit text
+-- what is read next, where this could be read
+infixl 10 ◌>>=◌
+abbrev pub ◌>>=◌ : {A B : Type 0} → Read A → (A → Read B) → Read B
+(Ok x) >>= f = f x
+(Err refusal) >>= f = Err refusal
 
--- a number, where it is in its range
-abbrev pub ranged : ℕ → ℕ → ℕ → Option ℕ
-ranged low high n = if nat_le low n && nat_le n high then Some n else None
+-- x, where the test holds
+abbrev pub guarded : {A : Type 0} → Bool → Refusal → A → Read A
+guarded true refusal x = Ok x
+guarded false refusal x = Err refusal
 
--- the number from low to high that 1 to so many digits write
-abbrev pub number_of : ℕ → ℕ → ℕ → List ℕ → Option ℕ
-number_of most low high text = if are_digits most text then ranged low high (digits_value 10 text) else None
+-- 1 to 20 digits. Zeros in front count
+abbrev pub is_number : List ℕ → Bool
+is_number text = (nat_lt 0 (length text) && nat_le (length text) 20) && list_all is_ascii_digit text
 
-abbrev pub is_space : ℕ → Bool
-is_space byte = byte == 32
+-- a number from low to high, in a word at this column
+abbrev pub number_from : ℕ → ℕ → ℕ → List ℕ → Read ℕ
+number_from low high column text = do
+  digits ← guarded (is_number text) (BadLine column) text
+  let n = digits_value 10 digits in guarded (nat_le low n && nat_le n high) OutOfRange n
 
--- what stands before the first space, and what behind it; None where there is no space
-abbrev pub at_space : List ℕ → Option (List ℕ × List ℕ)
-at_space text = option_map (λ i. (take i text, drop (i + 1) text)) (position is_space text)
+abbrev pub is_backslash : ℕ → Bool
+is_backslash b = b == 92
+
+-- parts without the last one, where that is empty
+abbrev pub without_last_empty : List (List ℕ) → List (List ℕ)
+without_last_empty [] = []
+without_last_empty ([] ∷ []) = []
+without_last_empty ([] ∷ part ∷ parts) = [] ∷ without_last_empty (part ∷ parts)
+without_last_empty ((b ∷ bs) ∷ parts) = (b ∷ bs) ∷ without_last_empty parts
+
+-- what stands between the backslashes behind the volume. A last backslash ends the path
+abbrev pub path_parts : List ℕ → List (List ℕ)
+path_parts text = without_last_empty (slice_split is_backslash (drop 3 text))
+
+-- whether a text begins with the volume D:\
+abbrev pub is_on_volume : List ℕ → Bool
+is_on_volume text = bytes_eq (take 3 text) (codes "D:\\") || bytes_eq (take 3 text) (codes "d:\\")
+
+-- the volume, and no part that is empty
+abbrev pub has_path_form : List ℕ → Bool
+has_path_form text = is_on_volume text && list_all (λ part. nat_lt 0 (length part)) (path_parts text)
+
+-- a path: the form of the whole comes before its names
+abbrev pub path_from : List ℕ → Read (List (List ℕ))
+path_from text = do
+  parts ← guarded (has_path_form text) InvalidPath (path_parts text)
+  guarded (list_all is_name parts) InvalidName parts

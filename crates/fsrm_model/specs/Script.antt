@@ -8,7 +8,7 @@ use Rattle.fsrm_model.specs.declared.command.Outcome.TheVariants.{Refused}
 use Rattle.fsrm_model.specs.Reading.{Read}
 use Rattle.fsrm_model.specs.Line.{read_line}
 use Rattle.fsrm_model.specs.Step.{step}
-use Rattle.fsrm_model.specs.Cost.{cost}
+use Rattle.fsrm_model.specs.Cost.{cost, print_cost}
 use Rattle.fsrm_model.specs.Text.{reply}
 
 -- the byte that ends a line, LF
@@ -25,6 +25,12 @@ abbrev pub lines : List ℕ → List (List ℕ)
 lines [] = []
 lines (b ∷ bs) = if is_end b then [] ∷ lines bs else onto_first b (lines bs)
 
+-- a line without the one CR that may stand at its end
+abbrev pub without_cr : List ℕ → List ℕ
+without_cr [] = []
+without_cr (b ∷ []) = if b == 13 then [] else b ∷ []
+without_cr (b ∷ c ∷ bs) = b ∷ without_cr (c ∷ bs)
+
 -- lines as they stand in a script, each with its LF
 abbrev pub spelled_lines : List (List ℕ) → List ℕ
 spelled_lines [] = []
@@ -40,15 +46,15 @@ pub record Replied : Type 0 where
   pub rows : Rows
   pub text : List ℕ
 
--- a refused line has no moment
+-- a line that is refused as it is read has no moment
 abbrev pub replied_to : Capacity → Rows → ℕ → Option (Read Command) → Replied
 replied_to K R line None = record { rows = R; text = [] }
 replied_to K R line (Some (Err refusal)) = record { rows = R; text = reply K R 0 line (Refused refusal) }
 replied_to K R line (Some (Ok c)) = let s = step K R c in record { rows = s.rows; text = reply K s.rows c.moment line s.outcome }
 
--- what a line of these bytes leaves, and its reply
+-- what a line of these bytes leaves, and its reply. A skipped line has none
 unfoldable pub replied : Capacity → Rows → ℕ → List ℕ → Replied
-replied K R line bytes = replied_to K R line (read_line bytes)
+replied K R line bytes = replied_to K R line (read_line (without_cr bytes))
 
 -- the text of lines that are numbered from a number on
 abbrev pub text_from : Capacity → Rows → ℕ → List (List ℕ) → List ℕ
@@ -68,20 +74,20 @@ text K R script = text_from K R 1 (lines script)
 abbrev pub fold_script : Capacity → Rows → List ℕ → ℕ → Rows
 fold_script K R script j = fold_from K R 1 (take j (lines script))
 
--- how many looks at nodes a line may take
-abbrev pub read_cost : Rows → Option (Read Command) → ℕ
-read_cost R None = 0
-read_cost R (Some (Err refusal)) = 0
-read_cost R (Some (Ok c)) = cost R c.deed
+-- how many looks at nodes a line may take: its command, and what is printed of it
+abbrev pub read_cost : Capacity → Rows → Option (Read Command) → ℕ
+read_cost K R None = 0
+read_cost K R (Some (Err refusal)) = 0
+read_cost K R (Some (Ok c)) = let s = step K R c in cost R c.deed + print_cost s.rows s.outcome
 
 -- the same of a line of these bytes
-unfoldable pub line_cost : Rows → List ℕ → ℕ
-line_cost R bytes = read_cost R (read_line bytes)
+unfoldable pub line_cost : Capacity → Rows → List ℕ → ℕ
+line_cost K R bytes = read_cost K R (read_line (without_cr bytes))
 
 -- and all lines, each over the rows before it
 abbrev pub cost_from : Capacity → Rows → ℕ → List (List ℕ) → ℕ
 cost_from K R line [] = 0
-cost_from K R line (l ∷ ls) = line_cost R l + cost_from K (replied K R line l).rows (line + 1) ls
+cost_from K R line (l ∷ ls) = line_cost K R l + cost_from K (replied K R line l).rows (line + 1) ls
 
 abbrev pub script_cost : Capacity → Rows → List ℕ → ℕ
 script_cost K R script = cost_from K R 1 (lines script)

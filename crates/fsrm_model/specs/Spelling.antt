@@ -1,45 +1,117 @@
 -- Which lines spell which commands, apart from any reader.
-use Rattle.std.specs.Prelude.{◌≡◌, ℕ, ◌≤◌, List, [], ◌∷◌, ◌++◌, codes, true}
+use Rattle.std.specs.Prelude.{◌≡◌, ℕ, ◌≤◌, ◌<◌, ◌⊎◌, List, [], ◌∷◌, ◌++◌, codes, length, true, false}
+use Rattle.std.specs.List.{list_all, list_any, join_with_byte}
+use Rattle.std.specs.Str.{is_utf8, str_eq_ignore_ascii_case}
 use Rattle.std.specs.Str.Parse.{digits_value}
 use Rattle.fsrm_model.specs.declared.command.Command.{Command}
 use Rattle.fsrm_model.specs.declared.command.Deed.{Deed}
 use Rattle.fsrm_model.specs.declared.command.Deed.TheVariants.{File, Usage}
-use Rattle.fsrm_model.specs.declared.command.FileOp.TheVariants.{Create}
-use Rattle.fsrm_model.specs.Limits.{longest_file, last_owner}
-use Rattle.fsrm_model.specs.Name.{is_plain_name}
-use Rattle.fsrm_model.specs.Reading.{are_digits}
+use Rattle.fsrm_model.specs.declared.command.FileOp.{FileOp}
+use Rattle.fsrm_model.specs.declared.command.FileOp.TheVariants.{Mkdir, Create, Resize, Touch, Move, Remove}
+use Rattle.fsrm_model.specs.Limits.{latest_moment, longest_file, longest_line, last_owner}
+use Rattle.fsrm_model.specs.Name.{is_name}
+use Rattle.fsrm_model.specs.Reading.{is_number}
+use Rattle.fsrm_model.specs.Words.{is_blank, is_quote}
 
--- 1 to so many digits that write a number
-pub record IsWritten (most : ℕ) (digits : List ℕ) (n : ℕ) : Type 0 where
-  pub form : are_digits most digits ≡ true
+-- a piece of a word: a byte that is neither blank nor quote, or whatever stands between two quotes
+pub data Piece : Type 0 where
+  Plain : (byte : ℕ) → Piece
+  Quoted : (bytes : List ℕ) → Piece
+
+abbrev pub IsPiece : Piece → Type 0
+IsPiece (Plain byte) = (is_blank byte ≡ false) × (is_quote byte ≡ false)
+IsPiece (Quoted bytes) = list_any is_quote bytes ≡ false
+
+abbrev pub ArePieces : List Piece → Type 0
+ArePieces [] = Unit {0}
+ArePieces (piece ∷ pieces) = IsPiece piece × ArePieces pieces
+
+-- pieces as they are spelled, and the text that they stand for
+abbrev pub spelled_pieces : List Piece → List ℕ
+spelled_pieces [] = []
+spelled_pieces (Plain byte ∷ pieces) = byte ∷ spelled_pieces pieces
+spelled_pieces (Quoted bytes ∷ pieces) = 34 ∷ bytes ++ 34 ∷ spelled_pieces pieces
+
+abbrev pub text_of_pieces : List Piece → List ℕ
+text_of_pieces [] = []
+text_of_pieces (Plain byte ∷ pieces) = byte ∷ text_of_pieces pieces
+text_of_pieces (Quoted bytes ∷ pieces) = bytes ++ text_of_pieces pieces
+
+-- a word has at least one piece
+pub record SpellsWord (spelling text : List ℕ) : Type 0 where
+  pub pieces : List Piece
+  pub each : ArePieces pieces
+  pub some : 0 < length pieces
+  pub spelling_is : spelling ≡ spelled_pieces pieces
+  pub text_is : text ≡ text_of_pieces pieces
+
+-- the end of a line, or a blank and what follows it
+abbrev pub EndsWord : List ℕ → Type 0
+EndsWord [] = Unit {0}
+EndsWord (b ∷ bs) = is_blank b ≡ true
+
+-- a line is these words, with blanks between them, and maybe before the first and behind the last
+abbrev pub SpellsWords : List ℕ → List (List ℕ) → Type 0
+SpellsWords line [] = list_all is_blank line ≡ true
+SpellsWords line (text ∷ texts) =
+    (blanks spelling rest : List ℕ) × (line ≡ blanks ++ (spelling ++ rest)) × (list_all is_blank blanks ≡ true)
+    × SpellsWord spelling text × EndsWord rest × SpellsWords rest texts
+
+-- 1 to 20 digits that write a number of a range
+pub record Writes (low high : ℕ) (digits : List ℕ) (n : ℕ) : Type 0 where
+  pub form : is_number digits ≡ true
   pub value : digits_value 10 digits ≡ n
+  pub least : low ≤ n
+  pub most : n ≤ high
 
--- 0 create D:\NAME LENGTH OWNER, with single spaces. Zeros in front of a number count as digits
-pub record SpellsCreate (line name : List ℕ) (size owner : ℕ) : Type 0 where
-  pub size_digits : List ℕ
-  pub owner_digits : List ℕ
-  pub parts : line ≡ codes "0 create D:\\" ++ (name ++ (codes " " ++ (size_digits ++ (codes " " ++ owner_digits))))
-  pub plain : is_plain_name name ≡ true
-  pub size_is : IsWritten 14 size_digits size
-  pub size_most : size ≤ longest_file
-  pub owner_is : IsWritten 10 owner_digits owner
-  pub owner_least : 1 ≤ owner
-  pub owner_most : owner ≤ last_owner
+-- The volume, and the names parted by backslashes. One more may stand behind the last name
+pub record WritesPath (text : List ℕ) (path : List (List ℕ)) : Type 0 where
+  pub each : list_all is_name path ≡ true
+  pub volume : List ℕ
+  pub volume_is : (volume ≡ codes "D:\\") ⊎ (volume ≡ codes "d:\\")
+  pub names : (text ≡ volume ++ join_with_byte 92 path) ⊎ ((0 < length path) × (text ≡ volume ++ (join_with_byte 92 path ++ 92 ∷ [])))
 
--- only a file in the root, and only the root's sum, has a spelling
-abbrev pub SpellsFile : List ℕ → List (List ℕ) → ℕ → ℕ → Type 0
-SpellsFile line [] size owner = ⊥
-SpellsFile line (name ∷ []) size owner = SpellsCreate line name size owner
-SpellsFile line (name ∷ below ∷ more) size owner = ⊥
+-- a command's name, in letters of either case
+abbrev pub IsNamed : List ℕ → List ℕ → Type 0
+IsNamed name word = str_eq_ignore_ascii_case name word ≡ true
 
-abbrev pub SpellsUsage : List ℕ → List (List ℕ) → Type 0
-SpellsUsage line [] = line ≡ codes "0 usage D:\\"
-SpellsUsage line (name ∷ more) = ⊥
+-- these words are a name and so many values
+abbrev pub SpellsOp : List (List ℕ) → FileOp → Type 0
+SpellsOp words (Mkdir path owner) =
+    (name a b : List ℕ) × (words ≡ name ∷ a ∷ b ∷ []) × IsNamed (codes "mkdir") name × WritesPath a path × Writes 1 last_owner b owner
+SpellsOp words (Create path bytes owner) =
+    (name a b c : List ℕ) × (words ≡ name ∷ a ∷ b ∷ c ∷ []) × IsNamed (codes "create") name × WritesPath a path
+    × Writes 0 longest_file b bytes × Writes 1 last_owner c owner
+SpellsOp words (Resize path bytes) =
+    (name a b : List ℕ) × (words ≡ name ∷ a ∷ b ∷ []) × IsNamed (codes "resize") name × WritesPath a path × Writes 0 longest_file b bytes
+SpellsOp words (Touch path) = (name a : List ℕ) × (words ≡ name ∷ a ∷ []) × IsNamed (codes "touch") name × WritesPath a path
+SpellsOp words (Move from to) =
+    (name a b : List ℕ) × (words ≡ name ∷ a ∷ b ∷ []) × IsNamed (codes "move") name × WritesPath a from × WritesPath b to
+SpellsOp words (Remove path) = (name a : List ℕ) × (words ≡ name ∷ a ∷ []) × IsNamed (codes "remove") name × WritesPath a path
 
-abbrev pub SpellsDeed : List ℕ → Deed → Type 0
-SpellsDeed line (File (Create path size owner)) = SpellsFile line path size owner
-SpellsDeed line (Usage path) = SpellsUsage line path
+abbrev pub SpellsDeed : List (List ℕ) → Deed → Type 0
+SpellsDeed words (File op) = SpellsOp words op
+SpellsDeed words (Usage path) = (name a : List ℕ) × (words ≡ name ∷ a ∷ []) × IsNamed (codes "usage") name × WritesPath a path
 
--- each line spells a command of the moment 0
-abbrev pub Spells : List ℕ → Command → Type 0
-Spells line command = (command.moment ≡ 0) × SpellsDeed line command.deed
+-- what a line is before its words are looked at
+pub record IsLine (line : List ℕ) : Type 0 where
+  pub short : length line ≤ longest_line
+  pub utf8 : is_utf8 line ≡ true
+
+-- a line spells a command by its moment and the command's own words
+pub record Spells (line : List ℕ) (command : Command) : Type 0 where
+  pub is_line : IsLine line
+  pub moment : List ℕ
+  pub words : List (List ℕ)
+  pub words_are : SpellsWords line (moment ∷ words)
+  pub moment_is : Writes 0 latest_moment moment command.moment
+  pub deed_is : SpellsDeed words command.deed
+
+-- a line is skipped that has blanks alone, or a # behind them
+pub record Skips (line : List ℕ) : Type 0 where
+  pub is_line : IsLine line
+  pub blanks : List ℕ
+  pub rest : List ℕ
+  pub line_is : line ≡ blanks ++ rest
+  pub are_blanks : list_all is_blank blanks ≡ true
+  pub none : (rest ≡ []) ⊎ ((comment : List ℕ) × (rest ≡ 35 ∷ comment))

@@ -5,7 +5,7 @@ use Rattle.fsrm_model.specs.declared.row.Capacity.{Capacity}
 use Rattle.fsrm_model.specs.declared.row.NodeRow.{NodeRow}
 use Rattle.fsrm_model.specs.declared.row.Rows.{Rows}
 use Rattle.fsrm_model.specs.declared.command.Refusal.{Refusal}
-use Rattle.fsrm_model.specs.declared.command.Refusal.TheVariants.{BadLine, ClockBack, PathNotFound, AlreadyExists, VolumeFull, NamesFull}
+use Rattle.fsrm_model.specs.declared.command.Refusal.TheVariants.{BadLine, LineTooLong, InvalidPath, InvalidName, OutOfRange, ClockBack, PathNotFound, AlreadyExists, NotEmpty, InvalidMove, VolumeFull, NamesFull}
 use Rattle.fsrm_model.specs.declared.command.Outcome.{Outcome}
 use Rattle.fsrm_model.specs.declared.command.Outcome.TheVariants.{Done, Sum, Refused}
 use Rattle.fsrm_model.specs.Tree.{path_of}
@@ -23,9 +23,15 @@ path_text nodes n = codes "D:\\" ++ join_with_byte 92 (path_of nodes n)
 -- a refusal's name, and what it carries
 abbrev pub refusal_words : Refusal → List (List ℕ)
 refusal_words (BadLine column) = codes "BadLine" ∷ decimal column ∷ []
+refusal_words LineTooLong = codes "LineTooLong" ∷ []
+refusal_words InvalidPath = codes "InvalidPath" ∷ []
+refusal_words InvalidName = codes "InvalidName" ∷ []
+refusal_words OutOfRange = codes "OutOfRange" ∷ []
 refusal_words ClockBack = codes "ClockBack" ∷ []
 refusal_words PathNotFound = codes "PathNotFound" ∷ []
 refusal_words AlreadyExists = codes "AlreadyExists" ∷ []
+refusal_words NotEmpty = codes "NotEmpty" ∷ []
+refusal_words InvalidMove = codes "InvalidMove" ∷ []
 refusal_words VolumeFull = codes "VolumeFull" ∷ []
 refusal_words NamesFull = codes "NamesFull" ∷ []
 
@@ -43,7 +49,7 @@ head_line line outcome = line_of (decimal line ∷ head_words outcome)
 abbrev pub body_line : List (List ℕ) → List ℕ
 body_line words = 32 ∷ 32 ∷ line_of words
 
--- the folder of a passive screen that a file would have been kept out by, where there is one
+-- the folder of a passive screen that reports the operation, where there is one
 abbrev pub passive_line : List NodeRow → Option ℕ → List ℕ
 passive_line nodes None = []
 passive_line nodes (Some screen) = body_line (codes "passive" ∷ path_text nodes screen ∷ [])

@@ -1,5 +1,5 @@
 -- The tree of folders and files. Its nodes are rows that ascend by their number; node 0 is the root, and each
--- other node's parents lead to it. Of rows that are no such tree these words mean nothing.
+-- other node's parents lead to it. These words are defined of any rows, and meant of such a tree.
 use Rattle.std.specs.Prelude.{ℕ, zero, suc, ◌-◌, ◌==◌, Bool, false, not, ◌&&◌, List, [], ◌∷◌, map, reverse, drop, take, length, filter, find, sum_by, Option, option_map, slice_index_or}
 use Rattle.std.specs.Option.{option_map_or}
 use Rattle.std.specs.List.{list_any}
@@ -45,6 +45,9 @@ children_in_order nodes folder = in_order (λ a b. name_before a.name b.name) (c
 -- a folder's child of a name
 abbrev pub child_of : List NodeRow → ℕ → List ℕ → Option NodeRow
 child_of nodes folder name = find (λ node. is_child folder node && same_name node.name name) nodes
+
+abbrev pub child_number : List NodeRow → ℕ → List ℕ → Option ℕ
+child_number nodes folder name = option_map number (child_of nodes folder name)
 
 -- a node, its parent and so on up to the root, in so many steps at most
 abbrev pub chain_in : ℕ → List NodeRow → ℕ → List ℕ

@@ -3,18 +3,31 @@
 use crate::path::Path;
 use crate::row::ActionKind;
 
-/// Why a command is refused. A refused command changes nothing.
+/// Why a command is refused. A refused command changes nothing. Those up to `OutOfRange` come from
+/// reading the line alone.
 #[derive(Clone, Copy, Debug, PartialEq, Eq)]
 pub enum Refusal {
-    /// The line spells no command. The column, from 1, is where it fails: so far always 1.
+    /// A word of the line hasn't its form, or is missing. The column counts bytes from 1.
     BadLine { column: u32 },
+    /// The line has more than 65,536 bytes.
+    LineTooLong,
+    /// A path isn't one (MS-FSRM, FSRM_E_INVALID_PATH).
+    InvalidPath,
+    /// A name isn't one (MS-FSRM, FSRM_E_INVALID_NAME).
+    InvalidName,
+    /// A number isn't in its range (MS-FSRM, FSRM_E_OUT_OF_RANGE).
+    OutOfRange,
     /// The command's moment is earlier than that of the last command that lasts.
     ClockBack,
-    /// The path, or the folder that it names a new node in, leads to nothing (MS-FSRM,
-    /// FSRM_E_PATH_NOT_FOUND).
+    /// A path, or the folder that it names a node in, leads to nothing of the kind that is asked
+    /// for (MS-FSRM, FSRM_E_PATH_NOT_FOUND).
     PathNotFound,
     /// The place is taken (MS-FSRM, FSRM_E_ALREADY_EXISTS).
     AlreadyExists,
+    /// The folder has a child.
+    NotEmpty,
+    /// The root isn't moved or removed, nor a folder moved to a place at or below itself.
+    InvalidMove,
     /// The store holds as many nodes as it may.
     VolumeFull,
     /// The names of all nodes would have more bytes than the store holds.
@@ -24,8 +37,18 @@ pub enum Refusal {
 /// A file operation.
 #[derive(Drop)]
 pub enum FileOp {
+    /// Makes a folder.
+    Mkdir { path: Path, owner: u32 },
     /// Makes a file of this length, in bytes.
     Create { path: Path, length: u64, owner: u32 },
+    /// Sets a file's length.
+    Resize { path: Path, length: u64 },
+    /// Notes that a file was read.
+    Touch { path: Path },
+    /// Gives a node another place, and that place's spelling.
+    Move { from: Path, to: Path },
+    /// Takes away a file, or a folder without children.
+    Remove { path: Path },
 }
 
 /// What a command is to do.

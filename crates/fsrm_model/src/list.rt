@@ -51,6 +51,13 @@ impl<T> List<T> {
     {
         self.inner.get(place)
     }
+
+    /// The items, lent.
+    pub fn as_slice(&self) -> &[T]
+        ensures { result.now ≡ self.now }
+    {
+        self.inner.as_slice()
+    }
 }
 
 impl<T: Drop> List<T> {

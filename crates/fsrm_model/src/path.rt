@@ -50,7 +50,8 @@ impl Path {
     /// The name at a place, from 0 at the root's side.
     pub fn part(&self, place: usize) -> &str
         requires { place < length self.now }
-        ensures { slice_get self.now place ≡ Some result.now }
+        ensures part { slice_get self.now place ≡ Some result.now }
+        ensures name { is_name result.now ≡ true }
     {
         self.parts.get(place).unwrap().as_str()
     }

@@ -1,6 +1,7 @@
 //! An owned text.
 
 ghost use Rattle.std.specs.Prelude.{◌≡◌, IfOk};
+ghost use Rattle.std.specs.String.{string_bytes};
 
 use crate::memory::{Duplicate, NoMemory};
 use std::alloc::Global;
@@ -28,6 +29,13 @@ impl Text {
     {
         let inner = String::from_str(alloc, text)?;
         Ok(Text { inner })
+    }
+
+    /// The text that a string holds.
+    pub fn from_string(inner: String) -> Text
+        ensures { result ≡ string_bytes inner }
+    {
+        Text { inner }
     }
 
     /// The text, lent.

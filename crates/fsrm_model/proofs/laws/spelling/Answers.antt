@@ -1,5 +1,8 @@
-use Rattle.fsrm_model.proofs.SpellingLaws.{read_spells, spelled_reads}
+use Rattle.fsrm_model.proofs.SpellingLaws.{read_spells, spelled_reads, read_skips, skips_read}
 use Rattle.fsrm_model.proofs.laws.spelling.Goals as goal
 
-pub returns : goal.returns
-returns c = λ line command. (read_spells line command, spelled_reads line command)
+pub returns-clause-commands : goal.returns-clause-commands
+returns-clause-commands c = λ line command. (read_spells line command, spelled_reads line command)
+
+pub returns-clause-skipped : goal.returns-clause-skipped
+returns-clause-skipped c = λ line. (read_skips line, skips_read line)

@@ -1,0 +1,65 @@
+-- Small facts of tests.
+use Rattle.std.proofs.Common.{◌≡◌, ℕ, suc, ◌<◌, ◌==◌, nat_lt, Bool, true, false, not, ◌||◌, ◌&&◌, ◌⊎◌, inl, inr, refl, arith}
+use Rattle.std.proofs.lemmas.Bool.Decides.{nat_tests}
+
+-- each test passes or fails, and not both
+pub is_or_not : (b : Bool) → (b ≡ true) ⊎ (b ≡ false)
+is_or_not true = inl refl
+is_or_not false = inr refl
+
+pub clash : (b : Bool) → b ≡ true → b ≡ false → ⊥
+clash b h g = cc
+
+pub not_true : (b : Bool) → (b ≡ true → ⊥) → b ≡ false
+not_true true h = absurd (h refl)
+not_true false h = refl
+
+pub is_false : (b : Bool) → not b ≡ true → b ≡ false
+is_false true h = cc
+is_false false h = refl
+
+-- of two tests
+pub both : (a b : Bool) → (a && b) ≡ true → (a ≡ true) × (b ≡ true)
+both true b h = (refl, h)
+both false b h = cc
+
+pub both_true : (a b : Bool) → a ≡ true → b ≡ true → (a && b) ≡ true
+both_true a b h g = rw (h, g) refl
+
+pub is_or : (a b : Bool) → (a || b) ≡ true → (a ≡ true) ⊎ (b ≡ true)
+is_or true b h = inl refl
+is_or false b h = inr h
+
+pub neither : (a b : Bool) → (a || b) ≡ false → (a ≡ false) × (b ≡ false)
+neither true b h = cc
+neither false b h = (refl, h)
+
+pub or_later : (a b : Bool) → b ≡ true → (a || b) ≡ true
+or_later true b h = refl
+or_later false b h = h
+
+pub or_false : (b : Bool) → (b || false) ≡ true → b ≡ true
+or_false true h = refl
+or_false false h = h
+
+-- of numbers
+pub eq_is : (n m : ℕ) → (n == m) ≡ true → n ≡ m
+eq_is n m h = grind (arith, nat_tests)
+
+pub eq_same : (n : ℕ) → (n == n) ≡ true
+eq_same n = grind (arith, nat_tests)
+
+pub eq_turned : (n m : ℕ) → (n == m) ≡ false → (m == n) ≡ false
+eq_turned n m h = grind (arith, nat_tests)
+
+pub suc_apart : (n : ℕ) → (suc n == 0) ≡ false
+suc_apart n = grind (arith, nat_tests)
+
+pub not_root : (n : ℕ) (b : Bool) → ((suc n == 0) || b) ≡ true → b ≡ true
+not_root n b h = grind (arith, nat_tests)
+
+pub lt_is : (m n : ℕ) → nat_lt m n ≡ true → m < n
+lt_is m n h = grind (arith, nat_tests)
+
+pub lt_test : (m n : ℕ) → m < n → nat_lt m n ≡ true
+lt_test m n h = grind (arith, nat_tests)

@@ -1,0 +1,35 @@
+-- Which commands are valid: those whose values have their forms and ranges.
+use Rattle.std.specs.Prelude.{ℕ, ◌&&◌, nat_le, Bool, List}
+use Rattle.std.specs.List.{list_all}
+use Rattle.fsrm_model.specs.declared.command.Command.{Command}
+use Rattle.fsrm_model.specs.declared.command.Deed.{Deed}
+use Rattle.fsrm_model.specs.declared.command.Deed.TheVariants.{File, Usage}
+use Rattle.fsrm_model.specs.declared.command.FileOp.{FileOp}
+use Rattle.fsrm_model.specs.declared.command.FileOp.TheVariants.{Mkdir, Create, Resize, Touch, Move, Remove}
+use Rattle.fsrm_model.specs.Limits.{longest_file, last_owner}
+use Rattle.fsrm_model.specs.Name.{is_name}
+use Rattle.fsrm_model.specs.Valid.{is_moment}
+
+abbrev pub is_path : List (List ℕ) → Bool
+is_path path = list_all is_name path
+
+abbrev pub is_owner : ℕ → Bool
+is_owner owner = nat_le 1 owner && nat_le owner last_owner
+
+abbrev pub is_length : ℕ → Bool
+is_length length = nat_le length longest_file
+
+abbrev pub is_op : FileOp → Bool
+is_op (Mkdir path owner) = is_path path && is_owner owner
+is_op (Create path length owner) = is_path path && (is_length length && is_owner owner)
+is_op (Resize path length) = is_path path && is_length length
+is_op (Touch path) = is_path path
+is_op (Move from to) = is_path from && is_path to
+is_op (Remove path) = is_path path
+
+abbrev pub is_deed : Deed → Bool
+is_deed (File op) = is_op op
+is_deed (Usage path) = is_path path
+
+abbrev pub is_command : Command → Bool
+is_command c = is_moment c.moment && is_deed c.deed
