@@ -1,0 +1,82 @@
+//! Paths of the volume `D:`.
+
+ghost use Rattle.std.specs.Prelude.{◌≡◌, ◌∷◌, [], ◌++◌, true, false, drop, Ok, Err, OnOk, IfOk, IfErr, MatchOption};
+ghost use Rattle.std.specs.List.{list_all};
+ghost use Rattle.fsrm_model.specs.Name.{is_name};
+ghost use Rattle.fsrm_model.specs.Reading.{path_from, is_on_volume};
+ghost use Rattle.name_rules.specs.Parts.{parts_of, has_no_empty_part};
+ghost use Rattle.name_rules.specs.PathFaults.{IsFault};
+
+use crate::name::{NameFault, is_name};
+use fsrm_model::{List, NoMemory, Path, Text};
+use std::alloc::Global;
+
+/// Why a text is read as no path.
+#[derive(Clone, Copy, Debug, PartialEq, Eq)]
+pub enum PathFault {
+    /// It doesn't begin with `D:\` or `d:\`, or has an empty part.
+    InvalidPath,
+    /// Its form is that of a path, but a part isn't a name.
+    InvalidName,
+    /// There was no memory.
+    NoMemory,
+}
+
+/// The path that a text is: `D:\`, and names joined by `\`, of which one more may stand at the end.
+pub fn read_path(alloc: Global, text: &str) -> Result<Path, PathFault>
+    ensures path { IfOk result (λ path. path_from text.now ≡ Ok path) }
+    ensures fault { IfErr result (λ fault. IsFault fault (path_from text.now)) }
+{
+    let Some(rest) = behind_volume(text) else {
+        return Err(PathFault::InvalidPath);
+    };
+    match read_names(alloc, rest) {
+        Ok(names) => Ok(Path::from_parts(names)),
+        // An empty part is no name either, so the form is looked at only here.
+        Err(NameFault::InvalidName) if has_no_empty_part(rest) => Err(PathFault::InvalidName),
+        Err(NameFault::InvalidName) => Err(PathFault::InvalidPath),
+        Err(NameFault::NoMemory) => Err(PathFault::NoMemory),
+    }
+}
+
+// What stands behind `D:\` or `d:\`.
+fn behind_volume(text: &str) -> Option<&str>
+    ensures { MatchOption result (is_on_volume text.now ≡ false)
+        (λ rest. (is_on_volume text.now ≡ true) × (rest.now ≡ drop 3 text.now)) }
+{
+    match text.strip_prefix("D:\\") {
+        Some(rest) => Some(rest),
+        None => text.strip_prefix("d:\\"),
+    }
+}
+
+// The parts of the rest of a path, where each one is a name.
+fn read_names(alloc: Global, rest: &str) -> Result<List<Text>, NameFault>
+    ensures names { IfOk result (λ names. names ≡ parts_of rest.now) }
+    ensures valid { IfOk result (λ names. list_all is_name names ≡ true) }
+    ensures invalid { result ≡ Err NameFault.InvalidName → list_all is_name (parts_of rest.now) ≡ false }
+{
+    let mut names = List::new(alloc);
+    for part in rest.split_terminator('\\') {
+        if !is_name(part) {
+            return Err(NameFault::InvalidName);
+        }
+        if let Err(NoMemory) = push_text(alloc, &mut names, part) {
+            return Err(NameFault::NoMemory);
+        }
+    }
+    Ok(names)
+}
+
+fn push_text(alloc: Global, texts: &mut List<Text>, text: &str) -> Result<(), NoMemory>
+    ensures { OnOk result (texts.new ≡ texts.old ++ text.now ∷ []) }
+{
+    let text = Text::from_str(alloc, text)?;
+    texts.push(text)
+}
+
+fn has_no_empty_part(rest: &str) -> bool
+    ensures { result ≡ has_no_empty_part rest.now }
+{
+    rest.split_terminator('\\').all(|part| !part.is_empty())
+}
