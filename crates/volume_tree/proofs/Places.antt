@@ -1,141 +1,164 @@
--- What a place in the order of names tells.
-use Rattle.std.proofs.Common.{◌≡◌, ℕ, suc, ◌<◌, Bool, true, false, All, AllPairs, inl, inr, List, [], ◌∷◌, length, get_or, find, IsPermutation, Some, None, option_map, sym, ◌∙◌, ap, subst, arith}
+-- What stands at the place of a name.
+use Rattle.std.proofs.Common.{◌≡◌, ℕ, ◌<◌, ◌==◌, ◌&&◌, not, Bool, true, false, inl, inr, List, length, slice_index, Option, Some, None, option_map, refl, sym, ◌∙◌, ap, subst, arith}
 use Rattle.std.proofs.lemmas.Bool.{cases_order}
-use Rattle.std.proofs.lemmas.List.{get_or-map, length-map, get_or_default}
-use Rattle.std.proofs.lemmas.List.Sorted.{IsPermutation-sym, All-permutation, length_permutation}
-use Rattle.std.proofs.lemmas.Option.{slice_get-get_or}
+use Rattle.std.proofs.lemmas.Bool.Decides.{nat_tests}
+use Rattle.std.proofs.lemmas.List.{get_or_default}
+use Rattle.std.proofs.lemmas.Option.{same_Some}
+use Rattle.std.specs.Prelude.{is_some}
 use Rattle.fsrm_model.specs.declared.row.NodeRow.{NodeRow}
 use Rattle.fsrm_model.specs.Fresh.{root_node}
-use Rattle.fsrm_model.specs.Name.{same_name, name_before, is_plain_name}
-use Rattle.fsrm_model.specs.Tree.{number, node_of, is_child, children}
-use Rattle.volume_tree.specs.Volume.{IsFile, AreNodes, IsChildAt, child_number}
-use Rattle.volume_tree.specs.Index.{files, file_at, IsIndex, IsPlace}
-use Rattle.volume_tree.proofs.Searches.{not_true, find_both, find_none, find_only}
-use Rattle.volume_tree.proofs.Names.{before_as, before_apart}
-use Rattle.volume_tree.proofs.Sorted.{in_order_moves}
-use Rattle.volume_tree.proofs.Nodes.{found, file_at_place, number_at, children_are}
+use Rattle.fsrm_model.specs.Keyed.{is_ascending}
+use Rattle.fsrm_model.specs.Name.{same_name}
+use Rattle.fsrm_model.specs.Tree.{number, node_of, is_child, child_of, child_number}
+use Rattle.fsrm_model.proofs.Look.{found_any, found_key, found_own, found_passes, is_some-find}
+use Rattle.fsrm_model.proofs.Tests.{eq_is, clash, both}
+use Rattle.volume_tree.specs.Kept.{IsOrder, IsPlace, is_before}
+use Rattle.volume_tree.proofs.Entries.{at, Divides, place_divides, entry_of, entry_there, number_there, node_there, length-order_entries, not_not}
+use Rattle.volume_tree.proofs.Names.{comes_apart, comes_as, comes_turned, comes_itself, same_itself}
 
-pub files_moved : (rows : List NodeRow) → IsPermutation (children rows 0) (files rows)
-files_moved rows = in_order_moves (λ a b. name_before a.name b.name) (children rows 0)
+-- a child of a name is an entry of it
+pub record NamedEntry (entries : List NodeRow) (folder : ℕ) (name : List ℕ) (row : NodeRow) : Type 0 where
+  pub place : ℕ
+  pub below : place < length entries
+  pub is : at entries place ≡ row
+  pub folder_is : (at entries place).parent ≡ folder
+  pub named : same_name (at entries place).name name ≡ true
 
-pub length-files : (rows : List NodeRow) → length (files rows) ≡ length (children rows 0)
-length-files rows = length_permutation (children rows 0) (files rows) (files_moved rows)
-
--- a file of the order is found by its number
-pub record Filed (rows : List NodeRow) (row : NodeRow) : Type 0 where
-  pub below : row.number < length rows
-  pub at : get_or rows row.number root_node ≡ row
-  pub found : node_of rows row.number ≡ Some row
-  pub file : IsFile row
-
-filed_at : (rows : List NodeRow) (k : ℕ) (row : NodeRow) → AreNodes 0 rows → suc k < length rows → get_or rows (suc k) row ≡ row → Filed rows row
-filed_at rows k row h l e =
-    let own = number_at 0 (suc k) rows row h l in
-    let is : suc k ≡ row.number = omega (arith, ap number e) in
-    let at : get_or rows (suc k) root_node ≡ row = get_or_default rows (suc k) root_node row l ∙ e in
+pub named_entry : (nodes : List NodeRow) (order : List ℕ) (folder : ℕ) (name : List ℕ) (row : NodeRow) (h : IsOrder nodes order) → is_ascending number nodes ≡ true → child_of nodes folder name ≡ Some row → NamedEntry h.entries folder name row
+named_entry nodes order folder name row h a f =
+    let test : NodeRow → Bool = λ node. is_child folder node && same_name node.name name in
+    let passes : (is_child folder row ≡ true) × (same_name row.name name ≡ true) = both _ _ (found_passes test nodes row f) in
+    let child : (not (row.number == 0) ≡ true) × ((row.parent == folder) ≡ true) = both _ _ passes.0 in
+    let own = found_own number test nodes row a f in
+    let e = entry_of nodes order row.number row h own (not_not _ child.0) in
+    let is : at h.entries e.0 ≡ row = get_or_default h.entries e.0 root_node row e.1 ∙ e.2 in
     record {
-      below = omega arith;
-      at = ap (λ i. get_or rows i root_node) (sym is) ∙ at;
-      found = ap (node_of rows) (sym is) ∙ (found (suc k) rows root_node h l ∙ ap Some at);
-      file = subst IsFile e (file_at_place k rows row h l);
+      place = e.0;
+      below = e.1;
+      is = is;
+      folder_is = ap (λ (r : NodeRow). r.parent) is ∙ eq_is _ _ child.1;
+      named = ap (λ (r : NodeRow). same_name r.name name) is ∙ passes.1;
     }
 
-children_filed : (rows : List NodeRow) → AreNodes 0 rows → All (Filed rows) (children rows 0)
-children_filed [] h = λ k d l. absurd (omega arith)
-children_filed (root ∷ rows) h =
-    subst (All (Filed (root ∷ rows))) (sym (children_are (root ∷ rows) h))
-    (λ k d l. filed_at (root ∷ rows) k (get_or rows k d) h (omega arith) (get_or_default rows k (get_or rows k d) d l))
-
-pub filed : (rows : List NodeRow) (k : ℕ) → AreNodes 0 rows → k < length (files rows) → Filed rows (file_at rows k)
-filed rows k h l = All-permutation (Filed rows) (children rows 0) (files rows) (files_moved rows) (children_filed rows h) k root_node l
-
--- the number at a place of the order is that of the file there
-pub length-order : (rows : List NodeRow) (order : List ℕ) → IsIndex rows order → length order ≡ length (files rows)
-length-order rows order h = ap length h.numbers ∙ length-map (files rows) number
-
-pub number_there : (rows : List NodeRow) (order : List ℕ) (k d : ℕ) → IsIndex rows order → k < length order → get_or order k d ≡ (file_at rows k).number
-number_there rows order k d h l =
-    let size = length-order rows order h in
-    ap (λ xs. get_or xs k d) h.numbers ∙ get_or-map number (files rows) k root_node d (omega arith)
-
--- the child at a place
-pub child_there : (rows : List NodeRow) (order : List ℕ) (k : ℕ) → IsIndex rows order → k < length order → IsChildAt rows 0 k (get_or order k 0)
-child_there rows order k h l =
-    let size = length-order rows order h in
-    let f = filed rows k h.each (omega arith) in
-    let is = number_there rows order k 0 h l in
-    record {
-      row = file_at rows k;
-      at = slice_get-get_or (files rows) k root_node (omega arith);
-      number_is = sym is;
-      found = ap (node_of rows) is ∙ f.found;
-    }
-
--- the row that is read by the number at a place
-pub below_there : (rows : List NodeRow) (order : List ℕ) (k : ℕ) → IsIndex rows order → k < length order → get_or order k 0 < length rows
-below_there rows order k h l =
-    let size = length-order rows order h in
-    let f = filed rows k h.each (omega arith) in
-    subst (λ i. i < length rows) (sym (number_there rows order k 0 h l)) f.below
-
-pub read_there : (rows : List NodeRow) (order : List ℕ) (k : ℕ) (row : NodeRow) → IsIndex rows order → k < length order → row ≡ get_or rows (get_or order k 0) row → row ≡ file_at rows k
-read_there rows order k row h l g =
-    let size = length-order rows order h in
-    let f = filed rows k h.each (omega arith) in
-    g ∙ (get_or_default rows (get_or order k 0) row root_node (below_there rows order k h l) ∙ (ap (λ i. get_or rows i root_node) (number_there rows order k 0 h l) ∙ f.at))
-
-pub plain_there : (rows : List NodeRow) (order : List ℕ) (k : ℕ) → IsIndex rows order → k < length order → is_plain_name (file_at rows k).name ≡ true
-plain_there rows order k h l = let size = length-order rows order h in (filed rows k h.each (omega arith)).file.name
-
--- what a test of a file's name, read from a row, says of the file
-pub told : (test : List ℕ → Bool) (file row : NodeRow) (text : List ℕ) (answer b : Bool) → row ≡ file → text ≡ row.name → answer ≡ test text → answer ≡ b → test file.name ≡ b
-told test file row text answer b e g h t = sym (ap (λ (r : NodeRow). test r.name) e) ∙ (sym (ap test g) ∙ (sym h ∙ t))
-
--- files that come after the place are not of the name
-later : (rows : List NodeRow) (name : List ℕ) (p k : ℕ) → AllPairs (λ a b. name_before a.name b.name ≡ true) (files rows) → IsPlace rows name p → p < k → k < length (files rows) → same_name (file_at rows k).name name ≡ false
-later rows name p k up place l m =
-    not_true _ (λ t.
-    let first : name_before (file_at rows p).name name ≡ true = before_as (file_at rows p).name (file_at rows k).name name t (up p k root_node l m) in
-    let none = place.after p (omega arith) (omega arith) in
-    cc)
-
--- a place whose file is not of the name: no file is
-pub absent : (rows : List NodeRow) (name : List ℕ) (p : ℕ) → AllPairs (λ a b. name_before a.name b.name ≡ true) (files rows) → IsPlace rows name p → (p < length (files rows) → same_name (file_at rows p).name name ≡ false) → (k : ℕ) → k < length (files rows) → same_name (file_at rows k).name name ≡ false
-absent rows name p up place h k l =
-    elim (cases_order k p) [
-      | inl e ↦ subst (λ i. same_name (file_at rows i).name name ≡ false) (sym e) (h (omega arith))
-      | inr (inl m) ↦ before_apart (file_at rows k).name name (place.before k m)
-      | inr (inr m) ↦ later rows name p k up place m l
+-- an entry of a name in a folder stands at the place
+pub only_place : (nodes : List NodeRow) (order : List ℕ) (folder : ℕ) (name : List ℕ) (place k : ℕ) (h : IsOrder nodes order) → Divides (λ r. is_before r folder name) h.entries place → k < length h.entries → (at h.entries k).parent ≡ folder → same_name (at h.entries k).name name ≡ true → k ≡ place
+only_place nodes order folder name place k h d l e t =
+    let b = at h.entries k in
+    elim (cases_order k place) [
+      | inl is ↦ is
+      | inr (inl m) ↦ absurd (clash _ t (comes_apart b.parent b.name folder name (d.before k m) e))
+      | inr (inr m) ↦
+          let p = at h.entries place in
+          let before : is_before p folder b.name ≡ true = subst (λ (f : ℕ). is_before p f b.name ≡ true) e (h.ascending place k root_node m l) in
+          absurd (clash _ (sym (comes_as p.parent p.name folder b.name name t) ∙ before) (d.after place (omega arith) (omega arith)))
     ]
 
-pub named : (rows : List NodeRow) (name : List ℕ) → child_number rows 0 name ≡ option_map number (find (λ node. same_name node.name name) (children rows 0))
-named rows name = ap (option_map number) (find_both (is_child 0) (λ node. same_name node.name name) rows)
-
-pub none_named : (rows : List NodeRow) (name : List ℕ) → ((k : ℕ) → k < length (files rows) → same_name (file_at rows k).name name ≡ false) → child_number rows 0 name ≡ None
-none_named rows name h =
-    let none : All (λ node. same_name node.name name ≡ false) (files rows) = λ k d l. subst (λ (node : NodeRow). same_name node.name name ≡ false) (get_or_default (files rows) k root_node d l) (h k l) in
-    let all = All-permutation (λ node. same_name node.name name ≡ false) (files rows) (children rows 0) (IsPermutation-sym (children rows 0) (files rows) (files_moved rows)) none in
-    named rows name ∙ ap (option_map number) (find_none (λ node. same_name node.name name) (children rows 0) all)
-
--- a place whose file is of the name: it is the only one
-only : (rows : List NodeRow) (name : List ℕ) (p k : ℕ) → AllPairs (λ a b. name_before a.name b.name ≡ true) (files rows) → IsPlace rows name p → k < length (files rows) → same_name (file_at rows k).name name ≡ true → file_at rows k ≡ file_at rows p
-only rows name p k up place l t =
-    elim (cases_order k p) [
-      | inl e ↦ ap (file_at rows) e
-      | inr (inl m) ↦ let no = before_apart (file_at rows k).name name (place.before k m) in cc
-      | inr (inr m) ↦ let no = later rows name p k up place m l in cc
-    ]
-
-pub one_named : (rows : List NodeRow) (name : List ℕ) (p : ℕ) → AllPairs (λ a b. name_before a.name b.name ≡ true) (files rows) → IsPlace rows name p → p < length (files rows) → same_name (file_at rows p).name name ≡ true → child_number rows 0 name ≡ Some (file_at rows p).number
-one_named rows name p up place l t =
-    let test : NodeRow → Bool = λ node. same_name node.name name in
-    let back = IsPermutation-sym (children rows 0) (files rows) (files_moved rows) in
-    let one : All (λ node. test node ≡ true → node ≡ file_at rows p) (files rows) =
-    λ k d m. subst (λ (node : NodeRow). same_name node.name name ≡ true → node ≡ file_at rows p) (get_or_default (files rows) k root_node d m) (only rows name p k up place m) in
-    let some : All (λ node. test node ≡ false) (children rows 0) → ⊥ =
-    λ none. let no = All-permutation (λ node. test node ≡ false) (children rows 0) (files rows) (files_moved rows) none p root_node l in absurd (clash no t) in
-    named rows name
-    ∙ ap (option_map number) (find_only test (file_at rows p) (children rows 0) (All-permutation (λ node. test node ≡ true → node ≡ file_at rows p) (files rows) (children rows 0) back one) some)
+-- no child has the name where the place's entry hasn't
+none_at : (nodes : List NodeRow) (order : List ℕ) (folder : ℕ) (name : List ℕ) (place : ℕ) (h : IsOrder nodes order) → is_ascending number nodes ≡ true → Divides (λ r. is_before r folder name) h.entries place → (place < length h.entries → (((at h.entries place).parent == folder) && same_name (at h.entries place).name name) ≡ false) → (o : Option NodeRow) → child_of nodes folder name ≡ o → option_map number o ≡ None
+none_at nodes order folder name place h a d other None f = refl
+none_at nodes order folder name place h a d other (Some row) f =
+    let n = named_entry nodes order folder name row h a f in
+    let is = only_place nodes order folder name place n.place h d n.below n.folder_is n.named in
+    let below = n.below in
+    let parent : (at h.entries place).parent ≡ folder = subst (λ i. (at h.entries i).parent ≡ folder) is n.folder_is in
+    let named : same_name (at h.entries place).name name ≡ true = subst (λ i. same_name (at h.entries i).name name ≡ true) is n.named in
+    absurd (clash _ (passes (at h.entries place).parent folder (same_name (at h.entries place).name name) parent named) (other (omega arith)))
   where
-    clash : {b : Bool} → b ≡ false → b ≡ true → ⊥
-    clash e f = cc
+    passes : (p q : ℕ) (b : Bool) → p ≡ q → b ≡ true → ((p == q) && b) ≡ true
+    passes p q b e h = let t : (p == q) ≡ true = grind (arith, nat_tests) in rw (t, h) refl
+
+none_named : (nodes : List NodeRow) (order : List ℕ) (folder : ℕ) (name : List ℕ) (place : ℕ) (h : IsOrder nodes order) → is_ascending number nodes ≡ true → IsPlace nodes order folder name place → ((row : NodeRow) → place < length order → node_of nodes (slice_index order place) ≡ Some row → false ≡ ((row.parent == folder) && same_name row.name name)) → child_number nodes folder name ≡ None
+none_named nodes order folder name place h a p other =
+    let size = length-order_entries nodes order h in
+    none_at nodes order folder name place h a (place_divides nodes order folder name place h a p)
+    (λ l. sym (other (at h.entries place) (omega arith) (node_there nodes order place h a (omega arith))))
+    (child_of nodes folder name) refl
+
+pub none_at_end : (nodes : List NodeRow) (order : List ℕ) (folder : ℕ) (name : List ℕ) (place : ℕ) (h : IsOrder nodes order) → is_ascending number nodes ≡ true → IsPlace nodes order folder name place → place ≡ length order → child_number nodes folder name ≡ None
+none_at_end nodes order folder name place h a p e = none_named nodes order folder name place h a p (λ row l f. absurd (omega arith))
+
+pub other_named : (nodes : List NodeRow) (order : List ℕ) (folder : ℕ) (name : List ℕ) (place : ℕ) (read : NodeRow) (h : IsOrder nodes order) → is_ascending number nodes ≡ true → IsPlace nodes order folder name place → node_of nodes (slice_index order place) ≡ Some read → false ≡ ((read.parent == folder) && same_name read.name name) → child_number nodes folder name ≡ None
+other_named nodes order folder name place read h a p e t =
+    none_named nodes order folder name place h a p
+    (λ row l f. t ∙ ap (λ (r : NodeRow). (r.parent == folder) && same_name r.name name) (same_Some _ _ (sym e ∙ f)))
+
+-- an entry stands at the place of its own name
+own_place : (nodes : List NodeRow) (order : List ℕ) (k : ℕ) (h : IsOrder nodes order) → k < length h.entries → Divides (λ r. is_before r (at h.entries k).parent (at h.entries k).name) h.entries k
+own_place nodes order k h l =
+    let row = at h.entries k in
+    record {
+      within = omega arith;
+      before = λ i m. h.ascending i k root_node m l;
+      after = λ i m n. elim (cases_order i k) [
+        | inl is ↦ subst (λ j. is_before (at h.entries j) row.parent row.name ≡ false) (sym is) (comes_itself row.parent row.name)
+        | inr (inl o) ↦ absurd (omega arith)
+        | inr (inr o) ↦ let later = at h.entries i in comes_turned row.parent row.name later.parent later.name (h.ascending k i root_node o n)
+      ];
+    }
+
+-- the child of the name is the place's entry where that has the name
+one_found : (nodes : List NodeRow) (order : List ℕ) (folder : ℕ) (name : List ℕ) (place : ℕ) (h : IsOrder nodes order) → is_ascending number nodes ≡ true → Divides (λ r. is_before r folder name) h.entries place → (o : Option NodeRow) → child_of nodes folder name ≡ o → is_some o ≡ true → o ≡ Some (at h.entries place)
+one_found nodes order folder name place h a d None f some = cc
+one_found nodes order folder name place h a d (Some row) f some =
+    let n = named_entry nodes order folder name row h a f in
+    let is = only_place nodes order folder name place n.place h d n.below n.folder_is n.named in
+    ap Some (sym n.is ∙ ap (at h.entries) is)
+
+one_at : (nodes : List NodeRow) (order : List ℕ) (folder : ℕ) (name : List ℕ) (place : ℕ) (h : IsOrder nodes order) → is_ascending number nodes ≡ true → Divides (λ r. is_before r folder name) h.entries place → place < length h.entries → (at h.entries place).parent ≡ folder → same_name (at h.entries place).name name ≡ true → child_of nodes folder name ≡ Some (at h.entries place)
+one_at nodes order folder name place h a d l e t =
+    let row = at h.entries place in
+    let own = entry_there nodes order place h a l in
+    let test : NodeRow → Bool = λ node. is_child folder node && same_name node.name name in
+    let parent : (row.parent == folder) ≡ true = grind (arith, nat_tests) in
+    let inner = own.inner in
+    let passes : test row ≡ true = rw (inner, parent, t) refl in
+    one_found nodes order folder name place h a d (child_of nodes folder name) refl (is_some-find test nodes ∙ found_any number test row.number nodes row own.found passes)
+
+pub one_named : (nodes : List NodeRow) (order : List ℕ) (folder : ℕ) (name : List ℕ) (place : ℕ) (row : NodeRow) (h : IsOrder nodes order) → is_ascending number nodes ≡ true → IsPlace nodes order folder name place → place < length order → node_of nodes (slice_index order place) ≡ Some row → true ≡ ((row.parent == folder) && same_name row.name name) → child_number nodes folder name ≡ Some (slice_index order place)
+one_named nodes order folder name place row h a p l f t =
+    let size = length-order_entries nodes order h in
+    let is : row ≡ at h.entries place = same_Some _ _ (sym f ∙ node_there nodes order place h a l) in
+    let passes : ((row.parent == folder) ≡ true) × (same_name row.name name ≡ true) = both _ _ (sym t) in
+    ap (option_map number)
+    (one_at nodes order folder name place h a (place_divides nodes order folder name place h a p) (omega arith)
+    (ap (λ (r : NodeRow). r.parent) (sym is) ∙ eq_is _ _ passes.0)
+    (ap (λ (r : NodeRow). same_name r.name name) (sym is) ∙ passes.1))
+    ∙ ap Some (sym (number_there nodes order place 0 h l))
+
+-- the child that is found of a name
+pub record NamedChild (nodes : List NodeRow) (folder : ℕ) (name : List ℕ) (n : ℕ) : Type 0 where
+  pub row : NodeRow
+  pub found : node_of nodes n ≡ Some row
+  pub inner : (n == 0) ≡ false
+  pub folder_is : row.parent ≡ folder
+  pub named : same_name row.name name ≡ true
+
+named_at : (nodes : List NodeRow) (folder : ℕ) (name : List ℕ) (n : ℕ) (o : Option NodeRow) → is_ascending number nodes ≡ true → child_of nodes folder name ≡ o → option_map number o ≡ Some n → NamedChild nodes folder name n
+named_at nodes folder name n None a f e = cc
+named_at nodes folder name n (Some row) a f e =
+    let test : NodeRow → Bool = λ node. is_child folder node && same_name node.name name in
+    let is : row.number ≡ n = same_Some _ _ e in
+    let passes : (is_child folder row ≡ true) × (same_name row.name name ≡ true) = both _ _ (found_passes test nodes row f) in
+    let child : (not (row.number == 0) ≡ true) × ((row.parent == folder) ≡ true) = both _ _ passes.0 in
+    record {
+      row = row;
+      found = ap (node_of nodes) (sym is) ∙ found_own number test nodes row a f;
+      inner = ap (λ i. i == 0) (sym is) ∙ not_not _ child.0;
+      folder_is = eq_is _ _ child.1;
+      named = passes.1;
+    }
+
+pub named_child : (nodes : List NodeRow) (folder : ℕ) (name : List ℕ) (n : ℕ) → is_ascending number nodes ≡ true → child_number nodes folder name ≡ Some n → NamedChild nodes folder name n
+named_child nodes folder name n a e = named_at nodes folder name n (child_of nodes folder name) a refl e
+
+-- a node is the child of its own name
+pub own_child : (nodes : List NodeRow) (order : List ℕ) (n : ℕ) (row : NodeRow) → is_ascending number nodes ≡ true → IsOrder nodes order → node_of nodes n ≡ Some row → (n == 0) ≡ false → child_number nodes row.parent row.name ≡ Some n
+own_child nodes order n row a h found other =
+    let e = entry_of nodes order n row h found other in
+    let is : at h.entries e.0 ≡ row = get_or_default h.entries e.0 root_node row e.1 ∙ e.2 in
+    let d : Divides (λ r. is_before r row.parent row.name) h.entries e.0 =
+    subst (λ (x : NodeRow). Divides (λ r. is_before r x.parent x.name) h.entries e.0) is (own_place nodes order e.0 h e.1) in
+    ap (option_map number)
+    (one_at nodes order row.parent row.name e.0 h a d e.1 (ap (λ (r : NodeRow). r.parent) is)
+    (ap (λ (r : NodeRow). same_name r.name row.name) is ∙ same_itself row.name))
+    ∙ ap Some (ap number is ∙ found_key number n nodes row found)

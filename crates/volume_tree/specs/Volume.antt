@@ -1,14 +1,14 @@
 -- The nodes of a volume, and what a tree of them answers.
-use Rattle.std.specs.Prelude.{◌≡◌, ℕ, zero, suc, ◌+◌, ◌≤◌, nat_lt, nat_le, Bool, true, false, List, [], ◌∷◌, length, slice_get, Option, Some, None, option_map, is_some, if◌then◌else◌}
+use Rattle.std.specs.Prelude.{◌≡◌, ℕ, ◌+◌, ◌≤◌, ◌==◌, nat_lt, nat_le, not, Bool, false, List, [], ◌∷◌, length, slice_get, Option, Some, None, is_some, if◌then◌else◌}
+use Rattle.std.specs.Option.{option_map_or}
 use Rattle.fsrm_model.specs.declared.row.Capacity.{Capacity}
 use Rattle.fsrm_model.specs.declared.row.NodeRow.{NodeRow}
-use Rattle.fsrm_model.specs.Limits.{latest_moment, longest_file, most_nodes, most_names}
-use Rattle.fsrm_model.specs.Keyed.{with_row}
-use Rattle.fsrm_model.specs.Name.{is_plain_name}
-use Rattle.fsrm_model.specs.Tree.{number, node_of, child_of, children_in_order, name_bytes}
-use Rattle.fsrm_model.specs.Fresh.{root_node}
+use Rattle.fsrm_model.specs.FileOps.{resized, touched, placed}
+use Rattle.fsrm_model.specs.Keyed.{with_row, with_change, without_row}
+use Rattle.fsrm_model.specs.Limits.{most_nodes, most_names}
+use Rattle.fsrm_model.specs.Tree.{number, node_of, name_of, is_under, children, child_number, children_in_order, name_bytes}
 use Rattle.volume_tree.specs.declared.answer.TreeFault.{TreeFault}
-use Rattle.volume_tree.specs.declared.answer.TreeFault.TheVariants.{AlreadyExists, VolumeFull, NamesFull, NoMemory}
+use Rattle.volume_tree.specs.declared.answer.TreeFault.TheVariants.{AlreadyExists, InvalidMove, NotEmpty, VolumeFull, NamesFull, NoMemory}
 use Rattle.volume_tree.specs.declared.answer.NodeView.{NodeView}
 
 -- a tree: how much of it there may be, and its nodes
@@ -23,43 +23,12 @@ pub record IsCapacity (size : Capacity) : Type 0 where
   pub names_least : 256 ≤ size.names
   pub names_most : size.names ≤ most_names
 
--- a file of the root
-pub record IsFile (node : NodeRow) : Type 0 where
-  pub parent : node.parent ≡ 0
-  pub name : is_plain_name node.name ≡ true
-  pub folder : node.folder ≡ false
-  pub bytes : node.length ≤ longest_file
-  pub owner : 1 ≤ node.owner
-  pub created : node.created ≤ latest_moment
-  pub modified : node.modified ≤ latest_moment
-  pub accessed : node.accessed ≤ latest_moment
-
--- what the node of a number is: the root, or a file of it
-abbrev pub IsNode : ℕ → NodeRow → Type 0
-IsNode zero node = node ≡ root_node
-IsNode (suc n) node = (node.number ≡ suc n) × IsFile node
-
--- the nodes from a number on: each one's number is its place
-abbrev pub AreNodes : ℕ → List NodeRow → Type 0
-AreNodes n [] = Unit {0}
-AreNodes n (node ∷ nodes) = IsNode n node × AreNodes (suc n) nodes
-
--- what each tree keeps. The root is its only folder.
-pub record IsVolume (K : Capacity) (nodes : List NodeRow) : Type 0 where
-  pub root : node_of nodes 0 ≡ Some root_node
-  pub each : AreNodes 0 nodes
-  pub few : length nodes ≤ K.nodes
-  pub most : K.nodes ≤ most_nodes
-  pub names : name_bytes nodes ≤ K.names
-
--- the number of a folder's child of a name
-abbrev pub child_number : List NodeRow → ℕ → List ℕ → Option ℕ
-child_number nodes folder name = option_map number (child_of nodes folder name)
-
 -- a fault is for want of memory, or the one that is due
 abbrev pub IsFault : TreeFault → Option TreeFault → Type 0
 IsFault NoMemory due = Unit {0}
 IsFault AlreadyExists due = due ≡ Some AlreadyExists
+IsFault InvalidMove due = due ≡ Some InvalidMove
+IsFault NotEmpty due = due ≡ Some NotEmpty
 IsFault VolumeFull due = due ≡ Some VolumeFull
 IsFault NamesFull due = due ≡ Some NamesFull
 
@@ -80,9 +49,36 @@ new_fault v folder name =
     ∷ fault_if VolumeFull (nat_le v.size.nodes (length v.nodes))
     ∷ fault_if NamesFull (nat_lt v.size.names (name_bytes v.nodes + length name)) ∷ [])
 
--- a volume with one more node
+-- whether it is a number other than this one
+abbrev pub is_other : Option ℕ → ℕ → Bool
+is_other found n = option_map_or (λ k. not (k == n)) found false
+
+-- why a node can't be moved; its old name's bytes are given back
+abbrev pub move_fault : Volume → ℕ → ℕ → List ℕ → Option TreeFault
+move_fault v n folder name =
+    first_fault (fault_if InvalidMove (is_under v.nodes n folder)
+    ∷ fault_if AlreadyExists (is_other (child_number v.nodes folder name) n)
+    ∷ fault_if NamesFull (nat_lt (v.size.names + length (name_of v.nodes n)) (name_bytes v.nodes + length name)) ∷ [])
+
+-- why a node can't be removed
+abbrev pub remove_fault : Volume → ℕ → Option TreeFault
+remove_fault v n = fault_if NotEmpty (not (length (children v.nodes n) == 0))
+
+-- a volume with one more node; with a file of another length, or that was read; with a node at another place; without a node
 abbrev pub with_node : Volume → NodeRow → Volume
 with_node v node = record v { nodes = with_row number node v.nodes }
+
+abbrev pub with_length : Volume → ℕ → ℕ → ℕ → Volume
+with_length v n bytes moment = record v { nodes = with_change number n (resized bytes moment) v.nodes }
+
+abbrev pub with_touch : Volume → ℕ → ℕ → Volume
+with_touch v n moment = record v { nodes = with_change number n (touched moment) v.nodes }
+
+abbrev pub with_place : Volume → ℕ → ℕ → List ℕ → Volume
+with_place v n folder name = record v { nodes = with_change number n (placed folder name) v.nodes }
+
+abbrev pub without_node : Volume → ℕ → Volume
+without_node v n = record v { nodes = without_row number n v.nodes }
 
 -- a node, lent
 pub record IsViewOf (view : NodeView) (row : NodeRow) : Type 0 where
@@ -102,7 +98,7 @@ pub record Shows (view : NodeView) (nodes : List NodeRow) (n : ℕ) : Type 0 whe
   pub found : node_of nodes n ≡ Some row
   pub is : IsViewOf view row
 
--- a number is that of the child at a place in the order of the names
+-- a number is that of the child at a place in the order of the folded names
 pub record IsChildAt (nodes : List NodeRow) (folder place n : ℕ) : Type 0 where
   pub row : NodeRow
   pub at : slice_get (children_in_order nodes folder) place ≡ Some row

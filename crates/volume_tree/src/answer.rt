@@ -1,15 +1,28 @@
 //! What a tree answers.
 
-/// Why a node was not made.
+/// Why a tree refused.
 #[derive(Clone, Copy, Debug, PartialEq, Eq)]
 pub enum TreeFault {
     /// The folder has a child of this name.
     AlreadyExists,
+    /// The folder is the node that was to be moved, or below it.
+    InvalidMove,
+    /// The folder that was to be removed has a child.
+    NotEmpty,
     /// The volume has as many nodes as it may.
     VolumeFull,
     /// The names would take more bytes than they may.
     NamesFull,
     /// There was no memory. Nothing in the volume is the cause.
+    NoMemory,
+}
+
+/// Why rows made no tree.
+#[derive(Clone, Copy, Debug, PartialEq, Eq)]
+pub enum RowsFault {
+    /// They aren't the nodes of a volume of this size.
+    BadRows,
+    /// There was no memory.
     NoMemory,
 }
 

@@ -1,13 +1,15 @@
-//! The tree of folders and files of a volume. So far its root is the only folder.
+//! The tree of a volume's folders and files.
 #![tactic(auto)]
 
 mod answer;
-mod index;
-mod name;
+mod climb;
+mod moving;
+mod order;
 mod rows;
+mod slots;
 #[cfg(test)]
 mod tests;
 mod tree;
 
-pub use answer::{NodeView, TreeFault};
+pub use answer::{NodeView, RowsFault, TreeFault};
 pub use tree::Tree;

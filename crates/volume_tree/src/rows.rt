@@ -1,80 +1,448 @@
-//! Nodes as rows, each at the place that is its number.
+//! A tree's nodes as rows, and the parts of a tree from rows.
 
-ghost use Rattle.std.specs.Prelude.{◌≡◌, ◌≤◌, IfOk, OnOk, OnErr, true, length, [], ◌∷◌, ◌++◌, insert};
-ghost use Rattle.fsrm_model.specs.Fresh.{root_node};
-ghost use Rattle.fsrm_model.specs.Keyed.{has_row};
-ghost use Rattle.fsrm_model.specs.Limits.{longest_file};
-ghost use Rattle.fsrm_model.specs.Tree.{number as key};
-ghost use Rattle.volume_tree.specs.Volume.{AreNodes, Shows};
+ghost use Rattle.std.specs.Prelude.{◌≡◌, ◌+◌, ◌≤◌, ◌&&◌, ◌++◌, [], ◌∷◌, IfOk, OnOk, IsErrOf, MatchOption, true, false, length, nat_le, map, ◌<◌, ℕ, MatchBool, slice_index_or, slice_set};
+ghost use Rattle.std.specs.List.{IsAllAdjacentAnswer, list_all};
+ghost use Rattle.std.specs.List.Sorted.{IsPermutation, IsSortedBy};
+ghost use Rattle.std.specs.Ordering.{is_lt};
+ghost use Rattle.fsrm_model.specs.Keyed.{has_row, is_ascending};
+ghost use Rattle.fsrm_model.specs.Tree.{number as key, is_folder, is_under, name_bytes};
+ghost use Rattle.fsrm_model.specs.Valid.{is_tree, is_moment, is_own, is_root_node};
+ghost use Rattle.volume_tree.specs.Kept.{AreSlots, IsKept, IsOrder, inner, is_before, rows_of};
+ghost use Rattle.volume_tree.specs.Sound.{AreMarks, HasTwins, Reaches, are_from, are_sound, is_placed};
+ghost use Rattle.volume_tree.specs.Volume.{IsCapacity};
 
-use crate::answer::NodeView;
-use fsrm_model::{NoMemory, NodeRow, Text};
+use crate::answer::RowsFault;
+use crate::climb::parent;
+use crate::slots::{next_free, row};
+use fsrm_model::{Capacity, Duplicate, Ledger, List, NoMemory, NodeRow, Steps};
+use name_rules::{fold_cmp, is_name};
 use std::alloc::Global;
+use std::cmp::Ordering;
 
-/// The row of the root.
-pub fn root(alloc: Global) -> Result<NodeRow, NoMemory>
-    ensures { IfOk result (λ row. row ≡ root_node) }
+/// Copies of the rows in slots. It takes a look for each.
+pub fn copies<L: Ledger>(
+    slots: &[Option<NodeRow>],
+    alloc: Global,
+    steps: &mut Steps<L>,
+) -> Result<List<NodeRow>, NoMemory>
+    ensures rows { IfOk result (λ rows. rows ≡ rows_of slots.now) }
+    ensures count { OnOk result (steps.new ≡ steps.old + length (rows_of slots.now)) }
+    ensures most { steps.new ≤ steps.old + length (rows_of slots.now) }
 {
-    Ok(NodeRow {
-        number: 0,
-        parent: 0,
-        name: Text::from_str(alloc, "")?,
-        folder: true,
-        length: 0,
-        owner: 1,
-        created: 0,
-        modified: 0,
-        accessed: 0,
+    let mut rows = List::new(alloc);
+    for slot in slots {
+        if let Some(row) = slot {
+            steps.tick();
+            rows.push(row.copy(alloc)?)?;
+        }
+    }
+    Ok(rows)
+}
+
+/// What a tree keeps of its rows.
+#[derive(Drop)]
+pub struct Parts {
+    /// Each row in the slot of its number.
+    pub slots: Vec<Option<NodeRow>>,
+    /// The numbers of all rows but the root, by folders and in each by folded names.
+    pub order: Vec<u32>,
+    /// How many rows there are, the bytes of all their names, and the least number that is free.
+    pub count: u32,
+    pub used: u32,
+    pub free: u32,
+}
+
+/// The parts of the tree of these rows. They are bad exactly where they aren't the nodes of a
+/// volume of this size.
+pub fn read(alloc: Global, rows: &[NodeRow], size: Capacity) -> Result<Parts, RowsFault>
+    requires { IsCapacity size }
+    ensures kept { IfOk result (λ made. IsKept size made.count made.used made.free made.slots.items made.order.items) }
+    ensures nodes { IfOk result (λ made. rows_of made.slots.items ≡ rows.now) }
+    ensures may { OnOk result (is_tree size rows.now ≡ true) }
+    ensures bad { IsErrOf result RowsFault.BadRows → is_tree size rows.now ≡ false }
+{
+    let slots = sound_slots(alloc, rows, size.nodes)?;
+    let Some(used) = name_bytes(rows, size.names) else {
+        return Err(RowsFault::BadRows);
+    };
+    let order = order_of(alloc, rows)?;
+    let free = next_free(&slots, 0);
+    Ok(Parts {
+        slots,
+        order,
+        count: rows.len() as u32,
+        used,
+        free,
     })
 }
 
-/// Whether there is a node of a number.
-pub fn has(rows: &[NodeRow], number: u32) -> bool
-    requires { AreNodes 0 rows.now }
-    ensures { result ≡ has_row key number rows.now }
+// Slots with copies of these rows. They are bad exactly where a number, a row by itself, a parent or
+// a way up is.
+fn sound_slots(
+    alloc: Global,
+    rows: &[NodeRow],
+    bound: u32,
+) -> Result<Vec<Option<NodeRow>>, RowsFault>
+    ensures slots { IfOk result (λ slots. AreSlots 0 slots.items) }
+    ensures rows { IfOk result (λ slots. rows_of slots.items ≡ rows.now) }
+    ensures may { OnOk result (are_sound bound rows.now ≡ true) }
+    ensures bad { IsErrOf result RowsFault.BadRows → are_sound bound rows.now ≡ false }
 {
-    (number as usize) < rows.len()
-}
-
-/// A node that there is, lent.
-pub fn view(rows: &[NodeRow], number: u32) -> NodeView<'_>
-    requires each { AreNodes 0 rows.now }
-    requires there { has_row key number rows.now ≡ true }
-    ensures view { Shows result rows.now number }
-    ensures short { result.length ≤ longest_file }
-{
-    let row = &rows[number as usize];
-    NodeView {
-        number: row.number,
-        parent: row.parent,
-        name: row.name.as_str(),
-        folder: row.folder,
-        length: row.length,
-        owner: row.owner,
-        created: row.created,
-        modified: row.modified,
-        accessed: row.accessed,
+    let slots = slots_of(alloc, rows, bound)?;
+    if !are_nodes(&slots, rows) {
+        return Err(RowsFault::BadRows);
+    }
+    match are_rooted(alloc, &slots, rows) {
+        Ok(true) => Ok(slots),
+        Ok(false) => Err(RowsFault::BadRows),
+        Err(NoMemory) => Err(RowsFault::NoMemory),
     }
 }
 
-/// Adds a row to the end of the rows, and its number to the order, at a place. An `Err` changes
-/// nothing.
-pub fn add(
-    rows: &mut Vec<NodeRow>,
-    order: &mut Vec<u32>,
-    place: usize,
-    row: NodeRow,
-) -> Result<(), NoMemory>
-    requires { place ≤ length order.old.items }
-    ensures rows { OnOk result (rows.new.items ≡ rows.old.items ++ row ∷ []) }
-    ensures order { OnOk result (order.new.items ≡ insert order.old.items place row.number) }
-    ensures same_rows { OnErr result (rows.new.items ≡ rows.old.items) }
-    ensures same_order { OnErr result (order.new.items ≡ order.old.items) }
+// Slots with copies of these rows. They are bad exactly where their numbers don't ascend below the
+// bound.
+fn slots_of(alloc: Global, rows: &[NodeRow], bound: u32) -> Result<Vec<Option<NodeRow>>, RowsFault>
+    ensures slots { IfOk result (λ slots. AreSlots 0 slots.items) }
+    ensures rows { IfOk result (λ slots. rows_of slots.items ≡ rows.now) }
+    ensures may { OnOk result (are_from 0 bound rows.now ≡ true) }
+    ensures bad { IsErrOf result RowsFault.BadRows → are_from 0 bound rows.now ≡ false }
 {
-    // With room in the order, its insertion can't fail once the row is pushed.
-    order.reserve(1)?;
-    let number = row.number;
-    rows.push(row)?;
-    order.insert(place, number).unwrap();
+    let mut slots = Vec::new(alloc);
+    for row in rows {
+        if (row.number as usize) < slots.len() || row.number >= bound {
+            return Err(RowsFault::BadRows);
+        }
+        match add(alloc, &mut slots, row) {
+            Ok(()) => {}
+            Err(NoMemory) => return Err(RowsFault::NoMemory),
+        }
+    }
+    Ok(slots)
+}
+
+// Adds a copy of a row in the slot of its number, and empty slots before it.
+fn add(alloc: Global, slots: &mut Vec<Option<NodeRow>>, row: &NodeRow) -> Result<(), NoMemory>
+    requires slots { AreSlots 0 slots.old.items }
+    requires later { length slots.old.items ≤ row.now.number }
+    ensures slots { OnOk result (AreSlots 0 slots.new.items) }
+    ensures rows { OnOk result (rows_of slots.new.items ≡ rows_of slots.old.items ++ row.now ∷ []) }
+    ensures len { OnOk result (length slots.new.items ≡ row.now.number + 1) }
+{
+    while slots.len() < row.number as usize {
+        slots.push(None)?;
+    }
+    slots.push(Some(row.copy(alloc)?))?;
     Ok(())
+}
+
+// Whether one row is the root, and each row is in its place.
+fn are_nodes(slots: &[Option<NodeRow>], rows: &[NodeRow]) -> bool
+    requires slots { AreSlots 0 slots.now }
+    requires rows { rows_of slots.now ≡ rows.now }
+    ensures { result ≡ has_row key 0 rows.now && list_all (is_placed rows.now) rows.now }
+{
+    has_root(slots) && are_placed(slots, rows)
+}
+
+fn has_root(slots: &[Option<NodeRow>]) -> bool
+    requires slots { AreSlots 0 slots.now }
+    ensures { result ≡ has_row key 0 (rows_of slots.now) }
+{
+    row(slots, 0).is_some()
+}
+
+// Whether each row is the root, or a node with what is its own and a parent that is a folder.
+fn are_placed(slots: &[Option<NodeRow>], rows: &[NodeRow]) -> bool
+    requires slots { AreSlots 0 slots.now }
+    ensures { result ≡ list_all (is_placed (rows_of slots.now)) rows.now }
+{
+    rows.iter().all(|row| is_placed(slots, row))
+}
+
+fn is_placed(slots: &[Option<NodeRow>], row: &NodeRow) -> bool
+    requires slots { AreSlots 0 slots.now }
+    ensures { result ≡ is_placed (rows_of slots.now) row.now }
+{
+    if row.number == 0 {
+        is_root(row)
+    } else {
+        is_own(row) && is_folder(slots, row.parent)
+    }
+}
+
+fn is_root(row: &NodeRow) -> bool
+    ensures { result ≡ is_root_node row.now }
+{
+    let is_folder = row.folder && row.name.as_str().is_empty();
+    let is_top = row.parent == 0 && row.length == 0;
+    let is_new = row.created == 0 && row.modified == 0 && row.accessed == 0;
+    is_folder && is_top && row.owner == 1 && is_new
+}
+
+// The bytes of the longest file.
+const LONGEST_FILE: u64 = 17_592_185_978_880;
+
+// Whether a node other than the root has what it must have, whatever stands beside it.
+fn is_own(row: &NodeRow) -> bool
+    ensures { result ≡ is_own row.now }
+{
+    let longest = if row.folder { 0 } else { LONGEST_FILE };
+    let are_moments = is_moment(row.created) && is_moment(row.modified) && is_moment(row.accessed);
+    is_name(row.name.as_str()) && row.owner > 0 && row.length <= longest && are_moments
+}
+
+// The greatest moment, in seconds since 1970-01-01 00:00:00 UTC.
+const LATEST_MOMENT: u64 = 4_102_444_799;
+
+fn is_moment(moment: u64) -> bool
+    ensures { result ≡ is_moment moment }
+{
+    moment <= LATEST_MOMENT
+}
+
+fn is_folder(slots: &[Option<NodeRow>], number: u32) -> bool
+    requires { AreSlots 0 slots.now }
+    ensures { result ≡ is_folder (rows_of slots.now) number }
+{
+    match row(slots, number) {
+        Some(row) => row.folder,
+        None => false,
+    }
+}
+
+// Whether the way up from each row comes to the root. What a way passes is marked, and a later way
+// ends at a mark, so no node is passed more than twice.
+fn are_rooted(alloc: Global, slots: &[Option<NodeRow>], rows: &[NodeRow]) -> Result<bool, NoMemory>
+    requires slots { AreSlots 0 slots.now }
+    requires rows { rows_of slots.now ≡ rows.now }
+    requires root { has_row key 0 rows.now ≡ true }
+    requires placed { list_all (is_placed rows.now) rows.now ≡ true }
+    ensures { IfOk result (λ rooted. rooted ≡ list_all (λ row. is_under rows.now 0 row.number) rows.now) }
+{
+    let mut marks = root_mark(alloc, slots.len())?;
+    for row in rows {
+        if !is_rooted(slots, &marks, rows.len(), row.number) {
+            return Ok(false);
+        }
+        mark_way(slots, &mut marks, rows.len(), row.number);
+    }
+    Ok(true)
+}
+
+// As many marks, of which that of the root alone is set.
+fn root_mark(alloc: Global, len: usize) -> Result<Vec<bool>, NoMemory>
+    requires { 0 < len }
+    ensures root { IfOk result (λ marks. slice_index_or marks.items 0 false ≡ true) }
+    ensures only { IfOk result (λ marks. (n : ℕ) → slice_index_or marks.items n false ≡ true → n ≡ 0) }
+{
+    let mut marks = vec![in alloc; false; len]?;
+    marks[0] = true;
+    Ok(marks)
+}
+
+fn is_marked(marks: &[bool], number: u32) -> bool
+    ensures { result ≡ slice_index_or marks.now number false }
+{
+    match marks.get(number as usize) {
+        Some(mark) => *mark,
+        None => false,
+    }
+}
+
+fn mark(marks: &mut [bool], number: u32)
+    ensures { marks.new ≡ slice_set marks.old number true }
+{
+    let place = number as usize;
+    if place < marks.len() {
+        marks[place] = true;
+    }
+}
+
+// Whether the way up from a node comes to a mark. No way to the root is longer than there are nodes.
+fn is_rooted(slots: &[Option<NodeRow>], marks: &[bool], most: usize, number: u32) -> bool
+    requires slots { AreSlots 0 slots.now }
+    requires marks { AreMarks (rows_of slots.now) marks.now }
+    requires most { most ≡ length (rows_of slots.now) }
+    ensures { MatchBool result (Reaches (rows_of slots.now) number) (is_under (rows_of slots.now) 0 number ≡ false) }
+{
+    let mut at = number;
+    let mut left = most;
+    while left > 0 {
+        if is_marked(marks, at) {
+            return true;
+        }
+        at = parent(slots, at);
+        left -= 1;
+    }
+    is_marked(marks, at)
+}
+
+// Marks the way up from a node, up to the first mark.
+fn mark_way(slots: &[Option<NodeRow>], marks: &mut [bool], most: usize, number: u32)
+    requires slots { AreSlots 0 slots.now }
+    requires marks { AreMarks (rows_of slots.now) marks.old }
+    requires rooted { Reaches (rows_of slots.now) number }
+    ensures { AreMarks (rows_of slots.now) marks.new }
+{
+    let mut at = number;
+    let mut left = most;
+    while left > 0 && !is_marked(marks, at) {
+        mark(marks, at);
+        at = parent(slots, at);
+        left -= 1;
+    }
+}
+
+// The bytes of all names, if they aren't more than these.
+fn name_bytes(rows: &[NodeRow], most: u32) -> Option<u32>
+    ensures sum { MatchOption result (nat_le (name_bytes rows.now) most ≡ false) (λ used. used ≡ name_bytes rows.now) }
+    ensures within { MatchOption result (nat_le (name_bytes rows.now) most ≡ false) (λ used. used ≤ most) }
+{
+    let mut left = most as usize;
+    for row in rows {
+        let bytes = row.name.as_str().len();
+        if bytes > left {
+            return None;
+        }
+        left -= bytes;
+    }
+    Some(most - left as u32)
+}
+
+// The numbers of all rows but the root in the order of their places. The rows are bad exactly where
+// two children of a folder have one name.
+fn order_of(alloc: Global, rows: &[NodeRow]) -> Result<Vec<u32>, RowsFault>
+    requires { is_ascending key rows.now ≡ true }
+    ensures order { IfOk result (λ order. IsOrder rows.now order.items) }
+    ensures bad { IsErrOf result RowsFault.BadRows → HasTwins rows.now }
+{
+    let entries = match sorted(alloc, rows) {
+        Ok(entries) => entries,
+        Err(NoMemory) => return Err(RowsFault::NoMemory),
+    };
+    if !are_apart(&entries) {
+        return Err(RowsFault::BadRows);
+    }
+    match numbers(alloc, &entries) {
+        Ok(order) => Ok(order),
+        Err(NoMemory) => Err(RowsFault::NoMemory),
+    }
+}
+
+// All rows but the root, by folders and in each folder by folded names.
+fn sorted<'a>(alloc: Global, rows: &'a [NodeRow]) -> Result<Vec<&'a NodeRow>, NoMemory>
+    ensures all { IfOk result (λ entries. IsPermutation (inner rows.now) (map (λ row. row.now) entries.items)) }
+    ensures sorted { IfOk result (λ entries. IsSortedBy (λ a b. is_before a.now b.now.parent b.now.name) entries.items) }
+{
+    let mut entries = inner(alloc, rows)?;
+    entries.sort_unstable_by(|a, b| compare(a, b));
+    Ok(entries)
+}
+
+fn inner<'a>(alloc: Global, rows: &'a [NodeRow]) -> Result<Vec<&'a NodeRow>, NoMemory>
+    ensures { IfOk result (λ entries. map (λ row. row.now) entries.items ≡ inner rows.now) }
+{
+    let entries = rows.iter().filter(|row| row.number != 0).collect(alloc)?;
+    Ok(entries)
+}
+
+fn compare(a: &NodeRow, b: &NodeRow) -> Ordering
+    ensures { is_lt result ≡ is_before a.now b.now.parent b.now.name }
+{
+    match a.parent.cmp(&b.parent) {
+        Ordering::Equal => fold_cmp(a.name.as_str(), b.name.as_str()),
+        order => order,
+    }
+}
+
+// Whether each entry stands before the next.
+fn are_apart(entries: &[&NodeRow]) -> bool
+    ensures { IsAllAdjacentAnswer (λ a b answer. answer ≡ is_before a.now b.now.parent b.now.name) entries.now result }
+{
+    entries.is_sorted_by(|a, b| compare(a, b).is_lt())
+}
+
+fn numbers(alloc: Global, entries: &[&NodeRow]) -> Result<Vec<u32>, NoMemory>
+    ensures { IfOk result (λ order. order.items ≡ map (λ row. row.now.number) entries.now) }
+{
+    let order = entries.iter().map(|row| row.number).collect(alloc)?;
+    Ok(order)
+}
+
+// What no clause says: that with ample memory rows of a volume are read, and others refused as bad.
+#[cfg(test)]
+mod tests {
+    use super::read;
+    use crate::answer::RowsFault;
+    use fsrm_model::{Capacity, List, NoMemory, NodeRow, Text};
+    use std::alloc::Global;
+    use std::test::Fail;
+
+    const SIZE: Capacity = Capacity {
+        nodes: 1000,
+        names: 2000,
+    };
+
+    fn folder(alloc: Global, number: u32, parent: u32, name: &str) -> Result<NodeRow, NoMemory> {
+        Ok(NodeRow {
+            number,
+            parent,
+            name: Text::from_str(alloc, name)?,
+            folder: true,
+            length: 0,
+            owner: 1,
+            created: 0,
+            modified: 0,
+            accessed: 0,
+        })
+    }
+
+    // The root, and folders of these parents and names, numbered from 1 on.
+    fn folders(alloc: Global, others: &[(u32, &str)]) -> Result<List<NodeRow>, NoMemory> {
+        let mut rows = List::new(alloc);
+        rows.push(folder(alloc, 0, 0, "")?)?;
+        for (number, (parent, name)) in (1..1000).zip(others) {
+            rows.push(folder(alloc, number, *parent, name)?)?;
+        }
+        Ok(rows)
+    }
+
+    fn fault(alloc: Global, rows: &List<NodeRow>) -> Option<RowsFault> {
+        read(alloc, rows.as_slice(), SIZE).err()
+    }
+
+    #[test]
+    fn folders_are_put_in_order(rt: HostRuntime) -> Result<(), Fail> {
+        let rows = folders(rt.alloc(), &[(0, "b"), (1, "c"), (0, "A"), (1, "B")])?;
+        let parts = read(rt.alloc(), rows.as_slice(), SIZE).map_err(|_| NoMemory)?;
+        assert_eq!(&rt; parts.count, 5);
+        assert_eq!(&rt; parts.used, 4);
+        assert_eq!(&rt; parts.free, 5);
+        assert_eq!(&rt; parts.order.as_slice(), [3, 1, 4, 2].as_slice());
+        Ok(())
+    }
+
+    #[test]
+    fn folders_in_folders_are_read(rt: HostRuntime) -> Result<(), Fail> {
+        let mut rows = folders(rt.alloc(), &[])?;
+        for number in 1..1000 {
+            rows.push(folder(rt.alloc(), number, number - 1, "a")?)?;
+        }
+        assert_eq!(&rt; fault(rt.alloc(), &rows), None);
+        Ok(())
+    }
+
+    #[test]
+    fn two_folders_of_one_name_are_bad(rt: HostRuntime) -> Result<(), Fail> {
+        let rows = folders(rt.alloc(), &[(0, "a"), (0, "b"), (0, "A")])?;
+        assert_eq!(&rt; fault(rt.alloc(), &rows), Some(RowsFault::BadRows));
+        Ok(())
+    }
+
+    #[test]
+    fn folders_in_a_ring_are_bad(rt: HostRuntime) -> Result<(), Fail> {
+        let rows = folders(rt.alloc(), &[(0, "a"), (3, "b"), (2, "c")])?;
+        assert_eq!(&rt; fault(rt.alloc(), &rows), Some(RowsFault::BadRows));
+        Ok(())
+    }
 }

@@ -1,33 +1,94 @@
 //! What no clause says: that calls with ample memory succeed, and that the clauses say what was
 //! meant.
 
-ghost use Rattle.std.specs.Prelude.{◌≡◌, ◌<◌, true, length};
-ghost use Rattle.fsrm_model.specs.Name.{is_plain_name};
-ghost use Rattle.fsrm_model.specs.Tree.{children};
-ghost use Rattle.volume_tree.specs.Volume.{IsVolume};
+ghost use Rattle.std.specs.Prelude.{◌≡◌, true};
+ghost use Rattle.fsrm_model.specs.Name.{is_name};
+ghost use Rattle.fsrm_model.specs.Tree.{is_folder};
 
-use crate::answer::TreeFault;
+use crate::answer::{RowsFault, TreeFault};
 use crate::tree::Tree;
-use fsrm_model::{Capacity, Ledger, Steps, Weightless};
+use fsrm_model::{Capacity, Ledger, List, Steps, Weightless};
+use name_rules::read_path;
+use std::alloc::Global;
 use std::marker::Brand;
 use std::process::Abort;
 use std::sync::ledger::{Blank, Ledger as Named};
 use std::test::Fail;
 
-// A file of five bytes in the root.
-fn make<L: Ledger>(tree: &mut Tree, name: &str, steps: &mut Steps<L>) -> Result<u32, TreeFault>
-    requires volume { IsVolume tree.old.size tree.old.nodes }
-    requires name { is_plain_name name.now ≡ true }
-    ensures { IsVolume tree.new.size tree.new.nodes }
+fn is_folder<L: Ledger>(tree: &Tree, node: u32, steps: &mut Steps<L>) -> bool
+    ensures { result ≡ is_folder tree.now.nodes node }
 {
-    tree.create(0, name, 5, 3, 7, steps)
+    tree.live(node) && tree.node(node, steps).folder
 }
 
-fn name_at<'a, L: Ledger>(tree: &'a Tree, place: u32, steps: &mut Steps<L>) -> &'a str
-    requires volume { IsVolume tree.now.size tree.now.nodes }
-    requires place { place < length (children tree.now.nodes 0) }
+fn mkdir<L: Ledger>(
+    tree: &mut Tree,
+    end: &impl Abort,
+    folder: u32,
+    name: &str,
+    steps: &mut Steps<L>,
+) -> Result<u32, TreeFault>
+    requires { is_name name.now ≡ true }
 {
-    let number = tree.child_at(0, place, steps);
+    assert!(end; is_folder(tree, folder, steps));
+    tree.mkdir(folder, name, 3, 7, steps)
+}
+
+// A file of five bytes.
+fn create<L: Ledger>(
+    tree: &mut Tree,
+    end: &impl Abort,
+    folder: u32,
+    name: &str,
+    steps: &mut Steps<L>,
+) -> Result<u32, TreeFault>
+    requires { is_name name.now ≡ true }
+{
+    assert!(end; is_folder(tree, folder, steps));
+    tree.create(folder, name, 5, 3, 7, steps)
+}
+
+fn move_node<L: Ledger>(
+    tree: &mut Tree,
+    end: &impl Abort,
+    node: u32,
+    folder: u32,
+    name: &str,
+    steps: &mut Steps<L>,
+) -> Result<(), TreeFault>
+    requires { is_name name.now ≡ true }
+{
+    assert!(end; node != 0 && tree.live(node));
+    assert!(end; is_folder(tree, folder, steps));
+    tree.move_node(node, folder, name, steps)
+}
+
+fn remove<L: Ledger>(
+    tree: &mut Tree,
+    end: &impl Abort,
+    node: u32,
+    steps: &mut Steps<L>,
+) -> Result<(), TreeFault> {
+    assert!(end; node != 0 && tree.live(node));
+    tree.remove(node, steps)
+}
+
+fn resolve<L: Ledger>(tree: &Tree, alloc: Global, path: &str, steps: &mut Steps<L>) -> Option<u32> {
+    match read_path(alloc, path) {
+        Ok(path) => tree.resolve(&path, steps),
+        Err(_) => None,
+    }
+}
+
+fn child_name<'a, L: Ledger>(
+    tree: &'a Tree,
+    end: &impl Abort,
+    folder: u32,
+    place: u32,
+    steps: &mut Steps<L>,
+) -> &'a str {
+    assert!(end; place < tree.child_count(folder, steps));
+    let number = tree.child_at(folder, place, steps);
     tree.node(number, steps).name
 }
 
@@ -42,43 +103,21 @@ fn nodes_fill<N: Named>(rt: &HostRuntime, end: &impl Abort, blank: Blank) -> Res
         names: 256,
     };
     let mut tree = Tree::reserve(rt.alloc(), size)?;
-    assert_eq!(end; tree.count(), 1);
-    assert!(end; tree.live(0));
-    assert!(end; !tree.live(1));
-    assert_eq!(end; make(&mut tree, "a", &mut steps), Ok(1));
-    assert_eq!(end;
-        make(&mut tree, "a", &mut steps),
-        Err(TreeFault::AlreadyExists)
-    );
-    assert_eq!(end;
-        make(&mut tree, "b", &mut steps),
-        Err(TreeFault::VolumeFull)
-    );
+    let made = create(&mut tree, end, 0, "a", &mut steps);
+    assert_eq!(end; made, Ok(1));
+    let again = create(&mut tree, end, 0, "A", &mut steps);
+    assert_eq!(end; again, Err(TreeFault::AlreadyExists));
+    let other = mkdir(&mut tree, end, 0, "b", &mut steps);
+    assert_eq!(end; other, Err(TreeFault::VolumeFull));
     assert_eq!(end; tree.count(), 2);
-    assert!(end; tree.live(1));
-    assert!(end; !tree.live(2));
+    assert_eq!(end; tree.name_bytes(), 1);
+    assert!(end; tree.live(1) && !tree.live(2));
     Ok(())
 }
 
 #[test]
 fn a_volume_of_two_nodes_fills(rt: HostRuntime) -> Result<(), Fail> {
     nodes_fill::<Brand>(&rt, &rt, Blank::new(1))
-}
-
-// Four files whose names take 256 bytes together.
-fn make_long_names<L: Ledger>(tree: &mut Tree, end: &impl Abort, steps: &mut Steps<L>)
-    requires { IsVolume tree.old.size tree.old.nodes }
-    ensures { IsVolume tree.new.size tree.new.nodes }
-{
-    let first = "aaaaaaaaaaaaaaaaaaaaaaaaaaaaaaaaaaaaaaaaaaaaaaaaaaaaaaaaaaaaaaaa";
-    assert_eq!(end; make(tree, first, steps), Ok(1));
-    let second = "bbbbbbbbbbbbbbbbbbbbbbbbbbbbbbbbbbbbbbbbbbbbbbbbbbbbbbbbbbbbbbbb";
-    assert_eq!(end; make(tree, second, steps), Ok(2));
-    let third = "cccccccccccccccccccccccccccccccccccccccccccccccccccccccccccccccc";
-    assert_eq!(end; make(tree, third, steps), Ok(3));
-    let fourth = "dddddddddddddddddddddddddddddddddddddddddddddddddddddddddddddddd";
-    assert_eq!(end; make(tree, fourth, steps), Ok(4));
-    assert_eq!(end; make(tree, fourth, steps), Err(TreeFault::AlreadyExists));
 }
 
 fn names_fill<N: Named>(rt: &HostRuntime, end: &impl Abort, blank: Blank) -> Result<(), Fail>
@@ -88,23 +127,31 @@ fn names_fill<N: Named>(rt: &HostRuntime, end: &impl Abort, blank: Blank) -> Res
 {
     let mut steps = Steps::new(rt, Weightless::<N>::of(blank));
     let size = Capacity {
-        nodes: 5,
+        nodes: 9,
         names: 256,
     };
     let mut tree = Tree::reserve(rt.alloc(), size)?;
-    make_long_names(&mut tree, end, &mut steps);
-    assert_eq!(end;
-        make(&mut tree, "e", &mut steps),
-        Err(TreeFault::VolumeFull)
+    let made = create(
+        &mut tree,
+        end,
+        0,
+        "aaaaaaaaaaaaaaaaaaaaaaaaaaaaaaaaaaaaaaaaaaaaaaaaaaaaaaaaaaaaaaaaaaaaaaaaaaaaaaaaaaaaaaaaaaaaaaaaaaaaaaaaaaaaaaaaaaaaaaaaaaaaaaaa",
+        &mut steps,
     );
-    let size = Capacity {
-        nodes: 6,
-        names: 256,
-    };
-    let mut tree = Tree::reserve(rt.alloc(), size)?;
-    make_long_names(&mut tree, end, &mut steps);
-    assert_eq!(end; make(&mut tree, "e", &mut steps), Err(TreeFault::NamesFull));
-    assert_eq!(end; tree.count(), 5);
+    assert_eq!(end; made, Ok(1));
+    let made = create(
+        &mut tree,
+        end,
+        0,
+        "bbbbbbbbbbbbbbbbbbbbbbbbbbbbbbbbbbbbbbbbbbbbbbbbbbbbbbbbbbbbbbbbbbbbbbbbbbbbbbbbbbbbbbbbbbbbbbbbbbbbbbbbbbbbbbbbbbbbbbbbbbbbbbbb",
+        &mut steps,
+    );
+    assert_eq!(end; made, Ok(2));
+    let third = create(&mut tree, end, 0, "c", &mut steps);
+    assert_eq!(end; third, Err(TreeFault::NamesFull));
+    let shorter = move_node(&mut tree, end, 2, 0, "c", &mut steps);
+    assert_eq!(end; shorter, Ok(()));
+    assert_eq!(end; tree.name_bytes(), 129);
     Ok(())
 }
 
@@ -113,7 +160,7 @@ fn a_volume_of_256_name_bytes_fills(rt: HostRuntime) -> Result<(), Fail> {
     names_fill::<Brand>(&rt, &rt, Blank::new(1))
 }
 
-fn children_stand_in_order<N: Named>(
+fn children_are_ordered<N: Named>(
     rt: &HostRuntime,
     end: &impl Abort,
     blank: Blank,
@@ -128,26 +175,35 @@ fn children_stand_in_order<N: Named>(
         names: 256,
     };
     let mut tree = Tree::reserve(rt.alloc(), size)?;
-    assert_eq!(end; make(&mut tree, "b", &mut steps), Ok(1));
-    assert_eq!(end; make(&mut tree, "a", &mut steps), Ok(2));
-    assert_eq!(end; make(&mut tree, "c", &mut steps), Ok(3));
-    assert_eq!(end; make(&mut tree, "a_", &mut steps), Ok(4));
-    assert_eq!(end; make(&mut tree, "a0", &mut steps), Ok(5));
+    let made = create(&mut tree, end, 0, "B", &mut steps);
+    assert_eq!(end; made, Ok(1));
+    let made = create(&mut tree, end, 0, "a", &mut steps);
+    assert_eq!(end; made, Ok(2));
+    let made = create(&mut tree, end, 0, "É", &mut steps);
+    assert_eq!(end; made, Ok(3));
+    let made = create(&mut tree, end, 0, "_", &mut steps);
+    assert_eq!(end; made, Ok(4));
+    let made = create(&mut tree, end, 0, "a0", &mut steps);
+    assert_eq!(end; made, Ok(5));
     assert_eq!(end; tree.child_count(0, &mut steps), 5);
-    assert_eq!(end; name_at(&tree, 0, &mut steps), "a");
-    assert_eq!(end; name_at(&tree, 1, &mut steps), "a0");
-    assert_eq!(end; name_at(&tree, 2, &mut steps), "a_");
-    assert_eq!(end; name_at(&tree, 3, &mut steps), "b");
-    assert_eq!(end; name_at(&tree, 4, &mut steps), "c");
+    assert_eq!(end; child_name(&tree, end, 0, 0, &mut steps), "_");
+    assert_eq!(end; child_name(&tree, end, 0, 1, &mut steps), "a");
+    assert_eq!(end; child_name(&tree, end, 0, 2, &mut steps), "a0");
+    assert_eq!(end; child_name(&tree, end, 0, 3, &mut steps), "B");
+    assert_eq!(end; child_name(&tree, end, 0, 4, &mut steps), "É");
+    assert_eq!(end; tree.child(0, "b", &mut steps), Some(1));
+    assert_eq!(end; tree.child(0, "é", &mut steps), Some(3));
+    assert_eq!(end; tree.child(0, "c", &mut steps), None);
+    assert_eq!(end; tree.child(1, "b", &mut steps), None);
     Ok(())
 }
 
 #[test]
-fn children_stand_in_the_order_of_their_names(rt: HostRuntime) -> Result<(), Fail> {
-    children_stand_in_order::<Brand>(&rt, &rt, Blank::new(1))
+fn children_stand_in_the_order_of_their_folded_names(rt: HostRuntime) -> Result<(), Fail> {
+    children_are_ordered::<Brand>(&rt, &rt, Blank::new(1))
 }
 
-fn nodes_are_shown<N: Named>(rt: &HostRuntime, end: &impl Abort, blank: Blank) -> Result<(), Fail>
+fn nodes_move<N: Named>(rt: &HostRuntime, end: &impl Abort, blank: Blank) -> Result<(), Fail>
     requires name { blank.name ≡ N.name }
     requires parts { blank.parts ≡ N.parts }
     requires one { blank.parts ≡ 1 }
@@ -158,28 +214,98 @@ fn nodes_are_shown<N: Named>(rt: &HostRuntime, end: &impl Abort, blank: Blank) -
         names: 256,
     };
     let mut tree = Tree::reserve(rt.alloc(), size)?;
-    assert_eq!(end; tree.child(0, "a", &mut steps), None);
-    assert_eq!(end; make(&mut tree, "a", &mut steps), Ok(1));
-    assert_eq!(end; tree.child(0, "a", &mut steps), Some(1));
-    assert_eq!(end; tree.child(0, "b", &mut steps), None);
-    assert!(end; tree.live(1));
-    let file = tree.node(1, &mut steps);
-    assert_eq!(end; file.number, 1);
-    assert_eq!(end; file.parent, 0);
-    assert_eq!(end; file.name, "a");
-    assert!(end; !file.folder);
-    assert_eq!(end; file.length, 5);
-    assert_eq!(end; file.owner, 3);
-    assert_eq!(end; (file.created, file.modified, file.accessed), (7, 7, 7));
-    assert!(end; tree.live(0));
-    assert_eq!(end; tree.root(), 0);
-    let root = tree.node(0, &mut steps);
-    assert!(end; root.folder);
-    assert_eq!(end; root.name, "");
+    assert_eq!(end; mkdir(&mut tree, end, 0, "a", &mut steps), Ok(1));
+    assert_eq!(end; mkdir(&mut tree, end, 1, "b", &mut steps), Ok(2));
+    assert_eq!(end; create(&mut tree, end, 2, "c", &mut steps), Ok(3));
+    assert_eq!(end; resolve(&tree, rt.alloc(), "D:\\", &mut steps), Some(0));
+    assert_eq!(end;
+        resolve(&tree, rt.alloc(), "D:\\A\\b\\C", &mut steps),
+        Some(3)
+    );
+    let below = move_node(&mut tree, end, 1, 2, "d", &mut steps);
+    assert_eq!(end; below, Err(TreeFault::InvalidMove));
+    let taken = move_node(&mut tree, end, 2, 0, "A", &mut steps);
+    assert_eq!(end; taken, Err(TreeFault::AlreadyExists));
+    let spelled = move_node(&mut tree, end, 1, 0, "A", &mut steps);
+    assert_eq!(end; spelled, Ok(()));
+    assert_eq!(end; child_name(&tree, end, 0, 0, &mut steps), "A");
+    let up = move_node(&mut tree, end, 2, 0, "d", &mut steps);
+    assert_eq!(end; up, Ok(()));
+    assert_eq!(end; resolve(&tree, rt.alloc(), "D:\\d\\c", &mut steps), Some(3));
+    assert_eq!(end; resolve(&tree, rt.alloc(), "D:\\A\\b", &mut steps), None);
+    assert_eq!(end;
+        remove(&mut tree, end, 2, &mut steps),
+        Err(TreeFault::NotEmpty)
+    );
+    assert_eq!(end; remove(&mut tree, end, 1, &mut steps), Ok(()));
+    assert_eq!(end; tree.count(), 3);
+    assert_eq!(end; create(&mut tree, end, 2, "e", &mut steps), Ok(1));
+    assert_eq!(end; create(&mut tree, end, 2, "f", &mut steps), Ok(4));
     Ok(())
 }
 
 #[test]
-fn a_node_is_found_and_shown(rt: HostRuntime) -> Result<(), Fail> {
-    nodes_are_shown::<Brand>(&rt, &rt, Blank::new(1))
+fn nodes_are_moved_and_removed(rt: HostRuntime) -> Result<(), Fail> {
+    nodes_move::<Brand>(&rt, &rt, Blank::new(1))
+}
+
+fn files_change<N: Named>(rt: &HostRuntime, end: &impl Abort, blank: Blank) -> Result<(), Fail>
+    requires name { blank.name ≡ N.name }
+    requires parts { blank.parts ≡ N.parts }
+    requires one { blank.parts ≡ 1 }
+{
+    let mut steps = Steps::new(rt, Weightless::<N>::of(blank));
+    let size = Capacity {
+        nodes: 9,
+        names: 256,
+    };
+    let mut tree = Tree::reserve(rt.alloc(), size)?;
+    assert_eq!(end; create(&mut tree, end, 0, "a", &mut steps), Ok(1));
+    assert!(end; tree.live(1) && !is_folder(&tree, 1, &mut steps));
+    tree.resize(1, 6, 8, &mut steps);
+    assert!(end; tree.live(1) && !is_folder(&tree, 1, &mut steps));
+    tree.touch(1, 9, &mut steps);
+    assert!(end; tree.live(1));
+    let file = tree.node(1, &mut steps);
+    assert_eq!(end; (file.number, file.parent, file.name), (1, 0, "a"));
+    assert_eq!(end; (file.length, file.owner), (6, 3));
+    assert_eq!(end; (file.created, file.modified, file.accessed), (7, 8, 9));
+    assert_eq!(end; tree.capacity().nodes, 9);
+    Ok(())
+}
+
+#[test]
+fn files_are_resized_and_read(rt: HostRuntime) -> Result<(), Fail> {
+    files_change::<Brand>(&rt, &rt, Blank::new(1))
+}
+
+fn rows_make_the_tree<N: Named>(
+    rt: &HostRuntime,
+    end: &impl Abort,
+    blank: Blank,
+) -> Result<(), Fail>
+    requires name { blank.name ≡ N.name }
+    requires parts { blank.parts ≡ N.parts }
+    requires one { blank.parts ≡ 1 }
+{
+    let mut steps = Steps::new(rt, Weightless::<N>::of(blank));
+    let size = Capacity {
+        nodes: 9,
+        names: 256,
+    };
+    let mut tree = Tree::reserve(rt.alloc(), size)?;
+    assert_eq!(end; mkdir(&mut tree, end, 0, "b", &mut steps), Ok(1));
+    assert_eq!(end; create(&mut tree, end, 1, "a", &mut steps), Ok(2));
+    let rows = tree.to_rows(rt.alloc(), &mut steps)?;
+    let again = Tree::from_rows(rt.alloc(), &rows, size);
+    assert!(end; again.is_ok_and(|tree| tree.count() == 3 && tree.name_bytes() == 2));
+    let none = List::new(rt.alloc());
+    let bad = Tree::from_rows(rt.alloc(), &none, size);
+    assert!(end; bad.is_err_and(|fault| fault == RowsFault::BadRows));
+    Ok(())
+}
+
+#[test]
+fn a_tree_is_made_of_its_rows(rt: HostRuntime) -> Result<(), Fail> {
+    rows_make_the_tree::<Brand>(&rt, &rt, Blank::new(1))
 }

@@ -1,46 +1,79 @@
 //! A volume's nodes.
 
-ghost use Rattle.std.specs.Prelude.{◌≡◌, ◌+◌, ◌<◌, ◌≤◌, IfOk, IfErr, OnOk, OnErr, true, false, length, None, ◌∷◌, []};
+ghost use Rattle.std.specs.Prelude.{◌≡◌, ◌+◌, ◌-◌, ◌*◌, ◌<◌, ◌≤◌, ◌==◌, nat_lt, not, if◌then◌else◌, IfOk, IfErr, OnOk, OnErr, IsErrOf, true, false, length, take, None, Some, ◌∷◌, [], slice_get, slice_index, insert, remove};
 ghost use Rattle.fsrm_model.specs.FileOps.{made_node};
 ghost use Rattle.fsrm_model.specs.Fresh.{root_node};
 ghost use Rattle.fsrm_model.specs.Keyed.{has_row};
-ghost use Rattle.fsrm_model.specs.Limits.{longest_file, latest_moment};
-ghost use Rattle.fsrm_model.specs.Name.{is_plain_name};
-ghost use Rattle.fsrm_model.specs.Tree.{number as key, fresh, is_folder, children};
-ghost use Rattle.volume_tree.specs.Volume.{IsCapacity, IsVolume, IsFault, child_number, new_fault, with_node, Shows, IsChildAt};
+ghost use Rattle.fsrm_model.specs.Limits.{longest_file, latest_moment, most_nodes};
+ghost use Rattle.fsrm_model.specs.Name.{is_name};
+ghost use Rattle.fsrm_model.specs.Tree.{number as key, fresh, is_folder, parent_of, name_of, children, child_number, chain, resolve, name_bytes};
+ghost use Rattle.fsrm_model.specs.Valid.{is_tree, IsVolume};
+ghost use Rattle.volume_tree.specs.Kept.{AreSlots, IsOrder, rows_of};
+ghost use Rattle.volume_tree.specs.Shift.{IsShifted};
+ghost use Rattle.volume_tree.specs.Volume.{IsCapacity, IsFault, IsChildAt, Shows, new_fault, move_fault, remove_fault, with_node, with_length, with_touch, with_place, without_node};
 
-use crate::answer::{NodeView, TreeFault};
-use crate::{index, rows};
-use fsrm_model::{Capacity, Ledger, NoMemory, NodeRow, Steps, Text};
+use crate::answer::{NodeView, RowsFault, TreeFault};
+use crate::climb::is_at_or_below;
+use crate::moving::{is_other, own_place, reorder};
+use crate::{order, rows, slots};
+use fsrm_model::{Capacity, Ledger, List, NoMemory, NodeRow, Path, Steps, Text};
 use std::alloc::Global;
 use std::marker::Model;
 
-/// A volume's nodes, in memory of its own. Contracts see its size and its nodes.
+// What a new node is, beside its place. A folder has no length.
+#[derive(Clone, Copy)]
+struct NewNode {
+    folder: bool,
+    length: u64,
+    owner: u32,
+    moment: u64,
+}
+
+impl NewNode {
+    fn row(self, number: u32, parent: u32, name: Text) -> NodeRow
+        ensures { result ≡ record { number = number; parent = parent; name = name; folder = self.folder; length = self.length; owner = self.owner; created = self.moment; modified = self.moment; accessed = self.moment } }
+    {
+        NodeRow {
+            number,
+            parent,
+            name,
+            folder: self.folder,
+            length: self.length,
+            owner: self.owner,
+            created: self.moment,
+            modified: self.moment,
+            accessed: self.moment,
+        }
+    }
+}
+
+/// A volume's folders and files, in memory of its own. Contracts see its size and its nodes.
 ///
-/// The root is the only folder, and names are plain: 1 to 64 small letters of ASCII, digits and
-/// underscores. A look is a call of `node`, `child_count` or `child_at`, or a name that another
-/// call compares; `steps` counts them.
+/// A look is a call of `node`, `child_count` or `child_at`, or one node that another call compares
+/// or passes; `steps` counts them.
 #[derive(Drop)]
 pub struct Tree {
     size: Capacity,
-    // The bytes of all names.
+    // How many nodes there are, the bytes of all their names, and the least number that is free.
+    count: u32,
     used: u32,
-    // Each row stands at the place that is its number.
-    rows: Vec<NodeRow>,
-    // The numbers of the root's children, in the order of their names.
+    free: u32,
+    // Each row stands in the slot of its number.
+    slots: Vec<Option<NodeRow>>,
+    // The numbers of all nodes but the root, by folders and in each by folded names.
     order: Vec<u32>,
     alloc: Global,
 }
 
 impl Model for Tree {
     ghost use Rattle.volume_tree.specs.Volume.{Volume};
-    ghost use Rattle.volume_tree.specs.Index.{IsKept};
+    ghost use Rattle.volume_tree.specs.Kept.{IsKept, rows_of};
 
     ghost Value = { Volume };
 
-    ghost view = { λ t. record { size = t.size; nodes = t.rows.items } };
+    ghost view = { λ t. record { size = t.size; nodes = rows_of t.slots.items } };
 
-    ghost invariant = { λ t. IsKept t.size t.used t.rows.items t.order.items };
+    ghost invariant = { λ t. IsKept t.size t.count t.used t.free t.slots.items t.order.items };
 }
 
 impl Tree {
@@ -51,49 +84,86 @@ impl Tree {
         ensures ok { IfOk result (λ tree. tree ≡ record { size = size; nodes = root_node ∷ [] }) }
         ensures kept { IfOk result (λ tree. IsVolume tree.size tree.nodes) }
     {
-        let mut rows = Vec::new(alloc);
-        rows.push(rows::root(alloc)?)?;
+        let slots = slots::root_alone(alloc)?;
         Ok(Tree {
             size,
+            count: 1,
             used: 0,
-            rows,
+            free: 1,
+            slots,
             order: Vec::new(alloc),
             alloc,
         })
-    }
-
-    /// The root's number, which is 0. It is a folder.
-    pub fn root(&self) -> u32
-        ensures root { result ≡ 0 }
-        ensures folder { is_folder self.now.nodes 0 ≡ true }
-        ensures kept { IsVolume self.now.size self.now.nodes }
-    {
-        self.rows[0].number
     }
 
     /// How many nodes there are, the root among them.
     pub fn count(&self) -> u32
         ensures { result ≡ length self.now.nodes }
     {
-        self.rows.len() as u32
+        self.count
+    }
+
+    /// The bytes of all names.
+    pub fn name_bytes(&self) -> u32
+        ensures { result ≡ name_bytes self.now.nodes }
+    {
+        self.used
+    }
+
+    /// How much the volume may hold.
+    pub fn capacity(&self) -> Capacity
+        ensures size { result ≡ self.now.size }
+        ensures legal { IsCapacity result }
+    {
+        self.size
     }
 
     /// Whether there is a node of this number.
     pub fn live(&self, node: u32) -> bool
         ensures { result ≡ has_row key node self.now.nodes }
     {
-        rows::has(&self.rows, node)
+        slots::row(&self.slots, node).is_some()
     }
 
     /// The number of a folder's child of this name. It takes no more than 22 looks.
     pub fn child<L: Ledger>(&self, folder: u32, name: &str, steps: &mut Steps<L>) -> Option<u32>
-        requires folder { is_folder self.now.nodes folder ≡ true }
-        requires name { is_plain_name name.now ≡ true }
         ensures value { result ≡ child_number self.now.nodes folder name.now }
         ensures looks { steps.new ≤ steps.old + 22 }
     {
-        // The folder is the root, since there is no other.
-        index::child(&self.rows, &self.order, name, steps)
+        match order::search(&self.slots, &self.order, folder, name, steps) {
+            Ok(place) => Some(self.order[place]),
+            Err(_) => None,
+        }
+    }
+
+    /// The node that the first names of a path lead to, so many of them. It takes no more than 22
+    /// looks for each, and one more.
+    pub fn resolve_first<L: Ledger>(
+        &self,
+        path: &Path,
+        names: usize,
+        steps: &mut Steps<L>,
+    ) -> Option<u32>
+        requires names { names ≤ length path.now }
+        ensures value { result ≡ resolve self.now.nodes (take names path.now) }
+        ensures looks { steps.new ≤ steps.old + (22 * names + 1) }
+    {
+        let mut at = 0;
+        for place in 0..names {
+            match order::search(&self.slots, &self.order, at, path.part(place), steps) {
+                Ok(child) => at = self.order[child],
+                Err(_) => return None,
+            }
+        }
+        Some(at)
+    }
+
+    /// The node that a path leads to. It takes no more than 22 looks for each name, and one more.
+    pub fn resolve<L: Ledger>(&self, path: &Path, steps: &mut Steps<L>) -> Option<u32>
+        ensures value { result ≡ resolve self.now.nodes path.now }
+        ensures looks { steps.new ≤ steps.old + (22 * length path.now + 1) }
+    {
+        self.resolve_first(path, path.depth(), steps)
     }
 
     /// A node that there is.
@@ -104,90 +174,281 @@ impl Tree {
         ensures count { steps.new ≡ steps.old + 1 }
     {
         steps.tick();
-        rows::view(&self.rows, node)
+        slots::view(&self.slots, node)
     }
 
     /// How many children a folder has.
     pub fn child_count<L: Ledger>(&self, folder: u32, steps: &mut Steps<L>) -> u32
-        requires { is_folder self.now.nodes folder ≡ true }
         ensures value { result ≡ length (children self.now.nodes folder) }
         ensures count { steps.new ≡ steps.old + 1 }
-        ensures kept { IsVolume self.now.size self.now.nodes }
     {
         steps.tick();
-        self.order.len() as u32
+        order::child_count(&self.slots, &self.order, folder) as u32
     }
 
     /// The number of the child that stands at a place, from 0 on, among a folder's children in the
-    /// order of their names.
+    /// order of their folded names.
     pub fn child_at<L: Ledger>(&self, folder: u32, place: u32, steps: &mut Steps<L>) -> u32
-        requires folder { is_folder self.now.nodes folder ≡ true }
-        requires place { place < length (children self.now.nodes folder) }
+        requires { place < length (children self.now.nodes folder) }
         ensures child { IsChildAt self.now.nodes folder place result }
         ensures count { steps.new ≡ steps.old + 1 }
     {
         steps.tick();
-        index::child_at(&self.rows, &self.order, place)
+        order::child_at(&self.slots, &self.order, folder, place)
     }
 
-    /// Makes a file of so many bytes in a folder, and gives its number, the least that is free. It
-    /// takes no more than 44 looks.
+    /// Makes a folder in a folder, and gives its number, the least that is free. It takes no more
+    /// than 44 looks.
     ///
     /// It is refused where the folder has a child of this name, else where the volume is full, else
     /// where the names are. An `Err` changes nothing.
-    pub fn create<L: Ledger>(
+    pub fn mkdir<L: Ledger>(
         &mut self,
         folder: u32,
         name: &str,
-        bytes: u64,
         owner: u32,
         moment: u64,
         steps: &mut Steps<L>,
     ) -> Result<u32, TreeFault>
         requires folder { is_folder self.old.nodes folder ≡ true }
-        requires name { is_plain_name name.now ≡ true }
-        requires bytes { bytes ≤ longest_file }
+        requires name { is_name name.now ≡ true }
         requires owner { 1 ≤ owner }
         requires moment { moment ≤ latest_moment }
         ensures number { IfOk result (λ number. number ≡ fresh self.old.nodes) }
-        ensures made { OnOk result (self.new ≡ with_node self.old
-            (made_node self.old.nodes folder name.now false bytes owner moment)) }
+        ensures made { OnOk result (self.new ≡ with_node self.old (made_node self.old.nodes folder name.now true 0 owner moment)) }
         ensures may { OnOk result (new_fault self.old folder name.now ≡ None) }
-        ensures refused { IfErr result (λ fault.
-            IsFault fault (new_fault self.old folder name.now)) }
+        ensures refused { IfErr result (λ fault. IsFault fault (new_fault self.old folder name.now)) }
         ensures err { OnErr result (self.new ≡ self.old) }
-        ensures was { IsVolume self.old.size self.old.nodes }
         ensures kept { IsVolume self.new.size self.new.nodes }
         ensures looks { steps.new ≤ steps.old + 44 }
     {
-        let Err(place) = index::search(&self.rows, &self.order, name, steps) else {
+        let new = NewNode {
+            folder: true,
+            length: 0,
+            owner,
+            moment,
+        };
+        self.make(folder, name, new, steps)
+    }
+
+    /// Makes a file of so many bytes in a folder, and gives its number, the least that is free. It
+    /// takes no more than 44 looks.
+    ///
+    /// It is refused as `mkdir` is. An `Err` changes nothing.
+    pub fn create<L: Ledger>(
+        &mut self,
+        folder: u32,
+        name: &str,
+        length: u64,
+        owner: u32,
+        moment: u64,
+        steps: &mut Steps<L>,
+    ) -> Result<u32, TreeFault>
+        requires folder { is_folder self.old.nodes folder ≡ true }
+        requires name { is_name name.now ≡ true }
+        requires length { length ≤ longest_file }
+        requires owner { 1 ≤ owner }
+        requires moment { moment ≤ latest_moment }
+        ensures number { IfOk result (λ number. number ≡ fresh self.old.nodes) }
+        ensures made { OnOk result (self.new ≡ with_node self.old (made_node self.old.nodes folder name.now false length owner moment)) }
+        ensures may { OnOk result (new_fault self.old folder name.now ≡ None) }
+        ensures refused { IfErr result (λ fault. IsFault fault (new_fault self.old folder name.now)) }
+        ensures err { OnErr result (self.new ≡ self.old) }
+        ensures kept { IsVolume self.new.size self.new.nodes }
+        ensures looks { steps.new ≤ steps.old + 44 }
+    {
+        let new = NewNode {
+            folder: false,
+            length,
+            owner,
+            moment,
+        };
+        self.make(folder, name, new, steps)
+    }
+
+    /// Sets a file's length, in bytes, and the moment that it was modified. It takes no more than 2
+    /// looks.
+    pub fn resize<L: Ledger>(&mut self, node: u32, length: u64, moment: u64, steps: &mut Steps<L>)
+        requires there { has_row key node self.old.nodes ≡ true }
+        requires file { is_folder self.old.nodes node ≡ false }
+        requires length { length ≤ longest_file }
+        requires moment { moment ≤ latest_moment }
+        ensures made { self.new ≡ with_length self.old node length moment }
+        ensures kept { IsVolume self.new.size self.new.nodes }
+        ensures looks { steps.new ≤ steps.old + 2 }
+    {
+        steps.tick();
+        slots::set_length(&mut self.slots, node, length, moment);
+    }
+
+    /// Sets the moment that a file was accessed. It takes no more than 2 looks.
+    pub fn touch<L: Ledger>(&mut self, node: u32, moment: u64, steps: &mut Steps<L>)
+        requires there { has_row key node self.old.nodes ≡ true }
+        requires file { is_folder self.old.nodes node ≡ false }
+        requires moment { moment ≤ latest_moment }
+        ensures made { self.new ≡ with_touch self.old node moment }
+        ensures kept { IsVolume self.new.size self.new.nodes }
+        ensures looks { steps.new ≤ steps.old + 2 }
+    {
+        steps.tick();
+        slots::set_accessed(&mut self.slots, node, moment);
+    }
+
+    /// Moves a node other than the root into a folder, under a name; its number and moments stay. It
+    /// takes no more than 66 looks, and one for each node from the folder up to the root.
+    ///
+    /// It is refused where the folder is the node or below it, else where another child of the
+    /// folder has this name, else where the names would be full, less the old one. An `Err` changes
+    /// nothing.
+    pub fn move_node<L: Ledger>(
+        &mut self,
+        node: u32,
+        folder: u32,
+        name: &str,
+        steps: &mut Steps<L>,
+    ) -> Result<(), TreeFault>
+        requires there { has_row key node self.old.nodes ≡ true }
+        requires inner { (node == 0) ≡ false }
+        requires folder { is_folder self.old.nodes folder ≡ true }
+        requires name { is_name name.now ≡ true }
+        ensures made { OnOk result (self.new ≡ with_place self.old node folder name.now) }
+        ensures may { OnOk result (move_fault self.old node folder name.now ≡ None) }
+        ensures refused { IfErr result (λ fault. IsFault fault (move_fault self.old node folder name.now)) }
+        ensures err { OnErr result (self.new ≡ self.old) }
+        ensures kept { IsVolume self.new.size self.new.nodes }
+        ensures looks { steps.new ≤ steps.old + (66 + length (chain self.old.nodes folder)) }
+    {
+        if is_at_or_below(&self.slots, node, folder, steps) {
+            return Err(TreeFault::InvalidMove);
+        }
+        let found = order::search(&self.slots, &self.order, folder, name, steps);
+        if is_other(&self.order, found, node) {
+            return Err(TreeFault::AlreadyExists);
+        }
+        let old_bytes = slots::name_length(&self.slots, node);
+        let bytes = self.used as u64 + name.len() as u64;
+        if bytes > self.size.names as u64 + old_bytes as u64 {
+            return Err(TreeFault::NamesFull);
+        }
+        let Ok(text) = Text::from_str(self.alloc, name) else {
+            return Err(TreeFault::NoMemory);
+        };
+        reorder(&self.slots, &mut self.order, node, found, steps);
+        slots::set_place(&mut self.slots, node, folder, text);
+        self.used = (bytes - old_bytes as u64) as u32;
+        Ok(())
+    }
+
+    /// Takes away a node other than the root. It takes no more than 44 looks.
+    ///
+    /// It is refused where the node has a child. An `Err` changes nothing.
+    pub fn remove<L: Ledger>(&mut self, node: u32, steps: &mut Steps<L>) -> Result<(), TreeFault>
+        requires there { has_row key node self.old.nodes ≡ true }
+        requires inner { (node == 0) ≡ false }
+        ensures made { OnOk result (self.new ≡ without_node self.old node) }
+        ensures may { OnOk result (remove_fault self.old node ≡ None) }
+        ensures refused { IfErr result (λ fault. IsFault fault (remove_fault self.old node)) }
+        ensures only { IsErrOf result TreeFault.NoMemory → ⊥ }
+        ensures err { OnErr result (self.new ≡ self.old) }
+        ensures kept { IsVolume self.new.size self.new.nodes }
+        ensures looks { steps.new ≤ steps.old + 44 }
+    {
+        if order::has_child(&self.slots, &self.order, node, steps) {
+            return Err(TreeFault::NotEmpty);
+        }
+        let place = own_place(&self.slots, &self.order, node, steps);
+        let bytes = slots::name_length(&self.slots, node);
+        slots::take_away(&mut self.slots, node);
+        self.order.remove(place);
+        self.count -= 1;
+        self.used -= bytes;
+        self.free = self.free.min(node);
+        Ok(())
+    }
+
+    // Makes a node as `mkdir` and `create` do.
+    fn make<L: Ledger>(
+        &mut self,
+        folder: u32,
+        name: &str,
+        new: NewNode,
+        steps: &mut Steps<L>,
+    ) -> Result<u32, TreeFault>
+        requires folder { is_folder self.old.nodes folder ≡ true }
+        requires name { is_name name.now ≡ true }
+        requires length { new.length ≤ (if new.folder then 0 else longest_file) }
+        requires owner { 1 ≤ new.owner }
+        requires moment { new.moment ≤ latest_moment }
+        ensures number { IfOk result (λ number. number ≡ fresh self.old.nodes) }
+        ensures made { OnOk result (self.new ≡ with_node self.old (made_node self.old.nodes folder name.now new.folder new.length new.owner new.moment)) }
+        ensures may { OnOk result (new_fault self.old folder name.now ≡ None) }
+        ensures refused { IfErr result (λ fault. IsFault fault (new_fault self.old folder name.now)) }
+        ensures err { OnErr result (self.new ≡ self.old) }
+        ensures kept { IsVolume self.new.size self.new.nodes }
+        ensures looks { steps.new ≤ steps.old + 44 }
+    {
+        let Err(place) = order::search(&self.slots, &self.order, folder, name, steps) else {
             return Err(TreeFault::AlreadyExists);
         };
-        if self.rows.len() >= self.size.nodes as usize {
+        if self.count >= self.size.nodes {
             return Err(TreeFault::VolumeFull);
         }
         if self.used as u64 + name.len() as u64 > self.size.names as u64 {
             return Err(TreeFault::NamesFull);
         }
-        let number = self.rows.len() as u32;
+        // With room in the order nothing can fail once the slot is filled.
+        let Ok(()) = self.order.reserve(1) else {
+            return Err(TreeFault::NoMemory);
+        };
         let Ok(text) = Text::from_str(self.alloc, name) else {
             return Err(TreeFault::NoMemory);
         };
-        let row = NodeRow {
-            number,
-            parent: folder,
-            name: text,
-            folder: false,
-            length: bytes,
-            owner,
-            created: moment,
-            modified: moment,
-            accessed: moment,
-        };
-        let Ok(()) = rows::add(&mut self.rows, &mut self.order, place, row) else {
+        let number = self.free;
+        let Ok(()) = slots::put(&mut self.slots, new.row(number, folder, text)) else {
             return Err(TreeFault::NoMemory);
         };
+        self.order.insert(place, number).unwrap();
+        self.count += 1;
         self.used += name.len() as u32;
+        self.free = slots::next_free(&self.slots, number + 1);
         Ok(number)
+    }
+
+    /// Copies of all rows, ascending by number. It takes a look for each.
+    pub fn to_rows<L: Ledger>(
+        &self,
+        alloc: Global,
+        steps: &mut Steps<L>,
+    ) -> Result<List<NodeRow>, NoMemory>
+        ensures rows { IfOk result (λ rows. rows ≡ self.now.nodes) }
+        ensures count { OnOk result (steps.new ≡ steps.old + length self.now.nodes) }
+        ensures most { steps.new ≤ steps.old + length self.now.nodes }
+    {
+        rows::copies(&self.slots, alloc, steps)
+    }
+
+    /// The tree of these rows. They are bad exactly where they aren't the nodes of a volume of this
+    /// size: ascending numbers below the size, a root of number 0, valid names, no two children of a
+    /// folder of one folded name, lengths, owners and moments in their ranges, parents that are
+    /// folders and lead up to the root, and no more bytes of names than the size has.
+    pub fn from_rows(alloc: Global, rows: &List<NodeRow>, size: Capacity) -> Result<Tree, RowsFault>
+        requires { IsCapacity size }
+        ensures ok { IfOk result (λ tree. tree ≡ record { size = size; nodes = rows.now }) }
+        ensures kept { IfOk result (λ tree. IsVolume tree.size tree.nodes) }
+        ensures may { OnOk result (is_tree size rows.now ≡ true) }
+        ensures bad { IsErrOf result RowsFault.BadRows → is_tree size rows.now ≡ false }
+    {
+        match rows::read(alloc, rows.as_slice(), size) {
+            Ok(parts) => Ok(Tree {
+                size,
+                count: parts.count,
+                used: parts.used,
+                free: parts.free,
+                slots: parts.slots,
+                order: parts.order,
+                alloc,
+            }),
+            Err(fault) => Err(fault),
+        }
     }
 }

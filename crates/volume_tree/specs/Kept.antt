@@ -1,0 +1,57 @@
+-- How a tree's fields hold its nodes.
+use Rattle.std.specs.Prelude.{◌≡◌, ℕ, suc, ◌<◌, ◌≤◌, ◌==◌, ◌&&◌, ◌||◌, nat_lt, not, Bool, true, false, List, [], ◌∷◌, length, map, filter, slice_get, Option, Some, None}
+use Rattle.std.specs.List.{AllPairs}
+use Rattle.std.specs.List.Sorted.{IsPermutation}
+use Rattle.fsrm_model.specs.declared.row.Capacity.{Capacity}
+use Rattle.fsrm_model.specs.declared.row.NodeRow.{NodeRow}
+use Rattle.fsrm_model.specs.Name.{name_before}
+use Rattle.fsrm_model.specs.Tree.{number, node_of, fresh, name_bytes}
+use Rattle.fsrm_model.specs.Valid.{IsVolume}
+use Rattle.volume_tree.specs.Volume.{IsCapacity}
+
+-- the rows that stand in slots
+abbrev pub rows_of : List (Option NodeRow) → List NodeRow
+rows_of [] = []
+rows_of (None ∷ slots) = rows_of slots
+rows_of (Some row ∷ slots) = row ∷ rows_of slots
+
+-- a row stands in the slot of its number
+abbrev pub IsSlot : ℕ → Option NodeRow → Type 0
+IsSlot n None = Unit {0}
+IsSlot n (Some row) = row.number ≡ n
+
+-- the slots from a number on
+abbrev pub AreSlots : ℕ → List (Option NodeRow) → Type 0
+AreSlots n [] = Unit {0}
+AreSlots n (slot ∷ slots) = IsSlot n slot × AreSlots (suc n) slots
+
+-- all nodes but the root
+abbrev pub inner : List NodeRow → List NodeRow
+inner nodes = filter (λ node. not (node.number == 0)) nodes
+
+-- whether a node stands before the place of a name in a folder: by folders, and in each by folded names
+abbrev pub is_before : NodeRow → ℕ → List ℕ → Bool
+is_before node folder name = nat_lt node.parent folder || ((node.parent == folder) && name_before node.name name)
+
+-- numbers are those of all nodes but the root in the order of their places, no place twice
+pub record IsOrder (nodes : List NodeRow) (order : List ℕ) : Type 0 where
+  pub entries : List NodeRow
+  pub numbers : order ≡ map number entries
+  pub members : IsPermutation (inner nodes) entries
+  pub ascending : AllPairs (λ a b. is_before a b.parent b.name ≡ true) entries
+
+-- how many nodes and bytes of names there are, the least free number, the slots and the order
+pub record IsKept (K : Capacity) (count used free : ℕ) (slots : List (Option NodeRow)) (order : List ℕ) : Type 0 where
+  pub volume : IsVolume K (rows_of slots)
+  pub size : IsCapacity K
+  pub slots_are : AreSlots 0 slots
+  pub count_is : count ≡ length (rows_of slots)
+  pub used_is : used ≡ name_bytes (rows_of slots)
+  pub free_is : free ≡ fresh (rows_of slots)
+  pub order_is : IsOrder (rows_of slots) order
+
+-- where in the order a name of a folder stands, or is to stand
+pub record IsPlace (nodes : List NodeRow) (order : List ℕ) (folder : ℕ) (name : List ℕ) (place : ℕ) : Type 0 where
+  pub within : place ≤ length order
+  pub before : (k n : ℕ) (row : NodeRow) → k < place → slice_get order k ≡ Some n → node_of nodes n ≡ Some row → is_before row folder name ≡ true
+  pub after : (k n : ℕ) (row : NodeRow) → place ≤ k → slice_get order k ≡ Some n → node_of nodes n ≡ Some row → is_before row folder name ≡ false

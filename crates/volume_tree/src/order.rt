@@ -1,0 +1,155 @@
+//! The numbers of all nodes but the root in the order of their places: by folders, and in each folder
+//! by folded names.
+
+ghost use Rattle.std.specs.Prelude.{◌≡◌, ◌+◌, ◌<◌, ◌≤◌, ◌==◌, ◌&&◌, IfOk, IfErr, true, not, length, [], Some, None, slice_index};
+ghost use Rattle.fsrm_model.specs.Limits.{most_nodes};
+ghost use Rattle.fsrm_model.specs.Name.{same_name};
+ghost use Rattle.fsrm_model.specs.Tree.{node_of, children, child_number};
+ghost use Rattle.volume_tree.specs.Kept.{AreSlots, IsOrder, IsPlace, rows_of, is_before};
+ghost use Rattle.volume_tree.specs.Volume.{IsChildAt};
+
+use fsrm_model::{Ledger, NodeRow, Steps};
+use name_rules::{fold_cmp, same_name};
+
+// The node at a place in the order.
+fn entry<'a>(slots: &'a [Option<NodeRow>], order: &[u32], place: usize) -> &'a NodeRow
+    requires slots { AreSlots 0 slots.now }
+    requires order { IsOrder (rows_of slots.now) order.now }
+    requires place { place < length order.now }
+    ensures { node_of (rows_of slots.now) (slice_index order.now place) ≡ Some result.now }
+{
+    slots[order[place] as usize].as_ref().unwrap()
+}
+
+// Whether a node stands before the place of a name in a folder.
+fn is_before(row: &NodeRow, folder: u32, name: &str) -> bool
+    ensures { result ≡ is_before row.now folder name.now }
+{
+    row.parent < folder || (row.parent == folder && fold_cmp(row.name.as_str(), name).is_lt())
+}
+
+// Whether a node has this name in this folder.
+fn is_named(row: &NodeRow, folder: u32, name: &str) -> bool
+    ensures { result ≡ (row.now.parent == folder) && same_name row.now.name name.now }
+{
+    row.parent == folder && same_name(row.name.as_str(), name)
+}
+
+// The place in the order of a name in a folder. It looks at no more than 20 nodes.
+fn place_of<L: Ledger>(
+    slots: &[Option<NodeRow>],
+    order: &[u32],
+    folder: u32,
+    name: &str,
+    steps: &mut Steps<L>,
+) -> usize
+    requires slots { AreSlots 0 slots.now }
+    requires order { IsOrder (rows_of slots.now) order.now }
+    requires few { length order.now < most_nodes }
+    ensures place { IsPlace (rows_of slots.now) order.now folder name.now result }
+    ensures looks { steps.new ≤ steps.old + 20 }
+{
+    let mut low = 0;
+    let mut high = order.len();
+    while low < high {
+        let middle = low + (high - low) / 2;
+        steps.tick();
+        if is_before(entry(slots, order, middle), folder, name) {
+            low = middle + 1;
+        } else {
+            high = middle;
+        }
+    }
+    low
+}
+
+// The place in the order from which the folders have this number or greater ones.
+fn first_from(slots: &[Option<NodeRow>], order: &[u32], folder: u64) -> usize
+    requires slots { AreSlots 0 slots.now }
+    requires order { IsOrder (rows_of slots.now) order.now }
+    ensures { IsPlace (rows_of slots.now) order.now folder [] result }
+{
+    let mut low = 0;
+    let mut high = order.len();
+    while low < high {
+        let middle = low + (high - low) / 2;
+        if u64::from(entry(slots, order, middle).parent) < folder {
+            low = middle + 1;
+        } else {
+            high = middle;
+        }
+    }
+    low
+}
+
+/// The place in the order of a folder's child of a name, or as an `Err` the place where one is to
+/// stand. It looks at no more than 21 nodes.
+pub fn search<L: Ledger>(
+    slots: &[Option<NodeRow>],
+    order: &[u32],
+    folder: u32,
+    name: &str,
+    steps: &mut Steps<L>,
+) -> Result<usize, usize>
+    requires slots { AreSlots 0 slots.now }
+    requires order { IsOrder (rows_of slots.now) order.now }
+    requires few { length order.now < most_nodes }
+    ensures taken { IfOk result (λ place. place < length order.now) }
+    ensures free { IfErr result (λ place. IsPlace (rows_of slots.now) order.now folder name.now place) }
+    ensures found { IfOk result (λ place. child_number (rows_of slots.now) folder name.now ≡ Some (slice_index order.now place)) }
+    ensures none { IfErr result (λ place. child_number (rows_of slots.now) folder name.now ≡ None) }
+    ensures looks { steps.new ≤ steps.old + 21 }
+{
+    let place = place_of(slots, order, folder, name, steps);
+    if place == order.len() {
+        return Err(place);
+    }
+    steps.tick();
+    if is_named(entry(slots, order, place), folder, name) {
+        Ok(place)
+    } else {
+        Err(place)
+    }
+}
+
+/// How many children a folder has.
+pub fn child_count(slots: &[Option<NodeRow>], order: &[u32], folder: u32) -> usize
+    requires slots { AreSlots 0 slots.now }
+    requires order { IsOrder (rows_of slots.now) order.now }
+    ensures { result ≡ length (children (rows_of slots.now) folder) }
+{
+    let folder = u64::from(folder);
+    first_from(slots, order, folder + 1) - first_from(slots, order, folder)
+}
+
+/// The number of the child at a place among a folder's children.
+pub fn child_at(slots: &[Option<NodeRow>], order: &[u32], folder: u32, place: u32) -> u32
+    requires slots { AreSlots 0 slots.now }
+    requires order { IsOrder (rows_of slots.now) order.now }
+    requires place { place < length (children (rows_of slots.now) folder) }
+    ensures { IsChildAt (rows_of slots.now) folder place result }
+{
+    order[first_from(slots, order, u64::from(folder)) + place as usize]
+}
+
+/// Whether a folder has a child. It looks at no more than 21 nodes.
+pub fn has_child<L: Ledger>(
+    slots: &[Option<NodeRow>],
+    order: &[u32],
+    folder: u32,
+    steps: &mut Steps<L>,
+) -> bool
+    requires slots { AreSlots 0 slots.now }
+    requires order { IsOrder (rows_of slots.now) order.now }
+    requires few { length order.now < most_nodes }
+    ensures value { result ≡ not (length (children (rows_of slots.now) folder) == 0) }
+    ensures looks { steps.new ≤ steps.old + 21 }
+{
+    // No name comes before the empty one, so a child would stand at its place.
+    let place = place_of(slots, order, folder, "", steps);
+    if place == order.len() {
+        return false;
+    }
+    steps.tick();
+    entry(slots, order, place).parent == folder
+}
