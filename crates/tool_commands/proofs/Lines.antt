@@ -1,0 +1,94 @@
+-- What a line reads as, by the stage at which that is settled.
+use Rattle.std.proofs.Common.{◌≡◌, ℕ, ◌+◌, ◌<◌, ◌≤◌, Bool, true, false, cond, List, [], ◌∷◌, length, get_or, drop, Some, None, refl, sym, ap, ◌∙◌, arith, suc}
+use Rattle.std.specs.Prelude.{nat_lt, nat_eq, Err, ◌||◌}
+use Rattle.std.specs.List.{prefix_len}
+use Rattle.std.specs.Str.{IsUtf8, is_utf8}
+use Rattle.std.specs.Str.Lossy.{utf8_valid_len}
+use Rattle.std.proofs.Math.ListN.{drop_of_length-le}
+use Rattle.std.proofs.lemmas.Bool.{lt-ltb, le-ltb}
+use Rattle.std.proofs.lemmas.Bool.Decides.{nat_tests}
+use Rattle.std.proofs.lemmas.List.{get_or-drop, length-drop}
+use Rattle.std.proofs.lemmas.List.Sums.{prefix_len-le-length}
+use Rattle.tool_commands.proofs.WordLengths.{prefix_len-behind}
+use Rattle.std.proofs.lemmas.Str.{IsUtf8-from_is_utf8, is_utf8-from_IsUtf8}
+use Rattle.fsrm_model.specs.declared.command.Refusal.TheVariants.{BadLine, LineTooLong}
+use Rattle.fsrm_model.specs.Line.{read_line, read_words, is_skipped}
+use Rattle.fsrm_model.specs.declared.command.Command.{Command}
+use Rattle.fsrm_model.specs.Words.{is_blank}
+use Rattle.tool_commands.specs.LineFaults.{IsFault, Reads}
+use Rattle.tool_commands.specs.declared.reading.LineFault.{LineFault}
+use Rattle.tool_commands.specs.declared.reading.LineFault.TheVariants.{Refused, NoMemory}
+
+-- blanks in front change nothing
+skipped-behind : (line : List ℕ) → is_skipped line ≡ is_skipped (drop (prefix_len is_blank line) line)
+skipped-behind [] = refl
+skipped-behind (b ∷ bs) = at (is_blank b) refl (skipped-behind bs)
+  where
+    no_mark : (b : ℕ) → is_blank b ≡ true → nat_eq b 35 ≡ false
+    no_mark b blank = grind (arith, nat_tests)
+
+    at : (blank : Bool) → is_blank b ≡ blank → is_skipped bs ≡ is_skipped (drop (prefix_len is_blank bs) bs) → is_skipped (b ∷ bs) ≡ is_skipped (drop (cond blank (1 + prefix_len is_blank bs) 0) (b ∷ bs))
+    at false e ih = refl
+    at true e ih =
+        let one : 1 + prefix_len is_blank bs ≡ suc (prefix_len is_blank bs) = omega arith in
+        rw (one, no_mark b e, e) ih
+
+skipped-mark : (text : List ℕ) → prefix_len is_blank text ≡ 0 → 0 < length text → is_skipped text ≡ nat_eq (get_or text 0 0) 35
+skipped-mark [] none some = absurd (omega arith)
+skipped-mark (b ∷ bs) none some = at (is_blank b) refl
+  where
+    or_false : (a : Bool) → (a || false) ≡ a
+    or_false true = refl
+    or_false false = refl
+
+    at : (blank : Bool) → is_blank b ≡ blank → is_skipped (b ∷ bs) ≡ nat_eq b 35
+    at true e = let one : 1 + prefix_len is_blank bs ≡ 0 = rw e at none in absurd (omega (arith, one))
+    at false e = rw (e, or_false (nat_eq b 35)) refl
+
+-- a line of blanks alone
+pub skipped_all : (line : List ℕ) (n : ℕ) → n ≡ prefix_len is_blank line → n ≡ length line → is_skipped line ≡ true
+skipped_all line n n_is all =
+    let none : drop (prefix_len is_blank line) line ≡ [] = drop_of_length-le line (omega arith) in
+    skipped-behind line ∙ rw none refl
+
+-- a line is skipped by its first byte that isn't blank
+pub skipped_at : (line : List ℕ) (n : ℕ) → n ≡ prefix_len is_blank line → n < length line → is_skipped line ≡ nat_eq (get_or line n 0) 35
+skipped_at line n n_is inside =
+    let long = length-drop (prefix_len is_blank line) line in
+    let here : get_or (drop (prefix_len is_blank line) line) 0 0 ≡ get_or line n 0 =
+    get_or-drop (prefix_len is_blank line) line 0 0 ∙ (let k : prefix_len is_blank line + 0 ≡ n = omega arith in ap (λ (k : ℕ). get_or line k 0) k) in
+    skipped-behind line ∙ skipped-mark (drop (prefix_len is_blank line) line) (prefix_len-behind is_blank line) (omega arith) ∙ ap (λ (b : ℕ). nat_eq b 35) here
+
+pub blanks_within : (line : List ℕ) (n : ℕ) → n ≡ prefix_len is_blank line → (n ≡ length line → ⊥) → n < length line
+blanks_within line n n_is more = omega (arith, prefix_len-le-length is_blank line)
+
+pub too_long : (line : List ℕ) → 65536 < length line → read_line line ≡ Some (Err LineTooLong)
+unfolding read_line
+too_long line long = let test : nat_lt 65536 (length line) ≡ true = lt-ltb 65536 (length line) long in rw test refl
+
+not_utf8 : (line : List ℕ) (b : Bool) → is_utf8 line ≡ b → (IsUtf8 line → ⊥) → is_utf8 line ≡ false
+not_utf8 line true e never = absurd (never (IsUtf8-from_is_utf8 line e))
+not_utf8 line false e never = e
+
+pub not_text : (line : List ℕ) → length line ≤ 65536 → (IsUtf8 line → ⊥) → read_line line ≡ Some (Err (BadLine (utf8_valid_len line + 1)))
+unfolding read_line
+not_text line short never =
+    let test : nat_lt 65536 (length line) ≡ false = le-ltb 65536 (length line) short in
+    rw (test, not_utf8 line (is_utf8 line) refl never) refl
+
+pub passed_over : (line : List ℕ) → length line ≤ 65536 → IsUtf8 line → is_skipped line ≡ true → read_line line ≡ None
+unfolding read_line
+passed_over line short utf8 skipped =
+    let test : nat_lt 65536 (length line) ≡ false = le-ltb 65536 (length line) short in
+    rw (test, is_utf8-from_IsUtf8 line utf8, skipped) refl
+
+pub by_words : (line : List ℕ) → length line ≤ 65536 → IsUtf8 line → is_skipped line ≡ false → read_line line ≡ Some (read_words line)
+unfolding read_line
+by_words line short utf8 skipped =
+    let test : nat_lt 65536 (length line) ≡ false = le-ltb 65536 (length line) short in
+    rw (test, is_utf8-from_IsUtf8 line utf8, skipped) refl
+
+-- a fault of its words is the line's
+pub fault_of : (line text : List ℕ) (fault : LineFault) → text ≡ line → read_line line ≡ Some (read_words line) → Reads {X = Command} (Err fault) (read_words text) → IsFault fault (read_line line)
+fault_of line text (Refused refusal) same reads fault = reads ∙ ap Some (ap read_words (sym same) ∙ fault)
+fault_of line text NoMemory same reads fault = tt

@@ -1,0 +1,7 @@
+use Rattle.std.proofs.Common.{refl}
+use Rattle.tool_commands.specs.Taking.{end}
+use Rattle.tool_commands.proofs.words.Words.end.Goals as goal
+
+pub returns-clause-end : goal.returns-clause-end
+unfolding end
+returns-clause-end c = refl

@@ -1,0 +1,3 @@
+pub mod LineFaults
+pub mod Lengths
+pub mod Taking

@@ -1,0 +1,47 @@
+-- What taking words from the front of a line's words comes to.
+use Rattle.std.specs.Prelude.{◌≡◌, ℕ, ◌+◌, false, List, [], ◌∷◌, length, Result, Ok, Err, Option, Some, None}
+use Rattle.std.specs.Cow.{cow_str_bytes}
+use Rattle.fsrm_model.specs.Line.{next_word}
+use Rattle.fsrm_model.specs.Reading.{Read}
+use Rattle.fsrm_model.specs.Words.{Word as LineWord, words_at, parts_from, without_quotes}
+use Rattle.tool_commands.specs.declared.reading.LineFault.{LineFault}
+use Rattle.tool_commands.specs.declared.words.RawWord.{RawWord}
+use Rattle.tool_commands.specs.declared.words.Word.{Word}
+use Rattle.tool_commands.specs.declared.words.Words.{Words}
+use Rattle.tool_commands.specs.LineFaults.{Reads}
+
+-- the words that are left
+unfoldable pub left : Words → List LineWord
+left words = words_at words.column (parts_from false words.rest.now)
+
+-- the column behind the line's end
+unfoldable pub end : Words → ℕ
+end words = words.column + length words.rest.now
+
+-- a word as lines have it
+abbrev pub line_word : Word → LineWord
+line_word word = record { column = word.column; text = cow_str_bytes word.text }
+
+-- the same of one that has its quotes
+abbrev pub raw_line_word : RawWord → LineWord
+raw_line_word raw = record { column = raw.column; text = without_quotes raw.text.now }
+
+-- the first of the words is taken, if any
+abbrev pub TakesFirst : Option RawWord → List LineWord → List LineWord → Type 0
+TakesFirst None old new = old ≡ []
+TakesFirst (Some raw) old new = old ≡ raw_line_word raw ∷ new
+
+-- the column of the first word, if any
+abbrev pub first_column : List LineWord → Option ℕ
+first_column [] = None
+first_column (word ∷ words) = Some word.column
+
+-- the next word is taken
+abbrev pub TakesWord : Result Word LineFault → Words → Words → Type 0
+TakesWord (Ok word) old new = (next_word (end old) (left old) ≡ Ok (line_word word, left new)) × (end new ≡ end old)
+TakesWord (Err fault) old new = Reads {X = LineWord × List LineWord} (Err fault) (next_word (end old) (left old))
+
+-- a value is taken, as it is to be read from the words
+abbrev pub Takes : {X : Type 0} → Result X LineFault → Words → Words → (ℕ → List LineWord → Read (X × List LineWord)) → Type 0
+Takes (Ok x) old new read = (read (end old) (left old) ≡ Ok (x, left new)) × (end new ≡ end old)
+Takes {X} (Err fault) old new read = Reads {X = X × List LineWord} (Err fault) (read (end old) (left old))

@@ -1,0 +1,95 @@
+//! Reads a line.
+
+ghost use Rattle.std.specs.Prelude.{◌≡◌, ◌≤◌, IfOk, IfErr, IfSome, Ok, Some, None, true, length, option_map, if◌then◌else◌};
+ghost use Rattle.fsrm_model.specs.declared.command.Command.{Command};
+ghost use Rattle.fsrm_model.specs.declared.command.Refusal.TheVariants.{BadLine};
+ghost use Rattle.fsrm_model.specs.Line.{read_line, read_words, is_skipped};
+ghost use Rattle.fsrm_model.specs.Valued.{is_command};
+ghost use Rattle.fsrm_model.specs.Words.{is_closed, last_quote};
+ghost use Rattle.tool_commands.specs.LineFaults.{IsFault, Reads};
+ghost use Rattle.tool_commands.specs.declared.reading.LineFault.TheVariants.{Refused};
+
+use crate::commands::command;
+use crate::words::{Words, blanks};
+use fsrm_model::{Command, Refusal};
+use memchr::{memchr_iter, memrchr};
+use std::alloc::Global;
+use std::str;
+
+/// In bytes.
+const LONGEST_LINE: usize = 65_536;
+
+/// Why a line is read as no command.
+#[derive(Clone, Copy, Debug, PartialEq, Eq)]
+pub enum LineFault {
+    /// What it spells is refused: BadLine, LineTooLong, InvalidPath, InvalidName or OutOfRange.
+    Refused(Refusal),
+    /// There was no memory.
+    NoMemory,
+}
+
+impl LineFault {
+    /// A word that hasn't its form, or is missing. The column counts bytes from 1.
+    pub(crate) fn bad_line(column: usize) -> LineFault
+        requires { column ≤ 65537 }
+        ensures { result ≡ Refused (BadLine column) }
+    {
+        let column = column as u32;
+        LineFault::Refused(Refusal::BadLine { column })
+    }
+}
+
+fn is_skipped(line: &[u8]) -> bool
+    ensures { result ≡ is_skipped line.now }
+{
+    let place = blanks(line);
+    place == line.len() || line[place] == b'#'
+}
+
+// The column of the last quote, where it isn't ended. It counts bytes from 1.
+fn unclosed_quote(line: &[u8]) -> Option<usize>
+    ensures column { result ≡ (if is_closed line.now then None else Some (last_quote line.now)) }
+    ensures within { IfSome result (λ column. column ≤ length line.now) }
+{
+    let Some(last) = memrchr(b'"', line) else {
+        return None;
+    };
+    if memchr_iter(b'"', line).count() % 2 == 0 {
+        return None;
+    }
+    Some(last + 1)
+}
+
+// The command of a line that isn't skipped.
+fn read_words(alloc: Global, line: &str) -> Result<Command, LineFault>
+    requires { length line.now ≤ 65536 }
+    ensures { Reads result (read_words line.now) }
+{
+    match unclosed_quote(line.as_bytes()) {
+        Some(column) => Err(LineFault::bad_line(column)),
+        None => command(alloc, &mut Words::new(line)),
+    }
+}
+
+/// The command that a line spells, without the LF or CR LF that ends it. None exactly where the line
+/// is skipped: it has blanks alone, or a `#` behind them.
+pub fn read_line(alloc: Global, line: &[u8]) -> Result<Option<Command>, LineFault>
+    ensures read { IfOk result (λ read. read_line line.now ≡ option_map (λ command. Ok command) read) }
+    ensures valid { IfOk result (λ read. (command : Command) → read ≡ Some command → is_command command ≡ true) }
+    ensures fault { IfErr result (λ fault. IsFault fault (read_line line.now)) }
+{
+    if line.len() > LONGEST_LINE {
+        return Err(LineFault::Refused(Refusal::LineTooLong));
+    }
+    let text = match str::from_utf8(line) {
+        Ok(text) => text,
+        Err(error) => return Err(LineFault::bad_line(error.valid_up_to() + 1)),
+    };
+    if is_skipped(line) {
+        return Ok(None);
+    }
+    match read_words(alloc, text) {
+        Ok(command) => Ok(Some(command)),
+        Err(fault) => Err(fault),
+    }
+}

@@ -1,0 +1,106 @@
+//! Values that words spell.
+
+ghost use Rattle.std.specs.Prelude.{◌≡◌, ◌≤◌, IfOk};
+ghost use Rattle.std.specs.Char.{is_ascii_digit};
+ghost use Rattle.std.specs.List.{list_all};
+ghost use Rattle.fsrm_model.specs.Limits.{latest_moment};
+ghost use Rattle.fsrm_model.specs.Line.{number_word, length_word, owner_word, path_word};
+ghost use Rattle.fsrm_model.specs.Reading.{is_number, number_from, path_from};
+ghost use Rattle.tool_commands.specs.LineFaults.{Reads};
+ghost use Rattle.tool_commands.specs.Taking.{Takes};
+
+use crate::reading::LineFault;
+use crate::words::Words;
+use fsrm_model::{Path, Refusal};
+use name_rules::{PathFault, read_path};
+use std::alloc::Global;
+
+/// 2099-12-31 23:59:59 UTC, in seconds since 1970-01-01 00:00:00 UTC.
+const LATEST_MOMENT: u64 = 4_102_444_799;
+
+/// 2^44 - 65,536 bytes.
+const LONGEST_FILE: u64 = 17_592_185_978_880;
+
+const LAST_OWNER: u64 = u32::MAX as u64;
+
+const MOST_DIGITS: usize = 20;
+
+fn all_digits(text: &[u8]) -> bool
+    ensures { result ≡ list_all is_ascii_digit text.now }
+{
+    text.iter().all(|b| b.is_ascii_digit())
+}
+
+fn is_number(text: &[u8]) -> bool
+    ensures { result ≡ is_number text.now }
+{
+    !text.is_empty() && text.len() <= MOST_DIGITS && all_digits(text)
+}
+
+// The number from low to high that a word at this column is.
+fn read_number(text: &str, column: usize, low: u64, high: u64) -> Result<u64, LineFault>
+    requires { column ≤ 65537 }
+    ensures read { Reads result (number_from low high column text.now) }
+    ensures within { IfOk result (λ n. n ≤ high) }
+{
+    if !is_number(text.as_bytes()) {
+        return Err(LineFault::bad_line(column));
+    }
+    match text.parse::<u64>() {
+        Ok(number) if low <= number && number <= high => Ok(number),
+        // The greatest numbers of 20 digits fit no u64.
+        _ => Err(LineFault::Refused(Refusal::OutOfRange)),
+    }
+}
+
+fn read_path_word(alloc: Global, text: &str) -> Result<Path, LineFault>
+    ensures { Reads result (path_from text.now) }
+{
+    match read_path(alloc, text) {
+        Ok(path) => Ok(path),
+        Err(PathFault::InvalidPath) => Err(LineFault::Refused(Refusal::InvalidPath)),
+        Err(PathFault::InvalidName) => Err(LineFault::Refused(Refusal::InvalidName)),
+        Err(PathFault::NoMemory) => Err(LineFault::NoMemory),
+    }
+}
+
+impl<'a> Words<'a> {
+    // Takes a number from low to high.
+    fn number(&mut self, alloc: Global, low: u64, high: u64) -> Result<u64, LineFault>
+        ensures read { Takes result self.old self.new (number_word low high) }
+        ensures within { IfOk result (λ n. n ≤ high) }
+    {
+        let word = self.next(alloc)?;
+        read_number(word.text.as_str(), word.column, low, high)
+    }
+
+    /// Takes a moment, in seconds since 1970-01-01 00:00:00 UTC.
+    pub fn moment(&mut self, alloc: Global) -> Result<u64, LineFault>
+        ensures { Takes result self.old self.new (number_word 0 latest_moment) }
+    {
+        self.number(alloc, 0, LATEST_MOMENT)
+    }
+
+    /// Takes a file's length, in bytes.
+    pub fn length(&mut self, alloc: Global) -> Result<u64, LineFault>
+        ensures { Takes result self.old self.new length_word }
+    {
+        self.number(alloc, 0, LONGEST_FILE)
+    }
+
+    /// Takes the number of an owner, from 1.
+    pub fn owner(&mut self, alloc: Global) -> Result<u32, LineFault>
+        ensures { Takes result self.old self.new owner_word }
+    {
+        let owner = self.number(alloc, 1, LAST_OWNER)?;
+        Ok(owner as u32)
+    }
+
+    /// Takes a path.
+    pub fn path(&mut self, alloc: Global) -> Result<Path, LineFault>
+        ensures { Takes result self.old self.new path_word }
+    {
+        let word = self.next(alloc)?;
+        read_path_word(alloc, word.text.as_str())
+    }
+}
