@@ -1,0 +1,113 @@
+-- The refusals of a move are the faults of the tree.
+use Rattle.std.proofs.Common.{◌≡◌, ℕ, ◌+◌, ◌*◌, ◌≤◌, ◌==◌, Bool, true, false, not, ◌&&◌, List, [], ◌∷◌, length, Some, None, nat_lt, refl, ap, sym, ◌∙◌, subst, arith}
+use Rattle.std.proofs.lemmas.Bool.Decides.{nat_tests}
+use Rattle.std.specs.Prelude.{unwrap_or}
+use Rattle.std.specs.Option.{option_and_then}
+use Rattle.fsrm_model.specs.declared.command.Deed.TheVariants.{File}
+use Rattle.fsrm_model.specs.declared.command.FileOp.TheVariants.{Move}
+use Rattle.fsrm_model.specs.declared.command.Refusal.{Refusal}
+use Rattle.fsrm_model.specs.declared.command.Refusal.TheVariants.{AlreadyExists, PathNotFound, InvalidMove, NamesFull}
+use Rattle.fsrm_model.specs.declared.row.Capacity.{Capacity}
+use Rattle.fsrm_model.specs.declared.row.NodeRow.{NodeRow}
+use Rattle.fsrm_model.specs.Check.{Check, ◌when◌, first}
+use Rattle.fsrm_model.specs.FileOps.{target, target_folder, placed}
+use Rattle.fsrm_model.specs.Keyed.{has_row, with_change}
+use Rattle.fsrm_model.specs.Leads.{is_root, leads, leads_to_folder, leads_to_other}
+use Rattle.fsrm_model.specs.Tree.{number, name_of, is_folder, is_under, resolve, folder_part, last_name, child_number, name_bytes}
+use Rattle.fsrm_model.specs.Valid.{IsVolume}
+use Rattle.fsrm_model.proofs.Tests.{clash}
+use Rattle.fsrm_model.proofs.Files.{below_file}
+use Rattle.fsrm_model.proofs.Sizes.{name_bytes-placed}
+use Rattle.volume_tree.specs.declared.answer.TreeFault.TheVariants as fault
+use Rattle.volume_tree.specs.Volume.{Volume, fault_if, first_fault, is_other, move_fault, with_place}
+use Rattle.fsrm_engine.specs.Faults.{refusal_of}
+use Rattle.fsrm_engine.specs.Machine.{Machine}
+use Rattle.fsrm_engine.specs.Places.{IsPlace, IsRefusedPlace}
+use Rattle.fsrm_engine.proofs.StepLaws.{machine, due}
+use Rattle.fsrm_engine.proofs.PlaceLaws.{root_is, has_resolved, leads_is, target_is, leads_to_folder_is, place_leads, place_folder}
+
+-- the checks that the tree makes too
+listed : (under taken long : Bool) → first (None ∷ None ∷ None ∷ None ∷ (InvalidMove when under) ∷ (AlreadyExists when taken) ∷ (NamesFull when long) ∷ []) ≡ option_and_then refusal_of (first_fault (fault_if fault.InvalidMove under ∷ fault_if fault.AlreadyExists taken ∷ fault_if fault.NamesFull long ∷ []))
+listed true taken long = refl
+listed false true long = refl
+listed false false true = refl
+listed false false false = refl
+
+listed_at : (there root to_root folder under taken long under' taken' long' : Bool) → there ≡ true → root ≡ false → to_root ≡ false → folder ≡ true → under ≡ under' → taken ≡ taken' → long ≡ long' →
+    first ((PathNotFound when not there) ∷ (InvalidMove when root) ∷ (AlreadyExists when to_root) ∷ (PathNotFound when not folder) ∷ (InvalidMove when under) ∷ (AlreadyExists when taken) ∷ (NamesFull when long) ∷ []) ≡ option_and_then refusal_of (first_fault (fault_if fault.InvalidMove under' ∷ fault_if fault.AlreadyExists taken' ∷ fault_if fault.NamesFull long' ∷ []))
+listed_at there root to_root folder under taken long under' taken' long' t r s f u k l = rw (t, r, s, f, u, k, l) (listed under' taken' long')
+
+-- no folder is at or below a file
+under_test : (is_dir under : Bool) → (is_dir ≡ false → under ≡ true → ⊥) → (is_dir && under) ≡ under
+under_test true under h = refl
+under_test false true h = absurd (h refl refl)
+under_test false false h = refl
+
+under_is : (K : Capacity) (nodes : List NodeRow) (n d : ℕ) → IsVolume K nodes → has_row number d nodes ≡ true → is_folder nodes d ≡ true → (is_folder nodes n && is_under nodes n d) ≡ is_under nodes n d
+under_is K nodes n d v has folder =
+    under_test (is_folder nodes n) (is_under nodes n d) (λ file under. clash (is_folder nodes n) (subst (λ k. is_folder nodes k ≡ true) (below_file K nodes n d v file has under) folder) file)
+
+-- the old name's bytes are given back
+bytes_test : (most old new less more : ℕ) → new + less ≡ old + more → nat_lt most new ≡ nat_lt (most + less) (old + more)
+bytes_test most old new less more h = grind (arith, nat_tests)
+
+-- the nodes after the move, by the place and by the paths
+pub moved_is : (v : Volume) (from to : List (List ℕ)) (n d : ℕ) (name : List ℕ) → resolve v.nodes from ≡ Some n → IsPlace v.nodes to d name → with_place v n d name ≡ record { size = v.size; nodes = with_change number (target v.nodes from) (placed (target_folder v.nodes to) (last_name to)) v.nodes }
+moved_is v from to n d name h p =
+    sym (ap (λ o. with_place v (unwrap_or o 0) (target_folder v.nodes to) (last_name to)) h
+    ∙ (ap (λ o. with_place v n (unwrap_or o 0) (last_name to)) p.resolved
+    ∙ ap (λ t. with_place v n d t) p.name_is))
+
+bytes_moved : (v : Volume) (from to : List (List ℕ)) (n d : ℕ) (name : List ℕ) → IsVolume v.size v.nodes → resolve v.nodes from ≡ Some n → IsPlace v.nodes to d name → name_bytes (with_change number (target v.nodes from) (placed (target_folder v.nodes to) (last_name to)) v.nodes) + length (name_of v.nodes n) ≡ name_bytes v.nodes + length name
+bytes_moved v from to n d name k h p =
+    sym (ap (λ (w : Volume). name_bytes w.nodes + length (name_of v.nodes n)) (moved_is v from to n d name h p))
+    ∙ name_bytes-placed v.nodes n d name k.ascending (has_resolved v.size v.nodes from n k h)
+
+-- the refusal that is due to a move to a place
+pub move_due : (v : Volume) (last m : ℕ) (from to : List (List ℕ)) (n d : ℕ) (name : List ℕ) → IsVolume v.size v.nodes → resolve v.nodes from ≡ Some n → (n == 0) ≡ false → IsPlace v.nodes to d name → due v last m (File (Move from to)) ≡ option_and_then refusal_of (move_fault v n d name)
+move_due v last m from to n d name k h inner p =
+    let nodes = v.nodes in
+    let new = with_change number (target nodes from) (placed (target_folder nodes to) (last_name to)) nodes in
+    let on = target_is nodes from n h in
+    let at = target_is nodes (folder_part to) d p.resolved in
+    let dir = leads_to_folder_is nodes from n h in
+    listed_at (leads nodes from) (is_root from) (is_root to) (leads_to_folder nodes (folder_part to)) (leads_to_folder nodes from && is_under nodes (target nodes from) (target_folder nodes to)) (leads_to_other nodes to (target nodes from)) (nat_lt v.size.names (name_bytes new))
+    (is_under nodes n d) (is_other (child_number nodes d name) n) (nat_lt (v.size.names + length (name_of nodes n)) (name_bytes nodes + length name))
+    (leads_is nodes from n h) (root_is v.size nodes from n k h ∙ inner) p.inner (place_folder nodes to d name p)
+    (ap (λ b. b && is_under nodes (target nodes from) (target_folder nodes to)) dir
+    ∙ (ap (λ x. is_folder nodes n && is_under nodes x (target_folder nodes to)) on
+    ∙ (ap (λ x. is_folder nodes n && is_under nodes n x) at
+    ∙ under_is v.size nodes n d k (has_resolved v.size nodes (folder_part to) d k p.resolved) p.folder_is)))
+    (ap (leads_to_other nodes to) on ∙ ap (λ o. is_other o n) (place_leads v.size nodes to d name k p))
+    (bytes_test v.size.names (name_bytes nodes) (name_bytes new) (length (name_of nodes n)) (length name) (bytes_moved v from to n d name k h p))
+
+-- the root isn't moved
+first_move : (there root : Bool) (more : List Check) → there ≡ true → root ≡ true → first ((PathNotFound when not there) ∷ (InvalidMove when root) ∷ more) ≡ Some InvalidMove
+first_move there root more t r = rw (t, r) refl
+
+pub move_root : (v : Volume) (last m : ℕ) (from to : List (List ℕ)) (n : ℕ) → IsVolume v.size v.nodes → resolve v.nodes from ≡ Some n → n ≡ 0 → due v last m (File (Move from to)) ≡ Some InvalidMove
+move_root v last m from to n k h z =
+    first_move (leads v.nodes from) (is_root from) _ (leads_is v.nodes from n h) (root_is v.size v.nodes from n k h ∙ ap (λ i. i == 0) z)
+
+-- a place that isn't one
+second_move : (there root to_root folder : Bool) (more : List Check) → there ≡ true → root ≡ false → to_root ≡ true → first ((PathNotFound when not there) ∷ (InvalidMove when root) ∷ (AlreadyExists when to_root) ∷ (PathNotFound when not folder) ∷ more) ≡ Some AlreadyExists
+second_move there root to_root folder more t r s = rw (t, r, s) refl
+
+third_move : (there root to_root folder : Bool) (more : List Check) → there ≡ true → root ≡ false → to_root ≡ false → folder ≡ false → first ((PathNotFound when not there) ∷ (InvalidMove when root) ∷ (AlreadyExists when to_root) ∷ (PathNotFound when not folder) ∷ more) ≡ Some PathNotFound
+third_move there root to_root folder more t r s f = rw (t, r, s, f) refl
+
+stray_move : (v : Volume) (last m : ℕ) (from to : List (List ℕ)) (n : ℕ) (refusal : Refusal) → IsVolume v.size v.nodes → resolve v.nodes from ≡ Some n → (n == 0) ≡ false → IsRefusedPlace v.nodes to refusal → due v last m (File (Move from to)) ≡ Some refusal
+stray_move v last m from to n AlreadyExists k h inner p =
+    second_move (leads v.nodes from) (is_root from) (is_root to) (leads_to_folder v.nodes (folder_part to)) _ (leads_is v.nodes from n h) (root_is v.size v.nodes from n k h ∙ inner) p
+stray_move v last m from to n PathNotFound k h inner p =
+    third_move (leads v.nodes from) (is_root from) (is_root to) (leads_to_folder v.nodes (folder_part to)) _ (leads_is v.nodes from n h) (root_is v.size v.nodes from n k h ∙ inner) p.0 p.1
+stray_move v last m from to n other k h inner p = absurd p
+
+-- the refusal that is due to a move to no place
+pub stray_due : (v : Volume) (last m : ℕ) (old : Machine) (from to : List (List ℕ)) (n : ℕ) (refusal : Refusal) → machine v last ≡ old → IsVolume v.size v.nodes → resolve v.nodes from ≡ Some n → (n == 0) ≡ false → IsRefusedPlace old.rows.nodes to refusal → due v last m (File (Move from to)) ≡ Some refusal
+stray_due v last m old from to n refusal is k h inner p =
+    stray_move v last m from to n refusal k h inner (subst (λ (o : Machine). IsRefusedPlace o.rows.nodes to refusal) (sym is) p)
+
+-- a move's looks
+pub move_looks : (began found placed ended deep names names' more : ℕ) → found ≤ began + (22 * names + 1) → placed ≤ found + (22 * names' + 2) → ended ≤ placed + (66 + deep) → deep ≤ names' → ended ≤ began + (40 * (names + names' + 2) + more)
+move_looks began found placed ended deep names names' more a b c d = omega arith

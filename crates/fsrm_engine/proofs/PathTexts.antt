@@ -1,0 +1,123 @@
+-- The way up from a node, and its path's text.
+use Rattle.std.proofs.Common.{◌≡◌, ℕ, ◌+◌, ◌<◌, ◌≤◌, true, List, [], ◌∷◌, ◌++◌, length, get_or, refl, sym, ◌∙◌, ap, subst, arith, length-append, append_assoc, append-nil, ◌==◌, false, zero, suc, ◌⊎◌, inl, inr}
+use Rattle.std.proofs.lemmas.Bool.Decides.{nat_tests}
+use Rattle.std.proofs.lemmas.List.{map-append, reverse-append, length-map, length-reverse}
+use Rattle.std.specs.Prelude.{map, reverse, codes, drop}
+use Rattle.std.specs.List.{join_with_byte}
+use Rattle.fsrm_model.specs.declared.row.Capacity.{Capacity}
+use Rattle.fsrm_model.specs.declared.row.NodeRow.{NodeRow}
+use Rattle.fsrm_model.specs.Keyed.{has_row}
+use Rattle.fsrm_model.specs.Text.{path_text}
+use Rattle.fsrm_model.specs.Tree.{number, name_of, parent_of, chain, path_of}
+use Rattle.fsrm_model.specs.Valid.{IsVolume}
+use Rattle.fsrm_model.proofs.Tests.{eq_is}
+use Rattle.fsrm_model.proofs.DepthLaws.{some_member}
+use Rattle.fsrm_model.proofs.Keeps.{tree_of, found_parent}
+use Rattle.fsrm_model.proofs.Walks.{found_name}
+use Rattle.fsrm_model.proofs.Climbs.{climb, shorter}
+use Rattle.fsrm_model.proofs.Resolves.{path_length}
+use Rattle.volume_tree.specs.declared.answer.NodeView.{NodeView}
+use Rattle.volume_tree.specs.Volume.{Shows}
+use Rattle.fsrm_engine.specs.Walk.{AreThere}
+use Rattle.fsrm_engine.proofs.WalkLaws.{there-append}
+
+-- a node's parent, as it is lent
+parent_shown : (nodes : List NodeRow) (n : ℕ) (view : NodeView) → Shows view nodes n → parent_of nodes n ≡ view.parent
+parent_shown nodes n view shows = found_parent nodes n shows.row shows.found ∙ sym shows.is.parent
+
+pub chain_of_root : (nodes : List NodeRow) → chain nodes 0 ≡ 0 ∷ []
+chain_of_root [] = refl
+chain_of_root (row ∷ rows) = refl
+
+pub up_there : (K : Capacity) (nodes : List NodeRow) (n : ℕ) (view : NodeView) → IsVolume K nodes → has_row number n nodes ≡ true → Shows view nodes n → has_row number view.parent nodes ≡ true
+up_there K nodes n view v h shows = subst (λ (m : ℕ). has_row number m nodes ≡ true) (parent_shown nodes n view shows) ((tree_of K nodes v).closed n h)
+
+pub up_way : (K : Capacity) (nodes : List NodeRow) (start n : ℕ) (view : NodeView) (old new : List ℕ) → IsVolume K nodes → has_row number n nodes ≡ true → (n ≡ 0 → ⊥) → Shows view nodes n → new ≡ old ++ n ∷ [] → chain nodes start ≡ old ++ chain nodes n → chain nodes start ≡ new ++ chain nodes view.parent
+up_way K nodes start n view old new v h inner shows push way =
+    let up = chain nodes view.parent in
+    way
+    ∙ (ap (λ (ns : List ℕ). old ++ ns) (climb nodes (tree_of K nodes v) n h inner)
+    ∙ (ap (λ (m : ℕ). old ++ n ∷ chain nodes m) (parent_shown nodes n view shows)
+    ∙ (sym (append_assoc old (n ∷ []) up) ∙ ap (λ (ns : List ℕ). ns ++ up) (sym push))))
+
+pub up_smaller : (K : Capacity) (nodes : List NodeRow) (n : ℕ) (view : NodeView) → IsVolume K nodes → has_row number n nodes ≡ true → (n ≡ 0 → ⊥) → Shows view nodes n → length (chain nodes view.parent) < length (chain nodes n)
+up_smaller K nodes n view v h inner shows =
+    subst (λ (m : ℕ). length (chain nodes m) < length (chain nodes n)) (parent_shown nodes n view shows) (shorter nodes (tree_of K nodes v) n h inner)
+
+pub up_there_more : (nodes : List NodeRow) (n : ℕ) (old new : List ℕ) → AreThere nodes old → has_row number n nodes ≡ true → new ≡ old ++ n ∷ [] → AreThere nodes new
+up_there_more nodes n old new each h push = subst (AreThere nodes) (sym push) (there-append nodes old (n ∷ []) each (h, tt))
+
+pub up_length : (n : ℕ) (old new : List ℕ) → new ≡ old ++ n ∷ [] → length new ≡ length old + 1
+up_length n old new push = omega (arith, ap length push, length-append old (n ∷ []))
+
+-- the way up has no more nodes than the path has names
+pub way_short : (nodes : List NodeRow) (start n : ℕ) (way : List ℕ) → chain nodes start ≡ way ++ chain nodes n → length way ≤ length (path_of nodes start)
+way_short nodes start n way e =
+    omega (arith, path_length nodes start, ap length e, length-append way (chain nodes n), some_member (length nodes) nodes n)
+
+-- read backwards it is the path
+pub turned_there : (nodes : List NodeRow) (way : List ℕ) → AreThere nodes way → AreThere nodes (reverse way)
+turned_there nodes [] h = tt
+turned_there nodes (n ∷ way) h = subst (AreThere nodes) (sym (reverse-append (n ∷ []) way)) (there-append nodes (reverse way) (n ∷ []) (turned_there nodes way h.1) (h.0, tt))
+
+pub way_path : (nodes : List NodeRow) (n : ℕ) (way : List ℕ) → chain nodes n ≡ way ++ 0 ∷ [] → map (name_of nodes) (reverse way) ≡ path_of nodes n
+way_path nodes n way e = sym (ap (λ (ns : List ℕ). drop 1 (map (name_of nodes) ns)) (ap reverse e ∙ reverse-append way (0 ∷ [])))
+
+pub way_text : (nodes : List NodeRow) (n : ℕ) (way text : List ℕ) → chain nodes n ≡ way ++ 0 ∷ [] → text ≡ codes "D:\\" ++ join_with_byte 92 (map (name_of nodes) (reverse way)) → text ≡ path_text nodes n
+way_text nodes n way text e is = is ∙ ap (λ (names : List (List ℕ)). codes "D:\\" ++ join_with_byte 92 names) (way_path nodes n way e)
+
+-- each name behind a `\`
+abbrev pub behind : List (List ℕ) → List ℕ
+behind [] = []
+behind (name ∷ names) = 92 ∷ name ++ behind names
+
+behind_push : (names : List (List ℕ)) (name : List ℕ) → behind (names ++ name ∷ []) ≡ behind names ++ 92 ∷ name
+behind_push [] name = ap (λ (bytes : List ℕ). 92 ∷ bytes) (append-nil name)
+behind_push (first ∷ names) name =
+    ap (λ (bytes : List ℕ). 92 ∷ bytes) (ap (λ (bytes : List ℕ). first ++ bytes) (behind_push names name) ∙ sym (append_assoc first (behind names) (92 ∷ name)))
+
+pub name_pushed : (nodes : List NodeRow) (way more : List ℕ) (n : ℕ) (view : NodeView) (start old middle new : List ℕ) → Shows view nodes n → more ≡ way ++ n ∷ [] → middle ≡ old ++ 92 ∷ [] → new ≡ middle ++ view.name.now → old ≡ start ++ behind (map (name_of nodes) way) → new ≡ start ++ behind (map (name_of nodes) more)
+name_pushed nodes way more n view start old middle new shows on first second so_far =
+    let names = map (name_of nodes) way in
+    let name = view.name.now in
+    let is : name_of nodes n ≡ name = found_name nodes n shows.row shows.found ∙ sym shows.is.name in
+    let all : map (name_of nodes) more ≡ names ++ name ∷ [] =
+    ap (map (name_of nodes)) on ∙ (map-append (name_of nodes) way (n ∷ []) ∙ ap (λ (bytes : List ℕ). names ++ bytes ∷ []) is) in
+    second
+    ∙ (ap (λ (bytes : List ℕ). bytes ++ name) (first ∙ ap (λ (bytes : List ℕ). bytes ++ 92 ∷ []) so_far)
+    ∙ (append_assoc (start ++ behind names) (92 ∷ []) name
+    ∙ (append_assoc start (behind names) (92 ∷ name)
+    ∙ (ap (λ (bytes : List ℕ). start ++ bytes) (sym (behind_push names name))
+    ∙ ap (λ (all : List (List ℕ)). start ++ behind all) (sym all)))))
+
+-- so the names are joined
+joined_from : (name : List ℕ) (names : List (List ℕ)) → name ++ behind names ≡ join_with_byte 92 (name ∷ names)
+joined_from name [] = append-nil name
+joined_from name (next ∷ names) = ap (λ (bytes : List ℕ). name ++ 92 ∷ bytes) (joined_from next names)
+
+pub joined_names : (names : List (List ℕ)) (start : List ℕ) → ((length names ≡ 0) × (start ≡ codes "D:\\")) ⊎ ((0 < length names) × (start ≡ codes "D:")) → start ++ behind names ≡ codes "D:\\" ++ join_with_byte 92 names
+joined_names [] start (inl e) = ap (λ (bytes : List ℕ). bytes ++ []) e.1
+joined_names [] start (inr e) = absurd (omega (arith, e.0))
+joined_names (name ∷ names) start (inl e) = absurd (omega (arith, e.0))
+joined_names (name ∷ names) start (inr e) =
+    ap (λ (bytes : List ℕ). bytes ++ behind (name ∷ names)) e.1
+    ∙ ap (λ (bytes : List ℕ). codes "D:\\" ++ bytes) (joined_from name names)
+
+some_more : (n : ℕ) → (n == 0) ≡ false → 0 < n
+some_more n h = grind (arith, nat_tests)
+
+pub joined_text : (nodes : List NodeRow) (way turned start text : List ℕ) → turned ≡ reverse way → (((length way == 0) ≡ true) × (start ≡ codes "D:\\")) ⊎ (((length way == 0) ≡ false) × (start ≡ codes "D:")) → text ≡ start ++ behind (map (name_of nodes) turned) → text ≡ codes "D:\\" ++ join_with_byte 92 (map (name_of nodes) (reverse way))
+joined_text nodes way turned start text e first is =
+    let names = map (name_of nodes) (reverse way) in
+    let long : length names ≡ length way = omega (arith, length-map (reverse way) (name_of nodes), length-reverse way) in
+    is
+    ∙ (ap (λ (ns : List ℕ). start ++ behind (map (name_of nodes) ns)) e
+    ∙ joined_names names start (elim first [
+      | inl f ↦ inl (long ∙ eq_is (length way) 0 f.0, f.1)
+      | inr f ↦ inr (omega (arith, long, some_more (length way) f.0), f.1)
+    ]))
+
+pub there_at : (nodes : List NodeRow) (ns : List ℕ) (k n : ℕ) → AreThere nodes ns → (k < length ns) × (n ≡ get_or ns k n) → has_row number n nodes ≡ true
+there_at nodes [] k n h at = absurd (omega (arith, at.0))
+there_at nodes (m ∷ ns) zero n h at = subst (λ (j : ℕ). has_row number j nodes ≡ true) (sym at.1) h.0
+there_at nodes (m ∷ ns) (suc k) n h at = there_at nodes ns k n h.1 (omega (arith, at.0), at.1)

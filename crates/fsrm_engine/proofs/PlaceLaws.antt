@@ -1,0 +1,109 @@
+-- What a path leads to, by what the engine found.
+use Rattle.std.proofs.Common.{◌≡◌, ℕ, suc, ◌+◌, ◌-◌, ◌≤◌, ◌==◌, true, false, List, [], ◌∷◌, length, take, Some, ap, sym, ◌∙◌, subst, arith}
+use Rattle.std.proofs.lemmas.Option.{same_Some, get_or_from_slice_get}
+use Rattle.std.proofs.lemmas.Bool.Decides.{nat_tests}
+use Rattle.std.proofs.lemmas.List.{length-take-le}
+use Rattle.std.specs.Prelude.{is_some, slice_get, unwrap_or, slice_index_or}
+use Rattle.std.specs.Option.{option_map_or}
+use Rattle.fsrm_model.specs.declared.row.Capacity.{Capacity}
+use Rattle.fsrm_model.specs.declared.row.NodeRow.{NodeRow}
+use Rattle.fsrm_model.specs.FileOps.{target}
+use Rattle.fsrm_model.specs.Keyed.{has_row}
+use Rattle.fsrm_model.specs.Leads.{is_root, leads, leads_to_folder}
+use Rattle.fsrm_model.specs.Tree.{number, is_folder, child_number, chain, path_of, resolve, folder_part, last_name}
+use Rattle.fsrm_model.specs.Valid.{IsVolume}
+use Rattle.fsrm_model.proofs.Tests.{not_true, eq_is, suc_apart}
+use Rattle.fsrm_model.proofs.Walks.{path_root}
+use Rattle.fsrm_model.proofs.Resolves.{resolve_root, resolve_child, resolved, some_name}
+use Rattle.fsrm_model.proofs.Keeps.{found_folder}
+use Rattle.fsrm_model.specs.Name.{is_name}
+use Rattle.volume_tree.specs.declared.answer.NodeView.{NodeView}
+use Rattle.volume_tree.specs.Volume.{Volume, Shows}
+use Rattle.fsrm_engine.specs.Machine.{Machine}
+use Rattle.fsrm_engine.specs.Places.{IsPlace, IsFile}
+use Rattle.fsrm_engine.proofs.StepLaws.{machine}
+
+-- a path's last name is its part at the last place
+pub last_name_is : (path : List (List ℕ)) (last depth : ℕ) (name : List ℕ) → depth ≡ length path → last + 1 ≡ depth → slice_get path last ≡ Some name → last_name path ≡ name
+last_name_is path last depth name d l h =
+    let is : length path - 1 ≡ last = omega arith in
+    ap (λ k. slice_index_or path k []) is ∙ get_or_from_slice_get path last name [] h
+
+-- the folder part of a path is its first names
+pub first_names : (path : List (List ℕ)) (last depth : ℕ) → depth ≡ length path → last + 1 ≡ depth → take last path ≡ folder_part path
+first_names path last depth d l =
+    let is : last ≡ length path - 1 = omega arith in
+    ap (λ k. take k path) is
+
+pub not_root : (path : List (List ℕ)) (last depth : ℕ) → depth ≡ length path → last + 1 ≡ depth → is_root path ≡ false
+not_root path last depth d l = grind (arith, nat_tests)
+
+-- a path that leads to the root is the root's
+pub root_is : (K : Capacity) (nodes : List NodeRow) (path : List (List ℕ)) (n : ℕ) → IsVolume K nodes → resolve nodes path ≡ Some n → is_root path ≡ (n == 0)
+root_is K nodes [] n v h = ap (λ k. k == 0) (same_Some 0 n (sym (resolve_root K nodes v) ∙ h))
+root_is K nodes (name ∷ names) n v h =
+    let inner : (n == 0) ≡ false = not_true _ (λ t.
+    let is : n ≡ 0 = eq_is _ _ t in
+    let long : length (path_of nodes 0) ≡ suc (length names) = subst (λ k. length (path_of nodes k) ≡ suc (length names)) is (resolved K nodes (name ∷ names) n v h).long in
+    let none : length (path_of nodes 0) ≡ 0 = ap length (path_root nodes) in
+    absurd (omega arith)) in
+    suc_apart (length names) ∙ sym inner
+
+pub has_resolved : (K : Capacity) (nodes : List NodeRow) (path : List (List ℕ)) (n : ℕ) → IsVolume K nodes → resolve nodes path ≡ Some n → has_row number n nodes ≡ true
+has_resolved K nodes path n v h = (resolved K nodes path n v h).has
+
+pub leads_is : (nodes : List NodeRow) (path : List (List ℕ)) (n : ℕ) → resolve nodes path ≡ Some n → leads nodes path ≡ true
+leads_is nodes path n h = ap is_some h
+
+pub target_is : (nodes : List NodeRow) (path : List (List ℕ)) (n : ℕ) → resolve nodes path ≡ Some n → target nodes path ≡ n
+target_is nodes path n h = ap (λ o. unwrap_or o 0) h
+
+pub leads_to_folder_is : (nodes : List NodeRow) (path : List (List ℕ)) (n : ℕ) → resolve nodes path ≡ Some n → leads_to_folder nodes path ≡ is_folder nodes n
+leads_to_folder_is nodes path n h = ap (λ o. option_map_or (is_folder nodes) o false) h
+
+-- what the path of a place leads to is the child that has the name
+pub place_leads : (K : Capacity) (nodes : List NodeRow) (path : List (List ℕ)) (d : ℕ) (name : List ℕ) → IsVolume K nodes → IsPlace nodes path d name → resolve nodes path ≡ child_number nodes d name
+place_leads K nodes path d name v p =
+    resolve_child K nodes path d v (some_name path p.inner) p.resolved ∙ ap (child_number nodes d) p.name_is
+
+pub place_folder : (nodes : List NodeRow) (path : List (List ℕ)) (d : ℕ) (name : List ℕ) → IsPlace nodes path d name → leads_to_folder nodes (folder_part path) ≡ true
+place_folder nodes path d name p = leads_to_folder_is nodes (folder_part path) d p.resolved ∙ p.folder_is
+
+-- how far a place's folder is from the root
+pub place_depth : (K : Capacity) (nodes : List NodeRow) (path : List (List ℕ)) (d : ℕ) (name : List ℕ) → IsVolume K nodes → IsPlace nodes path d name → length (chain nodes d) ≤ length path
+place_depth K nodes path d name v p =
+    let r = resolved K nodes (folder_part path) d v p.resolved in
+    let some = some_name path p.inner in
+    let short : length (folder_part path) ≡ length path - 1 = length-take-le (length path - 1) path (omega arith) in
+    omega (arith, r.deep)
+
+-- whether a node that is lent is a folder
+pub shown_folder : (nodes : List NodeRow) (n : ℕ) (view : NodeView) → Shows view nodes n → is_folder nodes n ≡ view.folder
+shown_folder nodes n view s = found_folder nodes n s.row s.found ∙ sym s.is.folder
+
+-- what the engine found, seen from outside
+pub file_at : (v : Volume) (last : ℕ) (old : Machine) (path : List (List ℕ)) (n : ℕ) (view : NodeView) → machine v last ≡ old → IsVolume v.size v.nodes → Some n ≡ resolve v.nodes path → Shows view v.nodes n → view.folder ≡ false → IsFile old.rows.nodes path n
+file_at v last old path n view is k h s f =
+    subst (λ (o : Machine). IsFile o.rows.nodes path n) is
+    (record { resolved = sym h; there = has_resolved v.size v.nodes path n k (sym h); file = shown_folder v.nodes n view s ∙ f })
+
+pub place_at : (v : Volume) (last : ℕ) (old : Machine) (path : List (List ℕ)) (depth at d : ℕ) (name : List ℕ) (view : NodeView) → machine v last ≡ old → depth ≡ length path → (1 ≤ depth) × (at ≡ depth - 1) → Some d ≡ resolve v.nodes (take at path) → Shows view v.nodes d → view.folder ≡ true → slice_get path at ≡ Some name → is_name name ≡ true → IsPlace old.rows.nodes path d name
+place_at v last old path depth at d name view is deep at_is h s f part valid =
+    let a = at_is.0 in
+    let b = at_is.1 in
+    let next : at + 1 ≡ depth = omega arith in
+    subst (λ (o : Machine). IsPlace o.rows.nodes path d name) is
+    (record {
+      inner = not_root path at depth deep next;
+      resolved = sym (ap (resolve v.nodes) (first_names path at depth deep next)) ∙ sym h;
+      folder_is = shown_folder v.nodes d view s ∙ f;
+      name_is = last_name_is path at depth name deep next part;
+      valid = valid;
+    })
+
+-- and seen from inside
+pub place_within : (v : Volume) (last : ℕ) (old : Machine) (path : List (List ℕ)) (d : ℕ) (name : List ℕ) → machine v last ≡ old → IsPlace old.rows.nodes path d name → IsPlace v.nodes path d name
+place_within v last old path d name is p = subst (λ (o : Machine). IsPlace o.rows.nodes path d name) (sym is) p
+
+pub apart : (n : ℕ) → (n ≡ 0 → ⊥) → (n == 0) ≡ false
+apart n h = grind (arith, nat_tests)

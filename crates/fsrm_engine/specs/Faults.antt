@@ -1,0 +1,25 @@
+-- A tree's fault as the refusal of a command.
+use Rattle.std.specs.Prelude.{false, Option, Some, None, option_map}
+use Rattle.fsrm_model.specs.declared.command.Answer.{Answer}
+use Rattle.fsrm_model.specs.declared.command.Outcome.TheVariants.{Refused}
+use Rattle.fsrm_model.specs.declared.command.Refusal.{Refusal}
+use Rattle.fsrm_model.specs.declared.command.Refusal.TheVariants as refusal
+use Rattle.volume_tree.specs.declared.answer.TreeFault.{TreeFault}
+use Rattle.volume_tree.specs.declared.answer.TreeFault.TheVariants.{AlreadyExists, InvalidMove, NotEmpty, VolumeFull, NamesFull, NoMemory}
+
+-- want of memory is no refusal
+abbrev pub refusal_of : TreeFault → Option Refusal
+refusal_of AlreadyExists = Some refusal.AlreadyExists
+refusal_of InvalidMove = Some refusal.InvalidMove
+refusal_of NotEmpty = Some refusal.NotEmpty
+refusal_of VolumeFull = Some refusal.VolumeFull
+refusal_of NamesFull = Some refusal.NamesFull
+refusal_of NoMemory = None
+
+-- the answer of a refused command, which never lasts
+abbrev pub refused_answer : Refusal → Answer
+refused_answer refusal = record { outcome = Refused refusal; lasting = false }
+
+-- the answer where the tree refused
+abbrev pub answer_of : TreeFault → Option Answer
+answer_of fault = option_map refused_answer (refusal_of fault)

@@ -1,0 +1,4 @@
+pub mod Machine
+pub mod Faults
+pub mod Places
+pub mod Walk

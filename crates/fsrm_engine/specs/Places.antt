@@ -1,0 +1,33 @@
+-- What a path leads to, as the engine finds it.
+use Rattle.std.specs.Prelude.{◌≡◌, ℕ, true, false, List, Option, Some, None}
+use Rattle.fsrm_model.specs.declared.command.Refusal.{Refusal}
+use Rattle.fsrm_model.specs.declared.command.Refusal.TheVariants.{AlreadyExists, PathNotFound}
+use Rattle.fsrm_model.specs.declared.row.NodeRow.{NodeRow}
+use Rattle.fsrm_model.specs.Keyed.{has_row}
+use Rattle.fsrm_model.specs.Leads.{is_root, leads_to_folder, leads_to_file}
+use Rattle.fsrm_model.specs.Name.{is_name}
+use Rattle.fsrm_model.specs.Tree.{number, resolve, is_folder, folder_part, last_name}
+
+-- a folder, and the name that a path gives in it
+pub record IsPlace (nodes : List NodeRow) (path : List (List ℕ)) (folder : ℕ) (name : List ℕ) : Type 0 where
+  pub inner : is_root path ≡ false
+  pub resolved : resolve nodes (folder_part path) ≡ Some folder
+  pub folder_is : is_folder nodes folder ≡ true
+  pub name_is : last_name path ≡ name
+  pub valid : is_name name ≡ true
+
+-- why a path names no place: it is the root's, or its folder isn't there
+abbrev pub IsRefusedPlace : List NodeRow → List (List ℕ) → Refusal → Type 0
+IsRefusedPlace nodes path AlreadyExists = is_root path ≡ true
+IsRefusedPlace nodes path PathNotFound = (is_root path ≡ false) × (leads_to_folder nodes (folder_part path) ≡ false)
+IsRefusedPlace nodes path other = ⊥
+
+-- the file that a path leads to
+pub record IsFile (nodes : List NodeRow) (path : List (List ℕ)) (n : ℕ) : Type 0 where
+  pub resolved : resolve nodes path ≡ Some n
+  pub there : has_row number n nodes ≡ true
+  pub file : is_folder nodes n ≡ false
+
+abbrev pub IsFileAt : List NodeRow → List (List ℕ) → Option ℕ → Type 0
+IsFileAt nodes path None = leads_to_file nodes path ≡ false
+IsFileAt nodes path (Some n) = IsFile nodes path n

@@ -1,0 +1,144 @@
+//! The machine that takes commands.
+
+ghost use Rattle.std.specs.Prelude.{◌≡◌, ◌+◌, ◌≤◌, [], true, length, IfOk, OnErr};
+ghost use Rattle.fsrm_model.specs.declared.command.Deed.TheVariants.{File};
+ghost use Rattle.fsrm_model.specs.Cost.{cost};
+ghost use Rattle.fsrm_model.specs.Fresh.{new_rows};
+ghost use Rattle.fsrm_model.specs.Limits.{latest_moment};
+ghost use Rattle.fsrm_model.specs.Step.{step};
+ghost use Rattle.fsrm_model.specs.Valid.{IsVolume};
+ghost use Rattle.fsrm_model.specs.Valued.{is_op, is_command};
+ghost use Rattle.fsrm_engine.specs.Machine.{Takes};
+ghost use Rattle.volume_tree.specs.Volume.{IsCapacity};
+
+use crate::exits::refused;
+use fsrm_model::{Answer, Capacity, Command, Deed, FileOp, Ledger, NoMemory, Refusal, Steps};
+use std::alloc::Global;
+use std::marker::Model;
+use volume_tree::Tree;
+
+/// What an engine is set to, and how far it has come.
+#[derive(Clone, Copy, Debug, PartialEq, Eq)]
+pub struct Settings {
+    /// Minutes: what an action's run limit of -1 stands for.
+    pub run_limit: u32,
+    /// How many quotas wait to be scanned.
+    pub scans: u32,
+    /// The moment of the last command that lasts, in seconds since 1970-01-01 00:00:00 UTC.
+    pub last_moment: u64,
+}
+
+const RUN_LIMIT: u32 = 60;
+
+/// The machine that takes commands, in memory. Contracts see it as how much it may hold, its rows,
+/// and the acts that wait to be handed out.
+#[derive(Drop)]
+pub struct Engine {
+    pub(crate) tree: Tree,
+    pub(crate) last_moment: u64,
+}
+
+impl Model for Engine {
+    ghost use Rattle.std.specs.Prelude.{[]};
+    ghost use Rattle.fsrm_engine.specs.Machine.{Machine, rows_at, IsEngine};
+
+    ghost Value = { Machine };
+
+    ghost view = { λ e. record { size = e.tree.size; rows = rows_at e.tree.nodes e.last_moment; waiting = [] } };
+
+    ghost invariant = { λ e. IsEngine e.tree.size e.tree.nodes };
+}
+
+impl Engine {
+    /// An engine over a new volume of this size: 2 to 1,048,576 nodes, and 256 to 268,435,456 bytes of
+    /// names.
+    pub fn new(alloc: Global, size: Capacity) -> Result<Engine, NoMemory>
+        requires { IsCapacity size }
+        ensures { IfOk result (λ engine. engine ≡ record { size = size; rows = new_rows; waiting = [] }) }
+    {
+        match Tree::reserve(alloc, size) {
+            Ok(tree) => Ok(Engine {
+                tree,
+                last_moment: 0,
+            }),
+            Err(NoMemory) => Err(NoMemory),
+        }
+    }
+
+    /// The volume's folders and files, lent.
+    pub fn tree(&self) -> &Tree
+        ensures size { result.now.size ≡ self.now.size }
+        ensures nodes { result.now.nodes ≡ self.now.rows.nodes }
+        ensures volume { IsVolume self.now.size self.now.rows.nodes }
+    {
+        &self.tree
+    }
+
+    /// What the engine is set to, and how far it has come.
+    pub fn settings(&self) -> Settings
+        ensures run_limit { result.run_limit ≡ self.now.rows.run_limit }
+        ensures scans { result.scans ≡ length self.now.rows.queue }
+        ensures last_moment { result.last_moment ≡ self.now.rows.last_moment }
+    {
+        Settings {
+            run_limit: RUN_LIMIT,
+            scans: 0,
+            last_moment: self.last_moment,
+        }
+    }
+
+    /// Takes a command: the answer is the plain machine's, and so are the rows and the acts that are
+    /// left. An `Err` changes nothing.
+    pub fn apply<L: Ledger>(
+        &mut self,
+        alloc: Global,
+        command: &Command,
+        steps: &mut Steps<L>,
+    ) -> Result<Answer, NoMemory>
+        requires valid { is_command command.now ≡ true }
+        requires idle { self.old.waiting ≡ [] }
+        ensures ok { IfOk result (λ answer. Takes self.old self.new (step self.old.size self.old.rows command.now) answer) }
+        ensures err { OnErr result (self.new ≡ self.old) }
+        ensures kept { IsVolume self.new.size self.new.rows.nodes }
+        ensures looks { steps.new ≤ steps.old + cost self.old.rows command.now.deed }
+    {
+        match &command.deed {
+            Deed::File(op) => self.file_op(alloc, op, command.moment, steps),
+            Deed::Usage { path } => self.usage(alloc, path, command.moment, steps),
+        }
+    }
+
+    /// Takes a file operation of this moment, in seconds since 1970-01-01 00:00:00 UTC. An `Err`
+    /// changes nothing.
+    pub fn file_op<L: Ledger>(
+        &mut self,
+        _alloc: Global,
+        op: &FileOp,
+        moment: u64,
+        steps: &mut Steps<L>,
+    ) -> Result<Answer, NoMemory>
+        requires valid { is_op op.now ≡ true }
+        requires moment { moment ≤ latest_moment }
+        requires idle { self.old.waiting ≡ [] }
+        ensures ok { IfOk result (λ answer. Takes self.old self.new (step self.old.size self.old.rows (record { moment = moment; deed = File op.now })) answer) }
+        ensures err { OnErr result (self.new ≡ self.old) }
+        ensures kept { IsVolume self.new.size self.new.rows.nodes }
+        ensures looks { steps.new ≤ steps.old + cost self.old.rows (File op.now) }
+    {
+        if moment < self.last_moment {
+            return Ok(refused(Refusal::ClockBack));
+        }
+        match op {
+            FileOp::Mkdir { path, owner } => self.mkdir(path, *owner, moment, steps),
+            FileOp::Create {
+                path,
+                length,
+                owner,
+            } => self.create(path, *length, *owner, moment, steps),
+            FileOp::Resize { path, length } => self.resize(path, *length, moment, steps),
+            FileOp::Touch { path } => self.touch(path, moment, steps),
+            FileOp::Move { from, to } => self.move_path(from, to, moment, steps),
+            FileOp::Remove { path } => self.remove(path, moment, steps),
+        }
+    }
+}

@@ -1,0 +1,33 @@
+//! What a command answers that is refused.
+
+ghost use Rattle.std.specs.Prelude.{◌≡◌, IfOk, OnErr, Some, None};
+ghost use Rattle.fsrm_engine.specs.Faults.{answer_of, refused_answer};
+
+use fsrm_model::{Answer, NoMemory, Outcome, Refusal};
+use volume_tree::TreeFault;
+
+/// The answer of a refused command, which never lasts.
+pub fn refused(refusal: Refusal) -> Answer
+    ensures { result ≡ refused_answer refusal }
+{
+    Answer {
+        outcome: Outcome::Refused(refusal),
+        lasting: false,
+    }
+}
+
+/// The same where the tree refused. Want of memory is no refusal.
+pub fn refused_by(fault: TreeFault) -> Result<Answer, NoMemory>
+    ensures ok { IfOk result (λ answer. answer_of fault ≡ Some answer) }
+    ensures err { OnErr result (answer_of fault ≡ None) }
+{
+    let refusal = match fault {
+        TreeFault::AlreadyExists => Refusal::AlreadyExists,
+        TreeFault::InvalidMove => Refusal::InvalidMove,
+        TreeFault::NotEmpty => Refusal::NotEmpty,
+        TreeFault::VolumeFull => Refusal::VolumeFull,
+        TreeFault::NamesFull => Refusal::NamesFull,
+        TreeFault::NoMemory => return Err(NoMemory),
+    };
+    Ok(refused(refusal))
+}

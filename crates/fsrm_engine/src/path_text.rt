@@ -1,0 +1,77 @@
+//! A node's path, as it is written.
+
+ghost use Rattle.std.specs.Prelude.{◌≡◌, ◌+◌, ◌*◌, ◌≤◌, ◌++◌, ◌∷◌, [], true, length, map, reverse, codes, IfOk};
+ghost use Rattle.std.specs.List.{join_with_byte};
+ghost use Rattle.std.specs.String.{string_bytes};
+ghost use Rattle.fsrm_model.specs.Keyed.{has_row};
+ghost use Rattle.fsrm_model.specs.Text.{path_text};
+ghost use Rattle.fsrm_model.specs.Tree.{number as key, name_of, chain, path_of};
+ghost use Rattle.fsrm_model.specs.Valid.{IsVolume};
+ghost use Rattle.fsrm_engine.specs.Walk.{AreThere};
+
+use crate::engine::Engine;
+use fsrm_model::{Ledger, NoMemory, Steps, Text};
+use std::alloc::Global;
+use volume_tree::Tree;
+
+// The way from a node up to the root, without the root.
+fn way_up<L: Ledger>(
+    tree: &Tree,
+    alloc: Global,
+    node: u32,
+    steps: &mut Steps<L>,
+) -> Result<Vec<u32>, NoMemory>
+    requires volume { IsVolume tree.now.size tree.now.nodes }
+    requires there { has_row key node tree.now.nodes ≡ true }
+    ensures there { IfOk result (λ way. AreThere tree.now.nodes way.items) }
+    ensures way { IfOk result (λ way. chain tree.now.nodes node ≡ way.items ++ 0 ∷ []) }
+    ensures looks { steps.new ≤ steps.old + length (path_of tree.now.nodes node) }
+{
+    let mut way = Vec::new(alloc);
+    let mut at = node;
+    while at != 0 {
+        way.push(at)?;
+        at = tree.node(at, steps).parent;
+    }
+    Ok(way)
+}
+
+// The text of the path whose nodes these are, from the last one to the first.
+fn joined<L: Ledger>(
+    tree: &Tree,
+    alloc: Global,
+    way: &[u32],
+    steps: &mut Steps<L>,
+) -> Result<String, NoMemory>
+    requires volume { IsVolume tree.now.size tree.now.nodes }
+    requires there { AreThere tree.now.nodes way.now }
+    ensures text { IfOk result (λ text. string_bytes text ≡ codes "D:\\" ++ join_with_byte 92 (map (name_of tree.now.nodes) (reverse way.now))) }
+    ensures looks { steps.new ≤ steps.old + length way.now }
+{
+    // Each name stands behind a `\`, and the root has the `\` alone.
+    let mut text = String::from_str(alloc, if way.is_empty() { "D:\\" } else { "D:" })?;
+    for node in way.iter().rev() {
+        text.push('\\')?;
+        text.push_str(tree.node(*node, steps).name)?;
+    }
+    Ok(text)
+}
+
+impl Engine {
+    /// A node's path: `D:\`, and the names from the root down to it, joined by `\`. It takes no more
+    /// than 4 looks for the root and for each name.
+    pub fn path_text<L: Ledger>(
+        &self,
+        alloc: Global,
+        node: u32,
+        steps: &mut Steps<L>,
+    ) -> Result<Text, NoMemory>
+        requires { has_row key node self.now.rows.nodes ≡ true }
+        ensures text { IfOk result (λ text. text ≡ path_text self.now.rows.nodes node) }
+        ensures looks { steps.new ≤ steps.old + 4 * (length (path_of self.now.rows.nodes node) + 1) }
+    {
+        let way = way_up(&self.tree, alloc, node, steps)?;
+        let text = joined(&self.tree, alloc, &way, steps)?;
+        Ok(Text::from_string(text))
+    }
+}

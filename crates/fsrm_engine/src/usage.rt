@@ -1,0 +1,124 @@
+//! What the files at and below a node take.
+
+ghost use Rattle.std.specs.Prelude.{◌≡◌, ◌+◌, ◌*◌, ◌≤◌, ◌++◌, true, length, map, IfOk, OnOk, OnErr};
+ghost use Rattle.fsrm_model.specs.declared.command.Deed.TheVariants.{Usage};
+ghost use Rattle.fsrm_model.specs.declared.row.Capacity.{Capacity};
+ghost use Rattle.fsrm_model.specs.Cost.{cost};
+ghost use Rattle.fsrm_model.specs.Keyed.{has_row};
+ghost use Rattle.fsrm_model.specs.Limits.{longest_file};
+ghost use Rattle.fsrm_model.specs.Space.{alloc};
+ghost use Rattle.fsrm_model.specs.Step.{step};
+ghost use Rattle.fsrm_model.specs.Tree.{number as key, children_in_order, usage, under};
+ghost use Rattle.fsrm_model.specs.Valid.{IsVolume};
+ghost use Rattle.fsrm_engine.specs.Machine.{Takes};
+ghost use Rattle.volume_tree.specs.Volume.{IsCapacity};
+ghost use Rattle.fsrm_engine.specs.Walk.{usage_of_all, under_all, AreThere};
+
+use crate::engine::Engine;
+use crate::exits::refused;
+use fsrm_model::{Answer, Ledger, NoMemory, Outcome, Path, Refusal, Steps};
+use std::alloc::Global;
+use volume_tree::Tree;
+
+const CLUSTER: u64 = 4_096;
+
+// A length, rounded up to whole clusters.
+fn allocated(bytes: u64) -> u64
+    requires { bytes ≤ longest_file }
+    ensures space { (K : Capacity) → result ≡ alloc K bytes }
+    ensures small { result ≤ longest_file }
+{
+    bytes.div_ceil(CLUSTER) * CLUSTER
+}
+
+// Puts a folder's children behind the nodes that are still to be visited.
+fn push_children<L: Ledger>(
+    tree: &Tree,
+    folder: u32,
+    pending: &mut Vec<u32>,
+    steps: &mut Steps<L>,
+) -> Result<(), NoMemory>
+    ensures pushed { OnOk result (pending.new.items ≡ pending.old.items ++ map key (children_in_order tree.now.nodes folder)) }
+    ensures looks { steps.new ≤ steps.old + (1 + length (children_in_order tree.now.nodes folder)) }
+{
+    for place in 0..tree.child_count(folder, steps) {
+        pending.push(tree.child_at(folder, place, steps))?;
+    }
+    Ok(())
+}
+
+// Visits a node: what it takes itself, with its children put behind the nodes that are still to be
+// visited.
+fn visit<L: Ledger>(
+    tree: &Tree,
+    node: u32,
+    pending: &mut Vec<u32>,
+    steps: &mut Steps<L>,
+) -> Result<u64, NoMemory>
+    requires volume { IsVolume tree.now.size tree.now.nodes }
+    requires there { has_row key node tree.now.nodes ≡ true }
+    requires pending { AreThere tree.now.nodes pending.old.items }
+    ensures sum { IfOk result (λ bytes. bytes + usage_of_all tree.now.size tree.now.nodes pending.new.items ≡ usage tree.now.size tree.now.nodes node + usage_of_all tree.now.size tree.now.nodes pending.old.items) }
+    ensures left { OnOk result (1 + under_all tree.now.nodes pending.new.items ≡ length (under tree.now.nodes node) + under_all tree.now.nodes pending.old.items) }
+    ensures pending { OnOk result (AreThere tree.now.nodes pending.new.items) }
+    ensures count { OnOk result (steps.new + length pending.old.items ≤ steps.old + (2 + length pending.new.items)) }
+    ensures looks { steps.new ≤ steps.old + (1 + length (under tree.now.nodes node)) }
+{
+    let view = tree.node(node, steps);
+    if view.folder {
+        push_children(tree, node, pending, steps)?;
+        Ok(0)
+    } else {
+        Ok(allocated(view.length))
+    }
+}
+
+// What the files at and below a node take, made afresh.
+fn usage_of<L: Ledger>(
+    tree: &Tree,
+    alloc: Global,
+    node: u32,
+    steps: &mut Steps<L>,
+) -> Result<u64, NoMemory>
+    requires volume { IsVolume tree.now.size tree.now.nodes }
+    requires legal { IsCapacity tree.now.size }
+    requires there { has_row key node tree.now.nodes ≡ true }
+    ensures sum { IfOk result (λ bytes. bytes ≡ usage tree.now.size tree.now.nodes node) }
+    ensures looks { steps.new ≤ steps.old + 4 * length (under tree.now.nodes node) }
+{
+    let mut pending = Vec::new(alloc);
+    pending.push(node)?;
+    let mut total = 0u64;
+    while let Some(next) = pending.pop() {
+        total += visit(tree, next, &mut pending, steps)?;
+    }
+    Ok(total)
+}
+
+impl Engine {
+    /// Sums up what the files at and below a node take. It changes nothing.
+    pub(crate) fn usage<L: Ledger>(
+        &mut self,
+        alloc: Global,
+        path: &Path,
+        moment: u64,
+        steps: &mut Steps<L>,
+    ) -> Result<Answer, NoMemory>
+        ensures ok { IfOk result (λ answer. Takes self.old self.new (step self.old.size self.old.rows (record { moment = moment; deed = Usage path.now })) answer) }
+        ensures err { OnErr result (self.new ≡ self.old) }
+        ensures kept { IsVolume self.new.size self.new.rows.nodes }
+        ensures looks { steps.new ≤ steps.old + cost self.old.rows (Usage path.now) }
+    {
+        if moment < self.last_moment {
+            return Ok(refused(Refusal::ClockBack));
+        }
+        let Some(node) = self.tree.resolve(path, steps) else {
+            return Ok(refused(Refusal::PathNotFound));
+        };
+        let bytes = usage_of(&self.tree, alloc, node, steps)?;
+        Ok(Answer {
+            outcome: Outcome::Sum { node, bytes },
+            lasting: false,
+        })
+    }
+}
