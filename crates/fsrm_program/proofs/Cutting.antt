@@ -62,9 +62,9 @@ pub some_held : (count : ℕ) (held : List ℕ) (empty : Bool) → count ≡ len
 some_held count held empty e is false_now nothing = both_ways empty false_now (is ∙ eq-eqb count 0 (e ∙ ap length nothing))
 
 -- as much of a line as there is room for
-pub hold_more : (held bytes next : List ℕ) (room count : ℕ) → length held ≤ 65537 → room ≡ 65537 - length held → count ≡ min room (length bytes) → next ≡ held ++ take count bytes → next ≡ take 65537 (held ++ bytes)
+pub hold_more : (held bytes next : List ℕ) (room count : ℕ) → length held ≤ 65538 → room ≡ 65538 - length held → count ≡ min room (length bytes) → next ≡ held ++ take count bytes → next ≡ take 65538 (held ++ bytes)
 hold_more held bytes next room count short r k e =
-    let whole : length held + room ≡ 65537 = omega arith in
+    let whole : length held + room ≡ 65538 = omega arith in
     e
     ∙ ap (λ (n : ℕ). held ++ take n bytes) k
     ∙ ap (λ (bs : List ℕ). held ++ bs) (take_min room bytes)

@@ -171,38 +171,38 @@ feeds_broken a b looks xs ys before mid p q = broken_front a looks (xs ++ ys) (p
 
 -- what is answered says the same as the line
 pub record Says (held rest said : List ℕ) : Type 0 where
-  pub same : (line : List ℕ) → IsHeld line held → take 65537 said ≡ take 65537 (line ++ rest)
+  pub same : (line : List ℕ) → IsHeld line held → take 65538 said ≡ take 65538 (line ++ rest)
 
-no_line : (line : List ℕ) → take 65537 line ≡ [] → line ≡ []
-no_line line h = nil_from_length line (omega (arith, length-take 65537 line, ap length h))
+no_line : (line : List ℕ) → take 65538 line ≡ [] → line ≡ []
+no_line line h = nil_from_length line (omega (arith, length-take 65538 line, ap length h))
 
 -- where nothing is held, the line is in the piece
 pub says_whole : (held rest : List ℕ) → held ≡ [] → Says held rest rest
-says_whole held rest none = record { same = λ line h. ap (λ (bs : List ℕ). take 65537 (bs ++ rest)) (sym (no_line line (sym h.kept ∙ none))) }
+says_whole held rest none = record { same = λ line h. ap (λ (bs : List ℕ). take 65538 (bs ++ rest)) (sym (no_line line (sym h.kept ∙ none))) }
 
 -- more of a line, held
-take_held : (line rest : List ℕ) → take 65537 (take 65537 line ++ rest) ≡ take 65537 (line ++ rest)
-take_held line rest = elim (cases_lt 65537 (length line)) [
+take_held : (line rest : List ℕ) → take 65538 (take 65538 line ++ rest) ≡ take 65538 (line ++ rest)
+take_held line rest = elim (cases_lt 65538 (length line)) [
   | inl long ↦
-      take-append-le 65537 (take 65537 line) rest (omega (arith, length-take 65537 line))
-      ∙ take_all 65537 (take 65537 line) (omega (arith, length-take 65537 line))
-      ∙ sym (take-append-le 65537 line rest (omega arith))
-  | inr short ↦ ap (λ (bs : List ℕ). take 65537 (bs ++ rest)) (take_all 65537 line short)
+      take-append-le 65538 (take 65538 line) rest (omega (arith, length-take 65538 line))
+      ∙ take_all 65538 (take 65538 line) (omega (arith, length-take 65538 line))
+      ∙ sym (take-append-le 65538 line rest (omega arith))
+  | inr short ↦ ap (λ (bs : List ℕ). take 65538 (bs ++ rest)) (take_all 65538 line short)
 ]
 
-take_twice : (bytes : List ℕ) → take 65537 (take 65537 bytes) ≡ take 65537 bytes
-take_twice bytes = take_all 65537 (take 65537 bytes) (omega (arith, length-take 65537 bytes))
+take_twice : (bytes : List ℕ) → take 65538 (take 65538 bytes) ≡ take 65538 bytes
+take_twice bytes = take_all 65538 (take 65538 bytes) (omega (arith, length-take 65538 bytes))
 
 -- what is held has a bound
-pub held_short : (line held : List ℕ) → IsHeld line held → length held ≤ 65537
-held_short line held h = omega (arith, ap length h.kept, length-take 65537 line)
+pub held_short : (line held : List ℕ) → IsHeld line held → length held ≤ 65538
+held_short line held h = omega (arith, ap length h.kept, length-take 65538 line)
 
-pub says_held : (held rest said : List ℕ) → (length held ≤ 65537 → said ≡ take 65537 (held ++ rest)) → Says held rest said
+pub says_held : (held rest said : List ℕ) → (length held ≤ 65538 → said ≡ take 65538 (held ++ rest)) → Says held rest said
 says_held held rest said e = record {
   same = λ line h.
-      ap (λ (bs : List ℕ). take 65537 bs) (e (held_short line held h))
+      ap (λ (bs : List ℕ). take 65538 bs) (e (held_short line held h))
       ∙ take_twice (held ++ rest)
-      ∙ ap (λ (bs : List ℕ). take 65537 (bs ++ rest)) h.kept
+      ∙ ap (λ (bs : List ℕ). take 65538 (bs ++ rest)) h.kept
       ∙ take_held line rest;
 }
 
@@ -210,7 +210,7 @@ one_line-append : (line rest : List ℕ) → list_any is_end line ≡ false → 
 one_line-append line rest p q = list_any-append is_end line rest ∙ nor (list_any is_end line) (list_any is_end rest) p q
 
 -- bytes that end no line
-pub feeds_held : (a b : State) (bytes written : List ℕ) → list_any is_end bytes ≡ false → b.size ≡ a.size → b.line ≡ a.line → b.rows ≡ a.rows → b.looks ≡ a.looks → (length a.held ≤ 65537 → b.held ≡ take 65537 (a.held ++ bytes)) → Feeds a b bytes written written
+pub feeds_held : (a b : State) (bytes written : List ℕ) → list_any is_end bytes ≡ false → b.size ≡ a.size → b.line ≡ a.line → b.rows ≡ a.rows → b.looks ≡ a.looks → (length a.held ≤ 65538 → b.held ≡ take 65538 (a.held ++ bytes)) → Feeds a b bytes written written
 feeds_held a b bytes written one size line rows looks held = record {
   text = [];
   written = sym (append-nil written);
@@ -220,7 +220,7 @@ feeds_held a b bytes written one size line rows looks held = record {
       next = front ++ bytes;
       each = tt;
       held = record {
-        kept = held (held_short front a.held h) ∙ ap (λ (bs : List ℕ). take 65537 (bs ++ bytes)) h.kept ∙ take_held front bytes;
+        kept = held (held_short front a.held h) ∙ ap (λ (bs : List ℕ). take 65538 (bs ++ bytes)) h.kept ∙ take_held front bytes;
         one_line = one_line-append front bytes h.one_line one;
       };
       stream_is = refl;
@@ -236,14 +236,14 @@ feeds_held a b bytes written one size line rows looks held = record {
 same_reply : (K : Capacity) (R : Rows) (n : ℕ) (held rest said line : List ℕ) → Says held rest said → IsHeld line held → replied K R n said ≡ replied K R n (line ++ rest)
 same_reply K R n held rest said line s h = sym (replied-held K R n said) ∙ ap (λ (bs : List ℕ). replied K R n bs) (s.same line h) ∙ replied-held K R n (line ++ rest)
 
-same_cost : (R : Rows) (held rest said line : List ℕ) → Says held rest said → IsHeld line held → line_cost R said ≡ line_cost R (line ++ rest)
-same_cost R held rest said line s h = sym (line_cost-held R said) ∙ ap (line_cost R) (s.same line h) ∙ line_cost-held R (line ++ rest)
+same_cost : (K : Capacity) (R : Rows) (held rest said line : List ℕ) → Says held rest said → IsHeld line held → line_cost K R said ≡ line_cost K R (line ++ rest)
+same_cost K R held rest said line s h = sym (line_cost-held K R said) ∙ ap (line_cost K R) (s.same line h) ∙ line_cost-held K R (line ++ rest)
 
 -- what was done for a line: the reply behind what was written, the rows, and the looks
 pub record Answered (a : State) (said : List ℕ) (rows : Rows) (looks : ℕ) (before last : List ℕ) : Type 0 where
   pub rows_are : rows ≡ (replied a.size a.rows a.line said).rows
   pub text_is : last ≡ before ++ (replied a.size a.rows a.line said).text
-  pub looks_are : looks ≤ a.looks + line_cost a.rows said
+  pub looks_are : looks ≤ a.looks + line_cost a.size a.rows said
 
 line_stream : (line rest : List ℕ) → line ++ (rest ++ 10 ∷ []) ≡ spelled_lines ((line ++ rest) ∷ []) ++ []
 line_stream line rest = sym (append_assoc line rest (10 ∷ [])) ∙ sym (append-nil ((line ++ rest) ++ 10 ∷ []))
@@ -267,13 +267,13 @@ feeds_line a b rest said before last one s size line held done = record {
           size_is = size;
           line_is = line;
           rows_are = done.rows_are ∙ ap (λ (x : Replied). x.rows) r;
-          looks_are = omega (arith, done.looks_are, same_cost a.rows a.held rest said front s h);
+          looks_are = omega (arith, done.looks_are, same_cost a.size a.rows a.held rest said front s h);
         };
   };
 }
 
 -- a stop at a line of which nothing is written
-pub broken_line : (a : State) (rest said : List ℕ) (looks : ℕ) → list_any is_end rest ≡ false → Says a.held rest said → looks ≤ a.looks + line_cost a.rows said → Broken a looks (rest ++ 10 ∷ []) []
+pub broken_line : (a : State) (rest said : List ℕ) (looks : ℕ) → list_any is_end rest ≡ false → Says a.held rest said → looks ≤ a.looks + line_cost a.size a.rows said → Broken a looks (rest ++ 10 ∷ []) []
 broken_line a rest said looks one s few = record {
   breaks = λ front h.
       let whole = front ++ rest in
@@ -283,7 +283,7 @@ broken_line a rest said looks one s few = record {
         each = (one_line-append front rest h.one_line one, tt);
         stream_is = line_stream front rest;
         front = nothing_written (text_from a.size a.rows a.line (whole ∷ []));
-        looks_are = omega (arith, same_cost a.rows a.held rest said front s h);
+        looks_are = omega (arith, same_cost a.size a.rows a.held rest said front s h);
       };
 }
 
@@ -308,8 +308,8 @@ last_lines : (line held : List ℕ) → IsHeld line held → (held ≡ [] → �
 last_lines [] held h some = absurd (some h.kept)
 last_lines (byte ∷ line) held h some = lines_last byte line h.one_line
 
-nothing_behind : (held : List ℕ) → (line : List ℕ) → IsHeld line held → take 65537 held ≡ take 65537 line
-nothing_behind held line h = ap (λ (bs : List ℕ). take 65537 bs) h.kept ∙ take_twice line
+nothing_behind : (held : List ℕ) → (line : List ℕ) → IsHeld line held → take 65538 held ≡ take 65538 line
+nothing_behind held line h = ap (λ (bs : List ℕ). take 65538 bs) h.kept ∙ take_twice line
 
 last_reply : (a : State) (line : List ℕ) → IsHeld line a.held → (a.held ≡ [] → ⊥) → (replied a.size a.rows a.line a.held).text ≡ text_from a.size a.rows a.line (lines line)
 last_reply a line h some =
@@ -317,12 +317,12 @@ last_reply a line h some =
     ∙ sym (append-nil (replied a.size a.rows a.line line).text)
     ∙ ap (text_from a.size a.rows a.line) (sym (last_lines line a.held h some))
 
-last_cost : (a : State) (line : List ℕ) → IsHeld line a.held → (a.held ≡ [] → ⊥) → line_cost a.rows a.held ≡ cost_from a.size a.rows a.line (lines line)
+last_cost : (a : State) (line : List ℕ) → IsHeld line a.held → (a.held ≡ [] → ⊥) → line_cost a.size a.rows a.held ≡ cost_from a.size a.rows a.line (lines line)
 last_cost a line h some =
-    sym (line_cost-held a.rows a.held)
-    ∙ ap (line_cost a.rows) (nothing_behind a.held line h)
-    ∙ line_cost-held a.rows line
-    ∙ (let sum : line_cost a.rows line ≡ line_cost a.rows line + 0 = omega arith in sum)
+    sym (line_cost-held a.size a.rows a.held)
+    ∙ ap (line_cost a.size a.rows) (nothing_behind a.held line h)
+    ∙ line_cost-held a.size a.rows line
+    ∙ (let sum : line_cost a.size a.rows line ≡ line_cost a.size a.rows line + 0 = omega arith in sum)
     ∙ ap (cost_from a.size a.rows a.line) (sym (last_lines line a.held h some))
 
 -- the last line, where there is one
@@ -337,5 +337,5 @@ ends_line a rows looks before last some done = record {
 }
 
 -- the looks at the last line, where it was given up
-pub ends_broken : (a : State) (looks : ℕ) → (a.held ≡ [] → ⊥) → looks ≤ a.looks + line_cost a.rows a.held → EndsBroken a looks
+pub ends_broken : (a : State) (looks : ℕ) → (a.held ≡ [] → ⊥) → looks ≤ a.looks + line_cost a.size a.rows a.held → EndsBroken a looks
 ends_broken a looks some few = record { looks_are = λ line h. omega (arith, few, last_cost a line h some) }

@@ -1,13 +1,11 @@
-pub mod CommandLaws
 pub mod Completing
 pub mod Cutting
 pub mod Feeding
 pub mod MostTaken
+pub mod Outcomes
 pub mod Passing
-pub mod Reached
 pub mod Shown
-pub mod Spaces
 pub mod Taking
-pub mod Texts
 pub mod Whole
 pub mod Words
+pub mod Endings

@@ -1,9 +1,6 @@
 pub mod Bytes
-pub mod Causes
-pub mod Commands
-pub mod Form
 pub mod Progress
 pub mod Held
-pub mod Replies
+pub mod Shown
 pub mod Stops
 pub mod Answers

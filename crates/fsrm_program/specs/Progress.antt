@@ -23,10 +23,10 @@ pub record State : Type 0 where
 abbrev pub start : ℕ → State
 start looks = record { size = default_capacity; line = 1; rows = new_rows; held = []; looks = looks }
 
--- What is kept of the beginning of a line: all of one that may be a command, and of a longer one a
--- byte more than that.
+-- What is kept of the beginning of a line: all of one that may be read, and of a longer one two bytes more
+-- than that, of which one may be a CR.
 pub record IsHeld (line held : List ℕ) : Type 0 where
-  pub kept : held ≡ take (longest_line + 1) line
+  pub kept : held ≡ take (longest_line + 2) line
   pub one_line : list_any is_end line ≡ false
 
 -- a stream is these whole lines and the beginning of the next, and leads from one state to the other; this is their text

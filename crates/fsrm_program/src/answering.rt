@@ -1,130 +1,111 @@
 //! Does what a line asks for, and appends the reply.
 
-ghost use Rattle.std.specs.Prelude.{◌≡◌, ℕ, ◌≤◌, ◌<◌, ◌+◌, ◌*◌, ◌++◌, ◌∷◌, [], true, length, slice_get, Some, OnOk};
+ghost use Rattle.std.specs.Prelude.{◌≡◌, ◌≤◌, ◌+◌, ◌++◌, [], true, OnOk, ℕ};
 ghost use Rattle.std.specs.String.{string_bytes};
-ghost use Rattle.fsrm_model.specs.declared.row.Capacity.{Capacity};
-ghost use Rattle.fsrm_model.specs.declared.row.NodeRow.{NodeRow};
-ghost use Rattle.fsrm_model.specs.Fresh.{rows_of_nodes};
-ghost use Rattle.fsrm_model.specs.Limits.{longest_file};
-ghost use Rattle.fsrm_model.specs.Name.{is_plain_name};
-ghost use Rattle.fsrm_model.specs.Script.{replied, line_cost};
-ghost use Rattle.fsrm_model.specs.Space.{alloc, space};
-ghost use Rattle.fsrm_model.specs.Tree.{is_folder, children, children_in_order, usage, under};
-ghost use Rattle.volume_tree.specs.Volume.{IsVolume};
-ghost use Rattle.fsrm_program.specs.Commands.{create_command, usage_command, AnswersTo};
+ghost use Rattle.fsrm_model.specs.declared.command.Command.{Command};
+ghost use Rattle.fsrm_model.specs.Cost.{cost, print_cost};
+ghost use Rattle.fsrm_model.specs.Script.{without_cr, replied, line_cost};
+ghost use Rattle.fsrm_model.specs.Step.{step};
+ghost use Rattle.fsrm_model.specs.Text.{reply};
+ghost use Rattle.fsrm_model.specs.Valued.{is_command};
+ghost use Rattle.fsrm_program.specs.Shown.{IsPrinted, IsToldFault};
 
-use crate::reading::{Form, read_form};
 use crate::replies::{append_done, append_refusal, append_sum};
-use fsrm_model::{Ledger, NoMemory, Refusal, Steps};
-use volume_tree::{Tree, TreeFault};
+use fsrm_engine::Engine;
+use fsrm_model::{Command, Ledger, NoMemory, Outcome, Steps};
+use std::alloc::Global;
+use tool_commands::{LineFault, read_line};
 
-const CLUSTER: u64 = 4_096;
+const CARRIAGE_RETURN: &[u8] = b"\r";
 
-// A length, rounded up to whole clusters.
-fn allocated(bytes: u64) -> u64
-    requires { bytes ≤ longest_file }
-    ensures space { (K : Capacity) → result ≡ alloc K bytes }
-    ensures small { result ≤ longest_file }
+// A line without the CR that may end it.
+fn without_cr(line: &[u8]) -> &[u8]
+    ensures { result.now ≡ without_cr line.now }
 {
-    bytes.div_ceil(CLUSTER) * CLUSTER
-}
-
-// What a folder's child takes.
-fn child_space<L: Ledger>(tree: &Tree, folder: u32, place: u32, steps: &mut Steps<L>) -> u64
-    requires folder { is_folder tree.now.nodes folder ≡ true }
-    requires place { place < length (children tree.now.nodes folder) }
-    ensures space { (K : Capacity) (row : NodeRow) → slice_get (children_in_order tree.now.nodes folder) place ≡ Some row → result ≡ space K row }
-    ensures small { result ≤ longest_file }
-    ensures looks { steps.new ≡ steps.old + 2 }
-{
-    let child = tree.child_at(folder, place, steps);
-    let node = tree.node(child, steps);
-    if node.folder {
-        0
-    } else {
-        allocated(node.length)
+    match line.strip_suffix(CARRIAGE_RETURN) {
+        Some(text) => text,
+        None => line,
     }
 }
 
-// What all files take.
-fn whole_usage<L: Ledger>(tree: &Tree, steps: &mut Steps<L>) -> u64
-    ensures sum { result ≡ usage tree.now.size tree.now.nodes 0 }
-    ensures kept { IsVolume tree.now.size tree.now.nodes }
-    ensures looks { steps.new ≤ steps.old + 4 * length (under tree.now.nodes 0) }
+// Appends the reply to a line that is refused as it is read.
+fn append_fault(replies: &mut String, number: u64, fault: LineFault) -> Result<(), NoMemory>
+    ensures { OnOk result (IsToldFault fault number (string_bytes replies.old) (string_bytes replies.new)) }
 {
-    let root = tree.root();
-    let count = tree.child_count(root, steps);
-    let mut total = 0u64;
-    for place in 0..count {
-        total += child_space(tree, root, place, steps);
+    match fault {
+        LineFault::Refused(refusal) => append_refusal(replies, number, refusal),
+        LineFault::NoMemory => Err(NoMemory),
     }
-    total
 }
 
-// Makes a file in the root.
-fn answer_create<L: Ledger>(
-    tree: &mut Tree,
+// Appends the reply to a command of which this came.
+fn append_reply<L: Ledger>(
+    engine: &Engine,
+    alloc: Global,
     replies: &mut String,
-    line: u64,
-    name: &str,
-    bytes: u64,
-    owner: u32,
+    number: u64,
+    outcome: &Outcome,
     steps: &mut Steps<L>,
 ) -> Result<(), NoMemory>
-    requires name { is_plain_name name.now ≡ true }
-    requires bytes { bytes ≤ longest_file }
-    requires owner { 1 ≤ owner }
-    ensures answer { OnOk result (AnswersTo (create_command name.now bytes owner) tree.old tree.new line (string_bytes replies.old) (string_bytes replies.new)) }
-    ensures size { tree.new.size ≡ tree.old.size }
-    ensures looks { steps.new ≤ steps.old + 44 }
+    requires printed { IsPrinted engine.now.rows.nodes outcome.now }
+    ensures text { (moment : ℕ) → OnOk result (string_bytes replies.new ≡ string_bytes replies.old ++ reply engine.now.size engine.now.rows moment number outcome.now) }
+    ensures looks { steps.new ≤ steps.old + print_cost engine.now.rows outcome.now }
 {
-    let root = tree.root();
-    match tree.create(root, name, bytes, owner, 0, steps) {
-        Ok(_) => append_done(replies, line),
-        Err(TreeFault::AlreadyExists) => append_refusal(replies, line, Refusal::AlreadyExists),
-        Err(TreeFault::VolumeFull) => append_refusal(replies, line, Refusal::VolumeFull),
-        Err(TreeFault::NamesFull) => append_refusal(replies, line, Refusal::NamesFull),
-        Err(TreeFault::NoMemory) => Err(NoMemory),
+    match outcome {
+        Outcome::Done { passive: _ } => append_done(replies, number),
+        Outcome::Sum { node, bytes } => {
+            let path = match engine.path_text(alloc, *node, steps) {
+                Ok(path) => path,
+                Err(NoMemory) => return Err(NoMemory),
+            };
+            append_sum(replies, number, *bytes, path.as_str())
+        }
+        Outcome::Refused(refusal) => append_refusal(replies, number, *refusal),
     }
 }
 
-// Sums up the whole volume.
-fn answer_usage<L: Ledger>(
-    tree: &Tree,
+// Takes a command, and appends the reply.
+fn take<L: Ledger>(
+    engine: &mut Engine,
+    alloc: Global,
     replies: &mut String,
-    line: u64,
+    number: u64,
+    command: &Command,
     steps: &mut Steps<L>,
 ) -> Result<(), NoMemory>
-    ensures answer { OnOk result (AnswersTo usage_command tree.now tree.now line (string_bytes replies.old) (string_bytes replies.new)) }
-    ensures kept { IsVolume tree.now.size tree.now.nodes }
-    ensures looks { steps.new ≤ steps.old + 4 * length (under tree.now.nodes 0) }
+    requires valid { is_command command.now ≡ true }
+    requires idle { engine.old.waiting ≡ [] }
+    ensures size { engine.new.size ≡ engine.old.size }
+    ensures idle { engine.new.waiting ≡ [] }
+    ensures rows { OnOk result (engine.new.rows ≡ (step engine.old.size engine.old.rows command.now).rows) }
+    ensures text { OnOk result (string_bytes replies.new ≡ string_bytes replies.old ++ reply engine.old.size (step engine.old.size engine.old.rows command.now).rows command.now.moment number (step engine.old.size engine.old.rows command.now).outcome) }
+    ensures looks { steps.new ≤ steps.old + (cost engine.old.rows command.now.deed + print_cost (step engine.old.size engine.old.rows command.now).rows (step engine.old.size engine.old.rows command.now).outcome) }
 {
-    let bytes = whole_usage(tree, steps);
-    append_sum(replies, line, bytes)
+    match engine.apply(alloc, command, steps) {
+        Ok(answer) => append_reply(engine, alloc, replies, number, &answer.outcome, steps),
+        Err(NoMemory) => Err(NoMemory),
+    }
 }
 
-/// Does what a line asks for, and appends the reply.
+/// Does what a line asks for, and appends the reply. A line that is skipped has none.
 pub fn answer<L: Ledger>(
-    tree: &mut Tree,
+    engine: &mut Engine,
+    alloc: Global,
     replies: &mut String,
     number: u64,
     line: &[u8],
     steps: &mut Steps<L>,
 ) -> Result<(), NoMemory>
-    ensures size { tree.new.size ≡ tree.old.size }
-    ensures rows { OnOk result (rows_of_nodes tree.new.nodes ≡ (replied tree.old.size (rows_of_nodes tree.old.nodes) number line.now).rows) }
-    ensures text { OnOk result (string_bytes replies.new ≡ string_bytes replies.old ++ (replied tree.old.size (rows_of_nodes tree.old.nodes) number line.now).text) }
-    ensures looks { steps.new ≤ steps.old + line_cost (rows_of_nodes tree.old.nodes) line.now }
+    requires idle { engine.old.waiting ≡ [] }
+    ensures size { engine.new.size ≡ engine.old.size }
+    ensures idle { engine.new.waiting ≡ [] }
+    ensures rows { OnOk result (engine.new.rows ≡ (replied engine.old.size engine.old.rows number line.now).rows) }
+    ensures text { OnOk result (string_bytes replies.new ≡ string_bytes replies.old ++ (replied engine.old.size engine.old.rows number line.now).text) }
+    ensures looks { steps.new ≤ steps.old + line_cost engine.old.size engine.old.rows line.now }
 {
-    match read_form(line) {
-        Some(
-            Form::Create {
-                name,
-                length,
-                owner,
-            },
-        ) => answer_create(tree, replies, number, name, length, owner, steps),
-        Some(Form::Usage) => answer_usage(tree, replies, number, steps),
-        None => append_refusal(replies, number, Refusal::BadLine { column: 1 }),
+    match read_line(alloc, without_cr(line)) {
+        Ok(Some(command)) => take(engine, alloc, replies, number, &command, steps),
+        Ok(None) => Ok(()),
+        Err(fault) => append_fault(replies, number, fault),
     }
 }

@@ -2,10 +2,8 @@
 #![tactic(auto)]
 
 mod answering;
-pub mod laws;
 mod pieces;
 mod program;
-mod reading;
 mod replay;
 mod replies;
 mod session;

@@ -15,10 +15,10 @@ use crate::pieces::next_piece;
 use crate::session::{Session, end, feed};
 use crate::status::Status;
 use crate::writing::flush;
+use fsrm_engine::Engine;
 use fsrm_model::{Capacity, Ledger, NoMemory, Steps};
 use fsrm_outside::{Failed, Outside, Sink};
 use std::alloc::Global;
-use volume_tree::Tree;
 
 const PIECE: usize = 65_536;
 
@@ -35,11 +35,13 @@ fn pass<O: Outside, L: Ledger>(
     requires buffer { 0 < length buffer.old }
     requires number { session.old.line ≤ taken + 1 }
     requires written { string_bytes session.old.replies ≡ [] }
+    requires idle { session.old.engine.waiting ≡ [] }
     ensures takes { IfOk result (λ count. Takes (state_of session.old steps.old) (state_of session.new steps.new) (O.left outside.old) (O.left outside.new) (O.shown outside.old) (O.shown outside.new) count) }
     ensures within { IfOk result (λ count. taken + count ≤ longest_script) }
     ensures end { IfOk result (λ count. count ≡ 0 → IsAtEnd (O.left outside.new)) }
     ensures number { IfOk result (λ count. session.new.line ≤ session.old.line + count) }
     ensures written { OnOk result (string_bytes session.new.replies ≡ []) }
+    ensures idle { session.new.engine.waiting ≡ [] }
     ensures stops { IfErr result (λ status. Stops status (state_of session.old steps.old) (state_of session.new steps.new) (O.left outside.old) (O.left outside.new) (O.shown outside.old) (O.shown outside.new) 0) }
     ensures taken { IfErr result (λ status. TakenMost (O.left outside.old) (O.left outside.new) (most_taken status - taken)) }
     ensures full { IsErrOf result Status.TooLong → taken ≡ longest_script }
@@ -70,8 +72,10 @@ fn read_all<O: Outside, L: Ledger>(
 ) -> Result<(), Status>
     requires number { session.old.line ≤ 1 }
     requires written { string_bytes session.old.replies ≡ [] }
+    requires idle { session.old.engine.waiting ≡ [] }
     ensures reads { OnOk result (Reads (state_of session.old steps.old) (state_of session.new steps.new) (O.left outside.old) (O.left outside.new) (O.shown outside.old) (O.shown outside.new)) }
     ensures written { OnOk result (string_bytes session.new.replies ≡ []) }
+    ensures idle { session.new.engine.waiting ≡ [] }
     ensures stops { IfErr result (λ status. StopsAt status (state_of session.old steps.old) (state_of session.new steps.new) (O.left outside.old) (O.left outside.new) (O.shown outside.old) (O.shown outside.new)) }
     ensures taken { IfErr result (λ status. TakenMost (O.left outside.old) (O.left outside.new) (most_taken status)) }
     ensures read_later { O.read_faults outside.old ≤ O.read_faults outside.new }
@@ -96,7 +100,8 @@ fn finish<S: Sink, L: Ledger>(
     session: &mut Session,
     steps: &mut Steps<L>,
 ) -> Result<(), Status>
-    requires { string_bytes session.old.replies ≡ [] }
+    requires written { string_bytes session.old.replies ≡ [] }
+    requires idle { session.old.engine.waiting ≡ [] }
     ensures ok { OnOk result (Finishes (state_of session.old steps.old) steps.new (S.shown sink.old) (S.shown sink.new)) }
     ensures err { OnErr result (FinishesFront (state_of session.old steps.old) steps.new (S.shown sink.old) (S.shown sink.new)) }
     ensures later { S.write_faults sink.old ≤ S.write_faults sink.new }
@@ -118,13 +123,15 @@ fn finish<S: Sink, L: Ledger>(
 fn new_session(alloc: Global) -> Result<Session, NoMemory>
     ensures state { IfOk result (λ session. (looks : ℕ) → state_of session looks ≡ start looks) }
     ensures written { IfOk result (λ session. string_bytes session.replies ≡ []) }
+    ensures idle { IfOk result (λ session. session.engine.waiting ≡ []) }
 {
     let size = Capacity {
         nodes: 65_536,
         names: 4_194_304,
     };
     Ok(Session {
-        tree: Tree::reserve(alloc, size)?,
+        engine: Engine::new(alloc, size)?,
+        alloc,
         line: 1,
         held: Vec::new(alloc),
         replies: String::new(alloc),
@@ -139,6 +146,7 @@ fn run_session<O: Outside, L: Ledger>(
 ) -> Status
     requires state { state_of session.old steps.old ≡ start steps.old }
     requires written { string_bytes session.old.replies ≡ [] }
+    requires idle { session.old.engine.waiting ≡ [] }
     ensures run { ForSome (O.left outside.old) (λ script. IsRun result script steps.old steps.new (O.left outside.new) (O.shown outside.old) (O.shown outside.new)) }
     ensures taken { TakenMost (O.left outside.old) (O.left outside.new) (most_taken result) }
     ensures read_later { O.read_faults outside.old ≤ O.read_faults outside.new }

@@ -5,7 +5,7 @@ ghost use Rattle.std.specs.String.{string_bytes};
 ghost use Rattle.fsrm_model.specs.declared.command.Outcome.TheVariants.{Done, Refused};
 ghost use Rattle.fsrm_model.specs.declared.command.Refusal.TheVariants.{BadLine};
 ghost use Rattle.fsrm_model.specs.Text.{head_line, line_of};
-ghost use Rattle.fsrm_program.specs.Replies.{whole_sum};
+ghost use Rattle.fsrm_program.specs.Shown.{sum_reply};
 
 use fsrm_model::{NoMemory, Refusal};
 use std::fmt::Write;
@@ -18,11 +18,11 @@ pub fn append_done(replies: &mut String, line: u64) -> Result<(), NoMemory>
     Ok(())
 }
 
-/// Appends the reply to a line that asks what the whole volume takes, in bytes.
-pub fn append_sum(replies: &mut String, line: u64, bytes: u64) -> Result<(), NoMemory>
-    ensures { OnOk result (string_bytes replies.new ≡ string_bytes replies.old ++ whole_sum line bytes) }
+/// Appends the reply to a line that asks what the files at and below a path take, in bytes.
+pub fn append_sum(replies: &mut String, line: u64, bytes: u64, path: &str) -> Result<(), NoMemory>
+    ensures { OnOk result (string_bytes replies.new ≡ string_bytes replies.old ++ sum_reply line bytes path.now) }
 {
-    writeln!(replies, "{line} ok\n  {bytes} D:\\")?;
+    writeln!(replies, "{line} ok\n  {bytes} {path}")?;
     Ok(())
 }
 
@@ -34,7 +34,7 @@ fn append_named(replies: &mut String, line: u64, name: &str) -> Result<(), NoMem
     Ok(())
 }
 
-// Appends the reply to a line that spells no command.
+// Appends the reply to a line of which a word hasn't its form.
 fn append_bad_line(replies: &mut String, line: u64, column: u32) -> Result<(), NoMemory>
     ensures { OnOk result (string_bytes replies.new ≡ string_bytes replies.old ++ head_line line (Refused (BadLine column))) }
 {
@@ -48,9 +48,15 @@ pub fn append_refusal(replies: &mut String, line: u64, refusal: Refusal) -> Resu
 {
     match refusal {
         Refusal::BadLine { column } => append_bad_line(replies, line, column),
+        Refusal::LineTooLong => append_named(replies, line, "LineTooLong"),
+        Refusal::InvalidPath => append_named(replies, line, "InvalidPath"),
+        Refusal::InvalidName => append_named(replies, line, "InvalidName"),
+        Refusal::OutOfRange => append_named(replies, line, "OutOfRange"),
         Refusal::ClockBack => append_named(replies, line, "ClockBack"),
         Refusal::PathNotFound => append_named(replies, line, "PathNotFound"),
         Refusal::AlreadyExists => append_named(replies, line, "AlreadyExists"),
+        Refusal::NotEmpty => append_named(replies, line, "NotEmpty"),
+        Refusal::InvalidMove => append_named(replies, line, "InvalidMove"),
         Refusal::VolumeFull => append_named(replies, line, "VolumeFull"),
         Refusal::NamesFull => append_named(replies, line, "NamesFull"),
     }

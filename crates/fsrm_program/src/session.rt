@@ -10,19 +10,20 @@ ghost use Rattle.fsrm_program.specs.Progress.{Feeds, Broken, EndsBehind, EndsBro
 ghost use Rattle.fsrm_program.specs.Held.{state_of};
 
 use crate::answering::answer;
-use crate::reading::LONGEST_LINE;
+use fsrm_engine::Engine;
 use fsrm_model::{Ledger, NoMemory, Steps};
 use memchr::memchr;
-use volume_tree::Tree;
+use std::alloc::Global;
 
 const LINE_FEED: u8 = b'\n';
-// A byte more than the longest line that is looked at, so that a longer one is known by its length.
-const MOST_HELD: usize = LONGEST_LINE + 1;
+// Two bytes more than the longest line that is read, of which one may be a CR: so a longer one is known by its length.
+const MOST_HELD: usize = 65_538;
 
 /// A run between two pieces of its script.
 #[derive(Drop)]
 pub struct Session {
-    pub tree: Tree,
+    pub engine: Engine,
+    pub alloc: Global,
     /// The number of the line that is being read.
     pub line: u64,
     /// The beginning of that line.
@@ -43,7 +44,7 @@ fn next_line(bytes: &[u8]) -> Option<(&[u8], &[u8])>
 
 // Keeps more of a line, up to as much as is looked at.
 fn hold(held: &mut Vec<u8>, bytes: &[u8]) -> Result<(), NoMemory>
-    ensures ok { OnOk result (length held.old.items ≤ longest_line + 1 → held.new.items ≡ take (longest_line + 1) (held.old.items ++ bytes.now)) }
+    ensures ok { OnOk result (length held.old.items ≤ longest_line + 2 → held.new.items ≡ take (longest_line + 2) (held.old.items ++ bytes.now)) }
 {
     let room = MOST_HELD.saturating_sub(held.len());
     held.extend_from_slice(&bytes[..room.min(bytes.len())])?;
@@ -57,14 +58,17 @@ fn answer_whole<L: Ledger>(
     steps: &mut Steps<L>,
 ) -> Result<(), NoMemory>
     requires number { session.old.line + 1 < 2 ^ 64 }
+    requires idle { session.old.engine.waiting ≡ [] }
     requires one_line { list_any is_end line.now ≡ false }
     requires nothing_held { session.old.held.items ≡ [] }
     ensures ok { OnOk result (Feeds (state_of session.old steps.old) (state_of session.new steps.new) (line.now ++ 10 ∷ []) (string_bytes session.old.replies) (string_bytes session.new.replies)) }
     ensures err { OnErr result (Broken (state_of session.old steps.old) steps.new (line.now ++ 10 ∷ []) []) }
     ensures number { OnOk result (session.new.line ≡ session.old.line + 1) }
+    ensures idle { session.new.engine.waiting ≡ [] }
 {
     match answer(
-        &mut session.tree,
+        &mut session.engine,
+        session.alloc,
         &mut session.replies,
         session.line,
         line,
@@ -85,17 +89,20 @@ fn answer_held<L: Ledger>(
     steps: &mut Steps<L>,
 ) -> Result<(), NoMemory>
     requires number { session.old.line + 1 < 2 ^ 64 }
+    requires idle { session.old.engine.waiting ≡ [] }
     requires one_line { list_any is_end rest.now ≡ false }
     ensures ok { OnOk result (Feeds (state_of session.old steps.old) (state_of session.new steps.new) (rest.now ++ 10 ∷ []) (string_bytes session.old.replies) (string_bytes session.new.replies)) }
     ensures err { OnErr result (Broken (state_of session.old steps.old) steps.new (rest.now ++ 10 ∷ []) []) }
     ensures number { OnOk result (session.new.line ≡ session.old.line + 1) }
+    ensures idle { session.new.engine.waiting ≡ [] }
 {
     match hold(&mut session.held, rest) {
         Ok(()) => {}
         Err(NoMemory) => return Err(NoMemory),
     }
     match answer(
-        &mut session.tree,
+        &mut session.engine,
+        session.alloc,
         &mut session.replies,
         session.line,
         &session.held,
@@ -117,10 +124,12 @@ fn end_line<L: Ledger>(
     steps: &mut Steps<L>,
 ) -> Result<(), NoMemory>
     requires number { session.old.line + 1 < 2 ^ 64 }
+    requires idle { session.old.engine.waiting ≡ [] }
     requires one_line { list_any is_end rest.now ≡ false }
     ensures ok { OnOk result (Feeds (state_of session.old steps.old) (state_of session.new steps.new) (rest.now ++ 10 ∷ []) (string_bytes session.old.replies) (string_bytes session.new.replies)) }
     ensures err { OnErr result (Broken (state_of session.old steps.old) steps.new (rest.now ++ 10 ∷ []) []) }
     ensures number { OnOk result (session.new.line ≡ session.old.line + 1) }
+    ensures idle { session.new.engine.waiting ≡ [] }
 {
     if session.held.is_empty() {
         answer_whole(session, rest, steps)
@@ -134,6 +143,7 @@ fn hold_rest(session: &mut Session, rest: &[u8]) -> Result<(), NoMemory>
     requires { list_any is_end rest.now ≡ false }
     ensures ok { (looks : ℕ) → OnOk result (Feeds (state_of session.old looks) (state_of session.new looks) rest.now (string_bytes session.old.replies) (string_bytes session.new.replies)) }
     ensures number { session.new.line ≡ session.old.line }
+    ensures idle { session.new.engine.waiting ≡ session.old.engine.waiting }
 {
     match hold(&mut session.held, rest) {
         Ok(()) => Ok(()),
@@ -148,10 +158,12 @@ pub fn feed<L: Ledger>(
     piece: &[u8],
     steps: &mut Steps<L>,
 ) -> Result<(), NoMemory>
-    requires { session.old.line + length piece.now < 2 ^ 64 }
+    requires number { session.old.line + length piece.now < 2 ^ 64 }
+    requires idle { session.old.engine.waiting ≡ [] }
     ensures ok { OnOk result (Feeds (state_of session.old steps.old) (state_of session.new steps.new) piece.now (string_bytes session.old.replies) (string_bytes session.new.replies)) }
     ensures err { OnErr result (Broken (state_of session.old steps.old) steps.new piece.now []) }
     ensures number { OnOk result (session.new.line ≤ session.old.line + length piece.now) }
+    ensures idle { session.new.engine.waiting ≡ [] }
 {
     let mut rest = piece;
     'lines: while let Some((line, behind)) = next_line(rest) {
@@ -169,6 +181,7 @@ pub fn feed<L: Ledger>(
 
 /// Answers the last line, where it has no LF.
 pub fn end<L: Ledger>(session: &mut Session, steps: &mut Steps<L>) -> Result<(), NoMemory>
+    requires { session.old.engine.waiting ≡ [] }
     ensures ok { OnOk result (EndsBehind (state_of session.old steps.old) steps.new (string_bytes session.old.replies) (string_bytes session.new.replies)) }
     ensures err { OnErr result (EndsBroken (state_of session.old steps.old) steps.new) }
 {
@@ -176,7 +189,8 @@ pub fn end<L: Ledger>(session: &mut Session, steps: &mut Steps<L>) -> Result<(),
         return Ok(());
     }
     match answer(
-        &mut session.tree,
+        &mut session.engine,
+        session.alloc,
         &mut session.replies,
         session.line,
         &session.held,

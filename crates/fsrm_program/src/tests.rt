@@ -7,6 +7,7 @@ use fsrm_model::{Steps, Weightless};
 use fsrm_outside::MemoryOutside;
 use std::alloc::Global;
 use std::marker::Brand;
+use std::process::Abort;
 use std::sync::ledger::{Blank, Ledger};
 use std::test::Fail;
 
@@ -16,10 +17,20 @@ const FIRST_REPLIES: &[u8] =
     b"1 ok\n2 refused AlreadyExists\n3 ok\n  8192 D:\\\n4 refused BadLine 1\n";
 
 const BAD_LINES: &[u8] =
-    b"\n0  usage D:\\\n0 usage D:\\ \n# x\n0 create D:\\A 1 1\n0 create D:\\a_9 00000000000001 0000000001\n";
+    b"100 mkdri D:\\a 1\n100 mkdir D:\\a\r\n100 mkdir E:\\a 1\n100 mkdir \"D:\\a 1\n# note\n\n \t\r\n100 create D:\\f 17592185978881 1\n100 mkdir D:\\a?b 1\n4102444800 step 1\n100 mkdir D:\\a 1 \r\r\n\r";
 
 const BAD_REPLIES: &[u8] =
-    b"1 refused BadLine 1\n2 refused BadLine 1\n3 refused BadLine 1\n4 refused BadLine 1\n5 refused BadLine 1\n6 ok\n";
+    b"1 refused BadLine 5\n2 refused BadLine 15\n3 refused InvalidPath\n4 refused BadLine 11\n8 refused OutOfRange\n9 refused InvalidName\n10 refused OutOfRange\n11 refused BadLine 18\n";
+
+const CLOCK: &[u8] = b"100 mkdir D:\\a 1\n99 mkdir D:\\b 1\n100 mkdir D:\\b 1\n";
+
+const CLOCK_REPLIES: &[u8] = b"1 ok\n2 refused ClockBack\n3 ok\n";
+
+const MOVES: &[u8] =
+    b"100 mkdir D:\\a 1\n100 mkdir D:\\a\\b 1\n100 move D:\\a D:\\a\\b\\c\n100 remove D:\\a\n100 move D:\\a D:\\A\n100 usage D:\\a\n100 mkdir D:\\a 1\n";
+
+const MOVES_REPLIES: &[u8] =
+    b"1 ok\n2 ok\n3 refused InvalidMove\n4 refused NotEmpty\n5 ok\n6 ok\n  0 D:\\A\n7 refused AlreadyExists\n";
 
 // Runs the words, and counts the looks in a ledger that takes no bytes.
 fn run_counted<B: Ledger>(
@@ -56,24 +67,26 @@ fn replay(
     Ok((status, outside))
 }
 
-#[test]
-fn the_first_files_are_summed_in_any_pieces(rt: HostRuntime) -> Result<(), Fail> {
+fn replies_in_any_pieces(
+    rt: &HostRuntime,
+    end: &impl Abort,
+    script: &[u8],
+    replies: &[u8],
+) -> Result<(), Fail> {
     for piece in [1, 7, 65_536] {
-        let (status, outside) = replay(&rt, FIRST_FILES, piece, [].as_slice())?;
-        assert_eq!(rt; status, Status::Done);
-        assert_eq!(rt; outside.shown(), FIRST_REPLIES);
+        let (status, outside) = replay(rt, script, piece, [].as_slice())?;
+        assert_eq!(end; status, Status::Done);
+        assert_eq!(end; outside.shown(), replies);
     }
     Ok(())
 }
 
 #[test]
-fn lines_without_form_are_refused_in_any_pieces(rt: HostRuntime) -> Result<(), Fail> {
-    for piece in [1, 7, 65_536] {
-        let (status, outside) = replay(&rt, BAD_LINES, piece, [].as_slice())?;
-        assert_eq!(rt; status, Status::Done);
-        assert_eq!(rt; outside.shown(), BAD_REPLIES);
-    }
-    Ok(())
+fn worked_scripts_have_their_replies_in_any_pieces(rt: HostRuntime) -> Result<(), Fail> {
+    replies_in_any_pieces(&rt, &rt, FIRST_FILES, FIRST_REPLIES)?;
+    replies_in_any_pieces(&rt, &rt, BAD_LINES, BAD_REPLIES)?;
+    replies_in_any_pieces(&rt, &rt, CLOCK, CLOCK_REPLIES)?;
+    replies_in_any_pieces(&rt, &rt, MOVES, MOVES_REPLIES)
 }
 
 #[test]
@@ -141,14 +154,62 @@ fn other_words_are_not_understood(rt: HostRuntime) -> Result<(), Fail> {
     Ok(())
 }
 
+// A comment of so many bytes.
+fn append_comment(script: &mut Vec<u8>, bytes: usize) -> Result<(), Fail>
+    requires { 1 ≤ bytes }
+{
+    script.push(b'#')?;
+    for _ in 1..bytes {
+        script.push(b'x')?;
+    }
+    Ok(())
+}
+
 #[test]
-fn a_line_of_any_length_is_one_line(rt: HostRuntime) -> Result<(), Fail> {
-    let mut script = Vec::from_elem(rt.alloc(), b'x', 200_000)?;
-    script.extend_from_slice(b"\n0 usage D:\\\n\xff\0\n".as_slice())?;
-    let (status, outside) = replay(&rt, script.as_slice(), 65_536, [].as_slice())?;
+fn a_line_has_at_most_65536_bytes(rt: HostRuntime) -> Result<(), Fail> {
+    let mut script = Vec::new(rt.alloc());
+    append_comment(&mut script, 65_536)?;
+    script.extend_from_slice(b"\r\n".as_slice())?;
+    append_comment(&mut script, 65_537)?;
+    script.extend_from_slice(b"\n".as_slice())?;
+    append_comment(&mut script, 200_000)?;
+    script.extend_from_slice(b"\r\n0 usage D:\\\n#\xff\n".as_slice())?;
+    let replies =
+        b"2 refused LineTooLong\n3 refused LineTooLong\n4 ok\n  0 D:\\\n5 refused BadLine 2\n";
+    for piece in [1_000, 65_536] {
+        let (status, outside) = replay(&rt, script.as_slice(), piece, [].as_slice())?;
+        assert_eq!(rt; status, Status::Done);
+        assert_eq!(rt; outside.shown(), replies.as_slice());
+    }
+    Ok(())
+}
+
+// The path of so many folders, each in the one before.
+fn append_path(script: &mut String, folders: u32) -> Result<(), Fail> {
+    script.push_str("D:")?;
+    for _ in 0..folders {
+        script.push_str("\\d")?;
+    }
+    Ok(())
+}
+
+#[test]
+fn a_path_has_2000_folders(rt: HostRuntime) -> Result<(), Fail> {
+    let mut script = String::new(rt.alloc());
+    for depth in 1..2_001 {
+        script.push_str("7 mkdir ")?;
+        append_path(&mut script, depth)?;
+        script.push_str(" 1\n")?;
+    }
+    script.push_str("7 usage ")?;
+    append_path(&mut script, 2_000)?;
+    script.push_str("\\\n")?;
+    let (status, outside) = replay(&rt, script.as_bytes(), 65_536, [].as_slice())?;
     assert_eq!(rt; status, Status::Done);
-    let replies = b"1 refused BadLine 1\n2 ok\n  0 D:\\\n3 refused BadLine 1\n";
-    assert_eq!(rt; outside.shown(), replies.as_slice());
+    let mut end = String::from_str(rt.alloc(), "2000 ok\n2001 ok\n  0 ")?;
+    append_path(&mut end, 2_000)?;
+    end.push_str("\n")?;
+    assert!(rt; outside.shown().ends_with(end.as_bytes()));
     Ok(())
 }
 

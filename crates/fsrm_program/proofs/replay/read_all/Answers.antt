@@ -12,6 +12,7 @@ pieces-init g c =
       within = omega arith;
       number = omega arith;
       written = c.requires.written;
+      idle = c.requires.idle;
       read_later = omega arith;
       write_later = omega arith;
     }
@@ -29,6 +30,7 @@ pieces-preserved g c =
       within = c.in-Ok.ensures.within;
       number = omega (arith, kept.number, c.in-Ok.ensures.number);
       written = c.in-Ok.ensures.written;
+      idle = c.pass.ensures.idle;
       read_later = omega (arith, kept.read_later, c.pass.ensures.read_later);
       write_later = omega (arith, kept.write_later, c.pass.ensures.write_later);
     }

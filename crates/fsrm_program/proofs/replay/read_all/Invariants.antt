@@ -15,6 +15,7 @@ invariant-pieces g l =
       within : l.taken ≤ longest_script;
       number : l.session.line ≤ l.fn.session.line + l.taken;
       written : string_bytes l.session.replies ≡ [];
+      idle : l.session.engine.waiting ≡ [];
       read_later : source.read_faults l.fn.outside ≤ source.read_faults l.outside;
       write_later : sink.write_faults l.fn.outside ≤ sink.write_faults l.outside;
     }

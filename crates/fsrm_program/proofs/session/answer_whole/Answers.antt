@@ -7,7 +7,7 @@ use Rattle.fsrm_program.proofs.session.answer_whole.Goals as goal
 pub returns-in-Ok-clause-ok : goal.returns-in-Ok-clause-ok
 returns-in-Ok-clause-ok g c =
     let now = c.args.session.now in
-    let new = record now { tree = c.answer.new.tree; line = now.line + 1; replies = c.answer.new.replies } in
+    let new = record now { engine = c.answer.new.engine; line = now.line + 1; replies = c.answer.new.replies } in
     feeds_line (state_of now c.args.steps.now) (state_of new c.answer.new.steps) c.args.line.now c.args.line.now (string_bytes now.replies) (string_bytes c.answer.new.replies) c.requires.one_line (says_whole now.held.items c.args.line.now c.requires.nothing_held) c.in-Ok.ensures.size refl c.requires.nothing_held
     (record { rows_are = c.in-Ok.ensures.rows; text_is = c.in-Ok.ensures.text; looks_are = c.in-Ok.ensures.looks })
 

@@ -1,6 +1,5 @@
 use Rattle.std.proofs.Common.{subst, List, ℕ, ◌+◌, ◌≤◌}
 use Rattle.std.specs.String.{string_bytes}
-use Rattle.fsrm_model.specs.Fresh.{rows_of_nodes}
 use Rattle.fsrm_model.specs.Script.{line_cost}
 use Rattle.fsrm_program.specs.Held.{state_of}
 use Rattle.fsrm_program.proofs.Cutting.{none_held, some_held}
@@ -16,7 +15,7 @@ pub returns-in-Ok-clause-ok : goal.returns-in-Ok-clause-ok
 returns-in-Ok-clause-ok g c =
     let now = c.args.session.now in
     let a = state_of now c.args.steps.now in
-    let rows = rows_of_nodes c.answer.new.tree.nodes in
+    let rows = c.answer.new.engine.rows in
     let done : Answered a c.deref.result.now rows c.answer.new.steps (string_bytes now.replies) (string_bytes c.answer.new.replies) = record { rows_are = c.in-Ok.ensures.rows; text_is = c.in-Ok.ensures.text; looks_are = c.in-Ok.ensures.looks } in
     ends_line a rows c.answer.new.steps (string_bytes now.replies) (string_bytes c.answer.new.replies) (some_held _ now.held.items c.is_empty.result now.held.ok.0 c.is_empty.ensures c.if-is_empty.false)
     (subst (λ (said : List ℕ). Answered a said rows c.answer.new.steps (string_bytes now.replies) (string_bytes c.answer.new.replies)) c.deref.ensures.value done)
@@ -26,4 +25,4 @@ returns-in-Err-clause-err g c =
     let now = c.args.session.now in
     let a = state_of now c.args.steps.now in
     ends_broken a c.answer.new.steps (some_held _ now.held.items c.is_empty.result now.held.ok.0 c.is_empty.ensures c.if-is_empty.false)
-    (subst (λ (said : List ℕ). c.answer.new.steps ≤ a.looks + line_cost a.rows said) c.deref.ensures.value c.in-Err.ensures.looks)
+    (subst (λ (said : List ℕ). c.answer.new.steps ≤ a.looks + line_cost a.size a.rows said) c.deref.ensures.value c.in-Err.ensures.looks)

@@ -1,4 +1,4 @@
-use Rattle.std.proofs.Common.{◌++◌, ◌∷◌, [], List, ℕ, refl, sym, subst, arith, length-append}
+use Rattle.std.proofs.Common.{◌++◌, ◌∷◌, [], List, ℕ, refl, sym, ◌∙◌, subst, arith, length-append}
 use Rattle.std.specs.String.{string_bytes}
 use Rattle.fsrm_program.specs.Progress.{Feeds, Broken}
 use Rattle.fsrm_program.specs.Held.{state_of}
@@ -7,7 +7,7 @@ use Rattle.fsrm_program.proofs.Feeding.{feeds_nothing, feeds_then, feeds_broken,
 use Rattle.fsrm_program.proofs.session.feed.Goals as goal
 
 pub lines-init : goal.lines-init
-lines-init g c = ([], record { cut = refl; fed = feeds_nothing (state_of c.args.session.now c.args.steps.now) (string_bytes c.args.session.now.replies); number = omega arith })
+lines-init g c = ([], record { cut = refl; fed = feeds_nothing (state_of c.args.session.now c.args.steps.now) (string_bytes c.args.session.now.replies); number = omega arith; idle = c.requires.idle })
 
 pub lines-preserved : goal.lines-preserved
 lines-preserved g c =
@@ -22,6 +22,7 @@ lines-preserved g c =
         cut = cut_more c.args.piece.now done c.lines.rest.now line c.in-Some.behind.now kept.cut c.in-Some.ensures;
         fed = feeds_then start now next done (line ++ 10 ∷ []) (string_bytes c.args.session.now.replies) (string_bytes c.lines.session.replies) (string_bytes c.end_line.new.session.replies) kept.fed c.in-Ok.ensures.ok;
         number = omega (arith, kept.number, c.in-Ok.ensures.number, length-append done (line ++ 10 ∷ []), length-append line (10 ∷ []));
+        idle = c.end_line.ensures.idle;
       },
     )
 
@@ -54,3 +55,12 @@ returns-in-Err-hold_rest-clause-err g c =
     let kept = c.lines.invariant.1 in
     subst (λ (bytes : List ℕ). Broken start c.lines.steps bytes []) (sym kept.cut)
     (feeds_broken start now c.lines.steps c.lines.invariant.0 c.lines.rest.now (string_bytes c.args.session.now.replies) (string_bytes c.lines.session.replies) kept.fed (broken_still now c.lines.rest.now c.lines.steps refl))
+
+pub end_line-requires-clause-idle : goal.end_line-requires-clause-idle
+end_line-requires-clause-idle g c = c.lines.invariant.1.idle
+
+pub returns-in-Ok-hold_rest-clause-idle : goal.returns-in-Ok-hold_rest-clause-idle
+returns-in-Ok-hold_rest-clause-idle g c = c.hold_rest.ensures.idle ∙ c.lines.invariant.1.idle
+
+pub returns-in-Err-hold_rest-clause-idle : goal.returns-in-Err-hold_rest-clause-idle
+returns-in-Err-hold_rest-clause-idle g c = c.hold_rest.ensures.idle ∙ c.lines.invariant.1.idle

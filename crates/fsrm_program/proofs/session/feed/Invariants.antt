@@ -1,4 +1,4 @@
-use Rattle.std.proofs.Common.{◌≡◌, ◌≤◌, ◌+◌, ◌++◌, List, ℕ, length}
+use Rattle.std.proofs.Common.{◌≡◌, ◌≤◌, ◌+◌, ◌++◌, [], List, ℕ, length}
 use Rattle.std.specs.String.{string_bytes}
 use Rattle.fsrm_program.specs.Progress.{Feeds}
 use Rattle.fsrm_program.specs.Held.{state_of}
@@ -11,6 +11,7 @@ invariant-lines g l =
       cut : l.piece ≡ done ++ l.rest;
       fed : Feeds (state_of l.fn.session l.fn.steps) (state_of l.session l.steps) done (string_bytes l.fn.session.replies) (string_bytes l.session.replies);
       number : l.session.line ≤ l.fn.session.line + length done;
+      idle : l.session.engine.waiting ≡ [];
     }
 
 abbrev pub decreases-lines : goal.decreases-lines
