@@ -10,7 +10,7 @@ use Rattle.fsrm_model.specs.Keyed.{has_row}
 use Rattle.fsrm_model.specs.Text.{path_text}
 use Rattle.fsrm_model.specs.Tree.{number, name_of, parent_of, chain, path_of}
 use Rattle.fsrm_model.specs.Valid.{IsVolume}
-use Rattle.fsrm_model.proofs.Tests.{eq_is}
+use Rattle.fsrm_model.proofs.TestLaws.{eq_is}
 use Rattle.fsrm_model.proofs.DepthLaws.{some_member}
 use Rattle.fsrm_model.proofs.Keeps.{tree_of, found_parent}
 use Rattle.fsrm_model.proofs.Walks.{found_name}

@@ -12,7 +12,7 @@ use Rattle.fsrm_model.specs.Keyed.{has_row}
 use Rattle.fsrm_model.specs.Leads.{is_root, leads, leads_to_folder}
 use Rattle.fsrm_model.specs.Tree.{number, is_folder, child_number, chain, path_of, resolve, folder_part, last_name}
 use Rattle.fsrm_model.specs.Valid.{IsVolume}
-use Rattle.fsrm_model.proofs.Tests.{not_true, eq_is, suc_apart}
+use Rattle.fsrm_model.proofs.TestLaws.{not_true, eq_is, suc_apart}
 use Rattle.fsrm_model.proofs.Walks.{path_root}
 use Rattle.fsrm_model.proofs.Resolves.{resolve_root, resolve_child, resolved, some_name}
 use Rattle.fsrm_model.proofs.Keeps.{found_folder}

@@ -15,7 +15,7 @@ use Rattle.fsrm_model.specs.Order.{put, in_order}
 use Rattle.fsrm_model.specs.Space.{alloc, space}
 use Rattle.fsrm_model.specs.Tree.{number, node_of, is_child, children, children_in_order, is_under, under, usage}
 use Rattle.fsrm_model.specs.Valid.{IsVolume}
-use Rattle.fsrm_model.proofs.Tests.{is_or_not, both, eq_is, lt_is}
+use Rattle.fsrm_model.proofs.TestLaws.{is_or_not, both, eq_is, lt_is}
 use Rattle.fsrm_model.proofs.ChainLaws.{all_rows}
 use Rattle.fsrm_model.proofs.Order.{parts}
 use Rattle.fsrm_model.proofs.Members.{all_pass}

@@ -5,7 +5,7 @@ use Rattle.fsrm_model.specs.declared.row.NodeRow.{NodeRow}
 use Rattle.fsrm_model.specs.Keyed.{with_change}
 use Rattle.fsrm_model.specs.Space.{space}
 use Rattle.fsrm_model.specs.Tree.{number, parent_of, chain, is_under, usage}
-use Rattle.fsrm_model.proofs.Tests.{is_or_not, clash, not_true, eq_is, eq_turned, suc_apart}
+use Rattle.fsrm_model.proofs.TestLaws.{is_or_not, clash, not_true, eq_is, eq_turned, suc_apart}
 use Rattle.fsrm_model.proofs.ChainLaws.{is_in, IsTree, Has, share, usage_is, sum_by_same, all_rows, chain_step}
 use Rattle.fsrm_model.proofs.Sums.{sum_by-map}
 use Rattle.fsrm_model.proofs.MoveLaws.{Moves, moved_tree, moved_chain, moved_rooted, before, split_chain, same_any, under_other, own_first, KeepsSpace}

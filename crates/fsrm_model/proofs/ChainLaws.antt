@@ -9,7 +9,7 @@ use Rattle.fsrm_model.specs.declared.row.NodeRow.{NodeRow}
 use Rattle.fsrm_model.specs.Keyed.{with_row, has_row}
 use Rattle.fsrm_model.specs.Space.{space}
 use Rattle.fsrm_model.specs.Tree.{number, chain_in, chain, parent_of, is_under, usage}
-use Rattle.fsrm_model.proofs.Tests.{not_true, is_or, neither, or_later, eq_is, eq_same, not_root}
+use Rattle.fsrm_model.proofs.TestLaws.{not_true, is_or, neither, or_later, eq_is, eq_same, not_root}
 
 -- whether a number is one of a list
 abbrev pub is_in : List ℕ → ℕ → Bool

@@ -10,7 +10,7 @@ use Rattle.fsrm_model.specs.declared.row.NodeRow.{NodeRow}
 use Rattle.fsrm_model.specs.Keyed.{has_row, row_of, with_change, is_ascending}
 use Rattle.fsrm_model.specs.Space.{space}
 use Rattle.fsrm_model.specs.Tree.{number, node_of, parent_of, chain, chain_in, is_under, usage}
-use Rattle.fsrm_model.proofs.Tests.{both, lt_is}
+use Rattle.fsrm_model.proofs.TestLaws.{both, lt_is}
 use Rattle.fsrm_model.proofs.ChainLaws.{is_in, share, usage_is, sum_by_same, all_rows}
 
 apart_of : (m n : ℕ) → m < n → (n == m) ≡ false

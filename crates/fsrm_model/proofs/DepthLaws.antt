@@ -7,7 +7,7 @@ use Rattle.std.specs.List.{list_any, AllByRecursion, IsDistinct}
 use Rattle.fsrm_model.specs.declared.row.NodeRow.{NodeRow}
 use Rattle.fsrm_model.specs.Keyed.{has_row}
 use Rattle.fsrm_model.specs.Tree.{number, parent_of, chain, chain_in}
-use Rattle.fsrm_model.proofs.Tests.{not_true, is_or, eq_is, not_root}
+use Rattle.fsrm_model.proofs.TestLaws.{not_true, is_or, eq_is, not_root}
 use Rattle.fsrm_model.proofs.ChainLaws.{is_in, IsTree, Has, stable}
 
 -- every node comes to the root in so many steps

@@ -4,7 +4,7 @@ use Rattle.fsrm_model.specs.declared.row.Capacity.{Capacity}
 use Rattle.fsrm_model.specs.declared.row.NodeRow.{NodeRow}
 use Rattle.fsrm_model.specs.Tree.{number, parent_of, is_folder, chain, is_under}
 use Rattle.fsrm_model.specs.Valid.{IsVolume}
-use Rattle.fsrm_model.proofs.Tests.{is_or_not, clash, is_or, eq_is}
+use Rattle.fsrm_model.proofs.TestLaws.{is_or_not, clash, is_or, eq_is}
 use Rattle.fsrm_model.proofs.ChainLaws.{Has, is_in, chain_step}
 use Rattle.fsrm_model.proofs.Look.{has_found}
 use Rattle.fsrm_model.proofs.Keeps.{tree_of, found_parent}

@@ -14,7 +14,7 @@ use Rattle.fsrm_model.specs.Name.{same_name, folded}
 use Rattle.fsrm_model.specs.Tree.{number, node_of, parent_of, is_folder, is_child, child_of, chain, name_bytes}
 use Rattle.fsrm_model.specs.FileOps.{placed}
 use Rattle.fsrm_model.specs.Valid.{is_root_node, is_own, IsVolume}
-use Rattle.fsrm_model.proofs.Tests.{is_or_not, clash, not_true, is_false, both, both_true, eq_is, eq_same, eq_turned}
+use Rattle.fsrm_model.proofs.TestLaws.{is_or_not, clash, not_true, is_false, both, both_true, eq_is, eq_same, eq_turned}
 use Rattle.fsrm_model.proofs.ValidLaws.{folder_has}
 use Rattle.fsrm_model.proofs.ChainLaws.{is_in, IsTree, Has, chain-new, chain-new_other, sum_by-with_row}
 use Rattle.fsrm_model.proofs.ChangeLaws.{KeepsPlace, chain-change, sum_by-with_change}

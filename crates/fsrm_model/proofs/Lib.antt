@@ -1,7 +1,7 @@
 pub mod PlainMachine
 pub mod ScriptLaws
 pub mod Parts
-pub mod Tests
+pub mod TestLaws
 pub mod ChainLaws
 pub mod ValidLaws
 pub mod ChangeLaws

@@ -4,7 +4,7 @@ use Rattle.std.proofs.lemmas.Option.{same_Some}
 use Rattle.std.specs.Prelude.{filter, find}
 use Rattle.std.specs.List.{list_any, list_all}
 use Rattle.fsrm_model.specs.Keyed.{is_ascending, row_of}
-use Rattle.fsrm_model.proofs.Tests.{is_or_not, both}
+use Rattle.fsrm_model.proofs.TestLaws.{is_or_not, both}
 use Rattle.fsrm_model.proofs.Look.{is_some-find, some_row, found_own, found_passes}
 
 -- the first row that passes

@@ -9,7 +9,7 @@ use Rattle.fsrm_model.specs.declared.row.NodeRow.{NodeRow}
 use Rattle.fsrm_model.specs.Keyed.{has_row, with_change}
 use Rattle.fsrm_model.specs.Space.{space}
 use Rattle.fsrm_model.specs.Tree.{number, parent_of, chain, chain_in, is_under, usage}
-use Rattle.fsrm_model.proofs.Tests.{is_or_not, clash, not_true, is_or, neither, or_later, or_false, eq_is, eq_same, not_root}
+use Rattle.fsrm_model.proofs.TestLaws.{is_or_not, clash, not_true, is_or, neither, or_later, or_false, eq_is, eq_same, not_root}
 use Rattle.fsrm_model.proofs.ChainLaws.{is_in, IsTree, Has, stable, same_chain, share, usage_is, sum_by_same, all_rows}
 use Rattle.fsrm_model.proofs.DepthLaws.{soon}
 use Rattle.fsrm_model.proofs.Sums.{sum_by-add, sum_by-map}

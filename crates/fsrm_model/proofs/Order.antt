@@ -4,7 +4,7 @@ use Rattle.std.proofs.lemmas.Bool.Decides.{nat_tests}
 use Rattle.std.specs.Prelude.{map, filter, if◌then◌else◌}
 use Rattle.std.specs.List.{list_all}
 use Rattle.fsrm_model.specs.Keyed.{has_row, with_row, with_change, least_free_from, least_free, is_ascending}
-use Rattle.fsrm_model.proofs.Tests.{not_true, both, neither, eq_is, lt_is, lt_test}
+use Rattle.fsrm_model.proofs.TestLaws.{not_true, both, neither, eq_is, lt_is, lt_test}
 use Rattle.fsrm_model.proofs.ChangeLaws.{absent_later}
 use Rattle.fsrm_model.proofs.Look.{changed_key}
 pub use Rattle.fsrm_model.proofs.ChainLaws.{length-with_row}

@@ -13,7 +13,7 @@ use Rattle.fsrm_model.specs.Name.{same_name, same_names, folded}
 use Rattle.fsrm_model.specs.Tree.{number, node_of, name_of, is_folder, child_of, child_number, chain, path_of, resolve, folder_part, last_name}
 use Rattle.fsrm_model.specs.Leads.{is_root}
 use Rattle.fsrm_model.specs.Valid.{IsVolume}
-use Rattle.fsrm_model.proofs.Tests.{both}
+use Rattle.fsrm_model.proofs.TestLaws.{both}
 use Rattle.fsrm_model.proofs.ChainLaws.{Has}
 use Rattle.fsrm_model.proofs.DepthLaws.{some_member}
 use Rattle.fsrm_model.proofs.Look.{found_has}

@@ -8,7 +8,7 @@ use Rattle.fsrm_model.specs.Keyed.{is_ascending}
 use Rattle.fsrm_model.specs.Space.{space}
 use Rattle.fsrm_model.specs.Tree.{number, node_of, parent_of, is_folder, is_child, children, chain, is_under, under, usage}
 use Rattle.fsrm_model.specs.Valid.{IsVolume}
-use Rattle.fsrm_model.proofs.Tests.{clash, not_true, eq_is, eq_same, eq_turned, suc_apart}
+use Rattle.fsrm_model.proofs.TestLaws.{clash, not_true, eq_is, eq_same, eq_turned, suc_apart}
 use Rattle.fsrm_model.proofs.ChainLaws.{IsTree, Has, is_in, chain_step, sum_by-filter, sum_by_same, all_rows}
 use Rattle.fsrm_model.proofs.DepthLaws.{not_above}
 use Rattle.fsrm_model.proofs.Sums.{sum_by-add, sum_by_each, sum_by_nothing, sum_by-ones, sum_by_turned, sum_by_only}

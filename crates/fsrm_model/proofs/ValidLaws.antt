@@ -8,9 +8,9 @@ use Rattle.fsrm_model.specs.declared.row.NodeRow.{NodeRow}
 use Rattle.fsrm_model.specs.Keyed.{is_ascending, has_row, row_of}
 use Rattle.fsrm_model.specs.Tree.{number, node_of, parent_of, is_folder, chain}
 use Rattle.fsrm_model.specs.Valid.{is_tree, is_sound_node, is_root_node, is_inner_node, is_only_one}
-use Rattle.fsrm_model.proofs.Tests.{eq_is}
+use Rattle.fsrm_model.proofs.TestLaws.{eq_is}
 use Rattle.fsrm_model.proofs.ChainLaws.{is_in, IsTree, Has}
-pub use Rattle.fsrm_model.proofs.Tests.{both}
+pub use Rattle.fsrm_model.proofs.TestLaws.{both}
 
 -- a row that is there
 pub record Found {X : Type 0} (key : X → ℕ) (n : ℕ) (rows : List X) (test : X → Bool) : Type 0 where

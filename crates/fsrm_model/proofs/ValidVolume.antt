@@ -9,7 +9,7 @@ use Rattle.fsrm_model.specs.Name.{same_name}
 use Rattle.fsrm_model.specs.Tree.{number, node_of, is_folder, is_child, is_under, name_bytes}
 use Rattle.fsrm_model.specs.Fresh.{root_node}
 use Rattle.fsrm_model.specs.Valid.{is_tree, is_sound_node, is_root_node, is_inner_node, is_only_one, is_own, IsVolume}
-use Rattle.fsrm_model.proofs.Tests.{is_or_not, is_false, both, both_true, eq_is, eq_same, lt_test}
+use Rattle.fsrm_model.proofs.TestLaws.{is_or_not, is_false, both, both_true, eq_is, eq_same, lt_test}
 use Rattle.fsrm_model.proofs.ValidLaws.{valid_tree}
 use Rattle.fsrm_model.proofs.Look.{has_found, found_has, found_key}
 use Rattle.fsrm_model.proofs.Members.{all_pass, all_found}

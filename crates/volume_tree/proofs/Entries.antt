@@ -13,7 +13,7 @@ use Rattle.fsrm_model.specs.Keyed.{is_ascending, row_of}
 use Rattle.fsrm_model.specs.Tree.{number, node_of}
 use Rattle.fsrm_model.proofs.Look.{found_key}
 use Rattle.fsrm_model.proofs.Order.{parts}
-use Rattle.fsrm_model.proofs.Tests.{eq_same}
+use Rattle.fsrm_model.proofs.TestLaws.{eq_same}
 use Rattle.volume_tree.specs.Kept.{IsOrder, IsPlace, inner, is_before}
 use Rattle.volume_tree.proofs.Items.{contains_passing, contains_found}
 

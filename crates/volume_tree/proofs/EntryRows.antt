@@ -17,7 +17,7 @@ use Rattle.fsrm_model.specs.Keyed.{is_ascending}
 use Rattle.fsrm_model.specs.Name.{folded, name_before, same_name}
 use Rattle.fsrm_model.specs.Tree.{number, node_of}
 use Rattle.fsrm_model.proofs.Order.{ascending-filter}
-use Rattle.fsrm_model.proofs.Tests.{clash, is_false, is_or_not}
+use Rattle.fsrm_model.proofs.TestLaws.{clash, is_false, is_or_not}
 use Rattle.volume_tree.specs.Kept.{IsOrder, inner, is_before}
 use Rattle.volume_tree.specs.Sound.{HasTwins}
 use Rattle.volume_tree.proofs.Entries.{ascending_pairs, rows_found}

@@ -12,7 +12,7 @@ use Rattle.fsrm_model.specs.Valid.{IsVolume}
 use Rattle.fsrm_model.proofs.ChainLaws.{all_rows, find-with_row_same}
 use Rattle.fsrm_model.proofs.Look.{FoundRow, is_some-find, has_found, has_row-without, has_row-without_other, has_row-new_other}
 use Rattle.fsrm_model.proofs.Order.{parts, is_above, join, least_free_is, ascending-with_row, ascending-filter}
-use Rattle.fsrm_model.proofs.Tests.{clash, eq_same, lt_is, lt_test}
+use Rattle.fsrm_model.proofs.TestLaws.{clash, eq_same, lt_is, lt_test}
 use Rattle.volume_tree.specs.Kept.{rows_of, AreSlots}
 
 apart_test : (m n : ℕ) → m < n → (m == n) ≡ false

@@ -20,7 +20,7 @@ use Rattle.fsrm_model.proofs.ChangeLaws.{length-change}
 use Rattle.fsrm_model.proofs.Keeps.{volume-new, volume-change, volume-moved, volume-removed, KeepsNode, name_bytes-change, found_folder, found_parent}
 use Rattle.fsrm_model.proofs.Look.{has_found}
 use Rattle.fsrm_model.proofs.Sizes.{length-removed, name_bytes-new, name_bytes-placed, name_bytes-removed}
-use Rattle.fsrm_model.proofs.Tests.{lt_is, lt_test, eq_is, not_true, clash, both}
+use Rattle.fsrm_model.proofs.TestLaws.{lt_is, lt_test, eq_is, not_true, clash, both}
 use Rattle.fsrm_model.proofs.Walks.{found_name, child_is, child_found}
 use Rattle.volume_tree.specs.Kept.{rows_of, AreSlots, IsOrder, IsPlace, IsKept}
 use Rattle.volume_tree.specs.Shift.{IsShifted}

@@ -22,7 +22,7 @@ use Rattle.fsrm_model.proofs.Look.{found_lacks, found_key, has_found, is_some-fi
 use Rattle.fsrm_model.proofs.Order.{ascending-filter}
 use Rattle.fsrm_model.proofs.RemoveLaws.{sum_by-without_row}
 use Rattle.fsrm_model.proofs.Sums.{sum_by-ones}
-use Rattle.fsrm_model.proofs.Tests.{eq_is, eq_same, clash, not_true}
+use Rattle.fsrm_model.proofs.TestLaws.{eq_is, eq_same, clash, not_true}
 use Rattle.volume_tree.specs.Kept.{IsOrder, IsPlace, inner, is_before}
 use Rattle.volume_tree.proofs.Edits.{map-insert, map-remove, pairs_insert, removed, with_row_moves, filter-map, map-map_same, filters_turned}
 use Rattle.volume_tree.proofs.Entries.{at, There, there, Divides, place_divides, ascending_pairs, rows_found, entry_of, entry_there, same_entry, number_there, length-order_entries, not_not}

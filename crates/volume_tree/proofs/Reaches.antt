@@ -13,7 +13,7 @@ use Rattle.fsrm_model.proofs.DepthLaws.{soon}
 use Rattle.fsrm_model.proofs.Look.{found_key, has_found}
 use Rattle.fsrm_model.proofs.Members.{all_found}
 use Rattle.fsrm_model.proofs.MoveLaws.{members_has, stable_by}
-use Rattle.fsrm_model.proofs.Tests.{both, both_true, clash, eq_is, is_or_not, not_root}
+use Rattle.fsrm_model.proofs.TestLaws.{both, both_true, clash, eq_is, is_or_not, not_root}
 use Rattle.fsrm_model.proofs.ValidLaws.{folder_has}
 use Rattle.volume_tree.specs.Sound.{AreMarks, Reaches, is_placed}
 

@@ -14,7 +14,7 @@ use Rattle.fsrm_model.specs.Keyed.{is_ascending}
 use Rattle.fsrm_model.specs.Name.{name_before}
 use Rattle.fsrm_model.specs.Order.{in_order}
 use Rattle.fsrm_model.specs.Tree.{number, node_of, is_child, children, children_in_order}
-use Rattle.fsrm_model.proofs.Tests.{eq_is, clash, both}
+use Rattle.fsrm_model.proofs.TestLaws.{eq_is, clash, both}
 use Rattle.volume_tree.specs.Kept.{IsOrder, IsPlace}
 use Rattle.volume_tree.proofs.Entries.{at, place_divides, ascending_pairs, rows_found, entry_of, entry_there, not_not}
 use Rattle.volume_tree.proofs.Halving.{before_empty}

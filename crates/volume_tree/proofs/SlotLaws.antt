@@ -10,7 +10,7 @@ use Rattle.fsrm_model.specs.Keyed.{has_row, with_row, with_change, without_row}
 use Rattle.fsrm_model.specs.Tree.{number, node_of}
 use Rattle.fsrm_model.proofs.ChangeLaws.{change_absent}
 use Rattle.fsrm_model.proofs.Look.{is_some-find, found_key, has_found}
-use Rattle.fsrm_model.proofs.Tests.{lt_test}
+use Rattle.fsrm_model.proofs.TestLaws.{lt_test}
 use Rattle.volume_tree.specs.Kept.{rows_of, IsSlot, AreSlots}
 
 -- what stands at a place of slots

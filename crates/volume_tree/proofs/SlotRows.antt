@@ -6,7 +6,7 @@ use Rattle.fsrm_model.specs.declared.row.NodeRow.{NodeRow}
 use Rattle.fsrm_model.specs.Keyed.{is_ascending}
 use Rattle.fsrm_model.specs.Tree.{number, node_of}
 use Rattle.fsrm_model.proofs.Order.{is_above, join}
-use Rattle.fsrm_model.proofs.Tests.{eq_is}
+use Rattle.fsrm_model.proofs.TestLaws.{eq_is}
 use Rattle.volume_tree.specs.Kept.{AreSlots, rows_of}
 
 -- rows of slots ascend, from the number of the first slot on

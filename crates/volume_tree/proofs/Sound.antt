@@ -15,7 +15,7 @@ use Rattle.fsrm_model.specs.Valid.{is_tree, is_sound_node, is_root_node, is_inne
 use Rattle.fsrm_model.proofs.Look.{found_has}
 use Rattle.fsrm_model.proofs.Members.{all_found, all_pass}
 use Rattle.fsrm_model.proofs.Order.{is_above, join, parts}
-use Rattle.fsrm_model.proofs.Tests.{both, both_true, clash, eq_is, eq_same, is_false, not_true}
+use Rattle.fsrm_model.proofs.TestLaws.{both, both_true, clash, eq_is, eq_same, is_false, not_true}
 use Rattle.fsrm_model.proofs.ValidVolume.{volume_of_tree}
 use Rattle.volume_tree.specs.Kept.{IsOrder, is_before}
 use Rattle.volume_tree.specs.Sound.{HasTwins, are_from, are_sound, is_placed}
