@@ -1,5 +1,5 @@
 -- The least free number, how many nodes there may be, and the bytes of their names.
-use Rattle.std.proofs.Common.{◌≡◌, ℕ, suc, ◌+◌, ◌<◌, ◌≤◌, ◌==◌, Bool, true, false, cond, not, ◌||◌, ◌⊎◌, inl, inr, List, [], ◌∷◌, length, refl, sym, ◌∙◌, ap, arith, Some, None, Option}
+use Rattle.std.proofs.Common.{◌≡◌, ℕ, suc, ◌+◌, ◌<◌, ◌≤◌, ◌==◌, Bool, true, false, cond, not, ◌||◌, ◌⊎◌, inl, inr, List, [], ◌∷◌, length, refl, sym, ◌∙◌, ap, subst, arith, Some, None, Option}
 use Rattle.std.proofs.lemmas.Bool.{cases_lt, cases_order}
 use Rattle.std.proofs.lemmas.Bool.Decides.{nat_tests}
 use Rattle.std.specs.Prelude.{map, is_some}
@@ -17,6 +17,9 @@ use Rattle.volume_tree.specs.Kept.{rows_of, AreSlots}
 
 apart_test : (m n : ℕ) → m < n → (m == n) ≡ false
 apart_test m n h = grind (arith, nat_tests)
+
+same_test : (m n : ℕ) → m ≡ n → (m == n) ≡ true
+same_test m n h = grind (arith, nat_tests)
 
 apart_above : (m n : ℕ) → n < m → (m == n) ≡ false
 apart_above m n h = grind (arith, nat_tests)
@@ -172,3 +175,30 @@ few_nodes K nodes v =
   where
     below : (r : NodeRow) → FoundRow (node_of nodes r.number) → r.number < K.nodes
     below r f = lt_is r.number K.nodes (v.below r.number f.row f.is)
+
+rows_fit : (slots : List (Option NodeRow)) → length (rows_of slots) ≤ length slots
+rows_fit [] = omega arith
+rows_fit (None ∷ slots) = let l = rows_fit slots in omega (arith, l)
+rows_fit (Some row ∷ slots) = let l = rows_fit slots in omega (arith, l)
+
+-- the least free number is at most the next slot's
+pub fresh_near : (slots : List (Option NodeRow)) → AreSlots 0 slots → fresh (rows_of slots) ≤ length slots
+fresh_near slots a =
+    let most = fresh_most (rows_of slots) (ascending_slots slots a) in
+    let fit = rows_fit slots in
+    omega (arith, most, fit)
+
+full_from : (m : ℕ) (slots : List (Option NodeRow)) → AreSlots m slots → length (rows_of slots) ≡ length slots → least_free_from number m (rows_of slots) ≡ m + length slots
+full_from m [] a e = omega arith
+full_from m (None ∷ slots) a e = let l = rows_fit slots in absurd (omega (arith, l, e))
+full_from m (Some row ∷ slots) a e =
+    let is : row.number ≡ m = a.0 in
+    let i : suc m ≡ m + 1 = omega arith in
+    let n : m + 1 + length slots ≡ m + suc (length slots) = omega arith in
+    let rest : length (rows_of slots) ≡ length slots = omega (arith, e) in
+    ap (λ b. cond b (least_free_from number (m + 1) (rows_of slots)) m) (same_test row.number m is)
+    ∙ (full_from (m + 1) slots (subst (λ k. AreSlots k slots) i a.1) rest ∙ n)
+
+-- where no slot is empty the least free number is the next slot's
+pub full_fresh : (slots : List (Option NodeRow)) → AreSlots 0 slots → length (rows_of slots) ≡ length slots → length slots ≡ fresh (rows_of slots)
+full_fresh slots a e = let f = full_from 0 slots a e in omega (arith, f)

@@ -1,7 +1,7 @@
 -- Rows and slots: copies of the rows of slots, and slots of the rows that are read.
 use Rattle.std.proofs.Common.{◌≡◌, ℕ, suc, ◌+◌, ◌<◌, ◌≤◌, List, [], ◌∷◌, ◌++◌, length, take, drop, get_or, refl, sym, ◌∙◌, ap, arith, Some, None, Option, Err, Result}
 use Rattle.std.specs.Result.{IsErrOf}
-use Rattle.std.proofs.lemmas.List.{take_more, take-append-drop, length-append}
+use Rattle.std.proofs.lemmas.List.{append-nil, take_more, take-append-drop, length-append}
 use Rattle.fsrm_model.specs.declared.row.NodeRow.{NodeRow}
 use Rattle.volume_tree.specs.Kept.{AreSlots, rows_of}
 
@@ -9,10 +9,6 @@ pub rows_of-append : (xs ys : List (Option NodeRow)) → rows_of (xs ++ ys) ≡ 
 rows_of-append [] ys = refl
 rows_of-append (None ∷ xs) ys = rows_of-append xs ys
 rows_of-append (Some row ∷ xs) ys = ap (λ rows. row ∷ rows) (rows_of-append xs ys)
-
-append_nothing : {X : Type 0} (xs : List X) → xs ++ [] ≡ xs
-append_nothing [] = refl
-append_nothing (x ∷ xs) = ap (λ ys. x ∷ ys) (append_nothing xs)
 
 -- an empty slot is added
 empty_from : (m : ℕ) (slots : List (Option NodeRow)) → AreSlots m slots → AreSlots m (slots ++ None ∷ [])
@@ -23,7 +19,7 @@ pub empty_slots : (slots : List (Option NodeRow)) → AreSlots 0 slots → AreSl
 empty_slots slots a = empty_from 0 slots a
 
 pub empty_rows : (slots : List (Option NodeRow)) → rows_of (slots ++ None ∷ []) ≡ rows_of slots
-empty_rows slots = rows_of-append slots (None ∷ []) ∙ append_nothing (rows_of slots)
+empty_rows slots = rows_of-append slots (None ∷ []) ∙ append-nil (rows_of slots)
 
 pub length_more : {X : Type 0} (xs : List X) (x : X) → length (xs ++ x ∷ []) ≡ length xs + 1
 length_more xs x = length-append xs (x ∷ [])
@@ -49,7 +45,7 @@ still_few slots i row slot l e is =
     omega (arith, m, length_more (rows_of (take i slots)) row, few_taken slots (i + 1))
 
 pub none_more : (slots : List (Option NodeRow)) (i : ℕ) (slot : Option NodeRow) → i < length slots → slot ≡ get_or slots i slot → slot ≡ None → rows_of (take (i + 1) slots) ≡ rows_of (take i slots)
-none_more slots i slot l e is = taken_rows slots i slot l e ∙ (ap (λ s. rows_of (take i slots) ++ rows_of (s ∷ [])) is ∙ append_nothing (rows_of (take i slots)))
+none_more slots i slot l e is = taken_rows slots i slot l e ∙ (ap (λ s. rows_of (take i slots) ++ rows_of (s ∷ [])) is ∙ append-nil (rows_of (take i slots)))
 
 pub is_none : (o : Option NodeRow) → ((row : NodeRow) → o ≡ Some row → ⊥) → o ≡ None
 is_none None h = refl

@@ -25,7 +25,7 @@ use Rattle.fsrm_model.proofs.Walks.{found_name, child_is, child_found}
 use Rattle.volume_tree.specs.Kept.{rows_of, AreSlots, IsOrder, IsPlace, IsKept}
 use Rattle.volume_tree.specs.Shift.{IsShifted}
 use Rattle.volume_tree.specs.Volume.{is_other}
-use Rattle.volume_tree.proofs.FreshLaws.{fresh_free, fresh_most, fresh_apart, fresh_changed, fresh_made, fresh_lower, fresh_stays, few_nodes}
+use Rattle.volume_tree.proofs.FreshLaws.{fresh_near, fresh_free, fresh_most, fresh_apart, fresh_changed, fresh_made, fresh_lower, fresh_stays, few_nodes}
 use Rattle.volume_tree.proofs.OrderLaws.{order_made, order_gone, order_kept, order_respelled, order_moved, length-order}
 
 le_test : (m n : ℕ) → m ≤ n → nat_le m n ≡ true
@@ -253,31 +253,24 @@ kept_gone K count used free next slots made order n place k has inner leaf at ar
     }
 
 -- after a node was made the next number is greater, and nodes are still few
-pub record Next (free : ℕ) (made : List (Option NodeRow)) : Type 0 where
+pub record Next (count free : ℕ) (made : List (Option NodeRow)) : Type 0 where
   pub greater : free + 1 ≤ fresh (rows_of made)
   pub few : length (rows_of made) ≤ most_nodes + 1
+  pub count_is : count + 1 ≡ length (rows_of made)
 
-pub next_of : (K : Capacity) (count used free : ℕ) (slots made : List (Option NodeRow)) (order : List ℕ) (row : NodeRow) → IsKept K count used free slots order → row.number ≡ free → rows_of made ≡ with_row number row (rows_of slots) → Next free made
+pub next_of : (K : Capacity) (count used free : ℕ) (slots made : List (Option NodeRow)) (order : List ℕ) (row : NodeRow) → IsKept K count used free slots order → row.number ≡ free → rows_of made ≡ with_row number row (rows_of slots) → Next count free made
 next_of K count used free slots made order row k e rows =
     let g = fresh_made row (rows_of slots) k.volume.ascending (e ∙ k.free_is) in
     let f : fresh (rows_of made) ≡ fresh (with_row number row (rows_of slots)) = ap fresh rows in
     let l : length (rows_of made) ≡ length (with_row number row (rows_of slots)) = ap length rows in
     let longer = length-with_row number row (rows_of slots) in
     let few = few_rows K count used free slots order k in
-    record { greater = omega (arith, g, f, e); few = omega (arith, l, longer, few) }
-
-rows_fit : (slots : List (Option NodeRow)) → length (rows_of slots) ≤ length slots
-rows_fit [] = omega arith
-rows_fit (None ∷ slots) = let l = rows_fit slots in omega (arith, l)
-rows_fit (Some row ∷ slots) = let l = rows_fit slots in omega (arith, l)
+    let c = k.count_is in
+    record { greater = omega (arith, g, f, e); few = omega (arith, l, longer, few); count_is = omega (arith, l, longer, c) }
 
 -- the least free number is at most the next slot's
 pub free_near : (K : Capacity) (count used free : ℕ) (slots : List (Option NodeRow)) (order : List ℕ) → IsKept K count used free slots order → free ≤ length slots
-free_near K count used free slots order k =
-    let most = fresh_most (rows_of slots) k.volume.ascending in
-    let fit = rows_fit slots in
-    let e = k.free_is in
-    omega (arith, most, fit, e)
+free_near K count used free slots order k = let near = fresh_near slots k.slots_are in let e = k.free_is in omega (arith, near, e)
 
 pub free_lacks : (K : Capacity) (count used free : ℕ) (slots : List (Option NodeRow)) (order : List ℕ) → IsKept K count used free slots order → has_row number free (rows_of slots) ≡ false
 free_lacks K count used free slots order k = ap (λ n. has_row number n (rows_of slots)) k.free_is ∙ fresh_free (rows_of slots) k.volume.ascending

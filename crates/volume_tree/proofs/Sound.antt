@@ -1,5 +1,5 @@
 -- Rows that pass each part of the reading are the nodes of a volume, and those that fail one are not.
-use Rattle.std.proofs.Common.{◌≡◌, ℕ, suc, ◌<◌, ◌≤◌, ◌==◌, ◌||◌, ◌&&◌, Bool, true, false, cond, not, inl, inr, List, [], ◌∷◌, get_or, refl, sym, ◌∙◌, ap, arith, nat_le, nat_lt, Some}
+use Rattle.std.proofs.Common.{◌≡◌, ℕ, suc, ◌≤◌, ◌==◌, ◌||◌, ◌&&◌, Bool, true, false, cond, not, inl, inr, List, [], ◌∷◌, get_or, refl, sym, ◌∙◌, ap, arith, nat_le, nat_lt, Some}
 use Rattle.std.proofs.lemmas.Bool.{cases_order}
 use Rattle.std.proofs.lemmas.Bool.Decides.{nat_tests}
 use Rattle.std.proofs.lemmas.List.{get_or_default}
@@ -15,7 +15,7 @@ use Rattle.fsrm_model.specs.Valid.{is_tree, is_sound_node, is_root_node, is_inne
 use Rattle.fsrm_model.proofs.Look.{found_has}
 use Rattle.fsrm_model.proofs.Members.{all_found, all_pass}
 use Rattle.fsrm_model.proofs.Order.{is_above, join, parts}
-use Rattle.fsrm_model.proofs.TestLaws.{both, both_true, clash, eq_is, eq_same, is_false, not_true}
+use Rattle.fsrm_model.proofs.TestLaws.{both, both_true, clash, eq_is, eq_same, is_false, lt_is, lt_test, not_true}
 use Rattle.fsrm_model.proofs.ValidVolume.{volume_of_tree}
 use Rattle.volume_tree.specs.Kept.{IsOrder, is_before}
 use Rattle.volume_tree.specs.Sound.{HasTwins, are_from, are_sound, is_placed}
@@ -27,12 +27,6 @@ le_is m n h = grind (arith, nat_tests)
 
 le_test : (m n : ℕ) → m ≤ n → nat_le m n ≡ true
 le_test m n h = grind (arith, nat_tests)
-
-lt_is : (m n : ℕ) → nat_lt m n ≡ true → m < n
-lt_is m n h = grind (arith, nat_tests)
-
-lt_test : (m n : ℕ) → m < n → nat_lt m n ≡ true
-lt_test m n h = grind (arith, nat_tests)
 
 -- what numbers that ascend below a bound have
 record From (n bound : ℕ) (row : NodeRow) (rows : List NodeRow) : Type 0 where

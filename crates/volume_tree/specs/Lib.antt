@@ -1,4 +1,4 @@
 pub mod Kept
-pub mod Shift
 pub mod Sound
 pub mod Volume
+pub mod Shift

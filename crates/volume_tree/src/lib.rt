@@ -3,7 +3,7 @@
 
 mod answer;
 mod climb;
-mod moving;
+mod entry;
 mod order;
 mod rows;
 mod slots;

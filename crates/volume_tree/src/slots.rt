@@ -125,6 +125,22 @@ pub fn next_free(slots: &[Option<NodeRow>], from: u32) -> u32
     next
 }
 
+/// The least number that no row has, among so many rows. It's `from` at least.
+pub fn free_among(slots: &[Option<NodeRow>], count: u32, from: u32) -> u32
+    requires slots { AreSlots 0 slots.now }
+    requires few { length (rows_of slots.now) < 2 ^ 32 }
+    requires count { count ≡ length (rows_of slots.now) }
+    requires taken { from ≤ fresh (rows_of slots.now) }
+    ensures { result ≡ fresh (rows_of slots.now) }
+{
+    // Where no slot is empty none need be passed: so the oldest node may make way for a new one
+    // again and again.
+    if count as usize == slots.len() {
+        return count;
+    }
+    next_free(slots, from)
+}
+
 /// The bytes of a node's name.
 pub fn name_length(slots: &[Option<NodeRow>], number: u32) -> u32
     requires slots { AreSlots 0 slots.now }

@@ -7,7 +7,7 @@ ghost use Rattle.fsrm_model.specs.Tree.{is_folder};
 
 use crate::answer::{RowsFault, TreeFault};
 use crate::tree::Tree;
-use fsrm_model::{Capacity, Ledger, List, Steps, Weightless};
+use fsrm_model::{Capacity, Ledger, Steps, Weightless};
 use name_rules::read_path;
 use std::alloc::Global;
 use std::marker::Brand;
@@ -279,11 +279,7 @@ fn files_are_resized_and_read(rt: HostRuntime) -> Result<(), Fail> {
     files_change::<Brand>(&rt, &rt, Blank::new(1))
 }
 
-fn rows_make_the_tree<N: Named>(
-    rt: &HostRuntime,
-    end: &impl Abort,
-    blank: Blank,
-) -> Result<(), Fail>
+fn rows_go_round<N: Named>(rt: &HostRuntime, end: &impl Abort, blank: Blank) -> Result<(), Fail>
     requires name { blank.name ≡ N.name }
     requires parts { blank.parts ≡ N.parts }
     requires one { blank.parts ≡ 1 }
@@ -295,17 +291,29 @@ fn rows_make_the_tree<N: Named>(
     };
     let mut tree = Tree::reserve(rt.alloc(), size)?;
     assert_eq!(end; mkdir(&mut tree, end, 0, "b", &mut steps), Ok(1));
-    assert_eq!(end; create(&mut tree, end, 1, "a", &mut steps), Ok(2));
+    assert_eq!(end; mkdir(&mut tree, end, 0, "a", &mut steps), Ok(2));
+    assert_eq!(end; create(&mut tree, end, 1, "c", &mut steps), Ok(3));
+    assert_eq!(end; remove(&mut tree, end, 2, &mut steps), Ok(()));
     let rows = tree.to_rows(rt.alloc(), &mut steps)?;
-    let again = Tree::from_rows(rt.alloc(), &rows, size);
-    assert!(end; again.is_ok_and(|tree| tree.count() == 3 && tree.name_bytes() == 2));
-    let none = List::new(rt.alloc());
-    let bad = Tree::from_rows(rt.alloc(), &none, size);
-    assert!(end; bad.is_err_and(|fault| fault == RowsFault::BadRows));
+    assert_eq!(end; rows.len(), 3);
+    let made = Tree::from_rows(rt.alloc(), &rows, size);
+    let mut again = made.expect(end, "these are rows of a tree");
+    assert_eq!(end; again.count(), 3);
+    assert_eq!(end;
+        resolve(&again, rt.alloc(), "D:\\b\\c", &mut steps),
+        Some(3)
+    );
+    assert_eq!(end; create(&mut again, end, 1, "d", &mut steps), Ok(2));
+    let small = Capacity {
+        nodes: 3,
+        names: 256,
+    };
+    let made = Tree::from_rows(rt.alloc(), &rows, small);
+    assert_eq!(end; made.err(), Some(RowsFault::BadRows));
     Ok(())
 }
 
 #[test]
-fn a_tree_is_made_of_its_rows(rt: HostRuntime) -> Result<(), Fail> {
-    rows_make_the_tree::<Brand>(&rt, &rt, Blank::new(1))
+fn a_tree_is_made_again_of_its_rows(rt: HostRuntime) -> Result<(), Fail> {
+    rows_go_round::<Brand>(&rt, &rt, Blank::new(1))
 }

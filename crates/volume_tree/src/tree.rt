@@ -1,20 +1,18 @@
 //! A volume's nodes.
 
-ghost use Rattle.std.specs.Prelude.{◌≡◌, ◌+◌, ◌-◌, ◌*◌, ◌<◌, ◌≤◌, ◌==◌, nat_lt, not, if◌then◌else◌, IfOk, IfErr, OnOk, OnErr, IsErrOf, true, false, length, take, None, Some, ◌∷◌, [], slice_get, slice_index, insert, remove};
+ghost use Rattle.std.specs.Prelude.{◌≡◌, ◌+◌, ◌*◌, ◌<◌, ◌≤◌, ◌==◌, if◌then◌else◌, IfOk, IfErr, OnOk, OnErr, IsErrOf, true, false, length, take, None, Some, ◌∷◌, []};
 ghost use Rattle.fsrm_model.specs.FileOps.{made_node};
 ghost use Rattle.fsrm_model.specs.Fresh.{root_node};
 ghost use Rattle.fsrm_model.specs.Keyed.{has_row};
-ghost use Rattle.fsrm_model.specs.Limits.{longest_file, latest_moment, most_nodes};
+ghost use Rattle.fsrm_model.specs.Limits.{longest_file, latest_moment};
 ghost use Rattle.fsrm_model.specs.Name.{is_name};
-ghost use Rattle.fsrm_model.specs.Tree.{number as key, fresh, is_folder, parent_of, name_of, children, child_number, chain, resolve, name_bytes};
+ghost use Rattle.fsrm_model.specs.Tree.{number as key, fresh, is_folder, children, child_number, chain, resolve, name_bytes};
 ghost use Rattle.fsrm_model.specs.Valid.{is_tree, IsVolume};
-ghost use Rattle.volume_tree.specs.Kept.{AreSlots, IsOrder, rows_of};
-ghost use Rattle.volume_tree.specs.Shift.{IsShifted};
 ghost use Rattle.volume_tree.specs.Volume.{IsCapacity, IsFault, IsChildAt, Shows, new_fault, move_fault, remove_fault, with_node, with_length, with_touch, with_place, without_node};
 
 use crate::answer::{NodeView, RowsFault, TreeFault};
 use crate::climb::is_at_or_below;
-use crate::moving::{is_other, own_place, reorder};
+use crate::entry::{is_other, own_place, reorder};
 use crate::{order, rows, slots};
 use fsrm_model::{Capacity, Ledger, List, NoMemory, NodeRow, Path, Steps, Text};
 use std::alloc::Global;
@@ -366,6 +364,45 @@ impl Tree {
         Ok(())
     }
 
+    /// Copies of all rows, ascending by number. It takes a look for each.
+    pub fn to_rows<L: Ledger>(
+        &self,
+        alloc: Global,
+        steps: &mut Steps<L>,
+    ) -> Result<List<NodeRow>, NoMemory>
+        ensures rows { IfOk result (λ rows. rows ≡ self.now.nodes) }
+        ensures count { OnOk result (steps.new ≡ steps.old + length self.now.nodes) }
+        ensures most { steps.new ≤ steps.old + length self.now.nodes }
+    {
+        rows::copies(&self.slots, alloc, steps)
+    }
+
+    /// The tree of these rows. They are bad exactly where they aren't the nodes of a volume of this
+    /// size: ascending numbers below the size, a root of number 0, valid names, no two children of a
+    /// folder of one folded name, lengths, owners and moments in their ranges, parents that are
+    /// folders and lead up to the root, and no more bytes of names than the size has.
+    pub fn from_rows(alloc: Global, rows: &List<NodeRow>, size: Capacity) -> Result<Tree, RowsFault>
+        requires { IsCapacity size }
+        ensures ok { IfOk result (λ tree. tree ≡ record { size = size; nodes = rows.now }) }
+        ensures kept { IfOk result (λ tree. IsVolume tree.size tree.nodes) }
+        ensures may { OnOk result (is_tree size rows.now ≡ true) }
+        ensures bad { IsErrOf result RowsFault.BadRows → is_tree size rows.now ≡ false }
+    {
+        let parts = match rows::read(alloc, rows.as_slice(), size) {
+            Ok(parts) => parts,
+            Err(fault) => return Err(fault),
+        };
+        Ok(Tree {
+            size,
+            count: parts.count,
+            used: parts.used,
+            free: parts.free,
+            slots: parts.slots,
+            order: parts.order,
+            alloc,
+        })
+    }
+
     // Makes a node as `mkdir` and `create` do.
     fn make<L: Ledger>(
         &mut self,
@@ -410,45 +447,7 @@ impl Tree {
         self.order.insert(place, number).unwrap();
         self.count += 1;
         self.used += name.len() as u32;
-        self.free = slots::next_free(&self.slots, number + 1);
+        self.free = slots::free_among(&self.slots, self.count, number + 1);
         Ok(number)
-    }
-
-    /// Copies of all rows, ascending by number. It takes a look for each.
-    pub fn to_rows<L: Ledger>(
-        &self,
-        alloc: Global,
-        steps: &mut Steps<L>,
-    ) -> Result<List<NodeRow>, NoMemory>
-        ensures rows { IfOk result (λ rows. rows ≡ self.now.nodes) }
-        ensures count { OnOk result (steps.new ≡ steps.old + length self.now.nodes) }
-        ensures most { steps.new ≤ steps.old + length self.now.nodes }
-    {
-        rows::copies(&self.slots, alloc, steps)
-    }
-
-    /// The tree of these rows. They are bad exactly where they aren't the nodes of a volume of this
-    /// size: ascending numbers below the size, a root of number 0, valid names, no two children of a
-    /// folder of one folded name, lengths, owners and moments in their ranges, parents that are
-    /// folders and lead up to the root, and no more bytes of names than the size has.
-    pub fn from_rows(alloc: Global, rows: &List<NodeRow>, size: Capacity) -> Result<Tree, RowsFault>
-        requires { IsCapacity size }
-        ensures ok { IfOk result (λ tree. tree ≡ record { size = size; nodes = rows.now }) }
-        ensures kept { IfOk result (λ tree. IsVolume tree.size tree.nodes) }
-        ensures may { OnOk result (is_tree size rows.now ≡ true) }
-        ensures bad { IsErrOf result RowsFault.BadRows → is_tree size rows.now ≡ false }
-    {
-        match rows::read(alloc, rows.as_slice(), size) {
-            Ok(parts) => Ok(Tree {
-                size,
-                count: parts.count,
-                used: parts.used,
-                free: parts.free,
-                slots: parts.slots,
-                order: parts.order,
-                alloc,
-            }),
-            Err(fault) => Err(fault),
-        }
     }
 }

@@ -29,16 +29,21 @@ overflow_add-number g c =
     let small : c.self.inside.free + 1 < 2 ^ 32 = omega (arith, few) in
     search rules
 
-pub next_free-self-inside-requires-clause-few : goal.next_free-self-inside-requires-clause-few
-next_free-self-inside-requires-clause-few g c =
-    let next = next_of _ _ _ c.self.inside.free _ c.put.new.slots.items _ c.row.result c.self.invariant (ap (λ (r : NodeRow). r.number) c.row.ensures) c.in-Ok-put.ensures.ok in
+pub free_among-self-inside-requires-clause-few : goal.free_among-self-inside-requires-clause-few
+free_among-self-inside-requires-clause-few g c =
+    let next = next_of _ c.self.inside.count _ c.self.inside.free _ c.put.new.slots.items _ c.row.result c.self.invariant (ap (λ (r : NodeRow). r.number) c.row.ensures) c.in-Ok-put.ensures.ok in
     let few = next.few in
     let same : length (rows_of c.deref-3.result.now) ≡ length (rows_of c.put.new.slots.items) = ap (λ (slots : List (Option NodeRow)). length (rows_of slots)) c.deref-3.ensures.value in
     omega (arith, few, same)
 
-pub next_free-self-inside-requires-clause-taken : goal.next_free-self-inside-requires-clause-taken
-next_free-self-inside-requires-clause-taken g c =
-    let next = next_of _ _ _ c.self.inside.free _ c.put.new.slots.items _ c.row.result c.self.invariant (ap (λ (r : NodeRow). r.number) c.row.ensures) c.in-Ok-put.ensures.ok in
+pub free_among-self-inside-requires-clause-count : goal.free_among-self-inside-requires-clause-count
+free_among-self-inside-requires-clause-count g c =
+    let next = next_of _ c.self.inside.count _ c.self.inside.free _ c.put.new.slots.items _ c.row.result c.self.invariant (ap (λ (r : NodeRow). r.number) c.row.ensures) c.in-Ok-put.ensures.ok in
+    next.count_is ∙ ap (λ (slots : List (Option NodeRow)). length (rows_of slots)) (sym c.deref-3.ensures.value)
+
+pub free_among-self-inside-requires-clause-taken : goal.free_among-self-inside-requires-clause-taken
+free_among-self-inside-requires-clause-taken g c =
+    let next = next_of _ c.self.inside.count _ c.self.inside.free _ c.put.new.slots.items _ c.row.result c.self.invariant (ap (λ (r : NodeRow). r.number) c.row.ensures) c.in-Ok-put.ensures.ok in
     subst (λ (slots : List (Option NodeRow)). c.self.inside.free + 1 ≤ fresh (rows_of slots)) (sym c.deref-3.ensures.value) next.greater
 
 pub invariant_of-self-2 : goal.invariant_of-self-2
@@ -58,15 +63,15 @@ invariant_of-self-2 g c =
     subst (λ (name : List ℕ). IsPlace (rows_of slots) order c.args.folder name c.in-Err.place) (sym same)
     (subst (λ (read : List ℕ). IsPlace (rows_of slots) read c.args.folder c.args.name.now c.in-Err.place) c.deref-2.ensures.value
     (subst (λ (read : List (Option NodeRow)). IsPlace (rows_of read) c.deref-2.result.now c.args.folder c.args.name.now c.in-Err.place) c.deref.ensures.value c.in-Err.ensures.free)) in
-    let kept = kept_made i.size i.count i.used i.free c.next_free-self-inside.result slots c.put.new.slots.items order row c.in-Err.place c.self.invariant refl
+    let kept = kept_made i.size i.count i.used i.free c.free_among-self-inside.result slots c.put.new.slots.items order row c.in-Err.place c.self.invariant refl
     (own_new i.free c.args.folder text new.folder new.length new.owner new.moment (ap is_name same ∙ c.requires.name) c.requires.length c.requires.owner c.requires.moment)
     (ap (λ (v : Volume). is_folder v.nodes c.args.folder) c.self.view_is ∙ c.requires.folder)
     none (omega arith) (omega (arith, bytes)) place c.in-Ok-put.ensures.slots
     (c.in-Ok-put.ensures.ok ∙ ap (λ (r : NodeRow). with_row number r (rows_of slots)) c.row.ensures)
-    (c.next_free-self-inside.ensures ∙ ap (λ (read : List (Option NodeRow)). fresh (rows_of read)) c.deref-3.ensures.value) in
+    (c.free_among-self-inside.ensures ∙ ap (λ (read : List (Option NodeRow)). fresh (rows_of read)) c.deref-3.ensures.value) in
     let inserted : c.insert.new.self.items ≡ insert order c.in-Err.place i.free = inserted_is _ _ _ _ _ c.unwrap.ensures c.insert.ensures.items ∙ ap (λ (items : List ℕ). insert items c.in-Err.place i.free) c.reserve.ensures.items in
-    subst (λ (items : List ℕ). IsKept i.size (i.count + 1) (i.used + length c.args.name.now) c.next_free-self-inside.result c.put.new.slots.items items) (sym inserted)
-    (subst (λ (name : List ℕ). IsKept i.size (i.count + 1) (i.used + length name) c.next_free-self-inside.result c.put.new.slots.items (insert order c.in-Err.place i.free)) same kept)
+    subst (λ (items : List ℕ). IsKept i.size (i.count + 1) (i.used + length c.args.name.now) c.free_among-self-inside.result c.put.new.slots.items items) (sym inserted)
+    (subst (λ (name : List ℕ). IsKept i.size (i.count + 1) (i.used + length name) c.free_among-self-inside.result c.put.new.slots.items (insert order c.in-Err.place i.free)) same kept)
 
 pub returns-clause-kept : goal.returns-clause-kept
 returns-clause-kept g c = (invariant_of-self-2 g c).volume

@@ -5,7 +5,7 @@ use Rattle.volume_tree.proofs.SlotLaws.{taken_is}
 use Rattle.std.specs.Prelude.{slice_index}
 use Rattle.std.specs.Option.{option_copied}
 use Rattle.volume_tree.proofs.KeptLaws.{ok_is, own_place_is}
-use Rattle.volume_tree.proofs.moving.own_place.Goals as goal
+use Rattle.volume_tree.proofs.entry.own_place.Goals as goal
 
 pub unwrap-row-requires : goal.unwrap-row-requires
 unwrap-row-requires g c = taken_is (rows_of c.args.slots.now) c.args.node c.row.result c.row.ensures ∙ c.requires.there

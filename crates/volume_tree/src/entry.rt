@@ -1,4 +1,4 @@
-//! Entries of the order of places: a node's own, and one that is moved.
+//! The entry of a node in the order.
 
 ghost use Rattle.std.specs.Prelude.{◌≡◌, ◌+◌, ◌<◌, ◌≤◌, ◌==◌, not, IfOk, IfErr, OnOk, OnErr, true, false, length, Some, slice_get, slice_index};
 ghost use Rattle.fsrm_model.specs.Keyed.{has_row};
@@ -42,6 +42,7 @@ pub fn own_place<L: Ledger>(
 }
 
 /// Moves a node's entry to where a name was searched and not found. Where one was found, it stays.
+/// It looks at no more than 21 nodes.
 pub fn reorder<L: Ledger>(
     slots: &[Option<NodeRow>],
     order: &mut Vec<u32>,
