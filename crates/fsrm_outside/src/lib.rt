@@ -13,7 +13,9 @@ mod real;
 #[cfg(test)]
 mod tests;
 mod traits;
+mod writing;
 
 pub use memory::MemoryOutside;
 pub use real::RealOutside;
 pub use traits::{Failed, Outside, Sink, Source};
+pub use writing::write_all;

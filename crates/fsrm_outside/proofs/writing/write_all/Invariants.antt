@@ -1,0 +1,17 @@
+use Rattle.std.proofs.Common.{◌≡◌, ◌-◌, ◌≤◌, length, take}
+use Rattle.std.specs.Io.KnownBytes.{append_known}
+use Rattle.fsrm_outside.proofs.writing.write_all.Given as goal
+
+-- a front of the piece is shown
+abbrev pub invariant-loop-done : goal.invariant-loop-done
+invariant-loop-done g l =
+    let sink = g.S.Sink in
+    record {
+      within : l.done ≤ length l.bytes;
+      shown : sink.shown l.sink ≡ append_known (sink.shown l.fn.sink) (take l.done l.bytes);
+      later : sink.write_faults l.fn.sink ≤ sink.write_faults l.sink;
+      by : sink.by_write l.fn.sink l.sink;
+    }
+
+abbrev pub decreases-loop-done : goal.decreases-loop-done
+decreases-loop-done g l = length l.bytes - l.done
