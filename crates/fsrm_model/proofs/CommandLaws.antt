@@ -1,20 +1,24 @@
 -- Words are read as the command that they spell.
-use Rattle.std.proofs.Common.{◌≡◌, ℕ, List, [], ◌∷◌, false, refl, sym, ◌∙◌, ap, subst, inl, inr}
-use Rattle.std.specs.Prelude.{Ok, codes}
-use Rattle.std.specs.Str.{str_eq_ignore_ascii_case, bytes_eq, str_to_ascii_lowercase}
+use Rattle.std.proofs.Common.{◌≡◌, ℕ, List, [], ◌∷◌, ◌++◌, Bool, true, false, refl, sym, ◌∙◌, ap, subst, inl, inr}
+use Rattle.std.specs.Prelude.{Ok, codes, Option, Some, None, unwrap_or}
+use Rattle.std.specs.Str.{str_eq_ignore_ascii_case}
 use Rattle.std.proofs.lemmas.Bool.{cases_Bool}
-use Rattle.std.proofs.lemmas.Slice.Eq.{bytes_eq-Decides}
+use Rattle.std.proofs.lemmas.List.{append-nil}
 use Rattle.fsrm_model.specs.declared.command.Command.{Command}
 use Rattle.fsrm_model.specs.declared.command.Deed.{Deed}
-use Rattle.fsrm_model.specs.declared.command.Deed.TheVariants.{File, Usage}
+use Rattle.fsrm_model.specs.declared.command.Deed.TheVariants.{File, Usage, QuotaAdd, QuotaModify, QuotaDelete, QuotaResetpeak, QuotaList}
 use Rattle.fsrm_model.specs.declared.command.FileOp.TheVariants.{Mkdir, Create, Resize, Touch, Move, Remove}
+use Rattle.fsrm_model.specs.declared.command.Refusal.TheVariants.{BadLine}
 use Rattle.fsrm_model.specs.Limits.{latest_moment, longest_file, last_owner}
-use Rattle.fsrm_model.specs.Line.{next_word, no_more, number_word, path_word, owner_word, length_word, mkdir_words, create_words, resize_words, touch_words, move_words, remove_words, usage_words, Table, by_name, command_table, command_of}
+use Rattle.fsrm_model.specs.Line.{no_more, number_word, path_word, owner_word, length_word, mkdir_words, create_words, resize_words, touch_words, move_words, remove_words, usage_words, quota_add_words, quota_modify_words, quota_delete_words, quota_resetpeak_words, quota_list_words, Table, by_name, named_word, quota_table, dirquota_table, command_table, command_of}
+use Rattle.fsrm_model.specs.Options.{Key, ThePath, TheLimit, TheType, Given, nothing, options, required}
 use Rattle.fsrm_model.specs.Reading.{Read, ◌>>=◌, number_from, path_from}
-use Rattle.fsrm_model.specs.Spelling.{IsNamed, Writes, WritesPath, SpellsDeed}
+use Rattle.fsrm_model.specs.Spelling.{IsNamed, Writes, WritesPath, QuotaOption, PathIs, LimitIs, SpellsOptions, SpellsQuota, path_option, limit_option, type_option, SpellsDeed}
 use Rattle.fsrm_model.specs.Words.{Word}
 use Rattle.fsrm_model.proofs.ReadLaws.{then_ok, both_ok, number_writes, number_reads}
 use Rattle.fsrm_model.proofs.PathLaws.{path_writes, path_reads}
+use Rattle.fsrm_model.proofs.ValueLaws.{name_same, known_ok}
+use Rattle.fsrm_model.proofs.OptionLaws.{option_list, given_same, options_spelled, options_from, path_alone, takes_all, takes_path}
 use Rattle.fsrm_model.proofs.WordLaws.{texts}
 
 abbrev Path : Type 0
@@ -107,9 +111,15 @@ path_number_reads low high deed end given a b path n e w v =
     ∙ then_ok (number_word low high end p.0) (n, q.0) (λ n. no_more n.1 (deed path n.0)) q.1
     ∙ no_more_reads q.0 (deed path n) q.2
 
--- what each command's words spell behind its name
+-- What words spell a deed, by a relation: what each command's words spell behind its name
+abbrev Relation : Type 1
+Relation = List (List ℕ) → Deed → Type 0
+
+abbrev SpelledBy : Relation → List ℕ → (ℕ → List Word → Read Deed) → Type 0
+SpelledBy S name reads = (word : Word) (end : ℕ) (given : List Word) (d : Deed) → IsNamed name word.text → reads end given ≡ Ok d → S (texts (word ∷ given)) d
+
 abbrev Spelled : List ℕ → (ℕ → List Word → Read Deed) → Type 0
-Spelled name reads = (word : Word) (end : ℕ) (given : List Word) (d : Deed) → IsNamed name word.text → reads end given ≡ Ok d → SpellsDeed (texts (word ∷ given)) d
+Spelled name reads = SpelledBy SpellsDeed name reads
 
 mkdir_spells : Spelled (codes "mkdir") mkdir_words
 mkdir_spells word end given d named h =
@@ -160,32 +170,108 @@ create_spells word end given d named h =
     subst (SpellsDeed (texts (word ∷ given))) last.1 (word.text, a.word.text, b.word.text, c.word.text, ap (λ (ws : List Word). texts (word ∷ ws)) words, named, a.writes, b.writes, c.writes)
 
 -- and so the words behind any name of a table whose rows do
-abbrev EachSpelled : Table → Type 0
-EachSpelled [] = Unit {0}
-EachSpelled (row ∷ rows) = Spelled row.0 row.1 × EachSpelled rows
+abbrev EachSpelled : Relation → Table → Type 0
+EachSpelled S [] = Unit {0}
+EachSpelled S (row ∷ rows) = SpelledBy S row.0 row.1 × EachSpelled S rows
 
-row_named : (row : List ℕ × (ℕ → List Word → Read Deed)) (rows : Table) (word : Word) (end : ℕ) (given : List Word) → IsNamed row.0 word.text → by_name (row ∷ rows) word end given ≡ row.1 end given
+pub row_named : (row : List ℕ × (ℕ → List Word → Read Deed)) (rows : Table) (word : Word) (end : ℕ) (given : List Word) → IsNamed row.0 word.text → by_name (row ∷ rows) word end given ≡ row.1 end given
 row_named row rows word end given h = rw (h, by_name) refl
 
-row_other : (row : List ℕ × (ℕ → List Word → Read Deed)) (rows : Table) (word : Word) (end : ℕ) (given : List Word) → str_eq_ignore_ascii_case row.0 word.text ≡ false → by_name (row ∷ rows) word end given ≡ by_name rows word end given
+pub row_other : (row : List ℕ × (ℕ → List Word → Read Deed)) (rows : Table) (word : Word) (end : ℕ) (given : List Word) → str_eq_ignore_ascii_case row.0 word.text ≡ false → by_name (row ∷ rows) word end given ≡ by_name rows word end given
 row_other row rows word end given h = rw (h, by_name) refl
 
-table_spells : (rows : Table) → EachSpelled rows → (word : Word) (end : ℕ) (given : List Word) (d : Deed) → by_name rows word end given ≡ Ok d → SpellsDeed (texts (word ∷ given)) d
-table_spells [] each word end given d h = absurd (cc h)
-table_spells (row ∷ rows) each word end given d h = elim (cases_Bool (str_eq_ignore_ascii_case row.0 word.text)) [
+table_spells : (S : Relation) (rows : Table) → EachSpelled S rows → (word : Word) (end : ℕ) (given : List Word) (d : Deed) → by_name rows word end given ≡ Ok d → S (texts (word ∷ given)) d
+table_spells S [] each word end given d h = absurd (cc h)
+table_spells S (row ∷ rows) each word end given d h = elim (cases_Bool (str_eq_ignore_ascii_case row.0 word.text)) [
   | inl named ↦ each.0 word end given d named (sym (row_named row rows word end given named) ∙ h)
-  | inr other ↦ table_spells rows each.1 word end given d (sym (row_other row rows word end given other) ∙ h)
+  | inr other ↦ table_spells S rows each.1 word end given d (sym (row_other row rows word end given other) ∙ h)
 ]
 
-deed_spells : (word : Word) (end : ℕ) (given : List Word) (d : Deed) → by_name command_table word end given ≡ Ok d → SpellsDeed (texts (word ∷ given)) d
-deed_spells = table_spells command_table (mkdir_spells, (create_spells, (resize_spells, (touch_spells, (move_spells, (remove_spells, (usage_spells, tt)))))))
+named_spells : (S : Relation) (rows : Table) → EachSpelled S rows → (end : ℕ) (given : List Word) (d : Deed) → named_word rows end given ≡ Ok d → S (texts given) d
+named_spells S rows each end [] d h = absurd (cc h)
+named_spells S rows each end (word ∷ given) d h = table_spells S rows each word end given d h
+
+-- the commands on quotas, behind their first two names
+abbrev all_keys : List Key
+all_keys = ThePath ∷ TheLimit ∷ TheType ∷ []
+
+required_ok : {X : Type 0} (end : ℕ) (o : Option X) (x : X) → required end o ≡ Ok x → o ≡ Some x
+required_ok end o x h = known_ok (BadLine end) o x h
+
+required_from : {X : Type 0} (end : ℕ) (o : Option X) (x : X) → o ≡ Some x → required end o ≡ Ok x
+required_from {X} end o x h = ap (λ (p : Option X). required end p) h
+
+abbrev Behind : List ℕ → List ℕ → Relation
+Behind a b words d = SpellsDeed (a ∷ b ∷ words) d
+
+abbrev QuotaSpelled : List ℕ → (ℕ → List Word → Read Deed) → Type 0
+QuotaSpelled name reads = (a b : List ℕ) → IsNamed (codes "dirquota") a → IsNamed (codes "quota") b → SpelledBy (Behind a b) name reads
+
+-- what was given, with a path that is there
+list_at : (given : Given) (path : Option Path) (limit : Option ℕ) (enforce : Option Bool) (words : List (List ℕ)) → given.path ≡ path → given.limit ≡ limit → given.enforce ≡ enforce → SpellsOptions words (option_list given) → SpellsOptions words (option_list (record { path = path; limit = limit; enforce = enforce }))
+list_at given path limit enforce words p l t s = subst (SpellsOptions words) (ap option_list (given_same given (record { path = path; limit = limit; enforce = enforce }) p l t)) s
+
+add_spells : QuotaSpelled (codes "add") quota_add_words
+add_spells a b first second word end words d named h =
+    let given = both_ok (options all_keys words nothing) (λ given. required end given.path >>= λ path. required end given.limit >>= λ limit. Ok (QuotaAdd path limit (unwrap_or given.enforce true))) d h in
+    let path = both_ok (required end given.0.path) (λ path. required end given.0.limit >>= λ limit. Ok (QuotaAdd path limit (unwrap_or given.0.enforce true))) d given.2 in
+    let limit = both_ok (required end given.0.limit) (λ limit. Ok (QuotaAdd path.0 limit (unwrap_or given.0.enforce true))) d path.2 in
+    let made : QuotaAdd path.0 limit.0 (unwrap_or given.0.enforce true) ≡ d = cc limit.2 in
+    let s = list_at given.0 (Some path.0) (Some limit.0) given.0.enforce (texts words) (required_ok end given.0.path path.0 path.1) (required_ok end given.0.limit limit.0 limit.1) refl (options_spelled all_keys words given.0 given.1) in
+    subst (Behind a b (texts (word ∷ words))) made (given.0.enforce, refl, (a, b, word.text, texts words, refl, first, second, named, s))
+
+modify_spells : QuotaSpelled (codes "modify") quota_modify_words
+modify_spells a b first second word end words d named h =
+    let given = both_ok (options all_keys words nothing) (λ given. required end given.path >>= λ path. Ok (QuotaModify path given.limit given.enforce)) d h in
+    let path = both_ok (required end given.0.path) (λ path. Ok (QuotaModify path given.0.limit given.0.enforce)) d given.2 in
+    let made : QuotaModify path.0 given.0.limit given.0.enforce ≡ d = cc path.2 in
+    let s = list_at given.0 (Some path.0) given.0.limit given.0.enforce (texts words) (required_ok end given.0.path path.0 path.1) refl refl (options_spelled all_keys words given.0 given.1) in
+    subst (Behind a b (texts (word ∷ words))) made (a, b, word.text, texts words, refl, first, second, named, s)
+
+-- a command that takes a path alone
+path_options : (words : List Word) (given : Given) → options (ThePath ∷ []) words nothing ≡ Ok given → SpellsOptions (texts words) (path_option given.path ++ [])
+path_options words given h =
+    let alone = path_alone words nothing given h in
+    list_at given given.path None None (texts words) refl alone.0 alone.1 (options_spelled (ThePath ∷ []) words given h)
+
+one_required : (deed : Path → Deed) (end : ℕ) (words : List Word) (d : Deed) → (options (ThePath ∷ []) words nothing >>= λ given. required end given.path >>= λ path. Ok (deed path)) ≡ Ok d → (path : Path) × (SpellsOptions (texts words) (PathIs path ∷ [])) × (deed path ≡ d)
+one_required deed end words d h =
+    let given = both_ok (options (ThePath ∷ []) words nothing) (λ given. required end given.path >>= λ path. Ok (deed path)) d h in
+    let path = both_ok (required end given.0.path) (λ path. Ok (deed path)) d given.2 in
+    let there = required_ok end given.0.path path.0 path.1 in
+    (path.0, subst (λ (o : Option Path). SpellsOptions (texts words) (path_option o ++ [])) there (path_options words given.0 given.1), cc path.2)
+
+delete_spells : QuotaSpelled (codes "delete") quota_delete_words
+delete_spells a b first second word end words d named h =
+    let s = one_required (λ path. QuotaDelete path) end words d h in
+    subst (Behind a b (texts (word ∷ words))) s.2 (a, b, word.text, texts words, refl, first, second, named, s.1)
+
+resetpeak_spells : QuotaSpelled (codes "resetpeak") quota_resetpeak_words
+resetpeak_spells a b first second word end words d named h =
+    let s = one_required (λ path. QuotaResetpeak path) end words d h in
+    subst (Behind a b (texts (word ∷ words))) s.2 (a, b, word.text, texts words, refl, first, second, named, s.1)
+
+list_spells : QuotaSpelled (codes "list") quota_list_words
+list_spells a b first second word end words d named h =
+    let given = both_ok (options (ThePath ∷ []) words nothing) (λ given. Ok (QuotaList given.path)) d h in
+    let made : QuotaList given.0.path ≡ d = cc given.2 in
+    let s = subst (SpellsOptions (texts words)) (append-nil (path_option given.0.path)) (path_options words given.0 given.1) in
+    subst (Behind a b (texts (word ∷ words))) made (a, b, word.text, texts words, refl, first, second, named, s)
+
+quota_spells : (a : List ℕ) → IsNamed (codes "dirquota") a → SpelledBy (λ words d. SpellsDeed (a ∷ words) d) (codes "quota") (named_word quota_table)
+quota_spells a first word end given d named h =
+    named_spells (Behind a word.text) quota_table
+    (add_spells a word.text first named, (modify_spells a word.text first named, (delete_spells a word.text first named, (resetpeak_spells a word.text first named, (list_spells a word.text first named, tt)))))
+    end given d h
+
+dirquota_spells : Spelled (codes "dirquota") (named_word dirquota_table)
+dirquota_spells word end given d named h =
+    named_spells (λ words d. SpellsDeed (word.text ∷ words) d) dirquota_table (quota_spells word.text named, tt) end given d h
+
+deed_spells : (end : ℕ) (given : List Word) (d : Deed) → named_word command_table end given ≡ Ok d → SpellsDeed (texts given) d
+deed_spells = named_spells SpellsDeed command_table (mkdir_spells, (create_spells, (resize_spells, (touch_spells, (move_spells, (remove_spells, (usage_spells, (dirquota_spells, tt))))))))
 
 -- a name is read as the table's own spelling of it
-name_same : (row name word : List ℕ) → IsNamed name word → str_eq_ignore_ascii_case row word ≡ str_eq_ignore_ascii_case row name
-name_same row name word named =
-    let same : str_to_ascii_lowercase name ≡ str_to_ascii_lowercase word = (bytes_eq-Decides (str_to_ascii_lowercase name) (str_to_ascii_lowercase word)).0 named in
-    ap (bytes_eq (str_to_ascii_lowercase row)) (sym same)
-
 abbrev spelled_as : List ℕ → Word → Word
 spelled_as name word = record { column = word.column; text = name }
 
@@ -200,11 +286,12 @@ by_name_same (row ∷ rows) name word end given named =
     ]
 
 -- the words behind a name, read by its command
-behind_name : (name : List ℕ) (reads : ℕ → List Word → Read Deed) (word : Word) (end : ℕ) (given : List Word) (text : List ℕ) (behind : List (List ℕ)) → texts (word ∷ given) ≡ text ∷ behind → IsNamed name text → by_name command_table (spelled_as name word) end given ≡ reads end given → (by_name command_table word end given ≡ reads end given) × (texts given ≡ behind)
-behind_name name reads word end given text behind e named computes =
+behind_name : (rows : Table) (name : List ℕ) (reads : ℕ → List Word → Read Deed) (end : ℕ) (given : List Word) (text : List ℕ) (behind : List (List ℕ)) → texts given ≡ text ∷ behind → IsNamed name text → ((word : Word) (end : ℕ) (more : List Word) → by_name rows (spelled_as name word) end more ≡ reads end more) → (more : List Word) × (named_word rows end given ≡ reads end more) × (texts more ≡ behind)
+behind_name rows name reads end [] text behind e named computes = absurd (cc e)
+behind_name rows name reads end (word ∷ more) text behind e named computes =
     let same : word.text ≡ text = cc e in
     let here : IsNamed name word.text = subst (IsNamed name) (sym same) named in
-    (by_name_same command_table name word end given here ∙ computes, cc e)
+    (more, by_name_same rows name word end more here ∙ computes word end more, cc e)
 
 create_reads : (end : ℕ) (given : List Word) (a b c : List ℕ) (path : Path) (size owner : ℕ) → texts given ≡ a ∷ b ∷ c ∷ [] → WritesPath a path → Writes 0 longest_file b size → Writes 1 last_owner c owner → create_words end given ≡ Ok (File (Create path size owner))
 create_reads end given a b c path size owner e w v u =
@@ -224,29 +311,70 @@ move_reads end given a b from to e w v =
     ∙ then_ok (path_word end p.0) (to, q.0) (λ to. no_more to.1 (File (Move from to.0))) q.1
     ∙ no_more_reads q.0 (File (Move from to)) q.2
 
+-- the options behind three names
+record QuotaRead (words : List Word) (end : ℕ) (reads : ℕ → List Word → Read Deed) (wanted : List QuotaOption) : Type 0 where
+  more : List Word
+  read : named_word command_table end words ≡ reads end more
+  spelled : SpellsOptions (texts more) wanted
+
+quota_read : (name : List ℕ) (reads : ℕ → List Word → Read Deed) (end : ℕ) (words : List Word) (wanted : List QuotaOption) → ((word : Word) (end : ℕ) (more : List Word) → by_name quota_table (spelled_as name word) end more ≡ reads end more) → SpellsQuota (texts words) name wanted → QuotaRead words end reads wanted
+quota_read name reads end words wanted computes s =
+    let a = behind_name command_table (codes "dirquota") (named_word dirquota_table) end words s.0 (s.1 ∷ s.2 ∷ s.3) s.4 s.5 (λ word end more. refl) in
+    let b = behind_name dirquota_table (codes "quota") (named_word quota_table) end a.0 s.1 (s.2 ∷ s.3) a.2 s.6 (λ word end more. refl) in
+    let c = behind_name quota_table name reads end b.0 s.2 s.3 b.2 s.7 computes in
+    record { more = c.0; read = a.1 ∙ b.1 ∙ c.1; spelled = subst (λ (ts : List (List ℕ)). SpellsOptions ts wanted) (sym c.2) s.8 }
+
+path_from_options : (path : Option Path) (words : List Word) → SpellsOptions (texts words) (path_option path) → options (ThePath ∷ []) words nothing ≡ Ok (record { path = path; limit = None; enforce = None })
+path_from_options path words s =
+    options_from (ThePath ∷ []) words (record { path = path; limit = None; enforce = None }) (takes_path path) (subst (SpellsOptions (texts words)) (sym (append-nil (path_option path))) s)
+
+one_required_reads : (deed : Path → Deed) (end : ℕ) (words : List Word) (path : Path) → SpellsOptions (texts words) (PathIs path ∷ []) → (options (ThePath ∷ []) words nothing >>= λ given. required end given.path >>= λ path. Ok (deed path)) ≡ Ok (deed path)
+one_required_reads deed end words path s =
+    then_ok (options (ThePath ∷ []) words nothing) (record { path = Some path; limit = None; enforce = None }) (λ given. required end given.path >>= λ path. Ok (deed path)) (path_from_options (Some path) words s)
+
 -- words that spell a deed are read as it
-deed_reads : (word : Word) (end : ℕ) (given : List Word) (d : Deed) → SpellsDeed (texts (word ∷ given)) d → by_name command_table word end given ≡ Ok d
-deed_reads word end given (File (Mkdir path owner)) s =
-    let r = behind_name (codes "mkdir") mkdir_words word end given s.0 (s.1 ∷ s.2 ∷ []) s.3 s.4 refl in
-    r.0 ∙ path_number_reads 1 last_owner (λ path owner. File (Mkdir path owner)) end given s.1 s.2 path owner r.1 s.5 s.6
-deed_reads word end given (File (Create path size owner)) s =
-    let r = behind_name (codes "create") create_words word end given s.0 (s.1 ∷ s.2 ∷ s.3 ∷ []) s.4 s.5 refl in
-    r.0 ∙ create_reads end given s.1 s.2 s.3 path size owner r.1 s.6 s.7 s.8
-deed_reads word end given (File (Resize path size)) s =
-    let r = behind_name (codes "resize") resize_words word end given s.0 (s.1 ∷ s.2 ∷ []) s.3 s.4 refl in
-    r.0 ∙ path_number_reads 0 longest_file (λ path size. File (Resize path size)) end given s.1 s.2 path size r.1 s.5 s.6
-deed_reads word end given (File (Touch path)) s =
-    let r = behind_name (codes "touch") touch_words word end given s.0 (s.1 ∷ []) s.2 s.3 refl in
-    r.0 ∙ one_path_reads (λ path. File (Touch path)) end given s.1 path r.1 s.4
-deed_reads word end given (File (Move from to)) s =
-    let r = behind_name (codes "move") move_words word end given s.0 (s.1 ∷ s.2 ∷ []) s.3 s.4 refl in
-    r.0 ∙ move_reads end given s.1 s.2 from to r.1 s.5 s.6
-deed_reads word end given (File (Remove path)) s =
-    let r = behind_name (codes "remove") remove_words word end given s.0 (s.1 ∷ []) s.2 s.3 refl in
-    r.0 ∙ one_path_reads (λ path. File (Remove path)) end given s.1 path r.1 s.4
-deed_reads word end given (Usage path) s =
-    let r = behind_name (codes "usage") usage_words word end given s.0 (s.1 ∷ []) s.2 s.3 refl in
-    r.0 ∙ one_path_reads (λ path. Usage path) end given s.1 path r.1 s.4
+deed_reads : (end : ℕ) (given : List Word) (d : Deed) → SpellsDeed (texts given) d → named_word command_table end given ≡ Ok d
+deed_reads end given (File (Mkdir path owner)) s =
+    let r = behind_name command_table (codes "mkdir") mkdir_words end given s.0 (s.1 ∷ s.2 ∷ []) s.3 s.4 (λ word end more. refl) in
+    r.1 ∙ path_number_reads 1 last_owner (λ path owner. File (Mkdir path owner)) end r.0 s.1 s.2 path owner r.2 s.5 s.6
+deed_reads end given (File (Create path size owner)) s =
+    let r = behind_name command_table (codes "create") create_words end given s.0 (s.1 ∷ s.2 ∷ s.3 ∷ []) s.4 s.5 (λ word end more. refl) in
+    r.1 ∙ create_reads end r.0 s.1 s.2 s.3 path size owner r.2 s.6 s.7 s.8
+deed_reads end given (File (Resize path size)) s =
+    let r = behind_name command_table (codes "resize") resize_words end given s.0 (s.1 ∷ s.2 ∷ []) s.3 s.4 (λ word end more. refl) in
+    r.1 ∙ path_number_reads 0 longest_file (λ path size. File (Resize path size)) end r.0 s.1 s.2 path size r.2 s.5 s.6
+deed_reads end given (File (Touch path)) s =
+    let r = behind_name command_table (codes "touch") touch_words end given s.0 (s.1 ∷ []) s.2 s.3 (λ word end more. refl) in
+    r.1 ∙ one_path_reads (λ path. File (Touch path)) end r.0 s.1 path r.2 s.4
+deed_reads end given (File (Move from to)) s =
+    let r = behind_name command_table (codes "move") move_words end given s.0 (s.1 ∷ s.2 ∷ []) s.3 s.4 (λ word end more. refl) in
+    r.1 ∙ move_reads end r.0 s.1 s.2 from to r.2 s.5 s.6
+deed_reads end given (File (Remove path)) s =
+    let r = behind_name command_table (codes "remove") remove_words end given s.0 (s.1 ∷ []) s.2 s.3 (λ word end more. refl) in
+    r.1 ∙ one_path_reads (λ path. File (Remove path)) end r.0 s.1 path r.2 s.4
+deed_reads end given (Usage path) s =
+    let r = behind_name command_table (codes "usage") usage_words end given s.0 (s.1 ∷ []) s.2 s.3 (λ word end more. refl) in
+    r.1 ∙ one_path_reads (λ path. Usage path) end r.0 s.1 path r.2 s.4
+deed_reads end given (QuotaAdd path limit enforce) s =
+    let r = quota_read (codes "add") quota_add_words end given (PathIs path ∷ LimitIs limit ∷ type_option s.0) (λ word end more. refl) s.2 in
+    let all : Given = record { path = Some path; limit = Some limit; enforce = s.0 } in
+    r.read
+    ∙ then_ok (options all_keys r.more nothing) all (λ given. required end given.path >>= λ path. required end given.limit >>= λ limit. Ok (QuotaAdd path limit (unwrap_or given.enforce true))) (options_from all_keys r.more all (takes_all all) r.spelled)
+    ∙ ap (λ (enforce : Bool). Ok (QuotaAdd path limit enforce)) s.1
+deed_reads end given (QuotaModify path limit enforce) s =
+    let r = quota_read (codes "modify") quota_modify_words end given (PathIs path ∷ (limit_option limit ++ type_option enforce)) (λ word end more. refl) s in
+    let all : Given = record { path = Some path; limit = limit; enforce = enforce } in
+    r.read
+    ∙ then_ok (options all_keys r.more nothing) all (λ given. required end given.path >>= λ path. Ok (QuotaModify path given.limit given.enforce)) (options_from all_keys r.more all (takes_all all) r.spelled)
+deed_reads end given (QuotaDelete path) s =
+    let r = quota_read (codes "delete") quota_delete_words end given (PathIs path ∷ []) (λ word end more. refl) s in
+    r.read ∙ one_required_reads (λ path. QuotaDelete path) end r.more path r.spelled
+deed_reads end given (QuotaResetpeak path) s =
+    let r = quota_read (codes "resetpeak") quota_resetpeak_words end given (PathIs path ∷ []) (λ word end more. refl) s in
+    r.read ∙ one_required_reads (λ path. QuotaResetpeak path) end r.more path r.spelled
+deed_reads end given (QuotaList path) s =
+    let r = quota_read (codes "list") quota_list_words end given (path_option path) (λ word end more. refl) s in
+    r.read ∙ then_ok (options (ThePath ∷ []) r.more nothing) (record { path = path; limit = None; enforce = None }) (λ given. Ok (QuotaList given.path)) (path_from_options path r.more r.spelled)
 
 -- words that spell a command: its moment, and the command's own
 pub record SpellsCommand (given : List (List ℕ)) (command : Command) : Type 0 where
@@ -258,41 +386,20 @@ pub record SpellsCommand (given : List (List ℕ)) (command : Command) : Type 0 
 
 pub command_spells : (end : ℕ) (given : List Word) (command : Command) → command_of end given ≡ Ok command → SpellsCommand (texts given) command
 command_spells end given command h =
-    let moment = both_ok (number_word 0 latest_moment end given) (λ moment. next_word end moment.1 >>= λ name. by_name command_table name.0 end name.1 >>= λ deed. Ok (record { moment = moment.0; deed = deed })) command h in
-    let name = both_ok (next_word end moment.0.1) (λ name. by_name command_table name.0 end name.1 >>= λ deed. Ok (record { moment = moment.0.0; deed = deed })) command moment.2 in
-    let deed = both_ok (by_name command_table name.0.0 end name.0.1) (λ deed. Ok (record { moment = moment.0.0; deed = deed })) command name.2 in
+    let moment = both_ok (number_word 0 latest_moment end given) (λ moment. named_word command_table end moment.1 >>= λ deed. Ok (record { moment = moment.0; deed = deed })) command h in
+    let deed = both_ok (named_word command_table end moment.0.1) (λ deed. Ok (record { moment = moment.0.0; deed = deed })) command moment.2 in
     let made : record { moment = moment.0.0; deed = deed.0 } ≡ command = cc deed.2 in
     let a = number_word_writes 0 latest_moment end given moment.0 moment.1 in
-    let words : moment.0.1 ≡ name.0.0 ∷ name.0.1 = next_word_is end moment.0.1 name.0 name.1 in
     subst (SpellsCommand (texts given)) made (record {
       moment = a.word.text;
-      words = texts (name.0.0 ∷ name.0.1);
-      words_are = ap texts a.given_is ∙ ap (λ (ws : List Word). texts (a.word ∷ ws)) words;
+      words = texts moment.0.1;
+      words_are = ap texts a.given_is;
       moment_is = a.writes;
-      deed_is = deed_spells name.0.0 end name.0.1 deed.0 deed.1;
+      deed_is = deed_spells end moment.0.1 deed.0 deed.1;
     })
-  where
-    next_word_is : (end : ℕ) (given : List Word) (x : Word × List Word) → next_word end given ≡ Ok x → given ≡ x.0 ∷ x.1
-    next_word_is end [] x e = absurd (cc e)
-    next_word_is end (word ∷ more) x e = let same : (word, more) ≡ x = cc e in ap (λ (y : Word × List Word). y.0 ∷ y.1) same
-
--- no deed is spelled by no words
-no_deed : (d : Deed) → SpellsDeed [] d → ⊥
-no_deed (File (Mkdir path owner)) s = cc s.3
-no_deed (File (Create path size owner)) s = cc s.4
-no_deed (File (Resize path size)) s = cc s.3
-no_deed (File (Touch path)) s = cc s.2
-no_deed (File (Move from to)) s = cc s.3
-no_deed (File (Remove path)) s = cc s.2
-no_deed (Usage path) s = cc s.2
-
-named_reads : (end : ℕ) (given : List Word) (command : Command) → SpellsDeed (texts given) command.deed → (next_word end given >>= λ name. by_name command_table name.0 end name.1 >>= λ deed. Ok (record { moment = command.moment; deed = deed })) ≡ Ok command
-named_reads end [] command s = absurd (no_deed command.deed s)
-named_reads end (word ∷ given) command s =
-    then_ok (by_name command_table word end given) command.deed (λ deed. Ok (record { moment = command.moment; deed = deed })) (deed_reads word end given command.deed s)
 
 pub command_reads : (end : ℕ) (given : List Word) (command : Command) → SpellsCommand (texts given) command → command_of end given ≡ Ok command
 command_reads end given command s =
     let moment = number_word_reads 0 latest_moment end given s.moment s.words command.moment s.words_are s.moment_is in
-    then_ok (number_word 0 latest_moment end given) (command.moment, moment.0) (λ moment. next_word end moment.1 >>= λ name. by_name command_table name.0 end name.1 >>= λ deed. Ok (record { moment = moment.0; deed = deed })) moment.1
-    ∙ named_reads end moment.0 command (subst (λ (ts : List (List ℕ)). SpellsDeed ts command.deed) (sym moment.2) s.deed_is)
+    then_ok (number_word 0 latest_moment end given) (command.moment, moment.0) (λ moment. named_word command_table end moment.1 >>= λ deed. Ok (record { moment = moment.0; deed = deed })) moment.1
+    ∙ then_ok (named_word command_table end moment.0) command.deed (λ deed. Ok (record { moment = command.moment; deed = deed })) (deed_reads end moment.0 command.deed (subst (λ (ts : List (List ℕ)). SpellsDeed ts command.deed) (sym moment.2) s.deed_is))

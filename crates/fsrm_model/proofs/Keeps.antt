@@ -83,10 +83,10 @@ folder-new nodes node n free h =
     let apart : (n == node.number) ≡ false = not_true _ (λ t. clash _ (subst (Has nodes) (eq_is _ _ t) (found_has number n nodes f.row f.found)) free) in
     found_folder (with_row number node nodes) n f.row (row_of-new_other number node n nodes apart ∙ f.found) ∙ f.folder
 
-zero_apart : (nodes : List NodeRow) (n : ℕ) → Has nodes 0 → has_row number n nodes ≡ false → (n == 0) ≡ false
+pub zero_apart : (nodes : List NodeRow) (n : ℕ) → Has nodes 0 → has_row number n nodes ≡ false → (n == 0) ≡ false
 zero_apart nodes n h free = not_true _ (λ t. clash _ (subst (Has nodes) (sym (eq_is n 0 t)) h) free)
 
-as_suc : (n : ℕ) → (n == 0) ≡ false → (k : ℕ) × (n ≡ suc k)
+pub as_suc : (n : ℕ) → (n == 0) ≡ false → (k : ℕ) × (n ≡ suc k)
 as_suc zero h = cc
 as_suc (suc k) h = (k, refl)
 
@@ -226,21 +226,24 @@ parent_mapped : (g : NodeRow → NodeRow) (o : Option NodeRow) → ((r : NodeRow
 parent_mapped g None h = refl
 parent_mapped g (Some x) h = h x refl
 
-pub moves_of : (K : Capacity) (nodes : List NodeRow) (x d : ℕ) (name : List ℕ) → IsVolume K nodes → MayMove K nodes x d name → Moves nodes (with_change number x (placed d name) nodes) x d
-moves_of K nodes x d name v m =
+pub moves_at : (nodes : List NodeRow) (x d : ℕ) (name : List ℕ) (row : NodeRow) → IsTree nodes → node_of nodes x ≡ Some row → (x == 0) ≡ false → is_folder nodes d ≡ true → is_in (chain nodes d) x ≡ false → Moves nodes (with_change number x (placed d name) nodes) x d
+moves_at nodes x d name row tree found inner folder apart =
     record {
-      tree = tree_of K nodes v;
-      has_moved = found_has number x nodes m.row m.found;
-      has_folder = folder_has nodes d m.folder;
-      is_inner = m.inner;
-      apart = m.apart;
+      tree = tree;
+      has_moved = found_has number x nodes row found;
+      has_folder = folder_has nodes d folder;
+      is_inner = inner;
+      apart = apart;
       size = length-change number x (placed d name) nodes;
       numbers = λ n. has_row-change number x (placed d name) (λ r. refl) n nodes;
-      up = moved_up nodes x d name m.row m.found;
+      up = moved_up nodes x d name row found;
       others = λ n e.
           ap (λ o. option_map_or (λ node. node.parent) o 0) (row_of-change number x (placed d name) (λ r. refl) n nodes)
           ∙ parent_mapped (λ r. if number r == x then placed d name r else r) (node_of nodes n) (λ r h. ap (λ b. (cond b (placed d name r) r).parent) (ap (λ j. j == x) (found_key number n nodes r h) ∙ e));
     }
+
+pub moves_of : (K : Capacity) (nodes : List NodeRow) (x d : ℕ) (name : List ℕ) → IsVolume K nodes → MayMove K nodes x d name → Moves nodes (with_change number x (placed d name) nodes) x d
+moves_of K nodes x d name v m = moves_at nodes x d name m.row (tree_of K nodes v) m.found m.inner m.folder m.apart
 
 -- whoever has the name in the folder is the moved node
 only_moved : (K : Capacity) (nodes : List NodeRow) (x d m : ℕ) (name : List ℕ) (s : NodeRow) → IsVolume K nodes → MayMove K nodes x d name → node_of nodes m ≡ Some s → (m == 0) ≡ false → s.parent ≡ d → same_name s.name name ≡ true → m ≡ x

@@ -24,5 +24,13 @@ pub mod Files
 pub mod ReadLaws
 pub mod PathLaws
 pub mod WordLaws
+pub mod ValueLaws
+pub mod OptionLaws
 pub mod CommandLaws
 pub mod SpellingLaws
+pub mod LineRefusals
+pub mod QuotaLaws
+pub mod HardLimits
+pub mod QuotaRefusals
+pub mod ClimbRows
+pub mod DateLaws

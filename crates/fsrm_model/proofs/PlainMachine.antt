@@ -3,7 +3,7 @@ use Rattle.std.proofs.Common.{◌≡◌, ℕ, List, ◌∷◌, refl, ap}
 use Rattle.std.specs.Prelude.{Option, Some, None, sum_by, nat_lt}
 use Rattle.fsrm_model.specs.declared.command.Command.{Command}
 use Rattle.fsrm_model.specs.declared.command.Deed.{Deed}
-use Rattle.fsrm_model.specs.declared.command.Deed.TheVariants.{File, Usage}
+use Rattle.fsrm_model.specs.declared.command.Deed.TheVariants.{File, Usage, QuotaAdd, QuotaModify, QuotaDelete, QuotaResetpeak, QuotaList}
 use Rattle.fsrm_model.specs.declared.command.Outcome.TheVariants.{Refused, Sum}
 use Rattle.fsrm_model.specs.declared.command.Refusal.{Refusal}
 use Rattle.fsrm_model.specs.declared.command.Refusal.TheVariants.{ClockBack}
@@ -27,10 +27,16 @@ replied-read K R n line r e = ap (replied_to K R n) e
 pub refused_same : (K : Capacity) (R : Rows) (c : Command) (refusal : Refusal) → (step K R c).outcome ≡ Refused refusal → (step K R c).rows ≡ R
 refused_same K R c refusal h = by c.deed (first ((ClockBack when nat_lt c.moment R.last_moment) ∷ (work K R c.moment c.deed).checks)) h
   where
-    by : (deed : Deed) (o : Option Refusal) → (decided R c.moment (work K R c.moment deed) o).outcome ≡ Refused refusal → (decided R c.moment (work K R c.moment deed) o).rows ≡ R
+    by : (deed : Deed) (o : Option Refusal) → (decided K R c.moment (work K R c.moment deed) o).outcome ≡ Refused refusal → (decided K R c.moment (work K R c.moment deed) o).rows ≡ R
     by deed (Some r) e = refl
     by (File op) None e = cc
     by (Usage path) None e = refl
+    by (QuotaAdd path limit enforce) None e = cc
+    by (QuotaModify path limit enforce) None e = cc
+    by (QuotaDelete path) None e = cc
+    by (QuotaResetpeak path) None e = cc
+    by (QuotaList None) None e = refl
+    by (QuotaList (Some path)) None e = refl
 
 pub sum_fresh : (K : Capacity) (R : Rows) (c : Command) (folder bytes : ℕ) → (step K R c).outcome ≡ Sum folder bytes → bytes ≡ sum_by (space K) (under R.nodes folder)
 sum_fresh K R c folder bytes h = by c.deed (first ((ClockBack when nat_lt c.moment R.last_moment) ∷ (work K R c.moment c.deed).checks)) h
@@ -38,10 +44,16 @@ sum_fresh K R c folder bytes h = by c.deed (first ((ClockBack when nat_lt c.mome
     same : (n : ℕ) → Sum n (usage K R.nodes n) ≡ Sum folder bytes → bytes ≡ usage K R.nodes folder
     same n e = cc
 
-    by : (deed : Deed) (o : Option Refusal) → (decided R c.moment (work K R c.moment deed) o).outcome ≡ Sum folder bytes → bytes ≡ usage K R.nodes folder
+    by : (deed : Deed) (o : Option Refusal) → (decided K R c.moment (work K R c.moment deed) o).outcome ≡ Sum folder bytes → bytes ≡ usage K R.nodes folder
     by deed (Some r) e = cc
     by (File op) None e = cc
     by (Usage path) None e = same (target R.nodes path) e
+    by (QuotaAdd path limit enforce) None e = cc
+    by (QuotaModify path limit enforce) None e = cc
+    by (QuotaDelete path) None e = cc
+    by (QuotaResetpeak path) None e = cc
+    by (QuotaList None) None e = cc
+    by (QuotaList (Some path)) None e = cc
 
 -- the looks that a line may take go by what it reads as, too
 pub line_cost-read : (K : Capacity) (R : Rows) (line : List ℕ) (r : Option (Read Command)) → read_line (without_cr line) ≡ r → line_cost K R line ≡ read_cost K R r

@@ -3,7 +3,8 @@ use Rattle.std.specs.Prelude.{Bool, nat_lt, List, [], ◌∷◌, length, Option,
 use Rattle.fsrm_model.specs.declared.row.Capacity.{Capacity}
 use Rattle.fsrm_model.specs.declared.row.Rows.{Rows}
 use Rattle.fsrm_model.specs.declared.command.Refusal.{Refusal}
-use Rattle.fsrm_model.specs.declared.command.Refusal.TheVariants.{VolumeFull, NamesFull}
+use Rattle.fsrm_model.specs.declared.command.Refusal.TheVariants.{VolumeFull, NamesFull, TableFull}
+use Rattle.fsrm_model.specs.Limits.{most_quotas}
 use Rattle.fsrm_model.specs.Tree.{name_bytes}
 
 -- the refusal, where its condition holds
@@ -26,3 +27,6 @@ volume_full K after = VolumeFull when nat_lt K.nodes (length after.nodes)
 
 abbrev pub names_full : Capacity → Rows → Check
 names_full K after = NamesFull when nat_lt K.names (name_bytes after.nodes)
+
+abbrev pub table_full : Rows → Check
+table_full after = TableFull when nat_lt most_quotas (length after.quotas)

@@ -1,17 +1,22 @@
 -- How many looks at nodes a command may take. A look is one call of the tree's `node`, `child_count`
 -- or `child_at`, or one node that another call of the tree compares or passes.
-use Rattle.std.specs.Prelude.{ℕ, ◌+◌, ◌*◌, List, length, if◌then◌else◌}
+use Rattle.std.specs.Prelude.{ℕ, ◌+◌, ◌*◌, List, length, sum_by, Some, if◌then◌else◌}
+use Rattle.std.specs.Option.{option_map_or}
 use Rattle.fsrm_model.specs.declared.row.NodeRow.{NodeRow}
 use Rattle.fsrm_model.specs.declared.row.Rows.{Rows}
 use Rattle.fsrm_model.specs.declared.command.Deed.{Deed}
-use Rattle.fsrm_model.specs.declared.command.Deed.TheVariants.{File, Usage}
+use Rattle.fsrm_model.specs.declared.command.Deed.TheVariants.{File, Usage, QuotaAdd, QuotaModify, QuotaDelete, QuotaResetpeak, QuotaList}
 use Rattle.fsrm_model.specs.declared.command.FileOp.{FileOp}
 use Rattle.fsrm_model.specs.declared.command.FileOp.TheVariants.{Mkdir, Create, Resize, Touch, Move, Remove}
 use Rattle.fsrm_model.specs.declared.command.Outcome.{Outcome}
-use Rattle.fsrm_model.specs.declared.command.Outcome.TheVariants.{Sum}
+use Rattle.fsrm_model.specs.declared.command.Ask.{Ask}
+use Rattle.fsrm_model.specs.declared.command.Ask.TheVariants.{Quotas}
+use Rattle.fsrm_model.specs.declared.command.Outcome.TheVariants.{Done, Sum, Listing, Refused}
+use Rattle.fsrm_model.specs.declared.command.Refusal.TheVariants.{QuotaExceeded}
 use Rattle.fsrm_model.specs.Tree.{under, path_of}
 use Rattle.fsrm_model.specs.FileOps.{target}
 use Rattle.fsrm_model.specs.Leads.{leads, leads_to_folder}
+use Rattle.fsrm_model.specs.Text.{asked}
 
 -- the names of all paths of a command
 abbrev pub names_of_op : FileOp → ℕ
@@ -25,6 +30,11 @@ names_of_op (Remove path) = length path
 abbrev pub names_of : Deed → ℕ
 names_of (File op) = names_of_op op
 names_of (Usage path) = length path
+names_of (QuotaAdd path limit enforce) = length path
+names_of (QuotaModify path limit enforce) = length path
+names_of (QuotaDelete path) = length path
+names_of (QuotaResetpeak path) = length path
+names_of (QuotaList path) = option_map_or length path 0
 
 -- a folder that moves is looked through up to 8 times, a node that is summed up to 4 times
 abbrev pub op_cost : List NodeRow → FileOp → ℕ
@@ -34,12 +44,24 @@ op_cost nodes other = 0
 abbrev pub more_cost : List NodeRow → Deed → ℕ
 more_cost nodes (File op) = op_cost nodes op
 more_cost nodes (Usage path) = if leads nodes path then 4 * length (under nodes (target nodes path)) else 0
+more_cost nodes other = 0
 
 -- up to 40 looks for each name of its paths, and 80 beside
 abbrev pub cost : Rows → Deed → ℕ
 cost R deed = 40 * (names_of deed + 2) + more_cost R.nodes deed
 
--- the looks that a reply's path takes: up to 4 for the root and for each name
+-- the looks at a path that is printed: up to 4 for the root and for each name
+abbrev pub path_cost : List NodeRow → ℕ → ℕ
+path_cost nodes n = 4 * (length (path_of nodes n) + 1)
+
+-- the looks at all paths of a list
+abbrev pub list_cost : Rows → Ask → ℕ
+list_cost R (Quotas folder) = sum_by (λ quota. path_cost R.nodes quota.folder) (asked folder R.quotas)
+
+-- the looks at all paths of a reply
 abbrev pub print_cost : Rows → Outcome → ℕ
-print_cost R (Sum node bytes) = 4 * (length (path_of R.nodes node) + 1)
+print_cost R (Done (Some screen)) = path_cost R.nodes screen
+print_cost R (Sum node bytes) = path_cost R.nodes node
+print_cost R (Listing ask) = list_cost R ask
+print_cost R (Refused (QuotaExceeded folder would limit)) = path_cost R.nodes folder
 print_cost R other = 0

@@ -1,6 +1,7 @@
 -- File operations and sums: their refusals in order, and what they do.
-use Rattle.std.specs.Prelude.{ℕ, ◌==◌, ◌&&◌, not, true, false, List, [], ◌∷◌, length, None}
+use Rattle.std.specs.Prelude.{ℕ, ◌==◌, ◌&&◌, not, true, false, List, [], ◌∷◌, ◌++◌, length, None}
 use Rattle.fsrm_model.specs.declared.row.Capacity.{Capacity}
+use Rattle.fsrm_model.specs.declared.row.QuotaRow.{QuotaRow}
 use Rattle.fsrm_model.specs.declared.row.Rows.{Rows}
 use Rattle.fsrm_model.specs.declared.command.FileOp.{FileOp}
 use Rattle.fsrm_model.specs.declared.command.FileOp.TheVariants.{Mkdir, Create, Resize, Touch, Move, Remove}
@@ -9,6 +10,8 @@ use Rattle.fsrm_model.specs.declared.command.Outcome.TheVariants.{Done, Sum}
 use Rattle.fsrm_model.specs.Tree.{folder_part, usage, children, is_under}
 use Rattle.fsrm_model.specs.FileOps.{plain, target, target_folder}
 use Rattle.fsrm_model.specs.Check.{Check, ◌when◌, volume_full, names_full}
+use Rattle.fsrm_model.specs.Keyed.{without_row}
+use Rattle.fsrm_model.specs.Quota.{folder_of, exceeded}
 use Rattle.fsrm_model.specs.Work.{Work, asks}
 use Rattle.fsrm_model.specs.Leads.{is_root, leads, leads_to_folder, leads_to_file, leads_to_other}
 
@@ -29,7 +32,7 @@ move_checks K R from to after =
     ∷ (PathNotFound when not (leads_to_folder R.nodes (folder_part to)))
     ∷ (InvalidMove when leads_to_folder R.nodes from && is_under R.nodes (target R.nodes from) (target_folder R.nodes to))
     ∷ (AlreadyExists when leads_to_other R.nodes to (target R.nodes from))
-    ∷ names_full K after ∷ []
+    ∷ names_full K after ∷ exceeded K R after.nodes ∷ []
 
 -- the refusals of a removal
 abbrev pub remove_checks : Rows → List (List ℕ) → List Check
@@ -41,15 +44,20 @@ remove_checks R path =
 -- the refusals of a file operation that would leave the rows `after`
 abbrev pub file_checks : Capacity → Rows → FileOp → Rows → List Check
 file_checks K R (Mkdir path owner) after = new_checks K R path after
-file_checks K R (Create path length owner) after = new_checks K R path after
-file_checks K R (Resize path length) after = (PathNotFound when not (leads_to_file R.nodes path)) ∷ []
+file_checks K R (Create path length owner) after = new_checks K R path after ++ exceeded K R after.nodes ∷ []
+file_checks K R (Resize path length) after = (PathNotFound when not (leads_to_file R.nodes path)) ∷ exceeded K R after.nodes ∷ []
 file_checks K R (Touch path) after = (PathNotFound when not (leads_to_file R.nodes path)) ∷ []
 file_checks K R (Move from to) after = move_checks K R from to after
 file_checks K R (Remove path) after = remove_checks R path
 
+-- the quotas that a file operation leaves: that of a folder goes with it
+abbrev pub quotas_after : Rows → FileOp → List QuotaRow
+quotas_after R (Remove path) = without_row folder_of (target R.nodes path) R.quotas
+quotas_after R other = R.quotas
+
 -- the rows that a file operation leaves
 abbrev pub file_effect : Rows → FileOp → ℕ → Rows
-file_effect R op moment = record R { nodes = plain R.nodes op moment }
+file_effect R op moment = record R { nodes = plain R.nodes op moment; quotas = quotas_after R op }
 
 -- a file operation lasts where it is accepted, and answers no more than that it was done
 abbrev pub file_work : Capacity → Rows → FileOp → ℕ → Work

@@ -31,3 +31,14 @@ most_nodes = 1048576
 
 abbrev pub most_names : ℕ
 most_names = 268435456
+
+-- the least and the greatest limit of a quota, in bytes
+abbrev pub least_limit : ℕ
+least_limit = 1024
+
+abbrev pub greatest_limit : ℕ
+greatest_limit = 2 ^ 60
+
+-- how many quotas there may be
+abbrev pub most_quotas : ℕ
+most_quotas = 4096

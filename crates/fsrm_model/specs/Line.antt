@@ -1,15 +1,17 @@
 -- The lines of a script: which are skipped, which spell a command, and the refusal of each other.
-use Rattle.std.specs.Prelude.{ℕ, ◌+◌, ◌==◌, ◌&&◌, ◌||◌, not, Bool, true, false, nat_lt, List, [], ◌∷◌, length, codes, Ok, Err, Option, Some, None, if◌then◌else◌}
+use Rattle.std.specs.Prelude.{ℕ, ◌+◌, ◌==◌, ◌&&◌, ◌||◌, not, Bool, true, false, nat_lt, List, [], ◌∷◌, length, codes, Ok, Err, Option, Some, None, unwrap_or, if◌then◌else◌}
 use Rattle.std.specs.Str.{str_eq_ignore_ascii_case, is_utf8}
 use Rattle.std.specs.Str.Lossy.{utf8_valid_len}
 use Rattle.fsrm_model.specs.declared.command.Command.{Command}
 use Rattle.fsrm_model.specs.declared.command.Deed.{Deed}
-use Rattle.fsrm_model.specs.declared.command.Deed.TheVariants.{File, Usage}
+use Rattle.fsrm_model.specs.declared.command.Deed.TheVariants.{File, Usage, QuotaAdd, QuotaModify, QuotaDelete, QuotaResetpeak, QuotaList}
 use Rattle.fsrm_model.specs.declared.command.FileOp.TheVariants.{Mkdir, Create, Resize, Touch, Move, Remove}
-use Rattle.fsrm_model.specs.declared.command.Refusal.TheVariants.{BadLine, LineTooLong}
+use Rattle.fsrm_model.specs.declared.command.Refusal.{Refusal}
+use Rattle.fsrm_model.specs.declared.command.Refusal.TheVariants.{BadLine, LineTooLong, InvalidPath, InvalidName, OutOfRange, InvalidLimit}
 use Rattle.fsrm_model.specs.Limits.{latest_moment, longest_line, longest_file, last_owner}
 use Rattle.fsrm_model.specs.Reading.{Read, ◌>>=◌, number_from, path_from}
 use Rattle.fsrm_model.specs.Words.{Word, words, is_blank}
+use Rattle.fsrm_model.specs.Options.{ThePath, TheLimit, TheType, nothing, options, required}
 
 -- the next word and those behind it. One that is missing is refused behind the line's end
 abbrev pub next_word : ℕ → List Word → Read (Word × List Word)
@@ -81,6 +83,37 @@ usage_words end given = do
   path ← path_word end given
   no_more path.1 (Usage path.0)
 
+-- the options behind the names of each command on quotas. A quota is hard where its type isn't given
+abbrev pub quota_add_words : ℕ → List Word → Read Deed
+quota_add_words end words = do
+  given ← options (ThePath ∷ TheLimit ∷ TheType ∷ []) words nothing
+  path ← required end given.path
+  limit ← required end given.limit
+  Ok (QuotaAdd path limit (unwrap_or given.enforce true))
+
+abbrev pub quota_modify_words : ℕ → List Word → Read Deed
+quota_modify_words end words = do
+  given ← options (ThePath ∷ TheLimit ∷ TheType ∷ []) words nothing
+  path ← required end given.path
+  Ok (QuotaModify path given.limit given.enforce)
+
+abbrev pub quota_delete_words : ℕ → List Word → Read Deed
+quota_delete_words end words = do
+  given ← options (ThePath ∷ []) words nothing
+  path ← required end given.path
+  Ok (QuotaDelete path)
+
+abbrev pub quota_resetpeak_words : ℕ → List Word → Read Deed
+quota_resetpeak_words end words = do
+  given ← options (ThePath ∷ []) words nothing
+  path ← required end given.path
+  Ok (QuotaResetpeak path)
+
+abbrev pub quota_list_words : ℕ → List Word → Read Deed
+quota_list_words end words = do
+  given ← options (ThePath ∷ []) words nothing
+  Ok (QuotaList given.path)
+
 -- names, each with what reads the words behind it
 abbrev pub Table : Type 0
 Table = List (List ℕ × (ℕ → List Word → Read Deed))
@@ -91,17 +124,31 @@ by_name [] word end given = Err (BadLine word.column)
 by_name (row ∷ rows) word end given =
     elim (str_eq_ignore_ascii_case row.0 word.text) [ true ↦ row.1 end given | false ↦ by_name rows word end given ]
 
+-- the next word is a name of the table
+abbrev pub named_word : Table → ℕ → List Word → Read Deed
+named_word table end given = do
+  name ← next_word end given
+  by_name table name.0 end name.1
+
+abbrev pub quota_table : Table
+quota_table =
+    (codes "add", quota_add_words) ∷ (codes "modify", quota_modify_words) ∷ (codes "delete", quota_delete_words)
+    ∷ (codes "resetpeak", quota_resetpeak_words) ∷ (codes "list", quota_list_words) ∷ []
+
+abbrev pub dirquota_table : Table
+dirquota_table = (codes "quota", named_word quota_table) ∷ []
+
 abbrev pub command_table : Table
 command_table =
     (codes "mkdir", mkdir_words) ∷ (codes "create", create_words) ∷ (codes "resize", resize_words) ∷ (codes "touch", touch_words)
-    ∷ (codes "move", move_words) ∷ (codes "remove", remove_words) ∷ (codes "usage", usage_words) ∷ []
+    ∷ (codes "move", move_words) ∷ (codes "remove", remove_words) ∷ (codes "usage", usage_words)
+    ∷ (codes "dirquota", named_word dirquota_table) ∷ []
 
 -- the moment, the command's name, and its words
 abbrev pub command_of : ℕ → List Word → Read Command
 command_of end given = do
   moment ← number_word 0 latest_moment end given
-  name ← next_word end moment.1
-  deed ← by_name command_table name.0 end name.1
+  deed ← named_word command_table end moment.1
   Ok (record { moment = moment.0; deed = deed })
 
 -- a line of blanks alone, or whose first byte that isn't blank is #
@@ -114,6 +161,16 @@ abbrev pub read_words : List ℕ → Read Command
 read_words line = do
   given ← words line
   command_of (length line + 1) given
+
+-- the refusals that come from reading a line
+abbrev pub is_line_refusal : Refusal → Bool
+is_line_refusal (BadLine column) = true
+is_line_refusal LineTooLong = true
+is_line_refusal InvalidPath = true
+is_line_refusal InvalidName = true
+is_line_refusal OutOfRange = true
+is_line_refusal InvalidLimit = true
+is_line_refusal other = false
 
 -- None where the line is skipped without a reply. Its length is judged first, then its bytes, then its words
 unfoldable pub read_line : List ℕ → Option (Read Command)

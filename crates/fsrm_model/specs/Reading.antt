@@ -1,11 +1,13 @@
 -- Values that words spell, each as it reads or with the refusal of the line.
-use Rattle.std.specs.Prelude.{ℕ, ◌==◌, ◌&&◌, ◌||◌, nat_lt, nat_le, Bool, true, false, List, [], ◌∷◌, length, take, drop, codes, bytes_eq, Result, Ok, Err}
-use Rattle.std.specs.List.{list_all, slice_split}
+use Rattle.std.specs.Prelude.{ℕ, ◌*◌, ◌^◌, ◌==◌, ◌&&◌, ◌||◌, nat_lt, nat_le, Bool, true, false, List, [], ◌∷◌, length, take, drop, find, codes, bytes_eq, Option, Some, None, option_map, Result, Ok, Err, if◌then◌else◌}
+use Rattle.std.specs.List.{list_all, slice_split, prefix_len}
 use Rattle.std.specs.Char.{is_ascii_digit}
+use Rattle.std.specs.Str.{str_eq_ignore_ascii_case}
 use Rattle.std.specs.Str.Parse.{digits_value}
 use Rattle.fsrm_model.specs.declared.command.Refusal.{Refusal}
-use Rattle.fsrm_model.specs.declared.command.Refusal.TheVariants.{BadLine, OutOfRange, InvalidPath, InvalidName}
+use Rattle.fsrm_model.specs.declared.command.Refusal.TheVariants.{BadLine, OutOfRange, InvalidPath, InvalidName, InvalidLimit}
 use Rattle.fsrm_model.specs.Name.{is_name}
+use Rattle.fsrm_model.specs.Quota.{is_limit}
 
 -- a value, or the refusal of the line
 abbrev pub Read : Type 0 → Type 0
@@ -59,3 +61,32 @@ abbrev pub path_from : List ℕ → Read (List (List ℕ))
 path_from text = do
   parts ← guarded (has_path_form text) InvalidPath (path_parts text)
   guarded (list_all is_name parts) InvalidName parts
+
+-- a value that is there, or the refusal
+abbrev pub known : {A : Type 0} → Refusal → Option A → Read A
+known refusal None = Err refusal
+known refusal (Some x) = Ok x
+
+-- the units of a limit, in letters of either case, and how many bytes each of them is
+abbrev pub units : List (List ℕ × ℕ)
+units = ([], 1) ∷ (codes "kb", 2 ^ 10) ∷ (codes "mb", 2 ^ 20) ∷ (codes "gb", 2 ^ 30) ∷ (codes "tb", 2 ^ 40) ∷ []
+
+abbrev pub bytes_of : List ℕ → Option ℕ
+bytes_of unit = option_map (λ (row : List ℕ × ℕ). row.1) (find (λ (row : List ℕ × ℕ). str_eq_ignore_ascii_case row.0 unit) units)
+
+-- the digits that a text begins with
+abbrev pub digits_of : List ℕ → List ℕ
+digits_of text = take (prefix_len is_ascii_digit text) text
+
+-- a limit: digits, as many as are given, and a unit
+abbrev pub limit_from : ℕ → List ℕ → Read ℕ
+limit_from column text = do
+  digits ← guarded (nat_lt 0 (length (digits_of text))) (BadLine column) (digits_of text)
+  bytes ← known (BadLine column) (bytes_of (drop (length digits) text))
+  let limit = digits_value 10 digits * bytes in guarded (is_limit limit) InvalidLimit limit
+
+-- one of two words, in letters of either case
+abbrev pub choice_from : List ℕ → List ℕ → ℕ → List ℕ → Read Bool
+choice_from first second column text =
+    if str_eq_ignore_ascii_case first text then Ok true
+    else if str_eq_ignore_ascii_case second text then Ok false else Err (BadLine column)

@@ -1,16 +1,18 @@
 -- Which lines spell which commands, apart from any reader.
-use Rattle.std.specs.Prelude.{◌≡◌, ℕ, ◌≤◌, ◌<◌, ◌⊎◌, List, [], ◌∷◌, ◌++◌, codes, length, true, false}
+use Rattle.std.specs.Prelude.{◌≡◌, ℕ, ◌*◌, ◌≤◌, ◌<◌, ◌⊎◌, List, [], ◌∷◌, ◌++◌, codes, length, Bool, true, false, Option, Some, None, unwrap_or}
+use Rattle.std.specs.Char.{is_ascii_digit}
 use Rattle.std.specs.List.{list_all, list_any, join_with_byte}
 use Rattle.std.specs.Str.{is_utf8, str_eq_ignore_ascii_case}
 use Rattle.std.specs.Str.Parse.{digits_value}
 use Rattle.fsrm_model.specs.declared.command.Command.{Command}
 use Rattle.fsrm_model.specs.declared.command.Deed.{Deed}
-use Rattle.fsrm_model.specs.declared.command.Deed.TheVariants.{File, Usage}
+use Rattle.fsrm_model.specs.declared.command.Deed.TheVariants.{File, Usage, QuotaAdd, QuotaModify, QuotaDelete, QuotaResetpeak, QuotaList}
 use Rattle.fsrm_model.specs.declared.command.FileOp.{FileOp}
 use Rattle.fsrm_model.specs.declared.command.FileOp.TheVariants.{Mkdir, Create, Resize, Touch, Move, Remove}
 use Rattle.fsrm_model.specs.Limits.{latest_moment, longest_file, longest_line, last_owner}
 use Rattle.fsrm_model.specs.Name.{is_name}
-use Rattle.fsrm_model.specs.Reading.{is_number}
+use Rattle.fsrm_model.specs.Quota.{is_limit}
+use Rattle.fsrm_model.specs.Reading.{is_number, bytes_of}
 use Rattle.fsrm_model.specs.Words.{is_blank, is_quote}
 
 -- a piece of a word: a byte that is neither blank nor quote, or whatever stands between two quotes
@@ -71,9 +73,64 @@ pub record WritesPath (text : List ℕ) (path : List (List ℕ)) : Type 0 where
   pub volume_is : (volume ≡ codes "D:\\") ⊎ (volume ≡ codes "d:\\")
   pub names : (text ≡ volume ++ join_with_byte 92 path) ⊎ ((0 < length path) × (text ≡ volume ++ (join_with_byte 92 path ++ 92 ∷ [])))
 
--- a command's name, in letters of either case
+-- a name, in letters of either case
 abbrev pub IsNamed : List ℕ → List ℕ → Type 0
 IsNamed name word = str_eq_ignore_ascii_case name word ≡ true
+
+-- one or more digits and a unit that write a limit
+pub record WritesLimit (text : List ℕ) (limit : ℕ) : Type 0 where
+  pub digits : List ℕ
+  pub unit : List ℕ
+  pub bytes : ℕ
+  pub text_is : text ≡ digits ++ unit
+  pub some : 0 < length digits
+  pub each : list_all is_ascii_digit digits ≡ true
+  pub unit_is : bytes_of unit ≡ Some bytes
+  pub value : digits_value 10 digits * bytes ≡ limit
+  pub legal : is_limit limit ≡ true
+
+-- hard, or soft
+abbrev pub WritesType : List ℕ → Bool → Type 0
+WritesType text true = IsNamed (codes "hard") text
+WritesType text false = IsNamed (codes "soft") text
+
+-- an option of a command on quotas
+pub data QuotaOption : Type 0 where
+  PathIs : (path : List (List ℕ)) → QuotaOption
+  LimitIs : (limit : ℕ) → QuotaOption
+  TypeIs : (enforce : Bool) → QuotaOption
+
+-- a word is an option's name, a colon and its value
+abbrev pub SpellsOption : List ℕ → QuotaOption → Type 0
+SpellsOption word (PathIs path) = (name value : List ℕ) × (word ≡ name ++ 58 ∷ value) × IsNamed (codes "/Path") name × WritesPath value path
+SpellsOption word (LimitIs limit) = (name value : List ℕ) × (word ≡ name ++ 58 ∷ value) × IsNamed (codes "/Limit") name × WritesLimit value limit
+SpellsOption word (TypeIs enforce) = (name value : List ℕ) × (word ≡ name ++ 58 ∷ value) × IsNamed (codes "/Type") name × WritesType value enforce
+
+-- words are these options, in whatever order: the first word is one of them, and the other words are the others
+abbrev pub SpellsOptions : List (List ℕ) → List QuotaOption → Type 0
+SpellsOptions [] wanted = wanted ≡ []
+SpellsOptions (word ∷ words) wanted =
+    (before after : List QuotaOption) × (option : QuotaOption) × (wanted ≡ before ++ option ∷ after) × SpellsOption word option
+    × SpellsOptions words (before ++ after)
+
+-- options that may be left out
+abbrev pub path_option : Option (List (List ℕ)) → List QuotaOption
+path_option None = []
+path_option (Some path) = PathIs path ∷ []
+
+abbrev pub limit_option : Option ℕ → List QuotaOption
+limit_option None = []
+limit_option (Some limit) = LimitIs limit ∷ []
+
+abbrev pub type_option : Option Bool → List QuotaOption
+type_option None = []
+type_option (Some enforce) = TypeIs enforce ∷ []
+
+-- words are the three names of a command on quotas, and these options
+abbrev pub SpellsQuota : List (List ℕ) → List ℕ → List QuotaOption → Type 0
+SpellsQuota words name wanted =
+    (a b c : List ℕ) × (rest : List (List ℕ)) × (words ≡ a ∷ b ∷ c ∷ rest) × IsNamed (codes "dirquota") a × IsNamed (codes "quota") b
+    × IsNamed name c × SpellsOptions rest wanted
 
 -- these words are a name and so many values
 abbrev pub SpellsOp : List (List ℕ) → FileOp → Type 0
@@ -92,6 +149,14 @@ SpellsOp words (Remove path) = (name a : List ℕ) × (words ≡ name ∷ a ∷ 
 abbrev pub SpellsDeed : List (List ℕ) → Deed → Type 0
 SpellsDeed words (File op) = SpellsOp words op
 SpellsDeed words (Usage path) = (name a : List ℕ) × (words ≡ name ∷ a ∷ []) × IsNamed (codes "usage") name × WritesPath a path
+SpellsDeed words (QuotaAdd path limit enforce) =
+    (given : Option Bool) × (unwrap_or given true ≡ enforce)
+    × SpellsQuota words (codes "add") (PathIs path ∷ LimitIs limit ∷ type_option given)
+SpellsDeed words (QuotaModify path limit enforce) =
+    SpellsQuota words (codes "modify") (PathIs path ∷ (limit_option limit ++ type_option enforce))
+SpellsDeed words (QuotaDelete path) = SpellsQuota words (codes "delete") (PathIs path ∷ [])
+SpellsDeed words (QuotaResetpeak path) = SpellsQuota words (codes "resetpeak") (PathIs path ∷ [])
+SpellsDeed words (QuotaList path) = SpellsQuota words (codes "list") (path_option path)
 
 -- what a line is before its words are looked at
 pub record IsLine (line : List ℕ) : Type 0 where

@@ -5,19 +5,26 @@ use Rattle.fsrm_model.specs.declared.row.Rows.{Rows}
 use Rattle.fsrm_model.specs.declared.command.Act.{Act}
 use Rattle.fsrm_model.specs.declared.command.Command.{Command}
 use Rattle.fsrm_model.specs.declared.command.Deed.{Deed}
-use Rattle.fsrm_model.specs.declared.command.Deed.TheVariants.{File, Usage}
+use Rattle.fsrm_model.specs.declared.command.Deed.TheVariants.{File, Usage, QuotaAdd, QuotaModify, QuotaDelete, QuotaResetpeak, QuotaList}
 use Rattle.fsrm_model.specs.declared.command.Outcome.{Outcome}
 use Rattle.fsrm_model.specs.declared.command.Outcome.TheVariants.{Refused}
 use Rattle.fsrm_model.specs.declared.command.Refusal.{Refusal}
 use Rattle.fsrm_model.specs.declared.command.Refusal.TheVariants.{ClockBack}
 use Rattle.fsrm_model.specs.Check.{◌when◌, first}
 use Rattle.fsrm_model.specs.Work.{Work}
+use Rattle.fsrm_model.specs.Quota.{peaks}
 use Rattle.fsrm_model.specs.FileWork.{file_work, usage_work}
+use Rattle.fsrm_model.specs.QuotaWork.{add_work, modify_work, delete_work, reset_work, list_work}
 
 -- what a command asks for, family by family
 abbrev pub work : Capacity → Rows → ℕ → Deed → Work
 work K R moment (File op) = file_work K R op moment
 work K R moment (Usage path) = usage_work K R path
+work K R moment (QuotaAdd path limit enforce) = add_work R moment path limit enforce
+work K R moment (QuotaModify path limit enforce) = modify_work R path limit enforce
+work K R moment (QuotaDelete path) = delete_work R path
+work K R moment (QuotaResetpeak path) = reset_work K R moment path
+work K R moment (QuotaList path) = list_work R path
 
 -- what a command leaves and answers, and the actions that it runs
 pub record Stepped : Type 0 where
@@ -35,14 +42,14 @@ pub record Acted : Type 0 where
 abbrev pub unacted : Rows → Acted
 unacted R = record { rows = R; acts = [] }
 
--- the end of a command that lasts: its moment becomes the last one
-abbrev pub concluded : Acted → ℕ → Acted
-concluded after moment = record { rows = record after.rows { last_moment = moment }; acts = after.acts }
+-- the end of a command that lasts: peaks are raised, and its moment becomes the last one
+abbrev pub concluded : Capacity → Acted → ℕ → Acted
+concluded K after moment = record { rows = record (peaks K after.rows moment) { last_moment = moment }; acts = after.acts }
 
 -- what a command leaves that lasts
-abbrev pub lasted : Acted → ℕ → Outcome → Stepped
-lasted after moment outcome =
-    let end = concluded after moment in
+abbrev pub lasted : Capacity → Acted → ℕ → Outcome → Stepped
+lasted K after moment outcome =
+    let end = concluded K after moment in
     record { rows = end.rows; outcome = outcome; lasting = true; acts = end.acts }
 
 -- what a command leaves that doesn't
@@ -54,16 +61,16 @@ abbrev pub refused : Rows → Refusal → Stepped
 refused R refusal = unlasting R (Refused refusal)
 
 -- a command that no check refuses
-abbrev pub accepted : ℕ → Work → Stepped
-accepted moment w = if w.lasts then lasted (unacted w.effect) moment w.outcome else unlasting w.effect w.outcome
+abbrev pub accepted : Capacity → ℕ → Work → Stepped
+accepted K moment w = if w.lasts then lasted K (unacted w.effect) moment w.outcome else unlasting w.effect w.outcome
 
 -- a command, by the check that refuses it
-abbrev pub decided : Rows → ℕ → Work → Option Refusal → Stepped
-decided R moment w (Some refusal) = refused R refusal
-decided R moment w None = accepted moment w
+abbrev pub decided : Capacity → Rows → ℕ → Work → Option Refusal → Stepped
+decided K R moment w (Some refusal) = refused R refusal
+decided K R moment w None = accepted K moment w
 
 -- a command is refused for its moment first, and then by the first of its own refusals that holds
 abbrev pub step : Capacity → Rows → Command → Stepped
 step K R c =
     let w = work K R c.moment c.deed in
-    decided R c.moment w (first ((ClockBack when nat_lt c.moment R.last_moment) ∷ w.checks))
+    decided K R c.moment w (first ((ClockBack when nat_lt c.moment R.last_moment) ∷ w.checks))

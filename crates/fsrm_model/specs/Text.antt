@@ -1,14 +1,21 @@
 -- The texts of replies.
-use Rattle.std.specs.Prelude.{ℕ, List, [], ◌∷◌, ◌++◌, decimal, codes, Option, Some, None}
+use Rattle.std.specs.Prelude.{ℕ, ◌==◌, Bool, true, false, List, [], ◌∷◌, ◌++◌, filter, flat_map, decimal, codes, Option, Some, None, if◌then◌else◌}
 use Rattle.std.specs.List.{join_with_byte}
 use Rattle.fsrm_model.specs.declared.row.Capacity.{Capacity}
 use Rattle.fsrm_model.specs.declared.row.NodeRow.{NodeRow}
+use Rattle.fsrm_model.specs.declared.row.QuotaRow.{QuotaRow}
+use Rattle.fsrm_model.specs.declared.row.QuotaState.{QuotaState}
+use Rattle.fsrm_model.specs.declared.row.QuotaState.TheVariants.{Complete, Disabled, Rebuilding, Incomplete}
 use Rattle.fsrm_model.specs.declared.row.Rows.{Rows}
+use Rattle.fsrm_model.specs.declared.command.Ask.{Ask}
+use Rattle.fsrm_model.specs.declared.command.Ask.TheVariants.{Quotas}
 use Rattle.fsrm_model.specs.declared.command.Refusal.{Refusal}
-use Rattle.fsrm_model.specs.declared.command.Refusal.TheVariants.{BadLine, LineTooLong, InvalidPath, InvalidName, OutOfRange, ClockBack, PathNotFound, AlreadyExists, NotEmpty, InvalidMove, VolumeFull, NamesFull}
+use Rattle.fsrm_model.specs.declared.command.Refusal.TheVariants.{BadLine, LineTooLong, InvalidPath, InvalidName, OutOfRange, InvalidLimit, ClockBack, PathNotFound, NotFound, AlreadyExists, NotEmpty, InvalidMove, VolumeFull, NamesFull, TableFull, QuotaExceeded, NeedsScan}
 use Rattle.fsrm_model.specs.declared.command.Outcome.{Outcome}
-use Rattle.fsrm_model.specs.declared.command.Outcome.TheVariants.{Done, Sum, Refused}
-use Rattle.fsrm_model.specs.Tree.{path_of}
+use Rattle.fsrm_model.specs.declared.command.Outcome.TheVariants.{Done, Sum, Listing, Refused}
+use Rattle.fsrm_model.specs.Tree.{path_of, usage}
+use Rattle.fsrm_model.specs.Quota.{folder_of, counts}
+use Rattle.fsrm_model.specs.Date.{date_text}
 
 -- words joined by spaces, and the end of the line
 abbrev pub line_of : List (List ℕ) → List ℕ
@@ -21,29 +28,41 @@ abbrev pub path_text : List NodeRow → ℕ → List ℕ
 path_text nodes n = codes "D:\\" ++ join_with_byte 92 (path_of nodes n)
 
 -- a refusal's name, and what it carries
-abbrev pub refusal_words : Refusal → List (List ℕ)
-refusal_words (BadLine column) = codes "BadLine" ∷ decimal column ∷ []
-refusal_words LineTooLong = codes "LineTooLong" ∷ []
-refusal_words InvalidPath = codes "InvalidPath" ∷ []
-refusal_words InvalidName = codes "InvalidName" ∷ []
-refusal_words OutOfRange = codes "OutOfRange" ∷ []
-refusal_words ClockBack = codes "ClockBack" ∷ []
-refusal_words PathNotFound = codes "PathNotFound" ∷ []
-refusal_words AlreadyExists = codes "AlreadyExists" ∷ []
-refusal_words NotEmpty = codes "NotEmpty" ∷ []
-refusal_words InvalidMove = codes "InvalidMove" ∷ []
-refusal_words VolumeFull = codes "VolumeFull" ∷ []
-refusal_words NamesFull = codes "NamesFull" ∷ []
+abbrev pub refusal_words : List NodeRow → Refusal → List (List ℕ)
+refusal_words nodes (BadLine column) = codes "BadLine" ∷ decimal column ∷ []
+refusal_words nodes LineTooLong = codes "LineTooLong" ∷ []
+refusal_words nodes InvalidPath = codes "InvalidPath" ∷ []
+refusal_words nodes InvalidName = codes "InvalidName" ∷ []
+refusal_words nodes OutOfRange = codes "OutOfRange" ∷ []
+refusal_words nodes InvalidLimit = codes "InvalidLimit" ∷ []
+refusal_words nodes ClockBack = codes "ClockBack" ∷ []
+refusal_words nodes PathNotFound = codes "PathNotFound" ∷ []
+refusal_words nodes NotFound = codes "NotFound" ∷ []
+refusal_words nodes AlreadyExists = codes "AlreadyExists" ∷ []
+refusal_words nodes NotEmpty = codes "NotEmpty" ∷ []
+refusal_words nodes InvalidMove = codes "InvalidMove" ∷ []
+refusal_words nodes VolumeFull = codes "VolumeFull" ∷ []
+refusal_words nodes NamesFull = codes "NamesFull" ∷ []
+refusal_words nodes TableFull = codes "TableFull" ∷ []
+refusal_words nodes (QuotaExceeded folder would limit) =
+    codes "QuotaExceeded" ∷ decimal would ∷ decimal limit ∷ path_text nodes folder ∷ []
+refusal_words nodes NeedsScan = codes "NeedsScan" ∷ []
+
+-- whether it carries no path
+abbrev pub is_bare : Refusal → Bool
+is_bare (QuotaExceeded folder would limit) = false
+is_bare other = true
 
 -- the words behind the number of the line
-abbrev pub head_words : Outcome → List (List ℕ)
-head_words (Done passive) = codes "ok" ∷ []
-head_words (Sum node bytes) = codes "ok" ∷ []
-head_words (Refused refusal) = codes "refused" ∷ refusal_words refusal
+abbrev pub head_words : List NodeRow → Outcome → List (List ℕ)
+head_words nodes (Done passive) = codes "ok" ∷ []
+head_words nodes (Sum node bytes) = codes "ok" ∷ []
+head_words nodes (Listing ask) = codes "ok" ∷ []
+head_words nodes (Refused refusal) = codes "refused" ∷ refusal_words nodes refusal
 
 -- the first line of a reply: the number of the script's line, and what became of it
-abbrev pub head_line : ℕ → Outcome → List ℕ
-head_line line outcome = line_of (decimal line ∷ head_words outcome)
+abbrev pub head_line : List NodeRow → ℕ → Outcome → List ℕ
+head_line nodes line outcome = line_of (decimal line ∷ head_words nodes outcome)
 
 -- a line of a body is set in by two spaces
 abbrev pub body_line : List (List ℕ) → List ℕ
@@ -54,12 +73,36 @@ abbrev pub passive_line : List NodeRow → Option ℕ → List ℕ
 passive_line nodes None = []
 passive_line nodes (Some screen) = body_line (codes "passive" ∷ path_text nodes screen ∷ [])
 
--- the lines below the first, for a command of this moment. So far no line depends on the capacity or the moment
+abbrev pub state_word : QuotaState → List ℕ
+state_word Complete = codes "complete"
+state_word Disabled = codes "disabled"
+state_word Rebuilding = codes "rebuilding"
+state_word Incomplete = codes "incomplete"
+
+-- What a list shows of a quota: its limit, whether it is enforced, its state, what the files at and below its folder
+-- take, where it counts, its peak and when that was, and its folder
+abbrev pub quota_line : Capacity → List NodeRow → QuotaRow → List ℕ
+quota_line K nodes quota =
+    body_line (decimal quota.limit ∷ (if quota.enforce then codes "hard" else codes "soft") ∷ state_word quota.state
+    ∷ (if counts quota then decimal (usage K nodes quota.folder) else codes "-")
+    ∷ decimal quota.peak ∷ date_text quota.peak_at ∷ path_text nodes quota.folder ∷ [])
+
+-- the quotas that are asked for: that of a folder, or all
+abbrev pub asked : Option ℕ → List QuotaRow → List QuotaRow
+asked None quotas = quotas
+asked (Some folder) quotas = filter (λ quota. folder_of quota == folder) quotas
+
+-- the lines of a list
+abbrev pub list_lines : Capacity → Rows → Ask → List ℕ
+list_lines K R (Quotas folder) = flat_map (quota_line K R.nodes) (asked folder R.quotas)
+
+-- the lines below the first, for a command of this moment. So far no line depends on the moment
 abbrev pub body : Capacity → Rows → ℕ → Outcome → List ℕ
 body K R moment (Done passive) = passive_line R.nodes passive
 body K R moment (Sum node bytes) = body_line (decimal bytes ∷ path_text R.nodes node ∷ [])
+body K R moment (Listing ask) = list_lines K R ask
 body K R moment (Refused refusal) = []
 
 -- the reply to a line, in the rows after it
 abbrev pub reply : Capacity → Rows → ℕ → ℕ → Outcome → List ℕ
-reply K R moment line outcome = head_line line outcome ++ body K R moment outcome
+reply K R moment line outcome = head_line R.nodes line outcome ++ body K R moment outcome

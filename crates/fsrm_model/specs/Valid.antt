@@ -1,11 +1,14 @@
--- Which nodes are those of a store. Each part is a test, so that a reader can refuse exactly the others.
+-- Which nodes, and which quotas, are those of a store. Each part is a test, so that a reader can refuse exactly the others.
 use Rattle.std.specs.Prelude.{◌≡◌, ℕ, ◌≤◌, ◌==◌, ◌&&◌, ◌||◌, nat_lt, nat_le, not, Bool, true, false, List, length, Some, if◌then◌else◌}
 use Rattle.std.specs.List.{list_all}
 use Rattle.fsrm_model.specs.declared.row.Capacity.{Capacity}
 use Rattle.fsrm_model.specs.declared.row.NodeRow.{NodeRow}
-use Rattle.fsrm_model.specs.Keyed.{is_ascending, has_row}
-use Rattle.fsrm_model.specs.Limits.{latest_moment, longest_file}
+use Rattle.fsrm_model.specs.declared.row.QuotaRow.{QuotaRow}
+use Rattle.fsrm_model.specs.declared.row.Rows.{Rows}
+use Rattle.fsrm_model.specs.Keyed.{row_of, is_ascending, has_row}
+use Rattle.fsrm_model.specs.Limits.{latest_moment, longest_file, most_quotas}
 use Rattle.fsrm_model.specs.Name.{is_name, same_name}
+use Rattle.fsrm_model.specs.Quota.{folder_of, is_limit}
 use Rattle.fsrm_model.specs.Tree.{number, node_of, is_folder, is_child, is_under, name_bytes}
 
 abbrev pub is_moment : ℕ → Bool
@@ -55,3 +58,17 @@ pub record IsVolume (K : Capacity) (nodes : List NodeRow) : Type 0 where
   pub rooted : (n : ℕ) → has_row number n nodes ≡ true → is_under nodes 0 n ≡ true
   pub alone : (n m : ℕ) (r s : NodeRow) → node_of nodes n ≡ Some r → node_of nodes m ≡ Some s → (n == 0) ≡ false → (m == 0) ≡ false → s.parent ≡ r.parent → same_name s.name r.name ≡ true → m ≡ n
   pub names : name_bytes nodes ≤ K.names
+
+-- Quotas of a store with these nodes: each on another folder, in the order of the folders' numbers, with a limit
+-- and a moment in their ranges
+pub record AreQuotas (nodes : List NodeRow) (quotas : List QuotaRow) : Type 0 where
+  pub ascending : is_ascending folder_of quotas ≡ true
+  pub few : length quotas ≤ most_quotas
+  pub folders : (folder : ℕ) (quota : QuotaRow) → row_of folder_of folder quotas ≡ Some quota → is_folder nodes folder ≡ true
+  pub limits : (folder : ℕ) (quota : QuotaRow) → row_of folder_of folder quotas ≡ Some quota → is_limit quota.limit ≡ true
+  pub moments : (folder : ℕ) (quota : QuotaRow) → row_of folder_of folder quotas ≡ Some quota → is_moment quota.peak_at ≡ true
+
+-- the rows of a store of this size
+pub record IsStore (K : Capacity) (R : Rows) : Type 0 where
+  pub volume : IsVolume K R.nodes
+  pub quotas : AreQuotas R.nodes R.quotas

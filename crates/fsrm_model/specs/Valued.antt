@@ -1,13 +1,15 @@
 -- Which commands are valid: those whose values have their forms and ranges.
-use Rattle.std.specs.Prelude.{ℕ, ◌&&◌, nat_le, Bool, List}
+use Rattle.std.specs.Prelude.{ℕ, ◌&&◌, nat_le, Bool, true, List}
 use Rattle.std.specs.List.{list_all}
+use Rattle.std.specs.Option.{option_map_or}
 use Rattle.fsrm_model.specs.declared.command.Command.{Command}
 use Rattle.fsrm_model.specs.declared.command.Deed.{Deed}
-use Rattle.fsrm_model.specs.declared.command.Deed.TheVariants.{File, Usage}
+use Rattle.fsrm_model.specs.declared.command.Deed.TheVariants.{File, Usage, QuotaAdd, QuotaModify, QuotaDelete, QuotaResetpeak, QuotaList}
 use Rattle.fsrm_model.specs.declared.command.FileOp.{FileOp}
 use Rattle.fsrm_model.specs.declared.command.FileOp.TheVariants.{Mkdir, Create, Resize, Touch, Move, Remove}
 use Rattle.fsrm_model.specs.Limits.{longest_file, last_owner}
 use Rattle.fsrm_model.specs.Name.{is_name}
+use Rattle.fsrm_model.specs.Quota.{is_limit}
 use Rattle.fsrm_model.specs.Valid.{is_moment}
 
 abbrev pub is_path : List (List ℕ) → Bool
@@ -30,6 +32,11 @@ is_op (Remove path) = is_path path
 abbrev pub is_deed : Deed → Bool
 is_deed (File op) = is_op op
 is_deed (Usage path) = is_path path
+is_deed (QuotaAdd path limit enforce) = is_path path && is_limit limit
+is_deed (QuotaModify path limit enforce) = is_path path && option_map_or is_limit limit true
+is_deed (QuotaDelete path) = is_path path
+is_deed (QuotaResetpeak path) = is_path path
+is_deed (QuotaList path) = option_map_or is_path path true
 
 abbrev pub is_command : Command → Bool
 is_command c = is_moment c.moment && is_deed c.deed

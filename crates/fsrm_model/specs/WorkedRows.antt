@@ -61,3 +61,63 @@ abbrev pub folded_names : Type 0
 folded_names =
     text default_capacity new_rows (encode_utf8_all (codes "1 mkdir D:\\ß 1\n1 mkdir D:\\SS 1\n1 mkdir D:\\ẞ 1\n1 mkdir D:\\σ 1\n1 mkdir D:\\ς 1\n1 mkdir D:\\K 1\n1 mkdir D:\\K 1\n1 mkdir D:\\İ 1\n1 mkdir D:\\i 1\n1 mkdir D:\\s 1\n1 mkdir D:\\ſ 1\n"))
     ≡ codes "1 ok\n2 ok\n3 refused AlreadyExists\n4 ok\n5 refused AlreadyExists\n6 ok\n7 refused AlreadyExists\n8 ok\n9 ok\n10 ok\n11 refused AlreadyExists\n"
+
+-- a usage counts whole clusters
+abbrev pub rounded_usage : Type 0
+rounded_usage =
+    text default_capacity new_rows (codes "100 dirquota quota add /Path:D:\\ /Limit:10kb\n101 create D:\\a 8192 7\n102 create D:\\b 1 7\n")
+    ≡ codes "1 ok\n2 ok\n3 refused QuotaExceeded 12288 10240 D:\\\n"
+
+-- the quota of a folder above may be the one that refuses
+abbrev pub nested_quotas : Type 0
+nested_quotas =
+    text default_capacity new_rows (codes "100 mkdir D:\\u 1\n100 dirquota quota add /Path:D:\\u /Limit:1mb\n100 mkdir D:\\u\\v 1\n100 dirquota quota add /Path:D:\\u\\v /Limit:10mb\n100 create D:\\u\\v\\f 1048576 1\n100 create D:\\u\\v\\g 1 1\n100 dirquota quota list\n")
+    ≡ codes "1 ok\n2 ok\n3 ok\n4 ok\n5 ok\n6 refused QuotaExceeded 1052672 1048576 D:\\u\n7 ok\n  1048576 hard complete 1048576 1048576 1970-01-01 00:01:40 D:\\u\n  10485760 hard complete 1048576 1048576 1970-01-01 00:01:40 D:\\u\\v\n"
+
+-- a usage may come up to the limit
+abbrev pub up_to_the_limit : Type 0
+up_to_the_limit =
+    text default_capacity new_rows (codes "100 dirquota quota add /Path:D:\\ /Limit:8kb\n100 create D:\\a 8192 1\n100 resize D:\\a 8193\n")
+    ≡ codes "1 ok\n2 ok\n3 refused QuotaExceeded 12288 8192 D:\\\n"
+
+-- above a limit that was lowered a file may shrink, and grow within its last cluster
+abbrev pub above_the_limit : Type 0
+above_the_limit =
+    text default_capacity new_rows (codes "100 dirquota quota add /Path:D:\\ /Limit:64kb\n100 create D:\\a 40960 1\n100 dirquota quota modify /Path:D:\\ /Limit:16kb\n100 resize D:\\a 20480\n100 resize D:\\a 20479\n100 resize D:\\a 24577\n")
+    ≡ codes "1 ok\n2 ok\n3 ok\n4 ok\n5 ok\n6 refused QuotaExceeded 28672 16384 D:\\\n"
+
+-- a move below a quota that holds both places
+abbrev pub move_below_a_quota : Type 0
+move_below_a_quota =
+    text default_capacity new_rows (codes "100 dirquota quota add /Path:D:\\ /Limit:8kb\n100 mkdir D:\\x 1\n100 create D:\\a 8192 1\n100 move D:\\a D:\\x\\a\n")
+    ≡ codes "1 ok\n2 ok\n3 ok\n4 ok\n"
+
+-- a folder with a child gets no quota; commands that are not there
+abbrev pub quotas_that_wait : Type 0
+quotas_that_wait =
+    text default_capacity new_rows (codes "100 mkdir D:\\a 1\n100 dirquota quota add /Path:D:\\ /Limit:1kb\n100 dirquota quota add /Path:D:\\a /Limit:1kb\n100 dirquota quota add /Path:D:\\a /Limit:1kb\n100 dirquota quota add /Path:D:\\a /Limit:1kb /Status:disabled\n100 dirquota quota scan /Path:D:\\a\n100 dirquota template list\n")
+    ≡ codes "1 ok\n2 refused NeedsScan\n3 ok\n4 refused AlreadyExists\n5 refused BadLine 46\n6 refused BadLine 20\n7 refused BadLine 14\n"
+
+-- options: in any order, each once and in its form, and none that is missing. They are judged from left to right
+abbrev pub quota_options : Type 0
+quota_options =
+    text default_capacity new_rows (codes "1 mkdir D:\\a 1\n1 DirQuota QUOTA Add /Type:SOFT /limit:1KB \"/PATH:D:\\a\"\n1 dirquota quota list\n1 dirquota quota add /Path:D:\\a /Limit:1kb /Path:x\n1 dirquota quota add /Path:D:\\a /Limit:1kb /Limit:1\n1 dirquota quota modify /Path:D:\\a /Type:hard /Type:hard\n1 dirquota quota add /Path:D:\\a /Limit:1kb /Color:red\n1 dirquota quota add /Path:D:\\a /Limit\n1 dirquota quota modify /Path:D:\\a /Type:medium\n1 dirquota quota delete /Path:D:\\a /Limit:1kb\n1 dirquota quotas list\n1 dirquota quota show\n1 dirquota\n1 dirquota quota\n1 dirquota quota add /Limit:1kb\n1 dirquota quota add /Path:D:\\a \n1 dirquota quota delete\n1 dirquota quota modify /Limit:1kb\n1 dirquota quota add /Path:E:\\a /Limit:1\n1 dirquota quota add /Limit:1 /Path:E:\\a\n1 dirquota quota add /Path:D:\\a:b /Limit:1kb\n")
+    ≡ codes "1 ok\n2 ok\n3 ok\n  1024 soft complete 0 0 1970-01-01 00:00:01 D:\\a\n4 refused BadLine 44\n5 refused BadLine 44\n6 refused BadLine 47\n7 refused BadLine 44\n8 refused BadLine 33\n9 refused BadLine 36\n10 refused BadLine 36\n11 refused BadLine 12\n12 refused BadLine 18\n13 refused BadLine 11\n14 refused BadLine 17\n15 refused BadLine 32\n16 refused BadLine 33\n17 refused BadLine 24\n18 refused BadLine 35\n19 refused InvalidPath\n20 refused InvalidLimit\n21 refused InvalidName\n"
+
+-- the least and the greatest limit, and units in letters of either case
+abbrev pub quota_limits : Type 0
+quota_limits =
+    text default_capacity new_rows (codes "1 dirquota quota add /Path:D:\\ /Limit:1024\n1 dirquota quota modify /Path:D:\\ /Limit:1023\n1 dirquota quota modify /Path:D:\\ /Limit:1048577tb\n1 dirquota quota modify /Path:D:\\ /Limit:1048576tb\n1 dirquota quota list\n1 dirquota quota modify /Path:D:\\ /Limit:3gB\n1 dirquota quota list\n1 dirquota quota modify /Path:D:\\ /Limit:000000000000000000000007Mb /Type:Soft\n1 dirquota quota list\n1 dirquota quota modify /Path:D:\\ /Limit:kb\n1 dirquota quota modify /Path:D:\\ /Limit:\n1 dirquota quota modify /Path:D:\\ /Limit:1kib\n1 dirquota quota modify /Path:D:\\ /Limit:1.5kb\n")
+    ≡ codes "1 ok\n2 refused InvalidLimit\n3 refused InvalidLimit\n4 ok\n5 ok\n  1152921504606846976 hard complete 0 0 1970-01-01 00:00:01 D:\\\n6 ok\n7 ok\n  3221225472 hard complete 0 0 1970-01-01 00:00:01 D:\\\n8 ok\n9 ok\n  7340032 soft complete 0 0 1970-01-01 00:00:01 D:\\\n10 refused BadLine 35\n11 refused BadLine 35\n12 refused BadLine 35\n13 refused BadLine 35\n"
+
+-- a soft quota refuses nothing; a peak and its moment, and how it is reset
+abbrev pub quota_peaks : Type 0
+quota_peaks =
+    text default_capacity new_rows (codes "100 mkdir D:\\a 1\n100 dirquota quota add /Path:D:\\a /Limit:8kb /Type:soft\n200 create D:\\a\\f 10000 1\n951782400 resize D:\\a\\f 1\n951782400 dirquota quota list /Path:D:\\a\n951868799 dirquota quota resetpeak /Path:D:\\a\n951868799 dirquota quota list\n951868800 dirquota quota modify /Path:D:\\a /Limit:1gb /Type:hard\n4102444799 create D:\\a\\g 1 1\n4102444799 dirquota quota list\n")
+    ≡ codes "1 ok\n2 ok\n3 ok\n4 ok\n5 ok\n  8192 soft complete 4096 12288 1970-01-01 00:03:20 D:\\a\n6 ok\n7 ok\n  8192 soft complete 4096 4096 2000-02-29 23:59:59 D:\\a\n8 ok\n9 ok\n10 ok\n  1073741824 hard complete 8192 8192 2099-12-31 23:59:59 D:\\a\n"
+
+-- a quota that is deleted, and one whose folder is removed, are gone
+abbrev pub quotas_gone : Type 0
+quotas_gone =
+    text default_capacity new_rows (codes "1 mkdir D:\\a 1\n1 mkdir D:\\b 1\n1 dirquota quota add /Path:D:\\b /Limit:8kb\n1 dirquota quota add /Path:D:\\a /Limit:4kb\n1 dirquota quota list\n1 dirquota quota delete /Path:D:\\a\n1 dirquota quota delete /Path:D:\\a\n1 dirquota quota modify /Path:D:\\a\n1 dirquota quota resetpeak /Path:D:\\a\n1 dirquota quota list /Path:D:\\a\n1 dirquota quota delete /Path:D:\\c\n1 dirquota quota modify /Path:D:\\c\n1 dirquota quota resetpeak /Path:D:\\c\n1 dirquota quota list /Path:D:\\c\n1 dirquota quota add /Path:D:\\c /Limit:1kb\n1 dirquota quota list\n1 remove D:\\b\n1 dirquota quota list\n1 mkdir D:\\b 1\n1 dirquota quota list /Path:D:\\b\n0 dirquota quota list\n")
+    ≡ codes "1 ok\n2 ok\n3 ok\n4 ok\n5 ok\n  4096 hard complete 0 0 1970-01-01 00:00:01 D:\\a\n  8192 hard complete 0 0 1970-01-01 00:00:01 D:\\b\n6 ok\n7 refused NotFound\n8 refused NotFound\n9 refused NotFound\n10 refused NotFound\n11 refused PathNotFound\n12 refused PathNotFound\n13 refused PathNotFound\n14 refused PathNotFound\n15 refused PathNotFound\n16 ok\n  8192 hard complete 0 0 1970-01-01 00:00:01 D:\\b\n17 ok\n18 ok\n19 ok\n20 refused NotFound\n21 refused ClockBack\n"

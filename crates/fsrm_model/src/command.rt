@@ -3,7 +3,7 @@
 use crate::path::Path;
 use crate::row::ActionKind;
 
-/// Why a command is refused. A refused command changes nothing. Those up to `OutOfRange` come from
+/// Why a command is refused. A refused command changes nothing. Those up to `InvalidLimit` come from
 /// reading the line alone.
 #[derive(Clone, Copy, Debug, PartialEq, Eq)]
 pub enum Refusal {
@@ -17,21 +17,32 @@ pub enum Refusal {
     InvalidName,
     /// A number isn't in its range (MS-FSRM, FSRM_E_OUT_OF_RANGE).
     OutOfRange,
+    /// A quota's limit is below 1,024 bytes or above 2^60 (MS-FSRM, FSRM_E_INVALID_LIMIT).
+    InvalidLimit,
     /// The command's moment is earlier than that of the last command that lasts.
     ClockBack,
     /// A path, or the folder that it names a node in, leads to nothing of the kind that is asked
     /// for (MS-FSRM, FSRM_E_PATH_NOT_FOUND).
     PathNotFound,
-    /// The place is taken (MS-FSRM, FSRM_E_ALREADY_EXISTS).
+    /// The folder has no quota (MS-FSRM, FSRM_E_NOT_FOUND).
+    NotFound,
+    /// The place is taken, or the folder has a quota (MS-FSRM, FSRM_E_ALREADY_EXISTS).
     AlreadyExists,
     /// The folder has a child.
     NotEmpty,
-    /// The root isn't moved or removed, nor a folder moved to a place at or below itself.
+    /// The root isn't moved or removed, nor a folder moved to a place below itself.
     InvalidMove,
     /// The store holds as many nodes as it may.
     VolumeFull,
     /// The names of all nodes would have more bytes than the store holds.
     NamesFull,
+    /// There are 4,096 quotas.
+    TableFull,
+    /// The usage of a folder with a hard quota would rise, and above the limit. It is the deepest such
+    /// folder. `would` is what the files at and below it would take, in bytes.
+    QuotaExceeded { folder: u32, would: u64, limit: u64 },
+    /// The folder has a child: what it holds would have to be counted first, which isn't built yet.
+    NeedsScan,
 }
 
 /// A file operation.
@@ -56,7 +67,34 @@ pub enum FileOp {
 pub enum Deed {
     File(FileOp),
     /// Sums up what the files at and below a node take.
-    Usage { path: Path },
+    Usage {
+        path: Path,
+    },
+    /// Limits what the files at and below a folder take, in bytes (MS-FSRM, IFsrmQuota). A hard quota is
+    /// enforced, a soft one only watches.
+    QuotaAdd {
+        path: Path,
+        limit: u64,
+        enforce: bool,
+    },
+    /// Gives a quota another limit, or makes it hard or soft.
+    QuotaModify {
+        path: Path,
+        limit: Option<u64>,
+        enforce: Option<bool>,
+    },
+    /// Takes a folder's quota away.
+    QuotaDelete {
+        path: Path,
+    },
+    /// Makes what is used now the peak (MS-FSRM, ResetPeakUsage).
+    QuotaResetpeak {
+        path: Path,
+    },
+    /// Lists the quota of a folder, or all quotas.
+    QuotaList {
+        path: Option<Path>,
+    },
 }
 
 /// A command, at its moment.
@@ -66,6 +104,13 @@ pub struct Command {
     pub deed: Deed,
 }
 
+/// What is listed.
+#[derive(Clone, Copy, Debug, PartialEq, Eq)]
+pub enum Ask {
+    /// The quota of a folder, or all quotas.
+    Quotas(Option<u32>),
+}
+
 /// What a command comes to.
 #[derive(Drop)]
 pub enum Outcome {
@@ -73,6 +118,7 @@ pub enum Outcome {
     Done { passive: Option<u32> },
     /// What the files at and below a node take, in bytes.
     Sum { node: u32, bytes: u64 },
+    Listing(Ask),
     Refused(Refusal),
 }
 

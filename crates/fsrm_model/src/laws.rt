@@ -1,20 +1,31 @@
 //! Laws of the definitions, and worked examples.
 
-ghost use Rattle.std.specs.Prelude.{◌≡◌, ◌↔◌, ℕ, ◌+◌, List, [], ◌∷◌, ◌++◌, false, Some, None, Ok, Err, sum_by};
+ghost use Rattle.std.specs.Prelude.{◌≡◌, ◌↔◌, ℕ, ◌+◌, ◌<◌, ◌≤◌, List, [], ◌∷◌, ◌++◌, true, false, Some, None, Ok, Err, sum_by, pos};
 ghost use Rattle.std.specs.List.{list_any};
+ghost use Rattle.jiff_core.specs.Calendar.{days_from_civil};
 ghost use Rattle.fsrm_model.specs.declared.command.Command.{Command};
+ghost use Rattle.fsrm_model.specs.declared.command.Deed.TheVariants.{File};
+ghost use Rattle.fsrm_model.specs.declared.command.FileOp.{FileOp};
 ghost use Rattle.fsrm_model.specs.declared.command.Outcome.TheVariants.{Refused, Sum};
 ghost use Rattle.fsrm_model.specs.declared.command.Refusal.{Refusal};
+ghost use Rattle.fsrm_model.specs.declared.command.Refusal.TheVariants.{QuotaExceeded};
 ghost use Rattle.fsrm_model.specs.declared.row.Capacity.{Capacity};
+ghost use Rattle.fsrm_model.specs.declared.row.NodeRow.{NodeRow};
+ghost use Rattle.fsrm_model.specs.declared.row.QuotaRow.{QuotaRow};
 ghost use Rattle.fsrm_model.specs.declared.row.Rows.{Rows};
-ghost use Rattle.fsrm_model.specs.Line.{read_line};
+ghost use Rattle.fsrm_model.specs.Date.{date_of};
+ghost use Rattle.fsrm_model.specs.Exceeds.{Exceeds};
+ghost use Rattle.fsrm_model.specs.FileOps.{plain};
+ghost use Rattle.fsrm_model.specs.Line.{read_line, is_line_refusal};
+ghost use Rattle.fsrm_model.specs.Quota.{quota_of, counts, exceeded};
 ghost use Rattle.fsrm_model.specs.Script.{is_end, lines, spelled_lines, AreLines, without_cr, replied, text, text_from};
 ghost use Rattle.fsrm_model.specs.Space.{space};
 ghost use Rattle.fsrm_model.specs.Spelling.{Spells, Skips};
 ghost use Rattle.fsrm_model.specs.Step.{step};
 ghost use Rattle.fsrm_model.specs.Text.{reply};
-ghost use Rattle.fsrm_model.specs.Tree.{under};
-ghost use Rattle.fsrm_model.specs.WorkedRows.{nothing_done, first_files, clock, moves, bad_lines, words_apart, root_and_places, few_nodes, few_name_bytes, folded_names};
+ghost use Rattle.fsrm_model.specs.Tree.{under, usage};
+ghost use Rattle.fsrm_model.specs.Valid.{IsStore};
+ghost use Rattle.fsrm_model.specs.WorkedRows.{nothing_done, first_files, clock, moves, bad_lines, words_apart, root_and_places, few_nodes, few_name_bytes, folded_names, rounded_usage, nested_quotas, up_to_the_limit, above_the_limit, move_below_a_quota, quotas_that_wait, quota_options, quota_limits, quota_peaks, quotas_gone};
 
 /// The plain machine's text of worked scripts.
 pub fn worked_rows()
@@ -28,13 +39,25 @@ pub fn worked_rows()
     ensures few_nodes { few_nodes }
     ensures few_name_bytes { few_name_bytes }
     ensures folding { folded_names }
+    ensures rounded_usage { rounded_usage }
+    ensures nested_quotas { nested_quotas }
+    ensures up_to_the_limit { up_to_the_limit }
+    ensures above_the_limit { above_the_limit }
+    ensures move_below_a_quota { move_below_a_quota }
+    ensures quotas_that_wait { quotas_that_wait }
+    ensures quota_options { quota_options }
+    ensures quota_limits { quota_limits }
+    ensures quota_peaks { quota_peaks }
+    ensures quotas_gone { quotas_gone }
 {}
 
 /// What a line is read as is what it spells, and a line that spells a command is read as it. Exactly
-/// those lines are skipped that have blanks alone, or a `#` behind them.
+/// those lines are skipped that have blanks alone, or a `#` behind them. Each other line is refused,
+/// by a refusal that comes from reading alone.
 pub fn spelling()
     ensures commands { (line : List ℕ) (c : Command) → (read_line line ≡ Some (Ok c)) ↔ Spells line c }
     ensures skipped { (line : List ℕ) → (read_line line ≡ None) ↔ Skips line }
+    ensures refusals { (line : List ℕ) (refusal : Refusal) → read_line line ≡ Some (Err refusal) → is_line_refusal refusal ≡ true }
 {}
 
 /// The lines of a script are what stands before each LF, and what is left behind the last one where
@@ -63,4 +86,23 @@ pub fn plain_machine()
     ensures refused { (K : Capacity) (R : Rows) (c : Command) (refusal : Refusal) → (step K R c).outcome ≡ Refused refusal → (step K R c).rows ≡ R }
     // A sum is made afresh from the tree: the space of all files at and below the folder.
     ensures sum { (K : Capacity) (R : Rows) (c : Command) (folder bytes : ℕ) → (step K R c).outcome ≡ Sum folder bytes → bytes ≡ sum_by (space K) (under R.nodes folder) }
+{}
+
+/// Which quota refuses, that limits are kept, and what peaks are.
+pub fn quotas()
+    // The refusal for a quota names the deepest folder whose quota counts and is enforced, and whose usage would
+    // rise, and above the limit.
+    ensures exceeds { (K : Capacity) (R : Rows) (nodes : List NodeRow) (folder would limit : ℕ) → IsStore K R → exceeded K R nodes ≡ Some (QuotaExceeded folder would limit) → Exceeds K R nodes folder would limit }
+    // Only a file operation is refused for a quota, and only for what it would make of the nodes.
+    ensures refuses { (K : Capacity) (R : Rows) (c : Command) (folder would limit : ℕ) → IsStore K R → (step K R c).outcome ≡ Refused (QuotaExceeded folder would limit) → (op : FileOp) × (c.deed ≡ File op) × Exceeds K R (plain R.nodes op c.moment) folder would limit }
+    // No command lets the usage of a folder whose quota counts and is enforced rise above the limit. What is above
+    // it already may stay, and fall.
+    ensures limits { (K : Capacity) (R : Rows) (c : Command) (folder : ℕ) (quota : QuotaRow) → IsStore K R → quota_of R folder ≡ Some quota → counts quota ≡ true → quota.enforce ≡ true → usage K R.nodes folder < usage K (step K R c).rows.nodes folder → usage K (step K R c).rows.nodes folder ≤ quota.limit }
+    // A command that lasts leaves no counting quota whose peak is below its usage.
+    ensures peaks { (K : Capacity) (R : Rows) (c : Command) (folder : ℕ) (quota : QuotaRow) → (step K R c).lasting ≡ true → quota_of (step K R c).rows folder ≡ Some quota → counts quota ≡ true → usage K (step K R c).rows.nodes folder ≤ quota.peak }
+{}
+
+/// The civil date of a moment is that of jiff's calendar.
+pub fn dates()
+    ensures dates { (day : ℕ) → day ≤ 47481 → days_from_civil (pos (date_of day).year) (date_of day).month (date_of day).day ≡ pos day }
 {}

@@ -14,7 +14,7 @@ pub mod steps;
 mod tests;
 pub mod text;
 
-pub use command::{Act, Answer, Command, Deed, FileOp, Outcome, Refusal, Subject};
+pub use command::{Act, Answer, Ask, Command, Deed, FileOp, Outcome, Refusal, Subject};
 pub use list::List;
 pub use memory::{Duplicate, NoMemory};
 pub use path::Path;

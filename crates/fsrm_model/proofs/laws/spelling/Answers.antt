@@ -1,4 +1,5 @@
 use Rattle.fsrm_model.proofs.SpellingLaws.{read_spells, spelled_reads, read_skips, skips_read}
+use Rattle.fsrm_model.proofs.LineRefusals.{line_refusal}
 use Rattle.fsrm_model.proofs.laws.spelling.Goals as goal
 
 pub returns-clause-commands : goal.returns-clause-commands
@@ -6,3 +7,6 @@ returns-clause-commands c = λ line command. (read_spells line command, spelled_
 
 pub returns-clause-skipped : goal.returns-clause-skipped
 returns-clause-skipped c = λ line. (read_skips line, skips_read line)
+
+pub returns-clause-refusals : goal.returns-clause-refusals
+returns-clause-refusals c = line_refusal

@@ -45,3 +45,43 @@ returns-clause-few_name_bytes c = refl
 pub returns-clause-folding : goal.returns-clause-folding
 unfolding replied read_line simple_folding simple_folding_rows value_in chars digits is_utf8 utf8_valid_len lib.Utf8.encode
 returns-clause-folding c = refl
+
+pub returns-clause-rounded_usage : goal.returns-clause-rounded_usage
+unfolding replied read_line simple_folding simple_folding_rows value_in chars digits is_utf8 utf8_valid_len lib.Utf8.encode
+returns-clause-rounded_usage c = refl
+
+pub returns-clause-nested_quotas : goal.returns-clause-nested_quotas
+unfolding replied read_line simple_folding simple_folding_rows value_in chars digits is_utf8 utf8_valid_len lib.Utf8.encode
+returns-clause-nested_quotas c = refl
+
+pub returns-clause-up_to_the_limit : goal.returns-clause-up_to_the_limit
+unfolding replied read_line simple_folding simple_folding_rows value_in chars digits is_utf8 utf8_valid_len lib.Utf8.encode
+returns-clause-up_to_the_limit c = refl
+
+pub returns-clause-above_the_limit : goal.returns-clause-above_the_limit
+unfolding replied read_line simple_folding simple_folding_rows value_in chars digits is_utf8 utf8_valid_len lib.Utf8.encode
+returns-clause-above_the_limit c = refl
+
+pub returns-clause-move_below_a_quota : goal.returns-clause-move_below_a_quota
+unfolding replied read_line simple_folding simple_folding_rows value_in chars digits is_utf8 utf8_valid_len lib.Utf8.encode
+returns-clause-move_below_a_quota c = refl
+
+pub returns-clause-quotas_that_wait : goal.returns-clause-quotas_that_wait
+unfolding replied read_line simple_folding simple_folding_rows value_in chars digits is_utf8 utf8_valid_len lib.Utf8.encode
+returns-clause-quotas_that_wait c = refl
+
+pub returns-clause-quota_options : goal.returns-clause-quota_options
+unfolding replied read_line simple_folding simple_folding_rows value_in chars digits is_utf8 utf8_valid_len lib.Utf8.encode
+returns-clause-quota_options c = refl
+
+pub returns-clause-quota_limits : goal.returns-clause-quota_limits
+unfolding replied read_line simple_folding simple_folding_rows value_in chars digits is_utf8 utf8_valid_len lib.Utf8.encode
+returns-clause-quota_limits c = refl
+
+pub returns-clause-quota_peaks : goal.returns-clause-quota_peaks
+unfolding replied read_line simple_folding simple_folding_rows value_in chars digits is_utf8 utf8_valid_len lib.Utf8.encode
+returns-clause-quota_peaks c = refl
+
+pub returns-clause-quotas_gone : goal.returns-clause-quotas_gone
+unfolding replied read_line simple_folding simple_folding_rows value_in chars digits is_utf8 utf8_valid_len lib.Utf8.encode
+returns-clause-quotas_gone c = refl

@@ -1,0 +1,422 @@
+-- A quota that counts and is enforced lets no usage rise above its limit.
+use Rattle.std.proofs.Common.{◌≡◌, ℕ, zero, suc, ◌+◌, ◌<◌, ◌≤◌, ◌==◌, Bool, true, false, cond, not, ◌||◌, ◌&&◌, ◌⊎◌, inl, inr, List, [], ◌∷◌, length, refl, sym, ◌∙◌, ap, subst, arith, Some, None, Option}
+use Rattle.std.specs.Prelude.{nat_lt, filter, is_some, option_map, unwrap_or}
+use Rattle.std.specs.List.{AllByRecursion, list_all, list_any}
+use Rattle.std.specs.Option.{option_map_or}
+use Rattle.std.proofs.lemmas.Bool.{and_parts, and_from, ltb-false, cases_Bool}
+use Rattle.fsrm_model.specs.declared.command.Command.{Command}
+use Rattle.fsrm_model.specs.declared.command.Deed.{Deed}
+use Rattle.fsrm_model.specs.declared.command.Deed.TheVariants.{File, Usage, QuotaAdd, QuotaModify, QuotaDelete, QuotaResetpeak, QuotaList}
+use Rattle.fsrm_model.specs.declared.command.FileOp.{FileOp}
+use Rattle.fsrm_model.specs.declared.command.FileOp.TheVariants.{Mkdir, Create, Resize, Touch, Move, Remove}
+use Rattle.fsrm_model.specs.declared.command.Refusal.{Refusal}
+use Rattle.fsrm_model.specs.declared.command.Refusal.TheVariants.{ClockBack, PathNotFound, AlreadyExists, InvalidMove, NotEmpty, QuotaExceeded}
+use Rattle.fsrm_model.specs.declared.row.Capacity.{Capacity}
+use Rattle.fsrm_model.specs.declared.row.NodeRow.{NodeRow}
+use Rattle.fsrm_model.specs.declared.row.QuotaRow.{QuotaRow}
+use Rattle.fsrm_model.specs.declared.row.Rows.{Rows}
+use Rattle.fsrm_model.specs.Check.{Check, ◌when◌, first, volume_full, names_full}
+use Rattle.fsrm_model.specs.Exceeds.{IsOver}
+use Rattle.fsrm_model.specs.FileOps.{target, target_folder, new_node, resized, touched, placed, plain}
+use Rattle.fsrm_model.specs.FileWork.{move_checks, remove_checks, file_checks, file_effect}
+use Rattle.fsrm_model.specs.Keyed.{has_row, with_row}
+use Rattle.fsrm_model.specs.Leads.{is_root, leads, leads_to_folder, leads_to_file, leads_to_other}
+use Rattle.fsrm_model.specs.Quota.{folder_of, quota_of, counts, refuses, over, deepest, exceeded}
+use Rattle.fsrm_model.specs.Space.{space}
+use Rattle.fsrm_model.specs.Step.{step, work, decided}
+use Rattle.fsrm_model.specs.Tree.{number, parent_of, is_folder, is_child, children, chain, is_under, usage, resolve, folder_part, last_name, fresh, path_of}
+use Rattle.fsrm_model.specs.Valid.{IsVolume, IsStore}
+use Rattle.fsrm_model.proofs.TestLaws.{is_or_not, lt_is, clash, not_true, or_later, eq_is}
+use Rattle.fsrm_model.proofs.ChainLaws.{IsTree, Has, is_in, all_rows, chain_step, chain-new_other, usage-new}
+use Rattle.fsrm_model.proofs.ChangeLaws.{KeepsPlace, chain-change, usage-change}
+use Rattle.fsrm_model.proofs.DepthLaws.{some_member}
+use Rattle.fsrm_model.proofs.MoveLaws.{KeepsSpace, usage-moved, under_other}
+use Rattle.fsrm_model.proofs.RemoveLaws.{usage-removed}
+use Rattle.fsrm_model.proofs.Below.{chain_root, above_all, usage-moved_below}
+use Rattle.fsrm_model.proofs.Climbs.{under_own}
+use Rattle.fsrm_model.proofs.Files.{below_file}
+use Rattle.fsrm_model.proofs.Keeps.{tree_of, zero_apart, as_suc, moves_at, removes_of}
+use Rattle.fsrm_model.proofs.Look.{found_key, has_found, found_any, is_some-find}
+use Rattle.fsrm_model.proofs.Order.{least_free_is}
+use Rattle.fsrm_model.proofs.QuotaLaws.{over_test}
+use Rattle.fsrm_model.proofs.Resolves.{resolved}
+use Rattle.fsrm_model.proofs.ValidLaws.{folder_has}
+use Rattle.fsrm_model.proofs.Walks.{path_root}
+
+-- where each of two is below the other, one is below all
+record IsOrder {X : Type 0} (above : X → X → Bool) (Good : X → Type 0) : Type 0 where
+  itself : (a : X) → above a a ≡ true
+  total : (a b : X) → Good a → Good b → (above a b ≡ true) ⊎ (above b a ≡ true)
+  joined : (a b c : X) → Good a → Good b → Good c → above a b ≡ true → above b c ≡ true → above a c ≡ true
+
+record Lowest {X : Type 0} (above : X → X → Bool) (Good : X → Type 0) (xs : List X) : Type 0 where
+  lowest : X
+  good : Good lowest
+  there : (p : X → Bool) → p lowest ≡ true → list_any p xs ≡ true
+  each : list_all (λ a. above a lowest) xs ≡ true
+
+all_joined : {X : Type 0} (above : X → X → Bool) (Good : X → Type 0) → IsOrder above Good → (b c : X) → Good b → Good c → above b c ≡ true → (xs : List X) → AllByRecursion Good xs → list_all (λ a. above a b) xs ≡ true → list_all (λ a. above a c) xs ≡ true
+all_joined above Good o b c gb gc low [] each h = refl
+all_joined above Good o b c gb gc low (a ∷ xs) each h =
+    let parts = and_parts (above a b) (list_all (λ a. above a b) xs) h in
+    and_from (above a c) (list_all (λ a. above a c) xs) (o.joined a b c each.0 gb gc parts.0 low) (all_joined above Good o b c gb gc low xs each.1 parts.1)
+
+lowest_of : {X : Type 0} (above : X → X → Bool) (Good : X → Type 0) → IsOrder above Good → (x : X) (xs : List X) → AllByRecursion Good (x ∷ xs) → Lowest above Good (x ∷ xs)
+lowest_of above Good o x [] each =
+    record { lowest = x; good = each.0; there = λ p h. rw h refl; each = and_from (above x x) true (o.itself x) refl }
+lowest_of above Good o x (y ∷ ys) each =
+    let t = lowest_of above Good o y ys each.1 in
+    elim (o.total x t.lowest each.0 t.good) [
+      | inl below ↦ record {
+        lowest = t.lowest;
+        good = t.good;
+        there = λ p h. or_later (p x) (list_any p (y ∷ ys)) (t.there p h);
+        each = and_from (above x t.lowest) (list_all (λ a. above a t.lowest) (y ∷ ys)) below t.each;
+      }
+      | inr low ↦ record {
+        lowest = x;
+        good = each.0;
+        there = λ p h. rw h refl;
+        each = and_from (above x x) (list_all (λ a. above a x) (y ∷ ys)) (o.itself x) (all_joined above Good o t.lowest x t.good each.0 low (y ∷ ys) each.1 t.each);
+      }
+    ]
+
+-- of two nodes above a third one is above the other
+second : (a b : Bool) → (a || b) ≡ true → a ≡ false → b ≡ true
+second true b h e = absurd (clash true refl e)
+second false b h e = h
+
+comparable : (nodes : List NodeRow) → IsTree nodes → (most t a b : ℕ) → Has nodes t → length (chain nodes t) ≤ most → is_under nodes a t ≡ true → is_under nodes b t ≡ true → (is_under nodes a b ≡ true) ⊎ (is_under nodes b a ≡ true)
+comparable nodes t zero n a b h l ha hb = absurd (omega (arith, some_member (length nodes) nodes n))
+comparable nodes t (suc most) zero a b h l ha hb =
+    inl (subst (λ (j : ℕ). is_under nodes a j ≡ true) (eq_is 0 b (sym (chain_root nodes b) ∙ hb)) ha)
+comparable nodes t (suc most) (suc n) a b h l ha hb =
+    let up = parent_of nodes (suc n) in
+    let step : chain nodes (suc n) ≡ suc n ∷ chain nodes up = chain_step nodes n (t.rooted (suc n) h) in
+    elim (is_or_not (suc n == a)) [
+      | inl e ↦ inr (subst (λ (j : ℕ). is_under nodes b j ≡ true) (eq_is (suc n) a e) hb)
+      | inr e ↦ elim (is_or_not (suc n == b)) [
+        | inl f ↦ inl (subst (λ (j : ℕ). is_under nodes a j ≡ true) (eq_is (suc n) b f) ha)
+        | inr f ↦ comparable nodes t most up a b (t.closed (suc n) h) (omega (arith, ap length step))
+            (second (suc n == a) (is_in (chain nodes up) a) (sym (ap (λ ns. is_in ns a) step) ∙ ha) e)
+            (second (suc n == b) (is_in (chain nodes up) b) (sym (ap (λ ns. is_in ns b) step) ∙ hb) f)
+      ]
+    ]
+
+under_joined : (nodes : List NodeRow) → IsTree nodes → (a b c : ℕ) → Has nodes b → Has nodes c → is_under nodes a b ≡ true → is_under nodes b c ≡ true → is_under nodes a c ≡ true
+under_joined nodes t a b c hb hc f g =
+    elim (is_or_not (a == 0)) [
+      | inl e ↦ subst (λ (j : ℕ). is_under nodes j c ≡ true) (sym (eq_is a 0 e)) (t.rooted c hc)
+      | inr e ↦ above_all nodes t a b c e hb hc g f
+    ]
+
+-- a folder above a node, whose way up stays
+record Stays (old new : List NodeRow) (t f : ℕ) : Type 0 where
+  has : Has old f
+  under : is_under old f t ≡ true
+  same : chain new f ≡ chain old f
+
+abbrev GoodQuota : List NodeRow → List NodeRow → ℕ → QuotaRow → Type 0
+GoodQuota old new t quota = Stays old new t quota.folder
+
+order_of : (old new : List NodeRow) → IsTree old → (t : ℕ) → Has old t → IsOrder (λ a b. is_under new a.folder b.folder) (GoodQuota old new t)
+order_of old new tree t h = record {
+  itself = λ a. under_own new a.folder;
+  total = λ a b ga gb. elim (comparable old tree (length (chain old t)) t a.folder b.folder h (omega arith) ga.under gb.under) [
+    | inl e ↦ inl (ap (λ ns. is_in ns a.folder) gb.same ∙ e)
+    | inr e ↦ inr (ap (λ ns. is_in ns b.folder) ga.same ∙ e)
+  ];
+  joined = λ a b c ga gb gc f g. ap (λ ns. is_in ns a.folder) gc.same ∙ under_joined old tree a.folder b.folder c.folder gb.has gc.has (sym (ap (λ ns. is_in ns a.folder) gb.same) ∙ f) (sym (ap (λ ns. is_in ns b.folder) gc.same) ∙ g);
+}
+
+-- where no quota refuses, none would
+none_deepest : (old new : List NodeRow) → IsTree old → (t : ℕ) → Has old t → (quotas : List QuotaRow) → AllByRecursion (GoodQuota old new t) quotas → deepest new quotas ≡ None → quotas ≡ []
+none_deepest old new tree t h [] each none = refl
+none_deepest old new tree t h (x ∷ xs) each none =
+    let above : QuotaRow → QuotaRow → Bool = λ a b. is_under new a.folder b.folder in
+    let test : QuotaRow → Bool = λ q. list_all (λ a. above a q) (x ∷ xs) in
+    let low = lowest_of above (GoodQuota old new t) (order_of old new tree t h) x xs each in
+    absurd (clash (list_any test (x ∷ xs)) (low.there test low.each) (sym (is_some-find test (x ∷ xs)) ∙ ap is_some none))
+
+filter_each : {X : Type 0} (p : X → Bool) (P : X → Type 0) (xs : List X) → AllByRecursion (λ x. p x ≡ true → P x) xs → AllByRecursion P (filter p xs)
+filter_each p P [] each = tt
+filter_each p P (x ∷ xs) each = elim (cases_Bool (p x)) [
+  | inl e ↦ rw e (each.0 e, filter_each p P xs each.1)
+  | inr e ↦ rw e (filter_each p P xs each.1)
+]
+
+filter_empty : {X : Type 0} (p : X → Bool) (xs : List X) → filter p xs ≡ [] → list_any p xs ≡ false
+filter_empty p [] h = refl
+filter_empty p (x ∷ xs) h = elim (cases_Bool (p x)) [
+  | inl e ↦ let kept = rw e at h in absurd (cc kept)
+  | inr e ↦ let rest = rw e at h in rw e (filter_empty p xs rest)
+]
+
+none_mapped : {X Y : Type 0} (f : X → Y) (o : Option X) → option_map f o ≡ None → o ≡ None
+none_mapped f None h = refl
+none_mapped f (Some x) h = absurd (cc h)
+
+-- a quota of a store whose usage rises
+record Rising (K : Capacity) (R : Rows) (new : List NodeRow) (folder : ℕ) (quota : QuotaRow) : Type 0 where
+  there : quota_of R folder ≡ Some quota
+  counting : counts quota ≡ true
+  enforced : quota.enforce ≡ true
+  rises : usage K R.nodes folder < usage K new folder
+
+no_quota_over : (K : Capacity) (R : Rows) (new : List NodeRow) (t : ℕ) → IsStore K R → Has R.nodes t → ((f : ℕ) → is_folder R.nodes f ≡ true → usage K R.nodes f < usage K new f → Stays R.nodes new t f) → exceeded K R new ≡ None → (folder : ℕ) (quota : QuotaRow) → Rising K R new folder quota → usage K new folder ≤ quota.limit
+no_quota_over K R new t store h grows none folder quota r =
+    let rises : QuotaRow → Bool = λ q. refuses q (usage K R.nodes q.folder) (usage K new q.folder) in
+    let good : AllByRecursion (λ q. rises q ≡ true → GoodQuota R.nodes new t q) R.quotas = all_rows folder_of (λ q. rises q ≡ true → GoodQuota R.nodes new t q) R.quotas (λ q has e.
+    let found = has_found folder_of q.folder R.quotas has in
+    let halves = and_parts (counts q && q.enforce) (nat_lt (usage K R.nodes q.folder) (usage K new q.folder) && nat_lt q.limit (usage K new q.folder)) e in
+    let sizes = and_parts (nat_lt (usage K R.nodes q.folder) (usage K new q.folder)) (nat_lt q.limit (usage K new q.folder)) halves.1 in
+    grows q.folder (store.quotas.folders q.folder found.row found.is) (lt_is (usage K R.nodes q.folder) (usage K new q.folder) sizes.0)) in
+    let empty : over K R new ≡ [] = none_deepest R.nodes new (tree_of K R.nodes store.volume) t h (over K R new) (filter_each rises (GoodQuota R.nodes new t) R.quotas good) (none_mapped (λ q. QuotaExceeded q.folder (usage K new q.folder) q.limit) (deepest new (over K R new)) none) in
+    elim (is_or_not (nat_lt quota.limit (usage K new folder))) [
+      | inr e ↦ ltb-false quota.limit (usage K new folder) e
+      | inl e ↦
+          let key : quota.folder ≡ folder = found_key folder_of folder R.quotas quota r.there in
+          let o : IsOver K R new folder quota = record { is_there = r.there; counting = r.counting; enforced = r.enforced; rises = r.rises; above = lt_is quota.limit (usage K new folder) e } in
+          let test : rises quota ≡ true = subst (λ (f : ℕ). refuses quota (usage K R.nodes f) (usage K new f) ≡ true) (sym key) (over_test K R new folder quota o) in
+          absurd (clash (list_any rises R.quotas) (found_any folder_of rises folder R.quotas quota r.there test) (filter_empty rises R.quotas empty))
+    ]
+
+-- checks that none refuses
+first_none : (c : Check) (cs : List Check) → first (c ∷ cs) ≡ None → (c ≡ None) × (first cs ≡ None)
+first_none None cs h = (refl, h)
+first_none (Some r) cs h = absurd (cc h)
+
+when_none : (refusal : Refusal) (b : Bool) → (refusal when b) ≡ None → b ≡ false
+when_none refusal true h = absurd (cc h)
+when_none refusal false h = refl
+
+not_false : (b : Bool) → not b ≡ false → b ≡ true
+not_false true h = refl
+not_false false h = absurd (clash true refl h)
+
+-- what a path leads to
+folder_led : (nodes : List NodeRow) (o : Option ℕ) → option_map_or (is_folder nodes) o false ≡ true → is_folder nodes (unwrap_or o 0) ≡ true
+folder_led nodes None h = absurd (clash false h refl)
+folder_led nodes (Some n) h = h
+
+led : (o : Option ℕ) → is_some o ≡ true → o ≡ Some (unwrap_or o 0)
+led None h = absurd (clash false h refl)
+led (Some n) h = refl
+
+file_led : (nodes : List NodeRow) (o : Option ℕ) → option_map_or (λ n. not (is_folder nodes n)) o false ≡ true → is_some o ≡ true
+file_led nodes None h = absurd (clash false h refl)
+file_led nodes (Some n) h = refl
+
+target_has : (K : Capacity) (nodes : List NodeRow) (path : List (List ℕ)) → IsVolume K nodes → leads nodes path ≡ true → Has nodes (target nodes path)
+target_has K nodes path v h = (resolved K nodes path (target nodes path) v (led (resolve nodes path) h)).has
+
+-- only the root's path leads to the root
+inner_target : (K : Capacity) (nodes : List NodeRow) (path : List (List ℕ)) → IsVolume K nodes → leads nodes path ≡ true → is_root path ≡ false → (target nodes path == 0) ≡ false
+inner_target K nodes path v h other = not_true (target nodes path == 0) (λ e.
+    let r = resolved K nodes path (target nodes path) v (led (resolve nodes path) h) in
+    let long : length (path_of nodes 0) ≡ length path = subst (λ (n : ℕ). length (path_of nodes n) ≡ length path) (eq_is (target nodes path) 0 e) r.long in
+    let zero_long : length path ≡ 0 = sym long ∙ ap length (path_root nodes) in
+    clash (is_root path) (ap (λ n. n == 0) zero_long) other)
+
+-- how a usage rises
+added : (b : Bool) (old new s : ℕ) → new ≡ old + cond b s 0 → old < new → b ≡ true
+added true old new s e l = refl
+added false old new s e l = absurd (omega (arith, e))
+
+added_nothing : (b : Bool) (old new : ℕ) → new ≡ old + cond b 0 0 → old < new → ⊥
+added_nothing true old new e l = omega (arith, e)
+added_nothing false old new e l = omega (arith, e)
+
+changed : (b : Bool) (old new s s' : ℕ) → new + cond b s 0 ≡ old + cond b s' 0 → old < new → b ≡ true
+changed true old new s s' e l = refl
+changed false old new s s' e l = absurd (omega (arith, e))
+
+moved : (b c : Bool) (old new s : ℕ) → new + cond b s 0 ≡ old + cond c s 0 → old < new → c ≡ true
+moved b true old new s e l = refl
+moved b false old new s e l = absurd (omega (arith, e))
+
+-- a file operation that no check refuses
+abbrev Kept : Capacity → Rows → FileOp → ℕ → Type 0
+Kept K R op moment = (folder : ℕ) (quota : QuotaRow) → Rising K R (plain R.nodes op moment) folder quota → usage K (plain R.nodes op moment) folder ≤ quota.limit
+
+quota_has : (K : Capacity) (R : Rows) (folder : ℕ) (quota : QuotaRow) → IsStore K R → quota_of R folder ≡ Some quota → Has R.nodes folder
+quota_has K R folder quota store there = folder_has R.nodes folder (store.quotas.folders folder quota there)
+
+-- a new node in a folder
+used_new : (K : Capacity) (R : Rows) (node : NodeRow) → IsStore K R → node.number ≡ fresh R.nodes → is_folder R.nodes node.parent ≡ true → (f : ℕ) → Has R.nodes f → (usage K (with_row number node R.nodes) f ≡ usage K R.nodes f + cond (is_under R.nodes f node.parent) (space K node) 0) × (chain (with_row number node R.nodes) f ≡ chain R.nodes f)
+used_new K R node store own parent f h =
+    let tree = tree_of K R.nodes store.volume in
+    let free : has_row number node.number R.nodes ≡ false = ap (λ n. has_row number n R.nodes) own ∙ (least_free_is number R.nodes store.volume.ascending).free in
+    let s = as_suc node.number (zero_apart R.nodes node.number store.volume.has_root free) in
+    (usage-new K R.nodes tree node s.0 s.1 free (folder_has R.nodes node.parent parent) f h, chain-new_other R.nodes tree node free f h)
+
+abbrev NewChecks : Capacity → Rows → List (List ℕ) → Rows → List Check → Type 0
+NewChecks K R path after more = first ((AlreadyExists when is_root path) ∷ (PathNotFound when not (leads_to_folder R.nodes (folder_part path))) ∷ (AlreadyExists when leads R.nodes path) ∷ volume_full K after ∷ names_full K after ∷ more) ≡ None
+
+new_parts : (K : Capacity) (R : Rows) (path : List (List ℕ)) (after : Rows) (more : List Check) → NewChecks K R path after more → (is_folder R.nodes (target_folder R.nodes path) ≡ true) × (first more ≡ None)
+new_parts K R path after more h =
+    let names = names_full K after ∷ more in
+    let volume = volume_full K after ∷ names in
+    let taken = (AlreadyExists when leads R.nodes path) ∷ volume in
+    let folder = (PathNotFound when not (leads_to_folder R.nodes (folder_part path))) in
+    let a = first_none (AlreadyExists when is_root path) (folder ∷ taken) h in
+    let b = first_none folder taken a.1 in
+    let c = first_none (AlreadyExists when leads R.nodes path) volume b.1 in
+    let d = first_none (volume_full K after) names c.1 in
+    let e = first_none (names_full K after) more d.1 in
+    let leads_there = not_false (leads_to_folder R.nodes (folder_part path)) (when_none PathNotFound (not (leads_to_folder R.nodes (folder_part path))) b.0) in
+    (folder_led R.nodes (resolve R.nodes (folder_part path)) leads_there, e.1)
+
+mkdir_kept : (K : Capacity) (R : Rows) (path : List (List ℕ)) (owner moment : ℕ) → IsStore K R → NewChecks K R path (file_effect R (Mkdir path owner) moment) [] → Kept K R (Mkdir path owner) moment
+mkdir_kept K R path owner moment store h folder quota r =
+    let node = new_node R.nodes path true 0 owner moment in
+    let p = new_parts K R path (file_effect R (Mkdir path owner) moment) [] h in
+    let used = used_new K R node store refl p.0 folder (quota_has K R folder quota store r.there) in
+    absurd (added_nothing (is_under R.nodes folder node.parent) (usage K R.nodes folder) (usage K (plain R.nodes (Mkdir path owner) moment) folder) used.0 r.rises)
+
+create_kept : (K : Capacity) (R : Rows) (path : List (List ℕ)) (length owner moment : ℕ) → IsStore K R → NewChecks K R path (file_effect R (Create path length owner) moment) (exceeded K R (plain R.nodes (Create path length owner) moment) ∷ []) → Kept K R (Create path length owner) moment
+create_kept K R path length owner moment store h folder quota r =
+    let node = new_node R.nodes path false length owner moment in
+    let new = plain R.nodes (Create path length owner) moment in
+    let p = new_parts K R path (file_effect R (Create path length owner) moment) (exceeded K R new ∷ []) h in
+    let none = first_none (exceeded K R new) [] p.1 in
+    no_quota_over K R new node.parent store (folder_has R.nodes node.parent p.0)
+    (λ f is rise.
+    let has = folder_has R.nodes f is in
+    let used = used_new K R node store refl p.0 f has in
+    record { has = has; under = added (is_under R.nodes f node.parent) (usage K R.nodes f) (usage K new f) (space K node) used.0 rise; same = used.1 })
+    none.0 folder quota r
+
+resize_kept : (K : Capacity) (R : Rows) (path : List (List ℕ)) (length moment : ℕ) → IsStore K R → first ((PathNotFound when not (leads_to_file R.nodes path)) ∷ exceeded K R (plain R.nodes (Resize path length) moment) ∷ []) ≡ None → Kept K R (Resize path length) moment
+resize_kept K R path length moment store h folder quota r =
+    let new = plain R.nodes (Resize path length) moment in
+    let n = target R.nodes path in
+    let a = first_none (PathNotFound when not (leads_to_file R.nodes path)) (exceeded K R new ∷ []) h in
+    let none = first_none (exceeded K R new) [] a.1 in
+    let leads_there = file_led R.nodes (resolve R.nodes path) (not_false (leads_to_file R.nodes path) (when_none PathNotFound (not (leads_to_file R.nodes path)) a.0)) in
+    let there = target_has K R.nodes path store.volume leads_there in
+    let found = has_found number n R.nodes there in
+    let own : found.row.number ≡ n = found_key number n R.nodes found.row found.is in
+    let keeps : KeepsPlace (resized length moment) = record { same_number = λ r. refl; same_parent = λ r. refl } in
+    no_quota_over K R new n store there
+    (λ f is rise.
+    let e = usage-change K R.nodes n (resized length moment) keeps store.volume.ascending found.row found.is f in
+    let under = changed (is_under R.nodes f found.row.number) (usage K R.nodes f) (usage K new f) (space K found.row) (space K (resized length moment found.row)) e rise in
+    record {
+      has = folder_has R.nodes f is;
+      under = subst (λ (j : ℕ). is_under R.nodes f j ≡ true) own under;
+      same = chain-change n (resized length moment) keeps R.nodes f;
+    })
+    none.0 folder quota r
+
+touch_kept : (K : Capacity) (R : Rows) (path : List (List ℕ)) (moment : ℕ) → IsStore K R → first ((PathNotFound when not (leads_to_file R.nodes path)) ∷ []) ≡ None → Kept K R (Touch path) moment
+touch_kept K R path moment store h folder quota r =
+    let n = target R.nodes path in
+    let a = first_none (PathNotFound when not (leads_to_file R.nodes path)) [] h in
+    let leads_there = file_led R.nodes (resolve R.nodes path) (not_false (leads_to_file R.nodes path) (when_none PathNotFound (not (leads_to_file R.nodes path)) a.0)) in
+    let found = has_found number n R.nodes (target_has K R.nodes path store.volume leads_there) in
+    let keeps : KeepsPlace (touched moment) = record { same_number = λ r. refl; same_parent = λ r. refl } in
+    let e = usage-change K R.nodes n (touched moment) keeps store.volume.ascending found.row found.is folder in
+    let rises = r.rises in
+    absurd (omega (arith, e, rises))
+
+childless : (p : NodeRow → Bool) (nodes : List NodeRow) → length (filter p nodes) ≡ 0 → list_any p nodes ≡ false
+childless p [] h = refl
+childless p (x ∷ xs) h = elim (cases_Bool (p x)) [
+  | inl e ↦ let kept = rw e at h in absurd (omega (arith, kept))
+  | inr e ↦ let rest = rw e at h in rw e (childless p xs rest)
+]
+
+remove_kept : (K : Capacity) (R : Rows) (path : List (List ℕ)) (moment : ℕ) → IsStore K R → first (remove_checks R path) ≡ None → Kept K R (Remove path) moment
+remove_kept K R path moment store h folder quota r =
+    let x = target R.nodes path in
+    let last = (NotEmpty when not (length (children R.nodes x) == 0)) in
+    let a = first_none (PathNotFound when not (leads R.nodes path)) ((InvalidMove when is_root path) ∷ last ∷ []) h in
+    let b = first_none (InvalidMove when is_root path) (last ∷ []) a.1 in
+    let c = first_none last [] b.1 in
+    let there = not_false (leads R.nodes path) (when_none PathNotFound (not (leads R.nodes path)) a.0) in
+    let inner = inner_target K R.nodes path store.volume there (when_none InvalidMove (is_root path) b.0) in
+    let found = has_found number x R.nodes (target_has K R.nodes path store.volume there) in
+    let none : length (children R.nodes x) ≡ 0 = eq_is (length (children R.nodes x)) 0 (not_false (length (children R.nodes x) == 0) (when_none NotEmpty (not (length (children R.nodes x) == 0)) c.0)) in
+    let goes = removes_of K R.nodes x store.volume (record { inner = inner; row = found.row; found = found.is; leaf = childless (is_child x) R.nodes none }) in
+    let e = usage-removed K R.nodes x goes store.volume.ascending found.row found.is folder in
+    let rises = r.rises in
+    absurd (omega (arith, e, rises))
+
+move_kept : (K : Capacity) (R : Rows) (from to : List (List ℕ)) (moment : ℕ) → IsStore K R → first (move_checks K R from to (file_effect R (Move from to) moment)) ≡ None → Kept K R (Move from to) moment
+move_kept K R from to moment store h folder quota r =
+    let old = R.nodes in
+    let new = plain R.nodes (Move from to) moment in
+    let after = file_effect R (Move from to) moment in
+    let x = target old from in
+    let d = target_folder old to in
+    let in_folder = leads_to_folder old (folder_part to) in
+    let below = leads_to_folder old from && is_under old x d in
+    let c8 = exceeded K R new ∷ [] in
+    let c7 = names_full K after ∷ c8 in
+    let c6 = (AlreadyExists when leads_to_other old to x) ∷ c7 in
+    let c5 = (InvalidMove when below) ∷ c6 in
+    let c4 = (PathNotFound when not in_folder) ∷ c5 in
+    let c3 = (AlreadyExists when is_root to) ∷ c4 in
+    let a1 = first_none (PathNotFound when not (leads old from)) ((InvalidMove when is_root from) ∷ c3) h in
+    let a2 = first_none (InvalidMove when is_root from) c3 a1.1 in
+    let a3 = first_none (AlreadyExists when is_root to) c4 a2.1 in
+    let a4 = first_none (PathNotFound when not in_folder) c5 a3.1 in
+    let a5 = first_none (InvalidMove when below) c6 a4.1 in
+    let a6 = first_none (AlreadyExists when leads_to_other old to x) c7 a5.1 in
+    let a7 = first_none (names_full K after) c8 a6.1 in
+    let a8 = first_none (exceeded K R new) [] a7.1 in
+    let there = not_false (leads old from) (when_none PathNotFound (not (leads old from)) a1.0) in
+    let inner = inner_target K old from store.volume there (when_none InvalidMove (is_root from) a2.0) in
+    let found = has_found number x old (target_has K old from store.volume there) in
+    let d_is : is_folder old d ≡ true = folder_led old (resolve old (folder_part to)) (not_false in_folder (when_none PathNotFound (not in_folder) a4.0)) in
+    let d_has = folder_has old d d_is in
+    let apart : is_under old x d ≡ false = not_true (is_under old x d) (λ u. elim (is_or_not (is_folder old x)) [
+      | inl e ↦
+          let leads_x : leads_to_folder old from ≡ true = ap (λ o. option_map_or (is_folder old) o false) (led (resolve old from) there) ∙ e in
+          clash below (and_from (leads_to_folder old from) (is_under old x d) leads_x u) (when_none InvalidMove below a5.0)
+      | inr e ↦ clash (is_folder old x) (subst (λ (j : ℕ). is_folder old j ≡ true) (below_file K old x d store.volume e d_has u) d_is) e
+    ]) in
+    let m = moves_at old x d (last_name to) found.row (tree_of K old store.volume) found.is inner d_is apart in
+    let keeps : KeepsSpace K (placed d (last_name to)) = record { same_number = λ r. refl; same_space = λ r. refl } in
+    no_quota_over K R new d store d_has
+    (λ f is rise.
+    let has = folder_has old f is in
+    elim (is_or_not (is_under old x f)) [
+      | inl above ↦ let e = usage-moved_below K old x d (placed d (last_name to)) keeps m f has above in absurd (omega (arith, e, rise))
+      | inr lacks ↦ record {
+        has = has;
+        under = moved (is_under old f x) (is_under old f d) (usage K old f) (usage K new f) (usage K old x) (usage-moved K old x d (placed d (last_name to)) keeps m f (record { has = has; lacks = lacks })) rise;
+        same = under_other old new x d m f lacks;
+      }
+    ])
+    a8.0 folder quota r
+
+op_kept : (K : Capacity) (R : Rows) (op : FileOp) (moment : ℕ) → IsStore K R → first (file_checks K R op (file_effect R op moment)) ≡ None → Kept K R op moment
+op_kept K R (Mkdir path owner) moment store h = mkdir_kept K R path owner moment store h
+op_kept K R (Create path length owner) moment store h = create_kept K R path length owner moment store h
+op_kept K R (Resize path length) moment store h = resize_kept K R path length moment store h
+op_kept K R (Touch path) moment store h = touch_kept K R path moment store h
+op_kept K R (Move from to) moment store h = move_kept K R from to moment store h
+op_kept K R (Remove path) moment store h = remove_kept K R path moment store h
+
+-- whatever the command
+pub limits_kept : (K : Capacity) (R : Rows) (c : Command) (folder : ℕ) (quota : QuotaRow) → IsStore K R → quota_of R folder ≡ Some quota → counts quota ≡ true → quota.enforce ≡ true → usage K R.nodes folder < usage K (step K R c).rows.nodes folder → usage K (step K R c).rows.nodes folder ≤ quota.limit
+limits_kept K R c folder quota store there counting enforced rises =
+    by c.deed (first ((ClockBack when nat_lt c.moment R.last_moment) ∷ (work K R c.moment c.deed).checks)) refl rises
+  where
+    never : usage K R.nodes folder < usage K R.nodes folder → ⊥
+    never l = omega arith
+
+    by : (deed : Deed) (o : Option Refusal) → first ((ClockBack when nat_lt c.moment R.last_moment) ∷ (work K R c.moment deed).checks) ≡ o → usage K R.nodes folder < usage K (decided K R c.moment (work K R c.moment deed) o).rows.nodes folder → usage K (decided K R c.moment (work K R c.moment deed) o).rows.nodes folder ≤ quota.limit
+    by deed (Some r) e l = absurd (never l)
+    by (File op) None e l =
+        op_kept K R op c.moment store (first_none (ClockBack when nat_lt c.moment R.last_moment) (file_checks K R op (file_effect R op c.moment)) e).1 folder quota
+        (record { there = there; counting = counting; enforced = enforced; rises = l })
+    by (Usage path) None e l = absurd (never l)
+    by (QuotaAdd path limit enforce) None e l = absurd (never l)
+    by (QuotaModify path limit enforce) None e l = absurd (never l)
+    by (QuotaDelete path) None e l = absurd (never l)
+    by (QuotaResetpeak path) None e l = absurd (never l)
+    by (QuotaList None) None e l = absurd (never l)
+    by (QuotaList (Some path)) None e l = absurd (never l)

@@ -1,0 +1,22 @@
+-- The nodes and objects that an outcome names: each of them is there.
+use Rattle.std.specs.Prelude.{◌≡◌, ℕ, true, Some, None}
+use Rattle.fsrm_model.specs.declared.command.Ask.TheVariants.{Quotas}
+use Rattle.fsrm_model.specs.declared.command.Outcome.{Outcome}
+use Rattle.fsrm_model.specs.declared.command.Outcome.TheVariants.{Done, Sum, Listing, Refused}
+use Rattle.fsrm_model.specs.declared.command.Refusal.TheVariants.{QuotaExceeded}
+use Rattle.fsrm_model.specs.declared.row.Rows.{Rows}
+use Rattle.fsrm_model.specs.Keyed.{has_row}
+use Rattle.fsrm_model.specs.Quota.{folder_of}
+use Rattle.fsrm_model.specs.Tree.{number}
+
+abbrev pub IsNode : Rows → ℕ → Type 0
+IsNode R n = has_row number n R.nodes ≡ true
+
+abbrev pub IsNamed : Rows → Outcome → Type 0
+IsNamed R (Done None) = Unit {0}
+IsNamed R (Done (Some screen)) = IsNode R screen
+IsNamed R (Sum node bytes) = IsNode R node
+IsNamed R (Listing (Quotas None)) = Unit {0}
+IsNamed R (Listing (Quotas (Some folder))) = has_row folder_of folder R.quotas ≡ true
+IsNamed R (Refused (QuotaExceeded folder would limit)) = IsNode R folder
+IsNamed R (Refused other) = Unit {0}
