@@ -6,7 +6,7 @@ ghost use Rattle.fsrm_model.specs.Fresh.{root_node};
 ghost use Rattle.fsrm_model.specs.Keyed.{has_row};
 ghost use Rattle.fsrm_model.specs.Limits.{longest_file, latest_moment};
 ghost use Rattle.fsrm_model.specs.Name.{is_name};
-ghost use Rattle.fsrm_model.specs.Tree.{number as key, fresh, is_folder, children, child_number, chain, resolve, name_bytes};
+ghost use Rattle.fsrm_model.specs.Tree.{number as key, fresh, is_folder, is_under, children, child_number, chain, resolve, name_bytes};
 ghost use Rattle.fsrm_model.specs.Valid.{is_tree, IsVolume};
 ghost use Rattle.volume_tree.specs.Volume.{IsCapacity, IsFault, IsChildAt, Shows, new_fault, move_fault, remove_fault, with_node, with_length, with_touch, with_place, without_node};
 
@@ -173,6 +173,16 @@ impl Tree {
     {
         steps.tick();
         slots::view(&self.slots, node)
+    }
+
+    /// Whether a node is another one or stands below it. It takes no more than a look for each node from
+    /// it up to the root.
+    pub fn is_at_or_below<L: Ledger>(&self, top: u32, node: u32, steps: &mut Steps<L>) -> bool
+        requires { has_row key node self.now.nodes ≡ true }
+        ensures below { result ≡ is_under self.now.nodes top node }
+        ensures looks { steps.new ≤ steps.old + length (chain self.now.nodes node) }
+    {
+        is_at_or_below(&self.slots, top, node, steps)
     }
 
     /// How many children a folder has.
