@@ -1,0 +1,2 @@
+pub mod QuotaRows
+pub mod SortedRows

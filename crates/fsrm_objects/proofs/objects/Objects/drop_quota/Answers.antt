@@ -1,0 +1,22 @@
+use Rattle.std.proofs.Common.{sym, ◌∙◌, ap, subst}
+use Rattle.fsrm_model.specs.Quota.{folder_of}
+use Rattle.fsrm_objects.specs.Kept.{AreQuotas}
+use Rattle.fsrm_objects.specs.Tables.{Tables, without_quota}
+use Rattle.fsrm_objects.proofs.QuotaRows.{less_kept, at_place, tables_of}
+use Rattle.fsrm_objects.proofs.SortedRows.{remove_found}
+use Rattle.fsrm_objects.proofs.objects.Objects.drop_quota.Goals as goal
+
+pub invariant_of-self : goal.invariant_of-self
+invariant_of-self c =
+    let quotas = c.self.inside.quotas.items in
+    let place = c.unwrap-place.result in
+    let at = at_place c.deref.result.now quotas c.args.folder place c.search.result c.deref.ensures.value c.unwrap-place.ensures c.search.ensures.found in
+    subst AreQuotas (sym c.remove.ensures.items) (less_kept quotas c.args.folder place c.self.invariant at)
+
+pub returns : goal.returns
+returns c =
+    let quotas = c.self.inside.quotas.items in
+    let place = c.unwrap-place.result in
+    let at = at_place c.deref.result.now quotas c.args.folder place c.search.result c.deref.ensures.value c.unwrap-place.ensures c.search.ensures.found in
+    ap tables_of (c.remove.ensures.items ∙ remove_found folder_of c.args.folder quotas place c.self.invariant.ascending at)
+    ∙ ap (λ (tables : Tables). without_quota tables c.args.folder) c.self.view_is

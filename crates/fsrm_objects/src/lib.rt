@@ -1,0 +1,10 @@
+//! The objects of a store: so far its quotas.
+#![tactic(auto)]
+
+mod answer;
+mod objects;
+#[cfg(test)]
+mod tests;
+
+pub use answer::ObjectFault;
+pub use objects::Objects;
