@@ -5,4 +5,6 @@ pub mod Quotes
 pub mod Numbers
 pub mod QuoteCounts
 pub mod Lines
+pub mod LimitWords
+pub mod OptionLaws
 pub mod Validity

@@ -1,19 +1,22 @@
 -- Each command that words spell is valid.
-use Rattle.std.proofs.Common.{◌≡◌, ℕ, Bool, true, false, List, [], ◌∷◌, refl, sym, ap, ◌∙◌}
-use Rattle.std.specs.Prelude.{Ok, Err, ◌&&◌, nat_le, length, ◌+◌}
+use Rattle.std.proofs.Common.{◌≡◌, ℕ, ◌*◌, Bool, true, false, List, [], ◌∷◌, drop, Some, None, refl, sym, ap, ◌∙◌}
+use Rattle.std.specs.Prelude.{Ok, Err, Option, ◌&&◌, nat_le, nat_lt, length, ◌+◌, unwrap_or, codes}
+use Rattle.std.specs.Option.{option_map_or}
 use Rattle.std.specs.Str.{str_eq_ignore_ascii_case}
-use Rattle.std.specs.List.{list_all}
+use Rattle.std.specs.List.{list_all, after_first}
 use Rattle.std.specs.Str.Parse.{digits_value}
 use Rattle.std.proofs.lemmas.Bool.{and_parts}
 use Rattle.fsrm_model.specs.declared.command.Command.{Command}
-use Rattle.fsrm_model.specs.declared.command.Deed.TheVariants.{File, Usage}
+use Rattle.fsrm_model.specs.declared.command.Deed.TheVariants.{File, Usage, QuotaAdd, QuotaModify, QuotaDelete, QuotaResetpeak, QuotaList}
 use Rattle.fsrm_model.specs.declared.command.FileOp.TheVariants.{Mkdir, Create, Resize, Touch, Move, Remove}
 use Rattle.fsrm_model.specs.declared.command.Refusal.{Refusal}
-use Rattle.fsrm_model.specs.declared.command.Refusal.TheVariants.{BadLine, OutOfRange, InvalidPath, InvalidName}
+use Rattle.fsrm_model.specs.declared.command.Refusal.TheVariants.{BadLine, OutOfRange, InvalidPath, InvalidName, InvalidLimit}
 use Rattle.fsrm_model.specs.Limits.{latest_moment, longest_file, last_owner}
-use Rattle.fsrm_model.specs.Line.{next_word, no_more, number_word, path_word, owner_word, length_word, mkdir_words, create_words, resize_words, touch_words, move_words, remove_words, usage_words, Table, by_name, command_table, command_of, read_words}
+use Rattle.fsrm_model.specs.Line.{next_word, no_more, number_word, path_word, owner_word, length_word, mkdir_words, create_words, resize_words, touch_words, move_words, remove_words, usage_words, quota_add_words, quota_modify_words, quota_delete_words, quota_resetpeak_words, quota_list_words, Table, by_name, named_word, quota_table, dirquota_table, command_table, command_of, read_words}
 use Rattle.fsrm_model.specs.Name.{is_name}
-use Rattle.fsrm_model.specs.Reading.{Read, ◌>>=◌, guarded, is_number, number_from, path_from, path_parts, has_path_form}
+use Rattle.fsrm_model.specs.Options.{Key, ThePath, TheLimit, TheType, Given, nothing, key_of, is_colon, once, with_value, options, required}
+use Rattle.fsrm_model.specs.Quota.{is_limit}
+use Rattle.fsrm_model.specs.Reading.{Read, ◌>>=◌, guarded, known, is_number, number_from, path_from, path_parts, has_path_form, limit_from, digits_of, bytes_of, choice_from}
 use Rattle.fsrm_model.specs.Valued.{is_path, is_owner, is_length, is_deed, is_command}
 use Rattle.fsrm_model.specs.Words.{Word, words}
 
@@ -103,6 +106,79 @@ usage_valid : (end : ℕ) (given : List Word) → Gives is_deed (usage_words end
 usage_valid end given =
     then (λ read. is_path read.0) is_deed (path_word end given) _ (path_valid end given) (λ path p. last is_deed path.1 (Usage path.0) p)
 
+-- options: each value that was given is valid
+abbrev are_given : Given → Bool
+are_given given = option_map_or is_path given.path true && option_map_or is_limit given.limit true
+
+path_from_valid : (text : List ℕ) → Gives is_path (path_from text)
+path_from_valid text =
+    behind is_path (guarded (has_path_form text) InvalidPath (path_parts text)) _ (λ parts. guard is_path (list_all is_name parts) InvalidName parts (λ h. h))
+
+limit_from_valid : (column : ℕ) (text : List ℕ) → Gives is_limit (limit_from column text)
+limit_from_valid column text =
+    behind is_limit (guarded (nat_lt 0 (length (digits_of text))) (BadLine column) (digits_of text)) _ (λ digits.
+    behind is_limit (known (BadLine column) (bytes_of (drop (length digits) text))) _ (λ bytes.
+    guard is_limit (is_limit (digits_value 10 digits * bytes)) InvalidLimit (digits_value 10 digits * bytes) (λ h. h)))
+
+once_valid : {X : Type 0} (p : X → Bool) (column : ℕ) (option : Option X) (value : Read X) → Gives p value → Gives (λ (more : Option X). option_map_or p more true) (once column option value)
+once_valid {X} p column None value valid = then p (λ (more : Option X). option_map_or p more true) value _ valid (λ x passes. done (λ (more : Option X). option_map_or p more true) (Some x) passes)
+once_valid p column (Some x) value valid = λ y is. absurd cc
+
+with_value_valid : (key : Key) (column : ℕ) (value : List ℕ) (given : Given) → are_given given ≡ true → Gives are_given (with_value key column value given)
+with_value_valid ThePath column value given h =
+    then (λ (path : Option (List (List ℕ))). option_map_or is_path path true) are_given (once column given.path (path_from value)) _ (once_valid is_path column given.path (path_from value) (path_from_valid value)) (λ path p.
+    done are_given (record given { path = path }) (both (option_map_or is_path path true) (option_map_or is_limit given.limit true) p (and_parts (option_map_or is_path given.path true) (option_map_or is_limit given.limit true) h).1))
+with_value_valid TheLimit column value given h =
+    then (λ (limit : Option ℕ). option_map_or is_limit limit true) are_given (once column given.limit (limit_from column value)) _ (once_valid is_limit column given.limit (limit_from column value) (limit_from_valid column value)) (λ limit l.
+    done are_given (record given { limit = limit }) (both (option_map_or is_path given.path true) (option_map_or is_limit limit true) (and_parts (option_map_or is_path given.path true) (option_map_or is_limit given.limit true) h).0 l))
+with_value_valid TheType column value given h =
+    behind are_given (once column given.enforce (choice_from (codes "hard") (codes "soft") column value)) _ (λ enforce. done are_given (record given { enforce = enforce }) h)
+
+options_valid : (keys : List Key) (words : List Word) (given : Given) → are_given given ≡ true → Gives are_given (options keys words given)
+options_valid keys [] given h = done are_given given h
+options_valid keys (word ∷ words) given h =
+    behind are_given (known (BadLine word.column) (key_of keys word.text)) _ (λ key.
+    then are_given are_given (with_value key word.column (after_first is_colon word.text) given) _ (with_value_valid key word.column (after_first is_colon word.text) given h) (λ more m.
+    options_valid keys words more m))
+
+required_valid : {X : Type 0} (p : X → Bool) (end : ℕ) (option : Option X) → option_map_or p option true ≡ true → Gives p (required end option)
+required_valid p end None h = λ y is. absurd cc
+required_valid p end (Some x) h = done p x h
+
+given_path : (given : Given) → are_given given ≡ true → option_map_or is_path given.path true ≡ true
+given_path given h = (and_parts (option_map_or is_path given.path true) (option_map_or is_limit given.limit true) h).0
+
+given_limit : (given : Given) → are_given given ≡ true → option_map_or is_limit given.limit true ≡ true
+given_limit given h = (and_parts (option_map_or is_path given.path true) (option_map_or is_limit given.limit true) h).1
+
+quota_add_valid : (end : ℕ) (words : List Word) → Gives is_deed (quota_add_words end words)
+quota_add_valid end words =
+    then are_given is_deed (options (ThePath ∷ TheLimit ∷ TheType ∷ []) words nothing) _ (options_valid (ThePath ∷ TheLimit ∷ TheType ∷ []) words nothing refl) (λ given g.
+    then is_path is_deed (required end given.path) _ (required_valid is_path end given.path (given_path given g)) (λ path p.
+    then is_limit is_deed (required end given.limit) _ (required_valid is_limit end given.limit (given_limit given g)) (λ limit l.
+    done is_deed (QuotaAdd path limit (unwrap_or given.enforce true)) (both (is_path path) (is_limit limit) p l))))
+
+quota_modify_valid : (end : ℕ) (words : List Word) → Gives is_deed (quota_modify_words end words)
+quota_modify_valid end words =
+    then are_given is_deed (options (ThePath ∷ TheLimit ∷ TheType ∷ []) words nothing) _ (options_valid (ThePath ∷ TheLimit ∷ TheType ∷ []) words nothing refl) (λ given g.
+    then is_path is_deed (required end given.path) _ (required_valid is_path end given.path (given_path given g)) (λ path p.
+    done is_deed (QuotaModify path given.limit given.enforce) (both (is_path path) (option_map_or is_limit given.limit true) p (given_limit given g))))
+
+quota_delete_valid : (end : ℕ) (words : List Word) → Gives is_deed (quota_delete_words end words)
+quota_delete_valid end words =
+    then are_given is_deed (options (ThePath ∷ []) words nothing) _ (options_valid (ThePath ∷ []) words nothing refl) (λ given g.
+    then is_path is_deed (required end given.path) _ (required_valid is_path end given.path (given_path given g)) (λ path p. done is_deed (QuotaDelete path) p))
+
+quota_resetpeak_valid : (end : ℕ) (words : List Word) → Gives is_deed (quota_resetpeak_words end words)
+quota_resetpeak_valid end words =
+    then are_given is_deed (options (ThePath ∷ []) words nothing) _ (options_valid (ThePath ∷ []) words nothing refl) (λ given g.
+    then is_path is_deed (required end given.path) _ (required_valid is_path end given.path (given_path given g)) (λ path p. done is_deed (QuotaResetpeak path) p))
+
+quota_list_valid : (end : ℕ) (words : List Word) → Gives is_deed (quota_list_words end words)
+quota_list_valid end words =
+    then are_given is_deed (options (ThePath ∷ []) words nothing) _ (options_valid (ThePath ∷ []) words nothing refl) (λ given g. done is_deed (QuotaList given.path) (given_path given g))
+
+-- what the rows of a table read is valid
 abbrev RowsGive : Table → Type 0
 RowsGive [] = Unit {0}
 RowsGive (row ∷ rows) = ((end : ℕ) (given : List Word) → Gives is_deed (row.1 end given)) × RowsGive rows
@@ -115,15 +191,24 @@ by_name_valid (row ∷ rows) word end given valid = at (str_eq_ignore_ascii_case
     at true others = valid.0 end given
     at false others = others
 
+named_valid : (rows : Table) (end : ℕ) (given : List Word) → RowsGive rows → Gives is_deed (named_word rows end given)
+named_valid rows end given valid = behind is_deed (next_word end given) _ (λ name. by_name_valid rows name.0 end name.1 valid)
+
+quota_table_valid : RowsGive quota_table
+quota_table_valid = (quota_add_valid, (quota_modify_valid, (quota_delete_valid, (quota_resetpeak_valid, (quota_list_valid, tt)))))
+
+dirquota_table_valid : RowsGive dirquota_table
+dirquota_table_valid = ((λ end given. named_valid quota_table end given quota_table_valid), tt)
+
 table_valid : RowsGive command_table
-table_valid = (mkdir_valid, (create_valid, (resize_valid, (touch_valid, (move_valid, (remove_valid, (usage_valid, tt)))))))
+table_valid =
+    (mkdir_valid, (create_valid, (resize_valid, (touch_valid, (move_valid, (remove_valid, (usage_valid, ((λ end given. named_valid dirquota_table end given dirquota_table_valid), tt))))))))
 
 command_of_valid : (end : ℕ) (given : List Word) → Gives is_command (command_of end given)
 command_of_valid end given =
     then (λ read. within 0 latest_moment read.0) is_command (number_word 0 latest_moment end given) _ (number_valid 0 latest_moment end given) (λ moment m.
-    behind is_command (next_word end moment.1) _ (λ name.
-    then is_deed is_command (by_name command_table name.0 end name.1) _ (by_name_valid command_table name.0 end name.1 table_valid) (λ deed d.
-    done is_command (record { moment = moment.0; deed = deed }) (both (nat_le moment.0 latest_moment) (is_deed deed) (and_parts (nat_le 0 moment.0) (nat_le moment.0 latest_moment) m).1 d))))
+    then is_deed is_command (named_word command_table end moment.1) _ (named_valid command_table end moment.1 table_valid) (λ deed d.
+    done is_command (record { moment = moment.0; deed = deed }) (both (nat_le moment.0 latest_moment) (is_deed deed) (and_parts (nat_le 0 moment.0) (nat_le moment.0 latest_moment) m).1 d)))
 
 -- what words spell is valid
 pub read_words_valid : (line : List ℕ) (command : Command) → read_words line ≡ Ok command → is_command command ≡ true

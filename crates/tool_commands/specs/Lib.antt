@@ -1,3 +1,4 @@
 pub mod LineFaults
 pub mod Lengths
 pub mod Taking
+pub mod OptionWords

@@ -5,6 +5,7 @@ use Rattle.fsrm_model.specs.Line.{next_word}
 use Rattle.fsrm_model.specs.Reading.{Read}
 use Rattle.fsrm_model.specs.Words.{Word as LineWord, words_at, parts_from, without_quotes}
 use Rattle.tool_commands.specs.declared.reading.LineFault.{LineFault}
+use Rattle.tool_commands.specs.declared.reading.LineFault.TheVariants.{NoMemory}
 use Rattle.tool_commands.specs.declared.words.RawWord.{RawWord}
 use Rattle.tool_commands.specs.declared.words.Word.{Word}
 use Rattle.tool_commands.specs.declared.words.Words.{Words}
@@ -35,6 +36,12 @@ TakesFirst (Some raw) old new = old ≡ raw_line_word raw ∷ new
 abbrev pub first_column : List LineWord → Option ℕ
 first_column [] = None
 first_column (word ∷ words) = Some word.column
+
+-- the next word is taken, if any, unless memory is wanting
+abbrev pub TakesLeft : Result (Option Word) LineFault → Words → Words → Type 0
+TakesLeft (Ok None) old new = (left old ≡ []) × (end new ≡ end old)
+TakesLeft (Ok (Some word)) old new = (left old ≡ line_word word ∷ left new) × (end new ≡ end old)
+TakesLeft (Err fault) old new = (fault ≡ NoMemory) × (end new ≡ end old)
 
 -- the next word is taken
 abbrev pub TakesWord : Result Word LineFault → Words → Words → Type 0

@@ -1,12 +1,13 @@
 //! The commands, each read from the words behind its name.
 
 ghost use Rattle.std.specs.Prelude.{◌≡◌};
-ghost use Rattle.std.specs.Str.{str_eq_ignore_ascii_case};
-ghost use Rattle.fsrm_model.specs.Line.{no_more, mkdir_words, create_words, resize_words, touch_words, move_words, remove_words, usage_words, by_name, command_table, command_of};
+ghost use Rattle.fsrm_model.specs.Line.{no_more, mkdir_words, create_words, resize_words, touch_words, move_words, remove_words, usage_words, by_name, named_word, command_table, command_of};
 ghost use Rattle.tool_commands.specs.LineFaults.{Reads};
 ghost use Rattle.tool_commands.specs.Taking.{left, end, line_word};
 
+use crate::quotas::dirquota;
 use crate::reading::LineFault;
+use crate::values::is_named;
 use crate::words::{Word, Words};
 use fsrm_model::{Command, Deed, FileOp};
 use std::alloc::Global;
@@ -80,13 +81,6 @@ fn usage(alloc: Global, words: &mut Words<'_>) -> Result<Deed, LineFault>
     finished(words, Deed::Usage { path })
 }
 
-// Whether a word is this name, in letters of either case.
-fn is_named(name: &str, word: &str) -> bool
-    ensures { result ≡ str_eq_ignore_ascii_case name.now word.now }
-{
-    name.eq_ignore_ascii_case(word)
-}
-
 fn deed(alloc: Global, name: &Word<'_>, words: &mut Words<'_>) -> Result<Deed, LineFault>
     ensures { Reads result (by_name command_table (line_word name.now) (end words.old) (left words.old)) }
 {
@@ -112,7 +106,17 @@ fn deed(alloc: Global, name: &Word<'_>, words: &mut Words<'_>) -> Result<Deed, L
     if is_named("usage", word) {
         return usage(alloc, words);
     }
+    if is_named("dirquota", word) {
+        return dirquota(alloc, words);
+    }
     Err(LineFault::bad_line(name.column))
+}
+
+fn named_deed(alloc: Global, words: &mut Words<'_>) -> Result<Deed, LineFault>
+    ensures { Reads result (named_word command_table (end words.old) (left words.old)) }
+{
+    let name = words.next(alloc)?;
+    deed(alloc, &name, words)
 }
 
 /// The command that words spell: its moment, its name and what follows that.
@@ -120,7 +124,6 @@ pub fn command(alloc: Global, words: &mut Words<'_>) -> Result<Command, LineFaul
     ensures { Reads result (command_of (end words.old) (left words.old)) }
 {
     let moment = words.moment(alloc)?;
-    let name = words.next(alloc)?;
-    let deed = deed(alloc, &name, words)?;
+    let deed = named_deed(alloc, words)?;
     Ok(Command { moment, deed })
 }

@@ -2,6 +2,9 @@
 #![tactic(auto)]
 
 mod commands;
+mod limits;
+mod options;
+mod quotas;
 mod reading;
 #[cfg(test)]
 mod tests;

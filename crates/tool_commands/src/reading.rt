@@ -22,7 +22,8 @@ const LONGEST_LINE: usize = 65_536;
 /// Why a line is read as no command.
 #[derive(Clone, Copy, Debug, PartialEq, Eq)]
 pub enum LineFault {
-    /// What it spells is refused: BadLine, LineTooLong, InvalidPath, InvalidName or OutOfRange.
+    /// What it spells is refused: BadLine, LineTooLong, InvalidPath, InvalidName, OutOfRange or
+    /// InvalidLimit.
     Refused(Refusal),
     /// There was no memory.
     NoMemory,

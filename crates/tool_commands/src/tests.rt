@@ -134,6 +134,41 @@ fn op_text(alloc: Global, op: &FileOp) -> Result<String, Fail> {
     })
 }
 
+fn quota_text(alloc: Global, deed: &Deed) -> Result<String, Fail> {
+    Ok(match deed {
+        Deed::QuotaAdd {
+            path,
+            limit,
+            enforce,
+        } => {
+            let path = bracketed(alloc, path)?;
+            format!(in alloc; "add {path} {limit} {enforce}")?
+        }
+        Deed::QuotaModify {
+            path,
+            limit,
+            enforce,
+        } => {
+            let path = bracketed(alloc, path)?;
+            format!(in alloc; "modify {path} {limit:?} {enforce:?}")?
+        }
+        Deed::QuotaDelete { path } => {
+            let path = bracketed(alloc, path)?;
+            format!(in alloc; "delete {path}")?
+        }
+        Deed::QuotaResetpeak { path } => {
+            let path = bracketed(alloc, path)?;
+            format!(in alloc; "resetpeak {path}")?
+        }
+        Deed::QuotaList { path: Some(path) } => {
+            let path = bracketed(alloc, path)?;
+            format!(in alloc; "list {path}")?
+        }
+        Deed::QuotaList { path: None } => format!(in alloc; "list all")?,
+        _ => String::new(alloc),
+    })
+}
+
 fn command_text(alloc: Global, command: &Command) -> Result<String, Fail> {
     let deed = match &command.deed {
         Deed::File(op) => op_text(alloc, op)?,
@@ -141,6 +176,7 @@ fn command_text(alloc: Global, command: &Command) -> Result<String, Fail> {
             let path = bracketed(alloc, path)?;
             format!(in alloc; "usage {path}")?
         }
+        quota => quota_text(alloc, quota)?,
     };
     let moment = command.moment;
     Ok(format!(in alloc; "{moment} {deed}")?)
@@ -177,4 +213,175 @@ fn commands_are_read(rt: HostRuntime) -> Result<(), Fail> {
         assert_eq!(rt; read.as_str(), wanted, "{line}");
     }
     Ok(())
+}
+
+#[test]
+fn commands_on_quotas_are_read(rt: HostRuntime) -> Result<(), Fail> {
+    for (line, wanted) in [
+        (
+            "7 dirquota quota add /Path:D:\\a /Limit:1kb",
+            "7 add <a> 1024 true",
+        ),
+        (
+            "7 DirQuota QUOTA Add /TYPE:Soft /limit:2048 /path:d:\\a\\b\\",
+            "7 add <a><b> 2048 false",
+        ),
+        (
+            "7 dirquota quota add /Limit:1kb /Type:HARD /Path:D:\\",
+            "7 add  1024 true",
+        ),
+        (
+            "8 dirquota quota modify /Path:D:\\a",
+            "8 modify <a> None None",
+        ),
+        (
+            "8 dirquota quota modify /Type:SOFT /Path:\"D:\\a b\"",
+            "8 modify <a b> None Some(false)",
+        ),
+        (
+            "8 dirquota quota modify /Limit:3mb \"/Path:D:\\a b\"",
+            "8 modify <a b> Some(3145728) None",
+        ),
+        (
+            "9 dirquota quota delete /Pa\"th:D:\\x y\"",
+            "9 delete <x y>",
+        ),
+        ("9 dirquota quota resetpeak /Path:D:\\é", "9 resetpeak <é>"),
+        ("9 dirquota quota list", "9 list all"),
+        ("9 dirquota\tquota  list /Path:D:\\ ", "9 list "),
+    ] {
+        let read = read_text(rt.alloc(), line)?;
+        assert_eq!(rt; read.as_str(), wanted, "{line}");
+    }
+    Ok(())
+}
+
+// The limit of a line that adds a quota.
+fn limit_of(alloc: Global, text: &str) -> Result<u64, LineFault> {
+    let line = match format!(in alloc; "1 dirquota quota add /Path:D:\\ /Limit:{text}") {
+        Ok(line) => line,
+        Err(_) => return Err(LineFault::NoMemory),
+    };
+    match read_line(alloc, line.as_bytes())? {
+        Some(
+            Command {
+                deed: Deed::QuotaAdd { limit, .. },
+                ..
+            },
+        ) => Ok(limit),
+        _ => Ok(0),
+    }
+}
+
+#[test]
+fn limits_are_read_in_bytes(rt: HostRuntime) {
+    for (text, bytes) in [
+        ("1024", 1_024),
+        ("1KB", 1_024),
+        ("3mB", 3_145_728),
+        ("2Gb", 2_147_483_648),
+        ("1tB", 1_099_511_627_776),
+        ("1048576tb", 1_152_921_504_606_846_976),
+        ("1152921504606846976", 1_152_921_504_606_846_976),
+        ("0000000000000000000000000001kb", 1_024),
+    ] {
+        assert_eq!(rt; limit_of(rt.alloc(), text), Ok(bytes), "{text}");
+    }
+}
+
+#[test]
+fn limits_out_of_range_are_refused(rt: HostRuntime) {
+    for text in [
+        "0",
+        "0tb",
+        "1023",
+        "1048577tb",
+        "1152921504606846977",
+        // 2^64 and 2^40 bytes.
+        "16777217tb",
+        "18446744073709551615tb",
+        "18446744073709551616",
+        "99999999999999999999999",
+    ] {
+        assert_eq!(rt;
+            limit_of(rt.alloc(), text),
+            Err(LineFault::Refused(Refusal::InvalidLimit)),
+            "{text}"
+        );
+    }
+}
+
+#[test]
+fn limits_without_their_form_are_refused(rt: HostRuntime) {
+    for text in [
+        "", "kb", "1k", "1kib", "1kbb", "+1024", "-1", "1.5mb", "1_024",
+    ] {
+        // The column of the option.
+        assert_eq!(rt;
+            limit_of(rt.alloc(), text),
+            Err(LineFault::Refused(Refusal::BadLine { column: 32 })),
+            "{text}"
+        );
+    }
+}
+
+#[test]
+fn bad_options_are_refused_with_their_columns(rt: HostRuntime) {
+    for (line, column) in [
+        ("100 dirquota", 13),
+        ("100 dirquota quot add", 14),
+        ("1 dirquota quota", 17),
+        ("1 dirquota quota purge /Path:D:\\a", 18),
+        // An option that is required is missing.
+        ("100 dirquota quota add /Path:D:\\", 33),
+        ("1 dirquota quota add /Limit:1kb", 32),
+        ("1 dirquota quota delete", 24),
+        // An option is given twice, whatever its value is.
+        ("100 dirquota quota add /Path:D:\\a /Path:E:\\b", 35),
+        ("1 dirquota quota add /Limit:1kb /limit:zz", 33),
+        ("1 dirquota quota modify /Type:soft /TYPE:soft", 36),
+        // A word names no option that the command takes.
+        ("1 dirquota quota list /Limit:1kb", 23),
+        ("1 dirquota quota list /Path", 23),
+        ("1 dirquota quota list Path:D:\\a", 23),
+        ("1 dirquota quota list \"\"", 23),
+        ("1 dirquota quota delete /Path:D:\\a x", 36),
+        (
+            "1 dirquota quota add /Path:D:\\a /Limit:1kb /Status:enabled",
+            44,
+        ),
+        // A value hasn't its form.
+        ("1 dirquota quota modify /Path:D:\\a /Type:firm", 36),
+        ("1 dirquota quota list /Path:\"D:\\a", 29),
+    ] {
+        let refusal = refusal(rt.alloc(), line.as_bytes());
+        assert_eq!(rt; refusal, Some(Refusal::BadLine { column }), "{line}");
+    }
+}
+
+#[test]
+fn the_first_fault_of_options_decides(rt: HostRuntime) {
+    for (line, wanted) in [
+        // A path is required, but a limit is out of range before the line ends.
+        ("1 dirquota quota add /Limit:1023", Refusal::InvalidLimit),
+        (
+            "1 dirquota quota add /Limit:1023 /Path:E:\\",
+            Refusal::InvalidLimit,
+        ),
+        (
+            "1 dirquota quota add /Path:E:\\ /Limit:1023",
+            Refusal::InvalidPath,
+        ),
+        ("1 dirquota quota list /Path:", Refusal::InvalidPath),
+        (
+            "1 dirquota quota list /Path:D:\\a?b /Path:",
+            Refusal::InvalidName,
+        ),
+    ] {
+        assert_eq!(rt;
+            refusal(rt.alloc(), line.as_bytes()),
+            Some(wanted),
+            "{line}"
+        );
+    }
 }

@@ -3,9 +3,10 @@
 ghost use Rattle.std.specs.Prelude.{◌≡◌, ◌≤◌, IfOk};
 ghost use Rattle.std.specs.Char.{is_ascii_digit};
 ghost use Rattle.std.specs.List.{list_all};
+ghost use Rattle.std.specs.Str.{str_eq_ignore_ascii_case};
 ghost use Rattle.fsrm_model.specs.Limits.{latest_moment};
 ghost use Rattle.fsrm_model.specs.Line.{number_word, length_word, owner_word, path_word};
-ghost use Rattle.fsrm_model.specs.Reading.{is_number, number_from, path_from};
+ghost use Rattle.fsrm_model.specs.Reading.{is_number, number_from, path_from, choice_from};
 ghost use Rattle.tool_commands.specs.LineFaults.{Reads};
 ghost use Rattle.tool_commands.specs.Taking.{Takes};
 
@@ -53,7 +54,8 @@ fn read_number(text: &str, column: usize, low: u64, high: u64) -> Result<u64, Li
     }
 }
 
-fn read_path_word(alloc: Global, text: &str) -> Result<Path, LineFault>
+/// The path that a text spells.
+pub fn read_path_word(alloc: Global, text: &str) -> Result<Path, LineFault>
     ensures { Reads result (path_from text.now) }
 {
     match read_path(alloc, text) {
@@ -62,6 +64,27 @@ fn read_path_word(alloc: Global, text: &str) -> Result<Path, LineFault>
         Err(PathFault::InvalidName) => Err(LineFault::Refused(Refusal::InvalidName)),
         Err(PathFault::NoMemory) => Err(LineFault::NoMemory),
     }
+}
+
+/// Whether a word is this name, in letters of either case.
+pub fn is_named(name: &str, word: &str) -> bool
+    ensures { result ≡ str_eq_ignore_ascii_case name.now word.now }
+{
+    name.eq_ignore_ascii_case(word)
+}
+
+/// Whether a text of a word at this column is the first of two words, or the second.
+pub fn read_choice(first: &str, second: &str, text: &str, column: usize) -> Result<bool, LineFault>
+    requires { column ≤ 65537 }
+    ensures { Reads result (choice_from first.now second.now column text.now) }
+{
+    if is_named(first, text) {
+        return Ok(true);
+    }
+    if is_named(second, text) {
+        return Ok(false);
+    }
+    Err(LineFault::bad_line(column))
 }
 
 impl<'a> Words<'a> {

@@ -56,16 +56,16 @@ fn word_len(text: &[u8]) -> usize
     place
 }
 
-// What stands before a place of a text.
-fn before(text: &str, place: usize) -> &str
+/// What stands before a place of a text.
+pub fn before(text: &str, place: usize) -> &str
     requires { IsCharBoundary text.now place }
     ensures { result.now ≡ take place text.now }
 {
     &text[..place]
 }
 
-// What stands from a place of a text on.
-fn behind(text: &str, place: usize) -> &str
+/// What stands from a place of a text on.
+pub fn behind(text: &str, place: usize) -> &str
     requires { IsCharBoundary text.now place }
     ensures { result.now ≡ drop place text.now }
 {
@@ -123,7 +123,7 @@ pub struct Words<'a> {
 }
 
 impl<'a> Words<'a> {
-    ghost use Rattle.tool_commands.specs.Taking.{left, end, TakesFirst, first_column, TakesWord};
+    ghost use Rattle.tool_commands.specs.Taking.{left, end, TakesFirst, first_column, TakesLeft, TakesWord};
 
     /// All words of a line.
     pub fn new(line: &'a str) -> Words<'a>
@@ -182,26 +182,36 @@ impl<'a> Words<'a> {
     }
 
     /// The column behind the line's end.
-    fn end(&self) -> usize
+    pub fn end(&self) -> usize
         ensures end { result ≡ end self.now }
         ensures within { result ≤ 65537 }
     {
         self.column + self.rest.len()
     }
 
+    /// Takes the next word, if one is left.
+    pub fn next_left(&mut self, alloc: Global) -> Result<Option<Word<'a>>, LineFault>
+        ensures { TakesLeft result self.old self.new }
+    {
+        let Some(raw) = self.next_raw() else {
+            return Ok(None);
+        };
+        match unquoted(alloc, raw.text) {
+            Ok(text) => Ok(Some(Word {
+                column: raw.column,
+                text,
+            })),
+            Err(NoMemory) => Err(LineFault::NoMemory),
+        }
+    }
+
     /// Takes the next word.
     pub fn next(&mut self, alloc: Global) -> Result<Word<'a>, LineFault>
         ensures { TakesWord result self.old self.new }
     {
-        let Some(raw) = self.next_raw() else {
-            return Err(LineFault::bad_line(self.end()));
-        };
-        match unquoted(alloc, raw.text) {
-            Ok(text) => Ok(Word {
-                column: raw.column,
-                text,
-            }),
-            Err(NoMemory) => Err(LineFault::NoMemory),
+        match self.next_left(alloc)? {
+            Some(word) => Ok(word),
+            None => Err(LineFault::bad_line(self.end())),
         }
     }
 }

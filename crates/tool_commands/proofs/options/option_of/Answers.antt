@@ -1,0 +1,10 @@
+use Rattle.std.proofs.Common.{sym, arith, None, map}
+use Rattle.std.proofs.lemmas.Str.Pattern.{split_once_first}
+use Rattle.tool_commands.specs.OptionWords.{line_key}
+use Rattle.tool_commands.proofs.OptionLaws.{no_key}
+use Rattle.tool_commands.proofs.options.option_of.Goals as goal
+
+pub returns-in_err-name-clause-key : goal.returns-in_err-name-clause-key
+returns-in_err-name-clause-key c =
+    let lacks = split_once_first 58 c.args.text.now None c.in_err-name.ensures.cases (omega arith) in
+    rw c.from_residual.ensures (sym (no_key (map line_key c.args.keys.now) c.args.text.now lacks))

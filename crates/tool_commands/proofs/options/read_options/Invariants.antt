@@ -1,0 +1,15 @@
+use Rattle.std.proofs.Common.{◌≡◌, length}
+use Rattle.std.specs.Prelude.{map}
+use Rattle.fsrm_model.specs.Options.{options, nothing}
+use Rattle.tool_commands.specs.OptionWords.{line_key, line_given}
+use Rattle.tool_commands.specs.Taking.{left, end}
+use Rattle.tool_commands.proofs.options.read_options.Given as goal
+
+abbrev pub invariant-loop-given : goal.invariant-loop-given
+invariant-loop-given l = record {
+  read : options (map line_key l.keys) (left l.words) (line_given l.given) ≡ options (map line_key l.keys) (left l.initial.words) nothing;
+  end : end l.words ≡ end l.initial.words;
+}
+
+abbrev pub decreases-loop-given : goal.decreases-loop-given
+decreases-loop-given l = length (left l.words)

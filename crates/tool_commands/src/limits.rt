@@ -1,0 +1,104 @@
+//! The limits of quotas.
+
+ghost use Rattle.std.specs.Prelude.{◌≡◌, ◌≤◌, ◌<◌, ◌*◌, ◌^◌, true, length, IfSome, IfNone};
+ghost use Rattle.std.specs.Char.{is_ascii_digit};
+ghost use Rattle.std.specs.List.{list_all, prefix_len};
+ghost use Rattle.std.specs.Str.Parse.{digits_value};
+ghost use Rattle.fsrm_model.specs.declared.command.Refusal.TheVariants.{InvalidLimit};
+ghost use Rattle.fsrm_model.specs.Quota.{is_limit};
+ghost use Rattle.fsrm_model.specs.Reading.{bytes_of, guarded, limit_from};
+ghost use Rattle.tool_commands.specs.LineFaults.{Reads};
+
+use crate::reading::LineFault;
+use crate::values::is_named;
+use crate::words::{before, behind};
+use fsrm_model::Refusal;
+
+/// In bytes.
+const LEAST_LIMIT: u64 = 1_024;
+
+/// 2^60 bytes.
+const GREATEST_LIMIT: u64 = 1_152_921_504_606_846_976;
+
+// How many digits a text begins with.
+fn digit_count(text: &[u8]) -> usize
+    ensures { result ≡ prefix_len is_ascii_digit text.now }
+{
+    for (place, byte) in text.iter().enumerate() {
+        if !byte.is_ascii_digit() {
+            return place;
+        }
+    }
+    text.len()
+}
+
+// How many bytes a unit is, in letters of either case. No unit is a byte.
+fn unit_bytes(unit: &str) -> Option<u64>
+    ensures { result ≡ bytes_of unit.now }
+{
+    if unit.is_empty() {
+        return Some(1);
+    }
+    if is_named("kb", unit) {
+        return Some(1 << 10);
+    }
+    if is_named("mb", unit) {
+        return Some(1 << 20);
+    }
+    if is_named("gb", unit) {
+        return Some(1 << 30);
+    }
+    if is_named("tb", unit) {
+        return Some(1 << 40);
+    }
+    None
+}
+
+fn is_limit(limit: u64) -> bool
+    ensures { result ≡ is_limit limit }
+{
+    LEAST_LIMIT <= limit && limit <= GREATEST_LIMIT
+}
+
+// So many of a unit, in bytes. None where they don't fit.
+fn in_bytes(digits: &str, unit: u64) -> Option<u64>
+    requires some { 0 < length digits.now }
+    requires digits { list_all is_ascii_digit digits.now ≡ true }
+    requires unit { 1 ≤ unit }
+    ensures fits { IfSome result (λ bytes. bytes ≡ digits_value 10 digits.now * unit) }
+    ensures too_many { IfNone result (2 ^ 64 ≤ digits_value 10 digits.now * unit) }
+{
+    match digits.parse::<u64>() {
+        Ok(number) => number.checked_mul(unit),
+        Err(_) => None,
+    }
+}
+
+// The limit of so many of a unit.
+fn limit_of(digits: &str, unit: u64) -> Result<u64, LineFault>
+    requires some { 0 < length digits.now }
+    requires digits { list_all is_ascii_digit digits.now ≡ true }
+    requires unit { 1 ≤ unit }
+    ensures { Reads result (guarded (is_limit (digits_value 10 digits.now * unit)) InvalidLimit (digits_value 10 digits.now * unit)) }
+{
+    match in_bytes(digits, unit) {
+        Some(limit) if is_limit(limit) => Ok(limit),
+        _ => Err(LineFault::Refused(Refusal::InvalidLimit)),
+    }
+}
+
+/// The limit that a text of a word at this column is, in bytes: digits, as many as are given, and a
+/// unit. BadLine where it hasn't that form, InvalidLimit below 1,024 bytes or above 2^60.
+pub fn read_limit(text: &str, column: usize) -> Result<u64, LineFault>
+    requires { column ≤ 65537 }
+    ensures { Reads result (limit_from column text.now) }
+{
+    let count = digit_count(text.as_bytes());
+    if count == 0 {
+        return Err(LineFault::bad_line(column));
+    }
+    let Some(unit) = unit_bytes(behind(text, count)) else {
+        return Err(LineFault::bad_line(column));
+    };
+    limit_of(before(text, count), unit)
+}
