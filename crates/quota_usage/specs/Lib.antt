@@ -1,0 +1,4 @@
+pub mod Counters
+pub mod Charge
+pub mod Kept
+pub mod Climb

@@ -1,0 +1,105 @@
+//! The way up to the root.
+
+ghost use Rattle.std.specs.Prelude.{◌≡◌, ◌+◌, ◌*◌, ◌≤◌, true, length, map};
+ghost use Rattle.fsrm_model.proofs.ChainLaws.{IsTree};
+ghost use Rattle.fsrm_model.specs.Keyed.{has_row, is_ascending};
+ghost use Rattle.fsrm_model.specs.Tree.{number as key, chain, parent_of};
+ghost use Rattle.quota_usage.specs.Charge.{charged_counter, IsChange, Fits, height};
+ghost use Rattle.quota_usage.specs.Climb.{FitsAbove, climbed};
+ghost use Rattle.quota_usage.specs.Counters.{counted};
+
+use crate::change::{Change, Counter};
+use crate::counters::amend;
+use fsrm_model::{Ledger, Steps};
+use volume_tree::Tree;
+
+/// The parent of a node that there is. It takes one look.
+pub fn parent<L: Ledger>(tree: &Tree, node: u32, steps: &mut Steps<L>) -> u32
+    requires { has_row key node tree.now.nodes ≡ true }
+    ensures value { result ≡ parent_of tree.now.nodes node }
+    ensures count { steps.new ≡ steps.old + 1 }
+{
+    tree.node(node, steps).parent
+}
+
+/// How many nodes lie on the way up from a node, itself and the root among them. It takes a look for
+/// each.
+pub fn height<L: Ledger>(tree: &Tree, node: u32, steps: &mut Steps<L>) -> u64
+    requires tree { IsTree tree.now.nodes }
+    requires there { has_row key node tree.now.nodes ≡ true }
+    ensures value { result ≡ length (chain tree.now.nodes node) }
+    ensures looks { steps.new ≤ steps.old + length (chain tree.now.nodes node) }
+{
+    let count = tree.count() as u64;
+    let mut at = node;
+    let mut height = 1;
+    while at != 0 {
+        at = parent(tree, at, steps);
+        // No way up passes more nodes than there are.
+        prove!(height <= count);
+        height += 1;
+    }
+    height
+}
+
+/// Takes bytes from the counter of each folder on the way up from a node, and then gives it others. It
+/// takes a look for each node on the way.
+pub fn climb<L: Ledger>(
+    counters: &mut [Counter],
+    tree: &Tree,
+    start: u32,
+    minus: u64,
+    plus: u64,
+    steps: &mut Steps<L>,
+)
+    requires tree { IsTree tree.now.nodes }
+    requires there { has_row key start tree.now.nodes ≡ true }
+    requires ascending { is_ascending counted counters.old ≡ true }
+    requires fits { FitsAbove tree.now.nodes counters.old start minus plus }
+    ensures made { counters.new ≡ climbed tree.now.nodes start minus plus counters.old }
+    ensures looks { steps.new ≤ steps.old + length (chain tree.now.nodes start) }
+{
+    let mut at = start;
+    loop {
+        amend(counters, at, minus, plus);
+        if at == 0 {
+            return;
+        }
+        at = parent(tree, at, steps);
+    }
+}
+
+/// Makes a change of all counters that it touches.
+pub fn charge<L: Ledger>(
+    counters: &mut [Counter],
+    tree: &Tree,
+    change: &Change,
+    steps: &mut Steps<L>,
+)
+    requires tree { IsTree tree.now.nodes }
+    requires ascending { is_ascending counted counters.old ≡ true }
+    requires change { IsChange tree.now.nodes change.now }
+    requires fits { Fits tree.now.nodes counters.old change.now }
+    ensures made { counters.new ≡ map (charged_counter tree.now.nodes change.now) counters.old }
+    ensures looks { steps.new ≤ steps.old + 2 * (height tree.now.nodes change.now.from + height tree.now.nodes change.now.to) }
+{
+    if counters.is_empty() {
+        return;
+    }
+    let Some(from) = change.from else {
+        if let Some(to) = change.to {
+            climb(counters, tree, to, 0, change.plus, steps);
+        }
+        return;
+    };
+    let Some(to) = change.to else {
+        climb(counters, tree, from, change.minus, 0, steps);
+        return;
+    };
+    if from == to {
+        climb(counters, tree, to, change.minus, change.plus, steps);
+        return;
+    }
+    climb(counters, tree, from, change.minus, 0, steps);
+    climb(counters, tree, to, 0, change.plus, steps);
+}

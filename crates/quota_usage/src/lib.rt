@@ -1,0 +1,13 @@
+//! What is used below the folders of quotas: one counter for each, kept with every change.
+#![tactic(auto)]
+
+mod change;
+mod climb;
+mod counters;
+mod refusal;
+#[cfg(test)]
+mod tests;
+mod usage;
+
+pub use change::{Change, Counter, Exceeded};
+pub use usage::Usage;

@@ -1,0 +1,121 @@
+//! The counters of the counting quotas.
+
+ghost use Rattle.std.specs.Prelude.{◌≡◌, ℕ, ◌+◌, ◌*◌, ◌<◌, ◌≤◌, IfOk, IfErr, OnOk, [], Some, true, false, length, map};
+ghost use Rattle.fsrm_model.specs.Keyed.{has_row, is_ascending};
+ghost use Rattle.fsrm_model.specs.Limits.{most_quotas};
+ghost use Rattle.fsrm_model.specs.Quota.{folder_of};
+ghost use Rattle.fsrm_model.specs.Valid.{IsVolume};
+ghost use Rattle.quota_usage.specs.Counters.{counted, used_in, with_counter, without_counter};
+ghost use Rattle.quota_usage.specs.Charge.{charged_counter, over_by, exceeded_by, IsChange, Fits, height};
+
+use crate::change::{Change, Counter, Exceeded};
+use crate::climb::charge;
+use crate::counters::search;
+use crate::refusal::refusal;
+use fsrm_model::{Ledger, NoMemory, Steps};
+use fsrm_objects::Objects;
+use std::alloc::Global;
+use std::marker::Model;
+use volume_tree::Tree;
+
+// No more quotas than this count.
+const MOST: usize = 4096;
+
+/// The counters of the counting quotas, in room for 4,096 that is reserved once. Contracts see them as
+/// a list that ascends by folder.
+#[derive(Drop)]
+pub struct Usage {
+    counters: Vec<Counter>,
+}
+
+impl Model for Usage {
+    ghost use Rattle.std.specs.Prelude.{List};
+    ghost use Rattle.quota_usage.specs.declared.change.Counter.{Counter};
+    ghost use Rattle.quota_usage.specs.Kept.{IsKept};
+
+    ghost Value = { List Counter };
+
+    ghost view = { λ u. u.counters.items };
+
+    ghost invariant = { λ u. IsKept u.counters };
+}
+
+impl Usage {
+    /// Room for 4,096 counters, and none of them.
+    pub fn reserve(alloc: Global) -> Result<Usage, NoMemory>
+        ensures { IfOk result (λ usage. usage ≡ []) }
+    {
+        let counters = Vec::with_capacity(alloc, MOST)?;
+        Ok(Usage { counters })
+    }
+
+    /// Begins to count for a folder, which so far uses so many bytes.
+    pub fn begin(&mut self, folder: u32, bytes: u64)
+        requires room { length self.old < most_quotas }
+        requires free { has_row counted folder self.old ≡ false }
+        ensures { self.new ≡ with_counter self.old folder bytes }
+    {
+        if let Err(place) = search(&self.counters, folder) {
+            self.counters
+                .insert(place, Counter { folder, bytes })
+                .unwrap();
+        }
+    }
+
+    /// Counts no longer for a folder.
+    pub fn end(&mut self, folder: u32)
+        requires { has_row counted folder self.old ≡ true }
+        ensures { self.new ≡ without_counter self.old folder }
+    {
+        if let Ok(place) = search(&self.counters, folder) {
+            self.counters.remove(place);
+        }
+    }
+
+    /// How many bytes a folder uses for which it counts.
+    pub fn used(&self, folder: u32) -> Option<u64>
+        ensures { result ≡ used_in self.now folder }
+    {
+        match search(&self.counters, folder) {
+            Ok(place) => Some(self.counters[place].bytes),
+            Err(_) => None,
+        }
+    }
+
+    /// Whether no quota refuses a change; else what the deepest one tells that does. A quota refuses
+    /// where it counts, is enforced, and its folder would use more bytes than before and than its limit.
+    /// It takes no more than 2 looks for each node on the two ways up.
+    pub fn admit<L: Ledger>(
+        &self,
+        tree: &Tree,
+        objects: &Objects,
+        change: &Change,
+        steps: &mut Steps<L>,
+    ) -> Result<(), Exceeded>
+        requires volume { IsVolume tree.now.size tree.now.nodes }
+        requires ascending { is_ascending folder_of objects.now.quotas ≡ true }
+        requires owned { (folder : ℕ) → has_row counted folder self.now ≡ true → has_row folder_of folder objects.now.quotas ≡ true }
+        requires change { IsChange tree.now.nodes change.now }
+        requires fits { Fits tree.now.nodes self.now change.now }
+        ensures admitted { OnOk result (over_by tree.now.nodes objects.now.quotas self.now change.now ≡ []) }
+        ensures refused { IfErr result (λ exceeded. exceeded_by tree.now.nodes objects.now.quotas self.now change.now ≡ Some exceeded) }
+        ensures looks { steps.new ≤ steps.old + 2 * (height tree.now.nodes change.now.from + height tree.now.nodes change.now.to) }
+    {
+        match refusal(&self.counters, tree, objects, change, steps) {
+            None => Ok(()),
+            Some(exceeded) => Err(exceeded),
+        }
+    }
+
+    /// Makes a change of all counters that it touches. It takes no more than 2 looks for each node on the
+    /// two ways up.
+    pub fn charge<L: Ledger>(&mut self, tree: &Tree, change: &Change, steps: &mut Steps<L>)
+        requires volume { IsVolume tree.now.size tree.now.nodes }
+        requires change { IsChange tree.now.nodes change.now }
+        requires fits { Fits tree.now.nodes self.old change.now }
+        ensures made { self.new ≡ map (charged_counter tree.now.nodes change.now) self.old }
+        ensures looks { steps.new ≤ steps.old + 2 * (height tree.now.nodes change.now.from + height tree.now.nodes change.now.to) }
+    {
+        charge(&mut self.counters, tree, change, steps);
+    }
+}
