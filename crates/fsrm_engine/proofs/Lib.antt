@@ -5,3 +5,15 @@ pub mod PlaceLaws
 pub mod RemoveLaws
 pub mod StepLaws
 pub mod WalkLaws
+pub mod RowLaws
+pub mod SumLaws
+pub mod ChangeLaws
+pub mod OverLaws
+pub mod PeakLaws
+pub mod RaiseLaws
+pub mod FitLaws
+pub mod GrowthLaws
+pub mod MakeLaws
+pub mod MoveKept
+pub mod IdleLaws
+pub mod QuotaLaws

@@ -2,14 +2,15 @@
 use Rattle.std.proofs.Common.{◌≡◌, ℕ, ◌+◌, ◌*◌, ◌≤◌, ◌==◌, Bool, true, false, not, ◌&&◌, List, [], ◌∷◌, length, Some, None, nat_lt, refl, ap, sym, ◌∙◌, subst, arith}
 use Rattle.std.proofs.lemmas.Bool.Decides.{nat_tests}
 use Rattle.std.specs.Prelude.{unwrap_or}
-use Rattle.std.specs.Option.{option_and_then}
 use Rattle.fsrm_model.specs.declared.command.Deed.TheVariants.{File}
 use Rattle.fsrm_model.specs.declared.command.FileOp.TheVariants.{Move}
 use Rattle.fsrm_model.specs.declared.command.Refusal.{Refusal}
 use Rattle.fsrm_model.specs.declared.command.Refusal.TheVariants.{AlreadyExists, PathNotFound, InvalidMove, NamesFull}
 use Rattle.fsrm_model.specs.declared.row.Capacity.{Capacity}
 use Rattle.fsrm_model.specs.declared.row.NodeRow.{NodeRow}
+use Rattle.fsrm_model.specs.declared.row.QuotaRow.{QuotaRow}
 use Rattle.fsrm_model.specs.Check.{Check, ◌when◌, first}
+use Rattle.fsrm_model.specs.Quota.{exceeded}
 use Rattle.fsrm_model.specs.FileOps.{target, target_folder, placed}
 use Rattle.fsrm_model.specs.Keyed.{has_row, with_change}
 use Rattle.fsrm_model.specs.Leads.{is_root, leads, leads_to_folder, leads_to_other}
@@ -20,22 +21,21 @@ use Rattle.fsrm_model.proofs.Files.{below_file}
 use Rattle.fsrm_model.proofs.Sizes.{name_bytes-placed}
 use Rattle.volume_tree.specs.declared.answer.TreeFault.TheVariants as fault
 use Rattle.volume_tree.specs.Volume.{Volume, fault_if, first_fault, is_other, move_fault, with_place}
-use Rattle.fsrm_engine.specs.Faults.{refusal_of}
-use Rattle.fsrm_engine.specs.Machine.{Machine}
+use Rattle.fsrm_engine.specs.Machine.{Machine, rows_at}
 use Rattle.fsrm_engine.specs.Places.{IsPlace, IsRefusedPlace}
-use Rattle.fsrm_engine.proofs.StepLaws.{machine, due}
+use Rattle.fsrm_engine.proofs.StepLaws.{machine, due, tree_first, last_check}
 use Rattle.fsrm_engine.proofs.PlaceLaws.{root_is, has_resolved, leads_is, target_is, leads_to_folder_is, place_leads, place_folder}
 
 -- the checks that the tree makes too
-listed : (under taken long : Bool) → first (None ∷ None ∷ None ∷ None ∷ (InvalidMove when under) ∷ (AlreadyExists when taken) ∷ (NamesFull when long) ∷ []) ≡ option_and_then refusal_of (first_fault (fault_if fault.InvalidMove under ∷ fault_if fault.AlreadyExists taken ∷ fault_if fault.NamesFull long ∷ []))
-listed true taken long = refl
-listed false true long = refl
-listed false false true = refl
-listed false false false = refl
+listed : (under taken long : Bool) (more : List Check) → first (None ∷ None ∷ None ∷ None ∷ (InvalidMove when under) ∷ (AlreadyExists when taken) ∷ (NamesFull when long) ∷ more) ≡ tree_first (first_fault (fault_if fault.InvalidMove under ∷ fault_if fault.AlreadyExists taken ∷ fault_if fault.NamesFull long ∷ [])) (first more)
+listed true taken long more = refl
+listed false true long more = refl
+listed false false true more = refl
+listed false false false more = refl
 
-listed_at : (there root to_root folder under taken long under' taken' long' : Bool) → there ≡ true → root ≡ false → to_root ≡ false → folder ≡ true → under ≡ under' → taken ≡ taken' → long ≡ long' →
-    first ((PathNotFound when not there) ∷ (InvalidMove when root) ∷ (AlreadyExists when to_root) ∷ (PathNotFound when not folder) ∷ (InvalidMove when under) ∷ (AlreadyExists when taken) ∷ (NamesFull when long) ∷ []) ≡ option_and_then refusal_of (first_fault (fault_if fault.InvalidMove under' ∷ fault_if fault.AlreadyExists taken' ∷ fault_if fault.NamesFull long' ∷ []))
-listed_at there root to_root folder under taken long under' taken' long' t r s f u k l = rw (t, r, s, f, u, k, l) (listed under' taken' long')
+listed_at : (there root to_root folder under taken long under' taken' long' : Bool) (more : List Check) → there ≡ true → root ≡ false → to_root ≡ false → folder ≡ true → under ≡ under' → taken ≡ taken' → long ≡ long' →
+    first ((PathNotFound when not there) ∷ (InvalidMove when root) ∷ (AlreadyExists when to_root) ∷ (PathNotFound when not folder) ∷ (InvalidMove when under) ∷ (AlreadyExists when taken) ∷ (NamesFull when long) ∷ more) ≡ tree_first (first_fault (fault_if fault.InvalidMove under' ∷ fault_if fault.AlreadyExists taken' ∷ fault_if fault.NamesFull long' ∷ [])) (first more)
+listed_at there root to_root folder under taken long under' taken' long' more t r s f u k l = rw (t, r, s, f, u, k, l) (listed under' taken' long' more)
 
 -- no folder is at or below a file
 under_test : (is_dir under : Bool) → (is_dir ≡ false → under ≡ true → ⊥) → (is_dir && under) ≡ under
@@ -64,15 +64,16 @@ bytes_moved v from to n d name k h p =
     ∙ name_bytes-placed v.nodes n d name k.ascending (has_resolved v.size v.nodes from n k h)
 
 -- the refusal that is due to a move to a place
-pub move_due : (v : Volume) (last m : ℕ) (from to : List (List ℕ)) (n d : ℕ) (name : List ℕ) → IsVolume v.size v.nodes → resolve v.nodes from ≡ Some n → (n == 0) ≡ false → IsPlace v.nodes to d name → due v last m (File (Move from to)) ≡ option_and_then refusal_of (move_fault v n d name)
-move_due v last m from to n d name k h inner p =
+pub move_due : (v : Volume) (quotas : List QuotaRow) (last m : ℕ) (from to : List (List ℕ)) (n d : ℕ) (name : List ℕ) → IsVolume v.size v.nodes → resolve v.nodes from ≡ Some n → (n == 0) ≡ false → IsPlace v.nodes to d name → due v quotas last m (File (Move from to)) ≡ tree_first (move_fault v n d name) (exceeded v.size (rows_at v.nodes quotas last) (with_place v n d name).nodes)
+move_due v quotas last m from to n d name k h inner p =
     let nodes = v.nodes in
     let new = with_change number (target nodes from) (placed (target_folder nodes to) (last_name to)) nodes in
     let on = target_is nodes from n h in
     let at = target_is nodes (folder_part to) d p.resolved in
     let dir = leads_to_folder_is nodes from n h in
+    let over = exceeded v.size (rows_at nodes quotas last) new in
     listed_at (leads nodes from) (is_root from) (is_root to) (leads_to_folder nodes (folder_part to)) (leads_to_folder nodes from && is_under nodes (target nodes from) (target_folder nodes to)) (leads_to_other nodes to (target nodes from)) (nat_lt v.size.names (name_bytes new))
-    (is_under nodes n d) (is_other (child_number nodes d name) n) (nat_lt (v.size.names + length (name_of nodes n)) (name_bytes nodes + length name))
+    (is_under nodes n d) (is_other (child_number nodes d name) n) (nat_lt (v.size.names + length (name_of nodes n)) (name_bytes nodes + length name)) (over ∷ [])
     (leads_is nodes from n h) (root_is v.size nodes from n k h ∙ inner) p.inner (place_folder nodes to d name p)
     (ap (λ b. b && is_under nodes (target nodes from) (target_folder nodes to)) dir
     ∙ (ap (λ x. is_folder nodes n && is_under nodes x (target_folder nodes to)) on
@@ -80,13 +81,15 @@ move_due v last m from to n d name k h inner p =
     ∙ under_is v.size nodes n d k (has_resolved v.size nodes (folder_part to) d k p.resolved) p.folder_is)))
     (ap (leads_to_other nodes to) on ∙ ap (λ o. is_other o n) (place_leads v.size nodes to d name k p))
     (bytes_test v.size.names (name_bytes nodes) (name_bytes new) (length (name_of nodes n)) (length name) (bytes_moved v from to n d name k h p))
+    ∙ ap (tree_first (move_fault v n d name)) (last_check over
+    ∙ ap (λ (w : Volume). exceeded v.size (rows_at nodes quotas last) w.nodes) (sym (moved_is v from to n d name h p)))
 
 -- the root isn't moved
 first_move : (there root : Bool) (more : List Check) → there ≡ true → root ≡ true → first ((PathNotFound when not there) ∷ (InvalidMove when root) ∷ more) ≡ Some InvalidMove
 first_move there root more t r = rw (t, r) refl
 
-pub move_root : (v : Volume) (last m : ℕ) (from to : List (List ℕ)) (n : ℕ) → IsVolume v.size v.nodes → resolve v.nodes from ≡ Some n → n ≡ 0 → due v last m (File (Move from to)) ≡ Some InvalidMove
-move_root v last m from to n k h z =
+pub move_root : (v : Volume) (quotas : List QuotaRow) (last m : ℕ) (from to : List (List ℕ)) (n : ℕ) → IsVolume v.size v.nodes → resolve v.nodes from ≡ Some n → n ≡ 0 → due v quotas last m (File (Move from to)) ≡ Some InvalidMove
+move_root v quotas last m from to n k h z =
     first_move (leads v.nodes from) (is_root from) _ (leads_is v.nodes from n h) (root_is v.size v.nodes from n k h ∙ ap (λ i. i == 0) z)
 
 -- a place that isn't one
@@ -96,17 +99,17 @@ second_move there root to_root folder more t r s = rw (t, r, s) refl
 third_move : (there root to_root folder : Bool) (more : List Check) → there ≡ true → root ≡ false → to_root ≡ false → folder ≡ false → first ((PathNotFound when not there) ∷ (InvalidMove when root) ∷ (AlreadyExists when to_root) ∷ (PathNotFound when not folder) ∷ more) ≡ Some PathNotFound
 third_move there root to_root folder more t r s f = rw (t, r, s, f) refl
 
-stray_move : (v : Volume) (last m : ℕ) (from to : List (List ℕ)) (n : ℕ) (refusal : Refusal) → IsVolume v.size v.nodes → resolve v.nodes from ≡ Some n → (n == 0) ≡ false → IsRefusedPlace v.nodes to refusal → due v last m (File (Move from to)) ≡ Some refusal
-stray_move v last m from to n AlreadyExists k h inner p =
+stray_move : (v : Volume) (quotas : List QuotaRow) (last m : ℕ) (from to : List (List ℕ)) (n : ℕ) (refusal : Refusal) → IsVolume v.size v.nodes → resolve v.nodes from ≡ Some n → (n == 0) ≡ false → IsRefusedPlace v.nodes to refusal → due v quotas last m (File (Move from to)) ≡ Some refusal
+stray_move v quotas last m from to n AlreadyExists k h inner p =
     second_move (leads v.nodes from) (is_root from) (is_root to) (leads_to_folder v.nodes (folder_part to)) _ (leads_is v.nodes from n h) (root_is v.size v.nodes from n k h ∙ inner) p
-stray_move v last m from to n PathNotFound k h inner p =
+stray_move v quotas last m from to n PathNotFound k h inner p =
     third_move (leads v.nodes from) (is_root from) (is_root to) (leads_to_folder v.nodes (folder_part to)) _ (leads_is v.nodes from n h) (root_is v.size v.nodes from n k h ∙ inner) p.0 p.1
-stray_move v last m from to n other k h inner p = absurd p
+stray_move v quotas last m from to n other k h inner p = absurd p
 
 -- the refusal that is due to a move to no place
-pub stray_due : (v : Volume) (last m : ℕ) (old : Machine) (from to : List (List ℕ)) (n : ℕ) (refusal : Refusal) → machine v last ≡ old → IsVolume v.size v.nodes → resolve v.nodes from ≡ Some n → (n == 0) ≡ false → IsRefusedPlace old.rows.nodes to refusal → due v last m (File (Move from to)) ≡ Some refusal
-stray_due v last m old from to n refusal is k h inner p =
-    stray_move v last m from to n refusal k h inner (subst (λ (o : Machine). IsRefusedPlace o.rows.nodes to refusal) (sym is) p)
+pub stray_due : (v : Volume) (quotas : List QuotaRow) (last m : ℕ) (old : Machine) (from to : List (List ℕ)) (n : ℕ) (refusal : Refusal) → machine v quotas last ≡ old → IsVolume v.size v.nodes → resolve v.nodes from ≡ Some n → (n == 0) ≡ false → IsRefusedPlace old.rows.nodes to refusal → due v quotas last m (File (Move from to)) ≡ Some refusal
+stray_due v quotas last m old from to n refusal is k h inner p =
+    stray_move v quotas last m from to n refusal k h inner (subst (λ (o : Machine). IsRefusedPlace o.rows.nodes to refusal) (sym is) p)
 
 -- a move's looks
 pub move_looks : (began found placed ended deep names names' more : ℕ) → found ≤ began + (22 * names + 1) → placed ≤ found + (22 * names' + 2) → ended ≤ placed + (66 + deep) → deep ≤ names' → ended ≤ began + (40 * (names + names' + 2) + more)

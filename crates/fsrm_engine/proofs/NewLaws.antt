@@ -2,13 +2,14 @@
 use Rattle.std.proofs.Common.{◌≡◌, ℕ, suc, ◌+◌, Bool, true, false, not, List, [], ◌∷◌, length, None, nat_lt, refl, ap, sym, ◌∙◌, arith}
 use Rattle.std.proofs.lemmas.Bool.Decides.{nat_tests}
 use Rattle.std.specs.Prelude.{is_some, nat_le, unwrap_or}
-use Rattle.std.specs.Option.{option_and_then}
 use Rattle.fsrm_model.specs.declared.command.Deed.TheVariants.{File}
 use Rattle.fsrm_model.specs.declared.command.FileOp.TheVariants.{Mkdir, Create}
 use Rattle.fsrm_model.specs.declared.command.Refusal.TheVariants.{AlreadyExists, PathNotFound, VolumeFull, NamesFull}
 use Rattle.fsrm_model.specs.declared.row.Capacity.{Capacity}
 use Rattle.fsrm_model.specs.declared.row.NodeRow.{NodeRow}
-use Rattle.fsrm_model.specs.Check.{◌when◌, first}
+use Rattle.fsrm_model.specs.declared.row.QuotaRow.{QuotaRow}
+use Rattle.fsrm_model.specs.Check.{Check, ◌when◌, first}
+use Rattle.fsrm_model.specs.Quota.{exceeded}
 use Rattle.fsrm_model.specs.FileOps.{made_node, new_node}
 use Rattle.fsrm_model.specs.Keyed.{with_row}
 use Rattle.fsrm_model.specs.Leads.{is_root, leads, leads_to_folder}
@@ -18,49 +19,52 @@ use Rattle.fsrm_model.proofs.Order.{length-with_row}
 use Rattle.fsrm_model.proofs.Sizes.{name_bytes-new}
 use Rattle.volume_tree.specs.declared.answer.TreeFault.TheVariants as fault
 use Rattle.volume_tree.specs.Volume.{Volume, fault_if, first_fault, new_fault, with_node}
-use Rattle.fsrm_engine.specs.Faults.{refusal_of}
 use Rattle.fsrm_engine.specs.Places.{IsPlace}
-use Rattle.fsrm_engine.proofs.StepLaws.{due}
+use Rattle.fsrm_engine.specs.Machine.{rows_at}
+use Rattle.fsrm_engine.proofs.StepLaws.{due, tree_first, last_check}
 use Rattle.fsrm_engine.proofs.PlaceLaws.{place_leads, place_folder}
 
 -- the checks that the tree makes too
-listed : (taken full long : Bool) → first (None ∷ None ∷ (AlreadyExists when taken) ∷ (VolumeFull when full) ∷ (NamesFull when long) ∷ []) ≡ option_and_then refusal_of (first_fault (fault_if fault.AlreadyExists taken ∷ fault_if fault.VolumeFull full ∷ fault_if fault.NamesFull long ∷ []))
-listed true full long = refl
-listed false true long = refl
-listed false false true = refl
-listed false false false = refl
+listed : (taken full long : Bool) (more : List Check) → first (None ∷ None ∷ (AlreadyExists when taken) ∷ (VolumeFull when full) ∷ (NamesFull when long) ∷ more) ≡ tree_first (first_fault (fault_if fault.AlreadyExists taken ∷ fault_if fault.VolumeFull full ∷ fault_if fault.NamesFull long ∷ [])) (first more)
+listed true full long more = refl
+listed false true long more = refl
+listed false false true more = refl
+listed false false false more = refl
 
-listed_at : (root folder taken full long taken' full' long' : Bool) → root ≡ false → folder ≡ true → taken ≡ taken' → full ≡ full' → long ≡ long' → first ((AlreadyExists when root) ∷ (PathNotFound when not folder) ∷ (AlreadyExists when taken) ∷ (VolumeFull when full) ∷ (NamesFull when long) ∷ []) ≡ option_and_then refusal_of (first_fault (fault_if fault.AlreadyExists taken' ∷ fault_if fault.VolumeFull full' ∷ fault_if fault.NamesFull long' ∷ []))
-listed_at root folder taken full long taken' full' long' r f t u l = rw (r, f, t, u, l) (listed taken' full' long')
+listed_at : (root folder taken full long taken' full' long' : Bool) (more : List Check) → root ≡ false → folder ≡ true → taken ≡ taken' → full ≡ full' → long ≡ long' → first ((AlreadyExists when root) ∷ (PathNotFound when not folder) ∷ (AlreadyExists when taken) ∷ (VolumeFull when full) ∷ (NamesFull when long) ∷ more) ≡ tree_first (first_fault (fault_if fault.AlreadyExists taken' ∷ fault_if fault.VolumeFull full' ∷ fault_if fault.NamesFull long' ∷ [])) (first more)
+listed_at root folder taken full long taken' full' long' more r f t u l = rw (r, f, t, u, l) (listed taken' full' long' more)
 
 -- one node more than fits is one that finds no room
 full_test : (most n m : ℕ) → m ≡ suc n → nat_lt most m ≡ nat_le most n
 full_test most n m h = grind (arith, nat_tests)
 
 -- the first refusal of a new node, before it is made
-checks_are : (K : Capacity) (nodes new : List NodeRow) (path : List (List ℕ)) (d : ℕ) (name : List ℕ) → IsVolume K nodes → IsPlace nodes path d name → length new ≡ suc (length nodes) → name_bytes new ≡ name_bytes nodes + length name →
-    first ((AlreadyExists when is_root path) ∷ (PathNotFound when not (leads_to_folder nodes (folder_part path))) ∷ (AlreadyExists when leads nodes path) ∷ (VolumeFull when nat_lt K.nodes (length new)) ∷ (NamesFull when nat_lt K.names (name_bytes new)) ∷ []) ≡ option_and_then refusal_of (new_fault (record { size = K; nodes = nodes }) d name)
-checks_are K nodes new path d name v p more bytes =
+checks_are : (K : Capacity) (nodes new : List NodeRow) (path : List (List ℕ)) (d : ℕ) (name : List ℕ) (more : List Check) → IsVolume K nodes → IsPlace nodes path d name → length new ≡ suc (length nodes) → name_bytes new ≡ name_bytes nodes + length name →
+    first ((AlreadyExists when is_root path) ∷ (PathNotFound when not (leads_to_folder nodes (folder_part path))) ∷ (AlreadyExists when leads nodes path) ∷ (VolumeFull when nat_lt K.nodes (length new)) ∷ (NamesFull when nat_lt K.names (name_bytes new)) ∷ more) ≡ tree_first (new_fault (record { size = K; nodes = nodes }) d name) (first more)
+checks_are K nodes new path d name more v p longer bytes =
     listed_at (is_root path) (leads_to_folder nodes (folder_part path)) (leads nodes path) (nat_lt K.nodes (length new)) (nat_lt K.names (name_bytes new))
-    (is_some (child_number nodes d name)) (nat_le K.nodes (length nodes)) (nat_lt K.names (name_bytes nodes + length name))
-    p.inner (place_folder nodes path d name p) (ap is_some (place_leads K nodes path d name v p)) (full_test K.nodes (length nodes) (length new) more) (ap (λ n. nat_lt K.names n) bytes)
+    (is_some (child_number nodes d name)) (nat_le K.nodes (length nodes)) (nat_lt K.names (name_bytes nodes + length name)) more
+    p.inner (place_folder nodes path d name p) (ap is_some (place_leads K nodes path d name v p)) (full_test K.nodes (length nodes) (length new) longer) (ap (λ n. nat_lt K.names n) bytes)
 
 bytes_made : (nodes : List NodeRow) (path : List (List ℕ)) (d : ℕ) (name : List ℕ) (node : NodeRow) → IsPlace nodes path d name → node.name ≡ last_name path → name_bytes (with_row number node nodes) ≡ name_bytes nodes + length name
 bytes_made nodes path d name node p is = name_bytes-new nodes node ∙ ap (λ t. name_bytes nodes + length t) (is ∙ p.name_is)
-
--- the refusal that is due to a new folder, and to a new file
-pub mkdir_due : (v : Volume) (last m : ℕ) (path : List (List ℕ)) (owner d : ℕ) (name : List ℕ) → IsVolume v.size v.nodes → IsPlace v.nodes path d name → due v last m (File (Mkdir path owner)) ≡ option_and_then refusal_of (new_fault v d name)
-mkdir_due v last m path owner d name k p =
-    let node = new_node v.nodes path true 0 owner m in
-    checks_are v.size v.nodes (with_row number node v.nodes) path d name k p (length-with_row number node v.nodes) (bytes_made v.nodes path d name node p refl)
-
-pub create_due : (v : Volume) (last m : ℕ) (path : List (List ℕ)) (bytes owner d : ℕ) (name : List ℕ) → IsVolume v.size v.nodes → IsPlace v.nodes path d name → due v last m (File (Create path bytes owner)) ≡ option_and_then refusal_of (new_fault v d name)
-create_due v last m path bytes owner d name k p =
-    let node = new_node v.nodes path false bytes owner m in
-    checks_are v.size v.nodes (with_row number node v.nodes) path d name k p (length-with_row number node v.nodes) (bytes_made v.nodes path d name node p refl)
 
 -- the node of a place is the new node of its path
 pub made_is : (v : Volume) (path : List (List ℕ)) (d : ℕ) (name : List ℕ) (folder : Bool) (bytes owner m : ℕ) → IsPlace v.nodes path d name → with_node v (made_node v.nodes d name folder bytes owner m) ≡ with_node v (new_node v.nodes path folder bytes owner m)
 made_is v path d name folder bytes owner m p =
     sym (ap (λ o. with_node v (made_node v.nodes (unwrap_or o 0) (last_name path) folder bytes owner m)) p.resolved
     ∙ ap (λ t. with_node v (made_node v.nodes d t folder bytes owner m)) p.name_is)
+
+-- the refusal that is due to a new folder, and to a new file
+pub mkdir_due : (v : Volume) (quotas : List QuotaRow) (last m : ℕ) (path : List (List ℕ)) (owner d : ℕ) (name : List ℕ) → IsVolume v.size v.nodes → IsPlace v.nodes path d name → due v quotas last m (File (Mkdir path owner)) ≡ tree_first (new_fault v d name) None
+mkdir_due v quotas last m path owner d name k p =
+    let node = new_node v.nodes path true 0 owner m in
+    checks_are v.size v.nodes (with_row number node v.nodes) path d name [] k p (length-with_row number node v.nodes) (bytes_made v.nodes path d name node p refl)
+
+pub create_due : (v : Volume) (quotas : List QuotaRow) (last m : ℕ) (path : List (List ℕ)) (bytes owner d : ℕ) (name : List ℕ) → IsVolume v.size v.nodes → IsPlace v.nodes path d name → due v quotas last m (File (Create path bytes owner)) ≡ tree_first (new_fault v d name) (exceeded v.size (rows_at v.nodes quotas last) (with_node v (made_node v.nodes d name false bytes owner m)).nodes)
+create_due v quotas last m path bytes owner d name k p =
+    let node = new_node v.nodes path false bytes owner m in
+    let over = exceeded v.size (rows_at v.nodes quotas last) (with_row number node v.nodes) in
+    checks_are v.size v.nodes (with_row number node v.nodes) path d name (over ∷ []) k p (length-with_row number node v.nodes) (bytes_made v.nodes path d name node p refl)
+    ∙ ap (tree_first (new_fault v d name)) (last_check over
+    ∙ ap (λ (w : Volume). exceeded v.size (rows_at v.nodes quotas last) w.nodes) (sym (made_is v path d name false bytes owner m p)))

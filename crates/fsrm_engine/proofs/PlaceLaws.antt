@@ -7,11 +7,14 @@ use Rattle.std.specs.Prelude.{is_some, slice_get, unwrap_or, slice_index_or}
 use Rattle.std.specs.Option.{option_map_or}
 use Rattle.fsrm_model.specs.declared.row.Capacity.{Capacity}
 use Rattle.fsrm_model.specs.declared.row.NodeRow.{NodeRow}
+use Rattle.fsrm_model.specs.declared.row.QuotaRow.{QuotaRow}
+use Rattle.fsrm_model.specs.Limits.{longest_file}
 use Rattle.fsrm_model.specs.FileOps.{target}
 use Rattle.fsrm_model.specs.Keyed.{has_row}
 use Rattle.fsrm_model.specs.Leads.{is_root, leads, leads_to_folder}
 use Rattle.fsrm_model.specs.Tree.{number, is_folder, child_number, chain, path_of, resolve, folder_part, last_name}
 use Rattle.fsrm_model.specs.Valid.{IsVolume}
+use Rattle.fsrm_model.proofs.Look.{found_key}
 use Rattle.fsrm_model.proofs.TestLaws.{not_true, eq_is, suc_apart}
 use Rattle.fsrm_model.proofs.Walks.{path_root}
 use Rattle.fsrm_model.proofs.Resolves.{resolve_root, resolve_child, resolved, some_name}
@@ -20,7 +23,7 @@ use Rattle.fsrm_model.specs.Name.{is_name}
 use Rattle.volume_tree.specs.declared.answer.NodeView.{NodeView}
 use Rattle.volume_tree.specs.Volume.{Volume, Shows}
 use Rattle.fsrm_engine.specs.Machine.{Machine}
-use Rattle.fsrm_engine.specs.Places.{IsPlace, IsFile}
+use Rattle.fsrm_engine.specs.Places.{IsPlace, IsFile, IsFolder}
 use Rattle.fsrm_engine.proofs.StepLaws.{machine}
 
 -- a path's last name is its part at the last place
@@ -82,13 +85,33 @@ pub shown_folder : (nodes : List NodeRow) (n : ℕ) (view : NodeView) → Shows 
 shown_folder nodes n view s = found_folder nodes n s.row s.found ∙ sym s.is.folder
 
 -- what the engine found, seen from outside
-pub file_at : (v : Volume) (last : ℕ) (old : Machine) (path : List (List ℕ)) (n : ℕ) (view : NodeView) → machine v last ≡ old → IsVolume v.size v.nodes → Some n ≡ resolve v.nodes path → Shows view v.nodes n → view.folder ≡ false → IsFile old.rows.nodes path n
-file_at v last old path n view is k h s f =
-    subst (λ (o : Machine). IsFile o.rows.nodes path n) is
-    (record { resolved = sym h; there = has_resolved v.size v.nodes path n k (sym h); file = shown_folder v.nodes n view s ∙ f })
+shown_number : (nodes : List NodeRow) (n : ℕ) (view : NodeView) → Shows view nodes n → view.number ≡ n
+shown_number nodes n view s = s.is.number ∙ found_key number n nodes s.row s.found
 
-pub place_at : (v : Volume) (last : ℕ) (old : Machine) (path : List (List ℕ)) (depth at d : ℕ) (name : List ℕ) (view : NodeView) → machine v last ≡ old → depth ≡ length path → (1 ≤ depth) × (at ≡ depth - 1) → Some d ≡ resolve v.nodes (take at path) → Shows view v.nodes d → view.folder ≡ true → slice_get path at ≡ Some name → is_name name ≡ true → IsPlace old.rows.nodes path d name
-place_at v last old path depth at d name view is deep at_is h s f part valid =
+pub file_at : (v : Volume) (quotas : List QuotaRow) (last : ℕ) (old : Machine) (path : List (List ℕ)) (n : ℕ) (view : NodeView) → machine v quotas last ≡ old → IsVolume v.size v.nodes → Some n ≡ resolve v.nodes path → Shows view v.nodes n → view.length ≤ longest_file → view.folder ≡ false → IsFile old.rows.nodes path view
+file_at v quotas last old path n view is k h s short f =
+    let same = shown_number v.nodes n view s in
+    subst (λ (o : Machine). IsFile o.rows.nodes path view) is
+    (record {
+      resolved = sym h ∙ ap Some (sym same);
+      there = subst (λ k. has_row number k v.nodes ≡ true) (sym same) (has_resolved v.size v.nodes path n k (sym h));
+      shows = subst (λ k. Shows view v.nodes k) (sym same) s;
+      file = f;
+      short = short;
+    })
+
+pub file_within : (v : Volume) (quotas : List QuotaRow) (last : ℕ) (old : Machine) (path : List (List ℕ)) (view : NodeView) → machine v quotas last ≡ old → IsFile old.rows.nodes path view → IsFile v.nodes path view
+file_within v quotas last old path view is p = subst (λ (o : Machine). IsFile o.rows.nodes path view) (sym is) p
+
+pub folder_at : (v : Volume) (quotas : List QuotaRow) (last : ℕ) (old : Machine) (path : List (List ℕ)) (n : ℕ) (view : NodeView) → machine v quotas last ≡ old → Some n ≡ resolve v.nodes path → Shows view v.nodes n → view.folder ≡ true → IsFolder old.rows.nodes path n
+folder_at v quotas last old path n view is h s f =
+    subst (λ (o : Machine). IsFolder o.rows.nodes path n) is (record { resolved = sym h; folder = shown_folder v.nodes n view s ∙ f })
+
+pub folder_within : (v : Volume) (quotas : List QuotaRow) (last : ℕ) (old : Machine) (path : List (List ℕ)) (n : ℕ) → machine v quotas last ≡ old → IsFolder old.rows.nodes path n → IsFolder v.nodes path n
+folder_within v quotas last old path n is p = subst (λ (o : Machine). IsFolder o.rows.nodes path n) (sym is) p
+
+pub place_at : (v : Volume) (quotas : List QuotaRow) (last : ℕ) (old : Machine) (path : List (List ℕ)) (depth at d : ℕ) (name : List ℕ) (view : NodeView) → machine v quotas last ≡ old → depth ≡ length path → (1 ≤ depth) × (at ≡ depth - 1) → Some d ≡ resolve v.nodes (take at path) → Shows view v.nodes d → view.folder ≡ true → slice_get path at ≡ Some name → is_name name ≡ true → IsPlace old.rows.nodes path d name
+place_at v quotas last old path depth at d name view is deep at_is h s f part valid =
     let a = at_is.0 in
     let b = at_is.1 in
     let next : at + 1 ≡ depth = omega arith in
@@ -102,8 +125,8 @@ place_at v last old path depth at d name view is deep at_is h s f part valid =
     })
 
 -- and seen from inside
-pub place_within : (v : Volume) (last : ℕ) (old : Machine) (path : List (List ℕ)) (d : ℕ) (name : List ℕ) → machine v last ≡ old → IsPlace old.rows.nodes path d name → IsPlace v.nodes path d name
-place_within v last old path d name is p = subst (λ (o : Machine). IsPlace o.rows.nodes path d name) (sym is) p
+pub place_within : (v : Volume) (quotas : List QuotaRow) (last : ℕ) (old : Machine) (path : List (List ℕ)) (d : ℕ) (name : List ℕ) → machine v quotas last ≡ old → IsPlace old.rows.nodes path d name → IsPlace v.nodes path d name
+place_within v quotas last old path d name is p = subst (λ (o : Machine). IsPlace o.rows.nodes path d name) (sym is) p
 
 pub apart : (n : ℕ) → (n ≡ 0 → ⊥) → (n == 0) ≡ false
 apart n h = grind (arith, nat_tests)

@@ -1,10 +1,10 @@
 -- The refusals of a removal are the faults of the tree.
 use Rattle.std.proofs.Common.{◌≡◌, ℕ, ◌==◌, Bool, true, false, not, List, [], ◌∷◌, length, Some, None, refl, ap, sym, ◌∙◌}
 use Rattle.std.specs.Prelude.{unwrap_or}
-use Rattle.std.specs.Option.{option_and_then}
 use Rattle.fsrm_model.specs.declared.command.Deed.TheVariants.{File}
 use Rattle.fsrm_model.specs.declared.command.FileOp.TheVariants.{Remove}
 use Rattle.fsrm_model.specs.declared.command.Refusal.TheVariants.{PathNotFound, InvalidMove, NotEmpty}
+use Rattle.fsrm_model.specs.declared.row.QuotaRow.{QuotaRow}
 use Rattle.fsrm_model.specs.Check.{Check, ◌when◌, first}
 use Rattle.fsrm_model.specs.FileOps.{target}
 use Rattle.fsrm_model.specs.Keyed.{without_row}
@@ -13,29 +13,28 @@ use Rattle.fsrm_model.specs.Tree.{number, children, resolve}
 use Rattle.fsrm_model.specs.Valid.{IsVolume}
 use Rattle.volume_tree.specs.declared.answer.TreeFault.TheVariants as fault
 use Rattle.volume_tree.specs.Volume.{Volume, fault_if, remove_fault, without_node}
-use Rattle.fsrm_engine.specs.Faults.{refusal_of}
-use Rattle.fsrm_engine.proofs.StepLaws.{due}
+use Rattle.fsrm_engine.proofs.StepLaws.{due, tree_first}
 use Rattle.fsrm_engine.proofs.PlaceLaws.{root_is, leads_is, target_is}
 
-listed : (full : Bool) → first (None ∷ None ∷ (NotEmpty when full) ∷ []) ≡ option_and_then refusal_of (fault_if fault.NotEmpty full)
+listed : (full : Bool) → first (None ∷ None ∷ (NotEmpty when full) ∷ []) ≡ tree_first (fault_if fault.NotEmpty full) None
 listed true = refl
 listed false = refl
 
-listed_at : (there root full full' : Bool) → there ≡ true → root ≡ false → full ≡ full' → first ((PathNotFound when not there) ∷ (InvalidMove when root) ∷ (NotEmpty when full) ∷ []) ≡ option_and_then refusal_of (fault_if fault.NotEmpty full')
+listed_at : (there root full full' : Bool) → there ≡ true → root ≡ false → full ≡ full' → first ((PathNotFound when not there) ∷ (InvalidMove when root) ∷ (NotEmpty when full) ∷ []) ≡ tree_first (fault_if fault.NotEmpty full') None
 listed_at there root full full' t r f = rw (t, r, f) (listed full')
 
 first_remove : (there root : Bool) (more : List Check) → there ≡ true → root ≡ true → first ((PathNotFound when not there) ∷ (InvalidMove when root) ∷ more) ≡ Some InvalidMove
 first_remove there root more t r = rw (t, r) refl
 
 -- the refusal that is due to a removal
-pub remove_due : (v : Volume) (last m : ℕ) (path : List (List ℕ)) (n : ℕ) → IsVolume v.size v.nodes → resolve v.nodes path ≡ Some n → (n == 0) ≡ false → due v last m (File (Remove path)) ≡ option_and_then refusal_of (remove_fault v n)
-remove_due v last m path n k h inner =
+pub remove_due : (v : Volume) (quotas : List QuotaRow) (last m : ℕ) (path : List (List ℕ)) (n : ℕ) → IsVolume v.size v.nodes → resolve v.nodes path ≡ Some n → (n == 0) ≡ false → due v quotas last m (File (Remove path)) ≡ tree_first (remove_fault v n) None
+remove_due v quotas last m path n k h inner =
     listed_at (leads v.nodes path) (is_root path) (not (length (children v.nodes (target v.nodes path)) == 0)) (not (length (children v.nodes n) == 0))
     (leads_is v.nodes path n h) (root_is v.size v.nodes path n k h ∙ inner) (ap (λ x. not (length (children v.nodes x) == 0)) (target_is v.nodes path n h))
 
 -- the root isn't removed
-pub remove_root : (v : Volume) (last m : ℕ) (path : List (List ℕ)) (n : ℕ) → IsVolume v.size v.nodes → resolve v.nodes path ≡ Some n → n ≡ 0 → due v last m (File (Remove path)) ≡ Some InvalidMove
-remove_root v last m path n k h z =
+pub remove_root : (v : Volume) (quotas : List QuotaRow) (last m : ℕ) (path : List (List ℕ)) (n : ℕ) → IsVolume v.size v.nodes → resolve v.nodes path ≡ Some n → n ≡ 0 → due v quotas last m (File (Remove path)) ≡ Some InvalidMove
+remove_root v quotas last m path n k h z =
     first_remove (leads v.nodes path) (is_root path) _ (leads_is v.nodes path n h) (root_is v.size v.nodes path n k h ∙ ap (λ i. i == 0) z)
 
 pub removed_is : (v : Volume) (path : List (List ℕ)) (n : ℕ) → resolve v.nodes path ≡ Some n → without_node v n ≡ record { size = v.size; nodes = without_row number (target v.nodes path) v.nodes }

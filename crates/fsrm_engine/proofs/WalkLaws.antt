@@ -261,7 +261,7 @@ sum_small f p most (row ∷ rows) each =
     at true low rest = omega (arith, sum_by-cons f row (filter p rows))
     at false low rest = omega arith
 
-usage_small : (K : Capacity) (nodes : List NodeRow) (n : ℕ) → IsVolume K nodes → IsCapacity K → usage K nodes n ≤ 1048576 * longest_file
+pub usage_small : (K : Capacity) (nodes : List NodeRow) (n : ℕ) → IsVolume K nodes → IsCapacity K → usage K nodes n ≤ 1048576 * longest_file
 usage_small K nodes n v legal =
     let each = all_pass number (λ row. nat_le (space K row) longest_file) nodes v.ascending (small_row K nodes v) in
     let sum : usage K nodes n ≤ length nodes * longest_file = sum_small (space K) (λ row. is_under nodes n row.number) longest_file nodes each in
@@ -269,7 +269,7 @@ usage_small K nodes n v legal =
     omega (arith, sum, few)
 
 -- what is left to be visited bounds the looks and the sum
-pub looks_at_visit : (K : Capacity) (nodes : List NodeRow) (pending rest : List ℕ) (n now last start whole : ℕ) → IsVolume K nodes → AreThere nodes pending → pending ≡ rest ++ n ∷ [] → now + 3 * under_all nodes pending ≤ start + (3 * whole + length pending) → last ≤ now + (1 + length (under nodes n)) → last ≤ start + 4 * whole
+pub looks_at_visit : (K : Capacity) (nodes : List NodeRow) (pending rest : List ℕ) (n now last start whole : ℕ) → IsVolume K nodes → AreThere nodes pending → pending ≡ rest ++ n ∷ [] → now + 3 * under_all nodes pending ≤ start + (3 * whole + length pending) → last ≤ now + (1 + length (under nodes n)) → last ≤ start + 3 * whole
 looks_at_visit K nodes pending rest n now last start whole v h e looks more =
     let below : ℕ → ℕ = λ m. length (under nodes m) in
     omega (arith, looks, more, last_sum below pending rest n e, count_all K nodes pending v h, ap length e, length-append rest (n ∷ []))
@@ -277,3 +277,10 @@ looks_at_visit K nodes pending rest n now last start whole v h e looks more =
 pub sum_at_visit : (K : Capacity) (nodes : List NodeRow) (pending rest new : List ℕ) (n start total bytes : ℕ) → IsVolume K nodes → IsCapacity K → pending ≡ rest ++ n ∷ [] → total + usage_of_all K nodes pending ≡ usage K nodes start → bytes + usage_of_all K nodes new ≡ usage K nodes n + usage_of_all K nodes rest → total + bytes ≤ 1048576 * longest_file
 sum_at_visit K nodes pending rest new n start total bytes v legal e sum more =
     omega (arith, sum, more, last_sum (usage K nodes) pending rest n e, usage_small K nodes start v legal)
+
+-- each node's space is small, and the nodes are few
+pub row_space : (K : Capacity) (nodes : List NodeRow) → IsVolume K nodes → (row : NodeRow) → node_of nodes (number row) ≡ Some row → space K row ≤ longest_file
+row_space K nodes v row f = le_is (space K row) longest_file (small_row K nodes v row f)
+
+pub nodes_few : (K : Capacity) (nodes : List NodeRow) → IsVolume K nodes → IsCapacity K → length nodes ≤ 1048576
+nodes_few K nodes v legal = omega (arith, few_nodes K nodes v, legal.nodes_most)

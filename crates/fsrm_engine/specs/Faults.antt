@@ -4,6 +4,7 @@ use Rattle.fsrm_model.specs.declared.command.Answer.{Answer}
 use Rattle.fsrm_model.specs.declared.command.Outcome.TheVariants.{Refused}
 use Rattle.fsrm_model.specs.declared.command.Refusal.{Refusal}
 use Rattle.fsrm_model.specs.declared.command.Refusal.TheVariants as refusal
+use Rattle.quota_usage.specs.declared.change.Exceeded.{Exceeded}
 use Rattle.volume_tree.specs.declared.answer.TreeFault.{TreeFault}
 use Rattle.volume_tree.specs.declared.answer.TreeFault.TheVariants.{AlreadyExists, InvalidMove, NotEmpty, VolumeFull, NamesFull, NoMemory}
 
@@ -23,3 +24,7 @@ refused_answer refusal = record { outcome = Refused refusal; lasting = false }
 -- the answer where the tree refused
 abbrev pub answer_of : TreeFault → Option Answer
 answer_of fault = option_map refused_answer (refusal_of fault)
+
+-- the refusal by a quota
+abbrev pub exceeded_refusal : Exceeded → Refusal
+exceeded_refusal exceeded = refusal.QuotaExceeded exceeded.folder exceeded.would exceeded.limit

@@ -1,4 +1,5 @@
 pub mod Machine
+pub mod Peaks
 pub mod Faults
 pub mod Places
 pub mod Walk

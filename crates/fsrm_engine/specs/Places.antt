@@ -1,12 +1,18 @@
 -- What a path leads to, as the engine finds it.
-use Rattle.std.specs.Prelude.{◌≡◌, ℕ, true, false, List, Option, Some, None}
+use Rattle.std.specs.Prelude.{◌≡◌, ℕ, ◌≤◌, true, false, List, Option, Some, None}
 use Rattle.fsrm_model.specs.declared.command.Refusal.{Refusal}
 use Rattle.fsrm_model.specs.declared.command.Refusal.TheVariants.{AlreadyExists, PathNotFound}
+use Rattle.fsrm_model.specs.declared.row.Capacity.{Capacity}
 use Rattle.fsrm_model.specs.declared.row.NodeRow.{NodeRow}
-use Rattle.fsrm_model.specs.Keyed.{has_row}
+use Rattle.fsrm_model.specs.declared.row.QuotaRow.{QuotaRow}
+use Rattle.fsrm_model.specs.Keyed.{row_of, has_row}
+use Rattle.fsrm_model.specs.Limits.{longest_file}
+use Rattle.fsrm_model.specs.Quota.{folder_of}
 use Rattle.fsrm_model.specs.Leads.{is_root, leads_to_folder, leads_to_file}
 use Rattle.fsrm_model.specs.Name.{is_name}
-use Rattle.fsrm_model.specs.Tree.{number, resolve, is_folder, folder_part, last_name}
+use Rattle.fsrm_model.specs.Tree.{number, resolve, is_folder, folder_part, last_name, usage}
+use Rattle.volume_tree.specs.declared.answer.NodeView.{NodeView}
+use Rattle.volume_tree.specs.Volume.{Shows}
 
 -- a folder, and the name that a path gives in it
 pub record IsPlace (nodes : List NodeRow) (path : List (List ℕ)) (folder : ℕ) (name : List ℕ) : Type 0 where
@@ -22,12 +28,28 @@ IsRefusedPlace nodes path AlreadyExists = is_root path ≡ true
 IsRefusedPlace nodes path PathNotFound = (is_root path ≡ false) × (leads_to_folder nodes (folder_part path) ≡ false)
 IsRefusedPlace nodes path other = ⊥
 
--- the file that a path leads to
-pub record IsFile (nodes : List NodeRow) (path : List (List ℕ)) (n : ℕ) : Type 0 where
-  pub resolved : resolve nodes path ≡ Some n
-  pub there : has_row number n nodes ≡ true
-  pub file : is_folder nodes n ≡ false
+-- the file that a path leads to, lent
+pub record IsFile (nodes : List NodeRow) (path : List (List ℕ)) (view : NodeView) : Type 0 where
+  pub resolved : resolve nodes path ≡ Some view.number
+  pub there : has_row number view.number nodes ≡ true
+  pub shows : Shows view nodes view.number
+  pub file : view.folder ≡ false
+  pub short : view.length ≤ longest_file
 
-abbrev pub IsFileAt : List NodeRow → List (List ℕ) → Option ℕ → Type 0
+abbrev pub IsFileAt : List NodeRow → List (List ℕ) → Option NodeView → Type 0
 IsFileAt nodes path None = leads_to_file nodes path ≡ false
-IsFileAt nodes path (Some n) = IsFile nodes path n
+IsFileAt nodes path (Some view) = IsFile nodes path view
+
+-- the folder that a path leads to
+pub record IsFolder (nodes : List NodeRow) (path : List (List ℕ)) (n : ℕ) : Type 0 where
+  pub resolved : resolve nodes path ≡ Some n
+  pub folder : is_folder nodes n ≡ true
+
+abbrev pub IsFolderAt : List NodeRow → List (List ℕ) → Option ℕ → Type 0
+IsFolderAt nodes path None = leads_to_folder nodes path ≡ false
+IsFolderAt nodes path (Some n) = IsFolder nodes path n
+
+-- what moves with a node; where there is no quota it may be any number up to that
+pub record IsMoved (K : Capacity) (nodes : List NodeRow) (quotas : List QuotaRow) (n bytes : ℕ) : Type 0 where
+  pub few : bytes ≤ usage K nodes n
+  pub all : (folder : ℕ) (quota : QuotaRow) → row_of folder_of folder quotas ≡ Some quota → bytes ≡ usage K nodes n

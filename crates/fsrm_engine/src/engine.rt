@@ -5,14 +5,17 @@ ghost use Rattle.fsrm_model.specs.declared.command.Deed.TheVariants.{File};
 ghost use Rattle.fsrm_model.specs.Cost.{cost};
 ghost use Rattle.fsrm_model.specs.Fresh.{new_rows};
 ghost use Rattle.fsrm_model.specs.Limits.{latest_moment};
+ghost use Rattle.fsrm_model.specs.Quota.{used_of};
 ghost use Rattle.fsrm_model.specs.Step.{step};
-ghost use Rattle.fsrm_model.specs.Valid.{IsVolume};
+ghost use Rattle.fsrm_model.specs.Valid.{IsVolume, IsStore};
 ghost use Rattle.fsrm_model.specs.Valued.{is_op, is_command};
 ghost use Rattle.fsrm_engine.specs.Machine.{Takes};
 ghost use Rattle.volume_tree.specs.Volume.{IsCapacity};
 
 use crate::exits::refused;
 use fsrm_model::{Answer, Capacity, Command, Deed, FileOp, Ledger, NoMemory, Refusal, Steps};
+use fsrm_objects::Objects;
+use quota_usage::Usage;
 use std::alloc::Global;
 use std::marker::Model;
 use volume_tree::Tree;
@@ -35,6 +38,9 @@ const RUN_LIMIT: u32 = 60;
 #[derive(Drop)]
 pub struct Engine {
     pub(crate) tree: Tree,
+    pub(crate) objects: Objects,
+    // What is used below each counting quota.
+    pub(crate) usage: Usage,
     pub(crate) last_moment: u64,
 }
 
@@ -44,9 +50,9 @@ impl Model for Engine {
 
     ghost Value = { Machine };
 
-    ghost view = { λ e. record { size = e.tree.size; rows = rows_at e.tree.nodes e.last_moment; waiting = [] } };
+    ghost view = { λ e. record { size = e.tree.size; rows = rows_at e.tree.nodes e.objects.quotas e.last_moment; waiting = [] } };
 
-    ghost invariant = { λ e. IsEngine e.tree.size e.tree.nodes };
+    ghost invariant = { λ e. IsEngine e.tree.size e.tree.nodes e.objects.quotas e.usage };
 }
 
 impl Engine {
@@ -56,13 +62,14 @@ impl Engine {
         requires { IsCapacity size }
         ensures { IfOk result (λ engine. engine ≡ record { size = size; rows = new_rows; waiting = [] }) }
     {
-        match Tree::reserve(alloc, size) {
-            Ok(tree) => Ok(Engine {
-                tree,
-                last_moment: 0,
-            }),
-            Err(NoMemory) => Err(NoMemory),
-        }
+        let tree = Tree::reserve(alloc, size)?;
+        let usage = Usage::reserve(alloc)?;
+        Ok(Engine {
+            tree,
+            objects: Objects::new(alloc),
+            usage,
+            last_moment: 0,
+        })
     }
 
     /// The volume's folders and files, lent.
@@ -72,6 +79,22 @@ impl Engine {
         ensures volume { IsVolume self.now.size self.now.rows.nodes }
     {
         &self.tree
+    }
+
+    /// The quotas, lent.
+    pub fn objects(&self) -> &Objects
+        ensures quotas { result.now.quotas ≡ self.now.rows.quotas }
+        ensures store { IsStore self.now.size self.now.rows }
+    {
+        &self.objects
+    }
+
+    /// What the files at and below a folder with a counting quota take, in bytes. None for every other
+    /// folder. It is kept with every command, and is the sum over the tree.
+    pub fn used(&self, folder: u32) -> Option<u64>
+        ensures { result ≡ used_of self.now.size self.now.rows folder }
+    {
+        self.usage.used(folder)
     }
 
     /// What the engine is set to, and how far it has come.
@@ -99,12 +122,25 @@ impl Engine {
         requires idle { self.old.waiting ≡ [] }
         ensures ok { IfOk result (λ answer. Takes self.old self.new (step self.old.size self.old.rows command.now) answer) }
         ensures err { OnErr result (self.new ≡ self.old) }
-        ensures kept { IsVolume self.new.size self.new.rows.nodes }
+        ensures kept { IsStore self.new.size self.new.rows }
         ensures looks { steps.new ≤ steps.old + cost self.old.rows command.now.deed }
     {
         match &command.deed {
             Deed::File(op) => self.file_op(alloc, op, command.moment, steps),
-            Deed::Usage { path } => self.usage(alloc, path, command.moment, steps),
+            Deed::Usage { path } => self.sum(alloc, path, command.moment, steps),
+            Deed::QuotaAdd {
+                path,
+                limit,
+                enforce,
+            } => self.quota_add(alloc, path, *limit, *enforce, command.moment, steps),
+            Deed::QuotaModify {
+                path,
+                limit,
+                enforce,
+            } => self.quota_modify(alloc, path, *limit, *enforce, command.moment, steps),
+            Deed::QuotaDelete { path } => self.quota_delete(path, command.moment, steps),
+            Deed::QuotaResetpeak { path } => self.quota_resetpeak(path, command.moment, steps),
+            Deed::QuotaList { path } => self.quota_list(path, command.moment, steps),
         }
     }
 
@@ -112,7 +148,7 @@ impl Engine {
     /// changes nothing.
     pub fn file_op<L: Ledger>(
         &mut self,
-        _alloc: Global,
+        alloc: Global,
         op: &FileOp,
         moment: u64,
         steps: &mut Steps<L>,
@@ -122,7 +158,7 @@ impl Engine {
         requires idle { self.old.waiting ≡ [] }
         ensures ok { IfOk result (λ answer. Takes self.old self.new (step self.old.size self.old.rows (record { moment = moment; deed = File op.now })) answer) }
         ensures err { OnErr result (self.new ≡ self.old) }
-        ensures kept { IsVolume self.new.size self.new.rows.nodes }
+        ensures kept { IsStore self.new.size self.new.rows }
         ensures looks { steps.new ≤ steps.old + cost self.old.rows (File op.now) }
     {
         if moment < self.last_moment {
@@ -137,7 +173,7 @@ impl Engine {
             } => self.create(path, *length, *owner, moment, steps),
             FileOp::Resize { path, length } => self.resize(path, *length, moment, steps),
             FileOp::Touch { path } => self.touch(path, moment, steps),
-            FileOp::Move { from, to } => self.move_path(from, to, moment, steps),
+            FileOp::Move { from, to } => self.move_path(alloc, from, to, moment, steps),
             FileOp::Remove { path } => self.remove(path, moment, steps),
         }
     }

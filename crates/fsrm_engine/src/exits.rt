@@ -1,9 +1,10 @@
 //! What a command answers that is refused.
 
 ghost use Rattle.std.specs.Prelude.{◌≡◌, IfOk, OnErr, Some, None};
-ghost use Rattle.fsrm_engine.specs.Faults.{answer_of, refused_answer};
+ghost use Rattle.fsrm_engine.specs.Faults.{answer_of, refused_answer, exceeded_refusal};
 
 use fsrm_model::{Answer, NoMemory, Outcome, Refusal};
+use quota_usage::Exceeded;
 use volume_tree::TreeFault;
 
 /// The answer of a refused command, which never lasts.
@@ -30,4 +31,15 @@ pub fn refused_by(fault: TreeFault) -> Result<Answer, NoMemory>
         TreeFault::NoMemory => return Err(NoMemory),
     };
     Ok(refused(refusal))
+}
+
+/// The refusal by a quota.
+pub fn exceeded_by(exceeded: Exceeded) -> Refusal
+    ensures { result ≡ exceeded_refusal exceeded }
+{
+    Refusal::QuotaExceeded {
+        folder: exceeded.folder,
+        would: exceeded.would,
+        limit: exceeded.limit,
+    }
 }

@@ -77,3 +77,41 @@ fn operations_are_taken<N: Ledger>(
 fn the_root_is_not_removed(rt: HostRuntime) -> Result<(), Fail> {
     operations_are_taken::<Brand>(&rt, &rt, Blank::new(1))
 }
+
+fn root_quota(engine: &Engine) -> Option<(u64, u64, u64)> {
+    engine
+        .objects()
+        .quota(0)
+        .map(|quota| (quota.limit, quota.peak, quota.peak_at))
+}
+
+fn quotas_are_added<N: Ledger>(rt: &HostRuntime, end: &impl Abort, blank: Blank) -> Result<(), Fail>
+    requires name { blank.name ≡ N.name }
+    requires parts { blank.parts ≡ N.parts }
+    requires one { blank.parts ≡ 1 }
+{
+    let mut steps = Steps::new(rt, Weightless::<N>::of(blank));
+    let size = Capacity {
+        nodes: 9,
+        names: 256,
+    };
+    let mut engine = Engine::new(rt.alloc(), size)?;
+    assert_eq!(end; engine.used(0), None);
+    let add = Command {
+        moment: 7,
+        deed: Deed::QuotaAdd {
+            path: Path::from_parts(List::new(rt.alloc())),
+            limit: 1_024,
+            enforce: true,
+        },
+    };
+    engine.apply(rt.alloc(), &add, &mut steps)?;
+    assert_eq!(end; engine.used(0), Some(0));
+    assert_eq!(end; root_quota(&engine), Some((1_024, 0, 7)));
+    Ok(())
+}
+
+#[test]
+fn a_quota_counts_from_the_beginning(rt: HostRuntime) -> Result<(), Fail> {
+    quotas_are_added::<Brand>(&rt, &rt, Blank::new(1))
+}

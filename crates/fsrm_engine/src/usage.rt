@@ -9,7 +9,7 @@ ghost use Rattle.fsrm_model.specs.Limits.{longest_file};
 ghost use Rattle.fsrm_model.specs.Space.{alloc};
 ghost use Rattle.fsrm_model.specs.Step.{step};
 ghost use Rattle.fsrm_model.specs.Tree.{number as key, children_in_order, usage, under};
-ghost use Rattle.fsrm_model.specs.Valid.{IsVolume};
+ghost use Rattle.fsrm_model.specs.Valid.{IsVolume, IsStore};
 ghost use Rattle.fsrm_engine.specs.Machine.{Takes};
 ghost use Rattle.volume_tree.specs.Volume.{IsCapacity};
 ghost use Rattle.fsrm_engine.specs.Walk.{usage_of_all, under_all, AreThere};
@@ -22,8 +22,8 @@ use volume_tree::Tree;
 
 const CLUSTER: u64 = 4_096;
 
-// A length, rounded up to whole clusters.
-fn allocated(bytes: u64) -> u64
+/// A length, rounded up to whole clusters.
+pub fn allocated(bytes: u64) -> u64
     requires { bytes ≤ longest_file }
     ensures space { (K : Capacity) → result ≡ alloc K bytes }
     ensures small { result ≤ longest_file }
@@ -73,8 +73,8 @@ fn visit<L: Ledger>(
     }
 }
 
-// What the files at and below a node take, made afresh.
-fn usage_of<L: Ledger>(
+/// What the files at and below a node take, made afresh.
+pub fn usage_of<L: Ledger>(
     tree: &Tree,
     alloc: Global,
     node: u32,
@@ -84,7 +84,7 @@ fn usage_of<L: Ledger>(
     requires legal { IsCapacity tree.now.size }
     requires there { has_row key node tree.now.nodes ≡ true }
     ensures sum { IfOk result (λ bytes. bytes ≡ usage tree.now.size tree.now.nodes node) }
-    ensures looks { steps.new ≤ steps.old + 4 * length (under tree.now.nodes node) }
+    ensures looks { steps.new ≤ steps.old + 3 * length (under tree.now.nodes node) }
 {
     let mut pending = Vec::new(alloc);
     pending.push(node)?;
@@ -97,7 +97,7 @@ fn usage_of<L: Ledger>(
 
 impl Engine {
     /// Sums up what the files at and below a node take. It changes nothing.
-    pub(crate) fn usage<L: Ledger>(
+    pub(crate) fn sum<L: Ledger>(
         &mut self,
         alloc: Global,
         path: &Path,
@@ -106,7 +106,7 @@ impl Engine {
     ) -> Result<Answer, NoMemory>
         ensures ok { IfOk result (λ answer. Takes self.old self.new (step self.old.size self.old.rows (record { moment = moment; deed = Usage path.now })) answer) }
         ensures err { OnErr result (self.new ≡ self.old) }
-        ensures kept { IsVolume self.new.size self.new.rows.nodes }
+        ensures kept { IsStore self.new.size self.new.rows }
         ensures looks { steps.new ≤ steps.old + cost self.old.rows (Usage path.now) }
     {
         if moment < self.last_moment {

@@ -1,22 +1,42 @@
-use Rattle.std.proofs.Common.{true}
+use Rattle.std.proofs.Common.{true, None, refl, ap, sym, ◌∙◌}
 use Rattle.fsrm_model.specs.declared.command.Deed.TheVariants.{File}
 use Rattle.fsrm_model.specs.declared.command.FileOp.TheVariants.{Mkdir}
-use Rattle.fsrm_engine.proofs.StepLaws.{done_at, refused_by_at}
+use Rattle.volume_tree.specs.Volume.{Volume}
+use Rattle.fsrm_engine.specs.Machine.{rows_at}
+use Rattle.fsrm_engine.proofs.IdleLaws.{idle_made, done_idle, store_at}
+use Rattle.fsrm_engine.proofs.StepLaws.{refused_by_at, tree_first}
 use Rattle.fsrm_engine.proofs.PlaceLaws.{place_within}
 use Rattle.fsrm_engine.proofs.NewLaws.{mkdir_due, made_is}
 use Rattle.fsrm_engine.proofs.engine.Engine.mkdir.Goals as goal
 
+pub invariant_of-self : goal.invariant_of-self
+invariant_of-self g c =
+    let i = c.self.inside in
+    let p = place_within i.tree i.objects.quotas i.last_moment _ _ _ _ c.self.view_is c.in-Ok.ensures.ok in
+    (idle_made i.tree c.mkdir.new.self i.objects.quotas i.usage _ _ c.args.owner c.args.moment c.self.invariant p.folder_is c.in-Ok-mkdir.ensures.made c.mkdir.ensures.kept).engine
+
 pub returns-in-Ok-mkdir-clause-ok : goal.returns-in-Ok-mkdir-clause-ok
 returns-in-Ok-mkdir-clause-ok g c =
-    let v = c.self.inside.tree in
-    let p = place_within v _ _ _ _ _ c.self.view_is c.in-Ok.ensures.ok in
-    done_at v _ _ _ c.args.moment (Mkdir c.args.path.now c.args.owner) _ _ _ _ c.self.view_is c.requires.late
-    c.in-Ok-mkdir.ensures.made (made_is v _ _ _ true _ _ _ p)
-    (mkdir_due _ c.self.inside.last_moment c.args.moment _ c.args.owner _ _ c.self.invariant.volume p) c.in-Ok-mkdir.ensures.may
+    let i = c.self.inside in
+    let p = place_within i.tree i.objects.quotas i.last_moment _ _ _ _ c.self.view_is c.in-Ok.ensures.ok in
+    let made = c.in-Ok-mkdir.ensures.made in
+    done_idle i.tree c.mkdir.new.self i.objects.quotas i.objects.quotas i.usage i.last_moment c.args.moment (File (Mkdir c.args.path.now c.args.owner)) _ _ _ c.self.view_is c.requires.late
+    (mkdir_due i.tree i.objects.quotas i.last_moment c.args.moment _ c.args.owner _ _ c.self.invariant.volume p ∙ ap (λ o. tree_first o None) c.in-Ok-mkdir.ensures.may)
+    (ap (λ (w : Volume). rows_at w.nodes i.objects.quotas i.last_moment) (sym (made ∙ made_is i.tree _ _ _ true 0 c.args.owner c.args.moment p)))
+    refl refl (ap (λ (w : Volume). w.size) made)
+    (idle_made i.tree c.mkdir.new.self i.objects.quotas i.usage _ _ c.args.owner c.args.moment c.self.invariant p.folder_is made c.mkdir.ensures.kept)
     c.done.ensures.rows c.done.ensures.answer
+
+pub returns-in-Ok-mkdir-clause-kept : goal.returns-in-Ok-mkdir-clause-kept
+returns-in-Ok-mkdir-clause-kept g c =
+    let i = c.self.inside in
+    let p = place_within i.tree i.objects.quotas i.last_moment _ _ _ _ c.self.view_is c.in-Ok.ensures.ok in
+    store_at c.mkdir.new.self i.objects.quotas i.usage c.args.moment _
+    (idle_made i.tree c.mkdir.new.self i.objects.quotas i.usage _ _ c.args.owner c.args.moment c.self.invariant p.folder_is c.in-Ok-mkdir.ensures.made c.mkdir.ensures.kept).engine c.done.ensures.rows
 
 pub returns-in-Err-mkdir-clause-ok : goal.returns-in-Err-mkdir-clause-ok
 returns-in-Err-mkdir-clause-ok g c =
-    let p = place_within c.self.inside.tree _ _ _ _ _ c.self.view_is c.in-Ok.ensures.ok in
-    refused_by_at _ _ _ c.args.moment (File (Mkdir c.args.path.now c.args.owner)) _ _ _ _ c.self.view_is c.requires.late c.in-Err-mkdir.ensures.err
-    (mkdir_due _ c.self.inside.last_moment c.args.moment _ c.args.owner _ _ c.self.invariant.volume p) c.in-Err-mkdir.ensures.refused c.refused_by.ensures.ok
+    let i = c.self.inside in
+    let p = place_within i.tree i.objects.quotas i.last_moment _ _ _ _ c.self.view_is c.in-Ok.ensures.ok in
+    refused_by_at i.tree c.mkdir.new.self i.objects.quotas i.last_moment c.args.moment (File (Mkdir c.args.path.now c.args.owner)) _ _ _ None _ c.self.view_is c.requires.late c.in-Err-mkdir.ensures.err
+    (mkdir_due i.tree i.objects.quotas i.last_moment c.args.moment _ c.args.owner _ _ c.self.invariant.volume p) c.in-Err-mkdir.ensures.refused c.refused_by.ensures.ok

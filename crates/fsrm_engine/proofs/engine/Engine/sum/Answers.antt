@@ -1,6 +1,6 @@
 use Rattle.std.proofs.Common.{sym, ◌∙◌}
 use Rattle.fsrm_model.proofs.Resolves.{resolved}
-use Rattle.fsrm_engine.proofs.engine.Engine.usage.Goals as goal
+use Rattle.fsrm_engine.proofs.engine.Engine.sum.Goals as goal
 
 pub usage_of-requires-clause-there : goal.usage_of-requires-clause-there
 usage_of-requires-clause-there g c =

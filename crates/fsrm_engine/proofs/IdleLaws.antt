@@ -1,0 +1,370 @@
+-- What an engine keeps where a command raises no usage: no peak rises.
+use Rattle.std.proofs.Common.{◌≡◌, ℕ, suc, ◌+◌, ◌-◌, ◌*◌, ◌^◌, ◌<◌, ◌≤◌, ◌==◌, Bool, true, false, cond, not, ◌||◌, List, [], ◌∷◌, length, Option, Some, None, refl, ap, sym, ◌∙◌, subst, arith}
+use Rattle.std.proofs.lemmas.Bool.Decides.{nat_tests}
+use Rattle.std.proofs.lemmas.Option.{same_Some}
+use Rattle.std.specs.Borrow.{Bor}
+use Rattle.std.specs.Prelude.{map, filter, is_some, option_map, if◌then◌else◌}
+use Rattle.std.specs.Option.{option_and_then, option_copied, option_map_or}
+use Rattle.std.specs.List.{list_any}
+use Rattle.fsrm_model.specs.declared.command.Answer.{Answer}
+use Rattle.fsrm_model.specs.declared.command.Deed.{Deed}
+use Rattle.fsrm_model.specs.declared.command.Deed.TheVariants.{File}
+use Rattle.fsrm_model.specs.declared.command.FileOp.TheVariants.{Touch}
+use Rattle.fsrm_model.specs.declared.command.Outcome.TheVariants.{Done}
+use Rattle.fsrm_model.specs.declared.command.Refusal.TheVariants.{PathNotFound}
+use Rattle.fsrm_model.specs.declared.row.Capacity.{Capacity}
+use Rattle.fsrm_model.specs.declared.row.NodeRow.{NodeRow}
+use Rattle.fsrm_model.specs.declared.row.QuotaRow.{QuotaRow}
+use Rattle.fsrm_model.specs.Check.{◌when◌, first}
+use Rattle.fsrm_model.specs.FileOps.{made_node, touched, target}
+use Rattle.fsrm_model.specs.Keyed.{row_of, has_row, is_ascending, with_row, with_change, without_row}
+use Rattle.fsrm_model.specs.Limits.{longest_file}
+use Rattle.fsrm_model.specs.Quota.{folder_of, counts, peaked, used_of}
+use Rattle.fsrm_model.specs.Space.{alloc, space}
+use Rattle.fsrm_model.specs.Step.{step}
+use Rattle.fsrm_model.specs.Tree.{number, parent_of, fresh, is_folder, is_under, is_child, children, resolve, chain, usage}
+use Rattle.fsrm_model.specs.Valid.{IsVolume, IsStore}
+use Rattle.fsrm_model.proofs.ChainLaws.{Has, usage-new}
+use Rattle.fsrm_model.proofs.ChangeLaws.{KeepsPlace, usage-change}
+use Rattle.fsrm_model.proofs.Climbs.{shorter}
+use Rattle.fsrm_model.proofs.Keeps.{tree_of, folder-new, folder-change, found_folder, found_parent, MayGo, removes_of}
+use Rattle.fsrm_model.proofs.Look.{is_some-find, found_key, found_has, has_found, row_of-without, has_row-without}
+use Rattle.fsrm_model.proofs.Order.{ascending-filter, least_free_is}
+use Rattle.fsrm_model.proofs.RemoveLaws.{usage-removed, removed_chain}
+use Rattle.fsrm_model.proofs.Resolves.{resolved}
+use Rattle.fsrm_model.proofs.TestLaws.{eq_is, clash, not_true}
+use Rattle.fsrm_model.proofs.ValidLaws.{folder_has}
+use Rattle.fsrm_objects.specs.Tables.{Tables, without_quota}
+use Rattle.quota_usage.specs.declared.change.Change.{Change}
+use Rattle.quota_usage.specs.declared.change.Counter.{Counter}
+use Rattle.quota_usage.specs.Charge.{charged, charged_counter, IsChange, Fits, height}
+use Rattle.quota_usage.specs.Counters.{counted, used_in, without_counter}
+use Rattle.volume_tree.specs.declared.answer.NodeView.{NodeView}
+use Rattle.volume_tree.specs.declared.answer.TreeFault.TheVariants.{NotEmpty}
+use Rattle.volume_tree.specs.Volume.{Volume, Shows, IsCapacity, with_node, with_touch, without_node, remove_fault}
+use Rattle.fsrm_engine.specs.Machine.{Machine, Takes, rows_at, counter_of, sums_of, IsEngine}
+use Rattle.fsrm_engine.specs.Places.{IsFile}
+use Rattle.fsrm_engine.proofs.ChangeLaws.{Changes, changes_removed, not_zero}
+use Rattle.fsrm_engine.proofs.PeakLaws.{peaks_stay, quotas_kept, counters_charged}
+use Rattle.fsrm_engine.proofs.PlaceLaws.{shown_folder, target_is}
+use Rattle.fsrm_engine.proofs.RowLaws.{each_found, all_filter, map_same}
+use Rattle.fsrm_engine.proofs.StepLaws.{machine, due, asked_of, done_at}
+use Rattle.fsrm_engine.proofs.SumLaws.{shown_of, used_sums, sums_without}
+use Rattle.fsrm_engine.proofs.WalkLaws.{usage_small}
+
+-- rows stay without a number that none has
+kept_head : {X : Type 0} (x : X) (xs ys : List X) (b c : Bool) → (b || c) ≡ false → (c ≡ false → ys ≡ xs) → cond (not b) (x ∷ ys) ys ≡ x ∷ xs
+kept_head x xs ys true c h f = cc
+kept_head x xs ys false c h f = ap (λ zs. x ∷ zs) (f h)
+
+pub without_absent : {X : Type 0} (key : X → ℕ) (n : ℕ) (rows : List X) → has_row key n rows ≡ false → without_row key n rows ≡ rows
+without_absent key n [] h = refl
+without_absent key n (x ∷ rows) h = kept_head x rows (without_row key n rows) (key x == n) (has_row key n rows) h (without_absent key n rows)
+
+-- a row that is left has another number, and was there
+pub record Left {X : Type 0} (key : X → ℕ) (n m : ℕ) (rows : List X) (r : X) : Type 0 where
+  pub other : (m == n) ≡ false
+  pub found : row_of key m rows ≡ Some r
+
+pub left_found : {X : Type 0} (key : X → ℕ) (n m : ℕ) (rows : List X) (r : X) → row_of key m (without_row key n rows) ≡ Some r → Left key n m rows r
+left_found key n m rows r h =
+    let other : (m == n) ≡ false = not_true _ (λ e. clash (has_row key n (without_row key n rows)) (subst (λ k. has_row key k (without_row key n rows) ≡ true) (eq_is m n e) (found_has key m (without_row key n rows) r h)) (has_row-without key n rows)) in
+    record { other = other; found = sym (row_of-without key n m rows other) ∙ h }
+
+few_at : {X : Type 0} (x : X) (xs ys : List X) (b : Bool) → length ys ≤ length xs → length (cond b (x ∷ ys) ys) ≤ length (x ∷ xs)
+few_at x xs ys true h = omega arith
+few_at x xs ys false h = omega arith
+
+few_filter : {X : Type 0} (p : X → Bool) (rows : List X) → length (filter p rows) ≤ length rows
+few_filter p [] = omega arith
+few_filter p (x ∷ rows) = few_at x rows (filter p rows) (p x) (few_filter p rows)
+
+-- counters and quotas that are there, and that aren't
+mapped : {X Y : Type 0} (f : X → Y) (o : Option X) → is_some (option_map f o) ≡ is_some o
+mapped f None = refl
+mapped f (Some x) = refl
+
+counter_test : (counters : List Counter) (n : ℕ) (o : Option ℕ) → o ≡ used_in counters n → has_row counted n counters ≡ is_some o
+counter_test counters n o e = sym (ap is_some e ∙ (mapped (λ (c : Counter). c.bytes) (row_of counted n counters) ∙ is_some-find (λ c. counted c == n) counters))
+
+pub counter_there : (counters : List Counter) (n : ℕ) (o : Option ℕ) → o ≡ used_in counters n → is_some o ≡ true → has_row counted n counters ≡ true
+counter_there counters n o e h = counter_test counters n o e ∙ h
+
+pub counter_absent : (counters : List Counter) (n : ℕ) (o : Option ℕ) → o ≡ used_in counters n → is_some o ≡ false → counters ≡ without_counter counters n
+counter_absent counters n o e h = sym (without_absent counted n counters (counter_test counters n o e ∙ h))
+
+copied : {X : Type 0} (o : Option (Bor X)) → is_some (option_copied o) ≡ is_some o
+copied None = refl
+copied (Some x) = refl
+
+quota_test : (quotas : List QuotaRow) (n : ℕ) (o : Option (Bor QuotaRow)) → option_copied o ≡ row_of folder_of n quotas → has_row folder_of n quotas ≡ is_some o
+quota_test quotas n o e = sym (sym (copied o) ∙ (ap is_some e ∙ is_some-find (λ q. folder_of q == n) quotas))
+
+pub quota_there : (quotas : List QuotaRow) (n : ℕ) (o : Option (Bor QuotaRow)) → option_copied o ≡ row_of folder_of n quotas → is_some o ≡ true → has_row folder_of n quotas ≡ true
+quota_there quotas n o e h = quota_test quotas n o e ∙ h
+
+pub quota_absent : (tables : Tables) (n : ℕ) (o : Option (Bor QuotaRow)) → option_copied o ≡ row_of folder_of n tables.quotas → is_some o ≡ false → tables ≡ without_quota tables n
+quota_absent tables n o e h = ap (λ qs. record tables { quotas = qs }) (sym (without_absent folder_of n tables.quotas (quota_test tables.quotas n o e ∙ h)))
+
+-- what an engine keeps, where no peak rises
+pub record Idle (K : Capacity) (nodes : List NodeRow) (quotas : List QuotaRow) (counters : List Counter) (m : ℕ) : Type 0 where
+  pub engine : IsEngine K nodes quotas counters
+  pub peaks : quotas ≡ map (peaked K nodes m) quotas
+
+idle : (K : Capacity) (nodes : List NodeRow) (quotas : List QuotaRow) (counters : List Counter) (m : ℕ) → IsEngine K nodes quotas counters → Idle K nodes quotas counters m
+idle K nodes quotas counters m e =
+    record { engine = e; peaks = peaks_stay K nodes m quotas e.are_quotas.ascending (λ q found counting. e.peaks q.folder q found counting) }
+
+sums_same : (K : Capacity) (nodes new : List NodeRow) (quotas : List QuotaRow) → is_ascending folder_of quotas ≡ true → ((f : ℕ) (q : QuotaRow) → row_of folder_of f quotas ≡ Some q → usage K new f ≡ usage K nodes f) → sums_of K nodes quotas ≡ sums_of K new quotas
+sums_same K nodes new quotas asc same =
+    map_same (counter_of K nodes) (counter_of K new) (filter counts quotas)
+    (all_filter counts (λ q. counter_of K nodes q ≡ counter_of K new q) quotas
+    (each_found folder_of (λ q. counts q ≡ true → counter_of K nodes q ≡ counter_of K new q) quotas asc
+    (λ q found counting. ap (λ n. record { folder = q.folder; bytes = n }) (sym (same q.folder q found)))))
+
+-- usage stays
+idle_same : (K : Capacity) (nodes new : List NodeRow) (quotas : List QuotaRow) (counters : List Counter) (m : ℕ) → IsEngine K nodes quotas counters → IsVolume K new → ((f : ℕ) (q : QuotaRow) → row_of folder_of f quotas ≡ Some q → usage K new f ≡ usage K nodes f) → ((f : ℕ) (q : QuotaRow) → row_of folder_of f quotas ≡ Some q → is_folder nodes f ≡ true → is_folder new f ≡ true) → Idle K new quotas counters m
+idle_same K nodes new quotas counters m e v same folders =
+    idle K new quotas counters m (record {
+      volume = v;
+      legal = e.legal;
+      are_quotas = quotas_kept nodes new quotas e.are_quotas folders;
+      sums = e.sums ∙ sums_same K nodes new quotas e.are_quotas.ascending same;
+      peaks = λ f q found counting. subst (λ n. n ≤ q.peak) (sym (same f q found)) (e.peaks f q found counting);
+    })
+
+-- a quota and its counter go
+engine_without : (K : Capacity) (nodes : List NodeRow) (quotas : List QuotaRow) (counters : List Counter) (x : ℕ) → IsEngine K nodes quotas counters → IsEngine K nodes (without_row folder_of x quotas) (without_counter counters x)
+engine_without K nodes quotas counters x e =
+    let left = left_found folder_of x in
+    record {
+      volume = e.volume;
+      legal = e.legal;
+      are_quotas = record {
+        ascending = ascending-filter folder_of (λ q. not (folder_of q == x)) quotas e.are_quotas.ascending;
+        few = omega (arith, few_filter (λ q. not (folder_of q == x)) quotas, e.are_quotas.few);
+        folders = λ f q h. e.are_quotas.folders f q (left f quotas q h).found;
+        limits = λ f q h. e.are_quotas.limits f q (left f quotas q h).found;
+        moments = λ f q h. e.are_quotas.moments f q (left f quotas q h).found;
+      };
+      sums = ap (λ cs. without_counter cs x) e.sums ∙ sym (sums_without K nodes x quotas);
+      peaks = λ f q h counting. e.peaks f q (left f quotas q h).found counting;
+    }
+
+as_suc : (n : ℕ) → (n == 0) ≡ false → (k : ℕ) × (n ≡ suc k)
+as_suc n h = (n - 1, is n h)
+  where
+    is : (n : ℕ) → (n == 0) ≡ false → n ≡ suc (n - 1)
+    is n h = grind (arith, nat_tests)
+
+no_more : (n new : ℕ) (b : Bool) → new ≡ n + cond b 0 0 → new ≡ n
+no_more n new true h = omega arith
+no_more n new false h = omega arith
+
+-- a folder is made
+pub idle_made : (v w : Volume) (quotas : List QuotaRow) (counters : List Counter) (d : ℕ) (name : List ℕ) (owner m : ℕ) → IsEngine v.size v.nodes quotas counters → is_folder v.nodes d ≡ true → w ≡ with_node v (made_node v.nodes d name true 0 owner m) → IsVolume w.size w.nodes → Idle w.size w.nodes quotas counters m
+idle_made v w quotas counters d name owner m e folder made kept =
+    let K = v.size in
+    let nodes = v.nodes in
+    let node = made_node nodes d name true 0 owner m in
+    let t = tree_of K nodes e.volume in
+    let free : has_row number (fresh nodes) nodes ≡ false = (least_free_is number nodes e.volume.ascending).free in
+    let inner : (fresh nodes == 0) ≡ false = not_true _ (λ z. clash _ (subst (Has nodes) (sym (eq_is _ _ z)) e.volume.has_root) free) in
+    let s = as_suc (fresh nodes) inner in
+    let hd : Has nodes d = folder_has nodes d folder in
+    subst (λ (w : Volume). Idle w.size w.nodes quotas counters m) (sym made)
+    (idle_same K nodes (with_row number node nodes) quotas counters m e (subst (λ (w : Volume). IsVolume w.size w.nodes) made kept)
+    (λ f q found. no_more (usage K nodes f) (usage K (with_row number node nodes) f) (is_under nodes f d) (usage-new K nodes t node s.0 s.1 free hd f (folder_has nodes f (e.are_quotas.folders f q found))))
+    (λ f q found h. folder-new nodes node f free h))
+
+same_space : (n new s : ℕ) (b : Bool) → new + cond b s 0 ≡ n + cond b s 0 → new ≡ n
+same_space n new s true h = omega arith
+same_space n new s false h = omega arith
+
+-- a file is read
+pub idle_touched : (v w : Volume) (quotas : List QuotaRow) (counters : List Counter) (x m : ℕ) → IsEngine v.size v.nodes quotas counters → has_row number x v.nodes ≡ true → w ≡ with_touch v x m → IsVolume w.size w.nodes → Idle w.size w.nodes quotas counters m
+idle_touched v w quotas counters x m e has made kept =
+    let K = v.size in
+    let nodes = v.nodes in
+    let new = with_change number x (touched m) nodes in
+    let found = has_found number x nodes has in
+    let place : KeepsPlace (touched m) = record { same_number = λ r. refl; same_parent = λ r. refl } in
+    subst (λ (w : Volume). Idle w.size w.nodes quotas counters m) (sym made)
+    (idle_same K nodes new quotas counters m e (subst (λ (w : Volume). IsVolume w.size w.nodes) made kept)
+    (λ f q h. same_space (usage K nodes f) (usage K new f) (space K found.row) (is_under nodes f found.row.number) (usage-change K nodes x (touched m) place e.volume.ascending found.row found.is f))
+    (λ f q h g. folder-change nodes x f (touched m) (λ r. refl) (λ r. refl) ∙ g))
+
+touch_at : (n : ℕ) (nodes : List NodeRow) (o : Option ℕ) → o ≡ Some n → is_folder nodes n ≡ false → first ((PathNotFound when not (option_map_or (λ n. not (is_folder nodes n)) o false)) ∷ []) ≡ None
+touch_at n nodes o e file = rw (e, file) refl
+
+pub touch_due : (v : Volume) (quotas : List QuotaRow) (last m : ℕ) (path : List (List ℕ)) (view : NodeView) → IsFile v.nodes path view → due v quotas last m (File (Touch path)) ≡ None
+touch_due v quotas last m path view p = touch_at view.number v.nodes (resolve v.nodes path) p.resolved (shown_folder v.nodes view.number view p.shows ∙ p.file)
+
+pub touched_is : (v : Volume) (path : List (List ℕ)) (n m : ℕ) → resolve v.nodes path ≡ Some n → with_touch v n m ≡ with_touch v (target v.nodes path) m
+touched_is v path n m h = sym (ap (λ k. with_touch v k m) (target_is v.nodes path n h))
+
+-- what a path leads to, and of which kind it is, seen from inside
+pub resolved_within : (v : Volume) (quotas : List QuotaRow) (last : ℕ) (old : Machine) (path : List (List ℕ)) (n : ℕ) → machine v quotas last ≡ old → resolve old.rows.nodes path ≡ Some n → resolve v.nodes path ≡ Some n
+resolved_within v quotas last old path n is h = ap (λ (o : Machine). resolve o.rows.nodes path) is ∙ h
+
+pub folder_within_is : (v : Volume) (quotas : List QuotaRow) (last : ℕ) (old : Machine) (n : ℕ) (b : Bool) → machine v quotas last ≡ old → is_folder old.rows.nodes n ≡ b → is_folder v.nodes n ≡ b
+folder_within_is v quotas last old n b is h = ap (λ (o : Machine). is_folder o.rows.nodes n) is ∙ h
+
+-- the rows that a removal leaves
+pub gone_is : (v w : Volume) (quotas after : List QuotaRow) (last : ℕ) (path : List (List ℕ)) (n : ℕ) → resolve v.nodes path ≡ Some n → w ≡ without_node v n → after ≡ without_row folder_of n quotas → rows_at (without_row number (target v.nodes path) v.nodes) (without_row folder_of (target v.nodes path) quotas) last ≡ rows_at w.nodes after last
+gone_is v w quotas after last path n h made left =
+    ap (λ k. rows_at (without_row number k v.nodes) (without_row folder_of k quotas) last) (target_is v.nodes path n h)
+    ∙ sym (ap (λ (w : Volume). rows_at w.nodes after last) made ∙ ap (λ qs. rows_at (without_row number n v.nodes) qs last) left)
+
+-- a node without children may go
+no_child : (p : NodeRow → Bool) (r : NodeRow) (nodes : List NodeRow) (b : Bool) → length (cond b (r ∷ filter p nodes) (filter p nodes)) ≡ 0 → (length (filter p nodes) ≡ 0 → list_any p nodes ≡ false) → (b || list_any p nodes) ≡ false
+no_child p r nodes true h f = absurd (omega (arith, h))
+no_child p r nodes false h f = f h
+
+none_filtered : (p : NodeRow → Bool) (nodes : List NodeRow) → length (filter p nodes) ≡ 0 → list_any p nodes ≡ false
+none_filtered p [] h = refl
+none_filtered p (r ∷ nodes) h = no_child p r nodes (p r) h (none_filtered p nodes)
+
+no_fault : (v : Volume) (x : ℕ) (b : Bool) → (length (children v.nodes x) == 0) ≡ b → remove_fault v x ≡ None → (length (children v.nodes x) == 0) ≡ true
+no_fault v x true e h = e
+no_fault v x false e h = absurd (some_none (length (children v.nodes x) == 0) e h)
+  where
+    some_none : (b : Bool) → b ≡ false → cond (not b) (Some NotEmpty) None ≡ None → ⊥
+    some_none true e h = cc
+    some_none false e h = cc
+
+pub may_go : (v : Volume) (x : ℕ) → (x == 0) ≡ false → has_row number x v.nodes ≡ true → remove_fault v x ≡ None → MayGo v.nodes x
+may_go v x inner has may =
+    let f = has_found number x v.nodes has in
+    record { inner = inner; row = f.row; found = f.is; leaf = none_filtered (is_child x) v.nodes (eq_is _ _ (no_fault v x (length (children v.nodes x) == 0) refl may)) }
+
+folder_left : (nodes : List NodeRow) (x f : ℕ) → (f == x) ≡ false → is_folder nodes f ≡ true → is_folder (without_row number x nodes) f ≡ true
+folder_left nodes x f other h =
+    ap (λ o. option_map_or (λ (node : NodeRow). node.folder) o false) (row_of-without number x f nodes other) ∙ h
+
+no_less : (n new s : ℕ) (b : Bool) → s ≡ 0 → new + cond b s 0 ≡ n → new ≡ n
+no_less n new s true z h = omega arith
+no_less n new s false z h = omega arith
+
+-- a folder goes, and with it its quota
+pub idle_gone : (v w : Volume) (quotas after : List QuotaRow) (counters left : List Counter) (x m : ℕ) → IsEngine v.size v.nodes quotas counters → MayGo v.nodes x → is_folder v.nodes x ≡ true → w ≡ without_node v x → IsVolume w.size w.nodes → after ≡ without_row folder_of x quotas → left ≡ without_counter counters x → Idle w.size w.nodes after left m
+idle_gone v w quotas after counters left x m e may folder made kept quotas_are counters_are =
+    let K = v.size in
+    let nodes = v.nodes in
+    let new = without_row number x nodes in
+    let r = removes_of K nodes x e.volume may in
+    let none : space K may.row ≡ 0 = ap (λ b. cond b 0 (alloc K may.row.length)) (sym (found_folder nodes x may.row may.found) ∙ folder) in
+    let e' = engine_without K nodes quotas counters x e in
+    let i : Idle K new (without_row folder_of x quotas) (without_counter counters x) m =
+    idle_same K nodes new (without_row folder_of x quotas) (without_counter counters x) m e' (subst (λ (w : Volume). IsVolume w.size w.nodes) made kept)
+    (λ f q h. no_less (usage K nodes f) (usage K new f) (space K may.row) (is_under nodes f may.row.number) none (usage-removed K nodes x r e.volume.ascending may.row may.found f))
+    (λ f q h g. folder_left nodes x f (left_found folder_of x f quotas q h).other g) in
+    subst (λ (w : Volume). Idle w.size w.nodes after left m) (sym made)
+    (subst (λ qs. Idle K new qs left m) (sym quotas_are) (subst (λ cs. Idle K new (without_row folder_of x quotas) cs m) (sym counters_are) i))
+
+-- the counters of an engine are small
+small_at : (K : Capacity) (nodes : List NodeRow) (q : QuotaRow) (bytes : ℕ) (b : Bool) → usage K nodes q.folder ≤ 1048576 * longest_file → cond b (Some (usage K nodes q.folder)) None ≡ Some bytes → bytes ≤ 1048576 * longest_file
+small_at K nodes q bytes true l h = subst (λ n. n ≤ 1048576 * longest_file) (same_Some _ _ h) l
+small_at K nodes q bytes false l h = cc
+
+small_of : (K : Capacity) (nodes : List NodeRow) (o : Option QuotaRow) (bytes : ℕ) → IsVolume K nodes → IsCapacity K → option_and_then (shown_of K nodes) o ≡ Some bytes → bytes ≤ 1048576 * longest_file
+small_of K nodes None bytes v legal h = cc
+small_of K nodes (Some q) bytes v legal h = small_at K nodes q bytes (counts q) (usage_small K nodes q.folder v legal) h
+
+pub counters_small : (K : Capacity) (nodes : List NodeRow) (quotas : List QuotaRow) (counters : List Counter) (f bytes : ℕ) → IsEngine K nodes quotas counters → used_in counters f ≡ Some bytes → bytes ≤ 1048576 * longest_file
+counters_small K nodes quotas counters f bytes e h =
+    small_of K nodes (row_of folder_of f quotas) bytes e.volume e.legal (sym (ap (λ cs. used_in cs f) e.sums ∙ used_sums K nodes f quotas e.are_quotas.ascending) ∙ h)
+
+-- a file goes
+pub record FileGoes (w : Volume) (quotas : List QuotaRow) (counters : List Counter) (x : ℕ) (change : Change) : Type 0 where
+  pub is_change : IsChange w.nodes change
+  pub fits : Fits w.nodes counters change
+  pub no_quota : without_row folder_of x quotas ≡ quotas
+  pub engine : IsEngine w.size w.nodes quotas (map (charged_counter w.nodes change) counters)
+
+no_room : (bytes less most : ℕ) → bytes ≤ 1048576 * longest_file → bytes - less + 0 < 2 ^ 64
+no_room bytes less most h = omega arith
+
+-- the change of a file that goes
+abbrev pub gone_change : ℕ → ℕ → Change
+gone_change parent minus = record { from = Some parent; to = None; minus = minus; plus = 0 }
+
+pub file_goes : (v w : Volume) (quotas : List QuotaRow) (counters : List Counter) (x minus : ℕ) (view : NodeView) → IsEngine v.size v.nodes quotas counters → MayGo v.nodes x → is_folder v.nodes x ≡ false → w ≡ without_node v x → IsVolume w.size w.nodes → Shows view v.nodes x → ((K : Capacity) → minus ≡ alloc K view.length) → FileGoes w quotas counters x (gone_change view.parent minus)
+file_goes v w quotas counters x minus view e may file made kept shows minus_is =
+    let K = v.size in
+    let nodes = v.nodes in
+    let new = without_row number x nodes in
+    let t = tree_of K nodes e.volume in
+    let r = removes_of K nodes x e.volume may in
+    let p = parent_of nodes x in
+    let hx : Has nodes x = found_has number x nodes may.row may.found in
+    let hp : Has new p = r.numbers p (r.leaf x hx) ∙ t.closed x hx in
+    let row = shows.row in
+    let parent_is : p ≡ view.parent = found_parent nodes x row shows.found ∙ sym shows.is.parent in
+    let space_is : space K row ≡ minus =
+    ap (λ b. cond b 0 (alloc K row.length)) (sym (found_folder nodes x row shows.found) ∙ file)
+    ∙ (ap (alloc K) (sym shows.is.bytes) ∙ sym (minus_is K)) in
+    let change_is : gone_change p (space K row) ≡ gone_change view.parent minus =
+    ap (λ n. gone_change n (space K row)) parent_is ∙ ap (gone_change view.parent) space_is in
+    let changes = subst (Changes K nodes new quotas) change_is (changes_removed K nodes quotas x row e.volume e.are_quotas may shows.found file) in
+    let none : has_row folder_of x quotas ≡ false = not_true _ (λ h. let q = has_found folder_of x quotas h in clash (is_folder nodes x) (e.are_quotas.folders x q.row q.is) file) in
+    let out : (f : ℕ) (q : QuotaRow) → row_of folder_of f quotas ≡ Some q → is_folder nodes f ≡ true → is_folder new f ≡ true =
+    λ f q h g. folder_left nodes x f (not_true _ (λ s. clash (is_folder nodes f) g (ap (is_folder nodes) (eq_is f x s) ∙ file))) g in
+    subst (λ (w : Volume). FileGoes w quotas counters x (gone_change view.parent minus)) (sym made)
+    (record {
+      is_change = record { from = subst (Has new) parent_is hp; to = tt };
+      fits = record { fits = λ f bytes h. no_room bytes (cond (is_under new f view.parent) minus 0) 0 (counters_small K nodes quotas counters f bytes e h) };
+      no_quota = without_absent folder_of x quotas none;
+      engine = record {
+        volume = subst (λ (w : Volume). IsVolume w.size w.nodes) made kept;
+        legal = e.legal;
+        are_quotas = quotas_kept nodes new quotas e.are_quotas out;
+        sums = counters_charged K nodes new quotas counters (gone_change view.parent minus) e.are_quotas changes e.sums;
+        peaks = λ f q found counting.
+            let a = changes.after f q found in
+            let b = e.peaks f q found counting in
+            omega (arith, a, b);
+      };
+    })
+
+pub idle_charged : (w : Volume) (quotas : List QuotaRow) (counters charged : List Counter) (x m : ℕ) (change : Change) → FileGoes w quotas counters x change → charged ≡ map (charged_counter w.nodes change) counters → Idle w.size w.nodes quotas charged m
+idle_charged w quotas counters charged x m change g is =
+    idle w.size w.nodes quotas charged m (subst (IsEngine w.size w.nodes quotas) (sym is) g.engine)
+
+-- how many looks the removal of a file takes
+pub looks_at_file : (v w : Volume) (path : List (List ℕ)) (x start seen gone last : ℕ) (view : NodeView) → IsVolume v.size v.nodes → resolve v.nodes path ≡ Some x → MayGo v.nodes x → w ≡ without_node v x → Shows view v.nodes x → seen ≡ start + 1 → gone ≤ seen + 44 → last ≤ gone + 2 * (height w.nodes (Some view.parent) + 0) → last ≤ start + (2 * length path + 50)
+looks_at_file v w path x start seen gone last view k h may made shows a b c =
+    let K = v.size in
+    let nodes = v.nodes in
+    let new = without_row number x nodes in
+    let t = tree_of K nodes k in
+    let r = removes_of K nodes x k may in
+    let p = parent_of nodes x in
+    let hx : Has nodes x = found_has number x nodes may.row may.found in
+    let hp : Has new p = r.numbers p (r.leaf x hx) ∙ t.closed x hx in
+    let parent_is : p ≡ view.parent = found_parent nodes x shows.row shows.found ∙ sym shows.is.parent in
+    let same : length (chain w.nodes view.parent) ≡ length (chain nodes p) =
+    ap (λ (w : Volume). length (chain w.nodes view.parent)) made
+    ∙ (ap (λ n. length (chain new n)) (sym parent_is) ∙ ap length (removed_chain nodes new x r p hp)) in
+    omega (arith, a, b, c, same, shorter nodes t x hx (not_zero x may.inner), (resolved K nodes path x k h).deep)
+
+-- the answer to a command that was done, after which no peak rises
+pub done_idle : (v w : Volume) (quotas after : List QuotaRow) (counters : List Counter) (last m : ℕ) (deed : Deed) (old new : Machine) (answer : Answer) → machine v quotas last ≡ old → old.rows.last_moment ≤ m → due v quotas last m deed ≡ None → (asked_of v quotas last m deed).effect ≡ rows_at w.nodes after last → (asked_of v quotas last m deed).outcome ≡ Done None → (asked_of v quotas last m deed).lasts ≡ true → w.size ≡ v.size → Idle w.size w.nodes after counters m → new ≡ machine w after m → answer ≡ record { outcome = Done None; lasting = true } → Takes old new (step old.size old.rows (record { moment = m; deed = deed })) answer
+done_idle v w quotas after counters last m deed old new answer view late none effect outcome lasts size i n e =
+    done_at v w quotas after after last m deed old new answer view late none effect outcome lasts size (i.peaks ∙ ap (λ K. map (peaked K w.nodes m) after) size) n e
+
+-- the rows of an engine, as it is seen from outside
+pub store_at : (w : Volume) (quotas : List QuotaRow) (counters : List Counter) (m : ℕ) (new : Machine) → IsEngine w.size w.nodes quotas counters → new ≡ machine w quotas m → IsStore new.size new.rows
+store_at w quotas counters m new e is =
+    subst (λ (n : Machine). IsStore n.size n.rows) (sym is) (record { volume = e.volume; quotas = e.are_quotas })
+
+-- the counter of a folder is what its quota shows
+shown_at : (K : Capacity) (nodes : List NodeRow) (f : ℕ) (o : Option QuotaRow) → ((q : QuotaRow) → o ≡ Some q → q.folder ≡ f) → option_and_then (shown_of K nodes) o ≡ option_and_then (λ q. if counts q then Some (usage K nodes f) else None) o
+shown_at K nodes f None h = refl
+shown_at K nodes f (Some q) h = ap (λ n. cond (counts q) (Some (usage K nodes n)) None) (h q refl)
+
+pub used_at : (v : Volume) (quotas : List QuotaRow) (counters : List Counter) (last f : ℕ) (old : Machine) (o : Option ℕ) → machine v quotas last ≡ old → IsEngine v.size v.nodes quotas counters → o ≡ used_in counters f → o ≡ used_of old.size old.rows f
+used_at v quotas counters last f old o view e is =
+    subst (λ (m : Machine). o ≡ used_of m.size m.rows f) view
+    (is ∙ (ap (λ cs. used_in cs f) e.sums ∙ (used_sums v.size v.nodes f quotas e.are_quotas.ascending
+    ∙ shown_at v.size v.nodes f (row_of folder_of f quotas) (λ q h. found_key folder_of f quotas q h))))

@@ -1,0 +1,130 @@
+-- A node that moves: what quotas refuse, and what is kept.
+use Rattle.std.proofs.Common.{◌≡◌, ℕ, ◌+◌, ◌*◌, ◌≤◌, ◌==◌, Bool, true, false, List, [], ◌∷◌, length, Some, refl, ap, sym, ◌∙◌, subst, arith}
+use Rattle.std.specs.Prelude.{map, nat_lt, if◌then◌else◌}
+use Rattle.fsrm_model.specs.declared.command.Deed.TheVariants.{File}
+use Rattle.fsrm_model.specs.declared.command.FileOp.TheVariants.{Move}
+use Rattle.fsrm_model.specs.declared.command.Refusal.TheVariants.{InvalidMove}
+use Rattle.fsrm_model.specs.declared.row.Capacity.{Capacity}
+use Rattle.fsrm_model.specs.declared.row.NodeRow.{NodeRow}
+use Rattle.fsrm_model.specs.declared.row.QuotaRow.{QuotaRow}
+use Rattle.fsrm_model.specs.Cost.{op_cost}
+use Rattle.fsrm_model.specs.FileOps.{placed}
+use Rattle.fsrm_model.specs.Keyed.{has_row, with_change}
+use Rattle.fsrm_model.specs.Leads.{leads_to_folder}
+use Rattle.fsrm_model.specs.Quota.{exceeded}
+use Rattle.fsrm_model.specs.Tree.{number, name_of, parent_of, is_folder, is_under, under, chain, resolve, child_number, name_bytes}
+use Rattle.fsrm_model.specs.Valid.{IsVolume, AreQuotas}
+use Rattle.fsrm_model.proofs.Climbs.{shorter}
+use Rattle.fsrm_model.proofs.Keeps.{tree_of, found_parent}
+use Rattle.fsrm_model.proofs.Look.{has_row-change, found_has, has_found}
+use Rattle.fsrm_model.proofs.Resolves.{resolved}
+use Rattle.fsrm_model.proofs.UsageLaws.{count_of_file}
+use Rattle.fsrm_objects.specs.Tables.{Tables}
+use Rattle.quota_usage.specs.declared.change.Change.{Change}
+use Rattle.quota_usage.specs.declared.change.Counter.{Counter}
+use Rattle.quota_usage.specs.Charge.{charged_counter, Fits}
+use Rattle.volume_tree.specs.declared.answer.NodeView.{NodeView}
+use Rattle.volume_tree.specs.Volume.{Volume, Shows, with_place, fault_if, first_fault, is_other}
+use Rattle.volume_tree.specs.declared.answer.TreeFault.TheVariants as fault
+use Rattle.fsrm_engine.specs.Machine.{rows_at, IsEngine}
+use Rattle.fsrm_engine.specs.Peaks.{raised_above}
+use Rattle.fsrm_engine.specs.Places.{IsPlace, IsMoved}
+use Rattle.fsrm_engine.specs.Machine.{Machine}
+use Rattle.fsrm_engine.proofs.StepLaws.{asked_of, due, machine, tree_first}
+use Rattle.fsrm_engine.proofs.PlaceLaws.{leads_to_folder_is, target_is}
+use Rattle.fsrm_engine.proofs.MoveLaws.{moved_is, move_due}
+use Rattle.fsrm_engine.proofs.ChangeLaws.{Changes, MovesTo, changes_moved, moved_chain_to, moved_chain_from, not_zero}
+use Rattle.fsrm_engine.proofs.FitLaws.{fits_moved, fits_new}
+use Rattle.fsrm_engine.proofs.GrowthLaws.{ChargedTo, charged_at, placed_folder}
+
+-- the change of a move
+abbrev pub move_change : ℕ → ℕ → ℕ → Change
+move_change from to bytes = record { from = Some from; to = Some to; minus = bytes; plus = bytes }
+
+abbrev pub moved_nodes : List NodeRow → ℕ → ℕ → List ℕ → List NodeRow
+moved_nodes nodes x d name = with_change number x (placed d name) nodes
+
+-- a node that may come to a place, as far as the way up goes
+pub moves_to : (nodes : List NodeRow) (x d : ℕ) (view : NodeView) (below : Bool) → Shows view nodes x → (x == 0) ≡ false → is_folder nodes d ≡ true → below ≡ is_under nodes x d → below ≡ false → MovesTo nodes x d
+moves_to nodes x d view below s inner folder is apart =
+    record { inner = inner; row = s.row; found = s.found; folder = folder; apart = sym is ∙ apart }
+
+pub move_changes : (K : Capacity) (nodes : List NodeRow) (quotas : List QuotaRow) (x d : ℕ) (name : List ℕ) (view : NodeView) (bytes : ℕ) → IsVolume K nodes → AreQuotas nodes quotas → Shows view nodes x → MovesTo nodes x d → IsMoved K nodes quotas x bytes → Changes K nodes (moved_nodes nodes x d name) quotas (move_change view.parent d bytes)
+move_changes K nodes quotas x d name view bytes v qs s m moved =
+    subst (λ (p : ℕ). Changes K nodes (moved_nodes nodes x d name) quotas (move_change p d bytes)) (found_parent nodes x s.row s.found ∙ sym s.is.parent)
+    (changes_moved K nodes quotas x d name bytes v qs m moved)
+
+pub move_done : (v w : Volume) (quotas : List QuotaRow) (tables : Tables) (counters charged_are : List Counter) (x d : ℕ) (name : List ℕ) (view : NodeView) (bytes m : ℕ) → IsEngine v.size v.nodes quotas counters → Shows view v.nodes x → MovesTo v.nodes x d → IsMoved v.size v.nodes quotas x bytes → w ≡ with_place v x d name → IsVolume w.size w.nodes → m ≤ 4102444799 →
+    charged_are ≡ map (charged_counter w.nodes (move_change view.parent d bytes)) counters → tables ≡ record { quotas = map (raised_above w.nodes (Some d) charged_are m) quotas } → ChargedTo v w quotas tables.quotas charged_are m
+move_done v w quotas tables counters charged_are x d name view bytes m e s to moved made kept late charging raising =
+    charged_at v w (moved_nodes v.nodes x d name) quotas tables counters charged_are (move_change view.parent d bytes) m made e kept
+    (λ f q found was. placed_folder v.nodes x d name f was)
+    (move_changes v.size v.nodes quotas x d name view bytes e.volume e.are_quotas s to moved) late charging raising
+
+-- the rows that a move leaves
+pub move_effect : (v w : Volume) (quotas : List QuotaRow) (last m : ℕ) (from to : List (List ℕ)) (n d : ℕ) (name : List ℕ) → resolve v.nodes from ≡ Some n → IsPlace v.nodes to d name → w ≡ with_place v n d name → (asked_of v quotas last m (File (Move from to))).effect ≡ rows_at w.nodes quotas last
+move_effect v w quotas last m from to n d name h p made =
+    ap (λ (u : Volume). rows_at u.nodes quotas last) (sym (made ∙ moved_is v from to n d name h p))
+
+-- a folder's place at or below itself is refused at once
+pub below_due : (v : Volume) (quotas : List QuotaRow) (last m : ℕ) (from to : List (List ℕ)) (n d : ℕ) (name : List ℕ) (below : Bool) → IsVolume v.size v.nodes → resolve v.nodes from ≡ Some n → (n == 0) ≡ false → IsPlace v.nodes to d name → below ≡ is_under v.nodes n d → below ≡ true → due v quotas last m (File (Move from to)) ≡ Some InvalidMove
+below_due v quotas last m from to n d name below k h inner p is is_below =
+    let over = exceeded v.size (rows_at v.nodes quotas last) (with_place v n d name).nodes in
+    move_due v quotas last m from to n d name k h inner p
+    ∙ ap (λ b. tree_first (first_fault (fault_if fault.InvalidMove b ∷ fault_if fault.AlreadyExists (is_other (child_number v.nodes d name) n) ∷ fault_if fault.NamesFull (nat_lt (v.size.names + length (name_of v.nodes n)) (name_bytes v.nodes + length name)) ∷ [])) over) (sym is ∙ is_below)
+
+-- how high the two folders are, before and after
+pub from_height : (K : Capacity) (nodes : List NodeRow) (path : List (List ℕ)) (n : ℕ) (view : NodeView) → IsVolume K nodes → resolve nodes path ≡ Some n → (n == 0) ≡ false → Shows view nodes n → length (chain nodes view.parent) ≤ length path
+from_height K nodes path n view v h inner s =
+    let r = resolved K nodes path n v h in
+    let lower = shorter nodes (tree_of K nodes v) n r.has (not_zero n inner) in
+    let same : length (chain nodes (parent_of nodes n)) ≡ length (chain nodes view.parent) = ap (λ p. length (chain nodes p)) (found_parent nodes n s.row s.found ∙ sym s.is.parent) in
+    omega (arith, r.deep, lower, same)
+
+pub to_height : (v w : Volume) (x d : ℕ) (name : List ℕ) → IsVolume v.size v.nodes → MovesTo v.nodes x d → w ≡ with_place v x d name → length (chain w.nodes d) ≡ length (chain v.nodes d)
+to_height v w x d name k m made = ap (λ (u : Volume). length (chain u.nodes d)) made ∙ ap length (moved_chain_to v.size v.nodes x d name k m)
+
+pub left_height : (v w : Volume) (x d : ℕ) (name : List ℕ) (view : NodeView) → IsVolume v.size v.nodes → MovesTo v.nodes x d → Shows view v.nodes x → w ≡ with_place v x d name → length (chain w.nodes view.parent) ≡ length (chain v.nodes view.parent)
+left_height v w x d name view k m s made =
+    ap (λ (u : Volume). length (chain u.nodes view.parent)) made
+    ∙ subst (λ (p : ℕ). length (chain (moved_nodes v.nodes x d name) p) ≡ length (chain v.nodes p)) (found_parent v.nodes x s.row s.found ∙ sym s.is.parent) (ap length (moved_chain_from v.size v.nodes x d name k m))
+
+-- the two folders are there, and stay
+pub parent_there : (K : Capacity) (nodes : List NodeRow) (n : ℕ) (view : NodeView) → IsVolume K nodes → Shows view nodes n → has_row number view.parent nodes ≡ true
+parent_there K nodes n view v s =
+    subst (λ (p : ℕ). has_row number p nodes ≡ true) (found_parent nodes n s.row s.found ∙ sym s.is.parent) ((tree_of K nodes v).closed n (found_has number n nodes s.row s.found))
+
+pub there_moved : (v w : Volume) (x d : ℕ) (name : List ℕ) (p : ℕ) → w ≡ with_place v x d name → has_row number p v.nodes ≡ true → has_row number p w.nodes ≡ true
+there_moved v w x d name p made h =
+    ap (λ (u : Volume). has_row number p u.nodes) made ∙ (has_row-change number x (placed d name) (λ r. refl) p v.nodes ∙ h)
+
+-- looking through what moves takes no more than is allowed
+move_room : (K : Capacity) (nodes : List NodeRow) (from to : List (List ℕ)) (n : ℕ) → IsVolume K nodes → resolve nodes from ≡ Some n → 3 * length (under nodes n) ≤ 3 + op_cost nodes (Move from to)
+move_room K nodes from to n v h = at (is_folder nodes n) refl
+  where
+    cost : (b : Bool) → is_folder nodes n ≡ b → op_cost nodes (Move from to) ≡ (if b then 8 * length (under nodes n) else 0)
+    cost b e =
+        ap (λ (t : ℕ). if leads_to_folder nodes from then 8 * length (under nodes t) else 0) (target_is nodes from n h)
+        ∙ ap (λ c. if c then 8 * length (under nodes n) else 0) (leads_to_folder_is nodes from n h ∙ e)
+
+    at : (b : Bool) → is_folder nodes n ≡ b → 3 * length (under nodes n) ≤ 3 + op_cost nodes (Move from to)
+    at true e = omega (arith, cost true e)
+    at false e =
+        let r = has_found number n nodes (resolved K nodes from n v h).has in
+        omega (arith, cost false e, count_of_file K nodes n r.row v r.is e)
+
+-- the same of the machine seen from outside
+pub room_seen : (v : Volume) (quotas : List QuotaRow) (last : ℕ) (old : Machine) (from to : List (List ℕ)) (n : ℕ) → machine v quotas last ≡ old → IsVolume v.size v.nodes → resolve v.nodes from ≡ Some n → 3 * length (under v.nodes n) ≤ 3 + op_cost old.rows.nodes (Move from to)
+room_seen v quotas last old from to n view k h =
+    subst (λ (o : Machine). 3 * length (under v.nodes n) ≤ 3 + op_cost o.rows.nodes (Move from to)) view (move_room v.size v.nodes from to n k h)
+
+-- what moves fits, on the old ways up and on the new
+pub move_fits : (v : Volume) (quotas : List QuotaRow) (counters : List Counter) (x d : ℕ) (name : List ℕ) (view : NodeView) (bytes : ℕ) → IsEngine v.size v.nodes quotas counters → Shows view v.nodes x → MovesTo v.nodes x d → IsMoved v.size v.nodes quotas x bytes → Fits v.nodes counters (move_change view.parent d bytes)
+move_fits v quotas counters x d name view bytes e s to moved =
+    fits_moved v.size v.nodes quotas counters x d name (move_change view.parent d bytes) e.volume e.legal e.are_quotas e.sums (move_changes v.size v.nodes quotas x d name view bytes e.volume e.are_quotas s to moved)
+
+pub moved_fits : (v w : Volume) (quotas : List QuotaRow) (counters : List Counter) (x d : ℕ) (name : List ℕ) (view : NodeView) (bytes : ℕ) → IsEngine v.size v.nodes quotas counters → Shows view v.nodes x → MovesTo v.nodes x d → IsMoved v.size v.nodes quotas x bytes → w ≡ with_place v x d name → Fits w.nodes counters (move_change view.parent d bytes)
+moved_fits v w quotas counters x d name view bytes e s to moved made =
+    subst (λ (u : Volume). Fits u.nodes counters (move_change view.parent d bytes)) (sym made)
+    (fits_new v.size v.nodes (moved_nodes v.nodes x d name) quotas counters (move_change view.parent d bytes) (move_changes v.size v.nodes quotas x d name view bytes e.volume e.are_quotas s to moved)
+    (move_fits v quotas counters x d name view bytes e s to moved))

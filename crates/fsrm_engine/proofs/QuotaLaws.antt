@@ -1,0 +1,340 @@
+-- What the commands on quotas keep.
+use Rattle.std.proofs.Common.{◌≡◌, ℕ, suc, ◌<◌, ◌≤◌, ◌==◌, Bool, true, false, cond, not, inl, inr, List, [], ◌∷◌, length, Option, Some, None, nat_lt, nat_le, refl, ap, sym, ◌∙◌, subst, arith, Bor}
+use Rattle.std.proofs.lemmas.Bool.Decides.{nat_tests}
+use Rattle.std.proofs.lemmas.Option.{same_Some}
+use Rattle.std.specs.Prelude.{map, filter, sum_by, is_some, is_none, unwrap_or, if◌then◌else◌}
+use Rattle.std.specs.Option.{option_map_or, option_copied}
+use Rattle.fsrm_model.specs.declared.command.Answer.{Answer}
+use Rattle.fsrm_model.specs.declared.command.Deed.{Deed}
+use Rattle.fsrm_model.specs.declared.command.Deed.TheVariants.{QuotaAdd}
+use Rattle.fsrm_model.specs.declared.command.Outcome.TheVariants.{Done}
+use Rattle.fsrm_model.specs.declared.command.Refusal.{Refusal}
+use Rattle.fsrm_model.specs.declared.command.Refusal.TheVariants.{PathNotFound, NotFound, AlreadyExists, TableFull, NeedsScan}
+use Rattle.fsrm_model.specs.declared.row.Capacity.{Capacity}
+use Rattle.fsrm_model.specs.declared.row.NodeRow.{NodeRow}
+use Rattle.fsrm_model.specs.declared.row.QuotaRow.{QuotaRow}
+use Rattle.fsrm_model.specs.Check.{◌when◌, first}
+use Rattle.fsrm_model.specs.FileOps.{target}
+use Rattle.fsrm_model.specs.Keyed.{row_of, has_row, is_ascending, with_row, with_change, without_row}
+use Rattle.fsrm_model.specs.Leads.{leads_to_folder}
+use Rattle.fsrm_model.specs.Limits.{latest_moment, most_quotas}
+use Rattle.fsrm_model.specs.Quota.{folder_of, counts, is_limit, peaked}
+use Rattle.fsrm_model.specs.QuotaWork.{quota_checks, new_quota, modified, reset}
+use Rattle.fsrm_model.specs.Step.{step}
+use Rattle.fsrm_model.specs.Space.{space}
+use Rattle.fsrm_model.specs.Tree.{node_of, is_folder, children, usage}
+use Rattle.fsrm_model.specs.Valid.{IsVolume, AreQuotas, IsStore, is_moment}
+use Rattle.fsrm_model.proofs.Look.{found_key, found_has, has_found, changed_key, changed_found, row_of-without, has_row-without, new_found, is_some-find}
+use Rattle.fsrm_model.proofs.Order.{ascending-with_row, ascending-change, ascending-filter, length-with_row, length-change}
+use Rattle.fsrm_model.proofs.TestLaws.{is_or_not, not_true, clash, eq_is, suc_apart}
+use Rattle.fsrm_model.proofs.UsageLaws.{usage_children}
+use Rattle.fsrm_objects.specs.Tables.{Tables, peaked_at, with_quota}
+use Rattle.fsrm_objects.proofs.SortedRows.{has_lent}
+use Rattle.quota_usage.specs.declared.change.Counter.{Counter}
+use Rattle.quota_usage.specs.Counters.{counted, used_in, with_counter, without_counter}
+use Rattle.volume_tree.specs.Volume.{Volume}
+use Rattle.fsrm_engine.specs.Faults.{refused_answer}
+use Rattle.fsrm_engine.specs.Machine.{Machine, Takes, rows_at, sums_of, IsEngine}
+use Rattle.fsrm_engine.specs.Places.{IsFolder}
+use Rattle.fsrm_engine.proofs.PeakLaws.{engine_peaked, peaks_stay}
+use Rattle.fsrm_engine.proofs.PlaceLaws.{target_is, leads_to_folder_is}
+use Rattle.fsrm_engine.proofs.RowLaws.{change_same}
+use Rattle.fsrm_engine.proofs.StepLaws.{machine, asked_of, due, refused_at, done_at}
+use Rattle.fsrm_engine.proofs.SumLaws.{used_found, sums_few, sums_has, sums_with, sums_without, sums_kept}
+
+-- what holds of quotas and counters behind a command of this moment that left the nodes as they were
+pub record Kept (K : Capacity) (nodes : List NodeRow) (counters : List Counter) (m : ℕ) (after : List QuotaRow) : Type 0 where
+  pub are : AreQuotas nodes after
+  pub sums : counters ≡ sums_of K nodes after
+  pub peaks : after ≡ map (peaked K nodes m) after
+
+pub is_moment_of : (m : ℕ) → m ≤ latest_moment → is_moment m ≡ true
+is_moment_of m h = grind (arith, nat_tests)
+
+-- of quotas and counters that are made so
+pub kept_same : (K : Capacity) (nodes : List NodeRow) (counters made : List Counter) (m : ℕ) (after set : List QuotaRow) → made ≡ counters → set ≡ after → Kept K nodes counters m after → Kept K nodes made m set
+kept_same K nodes counters made m after set c q k =
+    subst (λ (qs : List QuotaRow). Kept K nodes made m qs) (sym q) (subst (λ (cs : List Counter). Kept K nodes cs m after) (sym c) k)
+
+-- then it is an engine
+pub engine_kept : (K : Capacity) (nodes : List NodeRow) (quotas after : List QuotaRow) (old counters : List Counter) (m : ℕ) → IsEngine K nodes quotas old → m ≤ latest_moment → Kept K nodes counters m after → IsEngine K nodes after counters
+engine_kept K nodes quotas after old counters m e late k =
+    subst (λ (qs : List QuotaRow). IsEngine K nodes qs counters) (sym k.peaks)
+    (engine_peaked K nodes after counters m e.volume e.legal k.are (is_moment_of m late) k.sums)
+
+-- and its rows are those of a store
+pub store_kept : (v : Volume) (after : List QuotaRow) (counters : List Counter) (m : ℕ) (new : Machine) → IsVolume v.size v.nodes → Kept v.size v.nodes counters m after → new ≡ machine v after m → IsStore new.size new.rows
+store_kept v after counters m new volume k n =
+    subst (λ (o : Machine). IsStore o.size o.rows) (sym n) (record { volume = volume; quotas = k.are })
+
+-- the answer to a command on quotas that was done
+pub quotas_done : (v : Volume) (quotas after : List QuotaRow) (counters : List Counter) (last m : ℕ) (deed : Deed) (old new : Machine) (answer : Answer) → machine v quotas last ≡ old → last ≤ m → due v quotas last m deed ≡ None → (asked_of v quotas last m deed).effect ≡ rows_at v.nodes after last → (asked_of v quotas last m deed).outcome ≡ Done None → (asked_of v quotas last m deed).lasts ≡ true → Kept v.size v.nodes counters m after → new ≡ machine v after m → answer ≡ record { outcome = Done None; lasting = true } → Takes old new (step old.size old.rows (record { moment = m; deed = deed })) answer
+quotas_done v quotas after counters last m deed old new answer view late none effect outcome lasts k n e =
+    done_at v v quotas after after last m deed old new answer view (subst (λ (o : Machine). o.rows.last_moment ≤ m) view late) none effect outcome lasts refl k.peaks n e
+
+-- and to one whose refusal is due
+pub quotas_refused : (v : Volume) (quotas : List QuotaRow) (last m : ℕ) (deed : Deed) (old : Machine) (answer : Answer) (refusal : Refusal) → machine v quotas last ≡ old → last ≤ m → due v quotas last m deed ≡ Some refusal → answer ≡ refused_answer refusal → Takes old old (step old.size old.rows (record { moment = m; deed = deed })) answer
+quotas_refused v quotas last m deed old answer refusal view late h e =
+    refused_at v quotas last m deed old answer refusal view (subst (λ (o : Machine). o.rows.last_moment ≤ m) view late) h e
+
+-- the quota of a folder that a path leads to
+pub record OnFolder (nodes : List NodeRow) (quotas : List QuotaRow) (path : List (List ℕ)) (n : ℕ) : Type 0 where
+  pub at : IsFolder nodes path n
+  pub quota : QuotaRow
+  pub found : row_of folder_of n quotas ≡ Some quota
+
+pub on_folder : (nodes : List NodeRow) (quotas : List QuotaRow) (path : List (List ℕ)) (n : ℕ) (o : Option (Bor QuotaRow)) → IsFolder nodes path n → option_copied o ≡ row_of folder_of n quotas → is_some o ≡ true → OnFolder nodes quotas path n
+on_folder nodes quotas path n o at e h =
+    let f = has_found folder_of n quotas (sym (has_lent folder_of n quotas o e) ∙ h) in
+    record { at = at; quota = f.row; found = f.is }
+
+pub has_quota : (nodes : List NodeRow) (quotas : List QuotaRow) (path : List (List ℕ)) (n : ℕ) → OnFolder nodes quotas path n → has_row folder_of n quotas ≡ true
+has_quota nodes quotas path n o = found_has folder_of n quotas o.quota o.found
+
+-- then no refusal is due
+pub quota_due : (nodes : List NodeRow) (quotas : List QuotaRow) (last : ℕ) (path : List (List ℕ)) (n : ℕ) → OnFolder nodes quotas path n → first (quota_checks (rows_at nodes quotas last) path) ≡ None
+quota_due nodes quotas last path n o =
+    at (leads_to_folder nodes path) (is_none (row_of folder_of (target nodes path) quotas))
+    (leads_to_folder_is nodes path n o.at.resolved ∙ o.at.folder)
+    (ap (λ k. is_none (row_of folder_of k quotas)) (target_is nodes path n o.at.resolved) ∙ ap is_none o.found)
+  where
+    at : (a b : Bool) → a ≡ true → b ≡ false → first ((PathNotFound when not a) ∷ (NotFound when b) ∷ []) ≡ None
+    at true true a b = cc
+    at true false a b = refl
+    at false b a e = cc
+
+-- without a folder's quota
+without_found : (n f : ℕ) (quotas : List QuotaRow) (q : QuotaRow) → row_of folder_of f (without_row folder_of n quotas) ≡ Some q → row_of folder_of f quotas ≡ Some q
+without_found n f quotas q h =
+    elim (is_or_not (f == n)) [
+      | inl t ↦ absurd (clash (has_row folder_of f (without_row folder_of n quotas)) (found_has folder_of f (without_row folder_of n quotas) q h)
+          (ap (λ k. has_row folder_of k (without_row folder_of n quotas)) (eq_is f n t) ∙ has_row-without folder_of n quotas))
+      | inr t ↦ sym (row_of-without folder_of n f quotas t) ∙ h
+    ]
+
+filter_few : {X : Type 0} (p : X → Bool) (xs : List X) → length (filter p xs) ≤ length xs
+filter_few p [] = omega arith
+filter_few p (x ∷ xs) = at (p x) (filter_few p xs)
+  where
+    at : (b : Bool) → length (filter p xs) ≤ length xs → length (cond b (x ∷ filter p xs) (filter p xs)) ≤ length (x ∷ xs)
+    at true h = omega arith
+    at false h = omega arith
+
+pub kept_without : (K : Capacity) (nodes : List NodeRow) (quotas : List QuotaRow) (counters : List Counter) (m n : ℕ) → IsEngine K nodes quotas counters → Kept K nodes (without_counter counters n) m (without_row folder_of n quotas)
+kept_without K nodes quotas counters m n e =
+    let q = e.are_quotas in
+    let asc = ascending-filter folder_of (λ r. not (folder_of r == n)) quotas q.ascending in
+    record {
+      are = record {
+        ascending = asc;
+        few = omega (arith, filter_few (λ r. not (folder_of r == n)) quotas, q.few);
+        folders = λ f r h. q.folders f r (without_found n f quotas r h);
+        limits = λ f r h. q.limits f r (without_found n f quotas r h);
+        moments = λ f r h. q.moments f r (without_found n f quotas r h);
+      };
+      sums = ap (without_row counted n) e.sums ∙ sym (sums_without K nodes n quotas);
+      peaks = peaks_stay K nodes m (without_row folder_of n quotas) asc (λ r h c. e.peaks (folder_of r) r (without_found n (folder_of r) quotas r h) c);
+    }
+
+-- a change of a quota that keeps what counts
+record Safe (K : Capacity) (nodes : List NodeRow) (c : QuotaRow → QuotaRow) : Type 0 where
+  folder : (r : QuotaRow) → (c r).folder ≡ r.folder
+  counting : (r : QuotaRow) → counts (c r) ≡ counts r
+  limit : (r : QuotaRow) → is_limit r.limit ≡ true → is_limit (c r).limit ≡ true
+  moment : (r : QuotaRow) → is_moment r.peak_at ≡ true → is_moment (c r).peak_at ≡ true
+  peak : (r : QuotaRow) → counts r ≡ true → usage K nodes r.folder ≤ r.peak → usage K nodes r.folder ≤ (c r).peak
+
+-- a fact of a changed row, from the same of the row as it was
+of_changed : (n : ℕ) (c : QuotaRow → QuotaRow) (P : QuotaRow → Type 0) → ((r : QuotaRow) → (c r).folder ≡ r.folder) → ((r : QuotaRow) → P r → P (c r)) → (f : ℕ) (quotas : List QuotaRow) (r : QuotaRow) → ((r : QuotaRow) → row_of folder_of f quotas ≡ Some r → P r) → row_of folder_of f (with_change folder_of n c quotas) ≡ Some r → P r
+of_changed n c P k s f quotas r old h =
+    let w = changed_found folder_of n c k f quotas r h in
+    subst P (sym w.is) (at (f == n) w.row (old w.row w.found))
+  where
+    at : (b : Bool) (r : QuotaRow) → P r → P (cond b (c r) r)
+    at true r p = s r p
+    at false r p = p
+
+kept_changed : (K : Capacity) (nodes : List NodeRow) (quotas : List QuotaRow) (counters : List Counter) (m n : ℕ) (c : QuotaRow → QuotaRow) → IsEngine K nodes quotas counters → Safe K nodes c → Kept K nodes counters m (with_change folder_of n c quotas)
+kept_changed K nodes quotas counters m n c e s =
+    let q = e.are_quotas in
+    let asc = ascending-change folder_of n c s.folder quotas q.ascending in
+    record {
+      are = record {
+        ascending = asc;
+        few = omega (arith, length-change folder_of n c quotas, q.few);
+        folders = λ f r h. q.folders f _ (changed_found folder_of n c s.folder f quotas r h).found;
+        limits = λ f r h. of_changed n c (λ r. is_limit r.limit ≡ true) s.folder s.limit f quotas r (q.limits f) h;
+        moments = λ f r h. of_changed n c (λ r. is_moment r.peak_at ≡ true) s.folder s.moment f quotas r (q.moments f) h;
+      };
+      sums = e.sums ∙ sym (sums_kept K nodes (λ r. if folder_of r == n then c r else r) (λ r. changed_key folder_of n c s.folder (folder_of r == n) r) (λ r. same_counts (folder_of r == n) r) quotas);
+      peaks = peaks_stay K nodes m (with_change folder_of n c quotas) asc (λ r h. of_changed n c (λ r. counts r ≡ true → usage K nodes r.folder ≤ r.peak) s.folder kept_peak (folder_of r) quotas r (old_peak (folder_of r)) h);
+    }
+  where
+    same_counts : (b : Bool) (r : QuotaRow) → counts (cond b (c r) r) ≡ counts r
+    same_counts true r = s.counting r
+    same_counts false r = refl
+
+    kept_peak : (r : QuotaRow) → (counts r ≡ true → usage K nodes r.folder ≤ r.peak) → counts (c r) ≡ true → usage K nodes (c r).folder ≤ (c r).peak
+    kept_peak r h t =
+        let was : counts r ≡ true = sym (s.counting r) ∙ t in
+        subst (λ k. usage K nodes k ≤ (c r).peak) (sym (s.folder r)) (s.peak r was (h was))
+
+    old_peak : (f : ℕ) (r : QuotaRow) → row_of folder_of f quotas ≡ Some r → counts r ≡ true → usage K nodes r.folder ≤ r.peak
+    old_peak f r found t = subst (λ k. usage K nodes k ≤ r.peak) (sym (found_key folder_of f quotas r found)) (e.peaks f r found t)
+
+-- with another limit or type
+new_limit : (limit : Option ℕ) (old : ℕ) → option_map_or is_limit limit true ≡ true → is_limit old ≡ true → is_limit (unwrap_or limit old) ≡ true
+new_limit None old h o = o
+new_limit (Some limit) old h o = h
+
+pub kept_modified : (K : Capacity) (nodes : List NodeRow) (quotas : List QuotaRow) (counters : List Counter) (m n : ℕ) (limit : Option ℕ) (enforce : Option Bool) → IsEngine K nodes quotas counters → option_map_or is_limit limit true ≡ true → Kept K nodes counters m (with_change folder_of n (modified limit enforce) quotas)
+kept_modified K nodes quotas counters m n limit enforce e h =
+    kept_changed K nodes quotas counters m n (modified limit enforce) e
+    (record { folder = λ r. refl; counting = λ r. refl; limit = λ r o. new_limit limit r.limit h o; moment = λ r o. o; peak = λ r c o. o })
+
+-- with the peak that is used now
+pub kept_reset : (K : Capacity) (nodes : List NodeRow) (quotas : List QuotaRow) (counters : List Counter) (last m n : ℕ) → IsEngine K nodes quotas counters → m ≤ latest_moment → Kept K nodes counters m (with_change folder_of n (reset K (rows_at nodes quotas last) m) quotas)
+kept_reset K nodes quotas counters last m n e late =
+    kept_changed K nodes quotas counters m n (reset K (rows_at nodes quotas last) m) e
+    (record { folder = λ r. refl; counting = λ r. refl; limit = λ r o. o; moment = λ r o. is_moment_of m late; peak = λ r c o. at r (counts r) c })
+  where
+    at : (r : QuotaRow) (b : Bool) → b ≡ true → usage K nodes r.folder ≤ cond b (usage K nodes r.folder) 0
+    at r true h = omega arith
+    at r false h = cc
+
+-- what is written is what is due
+pub reset_is : (K : Capacity) (nodes : List NodeRow) (quotas : List QuotaRow) (counters : List Counter) (last m n used : ℕ) → IsEngine K nodes quotas counters → used ≡ unwrap_or (used_in counters n) 0 → with_change folder_of n (peaked_at used m) quotas ≡ with_change folder_of n (reset K (rows_at nodes quotas last) m) quotas
+reset_is K nodes quotas counters last m n used e h =
+    change_same folder_of n (peaked_at used m) (reset K (rows_at nodes quotas last) m) quotas e.are_quotas.ascending (λ r found.
+    ap (λ p. record r { peak = p; peak_at = m })
+    (h ∙ (ap (λ cs. unwrap_or (used_in cs n) 0) e.sums ∙ (ap (λ o. unwrap_or o 0) (used_found K nodes quotas n r e.are_quotas.ascending found) ∙ at (counts r) (usage K nodes r.folder)))))
+  where
+    at : (b : Bool) (u : ℕ) → unwrap_or (cond b (Some u) None) 0 ≡ cond b u 0
+    at true u = refl
+    at false u = refl
+
+pub modified_is : (quotas : List QuotaRow) (n : ℕ) (limit : Option ℕ) (enforce : Option Bool) (quota row : QuotaRow) → is_ascending folder_of quotas ≡ true → row_of folder_of n quotas ≡ Some quota → row ≡ modified limit enforce quota → with_change folder_of row.folder (λ old. row) quotas ≡ with_change folder_of n (modified limit enforce) quotas
+modified_is quotas n limit enforce quota row asc found is =
+    ap (λ k. with_change folder_of k (λ old. row) quotas) (ap (λ (r : QuotaRow). r.folder) is ∙ found_key folder_of n quotas quota found)
+    ∙ change_same folder_of n (λ old. row) (modified limit enforce) quotas asc (λ r h. is ∙ ap (modified limit enforce) (same_Some quota r (sym found ∙ h)))
+
+-- a folder without children takes nothing
+no_length : {X : Type 0} (xs : List X) → length xs ≡ 0 → xs ≡ []
+no_length [] h = refl
+no_length (x ∷ xs) h = absurd (omega arith)
+
+pub empty_folder : (K : Capacity) (nodes : List NodeRow) (n : ℕ) → IsVolume K nodes → is_folder nodes n ≡ true → length (children nodes n) ≡ 0 → usage K nodes n ≡ 0
+empty_folder K nodes n v f h =
+    at (node_of nodes n) f refl
+  where
+    at : (o : Option NodeRow) → option_map_or (λ node. node.folder) o false ≡ true → node_of nodes n ≡ o → usage K nodes n ≡ 0
+    at None e is = cc
+    at (Some r) e is =
+        let nothing : space K r ≡ 0 = ap (λ b. cond b 0 (space K (record r { folder = false }))) e in
+        let none : sum_by (λ c. usage K nodes c.number) (children nodes n) ≡ 0 = ap (sum_by (λ c. usage K nodes c.number)) (no_length (children nodes n) h) in
+        omega (arith, usage_children K nodes n r v is, nothing, none)
+
+-- with one more
+of_new : (quota : QuotaRow) (P : ℕ → QuotaRow → Type 0) (f : ℕ) (quotas : List QuotaRow) (r : QuotaRow) → has_row folder_of quota.folder quotas ≡ false → P quota.folder quota → ((r : QuotaRow) → row_of folder_of f quotas ≡ Some r → P f r) → row_of folder_of f (with_row folder_of quota quotas) ≡ Some r → P f r
+of_new quota P f quotas r absent new old h =
+    elim (new_found folder_of quota f quotas r absent h).other [
+      | inl own ↦ subst (λ k. P k r) (sym own.0) (subst (P quota.folder) (sym own.1) new)
+      | inr later ↦ old r later.1
+    ]
+
+pub kept_new : (K : Capacity) (nodes : List NodeRow) (quotas : List QuotaRow) (counters : List Counter) (m n limit : ℕ) (enforce : Bool) → IsEngine K nodes quotas counters → m ≤ latest_moment → is_limit limit ≡ true → is_folder nodes n ≡ true → has_row folder_of n quotas ≡ false → length quotas < most_quotas → length (children nodes n) ≡ 0 → Kept K nodes (with_counter counters n 0) m (with_row folder_of (new_quota n limit enforce m) quotas)
+kept_new K nodes quotas counters m n limit enforce e late l folder absent room empty =
+    let q = e.are_quotas in
+    let new = new_quota n limit enforce m in
+    let asc = ascending-with_row folder_of new quotas absent q.ascending in
+    let nothing : usage K nodes n ≡ 0 = empty_folder K nodes n e.volume folder empty in
+    record {
+      are = record {
+        ascending = asc;
+        few = omega (arith, length-with_row folder_of new quotas);
+        folders = λ f r h. of_new new (λ f r. is_folder nodes f ≡ true) f quotas r absent folder (q.folders f) h;
+        limits = λ f r h. of_new new (λ f r. is_limit r.limit ≡ true) f quotas r absent l (q.limits f) h;
+        moments = λ f r h. of_new new (λ f r. is_moment r.peak_at ≡ true) f quotas r absent (is_moment_of m late) (q.moments f) h;
+      };
+      sums =
+          ap (λ cs. with_counter cs n 0) e.sums
+          ∙ (ap (with_counter (sums_of K nodes quotas) n) (sym nothing)
+          ∙ sym (sums_with K nodes new quotas refl q.ascending));
+      peaks = peaks_stay K nodes m (with_row folder_of new quotas) asc (λ r h. of_new new (λ f r. counts r ≡ true → usage K nodes f ≤ r.peak) (folder_of r) quotas r absent (λ c. omega (arith, nothing)) (e.peaks (folder_of r)) h);
+    }
+
+-- what was found before a quota is added
+pub record IsNew (nodes : List NodeRow) (quotas : List QuotaRow) (path : List (List ℕ)) (n : ℕ) : Type 0 where
+  pub at : IsFolder nodes path n
+  pub absent : has_row folder_of n quotas ≡ false
+
+pub is_new : (nodes : List NodeRow) (quotas : List QuotaRow) (path : List (List ℕ)) (n : ℕ) (o : Option (Bor QuotaRow)) → IsFolder nodes path n → option_copied o ≡ row_of folder_of n quotas → is_some o ≡ false → IsNew nodes quotas path n
+is_new nodes quotas path n o at e h = record { at = at; absent = sym (has_lent folder_of n quotas o e) ∙ h }
+
+-- a new quota's refusals, by whether there are so many quotas, and whether the folder has a child
+pub add_due : (v : Volume) (quotas : List QuotaRow) (last m : ℕ) (path : List (List ℕ)) (n limit : ℕ) (enforce full scan : Bool) → IsNew v.nodes quotas path n → nat_le most_quotas (length quotas) ≡ full → not (length (children v.nodes n) == 0) ≡ scan → due v quotas last m (QuotaAdd path limit enforce) ≡ (if full then Some TableFull else if scan then Some NeedsScan else None)
+add_due v quotas last m path n limit enforce full scan new f s =
+    at (leads_to_folder v.nodes path) (is_some (row_of folder_of (target v.nodes path) quotas)) (nat_lt most_quotas (length after)) (not (length (children v.nodes (target v.nodes path)) == 0))
+    (leads_to_folder_is v.nodes path n new.at.resolved ∙ new.at.folder)
+    (ap (λ k. is_some (row_of folder_of k quotas)) to ∙ (is_some-find (λ r. folder_of r == n) quotas ∙ new.absent))
+    (ap (nat_lt most_quotas) (length-with_row folder_of (new_quota (target v.nodes path) limit enforce m) quotas) ∙ (turned (length quotas) ∙ f))
+    (ap (λ k. not (length (children v.nodes k) == 0)) to ∙ s)
+  where
+    after : List QuotaRow
+    after = with_row folder_of (new_quota (target v.nodes path) limit enforce m) quotas
+
+    to : target v.nodes path ≡ n
+    to = target_is v.nodes path n new.at.resolved
+
+    turned : (k : ℕ) → nat_lt most_quotas (suc k) ≡ nat_le most_quotas k
+    turned k = grind (arith, nat_tests)
+
+    at : (a b c d : Bool) → a ≡ true → b ≡ false → c ≡ full → d ≡ scan → first ((PathNotFound when not a) ∷ (AlreadyExists when b) ∷ (TableFull when c) ∷ (NeedsScan when d) ∷ []) ≡ (if full then Some TableFull else if scan then Some NeedsScan else None)
+    at true false c d a b f s = subst (λ x. first ((TableFull when c) ∷ (NeedsScan when d) ∷ []) ≡ cond x (Some TableFull) (cond scan (Some NeedsScan) None)) f (subst (λ x. first ((TableFull when c) ∷ (NeedsScan when d) ∷ []) ≡ cond c (Some TableFull) (cond x (Some NeedsScan) None)) s (by_two c d))
+      where
+        by_two : (c d : Bool) → first ((TableFull when c) ∷ (NeedsScan when d) ∷ []) ≡ cond c (Some TableFull) (cond d (Some NeedsScan) None)
+        by_two true d = refl
+        by_two false true = refl
+        by_two false false = refl
+    at true true c d a b f s = cc
+    at false b c d a e f s = cc
+
+-- how many quotas there are, and how many children, as tests
+pub full_is : (quotas : List QuotaRow) (count : ℕ) → count ≡ length quotas → most_quotas ≤ count → nat_le most_quotas (length quotas) ≡ true
+full_is quotas count h l = grind (arith, nat_tests)
+
+pub room_is : (quotas : List QuotaRow) (count : ℕ) → count ≡ length quotas → count < most_quotas → nat_le most_quotas (length quotas) ≡ false
+room_is quotas count h l = grind (arith, nat_tests)
+
+pub children_are : (nodes : List NodeRow) (count : ℕ) → count ≡ length nodes → 0 < count → not (length nodes == 0) ≡ true
+children_are [] count h l = absurd (omega arith)
+children_are (r ∷ nodes) count h l = ap not (suc_apart (length nodes))
+
+pub children_none : (nodes : List NodeRow) (count : ℕ) → count ≡ length nodes → count ≤ 0 → not (length nodes == 0) ≡ false
+children_none [] count h l = refl
+children_none (r ∷ nodes) count h l = absurd (omega arith)
+
+-- there is room for a counter, and none yet
+pub counter_room : (K : Capacity) (nodes : List NodeRow) (quotas : List QuotaRow) (counters : List Counter) (count : ℕ) → IsEngine K nodes quotas counters → count ≡ length quotas → count < most_quotas → length counters < most_quotas
+counter_room K nodes quotas counters count e h l = omega (arith, ap length e.sums, sums_few K nodes quotas)
+
+pub counter_free : (K : Capacity) (nodes : List NodeRow) (quotas : List QuotaRow) (counters : List Counter) (n : ℕ) → IsEngine K nodes quotas counters → has_row folder_of n quotas ≡ false → has_row counted n counters ≡ false
+counter_free K nodes quotas counters n e absent =
+    not_true _ (λ t. clash _ (sums_has K nodes n quotas (ap (has_row counted n) (sym e.sums) ∙ t)) absent)
+
+-- a quota that is copied, and changed
+pub copied_has : (quotas : List QuotaRow) (n : ℕ) (quota row : QuotaRow) → row_of folder_of n quotas ≡ Some quota → row ≡ quota → has_row folder_of row.folder quotas ≡ true
+copied_has quotas n quota row found is =
+    ap (λ k. has_row folder_of k quotas) (ap (λ (r : QuotaRow). r.folder) is ∙ found_key folder_of n quotas quota found) ∙ found_has folder_of n quotas quota found
+
+pub modified_row : (quota row : QuotaRow) (limit : Option ℕ) (enforce : Option Bool) (l : ℕ) (e : Bool) → row ≡ quota → l ≡ unwrap_or limit row.limit → e ≡ unwrap_or enforce row.enforce → record row { limit = l; enforce = e } ≡ modified limit enforce quota
+modified_row quota row limit enforce l e is ll ee =
+    ap (λ (k : ℕ). record row { limit = k; enforce = e }) ll
+    ∙ (ap (λ (b : Bool). record row { limit = unwrap_or limit row.limit; enforce = b }) ee ∙ ap (modified limit enforce) is)
+
+-- a quota that was added, as the engine finds it
+pub added : (K : Capacity) (nodes : List NodeRow) (quotas : List QuotaRow) (counters made : List Counter) (set : Tables) (quota : QuotaRow) (m n limit : ℕ) (enforce : Bool) (count childs : ℕ) (path : List (List ℕ)) → IsEngine K nodes quotas counters → m ≤ latest_moment → is_limit limit ≡ true → IsNew nodes quotas path n → count ≡ length quotas → count < most_quotas → childs ≡ length (children nodes n) → childs ≤ 0 → quota ≡ new_quota n limit enforce m → set ≡ with_quota (record { quotas = quotas }) quota → made ≡ with_counter counters n 0 → Kept K nodes made m set.quotas
+added K nodes quotas counters made set quota m n limit enforce count childs path e late l new c room h none is s d =
+    kept_same K nodes (with_counter counters n 0) made m (with_row folder_of (new_quota n limit enforce m) quotas) set.quotas d
+    (ap (λ (t : Tables). t.quotas) s ∙ ap (λ (q : QuotaRow). with_row folder_of q quotas) is)
+    (kept_new K nodes quotas counters m n limit enforce e late l new.at.folder new.absent (omega arith) (omega arith))

@@ -1,0 +1,95 @@
+-- One quota's peak, raised by its counter.
+use Rattle.std.proofs.Common.{◌≡◌, ℕ, ◌<◌, ◌≤◌, ◌==◌, Bool, true, false, cond, inl, inr, List, [], ◌∷◌, Option, Some, None, nat_lt, refl, ap, sym, ◌∙◌, subst, arith}
+use Rattle.std.proofs.lemmas.Bool.Decides.{nat_tests}
+use Rattle.std.proofs.lemmas.Option.{same_Some}
+use Rattle.std.specs.Prelude.{map, is_some, if◌then◌else◌}
+use Rattle.std.specs.Option.{option_map_or}
+use Rattle.fsrm_model.specs.declared.row.QuotaRow.{QuotaRow}
+use Rattle.fsrm_model.specs.Keyed.{row_of, is_ascending, with_change}
+use Rattle.fsrm_model.specs.Quota.{folder_of}
+use Rattle.fsrm_model.specs.declared.row.NodeRow.{NodeRow}
+use Rattle.fsrm_model.specs.Tree.{parent_of, is_under}
+use Rattle.fsrm_model.proofs.Below.{above_all}
+use Rattle.fsrm_model.proofs.ChainLaws.{IsTree, Has, is_in}
+use Rattle.fsrm_model.proofs.ChangeLaws.{change_absent}
+use Rattle.fsrm_model.proofs.Climbs.{climb, under_own}
+use Rattle.fsrm_model.proofs.Keeps.{found_parent}
+use Rattle.fsrm_model.proofs.TestLaws.{eq_is, is_or_not, or_later}
+use Rattle.volume_tree.specs.declared.answer.NodeView.{NodeView}
+use Rattle.volume_tree.specs.Volume.{Shows}
+use Rattle.fsrm_model.proofs.Look.{found_key, is_some-find}
+use Rattle.fsrm_objects.specs.Tables.{peaked_at}
+use Rattle.quota_usage.specs.declared.change.Counter.{Counter}
+use Rattle.quota_usage.specs.Counters.{used_in}
+use Rattle.fsrm_engine.specs.Peaks.{raised, raised_above}
+use Rattle.fsrm_engine.proofs.RowLaws.{change_same, change_none}
+
+raised_by : (counters : List Counter) (m : ℕ) (q : QuotaRow) (o : Option ℕ) → used_in counters q.folder ≡ o → raised counters m q ≡ option_map_or (λ used. if nat_lt q.peak used then record q { peak = used; peak_at = m } else q) o q
+raised_by counters m q o h = ap (λ o. option_map_or (λ used. if nat_lt q.peak used then record q { peak = used; peak_at = m } else q) o q) h
+
+-- the counter of the folder that a quota is found on
+own_used : (counters : List Counter) (quotas : List QuotaRow) (f : ℕ) (q : QuotaRow) (o : Option ℕ) → row_of folder_of f quotas ≡ Some q → used_in counters f ≡ o → used_in counters q.folder ≡ o
+own_used counters quotas f q o found h = ap (used_in counters) (found_key folder_of f quotas q found) ∙ h
+
+pub raise_none : (counters : List Counter) (quotas : List QuotaRow) (f m : ℕ) → is_ascending folder_of quotas ≡ true → used_in counters f ≡ None → quotas ≡ with_change folder_of f (raised counters m) quotas
+raise_none counters quotas f m asc h =
+    sym (change_same folder_of f (raised counters m) (λ q. q) quotas asc (λ q found. raised_by counters m q None (own_used counters quotas f q None found h)) ∙ change_none folder_of f quotas)
+
+pub raise_absent : (counters : List Counter) (quotas : List QuotaRow) (f m : ℕ) → row_of folder_of f quotas ≡ None → quotas ≡ with_change folder_of f (raised counters m) quotas
+raise_absent counters quotas f m h = sym (change_absent folder_of f (raised counters m) quotas (sym (is_some-find (λ q. folder_of q == f) quotas) ∙ ap is_some h))
+
+not_less : (x y : ℕ) → y ≤ x → nat_lt x y ≡ false
+not_less x y h = grind (arith, nat_tests)
+
+less : (x y : ℕ) → x < y → nat_lt x y ≡ true
+less x y h = grind (arith, nat_tests)
+
+pub raise_low : (counters : List Counter) (quotas : List QuotaRow) (f m used : ℕ) (q : QuotaRow) → is_ascending folder_of quotas ≡ true → used_in counters f ≡ Some used → row_of folder_of f quotas ≡ Some q → used ≤ q.peak → quotas ≡ with_change folder_of f (raised counters m) quotas
+raise_low counters quotas f m used q asc h found low =
+    sym (change_same folder_of f (raised counters m) (λ q. q) quotas asc (λ r at.
+    raised_by counters m r (Some used) (own_used counters quotas f r (Some used) at h)
+    ∙ ap (λ b. cond b (record r { peak = used; peak_at = m }) r) (not_less r.peak used (subst (λ (s : QuotaRow). used ≤ s.peak) (same_Some q r (sym found ∙ at)) low)))
+    ∙ change_none folder_of f quotas)
+
+pub raise_high : (counters : List Counter) (quotas : List QuotaRow) (f m used : ℕ) (q : QuotaRow) → is_ascending folder_of quotas ≡ true → used_in counters f ≡ Some used → row_of folder_of f quotas ≡ Some q → q.peak < used → with_change folder_of f (peaked_at used m) quotas ≡ with_change folder_of f (raised counters m) quotas
+raise_high counters quotas f m used q asc h found high =
+    sym (change_same folder_of f (raised counters m) (peaked_at used m) quotas asc (λ r at.
+    raised_by counters m r (Some used) (own_used counters quotas f r (Some used) at h)
+    ∙ ap (λ b. cond b (record r { peak = used; peak_at = m }) r) (less r.peak used (subst (λ (s : QuotaRow). s.peak < used) (same_Some q r (sym found ∙ at)) high))))
+
+raised_keeps_at : (q : QuotaRow) (m : ℕ) (o : Option ℕ) → (option_map_or (λ used. if nat_lt q.peak used then record q { peak = used; peak_at = m } else q) o q).folder ≡ q.folder
+raised_keeps_at q m None = refl
+raised_keeps_at q m (Some used) = at (nat_lt q.peak used)
+  where
+    at : (b : Bool) → (cond b (record q { peak = used; peak_at = m }) q).folder ≡ q.folder
+    at true = refl
+    at false = refl
+
+pub raised_keeps : (counters : List Counter) (m : ℕ) (q : QuotaRow) → (raised counters m q).folder ≡ q.folder
+raised_keeps counters m q = raised_keeps_at q m (used_in counters q.folder)
+
+-- one step up
+pub up_is : (nodes : List NodeRow) (n : ℕ) (view : NodeView) → Shows view nodes n → parent_of nodes n ≡ view.parent
+up_is nodes n view s = found_parent nodes n s.row s.found ∙ sym s.is.parent
+
+pub up_on : (nodes : List NodeRow) → IsTree nodes → (start at : ℕ) → Has nodes start → Has nodes at → (at ≡ 0 → ⊥) → is_under nodes at start ≡ true → is_under nodes (parent_of nodes at) start ≡ true
+up_on nodes t start at hs h i on =
+    let p = parent_of nodes at in
+    elim (is_or_not (p == 0)) [
+      | inl z ↦ subst (λ n. is_under nodes n start ≡ true) (sym (eq_is p 0 z)) (t.rooted start hs)
+      | inr z ↦
+          let up : is_under nodes p at ≡ true = own_up nodes t at h i in
+          above_all nodes t p at start z h hs on up
+    ]
+  where
+    own_up : (nodes : List NodeRow) → IsTree nodes → (n : ℕ) → Has nodes n → (n ≡ 0 → ⊥) → is_under nodes (parent_of nodes n) n ≡ true
+    own_up nodes t n h i =
+        ap (λ ns. is_in ns (parent_of nodes n)) (climb nodes t n h i) ∙ or_later (n == parent_of nodes n) (is_under nodes (parent_of nodes n) (parent_of nodes n)) (under_own nodes (parent_of nodes n))
+
+-- where nothing gains, no peak is raised
+pub none_above : (nodes : List NodeRow) (place : Option ℕ) (counters : List Counter) (m : ℕ) (quotas : List QuotaRow) → place ≡ None → quotas ≡ map (raised_above nodes place counters m) quotas
+none_above nodes place counters m quotas h = stays nodes counters m quotas ∙ ap (λ p. map (raised_above nodes p counters m) quotas) (sym h)
+  where
+    stays : (nodes : List NodeRow) (counters : List Counter) (m : ℕ) (quotas : List QuotaRow) → quotas ≡ map (raised_above nodes None counters m) quotas
+    stays nodes counters m [] = refl
+    stays nodes counters m (q ∷ qs) = ap (λ rs. q ∷ rs) (stays nodes counters m qs)

@@ -1,0 +1,68 @@
+use Rattle.std.proofs.Common.{◌≡◌, ℕ, ◌<◌, length, true, sym, ap, ◌∙◌, subst, arith, List}
+use Rattle.fsrm_model.specs.declared.row.QuotaRow.{QuotaRow}
+use Rattle.fsrm_model.specs.Keyed.{has_row, is_ascending, with_change}
+use Rattle.fsrm_model.specs.Quota.{folder_of}
+use Rattle.fsrm_model.specs.Tree.{number, chain, is_under}
+use Rattle.fsrm_model.proofs.Climbs.{shorter, under_own}
+use Rattle.fsrm_model.proofs.Keeps.{tree_of}
+use Rattle.fsrm_model.proofs.Order.{ascending-change}
+use Rattle.fsrm_objects.specs.Tables.{Tables}
+use Rattle.fsrm_engine.specs.Peaks.{raised}
+use Rattle.fsrm_model.proofs.ClimbRows.{passed_rows, passed_none, climbed_step, climbed_root}
+use Rattle.fsrm_engine.proofs.RaiseLaws.{raised_keeps, up_is, up_on}
+use Rattle.fsrm_engine.proofs.charging.raise_peaks.Goals as goal
+
+pub loop-at-init : goal.loop-at-init
+loop-at-init g c = record {
+  here = c.requires.there;
+  on = under_own c.args.tree.now.nodes c.args.folder;
+  passed = sym (passed_none folder_of c.args.tree.now.nodes c.args.folder (raised c.args.usage.now c.args.moment) c.args.objects.now.quotas);
+  ascending = c.requires.ascending;
+  looks = omega arith;
+}
+
+pub raise_peak-requires : goal.raise_peak-requires
+raise_peak-requires g c = c.loop-at.invariant.ascending
+
+pub node-at-requires : goal.node-at-requires
+node-at-requires g c = c.loop-at.invariant.here
+
+pub returns-then-at-eq0-clause-quotas : goal.returns-then-at-eq0-clause-quotas
+returns-then-at-eq0-clause-quotas g c =
+    let nodes = c.args.tree.now.nodes in
+    let raise = raised c.args.usage.now c.args.moment in
+    c.raise_peak.ensures
+    ∙ ap (λ (quotas : List QuotaRow). record { quotas = quotas })
+    (ap (with_change folder_of c.loop-at.at raise) c.loop-at.invariant.passed
+    ∙ (ap (λ (n : ℕ). with_change folder_of n raise (passed_rows folder_of nodes c.args.folder n raise c.args.objects.now.quotas)) c.if-at-eq0.true
+    ∙ climbed_root folder_of nodes c.args.folder raise (raised_keeps c.args.usage.now c.args.moment) (subst (λ (n : ℕ). is_under nodes n c.args.folder ≡ true) c.if-at-eq0.true c.loop-at.invariant.on) c.args.objects.now.quotas))
+
+pub returns-then-at-eq0-clause-looks : goal.returns-then-at-eq0-clause-looks
+returns-then-at-eq0-clause-looks g c = omega (arith, c.loop-at.invariant.looks)
+
+pub loop-at-smaller : goal.loop-at-smaller
+loop-at-smaller g c =
+    let nodes = c.args.tree.now.nodes in
+    let short = shorter nodes (tree_of _ nodes c.requires.volume) c.loop-at.at c.loop-at.invariant.here c.if-at-eq0.false in
+    subst (λ (n : ℕ). length (chain nodes n) < length (chain nodes c.loop-at.at)) (up_is nodes c.loop-at.at c.node-at.result c.node-at.ensures.view) short
+
+pub loop-at-preserved : goal.loop-at-preserved
+loop-at-preserved g c =
+    let nodes = c.args.tree.now.nodes in
+    let t = tree_of _ nodes c.requires.volume in
+    let raise = raised c.args.usage.now c.args.moment in
+    let up = up_is nodes c.loop-at.at c.node-at.result c.node-at.ensures.view in
+    let short = shorter nodes t c.loop-at.at c.loop-at.invariant.here c.if-at-eq0.false in
+    let less : length (chain nodes c.node-at.result.parent) < length (chain nodes c.loop-at.at) = subst (λ (n : ℕ). length (chain nodes n) < length (chain nodes c.loop-at.at)) up short in
+    let kept = raised_keeps c.args.usage.now c.args.moment in
+    record {
+      here = subst (λ (n : ℕ). has_row number n nodes ≡ true) up (t.closed c.loop-at.at c.loop-at.invariant.here);
+      on = subst (λ (n : ℕ). is_under nodes n c.args.folder ≡ true) up (up_on nodes t c.args.folder c.loop-at.at c.requires.there c.loop-at.invariant.here c.if-at-eq0.false c.loop-at.invariant.on);
+      passed =
+          ap (λ (t : Tables). t.quotas) c.raise_peak.ensures
+          ∙ (ap (with_change folder_of c.loop-at.at raise) c.loop-at.invariant.passed
+          ∙ (climbed_step folder_of nodes c.args.folder c.loop-at.at raise t kept c.loop-at.invariant.here c.loop-at.invariant.on c.if-at-eq0.false c.args.objects.now.quotas
+          ∙ ap (λ (n : ℕ). passed_rows folder_of nodes c.args.folder n raise c.args.objects.now.quotas) up));
+      ascending = subst (λ (t : Tables). is_ascending folder_of t.quotas ≡ true) (sym c.raise_peak.ensures) (ascending-change folder_of c.loop-at.at raise kept c.loop-at.objects.quotas c.loop-at.invariant.ascending);
+      looks = omega (arith, c.loop-at.invariant.looks, c.node-at.ensures.count, less);
+    }

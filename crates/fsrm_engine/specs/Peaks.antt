@@ -1,0 +1,17 @@
+-- Peaks, raised by counters.
+use Rattle.std.specs.Prelude.{ℕ, nat_lt, List, Option, if◌then◌else◌}
+use Rattle.std.specs.Option.{option_map_or}
+use Rattle.fsrm_model.specs.declared.row.NodeRow.{NodeRow}
+use Rattle.fsrm_model.specs.declared.row.QuotaRow.{QuotaRow}
+use Rattle.quota_usage.specs.declared.change.Counter.{Counter}
+use Rattle.quota_usage.specs.Charge.{is_above}
+use Rattle.quota_usage.specs.Counters.{used_in}
+
+-- a quota whose counter is greater than its peak has it as its new peak
+abbrev pub raised : List Counter → ℕ → QuotaRow → QuotaRow
+raised counters moment quota =
+    option_map_or (λ used. if nat_lt quota.peak used then record quota { peak = used; peak_at = moment } else quota) (used_in counters quota.folder) quota
+
+-- the same of a quota at or above a folder, where there is a folder
+abbrev pub raised_above : List NodeRow → Option ℕ → List Counter → ℕ → QuotaRow → QuotaRow
+raised_above nodes place counters moment quota = if is_above nodes place quota.folder then raised counters moment quota else quota
