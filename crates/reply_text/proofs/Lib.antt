@@ -1,0 +1,5 @@
+pub mod Digits
+pub mod Moments
+pub mod Sent
+pub mod Quotas
+pub mod Answered

@@ -1,0 +1,158 @@
+-- The lines of quotas.
+use Rattle.std.proofs.Common.{◌≡◌, ℕ, zero, suc, ◌+◌, ◌<◌, ◌≤◌, ◌==◌, nat_le, Bool, true, false, cond, List, [], ◌∷◌, ◌++◌, get_or, take, drop, refl, sym, ap, subst, rules, Bor, ◌∙◌, arith}
+use Rattle.std.specs.Prelude.{Option, Some, None, is_some, decimal, codes, filter, find, flat_map, sum_by}
+use Rattle.std.specs.List.{slice_get}
+use Rattle.std.specs.Option.{option_copied, IsSome}
+use Rattle.std.specs.Io.KnownBytes.{append_known}
+use Rattle.std.proofs.lemmas.Bool.Decides.{nat_tests}
+use Rattle.std.proofs.lemmas.Grind.{flat_map-append}
+use Rattle.std.proofs.lemmas.List.{take_more, take-append-drop, append-nil}
+use Rattle.std.proofs.lemmas.List.Sums.{sum_by_more}
+use Rattle.std.proofs.lemmas.Option.{get_or_from_slice_get, slice_get_within}
+use Rattle.fsrm_model.specs.declared.row.Capacity.{Capacity}
+use Rattle.fsrm_model.specs.declared.row.QuotaRow.{QuotaRow}
+use Rattle.fsrm_model.specs.declared.row.Rows.{Rows}
+use Rattle.fsrm_model.specs.Date.{date_text}
+use Rattle.fsrm_model.specs.Keyed.{row_of, has_row, is_ascending}
+use Rattle.fsrm_model.specs.Limits.{latest_moment}
+use Rattle.fsrm_model.specs.Quota.{folder_of, counts, used_of}
+use Rattle.fsrm_model.specs.Cost.{path_cost, list_cost}
+use Rattle.fsrm_model.specs.declared.command.Ask.TheVariants.{Quotas}
+use Rattle.fsrm_model.specs.Text.{body_line, list_lines, path_text, quota_line, state_word}
+use Rattle.fsrm_model.specs.Tree.{number, usage}
+use Rattle.fsrm_model.specs.Valid.{IsStore}
+use Rattle.fsrm_model.proofs.Keeps.{folder_found}
+use Rattle.fsrm_model.proofs.Look.{found_has, found_key, is_some-find}
+use Rattle.fsrm_model.proofs.Members.{filter_none}
+use Rattle.fsrm_model.proofs.Order.{parts}
+use Rattle.fsrm_model.proofs.TestLaws.{lt_is, eq_is, eq_same}
+use Rattle.fsrm_outside.specs.Shown.{ShowsFront}
+use Rattle.fsrm_outside.proofs.Shown.{shows_then, shows_then_front}
+use Rattle.reply_text.proofs.Sent.{front_more}
+use Rattle.reply_text.specs.Lines.{moment_text, line_text, used_word, mode_word, quota_text}
+
+-- a quota of a store: its folder is there, and its peak's moment is one
+pub is_node : (K : Capacity) (R : Rows) (quota : QuotaRow) → IsStore K R → row_of folder_of quota.folder R.quotas ≡ Some quota → has_row number quota.folder R.nodes ≡ true
+is_node K R quota store h =
+    let found = folder_found R.nodes quota.folder (store.quotas.folders quota.folder quota h) in
+    found_has number quota.folder R.nodes found.row found.found
+
+le_is : (m n : ℕ) → nat_le m n ≡ true → m ≤ n
+le_is m n h = grind (arith, nat_tests)
+
+pub in_time : (K : Capacity) (R : Rows) (quota : QuotaRow) → IsStore K R → row_of folder_of quota.folder R.quotas ≡ Some quota → quota.peak_at ≤ latest_moment
+in_time K R quota store h = le_is quota.peak_at latest_moment (store.quotas.moments quota.folder quota h)
+
+-- the word of what is used
+used_by : (b : Bool) (bytes : ℕ) → used_word (cond b (Some bytes) None) ≡ cond b (decimal bytes) (codes "-")
+used_by true bytes = refl
+used_by false bytes = refl
+
+used_same : (K : Capacity) (R : Rows) (quota : QuotaRow) (used : Option ℕ) → row_of folder_of quota.folder R.quotas ≡ Some quota → used ≡ used_of K R quota.folder → used_word used ≡ cond (counts quota) (decimal (usage K R.nodes quota.folder)) (codes "-")
+used_same K R quota used h e = ap used_word (rw h at e) ∙ used_by (counts quota) (usage K R.nodes quota.folder)
+
+parts_same : (a b c u v d e p q : List ℕ) → u ≡ v → p ≡ q → body_line (a ∷ b ∷ c ∷ u ∷ d ∷ e ∷ p ∷ []) ≡ body_line (a ∷ b ∷ c ∷ v ∷ d ∷ e ∷ q ∷ [])
+parts_same a b c u v d e p q same also = rw (same, also)
+
+pub line_same : (K : Capacity) (R : Rows) (quota : QuotaRow) (used : Option ℕ) (path : List ℕ) → row_of folder_of quota.folder R.quotas ≡ Some quota → used ≡ used_of K R quota.folder → path ≡ path_text R.nodes quota.folder → quota_text quota used path ≡ line_text K R.nodes quota
+unfolding line_text moment_text
+line_same K R quota used path h e p =
+    parts_same (decimal quota.limit) (mode_word quota.enforce) (state_word quota.state) _ _ (decimal quota.peak) (date_text quota.peak_at) _ _ (used_same K R quota used h e) p
+
+-- a row that stands behind another has a greater key
+later_key : {X : Type 0} (key : X → ℕ) (x q : X) (xs : List X) (k : ℕ) → is_ascending key (x ∷ xs) ≡ true → slice_get xs k ≡ Some q → key x < key q
+later_key key x q [] k a h = cc
+later_key key x q (y ∷ ys) zero a h =
+    let e : y ≡ q = cc in
+    subst (λ z. key x < key z) e (lt_is (key x) (key y) (parts key x (y ∷ ys) a).above)
+later_key key x q (y ∷ ys) (suc k) a h =
+    omega (arith, lt_is (key x) (key y) (parts key x (y ∷ ys) a).above, later_key key y q ys k (parts key x (y ∷ ys) a).rest h)
+
+apart : (m n : ℕ) → m < n → (m == n) ≡ false
+apart m n h = grind (arith, nat_tests)
+
+-- the row at a place is found by its key
+pub at_place : {X : Type 0} (key : X → ℕ) (rows : List X) (k : ℕ) (q : X) → is_ascending key rows ≡ true → slice_get rows k ≡ Some q → row_of key (key q) rows ≡ Some q
+at_place key [] k q a h = cc
+at_place key (x ∷ xs) zero q a h =
+    let e : x ≡ q = cc in
+    subst (λ z. find (λ r. key r == key z) (x ∷ xs) ≡ Some z) e (rw (eq_same (key x)) refl)
+at_place key (x ∷ xs) (suc k) q a h =
+    rw (apart (key x) (key q) (later_key key x q xs k a h)) (at_place key xs k q (parts key x xs a).rest h)
+
+-- the lines up to a place, and one more
+pub flat_more : (f : QuotaRow → List ℕ) (rows : List QuotaRow) (k : ℕ) (q : QuotaRow) → slice_get rows k ≡ Some q → flat_map f (take (k + 1) rows) ≡ flat_map f (take k rows) ++ f q
+flat_more f rows k q h =
+    ap (flat_map f) (take_more rows k q (slice_get_within rows k q h)) ∙ flat_map-append f (take k rows) (get_or rows k q ∷ [])
+    ∙ ap (λ r. flat_map f (take k rows) ++ (f r ++ [])) (get_or_from_slice_get rows k q q h) ∙ ap (λ (xs : List ℕ). flat_map f (take k rows) ++ xs) (append-nil (f q))
+
+pub sum_more : (f : QuotaRow → ℕ) (rows : List QuotaRow) (k : ℕ) (q : QuotaRow) → slice_get rows k ≡ Some q → sum_by f (take (k + 1) rows) ≡ sum_by f (take k rows) + f q
+sum_more f rows k q h =
+    sum_by_more f rows k q (slice_get_within rows k q h) ∙ ap (λ r. sum_by f (take k rows) + f r) (get_or_from_slice_get rows k q q h)
+
+-- what is shown of one line more, and what of it where the sink failed
+pub shows_line : (f : QuotaRow → List ℕ) (rows : List QuotaRow) (k : ℕ) (q : QuotaRow) (a b c : Option (List ℕ)) → slice_get rows k ≡ Some q → b ≡ append_known a (flat_map f (take k rows)) → c ≡ append_known b (f q) → c ≡ append_known a (flat_map f (take (k + 1) rows))
+shows_line f rows k q a b c h p r =
+    shows_then a b c (flat_map f (take k rows)) (f q) p r ∙ ap (append_known a) (sym (flat_more f rows k q h))
+
+whole_is : (f : QuotaRow → List ℕ) (rows : List QuotaRow) (k : ℕ) → flat_map f (take k rows) ++ flat_map f (drop k rows) ≡ flat_map f rows
+whole_is f rows k = sym (flat_map-append f (take k rows) (drop k rows)) ∙ ap (flat_map f) (take-append-drop k rows)
+
+pub shows_line_front : (f : QuotaRow → List ℕ) (rows : List QuotaRow) (k : ℕ) (q : QuotaRow) (a b c : Option (List ℕ)) → slice_get rows k ≡ Some q → b ≡ append_known a (flat_map f (take k rows)) → ShowsFront b c (f q) → ShowsFront a c (flat_map f rows)
+shows_line_front f rows k q a b c h p r =
+    let these = shows_then_front a b c (flat_map f (take k rows)) (f q) p r in
+    let those : ShowsFront a c (flat_map f (take (k + 1) rows)) = rw (flat_more f rows k q h) these in
+    rw (whole_is f rows (k + 1)) at (front_more a c (flat_map f (take (k + 1) rows)) (flat_map f (drop (k + 1) rows)) those)
+
+-- the quota of a folder alone
+none_above : {X : Type 0} (key : X → ℕ) (n : ℕ) (x : X) (xs : List X) → is_ascending key (x ∷ xs) ≡ true → n ≤ key x → has_row key n xs ≡ false
+none_above key n x [] a h = refl
+none_above key n x (y ∷ ys) a h =
+    let lt = lt_is (key x) (key y) (parts key x (y ∷ ys) a).above in
+    let other : (key y == n) ≡ false = grind (arith, nat_tests) in
+    rw other (none_above key n y ys (parts key x (y ∷ ys) a).rest (omega arith))
+
+only_here : {X : Type 0} (key : X → ℕ) (n : ℕ) (x r : X) (xs : List X) (b : Bool) → (b ≡ true → key x ≡ n) → is_ascending key (x ∷ xs) ≡ true → cond b (Some x) (row_of key n xs) ≡ Some r → (row_of key n xs ≡ Some r → filter (λ y. key y == n) xs ≡ r ∷ []) → cond b (x ∷ filter (λ y. key y == n) xs) (filter (λ y. key y == n) xs) ≡ r ∷ []
+only_here key n x r xs true is a h f =
+    let e : x ≡ r = cc in
+    let same : key x ≡ n = is refl in
+    rw (filter_none (λ y. key y == n) xs (none_above key n x xs a (omega arith)), e) refl
+only_here key n x r xs false is a h f = f h
+
+pub only_one : {X : Type 0} (key : X → ℕ) (n : ℕ) (rows : List X) (r : X) → is_ascending key rows ≡ true → row_of key n rows ≡ Some r → filter (λ y. key y == n) rows ≡ r ∷ []
+only_one key n [] r a h = cc
+only_one key n (x ∷ xs) r a h =
+    only_here key n x r xs (key x == n) (λ e. eq_is (key x) n e) a h (only_one key n xs r (parts key x xs a).rest)
+
+-- the quota of a folder that was asked for is there
+lent_some : (lent : Option (Bor QuotaRow)) → is_some (option_copied lent) ≡ true → IsSome lent
+lent_some None h = absurd (cc)
+lent_some (Some quota) h = search rules
+
+pub lent_found : (lent : Option (Bor QuotaRow)) (rows quotas : List QuotaRow) (folder : ℕ) → option_copied lent ≡ row_of folder_of folder rows → rows ≡ quotas → has_row folder_of folder quotas ≡ true → IsSome lent
+lent_found lent rows quotas folder e same h =
+    lent_some lent (ap is_some (e ∙ ap (row_of folder_of folder) same) ∙ is_some-find (λ row. folder_of row == folder) quotas ∙ h)
+
+pub lent_row : (lent : Option (Bor QuotaRow)) (quota : Bor QuotaRow) (rows quotas : List QuotaRow) (folder : ℕ) → option_copied lent ≡ row_of folder_of folder rows → rows ≡ quotas → lent ≡ Some quota → row_of folder_of folder quotas ≡ Some quota.now
+lent_row lent quota rows quotas folder e same is =
+    sym (e ∙ ap (row_of folder_of folder) same) ∙ ap option_copied is
+
+-- it is its folder's
+pub own_row : (rows : List QuotaRow) (folder : ℕ) (quota : QuotaRow) → row_of folder_of folder rows ≡ Some quota → row_of folder_of quota.folder rows ≡ Some quota
+own_row rows folder quota h =
+    let same : quota.folder ≡ folder = found_key folder_of folder rows quota h in
+    ap (λ n. row_of folder_of n rows) same ∙ h
+
+pub all_lines : (K : Capacity) (R : Rows) → flat_map (line_text K R.nodes) R.quotas ≡ list_lines K R (Quotas None)
+unfolding line_text
+all_lines K R = refl
+
+pub one_line : (K : Capacity) (R : Rows) (folder : ℕ) (quota : QuotaRow) → IsStore K R → row_of folder_of folder R.quotas ≡ Some quota → line_text K R.nodes quota ≡ list_lines K R (Quotas (Some folder))
+unfolding line_text
+one_line K R folder quota store h =
+    sym (ap (flat_map (quota_line K R.nodes)) (only_one folder_of folder R.quotas quota store.quotas.ascending h) ∙ append-nil (quota_line K R.nodes quota))
+
+pub one_cost : (K : Capacity) (R : Rows) (folder : ℕ) (quota : QuotaRow) → IsStore K R → row_of folder_of folder R.quotas ≡ Some quota → path_cost R.nodes quota.folder ≡ list_cost R (Quotas (Some folder))
+one_cost K R folder quota store h =
+    let e = ap (sum_by (λ (row : QuotaRow). path_cost R.nodes row.folder)) (only_one folder_of folder R.quotas quota store.quotas.ascending h) in
+    omega (arith, e)

@@ -1,0 +1,35 @@
+-- What a writer sends.
+use Rattle.std.proofs.Common.{◌≡◌, ℕ, List, [], ◌++◌, ap, subst, ◌∙◌, append_assoc}
+use Rattle.std.specs.Prelude.{Option, Result, Ok, Err}
+use Rattle.std.specs.Result.{IsErr}
+use Rattle.std.specs.Io.KnownBytes.{append_known}
+use Rattle.fsrm_outside.specs.Shown.{ShowsFront}
+use Rattle.fsrm_outside.proofs.Shown.{shows_then, shows_then_front}
+use Rattle.reply_text.specs.Writes.{Sends}
+
+pub sent : {T E : Type 0} (r : Result T E) (a b : Option (List ℕ)) (t u : List ℕ) → t ≡ u → Sends r a b t → Sends r a b u
+sent r a b t u e h = subst (λ x. Sends r a b x) e h
+
+-- a text that was composed from nothing
+pub composed : (shown built old more : List ℕ) → shown ≡ built → built ≡ old ++ more → old ≡ [] → shown ≡ more
+composed shown built old more p q e = p ∙ q ∙ ap (λ (xs : List ℕ). xs ++ more) e
+
+-- one text behind another
+pub sends_then : {T E : Type 0} (r : Result T E) (a b c : Option (List ℕ)) (t u : List ℕ) → b ≡ append_known a t → Sends r b c u → Sends r a c (t ++ u)
+sends_then (Ok x) a b c t u p h = shows_then a b c t u p h
+sends_then (Err e) a b c t u p h = shows_then_front a b c t u p h
+
+pub front_more : (a b : Option (List ℕ)) (xs ys : List ℕ) → ShowsFront a b xs → ShowsFront a b (xs ++ ys)
+front_more a b xs ys h = record {
+  front = h.front;
+  shown = h.shown;
+  is_front = (h.is_front.0 ++ ys, ap (λ (zs : List ℕ). zs ++ ys) h.is_front.1 ∙ append_assoc h.front h.is_front.0 ys);
+}
+
+-- one part of a text behind another
+pub joined : (old a b x y : List ℕ) → a ≡ old ++ x → b ≡ a ++ y → b ≡ old ++ (x ++ y)
+joined old a b x y p q = q ∙ ap (λ (xs : List ℕ). xs ++ y) p ∙ append_assoc old x y
+
+pub sends_front : {T E : Type 0} (r : Result T E) (a b : Option (List ℕ)) (t : List ℕ) → IsErr r → ShowsFront a b t → Sends r a b t
+sends_front (Ok x) a b t e h = absurd (cc)
+sends_front (Err x) a b t e h = h

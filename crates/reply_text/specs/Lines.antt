@@ -1,0 +1,34 @@
+-- Parts of lines. A moment's text and a quota's line are opaque here, so that goals that carry them stay small.
+use Rattle.std.specs.Prelude.{ℕ, Bool, true, false, List, [], ◌∷◌, codes, decimal, Option, Some, None, if◌then◌else◌}
+use Rattle.fsrm_model.specs.declared.row.Capacity.{Capacity}
+use Rattle.fsrm_model.specs.declared.row.NodeRow.{NodeRow}
+use Rattle.fsrm_model.specs.declared.row.QuotaRow.{QuotaRow}
+use Rattle.fsrm_model.specs.declared.command.Outcome.{Outcome}
+use Rattle.fsrm_model.specs.declared.command.Outcome.TheVariants.{Listing}
+use Rattle.fsrm_model.specs.Text.{body_line, quota_line, state_word}
+use Rattle.fsrm_model.specs.Date.{date_text}
+
+unfoldable pub moment_text : ℕ → List ℕ
+moment_text moment = date_text moment
+
+unfoldable pub line_text : Capacity → List NodeRow → QuotaRow → List ℕ
+line_text K nodes quota = quota_line K nodes quota
+
+-- a quota that doesn't count shows no bytes that are used
+abbrev pub used_word : Option ℕ → List ℕ
+used_word (Some bytes) = decimal bytes
+used_word None = codes "-"
+
+abbrev pub mode_word : Bool → List ℕ
+mode_word enforce = if enforce then codes "hard" else codes "soft"
+
+-- a line of a list, of a quota whose folder has this usage and this path
+abbrev pub quota_text : QuotaRow → Option ℕ → List ℕ → List ℕ
+quota_text quota used path =
+    body_line (decimal quota.limit ∷ mode_word quota.enforce ∷ state_word quota.state ∷ used_word used
+    ∷ decimal quota.peak ∷ moment_text quota.peak_at ∷ path ∷ [])
+
+-- whether an outcome is a list
+abbrev pub is_listing : Outcome → Bool
+is_listing (Listing ask) = true
+is_listing other = false

@@ -1,0 +1,9 @@
+-- What a writer sends.
+use Rattle.std.specs.Prelude.{◌≡◌, ℕ, List, Option, Result, Ok, Err}
+use Rattle.std.specs.Io.KnownBytes.{append_known}
+use Rattle.fsrm_outside.specs.Shown.{ShowsFront}
+
+-- the whole text is shown where it was written, and else a front of it
+abbrev pub Sends : {T E : Type 0} → Result T E → Option (List ℕ) → Option (List ℕ) → List ℕ → Type 0
+Sends (Ok value) before after text = after ≡ append_known before text
+Sends (Err fault) before after text = ShowsFront before after text

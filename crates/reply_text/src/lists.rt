@@ -1,0 +1,160 @@
+//! Writes the lines of a list.
+
+ghost use Rattle.std.specs.Prelude.{◌≡◌, ◌++◌, ◌+◌, ◌≤◌, OnOk, IsErrOf, Some, take, flat_map, sum_by};
+ghost use Rattle.std.specs.String.{string_bytes};
+ghost use Rattle.fsrm_model.specs.declared.command.Ask.TheVariants.{Quotas};
+ghost use Rattle.fsrm_model.specs.declared.command.Outcome.TheVariants.{Listing};
+ghost use Rattle.fsrm_model.specs.Cost.{list_cost, path_cost};
+ghost use Rattle.fsrm_model.specs.Keyed.{has_row, row_of};
+ghost use Rattle.fsrm_model.specs.Limits.{latest_moment};
+ghost use Rattle.fsrm_model.specs.Named.{IsNamed};
+ghost use Rattle.fsrm_model.specs.Quota.{folder_of};
+ghost use Rattle.fsrm_model.specs.Text as Words;
+ghost use Rattle.fsrm_model.specs.Text.{list_lines};
+ghost use Rattle.fsrm_model.specs.Valid.{IsStore};
+ghost use Rattle.fsrm_outside.specs.Causes.{Rose};
+ghost use Rattle.reply_text.specs.Lines.{mode_word, used_word, quota_text, line_text};
+ghost use Rattle.reply_text.specs.Writes.{Sends};
+
+use crate::dates::append_moment;
+use crate::fault::TextFault;
+use crate::sending::send;
+use fsrm_engine::Engine;
+use fsrm_model::{Ask, Ledger, NoMemory, QuotaRow, QuotaState, Steps};
+use fsrm_outside::Sink;
+use std::alloc::Global;
+use std::fmt::Write;
+
+fn mode_word(enforce: bool) -> &'static str
+    ensures { result.now ≡ mode_word enforce }
+{
+    if enforce { "hard" } else { "soft" }
+}
+
+fn state_word(state: QuotaState) -> &'static str
+    ensures { result.now ≡ Words.state_word state }
+{
+    match state {
+        QuotaState::Complete => "complete",
+        QuotaState::Disabled => "disabled",
+        QuotaState::Rebuilding => "rebuilding",
+        QuotaState::Incomplete => "incomplete",
+    }
+}
+
+// Appends what is used, in bytes, where the quota counts.
+fn append_used(text: &mut String, used: Option<u64>) -> Result<(), NoMemory>
+    ensures { OnOk result (string_bytes text.new ≡ string_bytes text.old ++ used_word used) }
+{
+    match used {
+        Some(bytes) => write!(text, "{bytes}")?,
+        None => write!(text, "-")?,
+    }
+    Ok(())
+}
+
+// Appends the line of a quota whose folder has this usage and this path.
+fn append_quota(
+    text: &mut String,
+    quota: &QuotaRow,
+    used: Option<u64>,
+    path: &str,
+) -> Result<(), NoMemory>
+    requires { quota.now.peak_at ≤ latest_moment }
+    ensures { OnOk result (string_bytes text.new ≡ string_bytes text.old ++ quota_text quota.now used path.now) }
+{
+    let (mode, state) = (mode_word(quota.enforce), state_word(quota.state));
+    write!(text, "  {} {mode} {state} ", quota.limit)?;
+    append_used(text, used)?;
+    write!(text, " {} ", quota.peak)?;
+    append_moment(text, quota.peak_at)?;
+    writeln!(text, " {path}")?;
+    Ok(())
+}
+
+// Writes the line of a quota.
+fn write_quota<S: Sink, L: Ledger>(
+    alloc: Global,
+    sink: &mut S,
+    quota: &QuotaRow,
+    engine: &Engine,
+    steps: &mut Steps<L>,
+) -> Result<(), TextFault>
+    requires store { IsStore engine.now.size engine.now.rows }
+    requires own { row_of folder_of quota.now.folder engine.now.rows.quotas ≡ Some quota.now }
+    ensures text { Sends result (S.shown sink.old) (S.shown sink.new) (line_text engine.now.size engine.now.rows.nodes quota.now) }
+    ensures fault { IsErrOf result TextFault.WriteFault → Rose (S.write_faults sink.old) (S.write_faults sink.new) }
+    ensures later { S.write_faults sink.old ≤ S.write_faults sink.new }
+    ensures by { S.by_write sink.old sink.new }
+    ensures looks { steps.new ≤ steps.old + path_cost engine.now.rows.nodes quota.now.folder }
+{
+    let path = engine.path_text(alloc, quota.folder, steps)?;
+    let used = engine.used(quota.folder);
+    let mut text = String::new(alloc);
+    append_quota(&mut text, quota, used, path.as_str())?;
+    send(sink, text.as_str())
+}
+
+// Writes the lines of all quotas.
+fn write_quotas<S: Sink, L: Ledger>(
+    alloc: Global,
+    sink: &mut S,
+    engine: &Engine,
+    steps: &mut Steps<L>,
+) -> Result<(), TextFault>
+    ensures text { Sends result (S.shown sink.old) (S.shown sink.new) (flat_map (line_text engine.now.size engine.now.rows.nodes) engine.now.rows.quotas) }
+    ensures fault { IsErrOf result TextFault.WriteFault → Rose (S.write_faults sink.old) (S.write_faults sink.new) }
+    ensures later { S.write_faults sink.old ≤ S.write_faults sink.new }
+    ensures by { S.by_write sink.old sink.new }
+    ensures looks { steps.new ≤ steps.old + sum_by (λ quota. path_cost engine.now.rows.nodes quota.folder) engine.now.rows.quotas }
+{
+    let objects = engine.objects();
+    for place in 0..objects.quota_count() {
+        write_quota(alloc, sink, objects.quota_at(place), engine, steps)?;
+    }
+    Ok(())
+}
+
+// Writes the line of a folder's quota, or those of all quotas.
+fn write_asked<S: Sink, L: Ledger>(
+    alloc: Global,
+    sink: &mut S,
+    folder: Option<u32>,
+    engine: &Engine,
+    steps: &mut Steps<L>,
+) -> Result<(), TextFault>
+    requires { IsNamed engine.now.rows (Listing (Quotas folder)) }
+    ensures text { Sends result (S.shown sink.old) (S.shown sink.new) (list_lines engine.now.size engine.now.rows (Quotas folder)) }
+    ensures fault { IsErrOf result TextFault.WriteFault → Rose (S.write_faults sink.old) (S.write_faults sink.new) }
+    ensures later { S.write_faults sink.old ≤ S.write_faults sink.new }
+    ensures by { S.by_write sink.old sink.new }
+    ensures looks { steps.new ≤ steps.old + list_cost engine.now.rows (Quotas folder) }
+{
+    match folder {
+        None => write_quotas(alloc, sink, engine, steps),
+        Some(folder) => {
+            let quota = engine.objects().quota(folder).unwrap();
+            write_quota(alloc, sink, quota, engine, steps)
+        }
+    }
+}
+
+/// Writes the lines of a list.
+pub fn write_list<S: Sink, L: Ledger>(
+    alloc: Global,
+    sink: &mut S,
+    ask: &Ask,
+    engine: &Engine,
+    steps: &mut Steps<L>,
+) -> Result<(), TextFault>
+    requires { IsNamed engine.now.rows (Listing ask.now) }
+    ensures text { Sends result (S.shown sink.old) (S.shown sink.new) (list_lines engine.now.size engine.now.rows ask.now) }
+    ensures fault { IsErrOf result TextFault.WriteFault → Rose (S.write_faults sink.old) (S.write_faults sink.new) }
+    ensures later { S.write_faults sink.old ≤ S.write_faults sink.new }
+    ensures by { S.by_write sink.old sink.new }
+    ensures looks { steps.new ≤ steps.old + list_cost engine.now.rows ask.now }
+{
+    match *ask {
+        Ask::Quotas(folder) => write_asked(alloc, sink, folder, engine, steps),
+    }
+}
