@@ -4,7 +4,6 @@ pub mod Feeding
 pub mod MostTaken
 pub mod Outcomes
 pub mod Passing
-pub mod Shown
 pub mod Taking
 pub mod Whole
 pub mod Words

@@ -1,47 +1,68 @@
 -- What the machine's steps come to, and what is shown of it.
-use Rattle.std.proofs.Common.{◌≡◌, ℕ, ◌+◌, Bool, true, false, not, List, [], ◌∷◌, ◌++◌, refl, sym, ap, ◌∙◌, subst, Some, None, append-nil}
-use Rattle.std.specs.Prelude.{Option, option_map, Result, Ok, Err, OnOk, nat_lt, unwrap_or, is_some}
+use Rattle.std.proofs.Common.{◌≡◌, ℕ, ◌+◌, Bool, true, false, not, List, [], ◌∷◌, ◌++◌, refl, sym, ap, ◌∙◌, subst, append-nil}
+use Rattle.std.specs.Prelude.{◌==◌, Option, Some, None, option_map, Result, Ok, Err, OnOk, nat_lt, unwrap_or, is_some, is_none}
+use Rattle.std.specs.Io.KnownBytes.{append_known}
 use Rattle.fsrm_model.specs.declared.command.Command.{Command}
 use Rattle.fsrm_model.specs.declared.command.Deed.{Deed}
-use Rattle.fsrm_model.specs.declared.command.Deed.TheVariants.{File, Usage}
+use Rattle.fsrm_model.specs.declared.command.Deed.TheVariants.{File, Usage, QuotaAdd, QuotaModify, QuotaDelete, QuotaResetpeak, QuotaList}
+use Rattle.fsrm_model.specs.declared.command.FileOp.{FileOp}
+use Rattle.fsrm_model.specs.declared.command.FileOp.TheVariants.{Mkdir, Create, Resize, Touch, Move, Remove}
 use Rattle.fsrm_model.specs.declared.command.Outcome.{Outcome}
 use Rattle.fsrm_model.specs.declared.command.Outcome.TheVariants.{Refused}
 use Rattle.fsrm_model.specs.declared.command.Refusal.{Refusal}
-use Rattle.fsrm_model.specs.declared.command.Refusal.TheVariants.{ClockBack, PathNotFound}
+use Rattle.fsrm_model.specs.declared.command.Refusal.TheVariants.{BadLine, LineTooLong, InvalidPath, InvalidName, OutOfRange, InvalidLimit, ClockBack, PathNotFound, NotFound, AlreadyExists, NotEmpty, InvalidMove, VolumeFull, NamesFull, TableFull, QuotaExceeded, NeedsScan}
 use Rattle.fsrm_model.specs.declared.row.Capacity.{Capacity}
 use Rattle.fsrm_model.specs.declared.row.NodeRow.{NodeRow}
+use Rattle.fsrm_model.specs.declared.row.QuotaRow.{QuotaRow}
 use Rattle.fsrm_model.specs.declared.row.Rows.{Rows}
-use Rattle.fsrm_model.specs.Check.{◌when◌, first}
-use Rattle.fsrm_model.specs.Keyed.{has_row}
-use Rattle.fsrm_model.specs.Leads.{leads}
+use Rattle.fsrm_model.specs.Check.{Check, ◌when◌, first}
 use Rattle.fsrm_model.specs.Cost.{cost, print_cost}
-use Rattle.fsrm_model.specs.Line.{read_line}
+use Rattle.fsrm_model.specs.FileOps.{target}
+use Rattle.fsrm_model.specs.FileWork.{new_checks, file_checks, file_effect}
+use Rattle.fsrm_model.specs.Keyed.{has_row}
+use Rattle.fsrm_model.specs.Leads.{leads, leads_to_folder}
+use Rattle.fsrm_model.specs.Line.{read_line, is_line_refusal}
+use Rattle.fsrm_model.specs.Named.{IsNamed}
+use Rattle.fsrm_model.specs.Quota.{folder_of, quota_of, deepest, over, exceeded}
 use Rattle.fsrm_model.specs.Reading.{Read}
 use Rattle.fsrm_model.specs.Script.{Replied, without_cr, replied, replied_to, line_cost}
 use Rattle.fsrm_model.specs.Step.{step, work, decided}
-use Rattle.fsrm_model.specs.Text.{head_line, reply}
-use Rattle.fsrm_model.specs.Tree.{number, resolve}
-use Rattle.fsrm_model.specs.Valid.{IsVolume}
+use Rattle.fsrm_model.specs.Text.{is_bare, head_line, reply}
+use Rattle.fsrm_model.specs.Tree.{number, resolve, usage}
+use Rattle.fsrm_model.specs.Valid.{IsVolume, IsStore}
+use Rattle.fsrm_model.proofs.LineRefusals.{line_refusal}
+use Rattle.fsrm_model.proofs.Look.{is_some-find}
 use Rattle.fsrm_model.proofs.PlainMachine.{replied-read, line_cost-read}
+use Rattle.fsrm_model.proofs.QuotaLaws.{exceeded_is}
 use Rattle.fsrm_model.proofs.Resolves.{resolved}
+use Rattle.fsrm_model.proofs.ValidLaws.{folder_has}
 use Rattle.tool_commands.specs.declared.reading.LineFault.{LineFault}
-use Rattle.tool_commands.specs.declared.reading.LineFault.TheVariants.{Refused as Reason, NoMemory}
+use Rattle.tool_commands.specs.declared.reading.LineFault.TheVariants.{Refused as Reason}
 use Rattle.tool_commands.specs.LineFaults.{IsFault}
-use Rattle.fsrm_program.specs.Shown.{IsPrinted, IsToldFault}
 
 -- a call of which only the text is open
 pub on_ok : {T E : Type 0} {P Q : Type 0} (r : Result T E) → (P → Q) → OnOk r P → OnOk r Q
 on_ok (Ok x) f p = f p
 on_ok (Err e) f p = tt
 
+-- what is shown behind what was shown before
+pub shown_behind : (before last text : List ℕ) → Some last ≡ append_known (Some before) text → last ≡ before ++ text
+shown_behind before last text h = cc
+
 -- no command that is built runs an action
 pub acts_none : (K : Capacity) (R : Rows) (c : Command) → (step K R c).acts ≡ []
 acts_none K R c = by c.deed (first ((ClockBack when nat_lt c.moment R.last_moment) ∷ (work K R c.moment c.deed).checks))
   where
-    by : (deed : Deed) (o : Option Refusal) → (decided R c.moment (work K R c.moment deed) o).acts ≡ []
+    by : (deed : Deed) (o : Option Refusal) → (decided K R c.moment (work K R c.moment deed) o).acts ≡ []
     by deed (Some r) = refl
     by (File op) None = refl
     by (Usage path) None = refl
+    by (QuotaAdd path limit enforce) None = refl
+    by (QuotaModify path limit enforce) None = refl
+    by (QuotaDelete path) None = refl
+    by (QuotaResetpeak path) None = refl
+    by (QuotaList None) None = refl
+    by (QuotaList (Some path)) None = refl
 
 leads_there : (K : Capacity) (nodes : List NodeRow) (path : List (List ℕ)) (o : Option ℕ) → IsVolume K nodes → resolve nodes path ≡ o → is_some o ≡ true → has_row number (unwrap_or o 0) nodes ≡ true
 leads_there K nodes path None v e h = absurd cc
@@ -53,29 +74,126 @@ unrefused true l h = absurd cc
 unrefused false true h = refl
 unrefused false false h = absurd cc
 
--- a reply shows a node that is there
-pub printed : (K : Capacity) (R : Rows) (c : Command) → IsVolume K (step K R c).rows.nodes → IsPrinted (step K R c).rows.nodes (step K R c).outcome
-printed K R c v = by c.deed (first ((ClockBack when nat_lt c.moment R.last_moment) ∷ (work K R c.moment c.deed).checks)) refl v
+-- a list that isn't refused is of a quota that is there
+unrefused_list : (late leads : Bool) (o : Option QuotaRow) → first ((ClockBack when late) ∷ (PathNotFound when not leads) ∷ (NotFound when is_none o) ∷ []) ≡ None → is_some o ≡ true
+unrefused_list true l o h = absurd cc
+unrefused_list false false o h = absurd cc
+unrefused_list false true None h = absurd cc
+unrefused_list false true (Some quota) h = refl
+
+-- a refusal by a check names what is there
+abbrev IsSound : Rows → Check → Type 0
+IsSound R None = Unit {0}
+IsSound R (Some refusal) = IsNamed R (Refused refusal)
+
+abbrev AreSound : Rows → List Check → Type 0
+AreSound R [] = Unit {0}
+AreSound R (check ∷ checks) = IsSound R check × AreSound R checks
+
+first_sound : (R : Rows) (checks : List Check) → AreSound R checks → IsSound R (first checks)
+first_sound R [] h = tt
+first_sound R (None ∷ checks) h = first_sound R checks h.1
+first_sound R (Some refusal ∷ checks) h = h.0
+
+append_sound : (R : Rows) (xs ys : List Check) → AreSound R xs → AreSound R ys → AreSound R (xs ++ ys)
+append_sound R [] ys h k = k
+append_sound R (x ∷ xs) ys h k = (h.0, append_sound R xs ys h.1 k)
+
+when_sound : (R : Rows) (refusal : Refusal) (test : Bool) → IsNamed R (Refused refusal) → IsSound R (refusal when test)
+when_sound R refusal true h = h
+when_sound R refusal false h = tt
+
+-- a quota that refuses is on a folder that is there
+exceeded_sound : (K : Capacity) (R : Rows) (nodes : List NodeRow) → IsStore K R → IsSound R (exceeded K R nodes)
+exceeded_sound K R nodes s = by (deepest nodes (over K R nodes)) refl
   where
-    by : (deed : Deed) (o : Option Refusal) → first ((ClockBack when nat_lt c.moment R.last_moment) ∷ (work K R c.moment deed).checks) ≡ o → IsVolume K (decided R c.moment (work K R c.moment deed) o).rows.nodes → IsPrinted (decided R c.moment (work K R c.moment deed) o).rows.nodes (decided R c.moment (work K R c.moment deed) o).outcome
-    by deed (Some r) e v = tt
-    by (File op) None e v = tt
-    by (Usage path) None e v = leads_there K R.nodes path (resolve R.nodes path) v refl (unrefused (nat_lt c.moment R.last_moment) (leads R.nodes path) e)
+    refusal : QuotaRow → Refusal
+    refusal quota = QuotaExceeded quota.folder (usage K nodes quota.folder) quota.limit
+
+    by : (o : Option QuotaRow) → deepest nodes (over K R nodes) ≡ o → IsSound R (option_map refusal o)
+    by None e = tt
+    by (Some quota) e =
+        let found = exceeded_is K R nodes quota.folder (usage K nodes quota.folder) quota.limit s.quotas.ascending (ap (option_map refusal) e) in
+        folder_has R.nodes quota.folder (s.quotas.folders quota.folder found.quota found.is_over.is_there)
+
+new_sound : (K : Capacity) (R : Rows) (path : List (List ℕ)) (after : Rows) → AreSound R (new_checks K R path after)
+new_sound K R path after =
+    (when_sound R AlreadyExists _ tt, (when_sound R PathNotFound _ tt, (when_sound R AlreadyExists _ tt, (when_sound R VolumeFull _ tt, (when_sound R NamesFull _ tt, tt)))))
+
+file_sound : (K : Capacity) (R : Rows) (op : FileOp) (after : Rows) → IsStore K R → AreSound R (file_checks K R op after)
+file_sound K R (Mkdir path owner) after s = new_sound K R path after
+file_sound K R (Create path length owner) after s = append_sound R (new_checks K R path after) (exceeded K R after.nodes ∷ []) (new_sound K R path after) (exceeded_sound K R after.nodes s, tt)
+file_sound K R (Resize path length) after s = (when_sound R PathNotFound _ tt, (exceeded_sound K R after.nodes s, tt))
+file_sound K R (Touch path) after s = (when_sound R PathNotFound _ tt, tt)
+file_sound K R (Move from to) after s = (
+  when_sound R PathNotFound _ tt,
+  (
+    when_sound R InvalidMove _ tt,
+    (
+      when_sound R AlreadyExists _ tt,
+      (
+        when_sound R PathNotFound _ tt,
+        (
+          when_sound R InvalidMove _ tt,
+          (when_sound R AlreadyExists _ tt, (when_sound R NamesFull _ tt, (exceeded_sound K R after.nodes s, tt))),
+        ),
+      ),
+    ),
+  ),
+)
+file_sound K R (Remove path) after s = (when_sound R PathNotFound _ tt, (when_sound R InvalidMove _ tt, (when_sound R NotEmpty _ tt, tt)))
+
+-- a path without a node, or a folder without a quota
+missing_sound : (R : Rows) (path quota : Bool) → AreSound R ((PathNotFound when path) ∷ (NotFound when quota) ∷ [])
+missing_sound R path quota = (when_sound R PathNotFound path tt, (when_sound R NotFound quota tt, tt))
+
+work_sound : (K : Capacity) (R : Rows) (moment : ℕ) (deed : Deed) → IsStore K R → AreSound R (work K R moment deed).checks
+work_sound K R moment (File op) s = file_sound K R op (file_effect R op moment) s
+work_sound K R moment (Usage path) s = (when_sound R PathNotFound _ tt, tt)
+work_sound K R moment (QuotaAdd path limit enforce) s = (when_sound R PathNotFound _ tt, (when_sound R AlreadyExists _ tt, (when_sound R TableFull _ tt, (when_sound R NeedsScan _ tt, tt))))
+work_sound K R moment (QuotaModify path limit enforce) s = missing_sound R _ _
+work_sound K R moment (QuotaDelete path) s = missing_sound R _ _
+work_sound K R moment (QuotaResetpeak path) s = missing_sound R _ _
+work_sound K R moment (QuotaList None) s = tt
+work_sound K R moment (QuotaList (Some path)) s = missing_sound R _ _
+
+-- an outcome names what is there
+pub named : (K : Capacity) (R : Rows) (c : Command) → IsStore K (step K R c).rows → IsNamed (step K R c).rows (step K R c).outcome
+named K R c v = by c.deed (first ((ClockBack when late) ∷ (work K R c.moment c.deed).checks)) refl v
+  where
+    late : Bool
+    late = nat_lt c.moment R.last_moment
+
+    by : (deed : Deed) (o : Option Refusal) → first ((ClockBack when late) ∷ (work K R c.moment deed).checks) ≡ o → IsStore K (decided K R c.moment (work K R c.moment deed) o).rows → IsNamed (decided K R c.moment (work K R c.moment deed) o).rows (decided K R c.moment (work K R c.moment deed) o).outcome
+    by deed (Some r) e s =
+        subst (IsSound R) e
+        (first_sound R ((ClockBack when late) ∷ (work K R c.moment deed).checks) (when_sound R ClockBack late tt, work_sound K R c.moment deed s))
+    by (File op) None e s = tt
+    by (Usage path) None e s = leads_there K R.nodes path (resolve R.nodes path) s.volume refl (unrefused late (leads R.nodes path) e)
+    by (QuotaAdd path limit enforce) None e s = tt
+    by (QuotaModify path limit enforce) None e s = tt
+    by (QuotaDelete path) None e s = tt
+    by (QuotaResetpeak path) None e s = tt
+    by (QuotaList None) None e s = tt
+    by (QuotaList (Some path)) None e s =
+        let folder = target R.nodes path in
+        sym (is_some-find (λ quota. folder_of quota == folder) R.quotas) ∙ unrefused_list late (leads_to_folder R.nodes path) (quota_of R folder) e
 
 -- the same of rows and an outcome that are those of a step
-pub step_printed : (K size : Capacity) (R rows : Rows) (c : Command) (outcome : Outcome) → size ≡ K → rows ≡ (step K R c).rows → outcome ≡ (step K R c).outcome → IsVolume size rows.nodes → IsPrinted rows.nodes outcome
-step_printed K size R rows c outcome e r o v =
-    let volume : IsVolume K (step K R c).rows.nodes = subst (λ (S : Rows). IsVolume K S.nodes) r (subst (λ (k : Capacity). IsVolume k rows.nodes) e v) in
-    subst (λ (S : Rows). IsPrinted S.nodes outcome) (sym r) (subst (IsPrinted (step K R c).rows.nodes) (sym o) (printed K R c volume))
+pub step_named : (K size : Capacity) (R rows : Rows) (c : Command) (outcome : Outcome) → size ≡ K → rows ≡ (step K R c).rows → outcome ≡ (step K R c).outcome → IsStore size rows → IsNamed rows outcome
+step_named K size R rows c outcome e r o s =
+    let store : IsStore K (step K R c).rows = subst (λ (S : Rows). IsStore K S) r (subst (λ (k : Capacity). IsStore k rows) e s) in
+    subst (λ (S : Rows). IsNamed S outcome) (sym r) (subst (IsNamed (step K R c).rows) (sym o) (named K R c store))
 
-pub step_reply : (K size : Capacity) (R rows : Rows) (c : Command) (outcome : Outcome) (moment n : ℕ) → size ≡ K → rows ≡ (step K R c).rows → outcome ≡ (step K R c).outcome → reply size rows moment n outcome ≡ reply K (step K R c).rows moment n (step K R c).outcome
+step_reply : (K size : Capacity) (R rows : Rows) (c : Command) (outcome : Outcome) (moment n : ℕ) → size ≡ K → rows ≡ (step K R c).rows → outcome ≡ (step K R c).outcome → reply size rows moment n outcome ≡ reply K (step K R c).rows moment n (step K R c).outcome
 step_reply K size R rows c outcome moment n e r o =
     ap (λ (k : Capacity). reply k rows moment n outcome) e
     ∙ ap (λ (S : Rows). reply K S moment n outcome) r
     ∙ ap (reply K (step K R c).rows moment n) o
 
-pub step_print_cost : (K : Capacity) (R rows : Rows) (c : Command) (outcome : Outcome) → rows ≡ (step K R c).rows → outcome ≡ (step K R c).outcome → print_cost rows outcome ≡ print_cost (step K R c).rows (step K R c).outcome
-step_print_cost K R rows c outcome r o = ap (λ (S : Rows). print_cost S outcome) r ∙ ap (print_cost (step K R c).rows) o
+-- the text of a reply, the same way
+pub step_text : (K size : Capacity) (R rows : Rows) (c : Command) (outcome : Outcome) (n : ℕ) (before last : List ℕ) → size ≡ K → rows ≡ (step K R c).rows → outcome ≡ (step K R c).outcome → last ≡ before ++ reply size rows c.moment n outcome → last ≡ before ++ reply K (step K R c).rows c.moment n (step K R c).outcome
+step_text K size R rows c outcome n before last e r o h = subst (λ (ts : List ℕ). last ≡ before ++ ts) (step_reply K size R rows c outcome c.moment n e r o) h
 
 -- what was read of a line, and why it was not
 pub was_read : (read : Option (Read Command)) (o : Option Command) (c : Command) → read ≡ option_map (λ (d : Command). Ok d) o → o ≡ Some c → read ≡ Some (Ok c)
@@ -83,6 +201,9 @@ was_read read o c e is = e ∙ ap (λ (x : Option Command). option_map (λ (d : 
 
 pub was_skipped : (read : Option (Read Command)) (o : Option Command) → read ≡ option_map (λ (d : Command). Ok d) o → o ≡ None → read ≡ None
 was_skipped read o e is = e ∙ ap (λ (x : Option Command). option_map (λ (d : Command). Ok d) x) is
+
+pub was_refused : (read : Option (Read Command)) (fault : LineFault) (refusal : Refusal) → IsFault fault read → fault ≡ Reason refusal → read ≡ Some (Err refusal)
+was_refused read fault refusal e is = subst (λ (f : LineFault). IsFault f read) is e
 
 -- what was done for a line that reads as a command, that is skipped, and that is refused
 pub rows_read : (K : Capacity) (R rows : Rows) (n : ℕ) (line text : List ℕ) (c : Command) → text ≡ without_cr line → read_line text ≡ Some (Ok c) → rows ≡ (step K R c).rows → rows ≡ (replied K R n line).rows
@@ -105,13 +226,34 @@ text_skipped K R n line text before cr e =
 refused_read : (K : Capacity) (R : Rows) (n : ℕ) (line text : List ℕ) (refusal : Refusal) → text ≡ without_cr line → read_line text ≡ Some (Err refusal) → replied K R n line ≡ replied_to K R n (Some (Err refusal))
 refused_read K R n line text refusal cr e = replied-read K R n line (Some (Err refusal)) (sym (ap read_line cr) ∙ e)
 
-pub rows_refused : (K : Capacity) (R : Rows) (n : ℕ) (line text before last : List ℕ) (fault : LineFault) → text ≡ without_cr line → IsFault fault (read_line text) → IsToldFault fault n before last → R ≡ (replied K R n line).rows
-rows_refused K R n line text before last (Reason refusal) cr e h = sym (ap (λ (r : Replied). r.rows) (refused_read K R n line text refusal cr e))
-rows_refused K R n line text before last NoMemory cr e h = absurd h
+pub rows_refused : (K : Capacity) (R : Rows) (n : ℕ) (line text : List ℕ) (refusal : Refusal) → text ≡ without_cr line → read_line text ≡ Some (Err refusal) → R ≡ (replied K R n line).rows
+rows_refused K R n line text refusal cr e = sym (ap (λ (r : Replied). r.rows) (refused_read K R n line text refusal cr e))
 
-pub text_refused : (K : Capacity) (R : Rows) (n : ℕ) (line text before last : List ℕ) (fault : LineFault) → text ≡ without_cr line → IsFault fault (read_line text) → IsToldFault fault n before last → last ≡ before ++ (replied K R n line).text
-text_refused K R n line text before last (Reason refusal) cr e h =
+pub text_refused : (K : Capacity) (R : Rows) (n : ℕ) (line text before last : List ℕ) (refusal : Refusal) → text ≡ without_cr line → read_line text ≡ Some (Err refusal) → last ≡ before ++ head_line R.nodes n (Refused refusal) → last ≡ before ++ (replied K R n line).text
+text_refused K R n line text before last refusal cr e h =
     h
     ∙ ap (λ (ts : List ℕ). before ++ ts)
-    (sym (append-nil (head_line n (Refused refusal))) ∙ sym (ap (λ (r : Replied). r.text) (refused_read K R n line text refusal cr e)))
-text_refused K R n line text before last NoMemory cr e h = absurd h
+    (sym (append-nil (head_line R.nodes n (Refused refusal))) ∙ sym (ap (λ (r : Replied). r.text) (refused_read K R n line text refusal cr e)))
+
+-- the refusal of a line carries no path
+line_bare : (refusal : Refusal) → is_line_refusal refusal ≡ true → is_bare refusal ≡ true
+line_bare (QuotaExceeded folder would limit) h = absurd cc
+line_bare (BadLine column) h = refl
+line_bare LineTooLong h = refl
+line_bare InvalidPath h = refl
+line_bare InvalidName h = refl
+line_bare OutOfRange h = refl
+line_bare InvalidLimit h = refl
+line_bare ClockBack h = refl
+line_bare PathNotFound h = refl
+line_bare NotFound h = refl
+line_bare AlreadyExists h = refl
+line_bare NotEmpty h = refl
+line_bare InvalidMove h = refl
+line_bare VolumeFull h = refl
+line_bare NamesFull h = refl
+line_bare TableFull h = refl
+line_bare NeedsScan h = refl
+
+pub bare_refusal : (text : List ℕ) (refusal : Refusal) → read_line text ≡ Some (Err refusal) → is_bare refusal ≡ true
+bare_refusal text refusal e = line_bare refusal (line_refusal text refusal e)

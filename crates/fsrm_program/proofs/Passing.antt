@@ -5,11 +5,12 @@ use Rattle.std.specs.Io.KnownBytes.{append_known}
 use Rattle.fsrm_model.specs.Limits.{longest_script}
 use Rattle.fsrm_program.specs.declared.status.Status.{Status}
 use Rattle.fsrm_program.specs.declared.status.Status.TheVariants.{Done, Usage, ReadFault, WriteFault, TooLong, NoMemory}
-use Rattle.fsrm_program.specs.Bytes.{Taken, IsFront, ShowsFront}
+use Rattle.fsrm_outside.specs.Shown.{IsFront, ShowsFront}
+use Rattle.fsrm_program.specs.Bytes.{Taken}
 use Rattle.fsrm_program.specs.Progress.{State, Feeds, Takes, Halts, Breaks}
 use Rattle.fsrm_program.specs.Stops.{Stops, StopsAt}
 use Rattle.fsrm_program.proofs.Feeding.{fed_nothing, fed_then, fed_broken, fed_stops, broken_front}
-use Rattle.fsrm_program.proofs.Shown.{append_known-nil, shows_then}
+use Rattle.fsrm_outside.proofs.Shown.{append_known-nil, shows_then}
 use Rattle.fsrm_program.proofs.Taking.{taken_nothing, taken_then}
 
 pub takes_nothing : (a : State) (left shown : Option (List ℕ)) → Takes a a left left shown shown 0

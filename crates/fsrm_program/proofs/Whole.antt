@@ -10,12 +10,12 @@ use Rattle.fsrm_model.specs.Script.{lines, spelled_lines, AreLines, text_from, f
 use Rattle.fsrm_model.proofs.ScriptLaws.{lines_spelled, text_from-append, cost_from-append}
 use Rattle.fsrm_program.specs.declared.status.Status.{Status}
 use Rattle.fsrm_program.specs.declared.status.Status.TheVariants.{Done, Usage, ReadFault, WriteFault, TooLong, NoMemory}
-use Rattle.fsrm_program.specs.Bytes.{IsFront, ShowsFront}
+use Rattle.fsrm_outside.specs.Shown.{IsFront, ShowsFront}
 use Rattle.fsrm_program.specs.Progress.{State, Leads, Halts, Breaks, start}
 use Rattle.fsrm_program.specs.Stops.{StopsAt, Reads, Finishes, FinishesFront, IsGivenUp}
 use Rattle.fsrm_program.specs.Answers.{whole_text, ShowsEnded, IsRun}
 use Rattle.fsrm_program.proofs.Feeding.{held_nothing, after, joined_text, joined_looks}
-use Rattle.fsrm_program.proofs.Shown.{shows_then, shows_then_front}
+use Rattle.fsrm_outside.proofs.Shown.{shows_then, shows_then_front}
 
 -- a front of a text, and what is behind it
 front_of : (whole front back : List ℕ) → whole ≡ front ++ back → IsFront front whole

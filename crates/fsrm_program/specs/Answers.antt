@@ -7,7 +7,7 @@ use Rattle.fsrm_model.specs.Fresh.{default_capacity, new_rows}
 use Rattle.fsrm_model.specs.Script.{text, text_from, script_cost, is_end, spelled_lines, AreLines}
 use Rattle.fsrm_program.specs.declared.status.Status.{Status}
 use Rattle.fsrm_program.specs.declared.status.Status.TheVariants.{Done, ReadFault, TooLong, NoMemory}
-use Rattle.fsrm_program.specs.Bytes.{ShowsFront}
+use Rattle.fsrm_outside.specs.Shown.{ShowsFront}
 
 -- the words that the program takes
 abbrev pub AreWords : List (List ℕ) → Type 0

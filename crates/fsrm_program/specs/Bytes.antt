@@ -1,18 +1,7 @@
 -- What is taken from a script, and what is written.
 use Rattle.std.specs.Prelude.{◌≡◌, ℕ, ◌≤◌, List, [], ◌∷◌, ◌++◌, length, false, Option, Some}
 use Rattle.std.specs.List.{list_any}
-use Rattle.std.specs.Io.KnownBytes.{append_known}
 use Rattle.fsrm_model.specs.Script.{is_end}
-
--- the whole begins with the front
-abbrev pub IsFront : List ℕ → List ℕ → Type 0
-IsFront front whole = (back : List ℕ) × (whole ≡ front ++ back)
-
--- a front of the whole was shown
-pub record ShowsFront (before after : Option (List ℕ)) (whole : List ℕ) : Type 0 where
-  pub front : List ℕ
-  pub shown : after ≡ append_known before front
-  pub is_front : IsFront front whole
 
 -- these bytes were taken from the front of what was left, where that is told
 pub record Taken (before after : Option (List ℕ)) (bytes : List ℕ) : Type 0 where

@@ -1,6 +1,5 @@
 pub mod Bytes
 pub mod Progress
 pub mod Held
-pub mod Shown
 pub mod Stops
 pub mod Answers

@@ -7,7 +7,8 @@ use Rattle.fsrm_model.specs.declared.row.Rows.{Rows}
 use Rattle.fsrm_model.specs.Fresh.{default_capacity, new_rows}
 use Rattle.fsrm_model.specs.Limits.{longest_line}
 use Rattle.fsrm_model.specs.Script.{is_end, lines, spelled_lines, AreLines, text_from, fold_from, cost_from}
-use Rattle.fsrm_program.specs.Bytes.{IsFront, Taken}
+use Rattle.fsrm_outside.specs.Shown.{IsFront}
+use Rattle.fsrm_program.specs.Bytes.{Taken}
 
 -- between two pieces of a script
 pub record State : Type 0 where

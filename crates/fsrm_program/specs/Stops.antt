@@ -5,7 +5,8 @@ use Rattle.fsrm_model.specs.Limits.{longest_script}
 use Rattle.fsrm_model.specs.Script.{lines, text_from}
 use Rattle.fsrm_program.specs.declared.status.Status.{Status}
 use Rattle.fsrm_program.specs.declared.status.Status.TheVariants.{Done, Usage, ReadFault, WriteFault, TooLong, NoMemory}
-use Rattle.fsrm_program.specs.Bytes.{Taken, IsAtEnd, IsFront}
+use Rattle.fsrm_outside.specs.Shown.{IsFront}
+use Rattle.fsrm_program.specs.Bytes.{Taken, IsAtEnd}
 use Rattle.fsrm_program.specs.Progress.{State, IsHeld, Takes, Halts, Breaks, Ends, EndsBroken}
 
 -- After this status no more is read: of a script that is too long the byte behind its longest front was taken.

@@ -1,18 +1,20 @@
 //! Does what a line asks for, and appends the reply.
 
-ghost use Rattle.std.specs.Prelude.{◌≡◌, ◌≤◌, ◌+◌, ◌++◌, [], true, OnOk, ℕ};
-ghost use Rattle.std.specs.String.{string_bytes};
+ghost use Rattle.std.specs.Prelude.{◌≡◌, ◌≤◌, ◌+◌, ◌++◌, [], true, List, OnOk, ℕ};
 ghost use Rattle.fsrm_model.specs.declared.command.Command.{Command};
+ghost use Rattle.fsrm_model.specs.declared.command.Outcome.TheVariants.{Refused};
+ghost use Rattle.fsrm_model.specs.declared.row.NodeRow.{NodeRow};
 ghost use Rattle.fsrm_model.specs.Cost.{cost, print_cost};
+ghost use Rattle.fsrm_model.specs.Named.{IsNamed};
 ghost use Rattle.fsrm_model.specs.Script.{without_cr, replied, line_cost};
 ghost use Rattle.fsrm_model.specs.Step.{step};
-ghost use Rattle.fsrm_model.specs.Text.{reply};
+ghost use Rattle.fsrm_model.specs.Text.{is_bare, head_line, reply};
 ghost use Rattle.fsrm_model.specs.Valued.{is_command};
-ghost use Rattle.fsrm_program.specs.Shown.{IsPrinted, IsToldFault};
 
-use crate::replies::{append_done, append_refusal, append_sum};
+use crate::batch::Batch;
 use fsrm_engine::Engine;
-use fsrm_model::{Command, Ledger, NoMemory, Outcome, Steps};
+use fsrm_model::{Answer, Command, Ledger, NoMemory, Refusal, Steps};
+use reply_text::{write_answer, write_head};
 use std::alloc::Global;
 use tool_commands::{LineFault, read_line};
 
@@ -28,39 +30,38 @@ fn without_cr(line: &[u8]) -> &[u8]
     }
 }
 
-// Appends the reply to a line that is refused as it is read.
-fn append_fault(replies: &mut String, number: u64, fault: LineFault) -> Result<(), NoMemory>
-    ensures { OnOk result (IsToldFault fault number (string_bytes replies.old) (string_bytes replies.new)) }
+// Appends the reply to a line that is refused as it is read. A batch fails only for want of memory.
+fn append_refusal(
+    alloc: Global,
+    replies: &mut Batch,
+    number: u64,
+    refusal: &Refusal,
+) -> Result<(), NoMemory>
+    requires { is_bare refusal.now ≡ true }
+    ensures { (nodes : List NodeRow) → OnOk result (replies.new.bytes.items ≡ replies.old.bytes.items ++ head_line nodes number (Refused refusal.now)) }
 {
-    match fault {
-        LineFault::Refused(refusal) => append_refusal(replies, number, refusal),
-        LineFault::NoMemory => Err(NoMemory),
+    match write_head(alloc, replies, number, refusal) {
+        Ok(()) => Ok(()),
+        Err(_) => Err(NoMemory),
     }
 }
 
-// Appends the reply to a command of which this came.
-fn append_reply<L: Ledger>(
+// Appends the reply to a command of which this came. A batch fails only for want of memory.
+fn append_answer<L: Ledger>(
     engine: &Engine,
     alloc: Global,
-    replies: &mut String,
+    replies: &mut Batch,
     number: u64,
-    outcome: &Outcome,
+    answer: &Answer,
     steps: &mut Steps<L>,
 ) -> Result<(), NoMemory>
-    requires printed { IsPrinted engine.now.rows.nodes outcome.now }
-    ensures text { (moment : ℕ) → OnOk result (string_bytes replies.new ≡ string_bytes replies.old ++ reply engine.now.size engine.now.rows moment number outcome.now) }
-    ensures looks { steps.new ≤ steps.old + print_cost engine.now.rows outcome.now }
+    requires named { IsNamed engine.now.rows answer.now.outcome }
+    ensures text { (moment : ℕ) → OnOk result (replies.new.bytes.items ≡ replies.old.bytes.items ++ reply engine.now.size engine.now.rows moment number answer.now.outcome) }
+    ensures looks { steps.new ≤ steps.old + print_cost engine.now.rows answer.now.outcome }
 {
-    match outcome {
-        Outcome::Done { passive: _ } => append_done(replies, number),
-        Outcome::Sum { node, bytes } => {
-            let path = match engine.path_text(alloc, *node, steps) {
-                Ok(path) => path,
-                Err(NoMemory) => return Err(NoMemory),
-            };
-            append_sum(replies, number, *bytes, path.as_str())
-        }
-        Outcome::Refused(refusal) => append_refusal(replies, number, *refusal),
+    match write_answer(alloc, replies, number, answer, engine, steps) {
+        Ok(()) => Ok(()),
+        Err(_) => Err(NoMemory),
     }
 }
 
@@ -68,7 +69,7 @@ fn append_reply<L: Ledger>(
 fn take<L: Ledger>(
     engine: &mut Engine,
     alloc: Global,
-    replies: &mut String,
+    replies: &mut Batch,
     number: u64,
     command: &Command,
     steps: &mut Steps<L>,
@@ -78,11 +79,11 @@ fn take<L: Ledger>(
     ensures size { engine.new.size ≡ engine.old.size }
     ensures idle { engine.new.waiting ≡ [] }
     ensures rows { OnOk result (engine.new.rows ≡ (step engine.old.size engine.old.rows command.now).rows) }
-    ensures text { OnOk result (string_bytes replies.new ≡ string_bytes replies.old ++ reply engine.old.size (step engine.old.size engine.old.rows command.now).rows command.now.moment number (step engine.old.size engine.old.rows command.now).outcome) }
+    ensures text { OnOk result (replies.new.bytes.items ≡ replies.old.bytes.items ++ reply engine.old.size (step engine.old.size engine.old.rows command.now).rows command.now.moment number (step engine.old.size engine.old.rows command.now).outcome) }
     ensures looks { steps.new ≤ steps.old + (cost engine.old.rows command.now.deed + print_cost (step engine.old.size engine.old.rows command.now).rows (step engine.old.size engine.old.rows command.now).outcome) }
 {
     match engine.apply(alloc, command, steps) {
-        Ok(answer) => append_reply(engine, alloc, replies, number, &answer.outcome, steps),
+        Ok(answer) => append_answer(engine, alloc, replies, number, &answer, steps),
         Err(NoMemory) => Err(NoMemory),
     }
 }
@@ -91,7 +92,7 @@ fn take<L: Ledger>(
 pub fn answer<L: Ledger>(
     engine: &mut Engine,
     alloc: Global,
-    replies: &mut String,
+    replies: &mut Batch,
     number: u64,
     line: &[u8],
     steps: &mut Steps<L>,
@@ -100,12 +101,13 @@ pub fn answer<L: Ledger>(
     ensures size { engine.new.size ≡ engine.old.size }
     ensures idle { engine.new.waiting ≡ [] }
     ensures rows { OnOk result (engine.new.rows ≡ (replied engine.old.size engine.old.rows number line.now).rows) }
-    ensures text { OnOk result (string_bytes replies.new ≡ string_bytes replies.old ++ (replied engine.old.size engine.old.rows number line.now).text) }
+    ensures text { OnOk result (replies.new.bytes.items ≡ replies.old.bytes.items ++ (replied engine.old.size engine.old.rows number line.now).text) }
     ensures looks { steps.new ≤ steps.old + line_cost engine.old.size engine.old.rows line.now }
 {
     match read_line(alloc, without_cr(line)) {
         Ok(Some(command)) => take(engine, alloc, replies, number, &command, steps),
         Ok(None) => Ok(()),
-        Err(fault) => append_fault(replies, number, fault),
+        Err(LineFault::Refused(refusal)) => append_refusal(alloc, replies, number, &refusal),
+        Err(LineFault::NoMemory) => Err(NoMemory),
     }
 }

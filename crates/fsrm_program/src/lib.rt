@@ -2,10 +2,10 @@
 #![tactic(auto)]
 
 mod answering;
+mod batch;
 mod pieces;
 mod program;
 mod replay;
-mod replies;
 mod session;
 mod status;
 #[cfg(test)]

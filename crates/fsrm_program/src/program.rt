@@ -7,7 +7,8 @@ ghost use Rattle.fsrm_model.specs.Fresh.{default_capacity, new_rows};
 ghost use Rattle.fsrm_model.specs.Limits.{longest_script};
 ghost use Rattle.fsrm_model.specs.Script.{script_cost};
 ghost use Rattle.fsrm_outside.specs.Causes.{Rose};
-ghost use Rattle.fsrm_program.specs.Bytes.{ShowsFront, TakenMost};
+ghost use Rattle.fsrm_outside.specs.Shown.{ShowsFront};
+ghost use Rattle.fsrm_program.specs.Bytes.{TakenMost};
 ghost use Rattle.fsrm_program.specs.Answers.{AreWords, whole_text, IsWhole, IsTooLong, most_taken, IsEnded, OnReadStop, IsDoneOrNoMemory};
 
 use crate::replay::replay;

@@ -2,7 +2,6 @@
 
 ghost use Rattle.std.specs.Prelude.{◌≡◌, ℕ, ◌≤◌, ◌<◌, ◌+◌, ◌-◌, [], length, IfOk, IfErr, OnOk, OnErr, IsErrOf};
 ghost use Rattle.std.specs.Option.{ForSome};
-ghost use Rattle.std.specs.String.{string_bytes};
 ghost use Rattle.fsrm_model.specs.Limits.{longest_script};
 ghost use Rattle.fsrm_outside.specs.Causes.{Rose};
 ghost use Rattle.fsrm_program.specs.Bytes.{IsAtEnd, TakenMost};
@@ -11,6 +10,7 @@ ghost use Rattle.fsrm_program.specs.Held.{state_of};
 ghost use Rattle.fsrm_program.specs.Stops.{Stops, StopsAt, Reads, Finishes, FinishesFront, IsGivenUp};
 ghost use Rattle.fsrm_program.specs.Answers.{IsRun, most_taken};
 
+use crate::batch::Batch;
 use crate::pieces::next_piece;
 use crate::session::{Session, end, feed};
 use crate::status::Status;
@@ -34,13 +34,13 @@ fn pass<O: Outside, L: Ledger>(
     requires taken { taken ≤ longest_script }
     requires buffer { 0 < length buffer.old }
     requires number { session.old.line ≤ taken + 1 }
-    requires written { string_bytes session.old.replies ≡ [] }
+    requires written { session.old.replies.bytes.items ≡ [] }
     requires idle { session.old.engine.waiting ≡ [] }
     ensures takes { IfOk result (λ count. Takes (state_of session.old steps.old) (state_of session.new steps.new) (O.left outside.old) (O.left outside.new) (O.shown outside.old) (O.shown outside.new) count) }
     ensures within { IfOk result (λ count. taken + count ≤ longest_script) }
     ensures end { IfOk result (λ count. count ≡ 0 → IsAtEnd (O.left outside.new)) }
     ensures number { IfOk result (λ count. session.new.line ≤ session.old.line + count) }
-    ensures written { OnOk result (string_bytes session.new.replies ≡ []) }
+    ensures written { OnOk result (session.new.replies.bytes.items ≡ []) }
     ensures idle { session.new.engine.waiting ≡ [] }
     ensures stops { IfErr result (λ status. Stops status (state_of session.old steps.old) (state_of session.new steps.new) (O.left outside.old) (O.left outside.new) (O.shown outside.old) (O.shown outside.new) 0) }
     ensures taken { IfErr result (λ status. TakenMost (O.left outside.old) (O.left outside.new) (most_taken status - taken)) }
@@ -71,10 +71,10 @@ fn read_all<O: Outside, L: Ledger>(
     steps: &mut Steps<L>,
 ) -> Result<(), Status>
     requires number { session.old.line ≤ 1 }
-    requires written { string_bytes session.old.replies ≡ [] }
+    requires written { session.old.replies.bytes.items ≡ [] }
     requires idle { session.old.engine.waiting ≡ [] }
     ensures reads { OnOk result (Reads (state_of session.old steps.old) (state_of session.new steps.new) (O.left outside.old) (O.left outside.new) (O.shown outside.old) (O.shown outside.new)) }
-    ensures written { OnOk result (string_bytes session.new.replies ≡ []) }
+    ensures written { OnOk result (session.new.replies.bytes.items ≡ []) }
     ensures idle { session.new.engine.waiting ≡ [] }
     ensures stops { IfErr result (λ status. StopsAt status (state_of session.old steps.old) (state_of session.new steps.new) (O.left outside.old) (O.left outside.new) (O.shown outside.old) (O.shown outside.new)) }
     ensures taken { IfErr result (λ status. TakenMost (O.left outside.old) (O.left outside.new) (most_taken status)) }
@@ -100,7 +100,7 @@ fn finish<S: Sink, L: Ledger>(
     session: &mut Session,
     steps: &mut Steps<L>,
 ) -> Result<(), Status>
-    requires written { string_bytes session.old.replies ≡ [] }
+    requires written { session.old.replies.bytes.items ≡ [] }
     requires idle { session.old.engine.waiting ≡ [] }
     ensures ok { OnOk result (Finishes (state_of session.old steps.old) steps.new (S.shown sink.old) (S.shown sink.new)) }
     ensures err { OnErr result (FinishesFront (state_of session.old steps.old) steps.new (S.shown sink.old) (S.shown sink.new)) }
@@ -122,7 +122,7 @@ fn finish<S: Sink, L: Ledger>(
 // Before the first byte: a volume with the root alone, of the default size.
 fn new_session(alloc: Global) -> Result<Session, NoMemory>
     ensures state { IfOk result (λ session. (looks : ℕ) → state_of session looks ≡ start looks) }
-    ensures written { IfOk result (λ session. string_bytes session.replies ≡ []) }
+    ensures written { IfOk result (λ session. session.replies.bytes.items ≡ []) }
     ensures idle { IfOk result (λ session. session.engine.waiting ≡ []) }
 {
     let size = Capacity {
@@ -134,7 +134,7 @@ fn new_session(alloc: Global) -> Result<Session, NoMemory>
         alloc,
         line: 1,
         held: Vec::new(alloc),
-        replies: String::new(alloc),
+        replies: Batch::new(alloc),
     })
 }
 
@@ -145,7 +145,7 @@ fn run_session<O: Outside, L: Ledger>(
     steps: &mut Steps<L>,
 ) -> Status
     requires state { state_of session.old steps.old ≡ start steps.old }
-    requires written { string_bytes session.old.replies ≡ [] }
+    requires written { session.old.replies.bytes.items ≡ [] }
     requires idle { session.old.engine.waiting ≡ [] }
     ensures run { ForSome (O.left outside.old) (λ script. IsRun result script steps.old steps.new (O.left outside.new) (O.shown outside.old) (O.shown outside.new)) }
     ensures taken { TakenMost (O.left outside.old) (O.left outside.new) (most_taken result) }

@@ -1,7 +1,6 @@
 //! Cuts a script that comes in pieces into its lines, and answers each.
 
 ghost use Rattle.std.specs.Prelude.{◌≡◌, ℕ, ◌≤◌, ◌<◌, ◌+◌, ◌^◌, ◌++◌, ◌∷◌, [], length, take, false, OnOk, OnErr, MatchOption};
-ghost use Rattle.std.specs.String.{string_bytes};
 ghost use Rattle.std.specs.List.{list_any};
 ghost use Rattle.fsrm_model.specs.Limits.{longest_line};
 ghost use Rattle.fsrm_model.specs.Script.{is_end};
@@ -10,6 +9,7 @@ ghost use Rattle.fsrm_program.specs.Progress.{Feeds, Broken, EndsBehind, EndsBro
 ghost use Rattle.fsrm_program.specs.Held.{state_of};
 
 use crate::answering::answer;
+use crate::batch::Batch;
 use fsrm_engine::Engine;
 use fsrm_model::{Ledger, NoMemory, Steps};
 use memchr::memchr;
@@ -29,7 +29,7 @@ pub struct Session {
     /// The beginning of that line.
     pub held: Vec<u8>,
     /// Replies that are still to be written.
-    pub replies: String,
+    pub replies: Batch,
 }
 
 // The first line, and what is behind its LF.
@@ -61,7 +61,7 @@ fn answer_whole<L: Ledger>(
     requires idle { session.old.engine.waiting ≡ [] }
     requires one_line { list_any is_end line.now ≡ false }
     requires nothing_held { session.old.held.items ≡ [] }
-    ensures ok { OnOk result (Feeds (state_of session.old steps.old) (state_of session.new steps.new) (line.now ++ 10 ∷ []) (string_bytes session.old.replies) (string_bytes session.new.replies)) }
+    ensures ok { OnOk result (Feeds (state_of session.old steps.old) (state_of session.new steps.new) (line.now ++ 10 ∷ []) session.old.replies.bytes.items session.new.replies.bytes.items) }
     ensures err { OnErr result (Broken (state_of session.old steps.old) steps.new (line.now ++ 10 ∷ []) []) }
     ensures number { OnOk result (session.new.line ≡ session.old.line + 1) }
     ensures idle { session.new.engine.waiting ≡ [] }
@@ -91,7 +91,7 @@ fn answer_held<L: Ledger>(
     requires number { session.old.line + 1 < 2 ^ 64 }
     requires idle { session.old.engine.waiting ≡ [] }
     requires one_line { list_any is_end rest.now ≡ false }
-    ensures ok { OnOk result (Feeds (state_of session.old steps.old) (state_of session.new steps.new) (rest.now ++ 10 ∷ []) (string_bytes session.old.replies) (string_bytes session.new.replies)) }
+    ensures ok { OnOk result (Feeds (state_of session.old steps.old) (state_of session.new steps.new) (rest.now ++ 10 ∷ []) session.old.replies.bytes.items session.new.replies.bytes.items) }
     ensures err { OnErr result (Broken (state_of session.old steps.old) steps.new (rest.now ++ 10 ∷ []) []) }
     ensures number { OnOk result (session.new.line ≡ session.old.line + 1) }
     ensures idle { session.new.engine.waiting ≡ [] }
@@ -126,7 +126,7 @@ fn end_line<L: Ledger>(
     requires number { session.old.line + 1 < 2 ^ 64 }
     requires idle { session.old.engine.waiting ≡ [] }
     requires one_line { list_any is_end rest.now ≡ false }
-    ensures ok { OnOk result (Feeds (state_of session.old steps.old) (state_of session.new steps.new) (rest.now ++ 10 ∷ []) (string_bytes session.old.replies) (string_bytes session.new.replies)) }
+    ensures ok { OnOk result (Feeds (state_of session.old steps.old) (state_of session.new steps.new) (rest.now ++ 10 ∷ []) session.old.replies.bytes.items session.new.replies.bytes.items) }
     ensures err { OnErr result (Broken (state_of session.old steps.old) steps.new (rest.now ++ 10 ∷ []) []) }
     ensures number { OnOk result (session.new.line ≡ session.old.line + 1) }
     ensures idle { session.new.engine.waiting ≡ [] }
@@ -141,7 +141,7 @@ fn end_line<L: Ledger>(
 // Keeps the beginning of a line, which the next piece goes on with.
 fn hold_rest(session: &mut Session, rest: &[u8]) -> Result<(), NoMemory>
     requires { list_any is_end rest.now ≡ false }
-    ensures ok { (looks : ℕ) → OnOk result (Feeds (state_of session.old looks) (state_of session.new looks) rest.now (string_bytes session.old.replies) (string_bytes session.new.replies)) }
+    ensures ok { (looks : ℕ) → OnOk result (Feeds (state_of session.old looks) (state_of session.new looks) rest.now session.old.replies.bytes.items session.new.replies.bytes.items) }
     ensures number { session.new.line ≡ session.old.line }
     ensures idle { session.new.engine.waiting ≡ session.old.engine.waiting }
 {
@@ -160,7 +160,7 @@ pub fn feed<L: Ledger>(
 ) -> Result<(), NoMemory>
     requires number { session.old.line + length piece.now < 2 ^ 64 }
     requires idle { session.old.engine.waiting ≡ [] }
-    ensures ok { OnOk result (Feeds (state_of session.old steps.old) (state_of session.new steps.new) piece.now (string_bytes session.old.replies) (string_bytes session.new.replies)) }
+    ensures ok { OnOk result (Feeds (state_of session.old steps.old) (state_of session.new steps.new) piece.now session.old.replies.bytes.items session.new.replies.bytes.items) }
     ensures err { OnErr result (Broken (state_of session.old steps.old) steps.new piece.now []) }
     ensures number { OnOk result (session.new.line ≤ session.old.line + length piece.now) }
     ensures idle { session.new.engine.waiting ≡ [] }
@@ -182,7 +182,7 @@ pub fn feed<L: Ledger>(
 /// Answers the last line, where it has no LF.
 pub fn end<L: Ledger>(session: &mut Session, steps: &mut Steps<L>) -> Result<(), NoMemory>
     requires { session.old.engine.waiting ≡ [] }
-    ensures ok { OnOk result (EndsBehind (state_of session.old steps.old) steps.new (string_bytes session.old.replies) (string_bytes session.new.replies)) }
+    ensures ok { OnOk result (EndsBehind (state_of session.old steps.old) steps.new session.old.replies.bytes.items session.new.replies.bytes.items) }
     ensures err { OnErr result (EndsBroken (state_of session.old steps.old) steps.new) }
 {
     if session.held.is_empty() {

@@ -32,6 +32,39 @@ const MOVES: &[u8] =
 const MOVES_REPLIES: &[u8] =
     b"1 ok\n2 ok\n3 refused InvalidMove\n4 refused NotEmpty\n5 ok\n6 ok\n  0 D:\\A\n7 refused AlreadyExists\n";
 
+const ROUNDING: &[u8] =
+    b"100 dirquota quota add /Path:D:\\ /Limit:10kb\n101 create D:\\a 8192 7\n102 create D:\\b 1 7\n";
+
+const ROUNDING_REPLIES: &[u8] = b"1 ok\n2 ok\n3 refused QuotaExceeded 12288 10240 D:\\\n";
+
+const NESTED_QUOTAS: &[u8] =
+    b"100 mkdir D:\\u 1\n100 dirquota quota add /Path:D:\\u /Limit:1mb\n100 mkdir D:\\u\\v 1\n100 dirquota quota add /Path:D:\\u\\v /Limit:10mb\n100 create D:\\u\\v\\f 1048576 1\n100 create D:\\u\\v\\g 1 1\n100 dirquota quota list\n";
+
+const NESTED_QUOTAS_REPLIES: &[u8] =
+    b"1 ok\n2 ok\n3 ok\n4 ok\n5 ok\n6 refused QuotaExceeded 1052672 1048576 D:\\u\n7 ok\n  1048576 hard complete 1048576 1048576 1970-01-01 00:01:40 D:\\u\n  10485760 hard complete 1048576 1048576 1970-01-01 00:01:40 D:\\u\\v\n";
+
+const UP_TO_THE_LIMIT: &[u8] =
+    b"100 dirquota quota add /Path:D:\\ /Limit:8kb\n100 create D:\\a 8192 1\n100 resize D:\\a 8193\n";
+
+const UP_TO_THE_LIMIT_REPLIES: &[u8] = b"1 ok\n2 ok\n3 refused QuotaExceeded 12288 8192 D:\\\n";
+
+const ABOVE_THE_LIMIT: &[u8] =
+    b"100 dirquota quota add /Path:D:\\ /Limit:64kb\n100 create D:\\a 40960 1\n100 dirquota quota modify /Path:D:\\ /Limit:16kb\n100 resize D:\\a 20480\n100 resize D:\\a 20479\n100 resize D:\\a 24577\n";
+
+const ABOVE_THE_LIMIT_REPLIES: &[u8] =
+    b"1 ok\n2 ok\n3 ok\n4 ok\n5 ok\n6 refused QuotaExceeded 28672 16384 D:\\\n";
+
+const MOVE_BELOW_A_QUOTA: &[u8] =
+    b"100 dirquota quota add /Path:D:\\ /Limit:8kb\n100 mkdir D:\\x 1\n100 create D:\\a 8192 1\n100 move D:\\a D:\\x\\a\n";
+
+const MOVE_BELOW_A_QUOTA_REPLIES: &[u8] = b"1 ok\n2 ok\n3 ok\n4 ok\n";
+
+const NEEDS_SCAN: &[u8] =
+    b"100 mkdir D:\\a 1\n100 dirquota quota add /Path:D:\\ /Limit:1kb\n100 dirquota quota add /Path:D:\\a /Limit:1kb\n100 dirquota quota add /Path:D:\\a /Limit:1kb\n100 dirquota quota add /Path:D:\\a /Limit:1kb /Status:disabled\n100 dirquota quota scan /Path:D:\\a\n100 dirquota template list\n";
+
+const NEEDS_SCAN_REPLIES: &[u8] =
+    b"1 ok\n2 refused NeedsScan\n3 ok\n4 refused AlreadyExists\n5 refused BadLine 46\n6 refused BadLine 20\n7 refused BadLine 14\n";
+
 // Runs the words, and counts the looks in a ledger that takes no bytes.
 fn run_counted<B: Ledger>(
     rt: &HostRuntime,
@@ -87,6 +120,16 @@ fn worked_scripts_have_their_replies_in_any_pieces(rt: HostRuntime) -> Result<()
     replies_in_any_pieces(&rt, &rt, BAD_LINES, BAD_REPLIES)?;
     replies_in_any_pieces(&rt, &rt, CLOCK, CLOCK_REPLIES)?;
     replies_in_any_pieces(&rt, &rt, MOVES, MOVES_REPLIES)
+}
+
+#[test]
+fn worked_quotas_have_their_replies_in_any_pieces(rt: HostRuntime) -> Result<(), Fail> {
+    replies_in_any_pieces(&rt, &rt, ROUNDING, ROUNDING_REPLIES)?;
+    replies_in_any_pieces(&rt, &rt, NESTED_QUOTAS, NESTED_QUOTAS_REPLIES)?;
+    replies_in_any_pieces(&rt, &rt, UP_TO_THE_LIMIT, UP_TO_THE_LIMIT_REPLIES)?;
+    replies_in_any_pieces(&rt, &rt, ABOVE_THE_LIMIT, ABOVE_THE_LIMIT_REPLIES)?;
+    replies_in_any_pieces(&rt, &rt, MOVE_BELOW_A_QUOTA, MOVE_BELOW_A_QUOTA_REPLIES)?;
+    replies_in_any_pieces(&rt, &rt, NEEDS_SCAN, NEEDS_SCAN_REPLIES)
 }
 
 #[test]
@@ -230,6 +273,41 @@ fn a_volume_of_65536_nodes_fills(rt: HostRuntime) -> Result<(), Fail> {
     assert_eq!(rt; status, Status::Done);
     let end =
         b"65535 ok\n65536 refused VolumeFull\n65537 refused AlreadyExists\n65538 ok\n  268431360 D:\\\n";
+    assert!(rt; outside.shown().ends_with(end.as_slice()));
+    Ok(())
+}
+
+// So many folders in the root.
+fn append_folders(script: &mut String, count: u32) -> Result<(), Fail> {
+    for number in 0..count {
+        write!(script, "0 mkdir D:\\d{number} 1\n")?;
+    }
+    Ok(())
+}
+
+// A quota on each of these folders.
+fn append_quotas(script: &mut String, count: u32) -> Result<(), Fail> {
+    for number in 0..count {
+        write!(
+            script,
+            "0 dirquota quota add /Path:D:\\d{number} /Limit:1kb\n"
+        )?;
+    }
+    Ok(())
+}
+
+#[test]
+fn a_table_of_4096_quotas_fills(rt: HostRuntime) -> Result<(), Fail> {
+    let mut script = String::new(rt.alloc());
+    append_folders(&mut script, 4_097)?;
+    append_quotas(&mut script, 4_097)?;
+    script.push_str(
+        "0 dirquota quota add /Path:D:\\d7 /Limit:1kb\n0 dirquota quota delete /Path:D:\\d7\n",
+    )?;
+    script.push_str("0 dirquota quota add /Path:D:\\d4096 /Limit:1kb\n")?;
+    let (status, outside) = replay(&rt, script.as_bytes(), 65_536, [].as_slice())?;
+    assert_eq!(rt; status, Status::Done);
+    let end = b"8193 ok\n8194 refused TableFull\n8195 refused AlreadyExists\n8196 ok\n8197 ok\n";
     assert!(rt; outside.shown().ends_with(end.as_slice()));
     Ok(())
 }

@@ -1,5 +1,4 @@
 use Rattle.std.proofs.Common.{◌≡◌, ◌-◌, ◌+◌, ◌≤◌, []}
-use Rattle.std.specs.String.{string_bytes}
 use Rattle.fsrm_model.specs.Limits.{longest_script}
 use Rattle.fsrm_program.specs.Progress.{Takes}
 use Rattle.fsrm_program.specs.Held.{state_of}
@@ -14,7 +13,7 @@ invariant-pieces g l =
       takes : Takes (state_of l.fn.session l.fn.steps) (state_of l.session l.steps) (source.left l.fn.outside) (source.left l.outside) (sink.shown l.fn.outside) (sink.shown l.outside) l.taken;
       within : l.taken ≤ longest_script;
       number : l.session.line ≤ l.fn.session.line + l.taken;
-      written : string_bytes l.session.replies ≡ [];
+      written : l.session.replies.bytes.items ≡ [];
       idle : l.session.engine.waiting ≡ [];
       read_later : source.read_faults l.fn.outside ≤ source.read_faults l.outside;
       write_later : sink.write_faults l.fn.outside ≤ sink.write_faults l.outside;

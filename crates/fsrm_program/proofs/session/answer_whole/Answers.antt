@@ -1,5 +1,4 @@
 use Rattle.std.proofs.Common.{refl, ◌+◌}
-use Rattle.std.specs.String.{string_bytes}
 use Rattle.fsrm_program.specs.Held.{state_of}
 use Rattle.fsrm_program.proofs.Feeding.{feeds_line, broken_line, says_whole}
 use Rattle.fsrm_program.proofs.session.answer_whole.Goals as goal
@@ -8,7 +7,7 @@ pub returns-in-Ok-clause-ok : goal.returns-in-Ok-clause-ok
 returns-in-Ok-clause-ok g c =
     let now = c.args.session.now in
     let new = record now { engine = c.answer.new.engine; line = now.line + 1; replies = c.answer.new.replies } in
-    feeds_line (state_of now c.args.steps.now) (state_of new c.answer.new.steps) c.args.line.now c.args.line.now (string_bytes now.replies) (string_bytes c.answer.new.replies) c.requires.one_line (says_whole now.held.items c.args.line.now c.requires.nothing_held) c.in-Ok.ensures.size refl c.requires.nothing_held
+    feeds_line (state_of now c.args.steps.now) (state_of new c.answer.new.steps) c.args.line.now c.args.line.now now.replies.bytes.items c.answer.new.replies.bytes.items c.requires.one_line (says_whole now.held.items c.args.line.now c.requires.nothing_held) c.in-Ok.ensures.size refl c.requires.nothing_held
     (record { rows_are = c.in-Ok.ensures.rows; text_is = c.in-Ok.ensures.text; looks_are = c.in-Ok.ensures.looks })
 
 pub returns-in-Err-clause-err : goal.returns-in-Err-clause-err

@@ -1,5 +1,4 @@
 use Rattle.std.proofs.Common.{subst, List, ℕ, ◌+◌, ◌≤◌}
-use Rattle.std.specs.String.{string_bytes}
 use Rattle.fsrm_model.specs.Script.{line_cost}
 use Rattle.fsrm_program.specs.Held.{state_of}
 use Rattle.fsrm_program.proofs.Cutting.{none_held, some_held}
@@ -9,16 +8,16 @@ use Rattle.fsrm_program.proofs.session.end.Goals as goal
 pub returns-then-is_empty-clause-ok : goal.returns-then-is_empty-clause-ok
 returns-then-is_empty-clause-ok g c =
     let now = c.args.session.now in
-    ends_nothing (state_of now c.args.steps.now) (string_bytes now.replies) (none_held _ now.held.items c.is_empty.result now.held.ok.0 c.is_empty.ensures c.if-is_empty.true)
+    ends_nothing (state_of now c.args.steps.now) now.replies.bytes.items (none_held _ now.held.items c.is_empty.result now.held.ok.0 c.is_empty.ensures c.if-is_empty.true)
 
 pub returns-in-Ok-clause-ok : goal.returns-in-Ok-clause-ok
 returns-in-Ok-clause-ok g c =
     let now = c.args.session.now in
     let a = state_of now c.args.steps.now in
     let rows = c.answer.new.engine.rows in
-    let done : Answered a c.deref.result.now rows c.answer.new.steps (string_bytes now.replies) (string_bytes c.answer.new.replies) = record { rows_are = c.in-Ok.ensures.rows; text_is = c.in-Ok.ensures.text; looks_are = c.in-Ok.ensures.looks } in
-    ends_line a rows c.answer.new.steps (string_bytes now.replies) (string_bytes c.answer.new.replies) (some_held _ now.held.items c.is_empty.result now.held.ok.0 c.is_empty.ensures c.if-is_empty.false)
-    (subst (λ (said : List ℕ). Answered a said rows c.answer.new.steps (string_bytes now.replies) (string_bytes c.answer.new.replies)) c.deref.ensures.value done)
+    let done : Answered a c.deref.result.now rows c.answer.new.steps now.replies.bytes.items c.answer.new.replies.bytes.items = record { rows_are = c.in-Ok.ensures.rows; text_is = c.in-Ok.ensures.text; looks_are = c.in-Ok.ensures.looks } in
+    ends_line a rows c.answer.new.steps now.replies.bytes.items c.answer.new.replies.bytes.items (some_held _ now.held.items c.is_empty.result now.held.ok.0 c.is_empty.ensures c.if-is_empty.false)
+    (subst (λ (said : List ℕ). Answered a said rows c.answer.new.steps now.replies.bytes.items c.answer.new.replies.bytes.items) c.deref.ensures.value done)
 
 pub returns-in-Err-clause-err : goal.returns-in-Err-clause-err
 returns-in-Err-clause-err g c =

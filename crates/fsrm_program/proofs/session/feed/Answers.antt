@@ -1,5 +1,4 @@
 use Rattle.std.proofs.Common.{◌++◌, ◌∷◌, [], List, ℕ, refl, sym, ◌∙◌, subst, arith, length-append}
-use Rattle.std.specs.String.{string_bytes}
 use Rattle.fsrm_program.specs.Progress.{Feeds, Broken}
 use Rattle.fsrm_program.specs.Held.{state_of}
 use Rattle.fsrm_program.proofs.Cutting.{cut_more}
@@ -7,7 +6,7 @@ use Rattle.fsrm_program.proofs.Feeding.{feeds_nothing, feeds_then, feeds_broken,
 use Rattle.fsrm_program.proofs.session.feed.Goals as goal
 
 pub lines-init : goal.lines-init
-lines-init g c = ([], record { cut = refl; fed = feeds_nothing (state_of c.args.session.now c.args.steps.now) (string_bytes c.args.session.now.replies); number = omega arith; idle = c.requires.idle })
+lines-init g c = ([], record { cut = refl; fed = feeds_nothing (state_of c.args.session.now c.args.steps.now) c.args.session.now.replies.bytes.items; number = omega arith; idle = c.requires.idle })
 
 pub lines-preserved : goal.lines-preserved
 lines-preserved g c =
@@ -20,7 +19,7 @@ lines-preserved g c =
       done ++ (line ++ 10 ∷ []),
       record {
         cut = cut_more c.args.piece.now done c.lines.rest.now line c.in-Some.behind.now kept.cut c.in-Some.ensures;
-        fed = feeds_then start now next done (line ++ 10 ∷ []) (string_bytes c.args.session.now.replies) (string_bytes c.lines.session.replies) (string_bytes c.end_line.new.session.replies) kept.fed c.in-Ok.ensures.ok;
+        fed = feeds_then start now next done (line ++ 10 ∷ []) c.args.session.now.replies.bytes.items c.lines.session.replies.bytes.items c.end_line.new.session.replies.bytes.items kept.fed c.in-Ok.ensures.ok;
         number = omega (arith, kept.number, c.in-Ok.ensures.number, length-append done (line ++ 10 ∷ []), length-append line (10 ∷ []));
         idle = c.end_line.ensures.idle;
       },
@@ -35,7 +34,7 @@ returns-in-Err-clause-err g c =
     let line = c.in-Some.line.now in
     let cut = cut_more c.args.piece.now done c.lines.rest.now line c.in-Some.behind.now kept.cut c.in-Some.ensures in
     subst (λ (bytes : List ℕ). Broken start c.end_line.new.steps bytes []) (sym cut)
-    (broken_more start c.end_line.new.steps (done ++ (line ++ 10 ∷ [])) c.in-Some.behind.now [] (feeds_broken start now c.end_line.new.steps done (line ++ 10 ∷ []) (string_bytes c.args.session.now.replies) (string_bytes c.lines.session.replies) kept.fed c.in-Err.ensures.err))
+    (broken_more start c.end_line.new.steps (done ++ (line ++ 10 ∷ [])) c.in-Some.behind.now [] (feeds_broken start now c.end_line.new.steps done (line ++ 10 ∷ []) c.args.session.now.replies.bytes.items c.lines.session.replies.bytes.items kept.fed c.in-Err.ensures.err))
 
 pub returns-in-Ok-hold_rest-clause-ok : goal.returns-in-Ok-hold_rest-clause-ok
 returns-in-Ok-hold_rest-clause-ok g c =
@@ -43,10 +42,10 @@ returns-in-Ok-hold_rest-clause-ok g c =
     let now = state_of c.lines.session c.lines.steps in
     let next = state_of c.hold_rest.new.session c.lines.steps in
     let kept = c.lines.invariant.1 in
-    let before = string_bytes c.args.session.now.replies in
-    let last = string_bytes c.hold_rest.new.session.replies in
+    let before = c.args.session.now.replies.bytes.items in
+    let last = c.hold_rest.new.session.replies.bytes.items in
     subst (λ (bytes : List ℕ). Feeds start next bytes before last) (sym kept.cut)
-    (feeds_then start now next c.lines.invariant.0 c.lines.rest.now before (string_bytes c.lines.session.replies) last kept.fed (c.in-Ok-hold_rest.ensures.ok c.lines.steps))
+    (feeds_then start now next c.lines.invariant.0 c.lines.rest.now before c.lines.session.replies.bytes.items last kept.fed (c.in-Ok-hold_rest.ensures.ok c.lines.steps))
 
 pub returns-in-Err-hold_rest-clause-err : goal.returns-in-Err-hold_rest-clause-err
 returns-in-Err-hold_rest-clause-err g c =
@@ -54,7 +53,7 @@ returns-in-Err-hold_rest-clause-err g c =
     let now = state_of c.lines.session c.lines.steps in
     let kept = c.lines.invariant.1 in
     subst (λ (bytes : List ℕ). Broken start c.lines.steps bytes []) (sym kept.cut)
-    (feeds_broken start now c.lines.steps c.lines.invariant.0 c.lines.rest.now (string_bytes c.args.session.now.replies) (string_bytes c.lines.session.replies) kept.fed (broken_still now c.lines.rest.now c.lines.steps refl))
+    (feeds_broken start now c.lines.steps c.lines.invariant.0 c.lines.rest.now c.args.session.now.replies.bytes.items c.lines.session.replies.bytes.items kept.fed (broken_still now c.lines.rest.now c.lines.steps refl))
 
 pub end_line-requires-clause-idle : goal.end_line-requires-clause-idle
 end_line-requires-clause-idle g c = c.lines.invariant.1.idle

@@ -1,5 +1,4 @@
 use Rattle.std.proofs.Common.{◌≡◌, ◌≤◌, ◌+◌, ◌++◌, [], List, ℕ, length}
-use Rattle.std.specs.String.{string_bytes}
 use Rattle.fsrm_program.specs.Progress.{Feeds}
 use Rattle.fsrm_program.specs.Held.{state_of}
 use Rattle.fsrm_program.proofs.session.feed.Given as goal
@@ -9,7 +8,7 @@ abbrev pub invariant-lines : goal.invariant-lines
 invariant-lines g l =
     (done : List ℕ) × record {
       cut : l.piece ≡ done ++ l.rest;
-      fed : Feeds (state_of l.fn.session l.fn.steps) (state_of l.session l.steps) done (string_bytes l.fn.session.replies) (string_bytes l.session.replies);
+      fed : Feeds (state_of l.fn.session l.fn.steps) (state_of l.session l.steps) done l.fn.session.replies.bytes.items l.session.replies.bytes.items;
       number : l.session.line ≤ l.fn.session.line + length done;
       idle : l.session.engine.waiting ≡ [];
     }
