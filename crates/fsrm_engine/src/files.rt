@@ -13,8 +13,7 @@ ghost use Rattle.fsrm_model.specs.Tree.{resolve, is_folder};
 use crate::charging::drop_quota;
 use crate::engine::Engine;
 use crate::exits::{refused, refused_by};
-use crate::usage::allocated;
-use fsrm_model::{Answer, Ledger, NoMemory, Path, Refusal, Steps};
+use fsrm_model::{Answer, Ledger, NoMemory, Path, Refusal, Steps, allocated};
 use quota_usage::Change;
 
 impl Engine {

@@ -17,8 +17,7 @@ use crate::charging::charge;
 use crate::engine::Engine;
 use crate::exits::{exceeded_by, refused, refused_by};
 use crate::places::Place;
-use crate::usage::allocated;
-use fsrm_model::{Answer, Ledger, NoMemory, Path, Refusal, Steps};
+use fsrm_model::{Answer, Ledger, NoMemory, Path, Refusal, Steps, allocated};
 use quota_usage::{Change, Exceeded};
 use volume_tree::Tree;
 

@@ -2,11 +2,8 @@
 
 ghost use Rattle.std.specs.Prelude.{◌≡◌, ◌+◌, ◌*◌, ◌≤◌, ◌++◌, true, length, map, IfOk, OnOk, OnErr};
 ghost use Rattle.fsrm_model.specs.declared.command.Deed.TheVariants.{Usage};
-ghost use Rattle.fsrm_model.specs.declared.row.Capacity.{Capacity};
 ghost use Rattle.fsrm_model.specs.Cost.{cost};
 ghost use Rattle.fsrm_model.specs.Keyed.{has_row};
-ghost use Rattle.fsrm_model.specs.Limits.{longest_file};
-ghost use Rattle.fsrm_model.specs.Space.{alloc};
 ghost use Rattle.fsrm_model.specs.Step.{step};
 ghost use Rattle.fsrm_model.specs.Tree.{number as key, children_in_order, usage, under};
 ghost use Rattle.fsrm_model.specs.Valid.{IsVolume, IsStore};
@@ -16,20 +13,9 @@ ghost use Rattle.fsrm_engine.specs.Walk.{usage_of_all, under_all, AreThere};
 
 use crate::engine::Engine;
 use crate::exits::refused;
-use fsrm_model::{Answer, Ledger, NoMemory, Outcome, Path, Refusal, Steps};
+use fsrm_model::{Answer, Ledger, NoMemory, Outcome, Path, Refusal, Steps, allocated};
 use std::alloc::Global;
 use volume_tree::Tree;
-
-const CLUSTER: u64 = 4_096;
-
-/// A length, rounded up to whole clusters.
-pub fn allocated(bytes: u64) -> u64
-    requires { bytes ≤ longest_file }
-    ensures space { (K : Capacity) → result ≡ alloc K bytes }
-    ensures small { result ≤ longest_file }
-{
-    bytes.div_ceil(CLUSTER) * CLUSTER
-}
 
 // Puts a folder's children behind the nodes that are still to be visited.
 fn push_children<L: Ledger>(

@@ -2,6 +2,7 @@ pub mod Limits
 pub mod Keyed
 pub mod Order
 pub mod Name
+pub mod Numbers
 pub mod Space
 pub mod Tree
 pub mod Fresh
@@ -25,5 +26,6 @@ pub mod Words
 pub mod Options
 pub mod Line
 pub mod Spelling
+pub mod Scan
 pub mod Script
 pub mod WorkedRows

@@ -9,6 +9,7 @@ pub mod list;
 pub mod memory;
 pub mod path;
 pub mod row;
+pub mod space;
 pub mod steps;
 #[cfg(test)]
 mod tests;
@@ -22,5 +23,6 @@ pub use row::{
     ActRow, Action, ActionKind, AuditRow, AutoRow, Capacity, ExceptRow, Filter, GroupRow, JobRow,
     NodeRow, QuotaRow, QuotaState, ReportKind, Rows, ScreenRow, TemplateRow, Threshold,
 };
+pub use space::allocated;
 pub use steps::{Ledger, Steps, Weightless, WeightlessPage};
 pub use text::Text;

@@ -1,0 +1,6 @@
+//! Sets of numbers below a bound, of which the least member is always at hand.
+#![tactic(auto)]
+
+mod set;
+
+pub use set::NumberSet;

@@ -1,0 +1,4 @@
+pub mod Frontiers
+pub mod Kept
+pub mod Standings
+pub mod Tops

@@ -1,0 +1,109 @@
+//! The frontier of a scan.
+
+ghost use Rattle.std.specs.Prelude.{◌≡◌, ◌<◌, ◌≤◌, ◌==◌, IfOk, None, Some, true, length, [], ◌∷◌};
+ghost use Rattle.fsrm_model.specs.Scan.{folders_under};
+ghost use Rattle.fsrm_model.specs.Tree.{is_folder, usage};
+ghost use Rattle.fsrm_model.specs.Valid.{IsVolume};
+ghost use Rattle.rescan.specs.Frontiers.{Stands, Follows, idle, scanned, unvisited as unvisited_of};
+ghost use Rattle.volume_tree.specs.Volume.{Volume};
+
+use fsrm_model::NoMemory;
+use number_set::NumberSet;
+use std::alloc::Global;
+use std::marker::Model;
+
+/// The folders that the active scan has still to visit, and the bytes that it has counted. Of the
+/// unvisited folders it holds those whose parent is visited; what is below them is unvisited too.
+///
+/// Contracts see the room for nodes, the folder that is scanned, these topmost folders, and the sum.
+#[derive(Drop)]
+pub struct Frontier {
+    pub(crate) folder: Option<u32>,
+    pub(crate) tops: NumberSet,
+    pub(crate) sum: u64,
+    // The nodes that a walk through a folder has still to pass; empty between two calls.
+    pub(crate) waiting: NumberSet,
+}
+
+impl Model for Frontier {
+    ghost use Rattle.rescan.specs.Frontiers.{Front};
+    ghost use Rattle.rescan.specs.Kept.{IsKept};
+
+    ghost Value = { Front };
+
+    ghost view = { λ f. record { room = f.tops.bound; folder = f.folder; tops = f.tops.members; sum = f.sum } };
+
+    ghost invariant = { λ f. IsKept f.folder f.tops f.sum f.waiting };
+}
+
+impl Frontier {
+    /// A frontier with room for scans of volumes of so many nodes, and no scan.
+    pub fn reserve(alloc: Global, nodes: u32) -> Result<Frontier, NoMemory>
+        ensures { IfOk result (λ frontier. frontier ≡ idle nodes) }
+    {
+        let tops = NumberSet::reserve(alloc, nodes)?;
+        let waiting = NumberSet::reserve(alloc, nodes)?;
+        Ok(Frontier {
+            folder: None,
+            tops,
+            sum: 0,
+            waiting,
+        })
+    }
+
+    /// Begins the scan of a folder, with all folders at and below it unvisited. None may be active.
+    pub fn start(&mut self, folder: u32)
+        requires idle { self.old.folder ≡ None }
+        requires room { folder < self.old.room }
+        ensures begun { self.new ≡ record { room = self.old.room; folder = Some folder; tops = folder ∷ []; sum = 0 } }
+        ensures follows { (v : Volume) → IsVolume v.size v.nodes → v.size.nodes ≤ self.old.room → is_folder v.nodes folder ≡ true → Follows self.new self.new v (folders_under v.nodes folder) }
+    {
+        self.tops.insert(folder);
+        self.folder = Some(folder);
+        self.sum = 0;
+    }
+
+    /// The bytes that are counted so far.
+    pub fn counted(&self) -> u64
+        ensures { result ≡ self.now.sum }
+    {
+        self.sum
+    }
+
+    /// The folder of the active scan.
+    pub fn folder(&self) -> Option<u32>
+        ensures { result ≡ self.now.folder }
+    {
+        self.folder
+    }
+
+    /// Whether no folder is unvisited.
+    pub fn done(&self) -> bool
+        ensures tops { result ≡ (length self.now.tops == 0) }
+        ensures done { (v : Volume) → Stands v self.now → result ≡ (length (unvisited_of v.nodes self.now) == 0) }
+    {
+        self.tops.is_empty()
+    }
+
+    /// Ends a scan that is done, and gives the bytes that the files at and below its folder take.
+    pub fn finish(&mut self) -> u64
+        requires { length self.old.tops ≡ 0 }
+        ensures sum { result ≡ self.old.sum }
+        ensures fresh { (v : Volume) → Stands v self.old → result ≡ usage v.size v.nodes (scanned self.old) }
+        ensures idle { self.new ≡ idle self.old.room }
+    {
+        let sum = self.sum;
+        self.folder = None;
+        self.sum = 0;
+        sum
+    }
+
+    /// Gives the active scan up.
+    pub fn drop_scan(&mut self)
+        ensures { self.new ≡ idle self.old.room }
+    {
+        self.tops.clear();
+        self.folder = None;
+        self.sum = 0;
+    }
+}
