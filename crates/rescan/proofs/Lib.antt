@@ -1,1 +1,4 @@
+pub mod Tops
 pub mod Numbered
+pub mod CountLaws
+mod StandingLaws
