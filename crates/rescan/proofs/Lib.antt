@@ -1,1 +1,3 @@
+pub mod FrontierLaws
 pub mod Numbered
+pub mod Tops
