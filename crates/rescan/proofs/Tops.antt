@@ -1,18 +1,17 @@
 -- The topmost unvisited folders say which folders are unvisited.
-use Rattle.std.proofs.Common.{◌≡◌, ℕ, zero, suc, ◌≤◌, ◌==◌, nat_lt, Bool, true, false, cond, not, ◌||◌, ◌&&◌, List, [], ◌∷◌, length, Option, Some, None, refl, sym, ◌∙◌, ap, subst, inl, inr, arith}
-use Rattle.std.specs.Prelude.{map, filter}
+use Rattle.std.proofs.Common.{◌≡◌, ℕ, zero, suc, ◌≤◌, ◌==◌, Bool, true, false, not, ◌||◌, ◌&&◌, List, [], ◌∷◌, length, Option, Some, None, refl, sym, ◌∙◌, ap, subst, inl, inr}
+use Rattle.std.specs.Prelude.{filter}
 use Rattle.std.specs.Option.{option_map_or}
 use Rattle.std.specs.List.{list_any}
 use Rattle.fsrm_model.specs.declared.row.Capacity.{Capacity}
 use Rattle.fsrm_model.specs.declared.row.NodeRow.{NodeRow}
-use Rattle.fsrm_model.specs.Keyed.{has_row, is_ascending}
-use Rattle.fsrm_model.specs.Numbers.{is_in, is_set, itself}
-use Rattle.fsrm_model.specs.Scan.{AreUnvisited, is_topmost, counted}
+use Rattle.fsrm_model.specs.Numbers.{is_in, is_set}
+use Rattle.fsrm_model.specs.Scan.{is_topmost, counted}
 use Rattle.fsrm_model.specs.Tree.{number, node_of, parent_of, is_folder, chain, is_under}
 use Rattle.fsrm_model.specs.Valid.{IsVolume}
-use Rattle.fsrm_model.proofs.TestLaws.{clash, not_true, is_false, both, both_true, is_or, or_later, eq_is, eq_same, eq_turned, suc_apart, not_root}
+use Rattle.fsrm_model.proofs.TestLaws.{clash, not_true, is_false, both, both_true, is_or, or_later, eq_is, eq_same, suc_apart, not_root}
 use Rattle.fsrm_model.proofs.ValidLaws.{folder_has}
-use Rattle.fsrm_model.proofs.ChainLaws.{IsTree, Has, chain_step}
+use Rattle.fsrm_model.proofs.ChainLaws.{IsTree, Has}
 use Rattle.fsrm_model.proofs.Look.{found_key, has_found}
 use Rattle.fsrm_model.proofs.Keeps.{tree_of, found_parent}
 use Rattle.fsrm_model.proofs.MoveLaws.{own_first}
