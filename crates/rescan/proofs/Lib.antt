@@ -1,4 +1,4 @@
-pub mod Tops
+pub mod FrontierLaws
 pub mod Numbered
-pub mod CountLaws
+pub mod Tops
 mod StandingLaws
