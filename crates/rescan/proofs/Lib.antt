@@ -1,4 +1,6 @@
+pub mod CountLaws
 pub mod FrontierLaws
+pub mod KindLaws
 pub mod Numbered
 pub mod Tops
 mod StandingLaws
