@@ -4,3 +4,4 @@ pub mod KindLaws
 pub mod Numbered
 pub mod Tops
 mod StandingLaws
+mod MovedTops
