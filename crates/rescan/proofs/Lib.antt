@@ -5,3 +5,4 @@ pub mod Numbered
 pub mod Tops
 mod StandingLaws
 mod MovedTops
+mod MovedSums

@@ -1,4 +1,5 @@
 pub mod Frontiers
 pub mod Kept
+pub mod Leaves
 pub mod Standings
 pub mod Tops
