@@ -6,3 +6,4 @@ pub mod Tops
 mod StandingLaws
 mod MovedTops
 mod MovedSums
+mod MovedScan
