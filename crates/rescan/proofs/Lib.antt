@@ -1,3 +1,4 @@
+pub mod CountLaws
 pub mod FrontierLaws
 pub mod Numbered
 pub mod Tops
