@@ -1,4 +1,6 @@
+pub mod ChildLaws
 pub mod CountLaws
+pub mod FitLaws
 pub mod FrontierLaws
 pub mod Numbered
 pub mod Tops
