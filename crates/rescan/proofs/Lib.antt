@@ -1,9 +1,12 @@
+pub mod ChildLaws
 pub mod CountLaws
+pub mod FitLaws
 pub mod FrontierLaws
 pub mod KindLaws
 pub mod Numbered
 pub mod Tops
-mod StandingLaws
-mod MovedTops
-mod MovedSums
+mod Leaving
 mod MovedScan
+mod MovedSums
+mod MovedTops
+mod StandingLaws

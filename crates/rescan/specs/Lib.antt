@@ -3,3 +3,4 @@ pub mod Kept
 pub mod Leaves
 pub mod Standings
 pub mod Tops
+pub mod Visits
