@@ -69,7 +69,7 @@ above_none : (nodes : List NodeRow) (n : ℕ) → has_above nodes [] n ≡ false
 above_none nodes n = not_true _ (λ h. let a = above_of nodes [] n h in let m : false ≡ true = a.member in clash false m refl)
 
 -- a folder's row adds nothing
-row_of_folder : (K : Capacity) (nodes : List NodeRow) (f : Front) (r : NodeRow) → r.folder ≡ true → part K nodes f r ≡ 0
+pub row_of_folder : (K : Capacity) (nodes : List NodeRow) (f : Front) (r : NodeRow) → r.folder ≡ true → part K nodes f r ≡ 0
 row_of_folder K nodes f r e = at (is_counted nodes f r.parent) (ap (λ b. cond b 0 (alloc K r.length)) e)
   where
     at : (b : Bool) → space K r ≡ 0 → cond b (space K r) 0 ≡ 0
@@ -131,17 +131,17 @@ finish K nodes f f2 x sum w room folder =
     }
 
 -- one waiting folder fewer
-without_in : (n m : ℕ) (ns : List ℕ) → is_in (without_number n ns) m ≡ true → ((n == m) ≡ false) × (is_in ns m ≡ true)
+pub without_in : (n m : ℕ) (ns : List ℕ) → is_in (without_number n ns) m ≡ true → ((n == m) ≡ false) × (is_in ns m ≡ true)
 without_in n m ns h = at (n == m) (is_in ns m) (sym (in_without n m ns) ∙ h)
   where
     at : (a b : Bool) → (not a && b) ≡ true → (a ≡ false) × (b ≡ true)
     at true b h = cc
     at false b h = (refl, h)
 
-in_other : (n m : ℕ) (ns : List ℕ) → (n == m) ≡ false → is_in ns m ≡ true → is_in (without_number n ns) m ≡ true
+pub in_other : (n m : ℕ) (ns : List ℕ) → (n == m) ≡ false → is_in ns m ≡ true → is_in (without_number n ns) m ≡ true
 in_other n m ns e h = in_without n m ns ∙ (ap (λ b. not b && is_in ns m) e ∙ h)
 
-waiting_has : (K : Capacity) (nodes : List NodeRow) (f : Front) (x : ℕ) (tops waiting : List ℕ) (sum : ℕ) → Leaving K nodes f x tops waiting sum → (n : ℕ) → is_in waiting n ≡ true → Has nodes n
+pub waiting_has : (K : Capacity) (nodes : List NodeRow) (f : Front) (x : ℕ) (tops waiting : List ℕ) (sum : ℕ) → Leaving K nodes f x tops waiting sum → (n : ℕ) → is_in waiting n ≡ true → Has nodes n
 waiting_has K nodes f x tops waiting sum w n h = folder_has nodes n (w.folders n h)
 
 -- what is above a node without a folder that isn't above it

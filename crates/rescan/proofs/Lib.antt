@@ -9,4 +9,5 @@ mod Leaving
 mod MovedScan
 mod MovedSums
 mod MovedTops
+mod Opening
 mod StandingLaws
