@@ -59,7 +59,7 @@ one_is x n h = eq_is x n (plain (x == n) h)
     plain true h = refl
     plain false h = cc
 
-above_one : (nodes : List NodeRow) (x n : ℕ) → has_above nodes (x ∷ []) n ≡ is_under nodes x n
+pub above_one : (nodes : List NodeRow) (x n : ℕ) → has_above nodes (x ∷ []) n ≡ is_under nodes x n
 above_one nodes x n =
     same_tests _ _
     (λ h. let a = above_of nodes (x ∷ []) n h in subst (λ (j : ℕ). is_under nodes j n ≡ true) (sym (one_is x a.top a.member)) a.above)
@@ -145,7 +145,7 @@ pub waiting_has : (K : Capacity) (nodes : List NodeRow) (f : Front) (x : ℕ) (t
 waiting_has K nodes f x tops waiting sum w n h = folder_has nodes n (w.folders n h)
 
 -- what is above a node without a folder that isn't above it
-above_without : (nodes : List NodeRow) (waiting : List ℕ) (n m : ℕ) → is_under nodes n m ≡ false → has_above nodes (without_number n waiting) m ≡ has_above nodes waiting m
+pub above_without : (nodes : List NodeRow) (waiting : List ℕ) (n m : ℕ) → is_under nodes n m ≡ false → has_above nodes (without_number n waiting) m ≡ has_above nodes waiting m
 above_without nodes waiting n m far =
     same_tests _ _
     (λ h. let a = above_of nodes (without_number n waiting) m h in above_by nodes waiting m a.top (without_in n a.top waiting a.member).1 a.above)

@@ -5,6 +5,7 @@ pub mod FrontierLaws
 pub mod KindLaws
 pub mod Numbered
 pub mod Tops
+mod Ahead
 mod Leaving
 mod MovedScan
 mod MovedSums
