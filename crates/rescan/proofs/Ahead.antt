@@ -1,10 +1,12 @@
 -- How much of a walk through a folder is still ahead.
-use Rattle.std.proofs.Common.{◌≡◌, ℕ, ◌+◌, ◌*◌, ◌≤◌, ◌==◌, Bool, true, false, cond, not, ◌||◌, ◌&&◌, List, [], ◌∷◌, length, refl, sym, ◌∙◌, ap, inl, inr, arith, Some}
+use Rattle.std.proofs.Common.{◌≡◌, ℕ, ◌+◌, ◌*◌, ◌≤◌, ◌==◌, Bool, true, false, cond, not, ◌||◌, ◌&&◌, List, [], ◌∷◌, length, refl, sym, ◌∙◌, ap, inl, inr, arith, Some, None, ◌<◌}
 use Rattle.std.proofs.lemmas.List.Sums.{sum_by-cons}
-use Rattle.std.specs.Prelude.{filter, sum_by, if◌then◌else◌}
+use Rattle.std.proofs.lemmas.Option.{same_Some}
+use Rattle.std.specs.Prelude.{slice_get, filter, sum_by, if◌then◌else◌}
 use Rattle.std.specs.List.{AllByRecursion}
 use Rattle.fsrm_model.specs.declared.row.Capacity.{Capacity}
 use Rattle.fsrm_model.specs.declared.row.NodeRow.{NodeRow}
+use Rattle.fsrm_model.specs.Numbers.{is_in, without_number}
 use Rattle.fsrm_model.specs.Tree.{number, node_of, is_child, children, is_under, under}
 use Rattle.fsrm_model.specs.Valid.{IsVolume}
 use Rattle.fsrm_model.proofs.TestLaws.{is_or_not, clash, both, or_later, eq_is, eq_same}
@@ -13,10 +15,11 @@ use Rattle.fsrm_model.proofs.Keeps.{found_parent, tree_of}
 use Rattle.fsrm_model.proofs.Look.{found_has, has_found, found_key}
 use Rattle.fsrm_model.proofs.Sums.{sum_by-add, sum_by_only}
 use Rattle.fsrm_model.proofs.ValidLaws.{folder_has}
-use Rattle.rescan.specs.Frontiers.{has_above}
+use Rattle.rescan.specs.Frontiers.{Front, has_above}
 use Rattle.rescan.proofs.CountLaws.{each_row}
-use Rattle.rescan.proofs.Leaving.{above_one}
-use Rattle.rescan.proofs.Tops.{under_child}
+use Rattle.rescan.proofs.Leaving.{Leaving, above_one, without_in, waiting_has, without_gone}
+use Rattle.rescan.proofs.Opening.{opened, opened_gone, opened_less}
+use Rattle.rescan.proofs.Tops.{above_of, above_by, above_own, under_child}
 
 -- the looks that are ahead: one for each node at or below a waiting one, and two for each whose parent is that
 abbrev pub ahead : List NodeRow → List ℕ → ℕ
@@ -117,3 +120,25 @@ whole_ahead K nodes x v =
       sum_by-filter (λ r. is_under nodes x r.number) (λ r. 3) nodes,
       same_each 3 (under nodes x),
     )
+
+-- the two kinds of steps
+pub top_ahead : (K : Capacity) (nodes : List NodeRow) (f : Front) (x : ℕ) (tops waiting : List ℕ) (sum n : ℕ) → IsVolume K nodes → Leaving K nodes f x tops waiting sum → is_in waiting n ≡ true → ahead nodes (without_number n waiting) < ahead nodes waiting
+top_ahead K nodes f x tops waiting sum n v w here =
+    let step = step_ahead K nodes waiting (without_number n waiting) n v (waiting_has K nodes f x tops waiting sum w n here) (above_own nodes waiting n here) (without_gone K nodes f x tops waiting sum n w here)
+    (λ m h a. let up = above_of nodes (without_number n waiting) m a in above_by nodes waiting m up.top (without_in n up.top waiting up.member).1 up.above) in
+    omega (arith, step)
+
+pub open_ahead : (K : Capacity) (nodes : List NodeRow) (f : Front) (x : ℕ) (tops waiting : List ℕ) (sum n : ℕ) → IsVolume K nodes → Leaving K nodes f x tops waiting sum → is_in waiting n ≡ true → ahead nodes (opened nodes n waiting) + (1 + 2 * length (children nodes n)) ≤ ahead nodes waiting
+open_ahead K nodes f x tops waiting sum n v w here =
+    let has = waiting_has K nodes f x tops waiting sum w n here in
+    step_ahead K nodes waiting (opened nodes n waiting) n v has (above_own nodes waiting n here) (opened_gone K nodes f x tops waiting sum n v w here)
+    (λ m h a. opened_less K nodes waiting n m v here h has a)
+
+-- the next waiting folder
+pub next_in : (waiting : List ℕ) (n : ℕ) → Some n ≡ slice_get waiting 0 → is_in waiting n ≡ true
+next_in [] n h = cc
+next_in (m ∷ ms) n h = ap (λ b. b || is_in ms n) (ap (λ k. k == n) (sym (same_Some n m h)) ∙ eq_same n)
+
+pub none_next : (waiting : List ℕ) → None ≡ slice_get waiting 0 → waiting ≡ []
+none_next [] h = refl
+none_next (m ∷ ms) h = cc

@@ -118,8 +118,8 @@ begin K nodes f x t =
     }
 
 -- the end
-pub finish : (K : Capacity) (nodes : List NodeRow) (f f2 : Front) (x sum : ℕ) → Leaving K nodes f x f2.tops [] f2.sum → f2.room ≡ f.room → f2.folder ≡ f.folder → Leaves K nodes f f2 x
-finish K nodes f f2 x sum w room folder =
+pub finish : (K : Capacity) (nodes : List NodeRow) (f f2 : Front) (x : ℕ) → Leaving K nodes f x f2.tops [] f2.sum → f2.room ≡ f.room → f2.folder ≡ f.folder → Leaves K nodes f f2 x
+finish K nodes f f2 x w room folder =
     let none : left K nodes f [] ≡ 0 =
     sum_by_each (λ r. if has_above nodes [] r.parent then part K nodes f r else 0) (λ r. 0) (λ r. ap (λ b. cond b (part K nodes f r) 0) (above_none nodes r.parent)) nodes ∙ sum_by_nothing nodes in
     record {
@@ -154,6 +154,13 @@ above_without nodes waiting n m far =
     let other : (n == a.top) ≡ false = not_true _ (λ e. clash _ (subst (λ (j : ℕ). is_under nodes j m ≡ true) (sym (eq_is n a.top e)) a.above) far) in
     above_by nodes (without_number n waiting) m a.top (in_other n a.top waiting other a.member) a.above)
 
+-- no waiting folder is above the one that is passed
+pub without_gone : (K : Capacity) (nodes : List NodeRow) (f : Front) (x : ℕ) (tops waiting : List ℕ) (sum n : ℕ) → Leaving K nodes f x tops waiting sum → is_in waiting n ≡ true → has_above nodes (without_number n waiting) n ≡ false
+without_gone K nodes f x tops waiting sum n w here = not_true _ (λ h.
+    let a = above_of nodes (without_number n waiting) n h in
+    let parts = without_in n a.top waiting a.member in
+    clash _ (ap (λ j. n == j) (w.apart n a.top here parts.1 a.above) ∙ eq_same n) parts.0)
+
 -- the next folder is a top
 own_top : (a b : Bool) → (a && b) ≡ true → a ≡ true
 own_top a b h = (both a b h).0
@@ -162,10 +169,7 @@ top_tops : (K : Capacity) (nodes : List NodeRow) (f : Front) (x : ℕ) (tops wai
 top_tops K nodes f x tops waiting sum n t w here top m = in_without n m tops ∙ elim (is_or_not (n == m)) [
   | inl e ↦
       let same : n ≡ m = eq_is n m e in
-      let none : has_above nodes (without_number n waiting) n ≡ false = not_true _ (λ h.
-      let a = above_of nodes (without_number n waiting) n h in
-      let parts = without_in n a.top waiting a.member in
-      clash _ (ap (λ j. n == j) (w.apart n a.top here parts.1 a.above) ∙ eq_same n) parts.0) in
+      let none = without_gone K nodes f x tops waiting sum n w here in
       ap (λ b. not b && is_in tops m) e
       ∙ sym (subst (λ (j : ℕ). (is_in f.tops j && (has_above nodes (without_number n waiting) j || not (is_under nodes x j))) ≡ false) same
       (ap (λ b. is_in f.tops n && (b || not (is_under nodes x n))) none ∙ (ap (λ b. is_in f.tops n && not b) (w.below n here) ∙ nothing (is_in f.tops n))))
