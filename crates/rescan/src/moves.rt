@@ -54,12 +54,7 @@ impl Frontier {
         ensures rest { self.new ≡ record self.old { sum = self.new.sum } }
         ensures sum { (K : Capacity) → self.new.sum + share_of K length before ≡ self.old.sum + share_of K length after }
     {
-        if before == Standing::Visited {
-            self.sum -= allocated(length);
-        }
-        if after == Standing::Visited {
-            self.sum += allocated(length);
-        }
+        self.sum = self.sum - share(length, before) + share(length, after);
     }
 
     // Follows the move of a folder, from a place that stands so to another. It takes no more than 3 looks for
@@ -110,5 +105,16 @@ impl Frontier {
                 self.sum -= enter_children(tree, next, &mut self.waiting, steps);
             }
         }
+    }
+}
+
+// What a file of this length, in a folder that stands so, adds to what is counted.
+fn share(length: u64, standing: Standing) -> u64
+    requires { length ≤ longest_file }
+    ensures { (K : Capacity) → result ≡ share_of K length standing }
+{
+    match standing {
+        Standing::Visited => allocated(length),
+        Standing::Outside | Standing::Unvisited => 0,
     }
 }
