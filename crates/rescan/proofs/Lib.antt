@@ -7,8 +7,10 @@ pub mod Numbered
 pub mod Tops
 mod Ahead
 mod Leaving
+mod MoveArms
 mod MovedScan
 mod MovedSums
 mod MovedTops
+mod MovedWhole
 mod Opening
 mod StandingLaws

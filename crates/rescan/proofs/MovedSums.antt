@@ -43,10 +43,10 @@ nothing : (b : Bool) (s : ℕ) → s ≡ 0 → cond b s 0 ≡ 0
 nothing true s h = h
 nothing false s h = refl
 
-folder_part : (K : Capacity) (nodes : List NodeRow) (f : Front) (r : NodeRow) → r.folder ≡ true → part K nodes f r ≡ 0
+pub folder_part : (K : Capacity) (nodes : List NodeRow) (f : Front) (r : NodeRow) → r.folder ≡ true → part K nodes f r ≡ 0
 folder_part K nodes f r e = nothing (is_counted nodes f r.parent) (space K r) (ap (λ b. cond b 0 (alloc K r.length)) e)
 
-placed_folder : (d : ℕ) (name : List ℕ) (b : Bool) (r : NodeRow) → (cond b (placed d name r) r).folder ≡ r.folder
+pub placed_folder : (d : ℕ) (name : List ℕ) (b : Bool) (r : NodeRow) → (cond b (placed d name r) r).folder ≡ r.folder
 placed_folder d name true r = refl
 placed_folder d name false r = refl
 
