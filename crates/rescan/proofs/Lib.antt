@@ -6,6 +6,7 @@ pub mod KindLaws
 pub mod Numbered
 pub mod Tops
 mod Ahead
+mod FolderArms
 mod Leaving
 mod MoveArms
 mod MovedScan

@@ -47,13 +47,13 @@ pub record Goes (v : Volume) (f : Front) (x d : ℕ) : Type 0 where
   pub folder : is_folder v.nodes d ≡ true
   pub apart : is_under v.nodes x d ≡ false
 
-moves : (v : Volume) (f : Front) (x d : ℕ) (name : List ℕ) → Goes v f x d → Moves v.nodes (with_place v x d name).nodes x d
+pub moves : (v : Volume) (f : Front) (x d : ℕ) (name : List ℕ) → Goes v f x d → Moves v.nodes (with_place v x d name).nodes x d
 moves v f x d name g = moves_at v.nodes x d name g.row (tree_of v.size v.nodes g.stands.volume) g.found g.inner g.folder g.apart
 
-kinds : (v : Volume) (x d : ℕ) (name : List ℕ) (n : ℕ) → is_folder (with_place v x d name).nodes n ≡ is_folder v.nodes n
+pub kinds : (v : Volume) (x d : ℕ) (name : List ℕ) (n : ℕ) → is_folder (with_place v x d name).nodes n ≡ is_folder v.nodes n
 kinds v x d name n = folder-change v.nodes x n (placed d name) (λ r. refl) (λ r. refl)
 
-moved_has : (v : Volume) (f : Front) (x d : ℕ) → Goes v f x d → Has v.nodes x
+pub moved_has : (v : Volume) (f : Front) (x d : ℕ) → Goes v f x d → Has v.nodes x
 moved_has v f x d g = found_has number x v.nodes g.row g.found
 
 -- a standing says what is counted
@@ -69,7 +69,7 @@ share_is K nodes f n bytes = at (has_above nodes f.tops n) (is_under nodes (scan
     at false true = refl
     at false false = refl
 
-visited_is : (nodes : List NodeRow) (f : Front) (n : ℕ) → Visited ≡ standing nodes f n → is_counted nodes f n ≡ true
+pub visited_is : (nodes : List NodeRow) (f : Front) (n : ℕ) → Visited ≡ standing nodes f n → is_counted nodes f n ≡ true
 visited_is nodes f n h = at (has_above nodes f.tops n) (is_under nodes (scanned f) n) h
   where
     at : (a b : Bool) → Visited ≡ cond a Unvisited (cond b Visited IsOutside) → (b && not a) ≡ true
@@ -77,7 +77,7 @@ visited_is nodes f n h = at (has_above nodes f.tops n) (is_under nodes (scanned 
     at false true h = refl
     at false false h = cc
 
-outside_is : (nodes : List NodeRow) (f : Front) (n : ℕ) → IsOutside ≡ standing nodes f n → is_counted nodes f n ≡ false
+pub outside_is : (nodes : List NodeRow) (f : Front) (n : ℕ) → IsOutside ≡ standing nodes f n → is_counted nodes f n ≡ false
 outside_is nodes f n h = at (has_above nodes f.tops n) (is_under nodes (scanned f) n) h
   where
     at : (a b : Bool) → IsOutside ≡ cond a Unvisited (cond b Visited IsOutside) → (b && not a) ≡ false
@@ -86,7 +86,7 @@ outside_is nodes f n h = at (has_above nodes f.tops n) (is_under nodes (scanned 
     at false true h = cc
     at false false h = refl
 
-unvisited_is : (nodes : List NodeRow) (f : Front) (n : ℕ) → Unvisited ≡ standing nodes f n → is_counted nodes f n ≡ false
+pub unvisited_is : (nodes : List NodeRow) (f : Front) (n : ℕ) → Unvisited ≡ standing nodes f n → is_counted nodes f n ≡ false
 unvisited_is nodes f n h = at (has_above nodes f.tops n) (is_under nodes (scanned f) n) h
   where
     at : (a b : Bool) → Unvisited ≡ cond a Unvisited (cond b Visited IsOutside) → (b && not a) ≡ false
@@ -96,7 +96,7 @@ unvisited_is nodes f n h = at (has_above nodes f.tops n) (is_under nodes (scanne
     at false false h = refl
 
 -- what was counted is the sum of the parts
-counted_parts : (v : Volume) (f : Front) → Stands v f → f.sum ≡ sum_by (part v.size v.nodes f) v.nodes
+pub counted_parts : (v : Volume) (f : Front) → Stands v f → f.sum ≡ sum_by (part v.size v.nodes f) v.nodes
 counted_parts v f s = s.sum ∙ counted_is v.size v.nodes s.volume f
 
 sum_most : {X : Type 0} (p q : X → ℕ) (xs : List X) → ((x : X) → p x ≤ q x) → sum_by p xs ≤ sum_by q xs

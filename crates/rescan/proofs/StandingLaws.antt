@@ -38,7 +38,7 @@ top_above nodes f t a top hs ht member above =
       | inr e ↦ eq_is top (scanned f) (each_above nodes t top (scanned f) e ht hs above (a.below top member))
     ]
 
-scanned_is : (o : Option ℕ) → is_some o ≡ true → o ≡ Some (unwrap_or o 0)
+pub scanned_is : (o : Option ℕ) → is_some o ≡ true → o ≡ Some (unwrap_or o 0)
 scanned_is None h = cc
 scanned_is (Some s) h = refl
 

@@ -1,4 +1,3 @@
-use Rattle.rescan.proofs.MoveArms.{share_fits}
 use Rattle.std.proofs.Common.{◌≡◌, ◌+◌, ◌≤◌, ◌<◌, length, true, false, refl, sym, ◌∙◌, ap, subst, arith, Some}
 use Rattle.fsrm_model.specs.Keyed.{has_row}
 use Rattle.fsrm_model.specs.Numbers.{is_in}
