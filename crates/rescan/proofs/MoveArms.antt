@@ -208,3 +208,16 @@ share_fits v f x d g legal file =
       whole,
       total_small K v.nodes g.stands.volume legal,
     )
+
+-- the size of a cluster is the same in every store
+pub share_any : (K J : Capacity) (bytes : ℕ) (s : Standing) → share_of K bytes s ≡ share_of J bytes s
+share_any K J bytes IsOutside = refl
+share_any K J bytes Visited = refl
+share_any K J bytes Unvisited = refl
+
+pub share_same : (K J : Capacity) (nodes : List NodeRow) (f : Front) (bytes own n m : ℕ) (s : Standing) → s ≡ standing nodes f n → bytes ≡ own → n ≡ m → share_of K bytes s ≡ share_of J own (standing nodes f m)
+share_same K J nodes f bytes own n m s is b e =
+    ap (share_of K bytes) is
+    ∙ (share_any K J bytes (standing nodes f n)
+    ∙ (ap (λ k. share_of J k (standing nodes f n)) b
+    ∙ ap (λ k. share_of J own (standing nodes f k)) e))

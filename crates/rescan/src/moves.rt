@@ -34,6 +34,8 @@ impl Frontier {
         if self.folder == Some(node) {
             return;
         }
+        // The files of a volume of this size take fewer than 2^64 bytes.
+        let _size = tree.capacity();
         let after = self.standing(tree, folder, steps);
         let view = tree.node(node, steps);
         if view.folder {
