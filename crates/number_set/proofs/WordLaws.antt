@@ -1,12 +1,12 @@
 -- The bits of words of which one is changed.
-use Rattle.std.proofs.Common.{◌≡◌, ◌≢◌, ℕ, ◌*◌, ◌/◌, ◌%◌, ◌^◌, ◌<◌, ◌≤◌, ◌==◌, Bool, true, false, cond, not, ◌||◌, ◌&&◌, ◌⊎◌, List, [], ◌∷◌, length, get_or, set, refl, sym, ◌∙◌, ap, subst, inl, inr, arith, get_or-set_same, get_or-set_other}
+use Rattle.std.proofs.Common.{◌≡◌, ◌≢◌, ℕ, ◌+◌, ◌*◌, ◌/◌, ◌%◌, ◌^◌, ◌<◌, ◌≤◌, ◌==◌, Bool, true, false, cond, not, ◌||◌, ◌&&◌, ◌⊎◌, List, [], ◌∷◌, length, get_or, set, refl, sym, ◌∙◌, ap, subst, inl, inr, arith, get_or-set_same, get_or-set_other}
 use Rattle.std.proofs.lemmas.Bool.Decides.{nat_tests}
 use Rattle.std.proofs.lemmas.Nat.{and_le_l, le_or_r, one_shl, pow_pos}
-use Rattle.std.proofs.lemmas.Nat.Bits.{bit_at_set_same, bit_at_set_other, bit_at_clear_same, bit_at_clear_other, shr_and_one}
-use Rattle.std.specs.Int.{bit_at, bit_not, w64}
+use Rattle.std.proofs.lemmas.Nat.Bits.{bit_at_set_same, bit_at_set_other, bit_at_clear_same, bit_at_clear_other, bit_at-trailing_zeros}
+use Rattle.std.specs.Int.{bit_at, bit_not, trailing_zeros, w64}
 use Rattle.std.specs.Prelude.{bit_and, bit_or}
 use Rattle.fsrm_model.proofs.TestLaws.{is_or_not, eq_is, eq_same}
-use Rattle.number_set.specs.Words.{has_bit, is_occupied}
+use Rattle.number_set.specs.Words.{has_bit, is_occupied, IsLeastIn}
 
 -- of tests of numbers
 pub test_same : (m n : ℕ) → m ≡ n → (m == n) ≡ true
@@ -124,3 +124,27 @@ clear_occupies words p k mask within =
 pub is_not : (b : Bool) → b ≡ not (not b)
 is_not true = refl
 is_not false = refl
+
+-- the least bit of a word
+pub least_bit : (words : List ℕ) (place : ℕ) → get_or words place 0 ≢ 0 → get_or words place 0 < 2 ^ 64 → IsLeastIn words place (place * 64 + trailing_zeros w64 (get_or words place 0))
+unfolding has_bit
+least_bit words place some fits =
+    let word = get_or words place 0 in
+    let t = trailing_zeros w64 word in
+    let l = bit_at-trailing_zeros w64 word (omega arith) fits in
+    let low : t < 64 = l.0 in
+    let at : (place * 64 + t) / 64 ≡ place = omega arith in
+    let rest : (place * 64 + t) % 64 ≡ t = omega arith in
+    record {
+      place_is = at;
+      bit =
+          ap (λ k. bit_at (get_or words k 0) ((place * 64 + t) % 64) == 1) at
+          ∙ (ap (λ k. bit_at word k == 1) rest ∙ ap (λ b. b == 1) l.1);
+      least = λ m same less.
+          let below : m % 64 < t = omega arith in
+          ap (λ k. bit_at (get_or words k 0) (m % 64) == 1) same ∙ ap (λ b. b == 1) (l.2 (m % 64) below);
+    }
+
+pub empty_word : (words : List ℕ) (place : ℕ) → get_or words place 0 ≡ 0 → is_occupied words place ≡ false
+unfolding is_occupied
+empty_word words place e = ap (λ w. not (w == 0)) e

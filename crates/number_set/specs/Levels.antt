@@ -1,5 +1,5 @@
 -- The words of a set, and the levels above them.
-use Rattle.std.specs.Prelude.{◌≡◌, ℕ, ◌+◌, ◌/◌, ◌≤◌, List, length}
+use Rattle.std.specs.Prelude.{◌≡◌, ℕ, ◌+◌, ◌/◌, ◌<◌, List, length}
 use Rattle.number_set.specs.declared.set.Above.{Above}
 use Rattle.number_set.specs.declared.set.Above.TheVariants.{Nothing, Level}
 use Rattle.number_set.specs.Words.{Marks}
@@ -11,5 +11,6 @@ IsAbove words (Level above) = Marks above.value words
 
 -- the words have room for all numbers below the bound
 pub record IsLevel (bound : ℕ) (words : List ℕ) (above : Above) : Type 0 where
+  pub small : bound < 4294967296
   pub room : length words ≡ bound / 64 + 1
   pub level : IsAbove words above

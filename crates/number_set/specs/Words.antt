@@ -1,5 +1,5 @@
 -- What the words of a set say, and the level above them.
-use Rattle.std.specs.Prelude.{◌≡◌, ℕ, ◌+◌, ◌*◌, ◌<◌, ◌/◌, ◌%◌, ◌==◌, Bool, true, not, List, filter, length, slice_index}
+use Rattle.std.specs.Prelude.{◌≡◌, ℕ, ◌+◌, ◌*◌, ◌<◌, ◌/◌, ◌%◌, ◌==◌, Bool, true, false, not, List, filter, length, slice_index}
 use Rattle.std.specs.Int.{bit_at}
 use Rattle.std.specs.List.{range_with_len}
 use Rattle.fsrm_model.specs.Numbers.{is_in, is_set}
@@ -23,3 +23,9 @@ pub record Marks (places : Numbers) (words : List ℕ) : Type 0 where
   pub bound : places.bound ≡ length words
   pub set : is_set places.members ≡ true
   pub members : (k : ℕ) → is_in places.members k ≡ is_occupied words k
+
+-- the least number whose bit is set in a word
+pub record IsLeastIn (words : List ℕ) (place n : ℕ) : Type 0 where
+  pub place_is : n / 64 ≡ place
+  pub bit : has_bit words n ≡ true
+  pub least : (m : ℕ) → m / 64 ≡ place → m < n → has_bit words m ≡ false

@@ -5,7 +5,7 @@ ghost use Rattle.std.specs.Prelude.{slice_get};
 ghost use Rattle.fsrm_model.specs.Numbers.{is_in, with_number, without_number};
 ghost use Rattle.number_set.specs.Numbers.{no_numbers};
 
-use crate::words::{clear_bit, empty_words, has_bit, set_bit, WORD};
+use crate::words::{clear_bit, empty_words, has_bit, least_in, set_bit, WORD};
 use fsrm_model::NoMemory;
 use std::alloc::Global;
 use std::marker::Model;
@@ -128,11 +128,7 @@ impl NumberSet {
             Above::Nothing => 0,
             Above::Level(above) => above.least()?,
         };
-        let word = self.words[place as usize];
-        if word == 0 {
-            return None;
-        }
-        Some(place * WORD + word.trailing_zeros())
+        least_in(&self.words, place)
     }
 
     /// Whether there is no member.

@@ -1,7 +1,7 @@
 //! Numbers as the bits of words: number n is bit n % 64 of word n / 64.
 
-ghost use Rattle.std.specs.Prelude.{◌≡◌, ℕ, ◌*◌, ◌/◌, ◌<◌, ◌==◌, ◌||◌, ◌&&◌, not, IfOk, length, slice_index, replicate};
-ghost use Rattle.number_set.specs.Words.{has_bit, is_occupied};
+ghost use Rattle.std.specs.Prelude.{◌≡◌, ℕ, ◌*◌, ◌/◌, ◌<◌, ◌==◌, ◌||◌, ◌&&◌, not, false, IfOk, MatchOption, length, slice_index, replicate};
+ghost use Rattle.number_set.specs.Words.{has_bit, is_occupied, IsLeastIn};
 
 use fsrm_model::NoMemory;
 use std::alloc::Global;
@@ -53,4 +53,17 @@ pub(crate) fn clear_bit(words: &mut [u64], number: u32) -> bool
     let word = words[place] & !(1u64 << (number % WORD));
     words[place] = word;
     word == 0
+}
+
+/// The least number whose bit is set in a word.
+pub(crate) fn least_in(words: &[u64], place: u32) -> Option<u32>
+    requires within { place < length words.now }
+    requires small { place < 67108864 }
+    ensures { MatchOption result (is_occupied words.now place ≡ false) (λ n. IsLeastIn words.now place n) }
+{
+    let word = words[place as usize];
+    if word == 0 {
+        return None;
+    }
+    Some(place * WORD + word.trailing_zeros())
 }
