@@ -1,16 +1,16 @@
 -- The numbers that words hold, as a set, and the set of the places of words above them.
-use Rattle.std.proofs.Common.{◌≡◌, ℕ, zero, suc, ◌+◌, ◌*◌, ◌/◌, ◌%◌, ◌<◌, ◌≤◌, ◌==◌, nat_lt, Bool, true, false, cond, not, ◌||◌, ◌&&◌, ◌⊎◌, List, [], ◌∷◌, length, get_or, replicate, Some, None, refl, sym, ◌∙◌, ap, subst, inl, inr, arith}
+use Rattle.std.proofs.Common.{◌≡◌, ℕ, zero, suc, ◌+◌, ◌*◌, ◌/◌, ◌%◌, ◌<◌, ◌≤◌, ◌==◌, Bool, true, false, cond, not, ◌||◌, ◌&&◌, List, [], ◌∷◌, length, get_or, replicate, Option, Some, None, refl, sym, ◌∙◌, ap, subst, inl, inr, arith}
 use Rattle.std.proofs.lemmas.Bool.{cases_lt}
 use Rattle.std.proofs.lemmas.List.{get_or_past, get_or-replicate, length-replicate}
 use Rattle.std.proofs.lemmas.Nat.Bits.{bit_at-zero}
 use Rattle.std.specs.Int.{bit_at}
 use Rattle.std.specs.List.{range_with_len}
-use Rattle.std.specs.Prelude.{slice_get, filter}
+use Rattle.std.specs.Prelude.{slice_get, filter, MatchOption}
 use Rattle.fsrm_model.specs.Numbers.{is_in, is_set, with_number, without_number}
 use Rattle.fsrm_model.proofs.TestLaws.{is_or_not, eq_is, lt_test, not_true}
 use Rattle.number_set.specs.Numbers.{Numbers, no_numbers}
 use Rattle.number_set.specs.Words.{has_bit, is_occupied, numbers_of, Marks, IsLeastIn}
-use Rattle.number_set.proofs.NumberLaws.{in_with, in_without, in_filter, set_with, set_without, set_filter, same_set, in_same, first_least}
+use Rattle.number_set.proofs.NumberLaws.{in_with, in_without, in_filter, set_with, set_without, set_filter, same_set, first_least}
 use Rattle.number_set.proofs.WordLaws.{test_same, test_apart, empty_word}
 
 -- the numbers from one on
@@ -43,9 +43,16 @@ unfolding numbers_of
 in_numbers_of words n =
     in_filter (has_bit words) (range_with_len 0 (64 * length words)) n
     ∙ elim (cases_lt n (64 * length words)) [
-        | inl l ↦ within (has_bit words n) _ (in_range 0 (64 * length words) n (omega arith) (omega arith))
-        | inr l ↦ let none : has_bit words n ≡ false = past words n (omega arith) in ap (λ b. b && is_in (range_with_len 0 (64 * length words)) n) none ∙ sym none
-      ]
+      | inl l ↦ within (has_bit words n) _ (in_range 0 (64 * length words) n (omega arith) (omega arith))
+      | inr l ↦ let none : has_bit words n ≡ false = past words n (omega arith) in ap (λ b. b && is_in (range_with_len 0 (64 * length words)) n) none ∙ sym none
+    ]
+
+pub inside_words : (words : List ℕ) (n : ℕ) → is_in (numbers_of words) n ≡ true → n / 64 < length words
+inside_words words n h =
+    elim (cases_lt (n / 64) (length words)) [
+      | inl l ↦ l
+      | inr l ↦ let none : is_in (numbers_of words) n ≡ false = in_numbers_of words n ∙ past words n l in cc
+    ]
 
 pub set_numbers_of : (words : List ℕ) → is_set (numbers_of words) ≡ true
 unfolding numbers_of
@@ -111,13 +118,13 @@ marks_without up new old words p m same occupied is =
 pub view_with : (b m : ℕ) (old at new : List ℕ) (v : Numbers) → record { bound = b; members = numbers_of old } ≡ v → at ≡ old → ((n : ℕ) → has_bit new n ≡ ((m == n) || has_bit at n)) → record { bound = b; members = numbers_of new } ≡ record v { members = with_number m v.members }
 view_with b m old at new v is same bits =
     let now : record { bound = b; members = numbers_of new } ≡ record { bound = b; members = with_number m (numbers_of old) } =
-        ap (λ ms. record { bound = b; members = ms }) (numbers_with old new m (λ n. bits n ∙ ap (λ ws. (m == n) || has_bit ws n) same)) in
+    ap (λ ms. record { bound = b; members = ms }) (numbers_with old new m (λ n. bits n ∙ ap (λ ws. (m == n) || has_bit ws n) same)) in
     now ∙ ap (λ (w : Numbers). record w { members = with_number m w.members }) is
 
 pub view_without : (b m : ℕ) (old at new : List ℕ) (v : Numbers) → record { bound = b; members = numbers_of old } ≡ v → at ≡ old → ((n : ℕ) → has_bit new n ≡ (not (m == n) && has_bit at n)) → record { bound = b; members = numbers_of new } ≡ record v { members = without_number m v.members }
 view_without b m old at new v is same bits =
     let now : record { bound = b; members = numbers_of new } ≡ record { bound = b; members = without_number m (numbers_of old) } =
-        ap (λ ms. record { bound = b; members = ms }) (numbers_without old new m (λ n. bits n ∙ ap (λ ws. not (m == n) && has_bit ws n) same)) in
+    ap (λ ms. record { bound = b; members = ms }) (numbers_without old new m (λ n. bits n ∙ ap (λ ws. not (m == n) && has_bit ws n) same)) in
     now ∙ ap (λ (w : Numbers). record w { members = without_number m w.members }) is
 
 -- a word without a bit
@@ -217,10 +224,53 @@ least_none words place f empty =
           ]
     ])))
 
+pub no_first : (ns : List ℕ) → None ≡ slice_get ns 0 → ns ≡ []
+no_first [] h = refl
+no_first (k ∷ ns) h = cc
+
 pub least_above_none : (up : Numbers) (words : List ℕ) → Marks up words → None ≡ slice_get up.members 0 → None ≡ slice_get (numbers_of words) 0
 least_above_none up words m is =
     sym (ap (λ ms. slice_get ms 0) (none_of words (λ n. no_bit words n (sym (m.members (n / 64)) ∙ ap (λ ms. is_in ms (n / 64)) (no_first up.members is)))))
+
+-- without its first member a set has fewer
+pub without_first : (n : ℕ) (ns : List ℕ) → Some n ≡ slice_get ns 0 → length (without_number n ns) < length ns
+without_first n [] h = cc
+without_first n (k ∷ ns) h =
+    let is : n ≡ k = cc in
+    let gone : without_number n (k ∷ ns) ≡ without_number n ns = ap (λ b. cond (not b) (k ∷ without_number n ns) (without_number n ns)) (test_same k n (sym is)) in
+    omega (arith, ap length gone, kept (λ j. not (j == n)) ns)
   where
-    no_first : (ns : List ℕ) → None ≡ slice_get ns 0 → ns ≡ []
-    no_first [] h = refl
-    no_first (k ∷ ns) h = cc
+    one_more : (b : Bool) (k : ℕ) (ns ms : List ℕ) → length ms ≤ length ns → length (cond b (k ∷ ms) ms) ≤ length (k ∷ ns)
+    one_more true k ns ms h = omega arith
+    one_more false k ns ms h = omega arith
+
+    kept : (p : ℕ → Bool) (ns : List ℕ) → length (filter p ns) ≤ length ns
+    kept p [] = omega arith
+    kept p (k ∷ ns) = one_more (p k) k ns (filter p ns) (kept p ns)
+
+pub least_is : (words : List ℕ) (place : ℕ) (r : Option ℕ) → IsFirstWord words place → MatchOption r (is_occupied words place ≡ false) (λ n. IsLeastIn words place n) → r ≡ slice_get (numbers_of words) 0
+least_is words place None f h = least_none words place f h
+least_is words place (Some n) f h = least_some words place n f h
+
+-- new words
+pub new_view : (bound count : ℕ) (words : List ℕ) → words ≡ replicate count 0 → record { bound = bound; members = numbers_of words } ≡ no_numbers bound
+new_view bound count words is =
+    let seen : List ℕ → Numbers = λ ms. record { bound = bound; members = ms } in
+    ap seen (ap numbers_of is ∙ no_members count)
+
+pub new_level : (count : ℕ) (words : List ℕ) (up : Numbers) → 1 < count → words ≡ replicate count 0 → up ≡ no_numbers count → Marks up words
+new_level count words up several is empty =
+    let size : length words ≡ count = ap length is ∙ length-replicate count 0 in
+    subst (λ (v : Numbers). Marks v words) (sym empty) (record {
+      several = omega arith;
+      bound = sym size;
+      set = refl;
+      members = λ k. sym (ap (λ ws. is_occupied ws k) is ∙ empty_words count k);
+    })
+
+-- a set without a first member
+pub emptied : (v : Numbers) (bound : ℕ) → v.bound ≡ bound → None ≡ slice_get v.members 0 → v ≡ no_numbers bound
+emptied v bound same none =
+    let at : ℕ → Numbers = λ b. record { bound = b; members = v.members } in
+    let with : List ℕ → Numbers = λ ms. record { bound = bound; members = ms } in
+    ap at same ∙ ap with (no_first v.members none)

@@ -1,5 +1,5 @@
 -- The bits of words of which one is changed.
-use Rattle.std.proofs.Common.{◌≡◌, ◌≢◌, ℕ, ◌+◌, ◌*◌, ◌/◌, ◌%◌, ◌^◌, ◌<◌, ◌≤◌, ◌==◌, Bool, true, false, cond, not, ◌||◌, ◌&&◌, ◌⊎◌, List, [], ◌∷◌, length, get_or, set, refl, sym, ◌∙◌, ap, subst, inl, inr, arith, get_or-set_same, get_or-set_other}
+use Rattle.std.proofs.Common.{◌≡◌, ◌≢◌, ℕ, ◌+◌, ◌*◌, ◌/◌, ◌%◌, ◌^◌, ◌<◌, ◌≤◌, ◌==◌, Bool, true, false, not, ◌||◌, ◌&&◌, List, length, get_or, set, refl, sym, ◌∙◌, ap, subst, inl, inr, arith, get_or-set_same, get_or-set_other}
 use Rattle.std.proofs.lemmas.Bool.Decides.{nat_tests}
 use Rattle.std.proofs.lemmas.Nat.{and_le_l, le_or_r, one_shl, pow_pos}
 use Rattle.std.proofs.lemmas.Nat.Bits.{bit_at_set_same, bit_at_set_other, bit_at_clear_same, bit_at_clear_other, bit_at-trailing_zeros}
@@ -28,8 +28,8 @@ changed words m n w f keeps bits within =
           let word : get_or (set words (m / 64) w) (n / 64) 0 ≡ w = ap (λ k. get_or (set words (m / 64) w) k 0) is ∙ get_or-set_same words (m / 64) w 0 within in
           ap (λ v. bit_at v (n % 64) == 1) word
           ∙ (bits (n % 64) (omega arith)
-            ∙ (ap (λ b. f b (bit_at (get_or words (m / 64) 0) (n % 64) == 1)) (same_place m n is)
-              ∙ ap (λ k. f (m == n) (bit_at (get_or words k 0) (n % 64) == 1)) (sym is)))
+          ∙ (ap (λ b. f b (bit_at (get_or words (m / 64) 0) (n % 64) == 1)) (same_place m n is)
+          ∙ ap (λ k. f (m == n) (bit_at (get_or words k 0) (n % 64) == 1)) (sym is)))
       | inr e ↦
           let apart : n / 64 ≢ m / 64 = are_apart _ _ e in
           let other : (m == n) ≡ false = test_apart m n (λ h. apart (ap (λ k. k / 64) (sym h))) in

@@ -1,5 +1,5 @@
 -- The level above has a smaller bound.
-use Rattle.std.specs.Prelude.{ℕ, ◌+◌, ◌≤◌, max, List}
+use Rattle.std.specs.Prelude.{ℕ, ◌≤◌, max, List}
 use Rattle.std.proofs.Common.{arith}
 use Rattle.number_set.specs.declared.set.Above.{Above}
 use Rattle.number_set.specs.declared.set.Above.TheVariants.{Nothing, Level}

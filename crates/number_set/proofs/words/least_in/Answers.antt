@@ -1,4 +1,4 @@
-use Rattle.std.proofs.Common.{◌≡◌, arith}
+use Rattle.std.proofs.Common.{arith}
 use Rattle.number_set.proofs.WordLaws.{least_bit, empty_word}
 use Rattle.number_set.proofs.words.least_in.Goals as goal
 

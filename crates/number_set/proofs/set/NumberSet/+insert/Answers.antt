@@ -1,13 +1,12 @@
 -- One word has a bit more, and its place is above.
 use Rattle.std.proofs.Common.{◌≡◌, ℕ, ◌==◌, ◌||◌, not, ◌∙◌, ap, subst, sym, ◌/◌, List, length}
 use Rattle.std.proofs.lemmas.List.{with_items_is}
-use Rattle.std.specs.Vec.{with_items}
 use Rattle.fsrm_model.specs.Numbers.{with_number}
 use Rattle.number_set.specs.Numbers.{Numbers}
 use Rattle.number_set.specs.declared.set.Above.{Above}
 use Rattle.number_set.specs.declared.set.NumberSet.TheInside.{Inside}
 use Rattle.number_set.specs.Levels.{IsAbove, IsLevel}
-use Rattle.number_set.specs.Words.{has_bit, is_occupied, numbers_of}
+use Rattle.number_set.specs.Words.{is_occupied, numbers_of}
 use Rattle.number_set.proofs.LevelLaws.{view_with, marks_with, marks_stay, absorbed_place}
 use Rattle.number_set.proofs.set.NumberSet.+insert.Goals as goal
 use Rattle.number_set.proofs.set.NumberSet.+insert.Goals.{in-Nothing, in-Level+then-was_empty, in-Level+else-was_empty}
