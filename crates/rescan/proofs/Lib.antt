@@ -4,3 +4,4 @@ pub mod FitLaws
 pub mod FrontierLaws
 pub mod Numbered
 pub mod Tops
+pub mod VisitLaws

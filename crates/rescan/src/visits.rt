@@ -1,6 +1,6 @@
 //! Visits of a scan.
 
-ghost use Rattle.std.specs.Prelude.{◌≡◌, ◌+◌, ◌*◌, ◌≤◌, ◌<◌, IfOk, length, true, sum_by, ℕ};
+ghost use Rattle.std.specs.Prelude.{◌≡◌, ◌+◌, ◌*◌, ◌^◌, ◌≤◌, ◌<◌, IfOk, length, true, sum_by, ℕ};
 ghost use Rattle.fsrm_model.specs.Numbers.{is_in, is_set, with_numbers};
 ghost use Rattle.fsrm_model.specs.Scan.{next_visit, visit as visited};
 ghost use Rattle.fsrm_model.specs.Space.{space};
@@ -79,6 +79,7 @@ fn enter_children<L: Ledger>(
     requires room { tree.now.size.nodes ≤ set.old.bound }
     ensures set { set.new ≡ record set.old { members = with_numbers (folders_in tree.now.nodes folder) set.old.members } }
     ensures bytes { result ≡ sum_by (space tree.now.size) (children tree.now.nodes folder) }
+    ensures small { sum_by (space tree.now.size) tree.now.nodes < 2 ^ 64 }
     ensures looks { steps.new ≤ steps.old + (1 + 2 * length (children tree.now.nodes folder)) }
 {
     // The files of a volume of this size take fewer than 2^64 bytes.
