@@ -3,5 +3,6 @@ pub mod CountLaws
 pub mod FitLaws
 pub mod FrontierLaws
 pub mod Numbered
+pub mod SetLaws
 pub mod Tops
 pub mod VisitLaws
