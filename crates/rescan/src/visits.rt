@@ -42,8 +42,8 @@ impl Frontier {
         ensures ok { IfOk result (λ folders. folders ≡ unvisited_of tree.now.nodes self.now) }
         ensures looks { steps.new ≤ steps.old + 4 * length tree.now.nodes }
     {
-        let found = self.find(alloc, tree, steps)?;
-        listed(alloc, found)
+        let mut found = self.find(alloc, tree, steps)?;
+        drained(alloc, &mut found)
     }
 
     // The unvisited folders, as a set: the topmost ones, with the folders in each that was found.
@@ -112,12 +112,11 @@ fn copied(alloc: Global, set: &NumberSet) -> Result<NumberSet, NoMemory>
     Ok(copy)
 }
 
-// The members of a set, ascending.
-fn listed(alloc: Global, set: NumberSet) -> Result<List<u32>, NoMemory>
-    requires { is_set set.members ≡ true }
-    ensures { IfOk result (λ list. list ≡ set.members) }
+// Takes all members out of a set, and gives them, ascending.
+fn drained(alloc: Global, set: &mut NumberSet) -> Result<List<u32>, NoMemory>
+    requires { is_set set.old.members ≡ true }
+    ensures { IfOk result (λ list. list ≡ set.old.members) }
 {
-    let mut set = set;
     let mut list = List::new(alloc);
     while let Some(least) = set.least() {
         set.remove(least);

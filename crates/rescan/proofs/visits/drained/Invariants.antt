@@ -1,6 +1,6 @@
 use Rattle.std.proofs.Common.{◌≡◌, true, ◌++◌, length}
 use Rattle.fsrm_model.specs.Numbers.{is_set}
-use Rattle.rescan.proofs.visits.listed.Given as goal
+use Rattle.rescan.proofs.visits.drained.Given as goal
 
 abbrev pub invariant-loop-least : goal.invariant-loop-least
 invariant-loop-least l = record {
