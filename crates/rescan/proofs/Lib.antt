@@ -1,5 +1,6 @@
 pub mod ChildLaws
 pub mod CountLaws
+pub mod FindLaws
 pub mod FitLaws
 pub mod FrontierLaws
 pub mod Numbered
