@@ -1,9 +1,11 @@
 pub mod ChildLaws
 pub mod CountLaws
+pub mod FindLaws
 pub mod FitLaws
 pub mod FrontierLaws
 pub mod KindLaws
 pub mod Numbered
+pub mod SetLaws
 pub mod Tops
 mod Ahead
 mod FolderArms
@@ -15,3 +17,4 @@ mod MovedTops
 mod MovedWhole
 mod Opening
 mod StandingLaws
+pub mod VisitLaws

@@ -58,9 +58,9 @@ impl Frontier {
         ensures begun { self.new ≡ record { room = self.old.room; folder = Some folder; tops = folder ∷ []; sum = 0 } }
         ensures follows { (v : Volume) → IsVolume v.size v.nodes → v.size.nodes ≤ self.old.room → is_folder v.nodes folder ≡ true → Follows self.new self.new v (folders_under v.nodes folder) }
     {
+        // Nothing is counted where no scan was active.
         self.tops.insert(folder);
         self.folder = Some(folder);
-        self.sum = 0;
     }
 
     /// The bytes that are counted so far.
@@ -93,8 +93,7 @@ impl Frontier {
         ensures idle { self.new ≡ idle self.old.room }
     {
         let sum = self.sum;
-        self.folder = None;
-        self.sum = 0;
+        self.drop_scan();
         sum
     }
 

@@ -5,6 +5,8 @@ mod changes;
 mod frontier;
 mod moves;
 mod standing;
+#[cfg(test)]
+mod tests;
 mod visits;
 
 pub use frontier::Frontier;
