@@ -1,4 +1,4 @@
-pub mod Changes
+pub mod ChangeLaws
 pub mod CountLaws
 pub mod FrontierLaws
 pub mod KindLaws

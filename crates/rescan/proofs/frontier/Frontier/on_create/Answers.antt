@@ -1,5 +1,5 @@
-use Rattle.rescan.proofs.KindLaws.{kind_counted_same}
-use Rattle.rescan.proofs.LeafLaws.{tops_without}
+use Rattle.rescan.proofs.ChangeLaws.{sized_own}
+use Rattle.rescan.proofs.SizeLaws.{counted_small}
 use Rattle.rescan.proofs.frontier.Frontier.on_create.Goals as goal
 
 pub returns : goal.returns

@@ -1,5 +1,5 @@
 -- A scan goes on over changes of the tree: nodes that come and go, and other lengths and moments.
-use Rattle.std.proofs.Common.{◌≡◌, ℕ, ◌+◌, ◌-◌, ◌^◌, ◌<◌, ◌≤◌, ◌==◌, Bool, true, false, cond, not, ◌&&◌, List, [], ◌∷◌, refl, sym, ◌∙◌, ap, subst, arith, Some, nat_lt}
+use Rattle.std.proofs.Common.{◌≡◌, ℕ, ◌+◌, ◌-◌, ◌^◌, ◌<◌, ◌≤◌, ◌==◌, Bool, true, false, cond, not, ◌&&◌, ◌||◌, List, [], ◌∷◌, refl, sym, ◌∙◌, ap, subst, arith, Some, nat_lt}
 use Rattle.std.proofs.lemmas.Bool.Decides.{nat_tests}
 use Rattle.std.proofs.lemmas.Option.{same_Some}
 use Rattle.std.specs.Prelude.{filter, map, nat_le, option_map, if◌then◌else◌}
@@ -9,12 +9,13 @@ use Rattle.fsrm_model.specs.declared.row.NodeRow.{NodeRow}
 use Rattle.fsrm_model.specs.FileOps.{resized, touched}
 use Rattle.fsrm_model.specs.Keyed.{row_of, has_row, is_ascending, with_row, with_change, without_row}
 use Rattle.fsrm_model.specs.Limits.{longest_file}
+use Rattle.fsrm_model.specs.Name.{is_name}
 use Rattle.fsrm_model.specs.Numbers.{without_number}
 use Rattle.fsrm_model.specs.Scan.{counted, unvisited_with}
 use Rattle.fsrm_model.specs.Space.{alloc, space}
 use Rattle.fsrm_model.specs.Tree.{number, node_of}
-use Rattle.fsrm_model.specs.Valid.{IsVolume, is_own}
-use Rattle.fsrm_model.proofs.TestLaws.{both, both_true, clash, eq_is, eq_same, not_true, or_later}
+use Rattle.fsrm_model.specs.Valid.{IsVolume, is_moment, is_own}
+use Rattle.fsrm_model.proofs.TestLaws.{both, both_true, clash, eq_is, eq_same, neither}
 use Rattle.fsrm_model.proofs.ChainLaws.{find-with_row_same}
 use Rattle.fsrm_model.proofs.ChangeLaws.{absent_later}
 use Rattle.fsrm_model.proofs.Keeps.{volume-change}
@@ -54,8 +55,8 @@ alike_follows v old f left n c k g w =
 pub touched_keeps : (moment : ℕ) → KeepsShape (touched moment)
 touched_keeps moment = record { same_number = λ r. refl; same_parent = λ r. refl; same_folder = λ r. refl; same_length = λ r. refl }
 
-stamped : ℕ → NodeRow → NodeRow
-abbrev stamped moment node = record node { modified = moment }
+abbrev stamped : ℕ → NodeRow → NodeRow
+stamped moment node = record node { modified = moment }
 
 stamped_keeps : (moment : ℕ) → KeepsShape (stamped moment)
 stamped_keeps moment = record { same_number = λ r. refl; same_parent = λ r. refl; same_folder = λ r. refl; same_length = λ r. refl }
@@ -111,5 +112,59 @@ change_gone key n c k [] = refl
 change_gone key n c k (r ∷ rows) = gone_at key n c k r (without_row key n (with_change key n c rows)) (without_row key n rows) (key r == n) refl (change_gone key n c k rows)
 
 -- what comes and goes leaves the others
-apart_kept : {X : Type 0} (x : X) (xs : List X) (b m : Bool) (ys : List X) → b ∷ [] ≡ m ∷ [] → m ≡ false → ys ≡ xs → cond (not b) (x ∷ ys) ys ≡ x ∷ xs
-apart_kept x xs b m ys e h g = cc
+absent_at : {X : Type 0} (x : X) (xs ys : List X) (b m : Bool) → (b || m) ≡ false → (m ≡ false → ys ≡ xs) → cond (not b) (x ∷ ys) ys ≡ x ∷ xs
+absent_at x xs ys true m h f = cc
+absent_at x xs ys false m h f = ap (λ rs. x ∷ rs) (f h)
+
+without_absent : {X : Type 0} (key : X → ℕ) (n : ℕ) (rows : List X) → has_row key n rows ≡ false → without_row key n rows ≡ rows
+without_absent key n [] h = refl
+without_absent key n (r ∷ rows) h = absent_at r rows (without_row key n rows) (key r == n) (has_row key n rows) h (without_absent key n rows)
+
+made_at : {X : Type 0} (key : X → ℕ) (row r : X) (rows more : List X) (b : Bool) → has_row key (key row) (r ∷ rows) ≡ false → without_row key (key row) more ≡ rows → without_row key (key row) (cond b (row ∷ r ∷ rows) (r ∷ more)) ≡ r ∷ rows
+made_at key row r rows more true absent h =
+    ap (λ b. cond (not b) (row ∷ without_row key (key row) (r ∷ rows)) (without_row key (key row) (r ∷ rows))) (eq_same (key row)) ∙ without_absent key (key row) (r ∷ rows) absent
+made_at key row r rows more false absent h =
+    let parts : ((key r == key row) ≡ false) × (has_row key (key row) rows ≡ false) = neither _ _ absent in
+    ap (λ b. cond (not b) (r ∷ without_row key (key row) more) (without_row key (key row) more)) parts.0 ∙ ap (λ rs. r ∷ rs) h
+
+pub with_and_without : {X : Type 0} (key : X → ℕ) (row : X) (rows : List X) → has_row key (key row) rows ≡ false → without_row key (key row) (with_row key row rows) ≡ rows
+with_and_without key row [] h = ap (λ b. cond (not b) (row ∷ []) []) (eq_same (key row))
+with_and_without key row (r ∷ rows) h =
+    made_at key row r rows (with_row key row rows) (nat_lt (key row) (key r)) h (with_and_without key row rows (neither (key r == key row) _ h).1)
+
+-- another length
+length_keeps : (bytes : ℕ) → KeepsKind (of_length bytes)
+length_keeps bytes = record { same_number = λ r. refl; same_parent = λ r. refl; same_folder = λ r. refl }
+
+own_sized : (r : NodeRow) (bytes : ℕ) → is_own r ≡ true → nat_le bytes (if r.folder then 0 else longest_file) ≡ true → is_own (of_length bytes r) ≡ true
+own_sized r bytes h g =
+    let split = both (is_name r.name && nat_lt 0 r.owner) (nat_le r.length (if r.folder then 0 else longest_file) && (is_moment r.created && (is_moment r.modified && is_moment r.accessed))) h in
+    let rest = both (nat_le r.length (if r.folder then 0 else longest_file)) (is_moment r.created && (is_moment r.modified && is_moment r.accessed)) split.1 in
+    both_true _ _ split.0 (both_true _ _ g rest.1)
+
+pub sized_volume : (K : Capacity) (nodes : List NodeRow) (n bytes : ℕ) (row : NodeRow) → IsVolume K nodes → node_of nodes n ≡ Some row → (n == 0) ≡ false → nat_le bytes (if row.folder then 0 else longest_file) ≡ true → IsVolume K (with_change number n (of_length bytes) nodes)
+sized_volume K nodes n bytes row v found inner h =
+    volume-change K nodes n (of_length bytes) v (record { same_number = λ r. refl; same_parent = λ r. refl; same_name = λ r. refl; same_folder = λ r. refl }) inner
+    (λ r e. own_sized r bytes (v.own n r e inner) (subst (λ (y : NodeRow). nat_le bytes (if y.folder then 0 else longest_file) ≡ true) (same_Some row r (sym found ∙ e)) h))
+
+-- the nodes with a node's own length are the nodes
+pub sized_own : (nodes : List NodeRow) (n bytes : ℕ) (row : NodeRow) → is_ascending number nodes ≡ true → node_of nodes n ≡ Some row → row.length ≡ bytes → with_change number n (of_length bytes) nodes ≡ nodes
+sized_own nodes n bytes row asc found is =
+    change_same number n (of_length bytes) (λ r. r) nodes asc (λ r e.
+    subst (λ (j : ℕ). of_length j r ≡ r) (ap (λ (y : NodeRow). y.length) (same_Some r row (sym e ∙ found)) ∙ is) refl)
+    ∙ change_none number n nodes
+
+pub own_stands : (v : Volume) (f : Front) (n bytes : ℕ) (row : NodeRow) → Stands v f → node_of v.nodes n ≡ Some row → row.length ≡ bytes → Stands (sized v n bytes) f
+own_stands v f n bytes row s found is =
+    subst (λ ns. Stands (record v { nodes = ns }) f) (sym (sized_own v.nodes n bytes row s.volume.ascending found is)) s
+
+-- of a length on a length only the last one counts
+sized_twice : (nodes : List NodeRow) (n a b : ℕ) → with_change number n (of_length b) (with_change number n (of_length a) nodes) ≡ with_change number n (of_length b) nodes
+sized_twice nodes n a b = change_twice number n (of_length a) (of_length b) (λ r. refl) nodes
+
+-- the nodes after a resize with the old length are the nodes but for a moment
+pub sized_resized : (nodes : List NodeRow) (n bytes moment : ℕ) (row : NodeRow) → is_ascending number nodes ≡ true → node_of nodes n ≡ Some row → with_change number n (of_length row.length) (with_change number n (resized bytes moment) nodes) ≡ with_change number n (stamped moment) nodes
+sized_resized nodes n bytes moment row asc found =
+    change_twice number n (resized bytes moment) (of_length row.length) (λ r. refl) nodes
+    ∙ change_same number n (λ r. of_length row.length (resized bytes moment r)) (stamped moment) nodes asc (λ r e.
+    subst (λ (j : ℕ). of_length j (resized bytes moment r) ≡ stamped moment r) (ap (λ (y : NodeRow). y.length) (same_Some r row (sym e ∙ found))) refl)
