@@ -1,5 +1,5 @@
 -- A scan goes on over changes of the tree: nodes that come and go, and other lengths and moments.
-use Rattle.std.proofs.Common.{◌≡◌, ℕ, ◌+◌, ◌-◌, ◌^◌, ◌<◌, ◌≤◌, ◌==◌, Bool, true, false, cond, not, ◌&&◌, ◌||◌, List, [], ◌∷◌, refl, sym, ◌∙◌, ap, subst, arith, Some, nat_lt}
+use Rattle.std.proofs.Common.{◌≡◌, ℕ, ◌+◌, ◌-◌, ◌^◌, ◌<◌, ◌≤◌, ◌==◌, Bool, true, false, cond, not, ◌&&◌, ◌||◌, inl, inr, List, [], ◌∷◌, length, refl, sym, ◌∙◌, ap, subst, arith, Some, nat_lt}
 use Rattle.std.proofs.lemmas.Bool.Decides.{nat_tests}
 use Rattle.std.proofs.lemmas.Option.{same_Some}
 use Rattle.std.specs.Prelude.{filter, map, nat_le, option_map, if◌then◌else◌}
@@ -14,17 +14,19 @@ use Rattle.fsrm_model.specs.Numbers.{without_number}
 use Rattle.fsrm_model.specs.Scan.{counted, unvisited_with}
 use Rattle.fsrm_model.specs.Space.{alloc, space}
 use Rattle.fsrm_model.specs.Tree.{number, node_of}
-use Rattle.fsrm_model.specs.Valid.{IsVolume, is_moment, is_own}
-use Rattle.fsrm_model.proofs.TestLaws.{both, both_true, clash, eq_is, eq_same, neither}
+use Rattle.fsrm_model.specs.Valid.{IsVolume, is_moment, is_own, is_root_node}
+use Rattle.fsrm_model.proofs.TestLaws.{is_or_not, both, both_true, clash, eq_is, eq_same, neither, not_true}
 use Rattle.fsrm_model.proofs.ChainLaws.{find-with_row_same}
 use Rattle.fsrm_model.proofs.ChangeLaws.{absent_later}
 use Rattle.fsrm_model.proofs.Keeps.{volume-change}
 use Rattle.fsrm_model.proofs.Look.{found_key, row_of-change}
-use Rattle.volume_tree.specs.Volume.{Volume, with_node, with_length, with_touch, without_node}
+use Rattle.volume_tree.specs.Volume.{Volume, IsCapacity, with_node, with_length, with_touch, without_node}
 use Rattle.rescan.specs.Frontiers.{Front, Stands, Follows, scanned, unvisited, of_length, sized}
+use Rattle.rescan.specs.Tops.{AreTops}
 use Rattle.rescan.proofs.CountLaws.{is_counted, part, each_row}
-use Rattle.rescan.proofs.KindLaws.{KeepsKind, kind_tops, kind_unvisited, kind_is_counted, kind_counted, kind_counted_same}
+use Rattle.rescan.proofs.KindLaws.{KeepsKind, kind_tops, kind_tops_back, kind_unvisited, kind_is_counted, kind_counted, kind_counted_same}
 use Rattle.rescan.proofs.LeafLaws.{IsLeaf, leaf_inner, tops_with, tops_without, counted_with, counted_without, unvisited_new, unvisited_gone}
+use Rattle.rescan.proofs.SizeLaws.{counted_small, part_within}
 use Rattle.rescan.proofs.Tops.{tops_of, stands_by}
 
 -- a change of a node that keeps number, parent, kind and length
@@ -168,3 +170,155 @@ sized_resized nodes n bytes moment row asc found =
     change_twice number n (resized bytes moment) (of_length row.length) (λ r. refl) nodes
     ∙ change_same number n (λ r. of_length row.length (resized bytes moment r)) (stamped moment) nodes asc (λ r e.
     subst (λ (j : ℕ). of_length j (resized bytes moment r) ≡ stamped moment r) (ap (λ (y : NodeRow). y.length) (same_Some r row (sym e ∙ found))) refl)
+
+-- kinds
+root_folder : (r : NodeRow) → is_root_node r ≡ true → r.folder ≡ true
+root_folder r h = (both r.folder (length r.name == 0) (both (r.folder && (length r.name == 0)) ((r.parent == 0) && (r.length == 0)) (both _ _ h).0).0).0
+
+pub file_inner : (K : Capacity) (nodes : List NodeRow) (n : ℕ) (row : NodeRow) → IsVolume K nodes → node_of nodes n ≡ Some row → row.folder ≡ false → (n == 0) ≡ false
+file_inner K nodes n row v found file =
+    not_true _ (λ t.
+    let root : is_root_node row ≡ true = v.root row (ap (node_of nodes) (sym (eq_is n 0 t)) ∙ found) in
+    clash row.folder (root_folder row root) file)
+
+root_length : (r : NodeRow) → is_root_node r ≡ true → (r.length == 0) ≡ true
+root_length r h = (both (r.parent == 0) (r.length == 0) (both (r.folder && (length r.name == 0)) ((r.parent == 0) && (r.length == 0)) (both _ _ h).0).1).1
+
+own_length : (r : NodeRow) → is_own r ≡ true → nat_le r.length (if r.folder then 0 else longest_file) ≡ true
+own_length r h =
+    (both (nat_le r.length (if r.folder then 0 else longest_file)) (is_moment r.created && (is_moment r.modified && is_moment r.accessed))
+    (both (is_name r.name && nat_lt 0 r.owner) (nat_le r.length (if r.folder then 0 else longest_file) && (is_moment r.created && (is_moment r.modified && is_moment r.accessed))) h).1).0
+
+none_left : (n : ℕ) (b : Bool) → b ≡ true → nat_le n (cond b 0 longest_file) ≡ true → n ≡ 0
+none_left n true e h = grind (arith, nat_tests)
+none_left n false e h = cc
+
+-- a folder has no length
+pub folder_length : (K : Capacity) (nodes : List NodeRow) (n : ℕ) (row : NodeRow) → IsVolume K nodes → node_of nodes n ≡ Some row → row.folder ≡ true → row.length ≡ 0
+folder_length K nodes n row v found folder =
+    elim (is_or_not (n == 0)) [
+      | inl e ↦ eq_is row.length 0 (root_length row (v.root row (ap (node_of nodes) (sym (eq_is n 0 e)) ∙ found)))
+      | inr e ↦ none_left row.length row.folder folder (own_length row (v.own n row found e))
+    ]
+
+empty_fits : (b : Bool) → nat_le 0 (cond b 0 longest_file) ≡ true
+empty_fits true = refl
+empty_fits false = refl
+
+length_fits : (bytes : ℕ) (b : Bool) → b ≡ false → bytes ≤ longest_file → nat_le bytes (cond b 0 longest_file) ≡ true
+length_fits bytes true e h = cc
+length_fits bytes false e h = le_test bytes longest_file h
+  where
+    le_test : (m n : ℕ) → m ≤ n → nat_le m n ≡ true
+    le_test m n h = grind (arith, nat_tests)
+
+-- an empty node is no part of what is counted
+empty_part : (K : Capacity) (nodes : List NodeRow) (f : Front) (row : NodeRow) → part K nodes f (of_length 0 row) ≡ 0
+empty_part K nodes f row = at (is_counted nodes f row.parent) row.folder
+  where
+    at : (b d : Bool) → cond b (cond d 0 (alloc K 0)) 0 ≡ 0
+    at true true = refl
+    at true false = refl
+    at false d = refl
+
+-- a scan goes on over a new node that is still empty
+pub created : (v : Volume) (n : ℕ) (row : NodeRow) (f : Front) → IsVolume v.size v.nodes → node_of v.nodes n ≡ Some row → Stands (without_node v n) f → Follows f f (sized v n 0) (unvisited_with row (unvisited (without_node v n).nodes f))
+created v n row f w found s =
+    let l : IsLeaf v.size v.nodes n row = record { whole = w; rest = s.volume; found = found } in
+    let tops = tops_of (without_node v n) f s in
+    let now : IsVolume v.size (with_change number n (of_length 0) v.nodes) = sized_volume v.size v.nodes n 0 row w found (leaf_inner v.size v.nodes n row l) (empty_fits row.folder) in
+    let sum : f.sum ≡ counted v.size (with_change number n (of_length 0) v.nodes) (scanned f) (unvisited (with_change number n (of_length 0) v.nodes) f) =
+    omega (arith, s.sum, counted_with v.size v.nodes n row l f, kind_counted v.size n (of_length 0) (length_keeps 0) v.nodes f row w now found, empty_part v.size v.nodes f row) in
+    record {
+      stands = stands_by (sized v n 0) f now s.fits (kind_tops n (of_length 0) (length_keeps 0) v.nodes f (tops_with v.size v.nodes n row l f tops)) sum;
+      unvisited_are = kind_unvisited n (of_length 0) (length_keeps 0) v.nodes f ∙ unvisited_new v.size v.nodes n row l f tops;
+      folder = refl;
+      room = refl;
+    }
+
+-- and over the removal of an empty node that isn't the scanned folder
+gone : (v : Volume) (n : ℕ) (row : NodeRow) (f : Front) → IsVolume v.size (without_node v n).nodes → node_of v.nodes n ≡ Some row → (n == scanned f) ≡ false → part v.size v.nodes f row ≡ 0 → Stands v f → Follows f (record f { tops = without_number n f.tops }) (without_node v n) (without_number n (unvisited v.nodes f))
+gone v n row f w found other empty s =
+    let l : IsLeaf v.size v.nodes n row = record { whole = s.volume; rest = w; found = found } in
+    let g : Front = record f { tops = without_number n f.tops } in
+    let sum : f.sum ≡ counted v.size (without_row number n v.nodes) (scanned f) (unvisited (without_row number n v.nodes) g) =
+    omega (arith, s.sum, counted_without v.size v.nodes n row l f, empty) in
+    record {
+      stands = stands_by (without_node v n) g w s.fits (tops_without v.size v.nodes n row l f other (tops_of v f s)) sum;
+      unvisited_are = unvisited_gone v.size v.nodes n row l f;
+      folder = refl;
+      room = refl;
+    }
+
+pub removed : (v : Volume) (n : ℕ) (row : NodeRow) (f : Front) → IsVolume v.size (without_node v n).nodes → node_of v.nodes n ≡ Some row → (n == scanned f) ≡ false → Stands (sized v n 0) f → Follows f (record f { tops = without_number n f.tops }) (without_node v n) (without_number n (unvisited v.nodes f))
+removed v n row f w found other s =
+    let g : Front = record f { tops = without_number n f.tops } in
+    let new = with_change number n (of_length 0) v.nodes in
+    let same : without_row number n new ≡ without_row number n v.nodes = change_gone number n (of_length 0) (λ r. refl) v.nodes in
+    let at : Follows f g (without_node (sized v n 0) n) (without_number n (unvisited new f)) =
+    gone (sized v n 0) n (of_length 0 row) f (subst (IsVolume v.size) (sym same) w) (changed_found n (of_length 0) (λ r. refl) v.nodes row found) other (empty_part v.size new f row) s in
+    subst (λ (left : List ℕ). Follows f g (without_node v n) (without_number n left)) (kind_unvisited n (of_length 0) (length_keeps 0) v.nodes f)
+    (subst (λ ns. Follows f g (record v { nodes = ns }) (without_number n (unvisited new f))) same at)
+
+-- the bytes that a length adds in a folder
+abbrev pub share : Capacity → List NodeRow → Front → ℕ → ℕ → ℕ
+share K nodes f parent bytes = if is_counted nodes f parent then alloc K bytes else 0
+
+file_part : (K : Capacity) (nodes : List NodeRow) (n a b : ℕ) (f : Front) (row : NodeRow) → row.folder ≡ false → part K (with_change number n (of_length a) nodes) f (of_length b row) ≡ share K nodes f row.parent b
+file_part K nodes n a b f row file =
+    ap (λ c. cond c (cond row.folder 0 (alloc K b)) 0) (kind_is_counted n (of_length a) (length_keeps a) nodes f row.parent)
+    ∙ ap (λ c. cond (is_counted nodes f row.parent) (cond c 0 (alloc K b)) 0) file
+
+-- of a file's length
+pub record IsFile (v : Volume) (n : ℕ) (row : NodeRow) (a : ℕ) (f : Front) : Type 0 where
+  pub found : node_of v.nodes n ≡ Some row
+  pub file : row.folder ≡ false
+  pub stands : Stands (sized v n a) f
+
+resized_volume : (v : Volume) (n : ℕ) (row : NodeRow) (a b : ℕ) (f : Front) → IsFile v n row a f → b ≤ longest_file → IsVolume v.size (with_change number n (of_length b) v.nodes)
+resized_volume v n row a b f t most =
+    let was = with_change number n (of_length a) v.nodes in
+    let found = changed_found n (of_length a) (λ r. refl) v.nodes row t.found in
+    subst (IsVolume v.size) (sized_twice v.nodes n a b)
+    (sized_volume v.size was n b (of_length a row) t.stands.volume found (file_inner v.size was n (of_length a row) t.stands.volume found t.file) (length_fits b row.folder t.file most))
+
+resized_counted : (v : Volume) (n : ℕ) (row : NodeRow) (a b : ℕ) (f : Front) → IsFile v n row a f → b ≤ longest_file → counted v.size (with_change number n (of_length b) v.nodes) (scanned f) (unvisited (with_change number n (of_length b) v.nodes) f) + share v.size v.nodes f row.parent a ≡ f.sum + share v.size v.nodes f row.parent b
+resized_counted v n row a b f t most =
+    let was = with_change number n (of_length a) v.nodes in
+    let now = with_change number n (of_length b) was in
+    let volume : IsVolume v.size now = subst (IsVolume v.size) (sym (sized_twice v.nodes n a b)) (resized_volume v n row a b f t most) in
+    let same : counted v.size now (scanned f) (unvisited now f) ≡ counted v.size (with_change number n (of_length b) v.nodes) (scanned f) (unvisited (with_change number n (of_length b) v.nodes) f) =
+    ap (λ ns. counted v.size ns (scanned f) (unvisited ns f)) (sized_twice v.nodes n a b) in
+    omega (
+      arith,
+      same,
+      t.stands.sum,
+      kind_counted v.size n (of_length b) (length_keeps b) was f (of_length a row) t.stands.volume volume (changed_found n (of_length a) (λ r. refl) v.nodes row t.found),
+      file_part v.size v.nodes n a a f row t.file,
+      file_part v.size v.nodes n a b f row t.file,
+    )
+
+-- what the old length adds is in the sum, and the new sum has 64 bits
+pub share_within : (v : Volume) (n : ℕ) (row : NodeRow) (a : ℕ) (f : Front) → IsFile v n row a f → share v.size v.nodes f row.parent a ≤ f.sum
+share_within v n row a f t =
+    let was = with_change number n (of_length a) v.nodes in
+    omega (arith, t.stands.sum, part_within v.size was t.stands.volume f n (of_length a row) (changed_found n (of_length a) (λ r. refl) v.nodes row t.found), file_part v.size v.nodes n a a f row t.file)
+
+pub resized_small : (v : Volume) (n : ℕ) (row : NodeRow) (a b sum : ℕ) (f : Front) → IsFile v n row a f → b ≤ longest_file → IsCapacity v.size → sum + share v.size v.nodes f row.parent a ≡ f.sum + share v.size v.nodes f row.parent b → sum < 2 ^ 64
+resized_small v n row a b sum f t most legal e =
+    omega (arith, e, resized_counted v n row a b f t most, counted_small v.size (with_change number n (of_length b) v.nodes) (resized_volume v n row a b f t most) legal f)
+
+-- a scan goes on over another length
+pub resizes : (v : Volume) (n : ℕ) (row : NodeRow) (a b sum : ℕ) (f : Front) → IsFile v n row a f → b ≤ longest_file → sum + share v.size v.nodes f row.parent a ≡ f.sum + share v.size v.nodes f row.parent b → Follows f (record f { sum = sum }) (sized v n b) (unvisited v.nodes f)
+resizes v n row a b sum f t most e =
+    let g : Front = record f { sum = sum } in
+    let tops = kind_tops n (of_length b) (length_keeps b) v.nodes f (kind_tops_back n (of_length a) (length_keeps a) v.nodes f (tops_of (sized v n a) f t.stands)) in
+    record {
+      stands = stands_by (sized v n b) g (resized_volume v n row a b f t most) t.stands.fits (other_sum sum tops) (omega (arith, e, resized_counted v n row a b f t most));
+      unvisited_are = kind_unvisited n (of_length b) (length_keeps b) v.nodes f;
+      folder = refl;
+      room = refl;
+    }
+  where
+    other_sum : {nodes : List NodeRow} {f : Front} (sum : ℕ) → AreTops nodes f → AreTops nodes (record f { sum = sum })
+    other_sum sum t = record { active = t.active; folder = t.folder; ascending = t.ascending; folders = t.folders; below = t.below; apart = t.apart }
