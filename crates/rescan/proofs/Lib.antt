@@ -3,6 +3,8 @@ pub mod CountLaws
 pub mod FrontierLaws
 pub mod KindLaws
 pub mod LeafLaws
+mod MovedTops
 pub mod Numbered
 pub mod SizeLaws
+mod StandingLaws
 pub mod Tops
