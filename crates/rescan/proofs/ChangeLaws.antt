@@ -57,10 +57,10 @@ alike_follows v old f left n c k g w =
 pub touched_keeps : (moment : ℕ) → KeepsShape (touched moment)
 touched_keeps moment = record { same_number = λ r. refl; same_parent = λ r. refl; same_folder = λ r. refl; same_length = λ r. refl }
 
-abbrev stamped : ℕ → NodeRow → NodeRow
+abbrev pub stamped : ℕ → NodeRow → NodeRow
 stamped moment node = record node { modified = moment }
 
-stamped_keeps : (moment : ℕ) → KeepsShape (stamped moment)
+pub stamped_keeps : (moment : ℕ) → KeepsShape (stamped moment)
 stamped_keeps moment = record { same_number = λ r. refl; same_parent = λ r. refl; same_folder = λ r. refl; same_length = λ r. refl }
 
 pub touch_stands : (v : Volume) (f : Front) (n moment : ℕ) → Stands v f → IsVolume v.size (with_touch v n moment).nodes → Stands (with_touch v n moment) f
@@ -92,14 +92,14 @@ twice_at : {X : Type 0} (key : X → ℕ) (n : ℕ) (c d : X → X) → ((r : X)
 twice_at key n c d k r true e = ap (λ j. cond (j == n) (d (c r)) (c r)) (k r) ∙ ap (λ b. cond b (d (c r)) (c r)) e
 twice_at key n c d k r false e = ap (λ b. cond b (d r) r) e
 
-change_twice : {X : Type 0} (key : X → ℕ) (n : ℕ) (c d : X → X) → ((r : X) → key (c r) ≡ key r) → (rows : List X) → with_change key n d (with_change key n c rows) ≡ with_change key n (λ r. d (c r)) rows
+pub change_twice : {X : Type 0} (key : X → ℕ) (n : ℕ) (c d : X → X) → ((r : X) → key (c r) ≡ key r) → (rows : List X) → with_change key n d (with_change key n c rows) ≡ with_change key n (λ r. d (c r)) rows
 change_twice key n c d k [] = refl
 change_twice key n c d k (r ∷ rows) =
     ap (λ x. x ∷ with_change key n d (with_change key n c rows)) (twice_at key n c d k r (key r == n) refl)
     ∙ ap (λ rs. (if key r == n then d (c r) else r) ∷ rs) (change_twice key n c d k rows)
 
 -- what is changed is found changed, and is gone where its row goes
-changed_found : (n : ℕ) (c : NodeRow → NodeRow) → ((r : NodeRow) → (c r).number ≡ r.number) → (nodes : List NodeRow) (row : NodeRow) → node_of nodes n ≡ Some row → node_of (with_change number n c nodes) n ≡ Some (c row)
+pub changed_found : (n : ℕ) (c : NodeRow → NodeRow) → ((r : NodeRow) → (c r).number ≡ r.number) → (nodes : List NodeRow) (row : NodeRow) → node_of nodes n ≡ Some row → node_of (with_change number n c nodes) n ≡ Some (c row)
 changed_found n c k nodes row found =
     row_of-change number n c k n nodes
     ∙ (ap (option_map (λ r. if number r == n then c r else r)) found
@@ -135,7 +135,7 @@ with_and_without key row (r ∷ rows) h =
     made_at key row r rows (with_row key row rows) (nat_lt (key row) (key r)) h (with_and_without key row rows (neither (key r == key row) _ h).1)
 
 -- another length
-length_keeps : (bytes : ℕ) → KeepsKind (of_length bytes)
+pub length_keeps : (bytes : ℕ) → KeepsKind (of_length bytes)
 length_keeps bytes = record { same_number = λ r. refl; same_parent = λ r. refl; same_folder = λ r. refl }
 
 own_sized : (r : NodeRow) (bytes : ℕ) → is_own r ≡ true → nat_le bytes (if r.folder then 0 else longest_file) ≡ true → is_own (of_length bytes r) ≡ true
@@ -161,7 +161,7 @@ own_stands v f n bytes row s found is =
     subst (λ ns. Stands (record v { nodes = ns }) f) (sym (sized_own v.nodes n bytes row s.volume.ascending found is)) s
 
 -- of a length on a length only the last one counts
-sized_twice : (nodes : List NodeRow) (n a b : ℕ) → with_change number n (of_length b) (with_change number n (of_length a) nodes) ≡ with_change number n (of_length b) nodes
+pub sized_twice : (nodes : List NodeRow) (n a b : ℕ) → with_change number n (of_length b) (with_change number n (of_length a) nodes) ≡ with_change number n (of_length b) nodes
 sized_twice nodes n a b = change_twice number n (of_length a) (of_length b) (λ r. refl) nodes
 
 -- the nodes after a resize with the old length are the nodes but for a moment
@@ -201,11 +201,11 @@ folder_length K nodes n row v found folder =
       | inr e ↦ none_left row.length row.folder folder (own_length row (v.own n row found e))
     ]
 
-empty_fits : (b : Bool) → nat_le 0 (cond b 0 longest_file) ≡ true
+pub empty_fits : (b : Bool) → nat_le 0 (cond b 0 longest_file) ≡ true
 empty_fits true = refl
 empty_fits false = refl
 
-length_fits : (bytes : ℕ) (b : Bool) → b ≡ false → bytes ≤ longest_file → nat_le bytes (cond b 0 longest_file) ≡ true
+pub length_fits : (bytes : ℕ) (b : Bool) → b ≡ false → bytes ≤ longest_file → nat_le bytes (cond b 0 longest_file) ≡ true
 length_fits bytes true e h = cc
 length_fits bytes false e h = le_test bytes longest_file h
   where
@@ -259,66 +259,3 @@ removed v n row f w found other s =
     gone (sized v n 0) n (of_length 0 row) f (subst (IsVolume v.size) (sym same) w) (changed_found n (of_length 0) (λ r. refl) v.nodes row found) other (empty_part v.size new f row) s in
     subst (λ (left : List ℕ). Follows f g (without_node v n) (without_number n left)) (kind_unvisited n (of_length 0) (length_keeps 0) v.nodes f)
     (subst (λ ns. Follows f g (record v { nodes = ns }) (without_number n (unvisited new f))) same at)
-
--- the bytes that a length adds in a folder
-abbrev pub share : Capacity → List NodeRow → Front → ℕ → ℕ → ℕ
-share K nodes f parent bytes = if is_counted nodes f parent then alloc K bytes else 0
-
-file_part : (K : Capacity) (nodes : List NodeRow) (n a b : ℕ) (f : Front) (row : NodeRow) → row.folder ≡ false → part K (with_change number n (of_length a) nodes) f (of_length b row) ≡ share K nodes f row.parent b
-file_part K nodes n a b f row file =
-    ap (λ c. cond c (cond row.folder 0 (alloc K b)) 0) (kind_is_counted n (of_length a) (length_keeps a) nodes f row.parent)
-    ∙ ap (λ c. cond (is_counted nodes f row.parent) (cond c 0 (alloc K b)) 0) file
-
--- of a file's length
-pub record IsFile (v : Volume) (n : ℕ) (row : NodeRow) (a : ℕ) (f : Front) : Type 0 where
-  pub found : node_of v.nodes n ≡ Some row
-  pub file : row.folder ≡ false
-  pub stands : Stands (sized v n a) f
-
-resized_volume : (v : Volume) (n : ℕ) (row : NodeRow) (a b : ℕ) (f : Front) → IsFile v n row a f → b ≤ longest_file → IsVolume v.size (with_change number n (of_length b) v.nodes)
-resized_volume v n row a b f t most =
-    let was = with_change number n (of_length a) v.nodes in
-    let found = changed_found n (of_length a) (λ r. refl) v.nodes row t.found in
-    subst (IsVolume v.size) (sized_twice v.nodes n a b)
-    (sized_volume v.size was n b (of_length a row) t.stands.volume found (file_inner v.size was n (of_length a row) t.stands.volume found t.file) (length_fits b row.folder t.file most))
-
-resized_counted : (v : Volume) (n : ℕ) (row : NodeRow) (a b : ℕ) (f : Front) → IsFile v n row a f → b ≤ longest_file → counted v.size (with_change number n (of_length b) v.nodes) (scanned f) (unvisited (with_change number n (of_length b) v.nodes) f) + share v.size v.nodes f row.parent a ≡ f.sum + share v.size v.nodes f row.parent b
-resized_counted v n row a b f t most =
-    let was = with_change number n (of_length a) v.nodes in
-    let now = with_change number n (of_length b) was in
-    let volume : IsVolume v.size now = subst (IsVolume v.size) (sym (sized_twice v.nodes n a b)) (resized_volume v n row a b f t most) in
-    let same : counted v.size now (scanned f) (unvisited now f) ≡ counted v.size (with_change number n (of_length b) v.nodes) (scanned f) (unvisited (with_change number n (of_length b) v.nodes) f) =
-    ap (λ ns. counted v.size ns (scanned f) (unvisited ns f)) (sized_twice v.nodes n a b) in
-    omega (
-      arith,
-      same,
-      t.stands.sum,
-      kind_counted v.size n (of_length b) (length_keeps b) was f (of_length a row) t.stands.volume volume (changed_found n (of_length a) (λ r. refl) v.nodes row t.found),
-      file_part v.size v.nodes n a a f row t.file,
-      file_part v.size v.nodes n a b f row t.file,
-    )
-
--- what the old length adds is in the sum, and the new sum has 64 bits
-pub share_within : (v : Volume) (n : ℕ) (row : NodeRow) (a : ℕ) (f : Front) → IsFile v n row a f → share v.size v.nodes f row.parent a ≤ f.sum
-share_within v n row a f t =
-    let was = with_change number n (of_length a) v.nodes in
-    omega (arith, t.stands.sum, part_within v.size was t.stands.volume f n (of_length a row) (changed_found n (of_length a) (λ r. refl) v.nodes row t.found), file_part v.size v.nodes n a a f row t.file)
-
-pub resized_small : (v : Volume) (n : ℕ) (row : NodeRow) (a b sum : ℕ) (f : Front) → IsFile v n row a f → b ≤ longest_file → IsCapacity v.size → sum + share v.size v.nodes f row.parent a ≡ f.sum + share v.size v.nodes f row.parent b → sum < 2 ^ 64
-resized_small v n row a b sum f t most legal e =
-    omega (arith, e, resized_counted v n row a b f t most, counted_small v.size (with_change number n (of_length b) v.nodes) (resized_volume v n row a b f t most) legal f)
-
--- a scan goes on over another length
-pub resizes : (v : Volume) (n : ℕ) (row : NodeRow) (a b sum : ℕ) (f : Front) → IsFile v n row a f → b ≤ longest_file → sum + share v.size v.nodes f row.parent a ≡ f.sum + share v.size v.nodes f row.parent b → Follows f (record f { sum = sum }) (sized v n b) (unvisited v.nodes f)
-resizes v n row a b sum f t most e =
-    let g : Front = record f { sum = sum } in
-    let tops = kind_tops n (of_length b) (length_keeps b) v.nodes f (kind_tops_back n (of_length a) (length_keeps a) v.nodes f (tops_of (sized v n a) f t.stands)) in
-    record {
-      stands = stands_by (sized v n b) g (resized_volume v n row a b f t most) t.stands.fits (other_sum sum tops) (omega (arith, e, resized_counted v n row a b f t most));
-      unvisited_are = kind_unvisited n (of_length b) (length_keeps b) v.nodes f;
-      folder = refl;
-      room = refl;
-    }
-  where
-    other_sum : {nodes : List NodeRow} {f : Front} (sum : ℕ) → AreTops nodes f → AreTops nodes (record f { sum = sum })
-    other_sum sum t = record { active = t.active; folder = t.folder; ascending = t.ascending; folders = t.folders; below = t.below; apart = t.apart }

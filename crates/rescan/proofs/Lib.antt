@@ -5,6 +5,7 @@ pub mod KindLaws
 pub mod LeafLaws
 mod MovedTops
 pub mod Numbered
+pub mod ResizeLaws
 pub mod SizeLaws
 mod StandingLaws
 pub mod Tops
