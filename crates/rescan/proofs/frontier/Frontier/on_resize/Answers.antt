@@ -1,9 +1,11 @@
 use Rattle.std.proofs.Common.{◌≡◌, ◌+◌, ◌-◌, ◌*◌, ◌≤◌, ◌<◌, ◌^◌, true, false, length, sym, ◌∙◌, ap, subst, refl, arith, rules}
+use denote.Enum.Bare.{same_true}
 use Rattle.fsrm_model.specs.Space.{alloc}
 use Rattle.fsrm_model.specs.Tree.{chain}
 use Rattle.fsrm_model.proofs.TestLaws.{clash}
 use Rattle.volume_tree.specs.Volume.{IsCapacity}
 use Rattle.rescan.specs.contracts.frontier.Frontier.{the_view}
+use Rattle.rescan.specs.contracts.standing.Standing.{the_type as standing_type}
 use Rattle.rescan.specs.declared.standing.Standing.TheVariants.{Visited}
 use Rattle.rescan.specs.Frontiers.{Front, Follows, sized, unvisited}
 use Rattle.rescan.specs.Standings.{standing}
@@ -24,7 +26,7 @@ pub overflow_sub-self : goal.overflow_sub-self
 overflow_sub-self g c =
     let v = c.args.tree.now in
     let r : IsResized v c.args.node c.args.old c.args.self.now c.node-parent.result = record { shows = c.node-parent.ensures.view; file = c.requires.file; stands = c.requires.stands } in
-    let is : c.standing.result ≡ Visited = search rules in
+    let is : c.standing.result ≡ Visited = same_true standing_type (search rules) _ _ (sym c.if-eq.ensures) in
     let stands : standing v.nodes c.args.self.now c.node-parent.result.parent ≡ Visited = sym c.standing.ensures.value ∙ is in
     let sum = ap (λ (f : Front). f.sum) c.self.view_is in
     omega (arith, sum, c.allocated.ensures.space v.size, visited_within v c.args.node c.args.old c.args.self.now c.node-parent.result r stands)
@@ -33,7 +35,7 @@ pub overflow_add-self : goal.overflow_add-self
 overflow_add-self g c =
     let v = c.args.tree.now in
     let r : IsResized v c.args.node c.args.old c.args.self.now c.node-parent.result = record { shows = c.node-parent.ensures.view; file = c.requires.file; stands = c.requires.stands } in
-    let is : c.standing.result ≡ Visited = search rules in
+    let is : c.standing.result ≡ Visited = same_true standing_type (search rules) _ _ (sym c.if-eq.ensures) in
     let stands : standing v.nodes c.args.self.now c.node-parent.result.parent ≡ Visited = sym c.standing.ensures.value ∙ is in
     let legal : IsCapacity v.size = subst IsCapacity c.capacity-size.ensures.size c.capacity-size.ensures.legal in
     let sum = ap (λ (f : Front). f.sum) c.self.view_is in
@@ -44,7 +46,7 @@ returns-then-eq-clause-follows g c =
     let v = c.args.tree.now in
     let f = c.args.self.now in
     let r : IsResized v c.args.node c.args.old f c.node-parent.result = record { shows = c.node-parent.ensures.view; file = c.requires.file; stands = c.requires.stands } in
-    let is : c.standing.result ≡ Visited = search rules in
+    let is : c.standing.result ≡ Visited = same_true standing_type (search rules) _ _ (sym c.if-eq.ensures) in
     let stands : standing v.nodes f c.node-parent.result.parent ≡ Visited = sym c.standing.ensures.value ∙ is in
     let sum : f.sum - alloc v.size c.args.old + alloc v.size c.args.new ≡ c.self.inside.sum - c.allocated.result + c.allocated-then-eq.result =
     ap (λ s. s - alloc v.size c.args.old + alloc v.size c.args.new) (ap (λ (f : Front). f.sum) (sym c.self.view_is))
