@@ -184,7 +184,7 @@ file_inner K nodes n row v found file =
 root_length : (r : NodeRow) → is_root_node r ≡ true → (r.length == 0) ≡ true
 root_length r h = (both (r.parent == 0) (r.length == 0) (both (r.folder && (length r.name == 0)) ((r.parent == 0) && (r.length == 0)) (both _ _ h).0).1).1
 
-own_length : (r : NodeRow) → is_own r ≡ true → nat_le r.length (if r.folder then 0 else longest_file) ≡ true
+pub own_length : (r : NodeRow) → is_own r ≡ true → nat_le r.length (if r.folder then 0 else longest_file) ≡ true
 own_length r h =
     (both (nat_le r.length (if r.folder then 0 else longest_file)) (is_moment r.created && (is_moment r.modified && is_moment r.accessed))
     (both (is_name r.name && nat_lt 0 r.owner) (nat_le r.length (if r.folder then 0 else longest_file) && (is_moment r.created && (is_moment r.modified && is_moment r.accessed))) h).1).0

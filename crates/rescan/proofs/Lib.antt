@@ -1,5 +1,6 @@
 pub mod ChangeLaws
 pub mod CountLaws
+pub mod FollowLaws
 pub mod FrontierLaws
 pub mod KindLaws
 pub mod LeafLaws
