@@ -1,1 +1,3 @@
 pub mod NumberLaws
+pub mod WordLaws
+pub mod LevelLaws

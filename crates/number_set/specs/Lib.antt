@@ -1,1 +1,4 @@
+pub mod Levels
 pub mod Numbers
+pub mod Smaller
+pub mod Words

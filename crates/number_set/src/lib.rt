@@ -2,5 +2,6 @@
 #![tactic(auto)]
 
 mod set;
+mod words;
 
 pub use set::NumberSet;

@@ -5,27 +5,48 @@ ghost use Rattle.std.specs.Prelude.{slice_get};
 ghost use Rattle.fsrm_model.specs.Numbers.{is_in, with_number, without_number};
 ghost use Rattle.number_set.specs.Numbers.{no_numbers};
 
+use crate::words::{WORD, clear_bit, empty_words, has_bit, least_in, set_bit};
 use fsrm_model::NoMemory;
 use std::alloc::Global;
 use std::marker::Model;
 
-#[derive(Drop)]
-enum Never {}
-
 /// A set of numbers below a bound, in memory that is reserved once. Contracts see the bound and the
 /// members, ascending.
+// Each member is a bit of the words. The level above is the set of the places of the words that have
+// a bit, so six levels at most, of a word each, lead to the least member.
+#[cycle(levels)]
 #[derive(Drop)]
 pub struct NumberSet {
-    never: Never,
+    bound: u32,
+    words: Vec<u64>,
+    above: Above,
+}
+
+#[cycle(levels)]
+#[derive(Drop)]
+enum Above {
+    // One word is all there is.
+    Nothing,
+    Level(Box<NumberSet>),
 }
 
 impl Model for NumberSet {
-    ghost use Rattle.std.specs.Prelude.{◌≡◌};
-    ghost use Rattle.number_set.specs.Numbers.{Numbers, no_numbers};
+    ghost use Rattle.number_set.specs.Numbers.{Numbers};
 
     ghost Value = { Numbers };
 
-    ghost view = { λ s. no_numbers 0 };
+    ghost use Rattle.number_set.specs.Levels.{IsLevel};
+    ghost use Rattle.number_set.specs.Words.{numbers_of};
+
+    ghost view = { λ s. record { bound = s.bound; members = numbers_of s.words.items } };
+
+    ghost invariant = { λ s. IsLevel s.bound s.words.items s.above };
+
+    ghost size = { λ v. v.bound };
+
+    ghost use Rattle.number_set.specs.Smaller.{depth_le_bound};
+
+    ghost size_decreases = { λ s h. depth_le_bound s.bound s.words.items s.above h };
 }
 
 impl NumberSet {
@@ -33,24 +54,36 @@ impl NumberSet {
     pub fn reserve(alloc: Global, bound: u32) -> Result<NumberSet, NoMemory>
         ensures { IfOk result (λ set. set ≡ no_numbers bound) }
     {
-        let _alloc = alloc;
-        let _bound = bound;
-        Err(NoMemory)
+        let count = bound / WORD + 1;
+        let words = empty_words(alloc, count)?;
+        if count == 1 {
+            return Ok(NumberSet {
+                bound,
+                words,
+                above: Above::Nothing,
+            });
+        }
+        let above = NumberSet::reserve(alloc, count)?;
+        let above = Above::Level(Box::new(alloc, above)?);
+        Ok(NumberSet {
+            bound,
+            words,
+            above,
+        })
     }
 
     /// The bound that all members are below.
     pub fn bound(&self) -> u32
         ensures { result ≡ self.now.bound }
     {
-        match self.never {}
+        self.bound
     }
 
     /// Whether a number is a member.
     pub fn contains(&self, number: u32) -> bool
         ensures { result ≡ is_in self.now.members number }
     {
-        let _number = number;
-        match self.never {}
+        has_bit(&self.words, number)
     }
 
     /// Puts a number into the set.
@@ -58,36 +91,59 @@ impl NumberSet {
         requires { number < self.old.bound }
         ensures { self.new ≡ record self.old { members = with_number number self.old.members } }
     {
-        let _number = number;
-        match self.never {}
+        let was_empty = set_bit(&mut self.words, number);
+        match &mut self.above {
+            Above::Nothing => {}
+            Above::Level(above) => {
+                if was_empty {
+                    above.insert(number / WORD);
+                }
+            }
+        }
     }
 
     /// Takes a number out of the set.
     pub fn remove(&mut self, number: u32)
         ensures { self.new ≡ record self.old { members = without_number number self.old.members } }
     {
-        let _number = number;
-        match self.never {}
+        if !self.contains(number) {
+            return;
+        }
+        let is_empty = clear_bit(&mut self.words, number);
+        match &mut self.above {
+            Above::Nothing => {}
+            Above::Level(above) => {
+                if is_empty {
+                    above.remove(number / WORD);
+                }
+            }
+        }
     }
 
     /// The least member.
     pub fn least(&self) -> Option<u32>
         ensures { result ≡ slice_get self.now.members 0 }
     {
-        match self.never {}
+        let place = match &self.above {
+            Above::Nothing => 0,
+            Above::Level(above) => above.least()?,
+        };
+        least_in(&self.words, place)
     }
 
     /// Whether there is no member.
     pub fn is_empty(&self) -> bool
         ensures { result ≡ (length self.now.members == 0) }
     {
-        match self.never {}
+        self.least().is_none()
     }
 
     /// Takes all members out. Its time is in proportion to how many there are.
     pub fn clear(&mut self)
         ensures { self.new ≡ no_numbers self.old.bound }
     {
-        match self.never {}
+        while let Some(number) = self.least() {
+            self.remove(number);
+        }
     }
 }
