@@ -1,5 +1,7 @@
 pub mod ChangeLaws
+pub mod ChildLaws
 pub mod CountLaws
+pub mod FitLaws
 pub mod FollowLaws
 pub mod FrontierLaws
 pub mod KindLaws

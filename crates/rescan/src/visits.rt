@@ -1,11 +1,17 @@
 //! Visits of a scan.
 
-ghost use Rattle.std.specs.Prelude.{◌≡◌, ◌+◌, ◌*◌, ◌≤◌, IfOk, length};
+ghost use Rattle.std.specs.Prelude.{◌≡◌, ◌+◌, ◌*◌, ◌≤◌, ◌<◌, IfOk, length, true, sum_by, ℕ};
+ghost use Rattle.fsrm_model.specs.Numbers.{is_in, is_set, with_numbers};
 ghost use Rattle.fsrm_model.specs.Scan.{next_visit, visit as visited};
+ghost use Rattle.fsrm_model.specs.Space.{space};
+ghost use Rattle.fsrm_model.specs.Tree.{children};
+ghost use Rattle.fsrm_model.specs.Valid.{IsVolume};
 ghost use Rattle.rescan.specs.Frontiers.{Stands, Follows, visit_looks, unvisited as unvisited_of};
+ghost use Rattle.rescan.specs.Visits.{folders_in};
 
 use crate::frontier::Frontier;
 use fsrm_model::{Ledger, List, NoMemory, Steps, allocated};
+use number_set::NumberSet;
 use std::alloc::Global;
 use volume_tree::Tree;
 
@@ -21,21 +27,8 @@ impl Frontier {
     {
         let folder = self.tops.least()?;
         self.tops.remove(folder);
-        for place in 0..tree.child_count(folder, steps) {
-            let child = tree.child_at(folder, place, steps);
-            self.enter(tree, child, steps);
-        }
+        self.sum += enter_children(tree, folder, &mut self.tops, steps);
         Some(folder)
-    }
-
-    // Takes up a child of a folder that is visited: a folder is to be visited, a file is counted.
-    fn enter<L: Ledger>(&mut self, tree: &Tree, child: u32, steps: &mut Steps<L>) {
-        let node = tree.node(child, steps);
-        if node.folder {
-            self.tops.insert(child);
-        } else {
-            self.sum += allocated(node.length);
-        }
     }
 
     /// The unvisited folders, ascending. It takes no more than 4 looks for each node.
@@ -49,9 +42,85 @@ impl Frontier {
         ensures ok { IfOk result (λ folders. folders ≡ unvisited_of tree.now.nodes self.now) }
         ensures looks { steps.new ≤ steps.old + 4 * length tree.now.nodes }
     {
-        let _tree = tree;
-        let _steps = steps;
-        let _alloc = alloc;
-        Err(NoMemory)
+        let found = self.find(alloc, tree, steps)?;
+        listed(alloc, found)
     }
+
+    // The unvisited folders, as a set: the topmost ones, with the folders in each that was found.
+    fn find<L: Ledger>(
+        &self,
+        alloc: Global,
+        tree: &Tree,
+        steps: &mut Steps<L>,
+    ) -> Result<NumberSet, NoMemory>
+        requires stands { Stands tree.now self.now }
+        ensures found { IfOk result (λ set. set.members ≡ unvisited_of tree.now.nodes self.now) }
+        ensures looks { steps.new ≤ steps.old + 4 * length tree.now.nodes }
+    {
+        let mut waiting = copied(alloc, &self.tops)?;
+        let mut found = NumberSet::reserve(alloc, self.tops.bound())?;
+        while let Some(next) = waiting.least() {
+            waiting.remove(next);
+            found.insert(next);
+            enter_children(tree, next, &mut waiting, steps);
+        }
+        Ok(found)
+    }
+}
+
+// Puts the folders among a folder's children into a set. It gives the bytes that the files among them take.
+fn enter_children<L: Ledger>(
+    tree: &Tree,
+    folder: u32,
+    set: &mut NumberSet,
+    steps: &mut Steps<L>,
+) -> u64
+    requires volume { IsVolume tree.now.size tree.now.nodes }
+    requires room { tree.now.size.nodes ≤ set.old.bound }
+    ensures set { set.new ≡ record set.old { members = with_numbers (folders_in tree.now.nodes folder) set.old.members } }
+    ensures bytes { result ≡ sum_by (space tree.now.size) (children tree.now.nodes folder) }
+    ensures looks { steps.new ≤ steps.old + (1 + 2 * length (children tree.now.nodes folder)) }
+{
+    // The files of a volume of this size take fewer than 2^64 bytes.
+    let _size = tree.capacity();
+    let mut bytes = 0u64;
+    for place in 0..tree.child_count(folder, steps) {
+        let child = tree.child_at(folder, place, steps);
+        let node = tree.node(child, steps);
+        if node.folder {
+            set.insert(child);
+        } else {
+            bytes += allocated(node.length);
+        }
+    }
+    bytes
+}
+
+// A copy of a set whose members are below its bound.
+fn copied(alloc: Global, set: &NumberSet) -> Result<NumberSet, NoMemory>
+    requires set { is_set set.now.members ≡ true }
+    requires below { (n : ℕ) → is_in set.now.members n ≡ true → n < set.now.bound }
+    ensures { IfOk result (λ copy. copy ≡ set.now) }
+{
+    let mut copy = NumberSet::reserve(alloc, set.bound())?;
+    for number in 0..set.bound() {
+        if set.contains(number) {
+            copy.insert(number);
+        }
+    }
+    Ok(copy)
+}
+
+// The members of a set, ascending.
+fn listed(alloc: Global, set: NumberSet) -> Result<List<u32>, NoMemory>
+    requires { is_set set.members ≡ true }
+    ensures { IfOk result (λ list. list ≡ set.members) }
+{
+    let mut set = set;
+    let mut list = List::new(alloc);
+    while let Some(least) = set.least() {
+        set.remove(least);
+        list.push(least)?;
+    }
+    Ok(list)
 }
