@@ -26,7 +26,6 @@ use Rattle.rescan.specs.Tops.{AreTops}
 use Rattle.rescan.proofs.CountLaws.{is_counted, part, each_row}
 use Rattle.rescan.proofs.KindLaws.{KeepsKind, kind_tops, kind_tops_back, kind_unvisited, kind_is_counted, kind_counted, kind_counted_same}
 use Rattle.rescan.proofs.LeafLaws.{IsLeaf, leaf_inner, tops_with, tops_without, counted_with, counted_without, unvisited_new, unvisited_gone}
-use Rattle.rescan.proofs.SizeLaws.{counted_small, part_within}
 use Rattle.rescan.proofs.Tops.{tops_of, stands_by}
 
 -- a change of a node that keeps number, parent, kind and length

@@ -9,6 +9,5 @@ pub mod LeafLaws
 mod MovedTops
 pub mod Numbered
 pub mod ResizeLaws
-pub mod SizeLaws
 mod StandingLaws
 pub mod Tops

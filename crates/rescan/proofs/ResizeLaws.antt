@@ -15,6 +15,7 @@ use Rattle.fsrm_model.proofs.ChainLaws.{IsTree}
 use Rattle.fsrm_model.proofs.Climbs.{climb}
 use Rattle.fsrm_model.proofs.Keeps.{found_folder, found_parent, tree_of}
 use Rattle.fsrm_model.proofs.Look.{found_has}
+use Rattle.fsrm_model.proofs.RemoveLaws.{sum_by-without_row}
 use Rattle.volume_tree.specs.declared.answer.NodeView.{NodeView}
 use Rattle.volume_tree.specs.Volume.{Volume, IsCapacity, Shows}
 use Rattle.rescan.specs.declared.standing.Standing.TheVariants.{Outside, Visited, Unvisited}
@@ -22,9 +23,9 @@ use Rattle.rescan.specs.Frontiers.{Front, Stands, Follows, scanned, has_above, u
 use Rattle.rescan.specs.Standings.{standing}
 use Rattle.rescan.specs.Tops.{AreTops}
 use Rattle.rescan.proofs.ChangeLaws.{length_keeps, sized_twice, sized_volume, changed_found, file_inner, length_fits}
-use Rattle.rescan.proofs.CountLaws.{is_counted, part}
+use Rattle.rescan.proofs.CountLaws.{is_counted, part, counted_is}
 use Rattle.rescan.proofs.KindLaws.{kind_tops, kind_tops_back, kind_tree_back, kind_folder, kind_unvisited, kind_is_counted, kind_counted}
-use Rattle.rescan.proofs.SizeLaws.{counted_small, part_within}
+use Rattle.rescan.proofs.FitLaws.{counted_small, total_small}
 use Rattle.rescan.proofs.Tops.{tops_of, stands_by}
 
 -- the bytes that a length adds in a folder
@@ -65,6 +66,10 @@ resized_counted v n row a b f t most =
       file_part v.size v.nodes n a b f row t.file,
     )
 
+part_within : (K : Capacity) (nodes : List NodeRow) → IsVolume K nodes → (f : Front) (n : ℕ) (row : NodeRow) → node_of nodes n ≡ Some row → part K nodes f row ≤ counted K nodes (scanned f) (unvisited nodes f)
+part_within K nodes v f n row found =
+    omega (arith, counted_is K nodes v f, sum_by-without_row number (part K nodes f) n row nodes v.ascending found)
+
 -- what the old length adds is in the sum, and the new sum has 64 bits
 share_within : (v : Volume) (n : ℕ) (row : NodeRow) (a : ℕ) (f : Front) → IsFile v n row a f → share v.size v.nodes f row.parent a ≤ f.sum
 share_within v n row a f t =
@@ -73,7 +78,9 @@ share_within v n row a f t =
 
 resized_small : (v : Volume) (n : ℕ) (row : NodeRow) (a b sum : ℕ) (f : Front) → IsFile v n row a f → b ≤ longest_file → IsCapacity v.size → sum + share v.size v.nodes f row.parent a ≡ f.sum + share v.size v.nodes f row.parent b → sum < 2 ^ 64
 resized_small v n row a b sum f t most legal e =
-    omega (arith, e, resized_counted v n row a b f t most, counted_small v.size (with_change number n (of_length b) v.nodes) (resized_volume v n row a b f t most) legal f)
+    let new = with_change number n (of_length b) v.nodes in
+    let volume = resized_volume v n row a b f t most in
+    omega (arith, e, resized_counted v n row a b f t most, counted_small v.size new f volume, total_small v.size new volume legal)
 
 -- a scan goes on over another length
 resizes : (v : Volume) (n : ℕ) (row : NodeRow) (a b sum : ℕ) (f : Front) → IsFile v n row a f → b ≤ longest_file → sum + share v.size v.nodes f row.parent a ≡ f.sum + share v.size v.nodes f row.parent b → Follows f (record f { sum = sum }) (sized v n b) (unvisited v.nodes f)
