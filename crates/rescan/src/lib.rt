@@ -5,7 +5,6 @@ mod changes;
 mod frontier;
 mod moves;
 mod standing;
-#[cfg(test)]
 mod tests_of_changes;
 mod visits;
 
