@@ -48,40 +48,40 @@ create-requires-clause-folder g c = root_folder c.args.tree.now.size c.args.tree
 
 pub on_create-requires-clause-there : goal.on_create-requires-clause-there
 on_create-requires-clause-there g c =
-    let m = made c.args.tree.now c.create.new.self c.in_ok-node.field-0 0 c.args.length 1 0 c.args.name.now c.requires.stands.volume c.in_ok-node.ensures.number c.in_ok-node.ensures.made in
-    there c.args.tree.now c.create.new.self c.in_ok-node.field-0 c.args.length m
+    let m = made c.args.tree.now c.create.new.self c.in_ok-node.node 0 c.args.length 1 0 c.args.name.now c.requires.stands.volume c.in_ok-node.ensures.number c.in_ok-node.ensures.made in
+    there c.args.tree.now c.create.new.self c.in_ok-node.node c.args.length m
 
 pub on_create-requires-clause-stands : goal.on_create-requires-clause-stands
 on_create-requires-clause-stands g c =
-    let m = made c.args.tree.now c.create.new.self c.in_ok-node.field-0 0 c.args.length 1 0 c.args.name.now c.requires.stands.volume c.in_ok-node.ensures.number c.in_ok-node.ensures.made in
-    stood c.args.tree.now c.create.new.self c.in_ok-node.field-0 c.args.length c.args.frontier.now m c.requires.stands
+    let m = made c.args.tree.now c.create.new.self c.in_ok-node.node 0 c.args.length 1 0 c.args.name.now c.requires.stands.volume c.in_ok-node.ensures.number c.in_ok-node.ensures.made in
+    stood c.args.tree.now c.create.new.self c.in_ok-node.node c.args.length c.args.frontier.now m c.requires.stands
 
 pub on_resize-requires-clause-there : goal.on_resize-requires-clause-there
 on_resize-requires-clause-there g c =
-    let m = made c.args.tree.now c.create.new.self c.in_ok-node.field-0 0 c.args.length 1 0 c.args.name.now c.requires.stands.volume c.in_ok-node.ensures.number c.in_ok-node.ensures.made in
-    there c.args.tree.now c.create.new.self c.in_ok-node.field-0 c.args.length m
+    let m = made c.args.tree.now c.create.new.self c.in_ok-node.node 0 c.args.length 1 0 c.args.name.now c.requires.stands.volume c.in_ok-node.ensures.number c.in_ok-node.ensures.made in
+    there c.args.tree.now c.create.new.self c.in_ok-node.node c.args.length m
 
 pub on_resize-requires-clause-file : goal.on_resize-requires-clause-file
 on_resize-requires-clause-file g c =
-    let m = made c.args.tree.now c.create.new.self c.in_ok-node.field-0 0 c.args.length 1 0 c.args.name.now c.requires.stands.volume c.in_ok-node.ensures.number c.in_ok-node.ensures.made in
-    is_file c.args.tree.now c.create.new.self c.in_ok-node.field-0 c.args.length m
+    let m = made c.args.tree.now c.create.new.self c.in_ok-node.node 0 c.args.length 1 0 c.args.name.now c.requires.stands.volume c.in_ok-node.ensures.number c.in_ok-node.ensures.made in
+    is_file c.args.tree.now c.create.new.self c.in_ok-node.node c.args.length m
 
 pub on_resize-requires-clause-stands : goal.on_resize-requires-clause-stands
 on_resize-requires-clause-stands g c =
-    let m = made c.args.tree.now c.create.new.self c.in_ok-node.field-0 0 c.args.length 1 0 c.args.name.now c.requires.stands.volume c.in_ok-node.ensures.number c.in_ok-node.ensures.made in
-    (c.on_create.ensures.follows m.row (found c.args.tree.now c.create.new.self c.in_ok-node.field-0 c.args.length m)).stands
+    let m = made c.args.tree.now c.create.new.self c.in_ok-node.node 0 c.args.length 1 0 c.args.name.now c.requires.stands.volume c.in_ok-node.ensures.number c.in_ok-node.ensures.made in
+    (c.on_create.ensures.follows m.row (found c.args.tree.now c.create.new.self c.in_ok-node.node c.args.length m)).stands
 
 pub returns-clause-stands : goal.returns-clause-stands
 returns-clause-stands g c =
-    let m = made c.args.tree.now c.create.new.self c.in_ok-node.field-0 0 c.args.length 1 0 c.args.name.now c.requires.stands.volume c.in_ok-node.ensures.number c.in_ok-node.ensures.made in
-    filled c.args.tree.now c.create.new.self c.in_ok-node.field-0 c.args.length c.on_resize.new.self m c.create.ensures.kept c.on_resize.ensures.follows.stands
+    let m = made c.args.tree.now c.create.new.self c.in_ok-node.node 0 c.args.length 1 0 c.args.name.now c.requires.stands.volume c.in_ok-node.ensures.number c.in_ok-node.ensures.made in
+    filled c.args.tree.now c.create.new.self c.in_ok-node.node c.args.length c.on_resize.new.self m c.create.ensures.kept c.on_resize.ensures.follows.stands
 
 pub returns-clause-there : goal.returns-clause-there
 returns-clause-there g c =
-    let m = made c.args.tree.now c.create.new.self c.in_ok-node.field-0 0 c.args.length 1 0 c.args.name.now c.requires.stands.volume c.in_ok-node.ensures.number c.in_ok-node.ensures.made in
-    there c.args.tree.now c.create.new.self c.in_ok-node.field-0 c.args.length m
+    let m = made c.args.tree.now c.create.new.self c.in_ok-node.node 0 c.args.length 1 0 c.args.name.now c.requires.stands.volume c.in_ok-node.ensures.number c.in_ok-node.ensures.made in
+    there c.args.tree.now c.create.new.self c.in_ok-node.node c.args.length m
 
 pub returns-clause-file : goal.returns-clause-file
 returns-clause-file g c =
-    let m = made c.args.tree.now c.create.new.self c.in_ok-node.field-0 0 c.args.length 1 0 c.args.name.now c.requires.stands.volume c.in_ok-node.ensures.number c.in_ok-node.ensures.made in
-    is_file c.args.tree.now c.create.new.self c.in_ok-node.field-0 c.args.length m
+    let m = made c.args.tree.now c.create.new.self c.in_ok-node.node 0 c.args.length 1 0 c.args.name.now c.requires.stands.volume c.in_ok-node.ensures.number c.in_ok-node.ensures.made in
+    is_file c.args.tree.now c.create.new.self c.in_ok-node.node c.args.length m
