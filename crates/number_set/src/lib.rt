@@ -2,6 +2,8 @@
 #![tactic(auto)]
 
 mod set;
+#[cfg(test)]
+mod tests;
 mod words;
 
 pub use set::NumberSet;

@@ -9,5 +9,7 @@ pub mod LeafLaws
 mod MovedTops
 pub mod Numbered
 pub mod ResizeLaws
+pub mod SetLaws
 mod StandingLaws
 pub mod Tops
+pub mod VisitLaws

@@ -196,7 +196,8 @@ top_by K nodes v f (suc n) m h g =
           (is_false (is_in (unvisited nodes f) up) (not_root n (not (is_in (unvisited nodes f) up)) m)))
     ]
 
-same_true : (a b : Bool) → (a ≡ true → b ≡ true) → (b ≡ true → a ≡ true) → a ≡ b
+-- two tests that pass alike
+pub same_true : (a b : Bool) → (a ≡ true → b ≡ true) → (b ≡ true → a ≡ true) → a ≡ b
 same_true true b f g = sym (f refl)
 same_true false true f g = g refl
 same_true false false f g = refl

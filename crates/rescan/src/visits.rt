@@ -1,6 +1,6 @@
 //! Visits of a scan.
 
-ghost use Rattle.std.specs.Prelude.{◌≡◌, ◌+◌, ◌*◌, ◌≤◌, ◌<◌, IfOk, length, true, sum_by, ℕ};
+ghost use Rattle.std.specs.Prelude.{◌≡◌, ◌+◌, ◌*◌, ◌^◌, ◌≤◌, ◌<◌, IfOk, length, true, sum_by, ℕ};
 ghost use Rattle.fsrm_model.specs.Numbers.{is_in, is_set, with_numbers};
 ghost use Rattle.fsrm_model.specs.Scan.{next_visit, visit as visited};
 ghost use Rattle.fsrm_model.specs.Space.{space};
@@ -42,8 +42,8 @@ impl Frontier {
         ensures ok { IfOk result (λ folders. folders ≡ unvisited_of tree.now.nodes self.now) }
         ensures looks { steps.new ≤ steps.old + 4 * length tree.now.nodes }
     {
-        let found = self.find(alloc, tree, steps)?;
-        listed(alloc, found)
+        let mut found = self.find(alloc, tree, steps)?;
+        drained(alloc, &mut found)
     }
 
     // The unvisited folders, as a set: the topmost ones, with the folders in each that was found.
@@ -79,6 +79,7 @@ fn enter_children<L: Ledger>(
     requires room { tree.now.size.nodes ≤ set.old.bound }
     ensures set { set.new ≡ record set.old { members = with_numbers (folders_in tree.now.nodes folder) set.old.members } }
     ensures bytes { result ≡ sum_by (space tree.now.size) (children tree.now.nodes folder) }
+    ensures small { sum_by (space tree.now.size) tree.now.nodes < 2 ^ 64 }
     ensures looks { steps.new ≤ steps.old + (1 + 2 * length (children tree.now.nodes folder)) }
 {
     // The files of a volume of this size take fewer than 2^64 bytes.
@@ -111,12 +112,11 @@ fn copied(alloc: Global, set: &NumberSet) -> Result<NumberSet, NoMemory>
     Ok(copy)
 }
 
-// The members of a set, ascending.
-fn listed(alloc: Global, set: NumberSet) -> Result<List<u32>, NoMemory>
-    requires { is_set set.members ≡ true }
-    ensures { IfOk result (λ list. list ≡ set.members) }
+// Takes all members out of a set, and gives them, ascending.
+fn drained(alloc: Global, set: &mut NumberSet) -> Result<List<u32>, NoMemory>
+    requires { is_set set.old.members ≡ true }
+    ensures { IfOk result (λ list. list ≡ set.old.members) }
 {
-    let mut set = set;
     let mut list = List::new(alloc);
     while let Some(least) = set.least() {
         set.remove(least);

@@ -52,3 +52,7 @@ returns-clause-set g c =
 pub returns-clause-bytes : goal.returns-clause-bytes
 returns-clause-bytes g c =
     (all_taken c.args.tree.now.size c.args.tree.now.nodes c.args.folder c.loop-place.place c.args.set.now c.loop-place.set c.loop-place.bytes (omega (arith, c.child_count-place-end.ensures.value)) c.loop-place.invariant.taken).1
+
+pub returns-clause-small : goal.returns-clause-small
+returns-clause-small g c =
+    total_small c.args.tree.now.size c.args.tree.now.nodes c.requires.volume (subst IsCapacity c.capacity-size.ensures.size c.capacity-size.ensures.legal)

@@ -1,0 +1,92 @@
+-- Sets that are copied and listed number by number.
+use Rattle.std.proofs.Common.{◌≡◌, ℕ, suc, ◌+◌, ◌<◌, ◌≤◌, ◌==◌, Bool, true, false, cond, not, ◌||◌, ◌&&◌, inl, inr, List, [], ◌∷◌, ◌++◌, length, Some, None, refl, sym, ◌∙◌, ap, subst, arith, append_assoc, nat_lt}
+use Rattle.std.proofs.lemmas.Bool.Decides.{nat_tests}
+use Rattle.std.proofs.lemmas.Option.{same_Some}
+use Rattle.std.specs.Prelude.{slice_get}
+use Rattle.fsrm_model.specs.Numbers.{is_in, is_set, with_number, without_number}
+use Rattle.fsrm_model.proofs.TestLaws.{is_or_not, clash, not_true, neither, eq_is, eq_same, lt_test}
+use Rattle.number_set.specs.Numbers.{Numbers}
+use Rattle.number_set.proofs.NumberLaws.{in_with, in_without, set_with, set_without, same_set, first_once}
+
+-- the least member is taken out
+without_absent : (n : ℕ) (ns : List ℕ) → is_in ns n ≡ false → without_number n ns ≡ ns
+without_absent n [] h = refl
+without_absent n (k ∷ ns) h =
+    let p = neither (k == n) (is_in ns n) h in
+    ap (λ b. cond (not b) (k ∷ without_number n ns) (without_number n ns)) p.0 ∙ ap (λ ks. k ∷ ks) (without_absent n ns p.1)
+
+pub first_taken : (n : ℕ) (ns : List ℕ) → is_set ns ≡ true → slice_get ns 0 ≡ Some n → ns ≡ n ∷ without_number n ns
+first_taken n [] h e = cc
+first_taken n (k ∷ ns) h e =
+    let same : k ≡ n = same_Some k n e in
+    let lacks : is_in ns n ≡ false = subst (λ j. is_in ns j ≡ false) same (first_once k ns h) in
+    ap (λ j. j ∷ ns) same
+    ∙ ap (λ ks. n ∷ ks) (sym (without_absent n ns lacks) ∙ ap (λ b. cond (not b) (k ∷ without_number n ns) (without_number n ns)) (sym (ap (λ j. j == n) same ∙ eq_same n)))
+
+pub listed_more : (list whole ns rest : List ℕ) (n : ℕ) → is_set ns ≡ true → slice_get ns 0 ≡ Some n → rest ≡ without_number n ns → list ++ ns ≡ whole → (list ++ n ∷ []) ++ rest ≡ whole
+listed_more list whole ns rest n h e left so_far =
+    append_assoc list (n ∷ []) rest ∙ (ap (λ ks. list ++ n ∷ ks) left ∙ (ap (λ ks. list ++ ks) (sym (first_taken n ns h e)) ∙ so_far))
+
+pub none_first : (ns : List ℕ) → slice_get ns 0 ≡ None → ns ≡ []
+none_first [] h = refl
+none_first (n ∷ ns) h = cc
+
+-- the members below a number, copied
+pub record Copies (whole : Numbers) (below : ℕ) (copy : Numbers) : Type 0 where
+  pub bound : copy.bound ≡ whole.bound
+  pub set : is_set copy.members ≡ true
+  pub members : (n : ℕ) → is_in copy.members n ≡ (nat_lt n below && is_in whole.members n)
+
+pub none_copied : (whole copy : Numbers) → copy ≡ record { bound = whole.bound; members = [] } → Copies whole 0 copy
+none_copied whole copy e =
+    subst (Copies whole 0) (sym e) (record { bound = refl; set = refl; members = λ n. ap (λ b. b && is_in whole.members n) (sym (low n)) })
+  where
+    low : (n : ℕ) → nat_lt n 0 ≡ false
+    low n = grind (arith, nat_tests)
+
+below_more : (n k : ℕ) → nat_lt n (k + 1) ≡ ((k == n) || nat_lt n k)
+below_more n k = grind (arith, nat_tests)
+
+pub copied_in : (whole : Numbers) (k : ℕ) (copy new : Numbers) → Copies whole k copy → is_in whole.members k ≡ true → new ≡ record copy { members = with_number k copy.members } → Copies whole (k + 1) new
+copied_in whole k copy new c h e =
+    subst (Copies whole (k + 1)) (sym e)
+    (record {
+      bound = c.bound;
+      set = set_with k copy.members c.set;
+      members = λ n. in_with k n copy.members ∙ (ap (λ b. (k == n) || b) (c.members n) ∙ (at n (k == n) refl ∙ ap (λ b. b && is_in whole.members n) (sym (below_more n k))));
+    })
+  where
+    at : (n : ℕ) (b : Bool) → (k == n) ≡ b → (b || (nat_lt n k && is_in whole.members n)) ≡ ((b || nat_lt n k) && is_in whole.members n)
+    at n true e = sym (subst (λ j. is_in whole.members j ≡ true) (eq_is k n e) h)
+    at n false e = refl
+
+pub copied_out : (whole : Numbers) (k : ℕ) (copy : Numbers) → Copies whole k copy → is_in whole.members k ≡ false → Copies whole (k + 1) copy
+copied_out whole k copy c h =
+    record {
+      bound = c.bound;
+      set = c.set;
+      members = λ n. c.members n ∙ (at n (k == n) refl ∙ ap (λ b. b && is_in whole.members n) (sym (below_more n k)));
+    }
+  where
+    never : (b : Bool) → (b && false) ≡ false
+    never true = refl
+    never false = refl
+
+    at : (n : ℕ) (b : Bool) → (k == n) ≡ b → (nat_lt n k && is_in whole.members n) ≡ (((k == n) || nat_lt n k) && is_in whole.members n)
+    at n true e =
+        let lacks : is_in whole.members n ≡ false = subst (λ j. is_in whole.members j ≡ false) (eq_is k n e) h in
+        ap (λ b. nat_lt n k && b) lacks ∙ (never (nat_lt n k) ∙ sym (ap (λ b. ((k == n) || nat_lt n k) && b) lacks ∙ never ((k == n) || nat_lt n k)))
+    at n false e = sym (ap (λ b. (b || nat_lt n k) && is_in whole.members n) e)
+
+pub all_copied : (whole : Numbers) (count : ℕ) (copy : Numbers) → whole.bound ≤ count → is_set whole.members ≡ true → ((n : ℕ) → is_in whole.members n ≡ true → n < whole.bound) → Copies whole count copy → copy ≡ whole
+all_copied whole count copy most h below c =
+    let same = same_set copy.members whole.members c.set h (λ n. c.members n ∙ at n (is_in whole.members n) refl) in
+    ap (λ b. record copy { bound = b }) c.bound ∙ ap (λ ms. record whole { members = ms }) same
+  where
+    at : (n : ℕ) (b : Bool) → is_in whole.members n ≡ b → (nat_lt n count && is_in whole.members n) ≡ is_in whole.members n
+    at n true e = let low = below n e in ap (λ b. b && is_in whole.members n) (lt_test n count (omega arith))
+    at n false e = ap (λ b. nat_lt n count && b) e ∙ (never (nat_lt n count) ∙ sym e)
+      where
+        never : (b : Bool) → (b && false) ≡ false
+        never true = refl
+        never false = refl
