@@ -5,6 +5,7 @@ mod changes;
 mod frontier;
 mod moves;
 mod standing;
+#[cfg(test)]
 mod tests_of_changes;
 mod visits;
 
