@@ -74,7 +74,11 @@ fn remove<L: Ledger>(
     tree.remove(node, steps)
 }
 
-fn files_are_followed<N: Named>(rt: &HostRuntime, end: &impl Abort, blank: Blank) -> Result<(), Fail>
+fn files_are_followed<N: Named>(
+    rt: &HostRuntime,
+    end: &impl Abort,
+    blank: Blank,
+) -> Result<(), Fail>
     requires name { blank.name ≡ N.name }
     requires parts { blank.parts ≡ N.parts }
     requires one { blank.parts ≡ 1 }
