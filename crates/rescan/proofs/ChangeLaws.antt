@@ -1,8 +1,8 @@
 -- A scan goes on over changes of the tree: nodes that come and go, and other lengths and moments.
-use Rattle.std.proofs.Common.{◌≡◌, ℕ, ◌+◌, ◌-◌, ◌^◌, ◌<◌, ◌≤◌, ◌==◌, Bool, true, false, cond, not, ◌&&◌, ◌||◌, inl, inr, List, [], ◌∷◌, length, refl, sym, ◌∙◌, ap, subst, arith, Some, nat_lt}
+use Rattle.std.proofs.Common.{◌≡◌, ℕ, ◌≤◌, ◌==◌, Bool, true, false, cond, not, ◌&&◌, ◌||◌, inl, inr, List, [], ◌∷◌, length, refl, sym, ◌∙◌, ap, subst, arith, Some, nat_lt}
 use Rattle.std.proofs.lemmas.Bool.Decides.{nat_tests}
 use Rattle.std.proofs.lemmas.Option.{same_Some}
-use Rattle.std.specs.Prelude.{filter, map, nat_le, option_map, if◌then◌else◌}
+use Rattle.std.specs.Prelude.{map, nat_le, option_map, if◌then◌else◌}
 use Rattle.std.specs.List.{AllByRecursion}
 use Rattle.fsrm_model.specs.declared.row.Capacity.{Capacity}
 use Rattle.fsrm_model.specs.declared.row.NodeRow.{NodeRow}
@@ -12,19 +12,16 @@ use Rattle.fsrm_model.specs.Limits.{longest_file}
 use Rattle.fsrm_model.specs.Name.{is_name}
 use Rattle.fsrm_model.specs.Numbers.{without_number}
 use Rattle.fsrm_model.specs.Scan.{counted, unvisited_with}
-use Rattle.fsrm_model.specs.Space.{alloc, space}
+use Rattle.fsrm_model.specs.Space.{alloc}
 use Rattle.fsrm_model.specs.Tree.{number, node_of}
 use Rattle.fsrm_model.specs.Valid.{IsVolume, is_moment, is_own, is_root_node}
 use Rattle.fsrm_model.proofs.TestLaws.{is_or_not, both, both_true, clash, eq_is, eq_same, neither, not_true}
-use Rattle.fsrm_model.proofs.ChainLaws.{find-with_row_same}
-use Rattle.fsrm_model.proofs.ChangeLaws.{absent_later}
 use Rattle.fsrm_model.proofs.Keeps.{volume-change}
 use Rattle.fsrm_model.proofs.Look.{found_key, row_of-change}
-use Rattle.volume_tree.specs.Volume.{Volume, IsCapacity, with_node, with_length, with_touch, without_node}
+use Rattle.volume_tree.specs.Volume.{Volume, with_touch, without_node}
 use Rattle.rescan.specs.Frontiers.{Front, Stands, Follows, scanned, unvisited, of_length, sized}
-use Rattle.rescan.specs.Tops.{AreTops}
 use Rattle.rescan.proofs.CountLaws.{is_counted, part, each_row}
-use Rattle.rescan.proofs.KindLaws.{KeepsKind, kind_tops, kind_tops_back, kind_unvisited, kind_is_counted, kind_counted, kind_counted_same}
+use Rattle.rescan.proofs.KindLaws.{KeepsKind, kind_tops, kind_unvisited, kind_counted, kind_counted_same}
 use Rattle.rescan.proofs.LeafLaws.{IsLeaf, leaf_inner, tops_with, tops_without, counted_with, counted_without, unvisited_new, unvisited_gone}
 use Rattle.rescan.proofs.Tops.{tops_of, stands_by}
 

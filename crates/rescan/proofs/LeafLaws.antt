@@ -1,11 +1,10 @@
 -- A node without children comes or goes: of the other nodes' ways up nothing changes.
-use Rattle.std.proofs.Common.{◌≡◌, ℕ, zero, suc, ◌+◌, ◌==◌, Bool, true, false, cond, not, ◌||◌, ◌&&◌, inl, inr, List, [], ◌∷◌, length, refl, sym, ◌∙◌, ap, subst, arith, Some}
-use Rattle.std.specs.Prelude.{sum_by, if◌then◌else◌}
+use Rattle.std.proofs.Common.{◌≡◌, ℕ, suc, ◌+◌, ◌==◌, Bool, true, false, cond, not, ◌||◌, ◌&&◌, inl, inr, List, [], ◌∷◌, length, refl, sym, ◌∙◌, ap, subst, arith, Some}
 use Rattle.std.specs.Option.{option_map_or}
 use Rattle.std.specs.List.{AllByRecursion, list_any}
 use Rattle.fsrm_model.specs.declared.row.Capacity.{Capacity}
 use Rattle.fsrm_model.specs.declared.row.NodeRow.{NodeRow}
-use Rattle.fsrm_model.specs.Keyed.{has_row, without_row}
+use Rattle.fsrm_model.specs.Keyed.{without_row}
 use Rattle.fsrm_model.specs.Numbers.{is_in, is_set, with_number, without_number}
 use Rattle.fsrm_model.specs.Scan.{counted, unvisited_with}
 use Rattle.fsrm_model.specs.Space.{space}
@@ -16,7 +15,7 @@ use Rattle.fsrm_model.proofs.ValidLaws.{folder_has}
 use Rattle.fsrm_model.proofs.ChainLaws.{Has, chain_lacks, sum_by_same}
 use Rattle.fsrm_model.proofs.Climbs.{climb, under_own}
 use Rattle.fsrm_model.proofs.Keeps.{MayGo, removes_of, tree_of, zero_apart, found_parent, found_folder, as_suc}
-use Rattle.fsrm_model.proofs.Look.{found_has, found_key, row_of-without, has_row-without, has_row-without_other}
+use Rattle.fsrm_model.proofs.Look.{found_has, found_key, row_of-without, has_row-without}
 use Rattle.fsrm_model.proofs.Members.{none_passes}
 use Rattle.fsrm_model.proofs.RemoveLaws.{removed_chain, sum_by-without_row}
 use Rattle.fsrm_model.proofs.UsageLaws.{parent_lacks}

@@ -1,7 +1,6 @@
-use Rattle.std.proofs.Common.{◌≡◌, ◌+◌, ◌-◌, ◌*◌, ◌≤◌, ◌<◌, ◌^◌, true, false, length, sym, ◌∙◌, ap, subst, refl, arith, rules}
+use Rattle.std.proofs.Common.{◌≡◌, ◌+◌, ◌-◌, sym, ◌∙◌, ap, subst, arith, rules}
 use denote.Enum.Bare.{same_true}
 use Rattle.fsrm_model.specs.Space.{alloc}
-use Rattle.fsrm_model.specs.Tree.{chain}
 use Rattle.fsrm_model.proofs.TestLaws.{clash}
 use Rattle.volume_tree.specs.Volume.{IsCapacity}
 use Rattle.rescan.specs.contracts.frontier.Frontier.{the_view}
