@@ -1,9 +1,8 @@
 -- A scan goes on over whole operations: what the tree does and what the frontier is told, together.
-use Rattle.std.proofs.Common.{◌≡◌, ℕ, ◌≤◌, true, false, List, sym, ◌∙◌, ap, subst, refl, Some, ◌==◌}
+use Rattle.std.proofs.Common.{◌≡◌, ℕ, true, false, List, sym, ◌∙◌, ap, subst, refl, Some, ◌==◌}
 use Rattle.fsrm_model.specs.declared.row.NodeRow.{NodeRow}
 use Rattle.fsrm_model.specs.FileOps.{resized}
-use Rattle.fsrm_model.specs.Keyed.{has_row, with_row, with_change, without_row}
-use Rattle.fsrm_model.specs.Limits.{longest_file}
+use Rattle.fsrm_model.specs.Keyed.{has_row, with_change}
 use Rattle.fsrm_model.specs.Numbers.{without_number}
 use Rattle.fsrm_model.specs.Scan.{unvisited_with}
 use Rattle.fsrm_model.specs.Tree.{number, node_of}
