@@ -1,17 +1,19 @@
 -- A change of one node that keeps its place and its kind: of the way up, and of what is unvisited, nothing changes.
-use Rattle.std.proofs.Common.{◌≡◌, ℕ, ◌+◌, ◌==◌, Bool, true, false, cond, not, ◌&&◌, List, [], ◌∷◌, refl, sym, ◌∙◌, ap, subst, arith, Some}
+use Rattle.std.proofs.Common.{◌≡◌, ℕ, ◌+◌, ◌==◌, Bool, true, false, cond, not, ◌&&◌, List, [], ◌∷◌, refl, sym, ◌∙◌, ap, arith, Some}
 use Rattle.std.specs.Prelude.{map, filter, sum_by, if◌then◌else◌}
 use Rattle.std.specs.List.{list_any}
 use Rattle.fsrm_model.specs.declared.row.Capacity.{Capacity}
 use Rattle.fsrm_model.specs.declared.row.NodeRow.{NodeRow}
-use Rattle.fsrm_model.specs.Keyed.{with_change}
+use Rattle.fsrm_model.specs.Keyed.{has_row, with_change}
 use Rattle.fsrm_model.specs.Numbers.{is_in}
 use Rattle.fsrm_model.specs.Scan.{counted}
 use Rattle.fsrm_model.specs.Space.{alloc, space}
-use Rattle.fsrm_model.specs.Tree.{number, node_of, is_folder, is_under}
+use Rattle.fsrm_model.specs.Tree.{number, node_of, parent_of, is_folder, is_under}
 use Rattle.fsrm_model.specs.Valid.{IsVolume}
-use Rattle.fsrm_model.proofs.ChangeLaws.{KeepsPlace, chain-change, sum_by-with_change}
+use Rattle.fsrm_model.proofs.ChangeLaws.{KeepsPlace, parent_of-change, chain-change, sum_by-with_change}
+use Rattle.fsrm_model.proofs.ChainLaws.{IsTree}
 use Rattle.fsrm_model.proofs.Keeps.{folder-change}
+use Rattle.fsrm_model.proofs.Look.{has_row-change}
 use Rattle.fsrm_model.proofs.Sums.{sum_by-map, sum_by_each}
 use Rattle.rescan.specs.Frontiers.{Front, scanned, has_above, unvisited}
 use Rattle.rescan.specs.Tops.{AreTops}
@@ -112,3 +114,14 @@ kind_counted_same K n c k l nodes f v w =
     ∙ (sum_by-map (part K nodes f) g nodes
     ∙ (sum_by_each (λ r. part K nodes f (g r)) (part K nodes f) (λ r. either_way (part K nodes f) c own (number r == n) r) nodes
     ∙ sym (counted_is K nodes v f))))
+
+-- the nodes before the change are a tree where those after it are one
+pub kind_tree_back : (n : ℕ) (c : NodeRow → NodeRow) → KeepsKind c → (nodes : List NodeRow) → IsTree (with_change number n c nodes) → IsTree nodes
+kind_tree_back n c k nodes t =
+    let new = with_change number n c nodes in
+    let same : (m : ℕ) → has_row number m new ≡ has_row number m nodes = λ m. has_row-change number n c k.same_number m nodes in
+    record {
+      root = sym (same 0) ∙ t.root;
+      closed = λ m h. sym (same (parent_of nodes m)) ∙ (ap (λ j. has_row number j new) (sym (parent_of-change n c (place_of c k) nodes m)) ∙ t.closed m (same m ∙ h));
+      rooted = λ m h. ap (λ ns. is_in ns 0) (sym (chain-change n c (place_of c k) nodes m)) ∙ t.rooted m (same m ∙ h);
+    }

@@ -7,6 +7,8 @@ mod moves;
 mod standing;
 #[cfg(test)]
 mod tests;
+#[cfg(test)]
+mod tests_of_changes;
 mod visits;
 
 pub use frontier::Frontier;
