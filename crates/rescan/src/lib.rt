@@ -9,6 +9,8 @@ mod standing;
 mod tests;
 #[cfg(test)]
 mod tests_of_changes;
+#[cfg(test)]
+mod tests_of_moves;
 mod visits;
 
 pub use frontier::Frontier;
