@@ -64,6 +64,7 @@ fn moved<L: Ledger>(
     ensures stands { OnOk result (Stands tree.new frontier.new) }
 {
     assert!(end; tree.live(node));
+    assert!(end; tree.live(folder));
     assert!(end; is_folder(tree, folder, steps));
     assert!(end; !tree.is_at_or_below(node, folder, steps));
     frontier.on_move(tree, node, folder, steps);
