@@ -167,7 +167,7 @@ sized_resized nodes n bytes moment row asc found =
     ∙ change_same number n (λ r. of_length row.length (resized bytes moment r)) (stamped moment) nodes asc (λ r e.
     subst (λ (j : ℕ). of_length j (resized bytes moment r) ≡ stamped moment r) (ap (λ (y : NodeRow). y.length) (same_Some r row (sym e ∙ found))) refl)
 
--- kinds
+-- files and folders
 root_folder : (r : NodeRow) → is_root_node r ≡ true → r.folder ≡ true
 root_folder r h = (both r.folder (length r.name == 0) (both (r.folder && (length r.name == 0)) ((r.parent == 0) && (r.length == 0)) (both _ _ h).0).0).0
 

@@ -59,11 +59,3 @@ counted_is K nodes v f =
     (each_row number (λ r. (if test r then space K r else 0) ≡ part K nodes f r) nodes v.ascending (λ r own.
     let up : is_folder nodes r.parent ≡ true = v.up (number r) r own in
     ap (λ b. cond (is_under nodes (scanned f) r.parent && not b) (space K r) 0) (in_unvisited K nodes v f r.parent ∙ ap (λ b. b && has_above nodes f.tops r.parent) up)))
-
--- no sum passes 64 bits
-part_most : (K : Capacity) (nodes : List NodeRow) (f : Front) (r : NodeRow) → part K nodes f r ≤ space K r
-part_most K nodes f r = at (is_counted nodes f r.parent) (space K r)
-  where
-    at : (b : Bool) (s : ℕ) → cond b s 0 ≤ s
-    at true s = omega arith
-    at false s = omega arith
