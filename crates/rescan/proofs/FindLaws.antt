@@ -1,9 +1,8 @@
 -- All unvisited folders, found from the topmost ones on.
 use Rattle.std.proofs.Common.{◌≡◌, ℕ, ◌+◌, ◌*◌, ◌<◌, ◌≤◌, ◌==◌, Bool, true, false, cond, not, ◌||◌, ◌&&◌, List, [], ◌∷◌, length, Some, None, refl, sym, ◌∙◌, ap, subst, inl, inr, arith}
 use Rattle.std.proofs.lemmas.List.Sums.{sum_by-cons}
-use Rattle.std.specs.Prelude.{map, filter, sum_by, slice_get, if◌then◌else◌}
+use Rattle.std.specs.Prelude.{filter, sum_by, slice_get, if◌then◌else◌}
 use Rattle.std.specs.List.{list_any}
-use Rattle.fsrm_model.specs.declared.row.Capacity.{Capacity}
 use Rattle.fsrm_model.specs.declared.row.NodeRow.{NodeRow}
 use Rattle.fsrm_model.specs.Keyed.{row_of, has_row, is_ascending}
 use Rattle.fsrm_model.specs.Numbers.{itself, is_in, is_set, with_number, without_number, with_numbers}
@@ -23,7 +22,7 @@ use Rattle.rescan.specs.Tops.{AreTops}
 use Rattle.rescan.specs.Visits.{folders_in, tops_after, looks_left}
 use Rattle.rescan.proofs.SetLaws.{none_first}
 use Rattle.rescan.proofs.Tops.{in_unvisited, set_unvisited, above_own, tops_of}
-use Rattle.rescan.proofs.VisitLaws.{after, first_in, tops_visited, unvisited_after}
+use Rattle.rescan.proofs.VisitLaws.{first_in, tops_visited, unvisited_after}
 
 -- a frontier with other tops
 abbrev pub topped : Front → List ℕ → Front
