@@ -171,7 +171,7 @@ child_folder_by nodes a folder n c =
     ∙ (ap (λ b. b && f.row.folder) child ∙ f.folder))
 
 -- what is summed so far is no more than the space of all files
-filter_least : {X : Type 0} (f : X → ℕ) (p : X → Bool) (xs : List X) → sum_by f (filter p xs) ≤ sum_by f xs
+pub filter_least : {X : Type 0} (f : X → ℕ) (p : X → Bool) (xs : List X) → sum_by f (filter p xs) ≤ sum_by f xs
 filter_least f p [] = omega arith
 filter_least {X} f p (x ∷ xs) = at (p x) (filter_least f p xs)
   where

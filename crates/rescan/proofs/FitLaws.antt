@@ -76,7 +76,7 @@ total_small K nodes v legal =
     bound : (n whole : ℕ) → whole ≤ n * longest_file → n ≤ 1048576 → whole < 2 ^ 64
     bound n whole h few = omega (arith, mul-le-mul_right longest_file few)
 
-sum_le : (f g : NodeRow → ℕ) (rows : List NodeRow) → ((r : NodeRow) → f r ≤ g r) → sum_by f rows ≤ sum_by g rows
+pub sum_le : (f g : NodeRow → ℕ) (rows : List NodeRow) → ((r : NodeRow) → f r ≤ g r) → sum_by f rows ≤ sum_by g rows
 sum_le f g [] h = omega arith
 sum_le f g (r ∷ rows) h = omega (arith, sum_by-cons f r rows, sum_by-cons g r rows, h r, sum_le f g rows h)
 
