@@ -17,7 +17,7 @@ is_occupied words place = not (slice_index words place == 0)
 unfoldable pub numbers_of : List ℕ → List ℕ
 numbers_of words = filter (has_bit words) (range_with_len 0 (64 * length words))
 
--- a set has the places of the words that aren't empty, of which there are several words
+-- the set above several words: the places of those that aren't empty
 pub record Marks (places : Numbers) (words : List ℕ) : Type 0 where
   pub several : 1 < length words
   pub bound : places.bound ≡ length words

@@ -1,20 +1,16 @@
 -- What a scan has counted, as a sum over the nodes.
-use Rattle.std.proofs.Common.{◌≡◌, ℕ, zero, suc, ◌+◌, ◌*◌, ◌^◌, ◌<◌, ◌≤◌, ◌==◌, Bool, true, false, cond, not, ◌&&◌, inl, inr, List, [], ◌∷◌, length, refl, sym, ◌∙◌, ap, subst, arith, Some, nat_lt}
-use Rattle.std.proofs.lemmas.Bool.Decides.{nat_tests}
-use Rattle.std.proofs.lemmas.List.Sums.{sum_by-cons}
-use Rattle.std.specs.Prelude.{sum_by, nat_le, if◌then◌else◌}
+use Rattle.std.proofs.Common.{◌≡◌, ℕ, ◌≤◌, ◌==◌, Bool, true, false, cond, not, ◌&&◌, List, [], ◌∷◌, refl, ◌∙◌, ap, arith, Some}
+use Rattle.std.specs.Prelude.{sum_by, if◌then◌else◌}
 use Rattle.std.specs.List.{AllByRecursion}
-use native.Mathlib.Nat.{mul-le-mul_right}
 use Rattle.fsrm_model.specs.declared.row.Capacity.{Capacity}
 use Rattle.fsrm_model.specs.declared.row.NodeRow.{NodeRow}
 use Rattle.fsrm_model.specs.Keyed.{row_of, has_row, is_ascending}
-use Rattle.fsrm_model.specs.Limits.{longest_file}
 use Rattle.fsrm_model.specs.Numbers.{is_in}
 use Rattle.fsrm_model.specs.Scan.{counted}
-use Rattle.fsrm_model.specs.Space.{alloc, space}
-use Rattle.fsrm_model.specs.Tree.{number, node_of, is_folder, is_under}
+use Rattle.fsrm_model.specs.Space.{space}
+use Rattle.fsrm_model.specs.Tree.{number, is_folder, is_under}
 use Rattle.fsrm_model.specs.Valid.{IsVolume}
-use Rattle.fsrm_model.proofs.TestLaws.{is_or_not, both, clash, eq_is, eq_same, lt_is}
+use Rattle.fsrm_model.proofs.TestLaws.{clash, eq_is, eq_same}
 use Rattle.fsrm_model.proofs.ChainLaws.{sum_by-filter, sum_by_same}
 use Rattle.fsrm_model.proofs.ChangeLaws.{absent_later, ascending_tail}
 use Rattle.fsrm_model.proofs.Look.{found_has}

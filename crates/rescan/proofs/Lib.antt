@@ -1,9 +1,24 @@
+mod Ahead
+pub mod ChangeLaws
 pub mod ChildLaws
 pub mod CountLaws
 pub mod FindLaws
 pub mod FitLaws
+mod FolderArms
+pub mod FollowLaws
 pub mod FrontierLaws
+pub mod KindLaws
+pub mod LeafLaws
+mod Leaving
+mod MoveArms
+mod MovedScan
+mod MovedSums
+mod MovedTops
+mod MovedWhole
 pub mod Numbered
+mod Opening
+pub mod ResizeLaws
 pub mod SetLaws
+mod StandingLaws
 pub mod Tops
 pub mod VisitLaws

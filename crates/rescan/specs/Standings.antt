@@ -1,10 +1,14 @@
--- Where a node stands in a scan.
-use Rattle.std.specs.Prelude.{ℕ, List, if◌then◌else◌}
+-- Where a node stands in a scan, and what a move makes of that.
+use Rattle.std.specs.Prelude.{◌≡◌, ℕ, List, if◌then◌else◌}
+use Rattle.fsrm_model.specs.declared.row.Capacity.{Capacity}
 use Rattle.fsrm_model.specs.declared.row.NodeRow.{NodeRow}
+use Rattle.fsrm_model.specs.Numbers.{with_number, without_number}
+use Rattle.fsrm_model.specs.Space.{alloc}
 use Rattle.fsrm_model.specs.Tree.{is_under}
 use Rattle.rescan.specs.declared.standing.Standing.{Standing}
 use Rattle.rescan.specs.declared.standing.Standing.TheVariants.{Outside, Visited, Unvisited}
 use Rattle.rescan.specs.Frontiers.{Front, has_above, scanned}
+use Rattle.rescan.specs.Leaves.{Leaves}
 
 -- Below an unvisited folder; else at or below the scanned one; else outside
 abbrev pub standing : List NodeRow → Front → ℕ → Standing
@@ -12,3 +16,22 @@ standing nodes front n =
     if has_above nodes front.tops n then Unvisited
     else if is_under nodes (scanned front) n then Visited
     else Outside
+
+-- what a file of this length, in a folder that stands so, adds to what is counted
+abbrev pub share_of : Capacity → ℕ → Standing → ℕ
+share_of K bytes Outside = 0
+share_of K bytes Visited = alloc K bytes
+share_of K bytes Unvisited = 0
+
+-- A folder goes from a place that stands so to another. Where both are visited, nothing changes; one that was
+-- visited leaves; one that comes to a visited folder is to be visited, and else it is no topmost folder.
+abbrev pub FolderGoes : Standing → Standing → Capacity → List NodeRow → Front → Front → ℕ → Type 0
+FolderGoes Visited Visited K nodes old new node = new ≡ old
+FolderGoes Visited Outside K nodes old new node = Leaves K nodes old new node
+FolderGoes Visited Unvisited K nodes old new node = Leaves K nodes old new node
+FolderGoes Outside Visited K nodes old new node = new ≡ record old { tops = with_number node old.tops }
+FolderGoes Unvisited Visited K nodes old new node = new ≡ record old { tops = with_number node old.tops }
+FolderGoes Outside Outside K nodes old new node = new ≡ record old { tops = without_number node old.tops }
+FolderGoes Outside Unvisited K nodes old new node = new ≡ record old { tops = without_number node old.tops }
+FolderGoes Unvisited Outside K nodes old new node = new ≡ record old { tops = without_number node old.tops }
+FolderGoes Unvisited Unvisited K nodes old new node = new ≡ record old { tops = without_number node old.tops }

@@ -8,7 +8,7 @@ ghost use Rattle.fsrm_model.specs.Numbers.{without_number};
 ghost use Rattle.fsrm_model.specs.Scan.{unvisited_with};
 ghost use Rattle.fsrm_model.specs.Tree.{number as key, node_of, is_folder, children, chain};
 ghost use Rattle.fsrm_model.specs.Valid.{IsVolume};
-ghost use Rattle.rescan.specs.Frontiers.{Stands, Follows, sized, unvisited as unvisited_of};
+ghost use Rattle.rescan.specs.Frontiers.{Stands, Follows, scanned, sized, unvisited as unvisited_of};
 ghost use Rattle.volume_tree.specs.Volume.{without_node};
 
 use crate::frontier::Frontier;
@@ -30,12 +30,14 @@ impl Frontier {
         let _node = node;
     }
 
-    /// Follows that a node is to be removed: a file that is empty by now, or a folder without children.
+    /// Follows that a node is to be removed: a file that is empty by now, or a folder without children. It
+    /// isn't the scanned folder: whoever removes that one gives the scan up.
     pub fn on_remove(&mut self, tree: &Tree, node: u32)
         requires there { has_row key node tree.now.nodes ≡ true }
         requires inner { (node == 0) ≡ false }
         requires leaf { length (children tree.now.nodes node) ≡ 0 }
-        requires other { (Stands (sized tree.now node 0) self.old) }
+        requires other { (node == scanned self.old) ≡ false }
+        requires stands { Stands (sized tree.now node 0) self.old }
         ensures follows { (IsVolume tree.now.size (without_node tree.now node).nodes) → Follows self.old self.new (without_node tree.now node) (without_number node (unvisited_of tree.now.nodes self.old)) }
     {
         let _tree = tree;
@@ -60,6 +62,8 @@ impl Frontier {
         ensures follows { Follows self.old self.new (sized tree.now node new) (unvisited_of tree.now.nodes self.old) }
         ensures looks { steps.new ≤ steps.old + 2 * length (chain tree.now.nodes node) }
     {
+        // A legal size: what its files take is less than 2^64 bytes.
+        let _size = tree.capacity();
         let parent = tree.node(node, steps).parent;
         if self.standing(tree, parent, steps) == Standing::Visited {
             self.sum = self.sum - allocated(old) + allocated(new);

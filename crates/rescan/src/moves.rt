@@ -1,15 +1,21 @@
 //! A scan's way through moves.
 
-ghost use Rattle.std.specs.Prelude.{◌≡◌, ℕ, ◌+◌, ◌*◌, ◌≤◌, ◌==◌, List, true, false, length};
+ghost use Rattle.std.specs.Prelude.{◌≡◌, ℕ, ◌+◌, ◌*◌, ◌^◌, ◌<◌, ◌≤◌, ◌==◌, List, true, false, is_some, length};
+ghost use Rattle.fsrm_model.specs.declared.row.Capacity.{Capacity};
 ghost use Rattle.fsrm_model.specs.Keyed.{has_row};
+ghost use Rattle.fsrm_model.specs.Limits.{longest_file};
 ghost use Rattle.fsrm_model.specs.Scan.{unvisited_moved};
 ghost use Rattle.fsrm_model.specs.Tree.{number as key, is_folder, is_under, under, chain};
 ghost use Rattle.fsrm_model.specs.Valid.{IsVolume};
 ghost use Rattle.rescan.specs.Frontiers.{Stands, Follows, scanned, unvisited as unvisited_of};
+ghost use Rattle.rescan.specs.Leaves.{counted_below, is_visited, Leaves};
+ghost use Rattle.rescan.specs.Standings.{standing, share_of, FolderGoes};
+ghost use Rattle.rescan.specs.Tops.{AreTops};
 ghost use Rattle.volume_tree.specs.Volume.{with_place};
 
 use crate::frontier::Frontier;
 use crate::standing::Standing;
+use crate::visits::enter_children;
 use fsrm_model::{Ledger, Steps, allocated};
 use volume_tree::Tree;
 
@@ -28,6 +34,8 @@ impl Frontier {
         if self.folder == Some(node) {
             return;
         }
+        // The files of a volume of this size take fewer than 2^64 bytes.
+        let _size = tree.capacity();
         let after = self.standing(tree, folder, steps);
         let view = tree.node(node, steps);
         if view.folder {
@@ -39,15 +47,20 @@ impl Frontier {
         }
     }
 
-    fn move_file(&mut self, length: u64, before: Standing, after: Standing) {
-        if before == Standing::Visited {
-            self.sum -= allocated(length);
-        }
-        if after == Standing::Visited {
-            self.sum += allocated(length);
-        }
+    // Follows the move of a file of this length, from a folder that stands so to another.
+    fn move_file(&mut self, length: u64, before: Standing, after: Standing)
+        requires active { is_some self.old.folder ≡ true }
+        requires length { length ≤ longest_file }
+        requires counted { (K : Capacity) → share_of K length before ≤ self.old.sum }
+        requires fits { (K : Capacity) → self.old.sum + share_of K length after < 2 ^ 64 + share_of K length before }
+        ensures rest { self.new ≡ record self.old { sum = self.new.sum } }
+        ensures sum { (K : Capacity) → self.new.sum + share_of K length before ≡ self.old.sum + share_of K length after }
+    {
+        self.sum = self.sum - share(length, before) + share(length, after);
     }
 
+    // Follows the move of a folder, from a place that stands so to another. It takes no more than 3 looks for
+    // each node at and below it.
     fn move_folder<L: Ledger>(
         &mut self,
         tree: &Tree,
@@ -55,7 +68,16 @@ impl Frontier {
         before: Standing,
         after: Standing,
         steps: &mut Steps<L>,
-    ) {
+    )
+        requires volume { IsVolume tree.now.size tree.now.nodes }
+        requires room { tree.now.size.nodes ≤ self.old.room }
+        requires tops { AreTops tree.now.nodes self.old }
+        requires folder { is_folder tree.now.nodes node ≡ true }
+        requires before { before ≡ standing tree.now.nodes self.old node }
+        requires counted { counted_below tree.now.size tree.now.nodes self.old node ≤ self.old.sum }
+        ensures goes { FolderGoes before after tree.now.size tree.now.nodes self.old self.new node }
+        ensures looks { steps.new ≤ steps.old + 3 * length (under tree.now.nodes node) }
+    {
         match (before, after) {
             (Standing::Visited, Standing::Visited) => {}
             (Standing::Visited, _) => self.leave(tree, node, steps),
@@ -64,29 +86,37 @@ impl Frontier {
         }
     }
 
-    // Takes back what is counted at and below a node, and what is to be visited there.
-    fn leave<L: Ledger>(&mut self, tree: &Tree, node: u32, steps: &mut Steps<L>) {
+    // Takes back what is counted at and below a visited folder, and what is to be visited there. It takes no
+    // more than 3 looks for each node at and below it.
+    fn leave<L: Ledger>(&mut self, tree: &Tree, node: u32, steps: &mut Steps<L>)
+        requires volume { IsVolume tree.now.size tree.now.nodes }
+        requires room { tree.now.size.nodes ≤ self.old.room }
+        requires tops { AreTops tree.now.nodes self.old }
+        requires folder { is_folder tree.now.nodes node ≡ true }
+        requires visited { is_visited tree.now.nodes self.old node ≡ true }
+        requires counted { counted_below tree.now.size tree.now.nodes self.old node ≤ self.old.sum }
+        ensures leaves { Leaves tree.now.size tree.now.nodes self.old self.new node }
+        ensures looks { steps.new ≤ steps.old + 3 * length (under tree.now.nodes node) }
+    {
         self.waiting.insert(node);
         while let Some(next) = self.waiting.least() {
             self.waiting.remove(next);
             if self.tops.contains(next) {
                 self.tops.remove(next);
-                continue;
-            }
-            let view = tree.node(next, steps);
-            if view.folder {
-                self.wait_for_children(tree, next, steps);
             } else {
-                self.sum -= allocated(view.length);
+                self.sum -= enter_children(tree, next, &mut self.waiting, steps);
             }
         }
     }
+}
 
-    // Puts a folder's children to the nodes that a walk has still to pass.
-    fn wait_for_children<L: Ledger>(&mut self, tree: &Tree, folder: u32, steps: &mut Steps<L>) {
-        for place in 0..tree.child_count(folder, steps) {
-            let child = tree.child_at(folder, place, steps);
-            self.waiting.insert(child);
-        }
+// What a file of this length, in a folder that stands so, adds to what is counted.
+fn share(length: u64, standing: Standing) -> u64
+    requires { length ≤ longest_file }
+    ensures { (K : Capacity) → result ≡ share_of K length standing }
+{
+    match standing {
+        Standing::Visited => allocated(length),
+        Standing::Outside | Standing::Unvisited => 0,
     }
 }

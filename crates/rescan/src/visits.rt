@@ -69,7 +69,7 @@ impl Frontier {
 }
 
 // Puts the folders among a folder's children into a set. It gives the bytes that the files among them take.
-fn enter_children<L: Ledger>(
+pub(crate) fn enter_children<L: Ledger>(
     tree: &Tree,
     folder: u32,
     set: &mut NumberSet,

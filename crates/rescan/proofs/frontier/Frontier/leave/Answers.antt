@@ -1,0 +1,136 @@
+use Rattle.std.proofs.Common.{◌≡◌, ◌+◌, ◌*◌, ◌<◌, ◌≤◌, ◌-◌, List, ℕ, [], ◌∷◌, true, false, length, refl, sym, ◌∙◌, ap, subst, arith, None}
+use Rattle.std.specs.Prelude.{is_some, sum_by}
+use Rattle.fsrm_model.proofs.TestLaws.{clash}
+use Rattle.rescan.specs.Frontiers.{Front}
+use Rattle.fsrm_model.specs.Numbers.{is_in, with_number, without_number, with_numbers}
+use Rattle.fsrm_model.specs.Space.{space}
+use Rattle.fsrm_model.specs.Tree.{children, under}
+use Rattle.rescan.specs.Visits.{folders_in}
+use Rattle.rescan.proofs.Ahead.{ahead, top_ahead, open_ahead, whole_ahead, next_in, none_next}
+use Rattle.rescan.proofs.Leaving.{Leaving, Tracked, begin, finish, pass_top}
+use Rattle.rescan.proofs.Opening.{opened, pass_open, enough_left}
+use Rattle.rescan.proofs.frontier.Frontier.leave.Goals as goal
+
+pub loop-next-init : goal.loop-next-init
+loop-next-init g c =
+    let K = c.args.tree.now.size in
+    let nodes = c.args.tree.now.nodes in
+    let f = c.args.self.now in
+    let x = c.args.node in
+    let t : Tracked K nodes f x = record { volume = c.requires.volume; tops = c.requires.tops; folder = c.requires.folder; visited = c.requires.visited; enough = c.requires.counted } in
+    let waiting : c.insert.new.self.members ≡ x ∷ [] = ap (λ s. s.members) c.insert.ensures ∙ ap (with_number x) c.self.invariant.still in
+    let tops : c.self.inside.tops.members ≡ f.tops = ap (λ v. v.tops) c.self.view_is in
+    let sum : c.self.inside.sum ≡ f.sum = ap (λ v. v.sum) c.self.view_is in
+    let room : c.self.inside.tops.bound ≡ f.room = ap (λ v. v.room) c.self.view_is in
+    record {
+      walk = subst (λ (ns : List ℕ). Leaving K nodes f x ns c.insert.new.self.members c.self.inside.sum) (sym tops)
+      (subst (λ (ns : List ℕ). Leaving K nodes f x f.tops ns c.self.inside.sum) (sym waiting)
+      (subst (λ (s : ℕ). Leaving K nodes f x f.tops (x ∷ []) s) (sym sum) (begin K nodes f x t)));
+      folder = ap (λ v. v.folder) c.self.view_is;
+      bound = room;
+      room = ap (λ s. s.bound) c.insert.ensures ∙ (c.self.invariant.bounds ∙ room);
+      looks = omega (arith, ap (ahead nodes) waiting, whole_ahead K nodes x c.requires.volume);
+    }
+
+pub loop-next-smaller-then-contains : goal.loop-next-smaller-then-contains
+loop-next-smaller-then-contains g c =
+    let K = c.args.tree.now.size in
+    let nodes = c.args.tree.now.nodes in
+    let waiting = c.loop-next.self-inside.waiting.members in
+    let less = top_ahead K nodes c.args.self.now c.args.node c.loop-next.self-inside.tops.members waiting c.loop-next.self-inside.sum c.in-Some.next c.requires.volume c.loop-next.invariant.walk (next_in waiting c.in-Some.next c.in-Some.ensures) in
+    let now : c.remove.new.self.members ≡ without_number c.in-Some.next waiting = ap (λ s. s.members) c.remove.ensures in
+    subst (λ (ns : List ℕ). ahead nodes ns < ahead nodes waiting) (sym now) less
+
+pub loop-next-preserved-then-contains : goal.loop-next-preserved-then-contains
+loop-next-preserved-then-contains g c =
+    let K = c.args.tree.now.size in
+    let nodes = c.args.tree.now.nodes in
+    let f = c.args.self.now in
+    let x = c.args.node in
+    let n = c.in-Some.next in
+    let waiting = c.loop-next.self-inside.waiting.members in
+    let tops = c.loop-next.self-inside.tops.members in
+    let sum = c.loop-next.self-inside.sum in
+    let t : Tracked K nodes f x = record { volume = c.requires.volume; tops = c.requires.tops; folder = c.requires.folder; visited = c.requires.visited; enough = c.requires.counted } in
+    let here = next_in waiting n c.in-Some.ensures in
+    let less = top_ahead K nodes f x tops waiting sum n c.requires.volume c.loop-next.invariant.walk here in
+    let now : c.remove.new.self.members ≡ without_number n waiting = ap (λ s. s.members) c.remove.ensures in
+    let left : c.remove-then-contains.new.self.members ≡ without_number n tops = ap (λ s. s.members) c.remove-then-contains.ensures in
+    let walk = pass_top K nodes f x tops waiting sum n t c.loop-next.invariant.walk here (sym c.contains.ensures ∙ c.if-contains.true) in
+    record {
+      walk = subst (λ (ns : List ℕ). Leaving K nodes f x ns c.remove.new.self.members sum) (sym left)
+      (subst (λ (ns : List ℕ). Leaving K nodes f x (without_number n tops) ns sum) (sym now) walk);
+      folder = c.loop-next.invariant.folder;
+      bound = ap (λ s. s.bound) c.remove-then-contains.ensures ∙ c.loop-next.invariant.bound;
+      room = ap (λ s. s.bound) c.remove.ensures ∙ c.loop-next.invariant.room;
+      looks = omega (arith, ap (ahead nodes) now, less, c.loop-next.invariant.looks);
+    }
+
+pub overflow_sub-self : goal.overflow_sub-self
+overflow_sub-self g c =
+    let K = c.args.tree.now.size in
+    let nodes = c.args.tree.now.nodes in
+    let f = c.args.self.now in
+    let x = c.args.node in
+    let waiting = c.loop-next.self-inside.waiting.members in
+    let t : Tracked K nodes f x = record { volume = c.requires.volume; tops = c.requires.tops; folder = c.requires.folder; visited = c.requires.visited; enough = c.requires.counted } in
+    let most = enough_left K nodes f x c.loop-next.self-inside.tops.members waiting c.loop-next.self-inside.sum c.in-Some.next t c.loop-next.invariant.walk (next_in waiting c.in-Some.next c.in-Some.ensures) (sym c.contains.ensures ∙ c.if-contains.false) in
+    omega (arith, most, c.enter_children.ensures.bytes)
+
+pub loop-next-smaller : goal.loop-next-smaller
+loop-next-smaller g c =
+    let K = c.args.tree.now.size in
+    let nodes = c.args.tree.now.nodes in
+    let n = c.in-Some.next in
+    let waiting = c.loop-next.self-inside.waiting.members in
+    let step = open_ahead K nodes c.args.self.now c.args.node c.loop-next.self-inside.tops.members waiting c.loop-next.self-inside.sum n c.requires.volume c.loop-next.invariant.walk (next_in waiting n c.in-Some.ensures) in
+    let less : ahead nodes (opened nodes n waiting) < ahead nodes waiting = omega (arith, step) in
+    let now : c.enter_children.new.set.members ≡ opened nodes n waiting = ap (λ s. s.members) c.enter_children.ensures.set ∙ ap (λ s. with_numbers (folders_in nodes n) s.members) c.remove.ensures in
+    subst (λ (ns : List ℕ). ahead nodes ns < ahead nodes waiting) (sym now) less
+
+pub loop-next-preserved : goal.loop-next-preserved
+loop-next-preserved g c =
+    let K = c.args.tree.now.size in
+    let nodes = c.args.tree.now.nodes in
+    let f = c.args.self.now in
+    let x = c.args.node in
+    let n = c.in-Some.next in
+    let waiting = c.loop-next.self-inside.waiting.members in
+    let tops = c.loop-next.self-inside.tops.members in
+    let sum = c.loop-next.self-inside.sum in
+    let sum2 = sum - c.enter_children.result in
+    let t : Tracked K nodes f x = record { volume = c.requires.volume; tops = c.requires.tops; folder = c.requires.folder; visited = c.requires.visited; enough = c.requires.counted } in
+    let here = next_in waiting n c.in-Some.ensures in
+    let lacks = sym c.contains.ensures ∙ c.if-contains.false in
+    let step = open_ahead K nodes f x tops waiting sum n c.requires.volume c.loop-next.invariant.walk here in
+    let now : c.enter_children.new.set.members ≡ opened nodes n waiting = ap (λ s. s.members) c.enter_children.ensures.set ∙ ap (λ s. with_numbers (folders_in nodes n) s.members) c.remove.ensures in
+    let most = enough_left K nodes f x tops waiting sum n t c.loop-next.invariant.walk here lacks in
+    let rest : sum2 + sum_by (space K) (children nodes n) ≡ sum = omega (arith, most, c.enter_children.ensures.bytes) in
+    record {
+      walk = subst (λ (ns : List ℕ). Leaving K nodes f x tops ns sum2) (sym now) (pass_open K nodes f x tops waiting sum sum2 n t c.loop-next.invariant.walk here lacks rest);
+      folder = c.loop-next.invariant.folder;
+      bound = c.loop-next.invariant.bound;
+      room = ap (λ s. s.bound) c.enter_children.ensures.set ∙ (ap (λ s. s.bound) c.remove.ensures ∙ c.loop-next.invariant.room);
+      looks = omega (arith, ap (ahead nodes) now, step, c.loop-next.invariant.looks, c.enter_children.ensures.looks);
+    }
+
+pub invariant_of-self : goal.invariant_of-self
+invariant_of-self g c =
+    let active : c.loop-next.self-inside.folder ≡ None → ⊥ = λ h. clash (is_some c.args.self.now.folder) c.requires.tops.active (ap is_some (sym c.loop-next.invariant.folder ∙ h)) in
+    record {
+      bounds = c.loop-next.invariant.room ∙ sym c.loop-next.invariant.bound;
+      still = none_next c.loop-next.self-inside.waiting.members c.in_default.ensures;
+      no_tops = λ h. absurd (active h);
+      no_sum = λ h. absurd (active h);
+    }
+
+pub returns-clause-leaves : goal.returns-clause-leaves
+returns-clause-leaves g c =
+    let K = c.args.tree.now.size in
+    let nodes = c.args.tree.now.nodes in
+    let inside = c.loop-next.self-inside in
+    let new : Front = record { room = inside.tops.bound; folder = inside.folder; tops = inside.tops.members; sum = inside.sum } in
+    let none = none_next inside.waiting.members c.in_default.ensures in
+    finish K nodes c.args.self.now new c.args.node
+    (subst (λ (ns : List ℕ). Leaving K nodes c.args.self.now c.args.node inside.tops.members ns inside.sum) none c.loop-next.invariant.walk)
+    c.loop-next.invariant.bound c.loop-next.invariant.folder
