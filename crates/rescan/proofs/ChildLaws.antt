@@ -1,23 +1,23 @@
 -- The children of a folder, taken up one by one.
-use Rattle.std.proofs.Common.{◌≡◌, ℕ, zero, suc, ◌+◌, ◌*◌, ◌<◌, ◌≤◌, ◌==◌, Bool, true, false, cond, not, ◌||◌, ◌&&◌, List, [], ◌∷◌, ◌++◌, length, take, get_or, Option, Some, None, refl, sym, ◌∙◌, ap, subst, arith}
+use Rattle.std.proofs.Common.{◌≡◌, ℕ, ◌+◌, ◌<◌, ◌≤◌, ◌==◌, Bool, true, false, cond, not, ◌||◌, ◌&&◌, List, [], ◌∷◌, ◌++◌, length, take, Option, Some, None, refl, sym, ◌∙◌, ap, arith}
 use Rattle.std.proofs.lemmas.List.{take_more, take_all, map-append}
 use Rattle.std.proofs.lemmas.List.Elements.{filter-append}
 use Rattle.std.proofs.lemmas.List.Sorted.{sum_by-IsPermutation, list_any-IsPermutation, length_permutation}
 use Rattle.std.proofs.lemmas.List.Sums.{sum_by-cons, sum_by_push, sum_by-take-le}
 use Rattle.std.proofs.lemmas.Option.{slice_get_within, get_or_from_slice_get, same_Some}
-use Rattle.std.specs.Prelude.{map, filter, sum_by, if◌then◌else◌}
+use Rattle.std.specs.Prelude.{map, filter, sum_by}
 use Rattle.std.specs.Option.{option_map_or}
 use Rattle.std.specs.List.{list_any}
 use Rattle.fsrm_model.specs.declared.row.Capacity.{Capacity}
 use Rattle.fsrm_model.specs.declared.row.NodeRow.{NodeRow}
-use Rattle.fsrm_model.specs.Keyed.{is_ascending, has_row}
+use Rattle.fsrm_model.specs.Keyed.{is_ascending}
 use Rattle.fsrm_model.specs.Name.{name_before}
-use Rattle.fsrm_model.specs.Numbers.{is_in, with_number, without_number, with_numbers}
+use Rattle.fsrm_model.specs.Numbers.{is_in, with_number, with_numbers}
 use Rattle.fsrm_model.specs.Space.{alloc, space}
-use Rattle.fsrm_model.specs.Tree.{number, node_of, parent_of, is_folder, is_child, children, children_in_order, is_under}
+use Rattle.fsrm_model.specs.Tree.{number, node_of, parent_of, is_folder, is_child, children, children_in_order}
 use Rattle.fsrm_model.specs.Valid.{IsVolume}
 use Rattle.fsrm_model.proofs.TestLaws.{both, eq_is, is_false, lt_is}
-use Rattle.fsrm_model.proofs.Keeps.{FoundFolder, folder_found, found_folder, found_parent, is_child_test}
+use Rattle.fsrm_model.proofs.Keeps.{folder_found, found_folder, found_parent, is_child_test}
 use Rattle.fsrm_model.proofs.Look.{found_key}
 use Rattle.volume_tree.specs.declared.answer.NodeView.{NodeView}
 use Rattle.volume_tree.specs.Volume.{IsChildAt, Shows}
@@ -106,9 +106,10 @@ none_taken K nodes folder old = record { set = refl; bytes = refl }
 pub all_taken : (K : Capacity) (nodes : List NodeRow) (folder count : ℕ) (old new : Numbers) (bytes : ℕ) → length (children nodes folder) ≤ count → TakenUp K nodes folder count old new bytes → (new ≡ record old { members = with_numbers (folders_in nodes folder) old.members }) × (bytes ≡ sum_by (space K) (children nodes folder))
 all_taken K nodes folder count old new bytes h t =
     let rows = children_in_order nodes folder in
-    let all : take count rows ≡ rows = take_all count rows (omega (arith, length-children nodes folder)) in
-    (t.set ∙ ap (λ rs. record old { members = with_numbers (folders_of rs) old.members }) all,
-    t.bytes ∙ (ap (sum_by (space K)) all ∙ sum-children (space K) nodes folder))
+    let all : take count rows ≡ rows = take_all count rows (omega (arith, length-children nodes folder)) in (
+      t.set ∙ ap (λ rs. record old { members = with_numbers (folders_of rs) old.members }) all,
+      t.bytes ∙ (ap (sum_by (space K)) all ∙ sum-children (space K) nodes folder),
+    )
 
 -- which folders stand in a folder
 any_filter : {X : Type 0} (p q : X → Bool) (xs : List X) → list_any p (filter q xs) ≡ list_any (λ x. q x && p x) xs
@@ -170,7 +171,7 @@ child_folder_by nodes a folder n c =
     ∙ (ap (λ b. b && f.row.folder) child ∙ f.folder))
 
 -- what is summed so far is no more than the space of all files
-filter_least : {X : Type 0} (f : X → ℕ) (p : X → Bool) (xs : List X) → sum_by f (filter p xs) ≤ sum_by f xs
+pub filter_least : {X : Type 0} (f : X → ℕ) (p : X → Bool) (xs : List X) → sum_by f (filter p xs) ≤ sum_by f xs
 filter_least f p [] = omega arith
 filter_least {X} f p (x ∷ xs) = at (p x) (filter_least f p xs)
   where

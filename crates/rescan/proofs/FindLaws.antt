@@ -1,9 +1,8 @@
 -- All unvisited folders, found from the topmost ones on.
 use Rattle.std.proofs.Common.{◌≡◌, ℕ, ◌+◌, ◌*◌, ◌<◌, ◌≤◌, ◌==◌, Bool, true, false, cond, not, ◌||◌, ◌&&◌, List, [], ◌∷◌, length, Some, None, refl, sym, ◌∙◌, ap, subst, inl, inr, arith}
 use Rattle.std.proofs.lemmas.List.Sums.{sum_by-cons}
-use Rattle.std.specs.Prelude.{map, filter, sum_by, slice_get, if◌then◌else◌}
+use Rattle.std.specs.Prelude.{filter, sum_by, slice_get, if◌then◌else◌}
 use Rattle.std.specs.List.{list_any}
-use Rattle.fsrm_model.specs.declared.row.Capacity.{Capacity}
 use Rattle.fsrm_model.specs.declared.row.NodeRow.{NodeRow}
 use Rattle.fsrm_model.specs.Keyed.{row_of, has_row, is_ascending}
 use Rattle.fsrm_model.specs.Numbers.{itself, is_in, is_set, with_number, without_number, with_numbers}
@@ -21,9 +20,11 @@ use Rattle.volume_tree.specs.Volume.{Volume}
 use Rattle.rescan.specs.Frontiers.{Front, Stands, has_above, unvisited}
 use Rattle.rescan.specs.Tops.{AreTops}
 use Rattle.rescan.specs.Visits.{folders_in, tops_after, looks_left}
+use Rattle.rescan.proofs.ChildLaws.{filter_least}
+use Rattle.rescan.proofs.FitLaws.{sum_le}
 use Rattle.rescan.proofs.SetLaws.{none_first}
 use Rattle.rescan.proofs.Tops.{in_unvisited, set_unvisited, above_own, tops_of}
-use Rattle.rescan.proofs.VisitLaws.{after, first_in, tops_visited, unvisited_after}
+use Rattle.rescan.proofs.VisitLaws.{first_in, tops_visited, unvisited_after}
 
 -- a frontier with other tops
 abbrev pub topped : Front → List ℕ → Front
@@ -132,18 +133,6 @@ looks_after v f waiting mid new found n s d h out put =
     omega (arith, less, split)
 
 -- each node is one child at most
-filter_least : {X : Type 0} (f : X → ℕ) (p : X → Bool) (xs : List X) → sum_by f (filter p xs) ≤ sum_by f xs
-filter_least f p [] = omega arith
-filter_least {X} f p (x ∷ xs) = at (p x) (filter_least f p xs)
-  where
-    at : (b : Bool) → sum_by f (filter p xs) ≤ sum_by f xs → sum_by f (cond b (x ∷ filter p xs) (filter p xs)) ≤ sum_by f (x ∷ xs)
-    at true h = omega (arith, sum_by-cons f x (filter p xs), sum_by-cons f x xs, h)
-    at false h = omega (arith, sum_by-cons f x xs, h)
-
-sum_le : (f g : NodeRow → ℕ) (rows : List NodeRow) → ((r : NodeRow) → f r ≤ g r) → sum_by f rows ≤ sum_by g rows
-sum_le f g [] h = omega arith
-sum_le f g (r ∷ rows) h = omega (arith, sum_by-cons f r rows, sum_by-cons g r rows, h r, sum_le f g rows h)
-
 abbrev is_one : NodeRow → NodeRow → ℕ
 is_one c r = if is_child r.number c then 1 else 0
 

@@ -1,9 +1,9 @@
 -- No sum of a scan passes 64 bits.
-use Rattle.std.proofs.Common.{◌≡◌, ℕ, ◌+◌, ◌*◌, ◌^◌, ◌<◌, ◌≤◌, ◌==◌, Bool, true, false, cond, List, [], ◌∷◌, length, Some, refl, ap, sym, ◌∙◌, arith, nat_lt, inl, inr}
+use Rattle.std.proofs.Common.{◌≡◌, ℕ, ◌+◌, ◌*◌, ◌^◌, ◌<◌, ◌≤◌, ◌==◌, Bool, true, false, cond, List, [], ◌∷◌, length, Some, ap, sym, ◌∙◌, arith, inl, inr}
 use Rattle.std.proofs.lemmas.Bool.Decides.{nat_tests}
 use Rattle.std.proofs.lemmas.List.Sums.{sum_by-cons}
 use native.Mathlib.Nat.{mul-le-mul_right}
-use Rattle.std.specs.Prelude.{sum_by, nat_le, if◌then◌else◌}
+use Rattle.std.specs.Prelude.{sum_by, nat_le}
 use Rattle.std.specs.List.{AllByRecursion}
 use Rattle.fsrm_model.specs.declared.row.Capacity.{Capacity}
 use Rattle.fsrm_model.specs.declared.row.NodeRow.{NodeRow}
@@ -13,9 +13,7 @@ use Rattle.fsrm_model.specs.Scan.{counted}
 use Rattle.fsrm_model.specs.Space.{alloc, space}
 use Rattle.fsrm_model.specs.Tree.{number, node_of}
 use Rattle.fsrm_model.specs.Valid.{IsVolume}
-use Rattle.fsrm_model.proofs.Look.{has_found}
 use Rattle.fsrm_model.proofs.Order.{parts}
-use Rattle.fsrm_model.proofs.RemoveLaws.{sum_by-without_row}
 use Rattle.fsrm_model.proofs.TestLaws.{is_or_not, both, eq_is, lt_is}
 use Rattle.volume_tree.specs.Volume.{IsCapacity}
 use Rattle.rescan.specs.Frontiers.{Front, scanned, unvisited}
@@ -78,7 +76,7 @@ total_small K nodes v legal =
     bound : (n whole : ℕ) → whole ≤ n * longest_file → n ≤ 1048576 → whole < 2 ^ 64
     bound n whole h few = omega (arith, mul-le-mul_right longest_file few)
 
-sum_le : (f g : NodeRow → ℕ) (rows : List NodeRow) → ((r : NodeRow) → f r ≤ g r) → sum_by f rows ≤ sum_by g rows
+pub sum_le : (f g : NodeRow → ℕ) (rows : List NodeRow) → ((r : NodeRow) → f r ≤ g r) → sum_by f rows ≤ sum_by g rows
 sum_le f g [] h = omega arith
 sum_le f g (r ∷ rows) h = omega (arith, sum_by-cons f r rows, sum_by-cons g r rows, h r, sum_le f g rows h)
 

@@ -1,12 +1,12 @@
 -- Sets that are copied and listed number by number.
-use Rattle.std.proofs.Common.{◌≡◌, ℕ, suc, ◌+◌, ◌<◌, ◌≤◌, ◌==◌, Bool, true, false, cond, not, ◌||◌, ◌&&◌, inl, inr, List, [], ◌∷◌, ◌++◌, length, Some, None, refl, sym, ◌∙◌, ap, subst, arith, append_assoc, nat_lt}
+use Rattle.std.proofs.Common.{◌≡◌, ℕ, ◌+◌, ◌<◌, ◌≤◌, ◌==◌, Bool, true, false, cond, not, ◌||◌, ◌&&◌, List, [], ◌∷◌, ◌++◌, Some, None, refl, sym, ◌∙◌, ap, subst, arith, append_assoc, nat_lt}
 use Rattle.std.proofs.lemmas.Bool.Decides.{nat_tests}
 use Rattle.std.proofs.lemmas.Option.{same_Some}
 use Rattle.std.specs.Prelude.{slice_get}
 use Rattle.fsrm_model.specs.Numbers.{is_in, is_set, with_number, without_number}
-use Rattle.fsrm_model.proofs.TestLaws.{is_or_not, clash, not_true, neither, eq_is, eq_same, lt_test}
+use Rattle.fsrm_model.proofs.TestLaws.{neither, eq_is, eq_same, lt_test}
 use Rattle.number_set.specs.Numbers.{Numbers}
-use Rattle.number_set.proofs.NumberLaws.{in_with, in_without, set_with, set_without, same_set, first_once}
+use Rattle.number_set.proofs.NumberLaws.{in_with, set_with, same_set, first_once}
 
 -- the least member is taken out
 without_absent : (n : ℕ) (ns : List ℕ) → is_in ns n ≡ false → without_number n ns ≡ ns

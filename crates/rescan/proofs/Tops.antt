@@ -120,7 +120,7 @@ record Top (nodes : List NodeRow) (f : Front) (n : ℕ) : Type 0 where
 top_of : (v : Volume) (f : Front) → Stands v f → (n : ℕ) → is_in f.tops n ≡ true → Top v.nodes f n
 top_of v f s n h =
     let is = both (is_topmost v.nodes (unvisited v.nodes f) n) (is_in (unvisited v.nodes f) n)
-        (sym (in_filter (is_topmost v.nodes (unvisited v.nodes f)) (unvisited v.nodes f) n) ∙ (ap (λ ns. is_in ns n) (sym s.tops) ∙ h)) in
+    (sym (in_filter (is_topmost v.nodes (unvisited v.nodes f)) (unvisited v.nodes f) n) ∙ (ap (λ ns. is_in ns n) (sym s.tops) ∙ h)) in
     record { topmost = is.0; member = is.1 }
 
 apart_at : (v : Volume) (f : Front) → Stands v f → (n m : ℕ) → is_in f.tops m ≡ true → Top v.nodes f n → is_under v.nodes m n ≡ true → m ≡ n

@@ -1,12 +1,12 @@
 -- A visit of one of the topmost unvisited folders.
-use Rattle.std.proofs.Common.{◌≡◌, ℕ, zero, suc, ◌+◌, ◌*◌, ◌<◌, ◌≤◌, ◌==◌, ◌⊎◌, Bool, true, false, cond, not, ◌||◌, ◌&&◌, inl, inr, List, [], ◌∷◌, length, Option, Some, None, refl, sym, ◌∙◌, ap, subst, arith}
+use Rattle.std.proofs.Common.{◌≡◌, ℕ, zero, suc, ◌+◌, ◌≤◌, ◌==◌, ◌⊎◌, Bool, true, false, cond, not, ◌||◌, ◌&&◌, inl, inr, List, [], ◌∷◌, length, Option, Some, None, refl, sym, ◌∙◌, ap, subst, arith}
 use Rattle.std.proofs.lemmas.Option.{same_Some}
-use Rattle.std.specs.Prelude.{map, filter, find, sum_by, slice_get, if◌then◌else◌}
+use Rattle.std.specs.Prelude.{filter, find, sum_by, slice_get, if◌then◌else◌}
 use Rattle.std.specs.Option.{option_map_or}
 use Rattle.fsrm_model.specs.declared.row.Capacity.{Capacity}
 use Rattle.fsrm_model.specs.declared.row.NodeRow.{NodeRow}
 use Rattle.fsrm_model.specs.Keyed.{is_ascending}
-use Rattle.fsrm_model.specs.Numbers.{is_in, is_set, without_number, with_numbers}
+use Rattle.fsrm_model.specs.Numbers.{is_in, without_number, with_numbers}
 use Rattle.fsrm_model.specs.Scan.{is_topmost, next_visit, visit, counted}
 use Rattle.fsrm_model.specs.Space.{space}
 use Rattle.fsrm_model.specs.Tree.{number, node_of, parent_of, is_folder, is_child, children, chain, is_under}
@@ -15,8 +15,8 @@ use Rattle.fsrm_model.proofs.TestLaws.{is_or_not, clash, not_true, both, both_tr
 use Rattle.fsrm_model.proofs.ValidLaws.{folder_has}
 use Rattle.fsrm_model.proofs.ChainLaws.{IsTree, Has, sum_by-filter, sum_by_same}
 use Rattle.fsrm_model.proofs.Below.{chain_root}
-use Rattle.fsrm_model.proofs.Climbs.{climb, shorter}
-use Rattle.fsrm_model.proofs.Keeps.{tree_of, found_parent, as_suc}
+use Rattle.fsrm_model.proofs.Climbs.{shorter}
+use Rattle.fsrm_model.proofs.Keeps.{tree_of, as_suc}
 use Rattle.fsrm_model.proofs.MoveLaws.{own_first}
 use Rattle.fsrm_model.proofs.Sums.{sum_by-add}
 use Rattle.fsrm_model.proofs.UsageLaws.{parent_lacks}
@@ -239,7 +239,7 @@ pub counted_after : (K : Capacity) (nodes : List NodeRow) → IsVolume K nodes �
 counted_after K nodes v f t n top =
     let more : NodeRow → ℕ = λ r. if is_child n r then space K r else 0 in
     let each = sum_by_same (part K nodes (after nodes n f)) (λ r. part K nodes f r + more r) nodes
-        (each_row number (λ r. part K nodes (after nodes n f) r ≡ part K nodes f r + more r) nodes v.ascending (counts_at K nodes v f t n top)) in
+    (each_row number (λ r. part K nodes (after nodes n f) r ≡ part K nodes f r + more r) nodes v.ascending (counts_at K nodes v f t n top)) in
     omega (arith, counted_is K nodes v (after nodes n f), counted_is K nodes v f, each, sum_by-add (part K nodes f) more nodes, sum_by-filter (is_child n) (space K) nodes)
 
 -- the folder that is visited is the first of the topmost

@@ -1,7 +1,6 @@
-use Rattle.std.proofs.Common.{◌≡◌, ℕ, ◌<◌, ◌∷◌, ◌++◌, List, Some, None, length, true, ap, sym, ◌∙◌, arith}
-use Rattle.std.specs.Prelude.{slice_get}
+use Rattle.std.proofs.Common.{ℕ, ◌<◌, ◌++◌, List, length, ap, sym, ◌∙◌, arith}
 use Rattle.std.proofs.lemmas.List.{append-nil}
-use Rattle.fsrm_model.specs.Numbers.{is_set, without_number}
+use Rattle.fsrm_model.specs.Numbers.{is_set}
 use Rattle.number_set.specs.Numbers.{Numbers}
 use Rattle.number_set.proofs.NumberLaws.{set_without}
 use Rattle.rescan.proofs.SetLaws.{first_taken, listed_more, none_first}

@@ -1,4 +1,4 @@
-use Rattle.std.proofs.Common.{◌≡◌, ◌+◌, ◌*◌, ◌≤◌}
+use Rattle.std.proofs.Common.{◌+◌, ◌*◌, ◌≤◌}
 use Rattle.rescan.proofs.ChildLaws.{TakenUp}
 use Rattle.rescan.proofs.visits.enter_children.Given as goal
 

@@ -1,4 +1,4 @@
-use Rattle.std.proofs.Common.{◌≡◌, ℕ, ◌+◌, ◌<◌, true, List, ◌∙◌, ap, sym, arith}
+use Rattle.std.proofs.Common.{◌<◌, ◌∙◌, ap, sym, arith}
 use Rattle.fsrm_model.specs.Numbers.{is_in, is_set}
 use Rattle.number_set.specs.Numbers.{Numbers, no_numbers}
 use Rattle.rescan.specs.Frontiers.{Front}

@@ -1,10 +1,6 @@
-use Rattle.std.proofs.Common.{◌≡◌, ℕ, ◌≤◌, ◌+◌, List, Option, Some, None, ◌∙◌, ap, sym, subst, arith}
-use Rattle.std.specs.Prelude.{slice_get, sum_by}
-use Rattle.fsrm_model.specs.Space.{space}
-use Rattle.fsrm_model.specs.Tree.{children}
-use Rattle.number_set.specs.Numbers.{Numbers}
-use Rattle.rescan.specs.Frontiers.{Front, Stands}
-use Rattle.rescan.specs.Visits.{tops_after}
+use Rattle.std.proofs.Common.{◌≡◌, Some, None, ◌∙◌, ap, sym, arith}
+use Rattle.std.specs.Prelude.{slice_get}
+use Rattle.rescan.specs.Frontiers.{Front}
 use Rattle.rescan.proofs.VisitLaws.{next_is, visited_none, visited_some, visited_sum, visited_fields}
 use Rattle.rescan.proofs.frontier.Frontier.visit.Goals as goal
 
