@@ -27,3 +27,4 @@ pub mod Line
 pub mod Spelling
 pub mod Script
 pub mod WorkedRows
+pub mod Patterns

@@ -1,0 +1,21 @@
+-- What a pattern and a name begin with.
+use Rattle.std.specs.Prelude.{◌≡◌, ℕ, ◌==◌, true, false, List, [], ◌∷◌, chars}
+use Rattle.fsrm_model.specs.Patterns.{matches, stands_for}
+use Rattle.file_groups.specs.declared.matching.Heads.{Heads}
+use Rattle.file_groups.specs.declared.matching.Heads.TheVariants.{Star, One, Ended, Apart}
+
+-- a character of the pattern that is no star stands for the first one of the name
+pub record StandsFirst (pattern name behind rest : List ℕ) : Type 0 where
+  pub wanted : ℕ
+  pub character : ℕ
+  pub no_star : (wanted == 42) ≡ false
+  pub stands : stands_for wanted character ≡ true
+  pub pattern_is : pattern ≡ wanted ∷ behind
+  pub name_is : name ≡ character ∷ rest
+
+-- what was found at the front of both
+abbrev pub AreHeads : List ℕ → List ℕ → Heads → Type 0
+AreHeads pattern name (Star behind) = pattern ≡ 42 ∷ chars behind.now
+AreHeads pattern name (One behind rest) = StandsFirst pattern name (chars behind.now) (chars rest.now)
+AreHeads pattern name Ended = (pattern ≡ []) × (name ≡ [])
+AreHeads pattern name Apart = matches pattern name ≡ false
