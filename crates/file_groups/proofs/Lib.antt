@@ -1,1 +1,2 @@
 pub mod SortedRows
+pub mod StarLaws

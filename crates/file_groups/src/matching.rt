@@ -1,9 +1,9 @@
 //! Whether a name matches a pattern, without memory and without a way back: of all stars only the last
 //! one that was met is ever tried again.
 
-ghost use Rattle.std.specs.Prelude.{◌≡◌, ◌∷◌, [], MatchOption, chars};
+ghost use Rattle.std.specs.Prelude.{◌≡◌, [], MatchOption, chars};
 ghost use Rattle.fsrm_model.specs.Patterns.{pattern_matches, matches, some_end, stands_for};
-ghost use Rattle.file_groups.specs.Heads.{AreHeads};
+ghost use Rattle.file_groups.specs.Heads.{AreHeads, BeginsWith};
 
 use unicode::case::simple_fold;
 
@@ -31,7 +31,7 @@ enum Heads<'a> {
 }
 
 fn heads_of<'a>(pattern: &'a str, name: &'a str) -> Heads<'a>
-    ensures { AreHeads (chars pattern.now) (chars name.now) result }
+    ensures { AreHeads pattern.now name.now result }
 {
     match (first(pattern), first(name)) {
         (Some(('*', behind)), _) => Heads::Star(behind),
@@ -45,7 +45,7 @@ fn heads_of<'a>(pattern: &'a str, name: &'a str) -> Heads<'a>
 
 // A text's first character, and what is behind it.
 fn first(text: &str) -> Option<(char, &str)>
-    ensures { MatchOption result (chars text.now ≡ []) (λ cut. chars text.now ≡ cut.0 ∷ chars cut.1.now) }
+    ensures { MatchOption result (chars text.now ≡ []) (λ cut. BeginsWith text.now cut.0 cut.1.now) }
 {
     let mut characters = text.chars();
     let character = characters.next()?;
