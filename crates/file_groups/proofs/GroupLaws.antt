@@ -203,3 +203,18 @@ module _ (groups : List GroupRow) (n p : ℕ) (old row : GroupRow) (members non_
       let sum : all_texts (slice_set groups p row) ≡ all_texts (with_patterns n members non_members groups) = ap all_texts changed_is in
       let its : texts_of row ≡ texts_of (regrouped members non_members old) = ap texts_of made in
       omega (arith, sum, its, sum_by-with_change group_number texts_of n (regrouped members non_members) old groups are.ascending (read_found groups n p old at read))
+
+-- ---- what a search answers, of the rows that it was lent
+pub at_place : (groups rows : List GroupRow) (n p : ℕ) (r : Result ℕ ℕ) → groups ≡ rows → r ≡ Ok p → IfOk r (IsAt group_number n groups) → IsAt group_number n rows p
+at_place groups rows n p r same is found =
+    subst (λ (items : List GroupRow). IsAt group_number n items p) same (subst (λ (answer : Result ℕ ℕ). IfOk answer (IsAt group_number n groups)) is found)
+
+-- a new group's number is free, and one that a group may have
+pub free_absent : (groups : List GroupRow) → AreGroups groups → has_row group_number (least_free group_number groups) groups ≡ false
+free_absent groups are = (least_free_is group_number groups are.ascending).free
+
+pub free_below : (groups : List GroupRow) → AreGroups groups → length groups < most_groups → least_free group_number groups < most_groups
+free_below groups are room = let most = (least_free_is group_number groups are.ascending).most in omega (arith, most)
+
+pub made_valid : (row : GroupRow) → row.number < most_groups → is_object_name row.name ≡ true → list_all is_pattern row.members ≡ true → list_all is_pattern row.non_members ≡ true → is_group row ≡ true
+made_valid row below name members non_members = both_true _ _ (both_true _ _ (lt_test row.number most_groups below) name) (both_true _ _ members non_members)
