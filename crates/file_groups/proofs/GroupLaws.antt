@@ -5,6 +5,8 @@ use Rattle.std.proofs.lemmas.List.Edits.{length-insert, length-remove}
 use Rattle.std.proofs.lemmas.List.Sums.{sum_by-cons}
 use Rattle.std.proofs.lemmas.Option.{same_Some, get_or_from_slice_get}
 use Rattle.std.specs.List.{list_all, list_any}
+use Rattle.std.specs.Borrow.{Bor}
+use Rattle.std.specs.Option.{option_copied}
 use Rattle.std.specs.Prelude.{slice_set, filter, find, sum_by, unwrap_or}
 use Rattle.fsrm_model.specs.declared.row.GroupRow.{GroupRow}
 use Rattle.fsrm_model.specs.Keyed.{row_of, has_row, with_row, with_change, without_row, is_ascending, least_free}
@@ -218,3 +220,8 @@ free_below groups are room = let most = (least_free_is group_number groups are.a
 
 pub made_valid : (row : GroupRow) → row.number < most_groups → is_object_name row.name ≡ true → list_all is_pattern row.members ≡ true → list_all is_pattern row.non_members ≡ true → is_group row ≡ true
 made_valid row below name members non_members = both_true _ _ (both_true _ _ (lt_test row.number most_groups below) name) (both_true _ _ members non_members)
+
+-- the patterns that are lent are those that are given
+pub lent_patterns : (lent lent' : Option (Bor (List (List ℕ)))) (members non_members : Option (List (List ℕ))) (old : GroupRow) → option_copied lent ≡ members → option_copied lent' ≡ non_members → regrouped (option_copied lent) (option_copied lent') old ≡ regrouped members non_members old
+lent_patterns lent lent' members non_members old is is' =
+    ap (λ (given : Option (List (List ℕ))). regrouped given (option_copied lent') old) is ∙ ap (λ (given : Option (List (List ℕ))). regrouped members given old) is'

@@ -1,16 +1,16 @@
 //! The table of file groups.
 
-ghost use Rattle.std.specs.Prelude.{◌≡◌, ◌+◌, ◌<◌, ◌^◌, IfOk, IfErr, OnOk, OnErr, [], None, Some, true, false, length, slice_get};
+ghost use Rattle.std.specs.Prelude.{◌≡◌, ◌+◌, ◌<◌, ◌^◌, IfOk, IfErr, OnOk, OnErr, [], None, Some, true, false, is_none, length, slice_get};
 ghost use Rattle.std.specs.Option.{option_copied};
 ghost use Rattle.fsrm_model.specs.Keyed.{row_of, has_row};
 ghost use Rattle.fsrm_model.specs.Patterns.{all_texts, group_number, in_group_of, is_group, is_object_name, most_groups, new_group, number_named, texts_of, with_group, with_patterns, without_group};
-ghost use Rattle.file_groups.specs.Faults.{IsFault, group_fault, patterns_fault};
+ghost use Rattle.file_groups.specs.Faults.{IsFault, group_fault, new_fault, patterns_fault};
 ghost use Rattle.file_groups.specs.Kept.{AreGroups};
 
 use crate::answer::GroupFault;
 use crate::pattern::Pattern;
 use crate::rows;
-use fsrm_model::{GroupRow, List, Text};
+use fsrm_model::{GroupRow, List, NoMemory, Text};
 use name_rules::same_name;
 use std::alloc::Global;
 use std::marker::Model;
@@ -73,6 +73,8 @@ impl Groups {
         ensures err { OnErr result (self.new ≡ self.old) }
         ensures kept { AreGroups self.new }
     {
+        let left = rows::left_of_new(name, &members, &non_members, room);
+        let bytes = room - self.admit(name, left)?;
         let row = GroupRow {
             number: rows::free_number(&self.groups),
             name: Text::from_str(self.alloc, name)?,
@@ -80,7 +82,7 @@ impl Groups {
             non_members: rows::texts_from(self.alloc, &non_members)?,
         };
         let number = row.number;
-        self.insert(row, room)?;
+        self.insert(row, bytes)?;
         Ok(number)
     }
 
@@ -97,45 +99,44 @@ impl Groups {
         ensures err { OnErr result (self.new ≡ self.old) }
         ensures kept { AreGroups self.new }
     {
-        self.insert(row, room)
-    }
-
-    // A group that isn't there, and that is sound unless the table is full.
-    fn insert(&mut self, row: GroupRow, room: u32) -> Result<(), GroupFault>
-        requires valid { length self.old < most_groups → is_group row ≡ true }
-        requires free { has_row group_number row.number self.old ≡ false }
-        requires fits { all_texts self.old + room < 2 ^ 32 }
-        ensures ok { OnOk result (self.new ≡ with_group row self.old) }
-        ensures may { OnOk result (group_fault self.old row room ≡ None) }
-        ensures refused { IfErr result (λ fault. IsFault fault (group_fault self.old row room)) }
-        ensures err { OnErr result (self.new ≡ self.old) }
-        ensures kept { AreGroups self.new }
-    {
-        let bytes = self.admit(&row, room)?;
-        let place = rows::gap(&self.groups, row.number);
-        let Ok(()) = self.groups.insert(place, row) else {
-            return Err(GroupFault::NoMemory);
-        };
-        self.texts += bytes;
+        let left = rows::left_of_group(&row, room);
+        let bytes = room - self.admit(row.name.as_str(), left)?;
+        self.insert(row, bytes)?;
         Ok(())
     }
 
-    // The bytes of a new group's texts, where it may be added.
-    fn admit(&self, row: &GroupRow, room: u32) -> Result<u32, GroupFault>
-        ensures bytes { IfOk result (λ bytes. bytes ≡ texts_of row.now) }
-        ensures may { OnOk result (group_fault self.now row.now room ≡ None) }
-        ensures refused { IfErr result (λ fault. IsFault fault (group_fault self.now row.now room)) }
+    // What a new group of this name leaves of the room, where it may be added. None is given where its
+    // texts are longer.
+    fn admit(&self, name: &str, left: Option<u32>) -> Result<u32, GroupFault>
+        ensures left { IfOk result (λ kept. left ≡ Some kept) }
+        ensures may { OnOk result (new_fault self.now name.now (is_none left) ≡ None) }
+        ensures refused { IfErr result (λ fault. new_fault self.now name.now (is_none left) ≡ Some fault) }
+        ensures kept { AreGroups self.now }
     {
-        if self.find(row.name.as_str()).is_some() {
+        if rows::find(&self.groups, name).is_some() {
             return Err(GroupFault::DuplicateName);
         }
         if self.groups.len() >= MOST_GROUPS {
             return Err(GroupFault::TableFull);
         }
-        match rows::left_of_group(row, room) {
-            Some(left) => Ok(room - left),
-            None => Err(GroupFault::TextsFull),
-        }
+        left.ok_or(GroupFault::TextsFull)
+    }
+
+    // Puts a group of so many bytes in its place, where nothing refuses it.
+    fn insert(&mut self, row: GroupRow, bytes: u32) -> Result<(), NoMemory>
+        requires valid { is_group row ≡ true }
+        requires free { has_row group_number row.number self.old ≡ false }
+        requires admitted { new_fault self.old row.name false ≡ None }
+        requires bytes { bytes ≡ texts_of row }
+        requires fits { all_texts self.old + bytes < 2 ^ 32 }
+        ensures ok { OnOk result (self.new ≡ with_group row self.old) }
+        ensures err { OnErr result (self.new ≡ self.old) }
+        ensures kept { AreGroups self.new }
+    {
+        let place = rows::gap(&self.groups, row.number);
+        self.groups.insert(place, row)?;
+        self.texts += bytes;
+        Ok(())
     }
 
     /// Gives a group that is there other members, other non-members, or both.
@@ -159,11 +160,12 @@ impl Groups {
     {
         let place = rows::search(&self.groups, group).unwrap();
         let old = &self.groups[place];
-        let row = rows::regrouped(self.alloc, old, members, non_members)?;
+        let (members, non_members) = (members.as_ref(), non_members.as_ref());
         let replaced = rows::texts_of(old);
-        let Some(left) = rows::left_of_group(&row, room + replaced) else {
+        let Some(left) = rows::left_of_regrouped(old, members, non_members, room + replaced) else {
             return Err(GroupFault::TextsFull);
         };
+        let row = rows::regrouped(self.alloc, old, members, non_members)?;
         self.texts = self.texts + room - left;
         self.groups[place] = row;
         Ok(())

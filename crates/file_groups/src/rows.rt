@@ -2,6 +2,7 @@
 
 ghost use Rattle.std.specs.Prelude.{◌≡◌, ◌+◌, ◌<◌, ◌≤◌, ◌&&◌, ◌^◌, not, true, false, length, IfOk, IfErr, MatchOption, unwrap_or};
 ghost use Rattle.std.specs.List.{list_all, list_any};
+ghost use Rattle.std.specs.Option.{option_copied};
 ghost use Rattle.fsrm_model.specs.Keyed.{has_row, is_ascending, least_free};
 ghost use Rattle.fsrm_model.specs.Patterns.{group_number, in_group, is_group, is_pattern, most_groups, number_named, pattern_matches, regrouped, texts_bytes, texts_of};
 ghost use Rattle.file_groups.specs.Places.{IsAt, IsGap};
@@ -86,9 +87,58 @@ pub fn texts_of(group: &GroupRow) -> u32
 pub fn left_of_group(group: &GroupRow, room: u32) -> Option<u32>
     ensures { MatchOption result (room < texts_of group.now) (λ left. left + texts_of group.now ≡ room) }
 {
-    let left = left_of_text(&group.name, room)?;
-    let left = left_of_texts(&group.members, left)?;
-    left_of_texts(&group.non_members, left)
+    left_of_regrouped(group, None, None, room)
+}
+
+/// How much room it leaves with other members, other non-members, or both.
+pub fn left_of_regrouped(
+    group: &GroupRow,
+    members: Option<&List<Pattern>>,
+    non_members: Option<&List<Pattern>>,
+    room: u32,
+) -> Option<u32>
+    ensures { let row = regrouped (option_copied members.entry) (option_copied non_members.entry) group.now in
+        MatchOption result (room < texts_of row) (λ left. left + texts_of row ≡ room) }
+{
+    let left = left_of_text(group.name.as_str(), room)?;
+    let left = left_of_either(members, &group.members, left)?;
+    left_of_either(non_members, &group.non_members, left)
+}
+
+/// How much room the texts of a new group leave.
+pub fn left_of_new(
+    name: &str,
+    members: &List<Pattern>,
+    non_members: &List<Pattern>,
+    room: u32,
+) -> Option<u32>
+    ensures { let bytes = length name.now + (texts_bytes members.now + texts_bytes non_members.now) in
+        MatchOption result (room < bytes) (λ left. left + bytes ≡ room) }
+{
+    let left = left_of_text(name, room)?;
+    let left = left_of_patterns(members, left)?;
+    left_of_patterns(non_members, left)
+}
+
+// The room that the patterns leave, or the texts where none are given.
+fn left_of_either(patterns: Option<&List<Pattern>>, texts: &List<Text>, room: u32) -> Option<u32>
+    ensures { let bytes = texts_bytes (unwrap_or (option_copied patterns.entry) texts.now) in
+        MatchOption result (room < bytes) (λ left. left + bytes ≡ room) }
+{
+    match patterns {
+        Some(patterns) => left_of_patterns(patterns, room),
+        None => left_of_texts(texts, room),
+    }
+}
+
+fn left_of_patterns(patterns: &List<Pattern>, room: u32) -> Option<u32>
+    ensures { MatchOption result (room < texts_bytes patterns.now) (λ left. left + texts_bytes patterns.now ≡ room) }
+{
+    let mut left = room;
+    for pattern in patterns.as_slice() {
+        left = left_of_text(pattern.as_str(), left)?;
+    }
+    Some(left)
 }
 
 fn left_of_texts(texts: &List<Text>, room: u32) -> Option<u32>
@@ -96,15 +146,15 @@ fn left_of_texts(texts: &List<Text>, room: u32) -> Option<u32>
 {
     let mut left = room;
     for text in texts.as_slice() {
-        left = left_of_text(text, left)?;
+        left = left_of_text(text.as_str(), left)?;
     }
     Some(left)
 }
 
-fn left_of_text(text: &Text, room: u32) -> Option<u32>
+fn left_of_text(text: &str, room: u32) -> Option<u32>
     ensures { MatchOption result (room < length text.now) (λ left. left + length text.now ≡ room) }
 {
-    let bytes = text.as_str().len();
+    let bytes = text.len();
     if bytes > room as usize {
         return None;
     }
@@ -127,11 +177,11 @@ pub fn texts_from(alloc: Global, patterns: &List<Pattern>) -> Result<List<Text>,
 pub fn regrouped(
     alloc: Global,
     group: &GroupRow,
-    members: Option<List<Pattern>>,
-    non_members: Option<List<Pattern>>,
+    members: Option<&List<Pattern>>,
+    non_members: Option<&List<Pattern>>,
 ) -> Result<GroupRow, NoMemory>
     requires { is_group group.now ≡ true }
-    ensures row { IfOk result (λ row. row ≡ regrouped members non_members group.now) }
+    ensures row { IfOk result (λ row. row ≡ regrouped (option_copied members.entry) (option_copied non_members.entry) group.now) }
     ensures valid { IfOk result (λ row. is_group row ≡ true) }
 {
     Ok(GroupRow {
@@ -145,15 +195,15 @@ pub fn regrouped(
 // The texts of the patterns, or a copy of the texts that are there.
 fn texts_or(
     alloc: Global,
-    patterns: Option<List<Pattern>>,
+    patterns: Option<&List<Pattern>>,
     texts: &List<Text>,
 ) -> Result<List<Text>, NoMemory>
     requires { list_all is_pattern texts.now ≡ true }
-    ensures texts { IfOk result (λ made. made ≡ unwrap_or patterns texts.now) }
+    ensures texts { IfOk result (λ made. made ≡ unwrap_or (option_copied patterns.entry) texts.now) }
     ensures valid { IfOk result (λ made. list_all is_pattern made ≡ true) }
 {
     match patterns {
-        Some(patterns) => texts_from(alloc, &patterns),
+        Some(patterns) => texts_from(alloc, patterns),
         None => texts.copy(alloc),
     }
 }

@@ -9,6 +9,6 @@ returns c =
     record {
       is_text = c.as_str.utf8;
       characters =
-        chars_past_char _ _ character c.utf8.text (sym c.chars-characters.ensures.rest ∙ c.in_ok-character.ensures.steps.0)
-        ∙ ap (λ rest. character ∷ chars rest) (sym c.as_str.ensures);
+          chars_past_char _ _ character c.utf8.text (sym c.chars-characters.ensures.rest ∙ c.in_ok-character.ensures.steps.0)
+          ∙ ap (λ rest. character ∷ chars rest) (sym c.as_str.ensures);
     }

@@ -10,6 +10,6 @@ returns-in-Ok c =
     let groups = c.args.groups.now in
     elim c.in-Ok.is [
       | inl is ↦ absurd (clash _ (row_found group_number c.args.number groups c.in-Ok.place
-        (subst (λ (answer : Result ℕ ℕ). IfOk answer (IsAt group_number c.args.number groups)) is c.search.ensures.found)).has c.requires.absent)
+          (subst (λ (answer : Result ℕ ℕ). IfOk answer (IsAt group_number c.args.number groups)) is c.search.ensures.found)).has c.requires.absent)
       | inr is ↦ subst (λ (answer : Result ℕ ℕ). IfErr answer (IsGap group_number c.args.number groups)) is c.search.ensures.free
     ]

@@ -1,32 +1,33 @@
-use Rattle.std.proofs.Common.{List, ℕ, sym, ◌∙◌, ap, length, arith, IfOk}
-use Rattle.std.specs.Prelude.{is_some}
+use Rattle.std.proofs.Common.{List, ℕ, ◌≡◌, ◌≤◌, ◌<◌, true, false, sym, ◌∙◌, ap, subst, length, arith}
+use Rattle.std.specs.Prelude.{is_some, is_none}
+use Rattle.std.specs.List.{list_any}
 use Rattle.fsrm_model.specs.declared.row.GroupRow.{GroupRow}
-use Rattle.fsrm_model.specs.Patterns.{number_named}
-use Rattle.file_groups.proofs.FaultLaws.{named_is, duplicate_due, table_due, texts_due, none_due}
+use Rattle.fsrm_model.specs.Patterns.{has_name, most_groups, number_named}
+use Rattle.file_groups.proofs.FaultLaws.{named_as, duplicate_due, table_due, answered_may, answered_refused}
 use Rattle.file_groups.proofs.groups.Groups.admit.Goals as goal
 
 pub returns-then-is_some-clause-refused : goal.returns-then-is_some-clause-refused
 returns-then-is_some-clause-refused c =
-    duplicate_due c.args.self.now c.args.row.now c.args.room
-    (sym (named_is c.args.row.now.name c.args.self.now) ∙ (ap (λ (name : List ℕ). is_some (number_named name c.args.self.now)) (sym c.as_str.ensures) ∙ (ap is_some (sym c.find.ensures) ∙ (sym c.is_some.ensures ∙ c.if-is_some.true))))
+    duplicate_due c.args.self.now c.args.name.now (is_none c.args.left)
+    (named_as c.args.name.now c.deref.result.now c.args.self.now c.find.result true (c.deref.ensures.value ∙ c.self.view_is) c.find.ensures (sym c.is_some.ensures ∙ c.if-is_some.true))
 
 pub returns-then-len-ge-MOST_GROUPS-clause-refused :
     goal.returns-then-len-ge-MOST_GROUPS-clause-refused
 returns-then-len-ge-MOST_GROUPS-clause-refused c =
-    table_due c.args.self.now c.args.row.now c.args.room
-    (sym (named_is c.args.row.now.name c.args.self.now) ∙ (ap (λ (name : List ℕ). is_some (number_named name c.args.self.now)) (sym c.as_str.ensures) ∙ (ap is_some (sym c.find.ensures) ∙ (sym c.is_some.ensures ∙ c.if-is_some.false))))
+    table_due c.args.self.now c.args.name.now (is_none c.args.left)
+    (named_as c.args.name.now c.deref.result.now c.args.self.now c.find.result false (c.deref.ensures.value ∙ c.self.view_is) c.find.ensures (sym c.is_some.ensures ∙ c.if-is_some.false))
     (omega (arith, ap length c.self.view_is))
 
-pub returns-in-Some-clause-may : goal.returns-in-Some-clause-may
-returns-in-Some-clause-may c =
-    none_due c.args.self.now c.args.row.now c.args.room
-    (sym (named_is c.args.row.now.name c.args.self.now) ∙ (ap (λ (name : List ℕ). is_some (number_named name c.args.self.now)) (sym c.as_str.ensures) ∙ (ap is_some (sym c.find.ensures) ∙ (sym c.is_some.ensures ∙ c.if-is_some.false))))
+pub returns-clause-may : goal.returns-clause-may
+returns-clause-may c =
+    answered_may c.args.self.now c.args.name.now
+    (named_as c.args.name.now c.deref.result.now c.args.self.now c.find.result false (c.deref.ensures.value ∙ c.self.view_is) c.find.ensures (sym c.is_some.ensures ∙ c.if-is_some.false))
     (omega (arith, ap length c.self.view_is))
-    (omega (arith, c.in-Some.ensures))
+    c.args.left c.ok_or.result c.ok_or.ensures.value
 
-pub returns-in-None-clause-refused : goal.returns-in-None-clause-refused
-returns-in-None-clause-refused c =
-    texts_due c.args.self.now c.args.row.now c.args.room
-    (sym (named_is c.args.row.now.name c.args.self.now) ∙ (ap (λ (name : List ℕ). is_some (number_named name c.args.self.now)) (sym c.as_str.ensures) ∙ (ap is_some (sym c.find.ensures) ∙ (sym c.is_some.ensures ∙ c.if-is_some.false))))
+pub returns-clause-refused : goal.returns-clause-refused
+returns-clause-refused c =
+    answered_refused c.args.self.now c.args.name.now
+    (named_as c.args.name.now c.deref.result.now c.args.self.now c.find.result false (c.deref.ensures.value ∙ c.self.view_is) c.find.ensures (sym c.is_some.ensures ∙ c.if-is_some.false))
     (omega (arith, ap length c.self.view_is))
-    c.in-None.ensures
+    c.args.left c.ok_or.result c.ok_or.ensures.value

@@ -1,4 +1,4 @@
-use Rattle.std.proofs.Common.{List, ℕ, ◌+◌, ◌<◌, insert, sym, ◌∙◌, ap, subst, length, arith}
+use Rattle.std.proofs.Common.{List, ℕ, false, ◌+◌, insert, sym, ◌∙◌, ap, subst, length, arith}
 use Rattle.fsrm_model.specs.declared.row.GroupRow.{GroupRow}
 use Rattle.fsrm_model.specs.Patterns.{group_number, most_groups, with_group}
 use Rattle.file_groups.specs.Faults.{group_fault}
@@ -13,18 +13,17 @@ pub invariant_of-self-2 : goal.invariant_of-self-2
 invariant_of-self-2 c =
     let groups = c.self.inside.groups.items in
     let gap = subst (λ (rows : List GroupRow). IsGap group_number c.args.row.number rows c.gap-place.result) c.deref.ensures.value c.gap-place.ensures in
-    let may : Admitted groups c.args.row c.args.room = admitted groups c.args.row c.args.room (ap (λ (rows : List GroupRow). group_fault rows c.args.row c.args.room) c.self.view_is ∙ c.in_ok-bytes.ensures.may) in
-    let valid = c.requires.valid (subst (λ (rows : List GroupRow). length rows < most_groups) c.self.view_is may.few) in
-    subst (λ (rows : List GroupRow). IsTable rows (c.self.inside.texts + c.in_ok-bytes.bytes)) (sym c.in-Ok.ensures.items)
+    let may : Admitted groups c.args.row.name = subst (λ (rows : List GroupRow). Admitted rows c.args.row.name) (sym c.self.view_is) (admitted c.args.self.now c.args.row.name false c.requires.admitted) in
+    subst (λ (rows : List GroupRow). IsTable rows (c.self.inside.texts + c.args.bytes)) (sym c.in_ok-insert.ensures.items)
     (record {
-      are = more_are groups c.args.row c.gap-place.result c.self.invariant.are gap may.few valid may.new;
-      texts_are = more_texts groups c.args.row c.gap-place.result c.self.inside.texts c.in_ok-bytes.bytes gap c.self.invariant.texts_are c.in_ok-bytes.ensures.bytes;
+      are = more_are groups c.args.row c.gap-place.result c.self.invariant.are gap may.few c.requires.valid may.new;
+      texts_are = more_texts groups c.args.row c.gap-place.result c.self.inside.texts c.args.bytes gap c.self.invariant.texts_are c.requires.bytes;
     })
 
 pub returns-clause-ok : goal.returns-clause-ok
 returns-clause-ok c =
     let gap = subst (λ (rows : List GroupRow). IsGap group_number c.args.row.number rows c.gap-place.result) c.deref.ensures.value c.gap-place.ensures in
-    c.in-Ok.ensures.items ∙ (insert_row group_number c.args.row c.self.inside.groups.items c.gap-place.result gap ∙ ap (with_group c.args.row) c.self.view_is)
+    c.in_ok-insert.ensures.items ∙ (insert_row group_number c.args.row c.self.inside.groups.items c.gap-place.result gap ∙ ap (with_group c.args.row) c.self.view_is)
 
 pub returns-clause-kept : goal.returns-clause-kept
 returns-clause-kept c = (invariant_of-self-2 c).are
