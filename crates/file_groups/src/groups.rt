@@ -3,7 +3,7 @@
 ghost use Rattle.std.specs.Prelude.{◌≡◌, ◌+◌, ◌<◌, ◌^◌, IfOk, IfErr, OnOk, OnErr, [], None, Some, true, false, is_none, length, slice_get};
 ghost use Rattle.std.specs.Option.{option_copied};
 ghost use Rattle.fsrm_model.specs.Keyed.{row_of, has_row};
-ghost use Rattle.fsrm_model.specs.Patterns.{all_texts, group_number, in_group_of, is_group, is_object_name, most_groups, new_group, number_named, texts_of, with_group, with_patterns, without_group};
+ghost use Rattle.fsrm_model.specs.Patterns.{all_texts, group_number, in_group_of, is_group, is_object_name, new_group, number_named, texts_of, with_group, with_patterns, without_group};
 ghost use Rattle.file_groups.specs.Faults.{IsFault, group_fault, new_fault, patterns_fault};
 ghost use Rattle.file_groups.specs.Kept.{AreGroups};
 
@@ -11,7 +11,6 @@ use crate::answer::GroupFault;
 use crate::pattern::Pattern;
 use crate::rows;
 use fsrm_model::{GroupRow, List, NoMemory, Text};
-use name_rules::same_name;
 use std::alloc::Global;
 use std::marker::Model;
 
@@ -54,9 +53,10 @@ impl Groups {
     /// Adds a group of this name, the name of an object: 1 to 255 bytes without `|` and control
     /// characters. It takes the least number that is free, which is the answer.
     ///
-    /// `room` is how many bytes of texts may still come, and with those that are there the bytes fit
+    /// `room` is how many bytes of texts may still come; together with those that are there they fit
     /// a `u32`. The group is refused where its name is another one's, in any spelling, else where
-    /// there are 1,024 groups, else where its texts are longer than `room`. An `Err` changes nothing.
+    /// there are 1,024 groups, else where its texts are longer than `room`. NoMemory comes only where
+    /// nothing else refuses it. An `Err` changes nothing.
     pub fn add(
         &mut self,
         name: &str,
@@ -141,8 +141,8 @@ impl Groups {
 
     /// Gives a group that is there other members, other non-members, or both.
     ///
-    /// `room` is as at `add`. It is refused where the group's texts, less those that they replace, are
-    /// longer than `room`. An `Err` changes nothing.
+    /// `room` is as at `add`. TextsFull comes exactly where the group's texts, less those that they
+    /// replace, are longer than `room`; no other refusal comes but NoMemory. An `Err` changes nothing.
     pub fn modify(
         &mut self,
         group: u32,
