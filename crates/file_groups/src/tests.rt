@@ -2,6 +2,7 @@
 //! meant of patterns and groups.
 
 ghost use Rattle.std.specs.Prelude.{◌≡◌, ◌+◌, ◌<◌, ◌^◌, ◌↔◌, IsTrue, true, false};
+ghost use Rattle.std.specs.List.{list_all};
 ghost use Rattle.fsrm_model.specs.Keyed.{has_row};
 ghost use Rattle.fsrm_model.specs.Patterns.{all_texts, group_number, is_group, is_object_byte, is_object_name};
 
@@ -162,7 +163,13 @@ fn is_object_name(text: &str) -> bool
     ensures { result ≡ is_object_name text.now }
 {
     let bytes = text.as_bytes();
-    (1..=255).contains(&bytes.len()) && bytes.iter().all(|byte| is_object_byte(*byte))
+    (1..=255).contains(&bytes.len()) && are_object_bytes(bytes)
+}
+
+fn are_object_bytes(bytes: &[u8]) -> bool
+    ensures { result ≡ list_all is_object_byte bytes.now }
+{
+    bytes.iter().all(|byte| is_object_byte(*byte))
 }
 
 fn is_object_byte(byte: u8) -> bool
