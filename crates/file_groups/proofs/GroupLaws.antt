@@ -1,15 +1,14 @@
 -- Groups after an edit are as they are to be held.
-use Rattle.std.proofs.Common.{◌≡◌, ℕ, zero, suc, ◌+◌, ◌<◌, ◌≤◌, ◌==◌, ◌^◌, nat_lt, Bool, true, false, cond, not, ◌&&◌, ◌||◌, inl, inr, List, [], ◌∷◌, length, get_or, insert, remove, Option, Some, None, Result, Ok, Err, IfOk, refl, sym, ◌∙◌, ap, subst, arith}
+use Rattle.std.proofs.Common.{◌≡◌, ℕ, ◌+◌, ◌<◌, ◌≤◌, ◌==◌, nat_lt, Bool, true, false, cond, not, ◌&&◌, ◌||◌, List, [], ◌∷◌, length, get_or, insert, remove, Option, Some, None, Result, Ok, IfOk, refl, sym, ◌∙◌, ap, subst, arith}
 use Rattle.std.proofs.lemmas.List.{length-set}
 use Rattle.std.proofs.lemmas.List.Edits.{length-insert, length-remove}
-use Rattle.std.proofs.lemmas.List.Sums.{sum_by-cons}
 use Rattle.std.proofs.lemmas.Option.{same_Some, get_or_from_slice_get}
 use Rattle.std.specs.List.{list_all, list_any}
 use Rattle.std.specs.Borrow.{Bor}
 use Rattle.std.specs.Option.{option_copied}
-use Rattle.std.specs.Prelude.{slice_set, filter, find, sum_by, unwrap_or}
+use Rattle.std.specs.Prelude.{slice_set, filter, find, sum_by}
 use Rattle.fsrm_model.specs.declared.row.GroupRow.{GroupRow}
-use Rattle.fsrm_model.specs.Keyed.{row_of, has_row, with_row, with_change, without_row, is_ascending, least_free}
+use Rattle.fsrm_model.specs.Keyed.{row_of, has_row, with_row, with_change, least_free}
 use Rattle.fsrm_model.specs.Name.{same_name}
 use Rattle.fsrm_model.specs.Patterns.{all_texts, are_apart, group_number, has_name, is_group, is_object_name, is_pattern, most_groups, regrouped, texts_of, with_group, with_patterns, without_group}
 use Rattle.fsrm_model.proofs.ChainLaws.{sum_by-with_row}
@@ -19,7 +18,7 @@ use Rattle.fsrm_model.proofs.Look.{found_key, is_some-find, none_row}
 use Rattle.fsrm_model.proofs.Order.{least_free_is}
 use Rattle.fsrm_model.proofs.RemoveLaws.{sum_by-without_row}
 use Rattle.fsrm_model.proofs.TestLaws.{both, both_true, neither, clash, is_false, lt_test, not_true}
-use Rattle.file_groups.specs.Kept.{AreGroups, IsTable}
+use Rattle.file_groups.specs.Kept.{AreGroups}
 use Rattle.file_groups.specs.Places.{IsAt, IsGap}
 use Rattle.file_groups.proofs.SortedRows.{row_found, ascending-set, ascending-insert, ascending-remove, insert_row, remove_found, set_found}
 

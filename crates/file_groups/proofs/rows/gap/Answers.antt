@@ -1,4 +1,4 @@
-use Rattle.std.proofs.Common.{inl, inr, sym, subst, IfOk, IfErr, Result, ℕ}
+use Rattle.std.proofs.Common.{inl, inr, subst, IfOk, IfErr, Result, ℕ}
 use Rattle.fsrm_model.specs.Patterns.{group_number}
 use Rattle.fsrm_model.proofs.TestLaws.{clash}
 use Rattle.file_groups.specs.Places.{IsAt, IsGap}

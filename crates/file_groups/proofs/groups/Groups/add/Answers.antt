@@ -1,4 +1,4 @@
-use Rattle.std.proofs.Common.{List, ℕ, ◌≡◌, ◌<◌, false, length, sym, ◌∙◌, ap, subst, arith}
+use Rattle.std.proofs.Common.{List, ℕ, ◌≡◌, ◌<◌, false, sym, ◌∙◌, ap, subst}
 use Rattle.fsrm_model.specs.declared.row.GroupRow.{GroupRow}
 use Rattle.fsrm_model.specs.Keyed.{has_row, least_free}
 use Rattle.fsrm_model.specs.Patterns.{group_number, is_object_name, most_groups}

@@ -1,8 +1,5 @@
-use Rattle.std.proofs.Common.{List, ℕ, ◌≡◌, ◌≤◌, ◌<◌, true, false, sym, ◌∙◌, ap, subst, length, arith}
-use Rattle.std.specs.Prelude.{is_some, is_none}
-use Rattle.std.specs.List.{list_any}
-use Rattle.fsrm_model.specs.declared.row.GroupRow.{GroupRow}
-use Rattle.fsrm_model.specs.Patterns.{has_name, most_groups, number_named}
+use Rattle.std.proofs.Common.{true, false, sym, ◌∙◌, ap, length, arith}
+use Rattle.std.specs.Prelude.{is_none}
 use Rattle.file_groups.proofs.FaultLaws.{named_as, duplicate_due, table_due, answered_may, answered_refused}
 use Rattle.file_groups.proofs.groups.Groups.admit.Goals as goal
 

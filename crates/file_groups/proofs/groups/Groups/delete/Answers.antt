@@ -1,7 +1,7 @@
-use Rattle.std.proofs.Common.{List, ℕ, ◌≡◌, ◌+◌, ◌-◌, remove, sym, ◌∙◌, ap, subst, arith}
+use Rattle.std.proofs.Common.{List, ◌≡◌, ◌+◌, ◌-◌, remove, sym, ◌∙◌, ap, subst, arith}
 use Rattle.fsrm_model.specs.declared.row.GroupRow.{GroupRow}
 use Rattle.fsrm_model.specs.Patterns.{all_texts, group_number, texts_of, without_group}
-use Rattle.file_groups.specs.Kept.{AreGroups, IsTable}
+use Rattle.file_groups.specs.Kept.{IsTable}
 use Rattle.file_groups.proofs.GroupLaws.{at_place, less_are, less_texts}
 use Rattle.file_groups.proofs.SortedRows.{remove_found}
 use Rattle.file_groups.proofs.groups.Groups.delete.Goals as goal

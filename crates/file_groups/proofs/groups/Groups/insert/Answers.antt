@@ -1,8 +1,7 @@
-use Rattle.std.proofs.Common.{List, ℕ, false, ◌+◌, insert, sym, ◌∙◌, ap, subst, length, arith}
+use Rattle.std.proofs.Common.{List, false, ◌+◌, sym, ◌∙◌, ap, subst}
 use Rattle.fsrm_model.specs.declared.row.GroupRow.{GroupRow}
-use Rattle.fsrm_model.specs.Patterns.{group_number, most_groups, with_group}
-use Rattle.file_groups.specs.Faults.{group_fault}
-use Rattle.file_groups.specs.Kept.{AreGroups, IsTable}
+use Rattle.fsrm_model.specs.Patterns.{group_number, with_group}
+use Rattle.file_groups.specs.Kept.{IsTable}
 use Rattle.file_groups.specs.Places.{IsGap}
 use Rattle.file_groups.proofs.FaultLaws.{Admitted, admitted}
 use Rattle.file_groups.proofs.GroupLaws.{more_are, more_texts}
