@@ -29,3 +29,4 @@ pub mod Spelling
 pub mod Scan
 pub mod Script
 pub mod WorkedRows
+pub mod Patterns

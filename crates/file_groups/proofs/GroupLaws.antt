@@ -1,0 +1,226 @@
+-- Groups after an edit are as they are to be held.
+use Rattle.std.proofs.Common.{◌≡◌, ℕ, ◌+◌, ◌<◌, ◌≤◌, ◌==◌, nat_lt, Bool, true, false, cond, not, ◌&&◌, ◌||◌, List, [], ◌∷◌, length, get_or, insert, remove, Option, Some, None, Result, Ok, IfOk, refl, sym, ◌∙◌, ap, subst, arith}
+use Rattle.std.proofs.lemmas.List.{length-set}
+use Rattle.std.proofs.lemmas.List.Edits.{length-insert, length-remove}
+use Rattle.std.proofs.lemmas.Option.{same_Some, get_or_from_slice_get}
+use Rattle.std.specs.List.{list_all, list_any}
+use Rattle.std.specs.Borrow.{Bor}
+use Rattle.std.specs.Option.{option_copied}
+use Rattle.std.specs.Prelude.{slice_set, filter, find, sum_by}
+use Rattle.fsrm_model.specs.declared.row.GroupRow.{GroupRow}
+use Rattle.fsrm_model.specs.Keyed.{row_of, has_row, with_row, with_change, least_free}
+use Rattle.fsrm_model.specs.Name.{same_name}
+use Rattle.fsrm_model.specs.Patterns.{all_texts, are_apart, group_number, has_name, is_group, is_object_name, is_pattern, most_groups, regrouped, texts_of, with_group, with_patterns, without_group}
+use Rattle.fsrm_model.proofs.ChainLaws.{sum_by-with_row}
+use Rattle.fsrm_model.proofs.ChangeLaws.{sum_by-with_change}
+use Rattle.fsrm_model.proofs.Keeps.{same_turned}
+use Rattle.fsrm_model.proofs.Look.{found_key, is_some-find, none_row}
+use Rattle.fsrm_model.proofs.Order.{least_free_is}
+use Rattle.fsrm_model.proofs.RemoveLaws.{sum_by-without_row}
+use Rattle.fsrm_model.proofs.TestLaws.{both, both_true, neither, clash, is_false, lt_test, not_true}
+use Rattle.file_groups.specs.Kept.{AreGroups}
+use Rattle.file_groups.specs.Places.{IsAt, IsGap}
+use Rattle.file_groups.proofs.SortedRows.{row_found, ascending-set, ascending-insert, ascending-remove, insert_row, remove_found, set_found}
+
+-- ---- tests of all rows, and of some row, after an edit
+all_placed : {X : Type 0} (p : X → Bool) (row x : X) (xs more : List X) (b : Bool) → p row ≡ true → list_all p (x ∷ xs) ≡ true → list_all p more ≡ true → list_all p (cond b (row ∷ x ∷ xs) (x ∷ more)) ≡ true
+all_placed p row x xs more true is all rest = both_true _ _ is all
+all_placed p row x xs more false is all rest = both_true _ _ (both _ _ all).0 rest
+
+list_all-with_row : {X : Type 0} (key : X → ℕ) (p : X → Bool) (row : X) (xs : List X) → p row ≡ true → list_all p xs ≡ true → list_all p (with_row key row xs) ≡ true
+list_all-with_row key p row [] is all = both_true _ _ is refl
+list_all-with_row key p row (x ∷ xs) is all =
+    all_placed p row x xs (with_row key row xs) (nat_lt (key row) (key x)) is all (list_all-with_row key p row xs is (both _ _ all).1)
+
+all_kept : {X : Type 0} (p : X → Bool) (x : X) (xs : List X) (b : Bool) → p x ≡ true → list_all p xs ≡ true → list_all p (cond b (x ∷ xs) xs) ≡ true
+all_kept p x xs true is all = both_true _ _ is all
+all_kept p x xs false is all = all
+
+list_all-filter : {X : Type 0} (p q : X → Bool) (xs : List X) → list_all p xs ≡ true → list_all p (filter q xs) ≡ true
+list_all-filter p q [] all = refl
+list_all-filter p q (x ∷ xs) all = all_kept p x (filter q xs) (q x) (both _ _ all).0 (list_all-filter p q xs (both _ _ all).1)
+
+changed_passes : {X : Type 0} (p : X → Bool) (c : X → X) (x : X) (b : Bool) → p x ≡ true → (b ≡ true → p (c x) ≡ true) → p (cond b (c x) x) ≡ true
+changed_passes p c x true is changed = changed refl
+changed_passes p c x false is changed = is
+
+list_all-with_change : {X : Type 0} (key : X → ℕ) (p : X → Bool) (n : ℕ) (c : X → X) (xs : List X) → list_all p xs ≡ true → ((x : X) → p x ≡ true → p (c x) ≡ true) → list_all p (with_change key n c xs) ≡ true
+list_all-with_change key p n c [] all changed = refl
+list_all-with_change key p n c (x ∷ xs) all changed =
+    both_true _ _ (changed_passes p c x (key x == n) (both _ _ all).0 (λ _. changed x (both _ _ all).0)) (list_all-with_change key p n c xs (both _ _ all).1 changed)
+
+found_at : {X : Type 0} (p : X → Bool) (x r : X) (o : Option X) (b : Bool) → p x ≡ true → cond b (Some x) o ≡ Some r → (o ≡ Some r → p r ≡ true) → p r ≡ true
+found_at p x r o true is h later = subst (λ y. p y ≡ true) (same_Some x r h) is
+found_at p x r o false is h later = later h
+
+-- a test that all rows pass is passed by each one that is found
+pub found_passes_all : {X : Type 0} (p q : X → Bool) (xs : List X) (r : X) → list_all p xs ≡ true → find q xs ≡ Some r → p r ≡ true
+found_passes_all p q [] r all h = cc
+found_passes_all p q (x ∷ xs) r all h = found_at p x r (find q xs) (q x) (both _ _ all).0 h (found_passes_all p q xs r (both _ _ all).1)
+
+none_placed : {X : Type 0} (p : X → Bool) (row x : X) (xs more : List X) (b : Bool) → p row ≡ false → list_any p (x ∷ xs) ≡ false → list_any p more ≡ false → list_any p (cond b (row ∷ x ∷ xs) (x ∷ more)) ≡ false
+none_placed p row x xs more true is none rest = ap (λ b. b || list_any p (x ∷ xs)) is ∙ none
+none_placed p row x xs more false is none rest = ap (λ b. b || list_any p more) (neither _ _ none).0 ∙ rest
+
+list_any-with_row : {X : Type 0} (key : X → ℕ) (p : X → Bool) (row : X) (xs : List X) → p row ≡ false → list_any p xs ≡ false → list_any p (with_row key row xs) ≡ false
+list_any-with_row key p row [] is none = ap (λ b. b || false) is
+list_any-with_row key p row (x ∷ xs) is none =
+    none_placed p row x xs (with_row key row xs) (nat_lt (key row) (key x)) is none (list_any-with_row key p row xs is (neither _ _ none).1)
+
+none_kept : {X : Type 0} (p : X → Bool) (x : X) (xs : List X) (b : Bool) → p x ≡ false → list_any p xs ≡ false → list_any p (cond b (x ∷ xs) xs) ≡ false
+none_kept p x xs true is none = ap (λ b. b || list_any p xs) is ∙ none
+none_kept p x xs false is none = none
+
+list_any-filter : {X : Type 0} (p q : X → Bool) (xs : List X) → list_any p xs ≡ false → list_any p (filter q xs) ≡ false
+list_any-filter p q [] none = refl
+list_any-filter p q (x ∷ xs) none = none_kept p x (filter q xs) (q x) (neither _ _ none).0 (list_any-filter p q xs (neither _ _ none).1)
+
+-- ---- names that stay apart
+turned_apart : (a b : List ℕ) → same_name a b ≡ false → same_name b a ≡ false
+turned_apart a b h = not_true _ (λ same. clash _ (same_turned b a same) h)
+
+apart_parts : (group : GroupRow) (groups : List GroupRow) → are_apart (group ∷ groups) ≡ true → (list_any (has_name group.name) groups ≡ false) × (are_apart groups ≡ true)
+apart_parts group groups h = (is_false _ (both _ _ h).0, (both _ _ h).1)
+
+apart_joined : (group : GroupRow) (groups : List GroupRow) → list_any (has_name group.name) groups ≡ false → are_apart groups ≡ true → are_apart (group ∷ groups) ≡ true
+apart_joined group groups none apart = both_true _ _ (ap not none) apart
+
+apart_placed : (row group : GroupRow) (groups more : List GroupRow) (b : Bool) → list_any (has_name row.name) (group ∷ groups) ≡ false → are_apart (group ∷ groups) ≡ true → list_any (has_name group.name) more ≡ false → are_apart more ≡ true → are_apart (cond b (row ∷ group ∷ groups) (group ∷ more)) ≡ true
+apart_placed row group groups more true none apart its rest = apart_joined row (group ∷ groups) none apart
+apart_placed row group groups more false none apart its rest = apart_joined group more its rest
+
+apart-with_group : (row : GroupRow) (groups : List GroupRow) → list_any (has_name row.name) groups ≡ false → are_apart groups ≡ true → are_apart (with_group row groups) ≡ true
+apart-with_group row [] none apart = refl
+apart-with_group row (group ∷ groups) none apart =
+    let own = neither (has_name row.name group) (list_any (has_name row.name) groups) none in
+    let parts = apart_parts group groups apart in
+    apart_placed row group groups (with_group row groups) (nat_lt row.number group.number) none apart
+    (list_any-with_row group_number (has_name group.name) row groups (turned_apart group.name row.name own.0) parts.0)
+    (apart-with_group row groups own.1 parts.1)
+
+apart_kept : (group : GroupRow) (groups : List GroupRow) (b : Bool) → list_any (has_name group.name) groups ≡ false → are_apart groups ≡ true → are_apart (cond b (group ∷ groups) groups) ≡ true
+apart_kept group groups true none apart = apart_joined group groups none apart
+apart_kept group groups false none apart = apart
+
+apart-filter : (q : GroupRow → Bool) (groups : List GroupRow) → are_apart groups ≡ true → are_apart (filter q groups) ≡ true
+apart-filter q [] apart = refl
+apart-filter q (group ∷ groups) apart =
+    let parts = apart_parts group groups apart in
+    apart_kept group (filter q groups) (q group) (list_any-filter (has_name group.name) q groups parts.0) (apart-filter q groups parts.1)
+
+same_name_at : (c : GroupRow → GroupRow) → ((group : GroupRow) → (c group).name ≡ group.name) → (group : GroupRow) (b : Bool) → (cond b (c group) group).name ≡ group.name
+same_name_at c keeps group true = keeps group
+same_name_at c keeps group false = refl
+
+any-with_change : (n : ℕ) (c : GroupRow → GroupRow) → ((group : GroupRow) → (c group).name ≡ group.name) → (name : List ℕ) (groups : List GroupRow) → list_any (has_name name) (with_change group_number n c groups) ≡ list_any (has_name name) groups
+any-with_change n c keeps name [] = refl
+any-with_change n c keeps name (group ∷ groups) =
+    ap (λ its. same_name its name || list_any (has_name name) (with_change group_number n c groups)) (same_name_at c keeps group (group.number == n))
+    ∙ ap (λ b. has_name name group || b) (any-with_change n c keeps name groups)
+
+apart-with_change : (n : ℕ) (c : GroupRow → GroupRow) → ((group : GroupRow) → (c group).name ≡ group.name) → (groups : List GroupRow) → are_apart (with_change group_number n c groups) ≡ are_apart groups
+apart-with_change n c keeps [] = refl
+apart-with_change n c keeps (group ∷ groups) =
+    ap (λ its. not (list_any (has_name its) (with_change group_number n c groups)) && are_apart (with_change group_number n c groups)) (same_name_at c keeps group (group.number == n))
+    ∙ (ap (λ b. not b && are_apart (with_change group_number n c groups)) (any-with_change n c keeps group.name groups)
+    ∙ ap (λ b. not (list_any (has_name group.name) groups) && b) (apart-with_change n c keeps groups))
+
+-- ---- tables
+-- a number without a place is no group's
+pub none_found : (groups : List GroupRow) (n p : ℕ) → IsGap group_number n groups p → row_of group_number n groups ≡ None
+none_found groups n p gap = none_row _ (is_some-find _ groups ∙ gap.absent)
+
+-- what is read at the place of a number is its group
+pub read_found : (groups : List GroupRow) (n p : ℕ) (r : GroupRow) → IsAt group_number n groups p → r ≡ get_or groups p r → row_of group_number n groups ≡ Some r
+read_found groups n p r at read =
+    let found = row_found group_number n groups p at in
+    let is : r ≡ found.row = read ∙ get_or_from_slice_get groups p found.row r found.at in
+    sym at.found ∙ (found.at ∙ ap Some (sym is))
+
+-- no group has more texts than all
+part_of_sum : (f : GroupRow → ℕ) (g : GroupRow) (groups : List GroupRow) (rest : ℕ) → rest + f g ≡ sum_by f groups → f g ≤ sum_by f groups
+part_of_sum f g groups rest h = omega arith
+
+pub texts_most : (groups : List GroupRow) (n : ℕ) (r : GroupRow) → AreGroups groups → row_of group_number n groups ≡ Some r → texts_of r ≤ all_texts groups
+texts_most groups n r are is = part_of_sum texts_of r groups _ (sum_by-without_row group_number texts_of n r groups are.ascending is)
+
+-- one more
+pub more_are : (groups : List GroupRow) (row : GroupRow) (p : ℕ) → AreGroups groups → IsGap group_number row.number groups p → length groups < most_groups → is_group row ≡ true → list_any (has_name row.name) groups ≡ false → AreGroups (insert groups p row)
+more_are groups row p are gap room valid new =
+    let size : length (insert groups p row) ≡ length groups + 1 = length-insert groups p row gap.within in
+    let is : insert groups p row ≡ with_group row groups = insert_row group_number row groups p gap in
+    record {
+      ascending = ascending-insert group_number row groups p are.ascending gap;
+      few = omega arith;
+      valid = ap (list_all is_group) is ∙ list_all-with_row group_number is_group row groups valid are.valid;
+      apart = ap are_apart is ∙ apart-with_group row groups new are.apart;
+    }
+
+pub more_texts : (groups : List GroupRow) (row : GroupRow) (p texts bytes : ℕ) → IsGap group_number row.number groups p → texts ≡ all_texts groups → bytes ≡ texts_of row → texts + bytes ≡ all_texts (insert groups p row)
+more_texts groups row p texts bytes gap is its =
+    let sum : all_texts (insert groups p row) ≡ all_texts (with_group row groups) = ap all_texts (insert_row group_number row groups p gap) in
+    omega (arith, sum, sum_by-with_row group_number texts_of row groups, is, its)
+
+-- one less
+pub less_are : (groups : List GroupRow) (n p : ℕ) → AreGroups groups → IsAt group_number n groups p → AreGroups (remove groups p)
+less_are groups n p are at =
+    let size : length (remove groups p) + 1 ≡ length groups = length-remove groups p at.within in
+    let few = are.few in
+    let is : remove groups p ≡ without_group n groups = remove_found group_number n groups p are.ascending at in
+    record {
+      ascending = ascending-remove group_number n groups p are.ascending at;
+      few = omega arith;
+      valid = ap (list_all is_group) is ∙ list_all-filter is_group _ groups are.valid;
+      apart = ap are_apart is ∙ apart-filter _ groups are.apart;
+    }
+
+pub less_texts : (groups : List GroupRow) (n p : ℕ) (r : GroupRow) → AreGroups groups → IsAt group_number n groups p → r ≡ get_or groups p r → all_texts (remove groups p) + texts_of r ≡ all_texts groups
+less_texts groups n p r are at read =
+    let is : row_of group_number n groups ≡ Some r = read_found groups n p r at read in
+    let sum : all_texts (remove groups p) ≡ all_texts (without_group n groups) = ap all_texts (remove_found group_number n groups p are.ascending at) in
+    omega (arith, sum, sum_by-without_row group_number texts_of n r groups are.ascending is)
+
+-- one with other patterns
+module _ (groups : List GroupRow) (n p : ℕ) (old row : GroupRow) (members non_members : Option (List (List ℕ))) (are : AreGroups groups) (at : IsAt group_number n groups p) (read : old ≡ get_or groups p old) (made : row ≡ regrouped members non_members old) where
+  number_is : row.number ≡ n
+  number_is = ap group_number made ∙ found_key group_number n groups old (read_found groups n p old at read)
+
+  pub changed_is : slice_set groups p row ≡ with_patterns n members non_members groups
+  changed_is = ap (λ (g : GroupRow). slice_set groups p g) made ∙ set_found group_number n (regrouped members non_members) groups p old are.ascending at read
+
+  pub changed_are : is_group row ≡ true → AreGroups (slice_set groups p row)
+  changed_are valid =
+      let size : length (slice_set groups p row) ≡ length groups = length-set groups p row in
+      let few = are.few in
+      record {
+        ascending = ascending-set group_number n (λ (g : GroupRow). row) groups p old (λ g is. number_is) are.ascending at read;
+        few = omega arith;
+        valid = ap (list_all is_group) (set_found group_number n (λ (g : GroupRow). row) groups p old are.ascending at read) ∙ list_all-with_change group_number is_group n (λ (g : GroupRow). row) groups are.valid (λ g is. valid);
+        apart = ap are_apart changed_is ∙ (apart-with_change n (regrouped members non_members) (λ g. refl) groups ∙ are.apart);
+      }
+
+  pub changed_texts : all_texts (slice_set groups p row) + texts_of old ≡ all_texts groups + texts_of row
+  changed_texts =
+      let sum : all_texts (slice_set groups p row) ≡ all_texts (with_patterns n members non_members groups) = ap all_texts changed_is in
+      let its : texts_of row ≡ texts_of (regrouped members non_members old) = ap texts_of made in
+      omega (arith, sum, its, sum_by-with_change group_number texts_of n (regrouped members non_members) old groups are.ascending (read_found groups n p old at read))
+
+-- ---- what a search answers, of the rows that it was lent
+pub at_place : (groups rows : List GroupRow) (n p : ℕ) (r : Result ℕ ℕ) → groups ≡ rows → r ≡ Ok p → IfOk r (IsAt group_number n groups) → IsAt group_number n rows p
+at_place groups rows n p r same is found =
+    subst (λ (items : List GroupRow). IsAt group_number n items p) same (subst (λ (answer : Result ℕ ℕ). IfOk answer (IsAt group_number n groups)) is found)
+
+-- a new group's number is free, and one that a group may have
+pub free_absent : (groups : List GroupRow) → AreGroups groups → has_row group_number (least_free group_number groups) groups ≡ false
+free_absent groups are = (least_free_is group_number groups are.ascending).free
+
+pub free_below : (groups : List GroupRow) → AreGroups groups → length groups < most_groups → least_free group_number groups < most_groups
+free_below groups are room = let most = (least_free_is group_number groups are.ascending).most in omega (arith, most)
+
+pub made_valid : (row : GroupRow) → row.number < most_groups → is_object_name row.name ≡ true → list_all is_pattern row.members ≡ true → list_all is_pattern row.non_members ≡ true → is_group row ≡ true
+made_valid row below name members non_members = both_true _ _ (both_true _ _ (lt_test row.number most_groups below) name) (both_true _ _ members non_members)
+
+-- the patterns that are lent are those that are given
+pub lent_patterns : (lent lent' : Option (Bor (List (List ℕ)))) (members non_members : Option (List (List ℕ))) (old : GroupRow) → option_copied lent ≡ members → option_copied lent' ≡ non_members → regrouped (option_copied lent) (option_copied lent') old ≡ regrouped members non_members old
+lent_patterns lent lent' members non_members old is is' =
+    ap (λ (given : Option (List (List ℕ))). regrouped given (option_copied lent') old) is ∙ ap (λ (given : Option (List (List ℕ))). regrouped members given old) is'

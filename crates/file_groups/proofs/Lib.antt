@@ -1,0 +1,4 @@
+pub mod SortedRows
+pub mod StarLaws
+pub mod GroupLaws
+pub mod FaultLaws

@@ -1,0 +1,128 @@
+-- Why of all stars only the last one has to be tried again.
+use Rattle.std.proofs.Common.{◌≡◌, ℕ, ◌==◌, ◌≤◌, Bool, true, false, cond, ◌&&◌, ◌||◌, inl, inr, List, [], ◌∷◌, length, refl, sym, ◌∙◌, ap, subst, arith}
+use Rattle.fsrm_model.specs.Patterns.{matches, some_end, one_then, stands_for}
+use Rattle.fsrm_model.proofs.TestLaws.{is_or, or_later, clash, not_true, both}
+use Rattle.file_groups.specs.Heads.{StandsFirst}
+
+-- a name is an end of itself
+pub first_end : (test : List ℕ → Bool) (cs : List ℕ) → test cs ≡ true → some_end test cs ≡ true
+first_end test [] h = h
+first_end test (c ∷ cs) h = ap (λ b. b || some_end test cs) h
+
+-- an end of an end is an end
+pub end_of_end : (test : List ℕ → Bool) (cs : List ℕ) → some_end (some_end test) cs ≡ true → some_end test cs ≡ true
+end_of_end test [] h = h
+end_of_end test (c ∷ cs) h =
+    elim (is_or _ _ h) [
+      | inl now ↦ now
+      | inr later ↦ or_later (test (c ∷ cs)) (some_end test cs) (end_of_end test cs later)
+    ]
+
+-- where one character and then the test pass at some end, the test passes at some end behind the first character
+pub past_one : (p : ℕ) (test : List ℕ → Bool) (c : ℕ) (cs : List ℕ) → some_end (one_then p test) (c ∷ cs) ≡ true → some_end test cs ≡ true
+past_one p test c [] h =
+    elim (is_or _ _ h) [
+      | inl now ↦ (both (stands_for p c) (test []) now).1
+      | inr later ↦ absurd (clash false later refl)
+    ]
+past_one p test c (d ∷ cs) h =
+    elim (is_or _ _ h) [
+      | inl now ↦ first_end test (d ∷ cs) (both (stands_for p c) (test (d ∷ cs)) now).1
+      | inr later ↦ or_later (test (d ∷ cs)) (some_end test cs) (past_one p test d cs later)
+    ]
+
+-- What holds while an end of a name is tried for a star: of the pattern behind the star so much has passed that
+-- `pattern` is left of it, and `name` of the end
+pub record IsTried (wanted given starred end pattern name : List ℕ) : Type 0 where
+  -- no end before this one matches
+  pub whole : some_end (matches starred) end ≡ some_end (matches wanted) given
+  -- this one matches where what is left does
+  pub here : matches starred end ≡ matches pattern name
+  -- and where some end of it matches, what is left of the pattern matches some end of what is left
+  pub later : some_end (matches starred) end ≡ true → some_end (matches pattern) name ≡ true
+  pub starred_most : length starred ≤ length wanted
+  pub pattern_most : length pattern ≤ length starred
+  pub name_most : length name ≤ length end
+
+pub tried_first : (wanted given : List ℕ) → IsTried wanted given wanted given wanted given
+tried_first wanted given =
+    record { whole = refl; here = refl; later = λ h. h; starred_most = omega arith; pattern_most = omega arith; name_most = omega arith }
+
+module _ (wanted given starred end : List ℕ) where
+  -- another star is met: any end that the former one leads to is one that this one leads to
+  same_ends : (behind name : List ℕ) (b : Bool) → some_end (matches starred) end ≡ b → IsTried wanted given starred end (42 ∷ behind) name → some_end (matches behind) name ≡ b
+  same_ends behind name true is tried = end_of_end (matches behind) name (tried.later is)
+  same_ends behind name false is tried =
+      not_true _ (λ found. clash _ (first_end (matches starred) end (tried.here ∙ found)) is)
+
+  pub star_taken : (behind name pattern : List ℕ) → pattern ≡ 42 ∷ behind → IsTried wanted given starred end pattern name → IsTried wanted given behind name behind name
+  star_taken behind name pattern star tried' =
+      let tried : IsTried wanted given starred end (42 ∷ behind) name = subst (λ ps. IsTried wanted given starred end ps name) star tried' in
+      let most : length (42 ∷ behind) ≤ length starred = tried.pattern_most in
+      let starred_most = tried.starred_most in
+      record {
+        whole = same_ends behind name _ refl tried ∙ tried.whole;
+        here = refl;
+        later = λ h. h;
+        starred_most = omega arith;
+        pattern_most = omega arith;
+        name_most = omega arith;
+      }
+
+  -- one more character passes
+  no_star : (w : ℕ) (ps cs : List ℕ) → (w == 42) ≡ false → matches (w ∷ ps) cs ≡ one_then w (matches ps) cs
+  no_star w ps cs h = ap (λ b. cond b (some_end (matches ps) cs) (one_then w (matches ps) cs)) h
+
+  some_end_same : (f g : List ℕ → Bool) → ((cs : List ℕ) → f cs ≡ g cs) → (cs : List ℕ) → some_end f cs ≡ some_end g cs
+  some_end_same f g same [] = same []
+  some_end_same f g same (c ∷ cs) = rw (same (c ∷ cs), some_end_same f g same cs) refl
+
+  passed : (w c : ℕ) (ps cs : List ℕ) → (w == 42) ≡ false → stands_for w c ≡ true → IsTried wanted given starred end (w ∷ ps) (c ∷ cs) → IsTried wanted given starred end ps cs
+  passed w c ps cs h stands tried =
+      let pattern_most : length (w ∷ ps) ≤ length starred = tried.pattern_most in
+      let name_most : length (c ∷ cs) ≤ length end = tried.name_most in
+      record {
+        whole = tried.whole;
+        here = tried.here ∙ (no_star w ps (c ∷ cs) h ∙ ap (λ b. b && matches ps cs) stands);
+        later = λ some. past_one w (matches ps) c cs (sym (some_end_same (matches (w ∷ ps)) (one_then w (matches ps)) (λ ds. no_star w ps ds h) (c ∷ cs)) ∙ tried.later some);
+        starred_most = tried.starred_most;
+        pattern_most = omega arith;
+        name_most = omega arith;
+      }
+
+  pub one_passed : (pattern name behind rest : List ℕ) → StandsFirst pattern name behind rest → IsTried wanted given starred end pattern name → IsTried wanted given starred end behind rest
+  one_passed pattern name behind rest first tried =
+      passed first.wanted first.character behind rest first.no_star first.stands
+      (subst (λ cs. IsTried wanted given starred end (first.wanted ∷ behind) cs) first.name_is (subst (λ ps. IsTried wanted given starred end ps name) first.pattern_is tried))
+
+  -- this end doesn't match: the next one is tried
+  pub tried_again : (pattern name next : List ℕ) (c : ℕ) → end ≡ c ∷ next → matches pattern name ≡ false → IsTried wanted given starred end pattern name → IsTried wanted given starred next starred next
+  tried_again pattern name next c is apart tried =
+      record {
+        whole = sym (ap (λ b. b || some_end (matches starred) next) (ap (matches starred) (sym is) ∙ (tried.here ∙ apart))) ∙ (sym (ap (some_end (matches starred)) is) ∙ tried.whole);
+        here = refl;
+        later = λ h. h;
+        starred_most = tried.starred_most;
+        pattern_most = omega arith;
+        name_most = omega arith;
+      }
+
+  -- or there is none
+  pub tried_last : (pattern name : List ℕ) → end ≡ [] → matches pattern name ≡ false → IsTried wanted given starred end pattern name → some_end (matches wanted) given ≡ false
+  tried_last pattern name is apart tried =
+      sym tried.whole ∙ (ap (some_end (matches starred)) is ∙ (ap (matches starred) (sym is) ∙ (tried.here ∙ apart)))
+
+  -- this end matches
+  pub tried_well : (pattern name : List ℕ) → (pattern ≡ []) × (name ≡ []) → IsTried wanted given starred end pattern name → some_end (matches wanted) given ≡ true
+  tried_well pattern name ended tried =
+      let both_ended : matches pattern name ≡ true = rw (ended.0, ended.1) refl in
+      sym tried.whole ∙ first_end (matches starred) end (tried.here ∙ both_ended)
+
+-- ---- before the first star
+-- what is left of a name matches what is left of a pattern where the whole name matches the whole pattern
+pub front_passed : (pattern name behind rest : List ℕ) → StandsFirst pattern name behind rest → matches pattern name ≡ matches behind rest
+front_passed pattern name behind rest first =
+    ap (matches pattern) first.name_is
+    ∙ (ap (λ ps. matches ps (first.character ∷ rest)) first.pattern_is
+    ∙ (ap (λ b. cond b (some_end (matches behind) (first.character ∷ rest)) (one_then first.wanted (matches behind) (first.character ∷ rest))) first.no_star
+    ∙ ap (λ b. b && matches behind rest) first.stands))

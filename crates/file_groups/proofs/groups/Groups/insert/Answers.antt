@@ -1,0 +1,28 @@
+use Rattle.std.proofs.Common.{List, false, ◌+◌, sym, ◌∙◌, ap, subst}
+use Rattle.fsrm_model.specs.declared.row.GroupRow.{GroupRow}
+use Rattle.fsrm_model.specs.Patterns.{group_number, with_group}
+use Rattle.file_groups.specs.Kept.{IsTable}
+use Rattle.file_groups.specs.Places.{IsGap}
+use Rattle.file_groups.proofs.FaultLaws.{Admitted, admitted}
+use Rattle.file_groups.proofs.GroupLaws.{more_are, more_texts}
+use Rattle.file_groups.proofs.SortedRows.{insert_row}
+use Rattle.file_groups.proofs.groups.Groups.insert.Goals as goal
+
+pub invariant_of-self-2 : goal.invariant_of-self-2
+invariant_of-self-2 c =
+    let groups = c.self.inside.groups.items in
+    let gap = subst (λ (rows : List GroupRow). IsGap group_number c.args.row.number rows c.gap-place.result) c.deref.ensures.value c.gap-place.ensures in
+    let may : Admitted groups c.args.row.name = subst (λ (rows : List GroupRow). Admitted rows c.args.row.name) (sym c.self.view_is) (admitted c.args.self.now c.args.row.name false c.requires.admitted) in
+    subst (λ (rows : List GroupRow). IsTable rows (c.self.inside.texts + c.args.bytes)) (sym c.in_ok-insert.ensures.items)
+    (record {
+      are = more_are groups c.args.row c.gap-place.result c.self.invariant.are gap may.few c.requires.valid may.new;
+      texts_are = more_texts groups c.args.row c.gap-place.result c.self.inside.texts c.args.bytes gap c.self.invariant.texts_are c.requires.bytes;
+    })
+
+pub returns-clause-ok : goal.returns-clause-ok
+returns-clause-ok c =
+    let gap = subst (λ (rows : List GroupRow). IsGap group_number c.args.row.number rows c.gap-place.result) c.deref.ensures.value c.gap-place.ensures in
+    c.in_ok-insert.ensures.items ∙ (insert_row group_number c.args.row c.self.inside.groups.items c.gap-place.result gap ∙ ap (with_group c.args.row) c.self.view_is)
+
+pub returns-clause-kept : goal.returns-clause-kept
+returns-clause-kept c = (invariant_of-self-2 c).are

@@ -1,0 +1,30 @@
+use Rattle.std.proofs.Common.{sym}
+use Rattle.file_groups.proofs.StarLaws.{star_taken, one_passed, tried_well}
+use Rattle.file_groups.proofs.matching.some_end_matches.Goals as goal
+
+pub loop-behind-preserved-in-Star : goal.loop-behind-preserved-in-Star
+loop-behind-preserved-in-Star c =
+    let kept = c.loop-behind.invariant in
+    let star = c.in-Star.ensures in
+    record {
+      starred_text = star.is_text;
+      end_text = kept.name_text;
+      pattern_text = star.is_text;
+      name_text = kept.name_text;
+      tried = star_taken _ _ _ _ _ _ _ star.characters kept.tried;
+    }
+
+pub loop-behind-preserved-in-One : goal.loop-behind-preserved-in-One
+loop-behind-preserved-in-One c =
+    let kept = c.loop-behind.invariant in
+    let one = c.in-One.ensures in
+    record {
+      starred_text = kept.starred_text;
+      end_text = kept.end_text;
+      pattern_text = one.1;
+      name_text = one.2;
+      tried = one_passed _ _ _ _ _ _ _ _ one.0 kept.tried;
+    }
+
+pub returns-in-Ended : goal.returns-in-Ended
+returns-in-Ended c = sym (tried_well _ _ _ _ _ _ c.in-Ended.ensures c.loop-behind.invariant.tried)

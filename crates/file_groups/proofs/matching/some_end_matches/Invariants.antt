@@ -1,0 +1,18 @@
+use Rattle.std.proofs.Common.{◌+◌, ◌*◌, chars, length}
+use denote.Text.{Utf8}
+use denote.Shadow.{shadow}
+use Rattle.file_groups.proofs.StarLaws.{IsTried}
+use Rattle.file_groups.proofs.matching.some_end_matches.Given as goal
+
+abbrev pub invariant-loop-behind : goal.invariant-loop-behind
+invariant-loop-behind l = record {
+  starred_text : shadow (Utf8 l.starred);
+  end_text : shadow (Utf8 l.end);
+  pattern_text : shadow (Utf8 l.pattern);
+  name_text : shadow (Utf8 l.name);
+  tried : IsTried (chars l.fn.pattern) (chars l.fn.name) (chars l.starred) (chars l.end) (chars l.pattern) (chars l.name);
+}
+
+-- each end is tried with at most all characters of the pattern
+abbrev pub decreases-loop-behind : goal.decreases-loop-behind
+decreases-loop-behind l = length (chars l.end) * (length (chars l.fn.pattern) + 1) + length (chars l.pattern)

@@ -1,0 +1,4 @@
+pub mod Heads
+pub mod Kept
+pub mod Places
+pub mod Faults

@@ -1,0 +1,233 @@
+//! The table of file groups.
+
+ghost use Rattle.std.specs.Prelude.{◌≡◌, ◌+◌, ◌<◌, ◌^◌, IfOk, IfErr, OnOk, OnErr, [], None, Some, true, false, is_none, length, slice_get};
+ghost use Rattle.std.specs.Option.{option_copied};
+ghost use Rattle.fsrm_model.specs.Keyed.{row_of, has_row};
+ghost use Rattle.fsrm_model.specs.Patterns.{all_texts, group_number, in_group_of, is_group, is_object_name, new_group, number_named, texts_of, with_group, with_patterns, without_group};
+ghost use Rattle.file_groups.specs.Faults.{IsFault, group_fault, new_fault, patterns_fault};
+ghost use Rattle.file_groups.specs.Kept.{AreGroups};
+
+use crate::answer::GroupFault;
+use crate::pattern::Pattern;
+use crate::rows;
+use fsrm_model::{GroupRow, List, NoMemory, Text};
+use std::alloc::Global;
+use std::marker::Model;
+
+const MOST_GROUPS: usize = 1024;
+
+/// The file groups of a store, at most 1,024. Contracts see their rows, ascending by number; the numbers
+/// are below 1,024, and no two groups have one name, in any spelling.
+#[derive(Drop)]
+pub struct Groups {
+    alloc: Global,
+    groups: Vec<GroupRow>,
+    // The bytes of all names and patterns.
+    texts: u32,
+}
+
+impl Model for Groups {
+    ghost use Rattle.std.specs.Prelude.{List as Items};
+    ghost use Rattle.fsrm_model.specs.declared.row.GroupRow.{GroupRow};
+    ghost use Rattle.file_groups.specs.Kept.{IsTable};
+
+    ghost Value = { Items GroupRow };
+
+    ghost view = { λ g. g.groups.items };
+
+    ghost invariant = { λ g. IsTable g.groups.items g.texts };
+}
+
+impl Groups {
+    /// A table without groups. It takes no memory.
+    pub fn new(alloc: Global) -> Groups
+        ensures { result ≡ [] }
+    {
+        Groups {
+            alloc,
+            groups: Vec::new(alloc),
+            texts: 0,
+        }
+    }
+
+    /// Adds a group of this name, the name of an object: 1 to 255 bytes without `|` and control
+    /// characters. It takes the least number that is free, which is the answer.
+    ///
+    /// `room` is how many bytes of texts may still come; together with those that are there they fit
+    /// a `u32`. The group is refused where its name is another one's, in any spelling, else where
+    /// there are 1,024 groups, else where its texts are longer than `room`. NoMemory comes only where
+    /// nothing else refuses it. An `Err` changes nothing.
+    pub fn add(
+        &mut self,
+        name: &str,
+        members: List<Pattern>,
+        non_members: List<Pattern>,
+        room: u32,
+    ) -> Result<u32, GroupFault>
+        requires named { is_object_name name.now ≡ true }
+        requires fits { all_texts self.old + room < 2 ^ 32 }
+        ensures ok { OnOk result (self.new ≡ with_group (new_group self.old name.now members non_members) self.old) }
+        ensures number { IfOk result (λ number. number ≡ (new_group self.old name.now members non_members).number) }
+        ensures may { OnOk result (group_fault self.old (new_group self.old name.now members non_members) room ≡ None) }
+        ensures refused { IfErr result (λ fault. IsFault fault (group_fault self.old (new_group self.old name.now members non_members) room)) }
+        ensures err { OnErr result (self.new ≡ self.old) }
+        ensures kept { AreGroups self.new }
+    {
+        let left = rows::left_of_new(name, &members, &non_members, room);
+        let bytes = room - self.admit(name, left)?;
+        let row = GroupRow {
+            number: rows::free_number(&self.groups),
+            name: Text::from_str(self.alloc, name)?,
+            members: rows::texts_from(self.alloc, &members)?,
+            non_members: rows::texts_from(self.alloc, &non_members)?,
+        };
+        let number = row.number;
+        self.insert(row, bytes)?;
+        Ok(number)
+    }
+
+    /// Puts a stored group under its own number, which is below 1,024 and free. Its name is the name of
+    /// an object, and its other texts are patterns. It is refused as `add` refuses it. An `Err` changes
+    /// nothing, and the row is dropped.
+    pub fn put(&mut self, row: GroupRow, room: u32) -> Result<(), GroupFault>
+        requires valid { is_group row ≡ true }
+        requires free { has_row group_number row.number self.old ≡ false }
+        requires fits { all_texts self.old + room < 2 ^ 32 }
+        ensures ok { OnOk result (self.new ≡ with_group row self.old) }
+        ensures may { OnOk result (group_fault self.old row room ≡ None) }
+        ensures refused { IfErr result (λ fault. IsFault fault (group_fault self.old row room)) }
+        ensures err { OnErr result (self.new ≡ self.old) }
+        ensures kept { AreGroups self.new }
+    {
+        let left = rows::left_of_group(&row, room);
+        let bytes = room - self.admit(row.name.as_str(), left)?;
+        self.insert(row, bytes)?;
+        Ok(())
+    }
+
+    // What a new group of this name leaves of the room, where it may be added. None is given where its
+    // texts are longer.
+    fn admit(&self, name: &str, left: Option<u32>) -> Result<u32, GroupFault>
+        ensures left { IfOk result (λ kept. left ≡ Some kept) }
+        ensures may { OnOk result (new_fault self.now name.now (is_none left) ≡ None) }
+        ensures refused { IfErr result (λ fault. new_fault self.now name.now (is_none left) ≡ Some fault) }
+        ensures kept { AreGroups self.now }
+    {
+        if rows::find(&self.groups, name).is_some() {
+            return Err(GroupFault::DuplicateName);
+        }
+        if self.groups.len() >= MOST_GROUPS {
+            return Err(GroupFault::TableFull);
+        }
+        left.ok_or(GroupFault::TextsFull)
+    }
+
+    // Puts a group of so many bytes in its place, where nothing refuses it.
+    fn insert(&mut self, row: GroupRow, bytes: u32) -> Result<(), NoMemory>
+        requires valid { is_group row ≡ true }
+        requires free { has_row group_number row.number self.old ≡ false }
+        requires admitted { new_fault self.old row.name false ≡ None }
+        requires bytes { bytes ≡ texts_of row }
+        requires fits { all_texts self.old + bytes < 2 ^ 32 }
+        ensures ok { OnOk result (self.new ≡ with_group row self.old) }
+        ensures err { OnErr result (self.new ≡ self.old) }
+        ensures kept { AreGroups self.new }
+    {
+        let place = rows::gap(&self.groups, row.number);
+        self.groups.insert(place, row)?;
+        self.texts += bytes;
+        Ok(())
+    }
+
+    /// Gives a group that is there other members, other non-members, or both.
+    ///
+    /// `room` is as at `add`. TextsFull comes exactly where the group's texts, less those that they
+    /// replace, are longer than `room`; no other refusal comes but NoMemory. An `Err` changes nothing.
+    pub fn modify(
+        &mut self,
+        group: u32,
+        members: Option<List<Pattern>>,
+        non_members: Option<List<Pattern>>,
+        room: u32,
+    ) -> Result<(), GroupFault>
+        requires there { has_row group_number group self.old ≡ true }
+        requires fits { all_texts self.old + room < 2 ^ 32 }
+        ensures ok { OnOk result (self.new ≡ with_patterns group members non_members self.old) }
+        ensures may { OnOk result (patterns_fault self.old group members non_members room ≡ None) }
+        ensures refused { IfErr result (λ fault. IsFault fault (patterns_fault self.old group members non_members room)) }
+        ensures err { OnErr result (self.new ≡ self.old) }
+        ensures kept { AreGroups self.new }
+    {
+        let place = rows::search(&self.groups, group).unwrap();
+        let old = &self.groups[place];
+        let (members, non_members) = (members.as_ref(), non_members.as_ref());
+        let replaced = rows::texts_of(old);
+        let Some(left) = rows::left_of_regrouped(old, members, non_members, room + replaced) else {
+            return Err(GroupFault::TextsFull);
+        };
+        let row = rows::regrouped(self.alloc, old, members, non_members)?;
+        self.texts = self.texts + room - left;
+        self.groups[place] = row;
+        Ok(())
+    }
+
+    /// Takes a group away that is there.
+    pub fn delete(&mut self, group: u32)
+        requires { has_row group_number group self.old ≡ true }
+        ensures without { self.new ≡ without_group group self.old }
+        ensures kept { AreGroups self.new }
+    {
+        let place = rows::search(&self.groups, group).unwrap();
+        self.texts -= rows::texts_of(&self.groups[place]);
+        self.groups.remove(place);
+    }
+
+    /// The number of the group of this name, in any spelling.
+    pub fn find(&self, name: &str) -> Option<u32>
+        ensures { result ≡ number_named name.now self.now }
+    {
+        rows::find(&self.groups, name)
+    }
+
+    /// Whether a name is in a group that is there: some member matches it, and no non-member does. It
+    /// takes no memory.
+    pub fn in_group(&self, group: u32, name: &str) -> bool
+        requires { has_row group_number group self.now ≡ true }
+        ensures { result ≡ in_group_of self.now group name.now }
+    {
+        let place = rows::search(&self.groups, group).unwrap();
+        rows::is_in(&self.groups[place], name)
+    }
+
+    /// The bytes of all names and patterns.
+    pub fn texts(&self) -> u32
+        ensures { result ≡ all_texts self.now }
+    {
+        self.texts
+    }
+
+    /// How many groups there are, at most 1,024.
+    pub fn count(&self) -> u32
+        ensures { result ≡ length self.now }
+    {
+        self.groups.len() as u32
+    }
+
+    /// The group at a place, from 0, in the order of the numbers.
+    pub fn at(&self, place: u32) -> &GroupRow
+        requires { place < length self.now }
+        ensures { slice_get self.now place ≡ Some result.now }
+    {
+        &self.groups[place as usize]
+    }
+
+    /// The group of a number.
+    pub fn group(&self, number: u32) -> Option<&GroupRow>
+        ensures { option_copied result ≡ row_of group_number number self.now }
+    {
+        match rows::search(&self.groups, number) {
+            Ok(place) => Some(&self.groups[place]),
+            Err(_) => None,
+        }
+    }
+}

@@ -1,0 +1,14 @@
+//! Patterns of file names, and the table of the file groups, which they make up.
+#![tactic(auto)]
+
+mod answer;
+mod groups;
+mod matching;
+mod pattern;
+mod rows;
+#[cfg(test)]
+mod tests;
+
+pub use answer::GroupFault;
+pub use groups::Groups;
+pub use pattern::Pattern;

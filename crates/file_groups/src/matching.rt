@@ -1,0 +1,110 @@
+//! Whether a name matches a pattern, without memory and without a way back: of all stars only the last
+//! one that was met is ever tried again.
+
+ghost use Rattle.std.specs.Prelude.{◌≡◌, [], MatchOption, chars};
+ghost use Rattle.fsrm_model.specs.Patterns.{pattern_matches, matches, some_end, stands_for};
+ghost use Rattle.file_groups.specs.Heads.{AreHeads, BeginsWith};
+
+use unicode::case::simple_fold;
+
+/// Whether a name matches the pattern of this text.
+pub fn matches(pattern: &str, name: &str) -> bool
+    ensures { result ≡ pattern_matches name.now pattern.now }
+{
+    if pattern == "*.*" {
+        is_match("*", name)
+    } else {
+        is_match(pattern, name)
+    }
+}
+
+// What a pattern and a name begin with.
+enum Heads<'a> {
+    // A star, with what stands behind it.
+    Star(&'a str),
+    // Another character of the pattern, which stands for the name's first one, with what is behind both.
+    One(&'a str, &'a str),
+    // Both have ended.
+    Ended,
+    // The name doesn't match.
+    Apart,
+}
+
+fn heads_of<'a>(pattern: &'a str, name: &'a str) -> Heads<'a>
+    ensures { AreHeads pattern.now name.now result }
+{
+    match (first(pattern), first(name)) {
+        (Some(('*', behind)), _) => Heads::Star(behind),
+        (Some((wanted, behind)), Some((character, rest))) if stands_for(wanted, character) => {
+            Heads::One(behind, rest)
+        }
+        (None, None) => Heads::Ended,
+        _ => Heads::Apart,
+    }
+}
+
+// A text's first character, and what is behind it.
+fn first(text: &str) -> Option<(char, &str)>
+    ensures { MatchOption result (chars text.now ≡ []) (λ cut. BeginsWith text.now cut.0 cut.1.now) }
+{
+    let mut characters = text.chars();
+    let character = characters.next()?;
+    Some((character, characters.as_str()))
+}
+
+// A character is itself without a look into the table.
+#[inline]
+fn stands_for(wanted: char, character: char) -> bool
+    ensures { result ≡ stands_for wanted character }
+{
+    wanted == '?' || wanted == character || simple_fold(wanted) == simple_fold(character)
+}
+
+fn is_match(pattern: &str, name: &str) -> bool
+    ensures { result ≡ matches (chars pattern.now) (chars name.now) }
+{
+    let (mut pattern, mut name) = (pattern, name);
+    loop {
+        match heads_of(pattern, name) {
+            Heads::Star(behind) => return some_end_matches(behind, name),
+            Heads::One(behind, rest) => {
+                pattern = behind;
+                name = rest;
+            }
+            Heads::Ended => return true,
+            Heads::Apart => return false,
+        }
+    }
+}
+
+// Whether some end of the name matches, as behind a star. Where that comes to another star, any end that
+// the first one leads to is one that the other one leads to, so the first one is done with.
+fn some_end_matches(pattern: &str, name: &str) -> bool
+    ensures { result ≡ some_end (matches (chars pattern.now)) (chars name.now) }
+{
+    // What stands behind the last star, and the end of the name that is tried for it.
+    let (mut starred, mut end) = (pattern, name);
+    let (mut pattern, mut name) = (pattern, name);
+    loop {
+        match heads_of(pattern, name) {
+            Heads::Star(behind) => {
+                starred = behind;
+                end = name;
+                pattern = behind;
+            }
+            Heads::One(behind, rest) => {
+                pattern = behind;
+                name = rest;
+            }
+            Heads::Ended => return true,
+            Heads::Apart => {
+                let Some((_, next)) = first(end) else {
+                    return false;
+                };
+                end = next;
+                pattern = starred;
+                name = next;
+            }
+        }
+    }
+}
