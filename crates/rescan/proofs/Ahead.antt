@@ -1,16 +1,16 @@
 -- How much of a walk through a folder is still ahead.
-use Rattle.std.proofs.Common.{◌≡◌, ℕ, ◌+◌, ◌*◌, ◌≤◌, ◌==◌, Bool, true, false, cond, not, ◌||◌, ◌&&◌, List, [], ◌∷◌, length, refl, sym, ◌∙◌, ap, inl, inr, arith, Some, None, ◌<◌}
+use Rattle.std.proofs.Common.{◌≡◌, ℕ, ◌+◌, ◌*◌, ◌≤◌, ◌==◌, Bool, true, false, cond, not, ◌||◌, ◌&&◌, List, [], ◌∷◌, length, refl, sym, ◌∙◌, ap, arith, Some, None, ◌<◌}
 use Rattle.std.proofs.lemmas.List.Sums.{sum_by-cons}
 use Rattle.std.proofs.lemmas.Option.{same_Some}
-use Rattle.std.specs.Prelude.{slice_get, filter, sum_by, if◌then◌else◌}
+use Rattle.std.specs.Prelude.{slice_get, sum_by, if◌then◌else◌}
 use Rattle.std.specs.List.{AllByRecursion}
 use Rattle.fsrm_model.specs.declared.row.Capacity.{Capacity}
 use Rattle.fsrm_model.specs.declared.row.NodeRow.{NodeRow}
 use Rattle.fsrm_model.specs.Numbers.{is_in, without_number}
 use Rattle.fsrm_model.specs.Tree.{number, node_of, is_child, children, is_under, under}
 use Rattle.fsrm_model.specs.Valid.{IsVolume}
-use Rattle.fsrm_model.proofs.TestLaws.{is_or_not, clash, both, or_later, eq_is, eq_same}
-use Rattle.fsrm_model.proofs.ChainLaws.{IsTree, Has, sum_by-filter}
+use Rattle.fsrm_model.proofs.TestLaws.{clash, or_later, eq_is, eq_same}
+use Rattle.fsrm_model.proofs.ChainLaws.{Has, sum_by-filter}
 use Rattle.fsrm_model.proofs.Keeps.{found_parent, tree_of}
 use Rattle.fsrm_model.proofs.Look.{found_has, has_found, found_key}
 use Rattle.fsrm_model.proofs.Sums.{sum_by-add, sum_by_only}
@@ -94,10 +94,10 @@ whole_row : (K : Capacity) (nodes : List NodeRow) (x : ℕ) → IsVolume K nodes
 whole_row K nodes x v r own =
     at (has_above nodes (x ∷ []) r.number) (is_under nodes x r.number) (r.number == 0) (has_above nodes (x ∷ []) r.parent) (above_one nodes x r.number)
     (λ e h.
-        let up : is_under nodes x r.number ≡ ((r.number == x) || is_under nodes x r.parent) =
-        under_child nodes (tree_of K nodes v) x r.number (found_has number r.number nodes r own) (λ z. clash (r.number == 0) (ap (λ j. j == 0) z ∙ eq_same 0) e)
-        ∙ ap (λ p. (r.number == x) || is_under nodes x p) (found_parent nodes r.number r own) in
-        up ∙ or_later (r.number == x) _ (sym (above_one nodes x r.parent) ∙ h))
+    let up : is_under nodes x r.number ≡ ((r.number == x) || is_under nodes x r.parent) =
+    under_child nodes (tree_of K nodes v) x r.number (found_has number r.number nodes r own) (λ z. clash (r.number == 0) (ap (λ j. j == 0) z ∙ eq_same 0) e)
+    ∙ ap (λ p. (r.number == x) || is_under nodes x p) (found_parent nodes r.number r own) in
+    up ∙ or_later (r.number == x) _ (sym (above_one nodes x r.parent) ∙ h))
   where
     at : (a b root c : Bool) → a ≡ b → (root ≡ false → c ≡ true → b ≡ true) → cond a 1 0 + cond (not root && c) 2 0 ≤ cond b 3 0
     at true true true c e h = omega arith

@@ -1,44 +1,34 @@
 -- A scan goes on over the move of a folder.
-use Rattle.std.proofs.Common.{◌≡◌, ℕ, ◌+◌, ◌^◌, ◌<◌, ◌≤◌, ◌==◌, Bool, true, false, cond, not, ◌||◌, ◌&&◌, List, [], ◌∷◌, refl, sym, ◌∙◌, ap, subst, inl, inr, arith, Some}
-use Rattle.std.proofs.lemmas.List.Sums.{sum_by-cons}
-use Rattle.std.specs.Prelude.{unwrap_or, sum_by, if◌then◌else◌}
-use Rattle.std.specs.List.{AllByRecursion}
-use Rattle.fsrm_model.specs.declared.row.Capacity.{Capacity}
+use Rattle.std.proofs.Common.{◌≡◌, ℕ, ◌==◌, Bool, true, false, cond, not, ◌||◌, ◌&&◌, List, refl, sym, ◌∙◌, ap, subst, inl, inr, arith, Some}
+use Rattle.std.specs.Prelude.{unwrap_or}
 use Rattle.fsrm_model.specs.declared.row.NodeRow.{NodeRow}
-use Rattle.fsrm_model.specs.FileOps.{placed}
-use Rattle.fsrm_model.specs.Keyed.{with_change}
-use Rattle.fsrm_model.specs.Numbers.{is_in, is_set, with_number, without_number}
+use Rattle.fsrm_model.specs.Numbers.{is_in, with_number, without_number}
 use Rattle.fsrm_model.specs.Scan.{unvisited_moved}
-use Rattle.fsrm_model.specs.Space.{alloc, space}
-use Rattle.fsrm_model.specs.Tree.{number, node_of, is_folder, is_under}
+use Rattle.fsrm_model.specs.Tree.{is_folder, is_under}
 use Rattle.fsrm_model.specs.Valid.{IsVolume}
 use Rattle.fsrm_model.proofs.TestLaws.{is_or_not, clash, not_true, both_true, eq_is, eq_same}
 use Rattle.fsrm_model.proofs.Below.{each_above}
 use Rattle.fsrm_model.proofs.ChainLaws.{IsTree, Has}
 use Rattle.fsrm_model.proofs.Climbs.{under_own}
-use Rattle.fsrm_model.proofs.Files.{below_file}
-use Rattle.fsrm_model.proofs.Keeps.{found_folder, tree_of, moves_at, folder-change}
-use Rattle.fsrm_model.proofs.Look.{found_has, found_key, has_found}
-use Rattle.fsrm_model.proofs.MoveLaws.{Moves, Outside, under_before}
-use Rattle.fsrm_model.proofs.Sums.{sum_by-map, sum_by_each, sum_by_only}
+use Rattle.fsrm_model.proofs.Keeps.{found_folder, tree_of}
+use Rattle.fsrm_model.proofs.MoveLaws.{Outside, under_before}
 use Rattle.fsrm_model.proofs.ValidLaws.{folder_has}
 use Rattle.number_set.proofs.NumberLaws.{in_with, in_without, set_with, set_without, same_set}
 use Rattle.rescan.specs.declared.standing.Standing.{Standing}
 use Rattle.rescan.specs.declared.standing.Standing.TheVariants.{Outside as IsOutside, Visited, Unvisited}
 use Rattle.rescan.specs.Frontiers.{Front, Stands, Follows, scanned, has_above, unvisited}
-use Rattle.rescan.specs.Leaves.{counted_below, Leaves}
-use Rattle.rescan.specs.Standings.{standing, share_of, FolderGoes}
+use Rattle.rescan.specs.Leaves.{Leaves}
+use Rattle.rescan.specs.Standings.{standing, FolderGoes}
 use Rattle.rescan.specs.Tops.{AreTops}
-use Rattle.rescan.proofs.CountLaws.{is_counted, part, counted_is, each_row}
-use Rattle.rescan.proofs.FitLaws.{total_small}
-use Rattle.rescan.proofs.MovedScan.{Choice, moved_follows}
-use Rattle.rescan.proofs.MovedSums.{part_below, below_is, folder_sum, file_sum, nothing_below}
-use Rattle.rescan.proofs.MovedTops.{TopsMoved, in_scan}
+use Rattle.rescan.proofs.CountLaws.{is_counted}
+use Rattle.rescan.proofs.MovedScan.{moved_follows}
+use Rattle.rescan.proofs.MovedSums.{folder_sum, nothing_below}
+use Rattle.rescan.proofs.MovedTops.{TopsMoved}
 use Rattle.rescan.proofs.MovedWhole.{WholeMoved, whole_follows}
 use Rattle.rescan.proofs.MoveArms.{Goes, moves, kinds, moved_has, visited_is, outside_is, unvisited_is, counted_parts}
 use Rattle.rescan.proofs.StandingLaws.{scanned_is}
-use Rattle.rescan.proofs.Tops.{tops_of, above_of, above_by, under_under}
-use Rattle.volume_tree.specs.Volume.{Volume, IsCapacity, with_place}
+use Rattle.rescan.proofs.Tops.{tops_of, above_of, under_under}
+use Rattle.volume_tree.specs.Volume.{Volume, with_place}
 
 -- below a folder that isn't visited there is no topmost folder but itself
 lone_top : (nodes : List NodeRow) (f : Front) → IsTree nodes → AreTops nodes f → (x : ℕ) → (x == 0) ≡ false → Has nodes x → is_under nodes x (scanned f) ≡ false → is_counted nodes f x ≡ false → (n : ℕ) → is_in f.tops n ≡ true → is_under nodes x n ≡ true → x ≡ n
@@ -119,6 +109,7 @@ left_arm v f f2 x d name s w cd l =
     kept : (b : Bool) → (b && not false) ≡ b
     kept true = refl
     kept false = refl
+
     none : (b : Bool) → (b && not true) ≡ false
     none true = refl
     none false = refl

@@ -1,32 +1,26 @@
 -- The walk that takes back what was counted at and below a folder.
-use Rattle.std.proofs.Common.{◌≡◌, ℕ, zero, suc, ◌+◌, ◌*◌, ◌<◌, ◌≤◌, ◌==◌, Bool, true, false, cond, not, ◌||◌, ◌&&◌, List, [], ◌∷◌, length, Option, Some, None, refl, sym, ◌∙◌, ap, subst, ◌⊎◌, inl, inr, arith}
-use Rattle.std.proofs.lemmas.List.Sums.{sum_by-cons}
-use Rattle.std.specs.Prelude.{filter, sum_by, if◌then◌else◌}
-use Rattle.std.specs.List.{AllByRecursion}
+use Rattle.std.proofs.Common.{◌≡◌, ℕ, ◌+◌, ◌≤◌, ◌==◌, Bool, true, false, cond, not, ◌||◌, ◌&&◌, List, [], ◌∷◌, Some, refl, sym, ◌∙◌, ap, subst, inl, inr, arith}
+use Rattle.std.specs.Prelude.{sum_by, if◌then◌else◌}
 use Rattle.fsrm_model.specs.declared.row.Capacity.{Capacity}
 use Rattle.fsrm_model.specs.declared.row.NodeRow.{NodeRow}
-use Rattle.fsrm_model.specs.Numbers.{is_in, is_set, without_number, with_numbers}
+use Rattle.fsrm_model.specs.Numbers.{is_in, is_set, without_number}
 use Rattle.fsrm_model.specs.Space.{alloc, space}
-use Rattle.fsrm_model.specs.Tree.{number, node_of, parent_of, is_folder, is_child, children, is_under, under, chain}
+use Rattle.fsrm_model.specs.Tree.{number, node_of, is_folder, is_under}
 use Rattle.fsrm_model.specs.Valid.{IsVolume}
-use Rattle.fsrm_model.proofs.TestLaws.{is_or_not, clash, not_true, both, both_true, is_or, or_later, eq_is, eq_same, eq_turned, suc_apart}
-use Rattle.fsrm_model.proofs.ChainLaws.{IsTree, Has, sum_by-filter, sum_by_same}
-use Rattle.fsrm_model.proofs.Climbs.{climb, shorter, under_own}
-use Rattle.fsrm_model.proofs.Keeps.{found_folder, found_parent, tree_of}
-use Rattle.fsrm_model.proofs.Look.{found_has}
-use Rattle.fsrm_model.proofs.Sums.{sum_by-add, sum_by_each, sum_by_nothing, sum_by_only}
-use Rattle.fsrm_model.proofs.UsageLaws.{parent_lacks}
+use Rattle.fsrm_model.proofs.TestLaws.{is_or_not, clash, not_true, both, eq_is, eq_same}
+use Rattle.fsrm_model.proofs.ChainLaws.{Has, sum_by_same}
+use Rattle.fsrm_model.proofs.Climbs.{under_own}
+use Rattle.fsrm_model.proofs.Keeps.{found_folder}
+use Rattle.fsrm_model.proofs.Sums.{sum_by_each, sum_by_nothing}
 use Rattle.fsrm_model.proofs.ValidLaws.{folder_has}
-use Rattle.number_set.proofs.NumberLaws.{in_without, in_withs, set_without, set_withs}
-use Rattle.rescan.specs.Frontiers.{Front, scanned, has_above}
+use Rattle.number_set.proofs.NumberLaws.{in_without, set_without}
+use Rattle.rescan.specs.Frontiers.{Front, has_above}
 use Rattle.rescan.specs.Leaves.{counted_below, Leaves}
 use Rattle.rescan.specs.Tops.{AreTops}
-use Rattle.rescan.specs.Visits.{folders_in}
-use Rattle.rescan.proofs.ChildLaws.{ChildFolder, child_folder_of, child_folder_by}
 use Rattle.rescan.proofs.CountLaws.{is_counted, part, each_row}
-use Rattle.rescan.proofs.MovedSums.{InFolder, in_folder, part_below, below_is}
-use Rattle.rescan.proofs.MovedTops.{same_tests, in_scan, not_above}
-use Rattle.rescan.proofs.Tops.{above_of, above_by, above_own, above_child, under_child, under_under, parent_folder}
+use Rattle.rescan.proofs.MovedSums.{in_folder, part_below, below_is}
+use Rattle.rescan.proofs.MovedTops.{same_tests, not_above}
+use Rattle.rescan.proofs.Tops.{above_of, above_by}
 
 -- what is still to be taken back, with these folders waiting
 abbrev pub left : Capacity → List NodeRow → Front → List ℕ → ℕ
@@ -183,6 +177,7 @@ top_tops K nodes f x tops waiting sum n t w here top m = in_without n m tops ∙
     nothing : (a : Bool) → (a && false) ≡ false
     nothing true = refl
     nothing false = refl
+
     where_top : (a b c d : Bool) → (a ≡ true → b ≡ c) → (a && (b || d)) ≡ (a && (c || d))
     where_top true b c d h = ap (λ e. e || d) (h refl)
     where_top false b c d h = refl

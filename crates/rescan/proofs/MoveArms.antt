@@ -1,41 +1,34 @@
 -- A scan goes on over each kind of move.
-use Rattle.std.proofs.Common.{◌≡◌, ℕ, ◌+◌, ◌^◌, ◌<◌, ◌≤◌, ◌==◌, Bool, true, false, cond, not, ◌||◌, ◌&&◌, List, [], ◌∷◌, refl, sym, ◌∙◌, ap, subst, inl, inr, arith, Some}
+use Rattle.std.proofs.Common.{◌≡◌, ℕ, ◌+◌, ◌^◌, ◌<◌, ◌≤◌, ◌==◌, Bool, true, false, cond, not, ◌&&◌, List, [], ◌∷◌, refl, sym, ◌∙◌, ap, arith, Some}
 use Rattle.std.proofs.lemmas.List.Sums.{sum_by-cons}
 use Rattle.std.specs.Prelude.{sum_by, if◌then◌else◌}
-use Rattle.std.specs.List.{AllByRecursion}
 use Rattle.fsrm_model.specs.declared.row.Capacity.{Capacity}
 use Rattle.fsrm_model.specs.declared.row.NodeRow.{NodeRow}
 use Rattle.fsrm_model.specs.FileOps.{placed}
-use Rattle.fsrm_model.specs.Keyed.{with_change}
-use Rattle.fsrm_model.specs.Numbers.{is_in, is_set, with_number, without_number}
+use Rattle.fsrm_model.specs.Numbers.{is_in, is_set}
 use Rattle.fsrm_model.specs.Scan.{unvisited_moved}
 use Rattle.fsrm_model.specs.Space.{alloc, space}
 use Rattle.fsrm_model.specs.Tree.{number, node_of, is_folder, is_under}
 use Rattle.fsrm_model.specs.Valid.{IsVolume}
-use Rattle.fsrm_model.proofs.TestLaws.{is_or_not, clash, not_true, both_true, eq_is, eq_same}
-use Rattle.fsrm_model.proofs.Below.{each_above}
-use Rattle.fsrm_model.proofs.ChainLaws.{IsTree, Has}
-use Rattle.fsrm_model.proofs.Climbs.{under_own}
+use Rattle.fsrm_model.proofs.TestLaws.{clash, not_true, eq_same}
+use Rattle.fsrm_model.proofs.ChainLaws.{Has}
 use Rattle.fsrm_model.proofs.Files.{below_file}
 use Rattle.fsrm_model.proofs.Keeps.{found_folder, tree_of, moves_at, folder-change}
-use Rattle.fsrm_model.proofs.Look.{found_has, found_key, has_found}
-use Rattle.fsrm_model.proofs.MoveLaws.{Moves, Outside, under_before}
+use Rattle.fsrm_model.proofs.Look.{found_has, found_key}
+use Rattle.fsrm_model.proofs.MoveLaws.{Moves}
 use Rattle.fsrm_model.proofs.Sums.{sum_by-map, sum_by_each, sum_by_only}
 use Rattle.fsrm_model.proofs.ValidLaws.{folder_has}
-use Rattle.number_set.proofs.NumberLaws.{in_with, in_without, set_with, set_without, same_set}
 use Rattle.rescan.specs.declared.standing.Standing.{Standing}
 use Rattle.rescan.specs.declared.standing.Standing.TheVariants.{Outside as IsOutside, Visited, Unvisited}
 use Rattle.rescan.specs.Frontiers.{Front, Stands, Follows, scanned, has_above, unvisited}
-use Rattle.rescan.specs.Leaves.{counted_below, Leaves}
-use Rattle.rescan.specs.Standings.{standing, share_of, FolderGoes}
-use Rattle.rescan.specs.Tops.{AreTops}
-use Rattle.rescan.proofs.CountLaws.{is_counted, part, counted_is, each_row}
+use Rattle.rescan.specs.Leaves.{counted_below}
+use Rattle.rescan.specs.Standings.{standing, share_of}
+use Rattle.rescan.proofs.CountLaws.{is_counted, part, counted_is}
 use Rattle.rescan.proofs.FitLaws.{total_small}
-use Rattle.rescan.proofs.MovedScan.{Choice, moved_follows}
-use Rattle.rescan.proofs.MovedSums.{part_below, below_is, folder_sum, file_sum, nothing_below}
-use Rattle.rescan.proofs.MovedTops.{TopsMoved, in_scan}
-use Rattle.rescan.proofs.MovedWhole.{WholeMoved, whole_follows}
-use Rattle.rescan.proofs.Tops.{tops_of, above_of, above_by, under_under}
+use Rattle.rescan.proofs.MovedScan.{moved_follows}
+use Rattle.rescan.proofs.MovedSums.{part_below, below_is, file_sum}
+use Rattle.rescan.proofs.MovedTops.{TopsMoved}
+use Rattle.rescan.proofs.Tops.{tops_of}
 use Rattle.volume_tree.specs.Volume.{Volume, IsCapacity, with_place}
 
 -- a move that the tree allows

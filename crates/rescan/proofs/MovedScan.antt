@@ -1,18 +1,16 @@
 -- A scan goes on over a move.
-use Rattle.std.proofs.Common.{◌≡◌, ℕ, ◌+◌, ◌≤◌, ◌==◌, Bool, true, false, cond, not, ◌||◌, ◌&&◌, List, [], ◌∷◌, Option, Some, None, refl, sym, ◌∙◌, ap, subst, inl, inr, arith}
-use Rattle.std.specs.Prelude.{map, filter, sum_by, if◌then◌else◌}
+use Rattle.std.proofs.Common.{◌≡◌, ℕ, ◌≤◌, Bool, true, false, cond, not, ◌||◌, ◌&&◌, List, [], ◌∷◌, Option, Some, None, refl, sym, ◌∙◌, ap, subst, inl, inr}
+use Rattle.std.specs.Prelude.{map, filter, sum_by}
 use Rattle.std.specs.Option.{option_map_or}
 use Rattle.fsrm_model.specs.declared.row.Capacity.{Capacity}
 use Rattle.fsrm_model.specs.declared.row.NodeRow.{NodeRow}
-use Rattle.fsrm_model.specs.FileOps.{placed}
-use Rattle.fsrm_model.specs.Numbers.{is_in, is_set, with_number, without_number, with_numbers, without_numbers}
+use Rattle.fsrm_model.specs.Numbers.{is_in, is_set, with_numbers, without_numbers}
 use Rattle.fsrm_model.specs.Scan.{folders_under, unvisited_moved}
-use Rattle.fsrm_model.specs.Space.{space}
 use Rattle.fsrm_model.specs.Tree.{number, node_of, is_folder, is_under}
 use Rattle.fsrm_model.specs.Valid.{IsVolume}
-use Rattle.fsrm_model.proofs.TestLaws.{is_or_not, clash, not_true, or_later, eq_is, eq_same}
+use Rattle.fsrm_model.proofs.TestLaws.{is_or_not, clash, not_true, or_later}
 use Rattle.fsrm_model.proofs.ChainLaws.{IsTree, Has}
-use Rattle.fsrm_model.proofs.Files.{above_folder, below_file}
+use Rattle.fsrm_model.proofs.Files.{below_file}
 use Rattle.fsrm_model.proofs.Keeps.{tree_of}
 use Rattle.fsrm_model.proofs.Look.{found_key}
 use Rattle.fsrm_model.proofs.MoveLaws.{under_after}
@@ -132,14 +130,14 @@ moved_unvisited K nodes new f f2 x d keeps enters v w folder s choice =
     ∙ (left_at (is_folder nodes n) (is_under nodes x n) (has_above nodes f.tops n) (has_above new f2.tops n) sd other
     (λ is b. above_other nodes new f f2 x d keeps enters s n (has is) b)
     (λ is b.
-        let xf : is_folder nodes x ≡ true = elim (is_or_not (is_folder nodes x)) [ inl e ↦ e | inr e ↦ absurd (clash _ (sym (ap (is_folder nodes) (below_file K nodes x n v e (has is) b)) ∙ is) e) ] in
-        chosen sd (has_above nodes f.tops d) (is_under nodes (scanned f) x) (has_above nodes f.tops x) (has_above nodes f.tops n) (has_above new f2.tops n) keeps enters
-        (unvisited_in_scan nodes f t s.tops d m.has_folder)
-        (above_below nodes f.tops t x n m.has_moved (has is) b)
-        (λ k. above_kept nodes new f f2 x d keeps enters s k n (has is) b)
-        (λ k. above_moved nodes new f f2 x d keeps enters s k n (has is) b)
-        s.kept (λ e. (s.entered e).1) (choice.stay xf) (choice.enter xf)
-        ∙ ap (λ b. cond (not sd) false (cond (b || not (is_under nodes (scanned f) x)) true (has_above nodes f.tops n))) (sym ud))
+    let xf : is_folder nodes x ≡ true = elim (is_or_not (is_folder nodes x)) [ inl e ↦ e | inr e ↦ absurd (clash _ (sym (ap (is_folder nodes) (below_file K nodes x n v e (has is) b)) ∙ is) e) ] in
+    chosen sd (has_above nodes f.tops d) (is_under nodes (scanned f) x) (has_above nodes f.tops x) (has_above nodes f.tops n) (has_above new f2.tops n) keeps enters
+    (unvisited_in_scan nodes f t s.tops d m.has_folder)
+    (above_below nodes f.tops t x n m.has_moved (has is) b)
+    (λ k. above_kept nodes new f f2 x d keeps enters s k n (has is) b)
+    (λ k. above_moved nodes new f f2 x d keeps enters s k n (has is) b)
+    s.kept (λ e. (s.entered e).1) (choice.stay xf) (choice.enter xf)
+    ∙ ap (λ b. cond (not sd) false (cond (b || not (is_under nodes (scanned f) x)) true (has_above nodes f.tops n))) (sym ud))
     ∙ sym (in_cond (not sd) other (without_numbers ws us) (with_numbers ws us) us n
     ∙ members (not sd) other n)))
     in

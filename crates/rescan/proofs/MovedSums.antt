@@ -1,5 +1,5 @@
 -- What is counted after a move, where the scanned folder doesn't move.
-use Rattle.std.proofs.Common.{◌≡◌, ℕ, ◌+◌, ◌==◌, Bool, true, false, cond, not, ◌||◌, ◌&&◌, List, refl, sym, ◌∙◌, ap, subst, inl, inr, arith, Some}
+use Rattle.std.proofs.Common.{◌≡◌, ℕ, ◌+◌, ◌==◌, Bool, true, false, cond, not, ◌||◌, ◌&&◌, List, refl, sym, ◌∙◌, ap, inl, inr, arith, Some}
 use Rattle.std.specs.Prelude.{sum_by, if◌then◌else◌}
 use Rattle.std.specs.List.{AllByRecursion}
 use Rattle.fsrm_model.specs.declared.row.Capacity.{Capacity}
@@ -14,7 +14,7 @@ use Rattle.fsrm_model.proofs.ChainLaws.{IsTree, Has, sum_by-filter, sum_by_same}
 use Rattle.fsrm_model.proofs.Files.{below_file}
 use Rattle.fsrm_model.proofs.Keeps.{found_folder, found_parent, tree_of}
 use Rattle.fsrm_model.proofs.Look.{found_has, found_key}
-use Rattle.fsrm_model.proofs.MoveLaws.{Moves, Outside, under_before}
+use Rattle.fsrm_model.proofs.MoveLaws.{Outside, under_before}
 use Rattle.fsrm_model.proofs.Sums.{sum_by-map, sum_by-add, sum_by_each, sum_by_nothing, sum_by_only}
 use Rattle.fsrm_model.proofs.ValidLaws.{folder_has}
 use Rattle.rescan.specs.Frontiers.{Front, scanned, has_above}
@@ -71,7 +71,7 @@ in_folder K nodes x r v own file =
       folder = folder;
       inner = inner;
       up = under_child nodes (tree_of K nodes v) x r.number (found_has number r.number nodes r own) inner
-      ∙ ap (λ p. (r.number == x) || is_under nodes x p) (found_parent nodes r.number r own);
+          ∙ ap (λ p. (r.number == x) || is_under nodes x p) (found_parent nodes r.number r own);
     }
 
 other_of : (nodes : List NodeRow) (x : ℕ) (r : NodeRow) (folder : Bool) → node_of nodes r.number ≡ Some r → is_folder nodes x ≡ folder → (r.folder ≡ folder → ⊥) → (r.number == x) ≡ false

@@ -74,14 +74,14 @@ above_other nodes new f f2 x d keeps enters s n hn e =
     let same : chain new n ≡ chain nodes n = under_other nodes new x d s.moves n e in
     same_tests _ _
     (λ h.
-        let a = above_of new f2.tops n h in
-        let up : is_under nodes a.top n ≡ true = sym (ap (λ (ns : List ℕ). is_in ns a.top) same) ∙ a.above in
-        let far = apart_above nodes t x a.top n (member_has nodes new f f2 x d keeps enters s a.top a.member) hn up e in
-        above_by nodes f.tops n a.top (sym (s.others a.top far) ∙ a.member) up)
+    let a = above_of new f2.tops n h in
+    let up : is_under nodes a.top n ≡ true = sym (ap (λ (ns : List ℕ). is_in ns a.top) same) ∙ a.above in
+    let far = apart_above nodes t x a.top n (member_has nodes new f f2 x d keeps enters s a.top a.member) hn up e in
+    above_by nodes f.tops n a.top (sym (s.others a.top far) ∙ a.member) up)
     (λ h.
-        let a = above_of nodes f.tops n h in
-        let far = apart_above nodes t x a.top n (top_has nodes f s.tops a.top a.member) hn a.above e in
-        above_by new f2.tops n a.top (s.others a.top far ∙ a.member) (ap (λ (ns : List ℕ). is_in ns a.top) same ∙ a.above))
+    let a = above_of nodes f.tops n h in
+    let far = apart_above nodes t x a.top n (top_has nodes f s.tops a.top a.member) hn a.above e in
+    above_by new f2.tops n a.top (s.others a.top far ∙ a.member) (ap (λ (ns : List ℕ). is_in ns a.top) same ∙ a.above))
 
 -- a node at or below it, where the topmost folders there stay
 pub above_kept : (nodes new : List NodeRow) (f f2 : Front) (x d : ℕ) (keeps enters : Bool) → TopsMoved nodes new f f2 x d keeps enters → keeps ≡ true → (n : ℕ) → Has nodes n → is_under nodes x n ≡ true → has_above new f2.tops n ≡ has_above nodes f.tops n
@@ -90,23 +90,23 @@ above_kept nodes new f f2 x d keeps enters s k n hn b =
     let same : (y : ℕ) → is_under nodes x y ≡ true → is_in f2.tops y ≡ is_in f.tops y = λ y h. s.below y h ∙ ap (λ k. cond k (is_in f.tops y) (enters && (x == y))) k in
     same_tests _ _
     (λ h.
-        let a = above_of new f2.tops n h in
-        let has = member_has nodes new f f2 x d keeps enters s a.top a.member in
-        elim (is_or_not (is_under nodes x a.top)) [
-          | inl i ↦ above_by nodes f.tops n a.top (sym (same a.top i) ∙ a.member) (sym (below_moved nodes new x d m a.top n has i hn) ∙ a.above)
-          | inr i ↦
-              let up : is_under nodes a.top d ≡ true = sym (under_after nodes new x d m a.top n (record { has = has; lacks = i }) hn b) ∙ a.above in
-              absurd (clash _ (above_by nodes f.tops d a.top (sym (s.others a.top i) ∙ a.member) up) (not_above nodes f d (s.kept k).1))
-        ])
+    let a = above_of new f2.tops n h in
+    let has = member_has nodes new f f2 x d keeps enters s a.top a.member in
+    elim (is_or_not (is_under nodes x a.top)) [
+      | inl i ↦ above_by nodes f.tops n a.top (sym (same a.top i) ∙ a.member) (sym (below_moved nodes new x d m a.top n has i hn) ∙ a.above)
+      | inr i ↦
+          let up : is_under nodes a.top d ≡ true = sym (under_after nodes new x d m a.top n (record { has = has; lacks = i }) hn b) ∙ a.above in
+          absurd (clash _ (above_by nodes f.tops d a.top (sym (s.others a.top i) ∙ a.member) up) (not_above nodes f d (s.kept k).1))
+    ])
     (λ h.
-        let a = above_of nodes f.tops n h in
-        let has = top_has nodes f s.tops a.top a.member in
-        elim (is_or_not (is_under nodes x a.top)) [
-          | inl i ↦ above_by new f2.tops n a.top (same a.top i ∙ a.member) (below_moved nodes new x d m a.top n has i hn ∙ a.above)
-          | inr i ↦
-              let up : is_under nodes a.top x ≡ true = sym (under_before nodes m.tree x a.top n m.is_inner m.has_moved (record { has = has; lacks = i }) hn b) ∙ a.above in
-              absurd (clash _ (above_by nodes f.tops x a.top a.member up) (not_above nodes f x (s.kept k).0))
-        ])
+    let a = above_of nodes f.tops n h in
+    let has = top_has nodes f s.tops a.top a.member in
+    elim (is_or_not (is_under nodes x a.top)) [
+      | inl i ↦ above_by new f2.tops n a.top (same a.top i ∙ a.member) (below_moved nodes new x d m a.top n has i hn ∙ a.above)
+      | inr i ↦
+          let up : is_under nodes a.top x ≡ true = sym (under_before nodes m.tree x a.top n m.is_inner m.has_moved (record { has = has; lacks = i }) hn b) ∙ a.above in
+          absurd (clash _ (above_by nodes f.tops x a.top a.member up) (not_above nodes f x (s.kept k).0))
+    ])
 
 -- and where they go: it is as the moved node is
 pub above_moved : (nodes new : List NodeRow) (f f2 : Front) (x d : ℕ) (keeps enters : Bool) → TopsMoved nodes new f f2 x d keeps enters → keeps ≡ false → (n : ℕ) → Has nodes n → is_under nodes x n ≡ true → has_above new f2.tops n ≡ (enters || has_above nodes f.tops d)
@@ -115,14 +115,14 @@ above_moved nodes new f f2 x d keeps enters s k n hn b =
     let there : (y : ℕ) → is_under nodes x y ≡ true → is_in f2.tops y ≡ (enters && (x == y)) = λ y h. s.below y h ∙ ap (λ k. cond k (is_in f.tops y) (enters && (x == y))) k in
     same_tests _ _
     (λ h.
-        let a = above_of new f2.tops n h in
-        let has = member_has nodes new f f2 x d keeps enters s a.top a.member in
-        elim (is_or_not (is_under nodes x a.top)) [
-          | inl i ↦ first enters (has_above nodes f.tops d) (both enters (x == a.top) (sym (there a.top i) ∙ a.member)).0
-          | inr i ↦
-              let up : is_under nodes a.top d ≡ true = sym (under_after nodes new x d m a.top n (record { has = has; lacks = i }) hn b) ∙ a.above in
-              or_later enters _ (above_by nodes f.tops d a.top (sym (s.others a.top i) ∙ a.member) up)
-        ])
+    let a = above_of new f2.tops n h in
+    let has = member_has nodes new f f2 x d keeps enters s a.top a.member in
+    elim (is_or_not (is_under nodes x a.top)) [
+      | inl i ↦ first enters (has_above nodes f.tops d) (both enters (x == a.top) (sym (there a.top i) ∙ a.member)).0
+      | inr i ↦
+          let up : is_under nodes a.top d ≡ true = sym (under_after nodes new x d m a.top n (record { has = has; lacks = i }) hn b) ∙ a.above in
+          or_later enters _ (above_by nodes f.tops d a.top (sym (s.others a.top i) ∙ a.member) up)
+    ])
     (λ h. elim (is_or enters (has_above nodes f.tops d) h) [
       | inl e ↦
           let own = under_own nodes x in

@@ -1,13 +1,12 @@
 -- A scan goes on over a move that moves its folder.
-use Rattle.std.proofs.Common.{◌≡◌, ℕ, ◌+◌, ◌==◌, Bool, true, false, cond, not, ◌||◌, ◌&&◌, List, refl, sym, ◌∙◌, ap, subst, inl, inr, arith, Some}
+use Rattle.std.proofs.Common.{◌≡◌, ℕ, ◌==◌, Bool, true, false, cond, not, ◌&&◌, List, refl, sym, ◌∙◌, ap, inl, inr, Some}
 use Rattle.std.specs.Prelude.{sum_by, if◌then◌else◌}
-use Rattle.std.specs.List.{AllByRecursion}
 use Rattle.fsrm_model.specs.declared.row.Capacity.{Capacity}
 use Rattle.fsrm_model.specs.declared.row.NodeRow.{NodeRow}
 use Rattle.fsrm_model.specs.FileOps.{placed}
 use Rattle.fsrm_model.specs.Keyed.{with_change}
 use Rattle.fsrm_model.specs.Numbers.{is_in}
-use Rattle.fsrm_model.specs.Scan.{folders_under, unvisited_moved}
+use Rattle.fsrm_model.specs.Scan.{unvisited_moved}
 use Rattle.fsrm_model.specs.Space.{space}
 use Rattle.fsrm_model.specs.Tree.{number, node_of, is_folder, is_under}
 use Rattle.fsrm_model.specs.Valid.{IsVolume}
@@ -15,7 +14,7 @@ use Rattle.fsrm_model.proofs.TestLaws.{is_or_not, clash, not_true, eq_is, eq_sam
 use Rattle.fsrm_model.proofs.Below.{below_moved}
 use Rattle.fsrm_model.proofs.ChainLaws.{Has, sum_by_same}
 use Rattle.fsrm_model.proofs.Files.{above_folder}
-use Rattle.fsrm_model.proofs.Keeps.{found_folder, tree_of}
+use Rattle.fsrm_model.proofs.Keeps.{found_folder}
 use Rattle.fsrm_model.proofs.MoveLaws.{Moves}
 use Rattle.fsrm_model.proofs.Sums.{sum_by-map}
 use Rattle.fsrm_model.proofs.ValidLaws.{folder_has}
@@ -25,7 +24,7 @@ use Rattle.rescan.specs.Tops.{AreTops}
 use Rattle.rescan.proofs.CountLaws.{is_counted, part, counted_is, each_row}
 use Rattle.rescan.proofs.MovedSums.{in_folder, folder_part, placed_folder}
 use Rattle.rescan.proofs.MovedTops.{same_tests}
-use Rattle.rescan.proofs.Tops.{in_unvisited, set_unvisited, stands_by, tops_of, above_of, above_by, under_under}
+use Rattle.rescan.proofs.Tops.{in_unvisited, set_unvisited, stands_by, above_of, above_by, under_under}
 use Rattle.volume_tree.specs.Volume.{Volume, with_place}
 
 -- the scanned folder is at or below the moved node
@@ -115,7 +114,7 @@ whole_follows v f x d name stands w s =
     let new = (with_place v x d name).nodes in
     record {
       stands = stands_by (with_place v x d name) f w stands.fits (whole_tops nodes new f x d s)
-      (stands.sum ∙ (counted_is K nodes stands.volume f ∙ (sym (whole_sum K nodes f x d name stands.volume s) ∙ sym (counted_is K new w f))));
+          (stands.sum ∙ (counted_is K nodes stands.volume f ∙ (sym (whole_sum K nodes f x d name stands.volume s) ∙ sym (counted_is K new w f))));
       unvisited_are = whole_unvisited K nodes new f x d stands.volume w s ∙ sym (stays (is_under nodes x (scanned f)) (unvisited nodes f) _ s.inside);
       folder = refl;
       room = refl;

@@ -1,32 +1,28 @@
 -- The walk that takes back what was counted goes on into a folder.
-use Rattle.std.proofs.Common.{◌≡◌, ℕ, zero, suc, ◌+◌, ◌*◌, ◌<◌, ◌≤◌, ◌==◌, Bool, true, false, cond, not, ◌||◌, ◌&&◌, List, [], ◌∷◌, length, refl, sym, ◌∙◌, ap, subst, ◌⊎◌, inl, inr, arith, Some}
-use Rattle.std.proofs.lemmas.List.Sums.{sum_by-cons}
-use Rattle.std.specs.Prelude.{filter, sum_by, if◌then◌else◌}
+use Rattle.std.proofs.Common.{◌≡◌, ℕ, zero, suc, ◌+◌, ◌≤◌, ◌==◌, Bool, true, false, cond, not, ◌||◌, ◌&&◌, List, length, refl, sym, ◌∙◌, ap, subst, ◌⊎◌, inl, inr, arith, Some}
+use Rattle.std.specs.Prelude.{sum_by, if◌then◌else◌}
 use Rattle.std.specs.List.{AllByRecursion}
-
 use Rattle.fsrm_model.specs.declared.row.Capacity.{Capacity}
 use Rattle.fsrm_model.specs.declared.row.NodeRow.{NodeRow}
-use Rattle.fsrm_model.specs.Numbers.{is_in, is_set, without_number, with_numbers}
+use Rattle.fsrm_model.specs.Numbers.{is_in, without_number, with_numbers}
 use Rattle.fsrm_model.specs.Space.{alloc, space}
-use Rattle.fsrm_model.specs.Tree.{number, node_of, parent_of, is_folder, is_child, children, is_under, under, chain}
+use Rattle.fsrm_model.specs.Tree.{number, node_of, parent_of, is_folder, is_child, children, is_under, chain}
 use Rattle.fsrm_model.specs.Valid.{IsVolume}
-use Rattle.fsrm_model.proofs.TestLaws.{is_or_not, clash, not_true, both, both_true, is_or, or_later, eq_is, eq_same, eq_turned, suc_apart}
+use Rattle.fsrm_model.proofs.TestLaws.{is_or_not, clash, not_true, both_true, is_or, or_later, eq_is, eq_same, suc_apart}
 use Rattle.fsrm_model.proofs.Below.{chain_root}
 use Rattle.fsrm_model.proofs.ChainLaws.{IsTree, Has, sum_by-filter, sum_by_same}
 use Rattle.fsrm_model.proofs.Climbs.{shorter, under_own}
-use Rattle.fsrm_model.proofs.Keeps.{as_suc, found_parent, tree_of}
-use Rattle.fsrm_model.proofs.Look.{found_has, has_found, found_key}
-use Rattle.fsrm_model.proofs.Sums.{sum_by-add, sum_by_only}
+use Rattle.fsrm_model.proofs.Keeps.{as_suc, tree_of}
+use Rattle.fsrm_model.proofs.Sums.{sum_by-add}
 use Rattle.fsrm_model.proofs.UsageLaws.{parent_lacks}
 use Rattle.fsrm_model.proofs.ValidLaws.{folder_has}
 use Rattle.number_set.proofs.NumberLaws.{in_withs, set_without, set_withs}
 use Rattle.rescan.specs.Frontiers.{Front, scanned, has_above}
-use Rattle.rescan.specs.Leaves.{counted_below}
 use Rattle.rescan.specs.Visits.{folders_in}
 use Rattle.rescan.proofs.ChildLaws.{ChildFolder, child_folder_of, child_folder_by}
 use Rattle.rescan.proofs.CountLaws.{is_counted, part, each_row}
 use Rattle.rescan.proofs.Leaving.{Leaving, Tracked, left, without_in, in_other, waiting_has, row_of_folder}
-use Rattle.rescan.proofs.MovedSums.{InFolder, in_folder}
+use Rattle.rescan.proofs.MovedSums.{in_folder}
 use Rattle.rescan.proofs.MovedTops.{same_tests, in_scan, not_above}
 use Rattle.rescan.proofs.Tops.{above_of, above_by, above_own, above_child, under_child, under_under, parent_folder}
 
@@ -112,14 +108,14 @@ opened_same K nodes waiting n m v here is hn e =
     same_tests _ _
     (opened_less K nodes waiting n m v here (folder_has nodes m is) hn)
     (λ h.
-        let a = above_of nodes waiting m h in
-        elim (is_or_not (n == a.top)) [
-          | inl s ↦
-              let down : is_under nodes n m ≡ true = subst (λ (j : ℕ). is_under nodes j m ≡ true) (sym (eq_is n a.top s)) a.above in
-              let l = lead K nodes v n m is down e in
-              above_by nodes (opened nodes n waiting) m l.child (opened_child K nodes n l.child waiting v l.folder) l.above
-          | inr s ↦ above_by nodes (opened nodes n waiting) m a.top (opened_other nodes n a.top waiting s a.member) a.above
-        ])
+    let a = above_of nodes waiting m h in
+    elim (is_or_not (n == a.top)) [
+      | inl s ↦
+          let down : is_under nodes n m ≡ true = subst (λ (j : ℕ). is_under nodes j m ≡ true) (sym (eq_is n a.top s)) a.above in
+          let l = lead K nodes v n m is down e in
+          above_by nodes (opened nodes n waiting) m l.child (opened_child K nodes n l.child waiting v l.folder) l.above
+      | inr s ↦ above_by nodes (opened nodes n waiting) m a.top (opened_other nodes n a.top waiting s a.member) a.above
+    ])
 
 pub opened_gone : (K : Capacity) (nodes : List NodeRow) (f : Front) (x : ℕ) (tops waiting : List ℕ) (sum n : ℕ) → IsVolume K nodes → Leaving K nodes f x tops waiting sum → is_in waiting n ≡ true → has_above nodes (opened nodes n waiting) n ≡ false
 opened_gone K nodes f x tops waiting sum n v w here = not_true _ (λ h.
@@ -181,11 +177,13 @@ opened_row K nodes f x tops waiting sum n v w here counted r own = elim (is_or_n
         zero : (b : Bool) (p : ℕ) → p ≡ 0 → cond b p 0 ≡ 0
         zero true p h = h
         zero false p h = refl
+
     taken_at : (a b c : Bool) (p s : ℕ) → a ≡ true → b ≡ false → c ≡ true → p ≡ s → cond a p 0 ≡ cond b p 0 + cond c s 0
     taken_at true false true p s h g k e = omega (arith, e)
     taken_at true false false p s h g k e = cc
     taken_at true true c p s h g k e = cc
     taken_at false b c p s h g k e = cc
+
     kept_at : (a b c : Bool) (p s : ℕ) → b ≡ a → c ≡ false → cond a p 0 ≡ cond b p 0 + cond c s 0
     kept_at true true false p s h g = omega arith
     kept_at false false false p s h g = omega arith

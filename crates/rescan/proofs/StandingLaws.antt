@@ -1,8 +1,8 @@
 -- Where a node stands in a scan, from the way up to the root.
-use Rattle.std.proofs.Common.{◌≡◌, ℕ, ◌==◌, Bool, true, false, cond, not, ◌||◌, ◌&&◌, List, Option, Some, None, refl, sym, ◌∙◌, ap, subst, inl, inr, eqb}
+use Rattle.std.proofs.Common.{◌≡◌, ℕ, ◌==◌, Bool, true, false, cond, ◌||◌, List, Option, Some, None, refl, sym, ◌∙◌, ap, subst, inl, inr, eqb}
 use Rattle.fsrm_model.specs.declared.row.NodeRow.{NodeRow}
 use Rattle.fsrm_model.specs.Numbers.{is_in}
-use Rattle.fsrm_model.specs.Tree.{parent_of, is_folder, is_under}
+use Rattle.fsrm_model.specs.Tree.{parent_of, is_under}
 use Rattle.fsrm_model.proofs.TestLaws.{is_or_not, clash, not_true, eq_is, eq_same}
 use Rattle.fsrm_model.proofs.ChainLaws.{IsTree, Has}
 use Rattle.fsrm_model.proofs.Below.{chain_root, each_above}

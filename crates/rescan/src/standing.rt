@@ -24,7 +24,12 @@ pub enum Standing {
 
 impl Frontier {
     /// Where a node stands. It takes a look for each node from it up to the root.
-    pub(crate) fn standing<L: Ledger>(&self, tree: &Tree, node: u32, steps: &mut Steps<L>) -> Standing
+    pub(crate) fn standing<L: Ledger>(
+        &self,
+        tree: &Tree,
+        node: u32,
+        steps: &mut Steps<L>,
+    ) -> Standing
         requires tree { IsTree tree.now.nodes }
         requires tops { AreTops tree.now.nodes self.now }
         requires there { has_row key node tree.now.nodes ≡ true }

@@ -1,10 +1,10 @@
-use Rattle.std.proofs.Common.{◌≡◌, ◌+◌, ◌*◌, ◌<◌, ◌≤◌, ◌-◌, List, ℕ, [], ◌∷◌, true, false, length, refl, sym, ◌∙◌, ap, subst, arith, None}
+use Rattle.std.proofs.Common.{◌≡◌, ◌+◌, ◌<◌, ◌-◌, List, ℕ, [], ◌∷◌, sym, ◌∙◌, ap, subst, arith, None}
 use Rattle.std.specs.Prelude.{is_some, sum_by}
 use Rattle.fsrm_model.proofs.TestLaws.{clash}
 use Rattle.rescan.specs.Frontiers.{Front}
-use Rattle.fsrm_model.specs.Numbers.{is_in, with_number, without_number, with_numbers}
+use Rattle.fsrm_model.specs.Numbers.{with_number, without_number, with_numbers}
 use Rattle.fsrm_model.specs.Space.{space}
-use Rattle.fsrm_model.specs.Tree.{children, under}
+use Rattle.fsrm_model.specs.Tree.{children}
 use Rattle.rescan.specs.Visits.{folders_in}
 use Rattle.rescan.proofs.Ahead.{ahead, top_ahead, open_ahead, whole_ahead, next_in, none_next}
 use Rattle.rescan.proofs.Leaving.{Leaving, Tracked, begin, finish, pass_top}
@@ -24,8 +24,8 @@ loop-next-init g c =
     let room : c.self.inside.tops.bound ≡ f.room = ap (λ v. v.room) c.self.view_is in
     record {
       walk = subst (λ (ns : List ℕ). Leaving K nodes f x ns c.insert.new.self.members c.self.inside.sum) (sym tops)
-      (subst (λ (ns : List ℕ). Leaving K nodes f x f.tops ns c.self.inside.sum) (sym waiting)
-      (subst (λ (s : ℕ). Leaving K nodes f x f.tops (x ∷ []) s) (sym sum) (begin K nodes f x t)));
+          (subst (λ (ns : List ℕ). Leaving K nodes f x f.tops ns c.self.inside.sum) (sym waiting)
+          (subst (λ (s : ℕ). Leaving K nodes f x f.tops (x ∷ []) s) (sym sum) (begin K nodes f x t)));
       folder = ap (λ v. v.folder) c.self.view_is;
       bound = room;
       room = ap (λ s. s.bound) c.insert.ensures ∙ (c.self.invariant.bounds ∙ room);
@@ -59,7 +59,7 @@ loop-next-preserved-then-contains g c =
     let walk = pass_top K nodes f x tops waiting sum n t c.loop-next.invariant.walk here (sym c.contains.ensures ∙ c.if-contains.true) in
     record {
       walk = subst (λ (ns : List ℕ). Leaving K nodes f x ns c.remove.new.self.members sum) (sym left)
-      (subst (λ (ns : List ℕ). Leaving K nodes f x (without_number n tops) ns sum) (sym now) walk);
+          (subst (λ (ns : List ℕ). Leaving K nodes f x (without_number n tops) ns sum) (sym now) walk);
       folder = c.loop-next.invariant.folder;
       bound = ap (λ s. s.bound) c.remove-then-contains.ensures ∙ c.loop-next.invariant.bound;
       room = ap (λ s. s.bound) c.remove.ensures ∙ c.loop-next.invariant.room;

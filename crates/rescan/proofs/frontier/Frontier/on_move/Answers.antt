@@ -1,4 +1,4 @@
-use Rattle.std.proofs.Common.{◌≡◌, ◌+◌, ◌<◌, ◌≤◌, ◌==◌, ℕ, true, false, length, refl, sym, ◌∙◌, ap, subst, arith, Some}
+use Rattle.std.proofs.Common.{◌≡◌, ◌==◌, ℕ, true, false, length, refl, sym, ◌∙◌, ap, subst, arith}
 use Rattle.fsrm_model.specs.Keyed.{has_row}
 use Rattle.fsrm_model.specs.Tree.{number, parent_of, chain}
 use Rattle.fsrm_model.proofs.Climbs.{shorter}
@@ -7,7 +7,6 @@ use Rattle.fsrm_model.proofs.Look.{has_found}
 use Rattle.fsrm_model.proofs.TestLaws.{clash, eq_same}
 use Rattle.fsrm_model.proofs.ValidLaws.{folder_has}
 use Rattle.volume_tree.specs.Volume.{IsCapacity}
-use Rattle.rescan.specs.Standings.{share_of, standing}
 use Rattle.rescan.proofs.FolderArms.{scanned_follows, folder_follows}
 use Rattle.rescan.proofs.MoveArms.{Goes, below_counted, file_follows, share_same, share_counted, share_fits}
 use Rattle.rescan.proofs.StandingLaws.{same_folder, other_folder}

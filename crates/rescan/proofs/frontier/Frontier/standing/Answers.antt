@@ -1,4 +1,4 @@
-use Rattle.std.proofs.Common.{◌≡◌, ◌+◌, ◌≤◌, ◌<◌, length, true, false, refl, sym, ◌∙◌, ap, subst, arith, Some}
+use Rattle.std.proofs.Common.{◌≡◌, ◌<◌, length, true, false, sym, ◌∙◌, ap, subst, arith}
 use Rattle.fsrm_model.specs.Keyed.{has_row}
 use Rattle.fsrm_model.specs.Numbers.{is_in}
 use Rattle.fsrm_model.specs.Tree.{number, parent_of, chain, is_under}
@@ -45,6 +45,6 @@ loop-self-preserved g c =
       there = subst (λ n. has_row number n nodes ≡ true) (sym up) (c.requires.tree.closed at c.loop-self.invariant.there);
       above = c.loop-self.invariant.above ∙ (above_up nodes c.args.self.now c.requires.tree at c.loop-self.invariant.there c.if-at-eq0.false lacks ∙ ap (has_above nodes c.args.self.now.tops) (sym up));
       below = c.loop-self.invariant.below ∙ (below_up nodes c.args.self.now c.requires.tree c.requires.tops at c.loop-self.invariant.there c.if-at-eq0.false
-      (λ e. other_folder c.self.inside.folder at (sym c.eq.ensures ∙ c.if-eq.false) (ap (λ f. f.folder) c.self.view_is ∙ e)) ∙ ap (is_under nodes (scanned c.args.self.now)) (sym up));
+          (λ e. other_folder c.self.inside.folder at (sym c.eq.ensures ∙ c.if-eq.false) (ap (λ f. f.folder) c.self.view_is ∙ e)) ∙ ap (is_under nodes (scanned c.args.self.now)) (sym up));
       looks = omega (arith, same, c.loop-self.invariant.looks, c.node-at.ensures.count);
     }
