@@ -28,6 +28,8 @@ impl Frontier {
         requires inner { (node == 0) ≡ false }
         requires folder { is_folder tree.now.nodes folder ≡ true }
         requires apart { is_under tree.now.nodes node folder ≡ false }
+        ensures scan { self.new.folder ≡ self.old.folder }
+        ensures room { self.new.room ≡ self.old.room }
         ensures follows { (name : List ℕ) → IsVolume tree.now.size (with_place tree.now node folder name).nodes → Follows self.old self.new (with_place tree.now node folder name) (unvisited_moved tree.now.nodes (with_place tree.now node folder name).nodes (scanned self.old) node folder (unvisited_of tree.now.nodes self.old)) }
         ensures looks { steps.new ≤ steps.old + (4 * length (under tree.now.nodes node) + 2 * (length (chain tree.now.nodes node) + length (chain tree.now.nodes folder))) }
     {
