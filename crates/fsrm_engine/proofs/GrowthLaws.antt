@@ -17,7 +17,7 @@ use Rattle.fsrm_model.specs.Leads.{leads_to_file}
 use Rattle.fsrm_model.specs.Quota.{folder_of, exceeded, peaked}
 use Rattle.fsrm_model.specs.Space.{alloc, space}
 use Rattle.fsrm_model.specs.Tree.{number, node_of, parent_of, is_folder, chain}
-use Rattle.fsrm_model.specs.Valid.{IsVolume, AreQuotas, IsStore, is_moment}
+use Rattle.fsrm_model.specs.Valid.{IsVolume, AreQuotas, is_moment}
 use Rattle.fsrm_model.proofs.ChangeLaws.{KeepsPlace, chain-change}
 use Rattle.fsrm_model.proofs.Climbs.{shorter}
 use Rattle.fsrm_model.proofs.Resolves.{resolved}
@@ -35,7 +35,7 @@ use Rattle.volume_tree.specs.declared.answer.NodeView.{NodeView}
 use Rattle.volume_tree.specs.declared.answer.TreeFault.{TreeFault}
 use Rattle.volume_tree.specs.Volume.{Volume, with_length}
 use Rattle.fsrm_engine.specs.Faults.{exceeded_refusal, refusal_of}
-use Rattle.fsrm_engine.specs.Machine.{Machine, rows_at, sums_of, IsEngine}
+use Rattle.fsrm_engine.specs.Machine.{IsSound, Machine, rows_at, sums_of, IsEngine}
 use Rattle.fsrm_engine.specs.Peaks.{raised_above}
 use Rattle.fsrm_engine.specs.Places.{IsFile}
 use Rattle.fsrm_engine.proofs.StepLaws.{machine, asked_of, due, tree_first, last_check, some_first}
@@ -165,8 +165,8 @@ charged_at v w new quotas tables counters charged_are change m is e kept folders
     kept charging raising
 
 -- what an engine keeps is a store
-pub stored : (w : Volume) (quotas : List QuotaRow) (counters : List Counter) (m : ℕ) (o : Machine) → IsEngine w.size w.nodes quotas counters → o ≡ machine w quotas m → IsStore o.size o.rows
-stored w quotas counters m o e is = subst (λ (o : Machine). IsStore o.size o.rows) (sym is) (record { volume = e.volume; quotas = e.are_quotas })
+pub stored : (w : Volume) (quotas : List QuotaRow) (counters : List Counter) (m : ℕ) (o : Machine) → IsEngine w.size w.nodes quotas counters → o ≡ machine w quotas m → IsSound o.size o.rows
+stored w quotas counters m o e is = subst (λ (o : Machine). IsSound o.size o.rows) (sym is) (record { volume = e.volume; quotas = e.are_quotas })
 
 -- the rows that another length leaves
 pub resize_effect : (v w : Volume) (quotas : List QuotaRow) (last m : ℕ) (path : List (List ℕ)) (view : NodeView) (bytes : ℕ) → IsFile v.nodes path view → w ≡ with_length v view.number bytes m → (asked_of v quotas last m (File (Resize path bytes))).effect ≡ rows_at w.nodes quotas last

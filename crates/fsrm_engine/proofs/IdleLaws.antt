@@ -23,7 +23,7 @@ use Rattle.fsrm_model.specs.Quota.{folder_of, counts, peaked, used_of}
 use Rattle.fsrm_model.specs.Space.{alloc, space}
 use Rattle.fsrm_model.specs.Step.{step}
 use Rattle.fsrm_model.specs.Tree.{number, parent_of, fresh, is_folder, is_under, is_child, children, resolve, chain, usage}
-use Rattle.fsrm_model.specs.Valid.{IsVolume, IsStore}
+use Rattle.fsrm_model.specs.Valid.{IsVolume}
 use Rattle.fsrm_model.proofs.ChainLaws.{Has, usage-new}
 use Rattle.fsrm_model.proofs.ChangeLaws.{KeepsPlace, usage-change}
 use Rattle.fsrm_model.proofs.Climbs.{shorter}
@@ -42,7 +42,7 @@ use Rattle.quota_usage.specs.Counters.{counted, used_in, without_counter}
 use Rattle.volume_tree.specs.declared.answer.NodeView.{NodeView}
 use Rattle.volume_tree.specs.declared.answer.TreeFault.TheVariants.{NotEmpty}
 use Rattle.volume_tree.specs.Volume.{Volume, Shows, IsCapacity, with_node, with_touch, without_node, remove_fault}
-use Rattle.fsrm_engine.specs.Machine.{Machine, Takes, rows_at, counter_of, sums_of, IsEngine}
+use Rattle.fsrm_engine.specs.Machine.{IsSound, Machine, Takes, rows_at, counter_of, sums_of, IsEngine}
 use Rattle.fsrm_engine.specs.Places.{IsFile}
 use Rattle.fsrm_engine.proofs.ChangeLaws.{Changes, changes_removed, not_zero}
 use Rattle.fsrm_engine.proofs.PeakLaws.{peaks_stay, quotas_kept, counters_charged}
@@ -332,8 +332,8 @@ idle_charged w quotas counters charged x m change g is =
     idle w.size w.nodes quotas charged m (subst (IsEngine w.size w.nodes quotas) (sym is) g.engine)
 
 -- how many looks the removal of a file takes
-pub looks_at_file : (v w : Volume) (path : List (List ℕ)) (x start seen gone last : ℕ) (view : NodeView) → IsVolume v.size v.nodes → resolve v.nodes path ≡ Some x → MayGo v.nodes x → w ≡ without_node v x → Shows view v.nodes x → seen ≡ start + 1 → gone ≤ seen + 44 → last ≤ gone + 2 * (height w.nodes (Some view.parent) + 0) → last ≤ start + (2 * length path + 50)
-looks_at_file v w path x start seen gone last view k h may made shows a b c =
+pub looks_at_file : (v w : Volume) (path : List (List ℕ)) (x start seen followed gone last : ℕ) (view : NodeView) → IsVolume v.size v.nodes → resolve v.nodes path ≡ Some x → MayGo v.nodes x → w ≡ without_node v x → Shows view v.nodes x → seen ≡ start + 1 → followed ≤ seen + 2 * length (chain v.nodes x) → gone ≤ followed + 44 → last ≤ gone + 2 * (height w.nodes (Some view.parent) + 0) → last ≤ start + (4 * length path + 60)
+looks_at_file v w path x start seen followed gone last view k h may made shows a f b c =
     let K = v.size in
     let nodes = v.nodes in
     let new = without_row number x nodes in
@@ -346,7 +346,7 @@ looks_at_file v w path x start seen gone last view k h may made shows a b c =
     let same : length (chain w.nodes view.parent) ≡ length (chain nodes p) =
     ap (λ (w : Volume). length (chain w.nodes view.parent)) made
     ∙ (ap (λ n. length (chain new n)) (sym parent_is) ∙ ap length (removed_chain nodes new x r p hp)) in
-    omega (arith, a, b, c, same, shorter nodes t x hx (not_zero x may.inner), (resolved K nodes path x k h).deep)
+    omega (arith, a, f, b, c, same, shorter nodes t x hx (not_zero x may.inner), (resolved K nodes path x k h).deep)
 
 -- the answer to a command that was done, after which no peak rises
 pub done_idle : (v w : Volume) (quotas after : List QuotaRow) (counters : List Counter) (last m : ℕ) (deed : Deed) (old new : Machine) (answer : Answer) → machine v quotas last ≡ old → old.rows.last_moment ≤ m → due v quotas last m deed ≡ None → (asked_of v quotas last m deed).effect ≡ rows_at w.nodes after last → (asked_of v quotas last m deed).outcome ≡ Done None → (asked_of v quotas last m deed).lasts ≡ true → w.size ≡ v.size → Idle w.size w.nodes after counters m → new ≡ machine w after m → answer ≡ record { outcome = Done None; lasting = true } → Takes old new (step old.size old.rows (record { moment = m; deed = deed })) answer
@@ -354,9 +354,9 @@ done_idle v w quotas after counters last m deed old new answer view late none ef
     done_at v w quotas after after last m deed old new answer view late none effect outcome lasts size (i.peaks ∙ ap (λ K. map (peaked K w.nodes m) after) size) n e
 
 -- the rows of an engine, as it is seen from outside
-pub store_at : (w : Volume) (quotas : List QuotaRow) (counters : List Counter) (m : ℕ) (new : Machine) → IsEngine w.size w.nodes quotas counters → new ≡ machine w quotas m → IsStore new.size new.rows
+pub store_at : (w : Volume) (quotas : List QuotaRow) (counters : List Counter) (m : ℕ) (new : Machine) → IsEngine w.size w.nodes quotas counters → new ≡ machine w quotas m → IsSound new.size new.rows
 store_at w quotas counters m new e is =
-    subst (λ (n : Machine). IsStore n.size n.rows) (sym is) (record { volume = e.volume; quotas = e.are_quotas })
+    subst (λ (n : Machine). IsSound n.size n.rows) (sym is) (record { volume = e.volume; quotas = e.are_quotas })
 
 -- the counter of a folder is what its quota shows
 shown_at : (K : Capacity) (nodes : List NodeRow) (f : ℕ) (o : Option QuotaRow) → ((q : QuotaRow) → o ≡ Some q → q.folder ≡ f) → option_and_then (shown_of K nodes) o ≡ option_and_then (λ q. if counts q then Some (usage K nodes f) else None) o

@@ -17,3 +17,13 @@ pub mod MakeLaws
 pub mod MoveKept
 pub mod IdleLaws
 pub mod QuotaLaws
+pub mod PlainLaws
+pub mod ScanLaws
+pub mod FollowLaws
+pub mod GoingLaws
+pub mod WholeLaws
+pub mod CountingLaws
+pub mod TurnLaws
+pub mod StateLaws
+pub mod ScanSteps
+pub mod BesideLaws

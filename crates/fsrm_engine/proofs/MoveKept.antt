@@ -99,7 +99,7 @@ there_moved v w x d name p made h =
     ap (λ (u : Volume). has_row number p u.nodes) made ∙ (has_row-change number x (placed d name) (λ r. refl) p v.nodes ∙ h)
 
 -- looking through what moves takes no more than is allowed
-move_room : (K : Capacity) (nodes : List NodeRow) (from to : List (List ℕ)) (n : ℕ) → IsVolume K nodes → resolve nodes from ≡ Some n → 3 * length (under nodes n) ≤ 3 + op_cost nodes (Move from to)
+move_room : (K : Capacity) (nodes : List NodeRow) (from to : List (List ℕ)) (n : ℕ) → IsVolume K nodes → resolve nodes from ≡ Some n → 7 * length (under nodes n) ≤ 7 + op_cost nodes (Move from to)
 move_room K nodes from to n v h = at (is_folder nodes n) refl
   where
     cost : (b : Bool) → is_folder nodes n ≡ b → op_cost nodes (Move from to) ≡ (if b then 8 * length (under nodes n) else 0)
@@ -107,16 +107,16 @@ move_room K nodes from to n v h = at (is_folder nodes n) refl
         ap (λ (t : ℕ). if leads_to_folder nodes from then 8 * length (under nodes t) else 0) (target_is nodes from n h)
         ∙ ap (λ c. if c then 8 * length (under nodes n) else 0) (leads_to_folder_is nodes from n h ∙ e)
 
-    at : (b : Bool) → is_folder nodes n ≡ b → 3 * length (under nodes n) ≤ 3 + op_cost nodes (Move from to)
+    at : (b : Bool) → is_folder nodes n ≡ b → 7 * length (under nodes n) ≤ 7 + op_cost nodes (Move from to)
     at true e = omega (arith, cost true e)
     at false e =
         let r = has_found number n nodes (resolved K nodes from n v h).has in
         omega (arith, cost false e, count_of_file K nodes n r.row v r.is e)
 
 -- the same of the machine seen from outside
-pub room_seen : (v : Volume) (quotas : List QuotaRow) (last : ℕ) (old : Machine) (from to : List (List ℕ)) (n : ℕ) → machine v quotas last ≡ old → IsVolume v.size v.nodes → resolve v.nodes from ≡ Some n → 3 * length (under v.nodes n) ≤ 3 + op_cost old.rows.nodes (Move from to)
+pub room_seen : (v : Volume) (quotas : List QuotaRow) (last : ℕ) (old : Machine) (from to : List (List ℕ)) (n : ℕ) → machine v quotas last ≡ old → IsVolume v.size v.nodes → resolve v.nodes from ≡ Some n → 7 * length (under v.nodes n) ≤ 7 + op_cost old.rows.nodes (Move from to)
 room_seen v quotas last old from to n view k h =
-    subst (λ (o : Machine). 3 * length (under v.nodes n) ≤ 3 + op_cost o.rows.nodes (Move from to)) view (move_room v.size v.nodes from to n k h)
+    subst (λ (o : Machine). 7 * length (under v.nodes n) ≤ 7 + op_cost o.rows.nodes (Move from to)) view (move_room v.size v.nodes from to n k h)
 
 -- what moves fits, on the old ways up and on the new
 pub move_fits : (v : Volume) (quotas : List QuotaRow) (counters : List Counter) (x d : ℕ) (name : List ℕ) (view : NodeView) (bytes : ℕ) → IsEngine v.size v.nodes quotas counters → Shows view v.nodes x → MovesTo v.nodes x d → IsMoved v.size v.nodes quotas x bytes → Fits v.nodes counters (move_change view.parent d bytes)

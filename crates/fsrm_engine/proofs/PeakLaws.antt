@@ -140,7 +140,7 @@ counters_charged K nodes new quotas counters change qs c sums =
     ∙ sym (c.after q.folder q found)))))
 
 -- a quota that is raised by its counter has the peak that is due
-raised_is : (K : Capacity) (nodes : List NodeRow) (quotas : List QuotaRow) (counters : List Counter) (m : ℕ) (q : QuotaRow) → is_ascending folder_of quotas ≡ true → counters ≡ sums_of K nodes quotas → row_of folder_of (folder_of q) quotas ≡ Some q → raised counters m q ≡ peaked K nodes m q
+pub raised_is : (K : Capacity) (nodes : List NodeRow) (quotas : List QuotaRow) (counters : List Counter) (m : ℕ) (q : QuotaRow) → is_ascending folder_of quotas ≡ true → counters ≡ sums_of K nodes quotas → row_of folder_of (folder_of q) quotas ≡ Some q → raised counters m q ≡ peaked K nodes m q
 raised_is K nodes quotas counters m q asc sums found =
     ap (λ o. option_map_or (λ used. if nat_lt q.peak used then record q { peak = used; peak_at = m } else q) o q)
     (ap (λ cs. used_in cs q.folder) sums ∙ used_found K nodes quotas q.folder q asc found)

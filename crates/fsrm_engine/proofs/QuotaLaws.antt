@@ -1,46 +1,45 @@
 -- What the commands on quotas keep.
-use Rattle.std.proofs.Common.{◌≡◌, ℕ, suc, ◌<◌, ◌≤◌, ◌==◌, Bool, true, false, cond, not, inl, inr, List, [], ◌∷◌, length, Option, Some, None, nat_lt, nat_le, refl, ap, sym, ◌∙◌, subst, arith, Bor}
+use Rattle.std.proofs.Common.{◌≡◌, ℕ, ◌≤◌, ◌==◌, Bool, true, false, cond, not, inl, inr, List, [], ◌∷◌, length, Option, Some, None, refl, ap, sym, ◌∙◌, subst, arith, Bor}
 use Rattle.std.proofs.lemmas.Bool.Decides.{nat_tests}
 use Rattle.std.proofs.lemmas.Option.{same_Some}
 use Rattle.std.specs.Prelude.{map, filter, sum_by, is_some, is_none, unwrap_or, if◌then◌else◌}
 use Rattle.std.specs.Option.{option_map_or, option_copied}
 use Rattle.fsrm_model.specs.declared.command.Answer.{Answer}
 use Rattle.fsrm_model.specs.declared.command.Deed.{Deed}
-use Rattle.fsrm_model.specs.declared.command.Deed.TheVariants.{QuotaAdd}
 use Rattle.fsrm_model.specs.declared.command.Outcome.TheVariants.{Done}
 use Rattle.fsrm_model.specs.declared.command.Refusal.{Refusal}
-use Rattle.fsrm_model.specs.declared.command.Refusal.TheVariants.{PathNotFound, NotFound, AlreadyExists, TableFull, NeedsScan}
+use Rattle.fsrm_model.specs.declared.command.Refusal.TheVariants.{PathNotFound, NotFound}
 use Rattle.fsrm_model.specs.declared.row.Capacity.{Capacity}
 use Rattle.fsrm_model.specs.declared.row.NodeRow.{NodeRow}
 use Rattle.fsrm_model.specs.declared.row.QuotaRow.{QuotaRow}
 use Rattle.fsrm_model.specs.Check.{◌when◌, first}
 use Rattle.fsrm_model.specs.FileOps.{target}
-use Rattle.fsrm_model.specs.Keyed.{row_of, has_row, is_ascending, with_row, with_change, without_row}
+use Rattle.fsrm_model.specs.Keyed.{row_of, has_row, is_ascending, with_change, without_row}
 use Rattle.fsrm_model.specs.Leads.{leads_to_folder}
-use Rattle.fsrm_model.specs.Limits.{latest_moment, most_quotas}
+use Rattle.fsrm_model.specs.Limits.{latest_moment}
 use Rattle.fsrm_model.specs.Quota.{folder_of, counts, is_limit, peaked}
-use Rattle.fsrm_model.specs.QuotaWork.{quota_checks, new_quota, modified, reset}
+use Rattle.fsrm_model.specs.QuotaWork.{quota_checks, modified, reset}
 use Rattle.fsrm_model.specs.Step.{step}
 use Rattle.fsrm_model.specs.Space.{space}
 use Rattle.fsrm_model.specs.Tree.{node_of, is_folder, children, usage}
-use Rattle.fsrm_model.specs.Valid.{IsVolume, AreQuotas, IsStore, is_moment}
-use Rattle.fsrm_model.proofs.Look.{found_key, found_has, has_found, changed_key, changed_found, row_of-without, has_row-without, new_found, is_some-find}
-use Rattle.fsrm_model.proofs.Order.{ascending-with_row, ascending-change, ascending-filter, length-with_row, length-change}
-use Rattle.fsrm_model.proofs.TestLaws.{is_or_not, not_true, clash, eq_is, suc_apart}
+use Rattle.fsrm_model.specs.Valid.{IsVolume, AreQuotas, is_moment}
+use Rattle.fsrm_model.proofs.Look.{found_key, found_has, has_found, changed_key, changed_found, row_of-without, has_row-without}
+use Rattle.fsrm_model.proofs.Order.{ascending-change, ascending-filter, length-change}
+use Rattle.fsrm_model.proofs.TestLaws.{is_or_not, clash, eq_is}
 use Rattle.fsrm_model.proofs.UsageLaws.{usage_children}
-use Rattle.fsrm_objects.specs.Tables.{Tables, peaked_at, with_quota}
+use Rattle.fsrm_objects.specs.Tables.{peaked_at}
 use Rattle.fsrm_objects.proofs.SortedRows.{has_lent}
 use Rattle.quota_usage.specs.declared.change.Counter.{Counter}
-use Rattle.quota_usage.specs.Counters.{counted, used_in, with_counter, without_counter}
+use Rattle.quota_usage.specs.Counters.{counted, used_in, without_counter}
 use Rattle.volume_tree.specs.Volume.{Volume}
 use Rattle.fsrm_engine.specs.Faults.{refused_answer}
-use Rattle.fsrm_engine.specs.Machine.{Machine, Takes, rows_at, sums_of, IsEngine}
+use Rattle.fsrm_engine.specs.Machine.{IsSound, Machine, Takes, rows_at, sums_of, IsEngine}
 use Rattle.fsrm_engine.specs.Places.{IsFolder}
 use Rattle.fsrm_engine.proofs.PeakLaws.{engine_peaked, peaks_stay}
 use Rattle.fsrm_engine.proofs.PlaceLaws.{target_is, leads_to_folder_is}
 use Rattle.fsrm_engine.proofs.RowLaws.{change_same}
 use Rattle.fsrm_engine.proofs.StepLaws.{machine, asked_of, due, refused_at, done_at}
-use Rattle.fsrm_engine.proofs.SumLaws.{used_found, sums_few, sums_has, sums_with, sums_without, sums_kept}
+use Rattle.fsrm_engine.proofs.SumLaws.{used_found, sums_without, sums_kept}
 
 -- what holds of quotas and counters behind a command of this moment that left the nodes as they were
 pub record Kept (K : Capacity) (nodes : List NodeRow) (counters : List Counter) (m : ℕ) (after : List QuotaRow) : Type 0 where
@@ -63,19 +62,19 @@ engine_kept K nodes quotas after old counters m e late k =
     (engine_peaked K nodes after counters m e.volume e.legal k.are (is_moment_of m late) k.sums)
 
 -- and its rows are those of a store
-pub store_kept : (v : Volume) (after : List QuotaRow) (counters : List Counter) (m : ℕ) (new : Machine) → IsVolume v.size v.nodes → Kept v.size v.nodes counters m after → new ≡ machine v after m → IsStore new.size new.rows
+pub store_kept : (v : Volume) (after : List QuotaRow) (counters : List Counter) (m : ℕ) (new : Machine) → IsVolume v.size v.nodes → Kept v.size v.nodes counters m after → new ≡ machine v after m → IsSound new.size new.rows
 store_kept v after counters m new volume k n =
-    subst (λ (o : Machine). IsStore o.size o.rows) (sym n) (record { volume = volume; quotas = k.are })
+    subst (λ (o : Machine). IsSound o.size o.rows) (sym n) (record { volume = volume; quotas = k.are })
 
 -- the answer to a command on quotas that was done
-pub quotas_done : (v : Volume) (quotas after : List QuotaRow) (counters : List Counter) (last m : ℕ) (deed : Deed) (old new : Machine) (answer : Answer) → machine v quotas last ≡ old → last ≤ m → due v quotas last m deed ≡ None → (asked_of v quotas last m deed).effect ≡ rows_at v.nodes after last → (asked_of v quotas last m deed).outcome ≡ Done None → (asked_of v quotas last m deed).lasts ≡ true → Kept v.size v.nodes counters m after → new ≡ machine v after m → answer ≡ record { outcome = Done None; lasting = true } → Takes old new (step old.size old.rows (record { moment = m; deed = deed })) answer
+pub quotas_done : (v : Volume) (quotas after : List QuotaRow) (counters : List Counter) (last m : ℕ) (deed : Deed) (old new : Machine) (answer : Answer) → machine v quotas last ≡ old → old.rows.last_moment ≤ m → due v quotas last m deed ≡ None → (asked_of v quotas last m deed).effect ≡ rows_at v.nodes after last → (asked_of v quotas last m deed).outcome ≡ Done None → (asked_of v quotas last m deed).lasts ≡ true → Kept v.size v.nodes counters m after → new ≡ machine v after m → answer ≡ record { outcome = Done None; lasting = true } → Takes old new (step old.size old.rows (record { moment = m; deed = deed })) answer
 quotas_done v quotas after counters last m deed old new answer view late none effect outcome lasts k n e =
-    done_at v v quotas after after last m deed old new answer view (subst (λ (o : Machine). o.rows.last_moment ≤ m) view late) none effect outcome lasts refl k.peaks n e
+    done_at v v quotas after after last m deed old new answer view late none effect outcome lasts refl k.peaks n e
 
 -- and to one whose refusal is due
-pub quotas_refused : (v : Volume) (quotas : List QuotaRow) (last m : ℕ) (deed : Deed) (old : Machine) (answer : Answer) (refusal : Refusal) → machine v quotas last ≡ old → last ≤ m → due v quotas last m deed ≡ Some refusal → answer ≡ refused_answer refusal → Takes old old (step old.size old.rows (record { moment = m; deed = deed })) answer
+pub quotas_refused : (v : Volume) (quotas : List QuotaRow) (last m : ℕ) (deed : Deed) (old : Machine) (answer : Answer) (refusal : Refusal) → machine v quotas last ≡ old → old.rows.last_moment ≤ m → due v quotas last m deed ≡ Some refusal → answer ≡ refused_answer refusal → Takes old old (step old.size old.rows (record { moment = m; deed = deed })) answer
 quotas_refused v quotas last m deed old answer refusal view late h e =
-    refused_at v quotas last m deed old answer refusal view (subst (λ (o : Machine). o.rows.last_moment ≤ m) view late) h e
+    refused_at v quotas last m deed old answer refusal view late h e
 
 -- the quota of a folder that a path leads to
 pub record OnFolder (nodes : List NodeRow) (quotas : List QuotaRow) (path : List (List ℕ)) (n : ℕ) : Type 0 where
@@ -233,108 +232,3 @@ empty_folder K nodes n v f h =
         let nothing : space K r ≡ 0 = ap (λ b. cond b 0 (space K (record r { folder = false }))) e in
         let none : sum_by (λ c. usage K nodes c.number) (children nodes n) ≡ 0 = ap (sum_by (λ c. usage K nodes c.number)) (no_length (children nodes n) h) in
         omega (arith, usage_children K nodes n r v is, nothing, none)
-
--- with one more
-of_new : (quota : QuotaRow) (P : ℕ → QuotaRow → Type 0) (f : ℕ) (quotas : List QuotaRow) (r : QuotaRow) → has_row folder_of quota.folder quotas ≡ false → P quota.folder quota → ((r : QuotaRow) → row_of folder_of f quotas ≡ Some r → P f r) → row_of folder_of f (with_row folder_of quota quotas) ≡ Some r → P f r
-of_new quota P f quotas r absent new old h =
-    elim (new_found folder_of quota f quotas r absent h).other [
-      | inl own ↦ subst (λ k. P k r) (sym own.0) (subst (P quota.folder) (sym own.1) new)
-      | inr later ↦ old r later.1
-    ]
-
-pub kept_new : (K : Capacity) (nodes : List NodeRow) (quotas : List QuotaRow) (counters : List Counter) (m n limit : ℕ) (enforce : Bool) → IsEngine K nodes quotas counters → m ≤ latest_moment → is_limit limit ≡ true → is_folder nodes n ≡ true → has_row folder_of n quotas ≡ false → length quotas < most_quotas → length (children nodes n) ≡ 0 → Kept K nodes (with_counter counters n 0) m (with_row folder_of (new_quota n limit enforce m) quotas)
-kept_new K nodes quotas counters m n limit enforce e late l folder absent room empty =
-    let q = e.are_quotas in
-    let new = new_quota n limit enforce m in
-    let asc = ascending-with_row folder_of new quotas absent q.ascending in
-    let nothing : usage K nodes n ≡ 0 = empty_folder K nodes n e.volume folder empty in
-    record {
-      are = record {
-        ascending = asc;
-        few = omega (arith, length-with_row folder_of new quotas);
-        folders = λ f r h. of_new new (λ f r. is_folder nodes f ≡ true) f quotas r absent folder (q.folders f) h;
-        limits = λ f r h. of_new new (λ f r. is_limit r.limit ≡ true) f quotas r absent l (q.limits f) h;
-        moments = λ f r h. of_new new (λ f r. is_moment r.peak_at ≡ true) f quotas r absent (is_moment_of m late) (q.moments f) h;
-      };
-      sums =
-          ap (λ cs. with_counter cs n 0) e.sums
-          ∙ (ap (with_counter (sums_of K nodes quotas) n) (sym nothing)
-          ∙ sym (sums_with K nodes new quotas refl q.ascending));
-      peaks = peaks_stay K nodes m (with_row folder_of new quotas) asc (λ r h. of_new new (λ f r. counts r ≡ true → usage K nodes f ≤ r.peak) (folder_of r) quotas r absent (λ c. omega (arith, nothing)) (e.peaks (folder_of r)) h);
-    }
-
--- what was found before a quota is added
-pub record IsNew (nodes : List NodeRow) (quotas : List QuotaRow) (path : List (List ℕ)) (n : ℕ) : Type 0 where
-  pub at : IsFolder nodes path n
-  pub absent : has_row folder_of n quotas ≡ false
-
-pub is_new : (nodes : List NodeRow) (quotas : List QuotaRow) (path : List (List ℕ)) (n : ℕ) (o : Option (Bor QuotaRow)) → IsFolder nodes path n → option_copied o ≡ row_of folder_of n quotas → is_some o ≡ false → IsNew nodes quotas path n
-is_new nodes quotas path n o at e h = record { at = at; absent = sym (has_lent folder_of n quotas o e) ∙ h }
-
--- a new quota's refusals, by whether there are so many quotas, and whether the folder has a child
-pub add_due : (v : Volume) (quotas : List QuotaRow) (last m : ℕ) (path : List (List ℕ)) (n limit : ℕ) (enforce full scan : Bool) → IsNew v.nodes quotas path n → nat_le most_quotas (length quotas) ≡ full → not (length (children v.nodes n) == 0) ≡ scan → due v quotas last m (QuotaAdd path limit enforce) ≡ (if full then Some TableFull else if scan then Some NeedsScan else None)
-add_due v quotas last m path n limit enforce full scan new f s =
-    at (leads_to_folder v.nodes path) (is_some (row_of folder_of (target v.nodes path) quotas)) (nat_lt most_quotas (length after)) (not (length (children v.nodes (target v.nodes path)) == 0))
-    (leads_to_folder_is v.nodes path n new.at.resolved ∙ new.at.folder)
-    (ap (λ k. is_some (row_of folder_of k quotas)) to ∙ (is_some-find (λ r. folder_of r == n) quotas ∙ new.absent))
-    (ap (nat_lt most_quotas) (length-with_row folder_of (new_quota (target v.nodes path) limit enforce m) quotas) ∙ (turned (length quotas) ∙ f))
-    (ap (λ k. not (length (children v.nodes k) == 0)) to ∙ s)
-  where
-    after : List QuotaRow
-    after = with_row folder_of (new_quota (target v.nodes path) limit enforce m) quotas
-
-    to : target v.nodes path ≡ n
-    to = target_is v.nodes path n new.at.resolved
-
-    turned : (k : ℕ) → nat_lt most_quotas (suc k) ≡ nat_le most_quotas k
-    turned k = grind (arith, nat_tests)
-
-    at : (a b c d : Bool) → a ≡ true → b ≡ false → c ≡ full → d ≡ scan → first ((PathNotFound when not a) ∷ (AlreadyExists when b) ∷ (TableFull when c) ∷ (NeedsScan when d) ∷ []) ≡ (if full then Some TableFull else if scan then Some NeedsScan else None)
-    at true false c d a b f s = subst (λ x. first ((TableFull when c) ∷ (NeedsScan when d) ∷ []) ≡ cond x (Some TableFull) (cond scan (Some NeedsScan) None)) f (subst (λ x. first ((TableFull when c) ∷ (NeedsScan when d) ∷ []) ≡ cond c (Some TableFull) (cond x (Some NeedsScan) None)) s (by_two c d))
-      where
-        by_two : (c d : Bool) → first ((TableFull when c) ∷ (NeedsScan when d) ∷ []) ≡ cond c (Some TableFull) (cond d (Some NeedsScan) None)
-        by_two true d = refl
-        by_two false true = refl
-        by_two false false = refl
-    at true true c d a b f s = cc
-    at false b c d a e f s = cc
-
--- how many quotas there are, and how many children, as tests
-pub full_is : (quotas : List QuotaRow) (count : ℕ) → count ≡ length quotas → most_quotas ≤ count → nat_le most_quotas (length quotas) ≡ true
-full_is quotas count h l = grind (arith, nat_tests)
-
-pub room_is : (quotas : List QuotaRow) (count : ℕ) → count ≡ length quotas → count < most_quotas → nat_le most_quotas (length quotas) ≡ false
-room_is quotas count h l = grind (arith, nat_tests)
-
-pub children_are : (nodes : List NodeRow) (count : ℕ) → count ≡ length nodes → 0 < count → not (length nodes == 0) ≡ true
-children_are [] count h l = absurd (omega arith)
-children_are (r ∷ nodes) count h l = ap not (suc_apart (length nodes))
-
-pub children_none : (nodes : List NodeRow) (count : ℕ) → count ≡ length nodes → count ≤ 0 → not (length nodes == 0) ≡ false
-children_none [] count h l = refl
-children_none (r ∷ nodes) count h l = absurd (omega arith)
-
--- there is room for a counter, and none yet
-pub counter_room : (K : Capacity) (nodes : List NodeRow) (quotas : List QuotaRow) (counters : List Counter) (count : ℕ) → IsEngine K nodes quotas counters → count ≡ length quotas → count < most_quotas → length counters < most_quotas
-counter_room K nodes quotas counters count e h l = omega (arith, ap length e.sums, sums_few K nodes quotas)
-
-pub counter_free : (K : Capacity) (nodes : List NodeRow) (quotas : List QuotaRow) (counters : List Counter) (n : ℕ) → IsEngine K nodes quotas counters → has_row folder_of n quotas ≡ false → has_row counted n counters ≡ false
-counter_free K nodes quotas counters n e absent =
-    not_true _ (λ t. clash _ (sums_has K nodes n quotas (ap (has_row counted n) (sym e.sums) ∙ t)) absent)
-
--- a quota that is copied, and changed
-pub copied_has : (quotas : List QuotaRow) (n : ℕ) (quota row : QuotaRow) → row_of folder_of n quotas ≡ Some quota → row ≡ quota → has_row folder_of row.folder quotas ≡ true
-copied_has quotas n quota row found is =
-    ap (λ k. has_row folder_of k quotas) (ap (λ (r : QuotaRow). r.folder) is ∙ found_key folder_of n quotas quota found) ∙ found_has folder_of n quotas quota found
-
-pub modified_row : (quota row : QuotaRow) (limit : Option ℕ) (enforce : Option Bool) (l : ℕ) (e : Bool) → row ≡ quota → l ≡ unwrap_or limit row.limit → e ≡ unwrap_or enforce row.enforce → record row { limit = l; enforce = e } ≡ modified limit enforce quota
-modified_row quota row limit enforce l e is ll ee =
-    ap (λ (k : ℕ). record row { limit = k; enforce = e }) ll
-    ∙ (ap (λ (b : Bool). record row { limit = unwrap_or limit row.limit; enforce = b }) ee ∙ ap (modified limit enforce) is)
-
--- a quota that was added, as the engine finds it
-pub added : (K : Capacity) (nodes : List NodeRow) (quotas : List QuotaRow) (counters made : List Counter) (set : Tables) (quota : QuotaRow) (m n limit : ℕ) (enforce : Bool) (count childs : ℕ) (path : List (List ℕ)) → IsEngine K nodes quotas counters → m ≤ latest_moment → is_limit limit ≡ true → IsNew nodes quotas path n → count ≡ length quotas → count < most_quotas → childs ≡ length (children nodes n) → childs ≤ 0 → quota ≡ new_quota n limit enforce m → set ≡ with_quota (record { quotas = quotas }) quota → made ≡ with_counter counters n 0 → Kept K nodes made m set.quotas
-added K nodes quotas counters made set quota m n limit enforce count childs path e late l new c room h none is s d =
-    kept_same K nodes (with_counter counters n 0) made m (with_row folder_of (new_quota n limit enforce m) quotas) set.quotas d
-    (ap (λ (t : Tables). t.quotas) s ∙ ap (λ (q : QuotaRow). with_row folder_of q quotas) is)
-    (kept_new K nodes quotas counters m n limit enforce e late l new.at.folder new.absent (omega arith) (omega arith))

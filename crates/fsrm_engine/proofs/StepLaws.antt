@@ -17,6 +17,7 @@ use Rattle.fsrm_model.specs.declared.row.QuotaRow.{QuotaRow}
 use Rattle.fsrm_model.specs.declared.row.Rows.{Rows}
 use Rattle.fsrm_model.specs.Check.{◌when◌, first}
 use Rattle.fsrm_model.specs.Quota.{peaked}
+use Rattle.fsrm_model.specs.QuotaStates.{followed, same_head}
 use Rattle.fsrm_model.specs.Step.{Stepped, step, work, decided, accepted, lasted, unacted, unlasting}
 use Rattle.fsrm_model.specs.Work.{Work}
 use Rattle.volume_tree.specs.declared.answer.TreeFault.{TreeFault}
@@ -85,12 +86,12 @@ late_at v quotas last m deed old answer view late e =
     (ap (λ b. decided v.size R m (work v.size R m deed) (first ((ClockBack when b) ∷ (work v.size R m deed).checks))) (late_is last m late)) e)
 
 -- the refusal that an answer tells
-record Told (o : Option Refusal) (answer : Answer) : Type 0 where
-  refusal : Refusal
-  is : o ≡ Some refusal
-  answer_is : answer ≡ refused_answer refusal
+pub record Told (o : Option Refusal) (answer : Answer) : Type 0 where
+  pub refusal : Refusal
+  pub is : o ≡ Some refusal
+  pub answer_is : answer ≡ refused_answer refusal
 
-told : (o : Option Refusal) (answer : Answer) → option_map refused_answer o ≡ Some answer → Told o answer
+pub told : (o : Option Refusal) (answer : Answer) → option_map refused_answer o ≡ Some answer → Told o answer
 told None answer h = cc
 told (Some refusal) answer h = record { refusal = refusal; is = refl; answer_is = sym (same_Some (refused_answer refusal) answer h) }
 
@@ -135,16 +136,17 @@ done_at v w quotas after peaks last m deed old new answer view late none effect 
     let asked = work v.size R m deed in
     let s : step v.size R (record { moment = m; deed = deed }) ≡ record { rows = rows_at w.nodes (map (peaked v.size w.nodes m) after) m; outcome = Done None; lasting = true; acts = [] } =
     step_by v.size R m deed None (was_late v quotas last m old view late) none
-    ∙ accepted_is v.size m asked w.nodes after last effect outcome lasts in
+    ∙ accepted_is v.size R m asked w.nodes after last refl effect outcome lasts in
     from_outside v quotas last m deed old new answer _ view s
     (ap (λ (o : Machine). o.size) n ∙ size) (ap (λ (o : Machine). o.rows) n ∙ ap (λ (qs : List QuotaRow). rows_at w.nodes qs m) raised) (ap (λ (o : Machine). o.waiting) n)
     (ap (λ (a : Answer). a.outcome) e) (ap (λ (a : Answer). a.lasting) e)
   where
-    accepted_is : (K : Capacity) (m : ℕ) (asked : Work) (nodes : List NodeRow) (after : List QuotaRow) (last : ℕ) → asked.effect ≡ rows_at nodes after last → asked.outcome ≡ Done None → asked.lasts ≡ true → accepted K m asked ≡ record { rows = rows_at nodes (map (peaked K nodes m) after) m; outcome = Done None; lasting = true; acts = [] }
-    accepted_is K m asked nodes after last effect outcome lasts =
-        ap (λ b. if b then lasted K (unacted asked.effect) m asked.outcome else unlasting asked.effect asked.outcome) lasts
-        ∙ (ap (λ (R : Rows). lasted K (unacted R) m asked.outcome) effect
-        ∙ ap (λ o. lasted K (unacted (rows_at nodes after last)) m o) outcome)
+    accepted_is : (K : Capacity) (R : Rows) (m : ℕ) (asked : Work) (nodes : List NodeRow) (after : List QuotaRow) (last : ℕ) → R.queue ≡ [] → asked.effect ≡ rows_at nodes after last → asked.outcome ≡ Done None → asked.lasts ≡ true → accepted K R m asked ≡ record { rows = rows_at nodes (map (peaked K nodes m) after) m; outcome = Done None; lasting = true; acts = [] }
+    accepted_is K R m asked nodes after last none effect outcome lasts =
+        ap (λ b. if b then lasted K (unacted (followed R asked.effect)) m asked.outcome else unlasting (followed R asked.effect) asked.outcome) lasts
+        ∙ (ap (λ (E : Rows). lasted K (unacted (followed R E)) m asked.outcome) effect
+        ∙ (ap (λ o. lasted K (unacted (followed R (rows_at nodes after last))) m o) outcome
+        ∙ ap (λ q. lasted K (unacted (record (rows_at nodes after last) { unvisited = if same_head q [] then [] else [] })) m (Done None)) none))
 
 -- the answer to a command that changes nothing and isn't refused
 pub told_at : (v : Volume) (quotas : List QuotaRow) (last m : ℕ) (deed : Deed) (old : Machine) (answer : Answer) (outcome : Outcome) → machine v quotas last ≡ old → old.rows.last_moment ≤ m → due v quotas last m deed ≡ None → (asked_of v quotas last m deed).effect ≡ rows_at v.nodes quotas last → (asked_of v quotas last m deed).outcome ≡ outcome → (asked_of v quotas last m deed).lasts ≡ false → answer ≡ record { outcome = outcome; lasting = false } → Takes old old (step old.size old.rows (record { moment = m; deed = deed })) answer
@@ -153,7 +155,13 @@ told_at v quotas last m deed old answer outcome view late none effect is lasts e
     let asked = work v.size R m deed in
     let s : step v.size R (record { moment = m; deed = deed }) ≡ unlasting R outcome =
     step_by v.size R m deed None (was_late v quotas last m old view late) none
-    ∙ (ap (λ b. if b then lasted v.size (unacted asked.effect) m asked.outcome else unlasting asked.effect asked.outcome) lasts
-    ∙ (ap (λ (S : Rows). unlasting S asked.outcome) effect ∙ ap (unlasting R) is)) in
+    ∙ (ap (λ b. if b then lasted v.size (unacted (followed R asked.effect)) m asked.outcome else unlasting (followed R asked.effect) asked.outcome) lasts
+    ∙ (ap (λ (S : Rows). unlasting (followed R S) asked.outcome) effect ∙ ap (unlasting R) is)) in
     subst (λ (o : Machine). Takes old o (step old.size old.rows (record { moment = m; deed = deed })) answer) view
     (from_outside v quotas last m deed old (machine v quotas last) answer (unlasting R outcome) view s refl refl refl (ap (λ (a : Answer). a.outcome) e) (ap (λ (a : Answer). a.lasting) e))
+
+-- the same where nothing was tried
+pub refused_by_same : (v : Volume) (quotas : List QuotaRow) (last m : ℕ) (deed : Deed) (old : Machine) (fault : TreeFault) (fault_is : Option TreeFault) (more : Option Refusal) (result : Result Answer Wanting) → machine v quotas last ≡ old → old.rows.last_moment ≤ m → due v quotas last m deed ≡ tree_first fault_is more → IsFault fault fault_is → IfOk result (λ answer. answer_of fault ≡ Some answer) → IfOk result (λ answer. Takes old old (step old.size old.rows (record { moment = m; deed = deed })) answer)
+refused_by_same v quotas last m deed old fault fault_is more result view late h is given =
+    subst (λ (o : Machine). IfOk result (λ answer. Takes old o (step old.size old.rows (record { moment = m; deed = deed })) answer)) view
+    (refused_by_at v v quotas last m deed old fault fault_is more result view late refl h is given)

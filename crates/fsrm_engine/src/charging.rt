@@ -15,8 +15,8 @@ use fsrm_objects::Objects;
 use quota_usage::{Change, Usage};
 use volume_tree::Tree;
 
-// Makes what a folder uses its quota's peak, where it is more than the peak.
-fn raise_peak(usage: &Usage, objects: &mut Objects, folder: u32, moment: u64)
+/// Makes what a folder uses its quota's peak, where it is more than the peak.
+pub fn raise_peak(usage: &Usage, objects: &mut Objects, folder: u32, moment: u64)
     requires { is_ascending folder_of objects.old.quotas ≡ true }
     ensures { objects.new ≡ record { quotas = with_change folder_of folder (raised usage.now moment) objects.old.quotas } }
 {
@@ -79,8 +79,8 @@ pub fn charge<L: Ledger>(
     }
 }
 
-// Counts no longer for a folder.
-fn end_count(usage: &mut Usage, folder: u32)
+/// Counts no longer for a folder.
+pub fn end_count(usage: &mut Usage, folder: u32)
     ensures { usage.new ≡ without_counter usage.old folder }
 {
     if usage.used(folder).is_some() {

@@ -12,10 +12,11 @@ ghost use Rattle.fsrm_model.specs.Valued.{is_op, is_command};
 ghost use Rattle.fsrm_engine.specs.Machine.{Takes};
 ghost use Rattle.volume_tree.specs.Volume.{IsCapacity};
 
+use crate::accounts::Accounts;
 use crate::exits::refused;
 use fsrm_model::{Answer, Capacity, Command, Deed, FileOp, Ledger, NoMemory, Refusal, Steps};
 use fsrm_objects::Objects;
-use quota_usage::Usage;
+use scan_queue::Scans;
 use std::alloc::Global;
 use std::marker::Model;
 use volume_tree::Tree;
@@ -26,7 +27,7 @@ pub struct Settings {
     /// Minutes: what an action's run limit of -1 stands for.
     pub run_limit: u32,
     /// How many quotas wait to be scanned.
-    pub scans: u32,
+    pub scans: usize,
     /// The moment of the last command that lasts, in seconds since 1970-01-01 00:00:00 UTC.
     pub last_moment: u64,
 }
@@ -37,22 +38,19 @@ const RUN_LIMIT: u32 = 60;
 /// and the acts that wait to be handed out.
 #[derive(Drop)]
 pub struct Engine {
-    pub(crate) tree: Tree,
-    pub(crate) objects: Objects,
-    // What is used below each counting quota.
-    pub(crate) usage: Usage,
-    pub(crate) last_moment: u64,
+    pub(crate) accounts: Accounts,
+    pub(crate) scans: Scans,
 }
 
 impl Model for Engine {
     ghost use Rattle.std.specs.Prelude.{[]};
-    ghost use Rattle.fsrm_engine.specs.Machine.{Machine, rows_at, IsEngine};
+    ghost use Rattle.fsrm_engine.specs.Machine.{Machine, rows_with, AreScans};
 
     ghost Value = { Machine };
 
-    ghost view = { λ e. record { size = e.tree.size; rows = rows_at e.tree.nodes e.objects.quotas e.last_moment; waiting = [] } };
+    ghost view = { λ e. record { size = e.accounts.size; rows = rows_with e.accounts e.scans; waiting = e.accounts.waiting } };
 
-    ghost invariant = { λ e. IsEngine e.tree.size e.tree.nodes e.objects.quotas e.usage };
+    ghost invariant = { λ e. AreScans e.accounts e.scans };
 }
 
 impl Engine {
@@ -62,14 +60,9 @@ impl Engine {
         requires { IsCapacity size }
         ensures { IfOk result (λ engine. engine ≡ record { size = size; rows = new_rows; waiting = [] }) }
     {
-        let tree = Tree::reserve(alloc, size)?;
-        let usage = Usage::reserve(alloc)?;
-        Ok(Engine {
-            tree,
-            objects: Objects::new(alloc),
-            usage,
-            last_moment: 0,
-        })
+        let accounts = Accounts::new(alloc, size)?;
+        let scans = Scans::reserve(alloc, size.nodes)?;
+        Ok(Engine { accounts, scans })
     }
 
     /// The volume's folders and files, lent.
@@ -78,7 +71,7 @@ impl Engine {
         ensures nodes { result.now.nodes ≡ self.now.rows.nodes }
         ensures volume { IsVolume self.now.size self.now.rows.nodes }
     {
-        &self.tree
+        &self.accounts.tree
     }
 
     /// The quotas, lent.
@@ -86,7 +79,7 @@ impl Engine {
         ensures quotas { result.now.quotas ≡ self.now.rows.quotas }
         ensures store { IsStore self.now.size self.now.rows }
     {
-        &self.objects
+        &self.accounts.objects
     }
 
     /// What the files at and below a folder with a counting quota take, in bytes. None for every other
@@ -94,7 +87,7 @@ impl Engine {
     pub fn used(&self, folder: u32) -> Option<u64>
         ensures { result ≡ used_of self.now.size self.now.rows folder }
     {
-        self.usage.used(folder)
+        self.accounts.used(folder)
     }
 
     /// What the engine is set to, and how far it has come.
@@ -105,8 +98,8 @@ impl Engine {
     {
         Settings {
             run_limit: RUN_LIMIT,
-            scans: 0,
-            last_moment: self.last_moment,
+            scans: self.scans.count(),
+            last_moment: self.accounts.last_moment,
         }
     }
 
@@ -125,22 +118,30 @@ impl Engine {
         ensures kept { IsStore self.new.size self.new.rows }
         ensures looks { steps.new ≤ steps.old + cost self.old.rows command.now.deed }
     {
+        let moment = command.moment;
+        if moment < self.accounts.last_moment {
+            return Ok(refused(Refusal::ClockBack));
+        }
         match &command.deed {
-            Deed::File(op) => self.file_op(alloc, op, command.moment, steps),
-            Deed::Usage { path } => self.sum(alloc, path, command.moment, steps),
+            Deed::File(op) => self.operate(alloc, op, moment, steps),
+            Deed::Usage { path } => self.sum(alloc, path, moment, steps),
+            Deed::Step { n } => Ok(self.scan_step(*n, moment, steps)),
             Deed::QuotaAdd {
                 path,
                 limit,
                 enforce,
-            } => self.quota_add(alloc, path, *limit, *enforce, command.moment, steps),
+                enabled,
+            } => self.quota_add(alloc, path, *limit, *enforce, *enabled, moment, steps),
             Deed::QuotaModify {
                 path,
                 limit,
                 enforce,
-            } => self.quota_modify(alloc, path, *limit, *enforce, command.moment, steps),
-            Deed::QuotaDelete { path } => self.quota_delete(path, command.moment, steps),
-            Deed::QuotaResetpeak { path } => self.quota_resetpeak(path, command.moment, steps),
-            Deed::QuotaList { path } => self.quota_list(path, command.moment, steps),
+                enabled,
+            } => self.quota_modify(alloc, path, *limit, *enforce, *enabled, moment, steps),
+            Deed::QuotaDelete { path } => Ok(self.quota_delete(path, moment, steps)),
+            Deed::QuotaScan { path } => self.quota_scan(path, moment, steps),
+            Deed::QuotaResetpeak { path } => Ok(self.quota_resetpeak(path, moment, steps)),
+            Deed::QuotaList { path } => Ok(self.quota_list(path, moment, steps)),
         }
     }
 
@@ -161,20 +162,9 @@ impl Engine {
         ensures kept { IsStore self.new.size self.new.rows }
         ensures looks { steps.new ≤ steps.old + cost self.old.rows (File op.now) }
     {
-        if moment < self.last_moment {
+        if moment < self.accounts.last_moment {
             return Ok(refused(Refusal::ClockBack));
         }
-        match op {
-            FileOp::Mkdir { path, owner } => self.mkdir(path, *owner, moment, steps),
-            FileOp::Create {
-                path,
-                length,
-                owner,
-            } => self.create(path, *length, *owner, moment, steps),
-            FileOp::Resize { path, length } => self.resize(path, *length, moment, steps),
-            FileOp::Touch { path } => self.touch(path, moment, steps),
-            FileOp::Move { from, to } => self.move_path(alloc, from, to, moment, steps),
-            FileOp::Remove { path } => self.remove(path, moment, steps),
-        }
+        self.operate(alloc, op, moment, steps)
     }
 }

@@ -6,19 +6,19 @@ ghost use Rattle.fsrm_model.specs.declared.command.FileOp.TheVariants.{Create, R
 ghost use Rattle.fsrm_model.specs.Cost.{cost};
 ghost use Rattle.fsrm_model.specs.Limits.{latest_moment, longest_file};
 ghost use Rattle.fsrm_model.specs.Step.{step};
-ghost use Rattle.fsrm_model.specs.Valid.{IsStore};
-ghost use Rattle.fsrm_engine.specs.Machine.{Takes};
+ghost use Rattle.fsrm_engine.specs.Machine.{IsSound, Takes, ScansOf, ScansFollow};
 ghost use Rattle.fsrm_engine.specs.Faults.{refusal_of, exceeded_refusal};
 ghost use Rattle.std.specs.Prelude.{unwrap_or};
 ghost use Rattle.std.specs.Option.{option_and_then};
 ghost use Rattle.volume_tree.specs.Volume.{IsCapacity, new_fault};
 
+use crate::accounts::Accounts;
 use crate::charging::charge;
-use crate::engine::Engine;
 use crate::exits::{exceeded_by, refused, refused_by};
 use crate::places::Place;
 use fsrm_model::{Answer, Ledger, NoMemory, Path, Refusal, Steps, allocated};
 use quota_usage::{Change, Exceeded};
+use scan_queue::Scans;
 use volume_tree::Tree;
 
 // Why a file that a quota refuses can't be made: what the tree has against it comes first.
@@ -44,9 +44,10 @@ fn new_refusal<L: Ledger>(
     exceeded_by(exceeded)
 }
 
-impl Engine {
+impl Accounts {
     pub(crate) fn create<L: Ledger>(
         &mut self,
+        scans: &mut Scans,
         path: &Path,
         length: u64,
         owner: u32,
@@ -57,9 +58,13 @@ impl Engine {
         requires owner { 1 ≤ owner }
         requires moment { moment ≤ latest_moment }
         requires late { self.old.rows.last_moment ≤ moment }
+        requires scanning { ScansOf self.old scans.old }
         ensures ok { IfOk result (λ answer. Takes self.old self.new (step self.old.size self.old.rows (record { moment = moment; deed = File (Create path.now length owner) })) answer) }
+        ensures scans { IfOk result (λ answer. ScansFollow self.old scans.old scans.new (record { moment = moment; deed = File (Create path.now length owner) })) }
+        ensures scanning { ScansOf self.new scans.new }
         ensures err { OnErr result (self.new ≡ self.old) }
-        ensures kept { IsStore self.new.size self.new.rows }
+        ensures left { OnErr result (scans.new ≡ scans.old) }
+        ensures kept { IsSound self.new.size self.new.rows }
         ensures looks { steps.new ≤ steps.old + cost self.old.rows (File (Create path.now length owner)) }
     {
         let place = match self.place(path, steps) {
@@ -79,7 +84,8 @@ impl Engine {
             .tree
             .create(place.folder, place.name, length, owner, moment, steps)
         {
-            Ok(_) => {
+            Ok(node) => {
+                scans.follow_create(&self.tree, node, length, steps);
                 charge(
                     &self.tree,
                     &mut self.usage,
@@ -96,6 +102,7 @@ impl Engine {
 
     pub(crate) fn resize<L: Ledger>(
         &mut self,
+        scans: &mut Scans,
         path: &Path,
         length: u64,
         moment: u64,
@@ -104,24 +111,30 @@ impl Engine {
         requires length { length ≤ longest_file }
         requires moment { moment ≤ latest_moment }
         requires late { self.old.rows.last_moment ≤ moment }
+        requires scanning { ScansOf self.old scans.old }
         ensures ok { IfOk result (λ answer. Takes self.old self.new (step self.old.size self.old.rows (record { moment = moment; deed = File (Resize path.now length) })) answer) }
+        ensures scans { IfOk result (λ answer. ScansFollow self.old scans.old scans.new (record { moment = moment; deed = File (Resize path.now length) })) }
+        ensures scanning { ScansOf self.new scans.new }
         ensures err { OnErr result (self.new ≡ self.old) }
-        ensures kept { IsStore self.new.size self.new.rows }
+        ensures left { OnErr result (scans.new ≡ scans.old) }
+        ensures kept { IsSound self.new.size self.new.rows }
         ensures looks { steps.new ≤ steps.old + cost self.old.rows (File (Resize path.now length)) }
     {
         let Some(file) = self.file(path, steps) else {
             return Ok(refused(Refusal::PathNotFound));
         };
         let node = file.number;
+        let old = file.length;
         let change = Change {
             from: Some(file.parent),
             to: Some(file.parent),
-            minus: allocated(file.length),
+            minus: allocated(old),
             plus: allocated(length),
         };
         if let Err(exceeded) = self.usage.admit(&self.tree, &self.objects, &change, steps) {
             return Ok(refused(exceeded_by(exceeded)));
         }
+        scans.follow_resize(&self.tree, node, old, length, steps);
         self.tree.resize(node, length, moment, steps);
         charge(
             &self.tree,

@@ -1,7 +1,10 @@
 //! The machine that takes commands, over a volume's tree.
 #![tactic(auto)]
 
+mod accounts;
+mod beside;
 mod charging;
+mod counting;
 mod engine;
 mod exits;
 mod files;
@@ -10,6 +13,8 @@ mod moves;
 mod path_text;
 mod places;
 mod quotas;
+mod scanning;
+mod states;
 #[cfg(test)]
 mod tests;
 mod usage;

@@ -6,8 +6,7 @@ ghost use Rattle.fsrm_model.specs.declared.command.FileOp.TheVariants.{Move};
 ghost use Rattle.fsrm_model.specs.Cost.{cost};
 ghost use Rattle.fsrm_model.specs.Limits.{latest_moment, longest_file};
 ghost use Rattle.fsrm_model.specs.Step.{step};
-ghost use Rattle.fsrm_model.specs.Valid.{IsStore};
-ghost use Rattle.fsrm_engine.specs.Machine.{Takes};
+ghost use Rattle.fsrm_engine.specs.Machine.{IsSound, Takes, ScansOf, ScansFollow};
 ghost use Rattle.fsrm_model.specs.Keyed.{has_row};
 ghost use Rattle.fsrm_model.specs.Tree.{number as key, is_under, under, child_number};
 ghost use Rattle.fsrm_model.specs.Valid.{IsVolume};
@@ -17,14 +16,15 @@ ghost use Rattle.std.specs.Prelude.{unwrap_or};
 ghost use Rattle.std.specs.Option.{option_and_then};
 ghost use Rattle.volume_tree.specs.Volume.{IsCapacity, is_other, move_fault};
 
+use crate::accounts::Accounts;
 use crate::charging::charge;
-use crate::engine::Engine;
 use crate::exits::{exceeded_by, refused, refused_by};
 use crate::places::Place;
 use crate::usage::usage_of;
 use fsrm_model::{Answer, Ledger, NoMemory, Path, Refusal, Steps};
 use fsrm_objects::Objects;
 use quota_usage::{Change, Exceeded};
+use scan_queue::Scans;
 use std::alloc::Global;
 use volume_tree::Tree;
 
@@ -83,10 +83,11 @@ fn move_refusal<L: Ledger>(
     exceeded_by(exceeded)
 }
 
-impl Engine {
+impl Accounts {
     pub(crate) fn move_path<L: Ledger>(
         &mut self,
         alloc: Global,
+        scans: &mut Scans,
         from: &Path,
         to: &Path,
         moment: u64,
@@ -94,9 +95,13 @@ impl Engine {
     ) -> Result<Answer, NoMemory>
         requires moment { moment ≤ latest_moment }
         requires late { self.old.rows.last_moment ≤ moment }
+        requires scanning { ScansOf self.old scans.old }
         ensures ok { IfOk result (λ answer. Takes self.old self.new (step self.old.size self.old.rows (record { moment = moment; deed = File (Move from.now to.now) })) answer) }
+        ensures scans { IfOk result (λ answer. ScansFollow self.old scans.old scans.new (record { moment = moment; deed = File (Move from.now to.now) })) }
+        ensures scanning { ScansOf self.new scans.new }
         ensures err { OnErr result (self.new ≡ self.old) }
-        ensures kept { IsStore self.new.size self.new.rows }
+        ensures left { OnErr result (scans.new ≡ scans.old) }
+        ensures kept { IsSound self.new.size self.new.rows }
         ensures looks { steps.new ≤ steps.old + cost self.old.rows (File (Move from.now to.now)) }
     {
         let Some(node) = self.tree.resolve(from, steps) else {
@@ -123,8 +128,10 @@ impl Engine {
             let refusal = move_refusal(&self.tree, node, place, exceeded, steps);
             return Ok(refused(refusal));
         }
-        match self.tree.move_node(node, place.folder, place.name, steps) {
-            Ok(()) => {
+        match self.tree.ready_move(node, place.folder, place.name, steps) {
+            Ok(ready) => {
+                scans.follow_move(&self.tree, node, place.folder, steps);
+                self.tree.make_move(ready, steps);
                 charge(
                     &self.tree,
                     &mut self.usage,

@@ -70,8 +70,8 @@ impl Engine {
         ensures text { IfOk result (λ text. text ≡ path_text self.now.rows.nodes node) }
         ensures looks { steps.new ≤ steps.old + 4 * (length (path_of self.now.rows.nodes node) + 1) }
     {
-        let way = way_up(&self.tree, alloc, node, steps)?;
-        let text = joined(&self.tree, alloc, &way, steps)?;
+        let way = way_up(&self.accounts.tree, alloc, node, steps)?;
+        let text = joined(&self.accounts.tree, alloc, &way, steps)?;
         Ok(Text::from_string(text))
     }
 }

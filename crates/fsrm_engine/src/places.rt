@@ -1,10 +1,11 @@
 //! What paths lead to, and the end of a command that was done.
 
-ghost use Rattle.std.specs.Prelude.{◌≡◌, ◌+◌, ◌*◌, ◌≤◌, true, length, IfOk, IfErr, None};
+ghost use Rattle.std.specs.Prelude.{◌≡◌, ◌+◌, ◌*◌, ◌≤◌, [], true, length, IfOk, IfErr, None};
 ghost use Rattle.fsrm_model.specs.declared.command.Outcome.TheVariants.{Done};
+ghost use Rattle.fsrm_engine.specs.Machine.{IsSound};
 ghost use Rattle.fsrm_engine.specs.Places.{IsPlace, IsRefusedPlace, IsFileAt, IsFolderAt};
 
-use crate::engine::Engine;
+use crate::accounts::Accounts;
 use fsrm_model::{Answer, Ledger, Outcome, Path, Refusal, Steps};
 use volume_tree::NodeView;
 
@@ -15,7 +16,7 @@ pub struct Place<'a> {
     pub name: &'a str,
 }
 
-impl Engine {
+impl Accounts {
     /// The place that a path names, where it isn't the root's and its folder is there.
     pub(crate) fn place<'a, L: Ledger>(
         &self,
@@ -54,6 +55,8 @@ impl Engine {
     /// The folder that a path leads to.
     pub(crate) fn folder<L: Ledger>(&self, path: &Path, steps: &mut Steps<L>) -> Option<u32>
         ensures folder { IsFolderAt self.now.rows.nodes path.now result }
+        ensures sound { IsSound self.now.size self.now.rows }
+        ensures idle { self.now.waiting ≡ [] }
         ensures looks { steps.new ≤ steps.old + (22 * length path.now + 2) }
     {
         let node = self.tree.resolve(path, steps)?;

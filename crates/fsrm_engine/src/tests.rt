@@ -103,6 +103,7 @@ fn quotas_are_added<N: Ledger>(rt: &HostRuntime, end: &impl Abort, blank: Blank)
             path: Path::from_parts(List::new(rt.alloc())),
             limit: 1_024,
             enforce: true,
+            enabled: true,
         },
     };
     engine.apply(rt.alloc(), &add, &mut steps)?;
@@ -114,4 +115,34 @@ fn quotas_are_added<N: Ledger>(rt: &HostRuntime, end: &impl Abort, blank: Blank)
 #[test]
 fn a_quota_counts_from_the_beginning(rt: HostRuntime) -> Result<(), Fail> {
     quotas_are_added::<Brand>(&rt, &rt, Blank::new(1))
+}
+
+fn nothing_is_scanned<N: Ledger>(
+    rt: &HostRuntime,
+    end: &impl Abort,
+    blank: Blank,
+) -> Result<(), Fail>
+    requires name { blank.name ≡ N.name }
+    requires parts { blank.parts ≡ N.parts }
+    requires one { blank.parts ≡ 1 }
+{
+    let mut steps = Steps::new(rt, Weightless::<N>::of(blank));
+    let size = Capacity {
+        nodes: 9,
+        names: 256,
+    };
+    let mut engine = Engine::new(rt.alloc(), size)?;
+    let step = Command {
+        moment: 7,
+        deed: Deed::Step { n: 1 },
+    };
+    let answer = engine.apply(rt.alloc(), &step, &mut steps)?;
+    assert!(end; matches!(answer.outcome, Outcome::Refused(Refusal::NothingToScan)));
+    assert!(end; !answer.lasting);
+    Ok(())
+}
+
+#[test]
+fn without_a_quota_there_is_nothing_to_scan(rt: HostRuntime) -> Result<(), Fail> {
+    nothing_is_scanned::<Brand>(&rt, &rt, Blank::new(1))
 }

@@ -6,12 +6,12 @@ ghost use Rattle.fsrm_model.specs.Cost.{cost};
 ghost use Rattle.fsrm_model.specs.Keyed.{has_row};
 ghost use Rattle.fsrm_model.specs.Step.{step};
 ghost use Rattle.fsrm_model.specs.Tree.{number as key, children_in_order, usage, under};
-ghost use Rattle.fsrm_model.specs.Valid.{IsVolume, IsStore};
-ghost use Rattle.fsrm_engine.specs.Machine.{Takes};
+ghost use Rattle.fsrm_model.specs.Valid.{IsVolume};
+ghost use Rattle.fsrm_engine.specs.Machine.{IsSound, Takes};
 ghost use Rattle.volume_tree.specs.Volume.{IsCapacity};
 ghost use Rattle.fsrm_engine.specs.Walk.{usage_of_all, under_all, AreThere};
 
-use crate::engine::Engine;
+use crate::accounts::Accounts;
 use crate::exits::refused;
 use fsrm_model::{Answer, Ledger, NoMemory, Outcome, Path, Refusal, Steps, allocated};
 use std::alloc::Global;
@@ -81,23 +81,20 @@ pub fn usage_of<L: Ledger>(
     Ok(total)
 }
 
-impl Engine {
-    /// Sums up what the files at and below a node take. It changes nothing.
+impl Accounts {
+    /// Sums up what the files at and below a node take.
     pub(crate) fn sum<L: Ledger>(
-        &mut self,
+        &self,
         alloc: Global,
         path: &Path,
         moment: u64,
         steps: &mut Steps<L>,
     ) -> Result<Answer, NoMemory>
-        ensures ok { IfOk result (λ answer. Takes self.old self.new (step self.old.size self.old.rows (record { moment = moment; deed = Usage path.now })) answer) }
-        ensures err { OnErr result (self.new ≡ self.old) }
-        ensures kept { IsStore self.new.size self.new.rows }
-        ensures looks { steps.new ≤ steps.old + cost self.old.rows (Usage path.now) }
+        requires late { self.now.rows.last_moment ≤ moment }
+        ensures ok { IfOk result (λ answer. Takes self.now self.now (step self.now.size self.now.rows (record { moment = moment; deed = Usage path.now })) answer) }
+        ensures kept { IsSound self.now.size self.now.rows }
+        ensures looks { steps.new ≤ steps.old + cost self.now.rows (Usage path.now) }
     {
-        if moment < self.last_moment {
-            return Ok(refused(Refusal::ClockBack));
-        }
         let Some(node) = self.tree.resolve(path, steps) else {
             return Ok(refused(Refusal::PathNotFound));
         };

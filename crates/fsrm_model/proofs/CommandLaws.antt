@@ -6,14 +6,14 @@ use Rattle.std.proofs.lemmas.Bool.{cases_Bool}
 use Rattle.std.proofs.lemmas.List.{append-nil}
 use Rattle.fsrm_model.specs.declared.command.Command.{Command}
 use Rattle.fsrm_model.specs.declared.command.Deed.{Deed}
-use Rattle.fsrm_model.specs.declared.command.Deed.TheVariants.{File, Usage, QuotaAdd, QuotaModify, QuotaDelete, QuotaResetpeak, QuotaList}
+use Rattle.fsrm_model.specs.declared.command.Deed.TheVariants.{File, Usage, Step, QuotaAdd, QuotaModify, QuotaDelete, QuotaScan, QuotaResetpeak, QuotaList}
 use Rattle.fsrm_model.specs.declared.command.FileOp.TheVariants.{Mkdir, Create, Resize, Touch, Move, Remove}
 use Rattle.fsrm_model.specs.declared.command.Refusal.TheVariants.{BadLine}
-use Rattle.fsrm_model.specs.Limits.{latest_moment, longest_file, last_owner}
-use Rattle.fsrm_model.specs.Line.{no_more, number_word, path_word, owner_word, length_word, mkdir_words, create_words, resize_words, touch_words, move_words, remove_words, usage_words, quota_add_words, quota_modify_words, quota_delete_words, quota_resetpeak_words, quota_list_words, Table, by_name, named_word, quota_table, dirquota_table, command_table, command_of}
-use Rattle.fsrm_model.specs.Options.{Key, ThePath, TheLimit, TheType, Given, nothing, options, required}
+use Rattle.fsrm_model.specs.Limits.{latest_moment, longest_file, last_owner, most_visits}
+use Rattle.fsrm_model.specs.Line.{no_more, number_word, path_word, owner_word, length_word, mkdir_words, create_words, resize_words, touch_words, move_words, remove_words, usage_words, step_words, quota_add_words, quota_modify_words, quota_delete_words, quota_scan_words, quota_resetpeak_words, quota_list_words, Table, by_name, named_word, quota_table, dirquota_table, command_table, command_of}
+use Rattle.fsrm_model.specs.Options.{Key, ThePath, TheLimit, TheType, TheStatus, Given, nothing, options, required}
 use Rattle.fsrm_model.specs.Reading.{Read, ◌>>=◌, number_from, path_from}
-use Rattle.fsrm_model.specs.Spelling.{IsNamed, Writes, WritesPath, QuotaOption, PathIs, LimitIs, SpellsOptions, SpellsQuota, path_option, limit_option, type_option, SpellsDeed}
+use Rattle.fsrm_model.specs.Spelling.{IsNamed, Writes, WritesPath, QuotaOption, PathIs, LimitIs, SpellsOptions, SpellsQuota, path_option, limit_option, type_option, status_option, SpellsDeed}
 use Rattle.fsrm_model.specs.Words.{Word}
 use Rattle.fsrm_model.proofs.ReadLaws.{then_ok, both_ok, number_writes, number_reads}
 use Rattle.fsrm_model.proofs.PathLaws.{path_writes, path_reads}
@@ -111,6 +111,19 @@ path_number_reads low high deed end given a b path n e w v =
     ∙ then_ok (number_word low high end p.0) (n, q.0) (λ n. no_more n.1 (deed path n.0)) q.1
     ∙ no_more_reads q.0 (deed path n) q.2
 
+-- one number, and no more
+one_number_spells : (low high : ℕ) (deed : ℕ → Deed) (end : ℕ) (given : List Word) (d : Deed) → (number_word low high end given >>= λ n. no_more n.1 (deed n.0)) ≡ Ok d → (a : List ℕ) × (n : ℕ) × (texts given ≡ a ∷ []) × (Writes low high a n) × (deed n ≡ d)
+one_number_spells low high deed end given d h =
+    let n = both_ok (number_word low high end given) (λ n. no_more n.1 (deed n.0)) d h in
+    let last = no_more_ok n.0.1 (deed n.0.0) d n.2 in
+    let a = number_word_writes low high end given n.0 n.1 in
+    (a.word.text, n.0.0, ap texts a.given_is ∙ ap (λ (ws : List Word). texts (a.word ∷ ws)) last.0, a.writes, last.1)
+
+one_number_reads : (low high : ℕ) (deed : ℕ → Deed) (end : ℕ) (given : List Word) (a : List ℕ) (n : ℕ) → texts given ≡ a ∷ [] → Writes low high a n → (number_word low high end given >>= λ n. no_more n.1 (deed n.0)) ≡ Ok (deed n)
+one_number_reads low high deed end given a n e w =
+    let q = number_word_reads low high end given a [] n e w in
+    then_ok (number_word low high end given) (n, q.0) (λ n. no_more n.1 (deed n.0)) q.1 ∙ no_more_reads q.0 (deed n) q.2
+
 -- What words spell a deed, by a relation: what each command's words spell behind its name
 abbrev Relation : Type 1
 Relation = List (List ℕ) → Deed → Type 0
@@ -144,6 +157,11 @@ remove_spells word end given d named h =
 usage_spells : Spelled (codes "usage") usage_words
 usage_spells word end given d named h =
     let s = one_path_spells (λ path. Usage path) end given d h in
+    subst (SpellsDeed (texts (word ∷ given))) s.4 (word.text, s.0, ap (λ (ts : List (List ℕ)). word.text ∷ ts) s.2, named, s.3)
+
+step_spells : Spelled (codes "step") step_words
+step_spells word end given d named h =
+    let s = one_number_spells 1 most_visits (λ n. Step n) end given d h in
     subst (SpellsDeed (texts (word ∷ given))) s.4 (word.text, s.0, ap (λ (ts : List (List ℕ)). word.text ∷ ts) s.2, named, s.3)
 
 move_spells : Spelled (codes "move") move_words
@@ -193,7 +211,7 @@ named_spells S rows each end (word ∷ given) d h = table_spells S rows each wor
 
 -- the commands on quotas, behind their first two names
 abbrev all_keys : List Key
-all_keys = ThePath ∷ TheLimit ∷ TheType ∷ []
+all_keys = ThePath ∷ TheLimit ∷ TheType ∷ TheStatus ∷ []
 
 required_ok : {X : Type 0} (end : ℕ) (o : Option X) (x : X) → required end o ≡ Ok x → o ≡ Some x
 required_ok end o x h = known_ok (BadLine end) o x h
@@ -208,31 +226,32 @@ abbrev QuotaSpelled : List ℕ → (ℕ → List Word → Read Deed) → Type 0
 QuotaSpelled name reads = (a b : List ℕ) → IsNamed (codes "dirquota") a → IsNamed (codes "quota") b → SpelledBy (Behind a b) name reads
 
 -- what was given, with a path that is there
-list_at : (given : Given) (path : Option Path) (limit : Option ℕ) (enforce : Option Bool) (words : List (List ℕ)) → given.path ≡ path → given.limit ≡ limit → given.enforce ≡ enforce → SpellsOptions words (option_list given) → SpellsOptions words (option_list (record { path = path; limit = limit; enforce = enforce }))
-list_at given path limit enforce words p l t s = subst (SpellsOptions words) (ap option_list (given_same given (record { path = path; limit = limit; enforce = enforce }) p l t)) s
+list_at : (given : Given) (path : Option Path) (limit : Option ℕ) (enforce enabled : Option Bool) (words : List (List ℕ)) → given.path ≡ path → given.limit ≡ limit → given.enforce ≡ enforce → given.enabled ≡ enabled → SpellsOptions words (option_list given) → SpellsOptions words (option_list (record { path = path; limit = limit; enforce = enforce; enabled = enabled }))
+list_at given path limit enforce enabled words p l t e s =
+    subst (SpellsOptions words) (ap option_list (given_same given (record { path = path; limit = limit; enforce = enforce; enabled = enabled }) p l t e)) s
 
 add_spells : QuotaSpelled (codes "add") quota_add_words
 add_spells a b first second word end words d named h =
-    let given = both_ok (options all_keys words nothing) (λ given. required end given.path >>= λ path. required end given.limit >>= λ limit. Ok (QuotaAdd path limit (unwrap_or given.enforce true))) d h in
-    let path = both_ok (required end given.0.path) (λ path. required end given.0.limit >>= λ limit. Ok (QuotaAdd path limit (unwrap_or given.0.enforce true))) d given.2 in
-    let limit = both_ok (required end given.0.limit) (λ limit. Ok (QuotaAdd path.0 limit (unwrap_or given.0.enforce true))) d path.2 in
-    let made : QuotaAdd path.0 limit.0 (unwrap_or given.0.enforce true) ≡ d = cc limit.2 in
-    let s = list_at given.0 (Some path.0) (Some limit.0) given.0.enforce (texts words) (required_ok end given.0.path path.0 path.1) (required_ok end given.0.limit limit.0 limit.1) refl (options_spelled all_keys words given.0 given.1) in
-    subst (Behind a b (texts (word ∷ words))) made (given.0.enforce, refl, (a, b, word.text, texts words, refl, first, second, named, s))
+    let given = both_ok (options all_keys words nothing) (λ given. required end given.path >>= λ path. required end given.limit >>= λ limit. Ok (QuotaAdd path limit (unwrap_or given.enforce true) (unwrap_or given.enabled true))) d h in
+    let path = both_ok (required end given.0.path) (λ path. required end given.0.limit >>= λ limit. Ok (QuotaAdd path limit (unwrap_or given.0.enforce true) (unwrap_or given.0.enabled true))) d given.2 in
+    let limit = both_ok (required end given.0.limit) (λ limit. Ok (QuotaAdd path.0 limit (unwrap_or given.0.enforce true) (unwrap_or given.0.enabled true))) d path.2 in
+    let made : QuotaAdd path.0 limit.0 (unwrap_or given.0.enforce true) (unwrap_or given.0.enabled true) ≡ d = cc limit.2 in
+    let s = list_at given.0 (Some path.0) (Some limit.0) given.0.enforce given.0.enabled (texts words) (required_ok end given.0.path path.0 path.1) (required_ok end given.0.limit limit.0 limit.1) refl refl (options_spelled all_keys words given.0 given.1) in
+    subst (Behind a b (texts (word ∷ words))) made (given.0.enforce, given.0.enabled, refl, refl, (a, b, word.text, texts words, refl, first, second, named, s))
 
 modify_spells : QuotaSpelled (codes "modify") quota_modify_words
 modify_spells a b first second word end words d named h =
-    let given = both_ok (options all_keys words nothing) (λ given. required end given.path >>= λ path. Ok (QuotaModify path given.limit given.enforce)) d h in
-    let path = both_ok (required end given.0.path) (λ path. Ok (QuotaModify path given.0.limit given.0.enforce)) d given.2 in
-    let made : QuotaModify path.0 given.0.limit given.0.enforce ≡ d = cc path.2 in
-    let s = list_at given.0 (Some path.0) given.0.limit given.0.enforce (texts words) (required_ok end given.0.path path.0 path.1) refl refl (options_spelled all_keys words given.0 given.1) in
+    let given = both_ok (options all_keys words nothing) (λ given. required end given.path >>= λ path. Ok (QuotaModify path given.limit given.enforce given.enabled)) d h in
+    let path = both_ok (required end given.0.path) (λ path. Ok (QuotaModify path given.0.limit given.0.enforce given.0.enabled)) d given.2 in
+    let made : QuotaModify path.0 given.0.limit given.0.enforce given.0.enabled ≡ d = cc path.2 in
+    let s = list_at given.0 (Some path.0) given.0.limit given.0.enforce given.0.enabled (texts words) (required_ok end given.0.path path.0 path.1) refl refl refl (options_spelled all_keys words given.0 given.1) in
     subst (Behind a b (texts (word ∷ words))) made (a, b, word.text, texts words, refl, first, second, named, s)
 
 -- a command that takes a path alone
 path_options : (words : List Word) (given : Given) → options (ThePath ∷ []) words nothing ≡ Ok given → SpellsOptions (texts words) (path_option given.path ++ [])
 path_options words given h =
     let alone = path_alone words nothing given h in
-    list_at given given.path None None (texts words) refl alone.0 alone.1 (options_spelled (ThePath ∷ []) words given h)
+    list_at given given.path None None None (texts words) refl alone.0 alone.1 alone.2 (options_spelled (ThePath ∷ []) words given h)
 
 one_required : (deed : Path → Deed) (end : ℕ) (words : List Word) (d : Deed) → (options (ThePath ∷ []) words nothing >>= λ given. required end given.path >>= λ path. Ok (deed path)) ≡ Ok d → (path : Path) × (SpellsOptions (texts words) (PathIs path ∷ [])) × (deed path ≡ d)
 one_required deed end words d h =
@@ -244,6 +263,11 @@ one_required deed end words d h =
 delete_spells : QuotaSpelled (codes "delete") quota_delete_words
 delete_spells a b first second word end words d named h =
     let s = one_required (λ path. QuotaDelete path) end words d h in
+    subst (Behind a b (texts (word ∷ words))) s.2 (a, b, word.text, texts words, refl, first, second, named, s.1)
+
+scan_spells : QuotaSpelled (codes "scan") quota_scan_words
+scan_spells a b first second word end words d named h =
+    let s = one_required (λ path. QuotaScan path) end words d h in
     subst (Behind a b (texts (word ∷ words))) s.2 (a, b, word.text, texts words, refl, first, second, named, s.1)
 
 resetpeak_spells : QuotaSpelled (codes "resetpeak") quota_resetpeak_words
@@ -261,7 +285,7 @@ list_spells a b first second word end words d named h =
 quota_spells : (a : List ℕ) → IsNamed (codes "dirquota") a → SpelledBy (λ words d. SpellsDeed (a ∷ words) d) (codes "quota") (named_word quota_table)
 quota_spells a first word end given d named h =
     named_spells (Behind a word.text) quota_table
-    (add_spells a word.text first named, (modify_spells a word.text first named, (delete_spells a word.text first named, (resetpeak_spells a word.text first named, (list_spells a word.text first named, tt)))))
+    (add_spells a word.text first named, (modify_spells a word.text first named, (delete_spells a word.text first named, (scan_spells a word.text first named, (resetpeak_spells a word.text first named, (list_spells a word.text first named, tt))))))
     end given d h
 
 dirquota_spells : Spelled (codes "dirquota") (named_word dirquota_table)
@@ -269,7 +293,7 @@ dirquota_spells word end given d named h =
     named_spells (λ words d. SpellsDeed (word.text ∷ words) d) dirquota_table (quota_spells word.text named, tt) end given d h
 
 deed_spells : (end : ℕ) (given : List Word) (d : Deed) → named_word command_table end given ≡ Ok d → SpellsDeed (texts given) d
-deed_spells = named_spells SpellsDeed command_table (mkdir_spells, (create_spells, (resize_spells, (touch_spells, (move_spells, (remove_spells, (usage_spells, (dirquota_spells, tt))))))))
+deed_spells = named_spells SpellsDeed command_table (mkdir_spells, (create_spells, (resize_spells, (touch_spells, (move_spells, (remove_spells, (usage_spells, (step_spells, (dirquota_spells, tt)))))))))
 
 -- a name is read as the table's own spelling of it
 abbrev spelled_as : List ℕ → Word → Word
@@ -324,13 +348,13 @@ quota_read name reads end words wanted computes s =
     let c = behind_name quota_table name reads end b.0 s.2 s.3 b.2 s.7 computes in
     record { more = c.0; read = a.1 ∙ b.1 ∙ c.1; spelled = subst (λ (ts : List (List ℕ)). SpellsOptions ts wanted) (sym c.2) s.8 }
 
-path_from_options : (path : Option Path) (words : List Word) → SpellsOptions (texts words) (path_option path) → options (ThePath ∷ []) words nothing ≡ Ok (record { path = path; limit = None; enforce = None })
+path_from_options : (path : Option Path) (words : List Word) → SpellsOptions (texts words) (path_option path) → options (ThePath ∷ []) words nothing ≡ Ok (record { path = path; limit = None; enforce = None; enabled = None })
 path_from_options path words s =
-    options_from (ThePath ∷ []) words (record { path = path; limit = None; enforce = None }) (takes_path path) (subst (SpellsOptions (texts words)) (sym (append-nil (path_option path))) s)
+    options_from (ThePath ∷ []) words (record { path = path; limit = None; enforce = None; enabled = None }) (takes_path path) (subst (SpellsOptions (texts words)) (sym (append-nil (path_option path))) s)
 
 one_required_reads : (deed : Path → Deed) (end : ℕ) (words : List Word) (path : Path) → SpellsOptions (texts words) (PathIs path ∷ []) → (options (ThePath ∷ []) words nothing >>= λ given. required end given.path >>= λ path. Ok (deed path)) ≡ Ok (deed path)
 one_required_reads deed end words path s =
-    then_ok (options (ThePath ∷ []) words nothing) (record { path = Some path; limit = None; enforce = None }) (λ given. required end given.path >>= λ path. Ok (deed path)) (path_from_options (Some path) words s)
+    then_ok (options (ThePath ∷ []) words nothing) (record { path = Some path; limit = None; enforce = None; enabled = None }) (λ given. required end given.path >>= λ path. Ok (deed path)) (path_from_options (Some path) words s)
 
 -- words that spell a deed are read as it
 deed_reads : (end : ℕ) (given : List Word) (d : Deed) → SpellsDeed (texts given) d → named_word command_table end given ≡ Ok d
@@ -355,26 +379,33 @@ deed_reads end given (File (Remove path)) s =
 deed_reads end given (Usage path) s =
     let r = behind_name command_table (codes "usage") usage_words end given s.0 (s.1 ∷ []) s.2 s.3 (λ word end more. refl) in
     r.1 ∙ one_path_reads (λ path. Usage path) end r.0 s.1 path r.2 s.4
-deed_reads end given (QuotaAdd path limit enforce) s =
-    let r = quota_read (codes "add") quota_add_words end given (PathIs path ∷ LimitIs limit ∷ type_option s.0) (λ word end more. refl) s.2 in
-    let all : Given = record { path = Some path; limit = Some limit; enforce = s.0 } in
+deed_reads end given (Step n) s =
+    let r = behind_name command_table (codes "step") step_words end given s.0 (s.1 ∷ []) s.2 s.3 (λ word end more. refl) in
+    r.1 ∙ one_number_reads 1 most_visits (λ n. Step n) end r.0 s.1 n r.2 s.4
+deed_reads end given (QuotaAdd path limit enforce enabled) s =
+    let r = quota_read (codes "add") quota_add_words end given (PathIs path ∷ LimitIs limit ∷ (type_option s.0 ++ status_option s.1)) (λ word end more. refl) s.4 in
+    let all : Given = record { path = Some path; limit = Some limit; enforce = s.0; enabled = s.1 } in
     r.read
-    ∙ then_ok (options all_keys r.more nothing) all (λ given. required end given.path >>= λ path. required end given.limit >>= λ limit. Ok (QuotaAdd path limit (unwrap_or given.enforce true))) (options_from all_keys r.more all (takes_all all) r.spelled)
-    ∙ ap (λ (enforce : Bool). Ok (QuotaAdd path limit enforce)) s.1
-deed_reads end given (QuotaModify path limit enforce) s =
-    let r = quota_read (codes "modify") quota_modify_words end given (PathIs path ∷ (limit_option limit ++ type_option enforce)) (λ word end more. refl) s in
-    let all : Given = record { path = Some path; limit = limit; enforce = enforce } in
+    ∙ then_ok (options all_keys r.more nothing) all (λ given. required end given.path >>= λ path. required end given.limit >>= λ limit. Ok (QuotaAdd path limit (unwrap_or given.enforce true) (unwrap_or given.enabled true))) (options_from all_keys r.more all (takes_all all) r.spelled)
+    ∙ ap (λ (enforce : Bool). Ok (QuotaAdd path limit enforce (unwrap_or s.1 true))) s.2
+    ∙ ap (λ (enabled : Bool). Ok (QuotaAdd path limit enforce enabled)) s.3
+deed_reads end given (QuotaModify path limit enforce enabled) s =
+    let r = quota_read (codes "modify") quota_modify_words end given (PathIs path ∷ (limit_option limit ++ (type_option enforce ++ status_option enabled))) (λ word end more. refl) s in
+    let all : Given = record { path = Some path; limit = limit; enforce = enforce; enabled = enabled } in
     r.read
-    ∙ then_ok (options all_keys r.more nothing) all (λ given. required end given.path >>= λ path. Ok (QuotaModify path given.limit given.enforce)) (options_from all_keys r.more all (takes_all all) r.spelled)
+    ∙ then_ok (options all_keys r.more nothing) all (λ given. required end given.path >>= λ path. Ok (QuotaModify path given.limit given.enforce given.enabled)) (options_from all_keys r.more all (takes_all all) r.spelled)
 deed_reads end given (QuotaDelete path) s =
     let r = quota_read (codes "delete") quota_delete_words end given (PathIs path ∷ []) (λ word end more. refl) s in
     r.read ∙ one_required_reads (λ path. QuotaDelete path) end r.more path r.spelled
+deed_reads end given (QuotaScan path) s =
+    let r = quota_read (codes "scan") quota_scan_words end given (PathIs path ∷ []) (λ word end more. refl) s in
+    r.read ∙ one_required_reads (λ path. QuotaScan path) end r.more path r.spelled
 deed_reads end given (QuotaResetpeak path) s =
     let r = quota_read (codes "resetpeak") quota_resetpeak_words end given (PathIs path ∷ []) (λ word end more. refl) s in
     r.read ∙ one_required_reads (λ path. QuotaResetpeak path) end r.more path r.spelled
 deed_reads end given (QuotaList path) s =
     let r = quota_read (codes "list") quota_list_words end given (path_option path) (λ word end more. refl) s in
-    r.read ∙ then_ok (options (ThePath ∷ []) r.more nothing) (record { path = path; limit = None; enforce = None }) (λ given. Ok (QuotaList given.path)) (path_from_options path r.more r.spelled)
+    r.read ∙ then_ok (options (ThePath ∷ []) r.more nothing) (record { path = path; limit = None; enforce = None; enabled = None }) (λ given. Ok (QuotaList given.path)) (path_from_options path r.more r.spelled)
 
 -- words that spell a command: its moment, and the command's own
 pub record SpellsCommand (given : List (List ℕ)) (command : Command) : Type 0 where

@@ -6,7 +6,7 @@ use Rattle.std.specs.Option.{option_map_or}
 use Rattle.std.proofs.lemmas.Bool.{and_parts, and_from, ltb-false, cases_Bool}
 use Rattle.fsrm_model.specs.declared.command.Command.{Command}
 use Rattle.fsrm_model.specs.declared.command.Deed.{Deed}
-use Rattle.fsrm_model.specs.declared.command.Deed.TheVariants.{File, Usage, QuotaAdd, QuotaModify, QuotaDelete, QuotaResetpeak, QuotaList}
+use Rattle.fsrm_model.specs.declared.command.Deed.TheVariants.{File, Usage, Step, QuotaAdd, QuotaModify, QuotaDelete, QuotaScan, QuotaResetpeak, QuotaList}
 use Rattle.fsrm_model.specs.declared.command.FileOp.{FileOp}
 use Rattle.fsrm_model.specs.declared.command.FileOp.TheVariants.{Mkdir, Create, Resize, Touch, Move, Remove}
 use Rattle.fsrm_model.specs.declared.command.Refusal.{Refusal}
@@ -34,6 +34,7 @@ use Rattle.fsrm_model.proofs.MoveLaws.{KeepsSpace, usage-moved, under_other}
 use Rattle.fsrm_model.proofs.RemoveLaws.{usage-removed}
 use Rattle.fsrm_model.proofs.Below.{chain_root, above_all, usage-moved_below}
 use Rattle.fsrm_model.proofs.Climbs.{under_own}
+use Rattle.fsrm_model.proofs.Ends.{nodes_kept, op_nodes, step_nodes}
 use Rattle.fsrm_model.proofs.Files.{below_file}
 use Rattle.fsrm_model.proofs.Keeps.{tree_of, zero_apart, as_suc, moves_at, removes_of}
 use Rattle.fsrm_model.proofs.Look.{found_key, has_found, found_any, is_some-find}
@@ -411,12 +412,18 @@ limits_kept K R c folder quota store there counting enforced rises =
     by : (deed : Deed) (o : Option Refusal) → first ((ClockBack when nat_lt c.moment R.last_moment) ∷ (work K R c.moment deed).checks) ≡ o → usage K R.nodes folder < usage K (decided K R c.moment (work K R c.moment deed) o).rows.nodes folder → usage K (decided K R c.moment (work K R c.moment deed) o).rows.nodes folder ≤ quota.limit
     by deed (Some r) e l = absurd (never l)
     by (File op) None e l =
-        op_kept K R op c.moment store (first_none (ClockBack when nat_lt c.moment R.last_moment) (file_checks K R op (file_effect R op c.moment)) e).1 folder quota
-        (record { there = there; counting = counting; enforced = enforced; rises = l })
+        subst (λ nodes. usage K nodes folder ≤ quota.limit) (sym (op_nodes K R op c.moment))
+        (op_kept K R op c.moment store (first_none (ClockBack when nat_lt c.moment R.last_moment) (file_checks K R op (file_effect R op c.moment)) e).1 folder quota
+        (record { there = there; counting = counting; enforced = enforced; rises = subst (λ nodes. usage K R.nodes folder < usage K nodes folder) (op_nodes K R op c.moment) l }))
     by (Usage path) None e l = absurd (never l)
-    by (QuotaAdd path limit enforce) None e l = absurd (never l)
-    by (QuotaModify path limit enforce) None e l = absurd (never l)
+    by (Step n) None e l =
+        let same = nodes_kept K R c.moment (work K R c.moment (Step n)) ∙ step_nodes K R n in
+        absurd (never (subst (λ nodes. usage K R.nodes folder < usage K nodes folder) same l))
+    by (QuotaAdd path limit enforce enabled) None e l = absurd (never l)
+    by (QuotaModify path limit enforce enabled) None e l = absurd (never l)
     by (QuotaDelete path) None e l = absurd (never l)
+    by (QuotaScan path) None e l =
+        absurd (never (subst (λ nodes. usage K R.nodes folder < usage K nodes folder) (nodes_kept K R c.moment (work K R c.moment (QuotaScan path))) l))
     by (QuotaResetpeak path) None e l = absurd (never l)
     by (QuotaList None) None e l = absurd (never l)
     by (QuotaList (Some path)) None e l = absurd (never l)

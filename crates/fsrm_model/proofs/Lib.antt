@@ -29,6 +29,7 @@ pub mod OptionLaws
 pub mod CommandLaws
 pub mod SpellingLaws
 pub mod LineRefusals
+pub mod Ends
 pub mod QuotaLaws
 pub mod HardLimits
 pub mod QuotaRefusals

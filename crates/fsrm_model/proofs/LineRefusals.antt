@@ -8,14 +8,14 @@ use Rattle.std.specs.Str.Parse.{digits_value}
 use Rattle.std.proofs.lemmas.Bool.{cases_Bool}
 use Rattle.fsrm_model.specs.declared.command.Command.{Command}
 use Rattle.fsrm_model.specs.declared.command.Deed.{Deed}
-use Rattle.fsrm_model.specs.declared.command.Deed.TheVariants.{File, Usage, QuotaAdd, QuotaModify, QuotaDelete, QuotaResetpeak, QuotaList}
+use Rattle.fsrm_model.specs.declared.command.Deed.TheVariants.{File, Usage, Step, QuotaAdd, QuotaModify, QuotaDelete, QuotaScan, QuotaResetpeak, QuotaList}
 use Rattle.fsrm_model.specs.declared.command.FileOp.TheVariants.{Mkdir, Create, Resize, Touch, Move, Remove}
 use Rattle.fsrm_model.specs.declared.command.Refusal.{Refusal}
 use Rattle.fsrm_model.specs.declared.command.Refusal.TheVariants.{BadLine, LineTooLong, InvalidPath, InvalidName, OutOfRange, InvalidLimit}
-use Rattle.fsrm_model.specs.Limits.{latest_moment, longest_line, longest_file, last_owner}
+use Rattle.fsrm_model.specs.Limits.{latest_moment, longest_line, longest_file, last_owner, most_visits}
 use Rattle.fsrm_model.specs.Line.{next_word, no_more, number_word, path_word, owner_word, length_word, create_words, move_words, quota_add_words, quota_modify_words, quota_list_words, Table, by_name, named_word, quota_table, dirquota_table, command_table, command_of, is_skipped, read_words, is_line_refusal, read_line}
 use Rattle.fsrm_model.specs.Name.{is_name}
-use Rattle.fsrm_model.specs.Options.{Key, ThePath, TheLimit, TheType, Given, nothing, once, with_value, is_colon, key_of, options, required}
+use Rattle.fsrm_model.specs.Options.{Key, ThePath, TheLimit, TheType, TheStatus, Given, nothing, once, with_value, is_colon, key_of, options, required}
 use Rattle.fsrm_model.specs.Quota.{is_limit}
 use Rattle.fsrm_model.specs.Reading.{Read, ◌>>=◌, guarded, known, is_number, number_from, path_parts, has_path_form, path_from, bytes_of, digits_of, limit_from, choice_from}
 use Rattle.fsrm_model.specs.Words.{Word, words_at, parts_from, is_closed, last_quote, words}
@@ -83,6 +83,9 @@ value_line TheLimit column value given =
 value_line TheType column value given =
     let choice = choice_from (codes "hard") (codes "soft") column value in
     then_line (once column given.enforce choice) (λ enforce. Ok (record given { enforce = enforce })) (once_line column given.enforce choice (choice_line (codes "hard") (codes "soft") column value)) (λ enforce. tt)
+value_line TheStatus column value given =
+    let choice = choice_from (codes "enabled") (codes "disabled") column value in
+    then_line (once column given.enabled choice) (λ enabled. Ok (record given { enabled = enabled })) (once_line column given.enabled choice (choice_line (codes "enabled") (codes "disabled") column value)) (λ enabled. tt)
 
 options_line : (keys : List Key) (words : List Word) (given : Given) → AsLine (options keys words given)
 options_line keys [] given = tt
@@ -114,7 +117,7 @@ path_word_line end given =
 abbrev Path : Type 0
 Path = List (List ℕ)
 
--- one path; a path and a number
+-- one path; a path and a number; one number
 one_path_line : (deed : Path → Deed) (end : ℕ) (given : List Word) → AsLine (path_word end given >>= λ path. no_more path.1 (deed path.0))
 one_path_line deed end given =
     then_line (path_word end given) (λ path. no_more path.1 (deed path.0)) (path_word_line end given) (λ path. end_line path.1 (deed path.0))
@@ -123,6 +126,10 @@ path_number_line : (low high : ℕ) (deed : Path → ℕ → Deed) (end : ℕ) (
 path_number_line low high deed end given =
     then_line (path_word end given) (λ path. number_word low high end path.1 >>= λ n. no_more n.1 (deed path.0 n.0)) (path_word_line end given)
     (λ path. then_line (number_word low high end path.1) (λ n. no_more n.1 (deed path.0 n.0)) (number_word_line low high end path.1) (λ n. end_line n.1 (deed path.0 n.0)))
+
+one_number_line : (low high : ℕ) (deed : ℕ → Deed) (end : ℕ) (given : List Word) → AsLine (number_word low high end given >>= λ n. no_more n.1 (deed n.0))
+one_number_line low high deed end given =
+    then_line (number_word low high end given) (λ n. no_more n.1 (deed n.0)) (number_word_line low high end given) (λ n. end_line n.1 (deed n.0))
 
 abbrev Reader : Type 0
 Reader = ℕ → List Word → Read Deed
@@ -146,18 +153,18 @@ required_line : {X : Type 0} (end : ℕ) (o : Option X) → AsLine (required end
 required_line end o = known_line (BadLine end) o refl
 
 abbrev all_keys : List Key
-all_keys = ThePath ∷ TheLimit ∷ TheType ∷ []
+all_keys = ThePath ∷ TheLimit ∷ TheType ∷ TheStatus ∷ []
 
 add_line : ReadsLine quota_add_words
 add_line end words =
-    then_line (options all_keys words nothing) (λ given. required end given.path >>= λ path. required end given.limit >>= λ limit. Ok (QuotaAdd path limit (unwrap_or given.enforce true))) (options_line all_keys words nothing)
-    (λ given. then_line (required end given.path) (λ path. required end given.limit >>= λ limit. Ok (QuotaAdd path limit (unwrap_or given.enforce true))) (required_line end given.path)
-    (λ path. then_line (required end given.limit) (λ limit. Ok (QuotaAdd path limit (unwrap_or given.enforce true))) (required_line end given.limit) (λ limit. tt)))
+    then_line (options all_keys words nothing) (λ given. required end given.path >>= λ path. required end given.limit >>= λ limit. Ok (QuotaAdd path limit (unwrap_or given.enforce true) (unwrap_or given.enabled true))) (options_line all_keys words nothing)
+    (λ given. then_line (required end given.path) (λ path. required end given.limit >>= λ limit. Ok (QuotaAdd path limit (unwrap_or given.enforce true) (unwrap_or given.enabled true))) (required_line end given.path)
+    (λ path. then_line (required end given.limit) (λ limit. Ok (QuotaAdd path limit (unwrap_or given.enforce true) (unwrap_or given.enabled true))) (required_line end given.limit) (λ limit. tt)))
 
 modify_line : ReadsLine quota_modify_words
 modify_line end words =
-    then_line (options all_keys words nothing) (λ given. required end given.path >>= λ path. Ok (QuotaModify path given.limit given.enforce)) (options_line all_keys words nothing)
-    (λ given. then_line (required end given.path) (λ path. Ok (QuotaModify path given.limit given.enforce)) (required_line end given.path) (λ path. tt))
+    then_line (options all_keys words nothing) (λ given. required end given.path >>= λ path. Ok (QuotaModify path given.limit given.enforce given.enabled)) (options_line all_keys words nothing)
+    (λ given. then_line (required end given.path) (λ path. Ok (QuotaModify path given.limit given.enforce given.enabled)) (required_line end given.path) (λ path. tt))
 
 one_required_line : (deed : Path → Deed) (end : ℕ) (words : List Word) → AsLine (options (ThePath ∷ []) words nothing >>= λ given. required end given.path >>= λ path. Ok (deed path))
 one_required_line deed end words =
@@ -183,7 +190,7 @@ named_line : (rows : Table) → EachLine rows → ReadsLine (named_word rows)
 named_line rows each end given = then_line (next_word end given) (λ name. by_name rows name.0 end name.1) (next_line end given) (λ name. table_line rows each name.0 end name.1)
 
 quota_line : ReadsLine (named_word quota_table)
-quota_line = named_line quota_table (add_line, (modify_line, (one_required_line (λ path. QuotaDelete path), (one_required_line (λ path. QuotaResetpeak path), (list_line, tt)))))
+quota_line = named_line quota_table (add_line, (modify_line, (one_required_line (λ path. QuotaDelete path), (one_required_line (λ path. QuotaScan path), (one_required_line (λ path. QuotaResetpeak path), (list_line, tt))))))
 
 dirquota_line : ReadsLine (named_word dirquota_table)
 dirquota_line = named_line dirquota_table (quota_line, tt)
@@ -204,7 +211,10 @@ deed_line =
                 one_path_line (λ path. File (Remove path)),
                 (
                   one_path_line (λ path. Usage path),
-                  (dirquota_line, tt),
+                  (
+                    one_number_line 1 most_visits (λ n. Step n),
+                    (dirquota_line, tt),
+                  ),
                 ),
               ),
             ),

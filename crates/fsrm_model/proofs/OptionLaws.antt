@@ -3,15 +3,18 @@ use Rattle.std.proofs.Common.{◌≡◌, ℕ, List, [], ◌∷◌, ◌++◌, Boo
 use Rattle.std.specs.Prelude.{Ok, Err, codes, Option, Some, None, find, if◌then◌else◌}
 use Rattle.std.specs.List.{list_any, before_first, after_first}
 use Rattle.std.specs.Str.{str_eq_ignore_ascii_case}
-use Rattle.std.proofs.lemmas.Bool.{cases_Bool}
+use Rattle.std.proofs.lemmas.Bool.{or_parts, cases_Bool, true≢false}
+use Rattle.std.proofs.lemmas.List.{append-nil}
+use Rattle.std.proofs.lemmas.List.Folds.{list_any-append}
+use Rattle.std.proofs.Math.Bool.{or-true}
 use Rattle.fsrm_model.specs.declared.command.Refusal.TheVariants.{BadLine}
-use Rattle.fsrm_model.specs.Options.{Key, ThePath, TheLimit, TheType, key_name, Given, nothing, once, with_value, is_colon, key_of, options}
+use Rattle.fsrm_model.specs.Options.{Key, ThePath, TheLimit, TheType, TheStatus, key_name, Given, nothing, once, with_value, is_colon, key_of, options}
 use Rattle.fsrm_model.specs.Reading.{Read, ◌>>=◌, known, path_from, limit_from, choice_from}
-use Rattle.fsrm_model.specs.Spelling.{IsNamed, WritesPath, WritesLimit, WritesType, QuotaOption, PathIs, LimitIs, TypeIs, SpellsOption, SpellsOptions, path_option, limit_option, type_option}
+use Rattle.fsrm_model.specs.Spelling.{IsNamed, WritesPath, WritesLimit, WritesType, WritesStatus, QuotaOption, PathIs, LimitIs, TypeIs, StatusIs, SpellsOption, SpellsOptions, path_option, limit_option, type_option, status_option}
 use Rattle.fsrm_model.specs.Words.{Word}
 use Rattle.fsrm_model.proofs.PathLaws.{path_writes, path_reads}
 use Rattle.fsrm_model.proofs.ReadLaws.{then_ok, both_ok}
-use Rattle.fsrm_model.proofs.ValueLaws.{name_same, named_no_colon, colon_parts, colon_before, colon_after, colon_there, known_ok, limit_writes, limit_reads, type_writes, type_reads}
+use Rattle.fsrm_model.proofs.ValueLaws.{name_same, named_no_colon, colon_parts, colon_before, colon_after, colon_there, known_ok, limit_writes, limit_reads, type_writes, type_reads, status_writes, status_reads}
 use Rattle.fsrm_model.proofs.WordLaws.{texts}
 
 abbrev Options : Type 0
@@ -19,13 +22,14 @@ Options = List QuotaOption
 
 -- the options that are given
 abbrev pub option_list : Given → List QuotaOption
-option_list given = path_option given.path ++ (limit_option given.limit ++ type_option given.enforce)
+option_list given = path_option given.path ++ (limit_option given.limit ++ (type_option given.enforce ++ status_option given.enabled))
 
-pub given_same : (a b : Given) → a.path ≡ b.path → a.limit ≡ b.limit → a.enforce ≡ b.enforce → a ≡ b
-given_same a b path limit enforce =
-    ap (λ (p : Option (List (List ℕ))). record { path = p; limit = a.limit; enforce = a.enforce }) path
-    ∙ ap (λ (l : Option ℕ). record { path = b.path; limit = l; enforce = a.enforce }) limit
-    ∙ ap (λ (t : Option Bool). record { path = b.path; limit = b.limit; enforce = t }) enforce
+pub given_same : (a b : Given) → a.path ≡ b.path → a.limit ≡ b.limit → a.enforce ≡ b.enforce → a.enabled ≡ b.enabled → a ≡ b
+given_same a b path limit enforce enabled =
+    ap (λ (p : Option (List (List ℕ))). record { path = p; limit = a.limit; enforce = a.enforce; enabled = a.enabled }) path
+    ∙ ap (λ (l : Option ℕ). record { path = b.path; limit = l; enforce = a.enforce; enabled = a.enabled }) limit
+    ∙ ap (λ (t : Option Bool). record { path = b.path; limit = b.limit; enforce = t; enabled = a.enabled }) enforce
+    ∙ ap (λ (e : Option Bool). record { path = b.path; limit = b.limit; enforce = b.enforce; enabled = e }) enabled
 
 -- which option a word names
 if_some : {A : Type 0} (test : Bool) (o : Option A) (x : A) → (if test then o else None) ≡ Some x → (test ≡ true) × (o ≡ Some x)
@@ -72,6 +76,7 @@ key_plain : (key : Key) → list_any is_colon (key_name key) ≡ false
 key_plain ThePath = refl
 key_plain TheLimit = refl
 key_plain TheType = refl
+key_plain TheStatus = refl
 
 key_read : (keys : List Key) (text : List ℕ) (key : Key) (name value : List ℕ) → text ≡ name ++ 58 ∷ value → IsNamed (key_name key) name → Takes keys key → (key_of keys text ≡ Some key) × (after_first is_colon text ≡ value)
 key_read keys text key name value e named takes =
@@ -110,34 +115,41 @@ once_ok column (Some y) r new h = absurd (cc h)
 once_from : {X : Type 0} (column : ℕ) (old : Option X) (r : Read X) (x : X) → old ≡ None → r ≡ Ok x → once column old r ≡ Ok (Some x)
 once_from {X} column old r x e f = ap (λ (o : Option X). once column o r) e ∙ ap (λ (r : Read X). r >>= λ x. Ok (Some x)) f
 
+-- four lists, parted before the last one
+three_and : {X : Type 0} (a b c d : List X) → (a ++ (b ++ c)) ++ d ≡ a ++ (b ++ (c ++ d))
+three_and a b c d = append_assoc a (b ++ c) d ∙ ap (λ xs. a ++ xs) (append_assoc b c d)
+
 -- the options that words spell behind those that were given
 record Left (words : List (List ℕ)) (old new : Given) : Type 0 where
   more : Given
   path : Adds old.path more.path new.path
   limit : Adds old.limit more.limit new.limit
   enforce : Adds old.enforce more.enforce new.enforce
+  enabled : Adds old.enabled more.enabled new.enabled
   spelled : SpellsOptions words (option_list more)
 
 path_left : (word : List ℕ) (words : List (List ℕ)) (old new : Given) (x : List (List ℕ)) → old.path ≡ None → SpellsOption word (PathIs x) → Left words (record old { path = Some x }) new → Left (word ∷ words) old new
 path_left word words old new x free s left =
-    let rest = limit_option left.more.limit ++ type_option left.more.enforce in
+    let rest = limit_option left.more.limit ++ (type_option left.more.enforce ++ status_option left.more.enabled) in
     record {
       more = record left.more { path = Some x };
       path = subst (λ (o : Option (List (List ℕ))). Adds o (Some x) new.path) (sym free) (sym left.path.1);
       limit = left.limit;
       enforce = left.enforce;
+      enabled = left.enabled;
       spelled = ([], rest, PathIs x, refl, s, subst (SpellsOptions words) (ap (λ (o : Option (List (List ℕ))). path_option o ++ rest) left.path.0) left.spelled);
     }
 
 limit_left : (word : List ℕ) (words : List (List ℕ)) (old new : Given) (x : ℕ) → old.limit ≡ None → SpellsOption word (LimitIs x) → Left words (record old { limit = Some x }) new → Left (word ∷ words) old new
 limit_left word words old new x free s left =
     let front = path_option left.more.path in
-    let rest = type_option left.more.enforce in
+    let rest = type_option left.more.enforce ++ status_option left.more.enabled in
     record {
       more = record left.more { limit = Some x };
       path = left.path;
       limit = subst (λ (o : Option ℕ). Adds o (Some x) new.limit) (sym free) (sym left.limit.1);
       enforce = left.enforce;
+      enabled = left.enabled;
       spelled = (front, rest, LimitIs x, refl, s, subst (SpellsOptions words) (ap (λ (o : Option ℕ). front ++ (limit_option o ++ rest)) left.limit.0) left.spelled);
     }
 
@@ -145,18 +157,41 @@ type_left : (word : List ℕ) (words : List (List ℕ)) (old new : Given) (x : B
 type_left word words old new x free s left =
     let path = path_option left.more.path in
     let limit = limit_option left.more.limit in
+    let rest = status_option left.more.enabled in
     record {
       more = record left.more { enforce = Some x };
       path = left.path;
       limit = left.limit;
       enforce = subst (λ (o : Option Bool). Adds o (Some x) new.enforce) (sym free) (sym left.enforce.1);
+      enabled = left.enabled;
       spelled = (
         path ++ limit,
-        [],
+        rest,
         TypeIs x,
-        sym (append_assoc path limit (TypeIs x ∷ [])),
+        sym (append_assoc path limit (TypeIs x ∷ rest)),
         s,
-        subst (SpellsOptions words) (ap (λ (o : Option Bool). path ++ (limit ++ type_option o)) left.enforce.0 ∙ sym (append_assoc path limit [])) left.spelled,
+        subst (SpellsOptions words) (ap (λ (o : Option Bool). path ++ (limit ++ (type_option o ++ rest))) left.enforce.0 ∙ sym (append_assoc path limit rest)) left.spelled,
+      );
+    }
+
+status_left : (word : List ℕ) (words : List (List ℕ)) (old new : Given) (x : Bool) → old.enabled ≡ None → SpellsOption word (StatusIs x) → Left words (record old { enabled = Some x }) new → Left (word ∷ words) old new
+status_left word words old new x free s left =
+    let path = path_option left.more.path in
+    let limit = limit_option left.more.limit in
+    let enforce = type_option left.more.enforce in
+    record {
+      more = record left.more { enabled = Some x };
+      path = left.path;
+      limit = left.limit;
+      enforce = left.enforce;
+      enabled = subst (λ (o : Option Bool). Adds o (Some x) new.enabled) (sym free) (sym left.enabled.1);
+      spelled = (
+        path ++ (limit ++ enforce),
+        [],
+        StatusIs x,
+        sym (three_and path limit enforce (StatusIs x ∷ [])),
+        s,
+        subst (SpellsOptions words) (ap (λ (o : Option Bool). path ++ (limit ++ (enforce ++ status_option o))) left.enabled.0 ∙ sym (three_and path limit enforce [])) left.spelled,
       );
     }
 
@@ -185,12 +220,20 @@ word_left TheType word words column old next new names h left =
     type_left word words old new one.0 one.1
     (names.name, names.value, names.text_is, names.named, subst (λ (v : List ℕ). WritesType v one.0) names.value_is writes)
     (subst (λ (g : Given). Left words g new) same left)
+word_left TheStatus word words column old next new names h left =
+    let read = both_ok (once column old.enabled (choice_from (codes "enabled") (codes "disabled") column (after_first is_colon word))) (λ enabled. Ok (record old { enabled = enabled })) next h in
+    let one = once_ok column old.enabled (choice_from (codes "enabled") (codes "disabled") column (after_first is_colon word)) read.0 read.1 in
+    let writes = status_writes column (after_first is_colon word) one.0 one.2 in
+    let same : next ≡ record old { enabled = Some one.0 } = sym (ap (λ (o : Option Bool). record old { enabled = o }) one.3 ∙ cc read.2) in
+    status_left word words old new one.0 one.1
+    (names.name, names.value, names.text_is, names.named, subst (λ (v : List ℕ). WritesStatus v one.0) names.value_is writes)
+    (subst (λ (g : Given). Left words g new) same left)
 
 -- words that are read as options spell them
 options_spell : (keys : List Key) (words : List Word) (old new : Given) → options keys words old ≡ Ok new → Left (texts words) old new
 options_spell keys [] old new h =
     let same : old ≡ new = cc h in
-    subst (λ (g : Given). Left [] old g) same (record { more = nothing; path = adds_none old.path; limit = adds_none old.limit; enforce = adds_none old.enforce; spelled = refl })
+    subst (λ (g : Given). Left [] old g) same (record { more = nothing; path = adds_none old.path; limit = adds_none old.limit; enforce = adds_none old.enforce; enabled = adds_none old.enabled; spelled = refl })
 options_spell keys (word ∷ words) old new h =
     let value = λ (key : Key). with_value key word.column (after_first is_colon word.text) old in
     let key = both_ok (known (BadLine word.column) (key_of keys word.text)) (λ key. value key >>= λ more. options keys words more) new h in
@@ -200,80 +243,110 @@ options_spell keys (word ∷ words) old new h =
     next.1 (options_spell keys words next.0 new next.2)
 
 -- taking one option out of a list
-abbrev is_path_option : QuotaOption → Bool
-is_path_option (PathIs path) = true
-is_path_option (LimitIs limit) = false
-is_path_option (TypeIs enforce) = false
+abbrev is_of : Key → QuotaOption → Bool
+is_of ThePath (PathIs path) = true
+is_of TheLimit (LimitIs limit) = true
+is_of TheType (TypeIs enforce) = true
+is_of TheStatus (StatusIs enabled) = true
+is_of key option = false
 
-nothing_has : {A : Type 0} (before after : List A) (x : A) → [] ≡ before ++ x ∷ after → ⊥
-nothing_has [] after x e = cc e
-nothing_has (b ∷ before) after x e = cc e
+abbrev Without : Key → Options → Type 0
+Without key options = list_any (is_of key) options ≡ false
 
-type_no_path : (t : Option Bool) (before after : Options) (x : List (List ℕ)) → type_option t ≡ before ++ PathIs x ∷ after → ⊥
-type_no_path None before after x e = nothing_has before after (PathIs x) e
-type_no_path (Some t) [] after x e = cc e
-type_no_path (Some t) (b ∷ before) after x e = nothing_has before after (PathIs x) (cc e)
+without_both : (key : Key) (a b : Options) → Without key a → Without key b → Without key (a ++ b)
+without_both key a b h k = list_any-append (is_of key) a b ∙ rw h k
 
-limit_no_path : (l : Option ℕ) (t : Option Bool) (before after : Options) (x : List (List ℕ)) → limit_option l ++ type_option t ≡ before ++ PathIs x ∷ after → ⊥
-limit_no_path None t before after x e = type_no_path t before after x e
-limit_no_path (Some l) t [] after x e = cc e
-limit_no_path (Some l) t (b ∷ before) after x e = type_no_path t before after x (cc e)
+path_other : (key : Key) (p : Option (List (List ℕ))) → ((x : List (List ℕ)) → is_of key (PathIs x) ≡ false) → Without key (path_option p)
+path_other key None h = refl
+path_other key (Some x) h = rw (h x) refl
 
-path_taken : (p : Option (List (List ℕ))) (l : Option ℕ) (t : Option Bool) (before after : Options) (x : List (List ℕ)) → path_option p ++ (limit_option l ++ type_option t) ≡ before ++ PathIs x ∷ after → (p ≡ Some x) × (limit_option l ++ type_option t ≡ before ++ after)
-path_taken None l t before after x e = absurd (limit_no_path l t before after x e)
-path_taken (Some p) l t [] after x e = (cc e, cc e)
-path_taken (Some p) l t (b ∷ before) after x e = absurd (limit_no_path l t before after x (cc e))
+limit_other : (key : Key) (l : Option ℕ) → ((x : ℕ) → is_of key (LimitIs x) ≡ false) → Without key (limit_option l)
+limit_other key None h = refl
+limit_other key (Some x) h = rw (h x) refl
 
-type_no_limit : (t : Option Bool) (before after : Options) (x : ℕ) → type_option t ≡ before ++ LimitIs x ∷ after → ⊥
-type_no_limit None before after x e = nothing_has before after (LimitIs x) e
-type_no_limit (Some t) [] after x e = cc e
-type_no_limit (Some t) (b ∷ before) after x e = nothing_has before after (LimitIs x) (cc e)
+type_other : (key : Key) (t : Option Bool) → ((x : Bool) → is_of key (TypeIs x) ≡ false) → Without key (type_option t)
+type_other key None h = refl
+type_other key (Some x) h = rw (h x) refl
 
-limit_first : (l : Option ℕ) (t : Option Bool) (before after : Options) (x : ℕ) → limit_option l ++ type_option t ≡ before ++ LimitIs x ∷ after → (l ≡ Some x) × (type_option t ≡ before ++ after)
-limit_first None t before after x e = absurd (type_no_limit t before after x e)
-limit_first (Some l) t [] after x e = (cc e, cc e)
-limit_first (Some l) t (b ∷ before) after x e = absurd (type_no_limit t before after x (cc e))
+status_other : (key : Key) (e : Option Bool) → ((x : Bool) → is_of key (StatusIs x) ≡ false) → Without key (status_option e)
+status_other key None h = refl
+status_other key (Some x) h = rw (h x) refl
 
-limit_taken : (p : Option (List (List ℕ))) (l : Option ℕ) (t : Option Bool) (before after : Options) (x : ℕ) → path_option p ++ (limit_option l ++ type_option t) ≡ before ++ LimitIs x ∷ after → (l ≡ Some x) × (path_option p ++ type_option t ≡ before ++ after)
-limit_taken None l t before after x e = limit_first l t before after x e
-limit_taken (Some p) l t [] after x e = absurd (cc e)
-limit_taken (Some p) l t (b ∷ before) after x e =
-    let first : PathIs p ≡ b = cc e in
-    let rest = limit_first l t before after x (cc e) in
-    (rest.0, ap (λ (os : Options). PathIs p ∷ os) rest.1 ∙ ap (λ (o : QuotaOption). o ∷ (before ++ after)) first)
+-- an option is in no list without its key
+not_there : (key : Key) (options before after : Options) (x : QuotaOption) → Without key options → is_of key x ≡ true → options ≡ before ++ x ∷ after → ⊥
+not_there key options before after x none is e =
+    let there : list_any (is_of key) (before ++ x ∷ after) ≡ true = list_any-append (is_of key) before (x ∷ after) ∙ rw is (or-true (list_any (is_of key) before)) in
+    true≢false (sym there ∙ ap (list_any (is_of key)) (sym e) ∙ none)
 
-type_last : (t : Option Bool) (before after : Options) (x : Bool) → type_option t ≡ before ++ TypeIs x ∷ after → (t ≡ Some x) × ([] ≡ before ++ after)
-type_last None before after x e = absurd (nothing_has before after (TypeIs x) e)
-type_last (Some t) [] after x e = (cc e, cc e)
-type_last (Some t) (b ∷ before) after x e = absurd (nothing_has before after (TypeIs x) (cc e))
+-- and where there is one with the key, it is that one
+one_taken : (key : Key) (front rest before after : Options) (y x : QuotaOption) → Without key front → Without key rest → is_of key x ≡ true → front ++ y ∷ rest ≡ before ++ x ∷ after → (y ≡ x) × (front ++ rest ≡ before ++ after)
+one_taken key [] rest [] after y x first last is e = (cc e, cc e)
+one_taken key [] rest (b ∷ before) after y x first last is e = absurd (not_there key rest before after x last is (cc e))
+one_taken key (f ∷ front) rest [] after y x first last is e =
+    let same : f ≡ x = cc e in
+    absurd (true≢false (sym is ∙ ap (is_of key) (sym same) ∙ (or_parts (is_of key f) (list_any (is_of key) front) first).0))
+one_taken key (f ∷ front) rest (b ∷ before) after y x first last is e =
+    let same : f ≡ b = cc e in
+    let more = one_taken key front rest before after y x (or_parts (is_of key f) (list_any (is_of key) front) first).1 last is (cc e) in
+    (more.0, ap (λ (os : Options). f ∷ os) more.1 ∙ ap (λ (o : QuotaOption). o ∷ (before ++ after)) same)
 
-type_second : (l : Option ℕ) (t : Option Bool) (before after : Options) (x : Bool) → limit_option l ++ type_option t ≡ before ++ TypeIs x ∷ after → (t ≡ Some x) × (limit_option l ++ [] ≡ before ++ after)
-type_second None t before after x e = type_last t before after x e
-type_second (Some l) t [] after x e = absurd (cc e)
-type_second (Some l) t (b ∷ before) after x e =
-    let first : LimitIs l ≡ b = cc e in
-    let rest = type_last t before after x (cc e) in
-    (rest.0, ap (λ (os : Options). LimitIs l ∷ os) rest.1 ∙ ap (λ (o : QuotaOption). o ∷ (before ++ after)) first)
+-- an option that may be left out stands between others
+record MayStand {A : Type 0} (make : A → QuotaOption) (list : Option A → Options) : Type 0 where
+  none : list None ≡ []
+  one : (x : A) → list (Some x) ≡ make x ∷ []
+  same : (x y : A) → make x ≡ make y → x ≡ y
 
-type_taken : (p : Option (List (List ℕ))) (l : Option ℕ) (t : Option Bool) (before after : Options) (x : Bool) → path_option p ++ (limit_option l ++ type_option t) ≡ before ++ TypeIs x ∷ after → (t ≡ Some x) × (path_option p ++ (limit_option l ++ []) ≡ before ++ after)
-type_taken None l t before after x e = type_second l t before after x e
-type_taken (Some p) l t [] after x e = absurd (cc e)
-type_taken (Some p) l t (b ∷ before) after x e =
-    let first : PathIs p ≡ b = cc e in
-    let rest = type_second l t before after x (cc e) in
-    (rest.0, ap (λ (os : Options). PathIs p ∷ os) rest.1 ∙ ap (λ (o : QuotaOption). o ∷ (before ++ after)) first)
+taken : {A : Type 0} (key : Key) (make : A → QuotaOption) (list : Option A → Options) → MayStand make list → (o : Option A) (front rest before after : Options) (x : A) → Without key front → Without key rest → is_of key (make x) ≡ true → front ++ (list o ++ rest) ≡ before ++ make x ∷ after → (o ≡ Some x) × (front ++ rest ≡ before ++ after)
+taken key make list may None front rest before after x first last is e =
+    absurd (not_there key (front ++ rest) before after (make x) (without_both key front rest first last) is (ap (λ (os : Options). front ++ (os ++ rest)) (sym may.none) ∙ e))
+taken {A} key make list may (Some y) front rest before after x first last is e =
+    let one = one_taken key front rest before after (make y) (make x) first last is (ap (λ (os : Options). front ++ (os ++ rest)) (sym (may.one y)) ∙ e) in
+    (ap (λ (z : A). Some z) (may.same y x one.0), one.1)
 
-none_left : (p : Option (List (List ℕ))) (l : Option ℕ) (t : Option Bool) → path_option p ++ (limit_option l ++ type_option t) ≡ [] → (p ≡ None) × (l ≡ None) × (t ≡ None)
-none_left None None None e = (refl, refl, refl)
-none_left None None (Some t) e = absurd (cc e)
-none_left None (Some l) t e = absurd (cc e)
-none_left (Some p) l t e = absurd (cc e)
+path_taken : (p : Option (List (List ℕ))) (l : Option ℕ) (t e : Option Bool) (before after : Options) (x : List (List ℕ)) → path_option p ++ (limit_option l ++ (type_option t ++ status_option e)) ≡ before ++ PathIs x ∷ after → (p ≡ Some x) × (limit_option l ++ (type_option t ++ status_option e) ≡ before ++ after)
+path_taken p l t e before after x h =
+    let states = without_both ThePath (type_option t) (status_option e) (type_other ThePath t (λ x. refl)) (status_other ThePath e (λ x. refl)) in
+    let rest = without_both ThePath (limit_option l) (type_option t ++ status_option e) (limit_other ThePath l (λ x. refl)) states in
+    taken ThePath (λ x. PathIs x) path_option (record { none = refl; one = λ x. refl; same = λ x y e. cc e }) p [] (limit_option l ++ (type_option t ++ status_option e)) before after x refl rest refl h
+
+limit_taken : (p : Option (List (List ℕ))) (l : Option ℕ) (t e : Option Bool) (before after : Options) (x : ℕ) → path_option p ++ (limit_option l ++ (type_option t ++ status_option e)) ≡ before ++ LimitIs x ∷ after → (l ≡ Some x) × (path_option p ++ (type_option t ++ status_option e) ≡ before ++ after)
+limit_taken p l t e before after x h =
+    let front = path_other TheLimit p (λ x. refl) in
+    let rest = without_both TheLimit (type_option t) (status_option e) (type_other TheLimit t (λ x. refl)) (status_other TheLimit e (λ x. refl)) in
+    taken TheLimit (λ x. LimitIs x) limit_option (record { none = refl; one = λ x. refl; same = λ x y e. cc e }) l (path_option p) (type_option t ++ status_option e) before after x front rest refl h
+
+type_taken : (p : Option (List (List ℕ))) (l : Option ℕ) (t e : Option Bool) (before after : Options) (x : Bool) → path_option p ++ (limit_option l ++ (type_option t ++ status_option e)) ≡ before ++ TypeIs x ∷ after → (t ≡ Some x) × (path_option p ++ (limit_option l ++ status_option e) ≡ before ++ after)
+type_taken p l t e before after x h =
+    let path = path_option p in
+    let limit = limit_option l in
+    let front = without_both TheType path limit (path_other TheType p (λ x. refl)) (limit_other TheType l (λ x. refl)) in
+    let one = taken TheType (λ x. TypeIs x) type_option (record { none = refl; one = λ x. refl; same = λ x y e. cc e }) t (path ++ limit) (status_option e) before after x front (status_other TheType e (λ x. refl)) refl (append_assoc path limit (type_option t ++ status_option e) ∙ h) in
+    (one.0, sym (append_assoc path limit (status_option e)) ∙ one.1)
+
+status_taken : (p : Option (List (List ℕ))) (l : Option ℕ) (t e : Option Bool) (before after : Options) (x : Bool) → path_option p ++ (limit_option l ++ (type_option t ++ status_option e)) ≡ before ++ StatusIs x ∷ after → (e ≡ Some x) × (path_option p ++ (limit_option l ++ (type_option t ++ [])) ≡ before ++ after)
+status_taken p l t e before after x h =
+    let path = path_option p in
+    let limit = limit_option l in
+    let enforce = type_option t in
+    let states = without_both TheStatus limit enforce (limit_other TheStatus l (λ x. refl)) (type_other TheStatus t (λ x. refl)) in
+    let front = without_both TheStatus path (limit ++ enforce) (path_other TheStatus p (λ x. refl)) states in
+    let whole = ap (λ (os : Options). (path ++ (limit ++ enforce)) ++ os) (append-nil (status_option e)) ∙ three_and path limit enforce (status_option e) ∙ h in
+    let one = taken TheStatus (λ x. StatusIs x) status_option (record { none = refl; one = λ x. refl; same = λ x y e. cc e }) e (path ++ (limit ++ enforce)) [] before after x front refl refl whole in
+    (one.0, sym (three_and path limit enforce []) ∙ one.1)
+
+none_left : (p : Option (List (List ℕ))) (l : Option ℕ) (t e : Option Bool) → path_option p ++ (limit_option l ++ (type_option t ++ status_option e)) ≡ [] → (p ≡ None) × (l ≡ None) × (t ≡ None) × (e ≡ None)
+none_left None None None None h = (refl, refl, refl, refl)
+none_left None None None (Some e) h = absurd (cc h)
+none_left None None (Some t) e h = absurd (cc h)
+none_left None (Some l) t e h = absurd (cc h)
+none_left (Some p) l t e h = absurd (cc h)
 
 -- a command takes each option that is there
 pub record TakesGiven (keys : List Key) (given : Given) : Type 0 where
   pub path : (x : List (List ℕ)) → given.path ≡ Some x → Takes keys ThePath
   pub limit : (x : ℕ) → given.limit ≡ Some x → Takes keys TheLimit
   pub enforce : (x : Bool) → given.enforce ≡ Some x → Takes keys TheType
+  pub enabled : (x : Bool) → given.enabled ≡ Some x → Takes keys TheStatus
 
 -- words that spell options behind those that were given, for a command that takes them
 record Fits (keys : List Key) (words : List (List ℕ)) (old more new : Given) : Type 0 where
@@ -281,6 +354,7 @@ record Fits (keys : List Key) (words : List (List ℕ)) (old more new : Given) :
   path : Adds old.path more.path new.path
   limit : Adds old.limit more.limit new.limit
   enforce : Adds old.enforce more.enforce new.enforce
+  enabled : Adds old.enabled more.enabled new.enabled
   spelled : SpellsOptions words (option_list more)
 
 -- a word is read, and then those behind it
@@ -291,37 +365,39 @@ word_reads keys word words key value old next new named read more =
     ∙ then_ok (with_value key word.column value old) next (λ more. options keys words more) read
     ∙ more
 
-option_reads : (option : QuotaOption) (keys : List Key) (word : Word) (words : List Word) (old more new : Given) (before after : Options) → TakesGiven keys more → Adds old.path more.path new.path → Adds old.limit more.limit new.limit → Adds old.enforce more.enforce new.enforce → option_list more ≡ before ++ option ∷ after → SpellsOption word.text option → SpellsOptions (texts words) (before ++ after) → ((next rest : Given) → Fits keys (texts words) next rest new → options keys words next ≡ Ok new) → options keys (word ∷ words) old ≡ Ok new
-option_reads (PathIs x) keys word words old more new before after takes path limit enforce e s rest go =
-    let taken = path_taken more.path more.limit more.enforce before after x e in
+option_reads : (option : QuotaOption) (keys : List Key) (word : Word) (words : List Word) (old more new : Given) (before after : Options) → TakesGiven keys more → Adds old.path more.path new.path → Adds old.limit more.limit new.limit → Adds old.enforce more.enforce new.enforce → Adds old.enabled more.enabled new.enabled → option_list more ≡ before ++ option ∷ after → SpellsOption word.text option → SpellsOptions (texts words) (before ++ after) → ((next rest : Given) → Fits keys (texts words) next rest new → options keys words next ≡ Ok new) → options keys (word ∷ words) old ≡ Ok new
+option_reads (PathIs x) keys word words old more new before after takes path limit enforce enabled e s rest go =
+    let taken = path_taken more.path more.limit more.enforce more.enabled before after x e in
     let adds = adds_some old.path x new.path (subst (λ (o : Option (List (List ℕ))). Adds old.path o new.path) taken.0 path) in
     let next : Given = record old { path = Some x } in
     let once_read = once_from word.column old.path (path_from s.1) x adds.0 (path_reads s.1 x s.4) in
     word_reads keys word words ThePath s.1 old next new (key_read keys word.text ThePath s.0 s.1 s.2 s.3 (takes.path x taken.0))
     (then_ok (once word.column old.path (path_from s.1)) (Some x) (λ path. Ok (record old { path = path })) once_read)
     (go next (record more { path = None }) (record {
-      takes = record { path = λ y f. absurd (cc f); limit = takes.limit; enforce = takes.enforce };
+      takes = record { path = λ y f. absurd (cc f); limit = takes.limit; enforce = takes.enforce; enabled = takes.enabled };
       path = (refl, sym adds.1);
       limit = limit;
       enforce = enforce;
+      enabled = enabled;
       spelled = subst (SpellsOptions (texts words)) (sym taken.1) rest;
     }))
-option_reads (LimitIs x) keys word words old more new before after takes path limit enforce e s rest go =
-    let taken = limit_taken more.path more.limit more.enforce before after x e in
+option_reads (LimitIs x) keys word words old more new before after takes path limit enforce enabled e s rest go =
+    let taken = limit_taken more.path more.limit more.enforce more.enabled before after x e in
     let adds = adds_some old.limit x new.limit (subst (λ (o : Option ℕ). Adds old.limit o new.limit) taken.0 limit) in
     let next : Given = record old { limit = Some x } in
     let once_read = once_from word.column old.limit (limit_from word.column s.1) x adds.0 (limit_reads word.column s.1 x s.4) in
     word_reads keys word words TheLimit s.1 old next new (key_read keys word.text TheLimit s.0 s.1 s.2 s.3 (takes.limit x taken.0))
     (then_ok (once word.column old.limit (limit_from word.column s.1)) (Some x) (λ limit. Ok (record old { limit = limit })) once_read)
     (go next (record more { limit = None }) (record {
-      takes = record { path = takes.path; limit = λ y f. absurd (cc f); enforce = takes.enforce };
+      takes = record { path = takes.path; limit = λ y f. absurd (cc f); enforce = takes.enforce; enabled = takes.enabled };
       path = path;
       limit = (refl, sym adds.1);
       enforce = enforce;
+      enabled = enabled;
       spelled = subst (SpellsOptions (texts words)) (sym taken.1) rest;
     }))
-option_reads (TypeIs x) keys word words old more new before after takes path limit enforce e s rest go =
-    let taken = type_taken more.path more.limit more.enforce before after x e in
+option_reads (TypeIs x) keys word words old more new before after takes path limit enforce enabled e s rest go =
+    let taken = type_taken more.path more.limit more.enforce more.enabled before after x e in
     let adds = adds_some old.enforce x new.enforce (subst (λ (o : Option Bool). Adds old.enforce o new.enforce) taken.0 enforce) in
     let next : Given = record old { enforce = Some x } in
     let choice = choice_from (codes "hard") (codes "soft") word.column s.1 in
@@ -329,41 +405,61 @@ option_reads (TypeIs x) keys word words old more new before after takes path lim
     word_reads keys word words TheType s.1 old next new (key_read keys word.text TheType s.0 s.1 s.2 s.3 (takes.enforce x taken.0))
     (then_ok (once word.column old.enforce choice) (Some x) (λ enforce. Ok (record old { enforce = enforce })) once_read)
     (go next (record more { enforce = None }) (record {
-      takes = record { path = takes.path; limit = takes.limit; enforce = λ y f. absurd (cc f) };
+      takes = record { path = takes.path; limit = takes.limit; enforce = λ y f. absurd (cc f); enabled = takes.enabled };
       path = path;
       limit = limit;
       enforce = (refl, sym adds.1);
+      enabled = enabled;
+      spelled = subst (SpellsOptions (texts words)) (sym taken.1) rest;
+    }))
+option_reads (StatusIs x) keys word words old more new before after takes path limit enforce enabled e s rest go =
+    let taken = status_taken more.path more.limit more.enforce more.enabled before after x e in
+    let adds = adds_some old.enabled x new.enabled (subst (λ (o : Option Bool). Adds old.enabled o new.enabled) taken.0 enabled) in
+    let next : Given = record old { enabled = Some x } in
+    let choice = choice_from (codes "enabled") (codes "disabled") word.column s.1 in
+    let once_read = once_from word.column old.enabled choice x adds.0 (status_reads word.column s.1 x s.4) in
+    word_reads keys word words TheStatus s.1 old next new (key_read keys word.text TheStatus s.0 s.1 s.2 s.3 (takes.enabled x taken.0))
+    (then_ok (once word.column old.enabled choice) (Some x) (λ enabled. Ok (record old { enabled = enabled })) once_read)
+    (go next (record more { enabled = None }) (record {
+      takes = record { path = takes.path; limit = takes.limit; enforce = takes.enforce; enabled = λ y f. absurd (cc f) };
+      path = path;
+      limit = limit;
+      enforce = enforce;
+      enabled = (refl, sym adds.1);
       spelled = subst (SpellsOptions (texts words)) (sym taken.1) rest;
     }))
 
 options_read : (keys : List Key) (words : List Word) (old more new : Given) → Fits keys (texts words) old more new → options keys words old ≡ Ok new
 options_read keys [] old more new fits =
-    let none = none_left more.path more.limit more.enforce fits.spelled in
+    let none = none_left more.path more.limit more.enforce more.enabled fits.spelled in
     let path = adds_same old.path new.path (subst (λ (o : Option (List (List ℕ))). Adds old.path o new.path) none.0 fits.path) in
     let limit = adds_same old.limit new.limit (subst (λ (o : Option ℕ). Adds old.limit o new.limit) none.1 fits.limit) in
     let enforce = adds_same old.enforce new.enforce (subst (λ (o : Option Bool). Adds old.enforce o new.enforce) none.2 fits.enforce) in
-    ap (λ (g : Given). Ok g) (given_same old new path limit enforce)
+    let enabled = adds_same old.enabled new.enabled (subst (λ (o : Option Bool). Adds old.enabled o new.enabled) none.3 fits.enabled) in
+    ap (λ (g : Given). Ok g) (given_same old new path limit enforce enabled)
 options_read keys (word ∷ words) old more new fits =
     let s = fits.spelled in
-    option_reads s.2 keys word words old more new s.0 s.1 fits.takes fits.path fits.limit fits.enforce s.3 s.4 s.5 (λ next rest. options_read keys words next rest new)
+    option_reads s.2 keys word words old more new s.0 s.1 fits.takes fits.path fits.limit fits.enforce fits.enabled s.3 s.4 s.5 (λ next rest. options_read keys words next rest new)
 
 -- words are read as the options that they spell
 pub options_spelled : (keys : List Key) (words : List Word) (given : Given) → options keys words nothing ≡ Ok given → SpellsOptions (texts words) (option_list given)
 options_spelled keys words given h =
     let left = options_spell keys words nothing given h in
-    subst (SpellsOptions (texts words)) (ap option_list (given_same left.more given left.path left.limit left.enforce)) left.spelled
+    subst (SpellsOptions (texts words)) (ap option_list (given_same left.more given left.path left.limit left.enforce left.enabled)) left.spelled
 
 pub options_from : (keys : List Key) (words : List Word) (given : Given) → TakesGiven keys given → SpellsOptions (texts words) (option_list given) → options keys words nothing ≡ Ok given
 options_from keys words given takes s =
-    options_read keys words nothing given given (record { takes = takes; path = refl; limit = refl; enforce = refl; spelled = s })
+    options_read keys words nothing given given (record { takes = takes; path = refl; limit = refl; enforce = refl; enabled = refl; spelled = s })
 
 -- a command that takes a path alone
 one_key : (test : Bool) (key : Key) → (if test then Some ThePath else None) ≡ Some key → ThePath ≡ key
 one_key true key h = cc h
 one_key false key h = absurd (cc h)
 
-pub path_alone : (words : List Word) (old new : Given) → options (ThePath ∷ []) words old ≡ Ok new → (new.limit ≡ old.limit) × (new.enforce ≡ old.enforce)
-path_alone [] old new h = let same : old ≡ new = cc h in (sym (ap (λ (g : Given). g.limit) same), sym (ap (λ (g : Given). g.enforce) same))
+pub path_alone : (words : List Word) (old new : Given) → options (ThePath ∷ []) words old ≡ Ok new → (new.limit ≡ old.limit) × (new.enforce ≡ old.enforce) × (new.enabled ≡ old.enabled)
+path_alone [] old new h =
+    let same : old ≡ new = cc h in
+    (sym (ap (λ (g : Given). g.limit) same), sym (ap (λ (g : Given). g.enforce) same), sym (ap (λ (g : Given). g.enabled) same))
 path_alone (word ∷ words) old new h =
     let value = λ (key : Key). with_value key word.column (after_first is_colon word.text) old in
     let key = both_ok (known (BadLine word.column) (key_of (ThePath ∷ []) word.text)) (λ key. value key >>= λ more. options (ThePath ∷ []) words more) new h in
@@ -373,12 +469,15 @@ path_alone (word ∷ words) old new h =
     let read : value ThePath ≡ Ok next.0 = ap value path ∙ next.1 in
     let made = both_ok (once word.column old.path (path_from (after_first is_colon word.text))) (λ path. Ok (record old { path = path })) next.0 read in
     let same : record old { path = made.0 } ≡ next.0 = cc made.2 in
-    let rest = path_alone words next.0 new next.2 in
-    (rest.0 ∙ sym (ap (λ (g : Given). g.limit) same), rest.1 ∙ sym (ap (λ (g : Given). g.enforce) same))
+    let rest = path_alone words next.0 new next.2 in (
+      rest.0 ∙ sym (ap (λ (g : Given). g.limit) same),
+      rest.1 ∙ sym (ap (λ (g : Given). g.enforce) same),
+      rest.2 ∙ sym (ap (λ (g : Given). g.enabled) same),
+    )
 
 -- what the commands take
-pub takes_all : (given : Given) → TakesGiven (ThePath ∷ TheLimit ∷ TheType ∷ []) given
-takes_all given = record { path = λ x e. refl; limit = λ x e. refl; enforce = λ x e. refl }
+pub takes_all : (given : Given) → TakesGiven (ThePath ∷ TheLimit ∷ TheType ∷ TheStatus ∷ []) given
+takes_all given = record { path = λ x e. refl; limit = λ x e. refl; enforce = λ x e. refl; enabled = λ x e. refl }
 
-pub takes_path : (path : Option (List (List ℕ))) → TakesGiven (ThePath ∷ []) (record { path = path; limit = None; enforce = None })
-takes_path path = record { path = λ x e. refl; limit = λ x e. absurd (cc e); enforce = λ x e. absurd (cc e) }
+pub takes_path : (path : Option (List (List ℕ))) → TakesGiven (ThePath ∷ []) (record { path = path; limit = None; enforce = None; enabled = None })
+takes_path path = record { path = λ x e. refl; limit = λ x e. absurd (cc e); enforce = λ x e. absurd (cc e); enabled = λ x e. absurd (cc e) }

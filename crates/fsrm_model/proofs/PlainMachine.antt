@@ -1,9 +1,9 @@
 -- What a line does that spells a command, and one that spells none.
-use Rattle.std.proofs.Common.{◌≡◌, ℕ, List, ◌∷◌, refl, ap}
+use Rattle.std.proofs.Common.{◌≡◌, ℕ, List, ◌∷◌, refl, sym, ◌∙◌, ap}
 use Rattle.std.specs.Prelude.{Option, Some, None, sum_by, nat_lt}
 use Rattle.fsrm_model.specs.declared.command.Command.{Command}
 use Rattle.fsrm_model.specs.declared.command.Deed.{Deed}
-use Rattle.fsrm_model.specs.declared.command.Deed.TheVariants.{File, Usage, QuotaAdd, QuotaModify, QuotaDelete, QuotaResetpeak, QuotaList}
+use Rattle.fsrm_model.specs.declared.command.Deed.TheVariants.{File, Usage, Step, QuotaAdd, QuotaModify, QuotaDelete, QuotaScan, QuotaResetpeak, QuotaList}
 use Rattle.fsrm_model.specs.declared.command.Outcome.TheVariants.{Refused, Sum}
 use Rattle.fsrm_model.specs.declared.command.Refusal.{Refusal}
 use Rattle.fsrm_model.specs.declared.command.Refusal.TheVariants.{ClockBack}
@@ -17,6 +17,7 @@ use Rattle.fsrm_model.specs.Script.{without_cr, replied, replied_to, line_cost, 
 use Rattle.fsrm_model.specs.Space.{space}
 use Rattle.fsrm_model.specs.Step.{step, work, decided}
 use Rattle.fsrm_model.specs.Tree.{usage, under}
+use Rattle.fsrm_model.proofs.Ends.{outcome_kept}
 
 -- what a line does goes by what it reads as
 pub replied-read : (K : Capacity) (R : Rows) (n : ℕ) (line : List ℕ) (r : Option (Read Command)) → read_line (without_cr line) ≡ r → replied K R n line ≡ replied_to K R n r
@@ -30,13 +31,15 @@ refused_same K R c refusal h = by c.deed (first ((ClockBack when nat_lt c.moment
     by : (deed : Deed) (o : Option Refusal) → (decided K R c.moment (work K R c.moment deed) o).outcome ≡ Refused refusal → (decided K R c.moment (work K R c.moment deed) o).rows ≡ R
     by deed (Some r) e = refl
     by (File op) None e = cc
-    by (Usage path) None e = refl
-    by (QuotaAdd path limit enforce) None e = cc
-    by (QuotaModify path limit enforce) None e = cc
+    by (Usage path) None e = cc
+    by (Step n) None e = let same = sym (outcome_kept K R c.moment (work K R c.moment (Step n))) ∙ e in absurd (cc same)
+    by (QuotaAdd path limit enforce enabled) None e = cc
+    by (QuotaModify path limit enforce enabled) None e = cc
     by (QuotaDelete path) None e = cc
+    by (QuotaScan path) None e = let same = sym (outcome_kept K R c.moment (work K R c.moment (QuotaScan path))) ∙ e in absurd (cc same)
     by (QuotaResetpeak path) None e = cc
-    by (QuotaList None) None e = refl
-    by (QuotaList (Some path)) None e = refl
+    by (QuotaList None) None e = cc
+    by (QuotaList (Some path)) None e = cc
 
 pub sum_fresh : (K : Capacity) (R : Rows) (c : Command) (folder bytes : ℕ) → (step K R c).outcome ≡ Sum folder bytes → bytes ≡ sum_by (space K) (under R.nodes folder)
 sum_fresh K R c folder bytes h = by c.deed (first ((ClockBack when nat_lt c.moment R.last_moment) ∷ (work K R c.moment c.deed).checks)) h
@@ -48,9 +51,11 @@ sum_fresh K R c folder bytes h = by c.deed (first ((ClockBack when nat_lt c.mome
     by deed (Some r) e = cc
     by (File op) None e = cc
     by (Usage path) None e = same (target R.nodes path) e
-    by (QuotaAdd path limit enforce) None e = cc
-    by (QuotaModify path limit enforce) None e = cc
+    by (Step n) None e = let same = sym (outcome_kept K R c.moment (work K R c.moment (Step n))) ∙ e in absurd (cc same)
+    by (QuotaAdd path limit enforce enabled) None e = cc
+    by (QuotaModify path limit enforce enabled) None e = cc
     by (QuotaDelete path) None e = cc
+    by (QuotaScan path) None e = let same = sym (outcome_kept K R c.moment (work K R c.moment (QuotaScan path))) ∙ e in absurd (cc same)
     by (QuotaResetpeak path) None e = cc
     by (QuotaList None) None e = cc
     by (QuotaList (Some path)) None e = cc

@@ -14,6 +14,7 @@ use Rattle.fsrm_model.specs.Check.{◌when◌, first}
 use Rattle.fsrm_model.specs.Exceeds.{IsOver, Exceeds}
 use Rattle.fsrm_model.specs.Keyed.{is_ascending}
 use Rattle.fsrm_model.specs.Quota.{folder_of, quota_of, counts, refuses, over, deepest, exceeded, peaked, peaks}
+use Rattle.fsrm_model.specs.QuotaStates.{followed}
 use Rattle.fsrm_model.specs.Step.{step, work, decided, lasted, unlasting, unacted}
 use Rattle.fsrm_model.specs.Tree.{usage, is_under}
 use Rattle.fsrm_model.specs.Work.{Work}
@@ -120,8 +121,8 @@ pub peaks_last : (K : Capacity) (R : Rows) (c : Command) (folder : ℕ) (quota :
 peaks_last K R c folder quota lasting there counting =
     by (work K R c.moment c.deed) (first ((ClockBack when nat_lt c.moment R.last_moment) ∷ (work K R c.moment c.deed).checks)) lasting there
   where
-    ended : (w : Work) (lasts : Bool) → (if lasts then lasted K (unacted w.effect) c.moment w.outcome else unlasting w.effect w.outcome).lasting ≡ true → quota_of (if lasts then lasted K (unacted w.effect) c.moment w.outcome else unlasting w.effect w.outcome).rows folder ≡ Some quota → usage K (if lasts then lasted K (unacted w.effect) c.moment w.outcome else unlasting w.effect w.outcome).rows.nodes folder ≤ quota.peak
-    ended w true l t = peaks_raised K w.effect c.moment folder quota t counting
+    ended : (w : Work) (lasts : Bool) → (if lasts then lasted K (unacted (followed R w.effect)) c.moment w.outcome else unlasting (followed R w.effect) w.outcome).lasting ≡ true → quota_of (if lasts then lasted K (unacted (followed R w.effect)) c.moment w.outcome else unlasting (followed R w.effect) w.outcome).rows folder ≡ Some quota → usage K (if lasts then lasted K (unacted (followed R w.effect)) c.moment w.outcome else unlasting (followed R w.effect) w.outcome).rows.nodes folder ≤ quota.peak
+    ended w true l t = peaks_raised K (followed R w.effect) c.moment folder quota t counting
     ended w false l t = absurd (clash false l refl)
 
     by : (w : Work) (o : Option Refusal) → (decided K R c.moment w o).lasting ≡ true → quota_of (decided K R c.moment w o).rows folder ≡ Some quota → usage K (decided K R c.moment w o).rows.nodes folder ≤ quota.peak

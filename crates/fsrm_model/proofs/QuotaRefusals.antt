@@ -1,15 +1,16 @@
 -- Which commands are refused for a quota.
-use Rattle.std.proofs.Common.{◌≡◌, ℕ, Bool, true, false, not, ◌==◌, ◌&&◌, List, [], ◌∷◌, length, refl, ap, ◌∙◌, Some, None, Option}
-use Rattle.std.specs.Prelude.{nat_lt, is_some, is_none}
+use Rattle.std.proofs.Common.{◌≡◌, ℕ, Bool, true, false, not, ◌==◌, ◌&&◌, List, [], ◌∷◌, length, refl, sym, ap, ◌∙◌, Some, None, Option}
+use Rattle.std.specs.Prelude.{nat_lt, is_some, is_none, if◌then◌else◌}
 use Rattle.fsrm_model.specs.declared.command.Command.{Command}
 use Rattle.fsrm_model.specs.declared.command.Deed.{Deed}
-use Rattle.fsrm_model.specs.declared.command.Deed.TheVariants.{File, Usage, QuotaAdd, QuotaModify, QuotaDelete, QuotaResetpeak, QuotaList}
+use Rattle.fsrm_model.specs.declared.command.Deed.TheVariants.{File, Usage, Step, QuotaAdd, QuotaModify, QuotaDelete, QuotaScan, QuotaResetpeak, QuotaList}
 use Rattle.fsrm_model.specs.declared.command.FileOp.{FileOp}
 use Rattle.fsrm_model.specs.declared.command.FileOp.TheVariants.{Mkdir, Create, Resize, Touch, Move, Remove}
 use Rattle.fsrm_model.specs.declared.command.Outcome.TheVariants.{Refused}
 use Rattle.fsrm_model.specs.declared.command.Refusal.{Refusal}
-use Rattle.fsrm_model.specs.declared.command.Refusal.TheVariants.{ClockBack, PathNotFound, NotFound, AlreadyExists, InvalidMove, NotEmpty, VolumeFull, NamesFull, TableFull, QuotaExceeded, NeedsScan}
+use Rattle.fsrm_model.specs.declared.command.Refusal.TheVariants.{ClockBack, PathNotFound, NotFound, AlreadyExists, InvalidMove, NotEmpty, VolumeFull, NamesFull, TableFull, QuotaExceeded, InvalidCombination, NothingToScan}
 use Rattle.fsrm_model.specs.declared.row.Capacity.{Capacity}
+use Rattle.fsrm_model.specs.declared.row.QuotaState.TheVariants.{Disabled}
 use Rattle.fsrm_model.specs.declared.row.Rows.{Rows}
 use Rattle.fsrm_model.specs.Check.{Check, ◌when◌, first, volume_full, names_full}
 use Rattle.fsrm_model.specs.Exceeds.{Exceeds}
@@ -19,11 +20,14 @@ use Rattle.fsrm_model.specs.Keyed.{with_row}
 use Rattle.fsrm_model.specs.Leads.{is_root, leads, leads_to_folder, leads_to_file, leads_to_other}
 use Rattle.fsrm_model.specs.Limits.{most_quotas}
 use Rattle.fsrm_model.specs.Quota.{folder_of, quota_of, exceeded}
+use Rattle.fsrm_model.specs.QuotaStates.{is_disabled, state_of, start}
 use Rattle.fsrm_model.specs.QuotaWork.{quota_checks, new_quota, add_work}
+use Rattle.fsrm_model.specs.ScanWork.{scan_work}
 use Rattle.fsrm_model.specs.Step.{step, work, decided}
 use Rattle.fsrm_model.specs.Text.{is_bare}
 use Rattle.fsrm_model.specs.Tree.{children, folder_part, is_under, name_bytes}
 use Rattle.fsrm_model.specs.Valid.{IsStore}
+use Rattle.fsrm_model.proofs.Ends.{outcome_kept}
 use Rattle.fsrm_model.proofs.TestLaws.{clash}
 use Rattle.fsrm_model.proofs.QuotaLaws.{exceeded_is}
 
@@ -91,26 +95,35 @@ past_quota R path x full h =
     let a = past PathNotFound (not (leads_to_folder R.nodes path)) ((NotFound when there) ∷ []) x refl full h in
     cc (past NotFound there [] x refl full a)
 
-past_add : (R : Rows) (moment : ℕ) (path : List (List ℕ)) (limit : ℕ) (enforce : Bool) (x : Refusal) → is_bare x ≡ false → first (add_work R moment path limit enforce).checks ≡ Some x → ⊥
-past_add R moment path limit enforce x full h =
+past_add : (R : Rows) (moment : ℕ) (path : List (List ℕ)) (limit : ℕ) (enforce enabled : Bool) (x : Refusal) → is_bare x ≡ false → first (add_work R moment path limit enforce enabled).checks ≡ Some x → ⊥
+past_add R moment path limit enforce enabled x full h =
     let folder = target R.nodes path in
-    let quotas = with_row folder_of (new_quota folder limit enforce moment) R.quotas in
-    let scan = not (length (children R.nodes folder) == 0) in
-    let c4 = (NeedsScan when scan) ∷ [] in
-    let c3 = (TableFull when nat_lt most_quotas (length quotas)) ∷ c4 in
+    let state = if enabled then start R.nodes folder else Disabled in
+    let quotas = with_row folder_of (new_quota folder limit enforce state moment) R.quotas in
+    let c3 = (TableFull when nat_lt most_quotas (length quotas)) ∷ [] in
     let a1 = past PathNotFound (not (leads_to_folder R.nodes path)) ((AlreadyExists when is_some (quota_of R folder)) ∷ c3) x refl full h in
     let a2 = past AlreadyExists (is_some (quota_of R folder)) c3 x refl full a1 in
-    let a3 = past TableFull (nat_lt most_quotas (length quotas)) c4 x refl full a2 in
-    cc (past NeedsScan scan [] x refl full a3)
+    cc (past TableFull (nat_lt most_quotas (length quotas)) [] x refl full a2)
+
+past_scan : (R : Rows) (path : List (List ℕ)) (x : Refusal) → is_bare x ≡ false → first (scan_work R path).checks ≡ Some x → ⊥
+past_scan R path x full h =
+    let there = is_none (quota_of R (target R.nodes path)) in
+    let disabled = is_disabled (state_of R (target R.nodes path)) in
+    let last = (InvalidCombination when disabled) ∷ [] in
+    let a1 = past PathNotFound (not (leads_to_folder R.nodes path)) ((NotFound when there) ∷ last) x refl full h in
+    let a2 = past NotFound there last x refl full a1 in
+    cc (past InvalidCombination disabled [] x refl full a2)
 
 -- what refuses a command is the first of its checks that holds
 refused_by : (K : Capacity) (R : Rows) (moment : ℕ) (deed : Deed) (o : Option Refusal) (x : Refusal) → (decided K R moment (work K R moment deed) o).outcome ≡ Refused x → o ≡ Some x
 refused_by K R moment deed (Some r) x e = let same : r ≡ x = cc e in ap (λ (r : Refusal). Some r) same
 refused_by K R moment (File op) None x e = absurd (cc e)
 refused_by K R moment (Usage path) None x e = absurd (cc e)
-refused_by K R moment (QuotaAdd path limit enforce) None x e = absurd (cc e)
-refused_by K R moment (QuotaModify path limit enforce) None x e = absurd (cc e)
+refused_by K R moment (Step n) None x e = let same = sym (outcome_kept K R moment (work K R moment (Step n))) ∙ e in absurd (cc same)
+refused_by K R moment (QuotaAdd path limit enforce enabled) None x e = absurd (cc e)
+refused_by K R moment (QuotaModify path limit enforce enabled) None x e = absurd (cc e)
 refused_by K R moment (QuotaDelete path) None x e = absurd (cc e)
+refused_by K R moment (QuotaScan path) None x e = let same = sym (outcome_kept K R moment (work K R moment (QuotaScan path))) ∙ e in absurd (cc same)
 refused_by K R moment (QuotaResetpeak path) None x e = absurd (cc e)
 refused_by K R moment (QuotaList None) None x e = absurd (cc e)
 refused_by K R moment (QuotaList (Some path)) None x e = absurd (cc e)
@@ -131,9 +144,11 @@ quota_refuses K R c folder would limit store h =
     by : (deed : Deed) → first (work K R c.moment deed).checks ≡ Some (QuotaExceeded folder would limit) → RefusedOp K R c.moment deed folder would limit
     by (File op) e = (op, refl, exceeded_is K R (plain R.nodes op c.moment) folder would limit store.quotas.ascending (op_exceeded K R op c.moment (QuotaExceeded folder would limit) refl e))
     by (Usage path) e = absurd (cc (past PathNotFound (not (leads R.nodes path)) [] (QuotaExceeded folder would limit) refl refl e))
-    by (QuotaAdd path given enforce) e = absurd (past_add R c.moment path given enforce (QuotaExceeded folder would limit) refl e)
-    by (QuotaModify path given enforce) e = absurd (past_quota R path (QuotaExceeded folder would limit) refl e)
+    by (Step n) e = absurd (cc (past NothingToScan (length R.queue == 0) [] (QuotaExceeded folder would limit) refl refl e))
+    by (QuotaAdd path given enforce enabled) e = absurd (past_add R c.moment path given enforce enabled (QuotaExceeded folder would limit) refl e)
+    by (QuotaModify path given enforce enabled) e = absurd (past_quota R path (QuotaExceeded folder would limit) refl e)
     by (QuotaDelete path) e = absurd (past_quota R path (QuotaExceeded folder would limit) refl e)
+    by (QuotaScan path) e = absurd (past_scan R path (QuotaExceeded folder would limit) refl e)
     by (QuotaResetpeak path) e = absurd (past_quota R path (QuotaExceeded folder would limit) refl e)
     by (QuotaList None) e = absurd (cc e)
     by (QuotaList (Some path)) e = absurd (past_quota R path (QuotaExceeded folder would limit) refl e)

@@ -1,4 +1,4 @@
--- Limits and types are read exactly as they are written, and a word is parted at its first colon.
+-- Limits, types and states are read exactly as they are written, and a word is parted at its first colon.
 use Rattle.std.proofs.Common.{◌≡◌, ℕ, ◌+◌, ◌<◌, List, [], ◌∷◌, ◌++◌, Bool, true, false, length, take, drop, refl, sym, ◌∙◌, ap, subst, inl, inr, arith}
 use Rattle.std.specs.Prelude.{Ok, Err, ◌*◌, ◌||◌, nat_lt, codes, Option, Some, None, find, option_map, if◌then◌else◌}
 use Rattle.std.specs.Char.{is_ascii_digit, to_ascii_lowercase}
@@ -17,7 +17,7 @@ use Rattle.fsrm_model.specs.declared.command.Refusal.TheVariants.{BadLine, Inval
 use Rattle.fsrm_model.specs.Options.{is_colon}
 use Rattle.fsrm_model.specs.Quota.{is_limit}
 use Rattle.fsrm_model.specs.Reading.{Read, ◌>>=◌, guarded, known, units, bytes_of, digits_of, limit_from, choice_from}
-use Rattle.fsrm_model.specs.Spelling.{IsNamed, WritesLimit, WritesType}
+use Rattle.fsrm_model.specs.Spelling.{IsNamed, WritesLimit, WritesType, WritesStatus}
 use Rattle.fsrm_model.proofs.ReadLaws.{both_ok, guarded_ok, guarded_then, guarded_from}
 
 -- two spellings of one name
@@ -152,17 +152,39 @@ limit_reads column text limit w =
     ∙ ap in_limits w.value
     ∙ guarded_from (is_limit limit) InvalidLimit limit w.legal
 
+-- one of two words
+abbrev Picks : List ℕ → List ℕ → List ℕ → Bool → Type 0
+Picks first second text true = IsNamed first text
+Picks first second text false = IsNamed second text
+
+choice_writes : (first second : List ℕ) (column : ℕ) (text : List ℕ) (pick : Bool) → choice_from first second column text ≡ Ok pick → Picks first second text pick
+choice_writes first second column text pick h = by (str_eq_ignore_ascii_case first text) (str_eq_ignore_ascii_case second text) refl refl h
+  where
+    by : (one other : Bool) → str_eq_ignore_ascii_case first text ≡ one → str_eq_ignore_ascii_case second text ≡ other → (if one then Ok true else if other then Ok false else Err (BadLine column)) ≡ Ok pick → Picks first second text pick
+    by true other is_first is_second e = let same : true ≡ pick = cc e in subst (Picks first second text) same is_first
+    by false true is_first is_second e = let same : false ≡ pick = cc e in subst (Picks first second text) same is_second
+    by false false is_first is_second e = absurd (cc e)
+
+choice_reads : (first second : List ℕ) → str_eq_ignore_ascii_case first second ≡ false → (column : ℕ) (text : List ℕ) (pick : Bool) → Picks first second text pick → choice_from first second column text ≡ Ok pick
+choice_reads first second apart column text true w = ap (λ (one : Bool). if one then Ok true else if str_eq_ignore_ascii_case second text then Ok false else Err (BadLine column)) w
+choice_reads first second apart column text false w =
+    ap (λ (one : Bool). if one then Ok true else if str_eq_ignore_ascii_case second text then Ok false else Err (BadLine column)) (name_same first second text w ∙ apart)
+    ∙ ap (λ (other : Bool). if other then Ok false else Err (BadLine column)) w
+
 -- a type
 pub type_writes : (column : ℕ) (text : List ℕ) (enforce : Bool) → choice_from (codes "hard") (codes "soft") column text ≡ Ok enforce → WritesType text enforce
-type_writes column text enforce h = by (str_eq_ignore_ascii_case (codes "hard") text) (str_eq_ignore_ascii_case (codes "soft") text) refl refl h
-  where
-    by : (hard soft : Bool) → str_eq_ignore_ascii_case (codes "hard") text ≡ hard → str_eq_ignore_ascii_case (codes "soft") text ≡ soft → (if hard then Ok true else if soft then Ok false else Err (BadLine column)) ≡ Ok enforce → WritesType text enforce
-    by true soft first second e = let same : true ≡ enforce = cc e in subst (WritesType text) same first
-    by false true first second e = let same : false ≡ enforce = cc e in subst (WritesType text) same second
-    by false false first second e = absurd (cc e)
+type_writes column text true h = choice_writes (codes "hard") (codes "soft") column text true h
+type_writes column text false h = choice_writes (codes "hard") (codes "soft") column text false h
 
 pub type_reads : (column : ℕ) (text : List ℕ) (enforce : Bool) → WritesType text enforce → choice_from (codes "hard") (codes "soft") column text ≡ Ok enforce
-type_reads column text true w = ap (λ (hard : Bool). if hard then Ok true else if str_eq_ignore_ascii_case (codes "soft") text then Ok false else Err (BadLine column)) w
-type_reads column text false w =
-    ap (λ (hard : Bool). if hard then Ok true else if str_eq_ignore_ascii_case (codes "soft") text then Ok false else Err (BadLine column)) (name_same (codes "hard") (codes "soft") text w)
-    ∙ ap (λ (soft : Bool). if soft then Ok false else Err (BadLine column)) w
+type_reads column text true w = choice_reads (codes "hard") (codes "soft") refl column text true w
+type_reads column text false w = choice_reads (codes "hard") (codes "soft") refl column text false w
+
+-- a status
+pub status_writes : (column : ℕ) (text : List ℕ) (enabled : Bool) → choice_from (codes "enabled") (codes "disabled") column text ≡ Ok enabled → WritesStatus text enabled
+status_writes column text true h = choice_writes (codes "enabled") (codes "disabled") column text true h
+status_writes column text false h = choice_writes (codes "enabled") (codes "disabled") column text false h
+
+pub status_reads : (column : ℕ) (text : List ℕ) (enabled : Bool) → WritesStatus text enabled → choice_from (codes "enabled") (codes "disabled") column text ≡ Ok enabled
+status_reads column text true w = choice_reads (codes "enabled") (codes "disabled") refl column text true w
+status_reads column text false w = choice_reads (codes "enabled") (codes "disabled") refl column text false w

@@ -5,15 +5,17 @@ use Rattle.std.specs.Option.{option_map_or}
 use Rattle.fsrm_model.specs.declared.row.NodeRow.{NodeRow}
 use Rattle.fsrm_model.specs.declared.row.Rows.{Rows}
 use Rattle.fsrm_model.specs.declared.command.Deed.{Deed}
-use Rattle.fsrm_model.specs.declared.command.Deed.TheVariants.{File, Usage, QuotaAdd, QuotaModify, QuotaDelete, QuotaResetpeak, QuotaList}
+use Rattle.fsrm_model.specs.declared.command.Deed.TheVariants.{File, Usage, Step, QuotaAdd, QuotaModify, QuotaDelete, QuotaScan, QuotaResetpeak, QuotaList}
 use Rattle.fsrm_model.specs.declared.command.FileOp.{FileOp}
 use Rattle.fsrm_model.specs.declared.command.FileOp.TheVariants.{Mkdir, Create, Resize, Touch, Move, Remove}
 use Rattle.fsrm_model.specs.declared.command.Outcome.{Outcome}
 use Rattle.fsrm_model.specs.declared.command.Ask.{Ask}
 use Rattle.fsrm_model.specs.declared.command.Ask.TheVariants.{Quotas}
-use Rattle.fsrm_model.specs.declared.command.Outcome.TheVariants.{Done, Sum, Listing, Refused}
+use Rattle.fsrm_model.specs.declared.command.Outcome.TheVariants.{Done, Sum, Listing, Scanned, Refused}
 use Rattle.fsrm_model.specs.declared.command.Refusal.TheVariants.{QuotaExceeded}
-use Rattle.fsrm_model.specs.Tree.{under, path_of}
+use Rattle.fsrm_model.specs.Numbers.{without_numbers}
+use Rattle.fsrm_model.specs.Scan.{visits}
+use Rattle.fsrm_model.specs.Tree.{under, children, path_of}
 use Rattle.fsrm_model.specs.FileOps.{target}
 use Rattle.fsrm_model.specs.Leads.{leads, leads_to_folder}
 use Rattle.fsrm_model.specs.Text.{asked}
@@ -30,9 +32,11 @@ names_of_op (Remove path) = length path
 abbrev pub names_of : Deed → ℕ
 names_of (File op) = names_of_op op
 names_of (Usage path) = length path
-names_of (QuotaAdd path limit enforce) = length path
-names_of (QuotaModify path limit enforce) = length path
+names_of (Step n) = 0
+names_of (QuotaAdd path limit enforce enabled) = length path
+names_of (QuotaModify path limit enforce enabled) = length path
 names_of (QuotaDelete path) = length path
+names_of (QuotaScan path) = length path
 names_of (QuotaResetpeak path) = length path
 names_of (QuotaList path) = option_map_or length path 0
 
@@ -41,13 +45,22 @@ abbrev pub op_cost : List NodeRow → FileOp → ℕ
 op_cost nodes (Move from to) = if leads_to_folder nodes from then 8 * length (under nodes (target nodes from)) else 0
 op_cost nodes other = 0
 
+-- a folder that is visited is looked at with each of its children up to 3 times
+abbrev pub visit_cost : List NodeRow → ℕ → ℕ
+visit_cost nodes folder = 3 * (1 + length (children nodes folder))
+
+abbrev pub step_cost : Rows → ℕ → ℕ
+step_cost R n = sum_by (visit_cost R.nodes) (without_numbers (visits n R.nodes R.unvisited) R.unvisited)
+
 abbrev pub more_cost : List NodeRow → Deed → ℕ
 more_cost nodes (File op) = op_cost nodes op
 more_cost nodes (Usage path) = if leads nodes path then 4 * length (under nodes (target nodes path)) else 0
 more_cost nodes other = 0
 
--- up to 40 looks for each name of its paths, and 80 beside
+-- Up to 40 looks for each name of its paths, and 80 beside. A step of a scan has no path: up to 40, and what its
+-- visits take
 abbrev pub cost : Rows → Deed → ℕ
+cost R (Step n) = 40 + step_cost R n
 cost R deed = 40 * (names_of deed + 2) + more_cost R.nodes deed
 
 -- the looks at a path that is printed: up to 4 for the root and for each name
@@ -63,5 +76,6 @@ abbrev pub print_cost : Rows → Outcome → ℕ
 print_cost R (Done (Some screen)) = path_cost R.nodes screen
 print_cost R (Sum node bytes) = path_cost R.nodes node
 print_cost R (Listing ask) = list_cost R ask
+print_cost R (Scanned folder visited used) = path_cost R.nodes folder
 print_cost R (Refused (QuotaExceeded folder would limit)) = path_cost R.nodes folder
 print_cost R other = 0

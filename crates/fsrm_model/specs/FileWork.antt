@@ -1,17 +1,20 @@
 -- File operations and sums: their refusals in order, and what they do.
 use Rattle.std.specs.Prelude.{ℕ, ◌==◌, ◌&&◌, not, true, false, List, [], ◌∷◌, ◌++◌, length, None}
+use Rattle.std.specs.Option.{option_map_or}
 use Rattle.fsrm_model.specs.declared.row.Capacity.{Capacity}
-use Rattle.fsrm_model.specs.declared.row.QuotaRow.{QuotaRow}
+use Rattle.fsrm_model.specs.declared.row.NodeRow.{NodeRow}
 use Rattle.fsrm_model.specs.declared.row.Rows.{Rows}
 use Rattle.fsrm_model.specs.declared.command.FileOp.{FileOp}
 use Rattle.fsrm_model.specs.declared.command.FileOp.TheVariants.{Mkdir, Create, Resize, Touch, Move, Remove}
 use Rattle.fsrm_model.specs.declared.command.Refusal.TheVariants.{PathNotFound, AlreadyExists, NotEmpty, InvalidMove}
 use Rattle.fsrm_model.specs.declared.command.Outcome.TheVariants.{Done, Sum}
 use Rattle.fsrm_model.specs.Tree.{folder_part, usage, children, is_under}
-use Rattle.fsrm_model.specs.FileOps.{plain, target, target_folder}
+use Rattle.fsrm_model.specs.FileOps.{plain, new_node, target, target_folder}
 use Rattle.fsrm_model.specs.Check.{Check, ◌when◌, volume_full, names_full}
-use Rattle.fsrm_model.specs.Keyed.{without_row}
-use Rattle.fsrm_model.specs.Quota.{folder_of, exceeded}
+use Rattle.fsrm_model.specs.Numbers.{without_number}
+use Rattle.fsrm_model.specs.Quota.{exceeded}
+use Rattle.fsrm_model.specs.QuotaStates.{head, without_quota}
+use Rattle.fsrm_model.specs.Scan.{unvisited_with, unvisited_moved}
 use Rattle.fsrm_model.specs.Work.{Work, asks}
 use Rattle.fsrm_model.specs.Leads.{is_root, leads, leads_to_folder, leads_to_file, leads_to_other}
 
@@ -50,14 +53,28 @@ file_checks K R (Touch path) after = (PathNotFound when not (leads_to_file R.nod
 file_checks K R (Move from to) after = move_checks K R from to after
 file_checks K R (Remove path) after = remove_checks R path
 
--- the quotas that a file operation leaves: that of a folder goes with it
-abbrev pub quotas_after : Rows → FileOp → List QuotaRow
-quotas_after R (Remove path) = without_row folder_of (target R.nodes path) R.quotas
-quotas_after R other = R.quotas
+-- what is unvisited, in the scan of a folder, behind a file operation that leaves these nodes
+abbrev pub unvisited_in : Rows → List NodeRow → FileOp → ℕ → List ℕ
+unvisited_in R nodes (Mkdir path owner) scanned = unvisited_with (new_node R.nodes path true 0 owner 0) R.unvisited
+unvisited_in R nodes (Move from to) scanned =
+    unvisited_moved R.nodes nodes scanned (target R.nodes from) (target_folder R.nodes to) R.unvisited
+unvisited_in R nodes (Remove path) scanned = without_number (target R.nodes path) R.unvisited
+unvisited_in R nodes other scanned = R.unvisited
+
+-- the same of the active scan, where there is one
+abbrev pub unvisited_after : Rows → List NodeRow → FileOp → List ℕ
+unvisited_after R nodes op = option_map_or (unvisited_in R nodes op) (head R.queue) []
+
+-- the quota of a folder goes with it
+abbrev pub objects_after : FileOp → Rows → Rows → Rows
+objects_after (Remove path) R after = without_quota after (target R.nodes path)
+objects_after other R after = after
 
 -- the rows that a file operation leaves
 abbrev pub file_effect : Rows → FileOp → ℕ → Rows
-file_effect R op moment = record R { nodes = plain R.nodes op moment; quotas = quotas_after R op }
+file_effect R op moment =
+    let nodes = plain R.nodes op moment in
+    objects_after op R (record R { nodes = nodes; unvisited = unvisited_after R nodes op })
 
 -- a file operation lasts where it is accepted, and answers no more than that it was done
 abbrev pub file_work : Capacity → Rows → FileOp → ℕ → Work

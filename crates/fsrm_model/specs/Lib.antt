@@ -1,8 +1,8 @@
 pub mod Limits
 pub mod Keyed
+pub mod Numbers
 pub mod Order
 pub mod Name
-pub mod Numbers
 pub mod Space
 pub mod Tree
 pub mod Fresh
@@ -12,10 +12,13 @@ pub mod Valued
 pub mod Check
 pub mod Quota
 pub mod Exceeds
+pub mod Scan
+pub mod QuotaStates
 pub mod Work
 pub mod Leads
 pub mod FileWork
 pub mod QuotaWork
+pub mod ScanWork
 pub mod Step
 pub mod Named
 pub mod Cost
@@ -26,7 +29,6 @@ pub mod Words
 pub mod Options
 pub mod Line
 pub mod Spelling
-pub mod Scan
 pub mod Script
 pub mod WorkedRows
 pub mod Patterns

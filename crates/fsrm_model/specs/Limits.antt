@@ -42,3 +42,7 @@ greatest_limit = 2 ^ 60
 -- how many quotas there may be
 abbrev pub most_quotas : ℕ
 most_quotas = 4096
+
+-- how many visits one step of a scan may make
+abbrev pub most_visits : ℕ
+most_visits = 1000000

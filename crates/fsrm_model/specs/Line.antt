@@ -4,14 +4,14 @@ use Rattle.std.specs.Str.{str_eq_ignore_ascii_case, is_utf8}
 use Rattle.std.specs.Str.Lossy.{utf8_valid_len}
 use Rattle.fsrm_model.specs.declared.command.Command.{Command}
 use Rattle.fsrm_model.specs.declared.command.Deed.{Deed}
-use Rattle.fsrm_model.specs.declared.command.Deed.TheVariants.{File, Usage, QuotaAdd, QuotaModify, QuotaDelete, QuotaResetpeak, QuotaList}
+use Rattle.fsrm_model.specs.declared.command.Deed.TheVariants.{File, Usage, Step, QuotaAdd, QuotaModify, QuotaDelete, QuotaScan, QuotaResetpeak, QuotaList}
 use Rattle.fsrm_model.specs.declared.command.FileOp.TheVariants.{Mkdir, Create, Resize, Touch, Move, Remove}
 use Rattle.fsrm_model.specs.declared.command.Refusal.{Refusal}
 use Rattle.fsrm_model.specs.declared.command.Refusal.TheVariants.{BadLine, LineTooLong, InvalidPath, InvalidName, OutOfRange, InvalidLimit}
-use Rattle.fsrm_model.specs.Limits.{latest_moment, longest_line, longest_file, last_owner}
+use Rattle.fsrm_model.specs.Limits.{latest_moment, longest_line, longest_file, last_owner, most_visits}
 use Rattle.fsrm_model.specs.Reading.{Read, ◌>>=◌, number_from, path_from}
 use Rattle.fsrm_model.specs.Words.{Word, words, is_blank}
-use Rattle.fsrm_model.specs.Options.{ThePath, TheLimit, TheType, nothing, options, required}
+use Rattle.fsrm_model.specs.Options.{ThePath, TheLimit, TheType, TheStatus, nothing, options, required}
 
 -- the next word and those behind it. One that is missing is refused behind the line's end
 abbrev pub next_word : ℕ → List Word → Read (Word × List Word)
@@ -83,25 +83,36 @@ usage_words end given = do
   path ← path_word end given
   no_more path.1 (Usage path.0)
 
--- the options behind the names of each command on quotas. A quota is hard where its type isn't given
+abbrev pub step_words : ℕ → List Word → Read Deed
+step_words end given = do
+  visits ← number_word 1 most_visits end given
+  no_more visits.1 (Step visits.0)
+
+-- the options behind the names of each command on quotas. A quota is hard and enabled where nothing else is given
 abbrev pub quota_add_words : ℕ → List Word → Read Deed
 quota_add_words end words = do
-  given ← options (ThePath ∷ TheLimit ∷ TheType ∷ []) words nothing
+  given ← options (ThePath ∷ TheLimit ∷ TheType ∷ TheStatus ∷ []) words nothing
   path ← required end given.path
   limit ← required end given.limit
-  Ok (QuotaAdd path limit (unwrap_or given.enforce true))
+  Ok (QuotaAdd path limit (unwrap_or given.enforce true) (unwrap_or given.enabled true))
 
 abbrev pub quota_modify_words : ℕ → List Word → Read Deed
 quota_modify_words end words = do
-  given ← options (ThePath ∷ TheLimit ∷ TheType ∷ []) words nothing
+  given ← options (ThePath ∷ TheLimit ∷ TheType ∷ TheStatus ∷ []) words nothing
   path ← required end given.path
-  Ok (QuotaModify path given.limit given.enforce)
+  Ok (QuotaModify path given.limit given.enforce given.enabled)
 
 abbrev pub quota_delete_words : ℕ → List Word → Read Deed
 quota_delete_words end words = do
   given ← options (ThePath ∷ []) words nothing
   path ← required end given.path
   Ok (QuotaDelete path)
+
+abbrev pub quota_scan_words : ℕ → List Word → Read Deed
+quota_scan_words end words = do
+  given ← options (ThePath ∷ []) words nothing
+  path ← required end given.path
+  Ok (QuotaScan path)
 
 abbrev pub quota_resetpeak_words : ℕ → List Word → Read Deed
 quota_resetpeak_words end words = do
@@ -133,7 +144,7 @@ named_word table end given = do
 abbrev pub quota_table : Table
 quota_table =
     (codes "add", quota_add_words) ∷ (codes "modify", quota_modify_words) ∷ (codes "delete", quota_delete_words)
-    ∷ (codes "resetpeak", quota_resetpeak_words) ∷ (codes "list", quota_list_words) ∷ []
+    ∷ (codes "scan", quota_scan_words) ∷ (codes "resetpeak", quota_resetpeak_words) ∷ (codes "list", quota_list_words) ∷ []
 
 abbrev pub dirquota_table : Table
 dirquota_table = (codes "quota", named_word quota_table) ∷ []
@@ -142,7 +153,7 @@ abbrev pub command_table : Table
 command_table =
     (codes "mkdir", mkdir_words) ∷ (codes "create", create_words) ∷ (codes "resize", resize_words) ∷ (codes "touch", touch_words)
     ∷ (codes "move", move_words) ∷ (codes "remove", remove_words) ∷ (codes "usage", usage_words)
-    ∷ (codes "dirquota", named_word dirquota_table) ∷ []
+    ∷ (codes "step", step_words) ∷ (codes "dirquota", named_word dirquota_table) ∷ []
 
 -- the moment, the command's name, and its words
 abbrev pub command_of : ℕ → List Word → Read Command

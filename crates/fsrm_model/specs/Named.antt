@@ -2,7 +2,7 @@
 use Rattle.std.specs.Prelude.{◌≡◌, ℕ, true, Some, None}
 use Rattle.fsrm_model.specs.declared.command.Ask.TheVariants.{Quotas}
 use Rattle.fsrm_model.specs.declared.command.Outcome.{Outcome}
-use Rattle.fsrm_model.specs.declared.command.Outcome.TheVariants.{Done, Sum, Listing, Refused}
+use Rattle.fsrm_model.specs.declared.command.Outcome.TheVariants.{Done, Sum, Listing, Scanned, Refused}
 use Rattle.fsrm_model.specs.declared.command.Refusal.TheVariants.{QuotaExceeded}
 use Rattle.fsrm_model.specs.declared.row.Rows.{Rows}
 use Rattle.fsrm_model.specs.Keyed.{has_row}
@@ -18,5 +18,6 @@ IsNamed R (Done (Some screen)) = IsNode R screen
 IsNamed R (Sum node bytes) = IsNode R node
 IsNamed R (Listing (Quotas None)) = Unit {0}
 IsNamed R (Listing (Quotas (Some folder))) = has_row folder_of folder R.quotas ≡ true
+IsNamed R (Scanned folder visited used) = IsNode R folder
 IsNamed R (Refused (QuotaExceeded folder would limit)) = IsNode R folder
 IsNamed R (Refused other) = Unit {0}

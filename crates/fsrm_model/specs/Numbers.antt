@@ -1,5 +1,5 @@
 -- Sets of numbers, as lists that ascend.
-use Rattle.std.specs.Prelude.{◌≡◌, ℕ, ◌==◌, Bool, true, not, List, [], ◌∷◌, filter, if◌then◌else◌}
+use Rattle.std.specs.Prelude.{ℕ, ◌==◌, ◌&&◌, Bool, true, not, List, [], ◌∷◌, filter, if◌then◌else◌}
 use Rattle.std.specs.List.{list_any}
 use Rattle.fsrm_model.specs.Keyed.{is_ascending, with_row, without_row}
 
@@ -13,6 +13,11 @@ is_in members n = list_any (λ k. k == n) members
 -- whether the members ascend, each once
 abbrev pub is_set : List ℕ → Bool
 is_set members = is_ascending itself members
+
+-- whether numbers, in whatever order, stand each once
+abbrev pub each_once : List ℕ → Bool
+each_once [] = true
+each_once (n ∷ ns) = not (is_in ns n) && each_once ns
 
 -- with one number, and without one
 abbrev pub with_number : ℕ → List ℕ → List ℕ

@@ -11,21 +11,24 @@ pub data Key : Type 0 where
   ThePath : Key
   TheLimit : Key
   TheType : Key
+  TheStatus : Key
 
 -- its name, which is read without regard to the case of ASCII letters
 abbrev pub key_name : Key → List ℕ
 key_name ThePath = codes "/Path"
 key_name TheLimit = codes "/Limit"
 key_name TheType = codes "/Type"
+key_name TheStatus = codes "/Status"
 
 -- what was given
 pub record Given : Type 0 where
   pub path : Option (List (List ℕ))
   pub limit : Option ℕ
   pub enforce : Option Bool
+  pub enabled : Option Bool
 
 abbrev pub nothing : Given
-nothing = record { path = None; limit = None; enforce = None }
+nothing = record { path = None; limit = None; enforce = None; enabled = None }
 
 -- a value, where none was given before
 abbrev pub once : {X : Type 0} → ℕ → Option X → Read X → Read (Option X)
@@ -43,6 +46,9 @@ with_value TheLimit column value given = do
 with_value TheType column value given = do
   enforce ← once column given.enforce (choice_from (codes "hard") (codes "soft") column value)
   Ok (record given { enforce = enforce })
+with_value TheStatus column value given = do
+  enabled ← once column given.enabled (choice_from (codes "enabled") (codes "disabled") column value)
+  Ok (record given { enabled = enabled })
 
 abbrev pub is_colon : ℕ → Bool
 is_colon b = b == 58

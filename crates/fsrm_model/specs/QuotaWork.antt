@@ -1,18 +1,20 @@
 -- The commands on quotas: their refusals in order, and what they do.
-use Rattle.std.specs.Prelude.{ℕ, ◌==◌, Bool, true, false, not, is_some, is_none, List, [], ◌∷◌, length, Option, Some, None, unwrap_or, if◌then◌else◌}
+use Rattle.std.specs.Prelude.{ℕ, Bool, true, false, not, is_some, is_none, List, [], ◌∷◌, Option, Some, None, unwrap_or, if◌then◌else◌}
 use Rattle.fsrm_model.specs.declared.command.Ask.TheVariants.{Quotas}
 use Rattle.fsrm_model.specs.declared.command.Outcome.TheVariants.{Done, Listing}
-use Rattle.fsrm_model.specs.declared.command.Refusal.TheVariants.{PathNotFound, NotFound, AlreadyExists, NeedsScan}
+use Rattle.fsrm_model.specs.declared.command.Refusal.TheVariants.{PathNotFound, NotFound, AlreadyExists}
 use Rattle.fsrm_model.specs.declared.row.Capacity.{Capacity}
 use Rattle.fsrm_model.specs.declared.row.QuotaRow.{QuotaRow}
-use Rattle.fsrm_model.specs.declared.row.QuotaState.TheVariants.{Complete}
+use Rattle.fsrm_model.specs.declared.row.QuotaState.{QuotaState}
+use Rattle.fsrm_model.specs.declared.row.QuotaState.TheVariants.{Disabled}
 use Rattle.fsrm_model.specs.declared.row.Rows.{Rows}
 use Rattle.fsrm_model.specs.Check.{Check, ◌when◌, table_full}
 use Rattle.fsrm_model.specs.FileOps.{target}
-use Rattle.fsrm_model.specs.Keyed.{with_row, with_change, without_row}
+use Rattle.fsrm_model.specs.Keyed.{with_change}
 use Rattle.fsrm_model.specs.Leads.{leads_to_folder}
 use Rattle.fsrm_model.specs.Quota.{folder_of, quota_of, counts}
-use Rattle.fsrm_model.specs.Tree.{children, usage}
+use Rattle.fsrm_model.specs.QuotaStates.{start, state_after, with_quota, with_state, without_quota}
+use Rattle.fsrm_model.specs.Tree.{usage}
 use Rattle.fsrm_model.specs.Work.{Work, asks}
 
 -- the refusals of a command on a quota that is there
@@ -21,42 +23,42 @@ quota_checks R path =
     (PathNotFound when not (leads_to_folder R.nodes path)) ∷ (NotFound when is_none (quota_of R (target R.nodes path))) ∷ []
 
 -- a new quota, with peak 0 at the moment that it is made
-abbrev pub new_quota : ℕ → ℕ → Bool → ℕ → QuotaRow
-new_quota folder limit enforce moment =
+abbrev pub new_quota : ℕ → ℕ → Bool → QuotaState → ℕ → QuotaRow
+new_quota folder limit enforce state moment =
     record {
       folder = folder;
       limit = limit;
       enforce = enforce;
-      state = Complete;
+      state = state;
       thresholds = [];
       template = None;
       peak = 0;
       peak_at = moment;
     }
 
--- So far a folder that has a child gets no quota.
-abbrev pub add_work : Rows → ℕ → List (List ℕ) → ℕ → Bool → Work
-add_work R moment path limit enforce =
+abbrev pub add_work : Rows → ℕ → List (List ℕ) → ℕ → Bool → Bool → Work
+add_work R moment path limit enforce enabled =
     let folder = target R.nodes path in
-    let after = record R { quotas = with_row folder_of (new_quota folder limit enforce moment) R.quotas } in
+    let state = if enabled then start R.nodes folder else Disabled in
+    let after = with_quota R (new_quota folder limit enforce state moment) in
     asks
-    ((PathNotFound when not (leads_to_folder R.nodes path)) ∷ (AlreadyExists when is_some (quota_of R folder)) ∷ table_full after
-    ∷ (NeedsScan when not (length (children R.nodes folder) == 0)) ∷ [])
+    ((PathNotFound when not (leads_to_folder R.nodes path)) ∷ (AlreadyExists when is_some (quota_of R folder)) ∷ table_full after ∷ [])
     after (Done None) true
 
 -- a quota with another limit, or of another type, where these are given
 abbrev pub modified : Option ℕ → Option Bool → QuotaRow → QuotaRow
 modified limit enforce quota = record quota { limit = unwrap_or limit quota.limit; enforce = unwrap_or enforce quota.enforce }
 
-abbrev pub modify_work : Rows → List (List ℕ) → Option ℕ → Option Bool → Work
-modify_work R path limit enforce =
-    asks (quota_checks R path)
-    (record R { quotas = with_change folder_of (target R.nodes path) (modified limit enforce) R.quotas })
-    (Done None) true
+-- the limit first, then the type, then the status
+abbrev pub modify_work : Rows → List (List ℕ) → Option ℕ → Option Bool → Option Bool → Work
+modify_work R path limit enforce enabled =
+    let folder = target R.nodes path in
+    let changed = record R { quotas = with_change folder_of folder (modified limit enforce) R.quotas } in
+    asks (quota_checks R path) (with_state changed folder (state_after R folder enabled)) (Done None) true
 
 abbrev pub delete_work : Rows → List (List ℕ) → Work
 delete_work R path =
-    asks (quota_checks R path) (record R { quotas = without_row folder_of (target R.nodes path) R.quotas }) (Done None) true
+    asks (quota_checks R path) (without_quota R (target R.nodes path)) (Done None) true
 
 -- the peak is what is used now, where the quota counts, and else 0
 abbrev pub reset : Capacity → Rows → ℕ → QuotaRow → QuotaRow

@@ -6,10 +6,10 @@ use Rattle.std.specs.Str.{is_utf8, str_eq_ignore_ascii_case}
 use Rattle.std.specs.Str.Parse.{digits_value}
 use Rattle.fsrm_model.specs.declared.command.Command.{Command}
 use Rattle.fsrm_model.specs.declared.command.Deed.{Deed}
-use Rattle.fsrm_model.specs.declared.command.Deed.TheVariants.{File, Usage, QuotaAdd, QuotaModify, QuotaDelete, QuotaResetpeak, QuotaList}
+use Rattle.fsrm_model.specs.declared.command.Deed.TheVariants.{File, Usage, Step, QuotaAdd, QuotaModify, QuotaDelete, QuotaScan, QuotaResetpeak, QuotaList}
 use Rattle.fsrm_model.specs.declared.command.FileOp.{FileOp}
 use Rattle.fsrm_model.specs.declared.command.FileOp.TheVariants.{Mkdir, Create, Resize, Touch, Move, Remove}
-use Rattle.fsrm_model.specs.Limits.{latest_moment, longest_file, longest_line, last_owner}
+use Rattle.fsrm_model.specs.Limits.{latest_moment, longest_file, longest_line, last_owner, most_visits}
 use Rattle.fsrm_model.specs.Name.{is_name}
 use Rattle.fsrm_model.specs.Quota.{is_limit}
 use Rattle.fsrm_model.specs.Reading.{is_number, bytes_of}
@@ -94,17 +94,24 @@ abbrev pub WritesType : List ℕ → Bool → Type 0
 WritesType text true = IsNamed (codes "hard") text
 WritesType text false = IsNamed (codes "soft") text
 
+-- enabled, or disabled
+abbrev pub WritesStatus : List ℕ → Bool → Type 0
+WritesStatus text true = IsNamed (codes "enabled") text
+WritesStatus text false = IsNamed (codes "disabled") text
+
 -- an option of a command on quotas
 pub data QuotaOption : Type 0 where
   PathIs : (path : List (List ℕ)) → QuotaOption
   LimitIs : (limit : ℕ) → QuotaOption
   TypeIs : (enforce : Bool) → QuotaOption
+  StatusIs : (enabled : Bool) → QuotaOption
 
 -- a word is an option's name, a colon and its value
 abbrev pub SpellsOption : List ℕ → QuotaOption → Type 0
 SpellsOption word (PathIs path) = (name value : List ℕ) × (word ≡ name ++ 58 ∷ value) × IsNamed (codes "/Path") name × WritesPath value path
 SpellsOption word (LimitIs limit) = (name value : List ℕ) × (word ≡ name ++ 58 ∷ value) × IsNamed (codes "/Limit") name × WritesLimit value limit
 SpellsOption word (TypeIs enforce) = (name value : List ℕ) × (word ≡ name ++ 58 ∷ value) × IsNamed (codes "/Type") name × WritesType value enforce
+SpellsOption word (StatusIs enabled) = (name value : List ℕ) × (word ≡ name ++ 58 ∷ value) × IsNamed (codes "/Status") name × WritesStatus value enabled
 
 -- words are these options, in whatever order: the first word is one of them, and the other words are the others
 abbrev pub SpellsOptions : List (List ℕ) → List QuotaOption → Type 0
@@ -125,6 +132,10 @@ limit_option (Some limit) = LimitIs limit ∷ []
 abbrev pub type_option : Option Bool → List QuotaOption
 type_option None = []
 type_option (Some enforce) = TypeIs enforce ∷ []
+
+abbrev pub status_option : Option Bool → List QuotaOption
+status_option None = []
+status_option (Some enabled) = StatusIs enabled ∷ []
 
 -- words are the three names of a command on quotas, and these options
 abbrev pub SpellsQuota : List (List ℕ) → List ℕ → List QuotaOption → Type 0
@@ -149,12 +160,14 @@ SpellsOp words (Remove path) = (name a : List ℕ) × (words ≡ name ∷ a ∷ 
 abbrev pub SpellsDeed : List (List ℕ) → Deed → Type 0
 SpellsDeed words (File op) = SpellsOp words op
 SpellsDeed words (Usage path) = (name a : List ℕ) × (words ≡ name ∷ a ∷ []) × IsNamed (codes "usage") name × WritesPath a path
-SpellsDeed words (QuotaAdd path limit enforce) =
-    (given : Option Bool) × (unwrap_or given true ≡ enforce)
-    × SpellsQuota words (codes "add") (PathIs path ∷ LimitIs limit ∷ type_option given)
-SpellsDeed words (QuotaModify path limit enforce) =
-    SpellsQuota words (codes "modify") (PathIs path ∷ (limit_option limit ++ type_option enforce))
+SpellsDeed words (Step n) = (name a : List ℕ) × (words ≡ name ∷ a ∷ []) × IsNamed (codes "step") name × Writes 1 most_visits a n
+SpellsDeed words (QuotaAdd path limit enforce enabled) =
+    (type status : Option Bool) × (unwrap_or type true ≡ enforce) × (unwrap_or status true ≡ enabled)
+    × SpellsQuota words (codes "add") (PathIs path ∷ LimitIs limit ∷ (type_option type ++ status_option status))
+SpellsDeed words (QuotaModify path limit enforce enabled) =
+    SpellsQuota words (codes "modify") (PathIs path ∷ (limit_option limit ++ (type_option enforce ++ status_option enabled)))
 SpellsDeed words (QuotaDelete path) = SpellsQuota words (codes "delete") (PathIs path ∷ [])
+SpellsDeed words (QuotaScan path) = SpellsQuota words (codes "scan") (PathIs path ∷ [])
 SpellsDeed words (QuotaResetpeak path) = SpellsQuota words (codes "resetpeak") (PathIs path ∷ [])
 SpellsDeed words (QuotaList path) = SpellsQuota words (codes "list") (path_option path)
 

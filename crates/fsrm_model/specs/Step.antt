@@ -5,7 +5,7 @@ use Rattle.fsrm_model.specs.declared.row.Rows.{Rows}
 use Rattle.fsrm_model.specs.declared.command.Act.{Act}
 use Rattle.fsrm_model.specs.declared.command.Command.{Command}
 use Rattle.fsrm_model.specs.declared.command.Deed.{Deed}
-use Rattle.fsrm_model.specs.declared.command.Deed.TheVariants.{File, Usage, QuotaAdd, QuotaModify, QuotaDelete, QuotaResetpeak, QuotaList}
+use Rattle.fsrm_model.specs.declared.command.Deed.TheVariants.{File, Usage, Step, QuotaAdd, QuotaModify, QuotaDelete, QuotaScan, QuotaResetpeak, QuotaList}
 use Rattle.fsrm_model.specs.declared.command.Outcome.{Outcome}
 use Rattle.fsrm_model.specs.declared.command.Outcome.TheVariants.{Refused}
 use Rattle.fsrm_model.specs.declared.command.Refusal.{Refusal}
@@ -14,15 +14,19 @@ use Rattle.fsrm_model.specs.Check.{◌when◌, first}
 use Rattle.fsrm_model.specs.Work.{Work}
 use Rattle.fsrm_model.specs.Quota.{peaks}
 use Rattle.fsrm_model.specs.FileWork.{file_work, usage_work}
+use Rattle.fsrm_model.specs.QuotaStates.{followed}
 use Rattle.fsrm_model.specs.QuotaWork.{add_work, modify_work, delete_work, reset_work, list_work}
+use Rattle.fsrm_model.specs.ScanWork.{scan_work, step_work}
 
 -- what a command asks for, family by family
 abbrev pub work : Capacity → Rows → ℕ → Deed → Work
 work K R moment (File op) = file_work K R op moment
 work K R moment (Usage path) = usage_work K R path
-work K R moment (QuotaAdd path limit enforce) = add_work R moment path limit enforce
-work K R moment (QuotaModify path limit enforce) = modify_work R path limit enforce
+work K R moment (Step n) = step_work K R n
+work K R moment (QuotaAdd path limit enforce enabled) = add_work R moment path limit enforce enabled
+work K R moment (QuotaModify path limit enforce enabled) = modify_work R path limit enforce enabled
 work K R moment (QuotaDelete path) = delete_work R path
+work K R moment (QuotaScan path) = scan_work R path
 work K R moment (QuotaResetpeak path) = reset_work K R moment path
 work K R moment (QuotaList path) = list_work R path
 
@@ -60,14 +64,16 @@ unlasting R outcome = record { rows = R; outcome = outcome; lasting = false; act
 abbrev pub refused : Rows → Refusal → Stepped
 refused R refusal = unlasting R (Refused refusal)
 
--- a command that no check refuses
-abbrev pub accepted : Capacity → ℕ → Work → Stepped
-accepted K moment w = if w.lasts then lasted K (unacted w.effect) moment w.outcome else unlasting w.effect w.outcome
+-- a command that no check refuses. Behind its effect a scan may begin
+abbrev pub accepted : Capacity → Rows → ℕ → Work → Stepped
+accepted K R moment w =
+    let after = followed R w.effect in
+    if w.lasts then lasted K (unacted after) moment w.outcome else unlasting after w.outcome
 
 -- a command, by the check that refuses it
 abbrev pub decided : Capacity → Rows → ℕ → Work → Option Refusal → Stepped
 decided K R moment w (Some refusal) = refused R refusal
-decided K R moment w None = accepted K moment w
+decided K R moment w None = accepted K R moment w
 
 -- a command is refused for its moment first, and then by the first of its own refusals that holds
 abbrev pub step : Capacity → Rows → Command → Stepped

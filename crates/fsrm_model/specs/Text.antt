@@ -10,9 +10,9 @@ use Rattle.fsrm_model.specs.declared.row.Rows.{Rows}
 use Rattle.fsrm_model.specs.declared.command.Ask.{Ask}
 use Rattle.fsrm_model.specs.declared.command.Ask.TheVariants.{Quotas}
 use Rattle.fsrm_model.specs.declared.command.Refusal.{Refusal}
-use Rattle.fsrm_model.specs.declared.command.Refusal.TheVariants.{BadLine, LineTooLong, InvalidPath, InvalidName, OutOfRange, InvalidLimit, ClockBack, PathNotFound, NotFound, AlreadyExists, NotEmpty, InvalidMove, VolumeFull, NamesFull, TableFull, QuotaExceeded, NeedsScan}
+use Rattle.fsrm_model.specs.declared.command.Refusal.TheVariants.{BadLine, LineTooLong, InvalidPath, InvalidName, OutOfRange, InvalidLimit, ClockBack, PathNotFound, NotFound, AlreadyExists, InvalidCombination, NotEmpty, InvalidMove, NothingToScan, VolumeFull, NamesFull, TableFull, QuotaExceeded}
 use Rattle.fsrm_model.specs.declared.command.Outcome.{Outcome}
-use Rattle.fsrm_model.specs.declared.command.Outcome.TheVariants.{Done, Sum, Listing, Refused}
+use Rattle.fsrm_model.specs.declared.command.Outcome.TheVariants.{Done, Sum, Listing, Scanned, Refused}
 use Rattle.fsrm_model.specs.Tree.{path_of, usage}
 use Rattle.fsrm_model.specs.Quota.{folder_of, counts}
 use Rattle.fsrm_model.specs.Date.{date_text}
@@ -39,25 +39,33 @@ refusal_words nodes ClockBack = codes "ClockBack" ∷ []
 refusal_words nodes PathNotFound = codes "PathNotFound" ∷ []
 refusal_words nodes NotFound = codes "NotFound" ∷ []
 refusal_words nodes AlreadyExists = codes "AlreadyExists" ∷ []
+refusal_words nodes InvalidCombination = codes "InvalidCombination" ∷ []
 refusal_words nodes NotEmpty = codes "NotEmpty" ∷ []
 refusal_words nodes InvalidMove = codes "InvalidMove" ∷ []
+refusal_words nodes NothingToScan = codes "NothingToScan" ∷ []
 refusal_words nodes VolumeFull = codes "VolumeFull" ∷ []
 refusal_words nodes NamesFull = codes "NamesFull" ∷ []
 refusal_words nodes TableFull = codes "TableFull" ∷ []
 refusal_words nodes (QuotaExceeded folder would limit) =
     codes "QuotaExceeded" ∷ decimal would ∷ decimal limit ∷ path_text nodes folder ∷ []
-refusal_words nodes NeedsScan = codes "NeedsScan" ∷ []
 
 -- whether it carries no path
 abbrev pub is_bare : Refusal → Bool
 is_bare (QuotaExceeded folder would limit) = false
 is_bare other = true
 
+-- what a finished scan has counted
+abbrev pub done_words : Option ℕ → List (List ℕ)
+done_words None = []
+done_words (Some used) = codes "done" ∷ decimal used ∷ []
+
 -- the words behind the number of the line
 abbrev pub head_words : List NodeRow → Outcome → List (List ℕ)
 head_words nodes (Done passive) = codes "ok" ∷ []
 head_words nodes (Sum node bytes) = codes "ok" ∷ []
 head_words nodes (Listing ask) = codes "ok" ∷ []
+head_words nodes (Scanned folder visited used) =
+    codes "ok" ∷ codes "visited" ∷ decimal visited ∷ codes "of" ∷ path_text nodes folder ∷ done_words used
 head_words nodes (Refused refusal) = codes "refused" ∷ refusal_words nodes refusal
 
 -- the first line of a reply: the number of the script's line, and what became of it
@@ -101,6 +109,7 @@ abbrev pub body : Capacity → Rows → ℕ → Outcome → List ℕ
 body K R moment (Done passive) = passive_line R.nodes passive
 body K R moment (Sum node bytes) = body_line (decimal bytes ∷ path_text R.nodes node ∷ [])
 body K R moment (Listing ask) = list_lines K R ask
+body K R moment (Scanned folder visited used) = []
 body K R moment (Refused refusal) = []
 
 -- the reply to a line, in the rows after it

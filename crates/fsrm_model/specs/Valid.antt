@@ -1,5 +1,5 @@
--- Which nodes, and which quotas, are those of a store. Each part is a test, so that a reader can refuse exactly the others.
-use Rattle.std.specs.Prelude.{◌≡◌, ℕ, ◌≤◌, ◌==◌, ◌&&◌, ◌||◌, nat_lt, nat_le, not, Bool, true, false, List, length, Some, if◌then◌else◌}
+-- Which nodes, and which quotas, are those of a store. What the nodes must be is a test, so that a reader can refuse exactly the others.
+use Rattle.std.specs.Prelude.{◌≡◌, ℕ, ◌≤◌, ◌==◌, ◌&&◌, ◌||◌, nat_lt, nat_le, not, Bool, true, false, List, [], length, Option, Some, None, if◌then◌else◌}
 use Rattle.std.specs.List.{list_all}
 use Rattle.fsrm_model.specs.declared.row.Capacity.{Capacity}
 use Rattle.fsrm_model.specs.declared.row.NodeRow.{NodeRow}
@@ -8,7 +8,10 @@ use Rattle.fsrm_model.specs.declared.row.Rows.{Rows}
 use Rattle.fsrm_model.specs.Keyed.{row_of, is_ascending, has_row}
 use Rattle.fsrm_model.specs.Limits.{latest_moment, longest_file, most_quotas}
 use Rattle.fsrm_model.specs.Name.{is_name, same_name}
+use Rattle.fsrm_model.specs.Numbers.{is_in, each_once}
 use Rattle.fsrm_model.specs.Quota.{folder_of, is_limit}
+use Rattle.fsrm_model.specs.QuotaStates.{is_rebuilding, head}
+use Rattle.fsrm_model.specs.Scan.{AreUnvisited}
 use Rattle.fsrm_model.specs.Tree.{number, node_of, is_folder, is_child, is_under, name_bytes}
 
 abbrev pub is_moment : ℕ → Bool
@@ -68,7 +71,20 @@ pub record AreQuotas (nodes : List NodeRow) (quotas : List QuotaRow) : Type 0 wh
   pub limits : (folder : ℕ) (quota : QuotaRow) → row_of folder_of folder quotas ≡ Some quota → is_limit quota.limit ≡ true
   pub moments : (folder : ℕ) (quota : QuotaRow) → row_of folder_of folder quotas ≡ Some quota → is_moment quota.peak_at ≡ true
 
+-- Whose scans wait: the folders of the rebuilding quotas, each once
+pub record IsQueue (quotas : List QuotaRow) (queue : List ℕ) : Type 0 where
+  pub once : each_once queue ≡ true
+  pub queued : (folder : ℕ) → is_in queue folder ≡ true → has_row folder_of folder quotas ≡ true
+  pub rebuilding : (folder : ℕ) (quota : QuotaRow) → row_of folder_of folder quotas ≡ Some quota → is_in queue folder ≡ is_rebuilding quota.state
+
+-- what the active scan has still to visit; nothing where there is none
+abbrev pub AreLeft : List NodeRow → Option ℕ → List ℕ → Type 0
+AreLeft nodes None unvisited = unvisited ≡ []
+AreLeft nodes (Some scanned) unvisited = AreUnvisited nodes scanned unvisited
+
 -- the rows of a store of this size
 pub record IsStore (K : Capacity) (R : Rows) : Type 0 where
   pub volume : IsVolume K R.nodes
   pub quotas : AreQuotas R.nodes R.quotas
+  pub queue : IsQueue R.quotas R.queue
+  pub unvisited : AreLeft R.nodes (head R.queue) R.unvisited

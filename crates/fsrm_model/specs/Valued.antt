@@ -4,10 +4,10 @@ use Rattle.std.specs.List.{list_all}
 use Rattle.std.specs.Option.{option_map_or}
 use Rattle.fsrm_model.specs.declared.command.Command.{Command}
 use Rattle.fsrm_model.specs.declared.command.Deed.{Deed}
-use Rattle.fsrm_model.specs.declared.command.Deed.TheVariants.{File, Usage, QuotaAdd, QuotaModify, QuotaDelete, QuotaResetpeak, QuotaList}
+use Rattle.fsrm_model.specs.declared.command.Deed.TheVariants.{File, Usage, Step, QuotaAdd, QuotaModify, QuotaDelete, QuotaScan, QuotaResetpeak, QuotaList}
 use Rattle.fsrm_model.specs.declared.command.FileOp.{FileOp}
 use Rattle.fsrm_model.specs.declared.command.FileOp.TheVariants.{Mkdir, Create, Resize, Touch, Move, Remove}
-use Rattle.fsrm_model.specs.Limits.{longest_file, last_owner}
+use Rattle.fsrm_model.specs.Limits.{longest_file, last_owner, most_visits}
 use Rattle.fsrm_model.specs.Name.{is_name}
 use Rattle.fsrm_model.specs.Quota.{is_limit}
 use Rattle.fsrm_model.specs.Valid.{is_moment}
@@ -32,9 +32,11 @@ is_op (Remove path) = is_path path
 abbrev pub is_deed : Deed → Bool
 is_deed (File op) = is_op op
 is_deed (Usage path) = is_path path
-is_deed (QuotaAdd path limit enforce) = is_path path && is_limit limit
-is_deed (QuotaModify path limit enforce) = is_path path && option_map_or is_limit limit true
+is_deed (Step n) = nat_le 1 n && nat_le n most_visits
+is_deed (QuotaAdd path limit enforce enabled) = is_path path && is_limit limit
+is_deed (QuotaModify path limit enforce enabled) = is_path path && option_map_or is_limit limit true
 is_deed (QuotaDelete path) = is_path path
+is_deed (QuotaScan path) = is_path path
 is_deed (QuotaResetpeak path) = is_path path
 is_deed (QuotaList path) = option_map_or is_path path true
 

@@ -29,8 +29,8 @@ moves =
 -- columns, and the refusals of words; the fifth line is skipped
 abbrev pub bad_lines : Type 0
 bad_lines =
-    text default_capacity new_rows (codes "100 mkdri D:\\a 1\n100 mkdir D:\\a\n100 mkdir E:\\a 1\n100 mkdir \"D:\\a 1\n# note\n100 create D:\\f 17592185978881 1\n100 mkdir D:\\a?b 1\n4102444800 step 1\n")
-    ≡ codes "1 refused BadLine 5\n2 refused BadLine 15\n3 refused InvalidPath\n4 refused BadLine 11\n6 refused OutOfRange\n7 refused InvalidName\n8 refused OutOfRange\n"
+    text default_capacity new_rows (codes "100 mkdri D:\\a 1\n100 mkdir D:\\a\n100 mkdir E:\\a 1\n100 mkdir \"D:\\a 1\n# note\n100 step 0\n100 dirquota quota add /Path:D:\\ /Limit:1023\n100 create D:\\f 17592185978881 1\n100 mkdir D:\\a?b 1\n100 dirquota quota add /Path:D:\\\n4102444800 step 1\n")
+    ≡ codes "1 refused BadLine 5\n2 refused BadLine 15\n3 refused InvalidPath\n4 refused BadLine 11\n6 refused OutOfRange\n7 refused InvalidLimit\n8 refused OutOfRange\n9 refused InvalidName\n10 refused BadLine 33\n11 refused OutOfRange\n"
 
 -- blanks, quotes within and around words, a CR, letters of either case, a backslash at the end, and one word too many
 abbrev pub words_apart : Type 0
@@ -92,11 +92,41 @@ move_below_a_quota =
     text default_capacity new_rows (codes "100 dirquota quota add /Path:D:\\ /Limit:8kb\n100 mkdir D:\\x 1\n100 create D:\\a 8192 1\n100 move D:\\a D:\\x\\a\n")
     ≡ codes "1 ok\n2 ok\n3 ok\n4 ok\n"
 
--- a folder with a child gets no quota; commands that are not there
-abbrev pub quotas_that_wait : Type 0
-quotas_that_wait =
-    text default_capacity new_rows (codes "100 mkdir D:\\a 1\n100 dirquota quota add /Path:D:\\ /Limit:1kb\n100 dirquota quota add /Path:D:\\a /Limit:1kb\n100 dirquota quota add /Path:D:\\a /Limit:1kb\n100 dirquota quota add /Path:D:\\a /Limit:1kb /Status:disabled\n100 dirquota quota scan /Path:D:\\a\n100 dirquota template list\n")
-    ≡ codes "1 ok\n2 refused NeedsScan\n3 ok\n4 refused AlreadyExists\n5 refused BadLine 46\n6 refused BadLine 20\n7 refused BadLine 14\n"
+-- a folder in use gets a quota: its files are counted in two steps, with one that came in between, and then the quota counts
+abbrev pub scan_in_steps : Type 0
+scan_in_steps =
+    text default_capacity new_rows (codes "100 mkdir D:\\h 1\n100 create D:\\h\\a 5000 1\n100 mkdir D:\\h\\s 1\n100 create D:\\h\\s\\b 1 1\n100 dirquota quota add /Path:D:\\h /Limit:4kb\n101 create D:\\h\\c 1 1\n102 step 1\n103 step 1\n104 create D:\\h\\d 1 1\n")
+    ≡ codes "1 ok\n2 ok\n3 ok\n4 ok\n5 ok\n6 ok\n7 ok visited 1 of D:\\h\n8 ok visited 1 of D:\\h done 16384\n9 refused QuotaExceeded 20480 4096 D:\\h\n"
+
+-- a visited folder that is moved under an unvisited one is visited again
+abbrev pub visited_again : Type 0
+visited_again =
+    text default_capacity new_rows (codes "100 mkdir D:\\h 1\n100 mkdir D:\\h\\a 1\n100 mkdir D:\\h\\b 1\n100 create D:\\h\\a\\f 4096 1\n100 dirquota quota add /Path:D:\\h /Limit:1mb\n100 step 2\n100 move D:\\h\\a D:\\h\\b\\a\n100 step 1\n100 step 5\n")
+    ≡ codes "1 ok\n2 ok\n3 ok\n4 ok\n5 ok\n6 ok visited 2 of D:\\h\n7 ok\n8 ok visited 1 of D:\\h\n9 ok visited 1 of D:\\h done 4096\n"
+
+-- a folder of which a part is visited goes out of the scanned tree, and comes back, or doesn't
+abbrev pub out_and_back : Type 0
+out_and_back =
+    text default_capacity new_rows (codes "100 mkdir D:\\h 1\n100 mkdir D:\\h\\m 1\n100 mkdir D:\\h\\m\\n 1\n100 create D:\\h\\m\\f 1 1\n100 create D:\\h\\m\\n\\g 1 1\n100 dirquota quota add /Path:D:\\h /Limit:1mb\n100 step 2\n100 move D:\\h\\m D:\\m\n100 move D:\\m D:\\h\\m\n100 step 1\n100 step 1\n")
+    ≡ codes "1 ok\n2 ok\n3 ok\n4 ok\n5 ok\n6 ok\n7 ok visited 2 of D:\\h\n8 ok\n9 ok\n10 ok visited 1 of D:\\h\n11 ok visited 1 of D:\\h done 8192\n"
+
+abbrev pub out_for_good : Type 0
+out_for_good =
+    text default_capacity new_rows (codes "100 mkdir D:\\h 1\n100 mkdir D:\\h\\m 1\n100 mkdir D:\\h\\m\\n 1\n100 create D:\\h\\m\\f 1 1\n100 create D:\\h\\m\\n\\g 1 1\n100 dirquota quota add /Path:D:\\h /Limit:1mb\n100 step 2\n100 move D:\\h\\m D:\\m\n100 step 1\n")
+    ≡ codes "1 ok\n2 ok\n3 ok\n4 ok\n5 ok\n6 ok\n7 ok visited 2 of D:\\h\n8 ok\n9 ok visited 0 of D:\\h done 0\n"
+
+-- what is refused of scans, and a disabled quota that is enabled where its folder has a child
+abbrev pub scan_refusals : Type 0
+scan_refusals =
+    text default_capacity new_rows (codes "100 step 1\n100 dirquota quota scan /Path:D:\\\n100 dirquota quota add /Path:D:\\ /Limit:1kb /Status:disabled\n100 dirquota quota scan /Path:D:\\\n100 create D:\\f 5000 1\n100 dirquota quota add /Path:D:\\ /Limit:1kb\n100 dirquota quota modify /Path:D:\\ /Status:enabled\n100 step 1\n100 dirquota quota resetpeak /Path:D:\\x\n")
+    ≡ codes "1 refused NothingToScan\n2 refused NotFound\n3 ok\n4 refused InvalidCombination\n5 ok\n6 refused AlreadyExists\n7 ok\n8 ok visited 1 of D:\\ done 8192\n9 refused PathNotFound\n"
+
+-- the queue: a quota that is disabled leaves it to the next, one that is scanned anew goes to its end, and while it waits
+-- it neither refuses nor shows what is used
+abbrev pub scans_in_turn : Type 0
+scans_in_turn =
+    text default_capacity new_rows (codes "100 mkdir D:\\a 1\n100 create D:\\a\\f 1 1\n100 mkdir D:\\b 1\n100 create D:\\b\\f 1 1\n100 dirquota quota add /Path:D:\\a /Limit:4kb\n100 dirquota quota add /Path:D:\\b /Limit:4kb\n100 dirquota quota list\n100 dirquota quota modify /Path:D:\\a /Status:disabled\n100 step 9\n100 create D:\\b\\g 1 1\n100 dirquota quota scan /Path:D:\\b\n100 create D:\\b\\g 1 1\n100 dirquota quota list\n100 step 9\n100 dirquota quota list\n100 step 9\n")
+    ≡ codes "1 ok\n2 ok\n3 ok\n4 ok\n5 ok\n6 ok\n7 ok\n  4096 hard rebuilding - 0 1970-01-01 00:01:40 D:\\a\n  4096 hard rebuilding - 0 1970-01-01 00:01:40 D:\\b\n8 ok\n9 ok visited 1 of D:\\b done 4096\n10 refused QuotaExceeded 8192 4096 D:\\b\n11 ok\n12 ok\n13 ok\n  4096 hard disabled - 0 1970-01-01 00:01:40 D:\\a\n  4096 hard rebuilding - 4096 1970-01-01 00:01:40 D:\\b\n14 ok visited 1 of D:\\b done 8192\n15 ok\n  4096 hard disabled - 0 1970-01-01 00:01:40 D:\\a\n  4096 hard complete 8192 8192 1970-01-01 00:01:40 D:\\b\n16 refused NothingToScan\n"
 
 -- options: in any order, each once and in its form, and none that is missing. They are judged from left to right
 abbrev pub quota_options : Type 0

@@ -28,10 +28,14 @@ pub enum Refusal {
     NotFound,
     /// The place is taken, or the folder has a quota (MS-FSRM, FSRM_E_ALREADY_EXISTS).
     AlreadyExists,
+    /// A quota that is disabled isn't scanned (MS-FSRM, FSRM_E_INVALID_COMBINATION).
+    InvalidCombination,
     /// The folder has a child.
     NotEmpty,
     /// The root isn't moved or removed, nor a folder moved to a place below itself.
     InvalidMove,
+    /// No scan is active.
+    NothingToScan,
     /// The store holds as many nodes as it may.
     VolumeFull,
     /// The names of all nodes would have more bytes than the store holds.
@@ -41,8 +45,6 @@ pub enum Refusal {
     /// The usage of a folder with a hard quota would rise, and above the limit. It is the deepest such
     /// folder. `would` is what the files at and below it would take, in bytes.
     QuotaExceeded { folder: u32, would: u64, limit: u64 },
-    /// The folder has a child: what it holds would have to be counted first, which isn't built yet.
-    NeedsScan,
 }
 
 /// A file operation.
@@ -70,21 +72,32 @@ pub enum Deed {
     Usage {
         path: Path,
     },
+    /// Goes on with the active scan, for at most so many folders: 1 to 1,000,000.
+    Step {
+        n: u32,
+    },
     /// Limits what the files at and below a folder take, in bytes (MS-FSRM, IFsrmQuota). A hard quota is
     /// enforced, a soft one only watches.
     QuotaAdd {
         path: Path,
         limit: u64,
         enforce: bool,
+        enabled: bool,
     },
-    /// Gives a quota another limit, or makes it hard or soft.
+    /// Gives a quota another limit, makes it hard or soft, enables or disables it.
     QuotaModify {
         path: Path,
         limit: Option<u64>,
         enforce: Option<bool>,
+        enabled: Option<bool>,
     },
     /// Takes a folder's quota away.
     QuotaDelete {
+        path: Path,
+    },
+    /// Has what a folder's files take counted afresh, by the active scan or behind it (MS-FSRM, IFsrmQuotaManager,
+    /// Scan).
+    QuotaScan {
         path: Path,
     },
     /// Makes what is used now the peak (MS-FSRM, ResetPeakUsage).
@@ -115,10 +128,22 @@ pub enum Ask {
 #[derive(Drop)]
 pub enum Outcome {
     /// It was done. `passive` is the folder of a passive screen that reports it.
-    Done { passive: Option<u32> },
+    Done {
+        passive: Option<u32>,
+    },
     /// What the files at and below a node take, in bytes.
-    Sum { node: u32, bytes: u64 },
+    Sum {
+        node: u32,
+        bytes: u64,
+    },
     Listing(Ask),
+    /// Folders that the scan of a folder visited, and, where it is finished, the bytes that the files at and below
+    /// the folder take.
+    Scanned {
+        folder: u32,
+        visited: u32,
+        done: Option<u64>,
+    },
     Refused(Refusal),
 }
 

@@ -25,7 +25,7 @@ ghost use Rattle.fsrm_model.specs.Step.{step};
 ghost use Rattle.fsrm_model.specs.Text.{reply};
 ghost use Rattle.fsrm_model.specs.Tree.{under, usage};
 ghost use Rattle.fsrm_model.specs.Valid.{IsStore};
-ghost use Rattle.fsrm_model.specs.WorkedRows.{nothing_done, first_files, clock, moves, bad_lines, words_apart, root_and_places, few_nodes, few_name_bytes, folded_names, rounded_usage, nested_quotas, up_to_the_limit, above_the_limit, move_below_a_quota, quotas_that_wait, quota_options, quota_limits, quota_peaks, quotas_gone};
+ghost use Rattle.fsrm_model.specs.WorkedRows.{nothing_done, first_files, clock, moves, bad_lines, words_apart, root_and_places, few_nodes, few_name_bytes, folded_names, rounded_usage, nested_quotas, up_to_the_limit, above_the_limit, move_below_a_quota, scan_in_steps, visited_again, out_and_back, out_for_good, scan_refusals, scans_in_turn, quota_options, quota_limits, quota_peaks, quotas_gone};
 
 /// The plain machine's text of worked scripts.
 pub fn worked_rows()
@@ -44,7 +44,12 @@ pub fn worked_rows()
     ensures up_to_the_limit { up_to_the_limit }
     ensures above_the_limit { above_the_limit }
     ensures move_below_a_quota { move_below_a_quota }
-    ensures quotas_that_wait { quotas_that_wait }
+    ensures scan_in_steps { scan_in_steps }
+    ensures visited_again { visited_again }
+    ensures out_and_back { out_and_back }
+    ensures out_for_good { out_for_good }
+    ensures scan_refusals { scan_refusals }
+    ensures scans_in_turn { scans_in_turn }
     ensures quota_options { quota_options }
     ensures quota_limits { quota_limits }
     ensures quota_peaks { quota_peaks }

@@ -74,7 +74,7 @@ pub enum QuotaState {
     Disabled,
     /// A scan counts the folder afresh, or waits to.
     Rebuilding,
-    /// Its scan was given up.
+    /// Its scan wasn't finished when a run ended.
     Incomplete,
 }
 

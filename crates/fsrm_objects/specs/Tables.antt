@@ -1,9 +1,11 @@
 -- The tables of objects, and why a row is refused.
 use Rattle.std.specs.Prelude.{◌≡◌, ℕ, nat_le, Bool, List, [], ◌∷◌, length, Option, Some, None, if◌then◌else◌}
 use Rattle.fsrm_model.specs.declared.row.QuotaRow.{QuotaRow}
+use Rattle.fsrm_model.specs.declared.row.QuotaState.{QuotaState}
 use Rattle.fsrm_model.specs.Keyed.{has_row, with_row, with_change, without_row}
 use Rattle.fsrm_model.specs.Limits.{most_quotas}
 use Rattle.fsrm_model.specs.Quota.{folder_of}
+use Rattle.fsrm_model.specs.QuotaStates.{in_state}
 use Rattle.fsrm_objects.specs.declared.answer.ObjectFault.{ObjectFault}
 use Rattle.fsrm_objects.specs.declared.answer.ObjectFault.TheVariants.{AlreadyExists, TableFull, NoMemory}
 
@@ -33,7 +35,7 @@ quota_fault tables row =
     first_fault (fault_if AlreadyExists (has_row folder_of row.folder tables.quotas)
     ∷ fault_if TableFull (nat_le most_quotas (length tables.quotas)) ∷ [])
 
--- tables with one more quota, with another row for a folder, with another peak, without a folder's quota
+-- tables with one more quota, with another row for a folder, with another peak or state, without a folder's quota
 abbrev pub with_quota : Tables → QuotaRow → Tables
 with_quota tables row = record tables { quotas = with_row folder_of row tables.quotas }
 
@@ -45,6 +47,9 @@ peaked_at peak moment quota = record quota { peak = peak; peak_at = moment }
 
 abbrev pub with_peak : Tables → ℕ → ℕ → ℕ → Tables
 with_peak tables folder peak moment = record tables { quotas = with_change folder_of folder (peaked_at peak moment) tables.quotas }
+
+abbrev pub with_state : Tables → ℕ → QuotaState → Tables
+with_state tables folder state = record tables { quotas = with_change folder_of folder (in_state state) tables.quotas }
 
 abbrev pub without_quota : Tables → ℕ → Tables
 without_quota tables folder = record tables { quotas = without_row folder_of folder tables.quotas }

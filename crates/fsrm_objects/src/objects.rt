@@ -5,10 +5,10 @@ ghost use Rattle.std.specs.Option.{option_copied};
 ghost use Rattle.fsrm_model.specs.Keyed.{row_of, has_row, is_ascending};
 ghost use Rattle.fsrm_model.specs.Quota.{folder_of};
 ghost use Rattle.fsrm_objects.specs.Places.{IsAt, IsGap};
-ghost use Rattle.fsrm_objects.specs.Tables.{IsFault, quota_fault, with_quota, with_other, with_peak, without_quota};
+ghost use Rattle.fsrm_objects.specs.Tables.{IsFault, quota_fault, with_quota, with_other, with_peak, with_state, without_quota};
 
 use crate::answer::ObjectFault;
-use fsrm_model::QuotaRow;
+use fsrm_model::{QuotaRow, QuotaState};
 use std::alloc::Global;
 use std::marker::Model;
 
@@ -100,6 +100,15 @@ impl Objects {
         let quota = &mut self.quotas[place];
         quota.peak = peak;
         quota.peak_at = moment;
+    }
+
+    /// Sets the state of a folder's quota. All else of the quota stays.
+    pub fn set_state(&mut self, folder: u32, state: QuotaState)
+        requires { has_row folder_of folder self.old.quotas ≡ true }
+        ensures { self.new ≡ with_state self.old folder state }
+    {
+        let place = search(&self.quotas, folder).unwrap();
+        self.quotas[place].state = state;
     }
 
     /// A folder's quota.

@@ -46,6 +46,11 @@ fn set_peak(objects: &mut Objects, end: &impl Abort, folder: u32, peak: u64, mom
     objects.set_peak(folder, peak, moment);
 }
 
+fn set_state(objects: &mut Objects, end: &impl Abort, folder: u32, state: QuotaState) {
+    assert!(end; has_quota(objects, folder));
+    objects.set_state(folder, state);
+}
+
 fn folder_at(objects: &Objects, end: &impl Abort, place: u32) -> u32 {
     assert!(end; place < objects.quota_count());
     objects.quota_at(place).folder
@@ -59,6 +64,10 @@ fn peak(objects: &Objects, folder: u32) -> Option<(u64, u64)> {
     objects
         .quota(folder)
         .map(|quota| (quota.peak, quota.peak_at))
+}
+
+fn state(objects: &Objects, folder: u32) -> Option<QuotaState> {
+    objects.quota(folder).map(|quota| quota.state)
 }
 
 #[test]
@@ -105,6 +114,25 @@ fn quotas_change_and_go(rt: HostRuntime) -> Result<(), Fail> {
     assert_eq!(rt; folder_at(&objects, &rt, 1), 9);
     assert_eq!(rt; objects.add_quota(row(alloc, 5, 7000)), Ok(()));
     assert_eq!(rt; limit(&objects, 5), Some(7000));
+    Ok(())
+}
+
+#[test]
+fn a_quota_goes_from_state_to_state(rt: HostRuntime) -> Result<(), Fail> {
+    let alloc = rt.alloc();
+    let mut objects = Objects::new(alloc);
+    assert_eq!(rt; objects.add_quota(row(alloc, 2, 2000)), Ok(()));
+    assert_eq!(rt; objects.add_quota(row(alloc, 5, 5000)), Ok(()));
+    assert_eq!(rt; objects.add_quota(row(alloc, 9, 9000)), Ok(()));
+    set_peak(&mut objects, &rt, 5, 77, 8);
+    set_state(&mut objects, &rt, 5, QuotaState::Rebuilding);
+    assert_eq!(rt; state(&objects, 2), Some(QuotaState::Complete));
+    assert_eq!(rt; state(&objects, 5), Some(QuotaState::Rebuilding));
+    assert_eq!(rt; state(&objects, 9), Some(QuotaState::Complete));
+    assert_eq!(rt; limit(&objects, 5), Some(5000));
+    assert_eq!(rt; peak(&objects, 5), Some((77, 8)));
+    set_state(&mut objects, &rt, 5, QuotaState::Disabled);
+    assert_eq!(rt; state(&objects, 5), Some(QuotaState::Disabled));
     Ok(())
 }
 

@@ -1,16 +1,16 @@
 -- What the machine's steps come to, and what is shown of it.
 use Rattle.std.proofs.Common.{◌≡◌, ℕ, ◌+◌, Bool, true, false, not, List, [], ◌∷◌, ◌++◌, refl, sym, ap, ◌∙◌, subst, append-nil}
-use Rattle.std.specs.Prelude.{◌==◌, Option, Some, None, option_map, Result, Ok, Err, OnOk, nat_lt, unwrap_or, is_some, is_none}
+use Rattle.std.specs.Prelude.{◌==◌, ◌||◌, length, if◌then◌else◌, Option, Some, None, option_map, Result, Ok, Err, OnOk, nat_lt, unwrap_or, is_some, is_none}
 use Rattle.std.specs.Io.KnownBytes.{append_known}
 use Rattle.fsrm_model.specs.declared.command.Command.{Command}
 use Rattle.fsrm_model.specs.declared.command.Deed.{Deed}
-use Rattle.fsrm_model.specs.declared.command.Deed.TheVariants.{File, Usage, QuotaAdd, QuotaModify, QuotaDelete, QuotaResetpeak, QuotaList}
+use Rattle.fsrm_model.specs.declared.command.Deed.TheVariants.{File, Usage, Step, QuotaAdd, QuotaModify, QuotaDelete, QuotaScan, QuotaResetpeak, QuotaList}
 use Rattle.fsrm_model.specs.declared.command.FileOp.{FileOp}
 use Rattle.fsrm_model.specs.declared.command.FileOp.TheVariants.{Mkdir, Create, Resize, Touch, Move, Remove}
 use Rattle.fsrm_model.specs.declared.command.Outcome.{Outcome}
-use Rattle.fsrm_model.specs.declared.command.Outcome.TheVariants.{Refused}
+use Rattle.fsrm_model.specs.declared.command.Outcome.TheVariants.{Done, Refused}
 use Rattle.fsrm_model.specs.declared.command.Refusal.{Refusal}
-use Rattle.fsrm_model.specs.declared.command.Refusal.TheVariants.{BadLine, LineTooLong, InvalidPath, InvalidName, OutOfRange, InvalidLimit, ClockBack, PathNotFound, NotFound, AlreadyExists, NotEmpty, InvalidMove, VolumeFull, NamesFull, TableFull, QuotaExceeded, NeedsScan}
+use Rattle.fsrm_model.specs.declared.command.Refusal.TheVariants.{BadLine, LineTooLong, InvalidPath, InvalidName, OutOfRange, InvalidLimit, ClockBack, PathNotFound, NotFound, AlreadyExists, InvalidCombination, NotEmpty, InvalidMove, NothingToScan, VolumeFull, NamesFull, TableFull, QuotaExceeded}
 use Rattle.fsrm_model.specs.declared.row.Capacity.{Capacity}
 use Rattle.fsrm_model.specs.declared.row.NodeRow.{NodeRow}
 use Rattle.fsrm_model.specs.declared.row.QuotaRow.{QuotaRow}
@@ -23,15 +23,20 @@ use Rattle.fsrm_model.specs.Keyed.{has_row}
 use Rattle.fsrm_model.specs.Leads.{leads, leads_to_folder}
 use Rattle.fsrm_model.specs.Line.{read_line, is_line_refusal}
 use Rattle.fsrm_model.specs.Named.{IsNamed}
+use Rattle.fsrm_model.specs.Numbers.{is_in}
 use Rattle.fsrm_model.specs.Quota.{folder_of, quota_of, deepest, over, exceeded}
+use Rattle.fsrm_model.specs.QuotaStates.{followed, head}
 use Rattle.fsrm_model.specs.Reading.{Read}
+use Rattle.fsrm_model.specs.ScanWork.{scan_work, step_work}
 use Rattle.fsrm_model.specs.Script.{Replied, without_cr, replied, replied_to, line_cost}
-use Rattle.fsrm_model.specs.Step.{step, work, decided}
+use Rattle.fsrm_model.specs.Step.{step, work, decided, accepted, lasted, unacted, unlasting}
 use Rattle.fsrm_model.specs.Text.{is_bare, head_line, reply}
 use Rattle.fsrm_model.specs.Tree.{number, resolve, usage}
-use Rattle.fsrm_model.specs.Valid.{IsVolume, IsStore}
+use Rattle.fsrm_model.specs.Valid.{IsVolume, AreQuotas, IsStore}
+use Rattle.fsrm_model.specs.Work.{Work}
+use Rattle.fsrm_model.proofs.Ends.{outcome_kept, nodes_kept, step_nodes}
 use Rattle.fsrm_model.proofs.LineRefusals.{line_refusal}
-use Rattle.fsrm_model.proofs.Look.{is_some-find}
+use Rattle.fsrm_model.proofs.Look.{eq_same, is_some-find}
 use Rattle.fsrm_model.proofs.PlainMachine.{replied-read, line_cost-read}
 use Rattle.fsrm_model.proofs.QuotaLaws.{exceeded_is}
 use Rattle.fsrm_model.proofs.Resolves.{resolved}
@@ -50,19 +55,19 @@ pub shown_behind : (before last text : List ℕ) → Some last ≡ append_known 
 shown_behind before last text h = cc
 
 -- no command that is built runs an action
-pub acts_none : (K : Capacity) (R : Rows) (c : Command) → (step K R c).acts ≡ []
-acts_none K R c = by c.deed (first ((ClockBack when nat_lt c.moment R.last_moment) ∷ (work K R c.moment c.deed).checks))
+accepted_acts : (K : Capacity) (R : Rows) (moment : ℕ) (w : Work) → (accepted K R moment w).acts ≡ []
+accepted_acts K R moment w = by w.lasts
   where
-    by : (deed : Deed) (o : Option Refusal) → (decided K R c.moment (work K R c.moment deed) o).acts ≡ []
-    by deed (Some r) = refl
-    by (File op) None = refl
-    by (Usage path) None = refl
-    by (QuotaAdd path limit enforce) None = refl
-    by (QuotaModify path limit enforce) None = refl
-    by (QuotaDelete path) None = refl
-    by (QuotaResetpeak path) None = refl
-    by (QuotaList None) None = refl
-    by (QuotaList (Some path)) None = refl
+    by : (lasts : Bool) → (if lasts then lasted K (unacted (followed R w.effect)) moment w.outcome else unlasting (followed R w.effect) w.outcome).acts ≡ []
+    by true = refl
+    by false = refl
+
+pub acts_none : (K : Capacity) (R : Rows) (c : Command) → (step K R c).acts ≡ []
+acts_none K R c = by (first ((ClockBack when nat_lt c.moment R.last_moment) ∷ (work K R c.moment c.deed).checks))
+  where
+    by : (o : Option Refusal) → (decided K R c.moment (work K R c.moment c.deed) o).acts ≡ []
+    by (Some r) = refl
+    by None = accepted_acts K R c.moment (work K R c.moment c.deed)
 
 leads_there : (K : Capacity) (nodes : List NodeRow) (path : List (List ℕ)) (o : Option ℕ) → IsVolume K nodes → resolve nodes path ≡ o → is_some o ≡ true → has_row number (unwrap_or o 0) nodes ≡ true
 leads_there K nodes path None v e h = absurd cc
@@ -80,6 +85,25 @@ unrefused_list true l o h = absurd cc
 unrefused_list false false o h = absurd cc
 unrefused_list false true None h = absurd cc
 unrefused_list false true (Some quota) h = refl
+
+-- a step that isn't refused goes on with a scan
+unrefused_step : (late none : Bool) → first ((ClockBack when late) ∷ (NothingToScan when none) ∷ []) ≡ None → none ≡ false
+unrefused_step true none h = absurd cc
+unrefused_step false true h = absurd cc
+unrefused_step false false h = refl
+
+-- the folder of a quota is a node
+quota_node : (R : Rows) (folder : ℕ) (o : Option QuotaRow) → AreQuotas R.nodes R.quotas → quota_of R folder ≡ o → is_some o ≡ true → has_row number folder R.nodes ≡ true
+quota_node R folder None q e h = absurd cc
+quota_node R folder (Some quota) q e h = folder_has R.nodes folder (q.folders folder quota e)
+
+-- the folder whose scan is the active one is a node
+head_node : (K : Capacity) (R : Rows) (queue : List ℕ) → IsStore K R → R.queue ≡ queue → (length queue == 0) ≡ false → has_row number (unwrap_or (head queue) 0) R.nodes ≡ true
+head_node K R [] s e h = absurd cc
+head_node K R (folder ∷ more) s e h =
+    let here : is_in (folder ∷ more) folder ≡ true = ap (λ b. b || is_in more folder) (eq_same folder) in
+    let there : has_row folder_of folder R.quotas ≡ true = s.queue.queued folder (ap (λ queue. is_in queue folder) e ∙ here) in
+    quota_node R folder (quota_of R folder) s.quotas refl (is_some-find (λ quota. folder_of quota == folder) R.quotas ∙ there)
 
 -- a refusal by a check names what is there
 abbrev IsSound : Rows → Check → Type 0
@@ -150,19 +174,29 @@ missing_sound R path quota = (when_sound R PathNotFound path tt, (when_sound R N
 work_sound : (K : Capacity) (R : Rows) (moment : ℕ) (deed : Deed) → IsStore K R → AreSound R (work K R moment deed).checks
 work_sound K R moment (File op) s = file_sound K R op (file_effect R op moment) s
 work_sound K R moment (Usage path) s = (when_sound R PathNotFound _ tt, tt)
-work_sound K R moment (QuotaAdd path limit enforce) s = (when_sound R PathNotFound _ tt, (when_sound R AlreadyExists _ tt, (when_sound R TableFull _ tt, (when_sound R NeedsScan _ tt, tt))))
-work_sound K R moment (QuotaModify path limit enforce) s = missing_sound R _ _
+work_sound K R moment (Step n) s = (when_sound R NothingToScan _ tt, tt)
+work_sound K R moment (QuotaAdd path limit enforce enabled) s = (when_sound R PathNotFound _ tt, (when_sound R AlreadyExists _ tt, (when_sound R TableFull _ tt, tt)))
+work_sound K R moment (QuotaModify path limit enforce enabled) s = missing_sound R _ _
 work_sound K R moment (QuotaDelete path) s = missing_sound R _ _
+work_sound K R moment (QuotaScan path) s = (when_sound R PathNotFound _ tt, (when_sound R NotFound _ tt, (when_sound R InvalidCombination _ tt, tt)))
 work_sound K R moment (QuotaResetpeak path) s = missing_sound R _ _
 work_sound K R moment (QuotaList None) s = tt
 work_sound K R moment (QuotaList (Some path)) s = missing_sound R _ _
 
--- an outcome names what is there
-pub named : (K : Capacity) (R : Rows) (c : Command) → IsStore K (step K R c).rows → IsNamed (step K R c).rows (step K R c).outcome
-named K R c v = by c.deed (first ((ClockBack when late) ∷ (work K R c.moment c.deed).checks)) refl v
+-- An outcome names what is there. That of a step does so since the rows before it are those of a store
+pub named : (K : Capacity) (R : Rows) (c : Command) → IsStore K R → IsStore K (step K R c).rows → IsNamed (step K R c).rows (step K R c).outcome
+named K R c old v = by c.deed (first ((ClockBack when late) ∷ (work K R c.moment c.deed).checks)) refl v
   where
     late : Bool
     late = nat_lt c.moment R.last_moment
+
+    done : (w : Work) → w.outcome ≡ Done None → IsNamed (accepted K R c.moment w).rows (accepted K R c.moment w).outcome
+    done w is = subst (IsNamed (accepted K R c.moment w).rows) (sym (outcome_kept K R c.moment w ∙ is)) tt
+
+    scanned : (n : ℕ) → (length R.queue == 0) ≡ false → IsNamed (accepted K R c.moment (step_work K R n)).rows (accepted K R c.moment (step_work K R n)).outcome
+    scanned n some =
+        subst (IsNamed (accepted K R c.moment (step_work K R n)).rows) (sym (outcome_kept K R c.moment (step_work K R n)))
+        (ap (has_row number (unwrap_or (head R.queue) 0)) (nodes_kept K R c.moment (step_work K R n) ∙ step_nodes K R n) ∙ head_node K R R.queue old refl some)
 
     by : (deed : Deed) (o : Option Refusal) → first ((ClockBack when late) ∷ (work K R c.moment deed).checks) ≡ o → IsStore K (decided K R c.moment (work K R c.moment deed) o).rows → IsNamed (decided K R c.moment (work K R c.moment deed) o).rows (decided K R c.moment (work K R c.moment deed) o).outcome
     by deed (Some r) e s =
@@ -170,9 +204,11 @@ named K R c v = by c.deed (first ((ClockBack when late) ∷ (work K R c.moment c
         (first_sound R ((ClockBack when late) ∷ (work K R c.moment deed).checks) (when_sound R ClockBack late tt, work_sound K R c.moment deed s))
     by (File op) None e s = tt
     by (Usage path) None e s = leads_there K R.nodes path (resolve R.nodes path) s.volume refl (unrefused late (leads R.nodes path) e)
-    by (QuotaAdd path limit enforce) None e s = tt
-    by (QuotaModify path limit enforce) None e s = tt
+    by (Step n) None e s = scanned n (unrefused_step late (length R.queue == 0) e)
+    by (QuotaAdd path limit enforce enabled) None e s = tt
+    by (QuotaModify path limit enforce enabled) None e s = tt
     by (QuotaDelete path) None e s = tt
+    by (QuotaScan path) None e s = done (scan_work R path) refl
     by (QuotaResetpeak path) None e s = tt
     by (QuotaList None) None e s = tt
     by (QuotaList (Some path)) None e s =
@@ -180,10 +216,10 @@ named K R c v = by c.deed (first ((ClockBack when late) ∷ (work K R c.moment c
         sym (is_some-find (λ quota. folder_of quota == folder) R.quotas) ∙ unrefused_list late (leads_to_folder R.nodes path) (quota_of R folder) e
 
 -- the same of rows and an outcome that are those of a step
-pub step_named : (K size : Capacity) (R rows : Rows) (c : Command) (outcome : Outcome) → size ≡ K → rows ≡ (step K R c).rows → outcome ≡ (step K R c).outcome → IsStore size rows → IsNamed rows outcome
-step_named K size R rows c outcome e r o s =
+pub step_named : (K size : Capacity) (R rows : Rows) (c : Command) (outcome : Outcome) → size ≡ K → rows ≡ (step K R c).rows → outcome ≡ (step K R c).outcome → IsStore K R → IsStore size rows → IsNamed rows outcome
+step_named K size R rows c outcome e r o old s =
     let store : IsStore K (step K R c).rows = subst (λ (S : Rows). IsStore K S) r (subst (λ (k : Capacity). IsStore k rows) e s) in
-    subst (λ (S : Rows). IsNamed S outcome) (sym r) (subst (IsNamed (step K R c).rows) (sym o) (named K R c store))
+    subst (λ (S : Rows). IsNamed S outcome) (sym r) (subst (IsNamed (step K R c).rows) (sym o) (named K R c old store))
 
 step_reply : (K size : Capacity) (R rows : Rows) (c : Command) (outcome : Outcome) (moment n : ℕ) → size ≡ K → rows ≡ (step K R c).rows → outcome ≡ (step K R c).outcome → reply size rows moment n outcome ≡ reply K (step K R c).rows moment n (step K R c).outcome
 step_reply K size R rows c outcome moment n e r o =
@@ -248,12 +284,13 @@ line_bare ClockBack h = refl
 line_bare PathNotFound h = refl
 line_bare NotFound h = refl
 line_bare AlreadyExists h = refl
+line_bare InvalidCombination h = refl
 line_bare NotEmpty h = refl
 line_bare InvalidMove h = refl
+line_bare NothingToScan h = refl
 line_bare VolumeFull h = refl
 line_bare NamesFull h = refl
 line_bare TableFull h = refl
-line_bare NeedsScan h = refl
 
 pub bare_refusal : (text : List ℕ) (refusal : Refusal) → read_line text ≡ Some (Err refusal) → is_bare refusal ≡ true
 bare_refusal text refusal e = line_bare refusal (line_refusal text refusal e)

@@ -17,10 +17,10 @@ const FIRST_REPLIES: &[u8] =
     b"1 ok\n2 refused AlreadyExists\n3 ok\n  8192 D:\\\n4 refused BadLine 1\n";
 
 const BAD_LINES: &[u8] =
-    b"100 mkdri D:\\a 1\n100 mkdir D:\\a\r\n100 mkdir E:\\a 1\n100 mkdir \"D:\\a 1\n# note\n\n \t\r\n100 create D:\\f 17592185978881 1\n100 mkdir D:\\a?b 1\n4102444800 step 1\n100 mkdir D:\\a 1 \r\r\n\r";
+    b"100 mkdri D:\\a 1\n100 mkdir D:\\a\r\n100 mkdir E:\\a 1\n100 mkdir \"D:\\a 1\n# note\n100 step 0\n100 dirquota quota add /Path:D:\\ /Limit:1023\n\n \t\r\n100 create D:\\f 17592185978881 1\n100 mkdir D:\\a?b 1\n100 dirquota quota add /Path:D:\\\n4102444800 step 1\n100 mkdir D:\\a 1 \r\r\n\r";
 
 const BAD_REPLIES: &[u8] =
-    b"1 refused BadLine 5\n2 refused BadLine 15\n3 refused InvalidPath\n4 refused BadLine 11\n8 refused OutOfRange\n9 refused InvalidName\n10 refused OutOfRange\n11 refused BadLine 18\n";
+    b"1 refused BadLine 5\n2 refused BadLine 15\n3 refused InvalidPath\n4 refused BadLine 11\n6 refused OutOfRange\n7 refused InvalidLimit\n10 refused OutOfRange\n11 refused InvalidName\n12 refused BadLine 33\n13 refused OutOfRange\n14 refused BadLine 18\n";
 
 const CLOCK: &[u8] = b"100 mkdir D:\\a 1\n99 mkdir D:\\b 1\n100 mkdir D:\\b 1\n";
 
@@ -59,12 +59,6 @@ const MOVE_BELOW_A_QUOTA: &[u8] =
 
 const MOVE_BELOW_A_QUOTA_REPLIES: &[u8] = b"1 ok\n2 ok\n3 ok\n4 ok\n";
 
-const NEEDS_SCAN: &[u8] =
-    b"100 mkdir D:\\a 1\n100 dirquota quota add /Path:D:\\ /Limit:1kb\n100 dirquota quota add /Path:D:\\a /Limit:1kb\n100 dirquota quota add /Path:D:\\a /Limit:1kb\n100 dirquota quota add /Path:D:\\a /Limit:1kb /Status:disabled\n100 dirquota quota scan /Path:D:\\a\n100 dirquota template list\n";
-
-const NEEDS_SCAN_REPLIES: &[u8] =
-    b"1 ok\n2 refused NeedsScan\n3 ok\n4 refused AlreadyExists\n5 refused BadLine 46\n6 refused BadLine 20\n7 refused BadLine 14\n";
-
 // Runs the words, and counts the looks in a ledger that takes no bytes.
 fn run_counted<B: Ledger>(
     rt: &HostRuntime,
@@ -84,8 +78,8 @@ fn run_words(rt: &HostRuntime, words: &[String], outside: &mut MemoryOutside) ->
     run_counted::<Brand>(rt, words, outside, Blank::new(1))
 }
 
-// Replays the script, which comes in pieces of so many bytes, over devices whose calls of these numbers fail.
-fn replay(
+/// Replays the script, which comes in pieces of so many bytes, over devices whose calls of these numbers fail.
+pub fn replay(
     rt: &HostRuntime,
     script: &[u8],
     piece: usize,
@@ -100,7 +94,8 @@ fn replay(
     Ok((status, outside))
 }
 
-fn replies_in_any_pieces(
+/// Replays the script in pieces of three sizes, each with these replies.
+pub fn replies_in_any_pieces(
     rt: &HostRuntime,
     end: &impl Abort,
     script: &[u8],
@@ -128,8 +123,7 @@ fn worked_quotas_have_their_replies_in_any_pieces(rt: HostRuntime) -> Result<(),
     replies_in_any_pieces(&rt, &rt, NESTED_QUOTAS, NESTED_QUOTAS_REPLIES)?;
     replies_in_any_pieces(&rt, &rt, UP_TO_THE_LIMIT, UP_TO_THE_LIMIT_REPLIES)?;
     replies_in_any_pieces(&rt, &rt, ABOVE_THE_LIMIT, ABOVE_THE_LIMIT_REPLIES)?;
-    replies_in_any_pieces(&rt, &rt, MOVE_BELOW_A_QUOTA, MOVE_BELOW_A_QUOTA_REPLIES)?;
-    replies_in_any_pieces(&rt, &rt, NEEDS_SCAN, NEEDS_SCAN_REPLIES)
+    replies_in_any_pieces(&rt, &rt, MOVE_BELOW_A_QUOTA, MOVE_BELOW_A_QUOTA_REPLIES)
 }
 
 #[test]

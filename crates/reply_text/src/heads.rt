@@ -4,7 +4,7 @@ ghost use Rattle.std.specs.Prelude.{◌≡◌, ℕ, ◌++◌, ◌∷◌, [], tru
 ghost use Rattle.std.specs.String.{string_bytes};
 ghost use Rattle.fsrm_model.specs.declared.command.Outcome.TheVariants.{Done, Refused};
 ghost use Rattle.fsrm_model.specs.declared.row.NodeRow.{NodeRow};
-ghost use Rattle.fsrm_model.specs.Text.{body_line, head_line, is_bare, line_of};
+ghost use Rattle.fsrm_model.specs.Text.{body_line, done_words, head_line, is_bare, line_of};
 
 use fsrm_model::{NoMemory, Refusal};
 use std::fmt::Write;
@@ -30,6 +30,24 @@ pub fn append_sum(text: &mut String, bytes: u64, path: &str) -> Result<(), NoMem
     ensures { OnOk result (string_bytes text.new ≡ string_bytes text.old ++ body_line (decimal bytes ∷ path.now ∷ [])) }
 {
     writeln!(text, "  {bytes} {path}")?;
+    Ok(())
+}
+
+/// Appends the reply to a step of the scan of a folder, by its path: how many folders it visited, and, where the
+/// scan is finished, what the files at and below the folder take, in bytes.
+pub fn append_visited(
+    text: &mut String,
+    line: u64,
+    visited: u32,
+    done: Option<u64>,
+    path: &str,
+) -> Result<(), NoMemory>
+    ensures { OnOk result (string_bytes text.new ≡ string_bytes text.old ++ line_of (decimal line ∷ codes "ok" ∷ codes "visited" ∷ decimal visited ∷ codes "of" ∷ path.now ∷ done_words done)) }
+{
+    match done {
+        Some(used) => writeln!(text, "{line} ok visited {visited} of {path} done {used}")?,
+        None => writeln!(text, "{line} ok visited {visited} of {path}")?,
+    }
     Ok(())
 }
 
@@ -79,12 +97,13 @@ pub fn append_bare(text: &mut String, line: u64, refusal: Refusal) -> Result<(),
         Refusal::PathNotFound => append_named(text, line, "PathNotFound"),
         Refusal::NotFound => append_named(text, line, "NotFound"),
         Refusal::AlreadyExists => append_named(text, line, "AlreadyExists"),
+        Refusal::InvalidCombination => append_named(text, line, "InvalidCombination"),
         Refusal::NotEmpty => append_named(text, line, "NotEmpty"),
         Refusal::InvalidMove => append_named(text, line, "InvalidMove"),
+        Refusal::NothingToScan => append_named(text, line, "NothingToScan"),
         Refusal::VolumeFull => append_named(text, line, "VolumeFull"),
         Refusal::NamesFull => append_named(text, line, "NamesFull"),
         Refusal::TableFull => append_named(text, line, "TableFull"),
-        Refusal::NeedsScan => append_named(text, line, "NeedsScan"),
         Refusal::QuotaExceeded { .. } => unreachable!(),
     }
 }

@@ -12,7 +12,9 @@ ghost use Rattle.reply_text.specs.Lines.{is_listing};
 ghost use Rattle.reply_text.specs.Writes.{Sends};
 
 use crate::fault::TextFault;
-use crate::heads::{append_bare, append_exceeded, append_ok, append_passive, append_sum};
+use crate::heads::{
+    append_bare, append_exceeded, append_ok, append_passive, append_sum, append_visited,
+};
 use crate::lists::write_list;
 use crate::sending::send;
 use fsrm_engine::Engine;
@@ -66,6 +68,14 @@ fn append_answer<L: Ledger>(
             let path = engine.path_text(alloc, *node, steps)?;
             append_ok(text, line)?;
             append_sum(text, *bytes, path.as_str())
+        }
+        Outcome::Scanned {
+            folder,
+            visited,
+            done,
+        } => {
+            let path = engine.path_text(alloc, *folder, steps)?;
+            append_visited(text, line, *visited, *done, path.as_str())
         }
         Outcome::Refused(
             Refusal::QuotaExceeded {

@@ -3,6 +3,7 @@
 ghost use Rattle.std.specs.Prelude.{◌≡◌};
 
 use crate::dates::append_moment;
+use crate::heads::{append_bare, append_visited};
 use crate::{write_answer, write_head, write_list};
 use fsrm_engine::Engine;
 use fsrm_model::{
@@ -34,6 +35,20 @@ fn moments_are_shown(rt: HostRuntime) -> Result<(), Fail> {
     Ok(())
 }
 
+#[test]
+fn steps_of_scans_are_shown(rt: HostRuntime) -> Result<(), Fail> {
+    let mut text = String::new(rt.alloc());
+    append_visited(&mut text, 7, 2, None, "D:\\h")?;
+    append_visited(&mut text, 8, 1, Some(16_384), "D:\\h")?;
+    append_bare(&mut text, 9, Refusal::NothingToScan)?;
+    append_bare(&mut text, 10, Refusal::InvalidCombination)?;
+    assert_eq!(rt; text.as_str(), STEPS);
+    Ok(())
+}
+
+const STEPS: &str =
+    "7 ok visited 2 of D:\\h\n8 ok visited 1 of D:\\h done 16384\n9 refused NothingToScan\n10 refused InvalidCombination\n";
+
 const REPLIES: &[u8] =
     b"3 refused NotFound\n4 ok\n  1024 hard complete 0 0 2000-02-29 00:00:00 D:\\\n  1024 hard complete 0 0 2000-02-29 00:00:00 D:\\\n";
 
@@ -58,6 +73,7 @@ fn replies_are_written<N: Ledger>(
             path: Path::from_parts(List::new(rt.alloc())),
             limit: 1_024,
             enforce: true,
+            enabled: true,
         },
     };
     engine.apply(rt.alloc(), &add, &mut steps)?;

@@ -4,7 +4,7 @@ use Rattle.std.specs.Option.{option_map_or}
 use Rattle.std.specs.Prelude.{map, filter}
 use Rattle.fsrm_model.specs.declared.row.NodeRow.{NodeRow}
 use Rattle.fsrm_model.specs.Keyed.{is_ascending, has_row, row_of}
-use Rattle.fsrm_model.specs.Numbers.{itself, is_in, is_set}
+use Rattle.fsrm_model.specs.Numbers.{is_in, is_set}
 use Rattle.fsrm_model.specs.Tree.{number, node_of}
 use Rattle.fsrm_model.proofs.ChangeLaws.{absent_later, ascending_tail}
 use Rattle.fsrm_model.proofs.Look.{none_row, is_some-find}

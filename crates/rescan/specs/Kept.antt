@@ -1,6 +1,5 @@
 -- How a frontier's fields hold it.
-use Rattle.std.specs.Prelude.{◌≡◌, ℕ, List, [], Option, None}
-use Rattle.fsrm_model.specs.Numbers.{is_set}
+use Rattle.std.specs.Prelude.{◌≡◌, ℕ, [], Option, None}
 use Rattle.number_set.specs.Numbers.{Numbers}
 
 -- no walk is under way, and without a scan there is nothing to hold

@@ -1,11 +1,12 @@
 -- Which option a word names, and what one option more comes to.
-use Rattle.std.proofs.Common.{◌≡◌, ℕ, suc, ◌+◌, Bool, true, false, cond, List, [], ◌∷◌, length, Some, None, refl, ap, arith}
+use Rattle.std.proofs.Common.{◌≡◌, ℕ, suc, ◌+◌, ◌<◌, Bool, true, false, cond, List, [], ◌∷◌, length, Some, None, refl, ap, arith}
 use Rattle.std.specs.Prelude.{◌||◌, not, Option, Result, Ok, Err, map, find, option_map, is_some, codes}
-use Rattle.std.specs.List.{list_any, position_or_len}
+use Rattle.std.specs.List.{list_any, position_or_len, before_first}
+use Rattle.std.specs.Str.{str_eq_ignore_ascii_case}
 use Rattle.std.specs.Result.{IsErr, IsErrAnd}
 use Rattle.fsrm_model.specs.declared.command.Refusal.{Refusal}
 use Rattle.fsrm_model.specs.declared.command.Refusal.TheVariants.{BadLine}
-use Rattle.fsrm_model.specs.Options.{Key, ThePath, TheLimit, TheType, Given, key_of, is_colon, once, with_value}
+use Rattle.fsrm_model.specs.Options.{Key, ThePath, TheLimit, TheType, TheStatus, key_name, Given, key_of, is_colon, once, with_value}
 use Rattle.fsrm_model.specs.Reading.{Read, ◌>>=◌, path_from, limit_from, choice_from}
 use Rattle.tool_commands.specs.OptionWords.{has_key, Adds}
 use Rattle.tool_commands.specs.LineFaults.{Reads}
@@ -34,6 +35,18 @@ none_passes {X} p (x ∷ xs) e = at (p x) e (none_passes p xs)
 pub no_key : (keys : List Key) (text : List ℕ) → position_or_len is_colon text ≡ length text → key_of keys text ≡ None
 no_key keys text none = rw (none_passes is_colon text none) refl
 
+one_passes : {X : Type 0} (p : X → Bool) (xs : List X) → position_or_len p xs < length xs → list_any p xs ≡ true
+one_passes p [] short = absurd (omega arith)
+one_passes {X} p (x ∷ xs) short = at (p x) short (one_passes p xs)
+  where
+    at : (b : Bool) → cond (not b) (1 + position_or_len p xs) 0 < suc (length xs) → (position_or_len p xs < length xs → list_any p xs ≡ true) → (b || list_any p xs) ≡ true
+    at true less others = refl
+    at false less others = others (omega arith)
+
+-- a word with a colon names the option that has the name before it
+pub key_before : (keys : List Key) (text name : List ℕ) → position_or_len is_colon text < length text → name ≡ before_first is_colon text → key_of keys text ≡ find (λ key. str_eq_ignore_ascii_case (key_name key) name) keys
+key_before keys text name some same = rw (one_passes is_colon text some, same) refl
+
 -- an option that was given
 once_again : {X : Type 0} (column : ℕ) (option : Option X) (value : Read X) → is_some option ≡ true → once column option value ≡ Err (BadLine column)
 once_again column None value h = absurd cc
@@ -48,6 +61,7 @@ pub given_twice : (key : Key) (column : ℕ) (value : List ℕ) (given : Given) 
 given_twice ThePath column value given h = rw (once_again column given.path (path_from value) h) refl
 given_twice TheLimit column value given h = rw (once_again column given.limit (limit_from column value) h) refl
 given_twice TheType column value given h = rw (once_again column given.enforce (choice_from (codes "hard") (codes "soft") column value) h) refl
+given_twice TheStatus column value given h = rw (once_again column given.enabled (choice_from (codes "enabled") (codes "disabled") column value) h) refl
 
 -- a value that is read
 pub path_given : (column : ℕ) (value : List ℕ) (given : Given) (path : List (List ℕ)) → is_some given.path ≡ false → path_from value ≡ Ok path → with_value ThePath column value given ≡ Ok (record given { path = Some path })
@@ -59,6 +73,10 @@ limit_given column value given limit h is = rw (once_first column given.limit (l
 pub type_given : (column : ℕ) (value : List ℕ) (given : Given) (enforce : Bool) → is_some given.enforce ≡ false → choice_from (codes "hard") (codes "soft") column value ≡ Ok enforce
     → with_value TheType column value given ≡ Ok (record given { enforce = Some enforce })
 type_given column value given enforce h is = rw (once_first column given.enforce (choice_from (codes "hard") (codes "soft") column value) h, is) refl
+
+pub status_given : (column : ℕ) (value : List ℕ) (given : Given) (enabled : Bool) → is_some given.enabled ≡ false → choice_from (codes "enabled") (codes "disabled") column value ≡ Ok enabled
+    → with_value TheStatus column value given ≡ Ok (record given { enabled = Some enabled })
+status_given column value given enabled h is = rw (once_first column given.enabled (choice_from (codes "enabled") (codes "disabled") column value) h, is) refl
 
 passed_on : (r : Result (Unit {0}) LineFault) (fault : LineFault) → IsErr r × IsErrAnd r (λ e. e ≡ fault) → r ≡ Err fault
 passed_on (Ok done) fault h = absurd h.1

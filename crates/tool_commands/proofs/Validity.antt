@@ -7,14 +7,14 @@ use Rattle.std.specs.List.{list_all, after_first}
 use Rattle.std.specs.Str.Parse.{digits_value}
 use Rattle.std.proofs.lemmas.Bool.{and_parts}
 use Rattle.fsrm_model.specs.declared.command.Command.{Command}
-use Rattle.fsrm_model.specs.declared.command.Deed.TheVariants.{File, Usage, QuotaAdd, QuotaModify, QuotaDelete, QuotaResetpeak, QuotaList}
+use Rattle.fsrm_model.specs.declared.command.Deed.TheVariants.{File, Usage, Step, QuotaAdd, QuotaModify, QuotaDelete, QuotaScan, QuotaResetpeak, QuotaList}
 use Rattle.fsrm_model.specs.declared.command.FileOp.TheVariants.{Mkdir, Create, Resize, Touch, Move, Remove}
 use Rattle.fsrm_model.specs.declared.command.Refusal.{Refusal}
 use Rattle.fsrm_model.specs.declared.command.Refusal.TheVariants.{BadLine, OutOfRange, InvalidPath, InvalidName, InvalidLimit}
-use Rattle.fsrm_model.specs.Limits.{latest_moment, longest_file, last_owner}
-use Rattle.fsrm_model.specs.Line.{next_word, no_more, number_word, path_word, owner_word, length_word, mkdir_words, create_words, resize_words, touch_words, move_words, remove_words, usage_words, quota_add_words, quota_modify_words, quota_delete_words, quota_resetpeak_words, quota_list_words, Table, by_name, named_word, quota_table, dirquota_table, command_table, command_of, read_words}
+use Rattle.fsrm_model.specs.Limits.{latest_moment, longest_file, last_owner, most_visits}
+use Rattle.fsrm_model.specs.Line.{next_word, no_more, number_word, path_word, owner_word, length_word, mkdir_words, create_words, resize_words, touch_words, move_words, remove_words, usage_words, step_words, quota_add_words, quota_modify_words, quota_delete_words, quota_scan_words, quota_resetpeak_words, quota_list_words, Table, by_name, named_word, quota_table, dirquota_table, command_table, command_of, read_words}
 use Rattle.fsrm_model.specs.Name.{is_name}
-use Rattle.fsrm_model.specs.Options.{Key, ThePath, TheLimit, TheType, Given, nothing, key_of, is_colon, once, with_value, options, required}
+use Rattle.fsrm_model.specs.Options.{Key, ThePath, TheLimit, TheType, TheStatus, Given, nothing, key_of, is_colon, once, with_value, options, required}
 use Rattle.fsrm_model.specs.Quota.{is_limit}
 use Rattle.fsrm_model.specs.Reading.{Read, ◌>>=◌, guarded, known, is_number, number_from, path_from, path_parts, has_path_form, limit_from, digits_of, bytes_of, choice_from}
 use Rattle.fsrm_model.specs.Valued.{is_path, is_owner, is_length, is_deed, is_command}
@@ -106,6 +106,10 @@ usage_valid : (end : ℕ) (given : List Word) → Gives is_deed (usage_words end
 usage_valid end given =
     then (λ read. is_path read.0) is_deed (path_word end given) _ (path_valid end given) (λ path p. last is_deed path.1 (Usage path.0) p)
 
+step_valid : (end : ℕ) (given : List Word) → Gives is_deed (step_words end given)
+step_valid end given =
+    then (λ read. within 1 most_visits read.0) is_deed (number_word 1 most_visits end given) _ (number_valid 1 most_visits end given) (λ visits v. last is_deed visits.1 (Step visits.0) v)
+
 -- options: each value that was given is valid
 abbrev are_given : Given → Bool
 are_given given = option_map_or is_path given.path true && option_map_or is_limit given.limit true
@@ -133,6 +137,8 @@ with_value_valid TheLimit column value given h =
     done are_given (record given { limit = limit }) (both (option_map_or is_path given.path true) (option_map_or is_limit limit true) (and_parts (option_map_or is_path given.path true) (option_map_or is_limit given.limit true) h).0 l))
 with_value_valid TheType column value given h =
     behind are_given (once column given.enforce (choice_from (codes "hard") (codes "soft") column value)) _ (λ enforce. done are_given (record given { enforce = enforce }) h)
+with_value_valid TheStatus column value given h =
+    behind are_given (once column given.enabled (choice_from (codes "enabled") (codes "disabled") column value)) _ (λ enabled. done are_given (record given { enabled = enabled }) h)
 
 options_valid : (keys : List Key) (words : List Word) (given : Given) → are_given given ≡ true → Gives are_given (options keys words given)
 options_valid keys [] given h = done are_given given h
@@ -151,23 +157,31 @@ given_path given h = (and_parts (option_map_or is_path given.path true) (option_
 given_limit : (given : Given) → are_given given ≡ true → option_map_or is_limit given.limit true ≡ true
 given_limit given h = (and_parts (option_map_or is_path given.path true) (option_map_or is_limit given.limit true) h).1
 
+abbrev all_keys : List Key
+all_keys = ThePath ∷ TheLimit ∷ TheType ∷ TheStatus ∷ []
+
 quota_add_valid : (end : ℕ) (words : List Word) → Gives is_deed (quota_add_words end words)
 quota_add_valid end words =
-    then are_given is_deed (options (ThePath ∷ TheLimit ∷ TheType ∷ []) words nothing) _ (options_valid (ThePath ∷ TheLimit ∷ TheType ∷ []) words nothing refl) (λ given g.
+    then are_given is_deed (options all_keys words nothing) _ (options_valid all_keys words nothing refl) (λ given g.
     then is_path is_deed (required end given.path) _ (required_valid is_path end given.path (given_path given g)) (λ path p.
     then is_limit is_deed (required end given.limit) _ (required_valid is_limit end given.limit (given_limit given g)) (λ limit l.
-    done is_deed (QuotaAdd path limit (unwrap_or given.enforce true)) (both (is_path path) (is_limit limit) p l))))
+    done is_deed (QuotaAdd path limit (unwrap_or given.enforce true) (unwrap_or given.enabled true)) (both (is_path path) (is_limit limit) p l))))
 
 quota_modify_valid : (end : ℕ) (words : List Word) → Gives is_deed (quota_modify_words end words)
 quota_modify_valid end words =
-    then are_given is_deed (options (ThePath ∷ TheLimit ∷ TheType ∷ []) words nothing) _ (options_valid (ThePath ∷ TheLimit ∷ TheType ∷ []) words nothing refl) (λ given g.
+    then are_given is_deed (options all_keys words nothing) _ (options_valid all_keys words nothing refl) (λ given g.
     then is_path is_deed (required end given.path) _ (required_valid is_path end given.path (given_path given g)) (λ path p.
-    done is_deed (QuotaModify path given.limit given.enforce) (both (is_path path) (option_map_or is_limit given.limit true) p (given_limit given g))))
+    done is_deed (QuotaModify path given.limit given.enforce given.enabled) (both (is_path path) (option_map_or is_limit given.limit true) p (given_limit given g))))
 
 quota_delete_valid : (end : ℕ) (words : List Word) → Gives is_deed (quota_delete_words end words)
 quota_delete_valid end words =
     then are_given is_deed (options (ThePath ∷ []) words nothing) _ (options_valid (ThePath ∷ []) words nothing refl) (λ given g.
     then is_path is_deed (required end given.path) _ (required_valid is_path end given.path (given_path given g)) (λ path p. done is_deed (QuotaDelete path) p))
+
+quota_scan_valid : (end : ℕ) (words : List Word) → Gives is_deed (quota_scan_words end words)
+quota_scan_valid end words =
+    then are_given is_deed (options (ThePath ∷ []) words nothing) _ (options_valid (ThePath ∷ []) words nothing refl) (λ given g.
+    then is_path is_deed (required end given.path) _ (required_valid is_path end given.path (given_path given g)) (λ path p. done is_deed (QuotaScan path) p))
 
 quota_resetpeak_valid : (end : ℕ) (words : List Word) → Gives is_deed (quota_resetpeak_words end words)
 quota_resetpeak_valid end words =
@@ -195,14 +209,14 @@ named_valid : (rows : Table) (end : ℕ) (given : List Word) → RowsGive rows �
 named_valid rows end given valid = behind is_deed (next_word end given) _ (λ name. by_name_valid rows name.0 end name.1 valid)
 
 quota_table_valid : RowsGive quota_table
-quota_table_valid = (quota_add_valid, (quota_modify_valid, (quota_delete_valid, (quota_resetpeak_valid, (quota_list_valid, tt)))))
+quota_table_valid = (quota_add_valid, (quota_modify_valid, (quota_delete_valid, (quota_scan_valid, (quota_resetpeak_valid, (quota_list_valid, tt))))))
 
 dirquota_table_valid : RowsGive dirquota_table
 dirquota_table_valid = ((λ end given. named_valid quota_table end given quota_table_valid), tt)
 
 table_valid : RowsGive command_table
 table_valid =
-    (mkdir_valid, (create_valid, (resize_valid, (touch_valid, (move_valid, (remove_valid, (usage_valid, ((λ end given. named_valid dirquota_table end given dirquota_table_valid), tt))))))))
+    (mkdir_valid, (create_valid, (resize_valid, (touch_valid, (move_valid, (remove_valid, (usage_valid, (step_valid, ((λ end given. named_valid dirquota_table end given dirquota_table_valid), tt)))))))))
 
 command_of_valid : (end : ℕ) (given : List Word) → Gives is_command (command_of end given)
 command_of_valid end given =

@@ -1,7 +1,7 @@
 //! The commands, each read from the words behind its name.
 
 ghost use Rattle.std.specs.Prelude.{◌≡◌};
-ghost use Rattle.fsrm_model.specs.Line.{no_more, mkdir_words, create_words, resize_words, touch_words, move_words, remove_words, usage_words, by_name, named_word, command_table, command_of};
+ghost use Rattle.fsrm_model.specs.Line.{no_more, mkdir_words, create_words, resize_words, touch_words, move_words, remove_words, usage_words, step_words, by_name, named_word, command_table, command_of};
 ghost use Rattle.tool_commands.specs.LineFaults.{Reads};
 ghost use Rattle.tool_commands.specs.Taking.{left, end, line_word};
 
@@ -81,6 +81,13 @@ fn usage(alloc: Global, words: &mut Words<'_>) -> Result<Deed, LineFault>
     finished(words, Deed::Usage { path })
 }
 
+fn step(alloc: Global, words: &mut Words<'_>) -> Result<Deed, LineFault>
+    ensures { Reads result (step_words (end words.old) (left words.old)) }
+{
+    let n = words.visits(alloc)?;
+    finished(words, Deed::Step { n })
+}
+
 fn deed(alloc: Global, name: &Word<'_>, words: &mut Words<'_>) -> Result<Deed, LineFault>
     ensures { Reads result (by_name command_table (line_word name.now) (end words.old) (left words.old)) }
 {
@@ -105,6 +112,9 @@ fn deed(alloc: Global, name: &Word<'_>, words: &mut Words<'_>) -> Result<Deed, L
     }
     if is_named("usage", word) {
         return usage(alloc, words);
+    }
+    if is_named("step", word) {
+        return step(alloc, words);
     }
     if is_named("dirquota", word) {
         return dirquota(alloc, words);

@@ -20,6 +20,7 @@ pub enum Key {
     Path,
     Limit,
     Enforce,
+    Enabled,
 }
 
 impl Key {
@@ -30,6 +31,7 @@ impl Key {
             Key::Path => "/Path",
             Key::Limit => "/Limit",
             Key::Enforce => "/Type",
+            Key::Enabled => "/Status",
         }
     }
 }
@@ -59,6 +61,7 @@ pub struct Given {
     pub limit: Option<u64>,
     /// Whether a quota is hard.
     pub enforce: Option<bool>,
+    pub enabled: Option<bool>,
 }
 
 impl Given {
@@ -69,6 +72,7 @@ impl Given {
             path: None,
             limit: None,
             enforce: None,
+            enabled: None,
         }
     }
 
@@ -80,6 +84,7 @@ impl Given {
             Key::Path => self.path.is_some(),
             Key::Limit => self.limit.is_some(),
             Key::Enforce => self.enforce.is_some(),
+            Key::Enabled => self.enabled.is_some(),
         }
     }
 
@@ -96,6 +101,7 @@ impl Given {
             Key::Path => self.path = Some(read_path_word(alloc, value)?),
             Key::Limit => self.limit = Some(read_limit(value, column)?),
             Key::Enforce => self.enforce = Some(read_choice("hard", "soft", value, column)?),
+            Key::Enabled => self.enabled = Some(read_choice("enabled", "disabled", value, column)?),
         }
         Ok(())
     }

@@ -1,7 +1,7 @@
 //! The commands on quotas, each read from the options behind its name.
 
 ghost use Rattle.std.specs.Prelude.{◌≡◌};
-ghost use Rattle.fsrm_model.specs.Line.{quota_add_words, quota_modify_words, quota_delete_words, quota_resetpeak_words, quota_list_words, named_word, by_name, quota_table, dirquota_table};
+ghost use Rattle.fsrm_model.specs.Line.{quota_add_words, quota_modify_words, quota_delete_words, quota_scan_words, quota_resetpeak_words, quota_list_words, named_word, by_name, quota_table, dirquota_table};
 ghost use Rattle.tool_commands.specs.LineFaults.{Reads};
 ghost use Rattle.tool_commands.specs.Taking.{left, end, line_word};
 
@@ -12,31 +12,37 @@ use crate::words::{Word, Words};
 use fsrm_model::Deed;
 use std::alloc::Global;
 
+/// What may be given of a quota.
+const ALL_KEYS: [Key; 4] = [Key::Path, Key::Limit, Key::Enforce, Key::Enabled];
+
 fn add(alloc: Global, words: &mut Words<'_>) -> Result<Deed, LineFault>
     ensures { Reads result (quota_add_words (end words.old) (left words.old)) }
 {
-    let given = read_options(alloc, &[Key::Path, Key::Limit, Key::Enforce], words)?;
+    let given = read_options(alloc, &ALL_KEYS, words)?;
     let missing = LineFault::bad_line(words.end());
     let path = given.path.ok_or(missing)?;
     let limit = given.limit.ok_or(missing)?;
-    // A quota is hard where its type isn't given.
+    // A quota is hard where its type isn't given, and enabled where its status isn't.
     let enforce = given.enforce.unwrap_or(true);
+    let enabled = given.enabled.unwrap_or(true);
     Ok(Deed::QuotaAdd {
         path,
         limit,
         enforce,
+        enabled,
     })
 }
 
 fn modify(alloc: Global, words: &mut Words<'_>) -> Result<Deed, LineFault>
     ensures { Reads result (quota_modify_words (end words.old) (left words.old)) }
 {
-    let given = read_options(alloc, &[Key::Path, Key::Limit, Key::Enforce], words)?;
+    let given = read_options(alloc, &ALL_KEYS, words)?;
     let path = given.path.ok_or(LineFault::bad_line(words.end()))?;
     Ok(Deed::QuotaModify {
         path,
         limit: given.limit,
         enforce: given.enforce,
+        enabled: given.enabled,
     })
 }
 
@@ -46,6 +52,14 @@ fn delete(alloc: Global, words: &mut Words<'_>) -> Result<Deed, LineFault>
     let given = read_options(alloc, &[Key::Path], words)?;
     let path = given.path.ok_or(LineFault::bad_line(words.end()))?;
     Ok(Deed::QuotaDelete { path })
+}
+
+fn scan(alloc: Global, words: &mut Words<'_>) -> Result<Deed, LineFault>
+    ensures { Reads result (quota_scan_words (end words.old) (left words.old)) }
+{
+    let given = read_options(alloc, &[Key::Path], words)?;
+    let path = given.path.ok_or(LineFault::bad_line(words.end()))?;
+    Ok(Deed::QuotaScan { path })
 }
 
 fn resetpeak(alloc: Global, words: &mut Words<'_>) -> Result<Deed, LineFault>
@@ -75,6 +89,9 @@ fn deed(alloc: Global, name: &Word<'_>, words: &mut Words<'_>) -> Result<Deed, L
     }
     if is_named("delete", word) {
         return delete(alloc, words);
+    }
+    if is_named("scan", word) {
+        return scan(alloc, words);
     }
     if is_named("resetpeak", word) {
         return resetpeak(alloc, words);

@@ -25,6 +25,13 @@ fn a_bad_line_is_refused_with_its_column(rt: HostRuntime) {
         ("100 ", 5),
         ("123456789012345678901 mkdir D:\\a 1", 1),
         ("1 move D:\\a D:\\b x", 18),
+        // A step takes one number, and no more.
+        ("100 step", 9),
+        ("1 step x", 8),
+        ("1 step -1", 8),
+        ("1 step \"\"", 8),
+        ("1 step 000000000000000000001", 8),
+        ("1 step 1 1", 10),
         // Columns count bytes, and an unclosed quote is judged before any word.
         ("1 touch D:\\é x", 15),
         ("é \"D:\\é\" \"", 12),
@@ -43,6 +50,11 @@ fn the_first_fault_decides(rt: HostRuntime) {
         ("100 mkdir D:\\a?b 1", Refusal::InvalidName),
         ("100 create D:\\f 17592185978881 1", Refusal::OutOfRange),
         ("4102444800 step 1", Refusal::OutOfRange),
+        ("100 step 0", Refusal::OutOfRange),
+        ("1 step 1000001", Refusal::OutOfRange),
+        ("1 step 99999999999999999999", Refusal::OutOfRange),
+        // The number is judged before the word behind it.
+        ("1 step 0 1", Refusal::OutOfRange),
         ("99999999999999999999 mkdir D:\\a 1", Refusal::OutOfRange),
         ("1 mkdir D:\\a 0", Refusal::OutOfRange),
         ("1 mkdir D:\\a 4294967296", Refusal::OutOfRange),
@@ -140,21 +152,27 @@ fn quota_text(alloc: Global, deed: &Deed) -> Result<String, Fail> {
             path,
             limit,
             enforce,
+            enabled,
         } => {
             let path = bracketed(alloc, path)?;
-            format!(in alloc; "add {path} {limit} {enforce}")?
+            format!(in alloc; "add {path} {limit} {enforce} {enabled}")?
         }
         Deed::QuotaModify {
             path,
             limit,
             enforce,
+            enabled,
         } => {
             let path = bracketed(alloc, path)?;
-            format!(in alloc; "modify {path} {limit:?} {enforce:?}")?
+            format!(in alloc; "modify {path} {limit:?} {enforce:?} {enabled:?}")?
         }
         Deed::QuotaDelete { path } => {
             let path = bracketed(alloc, path)?;
             format!(in alloc; "delete {path}")?
+        }
+        Deed::QuotaScan { path } => {
+            let path = bracketed(alloc, path)?;
+            format!(in alloc; "scan {path}")?
         }
         Deed::QuotaResetpeak { path } => {
             let path = bracketed(alloc, path)?;
@@ -176,6 +194,7 @@ fn command_text(alloc: Global, command: &Command) -> Result<String, Fail> {
             let path = bracketed(alloc, path)?;
             format!(in alloc; "usage {path}")?
         }
+        Deed::Step { n } => format!(in alloc; "step {n}")?,
         quota => quota_text(alloc, quota)?,
     };
     let moment = command.moment;
@@ -208,6 +227,8 @@ fn commands_are_read(rt: HostRuntime) -> Result<(), Fail> {
         ("4 \"move\" D:\\a D:\\\"b c\"", "4 move <a> <b c>"),
         ("5 remove D:\\a\"#\"b ", "5 remove <a#b>"),
         ("6 usage D:\\", "6 usage "),
+        ("7 step 1", "7 step 1"),
+        ("7 Step \"00000000000001000000\" ", "7 step 1000000"),
     ] {
         let read = read_text(rt.alloc(), line)?;
         assert_eq!(rt; read.as_str(), wanted, "{line}");
@@ -220,32 +241,50 @@ fn commands_on_quotas_are_read(rt: HostRuntime) -> Result<(), Fail> {
     for (line, wanted) in [
         (
             "7 dirquota quota add /Path:D:\\a /Limit:1kb",
-            "7 add <a> 1024 true",
+            "7 add <a> 1024 true true",
         ),
         (
             "7 DirQuota QUOTA Add /TYPE:Soft /limit:2048 /path:d:\\a\\b\\",
-            "7 add <a><b> 2048 false",
+            "7 add <a><b> 2048 false true",
         ),
         (
             "7 dirquota quota add /Limit:1kb /Type:HARD /Path:D:\\",
-            "7 add  1024 true",
+            "7 add  1024 true true",
+        ),
+        (
+            "7 dirquota quota add /Path:D:\\a /Limit:1kb /Status:disabled",
+            "7 add <a> 1024 true false",
+        ),
+        (
+            "7 dirquota quota add /STATUS:Enabled /Type:soft /Limit:1kb /Path:D:\\a",
+            "7 add <a> 1024 false true",
         ),
         (
             "8 dirquota quota modify /Path:D:\\a",
-            "8 modify <a> None None",
+            "8 modify <a> None None None",
         ),
         (
             "8 dirquota quota modify /Type:SOFT /Path:\"D:\\a b\"",
-            "8 modify <a b> None Some(false)",
+            "8 modify <a b> None Some(false) None",
         ),
         (
             "8 dirquota quota modify /Limit:3mb \"/Path:D:\\a b\"",
-            "8 modify <a b> Some(3145728) None",
+            "8 modify <a b> Some(3145728) None None",
+        ),
+        (
+            "8 dirquota quota modify /Path:D:\\a /status:ENABLED",
+            "8 modify <a> None None Some(true)",
+        ),
+        (
+            "8 dirquota quota modify /Status:disabled /Limit:2kb /Type:hard /Path:D:\\a",
+            "8 modify <a> Some(2048) Some(true) Some(false)",
         ),
         (
             "9 dirquota quota delete /Pa\"th:D:\\x y\"",
             "9 delete <x y>",
         ),
+        ("9 dirquota quota scan /Path:D:\\a", "9 scan <a>"),
+        ("9 DIRQUOTA Quota SCAN /path:d:\\", "9 scan "),
         ("9 dirquota quota resetpeak /Path:D:\\é", "9 resetpeak <é>"),
         ("9 dirquota quota list", "9 list all"),
         ("9 dirquota\tquota  list /Path:D:\\ ", "9 list "),
@@ -336,22 +375,44 @@ fn bad_options_are_refused_with_their_columns(rt: HostRuntime) {
         ("100 dirquota quota add /Path:D:\\", 33),
         ("1 dirquota quota add /Limit:1kb", 32),
         ("1 dirquota quota delete", 24),
+        ("1 dirquota quota scan", 22),
+        ("1 dirquota quota scan ", 23),
+        ("1 dirquota quota add /Status:enabled /Limit:1kb", 48),
+        ("1 dirquota quota modify /Status:enabled", 40),
         // An option is given twice, whatever its value is.
         ("100 dirquota quota add /Path:D:\\a /Path:E:\\b", 35),
         ("1 dirquota quota add /Limit:1kb /limit:zz", 33),
         ("1 dirquota quota modify /Type:soft /TYPE:soft", 36),
+        ("1 dirquota quota scan /Path:D:\\a /Path:D:\\a", 34),
+        (
+            "1 dirquota quota modify /Status:enabled /status:disabled",
+            41,
+        ),
+        ("1 dirquota quota modify /Status:disabled /Status:on", 42),
         // A word names no option that the command takes.
         ("1 dirquota quota list /Limit:1kb", 23),
         ("1 dirquota quota list /Path", 23),
         ("1 dirquota quota list Path:D:\\a", 23),
         ("1 dirquota quota list \"\"", 23),
         ("1 dirquota quota delete /Path:D:\\a x", 36),
+        ("1 dirquota quota delete /Status:disabled /Path:D:\\a", 25),
+        ("1 dirquota quota list /Status:enabled", 23),
+        ("1 dirquota quota scan /Path:D:\\a /Status:enabled", 34),
+        ("1 dirquota quota scan D:\\a", 23),
         (
-            "1 dirquota quota add /Path:D:\\a /Limit:1kb /Status:enabled",
+            "1 dirquota quota add /Path:D:\\a /Limit:1kb /State:enabled",
             44,
         ),
         // A value hasn't its form.
         ("1 dirquota quota modify /Path:D:\\a /Type:firm", 36),
+        ("1 dirquota quota modify /Path:D:\\a /Status:on", 36),
+        ("1 dirquota quota modify /Path:D:\\a /Status:", 36),
+        ("1 dirquota quota modify /Path:D:\\a /Status:hard", 36),
+        ("1 dirquota quota modify /Path:D:\\a /Type:enabled", 36),
+        (
+            "1 dirquota quota add /Status:enable /Path:E:\\ /Limit:1",
+            22,
+        ),
         ("1 dirquota quota list /Path:\"D:\\a", 29),
     ] {
         let refusal = refusal(rt.alloc(), line.as_bytes());
@@ -373,6 +434,11 @@ fn the_first_fault_of_options_decides(rt: HostRuntime) {
             Refusal::InvalidPath,
         ),
         ("1 dirquota quota list /Path:", Refusal::InvalidPath),
+        ("1 dirquota quota scan /Path:D:\\a?b", Refusal::InvalidName),
+        (
+            "1 dirquota quota add /Path:E:\\ /Status:on",
+            Refusal::InvalidPath,
+        ),
         (
             "1 dirquota quota list /Path:D:\\a?b /Path:",
             Refusal::InvalidName,

@@ -4,7 +4,7 @@ ghost use Rattle.std.specs.Prelude.{◌≡◌, ◌≤◌, IfOk};
 ghost use Rattle.std.specs.Char.{is_ascii_digit};
 ghost use Rattle.std.specs.List.{list_all};
 ghost use Rattle.std.specs.Str.{str_eq_ignore_ascii_case};
-ghost use Rattle.fsrm_model.specs.Limits.{latest_moment};
+ghost use Rattle.fsrm_model.specs.Limits.{latest_moment, most_visits};
 ghost use Rattle.fsrm_model.specs.Line.{number_word, length_word, owner_word, path_word};
 ghost use Rattle.fsrm_model.specs.Reading.{is_number, number_from, path_from, choice_from};
 ghost use Rattle.tool_commands.specs.LineFaults.{Reads};
@@ -23,6 +23,8 @@ const LATEST_MOMENT: u64 = 4_102_444_799;
 const LONGEST_FILE: u64 = 17_592_185_978_880;
 
 const LAST_OWNER: u64 = u32::MAX as u64;
+
+const MOST_VISITS: u64 = 1_000_000;
 
 const MOST_DIGITS: usize = 20;
 
@@ -117,6 +119,14 @@ impl<'a> Words<'a> {
     {
         let owner = self.number(alloc, 1, LAST_OWNER)?;
         Ok(owner as u32)
+    }
+
+    /// Takes how many folders a step of a scan may visit, from 1.
+    pub fn visits(&mut self, alloc: Global) -> Result<u32, LineFault>
+        ensures { Takes result self.old self.new (number_word 1 most_visits) }
+    {
+        let visits = self.number(alloc, 1, MOST_VISITS)?;
+        Ok(visits as u32)
     }
 
     /// Takes a path.

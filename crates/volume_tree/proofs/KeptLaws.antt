@@ -185,28 +185,33 @@ own_named name old owner h g =
     let owned : nat_lt 0 owner ≡ true = (both (is_name old) (nat_lt 0 owner) g).1 in
     rw (h, owned) refl
 
--- a node at another place is kept
-pub kept_moved : (K : Capacity) (count used free now : ℕ) (slots made : List (Option NodeRow)) (order moved : List ℕ) (x d : ℕ) (name : List ℕ) → IsKept K count used free slots order → has_row number x (rows_of slots) ≡ true → (x == 0) ≡ false → is_folder (rows_of slots) d ≡ true → is_name name ≡ true → is_under (rows_of slots) x d ≡ false → is_other (child_number (rows_of slots) d name) x ≡ false → now + length (name_of (rows_of slots) x) ≡ used + length name → now ≤ K.names → AreSlots 0 made → rows_of made ≡ with_change number x (placed d name) (rows_of slots) → IsOrder (with_change number x (placed d name) (rows_of slots)) moved → IsKept K count now free made moved
-kept_moved K count used free now slots made order moved x d name k has inner folder named apart alone bytes fits are rows ordered =
-    let nodes = rows_of slots in
+-- where nothing is against a move, the nodes are those of a volume afterwards
+pub volume_placed : (K : Capacity) (nodes : List NodeRow) (x d : ℕ) (name : List ℕ) → IsVolume K nodes → has_row number x nodes ≡ true → (x == 0) ≡ false → is_folder nodes d ≡ true → is_name name ≡ true → is_under nodes x d ≡ false → is_other (child_number nodes d name) x ≡ false → name_bytes nodes + length name ≤ K.names + length (name_of nodes x) → IsVolume K (with_change number x (placed d name) nodes)
+volume_placed K nodes x d name v has inner folder named apart alone room =
     let f = has_found number x nodes has in
     let e : length (name_of nodes x) ≡ length f.row.name = ap length (found_name nodes x f.row f.is) in
-    let u = k.used_is in
-    let p = own_parts f.row (k.volume.own x f.row f.is inner) in
-    let sum = name_bytes-placed nodes x d name k.volume.ascending has in
+    let p = own_parts f.row (v.own x f.row f.is inner) in
     let first = own_named name f.row.name f.row.owner named p.named in
-    let used_here : now ≡ name_bytes (with_change number x (placed d name) nodes) = omega (arith, e, u, sum, bytes) in
+    volume-moved K nodes x d name v (record {
+      inner = inner;
+      row = f.row;
+      found = f.is;
+      folder = folder;
+      apart = apart;
+      own = own_joined (placed d name f.row) (record { named = first; short = p.short; made = p.made; changed = p.changed; seen = p.seen });
+      alone = λ s h. not_other (child_number nodes d name) s.number x alone (ap (option_map number) h);
+      names = omega (arith, e, room);
+    })
+
+-- a node at another place is kept
+pub kept_moved : (K : Capacity) (count used free now : ℕ) (slots made : List (Option NodeRow)) (order moved : List ℕ) (x d : ℕ) (name : List ℕ) → IsKept K count used free slots order → has_row number x (rows_of slots) ≡ true → IsVolume K (with_change number x (placed d name) (rows_of slots)) → now + length (name_of (rows_of slots) x) ≡ used + length name → AreSlots 0 made → rows_of made ≡ with_change number x (placed d name) (rows_of slots) → IsOrder (with_change number x (placed d name) (rows_of slots)) moved → IsKept K count now free made moved
+kept_moved K count used free now slots made order moved x d name k has volume bytes are rows ordered =
+    let nodes = rows_of slots in
+    let u = k.used_is in
+    let sum = name_bytes-placed nodes x d name k.volume.ascending has in
+    let used_here : now ≡ name_bytes (with_change number x (placed d name) nodes) = omega (arith, u, sum, bytes) in
     record {
-      volume = subst (IsVolume K) (sym rows) (volume-moved K nodes x d name k.volume (record {
-        inner = inner;
-        row = f.row;
-        found = f.is;
-        folder = folder;
-        apart = apart;
-        own = own_joined (placed d name f.row) (record { named = first; short = p.short; made = p.made; changed = p.changed; seen = p.seen });
-        alone = λ s h. not_other (child_number nodes d name) s.number x alone (ap (option_map number) h);
-        names = omega (arith, e, u, bytes, fits);
-      }));
+      volume = subst (IsVolume K) (sym rows) volume;
       size = k.size;
       slots_are = are;
       count_is = k.count_is ∙ (sym (length-change number x (placed d name) nodes) ∙ ap length (sym rows));
@@ -308,21 +313,23 @@ node_short K nodes n r v h = choose (n == 0) refl
     choose true e = let z = root_short r (v.root r (ap (node_of nodes) (sym (eq_is n 0 e)) ∙ h)) in omega (arith, z)
     choose false e = short_at r.folder r.length (own_parts r (v.own n r h e)).short
 
--- what a search for a node's new place found, whether another node has it, and the order afterwards
-pub record Sought (nodes : List NodeRow) (order moved : List ℕ) (x d : ℕ) (name : List ℕ) (found : Result ℕ ℕ) (other : Bool) : Type 0 where
+-- what a search for the place of a folder's name found
+pub record Sought (nodes : List NodeRow) (order : List ℕ) (d : ℕ) (name : List ℕ) (found : Result ℕ ℕ) : Type 0 where
   pub free : IfErr found (λ place. IsPlace nodes order d name place)
   pub taken : IfOk found (λ place. child_number nodes d name ≡ Some (slice_index order place))
   pub none : IfErr found (λ place. child_number nodes d name ≡ None)
-  pub own : IfOk found (λ place. other ≡ not (slice_index order place == x))
-  pub stays : OnOk found (moved ≡ order)
-  pub moves : IfErr found (λ place. IsShifted order moved x place)
 
-pub sought_alone : (nodes : List NodeRow) (order moved : List ℕ) (x d : ℕ) (name : List ℕ) (found : Result ℕ ℕ) (other : Bool) → Sought nodes order moved x d name found other → other ≡ false → is_other (child_number nodes d name) x ≡ false
-sought_alone nodes order moved x d name (Ok place) other s h = ap (λ o. is_other o x) s.taken ∙ (sym s.own ∙ h)
-sought_alone nodes order moved x d name (Err place) other s h = ap (λ o. is_other o x) s.none
+-- what a search found in copies, it found in what they are copies of
+pub sought_in : (slots read : List (Option NodeRow)) (order taken : List ℕ) (d : ℕ) (name text : List ℕ) (found : Result ℕ ℕ) → read ≡ slots → taken ≡ order → text ≡ name → Sought (rows_of read) taken d text found → Sought (rows_of slots) order d name found
+sought_in slots read order taken d name text found same_slots same_order same_name s =
+    subst (λ (rows : List (Option NodeRow)). Sought (rows_of rows) order d name found) same_slots
+    (subst (λ (numbers : List ℕ). Sought (rows_of read) numbers d name found) same_order
+    (subst (λ (bytes : List ℕ). Sought (rows_of read) taken d bytes found) same_name s))
 
-same_number : (n x : ℕ) → not (n == x) ≡ false → n ≡ x
-same_number n x h = grind (arith, nat_tests)
+-- nobody but the node itself has the name, where the test of what was found says so
+pub sought_alone : (nodes : List NodeRow) (order : List ℕ) (x d : ℕ) (name : List ℕ) (found : Result ℕ ℕ) (other : Bool) → Sought nodes order d name found → IfOk found (λ place. other ≡ not (slice_index order place == x)) → other ≡ false → is_other (child_number nodes d name) x ≡ false
+sought_alone nodes order x d name (Ok place) other s own h = ap (λ o. is_other o x) s.taken ∙ (sym own ∙ h)
+sought_alone nodes order x d name (Err place) other s own h = ap (λ o. is_other o x) s.none
 
 record FoundNumber (o : Option NodeRow) (x : ℕ) : Type 0 where
   pub row : NodeRow
@@ -334,16 +341,15 @@ some_number None x h = cc
 some_number (Some r) x h = record { row = r; is = refl; number_is = same_Some r.number x h }
 
 -- the order, once the node stands at its new place
-pub placed_order : (K : Capacity) (nodes : List NodeRow) (order moved : List ℕ) (x d : ℕ) (name : List ℕ) (found : Result ℕ ℕ) (other : Bool) → IsVolume K nodes → IsOrder nodes order → Sought nodes order moved x d name found other → other ≡ false → IsOrder (with_change number x (placed d name) nodes) moved
-placed_order K nodes order moved x d name (Ok place) other v ordered s h =
-    let same : slice_index order place ≡ x = same_number (slice_index order place) x (sym s.own ∙ h) in
+pub placed_order : (K : Capacity) (nodes : List NodeRow) (order moved : List ℕ) (x d : ℕ) (name : List ℕ) (found : Result ℕ ℕ) → IsVolume K nodes → IsOrder nodes order → Sought nodes order d name found → is_other (child_number nodes d name) x ≡ false → OnOk found (moved ≡ order) → IfErr found (λ place. IsShifted order moved x place) → IsOrder (with_change number x (placed d name) nodes) moved
+placed_order K nodes order moved x d name (Ok place) v ordered s alone stays moves =
+    let same : slice_index order place ≡ x = not_other (child_number nodes d name) (slice_index order place) x alone s.taken in
     let f = some_number (child_of nodes d name) x (s.taken ∙ ap Some same) in
     let child = child_found K nodes d name f.row v f.is in
     let there : node_of nodes x ≡ Some f.row = ap (node_of nodes) (sym f.number_is) ∙ child.found in
-    subst (IsOrder (with_change number x (placed d name) nodes)) (sym s.stays) (order_respelled nodes order x d name f.row v.ascending ordered there child.up child.same)
-placed_order K nodes order moved x d name (Err place) other v ordered s h =
-    let m = s.moves in
-    subst (IsOrder (with_change number x (placed d name) nodes)) (sym m.is) (order_moved nodes order x d m.from place name v.ascending ordered m.at s.none s.free)
+    subst (IsOrder (with_change number x (placed d name) nodes)) (sym stays) (order_respelled nodes order x d name f.row v.ascending ordered there child.up child.same)
+placed_order K nodes order moved x d name (Err place) v ordered s alone stays moves =
+    subst (IsOrder (with_change number x (placed d name) nodes)) (sym moves.is) (order_moved nodes order x d moves.from place name v.ascending ordered moves.at s.none s.free)
 
 children_fit_at : (p : NodeRow → Bool) (r : NodeRow) (nodes : List NodeRow) (b : Bool) → length (filter p nodes) ≤ length nodes → length (cond b (r ∷ filter p nodes) (filter p nodes)) ≤ suc (length nodes)
 children_fit_at p r nodes true l = omega (arith, l)

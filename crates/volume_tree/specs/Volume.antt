@@ -16,6 +16,12 @@ pub record Volume : Type 0 where
   pub size : Capacity
   pub nodes : List NodeRow
 
+-- a move: which node goes into which folder under which name
+pub record Move : Type 0 where
+  pub node : ℕ
+  pub folder : ℕ
+  pub name : List ℕ
+
 -- how large a volume may be
 pub record IsCapacity (size : Capacity) : Type 0 where
   pub nodes_least : 2 ≤ size.nodes

@@ -4,6 +4,7 @@
 mod answer;
 mod climb;
 mod entry;
+mod moves;
 mod order;
 mod rows;
 mod slots;
@@ -12,4 +13,5 @@ mod tests;
 mod tree;
 
 pub use answer::{NodeView, RowsFault, TreeFault};
+pub use moves::ReadyMove;
 pub use tree::Tree;

@@ -63,6 +63,25 @@ fn move_node<L: Ledger>(
     tree.move_node(node, folder, name, steps)
 }
 
+// Moves a node to a place that it hasn't yet, and looks between the halves.
+fn move_in_halves<L: Ledger>(
+    tree: &mut Tree,
+    end: &impl Abort,
+    node: u32,
+    folder: u32,
+    name: &str,
+    steps: &mut Steps<L>,
+) -> Result<(), TreeFault>
+    requires { is_name name.now ≡ true }
+{
+    assert!(end; node != 0 && tree.live(node));
+    assert!(end; is_folder(tree, folder, steps));
+    let ready = tree.ready_move(node, folder, name, steps)?;
+    assert_eq!(end; tree.child(folder, name, steps), None);
+    tree.make_move(ready, steps);
+    Ok(())
+}
+
 fn remove<L: Ledger>(
     tree: &mut Tree,
     end: &impl Abort,
@@ -247,6 +266,44 @@ fn nodes_move<N: Named>(rt: &HostRuntime, end: &impl Abort, blank: Blank) -> Res
 #[test]
 fn nodes_are_moved_and_removed(rt: HostRuntime) -> Result<(), Fail> {
     nodes_move::<Brand>(&rt, &rt, Blank::new(1))
+}
+
+fn nodes_move_in_halves<N: Named>(
+    rt: &HostRuntime,
+    end: &impl Abort,
+    blank: Blank,
+) -> Result<(), Fail>
+    requires name { blank.name ≡ N.name }
+    requires parts { blank.parts ≡ N.parts }
+    requires one { blank.parts ≡ 1 }
+{
+    let mut steps = Steps::new(rt, Weightless::<N>::of(blank));
+    let size = Capacity {
+        nodes: 9,
+        names: 256,
+    };
+    let mut tree = Tree::reserve(rt.alloc(), size)?;
+    assert_eq!(end; mkdir(&mut tree, end, 0, "a", &mut steps), Ok(1));
+    assert_eq!(end; create(&mut tree, end, 1, "bbb", &mut steps), Ok(2));
+    assert_eq!(end; create(&mut tree, end, 0, "c", &mut steps), Ok(3));
+    let below = move_in_halves(&mut tree, end, 1, 1, "d", &mut steps);
+    assert_eq!(end; below, Err(TreeFault::InvalidMove));
+    let taken = move_in_halves(&mut tree, end, 2, 0, "C", &mut steps);
+    assert_eq!(end; taken, Err(TreeFault::AlreadyExists));
+    assert_eq!(end; tree.child(1, "bbb", &mut steps), Some(2));
+    let up = move_in_halves(&mut tree, end, 2, 0, "b", &mut steps);
+    assert_eq!(end; up, Ok(()));
+    assert_eq!(end; tree.child(1, "bbb", &mut steps), None);
+    assert_eq!(end; tree.child_count(1, &mut steps), 0);
+    assert_eq!(end; child_name(&tree, end, 0, 1, &mut steps), "b");
+    assert_eq!(end; tree.child(0, "b", &mut steps), Some(2));
+    assert_eq!(end; tree.name_bytes(), 3);
+    Ok(())
+}
+
+#[test]
+fn nodes_are_moved_in_two_halves(rt: HostRuntime) -> Result<(), Fail> {
+    nodes_move_in_halves::<Brand>(&rt, &rt, Blank::new(1))
 }
 
 fn files_change<N: Named>(rt: &HostRuntime, end: &impl Abort, blank: Blank) -> Result<(), Fail>

@@ -8,11 +8,11 @@ ghost use Rattle.fsrm_model.specs.Limits.{longest_file, latest_moment};
 ghost use Rattle.fsrm_model.specs.Name.{is_name};
 ghost use Rattle.fsrm_model.specs.Tree.{number as key, fresh, is_folder, is_under, children, child_number, chain, resolve, name_bytes};
 ghost use Rattle.fsrm_model.specs.Valid.{is_tree, IsVolume};
-ghost use Rattle.volume_tree.specs.Volume.{IsCapacity, IsFault, IsChildAt, Shows, new_fault, move_fault, remove_fault, with_node, with_length, with_touch, with_place, without_node};
+ghost use Rattle.volume_tree.specs.Volume.{IsCapacity, IsFault, IsChildAt, Shows, new_fault, remove_fault, with_node, with_length, with_touch, without_node};
 
 use crate::answer::{NodeView, RowsFault, TreeFault};
 use crate::climb::is_at_or_below;
-use crate::entry::{is_other, own_place, reorder};
+use crate::entry::own_place;
 use crate::{order, rows, slots};
 use fsrm_model::{Capacity, Ledger, List, NoMemory, NodeRow, Path, Steps, Text};
 use std::alloc::Global;
@@ -51,16 +51,16 @@ impl NewNode {
 /// or passes; `steps` counts them.
 #[derive(Drop)]
 pub struct Tree {
-    size: Capacity,
+    pub(crate) size: Capacity,
     // How many nodes there are, the bytes of all their names, and the least number that is free.
     count: u32,
-    used: u32,
+    pub(crate) used: u32,
     free: u32,
     // Each row stands in the slot of its number.
-    slots: Vec<Option<NodeRow>>,
+    pub(crate) slots: Vec<Option<NodeRow>>,
     // The numbers of all nodes but the root, by folders and in each by folded names.
-    order: Vec<u32>,
-    alloc: Global,
+    pub(crate) order: Vec<u32>,
+    pub(crate) alloc: Global,
 }
 
 impl Model for Tree {
@@ -300,51 +300,6 @@ impl Tree {
     {
         steps.tick();
         slots::set_accessed(&mut self.slots, node, moment);
-    }
-
-    /// Moves a node other than the root into a folder, under a name; its number and moments stay. It
-    /// takes no more than 66 looks, and one for each node from the folder up to the root.
-    ///
-    /// It is refused where the folder is the node or below it, else where another child of the
-    /// folder has this name, else where the names would be full, less the old one. An `Err` changes
-    /// nothing.
-    pub fn move_node<L: Ledger>(
-        &mut self,
-        node: u32,
-        folder: u32,
-        name: &str,
-        steps: &mut Steps<L>,
-    ) -> Result<(), TreeFault>
-        requires there { has_row key node self.old.nodes ≡ true }
-        requires inner { (node == 0) ≡ false }
-        requires folder { is_folder self.old.nodes folder ≡ true }
-        requires name { is_name name.now ≡ true }
-        ensures made { OnOk result (self.new ≡ with_place self.old node folder name.now) }
-        ensures may { OnOk result (move_fault self.old node folder name.now ≡ None) }
-        ensures refused { IfErr result (λ fault. IsFault fault (move_fault self.old node folder name.now)) }
-        ensures err { OnErr result (self.new ≡ self.old) }
-        ensures kept { IsVolume self.new.size self.new.nodes }
-        ensures looks { steps.new ≤ steps.old + (66 + length (chain self.old.nodes folder)) }
-    {
-        if is_at_or_below(&self.slots, node, folder, steps) {
-            return Err(TreeFault::InvalidMove);
-        }
-        let found = order::search(&self.slots, &self.order, folder, name, steps);
-        if is_other(&self.order, found, node) {
-            return Err(TreeFault::AlreadyExists);
-        }
-        let old_bytes = slots::name_length(&self.slots, node);
-        let bytes = self.used as u64 + name.len() as u64;
-        if bytes > self.size.names as u64 + old_bytes as u64 {
-            return Err(TreeFault::NamesFull);
-        }
-        let Ok(text) = Text::from_str(self.alloc, name) else {
-            return Err(TreeFault::NoMemory);
-        };
-        reorder(&self.slots, &mut self.order, node, found, steps);
-        slots::set_place(&mut self.slots, node, folder, text);
-        self.used = (bytes - old_bytes as u64) as u32;
-        Ok(())
     }
 
     /// Takes away a node other than the root. It takes no more than 44 looks.

@@ -66,9 +66,29 @@ pub returns-clause-move_below_a_quota : goal.returns-clause-move_below_a_quota
 unfolding replied read_line simple_folding simple_folding_rows value_in chars digits is_utf8 utf8_valid_len lib.Utf8.encode
 returns-clause-move_below_a_quota c = refl
 
-pub returns-clause-quotas_that_wait : goal.returns-clause-quotas_that_wait
+pub returns-clause-scan_in_steps : goal.returns-clause-scan_in_steps
 unfolding replied read_line simple_folding simple_folding_rows value_in chars digits is_utf8 utf8_valid_len lib.Utf8.encode
-returns-clause-quotas_that_wait c = refl
+returns-clause-scan_in_steps c = refl
+
+pub returns-clause-visited_again : goal.returns-clause-visited_again
+unfolding replied read_line simple_folding simple_folding_rows value_in chars digits is_utf8 utf8_valid_len lib.Utf8.encode
+returns-clause-visited_again c = refl
+
+pub returns-clause-out_and_back : goal.returns-clause-out_and_back
+unfolding replied read_line simple_folding simple_folding_rows value_in chars digits is_utf8 utf8_valid_len lib.Utf8.encode
+returns-clause-out_and_back c = refl
+
+pub returns-clause-out_for_good : goal.returns-clause-out_for_good
+unfolding replied read_line simple_folding simple_folding_rows value_in chars digits is_utf8 utf8_valid_len lib.Utf8.encode
+returns-clause-out_for_good c = refl
+
+pub returns-clause-scan_refusals : goal.returns-clause-scan_refusals
+unfolding replied read_line simple_folding simple_folding_rows value_in chars digits is_utf8 utf8_valid_len lib.Utf8.encode
+returns-clause-scan_refusals c = refl
+
+pub returns-clause-scans_in_turn : goal.returns-clause-scans_in_turn
+unfolding replied read_line simple_folding simple_folding_rows value_in chars digits is_utf8 utf8_valid_len lib.Utf8.encode
+returns-clause-scans_in_turn c = refl
 
 pub returns-clause-quota_options : goal.returns-clause-quota_options
 unfolding replied read_line simple_folding simple_folding_rows value_in chars digits is_utf8 utf8_valid_len lib.Utf8.encode

@@ -1,90 +1,55 @@
-use Rattle.std.proofs.Common.{true, false, not, ◌==◌, length, refl, ap, sym, ◌∙◌, List}
+use Rattle.std.proofs.Common.{◌≡◌, true, false, refl, ap, sym, ◌∙◌, subst}
+use Rattle.std.specs.Prelude.{if◌then◌else◌}
 use Rattle.fsrm_model.specs.declared.command.Deed.TheVariants.{QuotaAdd}
+use Rattle.fsrm_model.specs.declared.command.Refusal.TheVariants.{TableFull}
 use Rattle.fsrm_model.specs.declared.row.QuotaRow.{QuotaRow}
-use Rattle.fsrm_model.specs.Keyed.{with_row}
-use Rattle.fsrm_model.specs.Quota.{folder_of}
+use Rattle.fsrm_model.specs.declared.row.QuotaState.TheVariants.{Disabled}
+use Rattle.fsrm_model.specs.Keyed.{has_row}
+use Rattle.fsrm_model.specs.Quota.{folder_of, counts, is_complete}
+use Rattle.fsrm_model.specs.QuotaStates.{start, with_quota}
 use Rattle.fsrm_model.specs.QuotaWork.{new_quota}
-use Rattle.fsrm_model.specs.Tree.{children}
-use Rattle.fsrm_objects.specs.Tables.{Tables}
-use Rattle.fsrm_engine.specs.Machine.{rows_at}
-use Rattle.fsrm_engine.proofs.PlaceLaws.{folder_within, target_is}
-use Rattle.fsrm_engine.proofs.QuotaLaws.{added, is_new, add_due, full_is, room_is, children_are, children_none, counter_room, counter_free, engine_kept, store_kept, quotas_done, quotas_refused}
+use Rattle.fsrm_model.specs.Tree.{usage}
+use Rattle.fsrm_engine.proofs.PlaceLaws.{target_is}
+use Rattle.fsrm_engine.proofs.StateLaws.{settled, add_checks, table_is, table_has, lacks_of, first_empty, empty_folder}
+use Rattle.fsrm_engine.proofs.WholeLaws.{refused_whole}
 use Rattle.fsrm_engine.proofs.engine.Engine.quota_add.Goals as goal
 
 pub returns-then-quota_count-ge-MOST_QUOTAS-clause-ok :
     goal.returns-then-quota_count-ge-MOST_QUOTAS-clause-ok
 returns-then-quota_count-ge-MOST_QUOTAS-clause-ok g c =
-    let v = c.self.inside.tree in
-    let quotas = c.self.inside.objects.quotas in
-    let at = folder_within v _ _ _ _ _ c.self.view_is c.in-Some.ensures.folder in
-    let new = is_new v.nodes quotas c.args.path.now c.in-Some.folder c.quota.result at c.quota.ensures (sym c.if-is_some.ensures) in
-    quotas_refused v quotas _ c.args.moment (QuotaAdd c.args.path.now c.args.limit c.args.enforce) _ _ _ c.self.view_is c.if-moment-self.false
-    (add_due v quotas c.self.inside.last_moment c.args.moment _ _ c.args.limit c.args.enforce true (not (length (children v.nodes c.in-Some.folder) == 0)) new
-    (full_is quotas c.quota_count.result c.quota_count.ensures c.if-quota_count-ge-MOST_QUOTAS.true) refl)
+    let R = c.args.self.now.rows in
+    let n = c.in-Some.folder in
+    let absent = lacks_of (λ q. q.state) R.quotas n c.state.result c.state.ensures (sym c.is_some.ensures ∙ c.if-is_some.false) in
+    refused_whole c.args.self.now c.args.moment (QuotaAdd c.args.path.now c.args.limit c.args.enforce c.args.enabled) c.refused-then-quota_count-ge-MOST_QUOTAS.result TableFull c.in-Some.ensures.idle c.requires.late
+    (add_checks R c.args.path.now n true (λ k. new_quota k c.args.limit c.args.enforce (if c.args.enabled then start R.nodes k else Disabled) c.args.moment) c.in-Some.ensures.folder absent
+    (table_is R.quotas _ c.quota_count.result c.quota_count.ensures c.if-quota_count-ge-MOST_QUOTAS.true))
     c.refused-then-quota_count-ge-MOST_QUOTAS.ensures
 
-pub returns-then-child_count-gt0-clause-ok : goal.returns-then-child_count-gt0-clause-ok
-returns-then-child_count-gt0-clause-ok g c =
-    let v = c.self.inside.tree in
-    let quotas = c.self.inside.objects.quotas in
-    let at = folder_within v _ _ _ _ _ c.self.view_is c.in-Some.ensures.folder in
-    let new = is_new v.nodes quotas c.args.path.now c.in-Some.folder c.quota.result at c.quota.ensures (sym c.if-is_some.ensures) in
-    quotas_refused v quotas _ c.args.moment (QuotaAdd c.args.path.now c.args.limit c.args.enforce) _ _ _ c.self.view_is c.if-moment-self.false
-    (add_due v quotas c.self.inside.last_moment c.args.moment _ _ c.args.limit c.args.enforce false true new
-    (room_is quotas c.quota_count.result c.quota_count.ensures c.if-quota_count-ge-MOST_QUOTAS.false)
-    (children_are _ c.child_count.result c.child_count.ensures.value c.if-child_count-gt0.true))
-    c.refused-then-child_count-gt0.ensures
+pub enlist-requires-clause-absent : goal.enlist-requires-clause-absent
+enlist-requires-clause-absent g c =
+    let R = c.args.self.now.rows in
+    ap (λ (q : QuotaRow). has_row folder_of q.folder R.quotas) c.new_quota-row.ensures
+    ∙ lacks_of (λ q. q.state) R.quotas c.in-Some.folder c.state.result c.state.ensures (sym c.is_some.ensures ∙ c.if-is_some.false)
 
-pub begin-requires-clause-room : goal.begin-requires-clause-room
-begin-requires-clause-room g c =
-    counter_room _ _ _ _ c.quota_count.result c.self.invariant c.quota_count.ensures c.if-quota_count-ge-MOST_QUOTAS.false
+pub enlist-requires-clause-nothing : goal.enlist-requires-clause-nothing
+enlist-requires-clause-nothing g c =
+    let R = c.args.self.now.rows in
+    let K = c.args.self.now.size in
+    let n = c.in-Some.folder in
+    subst (λ (q : QuotaRow). counts q ≡ true → usage K R.nodes q.folder ≡ 0) (sym c.new_quota-row.ensures)
+    (λ t. empty_folder K R.nodes n c.in-Some.ensures.store.volume c.in-Some.ensures.folder.folder
+    (first_empty R.nodes n c.args.enabled (sym (ap is_complete c.first_state-state.ensures.state) ∙ t)))
 
-pub begin-requires-clause-free : goal.begin-requires-clause-free
-begin-requires-clause-free g c =
-    let v = c.self.inside.tree in
-    let at = folder_within v _ _ _ _ _ c.self.view_is c.in-Some.ensures.folder in
-    counter_free _ _ _ _ c.in-Some.folder c.self.invariant
-    (is_new _ _ _ _ c.quota.result at c.quota.ensures (sym c.if-is_some.ensures)).absent
-
-pub invariant_of-self : goal.invariant_of-self
-invariant_of-self g c =
-    let v = c.self.inside.tree in
-    let quotas = c.self.inside.objects.quotas in
-    let at = folder_within v _ _ _ _ _ c.self.view_is c.in-Some.ensures.folder in
-    let new = is_new v.nodes quotas c.args.path.now c.in-Some.folder c.quota.result at c.quota.ensures (sym c.if-is_some.ensures) in
-    engine_kept _ _ _ _ _ _ c.args.moment c.self.invariant c.requires.moment
-    (added v.size v.nodes quotas c.self.inside.usage c.begin.new.self c.add_quota.new.self c.new_quota.result c.args.moment c.in-Some.folder c.args.limit c.args.enforce c.quota_count.result c.child_count.result
-    c.args.path.now c.self.invariant c.requires.moment c.requires.limit new c.quota_count.ensures c.if-quota_count-ge-MOST_QUOTAS.false c.child_count.ensures.value c.if-child_count-gt0.false
-    c.new_quota.ensures c.in-Ok.ensures.ok c.begin.ensures)
-
-pub returns-in-Ok-clause-ok : goal.returns-in-Ok-clause-ok
-returns-in-Ok-clause-ok g c =
-    let v = c.self.inside.tree in
-    let quotas = c.self.inside.objects.quotas in
-    let last = c.self.inside.last_moment in
-    let at = folder_within v _ _ _ _ _ c.self.view_is c.in-Some.ensures.folder in
-    let new = is_new v.nodes quotas c.args.path.now c.in-Some.folder c.quota.result at c.quota.ensures (sym c.if-is_some.ensures) in
-    quotas_done v quotas _ _ last c.args.moment (QuotaAdd c.args.path.now c.args.limit c.args.enforce) _ _ _ c.self.view_is c.if-moment-self.false
-    (add_due v quotas last c.args.moment _ _ c.args.limit c.args.enforce false false new
-    (room_is quotas c.quota_count.result c.quota_count.ensures c.if-quota_count-ge-MOST_QUOTAS.false)
-    (children_none _ c.child_count.result c.child_count.ensures.value c.if-child_count-gt0.false))
-    (ap (λ (qs : List QuotaRow). rows_at v.nodes qs last)
-    (ap (λ n. with_row folder_of (new_quota n c.args.limit c.args.enforce c.args.moment) quotas) (target_is v.nodes c.args.path.now _ at.resolved)
-    ∙ sym (ap (λ (t : Tables). t.quotas) c.in-Ok.ensures.ok ∙ ap (λ (q : QuotaRow). with_row folder_of q quotas) c.new_quota.ensures)))
-    refl refl
-    (added v.size v.nodes quotas c.self.inside.usage c.begin.new.self c.add_quota.new.self c.new_quota.result c.args.moment c.in-Some.folder c.args.limit c.args.enforce c.quota_count.result c.child_count.result
-    c.args.path.now c.self.invariant c.requires.moment c.requires.limit new c.quota_count.ensures c.if-quota_count-ge-MOST_QUOTAS.false c.child_count.ensures.value c.if-child_count-gt0.false
-    c.new_quota.ensures c.in-Ok.ensures.ok c.begin.ensures)
-    c.done.ensures.rows c.done.ensures.answer
-
-pub returns-in-Ok-clause-kept : goal.returns-in-Ok-clause-kept
-returns-in-Ok-clause-kept g c =
-    let v = c.self.inside.tree in
-    let quotas = c.self.inside.objects.quotas in
-    let at = folder_within v _ _ _ _ _ c.self.view_is c.in-Some.ensures.folder in
-    let new = is_new v.nodes quotas c.args.path.now c.in-Some.folder c.quota.result at c.quota.ensures (sym c.if-is_some.ensures) in
-    store_kept v _ _ c.args.moment _ c.self.invariant.volume
-    (added v.size v.nodes quotas c.self.inside.usage c.begin.new.self c.add_quota.new.self c.new_quota.result c.args.moment c.in-Some.folder c.args.limit c.args.enforce c.quota_count.result c.child_count.result
-    c.args.path.now c.self.invariant c.requires.moment c.requires.limit new c.quota_count.ensures c.if-quota_count-ge-MOST_QUOTAS.false c.child_count.ensures.value c.if-child_count-gt0.false
-    c.new_quota.ensures c.in-Ok.ensures.ok c.begin.ensures)
-    c.done.ensures.rows
+pub returns-clause-ok : goal.returns-clause-ok
+returns-clause-ok g c =
+    let R = c.args.self.now.rows in
+    let n = c.in-Some.folder in
+    let at = c.in-Some.ensures.folder in
+    let absent = lacks_of (λ q. q.state) R.quotas n c.state.result c.state.ensures (sym c.is_some.ensures ∙ c.if-is_some.false) in
+    settled c.args.self.now c.enlist.new.self c.done.new.self c.args.moment (QuotaAdd c.args.path.now c.args.limit c.args.enforce c.args.enabled) c.done.result (with_quota R c.new_quota-row.result) c.in-Some.ensures.idle c.requires.late
+    (add_checks R c.args.path.now n false (λ k. new_quota k c.args.limit c.args.enforce (if c.args.enabled then start R.nodes k else Disabled) c.args.moment) at absent
+    (table_has R.quotas _ c.quota_count.result c.quota_count.ensures c.if-quota_count-ge-MOST_QUOTAS.false))
+    (ap (λ k. with_quota R (new_quota k c.args.limit c.args.enforce (if c.args.enabled then start R.nodes k else Disabled) c.args.moment)) (target_is R.nodes c.args.path.now n at.resolved)
+    ∙ (ap (λ s. with_quota R (new_quota n c.args.limit c.args.enforce s c.args.moment)) (sym c.first_state-state.ensures.state)
+    ∙ ap (with_quota R) (sym c.new_quota-row.ensures)))
+    refl refl c.in_ok-enlist.ensures.listed c.in_ok-enlist.ensures.level c.done.ensures.rows c.done.ensures.answer

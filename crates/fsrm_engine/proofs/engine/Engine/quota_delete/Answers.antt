@@ -1,36 +1,22 @@
-use Rattle.std.proofs.Common.{refl, ap, sym, ◌∙◌, List}
 use Rattle.fsrm_model.specs.declared.command.Deed.TheVariants.{QuotaDelete}
-use Rattle.fsrm_model.specs.declared.row.QuotaRow.{QuotaRow}
-use Rattle.fsrm_model.specs.Keyed.{without_row}
-use Rattle.fsrm_model.specs.Quota.{folder_of}
-use Rattle.fsrm_objects.specs.Tables.{Tables}
-use Rattle.fsrm_engine.specs.Machine.{rows_at}
-use Rattle.fsrm_engine.proofs.PlaceLaws.{folder_within, target_is}
-use Rattle.fsrm_engine.proofs.QuotaLaws.{kept_same, kept_without, engine_kept, store_kept, on_folder, quota_due, quotas_done}
+use Rattle.fsrm_engine.specs.Machine.{rows_with}
+use Rattle.fsrm_engine.proofs.BesideLaws.{delete_beside, queue_delete, whole_ok, scans_kept}
+use Rattle.fsrm_engine.proofs.TurnLaws.{store_of}
 use Rattle.fsrm_engine.proofs.engine.Engine.quota_delete.Goals as goal
 
 pub invariant_of-self : goal.invariant_of-self
 invariant_of-self g c =
-    engine_kept _ _ _ _ _ _ c.args.moment c.self.invariant c.requires.moment
-    (kept_same _ _ _ _ _ _ _ c.drop_quota.ensures.usage (ap (λ (t : Tables). t.quotas) c.drop_quota.ensures.objects)
-    (kept_without _ _ _ _ c.args.moment c.in-Some.folder c.self.invariant))
+    let a = c.self.inside.accounts in
+    let s = c.self.inside.scans in
+    let e = c.quota_delete.ensures in
+    scans_kept a c.quota_delete.new.self s c.quota_delete.new.scans (record { moment = c.args.moment; deed = QuotaDelete c.args.path.now }) c.quota_delete.result (delete_beside a s c.args.path.now c.args.moment) e.ok e.scans e.scanning
+    (queue_delete a.size (rows_with a s) c.args.path.now c.args.moment c.self.invariant.queue)
 
 pub returns-clause-ok : goal.returns-clause-ok
 returns-clause-ok g c =
-    let v = c.self.inside.tree in
-    let quotas = c.self.inside.objects.quotas in
-    let at = folder_within v _ _ _ _ _ c.self.view_is c.in-Some.ensures.folder in
-    let is = ap (λ (t : Tables). t.quotas) c.drop_quota.ensures.objects in
-    quotas_done v quotas _ _ _ c.args.moment (QuotaDelete c.args.path.now) _ _ _ c.self.view_is c.if-moment-self.false
-    (quota_due _ _ c.self.inside.last_moment _ _ (on_folder _ _ _ _ c.quota.result at c.quota.ensures c.if-is_none.ensures))
-    (ap (λ (qs : List QuotaRow). rows_at v.nodes qs c.self.inside.last_moment) (ap (λ n. without_row folder_of n quotas) (target_is v.nodes c.args.path.now _ at.resolved) ∙ sym is))
-    refl refl
-    (kept_same _ _ _ _ _ _ _ c.drop_quota.ensures.usage is (kept_without _ _ _ _ c.args.moment c.in-Some.folder c.self.invariant))
-    c.done.ensures.rows c.done.ensures.answer
+    let a = c.self.inside.accounts in
+    let s = c.self.inside.scans in
+    whole_ok a c.quota_delete.new.self s c.quota_delete.new.scans c.args.self.now (record { moment = c.args.moment; deed = QuotaDelete c.args.path.now }) c.quota_delete.result c.self.view_is (delete_beside a s c.args.path.now c.args.moment) c.quota_delete.ensures.ok c.quota_delete.ensures.scans
 
 pub returns-clause-kept : goal.returns-clause-kept
-returns-clause-kept g c =
-    store_kept c.self.inside.tree _ _ c.args.moment _ c.self.invariant.volume
-    (kept_same _ _ _ _ _ _ _ c.drop_quota.ensures.usage (ap (λ (t : Tables). t.quotas) c.drop_quota.ensures.objects)
-    (kept_without _ _ _ _ c.args.moment c.in-Some.folder c.self.invariant))
-    c.done.ensures.rows
+returns-clause-kept g c = store_of c.quota_delete.new.self c.quota_delete.new.scans c.quota_delete.ensures.kept (invariant_of-self g c)

@@ -1,0 +1,413 @@
+-- Quotas that come, change and go, with their counters.
+use Rattle.std.proofs.Common.{◌≡◌, ℕ, ◌<◌, ◌≤◌, ◌==◌, Bool, true, false, cond, not, ◌||◌, ◌&&◌, ◌∷◌, inl, inr, List, [], length, Option, Some, None, nat_lt, refl, ap, sym, ◌∙◌, subst, arith}
+use Rattle.std.proofs.lemmas.Bool.Decides.{nat_tests}
+use Rattle.std.proofs.lemmas.Option.{same_Some}
+use Rattle.std.specs.Prelude.{map, filter, is_some, option_map, if◌then◌else◌}
+use Rattle.fsrm_model.specs.declared.row.Capacity.{Capacity}
+use Rattle.fsrm_model.specs.declared.row.NodeRow.{NodeRow}
+use Rattle.fsrm_model.specs.declared.row.QuotaRow.{QuotaRow}
+use Rattle.fsrm_model.specs.declared.row.QuotaState.{QuotaState}
+use Rattle.fsrm_model.specs.declared.row.QuotaState.TheVariants.{Complete, Disabled, Rebuilding, Incomplete}
+use Rattle.fsrm_model.specs.Keyed.{row_of, has_row, is_ascending, with_row, with_change, without_row}
+use Rattle.fsrm_model.specs.Limits.{latest_moment, most_quotas}
+use Rattle.fsrm_model.specs.Quota.{folder_of, counts, is_complete, is_limit, peaked}
+use Rattle.fsrm_model.specs.QuotaStates.{in_state}
+use Rattle.fsrm_model.specs.Tree.{is_folder, usage}
+use Rattle.fsrm_model.specs.Valid.{AreQuotas, is_moment}
+use Rattle.fsrm_model.proofs.ChangeLaws.{absent_later, ascending_tail}
+use Rattle.fsrm_model.proofs.Look.{FoundRow, found_key, found_has, has_found, changed_found, row_of-without, has_row-without, new_found, is_some-find}
+use Rattle.fsrm_model.proofs.Order.{ascending-with_row, ascending-change, ascending-filter, length-with_row, length-change}
+use Rattle.fsrm_model.proofs.TestLaws.{is_or_not, not_true, clash, eq_is, eq_same, lt_is}
+use Rattle.quota_usage.specs.declared.change.Counter.{Counter}
+use Rattle.quota_usage.specs.Counters.{counted, used_in, with_counter, without_counter}
+use Rattle.fsrm_engine.specs.Machine.{counter_of, sums_of, IsEngine}
+use Rattle.fsrm_engine.specs.Peaks.{raised}
+use Rattle.fsrm_engine.proofs.PeakLaws.{engine_peaked, peak_stays, peaks_stay, raised_is}
+use Rattle.fsrm_engine.proofs.RowLaws.{change_same, each_found, map_same}
+use Rattle.fsrm_engine.proofs.SumLaws.{used_found, sums_few, sums_has, sums_with, sums_without, sums_kept}
+
+-- rows that have no row of a number
+lacks_one : {X : Type 0} (x y : X) (xs ys : List X) (b c : Bool) → (b || c) ≡ false → (c ≡ false → ys ≡ xs) → cond b y x ∷ ys ≡ x ∷ xs
+lacks_one x y xs ys true c h f = cc
+lacks_one x y xs ys false c h f = ap (λ zs. x ∷ zs) (f h)
+
+pub change_lacking : {X : Type 0} (key : X → ℕ) (n : ℕ) (c : X → X) (rows : List X) → has_row key n rows ≡ false → with_change key n c rows ≡ rows
+change_lacking key n c [] h = refl
+change_lacking key n c (x ∷ rows) h = lacks_one x (c x) rows (with_change key n c rows) (key x == n) (has_row key n rows) h (change_lacking key n c rows)
+
+lacks_kept : {X : Type 0} (x : X) (xs ys : List X) (b c : Bool) → (b || c) ≡ false → (c ≡ false → ys ≡ xs) → cond (not b) (x ∷ ys) ys ≡ x ∷ xs
+lacks_kept x xs ys true c h f = cc
+lacks_kept x xs ys false c h f = ap (λ zs. x ∷ zs) (f h)
+
+pub without_lacking : {X : Type 0} (key : X → ℕ) (n : ℕ) (rows : List X) → has_row key n rows ≡ false → without_row key n rows ≡ rows
+without_lacking key n [] h = refl
+without_lacking key n (x ∷ rows) h = lacks_kept x rows (without_row key n rows) (key x == n) (has_row key n rows) h (without_lacking key n rows)
+
+-- a row that stands for the one before it in ascending rows
+to_front : {X : Type 0} (key : X → ℕ) (row r : X) (rows : List X) → key r ≡ key row → is_ascending key (r ∷ rows) ≡ true → with_row key row rows ≡ row ∷ rows
+to_front key row r [] k asc = refl
+to_front key row r (s ∷ rows) k asc = at (nat_lt (key r) (key s)) (ap (λ n. nat_lt n (key s)) (sym k)) asc
+  where
+    at : (b : Bool) → nat_lt (key row) (key s) ≡ b → (b && is_ascending key (s ∷ rows)) ≡ true → with_row key row (s ∷ rows) ≡ row ∷ s ∷ rows
+    at true e h = ap (λ b. cond b (row ∷ s ∷ rows) (s ∷ with_row key row rows)) e
+    at false e h = cc
+
+at_most : (n m : ℕ) → n ≡ m → m ≤ n
+at_most n m h = omega arith
+
+-- another row in the place of one is one less, and one more
+pub changed_to : {X : Type 0} (key : X → ℕ) (n : ℕ) (row : X) (rows : List X) → is_ascending key rows ≡ true → key row ≡ n → has_row key n rows ≡ true → with_change key n (λ old. row) rows ≡ with_row key row (without_row key n rows)
+changed_to key n row [] asc k h = cc
+changed_to key n row (r ∷ rows) asc k h = at (key r == n) refl h (changed_to key n row rows (ascending_tail key r rows asc) k)
+  where
+    at : (b : Bool) → (key r == n) ≡ b → (b || has_row key n rows) ≡ true → (has_row key n rows ≡ true → with_change key n (λ old. row) rows ≡ with_row key row (without_row key n rows)) → cond b row r ∷ with_change key n (λ old. row) rows ≡ with_row key row (cond (not b) (r ∷ without_row key n rows) (without_row key n rows))
+    at true e h f =
+        let same : key r ≡ n = eq_is (key r) n e in
+        let lacks = absent_later key n r rows (at_most (key r) n same) asc in
+        ap (λ rs. row ∷ rs) (change_lacking key n (λ old. row) rows lacks)
+        ∙ (sym (to_front key row r rows (same ∙ sym k) asc) ∙ sym (ap (with_row key row) (without_lacking key n rows lacks)))
+    at false e h f =
+        ap (λ rs. r ∷ rs) (f h)
+        ∙ sym (ap (λ b. cond b (row ∷ r ∷ without_row key n rows) (r ∷ with_row key row (without_row key n rows))) (not_true _ (λ t.
+        clash (has_row key n rows) h (absent_later key n r rows (before (key row) (key r) n k (lt_is (key row) (key r) t)) asc))))
+      where
+        before : (a b n : ℕ) → a ≡ n → a < b → n ≤ b
+        before a b n k l = omega arith
+
+-- a quota more that doesn't count
+pub sums_more : (K : Capacity) (nodes : List NodeRow) (q : QuotaRow) (quotas : List QuotaRow) → counts q ≡ false → sums_of K nodes (with_row folder_of q quotas) ≡ sums_of K nodes quotas
+sums_more K nodes q [] c = ap (λ b. map (counter_of K nodes) (cond b (q ∷ []) [])) c
+sums_more K nodes q (r ∷ rows) c = at (nat_lt (folder_of q) (folder_of r)) (counts r) refl refl (sums_more K nodes q rows c)
+  where
+    at : (b d : Bool) → nat_lt (folder_of q) (folder_of r) ≡ b → counts r ≡ d → sums_of K nodes (with_row folder_of q rows) ≡ sums_of K nodes rows → sums_of K nodes (cond (nat_lt (folder_of q) (folder_of r)) (q ∷ r ∷ rows) (r ∷ with_row folder_of q rows)) ≡ map (counter_of K nodes) (cond (counts r) (r ∷ filter counts rows) (filter counts rows))
+    at true d l e h = rw (l, c) refl
+    at false true l e h = rw (l, e) (ap (λ cs. counter_of K nodes r ∷ cs) h)
+    at false false l e h = rw (l, e) h
+
+-- Another quota in the place of a folder's: one that doesn't count, and one that counts where that didn't
+pub sums_ended : (K : Capacity) (nodes : List NodeRow) (n : ℕ) (q : QuotaRow) (quotas : List QuotaRow) → is_ascending folder_of quotas ≡ true → q.folder ≡ n → has_row folder_of n quotas ≡ true → counts q ≡ false → sums_of K nodes (with_change folder_of n (λ old. q) quotas) ≡ without_row counted n (sums_of K nodes quotas)
+sums_ended K nodes n q quotas asc k h c =
+    ap (sums_of K nodes) (changed_to folder_of n q quotas asc k h)
+    ∙ (sums_more K nodes q (without_row folder_of n quotas) c ∙ sums_without K nodes n quotas)
+
+-- whether a folder has a counter
+pub counter_found : (counters : List Counter) (n : ℕ) (o : Option ℕ) (b : Bool) → o ≡ used_in counters n → is_some o ≡ b → has_row counted n counters ≡ b
+counter_found counters n o b h e =
+    sym (is_some-find (λ c. counted c == n) counters) ∙ (sym (mapped (row_of counted n counters)) ∙ (ap is_some (sym h) ∙ e))
+  where
+    mapped : (o : Option Counter) → is_some (option_map (λ (c : Counter). c.bytes) o) ≡ is_some o
+    mapped None = refl
+    mapped (Some c) = refl
+
+-- It does exactly where its quota counts
+pub counter_is : (K : Capacity) (nodes : List NodeRow) (n : ℕ) (q : QuotaRow) (quotas : List QuotaRow) → is_ascending folder_of quotas ≡ true → row_of folder_of n quotas ≡ Some q → has_row counted n (sums_of K nodes quotas) ≡ counts q
+counter_is K nodes n q quotas asc found =
+    counter_found (sums_of K nodes quotas) n (used_in (sums_of K nodes quotas) n) (counts q) refl
+    (ap is_some (used_found K nodes quotas n q asc found) ∙ at (counts q))
+  where
+    at : (b : Bool) → is_some (cond b (Some (usage K nodes q.folder)) None) ≡ b
+    at true = refl
+    at false = refl
+
+pub sums_begun : (K : Capacity) (nodes : List NodeRow) (n : ℕ) (q : QuotaRow) (quotas : List QuotaRow) → is_ascending folder_of quotas ≡ true → q.folder ≡ n → has_row folder_of n quotas ≡ true → counts q ≡ true → has_row counted n (sums_of K nodes quotas) ≡ false → sums_of K nodes (with_change folder_of n (λ old. q) quotas) ≡ with_counter (sums_of K nodes quotas) n (usage K nodes n)
+sums_begun K nodes n q quotas asc k h c lacks =
+    ap (sums_of K nodes) (changed_to folder_of n q quotas asc k h)
+    ∙ (sums_with K nodes q (without_row folder_of n quotas) c (ascending-filter folder_of (λ r. not (folder_of r == n)) quotas asc)
+    ∙ (ap (with_row counted (counter_of K nodes q)) (sums_without K nodes n quotas ∙ without_lacking counted n (sums_of K nodes quotas) lacks)
+    ∙ ap (λ k. with_counter (sums_of K nodes quotas) k (usage K nodes k)) k))
+
+-- what an engine keeps when a quota comes
+of_new : (quota : QuotaRow) (P : ℕ → QuotaRow → Type 0) (f : ℕ) (quotas : List QuotaRow) (r : QuotaRow) → has_row folder_of quota.folder quotas ≡ false → P quota.folder quota → ((r : QuotaRow) → row_of folder_of f quotas ≡ Some r → P f r) → row_of folder_of f (with_row folder_of quota quotas) ≡ Some r → P f r
+of_new quota P f quotas r absent new old h =
+    elim (new_found folder_of quota f quotas r absent h).other [
+      | inl own ↦ subst (λ k. P k r) (sym own.0) (subst (P quota.folder) (sym own.1) new)
+      | inr later ↦ old r later.1
+    ]
+
+pub engine_with : (K : Capacity) (nodes : List NodeRow) (quotas : List QuotaRow) (counters made : List Counter) (quota : QuotaRow) → IsEngine K nodes quotas counters → has_row folder_of quota.folder quotas ≡ false → length quotas < most_quotas → is_folder nodes quota.folder ≡ true → is_limit quota.limit ≡ true → is_moment quota.peak_at ≡ true → (counts quota ≡ true → usage K nodes quota.folder ≤ quota.peak) → made ≡ sums_of K nodes (with_row folder_of quota quotas) → IsEngine K nodes (with_row folder_of quota quotas) made
+engine_with K nodes quotas counters made quota e absent room folder limit moment peak sums =
+    let q = e.are_quotas in
+    record {
+      volume = e.volume;
+      legal = e.legal;
+      are_quotas = record {
+        ascending = ascending-with_row folder_of quota quotas absent q.ascending;
+        few = omega (arith, length-with_row folder_of quota quotas);
+        folders = λ f r h. of_new quota (λ f r. is_folder nodes f ≡ true) f quotas r absent folder (q.folders f) h;
+        limits = λ f r h. of_new quota (λ f r. is_limit r.limit ≡ true) f quotas r absent limit (q.limits f) h;
+        moments = λ f r h. of_new quota (λ f r. is_moment r.peak_at ≡ true) f quotas r absent moment (q.moments f) h;
+      };
+      sums = sums;
+      peaks = λ f r h. of_new quota (λ f r. counts r ≡ true → usage K nodes f ≤ r.peak) f quotas r absent peak (e.peaks f) h;
+    }
+
+-- when one goes
+without_found : (n f : ℕ) (quotas : List QuotaRow) (q : QuotaRow) → row_of folder_of f (without_row folder_of n quotas) ≡ Some q → row_of folder_of f quotas ≡ Some q
+without_found n f quotas q h =
+    elim (is_or_not (f == n)) [
+      | inl t ↦ absurd (clash (has_row folder_of f (without_row folder_of n quotas)) (found_has folder_of f (without_row folder_of n quotas) q h)
+          (ap (λ k. has_row folder_of k (without_row folder_of n quotas)) (eq_is f n t) ∙ has_row-without folder_of n quotas))
+      | inr t ↦ sym (row_of-without folder_of n f quotas t) ∙ h
+    ]
+
+filter_few : {X : Type 0} (p : X → Bool) (xs : List X) → length (filter p xs) ≤ length xs
+filter_few p [] = omega arith
+filter_few p (x ∷ xs) = at (p x) (filter_few p xs)
+  where
+    at : (b : Bool) → length (filter p xs) ≤ length xs → length (cond b (x ∷ filter p xs) (filter p xs)) ≤ length (x ∷ xs)
+    at true h = omega arith
+    at false h = omega arith
+
+pub engine_without : (K : Capacity) (nodes : List NodeRow) (quotas : List QuotaRow) (counters made : List Counter) (n : ℕ) → IsEngine K nodes quotas counters → made ≡ without_counter counters n → IsEngine K nodes (without_row folder_of n quotas) made
+engine_without K nodes quotas counters made n e is =
+    let q = e.are_quotas in
+    record {
+      volume = e.volume;
+      legal = e.legal;
+      are_quotas = record {
+        ascending = ascending-filter folder_of (λ r. not (folder_of r == n)) quotas q.ascending;
+        few = omega (arith, filter_few (λ r. not (folder_of r == n)) quotas, q.few);
+        folders = λ f r h. q.folders f r (without_found n f quotas r h);
+        limits = λ f r h. q.limits f r (without_found n f quotas r h);
+        moments = λ f r h. q.moments f r (without_found n f quotas r h);
+      };
+      sums = is ∙ (ap (without_row counted n) e.sums ∙ sym (sums_without K nodes n quotas));
+      peaks = λ f r h. e.peaks f r (without_found n f quotas r h);
+    }
+
+-- and when one changes
+of_changed : (n : ℕ) (c : QuotaRow → QuotaRow) (P : QuotaRow → Type 0) → ((r : QuotaRow) → (c r).folder ≡ r.folder) → (f : ℕ) (quotas : List QuotaRow) (r : QuotaRow) → ((r : QuotaRow) → row_of folder_of f quotas ≡ Some r → (f ≡ n → P (c r)) × P r) → row_of folder_of f (with_change folder_of n c quotas) ≡ Some r → P r
+of_changed n c P k f quotas r old h =
+    let w = changed_found folder_of n c k f quotas r h in
+    subst P (sym w.is) (at (f == n) refl w.row (old w.row w.found))
+  where
+    at : (b : Bool) → (f == n) ≡ b → (r : QuotaRow) → (f ≡ n → P (c r)) × P r → P (cond b (c r) r)
+    at true e r p = p.0 (eq_is f n e)
+    at false e r p = p.1
+
+pub are_changed : (nodes : List NodeRow) (quotas : List QuotaRow) (n : ℕ) (c : QuotaRow → QuotaRow) → AreQuotas nodes quotas → ((r : QuotaRow) → (c r).folder ≡ r.folder) → ((r : QuotaRow) → row_of folder_of n quotas ≡ Some r → is_limit (c r).limit ≡ true) → ((r : QuotaRow) → row_of folder_of n quotas ≡ Some r → is_moment (c r).peak_at ≡ true) → AreQuotas nodes (with_change folder_of n c quotas)
+are_changed nodes quotas n c q k limit moment =
+    record {
+      ascending = ascending-change folder_of n c k quotas q.ascending;
+      few = omega (arith, length-change folder_of n c quotas, q.few);
+      folders = λ f r h. q.folders f _ (changed_found folder_of n c k f quotas r h).found;
+      limits = λ f r h. of_changed n c (λ r. is_limit r.limit ≡ true) k f quotas r (λ r found. (λ same. limit r (subst (λ m. row_of folder_of m quotas ≡ Some r) same found), q.limits f r found)) h;
+      moments = λ f r h. of_changed n c (λ r. is_moment r.peak_at ≡ true) k f quotas r (λ r found. (λ same. moment r (subst (λ m. row_of folder_of m quotas ≡ Some r) same found), q.moments f r found)) h;
+    }
+
+pub engine_changed : (K : Capacity) (nodes : List NodeRow) (quotas : List QuotaRow) (counters made : List Counter) (n : ℕ) (c : QuotaRow → QuotaRow) → IsEngine K nodes quotas counters → ((r : QuotaRow) → (c r).folder ≡ r.folder) → ((r : QuotaRow) → row_of folder_of n quotas ≡ Some r → is_limit (c r).limit ≡ true) → ((r : QuotaRow) → row_of folder_of n quotas ≡ Some r → is_moment (c r).peak_at ≡ true) → ((r : QuotaRow) → row_of folder_of n quotas ≡ Some r → counts (c r) ≡ true → usage K nodes n ≤ (c r).peak) → made ≡ sums_of K nodes (with_change folder_of n c quotas) → IsEngine K nodes (with_change folder_of n c quotas) made
+engine_changed K nodes quotas counters made n c e k limit moment peak sums =
+    record {
+      volume = e.volume;
+      legal = e.legal;
+      are_quotas = are_changed nodes quotas n c e.are_quotas k limit moment;
+      sums = sums;
+      peaks = λ f r h. of_changed n c (λ r. counts r ≡ true → usage K nodes f ≤ r.peak) k f quotas r (λ r found. (
+        λ same t. subst (λ m. usage K nodes m ≤ (c r).peak) (sym same) (peak r (subst (λ m. row_of folder_of m quotas ≡ Some r) same found) t),
+        e.peaks f r found,
+      )) h;
+    }
+
+-- a quota that is put in the place of a folder's
+abbrev pub put_in : QuotaRow → QuotaRow → QuotaRow
+put_in quota old = record quota { folder = old.folder }
+
+pub put_is : (quota : QuotaRow) (quotas : List QuotaRow) → is_ascending folder_of quotas ≡ true → with_change folder_of quota.folder (λ old. quota) quotas ≡ with_change folder_of quota.folder (put_in quota) quotas
+put_is quota quotas asc =
+    change_same folder_of quota.folder (λ old. quota) (put_in quota) quotas asc (λ r found. ap (λ n. record quota { folder = n }) (sym (found_key folder_of quota.folder quotas r found)))
+
+pub engine_put : (K : Capacity) (nodes : List NodeRow) (quotas : List QuotaRow) (counters made : List Counter) (quota : QuotaRow) → IsEngine K nodes quotas counters → is_limit quota.limit ≡ true → is_moment quota.peak_at ≡ true → (counts quota ≡ true → usage K nodes quota.folder ≤ quota.peak) → made ≡ sums_of K nodes (with_change folder_of quota.folder (λ old. quota) quotas) → IsEngine K nodes (with_change folder_of quota.folder (λ old. quota) quotas) made
+engine_put K nodes quotas counters made quota e limit moment peak sums =
+    let is = put_is quota quotas e.are_quotas.ascending in
+    subst (λ (qs : List QuotaRow). IsEngine K nodes qs made) (sym is)
+    (engine_changed K nodes quotas counters made quota.folder (put_in quota) e (λ r. refl) (λ r found. limit) (λ r found. moment) (λ r found. peak)
+    (sums ∙ ap (sums_of K nodes) is))
+
+-- and counts as the old one did
+pub sums_held : (K : Capacity) (nodes : List NodeRow) (quotas : List QuotaRow) (quota old : QuotaRow) → is_ascending folder_of quotas ≡ true → row_of folder_of quota.folder quotas ≡ Some old → quota.state ≡ old.state → sums_of K nodes quotas ≡ sums_of K nodes (with_change folder_of quota.folder (λ old. quota) quotas)
+sums_held K nodes quotas quota old asc found same =
+    sym (ap (sums_of K nodes) (change_same folder_of quota.folder (λ old. quota) keep quotas asc (λ r h.
+    ap (λ n. record quota { folder = n }) (sym (found_key folder_of quota.folder quotas r h))
+    ∙ ap (λ s. record quota { folder = r.folder; state = s }) (same ∙ ap (λ (q : QuotaRow). q.state) (same_Some old r (sym found ∙ h)))))
+    ∙ sums_kept K nodes (λ r. if folder_of r == quota.folder then keep r else r) (λ r. kept_folder (folder_of r == quota.folder) r) (λ r. kept_counts (folder_of r == quota.folder) r) quotas)
+  where
+    keep : QuotaRow → QuotaRow
+    keep r = record quota { folder = r.folder; state = r.state }
+
+    kept_folder : (b : Bool) (r : QuotaRow) → (cond b (keep r) r).folder ≡ r.folder
+    kept_folder true r = refl
+    kept_folder false r = refl
+
+    kept_counts : (b : Bool) (r : QuotaRow) → counts (cond b (keep r) r) ≡ counts r
+    kept_counts true r = refl
+    kept_counts false r = refl
+
+-- a quota in another state is another quota in its place
+pub state_is : (state : QuotaState) (n : ℕ) (quotas : List QuotaRow) (quota : QuotaRow) → is_ascending folder_of quotas ≡ true → row_of folder_of n quotas ≡ Some quota → with_change folder_of n (in_state state) quotas ≡ with_change folder_of n (λ old. in_state state quota) quotas
+state_is state n quotas quota asc found =
+    change_same folder_of n (in_state state) (λ old. in_state state quota) quotas asc (λ r h. ap (in_state state) (same_Some r quota (sym h ∙ found)))
+
+-- there is room for the counter of a quota that doesn't count yet
+fewer : {X : Type 0} (key : X → ℕ) (n : ℕ) (rows : List X) → has_row key n rows ≡ true → length (without_row key n rows) < length rows
+fewer key n [] h = cc
+fewer key n (x ∷ rows) h = at (key x == n) h (filter_few (λ r. not (key r == n)) rows) (fewer key n rows)
+  where
+    at : (b : Bool) → (b || has_row key n rows) ≡ true → length (without_row key n rows) ≤ length rows → (has_row key n rows ≡ true → length (without_row key n rows) < length rows) → length (cond (not b) (x ∷ without_row key n rows) (without_row key n rows)) < length (x ∷ rows)
+    at true h few f = omega arith
+    at false h few f = omega (arith, f h)
+
+pub room_for : (K : Capacity) (nodes : List NodeRow) (quotas : List QuotaRow) (counters : List Counter) (n : ℕ) → IsEngine K nodes quotas counters → has_row folder_of n quotas ≡ true → has_row counted n counters ≡ false → length counters < most_quotas
+room_for K nodes quotas counters n e there free =
+    let lacks : has_row counted n (sums_of K nodes quotas) ≡ false = sym (ap (has_row counted n) e.sums) ∙ free in
+    let same : sums_of K nodes (without_row folder_of n quotas) ≡ counters = sums_without K nodes n quotas ∙ (without_lacking counted n (sums_of K nodes quotas) lacks ∙ sym e.sums) in
+    omega (arith, ap length same, sums_few K nodes (without_row folder_of n quotas), fewer folder_of n quotas there, e.are_quotas.few)
+
+-- and for that of a new one
+pub room_more : (K : Capacity) (nodes : List NodeRow) (quotas : List QuotaRow) (counters : List Counter) → IsEngine K nodes quotas counters → length quotas < most_quotas → length counters < most_quotas
+room_more K nodes quotas counters e h = omega (arith, ap length e.sums, sums_few K nodes quotas)
+
+pub free_of : (K : Capacity) (nodes : List NodeRow) (quotas : List QuotaRow) (counters : List Counter) (n : ℕ) → IsEngine K nodes quotas counters → has_row folder_of n quotas ≡ false → has_row counted n counters ≡ false
+free_of K nodes quotas counters n e absent =
+    not_true _ (λ t. clash _ (sums_has K nodes n quotas (ap (has_row counted n) (sym e.sums) ∙ t)) absent)
+
+pub has_counter : (K : Capacity) (nodes : List NodeRow) (quotas : List QuotaRow) (counters : List Counter) (n : ℕ) (q : QuotaRow) → IsEngine K nodes quotas counters → row_of folder_of n quotas ≡ Some q → has_row counted n counters ≡ counts q
+has_counter K nodes quotas counters n q e found = ap (has_row counted n) e.sums ∙ counter_is K nodes n q quotas e.are_quotas.ascending found
+
+-- what a count becomes
+pub record Recounted (counters made : List Counter) (n : ℕ) (counting : Bool) : Type 0 where
+  pub ended : counting ≡ false → made ≡ without_counter counters n
+  pub begun : counting ≡ true → has_row counted n counters ≡ false → made ≡ with_counter counters n 0
+  pub held : counting ≡ true → has_row counted n counters ≡ true → made ≡ counters
+
+-- A quota was put on a folder
+pub added : (K : Capacity) (nodes : List NodeRow) (quotas set : List QuotaRow) (counters made : List Counter) (quota : QuotaRow) (counting : Bool) → IsEngine K nodes quotas counters → has_row folder_of quota.folder quotas ≡ false → length quotas < most_quotas → is_folder nodes quota.folder ≡ true → is_limit quota.limit ≡ true → is_moment quota.peak_at ≡ true → (counts quota ≡ true → usage K nodes quota.folder ≡ 0) → counting ≡ counts quota → Recounted counters made quota.folder counting → set ≡ with_row folder_of quota quotas → IsEngine K nodes set made
+added K nodes quotas set counters made quota counting e absent room folder limit moment nothing c m s =
+    subst (λ (qs : List QuotaRow). IsEngine K nodes qs made) (sym s)
+    (engine_with K nodes quotas counters made quota e absent room folder limit moment (λ t. small (usage K nodes quota.folder) quota.peak (nothing t)) (sums counting c m))
+  where
+    small : (u p : ℕ) → u ≡ 0 → u ≤ p
+    small u p h = omega arith
+
+    free : has_row counted quota.folder counters ≡ false
+    free = free_of K nodes quotas counters quota.folder e absent
+
+    sums : (b : Bool) → b ≡ counts quota → Recounted counters made quota.folder b → made ≡ sums_of K nodes (with_row folder_of quota quotas)
+    sums true h m =
+        m.begun refl free
+        ∙ (ap (λ cs. with_counter cs quota.folder 0) e.sums
+        ∙ (ap (with_counter (sums_of K nodes quotas) quota.folder) (sym (nothing (sym h)))
+        ∙ sym (sums_with K nodes quota quotas (sym h) e.are_quotas.ascending)))
+    sums false h m = m.ended refl ∙ (without_lacking counted quota.folder counters free ∙ (e.sums ∙ sym (sums_more K nodes quota quotas (sym h))))
+
+-- Another one was put in its place: its counter ends, begins, or stays
+pub put_ended : (K : Capacity) (nodes : List NodeRow) (quotas : List QuotaRow) (counters made : List Counter) (quota : QuotaRow) → IsEngine K nodes quotas counters → has_row folder_of quota.folder quotas ≡ true → counts quota ≡ false → made ≡ without_counter counters quota.folder → made ≡ sums_of K nodes (with_change folder_of quota.folder (λ old. quota) quotas)
+put_ended K nodes quotas counters made quota e there c m =
+    m ∙ (ap (without_row counted quota.folder) e.sums ∙ sym (sums_ended K nodes quota.folder quota quotas e.are_quotas.ascending refl there c))
+
+complete_is : (s : QuotaState) → is_complete s ≡ true → s ≡ Complete
+complete_is Complete h = refl
+complete_is Disabled h = cc
+complete_is Rebuilding h = cc
+complete_is Incomplete h = cc
+
+pub put_sums : (K : Capacity) (nodes : List NodeRow) (quotas : List QuotaRow) (counters made : List Counter) (quota old : QuotaRow) → IsEngine K nodes quotas counters → row_of folder_of quota.folder quotas ≡ Some old → (counts old ≡ false → counts quota ≡ true → usage K nodes quota.folder ≡ 0) → Recounted counters made quota.folder (counts quota) → made ≡ sums_of K nodes (with_change folder_of quota.folder (λ old. quota) quotas)
+put_sums K nodes quotas counters made quota old e found nothing m =
+    at (counts quota) (counts old) refl refl
+  where
+    asc : is_ascending folder_of quotas ≡ true
+    asc = e.are_quotas.ascending
+
+    there : has_row folder_of quota.folder quotas ≡ true
+    there = found_has folder_of quota.folder quotas old found
+
+    counter : has_row counted quota.folder counters ≡ counts old
+    counter = has_counter K nodes quotas counters quota.folder old e found
+
+    at : (b d : Bool) → counts quota ≡ b → counts old ≡ d → made ≡ sums_of K nodes (with_change folder_of quota.folder (λ old. quota) quotas)
+    at false d c was = put_ended K nodes quotas counters made quota e there c (m.ended c)
+    at true false c was =
+        m.begun c (counter ∙ was)
+        ∙ (ap (λ cs. with_counter cs quota.folder 0) e.sums
+        ∙ (ap (with_counter (sums_of K nodes quotas) quota.folder) (sym (nothing was c))
+        ∙ sym (sums_begun K nodes quota.folder quota quotas asc refl there c (counter_is K nodes quota.folder old quotas asc found ∙ was))))
+    at true true c was =
+        m.held c (counter ∙ was)
+        ∙ (e.sums ∙ sums_held K nodes quotas quota old asc found (complete_is quota.state c ∙ sym (complete_is old.state was)))
+
+pub put_engine : (K : Capacity) (nodes : List NodeRow) (quotas set : List QuotaRow) (counters made : List Counter) (quota : QuotaRow) (counting : Bool) → IsEngine K nodes quotas counters → has_row folder_of quota.folder quotas ≡ true → is_limit quota.limit ≡ true → is_moment quota.peak_at ≡ true → ((old : QuotaRow) → row_of folder_of quota.folder quotas ≡ Some old → quota.peak ≡ old.peak) → ((old : QuotaRow) → row_of folder_of quota.folder quotas ≡ Some old → counts old ≡ false → counts quota ≡ true → usage K nodes quota.folder ≡ 0) → counting ≡ counts quota → Recounted counters made quota.folder counting → set ≡ with_change folder_of quota.folder (λ old. quota) quotas → IsEngine K nodes set made
+put_engine K nodes quotas set counters made quota counting e there limit moment peak nothing c m s =
+    subst (λ (qs : List QuotaRow). IsEngine K nodes qs made) (sym s)
+    (engine_put K nodes quotas counters made quota e limit moment (λ t. enough (counts f.row) t refl)
+    (put_sums K nodes quotas counters made quota f.row e f.is (nothing f.row f.is) (subst (λ b. Recounted counters made quota.folder b) c m)))
+  where
+    f : FoundRow (row_of folder_of quota.folder quotas)
+    f = has_found folder_of quota.folder quotas there
+
+    small : (u p : ℕ) → u ≡ 0 → u ≤ p
+    small u p h = omega arith
+
+    enough : (b : Bool) → counts quota ≡ true → counts f.row ≡ b → usage K nodes quota.folder ≤ quota.peak
+    enough true t was = subst (λ p. usage K nodes quota.folder ≤ p) (sym (peak f.row f.is)) (e.peaks quota.folder f.row f.is was)
+    enough false t was = small (usage K nodes quota.folder) quota.peak (nothing f.row f.is was t)
+
+-- A quota that counts no longer
+pub rebuilt : (K : Capacity) (nodes : List NodeRow) (quotas set : List QuotaRow) (counters made : List Counter) (n : ℕ) → IsEngine K nodes quotas counters → has_row folder_of n quotas ≡ true → made ≡ without_counter counters n → set ≡ with_change folder_of n (in_state Rebuilding) quotas → IsEngine K nodes set made
+rebuilt K nodes quotas set counters made n e there m s =
+    let f = has_found folder_of n quotas there in
+    let quota = in_state Rebuilding f.row in
+    let k : f.row.folder ≡ n = found_key folder_of n quotas f.row f.is in
+    subst (λ (qs : List QuotaRow). IsEngine K nodes qs made) (sym s)
+    (engine_changed K nodes quotas counters made n (in_state Rebuilding) e (λ r. refl) (λ r found. e.are_quotas.limits n r found) (λ r found. e.are_quotas.moments n r found) (λ r found c. cc)
+    (m ∙ (ap (without_row counted n) e.sums
+    ∙ sym (ap (sums_of K nodes) (state_is Rebuilding n quotas f.row e.are_quotas.ascending f.is) ∙ sums_ended K nodes n quota quotas e.are_quotas.ascending k there refl))))
+
+-- A quota that counts from now on
+pub completed_are : (K : Capacity) (nodes : List NodeRow) (quotas : List QuotaRow) (n : ℕ) → AreQuotas nodes quotas → AreQuotas nodes (with_change folder_of n (in_state Complete) quotas)
+completed_are K nodes quotas n q =
+    are_changed nodes quotas n (in_state Complete) q (λ r. refl) (λ r found. q.limits n r found) (λ r found. q.moments n r found)
+
+completed_sums : (K : Capacity) (nodes : List NodeRow) (quotas : List QuotaRow) (counters made : List Counter) (n used : ℕ) (q : QuotaRow) → IsEngine K nodes quotas counters → row_of folder_of n quotas ≡ Some q → counts q ≡ false → used ≡ usage K nodes n → made ≡ with_counter counters n used → made ≡ sums_of K nodes (with_change folder_of n (in_state Complete) quotas)
+completed_sums K nodes quotas counters made n used q e found c u m =
+    let asc = e.are_quotas.ascending in
+    m ∙ (ap (λ cs. with_counter cs n used) e.sums
+    ∙ (ap (with_counter (sums_of K nodes quotas) n) u
+    ∙ sym (ap (sums_of K nodes) (state_is Complete n quotas q asc found)
+    ∙ sums_begun K nodes n (in_state Complete q) quotas asc (found_key folder_of n quotas q found) (found_has folder_of n quotas q found) refl (counter_is K nodes n q quotas asc found ∙ c))))
+
+-- of all quotas its peak alone may rise
+completed_peaks : (K : Capacity) (nodes : List NodeRow) (quotas : List QuotaRow) (counters made : List Counter) (m n : ℕ) → IsEngine K nodes quotas counters → made ≡ sums_of K nodes (with_change folder_of n (in_state Complete) quotas) → with_change folder_of n (raised made m) (with_change folder_of n (in_state Complete) quotas) ≡ map (peaked K nodes m) (with_change folder_of n (in_state Complete) quotas)
+completed_peaks K nodes quotas counters made m n e sums =
+    map_same (λ r. if folder_of r == n then raised made m r else r) (peaked K nodes m) after (each_found folder_of _ after asc (λ r found. at r found (folder_of r == n) refl))
+  where
+    after : List QuotaRow
+    after = with_change folder_of n (in_state Complete) quotas
+
+    asc : is_ascending folder_of after ≡ true
+    asc = (completed_are K nodes quotas n e.are_quotas).ascending
+
+    at : (r : QuotaRow) → row_of folder_of (folder_of r) after ≡ Some r → (b : Bool) → (folder_of r == n) ≡ b → cond b (raised made m r) r ≡ peaked K nodes m r
+    at r found true t = raised_is K nodes after made m r asc sums found
+    at r found false t = sym (peak_stays K nodes m r (of_changed n (in_state Complete) (λ q. counts q ≡ true → usage K nodes r.folder ≤ q.peak) (λ r. refl) (folder_of r) quotas r (λ q was. (λ same. absurd (clash _ (ap (λ k. k == n) same ∙ eq_same n) t), e.peaks (folder_of r) q was)) found))
+
+is_moment_of : (m : ℕ) → m ≤ latest_moment → is_moment m ≡ true
+is_moment_of m h = grind (arith, nat_tests)
+
+-- what is kept behind it
+pub record Completes (K : Capacity) (nodes : List NodeRow) (quotas set : List QuotaRow) (made : List Counter) (m n : ℕ) : Type 0 where
+  pub quotas_are : set ≡ map (peaked K nodes m) (with_change folder_of n (in_state Complete) quotas)
+  pub engine : IsEngine K nodes set made
+
+pub completes : (K : Capacity) (nodes : List NodeRow) (quotas in_it set : List QuotaRow) (counters made : List Counter) (m n used : ℕ) → IsEngine K nodes quotas counters → m ≤ latest_moment → has_row folder_of n quotas ≡ true → ((q : QuotaRow) → row_of folder_of n quotas ≡ Some q → counts q ≡ false) → used ≡ usage K nodes n → made ≡ with_counter counters n used → in_it ≡ with_change folder_of n (in_state Complete) quotas → set ≡ with_change folder_of n (raised made m) in_it → Completes K nodes quotas set made m n
+completes K nodes quotas in_it set counters made m n used e late there uncounted u begun state raises =
+    let f = has_found folder_of n quotas there in
+    let sums = completed_sums K nodes quotas counters made n used f.row e f.is (uncounted f.row f.is) u begun in
+    let is = raises ∙ (ap (with_change folder_of n (raised made m)) state ∙ completed_peaks K nodes quotas counters made m n e sums) in
+    record {
+      quotas_are = is;
+      engine = subst (λ (qs : List QuotaRow). IsEngine K nodes qs made) (sym is)
+          (engine_peaked K nodes (with_change folder_of n (in_state Complete) quotas) made m e.volume e.legal (completed_are K nodes quotas n e.are_quotas) (is_moment_of m late) sums);
+    }
+
+-- no peak of an engine is below what is used
+pub level : (K : Capacity) (nodes : List NodeRow) (quotas : List QuotaRow) (counters : List Counter) → IsEngine K nodes quotas counters → (m : ℕ) → quotas ≡ map (peaked K nodes m) quotas
+level K nodes quotas counters e m = peaks_stay K nodes m quotas e.are_quotas.ascending (λ q found c. e.peaks (folder_of q) q found c)

@@ -1,0 +1,164 @@
+-- The commands that give a quota its state.
+use Rattle.std.proofs.Common.{◌≡◌, ℕ, suc, ◌<◌, ◌≤◌, ◌==◌, Bool, true, false, cond, not, List, [], ◌∷◌, length, Option, Some, None, nat_lt, refl, ap, sym, ◌∙◌, subst, arith}
+use Rattle.std.proofs.lemmas.Bool.Decides.{nat_tests}
+use Rattle.std.proofs.lemmas.Option.{same_Some}
+use Rattle.std.specs.Prelude.{sum_by, is_some, is_none, option_map, if◌then◌else◌}
+use Rattle.std.specs.Option.{option_map_or}
+use Rattle.fsrm_model.specs.declared.command.Answer.{Answer}
+use Rattle.fsrm_model.specs.declared.command.Deed.{Deed}
+use Rattle.fsrm_model.specs.declared.command.Outcome.TheVariants.{Done}
+use Rattle.fsrm_model.specs.declared.command.Refusal.TheVariants.{PathNotFound, NotFound, AlreadyExists, TableFull}
+use Rattle.fsrm_model.specs.declared.row.Capacity.{Capacity}
+use Rattle.fsrm_model.specs.declared.row.NodeRow.{NodeRow}
+use Rattle.fsrm_model.specs.declared.row.QuotaRow.{QuotaRow}
+use Rattle.fsrm_model.specs.declared.row.QuotaState.{QuotaState}
+use Rattle.fsrm_model.specs.declared.row.QuotaState.TheVariants.{Complete, Disabled, Rebuilding}
+use Rattle.fsrm_model.specs.declared.row.Rows.{Rows}
+use Rattle.fsrm_model.specs.Check.{Check, ◌when◌, first}
+use Rattle.fsrm_model.specs.FileOps.{target}
+use Rattle.fsrm_model.specs.Keyed.{row_of, has_row, is_ascending, with_row, with_change}
+use Rattle.fsrm_model.specs.Leads.{leads_to_folder}
+use Rattle.fsrm_model.specs.Limits.{most_quotas}
+use Rattle.fsrm_model.specs.Quota.{folder_of, quota_of, is_complete, peaks}
+use Rattle.fsrm_model.specs.QuotaStates.{start, state_of, state_after, is_disabled, in_state, followed}
+use Rattle.fsrm_model.specs.QuotaWork.{modified}
+use Rattle.fsrm_model.specs.Space.{space}
+use Rattle.fsrm_model.specs.Step.{step}
+use Rattle.fsrm_model.specs.Tree.{node_of, is_folder, children, usage}
+use Rattle.fsrm_model.specs.Valid.{IsVolume}
+use Rattle.fsrm_model.proofs.Look.{is_some-find}
+use Rattle.fsrm_model.proofs.Order.{length-with_row}
+use Rattle.fsrm_model.proofs.TestLaws.{clash, eq_is}
+use Rattle.fsrm_model.proofs.UsageLaws.{usage_children}
+use Rattle.fsrm_engine.specs.Machine.{Machine, Takes, IsLevel, with_rows}
+use Rattle.fsrm_engine.specs.Places.{IsFolder}
+use Rattle.fsrm_engine.proofs.PlaceLaws.{target_is, leads_to_folder_is}
+use Rattle.fsrm_engine.proofs.RowLaws.{change_same}
+use Rattle.fsrm_engine.proofs.WholeLaws.{asks_of, done_whole}
+
+-- the answer to a command that was done: a machine that is settled, and then has the command's moment
+pub settled : (old mid new : Machine) (m : ℕ) (deed : Deed) (answer : Answer) (effect : Rows) → old.waiting ≡ [] → old.rows.last_moment ≤ m → first (asks_of old m deed).checks ≡ None → (asks_of old m deed).effect ≡ effect → (asks_of old m deed).outcome ≡ Done None → (asks_of old m deed).lasts ≡ true → mid ≡ with_rows old (followed old.rows effect) → IsLevel mid → new ≡ with_rows mid (record mid.rows { last_moment = m }) → answer ≡ record { outcome = Done None; lasting = true } → Takes old new (step old.size old.rows (record { moment = m; deed = deed })) answer
+settled old mid new m deed answer effect idle late none made is lasts settles level ends e =
+    done_whole old new m deed answer effect (Done None) late none made is lasts
+    (ap (λ (o : Machine). o.size) ends ∙ ap (λ (o : Machine). o.size) settles)
+    (ap (λ (o : Machine). o.waiting) ends ∙ (ap (λ (o : Machine). o.waiting) settles ∙ idle))
+    (ap (λ (o : Machine). o.rows) ends
+    ∙ (ap (λ (qs : List QuotaRow). record mid.rows { quotas = qs; last_moment = m }) (level m)
+    ∙ ap (λ (o : Machine). record (peaks o.size o.rows m) { last_moment = m }) settles))
+    e
+
+-- Refusals: the path leads to no folder, or that folder has no quota
+pub missing : (nodes : List NodeRow) (path : List (List ℕ)) (more : List Check) → leads_to_folder nodes path ≡ false → first ((PathNotFound when not (leads_to_folder nodes path)) ∷ more) ≡ Some PathNotFound
+missing nodes path more h = ap (λ b. first ((PathNotFound when not b) ∷ more)) h
+
+pub on_folder : (R : Rows) (path : List (List ℕ)) (n : ℕ) (next : ℕ → List Check) → IsFolder R.nodes path n → first ((PathNotFound when not (leads_to_folder R.nodes path)) ∷ next (target R.nodes path)) ≡ first (next n)
+on_folder R path n next at =
+    ap (λ b. first ((PathNotFound when not b) ∷ next (target R.nodes path))) (leads_to_folder_is R.nodes path n at.resolved ∙ at.folder)
+    ∙ ap (λ k. first (next k)) (target_is R.nodes path n at.resolved)
+
+pub checked : (R : Rows) (path : List (List ℕ)) (n : ℕ) (b : Bool) (more : ℕ → List Check) → IsFolder R.nodes path n → is_none (quota_of R n) ≡ b → first ((PathNotFound when not (leads_to_folder R.nodes path)) ∷ (NotFound when is_none (quota_of R (target R.nodes path))) ∷ more (target R.nodes path)) ≡ (if b then Some NotFound else first (more n))
+checked R path n b more at h =
+    on_folder R path n (λ k. (NotFound when is_none (quota_of R k)) ∷ more k) at
+    ∙ (ap (λ b. first ((NotFound when b) ∷ more n)) h ∙ by_case b)
+  where
+    by_case : (b : Bool) → first ((NotFound when b) ∷ more n) ≡ (if b then Some NotFound else first (more n))
+    by_case true = refl
+    by_case false = refl
+
+-- what is found of a quota
+pub record Of {X : Type 0} (f : QuotaRow → X) (o : Option QuotaRow) (x : X) : Type 0 where
+  pub quota : QuotaRow
+  pub found : o ≡ Some quota
+  pub is : f quota ≡ x
+
+pub some_of : {X : Type 0} (f : QuotaRow → X) (o : Option QuotaRow) (x : X) → option_map f o ≡ Some x → Of f o x
+some_of f None x h = cc
+some_of f (Some q) x h = record { quota = q; found = refl; is = same_Some (f q) x h }
+
+pub none_of : {X : Type 0} (f : QuotaRow → X) (o : Option QuotaRow) → option_map f o ≡ None → is_none o ≡ true
+none_of f None h = refl
+none_of f (Some q) h = cc
+
+pub lacks_of : {X : Type 0} (f : QuotaRow → X) (quotas : List QuotaRow) (n : ℕ) (o : Option X) → o ≡ option_map f (row_of folder_of n quotas) → is_some o ≡ false → has_row folder_of n quotas ≡ false
+lacks_of f quotas n o h e = sym (is_some-find (λ q. folder_of q == n) quotas) ∙ (sym (mapped (row_of folder_of n quotas)) ∙ (ap is_some (sym h) ∙ e))
+  where
+    mapped : (o : Option QuotaRow) → is_some (option_map f o) ≡ is_some o
+    mapped None = refl
+    mapped (Some q) = refl
+
+-- A quota that comes to be complete has a folder without children, in which nothing is used
+start_empty : (nodes : List NodeRow) (n : ℕ) → is_complete (start nodes n) ≡ true → length (children nodes n) ≡ 0
+start_empty nodes n h = at (length (children nodes n) == 0) refl h
+  where
+    at : (b : Bool) → (length (children nodes n) == 0) ≡ b → is_complete (cond b Complete Rebuilding) ≡ true → length (children nodes n) ≡ 0
+    at true e h = eq_is (length (children nodes n)) 0 e
+    at false e h = cc
+
+pub first_empty : (nodes : List NodeRow) (n : ℕ) (enabled : Bool) → is_complete (if enabled then start nodes n else Disabled) ≡ true → length (children nodes n) ≡ 0
+first_empty nodes n true h = start_empty nodes n h
+first_empty nodes n false h = cc
+
+pub after_empty : (R : Rows) (n : ℕ) (enabled : Option Bool) → is_complete (state_of R n) ≡ false → is_complete (state_after R n enabled) ≡ true → length (children R.nodes n) ≡ 0
+after_empty R n None was h = absurd (clash _ h was)
+after_empty R n (Some false) was h = cc
+after_empty R n (Some true) was h = at (is_disabled (state_of R n)) h
+  where
+    at : (b : Bool) → is_complete (cond b (start R.nodes n) (state_of R n)) ≡ true → length (children R.nodes n) ≡ 0
+    at true h = start_empty R.nodes n h
+    at false h = absurd (clash _ h was)
+
+no_length : {X : Type 0} (xs : List X) → length xs ≡ 0 → xs ≡ []
+no_length [] h = refl
+no_length (x ∷ xs) h = absurd (omega arith)
+
+pub empty_folder : (K : Capacity) (nodes : List NodeRow) (n : ℕ) → IsVolume K nodes → is_folder nodes n ≡ true → length (children nodes n) ≡ 0 → usage K nodes n ≡ 0
+empty_folder K nodes n v f h =
+    at (node_of nodes n) f refl
+  where
+    at : (o : Option NodeRow) → option_map_or (λ node. node.folder) o false ≡ true → node_of nodes n ≡ o → usage K nodes n ≡ 0
+    at None e is = cc
+    at (Some r) e is =
+        let nothing : space K r ≡ 0 = ap (λ b. cond b 0 (space K (record r { folder = false }))) e in
+        let none : sum_by (λ c. usage K nodes c.number) (children nodes n) ≡ 0 = ap (sum_by (λ c. usage K nodes c.number)) (no_length (children nodes n) h) in
+        omega (arith, usage_children K nodes n r v is, nothing, none)
+
+-- whether there is room for one more quota
+pub table_is : (quotas : List QuotaRow) (row : QuotaRow) (count : ℕ) → count ≡ length quotas → most_quotas ≤ count → nat_lt most_quotas (length (with_row folder_of row quotas)) ≡ true
+table_is quotas row count h l = ap (nat_lt most_quotas) (length-with_row folder_of row quotas) ∙ at (length quotas) (subst (λ k. most_quotas ≤ k) h l)
+  where
+    at : (k : ℕ) → most_quotas ≤ k → nat_lt most_quotas (suc k) ≡ true
+    at k l = grind (arith, nat_tests)
+
+pub table_has : (quotas : List QuotaRow) (row : QuotaRow) (count : ℕ) → count ≡ length quotas → count < most_quotas → nat_lt most_quotas (length (with_row folder_of row quotas)) ≡ false
+table_has quotas row count h l = ap (nat_lt most_quotas) (length-with_row folder_of row quotas) ∙ at (length quotas) (subst (λ k. k < most_quotas) h l)
+  where
+    at : (k : ℕ) → k < most_quotas → nat_lt most_quotas (suc k) ≡ false
+    at k l = grind (arith, nat_tests)
+
+-- the refusals of a new quota
+pub add_checks : (R : Rows) (path : List (List ℕ)) (n : ℕ) (b : Bool) (row : ℕ → QuotaRow) → IsFolder R.nodes path n → has_row folder_of n R.quotas ≡ false → nat_lt most_quotas (length (with_row folder_of (row n) R.quotas)) ≡ b → first ((PathNotFound when not (leads_to_folder R.nodes path)) ∷ (AlreadyExists when is_some (quota_of R (target R.nodes path))) ∷ (TableFull when nat_lt most_quotas (length (with_row folder_of (row (target R.nodes path)) R.quotas))) ∷ []) ≡ (if b then Some TableFull else None)
+add_checks R path n b row at absent full =
+    on_folder R path n (λ k. (AlreadyExists when is_some (quota_of R k)) ∷ (TableFull when nat_lt most_quotas (length (with_row folder_of (row k) R.quotas))) ∷ []) at
+    ∙ (ap (λ c. first ((AlreadyExists when c) ∷ (TableFull when nat_lt most_quotas (length (with_row folder_of (row n) R.quotas))) ∷ [])) (is_some-find (λ q. folder_of q == n) R.quotas ∙ absent)
+    ∙ (ap (λ c. first ((TableFull when c) ∷ [])) full ∙ by_case b))
+  where
+    by_case : (b : Bool) → first ((TableFull when b) ∷ []) ≡ (if b then Some TableFull else None)
+    by_case true = refl
+    by_case false = refl
+
+-- a quota that was modified, and then has its state, is another one in its place
+change_twice : (n : ℕ) (c d : QuotaRow → QuotaRow) → ((r : QuotaRow) → (c r).folder ≡ r.folder) → (quotas : List QuotaRow) → with_change folder_of n d (with_change folder_of n c quotas) ≡ with_change folder_of n (λ r. d (c r)) quotas
+change_twice n c d k [] = refl
+change_twice n c d k (r ∷ quotas) =
+    ap (λ q. q ∷ with_change folder_of n d (with_change folder_of n c quotas)) (at (folder_of r == n) refl)
+    ∙ ap (λ qs. (if folder_of r == n then d (c r) else r) ∷ qs) (change_twice n c d k quotas)
+  where
+    at : (b : Bool) → (folder_of r == n) ≡ b → cond (folder_of (cond b (c r) r) == n) (d (cond b (c r) r)) (cond b (c r) r) ≡ cond b (d (c r)) r
+    at true e = ap (λ b. cond b (d (c r)) (c r)) (ap (λ f. f == n) (k r) ∙ e)
+    at false e = ap (λ b. cond b (d r) r) e
+
+pub modified_to : (R : Rows) (n : ℕ) (limit : Option ℕ) (enforce : Option Bool) (state : QuotaState) (q : QuotaRow) → is_ascending folder_of R.quotas ≡ true → quota_of R n ≡ Some q → with_change folder_of n (in_state state) (with_change folder_of n (modified limit enforce) R.quotas) ≡ with_change folder_of n (λ old. in_state state (modified limit enforce q)) R.quotas
+modified_to R n limit enforce state q asc found =
+    change_twice n (modified limit enforce) (in_state state) (λ r. refl) R.quotas
+    ∙ change_same folder_of n (λ r. in_state state (modified limit enforce r)) (λ old. in_state state (modified limit enforce q)) R.quotas asc
+    (λ r h. ap (λ x. in_state state (modified limit enforce x)) (same_Some r q (sym h ∙ found)))

@@ -1,0 +1,115 @@
+//! Quotas that come, change and go, with their counters.
+
+ghost use Rattle.std.specs.Prelude.{◌≡◌, ◌≤◌, ◌<◌, OnOk, OnErr, true, false, length, map};
+ghost use Rattle.fsrm_model.specs.declared.row.QuotaRow.{QuotaRow};
+ghost use Rattle.fsrm_model.specs.declared.row.QuotaState.TheVariants.{Complete, Rebuilding};
+ghost use Rattle.fsrm_model.specs.Keyed.{has_row, row_of, with_row, with_change, without_row};
+ghost use Rattle.fsrm_model.specs.Limits.{latest_moment, most_quotas};
+ghost use Rattle.fsrm_model.specs.Quota.{folder_of, counts, is_complete, is_limit, peaked};
+ghost use Rattle.fsrm_model.specs.QuotaStates.{in_state};
+ghost use Rattle.fsrm_model.specs.Tree.{is_folder, usage};
+ghost use Rattle.fsrm_model.specs.Valid.{is_moment};
+ghost use Rattle.quota_usage.specs.Counters.{counted, with_counter, without_counter};
+ghost use Rattle.fsrm_engine.specs.Machine.{IsSound, IsLevel, with_quotas};
+
+use crate::accounts::Accounts;
+use crate::charging::{drop_quota, end_count, raise_peak};
+use fsrm_model::{NoMemory, QuotaRow, QuotaState};
+use quota_usage::Usage;
+
+/// Whether a quota of this state counts.
+pub fn is_counting(state: QuotaState) -> bool
+    ensures { result ≡ is_complete state }
+{
+    state == QuotaState::Complete
+}
+
+// Has a folder counted, from nothing where it wasn't, or counted no longer.
+fn recount(usage: &mut Usage, folder: u32, counting: bool)
+    requires room { counting ≡ true → has_row counted folder usage.old ≡ false → length usage.old < most_quotas }
+    ensures ended { counting ≡ false → usage.new ≡ without_counter usage.old folder }
+    ensures begun { counting ≡ true → has_row counted folder usage.old ≡ false → usage.new ≡ with_counter usage.old folder 0 }
+    ensures held { counting ≡ true → has_row counted folder usage.old ≡ true → usage.new ≡ usage.old }
+{
+    if !counting {
+        end_count(usage, folder);
+    } else if usage.used(folder).is_none() {
+        usage.begin(folder, 0);
+    }
+}
+
+impl Accounts {
+    /// Puts a quota on a folder that has none. One that counts needs nothing used. An `Err` changes nothing.
+    pub(crate) fn add(&mut self, row: QuotaRow) -> Result<(), NoMemory>
+        requires absent { has_row folder_of row.folder self.old.rows.quotas ≡ false }
+        requires room { length self.old.rows.quotas < most_quotas }
+        requires folder { is_folder self.old.rows.nodes row.folder ≡ true }
+        requires limit { is_limit row.limit ≡ true }
+        requires moment { is_moment row.peak_at ≡ true }
+        requires nothing { counts row ≡ true → usage self.old.size self.old.rows.nodes row.folder ≡ 0 }
+        ensures added { OnOk result (self.new ≡ with_quotas self.old (with_row folder_of row self.old.rows.quotas)) }
+        ensures err { OnErr result (self.new ≡ self.old) }
+        ensures kept { IsSound self.new.size self.new.rows }
+        ensures level { OnOk result (IsLevel self.new) }
+    {
+        let folder = row.folder;
+        let counting = is_counting(row.state);
+        let Ok(()) = self.objects.add_quota(row) else {
+            return Err(NoMemory);
+        };
+        recount(&mut self.usage, folder, counting);
+        Ok(())
+    }
+
+    /// Takes a folder's quota away.
+    pub(crate) fn take_away(&mut self, folder: u32)
+        requires { has_row folder_of folder self.old.rows.quotas ≡ true }
+        ensures taken { self.new ≡ with_quotas self.old (without_row folder_of folder self.old.rows.quotas) }
+        ensures kept { IsSound self.new.size self.new.rows }
+    {
+        drop_quota(&mut self.usage, &mut self.objects, folder);
+    }
+
+    /// Gives a folder this quota in place of the one that it has, with its peak. Where it comes to count nothing
+    /// may be used.
+    pub(crate) fn put(&mut self, row: QuotaRow)
+        requires there { has_row folder_of row.folder self.old.rows.quotas ≡ true }
+        requires limit { is_limit row.limit ≡ true }
+        requires moment { is_moment row.peak_at ≡ true }
+        requires peak { (quota : QuotaRow) → row_of folder_of row.folder self.old.rows.quotas ≡ Some quota → row.peak ≡ quota.peak }
+        requires nothing { (quota : QuotaRow) → row_of folder_of row.folder self.old.rows.quotas ≡ Some quota → counts quota ≡ false → counts row ≡ true → usage self.old.size self.old.rows.nodes row.folder ≡ 0 }
+        ensures put { self.new ≡ with_quotas self.old (with_change folder_of row.folder (λ quota. row) self.old.rows.quotas) }
+        ensures kept { IsSound self.new.size self.new.rows }
+        ensures level { IsLevel self.new }
+    {
+        recount(&mut self.usage, row.folder, is_counting(row.state));
+        self.objects.set_quota(row);
+    }
+
+    /// Has a folder's quota count no longer until it is scanned.
+    pub(crate) fn rebuild(&mut self, folder: u32)
+        requires { has_row folder_of folder self.old.rows.quotas ≡ true }
+        ensures rebuilt { self.new ≡ with_quotas self.old (with_change folder_of folder (in_state Rebuilding) self.old.rows.quotas) }
+        ensures kept { IsSound self.new.size self.new.rows }
+        ensures level { IsLevel self.new }
+    {
+        end_count(&mut self.usage, folder);
+        self.objects.set_state(folder, QuotaState::Rebuilding);
+    }
+
+    /// Has a folder's quota, which doesn't, count from now on, from what is used. Its peak may rise. The
+    /// moment is now the last.
+    pub(crate) fn complete(&mut self, folder: u32, used: u64, moment: u64)
+        requires there { has_row folder_of folder self.old.rows.quotas ≡ true }
+        requires uncounted { (quota : QuotaRow) → row_of folder_of folder self.old.rows.quotas ≡ Some quota → counts quota ≡ false }
+        requires used { used ≡ usage self.old.size self.old.rows.nodes folder }
+        requires moment { moment ≤ latest_moment }
+        ensures completed { self.new ≡ record self.old { rows = record self.old.rows { quotas = map (peaked self.old.size self.old.rows.nodes moment) (with_change folder_of folder (in_state Complete) self.old.rows.quotas); last_moment = moment } } }
+        ensures kept { IsSound self.new.size self.new.rows }
+    {
+        self.objects.set_state(folder, QuotaState::Complete);
+        self.usage.begin(folder, used);
+        raise_peak(&self.usage, &mut self.objects, folder, moment);
+        self.last_moment = moment;
+    }
+}

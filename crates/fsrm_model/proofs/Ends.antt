@@ -1,0 +1,52 @@
+-- What a command that no check refuses answers, and the nodes that it leaves: those of its work.
+use Rattle.std.proofs.Common.{◌≡◌, ℕ, ◌==◌, Bool, true, false, length, refl, ◌∙◌}
+use Rattle.std.specs.Prelude.{None, unwrap_or, if◌then◌else◌}
+use Rattle.fsrm_model.specs.declared.command.FileOp.{FileOp}
+use Rattle.fsrm_model.specs.declared.command.FileOp.TheVariants.{Mkdir, Create, Resize, Touch, Move, Remove}
+use Rattle.fsrm_model.specs.declared.row.Capacity.{Capacity}
+use Rattle.fsrm_model.specs.declared.row.QuotaState.TheVariants.{Complete}
+use Rattle.fsrm_model.specs.declared.row.Rows.{Rows}
+use Rattle.fsrm_model.specs.FileOps.{plain}
+use Rattle.fsrm_model.specs.FileWork.{file_effect, file_work}
+use Rattle.fsrm_model.specs.QuotaStates.{followed, with_state, head}
+use Rattle.fsrm_model.specs.Scan.{visits}
+use Rattle.fsrm_model.specs.ScanWork.{step_work}
+use Rattle.fsrm_model.specs.Step.{decided, lasted, unlasting, unacted}
+use Rattle.fsrm_model.specs.Work.{Work}
+
+pub outcome_kept : (K : Capacity) (R : Rows) (moment : ℕ) (w : Work) → (decided K R moment w None).outcome ≡ w.outcome
+outcome_kept K R moment w = by w.lasts
+  where
+    by : (b : Bool) → (if b then lasted K (unacted (followed R w.effect)) moment w.outcome else unlasting (followed R w.effect) w.outcome).outcome ≡ w.outcome
+    by true = refl
+    by false = refl
+
+pub nodes_kept : (K : Capacity) (R : Rows) (moment : ℕ) (w : Work) → (decided K R moment w None).rows.nodes ≡ w.effect.nodes
+nodes_kept K R moment w = by w.lasts
+  where
+    by : (b : Bool) → (if b then lasted K (unacted (followed R w.effect)) moment w.outcome else unlasting (followed R w.effect) w.outcome).rows.nodes ≡ w.effect.nodes
+    by true = refl
+    by false = refl
+
+-- a step of a scan leaves the nodes
+pub step_nodes : (K : Capacity) (R : Rows) (n : ℕ) → (step_work K R n).effect.nodes ≡ R.nodes
+step_nodes K R n = by (length (visits n R.nodes R.unvisited) == 0)
+  where
+    visited : Rows
+    visited = record R { unvisited = visits n R.nodes R.unvisited }
+
+    by : (b : Bool) → (if b then with_state visited (unwrap_or (head R.queue) 0) Complete else visited).nodes ≡ R.nodes
+    by true = refl
+    by false = refl
+
+-- a file operation leaves the nodes that it makes
+pub op_nodes : (K : Capacity) (R : Rows) (op : FileOp) (moment : ℕ) → (decided K R moment (file_work K R op moment) None).rows.nodes ≡ plain R.nodes op moment
+op_nodes K R op moment = nodes_kept K R moment (file_work K R op moment) ∙ by op
+  where
+    by : (op : FileOp) → (file_effect R op moment).nodes ≡ plain R.nodes op moment
+    by (Mkdir path owner) = refl
+    by (Create path length owner) = refl
+    by (Resize path length) = refl
+    by (Touch path) = refl
+    by (Move from to) = refl
+    by (Remove path) = refl

@@ -1,0 +1,9 @@
+pub mod Following
+pub mod Leaving
+pub mod Lengths
+pub mod Made
+pub mod Queues
+pub mod Ready
+pub mod Touching
+pub mod Turning
+pub mod Visiting
