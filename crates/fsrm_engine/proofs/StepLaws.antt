@@ -5,6 +5,7 @@ use Rattle.std.proofs.lemmas.Option.{same_Some}
 use Rattle.std.specs.Prelude.{option_map, unwrap_or, map, IfOk, if◌then◌else◌}
 use Rattle.std.specs.Option.{option_and_then}
 use Rattle.fsrm_model.specs.declared.command.Answer.{Answer}
+use Rattle.fsrm_model.specs.declared.command.Command.{Command}
 use Rattle.fsrm_model.specs.declared.command.Deed.{Deed}
 use Rattle.fsrm_model.specs.declared.command.Outcome.{Outcome}
 use Rattle.fsrm_model.specs.declared.command.Outcome.TheVariants.{Refused, Done}
@@ -16,6 +17,7 @@ use Rattle.fsrm_model.specs.declared.row.NodeRow.{NodeRow}
 use Rattle.fsrm_model.specs.declared.row.QuotaRow.{QuotaRow}
 use Rattle.fsrm_model.specs.declared.row.Rows.{Rows}
 use Rattle.fsrm_model.specs.Check.{◌when◌, first}
+use Rattle.fsrm_model.specs.Cost.{cost, deed_cost}
 use Rattle.fsrm_model.specs.Quota.{peaked}
 use Rattle.fsrm_model.specs.QuotaStates.{followed, same_head}
 use Rattle.fsrm_model.specs.Step.{Stepped, step, work, decided, accepted, lasted, unacted, unlasting}
@@ -43,6 +45,10 @@ late_test last m h = grind (arith, nat_tests)
 
 late_is : (last m : ℕ) → m < last → nat_lt m last ≡ true
 late_is last m h = grind (arith, nat_tests)
+
+-- a command that isn't late may take the looks of its deed
+pub cost_in_time : (R : Rows) (c : Command) → R.last_moment ≤ c.moment → deed_cost R c.deed ≡ cost R c
+cost_in_time R c late = rw (late_test R.last_moment c.moment late) refl
 
 -- a command that isn't late is decided by its own checks
 step_by : (K : Capacity) (R : Rows) (m : ℕ) (deed : Deed) (o : Option Refusal) → R.last_moment ≤ m → first (work K R m deed).checks ≡ o → step K R (record { moment = m; deed = deed }) ≡ decided K R m (work K R m deed) o

@@ -2,7 +2,7 @@
 
 ghost use Rattle.std.specs.Prelude.{◌≡◌, ◌+◌, ◌≤◌, [], true, length, IfOk, OnErr};
 ghost use Rattle.fsrm_model.specs.declared.command.Deed.TheVariants.{File};
-ghost use Rattle.fsrm_model.specs.Cost.{cost};
+ghost use Rattle.fsrm_model.specs.Cost.{deed_cost};
 ghost use Rattle.fsrm_model.specs.Fresh.{new_rows};
 ghost use Rattle.fsrm_model.specs.Limits.{latest_moment};
 ghost use Rattle.fsrm_model.specs.Quota.{used_of};
@@ -86,7 +86,7 @@ impl Accounts {
         ensures err { OnErr result (self.new ≡ self.old) }
         ensures left { OnErr result (scans.new ≡ scans.old) }
         ensures kept { IsSound self.new.size self.new.rows }
-        ensures looks { steps.new ≤ steps.old + cost self.old.rows (File op.now) }
+        ensures looks { steps.new ≤ steps.old + deed_cost self.old.rows (File op.now) }
     {
         match op {
             FileOp::Mkdir { path, owner } => self.mkdir(scans, path, *owner, moment, steps),

@@ -2,7 +2,7 @@
 
 ghost use Rattle.std.specs.Prelude.{◌≡◌, ◌+◌, ◌≤◌, [], true, IfOk, OnErr};
 ghost use Rattle.fsrm_model.specs.declared.command.Deed.TheVariants.{File, Usage, QuotaDelete, QuotaResetpeak, QuotaList};
-ghost use Rattle.fsrm_model.specs.Cost.{cost};
+ghost use Rattle.fsrm_model.specs.Cost.{deed_cost};
 ghost use Rattle.fsrm_model.specs.Limits.{latest_moment};
 ghost use Rattle.fsrm_model.specs.Step.{step};
 ghost use Rattle.fsrm_model.specs.Valid.{IsStore};
@@ -27,7 +27,7 @@ impl Engine {
         ensures ok { IfOk result (λ answer. Takes self.old self.new (step self.old.size self.old.rows (record { moment = moment; deed = File op.now })) answer) }
         ensures err { OnErr result (self.new ≡ self.old) }
         ensures kept { IsStore self.new.size self.new.rows }
-        ensures looks { steps.new ≤ steps.old + cost self.old.rows (File op.now) }
+        ensures looks { steps.new ≤ steps.old + deed_cost self.old.rows (File op.now) }
     {
         self.accounts
             .file_op(alloc, &mut self.scans, op, moment, steps)
@@ -43,7 +43,7 @@ impl Engine {
         requires late { self.now.rows.last_moment ≤ moment }
         ensures ok { IfOk result (λ answer. Takes self.now self.now (step self.now.size self.now.rows (record { moment = moment; deed = Usage path.now })) answer) }
         ensures kept { IsStore self.now.size self.now.rows }
-        ensures looks { steps.new ≤ steps.old + cost self.now.rows (Usage path.now) }
+        ensures looks { steps.new ≤ steps.old + deed_cost self.now.rows (Usage path.now) }
     {
         self.accounts.sum(alloc, path, moment, steps)
     }
@@ -58,7 +58,7 @@ impl Engine {
         requires late { self.old.rows.last_moment ≤ moment }
         ensures ok { Takes self.old self.new (step self.old.size self.old.rows (record { moment = moment; deed = QuotaDelete path.now })) result }
         ensures kept { IsStore self.new.size self.new.rows }
-        ensures looks { steps.new ≤ steps.old + cost self.old.rows (QuotaDelete path.now) }
+        ensures looks { steps.new ≤ steps.old + deed_cost self.old.rows (QuotaDelete path.now) }
     {
         self.accounts
             .quota_delete(&mut self.scans, path, moment, steps)
@@ -74,7 +74,7 @@ impl Engine {
         requires late { self.old.rows.last_moment ≤ moment }
         ensures ok { Takes self.old self.new (step self.old.size self.old.rows (record { moment = moment; deed = QuotaResetpeak path.now })) result }
         ensures kept { IsStore self.new.size self.new.rows }
-        ensures looks { steps.new ≤ steps.old + cost self.old.rows (QuotaResetpeak path.now) }
+        ensures looks { steps.new ≤ steps.old + deed_cost self.old.rows (QuotaResetpeak path.now) }
     {
         self.accounts.quota_resetpeak(path, moment, steps)
     }
@@ -88,7 +88,7 @@ impl Engine {
         requires late { self.now.rows.last_moment ≤ moment }
         ensures ok { Takes self.now self.now (step self.now.size self.now.rows (record { moment = moment; deed = QuotaList path.now })) result }
         ensures kept { IsStore self.now.size self.now.rows }
-        ensures looks { steps.new ≤ steps.old + cost self.now.rows (QuotaList path.now) }
+        ensures looks { steps.new ≤ steps.old + deed_cost self.now.rows (QuotaList path.now) }
     {
         self.accounts.quota_list(path, moment, steps)
     }

@@ -2,7 +2,7 @@
 
 ghost use Rattle.std.specs.Prelude.{◌≡◌, ◌+◌, ◌≤◌, [], true, length, IfOk, OnErr};
 ghost use Rattle.fsrm_model.specs.declared.command.Deed.TheVariants.{File};
-ghost use Rattle.fsrm_model.specs.Cost.{cost};
+ghost use Rattle.fsrm_model.specs.Cost.{cost, deed_cost};
 ghost use Rattle.fsrm_model.specs.Fresh.{new_rows};
 ghost use Rattle.fsrm_model.specs.Limits.{latest_moment};
 ghost use Rattle.fsrm_model.specs.Quota.{used_of};
@@ -116,16 +116,34 @@ impl Engine {
         ensures ok { IfOk result (λ answer. Takes self.old self.new (step self.old.size self.old.rows command.now) answer) }
         ensures err { OnErr result (self.new ≡ self.old) }
         ensures kept { IsStore self.new.size self.new.rows }
-        ensures looks { steps.new ≤ steps.old + cost self.old.rows command.now.deed }
+        ensures looks { steps.new ≤ steps.old + cost self.old.rows command.now }
     {
-        let moment = command.moment;
-        if moment < self.accounts.last_moment {
+        if command.moment < self.accounts.last_moment {
             return Ok(refused(Refusal::ClockBack));
         }
+        self.take(alloc, command, steps)
+    }
+
+    // Takes a command that doesn't come too late.
+    fn take<L: Ledger>(
+        &mut self,
+        alloc: Global,
+        command: &Command,
+        steps: &mut Steps<L>,
+    ) -> Result<Answer, NoMemory>
+        requires valid { is_command command.now ≡ true }
+        requires idle { self.old.waiting ≡ [] }
+        requires late { self.old.rows.last_moment ≤ command.now.moment }
+        ensures ok { IfOk result (λ answer. Takes self.old self.new (step self.old.size self.old.rows command.now) answer) }
+        ensures err { OnErr result (self.new ≡ self.old) }
+        ensures kept { IsStore self.new.size self.new.rows }
+        ensures looks { steps.new ≤ steps.old + deed_cost self.old.rows command.now.deed }
+    {
+        let moment = command.moment;
         match &command.deed {
             Deed::File(op) => self.operate(alloc, op, moment, steps),
             Deed::Usage { path } => self.sum(alloc, path, moment, steps),
-            Deed::Step { n } => Ok(self.scan_step(*n, moment, steps)),
+            Deed::Step { n } => Ok(self.go_on(*n, moment, steps)),
             Deed::QuotaAdd {
                 path,
                 limit,
@@ -160,7 +178,7 @@ impl Engine {
         ensures ok { IfOk result (λ answer. Takes self.old self.new (step self.old.size self.old.rows (record { moment = moment; deed = File op.now })) answer) }
         ensures err { OnErr result (self.new ≡ self.old) }
         ensures kept { IsStore self.new.size self.new.rows }
-        ensures looks { steps.new ≤ steps.old + cost self.old.rows (File op.now) }
+        ensures looks { steps.new ≤ steps.old + cost self.old.rows (record { moment = moment; deed = File op.now }) }
     {
         if moment < self.accounts.last_moment {
             return Ok(refused(Refusal::ClockBack));

@@ -3,7 +3,7 @@
 ghost use Rattle.std.specs.Prelude.{◌≡◌, ◌+◌, ◌*◌, ◌≤◌, ◌<◌, ◌==◌, [], true, false, length, IfOk, IfErr, OnOk, OnErr, Some, None};
 ghost use Rattle.fsrm_model.specs.declared.command.Deed.TheVariants.{File};
 ghost use Rattle.fsrm_model.specs.declared.command.FileOp.TheVariants.{Mkdir, Touch, Remove};
-ghost use Rattle.fsrm_model.specs.Cost.{cost};
+ghost use Rattle.fsrm_model.specs.Cost.{deed_cost};
 ghost use Rattle.fsrm_model.specs.Limits.{latest_moment, longest_file};
 ghost use Rattle.fsrm_model.specs.Step.{step};
 ghost use Rattle.fsrm_engine.specs.Machine.{IsSound, Takes, ScansOf, ScansFollow};
@@ -36,7 +36,7 @@ impl Accounts {
         ensures err { OnErr result (self.new ≡ self.old) }
         ensures left { OnErr result (scans.new ≡ scans.old) }
         ensures kept { IsSound self.new.size self.new.rows }
-        ensures looks { steps.new ≤ steps.old + cost self.old.rows (File (Mkdir path.now owner)) }
+        ensures looks { steps.new ≤ steps.old + deed_cost self.old.rows (File (Mkdir path.now owner)) }
     {
         let place = match self.place(path, steps) {
             Ok(place) => place,
@@ -68,7 +68,7 @@ impl Accounts {
         ensures scanning { (course : Course) → ScansOf self.old course → ScansOf self.new course }
         ensures err { OnErr result (self.new ≡ self.old) }
         ensures kept { IsSound self.new.size self.new.rows }
-        ensures looks { steps.new ≤ steps.old + cost self.old.rows (File (Touch path.now)) }
+        ensures looks { steps.new ≤ steps.old + deed_cost self.old.rows (File (Touch path.now)) }
     {
         let Some(file) = self.file(path, steps) else {
             return Ok(refused(Refusal::PathNotFound));
@@ -94,7 +94,7 @@ impl Accounts {
         ensures err { OnErr result (self.new ≡ self.old) }
         ensures left { OnErr result (scans.new ≡ scans.old) }
         ensures kept { IsSound self.new.size self.new.rows }
-        ensures looks { steps.new ≤ steps.old + cost self.old.rows (File (Remove path.now)) }
+        ensures looks { steps.new ≤ steps.old + deed_cost self.old.rows (File (Remove path.now)) }
     {
         let Some(node) = self.tree.resolve(path, steps) else {
             return Ok(refused(Refusal::PathNotFound));

@@ -3,7 +3,7 @@
 ghost use Rattle.std.specs.Prelude.{◌≡◌, ◌+◌, ◌*◌, ◌≤◌, ◌<◌, ◌==◌, [], true, false, length, IfOk, IfErr, OnOk, OnErr, Some, None};
 ghost use Rattle.fsrm_model.specs.declared.command.Deed.TheVariants.{File};
 ghost use Rattle.fsrm_model.specs.declared.command.FileOp.TheVariants.{Move};
-ghost use Rattle.fsrm_model.specs.Cost.{cost};
+ghost use Rattle.fsrm_model.specs.Cost.{deed_cost};
 ghost use Rattle.fsrm_model.specs.Limits.{latest_moment, longest_file};
 ghost use Rattle.fsrm_model.specs.Step.{step};
 ghost use Rattle.fsrm_engine.specs.Machine.{IsSound, Takes, ScansOf, ScansFollow};
@@ -102,7 +102,7 @@ impl Accounts {
         ensures err { OnErr result (self.new ≡ self.old) }
         ensures left { OnErr result (scans.new ≡ scans.old) }
         ensures kept { IsSound self.new.size self.new.rows }
-        ensures looks { steps.new ≤ steps.old + cost self.old.rows (File (Move from.now to.now)) }
+        ensures looks { steps.new ≤ steps.old + deed_cost self.old.rows (File (Move from.now to.now)) }
     {
         let Some(node) = self.tree.resolve(from, steps) else {
             return Ok(refused(Refusal::PathNotFound));

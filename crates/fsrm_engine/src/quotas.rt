@@ -5,7 +5,7 @@ ghost use Rattle.std.specs.Option.{option_map_or};
 ghost use Rattle.fsrm_model.specs.declared.command.Deed.TheVariants.{QuotaAdd, QuotaModify, QuotaDelete, QuotaResetpeak, QuotaList};
 ghost use Rattle.fsrm_model.specs.declared.command.Ask.TheVariants.{Quotas};
 ghost use Rattle.fsrm_model.specs.declared.command.Outcome.TheVariants.{Listing};
-ghost use Rattle.fsrm_model.specs.Cost.{cost};
+ghost use Rattle.fsrm_model.specs.Cost.{deed_cost};
 ghost use Rattle.fsrm_model.specs.Limits.{latest_moment};
 ghost use Rattle.fsrm_model.specs.Quota.{is_limit};
 ghost use Rattle.fsrm_model.specs.QuotaWork.{new_quota};
@@ -43,7 +43,7 @@ impl Accounts {
         ensures scans { ScansFollow self.old scans.old scans.new (record { moment = moment; deed = QuotaDelete path.now }) }
         ensures scanning { ScansOf self.new scans.new }
         ensures kept { IsSound self.new.size self.new.rows }
-        ensures looks { steps.new ≤ steps.old + cost self.old.rows (QuotaDelete path.now) }
+        ensures looks { steps.new ≤ steps.old + deed_cost self.old.rows (QuotaDelete path.now) }
     {
         let Some(folder) = self.folder(path, steps) else {
             return refused(Refusal::PathNotFound);
@@ -66,7 +66,7 @@ impl Accounts {
         requires late { self.old.rows.last_moment ≤ moment }
         ensures ok { Takes self.old self.new (step self.old.size self.old.rows (record { moment = moment; deed = QuotaResetpeak path.now })) result }
         ensures kept { IsSound self.new.size self.new.rows }
-        ensures looks { steps.new ≤ steps.old + cost self.old.rows (QuotaResetpeak path.now) }
+        ensures looks { steps.new ≤ steps.old + deed_cost self.old.rows (QuotaResetpeak path.now) }
     {
         let Some(folder) = self.folder(path, steps) else {
             return refused(Refusal::PathNotFound);
@@ -103,7 +103,7 @@ impl Accounts {
         requires late { self.now.rows.last_moment ≤ moment }
         ensures ok { Takes self.now self.now (step self.now.size self.now.rows (record { moment = moment; deed = QuotaList path.now })) result }
         ensures kept { IsSound self.now.size self.now.rows }
-        ensures looks { steps.new ≤ steps.old + cost self.now.rows (QuotaList path.now) }
+        ensures looks { steps.new ≤ steps.old + deed_cost self.now.rows (QuotaList path.now) }
     {
         let _tree = &self.tree;
         match path {

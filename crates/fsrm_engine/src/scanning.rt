@@ -3,7 +3,7 @@
 ghost use Rattle.std.specs.Prelude.{◌≡◌, ◌+◌, ◌-◌, ◌==◌, ◌≤◌, [], true, Some, is_some, length};
 ghost use Rattle.fsrm_model.specs.declared.row.QuotaState.TheVariants.{Complete};
 ghost use Rattle.fsrm_model.specs.declared.command.Deed.TheVariants.{Step};
-ghost use Rattle.fsrm_model.specs.Cost.{cost, step_cost};
+ghost use Rattle.fsrm_model.specs.Cost.{cost, deed_cost, step_cost};
 ghost use Rattle.fsrm_model.specs.Limits.{latest_moment};
 ghost use Rattle.fsrm_model.specs.QuotaStates.{head, with_state};
 ghost use Rattle.fsrm_model.specs.Scan.{visits};
@@ -26,11 +26,23 @@ impl Engine {
         requires idle { self.old.waiting ≡ [] }
         ensures ok { Takes self.old self.new (step self.old.size self.old.rows (record { moment = moment; deed = Step n })) result }
         ensures kept { IsStore self.new.size self.new.rows }
-        ensures looks { steps.new ≤ steps.old + cost self.old.rows (Step n) }
+        ensures looks { steps.new ≤ steps.old + cost self.old.rows (record { moment = moment; deed = Step n }) }
     {
         if moment < self.last_moment() {
             return refused(Refusal::ClockBack);
         }
+        self.go_on(n, moment, steps)
+    }
+
+    // Goes on with the active scan, of a moment that isn't too late.
+    pub(crate) fn go_on<L: Ledger>(&mut self, n: u32, moment: u64, steps: &mut Steps<L>) -> Answer
+        requires moment { moment ≤ latest_moment }
+        requires idle { self.old.waiting ≡ [] }
+        requires late { self.old.rows.last_moment ≤ moment }
+        ensures ok { Takes self.old self.new (step self.old.size self.old.rows (record { moment = moment; deed = Step n })) result }
+        ensures kept { IsStore self.new.size self.new.rows }
+        ensures looks { steps.new ≤ steps.old + deed_cost self.old.rows (Step n) }
+    {
         let Some(folder) = self.active() else {
             return refused(Refusal::NothingToScan);
         };

@@ -3,7 +3,7 @@
 ghost use Rattle.std.specs.Prelude.{◌≡◌, ◌+◌, ◌*◌, ◌≤◌, ◌<◌, [], if◌then◌else◌, true, false, length, IfOk, OnOk, OnErr, Option, Some, None, option_map};
 ghost use Rattle.std.specs.Option.{option_map_or};
 ghost use Rattle.fsrm_model.specs.declared.command.Deed.TheVariants.{QuotaAdd, QuotaModify, QuotaScan};
-ghost use Rattle.fsrm_model.specs.Cost.{cost};
+ghost use Rattle.fsrm_model.specs.Cost.{deed_cost};
 ghost use Rattle.fsrm_model.specs.declared.command.Outcome.TheVariants.{Done};
 ghost use Rattle.fsrm_model.specs.declared.row.QuotaRow.{QuotaRow};
 ghost use Rattle.fsrm_model.specs.declared.row.QuotaState.TheVariants.{Disabled, Rebuilding};
@@ -251,7 +251,7 @@ impl Engine {
         ensures ok { IfOk result (λ answer. Takes self.old self.new (step self.old.size self.old.rows (record { moment = moment; deed = QuotaAdd path.now limit enforce enabled })) answer) }
         ensures err { OnErr result (self.new ≡ self.old) }
         ensures kept { IsStore self.new.size self.new.rows }
-        ensures looks { steps.new ≤ steps.old + cost self.old.rows (QuotaAdd path.now limit enforce enabled) }
+        ensures looks { steps.new ≤ steps.old + deed_cost self.old.rows (QuotaAdd path.now limit enforce enabled) }
     {
         let Some(folder) = self.folder(path, steps) else {
             return Ok(refused(Refusal::PathNotFound));
@@ -284,7 +284,7 @@ impl Engine {
         ensures ok { IfOk result (λ answer. Takes self.old self.new (step self.old.size self.old.rows (record { moment = moment; deed = QuotaModify path.now limit enforce enabled })) answer) }
         ensures err { OnErr result (self.new ≡ self.old) }
         ensures kept { IsStore self.new.size self.new.rows }
-        ensures looks { steps.new ≤ steps.old + cost self.old.rows (QuotaModify path.now limit enforce enabled) }
+        ensures looks { steps.new ≤ steps.old + deed_cost self.old.rows (QuotaModify path.now limit enforce enabled) }
     {
         let Some(folder) = self.folder(path, steps) else {
             return Ok(refused(Refusal::PathNotFound));
@@ -308,7 +308,7 @@ impl Engine {
         ensures ok { IfOk result (λ answer. Takes self.old self.new (step self.old.size self.old.rows (record { moment = moment; deed = QuotaScan path.now })) answer) }
         ensures err { OnErr result (self.new ≡ self.old) }
         ensures kept { IsStore self.new.size self.new.rows }
-        ensures looks { steps.new ≤ steps.old + cost self.old.rows (QuotaScan path.now) }
+        ensures looks { steps.new ≤ steps.old + deed_cost self.old.rows (QuotaScan path.now) }
     {
         let Some(folder) = self.folder(path, steps) else {
             return Ok(refused(Refusal::PathNotFound));

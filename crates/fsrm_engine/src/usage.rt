@@ -2,7 +2,7 @@
 
 ghost use Rattle.std.specs.Prelude.{◌≡◌, ◌+◌, ◌*◌, ◌≤◌, ◌++◌, true, length, map, IfOk, OnOk, OnErr};
 ghost use Rattle.fsrm_model.specs.declared.command.Deed.TheVariants.{Usage};
-ghost use Rattle.fsrm_model.specs.Cost.{cost};
+ghost use Rattle.fsrm_model.specs.Cost.{deed_cost};
 ghost use Rattle.fsrm_model.specs.Keyed.{has_row};
 ghost use Rattle.fsrm_model.specs.Step.{step};
 ghost use Rattle.fsrm_model.specs.Tree.{number as key, children_in_order, usage, under};
@@ -15,29 +15,14 @@ use crate::accounts::Accounts;
 use crate::exits::refused;
 use fsrm_model::{Answer, Ledger, NoMemory, Outcome, Path, Refusal, Steps, allocated};
 use std::alloc::Global;
-use volume_tree::Tree;
-
-// Puts a folder's children behind the nodes that are still to be visited.
-fn push_children<L: Ledger>(
-    tree: &Tree,
-    folder: u32,
-    pending: &mut Vec<u32>,
-    steps: &mut Steps<L>,
-) -> Result<(), NoMemory>
-    ensures pushed { OnOk result (pending.new.items ≡ pending.old.items ++ map key (children_in_order tree.now.nodes folder)) }
-    ensures looks { steps.new ≤ steps.old + (1 + length (children_in_order tree.now.nodes folder)) }
-{
-    for place in 0..tree.child_count(folder, steps) {
-        pending.push(tree.child_at(folder, place, steps))?;
-    }
-    Ok(())
-}
+use volume_tree::{Finger, Tree};
 
 // Visits a node: what it takes itself, with its children put behind the nodes that are still to be
 // visited.
 fn visit<L: Ledger>(
     tree: &Tree,
     node: u32,
+    finger: &mut Finger,
     pending: &mut Vec<u32>,
     steps: &mut Steps<L>,
 ) -> Result<u64, NoMemory>
@@ -52,7 +37,7 @@ fn visit<L: Ledger>(
 {
     let view = tree.node(node, steps);
     if view.folder {
-        push_children(tree, node, pending, steps)?;
+        pending.extend_from_slice(tree.children(node, finger, steps))?;
         Ok(0)
     } else {
         Ok(allocated(view.length))
@@ -75,8 +60,9 @@ pub fn usage_of<L: Ledger>(
     let mut pending = Vec::new(alloc);
     pending.push(node)?;
     let mut total = 0u64;
+    let mut finger = Finger::default();
     while let Some(next) = pending.pop() {
-        total += visit(tree, next, &mut pending, steps)?;
+        total += visit(tree, next, &mut finger, &mut pending, steps)?;
     }
     Ok(total)
 }
@@ -93,7 +79,7 @@ impl Accounts {
         requires late { self.now.rows.last_moment ≤ moment }
         ensures ok { IfOk result (λ answer. Takes self.now self.now (step self.now.size self.now.rows (record { moment = moment; deed = Usage path.now })) answer) }
         ensures kept { IsSound self.now.size self.now.rows }
-        ensures looks { steps.new ≤ steps.old + cost self.now.rows (Usage path.now) }
+        ensures looks { steps.new ≤ steps.old + deed_cost self.now.rows (Usage path.now) }
     {
         let Some(node) = self.tree.resolve(path, steps) else {
             return Ok(refused(Refusal::PathNotFound));

@@ -1,9 +1,10 @@
 -- How many looks at nodes a command may take. A look is one call of the tree's `node`, `child_count`
 -- or `child_at`, or one node that another call of the tree compares or passes.
-use Rattle.std.specs.Prelude.{ℕ, ◌+◌, ◌*◌, List, length, sum_by, Some, if◌then◌else◌}
+use Rattle.std.specs.Prelude.{ℕ, ◌+◌, ◌*◌, nat_lt, List, length, sum_by, Some, if◌then◌else◌}
 use Rattle.std.specs.Option.{option_map_or}
 use Rattle.fsrm_model.specs.declared.row.NodeRow.{NodeRow}
 use Rattle.fsrm_model.specs.declared.row.Rows.{Rows}
+use Rattle.fsrm_model.specs.declared.command.Command.{Command}
 use Rattle.fsrm_model.specs.declared.command.Deed.{Deed}
 use Rattle.fsrm_model.specs.declared.command.Deed.TheVariants.{File, Usage, Step, QuotaAdd, QuotaModify, QuotaDelete, QuotaScan, QuotaResetpeak, QuotaList}
 use Rattle.fsrm_model.specs.declared.command.FileOp.{FileOp}
@@ -59,9 +60,13 @@ more_cost nodes other = 0
 
 -- Up to 40 looks for each name of its paths, and 80 beside. A step of a scan has no path: up to 40, and what its
 -- visits take
-abbrev pub cost : Rows → Deed → ℕ
-cost R (Step n) = 40 + step_cost R n
-cost R deed = 40 * (names_of deed + 2) + more_cost R.nodes deed
+abbrev pub deed_cost : Rows → Deed → ℕ
+deed_cost R (Step n) = 40 + step_cost R n
+deed_cost R deed = 40 * (names_of deed + 2) + more_cost R.nodes deed
+
+-- the looks of a command: none where it comes too late
+abbrev pub cost : Rows → Command → ℕ
+cost R c = if nat_lt c.moment R.last_moment then 0 else deed_cost R c.deed
 
 -- the looks at a path that is printed: up to 4 for the root and for each name
 abbrev pub path_cost : List NodeRow → ℕ → ℕ

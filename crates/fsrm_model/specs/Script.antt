@@ -78,7 +78,7 @@ fold_script K R script j = fold_from K R 1 (take j (lines script))
 abbrev pub read_cost : Capacity → Rows → Option (Read Command) → ℕ
 read_cost K R None = 0
 read_cost K R (Some (Err refusal)) = 0
-read_cost K R (Some (Ok c)) = let s = step K R c in cost R c.deed + print_cost s.rows s.outcome
+read_cost K R (Some (Ok c)) = let s = step K R c in cost R c + print_cost s.rows s.outcome
 
 -- the same of a line of these bytes
 unfoldable pub line_cost : Capacity → Rows → List ℕ → ℕ

@@ -249,7 +249,7 @@ pub text_read : (K : Capacity) (R : Rows) (n : ℕ) (line text before last : Lis
 text_read K R n line text before last c cr e h =
     h ∙ ap (λ (ts : List ℕ). before ++ ts) (sym (ap (λ (r : Replied). r.text) (replied-read K R n line (Some (Ok c)) (sym (ap read_line cr) ∙ e))))
 
-pub cost_read : (K : Capacity) (R : Rows) (line text : List ℕ) (c : Command) → text ≡ without_cr line → read_line text ≡ Some (Ok c) → line_cost K R line ≡ cost R c.deed + print_cost (step K R c).rows (step K R c).outcome
+pub cost_read : (K : Capacity) (R : Rows) (line text : List ℕ) (c : Command) → text ≡ without_cr line → read_line text ≡ Some (Ok c) → line_cost K R line ≡ cost R c + print_cost (step K R c).rows (step K R c).outcome
 cost_read K R line text c cr e = line_cost-read K R line (Some (Ok c)) (sym (ap read_line cr) ∙ e)
 
 pub rows_skipped : (K : Capacity) (R : Rows) (n : ℕ) (line text : List ℕ) → text ≡ without_cr line → read_line text ≡ None → R ≡ (replied K R n line).rows

@@ -1,6 +1,6 @@
 -- The children of a folder, taken up one by one.
 use Rattle.std.proofs.Common.{◌≡◌, ℕ, ◌+◌, ◌<◌, ◌≤◌, ◌==◌, Bool, true, false, cond, not, ◌||◌, ◌&&◌, List, [], ◌∷◌, ◌++◌, length, take, Option, Some, None, refl, sym, ◌∙◌, ap, arith}
-use Rattle.std.proofs.lemmas.List.{take_more, take_all, map-append}
+use Rattle.std.proofs.lemmas.List.{take_more, take_all, length-map, map-append}
 use Rattle.std.proofs.lemmas.List.Elements.{filter-append}
 use Rattle.std.proofs.lemmas.List.Sorted.{sum_by-IsPermutation, list_any-IsPermutation, length_permutation}
 use Rattle.std.proofs.lemmas.List.Sums.{sum_by-cons, sum_by_push, sum_by-take-le}
@@ -32,6 +32,9 @@ before a b = name_before a.name b.name
 -- the children in order are the children
 pub length-children : (nodes : List NodeRow) (folder : ℕ) → length (children_in_order nodes folder) ≡ length (children nodes folder)
 length-children nodes folder = length_permutation (children nodes folder) (children_in_order nodes folder) (in_order_moves before (children nodes folder))
+
+pub numbers_many : (nodes : List NodeRow) (folder : ℕ) (numbers : List ℕ) → numbers ≡ map number (children_in_order nodes folder) → length numbers ≡ length (children nodes folder)
+numbers_many nodes folder numbers e = ap length e ∙ (length-map (children_in_order nodes folder) number ∙ length-children nodes folder)
 
 pub sum-children : (f : NodeRow → ℕ) (nodes : List NodeRow) (folder : ℕ) → sum_by f (children_in_order nodes folder) ≡ sum_by f (children nodes folder)
 sum-children f nodes folder = sum_by-IsPermutation f (children nodes folder) (children_in_order nodes folder) (in_order_moves before (children nodes folder))

@@ -11,6 +11,7 @@ use fsrm_model::NoMemory;
 use number_set::NumberSet;
 use std::alloc::Global;
 use std::marker::Model;
+use volume_tree::Finger;
 
 /// The folders that the active scan has still to visit, and the bytes that it has counted. Of the
 /// unvisited folders it holds those whose parent is visited; what is below them is unvisited too.
@@ -23,6 +24,8 @@ pub struct Frontier {
     pub(crate) sum: u64,
     // The nodes that a walk through a folder has still to pass; empty between two calls.
     pub(crate) waiting: NumberSet,
+    // Folders are visited in the order of their numbers, so the next one's children are near.
+    pub(crate) finger: Finger,
 }
 
 impl Model for Frontier {
@@ -48,6 +51,7 @@ impl Frontier {
             tops,
             sum: 0,
             waiting,
+            finger: Finger::default(),
         })
     }
 

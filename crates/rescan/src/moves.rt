@@ -106,7 +106,8 @@ impl Frontier {
             if self.tops.contains(next) {
                 self.tops.remove(next);
             } else {
-                self.sum -= enter_children(tree, next, &mut self.waiting, steps);
+                self.sum -=
+                    enter_children(tree, next, &mut self.finger, &mut self.waiting, steps);
             }
         }
     }

@@ -13,7 +13,7 @@ use crate::frontier::Frontier;
 use fsrm_model::{Ledger, List, NoMemory, Steps, allocated};
 use number_set::NumberSet;
 use std::alloc::Global;
-use volume_tree::Tree;
+use volume_tree::{Finger, Tree};
 
 impl Frontier {
     /// Visits the unvisited folder of the least number among those whose parent is visited: counts the
@@ -27,7 +27,7 @@ impl Frontier {
     {
         let folder = self.tops.least()?;
         self.tops.remove(folder);
-        self.sum += enter_children(tree, folder, &mut self.tops, steps);
+        self.sum += enter_children(tree, folder, &mut self.finger, &mut self.tops, steps);
         Some(folder)
     }
 
@@ -59,10 +59,11 @@ impl Frontier {
     {
         let mut waiting = copied(alloc, &self.tops)?;
         let mut found = NumberSet::reserve(alloc, self.tops.bound())?;
+        let mut finger = self.finger;
         while let Some(next) = waiting.least() {
             waiting.remove(next);
             found.insert(next);
-            enter_children(tree, next, &mut waiting, steps);
+            enter_children(tree, next, &mut finger, &mut waiting, steps);
         }
         Ok(found)
     }
@@ -72,6 +73,7 @@ impl Frontier {
 pub(crate) fn enter_children<L: Ledger>(
     tree: &Tree,
     folder: u32,
+    finger: &mut Finger,
     set: &mut NumberSet,
     steps: &mut Steps<L>,
 ) -> u64
@@ -80,13 +82,10 @@ pub(crate) fn enter_children<L: Ledger>(
     ensures set { set.new ≡ record set.old { members = with_numbers (folders_in tree.now.nodes folder) set.old.members } }
     ensures bytes { result ≡ sum_by (space tree.now.size) (children tree.now.nodes folder) }
     ensures small { sum_by (space tree.now.size) tree.now.nodes < 2 ^ 64 }
-    ensures looks { steps.new ≤ steps.old + (1 + 2 * length (children tree.now.nodes folder)) }
+    ensures looks { steps.new ≤ steps.old + (1 + length (children tree.now.nodes folder)) }
 {
-    // The files of a volume of this size take fewer than 2^64 bytes.
-    let _size = tree.capacity();
     let mut bytes = 0u64;
-    for place in 0..tree.child_count(folder, steps) {
-        let child = tree.child_at(folder, place, steps);
+    for &child in tree.children(folder, finger, steps) {
         let node = tree.node(child, steps);
         if node.folder {
             set.insert(child);

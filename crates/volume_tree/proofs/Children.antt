@@ -1,18 +1,22 @@
 -- How many children a folder has, and which stands at a place.
-use Rattle.std.proofs.Common.{◌≡◌, ℕ, zero, suc, ◌+◌, ◌-◌, ◌<◌, ◌≤◌, ◌==◌, not, Bool, true, false, inl, inr, List, [], ◌∷◌, length, get_or, slice_get, slice_index, Some, refl, sym, ◌∙◌, ap, subst, arith}
+use Rattle.std.proofs.Common.{◌≡◌, ℕ, zero, suc, ◌+◌, ◌-◌, ◌<◌, ◌≤◌, ◌==◌, not, Bool, true, false, inl, inr, List, [], ◌∷◌, length, get_or, map, slice_get, slice_index, Some, refl, sym, ◌∙◌, ap, subst, arith}
 use Rattle.std.specs.List.{Contains}
 use Rattle.std.proofs.lemmas.Bool.{cases_lt}
 use Rattle.std.proofs.lemmas.Bool.Decides.{nat_tests}
+use Rattle.std.proofs.lemmas.List.{get_or-map, length-map}
 use Rattle.std.proofs.lemmas.List.Edits.{length-between, get_or-between}
+use Rattle.std.proofs.lemmas.List.Elements.{All-filter}
+use Rattle.std.proofs.lemmas.List.Sorted.{All-permutation}
 use Rattle.std.proofs.lemmas.Option.{same_Some, slice_get-get_or}
 use Rattle.fsrm_model.specs.declared.row.NodeRow.{NodeRow}
 use Rattle.fsrm_model.specs.Fresh.{root_node}
 use Rattle.fsrm_model.specs.Keyed.{is_ascending}
-use Rattle.fsrm_model.specs.Tree.{number, node_of, children}
+use Rattle.fsrm_model.specs.Name.{name_before}
+use Rattle.fsrm_model.specs.Tree.{number, node_of, is_child, children, children_in_order}
 use Rattle.volume_tree.specs.Kept.{IsOrder, IsPlace}
 use Rattle.volume_tree.specs.Volume.{IsChildAt}
-use Rattle.volume_tree.proofs.Entries.{at, number_there, node_there, length-order_entries}
-use Rattle.volume_tree.proofs.Items.{contains_head}
+use Rattle.volume_tree.proofs.Entries.{at, number_there, node_there, length-order_entries, rows_found}
+use Rattle.volume_tree.proofs.Items.{contains_head, in_order_moves}
 use Rattle.volume_tree.proofs.Names.{comes_is}
 use Rattle.volume_tree.proofs.Segments.{Ends, place_ends, ends_ordered, segment, entry_of_child, child_of_entry, children_are_segment, length-children}
 
@@ -72,6 +76,23 @@ child_there nodes order folder f first place h a e p l =
         found = node_there nodes order (first + place) h a (omega arith);
       },
     )
+
+-- the child whose number stands at a place among the numbers of all
+pub child_numbered : (nodes : List NodeRow) (folder place : ℕ) (numbers : List ℕ) → is_ascending number nodes ≡ true → numbers ≡ map number (children_in_order nodes folder) → place < length numbers → IsChildAt nodes folder place (get_or numbers place 0)
+child_numbered nodes folder place numbers a e l =
+    let before : NodeRow → NodeRow → Bool = λ x y. name_before x.name y.name in
+    let rows = children_in_order nodes folder in
+    let size : length numbers ≡ length rows = ap length e ∙ length-map rows number in
+    let row = get_or rows place root_node in
+    let is : row.number ≡ get_or numbers place 0 = sym (ap (λ ns. get_or ns place 0) e ∙ get_or-map number rows place root_node 0 (omega arith)) in
+    let own = All-filter (is_child folder) (λ (r : NodeRow). node_of nodes r.number ≡ Some r) nodes (rows_found number nodes a) in
+    let all = All-permutation (λ (r : NodeRow). node_of nodes r.number ≡ Some r) (children nodes folder) rows (in_order_moves before (children nodes folder)) own in
+    record {
+      row = row;
+      at = slice_get-get_or rows place root_node (omega arith);
+      number_is = is;
+      found = ap (node_of nodes) (sym is) ∙ all place root_node (omega arith);
+    }
 
 -- whether there is one
 no_items : {X : Type 0} (xs : List X) → ((x : X) → Contains xs x → ⊥) → length xs ≡ 0

@@ -41,7 +41,7 @@ halves_all nodes order folder name =
       };
     }
 
-row_is : (nodes : List NodeRow) (order : List ℕ) (k : ℕ) (row : NodeRow) (h : IsOrder nodes order) → is_ascending number nodes ≡ true → k < length h.entries → node_of nodes (slice_index order k) ≡ Some row → row ≡ at h.entries k
+pub row_is : (nodes : List NodeRow) (order : List ℕ) (k : ℕ) (row : NodeRow) (h : IsOrder nodes order) → is_ascending number nodes ≡ true → k < length h.entries → node_of nodes (slice_index order k) ≡ Some row → row ≡ at h.entries k
 row_is nodes order k row h a l e =
     let size = length-order_entries nodes order h in
     same_Some _ _ (sym e ∙ node_there nodes order k h a (omega arith))

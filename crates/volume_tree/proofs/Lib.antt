@@ -17,3 +17,4 @@ pub mod Names
 pub mod Places
 pub mod Segments
 pub mod SlotRows
+pub mod Spans

@@ -1,11 +1,11 @@
 -- How a tree's fields hold its nodes.
 use Rattle.std.specs.Prelude.{◌≡◌, ℕ, suc, ◌<◌, ◌≤◌, ◌==◌, ◌&&◌, ◌||◌, nat_lt, not, Bool, true, false, List, [], ◌∷◌, length, map, filter, slice_get, Option, Some, None}
-use Rattle.std.specs.List.{AllPairs}
+use Rattle.std.specs.List.{AllPairs, between}
 use Rattle.std.specs.List.Sorted.{IsPermutation}
 use Rattle.fsrm_model.specs.declared.row.Capacity.{Capacity}
 use Rattle.fsrm_model.specs.declared.row.NodeRow.{NodeRow}
 use Rattle.fsrm_model.specs.Name.{name_before}
-use Rattle.fsrm_model.specs.Tree.{number, node_of, fresh, name_bytes}
+use Rattle.fsrm_model.specs.Tree.{number, node_of, children_in_order, fresh, name_bytes}
 use Rattle.fsrm_model.specs.Valid.{IsVolume}
 use Rattle.volume_tree.specs.Volume.{IsCapacity}
 
@@ -55,3 +55,19 @@ pub record IsPlace (nodes : List NodeRow) (order : List ℕ) (folder : ℕ) (nam
   pub within : place ≤ length order
   pub before : (k n : ℕ) (row : NodeRow) → k < place → slice_get order k ≡ Some n → node_of nodes n ≡ Some row → is_before row folder name ≡ true
   pub after : (k n : ℕ) (row : NodeRow) → place ≤ k → slice_get order k ≡ Some n → node_of nodes n ≡ Some row → is_before row folder name ≡ false
+
+-- a place that isn't behind this one: what stands in front of it comes before the name
+pub record IsFloor (nodes : List NodeRow) (order : List ℕ) (folder : ℕ) (name : List ℕ) (place : ℕ) : Type 0 where
+  pub within : place ≤ length order
+  pub before : (k n : ℕ) (row : NodeRow) → k < place → slice_get order k ≡ Some n → node_of nodes n ≡ Some row → is_before row folder name ≡ true
+
+-- a place that isn't in front of this one: what stands from it on doesn't come before the name
+pub record IsCeiling (nodes : List NodeRow) (order : List ℕ) (folder : ℕ) (name : List ℕ) (place : ℕ) : Type 0 where
+  pub within : place ≤ length order
+  pub after : (k n : ℕ) (row : NodeRow) → place ≤ k → slice_get order k ≡ Some n → node_of nodes n ≡ Some row → is_before row folder name ≡ false
+
+-- from where to where in the order a folder's children stand, in the order of their folded names
+pub record IsSegment (nodes : List NodeRow) (order : List ℕ) (folder first end : ℕ) : Type 0 where
+  pub ordered : first ≤ end
+  pub within : end ≤ length order
+  pub children_are : between first end order ≡ map number (children_in_order nodes folder)

@@ -4,6 +4,7 @@
 mod answer;
 mod climb;
 mod entry;
+mod finger;
 mod moves;
 mod order;
 mod rows;
@@ -13,5 +14,6 @@ mod tests;
 mod tree;
 
 pub use answer::{NodeView, RowsFault, TreeFault};
+pub use finger::Finger;
 pub use moves::ReadyMove;
 pub use tree::Tree;

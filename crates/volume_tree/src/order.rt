@@ -5,7 +5,7 @@ ghost use Rattle.std.specs.Prelude.{◌≡◌, ◌+◌, ◌<◌, ◌≤◌, ◌=
 ghost use Rattle.fsrm_model.specs.Limits.{most_nodes};
 ghost use Rattle.fsrm_model.specs.Name.{same_name};
 ghost use Rattle.fsrm_model.specs.Tree.{node_of, children, child_number};
-ghost use Rattle.volume_tree.specs.Kept.{AreSlots, IsOrder, IsPlace, rows_of, is_before};
+ghost use Rattle.volume_tree.specs.Kept.{AreSlots, IsOrder, IsPlace, IsFloor, IsCeiling, IsSegment, rows_of, is_before};
 ghost use Rattle.volume_tree.specs.Volume.{IsChildAt};
 
 use fsrm_model::{Ledger, NodeRow, Steps};
@@ -63,14 +63,23 @@ fn place_of<L: Ledger>(
     low
 }
 
-// The place in the order from which the folders have this number or greater ones.
-fn first_from(slots: &[Option<NodeRow>], order: &[u32], folder: u64) -> usize
+// The place in the order from which the folders have this number or greater ones, between two places.
+fn first_between(
+    slots: &[Option<NodeRow>],
+    order: &[u32],
+    folder: u64,
+    floor: usize,
+    ceiling: usize,
+) -> usize
     requires slots { AreSlots 0 slots.now }
     requires order { IsOrder (rows_of slots.now) order.now }
+    requires ordered { floor ≤ ceiling }
+    requires floor { IsFloor (rows_of slots.now) order.now folder [] floor }
+    requires ceiling { IsCeiling (rows_of slots.now) order.now folder [] ceiling }
     ensures { IsPlace (rows_of slots.now) order.now folder [] result }
 {
-    let mut low = 0;
-    let mut high = order.len();
+    let mut low = floor;
+    let mut high = ceiling;
     while low < high {
         let middle = low + (high - low) / 2;
         if u64::from(entry(slots, order, middle).parent) < folder {
@@ -80,6 +89,76 @@ fn first_from(slots: &[Option<NodeRow>], order: &[u32], folder: u64) -> usize
         }
     }
     low
+}
+
+// The place in the order from which the folders have this number or greater ones.
+fn first_from(slots: &[Option<NodeRow>], order: &[u32], folder: u64) -> usize
+    requires slots { AreSlots 0 slots.now }
+    requires order { IsOrder (rows_of slots.now) order.now }
+    ensures { IsPlace (rows_of slots.now) order.now folder [] result }
+{
+    first_between(slots, order, folder, 0, order.len())
+}
+
+// A place not behind the one from which the folders have this number or greater ones. It is sought from a
+// place backwards, in steps that double.
+fn floor_near(slots: &[Option<NodeRow>], order: &[u32], folder: u64, near: usize) -> usize
+    requires slots { AreSlots 0 slots.now }
+    requires order { IsOrder (rows_of slots.now) order.now }
+    requires near { near ≤ length order.now }
+    ensures { IsFloor (rows_of slots.now) order.now folder [] result }
+{
+    let mut low = near;
+    let mut width = 1;
+    while low > 0 {
+        if u64::from(entry(slots, order, low - 1).parent) < folder {
+            return low;
+        }
+        let step = width.min(low);
+        low -= step;
+        width = 2 * step;
+    }
+    0
+}
+
+// The place in the order from which the folders have this number or greater ones. It is sought from a place
+// that isn't behind it forwards, in steps that double.
+fn first_behind(slots: &[Option<NodeRow>], order: &[u32], folder: u64, floor: usize) -> usize
+    requires slots { AreSlots 0 slots.now }
+    requires order { IsOrder (rows_of slots.now) order.now }
+    requires floor { IsFloor (rows_of slots.now) order.now folder [] floor }
+    ensures { IsPlace (rows_of slots.now) order.now folder [] result }
+{
+    let mut high = floor;
+    let mut width = 1;
+    while high < order.len() {
+        if u64::from(entry(slots, order, high).parent) >= folder {
+            return first_between(slots, order, folder, floor, high);
+        }
+        let step = width.min(order.len() - high);
+        high += step;
+        width = 2 * step;
+    }
+    first_between(slots, order, folder, floor, order.len())
+}
+
+/// From where to where in the order a folder's children stand. They are sought from a place on, and found soon
+/// where they are near it.
+pub fn segment(
+    slots: &[Option<NodeRow>],
+    order: &[u32],
+    folder: u32,
+    near: usize,
+) -> (usize, usize)
+    requires slots { AreSlots 0 slots.now }
+    requires order { IsOrder (rows_of slots.now) order.now }
+    ensures { IsSegment (rows_of slots.now) order.now folder result.0 result.1 }
+{
+    let folder = u64::from(folder);
+    let floor = floor_near(slots, order, folder, near.min(order.len()));
+    let first = first_behind(slots, order, folder, floor);
+    let end = first_behind(slots, order, folder + 1, first);
+    (first, end)
 }
 
 /// The place in the order of a folder's child of a name, or as an `Err` the place where one is to

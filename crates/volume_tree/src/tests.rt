@@ -6,6 +6,7 @@ ghost use Rattle.fsrm_model.specs.Name.{is_name};
 ghost use Rattle.fsrm_model.specs.Tree.{is_folder};
 
 use crate::answer::{RowsFault, TreeFault};
+use crate::finger::Finger;
 use crate::tree::Tree;
 use fsrm_model::{Capacity, Ledger, Steps, Weightless};
 use name_rules::read_path;
@@ -210,6 +211,10 @@ fn children_are_ordered<N: Named>(
     assert_eq!(end; child_name(&tree, end, 0, 2, &mut steps), "a0");
     assert_eq!(end; child_name(&tree, end, 0, 3, &mut steps), "B");
     assert_eq!(end; child_name(&tree, end, 0, 4, &mut steps), "É");
+    // Wherever the finger is: at the front, and behind them.
+    let mut finger = Finger::default();
+    assert_eq!(end; tree.children(0, &mut finger, &mut steps), [4, 2, 5, 1, 3].as_slice());
+    assert_eq!(end; tree.children(0, &mut finger, &mut steps), [4, 2, 5, 1, 3].as_slice());
     assert_eq!(end; tree.child(0, "b", &mut steps), Some(1));
     assert_eq!(end; tree.child(0, "é", &mut steps), Some(3));
     assert_eq!(end; tree.child(0, "c", &mut steps), None);

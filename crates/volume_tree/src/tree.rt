@@ -1,18 +1,19 @@
 //! A volume's nodes.
 
-ghost use Rattle.std.specs.Prelude.{◌≡◌, ◌+◌, ◌*◌, ◌<◌, ◌≤◌, ◌==◌, if◌then◌else◌, IfOk, IfErr, OnOk, OnErr, IsErrOf, true, false, length, take, None, Some, ◌∷◌, []};
+ghost use Rattle.std.specs.Prelude.{◌≡◌, ◌+◌, ◌*◌, ◌<◌, ◌≤◌, ◌==◌, if◌then◌else◌, IfOk, IfErr, OnOk, OnErr, IsErrOf, true, false, length, take, map, None, Some, ◌∷◌, []};
 ghost use Rattle.fsrm_model.specs.FileOps.{made_node};
 ghost use Rattle.fsrm_model.specs.Fresh.{root_node};
 ghost use Rattle.fsrm_model.specs.Keyed.{has_row};
 ghost use Rattle.fsrm_model.specs.Limits.{longest_file, latest_moment};
 ghost use Rattle.fsrm_model.specs.Name.{is_name};
-ghost use Rattle.fsrm_model.specs.Tree.{number as key, fresh, is_folder, is_under, children, child_number, chain, resolve, name_bytes};
+ghost use Rattle.fsrm_model.specs.Tree.{number as key, fresh, is_folder, is_under, children, children_in_order, child_number, chain, resolve, name_bytes};
 ghost use Rattle.fsrm_model.specs.Valid.{is_tree, IsVolume};
 ghost use Rattle.volume_tree.specs.Volume.{IsCapacity, IsFault, IsChildAt, Shows, new_fault, remove_fault, with_node, with_length, with_touch, without_node};
 
 use crate::answer::{NodeView, RowsFault, TreeFault};
 use crate::climb::is_at_or_below;
 use crate::entry::own_place;
+use crate::finger::Finger;
 use crate::{order, rows, slots};
 use fsrm_model::{Capacity, Ledger, List, NoMemory, NodeRow, Path, Steps, Text};
 use std::alloc::Global;
@@ -203,6 +204,26 @@ impl Tree {
     {
         steps.tick();
         order::child_at(&self.slots, &self.order, folder, place)
+    }
+
+    /// The numbers of a folder's children, in the order of their folded names. It takes one look.
+    ///
+    /// The search begins at the finger and leaves it behind these children, so that those of the next folder
+    /// are found at once.
+    pub fn children<L: Ledger>(
+        &self,
+        folder: u32,
+        finger: &mut Finger,
+        steps: &mut Steps<L>,
+    ) -> &[u32]
+        ensures numbers { result.now ≡ map key (children_in_order self.now.nodes folder) }
+        ensures legal { IsCapacity self.now.size }
+        ensures count { steps.new ≡ steps.old + 1 }
+    {
+        steps.tick();
+        let (first, end) = order::segment(&self.slots, &self.order, folder, finger.place);
+        finger.place = end;
+        &self.order[first..end]
     }
 
     /// Makes a folder in a folder, and gives its number, the least that is free. It takes no more

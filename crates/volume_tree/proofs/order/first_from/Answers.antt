@@ -1,24 +1,10 @@
-use Rattle.std.proofs.Common.{[], arith}
+use Rattle.std.proofs.Common.{[], length, refl}
 use Rattle.volume_tree.specs.Kept.{rows_of}
-use Rattle.volume_tree.proofs.Halving.{halves_above, halves_below, halves_end, lower_before, upper_stays}
-use Rattle.volume_tree.proofs.SlotRows.{slots_ascend}
+use Rattle.volume_tree.proofs.Spans.{floor_first, ceiling_last}
 use Rattle.volume_tree.proofs.order.first_from.Goals as goal
 
-pub loop-low-preserved-then-from-folder : goal.loop-low-preserved-then-from-folder
-loop-low-preserved-then-from-folder c =
-    let slots = c.args.slots.now in
-    let row = c.entry.result.now in
-    halves_above (rows_of slots) c.args.order.now c.args.folder [] c.loop-low.low c.loop-low.high row (slots_ascend slots c.requires.slots)
-    c.loop-low.invariant c.loop-low-test.true c.entry.ensures (lower_before row c.args.folder (omega arith))
+pub first_between-requires-clause-floor : goal.first_between-requires-clause-floor
+first_between-requires-clause-floor c = floor_first (rows_of c.args.slots.now) c.args.order.now c.args.folder []
 
-pub loop-low-preserved : goal.loop-low-preserved
-loop-low-preserved c =
-    let slots = c.args.slots.now in
-    let row = c.entry.result.now in
-    halves_below (rows_of slots) c.args.order.now c.args.folder [] c.loop-low.low c.loop-low.high row (slots_ascend slots c.requires.slots)
-    c.loop-low.invariant c.loop-low-test.true c.entry.ensures (upper_stays row c.args.folder (omega arith))
-
-pub returns : goal.returns
-returns c =
-    let slots = c.args.slots.now in
-    halves_end (rows_of slots) c.args.order.now c.args.folder [] c.loop-low.low c.loop-low.high c.requires.order (slots_ascend slots c.requires.slots) c.loop-low.invariant c.loop-low-test.false
+pub first_between-requires-clause-ceiling : goal.first_between-requires-clause-ceiling
+first_between-requires-clause-ceiling c = ceiling_last (rows_of c.args.slots.now) c.args.order.now c.args.folder [] (length c.args.order.now) refl

@@ -1,8 +1,6 @@
-use Rattle.std.proofs.Common.{subst, sym}
-use Rattle.std.specs.Prelude.{IfOk}
-use Rattle.fsrm_model.specs.Step.{step}
-use Rattle.fsrm_engine.specs.Machine.{Takes}
+use Rattle.std.proofs.Common.{arith}
+use Rattle.fsrm_engine.proofs.StepLaws.{cost_in_time}
 use Rattle.fsrm_engine.proofs.engine.Engine.apply.Goals as goal
 
-pub returns-in-QuotaModify-clause-ok : goal.returns-in-QuotaModify-clause-ok
-returns-in-QuotaModify-clause-ok g c = subst (λ deed. IfOk c.quota_modify.result (λ answer. Takes c.args.self.now c.quota_modify.new.self (step c.args.self.now.size c.args.self.now.rows (record { moment = c.args.command.now.moment; deed = deed })) answer)) (sym c.in-QuotaModify.is) c.quota_modify.ensures.ok
+pub returns-clause-looks : goal.returns-clause-looks
+returns-clause-looks g c = omega (arith, c.take.ensures.looks, cost_in_time c.args.self.now.rows c.args.command.now (omega arith))

@@ -1,16 +1,12 @@
-use Rattle.std.proofs.Common.{◌≤◌, sym, ◌∙◌, subst}
-use Rattle.fsrm_engine.proofs.ScanSteps.{step_passing, step_ending}
+use Rattle.std.proofs.Common.{◌≤◌, subst, arith}
+use Rattle.fsrm_model.specs.declared.command.Deed.TheVariants.{Step}
+use Rattle.fsrm_engine.proofs.StepLaws.{cost_in_time}
 use Rattle.fsrm_engine.proofs.engine.Engine.scan_step.Goals as goal
 
-pub returns-then-not-is_visited-clause-ok : goal.returns-then-not-is_visited-clause-ok
-returns-then-not-is_visited-clause-ok g c =
-    let late = subst (λ k. k ≤ c.args.moment) c.last_moment.ensures.moment c.if-moment-last_moment.false in
-    step_passing c.args.self.now c.visit-visited.new.self c.args.n c.args.moment c.in-Some.folder c.visit-visited.result c.requires.idle late
-    (sym c.active.ensures ∙ c.in-Some.is) c.visit-visited.ensures.left c.visit-visited.ensures.visited (sym c.is_visited.ensures ∙ c.if-not-is_visited.true)
+pub go_on-requires-clause-late : goal.go_on-requires-clause-late
+go_on-requires-clause-late g c = subst (λ k. k ≤ c.args.moment) c.last_moment.ensures.moment c.if-moment-last_moment.false
 
-pub returns-clause-ok : goal.returns-clause-ok
-returns-clause-ok g c =
+pub returns-clause-looks : goal.returns-clause-looks
+returns-clause-looks g c =
     let late = subst (λ k. k ≤ c.args.moment) c.last_moment.ensures.moment c.if-moment-last_moment.false in
-    step_ending c.args.self.now c.visit-visited.new.self c.finish-used.new.self c.args.n c.args.moment c.in-Some.folder c.visit-visited.result c.finish-used.result c.requires.idle late
-    (sym c.active.ensures ∙ c.in-Some.is) c.visit-visited.ensures.left c.visit-visited.ensures.visited (sym c.is_visited.ensures ∙ c.if-not-is_visited.false)
-    c.finish-used.ensures.ended c.finish-used.ensures.used
+    omega (arith, c.go_on.ensures.looks, cost_in_time c.args.self.now.rows (record { moment = c.args.moment; deed = Step c.args.n }) late)
