@@ -1,34 +1,25 @@
 -- Which fault is due.
-use Rattle.std.proofs.Common.{◌≡◌, ℕ, ◌+◌, ◌<◌, ◌≤◌, nat_lt, Bool, true, false, List, [], ◌∷◌, length, Option, Some, None, Result, OnOk, IfErr, refl, subst, sym, ◌∙◌, ap, arith}
+use Rattle.std.proofs.Common.{◌≡◌, ℕ, ◌+◌, ◌<◌, ◌≤◌, Bool, true, false, List, [], ◌∷◌, length, Option, Some, None, Result, OnOk, IfErr, refl, subst, sym, ◌∙◌, ap, arith}
 use Rattle.std.proofs.lemmas.Bool.Decides.{nat_tests}
 use Rattle.std.specs.Option.{ok_or}
-use Rattle.std.specs.Prelude.{is_some, is_none, nat_le, option_map, find, MatchOption}
+use Rattle.std.specs.Prelude.{is_some, is_none, nat_le, find}
 use Rattle.std.specs.List.{list_any}
 use Rattle.fsrm_model.specs.declared.row.GroupRow.{GroupRow}
 use Rattle.fsrm_model.specs.Keyed.{row_of}
 use Rattle.fsrm_model.specs.Patterns.{group_number, has_name, most_groups, number_named, regrouped, texts_of}
-use Rattle.fsrm_model.proofs.Look.{is_some-find}
-use Rattle.fsrm_model.proofs.TestLaws.{lt_test}
+use Rattle.fsrm_model.proofs.Look.{is_some-find, is_some-mapped}
+use Rattle.fsrm_model.proofs.TestLaws.{lt_test, not_lt, le_test}
 use Rattle.file_groups.specs.declared.answer.GroupFault.{GroupFault}
 use Rattle.file_groups.specs.declared.answer.GroupFault.TheVariants.{DuplicateName, TableFull, TextsFull}
 use Rattle.file_groups.specs.Faults.{new_fault, patterns_fault, first_fault, fault_if}
 
-le_test : (m n : ℕ) → m ≤ n → nat_le m n ≡ true
-le_test m n h = grind (arith, nat_tests)
-
 not_le : (m n : ℕ) → n < m → nat_le m n ≡ false
 not_le m n h = grind (arith, nat_tests)
 
-not_lt : (m n : ℕ) → n ≤ m → nat_lt m n ≡ false
-not_lt m n h = grind (arith, nat_tests)
-
 -- a name is a group's exactly where a number is found for it
-some_mapped : {X Y : Type 0} (f : X → Y) (o : Option X) → is_some (option_map f o) ≡ is_some o
-some_mapped f None = refl
-some_mapped f (Some x) = refl
 
 pub named_is : (name : List ℕ) (groups : List GroupRow) → is_some (number_named name groups) ≡ list_any (has_name name) groups
-named_is name groups = some_mapped group_number (find (has_name name) groups) ∙ is_some-find (has_name name) groups
+named_is name groups = is_some-mapped group_number (find (has_name name) groups) ∙ is_some-find (has_name name) groups
 
 module _ (groups : List GroupRow) (name : List ℕ) (is_long : Bool) where
   pub duplicate_due : list_any (has_name name) groups ≡ true → new_fault groups name is_long ≡ Some DuplicateName
@@ -42,11 +33,6 @@ module _ (groups : List GroupRow) (name : List ℕ) (is_long : Bool) where
 
   pub none_due : list_any (has_name name) groups ≡ false → length groups < most_groups → is_long ≡ false → new_fault groups name is_long ≡ None
   none_due named few short = rw (named, not_le most_groups (length groups) few, short) refl
-
--- so many bytes of texts are too long exactly where they leave nothing of the room
-pub long_is : (room bytes : ℕ) (left : Option ℕ) → MatchOption left (room < bytes) (λ kept. kept + bytes ≡ room) → is_none left ≡ nat_lt room bytes
-long_is room bytes None long = sym (lt_test room bytes long)
-long_is room bytes (Some kept) short = sym (not_lt room bytes (omega arith))
 
 -- where none is due, the name is new, and a place is free
 pub record Admitted (groups : List GroupRow) (name : List ℕ) : Type 0 where

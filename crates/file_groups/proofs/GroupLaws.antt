@@ -1,12 +1,12 @@
 -- Groups after an edit are as they are to be held.
-use Rattle.std.proofs.Common.{◌≡◌, ℕ, ◌+◌, ◌<◌, ◌≤◌, ◌==◌, nat_lt, Bool, true, false, cond, not, ◌&&◌, ◌||◌, List, [], ◌∷◌, length, get_or, insert, remove, Option, Some, None, Result, Ok, IfOk, refl, sym, ◌∙◌, ap, subst, arith}
+use Rattle.std.proofs.Common.{◌≡◌, ℕ, ◌+◌, ◌<◌, ◌==◌, nat_lt, Bool, true, false, cond, not, ◌&&◌, ◌||◌, List, [], ◌∷◌, length, get_or, insert, remove, Option, Some, None, Result, Ok, IfOk, refl, sym, ◌∙◌, ap, subst, arith}
 use Rattle.std.proofs.lemmas.List.{length-set}
 use Rattle.std.proofs.lemmas.List.Edits.{length-insert, length-remove}
 use Rattle.std.proofs.lemmas.Option.{same_Some, get_or_from_slice_get}
 use Rattle.std.specs.List.{list_all, list_any}
 use Rattle.std.specs.Borrow.{Bor}
 use Rattle.std.specs.Option.{option_copied}
-use Rattle.std.specs.Prelude.{slice_set, filter, find, sum_by}
+use Rattle.std.specs.Prelude.{slice_set, filter, find}
 use Rattle.fsrm_model.specs.declared.row.GroupRow.{GroupRow}
 use Rattle.fsrm_model.specs.Keyed.{row_of, has_row, with_row, with_change, least_free}
 use Rattle.fsrm_model.specs.Name.{same_name}
@@ -19,8 +19,8 @@ use Rattle.fsrm_model.proofs.Order.{least_free_is}
 use Rattle.fsrm_model.proofs.RemoveLaws.{sum_by-without_row}
 use Rattle.fsrm_model.proofs.TestLaws.{both, both_true, neither, clash, is_false, lt_test, not_true}
 use Rattle.file_groups.specs.Kept.{AreGroups}
-use Rattle.file_groups.specs.Places.{IsAt, IsGap}
-use Rattle.file_groups.proofs.SortedRows.{row_found, ascending-set, ascending-insert, ascending-remove, insert_row, remove_found, set_found}
+use Rattle.fsrm_model.specs.Places.{IsAt, IsGap}
+use Rattle.fsrm_model.proofs.SortedRows.{row_found, ascending-set, ascending-insert, ascending-remove, insert_row, remove_found, set_found}
 
 -- ---- tests of all rows, and of some row, after an edit
 all_placed : {X : Type 0} (p : X → Bool) (row x : X) (xs more : List X) (b : Bool) → p row ≡ true → list_all p (x ∷ xs) ≡ true → list_all p more ≡ true → list_all p (cond b (row ∷ x ∷ xs) (x ∷ more)) ≡ true
@@ -136,13 +136,6 @@ read_found groups n p r at read =
     let found = row_found group_number n groups p at in
     let is : r ≡ found.row = read ∙ get_or_from_slice_get groups p found.row r found.at in
     sym at.found ∙ (found.at ∙ ap Some (sym is))
-
--- no group has more texts than all
-part_of_sum : (f : GroupRow → ℕ) (g : GroupRow) (groups : List GroupRow) (rest : ℕ) → rest + f g ≡ sum_by f groups → f g ≤ sum_by f groups
-part_of_sum f g groups rest h = omega arith
-
-pub texts_most : (groups : List GroupRow) (n : ℕ) (r : GroupRow) → AreGroups groups → row_of group_number n groups ≡ Some r → texts_of r ≤ all_texts groups
-texts_most groups n r are is = part_of_sum texts_of r groups _ (sum_by-without_row group_number texts_of n r groups are.ascending is)
 
 -- one more
 pub more_are : (groups : List GroupRow) (row : GroupRow) (p : ℕ) → AreGroups groups → IsGap group_number row.number groups p → length groups < most_groups → is_group row ≡ true → list_any (has_name row.name) groups ≡ false → AreGroups (insert groups p row)

@@ -1,4 +1,3 @@
-pub mod SortedRows
 pub mod StarLaws
 pub mod GroupLaws
 pub mod FaultLaws

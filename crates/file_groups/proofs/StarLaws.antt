@@ -44,10 +44,6 @@ pub record IsTried (wanted given starred end pattern name : List ℕ) : Type 0 w
   pub pattern_most : length pattern ≤ length starred
   pub name_most : length name ≤ length end
 
-pub tried_first : (wanted given : List ℕ) → IsTried wanted given wanted given wanted given
-tried_first wanted given =
-    record { whole = refl; here = refl; later = λ h. h; starred_most = omega arith; pattern_most = omega arith; name_most = omega arith }
-
 module _ (wanted given starred end : List ℕ) where
   -- another star is met: any end that the former one leads to is one that this one leads to
   same_ends : (behind name : List ℕ) (b : Bool) → some_end (matches starred) end ≡ b → IsTried wanted given starred end (42 ∷ behind) name → some_end (matches behind) name ≡ b
@@ -117,12 +113,3 @@ module _ (wanted given starred end : List ℕ) where
   tried_well pattern name ended tried =
       let both_ended : matches pattern name ≡ true = rw (ended.0, ended.1) refl in
       sym tried.whole ∙ first_end (matches starred) end (tried.here ∙ both_ended)
-
--- ---- before the first star
--- what is left of a name matches what is left of a pattern where the whole name matches the whole pattern
-pub front_passed : (pattern name behind rest : List ℕ) → StandsFirst pattern name behind rest → matches pattern name ≡ matches behind rest
-front_passed pattern name behind rest first =
-    ap (matches pattern) first.name_is
-    ∙ (ap (λ ps. matches ps (first.character ∷ rest)) first.pattern_is
-    ∙ (ap (λ b. cond b (some_end (matches behind) (first.character ∷ rest)) (one_then first.wanted (matches behind) (first.character ∷ rest))) first.no_star
-    ∙ ap (λ b. b && matches behind rest) first.stands))

@@ -1,4 +1,3 @@
 pub mod Heads
 pub mod Kept
-pub mod Places
 pub mod Faults

@@ -5,7 +5,7 @@ ghost use Rattle.std.specs.List.{list_all, list_any};
 ghost use Rattle.std.specs.Option.{option_copied};
 ghost use Rattle.fsrm_model.specs.Keyed.{has_row, is_ascending, least_free};
 ghost use Rattle.fsrm_model.specs.Patterns.{group_number, in_group, is_group, is_pattern, most_groups, number_named, pattern_matches, regrouped, texts_bytes, texts_of};
-ghost use Rattle.file_groups.specs.Places.{IsAt, IsGap};
+ghost use Rattle.fsrm_model.specs.Places.{IsAt, IsGap};
 
 use crate::matching::matches;
 use crate::pattern::Pattern;

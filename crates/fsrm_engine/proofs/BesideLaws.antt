@@ -188,10 +188,6 @@ list_beside a s path m = list_same a.size a.rows s.queue (left a.rows.nodes s) p
 pub sum_beside : (a : Machine) (s : Course) (path : List (List ℕ)) (m : ℕ) → SameBut (step a.size a.rows (record { moment = m; deed = Usage path })) (step a.size (rows_with a s) (record { moment = m; deed = Usage path }))
 sum_beside a s path m = sum_same a.size a.rows s.queue (left a.rows.nodes s) path m
 
--- the queue beside a command that leaves both
-pub queue_left : (R : Rows) (s : Stepped) → IsQueue R.quotas R.queue → s.rows.quotas ≡ R.quotas → Leaves R s → IsQueue s.rows.quotas s.rows.queue
-queue_left R s k quotas leaves = subst (λ (q : List ℕ). IsQueue s.rows.quotas q) (sym leaves.queue) (subst (λ (qs : List QuotaRow). IsQueue qs R.queue) (sym quotas) k)
-
 -- scans of a machine whose nodes and size are the same
 pub scans_stay : (old new : Machine) (s : Course) (R : Rows) → ScansOf old s → new.size ≡ old.size → new.rows ≡ R → R.nodes ≡ old.rows.nodes → ScansOf new s
 scans_stay old new s R scans size rows nodes =

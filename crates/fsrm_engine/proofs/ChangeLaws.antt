@@ -1,9 +1,8 @@
 -- What file operations change: of the usage of folders, and of the ways up.
-use Rattle.std.proofs.Common.{◌≡◌, ℕ, zero, suc, ◌+◌, ◌-◌, ◌≤◌, ◌==◌, Bool, true, false, cond, inl, inr, List, [], ◌∷◌, length, Option, Some, None, refl, ap, sym, ◌∙◌, subst, arith}
+use Rattle.std.proofs.Common.{◌≡◌, ℕ, ◌+◌, ◌-◌, ◌≤◌, ◌==◌, Bool, true, false, cond, inl, inr, List, [], ◌∷◌, length, Option, Some, None, refl, ap, sym, ◌∙◌, subst, arith}
 use Rattle.std.proofs.lemmas.List.Sums.{sum_by-cons}
 use Rattle.std.proofs.lemmas.Option.{same_Some}
 use Rattle.std.specs.Prelude.{sum_by}
-use Rattle.std.specs.List.{AllByRecursion}
 use Rattle.fsrm_model.specs.declared.row.Capacity.{Capacity}
 use Rattle.fsrm_model.specs.declared.row.NodeRow.{NodeRow}
 use Rattle.fsrm_model.specs.declared.row.QuotaRow.{QuotaRow}
@@ -19,7 +18,7 @@ use Rattle.fsrm_model.proofs.MoveLaws.{Moves, Outside, KeepsSpace, usage-moved, 
 use Rattle.fsrm_model.proofs.RemoveLaws.{usage-removed, removed_chain}
 use Rattle.fsrm_model.proofs.Look.{found_key, found_has}
 use Rattle.fsrm_model.proofs.Order.{least_free_is}
-use Rattle.fsrm_model.proofs.Keeps.{tree_of, MayGo, removes_of}
+use Rattle.fsrm_model.proofs.Keeps.{tree_of, MayGo, removes_of, as_suc}
 use Rattle.fsrm_model.proofs.Keeps.{moves_at}
 use Rattle.fsrm_model.proofs.ValidLaws.{folder_has}
 use Rattle.fsrm_model.proofs.Below.{above_all, each_above, usage-moved_below}
@@ -28,6 +27,7 @@ use Rattle.fsrm_model.proofs.TestLaws.{eq_is, eq_same, is_or_not, clash, not_tru
 use Rattle.quota_usage.specs.declared.change.Change.{Change}
 use Rattle.quota_usage.specs.Charge.{is_above, charged}
 use Rattle.fsrm_engine.specs.Places.{IsMoved}
+use Rattle.fsrm_model.proofs.Sums.{sum_by_most}
 
 -- what a change of nodes makes of the usage of the quotas' folders, and of the ways up from the folders of the change
 pub record Changes (K : Capacity) (nodes new : List NodeRow) (quotas : List QuotaRow) (change : Change) : Type 0 where
@@ -35,10 +35,6 @@ pub record Changes (K : Capacity) (nodes new : List NodeRow) (quotas : List Quot
   pub from_same : (f : ℕ) → is_above new change.from f ≡ is_above nodes change.from f
   pub to_same : (f : ℕ) → is_above new change.to f ≡ is_above nodes change.to f
   pub up_same : (f g : ℕ) → Has nodes g → is_above nodes change.to g ≡ true → is_under new f g ≡ is_under nodes f g
-
-as_suc : (n : ℕ) → (n == 0) ≡ false → (k : ℕ) × (n ≡ suc k)
-as_suc zero h = cc
-as_suc (suc k) h = (k, refl)
 
 -- a file is made
 pub changes_made : (K : Capacity) (nodes : List NodeRow) (quotas : List QuotaRow) (d : ℕ) (name : List ℕ) (bytes owner m : ℕ) → IsVolume K nodes → AreQuotas nodes quotas → is_folder nodes d ≡ true →
@@ -104,9 +100,6 @@ changes_resized K nodes quotas x c row v qs k found file inner =
     }
 
 -- a folder above a node has at least its usage
-sum_le : {X : Type 0} (f g : X → ℕ) (xs : List X) → AllByRecursion (λ x. f x ≤ g x) xs → sum_by f xs ≤ sum_by g xs
-sum_le f g [] h = omega arith
-sum_le f g (x ∷ xs) h = omega (arith, sum_by-cons f x xs, sum_by-cons g x xs, h.0, sum_le f g xs h.1)
 
 share_at : (s : ℕ) (b c : Bool) → (b ≡ true → c ≡ true) → cond b s 0 ≤ cond c s 0
 share_at s true c h = let e = ap (λ c. cond c s 0) (h refl) in omega (arith, e)
@@ -121,7 +114,7 @@ above_each nodes t f x n hx hn below above =
 
 pub usage-above : (K : Capacity) (nodes : List NodeRow) → IsTree nodes → (f x : ℕ) → Has nodes x → is_under nodes f x ≡ true → usage K nodes x ≤ usage K nodes f
 usage-above K nodes t f x hx above =
-    let l = sum_le (share K nodes x) (share K nodes f) nodes (all_rows number (λ r. share K nodes x r ≤ share K nodes f r) nodes
+    let l = sum_by_most (share K nodes x) (share K nodes f) nodes (all_rows number (λ r. share K nodes x r ≤ share K nodes f r) nodes
     (λ r h. share_at (space K r) (is_under nodes x r.number) (is_under nodes f r.number) (λ b. above_each nodes t f x r.number hx h b above))) in
     omega (arith, usage_is K nodes x, usage_is K nodes f, l)
 

@@ -14,7 +14,7 @@ use Rattle.fsrm_model.specs.Quota.{folder_of, counts, is_complete, is_limit, pea
 use Rattle.fsrm_model.specs.QuotaStates.{in_state}
 use Rattle.fsrm_model.specs.Tree.{is_folder, usage}
 use Rattle.fsrm_model.specs.Valid.{AreQuotas, is_moment}
-use Rattle.fsrm_model.proofs.ChangeLaws.{absent_later, ascending_tail}
+use Rattle.fsrm_model.proofs.ChangeLaws.{absent_later, ascending_tail, change_absent}
 use Rattle.fsrm_model.proofs.Look.{FoundRow, found_key, found_has, has_found, changed_found, row_of-without, has_row-without, new_found, is_some-find}
 use Rattle.fsrm_model.proofs.Order.{ascending-with_row, ascending-change, ascending-filter, length-with_row, length-change}
 use Rattle.fsrm_model.proofs.TestLaws.{is_or_not, not_true, clash, eq_is, eq_same, lt_is}
@@ -23,25 +23,9 @@ use Rattle.quota_usage.specs.Counters.{counted, used_in, with_counter, without_c
 use Rattle.fsrm_engine.specs.Machine.{counter_of, sums_of, IsEngine}
 use Rattle.fsrm_engine.specs.Peaks.{raised}
 use Rattle.fsrm_engine.proofs.PeakLaws.{engine_peaked, peak_stays, peaks_stay, raised_is}
-use Rattle.fsrm_engine.proofs.RowLaws.{change_same, each_found, map_same}
+use Rattle.fsrm_model.proofs.RowLaws.{change_same, each_found, map_same}
 use Rattle.fsrm_engine.proofs.SumLaws.{used_found, sums_few, sums_has, sums_with, sums_without, sums_kept}
-
--- rows that have no row of a number
-lacks_one : {X : Type 0} (x y : X) (xs ys : List X) (b c : Bool) → (b || c) ≡ false → (c ≡ false → ys ≡ xs) → cond b y x ∷ ys ≡ x ∷ xs
-lacks_one x y xs ys true c h f = cc
-lacks_one x y xs ys false c h f = ap (λ zs. x ∷ zs) (f h)
-
-pub change_lacking : {X : Type 0} (key : X → ℕ) (n : ℕ) (c : X → X) (rows : List X) → has_row key n rows ≡ false → with_change key n c rows ≡ rows
-change_lacking key n c [] h = refl
-change_lacking key n c (x ∷ rows) h = lacks_one x (c x) rows (with_change key n c rows) (key x == n) (has_row key n rows) h (change_lacking key n c rows)
-
-lacks_kept : {X : Type 0} (x : X) (xs ys : List X) (b c : Bool) → (b || c) ≡ false → (c ≡ false → ys ≡ xs) → cond (not b) (x ∷ ys) ys ≡ x ∷ xs
-lacks_kept x xs ys true c h f = cc
-lacks_kept x xs ys false c h f = ap (λ zs. x ∷ zs) (f h)
-
-pub without_lacking : {X : Type 0} (key : X → ℕ) (n : ℕ) (rows : List X) → has_row key n rows ≡ false → without_row key n rows ≡ rows
-without_lacking key n [] h = refl
-without_lacking key n (x ∷ rows) h = lacks_kept x rows (without_row key n rows) (key x == n) (has_row key n rows) h (without_lacking key n rows)
+use Rattle.fsrm_model.proofs.RemoveLaws.{without_absent}
 
 -- a row that stands for the one before it in ascending rows
 to_front : {X : Type 0} (key : X → ℕ) (row r : X) (rows : List X) → key r ≡ key row → is_ascending key (r ∷ rows) ≡ true → with_row key row rows ≡ row ∷ rows
@@ -64,8 +48,8 @@ changed_to key n row (r ∷ rows) asc k h = at (key r == n) refl h (changed_to k
     at true e h f =
         let same : key r ≡ n = eq_is (key r) n e in
         let lacks = absent_later key n r rows (at_most (key r) n same) asc in
-        ap (λ rs. row ∷ rs) (change_lacking key n (λ old. row) rows lacks)
-        ∙ (sym (to_front key row r rows (same ∙ sym k) asc) ∙ sym (ap (with_row key row) (without_lacking key n rows lacks)))
+        ap (λ rs. row ∷ rs) (change_absent key n (λ old. row) rows lacks)
+        ∙ (sym (to_front key row r rows (same ∙ sym k) asc) ∙ sym (ap (with_row key row) (without_absent key n rows lacks)))
     at false e h f =
         ap (λ rs. r ∷ rs) (f h)
         ∙ sym (ap (λ b. cond b (row ∷ r ∷ without_row key n rows) (r ∷ with_row key row (without_row key n rows))) (not_true _ (λ t.
@@ -113,7 +97,7 @@ pub sums_begun : (K : Capacity) (nodes : List NodeRow) (n : ℕ) (q : QuotaRow) 
 sums_begun K nodes n q quotas asc k h c lacks =
     ap (sums_of K nodes) (changed_to folder_of n q quotas asc k h)
     ∙ (sums_with K nodes q (without_row folder_of n quotas) c (ascending-filter folder_of (λ r. not (folder_of r == n)) quotas asc)
-    ∙ (ap (with_row counted (counter_of K nodes q)) (sums_without K nodes n quotas ∙ without_lacking counted n (sums_of K nodes quotas) lacks)
+    ∙ (ap (with_row counted (counter_of K nodes q)) (sums_without K nodes n quotas ∙ without_absent counted n (sums_of K nodes quotas) lacks)
     ∙ ap (λ k. with_counter (sums_of K nodes quotas) k (usage K nodes k)) k))
 
 -- what an engine keeps when a quota comes
@@ -142,7 +126,7 @@ engine_with K nodes quotas counters made quota e absent room folder limit moment
     }
 
 -- when one goes
-without_found : (n f : ℕ) (quotas : List QuotaRow) (q : QuotaRow) → row_of folder_of f (without_row folder_of n quotas) ≡ Some q → row_of folder_of f quotas ≡ Some q
+pub without_found : (n f : ℕ) (quotas : List QuotaRow) (q : QuotaRow) → row_of folder_of f (without_row folder_of n quotas) ≡ Some q → row_of folder_of f quotas ≡ Some q
 without_found n f quotas q h =
     elim (is_or_not (f == n)) [
       | inl t ↦ absurd (clash (has_row folder_of f (without_row folder_of n quotas)) (found_has folder_of f (without_row folder_of n quotas) q h)
@@ -150,7 +134,7 @@ without_found n f quotas q h =
       | inr t ↦ sym (row_of-without folder_of n f quotas t) ∙ h
     ]
 
-filter_few : {X : Type 0} (p : X → Bool) (xs : List X) → length (filter p xs) ≤ length xs
+pub filter_few : {X : Type 0} (p : X → Bool) (xs : List X) → length (filter p xs) ≤ length xs
 filter_few p [] = omega arith
 filter_few p (x ∷ xs) = at (p x) (filter_few p xs)
   where
@@ -259,7 +243,7 @@ fewer key n (x ∷ rows) h = at (key x == n) h (filter_few (λ r. not (key r == 
 pub room_for : (K : Capacity) (nodes : List NodeRow) (quotas : List QuotaRow) (counters : List Counter) (n : ℕ) → IsEngine K nodes quotas counters → has_row folder_of n quotas ≡ true → has_row counted n counters ≡ false → length counters < most_quotas
 room_for K nodes quotas counters n e there free =
     let lacks : has_row counted n (sums_of K nodes quotas) ≡ false = sym (ap (has_row counted n) e.sums) ∙ free in
-    let same : sums_of K nodes (without_row folder_of n quotas) ≡ counters = sums_without K nodes n quotas ∙ (without_lacking counted n (sums_of K nodes quotas) lacks ∙ sym e.sums) in
+    let same : sums_of K nodes (without_row folder_of n quotas) ≡ counters = sums_without K nodes n quotas ∙ (without_absent counted n (sums_of K nodes quotas) lacks ∙ sym e.sums) in
     omega (arith, ap length same, sums_few K nodes (without_row folder_of n quotas), fewer folder_of n quotas there, e.are_quotas.few)
 
 -- and for that of a new one
@@ -297,7 +281,7 @@ added K nodes quotas set counters made quota counting e absent room folder limit
         ∙ (ap (λ cs. with_counter cs quota.folder 0) e.sums
         ∙ (ap (with_counter (sums_of K nodes quotas) quota.folder) (sym (nothing (sym h)))
         ∙ sym (sums_with K nodes quota quotas (sym h) e.are_quotas.ascending)))
-    sums false h m = m.ended refl ∙ (without_lacking counted quota.folder counters free ∙ (e.sums ∙ sym (sums_more K nodes quota quotas (sym h))))
+    sums false h m = m.ended refl ∙ (without_absent counted quota.folder counters free ∙ (e.sums ∙ sym (sums_more K nodes quota quotas (sym h))))
 
 -- Another one was put in its place: its counter ends, begins, or stays
 pub put_ended : (K : Capacity) (nodes : List NodeRow) (quotas : List QuotaRow) (counters made : List Counter) (quota : QuotaRow) → IsEngine K nodes quotas counters → has_row folder_of quota.folder quotas ≡ true → counts quota ≡ false → made ≡ without_counter counters quota.folder → made ≡ sums_of K nodes (with_change folder_of quota.folder (λ old. quota) quotas)
@@ -389,7 +373,7 @@ completed_peaks K nodes quotas counters made m n e sums =
     at r found true t = raised_is K nodes after made m r asc sums found
     at r found false t = sym (peak_stays K nodes m r (of_changed n (in_state Complete) (λ q. counts q ≡ true → usage K nodes r.folder ≤ q.peak) (λ r. refl) (folder_of r) quotas r (λ q was. (λ same. absurd (clash _ (ap (λ k. k == n) same ∙ eq_same n) t), e.peaks (folder_of r) q was)) found))
 
-is_moment_of : (m : ℕ) → m ≤ latest_moment → is_moment m ≡ true
+pub is_moment_of : (m : ℕ) → m ≤ latest_moment → is_moment m ≡ true
 is_moment_of m h = grind (arith, nat_tests)
 
 -- what is kept behind it

@@ -13,33 +13,25 @@ use Rattle.fsrm_model.specs.FileOps.{placed}
 use Rattle.fsrm_model.specs.Keyed.{row_of, with_change, without_row}
 use Rattle.fsrm_model.specs.Limits.{longest_file}
 use Rattle.fsrm_model.specs.Quota.{folder_of, counts}
-use Rattle.fsrm_model.specs.Space.{alloc, space}
-use Rattle.fsrm_model.specs.Tree.{number, node_of, is_under, usage}
+use Rattle.fsrm_model.specs.Space.{space}
+use Rattle.fsrm_model.specs.Tree.{number, is_under, usage}
 use Rattle.fsrm_model.specs.Valid.{IsVolume, AreQuotas}
 use Rattle.fsrm_model.proofs.ChainLaws.{share, usage_is}
 use Rattle.fsrm_model.proofs.Look.{found_key, has_found}
 use Rattle.fsrm_model.proofs.RemoveLaws.{sum_by-without_row}
 use Rattle.fsrm_model.proofs.Sizes.{length-removed}
-use Rattle.fsrm_model.proofs.TestLaws.{both}
+use Rattle.fsrm_model.proofs.TestLaws.{cond_most}
 use Rattle.quota_usage.specs.declared.change.Change.{Change}
 use Rattle.quota_usage.specs.declared.change.Counter.{Counter}
 use Rattle.quota_usage.specs.Charge.{is_above, charged, Fits}
 use Rattle.quota_usage.specs.Counters.{used_in}
 use Rattle.volume_tree.specs.Volume.{IsCapacity}
 use Rattle.fsrm_engine.specs.Machine.{sums_of}
-use Rattle.fsrm_engine.proofs.RowLaws.{each, each_found, all_filter}
+use Rattle.fsrm_model.proofs.RowLaws.{each, each_found, all_filter}
 use Rattle.fsrm_engine.proofs.SumLaws.{shown_of, used_sums}
 use Rattle.fsrm_engine.proofs.ChangeLaws.{Changes}
 use Rattle.fsrm_engine.proofs.WalkLaws.{row_space, nodes_few}
-
-sum_most : (f : NodeRow → ℕ) (most : ℕ) (rows : List NodeRow) → AllByRecursion (λ r. f r ≤ most) rows → sum_by f rows ≤ length rows * most
-sum_most f most [] h = omega arith
-sum_most f most (r ∷ rows) h = omega (arith, sum_by-cons f r rows, h.0, sum_most f most rows h.1)
-
-root_empty : (K : Capacity) (nodes : List NodeRow) (r : NodeRow) → IsVolume K nodes → node_of nodes 0 ≡ Some r → space K r ≡ 0
-root_empty K nodes r v found =
-    let folder : r.folder ≡ true = (both r.folder _ (both _ _ (both _ _ (v.root r found)).0).0).0 in
-    ap (λ b. cond b 0 (alloc K r.length)) folder
+use Rattle.rescan.proofs.FitLaws.{sum_most, root_empty, sum_le}
 
 -- the space of all files, and of one more, is less than 2^64
 pub total_small : (K : Capacity) (nodes : List NodeRow) → IsVolume K nodes → IsCapacity K → sum_by (space K) nodes + longest_file < 2 ^ 64
@@ -56,10 +48,6 @@ total_small K nodes v legal =
   where
     bound : (n rest whole : ℕ) → rest ≤ n * longest_file → whole ≡ rest → n + 1 ≤ 1048576 → whole + longest_file < 2 ^ 64
     bound n rest whole h e few = omega (arith, mul-le-mul_right longest_file few)
-
-sum_le : (f g : NodeRow → ℕ) (rows : List NodeRow) → ((r : NodeRow) → f r ≤ g r) → sum_by f rows ≤ sum_by g rows
-sum_le f g [] h = omega arith
-sum_le f g (r ∷ rows) h = omega (arith, sum_by-cons f r rows, sum_by-cons g r rows, h r, sum_le f g rows h)
 
 pub usage_total : (K : Capacity) (nodes : List NodeRow) (f : ℕ) → usage K nodes f ≤ sum_by (space K) nodes
 usage_total K nodes f = omega (arith, usage_is K nodes f, sum_le (share K nodes f) (space K) nodes (λ r. at (is_under nodes f r.number) (space K r)))
@@ -95,10 +83,6 @@ counting_at K nodes quotas f bytes (Some q) e h = at (counts q) h
 pub counting : (K : Capacity) (nodes : List NodeRow) (quotas : List QuotaRow) (counters : List Counter) (f bytes : ℕ) → AreQuotas nodes quotas → counters ≡ sums_of K nodes quotas → used_in counters f ≡ Some bytes → Counting K nodes quotas f bytes
 counting K nodes quotas counters f bytes qs sums h =
     counting_at K nodes quotas f bytes (row_of folder_of f quotas) refl (sym (used_sums K nodes f quotas qs.ascending) ∙ (ap (λ cs. used_in cs f) (sym sums) ∙ h))
-
-cond_most : (b : Bool) (n : ℕ) → cond b n 0 ≤ n
-cond_most true n = omega arith
-cond_most false n = omega arith
 
 -- a file more, or a longer one, fits
 pub fits_plus : (K : Capacity) (nodes any : List NodeRow) (quotas : List QuotaRow) (counters : List Counter) (change : Change) → IsVolume K nodes → IsCapacity K → AreQuotas nodes quotas → counters ≡ sums_of K nodes quotas → change.plus ≤ longest_file → Fits any counters change

@@ -22,7 +22,7 @@ use Rattle.fsrm_model.proofs.ChangeLaws.{KeepsPlace, chain-change}
 use Rattle.fsrm_model.proofs.Climbs.{shorter}
 use Rattle.fsrm_model.proofs.Resolves.{resolved}
 use Rattle.fsrm_model.proofs.Look.{has_row-change}
-use Rattle.fsrm_model.proofs.Keeps.{tree_of, found_parent, found_folder, folder-new, folder-change}
+use Rattle.fsrm_model.proofs.Keeps.{tree_of, found_folder, folder-new, folder-change}
 use Rattle.fsrm_model.proofs.Order.{least_free_is}
 use Rattle.fsrm_model.proofs.TestLaws.{clash, both}
 use Rattle.fsrm_objects.specs.Tables.{Tables}
@@ -44,6 +44,7 @@ use Rattle.fsrm_engine.proofs.SumLaws.{sums_has}
 use Rattle.fsrm_engine.proofs.ChangeLaws.{Changes, changes_resized}
 use Rattle.fsrm_engine.proofs.OverLaws.{none_exceeded, one_exceeded}
 use Rattle.fsrm_engine.proofs.PeakLaws.{engine_peaked, quotas_kept, counters_charged, peaks_raised}
+use Rattle.fsrm_model.proofs.ValidLaws.{found_parent}
 
 -- a counter's folder has a quota
 pub owned : (K : Capacity) (nodes : List NodeRow) (quotas : List QuotaRow) (counters : List Counter) → counters ≡ sums_of K nodes quotas → (folder : ℕ) → has_row counted folder counters ≡ true → has_row folder_of folder quotas ≡ true

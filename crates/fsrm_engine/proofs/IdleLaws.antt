@@ -1,11 +1,9 @@
 -- What an engine keeps where a command raises no usage: no peak rises.
-use Rattle.std.proofs.Common.{◌≡◌, ℕ, suc, ◌+◌, ◌-◌, ◌*◌, ◌^◌, ◌<◌, ◌≤◌, ◌==◌, Bool, true, false, cond, not, ◌||◌, List, [], ◌∷◌, length, Option, Some, None, refl, ap, sym, ◌∙◌, subst, arith}
-use Rattle.std.proofs.lemmas.Bool.Decides.{nat_tests}
+use Rattle.std.proofs.Common.{◌≡◌, ℕ, ◌+◌, ◌-◌, ◌*◌, ◌^◌, ◌<◌, ◌≤◌, ◌==◌, Bool, true, false, cond, not, ◌||◌, List, [], ◌∷◌, length, Option, Some, None, refl, ap, sym, ◌∙◌, subst, arith}
 use Rattle.std.proofs.lemmas.Option.{same_Some}
 use Rattle.std.specs.Borrow.{Bor}
-use Rattle.std.specs.Prelude.{map, filter, is_some, option_map, if◌then◌else◌}
+use Rattle.std.specs.Prelude.{map, filter, is_some, if◌then◌else◌}
 use Rattle.std.specs.Option.{option_and_then, option_copied, option_map_or}
-use Rattle.std.specs.List.{list_any}
 use Rattle.fsrm_model.specs.declared.command.Answer.{Answer}
 use Rattle.fsrm_model.specs.declared.command.Deed.{Deed}
 use Rattle.fsrm_model.specs.declared.command.Deed.TheVariants.{File}
@@ -27,13 +25,13 @@ use Rattle.fsrm_model.specs.Valid.{IsVolume}
 use Rattle.fsrm_model.proofs.ChainLaws.{Has, usage-new}
 use Rattle.fsrm_model.proofs.ChangeLaws.{KeepsPlace, usage-change}
 use Rattle.fsrm_model.proofs.Climbs.{shorter}
-use Rattle.fsrm_model.proofs.Keeps.{tree_of, folder-new, folder-change, found_folder, found_parent, MayGo, removes_of}
-use Rattle.fsrm_model.proofs.Look.{is_some-find, found_key, found_has, has_found, row_of-without, has_row-without}
+use Rattle.fsrm_model.proofs.Keeps.{tree_of, folder-new, folder-change, found_folder, MayGo, removes_of, as_suc}
+use Rattle.fsrm_model.proofs.Look.{is_some-find, found_key, found_has, has_found, row_of-without, has_row-without, none_filtered, is_some-mapped}
 use Rattle.fsrm_model.proofs.Order.{ascending-filter, least_free_is}
-use Rattle.fsrm_model.proofs.RemoveLaws.{usage-removed, removed_chain}
+use Rattle.fsrm_model.proofs.RemoveLaws.{usage-removed, removed_chain, without_absent}
 use Rattle.fsrm_model.proofs.Resolves.{resolved}
 use Rattle.fsrm_model.proofs.TestLaws.{eq_is, clash, not_true}
-use Rattle.fsrm_model.proofs.ValidLaws.{folder_has}
+use Rattle.fsrm_model.proofs.ValidLaws.{folder_has, found_parent}
 use Rattle.fsrm_objects.specs.Tables.{Tables, without_quota}
 use Rattle.quota_usage.specs.declared.change.Change.{Change}
 use Rattle.quota_usage.specs.declared.change.Counter.{Counter}
@@ -47,7 +45,7 @@ use Rattle.fsrm_engine.specs.Places.{IsFile}
 use Rattle.fsrm_engine.proofs.ChangeLaws.{Changes, changes_removed, not_zero}
 use Rattle.fsrm_engine.proofs.PeakLaws.{peaks_stay, quotas_kept, counters_charged}
 use Rattle.fsrm_engine.proofs.PlaceLaws.{shown_folder, target_is}
-use Rattle.fsrm_engine.proofs.RowLaws.{each_found, all_filter, map_same}
+use Rattle.fsrm_model.proofs.RowLaws.{each_found, all_filter, map_same}
 use Rattle.fsrm_engine.proofs.StepLaws.{machine, due, asked_of, done_at}
 use Rattle.fsrm_engine.proofs.SumLaws.{shown_of, used_sums, sums_without}
 use Rattle.fsrm_engine.proofs.WalkLaws.{usage_small}
@@ -56,10 +54,6 @@ use Rattle.fsrm_engine.proofs.WalkLaws.{usage_small}
 kept_head : {X : Type 0} (x : X) (xs ys : List X) (b c : Bool) → (b || c) ≡ false → (c ≡ false → ys ≡ xs) → cond (not b) (x ∷ ys) ys ≡ x ∷ xs
 kept_head x xs ys true c h f = cc
 kept_head x xs ys false c h f = ap (λ zs. x ∷ zs) (f h)
-
-pub without_absent : {X : Type 0} (key : X → ℕ) (n : ℕ) (rows : List X) → has_row key n rows ≡ false → without_row key n rows ≡ rows
-without_absent key n [] h = refl
-without_absent key n (x ∷ rows) h = kept_head x rows (without_row key n rows) (key x == n) (has_row key n rows) h (without_absent key n rows)
 
 -- a row that is left has another number, and was there
 pub record Left {X : Type 0} (key : X → ℕ) (n m : ℕ) (rows : List X) (r : X) : Type 0 where
@@ -80,12 +74,9 @@ few_filter p [] = omega arith
 few_filter p (x ∷ rows) = few_at x rows (filter p rows) (p x) (few_filter p rows)
 
 -- counters and quotas that are there, and that aren't
-mapped : {X Y : Type 0} (f : X → Y) (o : Option X) → is_some (option_map f o) ≡ is_some o
-mapped f None = refl
-mapped f (Some x) = refl
 
 counter_test : (counters : List Counter) (n : ℕ) (o : Option ℕ) → o ≡ used_in counters n → has_row counted n counters ≡ is_some o
-counter_test counters n o e = sym (ap is_some e ∙ (mapped (λ (c : Counter). c.bytes) (row_of counted n counters) ∙ is_some-find (λ c. counted c == n) counters))
+counter_test counters n o e = sym (ap is_some e ∙ (is_some-mapped (λ (c : Counter). c.bytes) (row_of counted n counters) ∙ is_some-find (λ c. counted c == n) counters))
 
 pub counter_there : (counters : List Counter) (n : ℕ) (o : Option ℕ) → o ≡ used_in counters n → is_some o ≡ true → has_row counted n counters ≡ true
 counter_there counters n o e h = counter_test counters n o e ∙ h
@@ -151,12 +142,6 @@ engine_without K nodes quotas counters x e =
       peaks = λ f q h counting. e.peaks f q (left f quotas q h).found counting;
     }
 
-as_suc : (n : ℕ) → (n == 0) ≡ false → (k : ℕ) × (n ≡ suc k)
-as_suc n h = (n - 1, is n h)
-  where
-    is : (n : ℕ) → (n == 0) ≡ false → n ≡ suc (n - 1)
-    is n h = grind (arith, nat_tests)
-
 no_more : (n new : ℕ) (b : Bool) → new ≡ n + cond b 0 0 → new ≡ n
 no_more n new true h = omega arith
 no_more n new false h = omega arith
@@ -217,13 +202,6 @@ gone_is v w quotas after last path n h made left =
     ∙ sym (ap (λ (w : Volume). rows_at w.nodes after last) made ∙ ap (λ qs. rows_at (without_row number n v.nodes) qs last) left)
 
 -- a node without children may go
-no_child : (p : NodeRow → Bool) (r : NodeRow) (nodes : List NodeRow) (b : Bool) → length (cond b (r ∷ filter p nodes) (filter p nodes)) ≡ 0 → (length (filter p nodes) ≡ 0 → list_any p nodes ≡ false) → (b || list_any p nodes) ≡ false
-no_child p r nodes true h f = absurd (omega (arith, h))
-no_child p r nodes false h f = f h
-
-none_filtered : (p : NodeRow → Bool) (nodes : List NodeRow) → length (filter p nodes) ≡ 0 → list_any p nodes ≡ false
-none_filtered p [] h = refl
-none_filtered p (r ∷ nodes) h = no_child p r nodes (p r) h (none_filtered p nodes)
 
 no_fault : (v : Volume) (x : ℕ) (b : Bool) → (length (children v.nodes x) == 0) ≡ b → remove_fault v x ≡ None → (length (children v.nodes x) == 0) ≡ true
 no_fault v x true e h = e

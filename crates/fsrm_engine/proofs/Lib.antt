@@ -5,7 +5,6 @@ pub mod PlaceLaws
 pub mod RemoveLaws
 pub mod StepLaws
 pub mod WalkLaws
-pub mod RowLaws
 pub mod SumLaws
 pub mod ChangeLaws
 pub mod OverLaws

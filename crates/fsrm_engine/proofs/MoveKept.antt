@@ -15,7 +15,7 @@ use Rattle.fsrm_model.specs.Quota.{exceeded}
 use Rattle.fsrm_model.specs.Tree.{number, name_of, parent_of, is_folder, is_under, under, chain, resolve, child_number, name_bytes}
 use Rattle.fsrm_model.specs.Valid.{IsVolume, AreQuotas}
 use Rattle.fsrm_model.proofs.Climbs.{shorter}
-use Rattle.fsrm_model.proofs.Keeps.{tree_of, found_parent}
+use Rattle.fsrm_model.proofs.Keeps.{tree_of}
 use Rattle.fsrm_model.proofs.Look.{has_row-change, found_has, has_found}
 use Rattle.fsrm_model.proofs.Resolves.{resolved}
 use Rattle.fsrm_model.proofs.UsageLaws.{count_of_file}
@@ -36,6 +36,7 @@ use Rattle.fsrm_engine.proofs.MoveLaws.{moved_is, move_due}
 use Rattle.fsrm_engine.proofs.ChangeLaws.{Changes, MovesTo, changes_moved, moved_chain_to, moved_chain_from, not_zero}
 use Rattle.fsrm_engine.proofs.FitLaws.{fits_moved, fits_new}
 use Rattle.fsrm_engine.proofs.GrowthLaws.{ChargedTo, charged_at, placed_folder}
+use Rattle.fsrm_model.proofs.ValidLaws.{found_parent}
 
 -- the change of a move
 abbrev pub move_change : ℕ → ℕ → ℕ → Change

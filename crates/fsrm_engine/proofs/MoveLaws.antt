@@ -1,5 +1,5 @@
 -- The refusals of a move are the faults of the tree.
-use Rattle.std.proofs.Common.{◌≡◌, ℕ, ◌+◌, ◌*◌, ◌≤◌, ◌==◌, Bool, true, false, not, ◌&&◌, List, [], ◌∷◌, length, Some, None, nat_lt, refl, ap, sym, ◌∙◌, subst, arith}
+use Rattle.std.proofs.Common.{◌≡◌, ℕ, ◌+◌, ◌==◌, Bool, true, false, not, ◌&&◌, List, [], ◌∷◌, length, Some, None, nat_lt, refl, ap, sym, ◌∙◌, subst, arith}
 use Rattle.std.proofs.lemmas.Bool.Decides.{nat_tests}
 use Rattle.std.specs.Prelude.{unwrap_or}
 use Rattle.fsrm_model.specs.declared.command.Deed.TheVariants.{File}
@@ -110,7 +110,3 @@ stray_move v quotas last m from to n other k h inner p = absurd p
 pub stray_due : (v : Volume) (quotas : List QuotaRow) (last m : ℕ) (old : Machine) (from to : List (List ℕ)) (n : ℕ) (refusal : Refusal) → machine v quotas last ≡ old → IsVolume v.size v.nodes → resolve v.nodes from ≡ Some n → (n == 0) ≡ false → IsRefusedPlace old.rows.nodes to refusal → due v quotas last m (File (Move from to)) ≡ Some refusal
 stray_due v quotas last m old from to n refusal is k h inner p =
     stray_move v quotas last m from to n refusal k h inner (subst (λ (o : Machine). IsRefusedPlace o.rows.nodes to refusal) (sym is) p)
-
--- a move's looks
-pub move_looks : (began found placed ended deep names names' more : ℕ) → found ≤ began + (22 * names + 1) → placed ≤ found + (22 * names' + 2) → ended ≤ placed + (66 + deep) → deep ≤ names' → ended ≤ began + (40 * (names + names' + 2) + more)
-move_looks began found placed ended deep names names' more a b c d = omega arith

@@ -1,6 +1,5 @@
 -- The refusal by sums over the tree is the one by counters.
-use Rattle.std.proofs.Common.{◌≡◌, ℕ, ◌+◌, ◌-◌, ◌≤◌, Bool, true, false, cond, ◌&&◌, List, [], Option, Some, None, nat_lt, refl, ap, sym, ◌∙◌, arith}
-use Rattle.std.proofs.lemmas.Bool.Decides.{nat_tests}
+use Rattle.std.proofs.Common.{◌≡◌, ℕ, Bool, true, false, cond, ◌&&◌, List, [], Option, Some, None, nat_lt, refl, ap, sym, ◌∙◌}
 use Rattle.std.specs.Prelude.{option_map, unwrap_or}
 use Rattle.std.specs.Option.{option_map_or}
 use Rattle.std.specs.List.{AllByRecursion, list_all}
@@ -22,9 +21,10 @@ use Rattle.quota_usage.specs.Charge.{is_above, charged, refuses_change, over_by,
 use Rattle.quota_usage.specs.Counters.{used_in}
 use Rattle.fsrm_engine.specs.Faults.{exceeded_refusal}
 use Rattle.fsrm_engine.specs.Machine.{sums_of}
-use Rattle.fsrm_engine.proofs.RowLaws.{each, each_found, filter_same, find_same, all_same, all_filter, find_has}
+use Rattle.fsrm_model.proofs.RowLaws.{each, each_found, filter_same, find_same, all_same, all_filter, find_has}
 use Rattle.fsrm_engine.proofs.SumLaws.{used_found}
 use Rattle.fsrm_engine.proofs.ChangeLaws.{Changes}
+use Rattle.quota_usage.proofs.Deepest.{rises_at}
 
 -- whether the sums refuse by a quota
 abbrev is_over : Capacity → List NodeRow → List NodeRow → QuotaRow → Bool
@@ -45,13 +45,6 @@ pub over_same : (K : Capacity) (R : Rows) (new : List NodeRow) (change : Change)
 over_same K R new change asc c =
     filter_same (refuses_change R.nodes (sums_of K R.nodes R.quotas) change) (is_over K R.nodes new) R.quotas
     (each_found folder_of _ R.quotas asc (λ q found. test_same K R.nodes new R.quotas change asc c q found))
-
-rises_at : (n minus plus : ℕ) (b : Bool) → nat_lt n (n - minus + cond b plus 0) ≡ true → b ≡ true
-rises_at n minus plus true h = refl
-rises_at n minus plus false h = absurd (no_rise n (n - minus + 0) (omega arith) h)
-  where
-    no_rise : (n k : ℕ) → k ≤ n → nat_lt n k ≡ true → ⊥
-    no_rise n k l h = grind (arith, nat_tests)
 
 -- what a quota has that refuses
 record Refusing (K : Capacity) (nodes new : List NodeRow) (quotas : List QuotaRow) (change : Change) (q : QuotaRow) : Type 0 where

@@ -1,18 +1,17 @@
 -- The way up from a node, and its path's text.
-use Rattle.std.proofs.Common.{◌≡◌, ℕ, ◌+◌, ◌<◌, ◌≤◌, true, List, [], ◌∷◌, ◌++◌, length, get_or, refl, sym, ◌∙◌, ap, subst, arith, length-append, append_assoc, append-nil, ◌==◌, false, zero, suc, ◌⊎◌, inl, inr}
+use Rattle.std.proofs.Common.{◌≡◌, ℕ, ◌+◌, ◌<◌, ◌≤◌, true, List, [], ◌∷◌, ◌++◌, length, get_or, sym, ◌∙◌, ap, subst, arith, length-append, append_assoc, append-nil, ◌==◌, false, zero, suc, ◌⊎◌, inl, inr}
 use Rattle.std.proofs.lemmas.Bool.Decides.{nat_tests}
 use Rattle.std.proofs.lemmas.List.{map-append, reverse-append, length-map, length-reverse}
-use Rattle.std.specs.Prelude.{map, reverse, codes, drop}
+use Rattle.std.specs.Prelude.{map, reverse, codes}
 use Rattle.std.specs.List.{join_with_byte}
 use Rattle.fsrm_model.specs.declared.row.Capacity.{Capacity}
 use Rattle.fsrm_model.specs.declared.row.NodeRow.{NodeRow}
 use Rattle.fsrm_model.specs.Keyed.{has_row}
-use Rattle.fsrm_model.specs.Text.{path_text}
-use Rattle.fsrm_model.specs.Tree.{number, name_of, parent_of, chain, path_of}
+use Rattle.fsrm_model.specs.Tree.{number, name_of, chain, path_of}
 use Rattle.fsrm_model.specs.Valid.{IsVolume}
 use Rattle.fsrm_model.proofs.TestLaws.{eq_is}
 use Rattle.fsrm_model.proofs.DepthLaws.{some_member}
-use Rattle.fsrm_model.proofs.Keeps.{tree_of, found_parent}
+use Rattle.fsrm_model.proofs.Keeps.{tree_of}
 use Rattle.fsrm_model.proofs.Walks.{found_name}
 use Rattle.fsrm_model.proofs.Climbs.{climb, shorter}
 use Rattle.fsrm_model.proofs.Resolves.{path_length}
@@ -20,29 +19,24 @@ use Rattle.volume_tree.specs.declared.answer.NodeView.{NodeView}
 use Rattle.volume_tree.specs.Volume.{Shows}
 use Rattle.fsrm_engine.specs.Walk.{AreThere}
 use Rattle.fsrm_engine.proofs.WalkLaws.{there-append}
+use Rattle.fsrm_engine.proofs.RaiseLaws.{up_is}
 
 -- a node's parent, as it is lent
-parent_shown : (nodes : List NodeRow) (n : ℕ) (view : NodeView) → Shows view nodes n → parent_of nodes n ≡ view.parent
-parent_shown nodes n view shows = found_parent nodes n shows.row shows.found ∙ sym shows.is.parent
-
-pub chain_of_root : (nodes : List NodeRow) → chain nodes 0 ≡ 0 ∷ []
-chain_of_root [] = refl
-chain_of_root (row ∷ rows) = refl
 
 pub up_there : (K : Capacity) (nodes : List NodeRow) (n : ℕ) (view : NodeView) → IsVolume K nodes → has_row number n nodes ≡ true → Shows view nodes n → has_row number view.parent nodes ≡ true
-up_there K nodes n view v h shows = subst (λ (m : ℕ). has_row number m nodes ≡ true) (parent_shown nodes n view shows) ((tree_of K nodes v).closed n h)
+up_there K nodes n view v h shows = subst (λ (m : ℕ). has_row number m nodes ≡ true) (up_is nodes n view shows) ((tree_of K nodes v).closed n h)
 
 pub up_way : (K : Capacity) (nodes : List NodeRow) (start n : ℕ) (view : NodeView) (old new : List ℕ) → IsVolume K nodes → has_row number n nodes ≡ true → (n ≡ 0 → ⊥) → Shows view nodes n → new ≡ old ++ n ∷ [] → chain nodes start ≡ old ++ chain nodes n → chain nodes start ≡ new ++ chain nodes view.parent
 up_way K nodes start n view old new v h inner shows push way =
     let up = chain nodes view.parent in
     way
     ∙ (ap (λ (ns : List ℕ). old ++ ns) (climb nodes (tree_of K nodes v) n h inner)
-    ∙ (ap (λ (m : ℕ). old ++ n ∷ chain nodes m) (parent_shown nodes n view shows)
+    ∙ (ap (λ (m : ℕ). old ++ n ∷ chain nodes m) (up_is nodes n view shows)
     ∙ (sym (append_assoc old (n ∷ []) up) ∙ ap (λ (ns : List ℕ). ns ++ up) (sym push))))
 
 pub up_smaller : (K : Capacity) (nodes : List NodeRow) (n : ℕ) (view : NodeView) → IsVolume K nodes → has_row number n nodes ≡ true → (n ≡ 0 → ⊥) → Shows view nodes n → length (chain nodes view.parent) < length (chain nodes n)
 up_smaller K nodes n view v h inner shows =
-    subst (λ (m : ℕ). length (chain nodes m) < length (chain nodes n)) (parent_shown nodes n view shows) (shorter nodes (tree_of K nodes v) n h inner)
+    subst (λ (m : ℕ). length (chain nodes m) < length (chain nodes n)) (up_is nodes n view shows) (shorter nodes (tree_of K nodes v) n h inner)
 
 pub up_there_more : (nodes : List NodeRow) (n : ℕ) (old new : List ℕ) → AreThere nodes old → has_row number n nodes ≡ true → new ≡ old ++ n ∷ [] → AreThere nodes new
 up_there_more nodes n old new each h push = subst (AreThere nodes) (sym push) (there-append nodes old (n ∷ []) each (h, tt))
@@ -59,12 +53,6 @@ way_short nodes start n way e =
 pub turned_there : (nodes : List NodeRow) (way : List ℕ) → AreThere nodes way → AreThere nodes (reverse way)
 turned_there nodes [] h = tt
 turned_there nodes (n ∷ way) h = subst (AreThere nodes) (sym (reverse-append (n ∷ []) way)) (there-append nodes (reverse way) (n ∷ []) (turned_there nodes way h.1) (h.0, tt))
-
-pub way_path : (nodes : List NodeRow) (n : ℕ) (way : List ℕ) → chain nodes n ≡ way ++ 0 ∷ [] → map (name_of nodes) (reverse way) ≡ path_of nodes n
-way_path nodes n way e = sym (ap (λ (ns : List ℕ). drop 1 (map (name_of nodes) ns)) (ap reverse e ∙ reverse-append way (0 ∷ [])))
-
-pub way_text : (nodes : List NodeRow) (n : ℕ) (way text : List ℕ) → chain nodes n ≡ way ++ 0 ∷ [] → text ≡ codes "D:\\" ++ join_with_byte 92 (map (name_of nodes) (reverse way)) → text ≡ path_text nodes n
-way_text nodes n way text e is = is ∙ ap (λ (names : List (List ℕ)). codes "D:\\" ++ join_with_byte 92 names) (way_path nodes n way e)
 
 -- each name behind a `\`
 abbrev pub behind : List (List ℕ) → List ℕ

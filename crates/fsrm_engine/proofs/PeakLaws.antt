@@ -21,7 +21,7 @@ use Rattle.quota_usage.specs.Counters.{used_in}
 use Rattle.volume_tree.specs.Volume.{IsCapacity}
 use Rattle.fsrm_engine.specs.Machine.{sums_of, IsEngine}
 use Rattle.fsrm_engine.specs.Peaks.{raised, raised_above}
-use Rattle.fsrm_engine.proofs.RowLaws.{each_found, map_same, map_id}
+use Rattle.fsrm_model.proofs.RowLaws.{each_found, map_same, map_id}
 use Rattle.fsrm_engine.proofs.SumLaws.{used_found, sums_kept, sums_follow}
 use Rattle.fsrm_engine.proofs.ChangeLaws.{Changes}
 

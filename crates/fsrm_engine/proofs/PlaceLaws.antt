@@ -127,6 +127,3 @@ place_at v quotas last old path depth at d name view is deep at_is h s f part va
 -- and seen from inside
 pub place_within : (v : Volume) (quotas : List QuotaRow) (last : ℕ) (old : Machine) (path : List (List ℕ)) (d : ℕ) (name : List ℕ) → machine v quotas last ≡ old → IsPlace old.rows.nodes path d name → IsPlace v.nodes path d name
 place_within v quotas last old path d name is p = subst (λ (o : Machine). IsPlace o.rows.nodes path d name) (sym is) p
-
-pub apart : (n : ℕ) → (n ≡ 0 → ⊥) → (n == 0) ≡ false
-apart n h = grind (arith, nat_tests)

@@ -1,54 +1,45 @@
 -- What the commands on quotas keep.
-use Rattle.std.proofs.Common.{◌≡◌, ℕ, ◌≤◌, ◌==◌, Bool, true, false, cond, not, inl, inr, List, [], ◌∷◌, length, Option, Some, None, refl, ap, sym, ◌∙◌, subst, arith, Bor}
-use Rattle.std.proofs.lemmas.Bool.Decides.{nat_tests}
-use Rattle.std.proofs.lemmas.Option.{same_Some}
-use Rattle.std.specs.Prelude.{map, filter, sum_by, is_some, is_none, unwrap_or, if◌then◌else◌}
-use Rattle.std.specs.Option.{option_map_or, option_copied}
+use Rattle.std.proofs.Common.{◌≡◌, ℕ, ◌≤◌, ◌==◌, Bool, true, false, cond, not, List, [], ◌∷◌, Option, Some, None, refl, ap, sym, ◌∙◌, subst, arith, Bor}
+use Rattle.std.specs.Prelude.{map, is_some, is_none, unwrap_or, if◌then◌else◌}
+use Rattle.std.specs.Option.{option_copied}
 use Rattle.fsrm_model.specs.declared.command.Answer.{Answer}
 use Rattle.fsrm_model.specs.declared.command.Deed.{Deed}
 use Rattle.fsrm_model.specs.declared.command.Outcome.TheVariants.{Done}
-use Rattle.fsrm_model.specs.declared.command.Refusal.{Refusal}
 use Rattle.fsrm_model.specs.declared.command.Refusal.TheVariants.{PathNotFound, NotFound}
 use Rattle.fsrm_model.specs.declared.row.Capacity.{Capacity}
 use Rattle.fsrm_model.specs.declared.row.NodeRow.{NodeRow}
 use Rattle.fsrm_model.specs.declared.row.QuotaRow.{QuotaRow}
 use Rattle.fsrm_model.specs.Check.{◌when◌, first}
 use Rattle.fsrm_model.specs.FileOps.{target}
-use Rattle.fsrm_model.specs.Keyed.{row_of, has_row, is_ascending, with_change, without_row}
+use Rattle.fsrm_model.specs.Keyed.{row_of, has_row, with_change, without_row}
 use Rattle.fsrm_model.specs.Leads.{leads_to_folder}
 use Rattle.fsrm_model.specs.Limits.{latest_moment}
 use Rattle.fsrm_model.specs.Quota.{folder_of, counts, is_limit, peaked}
-use Rattle.fsrm_model.specs.QuotaWork.{quota_checks, modified, reset}
+use Rattle.fsrm_model.specs.QuotaWork.{quota_checks, reset}
 use Rattle.fsrm_model.specs.Step.{step}
-use Rattle.fsrm_model.specs.Space.{space}
-use Rattle.fsrm_model.specs.Tree.{node_of, is_folder, children, usage}
+use Rattle.fsrm_model.specs.Tree.{usage}
 use Rattle.fsrm_model.specs.Valid.{IsVolume, AreQuotas, is_moment}
-use Rattle.fsrm_model.proofs.Look.{found_key, found_has, has_found, changed_key, changed_found, row_of-without, has_row-without}
+use Rattle.fsrm_model.proofs.Look.{found_key, found_has, has_found, changed_key, changed_found}
 use Rattle.fsrm_model.proofs.Order.{ascending-change, ascending-filter, length-change}
-use Rattle.fsrm_model.proofs.TestLaws.{is_or_not, clash, eq_is}
-use Rattle.fsrm_model.proofs.UsageLaws.{usage_children}
 use Rattle.fsrm_objects.specs.Tables.{peaked_at}
-use Rattle.fsrm_objects.proofs.SortedRows.{has_lent}
+use Rattle.fsrm_model.proofs.SortedRows.{has_lent}
 use Rattle.quota_usage.specs.declared.change.Counter.{Counter}
 use Rattle.quota_usage.specs.Counters.{counted, used_in, without_counter}
 use Rattle.volume_tree.specs.Volume.{Volume}
-use Rattle.fsrm_engine.specs.Faults.{refused_answer}
 use Rattle.fsrm_engine.specs.Machine.{IsSound, Machine, Takes, rows_at, sums_of, IsEngine}
 use Rattle.fsrm_engine.specs.Places.{IsFolder}
 use Rattle.fsrm_engine.proofs.PeakLaws.{engine_peaked, peaks_stay}
 use Rattle.fsrm_engine.proofs.PlaceLaws.{target_is, leads_to_folder_is}
-use Rattle.fsrm_engine.proofs.RowLaws.{change_same}
-use Rattle.fsrm_engine.proofs.StepLaws.{machine, asked_of, due, refused_at, done_at}
+use Rattle.fsrm_model.proofs.RowLaws.{change_same}
+use Rattle.fsrm_engine.proofs.StepLaws.{machine, asked_of, due, done_at}
 use Rattle.fsrm_engine.proofs.SumLaws.{used_found, sums_without, sums_kept}
+use Rattle.fsrm_engine.proofs.CountingLaws.{is_moment_of, without_found, filter_few}
 
 -- what holds of quotas and counters behind a command of this moment that left the nodes as they were
 pub record Kept (K : Capacity) (nodes : List NodeRow) (counters : List Counter) (m : ℕ) (after : List QuotaRow) : Type 0 where
   pub are : AreQuotas nodes after
   pub sums : counters ≡ sums_of K nodes after
   pub peaks : after ≡ map (peaked K nodes m) after
-
-pub is_moment_of : (m : ℕ) → m ≤ latest_moment → is_moment m ≡ true
-is_moment_of m h = grind (arith, nat_tests)
 
 -- of quotas and counters that are made so
 pub kept_same : (K : Capacity) (nodes : List NodeRow) (counters made : List Counter) (m : ℕ) (after set : List QuotaRow) → made ≡ counters → set ≡ after → Kept K nodes counters m after → Kept K nodes made m set
@@ -70,11 +61,6 @@ store_kept v after counters m new volume k n =
 pub quotas_done : (v : Volume) (quotas after : List QuotaRow) (counters : List Counter) (last m : ℕ) (deed : Deed) (old new : Machine) (answer : Answer) → machine v quotas last ≡ old → old.rows.last_moment ≤ m → due v quotas last m deed ≡ None → (asked_of v quotas last m deed).effect ≡ rows_at v.nodes after last → (asked_of v quotas last m deed).outcome ≡ Done None → (asked_of v quotas last m deed).lasts ≡ true → Kept v.size v.nodes counters m after → new ≡ machine v after m → answer ≡ record { outcome = Done None; lasting = true } → Takes old new (step old.size old.rows (record { moment = m; deed = deed })) answer
 quotas_done v quotas after counters last m deed old new answer view late none effect outcome lasts k n e =
     done_at v v quotas after after last m deed old new answer view late none effect outcome lasts refl k.peaks n e
-
--- and to one whose refusal is due
-pub quotas_refused : (v : Volume) (quotas : List QuotaRow) (last m : ℕ) (deed : Deed) (old : Machine) (answer : Answer) (refusal : Refusal) → machine v quotas last ≡ old → old.rows.last_moment ≤ m → due v quotas last m deed ≡ Some refusal → answer ≡ refused_answer refusal → Takes old old (step old.size old.rows (record { moment = m; deed = deed })) answer
-quotas_refused v quotas last m deed old answer refusal view late h e =
-    refused_at v quotas last m deed old answer refusal view late h e
 
 -- the quota of a folder that a path leads to
 pub record OnFolder (nodes : List NodeRow) (quotas : List QuotaRow) (path : List (List ℕ)) (n : ℕ) : Type 0 where
@@ -103,21 +89,6 @@ quota_due nodes quotas last path n o =
     at false b a e = cc
 
 -- without a folder's quota
-without_found : (n f : ℕ) (quotas : List QuotaRow) (q : QuotaRow) → row_of folder_of f (without_row folder_of n quotas) ≡ Some q → row_of folder_of f quotas ≡ Some q
-without_found n f quotas q h =
-    elim (is_or_not (f == n)) [
-      | inl t ↦ absurd (clash (has_row folder_of f (without_row folder_of n quotas)) (found_has folder_of f (without_row folder_of n quotas) q h)
-          (ap (λ k. has_row folder_of k (without_row folder_of n quotas)) (eq_is f n t) ∙ has_row-without folder_of n quotas))
-      | inr t ↦ sym (row_of-without folder_of n f quotas t) ∙ h
-    ]
-
-filter_few : {X : Type 0} (p : X → Bool) (xs : List X) → length (filter p xs) ≤ length xs
-filter_few p [] = omega arith
-filter_few p (x ∷ xs) = at (p x) (filter_few p xs)
-  where
-    at : (b : Bool) → length (filter p xs) ≤ length xs → length (cond b (x ∷ filter p xs) (filter p xs)) ≤ length (x ∷ xs)
-    at true h = omega arith
-    at false h = omega arith
 
 pub kept_without : (K : Capacity) (nodes : List NodeRow) (quotas : List QuotaRow) (counters : List Counter) (m n : ℕ) → IsEngine K nodes quotas counters → Kept K nodes (without_counter counters n) m (without_row folder_of n quotas)
 kept_without K nodes quotas counters m n e =
@@ -181,16 +152,6 @@ kept_changed K nodes quotas counters m n c e s =
     old_peak : (f : ℕ) (r : QuotaRow) → row_of folder_of f quotas ≡ Some r → counts r ≡ true → usage K nodes r.folder ≤ r.peak
     old_peak f r found t = subst (λ k. usage K nodes k ≤ r.peak) (sym (found_key folder_of f quotas r found)) (e.peaks f r found t)
 
--- with another limit or type
-new_limit : (limit : Option ℕ) (old : ℕ) → option_map_or is_limit limit true ≡ true → is_limit old ≡ true → is_limit (unwrap_or limit old) ≡ true
-new_limit None old h o = o
-new_limit (Some limit) old h o = h
-
-pub kept_modified : (K : Capacity) (nodes : List NodeRow) (quotas : List QuotaRow) (counters : List Counter) (m n : ℕ) (limit : Option ℕ) (enforce : Option Bool) → IsEngine K nodes quotas counters → option_map_or is_limit limit true ≡ true → Kept K nodes counters m (with_change folder_of n (modified limit enforce) quotas)
-kept_modified K nodes quotas counters m n limit enforce e h =
-    kept_changed K nodes quotas counters m n (modified limit enforce) e
-    (record { folder = λ r. refl; counting = λ r. refl; limit = λ r o. new_limit limit r.limit h o; moment = λ r o. o; peak = λ r c o. o })
-
 -- with the peak that is used now
 pub kept_reset : (K : Capacity) (nodes : List NodeRow) (quotas : List QuotaRow) (counters : List Counter) (last m n : ℕ) → IsEngine K nodes quotas counters → m ≤ latest_moment → Kept K nodes counters m (with_change folder_of n (reset K (rows_at nodes quotas last) m) quotas)
 kept_reset K nodes quotas counters last m n e late =
@@ -211,24 +172,3 @@ reset_is K nodes quotas counters last m n used e h =
     at : (b : Bool) (u : ℕ) → unwrap_or (cond b (Some u) None) 0 ≡ cond b u 0
     at true u = refl
     at false u = refl
-
-pub modified_is : (quotas : List QuotaRow) (n : ℕ) (limit : Option ℕ) (enforce : Option Bool) (quota row : QuotaRow) → is_ascending folder_of quotas ≡ true → row_of folder_of n quotas ≡ Some quota → row ≡ modified limit enforce quota → with_change folder_of row.folder (λ old. row) quotas ≡ with_change folder_of n (modified limit enforce) quotas
-modified_is quotas n limit enforce quota row asc found is =
-    ap (λ k. with_change folder_of k (λ old. row) quotas) (ap (λ (r : QuotaRow). r.folder) is ∙ found_key folder_of n quotas quota found)
-    ∙ change_same folder_of n (λ old. row) (modified limit enforce) quotas asc (λ r h. is ∙ ap (modified limit enforce) (same_Some quota r (sym found ∙ h)))
-
--- a folder without children takes nothing
-no_length : {X : Type 0} (xs : List X) → length xs ≡ 0 → xs ≡ []
-no_length [] h = refl
-no_length (x ∷ xs) h = absurd (omega arith)
-
-pub empty_folder : (K : Capacity) (nodes : List NodeRow) (n : ℕ) → IsVolume K nodes → is_folder nodes n ≡ true → length (children nodes n) ≡ 0 → usage K nodes n ≡ 0
-empty_folder K nodes n v f h =
-    at (node_of nodes n) f refl
-  where
-    at : (o : Option NodeRow) → option_map_or (λ node. node.folder) o false ≡ true → node_of nodes n ≡ o → usage K nodes n ≡ 0
-    at None e is = cc
-    at (Some r) e is =
-        let nothing : space K r ≡ 0 = ap (λ b. cond b 0 (space K (record r { folder = false }))) e in
-        let none : sum_by (λ c. usage K nodes c.number) (children nodes n) ≡ 0 = ap (sum_by (λ c. usage K nodes c.number)) (no_length (children nodes n) h) in
-        omega (arith, usage_children K nodes n r v is, nothing, none)

@@ -13,7 +13,6 @@ use Rattle.fsrm_model.proofs.Below.{above_all}
 use Rattle.fsrm_model.proofs.ChainLaws.{IsTree, Has, is_in}
 use Rattle.fsrm_model.proofs.ChangeLaws.{change_absent}
 use Rattle.fsrm_model.proofs.Climbs.{climb, under_own}
-use Rattle.fsrm_model.proofs.Keeps.{found_parent}
 use Rattle.fsrm_model.proofs.TestLaws.{eq_is, is_or_not, or_later}
 use Rattle.volume_tree.specs.declared.answer.NodeView.{NodeView}
 use Rattle.volume_tree.specs.Volume.{Shows}
@@ -22,7 +21,8 @@ use Rattle.fsrm_objects.specs.Tables.{peaked_at}
 use Rattle.quota_usage.specs.declared.change.Counter.{Counter}
 use Rattle.quota_usage.specs.Counters.{used_in}
 use Rattle.fsrm_engine.specs.Peaks.{raised, raised_above}
-use Rattle.fsrm_engine.proofs.RowLaws.{change_same, change_none}
+use Rattle.fsrm_model.proofs.RowLaws.{change_same, change_none}
+use Rattle.fsrm_model.proofs.ValidLaws.{found_parent}
 
 raised_by : (counters : List Counter) (m : ℕ) (q : QuotaRow) (o : Option ℕ) → used_in counters q.folder ≡ o → raised counters m q ≡ option_map_or (λ used. if nat_lt q.peak used then record q { peak = used; peak_at = m } else q) o q
 raised_by counters m q o h = ap (λ o. option_map_or (λ used. if nat_lt q.peak used then record q { peak = used; peak_at = m } else q) o q) h

@@ -1,18 +1,16 @@
 -- The refusals of a removal are the faults of the tree.
-use Rattle.std.proofs.Common.{◌≡◌, ℕ, ◌==◌, Bool, true, false, not, List, [], ◌∷◌, length, Some, None, refl, ap, sym, ◌∙◌}
-use Rattle.std.specs.Prelude.{unwrap_or}
+use Rattle.std.proofs.Common.{◌≡◌, ℕ, ◌==◌, Bool, true, false, not, List, [], ◌∷◌, length, Some, None, refl, ap, ◌∙◌}
 use Rattle.fsrm_model.specs.declared.command.Deed.TheVariants.{File}
 use Rattle.fsrm_model.specs.declared.command.FileOp.TheVariants.{Remove}
 use Rattle.fsrm_model.specs.declared.command.Refusal.TheVariants.{PathNotFound, InvalidMove, NotEmpty}
 use Rattle.fsrm_model.specs.declared.row.QuotaRow.{QuotaRow}
 use Rattle.fsrm_model.specs.Check.{Check, ◌when◌, first}
 use Rattle.fsrm_model.specs.FileOps.{target}
-use Rattle.fsrm_model.specs.Keyed.{without_row}
 use Rattle.fsrm_model.specs.Leads.{is_root, leads}
-use Rattle.fsrm_model.specs.Tree.{number, children, resolve}
+use Rattle.fsrm_model.specs.Tree.{children, resolve}
 use Rattle.fsrm_model.specs.Valid.{IsVolume}
 use Rattle.volume_tree.specs.declared.answer.TreeFault.TheVariants as fault
-use Rattle.volume_tree.specs.Volume.{Volume, fault_if, remove_fault, without_node}
+use Rattle.volume_tree.specs.Volume.{Volume, fault_if, remove_fault}
 use Rattle.fsrm_engine.proofs.StepLaws.{due, tree_first}
 use Rattle.fsrm_engine.proofs.PlaceLaws.{root_is, leads_is, target_is}
 
@@ -36,6 +34,3 @@ remove_due v quotas last m path n k h inner =
 pub remove_root : (v : Volume) (quotas : List QuotaRow) (last m : ℕ) (path : List (List ℕ)) (n : ℕ) → IsVolume v.size v.nodes → resolve v.nodes path ≡ Some n → n ≡ 0 → due v quotas last m (File (Remove path)) ≡ Some InvalidMove
 remove_root v quotas last m path n k h z =
     first_remove (leads v.nodes path) (is_root path) _ (leads_is v.nodes path n h) (root_is v.size v.nodes path n k h ∙ ap (λ i. i == 0) z)
-
-pub removed_is : (v : Volume) (path : List (List ℕ)) (n : ℕ) → resolve v.nodes path ≡ Some n → without_node v n ≡ record { size = v.size; nodes = without_row number (target v.nodes path) v.nodes }
-removed_is v path n h = sym (ap (λ o. without_node v (unwrap_or o 0)) h)

@@ -14,7 +14,7 @@ use Rattle.fsrm_model.specs.Check.{◌when◌, first}
 use Rattle.fsrm_model.specs.Keyed.{has_row, row_of, with_change}
 use Rattle.fsrm_model.specs.Numbers.{is_in, without_number}
 use Rattle.fsrm_model.specs.Quota.{folder_of, counts, is_complete, peaked}
-use Rattle.fsrm_model.specs.QuotaStates.{is_rebuilding, in_state, queued, head, same_head, scan_begun, with_state}
+use Rattle.fsrm_model.specs.QuotaStates.{is_rebuilding, in_state, queued, head, scan_begun, with_state}
 use Rattle.fsrm_model.specs.Scan.{visits}
 use Rattle.fsrm_model.specs.ScanWork.{step_work}
 use Rattle.fsrm_model.specs.Step.{step}
@@ -25,6 +25,7 @@ use Rattle.scan_queue.specs.Courses.{Course, Turns}
 use Rattle.fsrm_engine.specs.Machine.{Machine, Takes, AreScans, volume_of, lasting_rows, rows_with, with_rows}
 use Rattle.fsrm_engine.proofs.WholeLaws.{done_whole, passing_whole}
 use Rattle.fsrm_engine.proofs.TurnLaws.{engine_of, turned, rows_turned, queue_changed, queue_peaked}
+use Rattle.fsrm_engine.proofs.ScanLaws.{same_own}
 
 -- the head of the queue is in it
 pub head_in : (queue : List ℕ) (n : ℕ) → head queue ≡ Some n → is_in queue n ≡ true
@@ -72,10 +73,6 @@ head_some : (queue : List ℕ) (n : ℕ) → head queue ≡ Some n → (length q
 head_some [] n h = cc
 head_some (k ∷ queue) n h = suc_apart (length queue)
 
-same_itself : (queue : List ℕ) → same_head queue queue ≡ true
-same_itself [] = refl
-same_itself (k ∷ queue) = eq_same k
-
 -- what is left, and the rows and the number of visits then
 abbrev pub left_after : Rows → ℕ → List ℕ
 left_after R k = visits k R.nodes R.unvisited
@@ -104,7 +101,7 @@ step_passing old mid k m n count idle late h is c more =
     (ap (λ b. if b then with_state (visited_rows R k) (unwrap_or (head R.queue) 0) Complete else visited_rows R k) ends)
     (scanned_is old.size R k n count None false h ends (count_is old mid k count is c) refl) ends
     (ap (λ (o : Machine). o.size) is) (ap (λ (o : Machine). o.waiting) is ∙ idle)
-    (ap (λ (o : Machine). o.rows) is ∙ sym (ap (λ b. record R { unvisited = if b then left_after R k else scan_begun R.nodes R.queue }) (same_itself R.queue)))
+    (ap (λ (o : Machine). o.rows) is ∙ sym (ap (λ b. record R { unvisited = if b then left_after R k else scan_begun R.nodes R.queue }) (same_own R.queue)))
     refl
 
 pub step_ending : (old mid new : Machine) (k m n count used : ℕ) → old.waiting ≡ [] → old.rows.last_moment ≤ m → head old.rows.queue ≡ Some n → mid ≡ with_rows old (visited_rows old.rows k) → count ≡ length old.rows.unvisited - length mid.rows.unvisited → (length mid.rows.unvisited == 0) ≡ true → new ≡ record mid { rows = lasting_rows mid (with_state mid.rows n Complete) m } → used ≡ usage mid.size mid.rows.nodes n → Takes old new (step old.size old.rows (record { moment = m; deed = Step k })) (record { outcome = Scanned n count (Some used); lasting = true })

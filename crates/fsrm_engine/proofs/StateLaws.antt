@@ -33,8 +33,9 @@ use Rattle.fsrm_model.proofs.UsageLaws.{usage_children}
 use Rattle.fsrm_engine.specs.Machine.{Machine, Takes, IsLevel, with_rows}
 use Rattle.fsrm_engine.specs.Places.{IsFolder}
 use Rattle.fsrm_engine.proofs.PlaceLaws.{target_is, leads_to_folder_is}
-use Rattle.fsrm_engine.proofs.RowLaws.{change_same}
+use Rattle.fsrm_model.proofs.RowLaws.{change_same}
 use Rattle.fsrm_engine.proofs.WholeLaws.{asks_of, done_whole}
+use Rattle.rescan.proofs.ChangeLaws.{change_twice}
 
 -- the answer to a command that was done: a machine that is settled, and then has the command's moment
 pub settled : (old mid new : Machine) (m : ℕ) (deed : Deed) (answer : Answer) (effect : Rows) → old.waiting ≡ [] → old.rows.last_moment ≤ m → first (asks_of old m deed).checks ≡ None → (asks_of old m deed).effect ≡ effect → (asks_of old m deed).outcome ≡ Done None → (asks_of old m deed).lasts ≡ true → mid ≡ with_rows old (followed old.rows effect) → IsLevel mid → new ≡ with_rows mid (record mid.rows { last_moment = m }) → answer ≡ record { outcome = Done None; lasting = true } → Takes old new (step old.size old.rows (record { moment = m; deed = deed })) answer
@@ -147,18 +148,8 @@ add_checks R path n b row at absent full =
     by_case false = refl
 
 -- a quota that was modified, and then has its state, is another one in its place
-change_twice : (n : ℕ) (c d : QuotaRow → QuotaRow) → ((r : QuotaRow) → (c r).folder ≡ r.folder) → (quotas : List QuotaRow) → with_change folder_of n d (with_change folder_of n c quotas) ≡ with_change folder_of n (λ r. d (c r)) quotas
-change_twice n c d k [] = refl
-change_twice n c d k (r ∷ quotas) =
-    ap (λ q. q ∷ with_change folder_of n d (with_change folder_of n c quotas)) (at (folder_of r == n) refl)
-    ∙ ap (λ qs. (if folder_of r == n then d (c r) else r) ∷ qs) (change_twice n c d k quotas)
-  where
-    at : (b : Bool) → (folder_of r == n) ≡ b → cond (folder_of (cond b (c r) r) == n) (d (cond b (c r) r)) (cond b (c r) r) ≡ cond b (d (c r)) r
-    at true e = ap (λ b. cond b (d (c r)) (c r)) (ap (λ f. f == n) (k r) ∙ e)
-    at false e = ap (λ b. cond b (d r) r) e
-
 pub modified_to : (R : Rows) (n : ℕ) (limit : Option ℕ) (enforce : Option Bool) (state : QuotaState) (q : QuotaRow) → is_ascending folder_of R.quotas ≡ true → quota_of R n ≡ Some q → with_change folder_of n (in_state state) (with_change folder_of n (modified limit enforce) R.quotas) ≡ with_change folder_of n (λ old. in_state state (modified limit enforce q)) R.quotas
 modified_to R n limit enforce state q asc found =
-    change_twice n (modified limit enforce) (in_state state) (λ r. refl) R.quotas
+    change_twice folder_of n (modified limit enforce) (in_state state) (λ r. refl) R.quotas
     ∙ change_same folder_of n (λ r. in_state state (modified limit enforce r)) (λ old. in_state state (modified limit enforce q)) R.quotas asc
     (λ r h. ap (λ x. in_state state (modified limit enforce x)) (same_Some r q (sym h ∙ found)))

@@ -1,5 +1,5 @@
 -- How a command's step is seen from outside the engine.
-use Rattle.std.proofs.Common.{◌≡◌, ℕ, ◌≤◌, true, false, List, [], ◌∷◌, Option, Some, None, Result, Ok, Err, nat_lt, ◌<◌, refl, ap, sym, ◌∙◌, subst, arith}
+use Rattle.std.proofs.Common.{◌≡◌, ℕ, ◌≤◌, true, false, List, [], ◌∷◌, Option, Some, None, Result, Ok, Err, nat_lt, refl, ap, sym, ◌∙◌, subst, arith}
 use Rattle.std.proofs.lemmas.Bool.Decides.{nat_tests}
 use Rattle.std.proofs.lemmas.Option.{same_Some}
 use Rattle.std.specs.Prelude.{option_map, unwrap_or, map, IfOk, if◌then◌else◌}
@@ -40,18 +40,15 @@ asked_of v quotas last m deed = work v.size (rows_at v.nodes quotas last) m deed
 abbrev pub due : Volume → List QuotaRow → ℕ → ℕ → Deed → Option Refusal
 due v quotas last m deed = first (asked_of v quotas last m deed).checks
 
-late_test : (last m : ℕ) → last ≤ m → nat_lt m last ≡ false
+pub late_test : (last m : ℕ) → last ≤ m → nat_lt m last ≡ false
 late_test last m h = grind (arith, nat_tests)
-
-late_is : (last m : ℕ) → m < last → nat_lt m last ≡ true
-late_is last m h = grind (arith, nat_tests)
 
 -- a command that isn't late may take the looks of its deed
 pub cost_in_time : (R : Rows) (c : Command) → R.last_moment ≤ c.moment → deed_cost R c.deed ≡ cost R c
 cost_in_time R c late = rw (late_test R.last_moment c.moment late) refl
 
 -- a command that isn't late is decided by its own checks
-step_by : (K : Capacity) (R : Rows) (m : ℕ) (deed : Deed) (o : Option Refusal) → R.last_moment ≤ m → first (work K R m deed).checks ≡ o → step K R (record { moment = m; deed = deed }) ≡ decided K R m (work K R m deed) o
+pub step_by : (K : Capacity) (R : Rows) (m : ℕ) (deed : Deed) (o : Option Refusal) → R.last_moment ≤ m → first (work K R m deed).checks ≡ o → step K R (record { moment = m; deed = deed }) ≡ decided K R m (work K R m deed) o
 step_by K R m deed o late h =
     ap (decided K R m (work K R m deed)) (ap (λ b. first ((ClockBack when b) ∷ (work K R m deed).checks)) (late_test R.last_moment m late) ∙ h)
 
@@ -82,14 +79,6 @@ pub refused_at : (v : Volume) (quotas : List QuotaRow) (last m : ℕ) (deed : De
 refused_at v quotas last m deed old answer refusal view late h e =
     subst (λ (o : Machine). Takes old o (step old.size old.rows (record { moment = m; deed = deed })) answer) view
     (takes_refused v v quotas last m deed old answer refusal view refl (step_by v.size (rows_at v.nodes quotas last) m deed (Some refusal) (was_late v quotas last m old view late) h) e)
-
--- the answer to a command that is late
-pub late_at : (v : Volume) (quotas : List QuotaRow) (last m : ℕ) (deed : Deed) (old : Machine) (answer : Answer) → machine v quotas last ≡ old → m < last → answer ≡ refused_answer ClockBack → Takes old old (step old.size old.rows (record { moment = m; deed = deed })) answer
-late_at v quotas last m deed old answer view late e =
-    let R = rows_at v.nodes quotas last in
-    subst (λ (o : Machine). Takes old o (step old.size old.rows (record { moment = m; deed = deed })) answer) view
-    (takes_refused v v quotas last m deed old answer ClockBack view refl
-    (ap (λ b. decided v.size R m (work v.size R m deed) (first ((ClockBack when b) ∷ (work v.size R m deed).checks))) (late_is last m late)) e)
 
 -- the refusal that an answer tells
 pub record Told (o : Option Refusal) (answer : Answer) : Type 0 where

@@ -19,8 +19,9 @@ use Rattle.fsrm_model.proofs.Look.{is_some-find, found_key, found_has, find-map,
 use Rattle.fsrm_model.proofs.TestLaws.{is_or_not, both, both_true, neither, eq_is, eq_same, eq_turned}
 use Rattle.scan_queue.specs.Courses.{Course, Turns, left}
 use Rattle.fsrm_engine.specs.Machine.{Machine, IsSound, AreScans, rows_with, volume_of, with_quotas, with_rows}
-use Rattle.fsrm_engine.proofs.CountingLaws.{put_in, without_lacking}
+use Rattle.fsrm_engine.proofs.CountingLaws.{put_in}
 use Rattle.fsrm_engine.proofs.PeakLaws.{peaked_folder}
+use Rattle.fsrm_model.proofs.RemoveLaws.{without_absent}
 
 -- what is in a queue with one more
 in_more : (queue : List ℕ) (n f : ℕ) → is_in (queue ++ n ∷ []) f ≡ (is_in queue f || (n == f))
@@ -228,7 +229,7 @@ pub with_and_without : (row : QuotaRow) (quotas : List QuotaRow) → has_row fol
 with_and_without row [] absent = ap (λ b. cond (not b) (row ∷ []) []) (eq_same (folder_of row))
 with_and_without row (r ∷ quotas) absent =
     let no = neither (folder_of r == row.folder) (has_row folder_of row.folder quotas) absent in
-    at (nat_lt (folder_of row) (folder_of r)) no.0 (with_and_without row quotas no.1) (without_lacking folder_of row.folder quotas no.1)
+    at (nat_lt (folder_of row) (folder_of r)) no.0 (with_and_without row quotas no.1) (without_absent folder_of row.folder quotas no.1)
   where
     at : (b : Bool) → (folder_of r == row.folder) ≡ false → without_row folder_of row.folder (with_row folder_of row quotas) ≡ quotas → without_row folder_of row.folder quotas ≡ quotas → without_row folder_of row.folder (cond b (row ∷ r ∷ quotas) (r ∷ with_row folder_of row quotas)) ≡ r ∷ quotas
     at true apart rest none = rw (eq_same (folder_of row), apart) (ap (λ qs. r ∷ qs) none)

@@ -1,9 +1,8 @@
 -- What is at and below the nodes that are still to be visited.
-use Rattle.std.proofs.Common.{◌≡◌, ℕ, suc, ◌+◌, ◌*◌, ◌<◌, ◌≤◌, ◌==◌, Bool, true, false, cond, inl, inr, List, [], ◌∷◌, ◌++◌, length, take, get_or, refl, sym, ◌∙◌, ap, subst, arith, Some, length-append, append_assoc, fold, nat_lt}
+use Rattle.std.proofs.Common.{◌≡◌, ℕ, suc, ◌+◌, ◌*◌, ◌<◌, ◌≤◌, ◌==◌, Bool, true, false, cond, inl, inr, List, [], ◌∷◌, ◌++◌, length, take, refl, sym, ◌∙◌, ap, subst, arith, Some, length-append, fold, nat_lt}
 use Rattle.std.proofs.lemmas.Bool.Decides.{nat_tests}
-use Rattle.std.proofs.lemmas.List.{take_more, take_all, map-append, length-map}
+use Rattle.std.proofs.lemmas.List.{take_all, length-map}
 use Rattle.std.proofs.lemmas.List.Sums.{sum_by-cons, sum_by-append, sum_by_push}
-use Rattle.std.proofs.lemmas.Option.{slice_get_within, get_or_from_slice_get}
 use Rattle.std.specs.Prelude.{map, filter, sum_by, nat_le}
 use Rattle.std.specs.List.{AllByRecursion, list_all}
 use Rattle.fsrm_model.specs.declared.row.Capacity.{Capacity}
@@ -15,7 +14,7 @@ use Rattle.fsrm_model.specs.Order.{put, in_order}
 use Rattle.fsrm_model.specs.Space.{alloc, space}
 use Rattle.fsrm_model.specs.Tree.{number, node_of, is_child, children, children_in_order, is_under, under, usage}
 use Rattle.fsrm_model.specs.Valid.{IsVolume}
-use Rattle.fsrm_model.proofs.TestLaws.{is_or_not, both, eq_is, lt_is}
+use Rattle.fsrm_model.proofs.TestLaws.{is_or_not, both, eq_is, lt_is, le_is}
 use Rattle.fsrm_model.proofs.ChainLaws.{all_rows}
 use Rattle.fsrm_model.proofs.Order.{parts}
 use Rattle.fsrm_model.proofs.Members.{all_pass}
@@ -24,8 +23,10 @@ use Rattle.fsrm_model.proofs.Keeps.{found_folder}
 use Rattle.fsrm_model.proofs.Look.{has_found}
 use Rattle.fsrm_model.proofs.UsageLaws.{usage_children, count_children, usage_of_file, count_of_file}
 use Rattle.volume_tree.specs.declared.answer.NodeView.{NodeView}
-use Rattle.volume_tree.specs.Volume.{IsCapacity, IsChildAt, Shows}
+use Rattle.volume_tree.specs.Volume.{IsCapacity, Shows}
 use Rattle.fsrm_engine.specs.Walk.{usage_of_all, under_all, AreThere}
+use Rattle.volume_tree.proofs.FreshLaws.{few_nodes}
+use Rattle.rescan.proofs.ChildLaws.{length-children}
 
 -- a sum stays where items are put in order
 put_sum : {X : Type 0} (before : X → X → Bool) (f : X → ℕ) (x : X) (ys : List X) → sum_by f (put before x ys) ≡ f x + sum_by f ys
@@ -54,9 +55,6 @@ put_length before x (y ∷ ys) = at (before x y) (put_length before x ys)
 length_from : {X : Type 0} (before : X → X → Bool) (sorted xs : List X) → length (fold (λ ys x. put before x ys) sorted xs) ≡ length sorted + length xs
 length_from before sorted [] = omega arith
 length_from before sorted (x ∷ xs) = omega (arith, length_from before (put before x sorted) xs, put_length before x sorted)
-
-length_in_order : {X : Type 0} (before : X → X → Bool) (xs : List X) → length (in_order before xs) ≡ length xs
-length_in_order before xs = omega (arith, length_from before [] xs)
 
 -- and what holds of each item
 put_all : {X : Type 0} (before : X → X → Bool) (P : X → Type 0) (x : X) (ys : List X) → P x → AllByRecursion P ys → AllByRecursion P (put before x ys)
@@ -121,32 +119,10 @@ count_of_children K nodes n r v h =
     let order = sum_in_order before (λ c. length (under nodes c.number)) (children nodes n) in
     omega (arith, count_children K nodes n r v h, each, order)
 
-pub length-children : (nodes : List NodeRow) (folder : ℕ) → length (children_in_order nodes folder) ≡ length (children nodes folder)
-length-children nodes folder = length_in_order before (children nodes folder)
-
 -- the children that are put behind, one by one
-pushed_more : (nodes : List NodeRow) (folder place n : ℕ) → IsChildAt nodes folder place n → map number (take (place + 1) (children_in_order nodes folder)) ≡ map number (take place (children_in_order nodes folder)) ++ n ∷ []
-pushed_more nodes folder place n at =
-    let sorted = children_in_order nodes folder in
-    let within : place < length sorted = slice_get_within sorted place at.row at.at in
-    ap (map number) (take_more sorted place at.row within)
-    ∙ (map-append number (take place sorted) (get_or sorted place at.row ∷ [])
-    ∙ (ap (λ (row : NodeRow). map number (take place sorted) ++ number row ∷ []) (get_or_from_slice_get sorted place at.row at.row at.at)
-    ∙ ap (λ (k : ℕ). map number (take place sorted) ++ k ∷ []) at.number_is))
-
-pub pushed_step : (nodes : List NodeRow) (folder place n : ℕ) (start old new : List ℕ) → IsChildAt nodes folder place n → new ≡ old ++ n ∷ [] → old ≡ start ++ map number (take place (children_in_order nodes folder)) → new ≡ start ++ map number (take (place + 1) (children_in_order nodes folder))
-pushed_step nodes folder place n start old new at push so_far =
-    let front = map number (take place (children_in_order nodes folder)) in
-    push
-    ∙ (ap (λ (xs : List ℕ). xs ++ n ∷ []) so_far
-    ∙ (append_assoc start front (n ∷ [])
-    ∙ ap (λ (xs : List ℕ). start ++ xs) (sym (pushed_more nodes folder place n at))))
 
 pushed_all : (nodes : List NodeRow) (folder count : ℕ) → length (children nodes folder) ≤ count → take count (children_in_order nodes folder) ≡ children_in_order nodes folder
 pushed_all nodes folder count h = take_all count (children_in_order nodes folder) (omega (arith, length-children nodes folder, h))
-
-pub pushed_end : (nodes : List NodeRow) (folder count : ℕ) (start new : List ℕ) → length (children nodes folder) ≤ count → new ≡ start ++ map number (take count (children_in_order nodes folder)) → new ≡ start ++ map number (children_in_order nodes folder)
-pushed_end nodes folder count start new h so_far = so_far ∙ ap (λ (rows : List NodeRow). start ++ map number rows) (pushed_all nodes folder count h)
 
 -- each node is one of those below it
 count_least : (K : Capacity) (nodes : List NodeRow) (n : ℕ) → IsVolume K nodes → has_row number n nodes ≡ true → 1 ≤ length (under nodes n)
@@ -217,18 +193,6 @@ few_from n most (row ∷ rows) h a each =
     next : (n most : ℕ) (row : NodeRow) (rows : List NodeRow) → n ≤ number row → number row < most → is_ascending number (row ∷ rows) ≡ true → From (n + 1) most rows
     next n most row [] h low a = omega arith
     next n most row (other ∷ rows) h low a = let up : number row < number other = lt_is _ _ (parts number row (other ∷ rows) a).above in omega arith
-
-few_nodes : (K : Capacity) (nodes : List NodeRow) → IsVolume K nodes → length nodes ≤ K.nodes
-few_nodes K nodes v =
-    let each = all_pass number (λ row. nat_lt (number row) K.nodes) nodes v.ascending (λ row f. v.below (number row) row f) in
-    omega (arith, few_from 0 K.nodes nodes (first nodes) v.ascending each)
-  where
-    first : (rows : List NodeRow) → From 0 K.nodes rows
-    first [] = omega arith
-    first (row ∷ rows) = omega arith
-
-le_is : (m n : ℕ) → nat_le m n ≡ true → m ≤ n
-le_is m n h = grind (arith, nat_tests)
 
 alloc_small : (K : Capacity) (n : ℕ) → n ≤ longest_file → alloc K n ≤ longest_file
 alloc_small K n h = omega arith

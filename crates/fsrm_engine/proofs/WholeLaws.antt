@@ -1,33 +1,24 @@
 -- How a command's step is seen of a whole machine, with its scans.
-use Rattle.std.proofs.Common.{◌≡◌, ℕ, ◌≤◌, nat_lt, Bool, true, false, [], ◌∷◌, Option, Some, None, refl, ap, sym, ◌∙◌, arith}
-use Rattle.std.proofs.lemmas.Bool.Decides.{nat_tests}
+use Rattle.std.proofs.Common.{◌≡◌, ℕ, ◌≤◌, Bool, true, false, [], Some, None, refl, ap, sym, ◌∙◌}
 use Rattle.std.specs.Prelude.{if◌then◌else◌}
 use Rattle.fsrm_model.specs.declared.command.Answer.{Answer}
 use Rattle.fsrm_model.specs.declared.command.Deed.{Deed}
 use Rattle.fsrm_model.specs.declared.command.Outcome.{Outcome}
 use Rattle.fsrm_model.specs.declared.command.Outcome.TheVariants.{Refused}
 use Rattle.fsrm_model.specs.declared.command.Refusal.{Refusal}
-use Rattle.fsrm_model.specs.declared.command.Refusal.TheVariants.{ClockBack}
 use Rattle.fsrm_model.specs.declared.row.Capacity.{Capacity}
 use Rattle.fsrm_model.specs.declared.row.Rows.{Rows}
-use Rattle.fsrm_model.specs.Check.{◌when◌, first}
+use Rattle.fsrm_model.specs.Check.{first}
 use Rattle.fsrm_model.specs.QuotaStates.{followed}
-use Rattle.fsrm_model.specs.Step.{Stepped, step, work, decided, accepted, lasted, unacted, unlasting}
+use Rattle.fsrm_model.specs.Step.{Stepped, step, work, accepted, lasted, unacted, unlasting}
 use Rattle.fsrm_model.specs.Work.{Work}
 use Rattle.fsrm_engine.specs.Faults.{refused_answer}
 use Rattle.fsrm_engine.specs.Machine.{Machine, Takes, lasting_rows}
+use Rattle.fsrm_engine.proofs.StepLaws.{step_by}
 
 -- what a command asks of a machine
 abbrev pub asks_of : Machine → ℕ → Deed → Work
 asks_of machine m deed = work machine.size machine.rows m deed
-
-late_test : (last m : ℕ) → last ≤ m → nat_lt m last ≡ false
-late_test last m h = grind (arith, nat_tests)
-
--- a command that isn't late is decided by its own checks
-pub step_by : (K : Capacity) (R : Rows) (m : ℕ) (deed : Deed) (o : Option Refusal) → R.last_moment ≤ m → first (work K R m deed).checks ≡ o → step K R (record { moment = m; deed = deed }) ≡ decided K R m (work K R m deed) o
-step_by K R m deed o late h =
-    ap (decided K R m (work K R m deed)) (ap (λ b. first ((ClockBack when b) ∷ (work K R m deed).checks)) (late_test R.last_moment m late) ∙ h)
 
 -- what is known of the step is known of the machine
 by_step : (old new : Machine) (m : ℕ) (deed : Deed) (answer : Answer) (s : Stepped) → step old.size old.rows (record { moment = m; deed = deed }) ≡ s → new.size ≡ old.size → new.rows ≡ s.rows → new.waiting ≡ s.acts → answer.outcome ≡ s.outcome → answer.lasting ≡ s.lasting → Takes old new (step old.size old.rows (record { moment = m; deed = deed })) answer

@@ -118,7 +118,7 @@ impl Engine {
         ensures kept { IsStore self.new.size self.new.rows }
         ensures looks { steps.new ≤ steps.old + cost self.old.rows command.now }
     {
-        if command.moment < self.accounts.last_moment {
+        if command.moment < self.last_moment() {
             return Ok(refused(Refusal::ClockBack));
         }
         self.take(alloc, command, steps)
@@ -133,6 +133,7 @@ impl Engine {
     ) -> Result<Answer, NoMemory>
         requires valid { is_command command.now ≡ true }
         requires idle { self.old.waiting ≡ [] }
+        requires store { IsStore self.old.size self.old.rows }
         requires late { self.old.rows.last_moment ≤ command.now.moment }
         ensures ok { IfOk result (λ answer. Takes self.old self.new (step self.old.size self.old.rows command.now) answer) }
         ensures err { OnErr result (self.new ≡ self.old) }
@@ -180,9 +181,17 @@ impl Engine {
         ensures kept { IsStore self.new.size self.new.rows }
         ensures looks { steps.new ≤ steps.old + cost self.old.rows (record { moment = moment; deed = File op.now }) }
     {
-        if moment < self.accounts.last_moment {
+        if moment < self.last_moment() {
             return Ok(refused(Refusal::ClockBack));
         }
         self.operate(alloc, op, moment, steps)
+    }
+
+    // The moment of the last command that lasts.
+    pub(crate) fn last_moment(&self) -> u64
+        ensures moment { result ≡ self.now.rows.last_moment }
+        ensures store { IsStore self.now.size self.now.rows }
+    {
+        self.accounts.last_moment
     }
 }

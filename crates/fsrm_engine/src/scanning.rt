@@ -38,6 +38,7 @@ impl Engine {
     pub(crate) fn go_on<L: Ledger>(&mut self, n: u32, moment: u64, steps: &mut Steps<L>) -> Answer
         requires moment { moment ≤ latest_moment }
         requires idle { self.old.waiting ≡ [] }
+        requires store { IsStore self.old.size self.old.rows }
         requires late { self.old.rows.last_moment ≤ moment }
         ensures ok { Takes self.old self.new (step self.old.size self.old.rows (record { moment = moment; deed = Step n })) result }
         ensures kept { IsStore self.new.size self.new.rows }
@@ -66,14 +67,6 @@ impl Engine {
             },
             lasting: true,
         }
-    }
-
-    // The moment of the last command that lasts.
-    fn last_moment(&self) -> u64
-        ensures moment { result ≡ self.now.rows.last_moment }
-        ensures store { IsStore self.now.size self.now.rows }
-    {
-        self.accounts.last_moment
     }
 
     // The folder of the active scan.

@@ -5,10 +5,10 @@ use Rattle.fsrm_model.specs.declared.row.NodeRow.{NodeRow}
 use Rattle.fsrm_model.specs.Keyed.{with_change}
 use Rattle.fsrm_model.specs.Space.{space}
 use Rattle.fsrm_model.specs.Tree.{number, parent_of, chain, is_under, usage}
-use Rattle.fsrm_model.proofs.TestLaws.{is_or_not, clash, not_true, eq_is, eq_turned, suc_apart}
+use Rattle.fsrm_model.proofs.TestLaws.{is_or_not, clash, not_true, eq_is, eq_turned, suc_apart, same_tests}
 use Rattle.fsrm_model.proofs.ChainLaws.{is_in, IsTree, Has, share, usage_is, sum_by_same, all_rows, chain_step}
 use Rattle.fsrm_model.proofs.Sums.{sum_by-map}
-use Rattle.fsrm_model.proofs.MoveLaws.{Moves, moved_tree, moved_chain, moved_rooted, before, split_chain, same_any, under_other, own_first, KeepsSpace}
+use Rattle.fsrm_model.proofs.MoveLaws.{Moves, moved_tree, moved_chain, moved_rooted, before, split_chain, same_any, under_other, own_first, KeepsSpace, in_joined, placed_share}
 
 in_left : (xs ys : List ℕ) (y : ℕ) → is_in xs y ≡ true → is_in (xs ++ ys) y ≡ true
 in_left [] ys y h = cc
@@ -17,14 +17,6 @@ in_left (x ∷ xs) ys y h = at (x == y) h (in_left xs ys y)
     at : (b : Bool) → (b || is_in xs y) ≡ true → (is_in xs y ≡ true → is_in (xs ++ ys) y ≡ true) → (b || is_in (xs ++ ys) y) ≡ true
     at true h f = refl
     at false h f = f h
-
-in_right : (xs ys : List ℕ) (y : ℕ) → is_in ys y ≡ true → is_in (xs ++ ys) y ≡ true
-in_right [] ys y h = h
-in_right (x ∷ xs) ys y h = at (x == y) (in_right xs ys y h)
-  where
-    at : (b : Bool) → is_in (xs ++ ys) y ≡ true → (b || is_in (xs ++ ys) y) ≡ true
-    at true h = refl
-    at false h = h
 
 in_which : (xs ys : List ℕ) (y : ℕ) → is_in (xs ++ ys) y ≡ (is_in xs y || is_in ys y)
 in_which [] ys y = refl
@@ -55,7 +47,7 @@ inner_of nodes x (suc f) i h = suc_apart f
 pub above_all : (nodes : List NodeRow) → IsTree nodes → (x f n : ℕ) → (x == 0) ≡ false → Has nodes f → Has nodes n → is_in (chain nodes n) f ≡ true → is_in (chain nodes f) x ≡ true → is_in (chain nodes n) x ≡ true
 above_all nodes t x f n i hf hn below above =
     let s : chain nodes n ≡ before f (chain nodes n) ++ chain nodes f = split_chain nodes t f (length nodes) n (inner_of nodes x f i above) hf (t.rooted n hn) below in
-    ap (λ ns. is_in ns x) s ∙ in_right (before f (chain nodes n)) (chain nodes f) x above
+    ap (λ ns. is_in ns x) s ∙ in_joined (before f (chain nodes n)) (chain nodes f) x above
 
 before_length : (f n : ℕ) (ns : List ℕ) → (n == f) ≡ false → 0 < length (before f (n ∷ ns))
 before_length f n ns h = subst (λ ms. 0 < length ms) (sym (ap (λ b. cond b [] (n ∷ before f ns)) h)) (omega arith)
@@ -91,11 +83,6 @@ at_below old x d f n own lacks =
     alone true = refl
     alone false = refl
 
-same_bool : (a b : Bool) → (a ≡ true → b ≡ true) → (b ≡ true → a ≡ true) → a ≡ b
-same_bool true b f g = sym (f refl)
-same_bool false true f g = g refl
-same_bool false false f g = refl
-
 pub below_moved : (old new : List NodeRow) (x d : ℕ) (m : Moves old new x d) → (f n : ℕ) → Has old f → is_in (chain old f) x ≡ true → Has old n → is_in (chain new n) f ≡ is_in (chain old n) f
 below_moved old new x d m f n hf above hn =
     elim (is_or_not (is_in (chain old n) x)) [
@@ -104,17 +91,13 @@ below_moved old new x d m f n hf above hn =
           let whole : chain new n ≡ before x (chain old n) ++ x ∷ chain old d =
           same_any (length new) (length old + suc (length old)) new n ((moved_tree old new x d m).rooted n has) (moved_rooted old new x d m n hn) ∙ moved_chain old new x d m (length old) n b in
           let was : chain old n ≡ before x (chain old n) ++ chain old x = split_chain old m.tree x (length old) n m.is_inner m.has_moved (m.tree.rooted n hn) b in
-          let own : (x == f) ≡ is_in (chain old x) f = same_bool (x == f) (is_in (chain old x) f)
+          let own : (x == f) ≡ is_in (chain old x) f = same_tests (x == f) (is_in (chain old x) f)
           (λ e. subst (λ j. is_in (chain old x) j ≡ true) (eq_is x f e) (own_first (length old) old x))
           (λ e. each_above old m.tree x f m.is_inner m.has_moved hf above e) in
           let lacks : is_in (chain old d) f ≡ false = not_true _ (λ e. clash _ (above_all old m.tree x f d m.is_inner hf m.has_folder e above) m.apart) in
           ap (λ ns. is_in ns f) whole ∙ (at_below old x d f n own lacks ∙ ap (λ ns. is_in ns f) (sym was))
       | inr b ↦ ap (λ ns. is_in ns f) (under_other old new x d m n b)
     ]
-
-moved_share : (K : Capacity) (new : List NodeRow) (f : ℕ) (c : NodeRow → NodeRow) → KeepsSpace K c → (b : Bool) (r : NodeRow) → share K new f (cond b (c r) r) ≡ share K new f r
-moved_share K new f c k true r = ap (λ n. cond (is_in (chain new n) f) (space K (c r)) 0) (k.same_number r) ∙ ap (λ s. cond (is_in (chain new r.number) f) s 0) (k.same_space r)
-moved_share K new f c k false r = refl
 
 -- the usage of each folder at or below the moved node stays
 pub usage-moved_below : (K : Capacity) (old : List NodeRow) (x d : ℕ) (c : NodeRow → NodeRow) → KeepsSpace K c → Moves old (with_change number x c old) x d → (f : ℕ) → Has old f → is_under old x f ≡ true → usage K (with_change number x c old) f ≡ usage K old f
@@ -123,5 +106,5 @@ usage-moved_below K old x d c k m f hf above =
     usage_is K new f
     ∙ (sum_by-map (share K new f) (λ r. cond (r.number == x) (c r) r) old
     ∙ (sum_by_same (λ r. share K new f (cond (r.number == x) (c r) r)) (share K old f) old
-    (all_rows number (λ r. share K new f (cond (r.number == x) (c r) r) ≡ share K old f r) old (λ r h. moved_share K new f c k (r.number == x) r ∙ ap (λ b. cond b (space K r) 0) (below_moved old new x d m f r.number hf above h)))
+    (all_rows number (λ r. share K new f (cond (r.number == x) (c r) r) ≡ share K old f r) old (λ r h. placed_share K new f c k (r.number == x) r ∙ ap (λ b. cond b (space K r) 0) (below_moved old new x d m f r.number hf above h)))
     ∙ sym (usage_is K old f)))

@@ -216,9 +216,6 @@ all_keys = ThePath ∷ TheLimit ∷ TheType ∷ TheStatus ∷ []
 required_ok : {X : Type 0} (end : ℕ) (o : Option X) (x : X) → required end o ≡ Ok x → o ≡ Some x
 required_ok end o x h = known_ok (BadLine end) o x h
 
-required_from : {X : Type 0} (end : ℕ) (o : Option X) (x : X) → o ≡ Some x → required end o ≡ Ok x
-required_from {X} end o x h = ap (λ (p : Option X). required end p) h
-
 abbrev Behind : List ℕ → List ℕ → Relation
 Behind a b words d = SpellsDeed (a ∷ b ∷ words) d
 

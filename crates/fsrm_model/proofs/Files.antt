@@ -7,8 +7,9 @@ use Rattle.fsrm_model.specs.Valid.{IsVolume}
 use Rattle.fsrm_model.proofs.TestLaws.{is_or_not, clash, is_or, eq_is}
 use Rattle.fsrm_model.proofs.ChainLaws.{Has, is_in, chain_step}
 use Rattle.fsrm_model.proofs.Look.{has_found}
-use Rattle.fsrm_model.proofs.Keeps.{tree_of, found_parent}
+use Rattle.fsrm_model.proofs.Keeps.{tree_of}
 use Rattle.fsrm_model.proofs.Below.{chain_root}
+use Rattle.fsrm_model.proofs.ValidLaws.{found_parent}
 
 -- each node's parent is a folder
 pub parent_folder : (K : Capacity) (nodes : List NodeRow) (n : ℕ) → IsVolume K nodes → Has nodes n → is_folder nodes (parent_of nodes n) ≡ true

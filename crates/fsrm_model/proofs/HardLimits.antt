@@ -37,7 +37,7 @@ use Rattle.fsrm_model.proofs.Climbs.{under_own}
 use Rattle.fsrm_model.proofs.Ends.{nodes_kept, op_nodes, step_nodes}
 use Rattle.fsrm_model.proofs.Files.{below_file}
 use Rattle.fsrm_model.proofs.Keeps.{tree_of, zero_apart, as_suc, moves_at, removes_of}
-use Rattle.fsrm_model.proofs.Look.{found_key, has_found, found_any, is_some-find}
+use Rattle.fsrm_model.proofs.Look.{found_key, has_found, found_any, is_some-find, none_filtered, unwrapped}
 use Rattle.fsrm_model.proofs.Order.{least_free_is}
 use Rattle.fsrm_model.proofs.QuotaLaws.{over_test}
 use Rattle.fsrm_model.proofs.Resolves.{resolved}
@@ -200,21 +200,17 @@ folder_led : (nodes : List NodeRow) (o : Option ℕ) → option_map_or (is_folde
 folder_led nodes None h = absurd (clash false h refl)
 folder_led nodes (Some n) h = h
 
-led : (o : Option ℕ) → is_some o ≡ true → o ≡ Some (unwrap_or o 0)
-led None h = absurd (clash false h refl)
-led (Some n) h = refl
-
 file_led : (nodes : List NodeRow) (o : Option ℕ) → option_map_or (λ n. not (is_folder nodes n)) o false ≡ true → is_some o ≡ true
 file_led nodes None h = absurd (clash false h refl)
 file_led nodes (Some n) h = refl
 
 target_has : (K : Capacity) (nodes : List NodeRow) (path : List (List ℕ)) → IsVolume K nodes → leads nodes path ≡ true → Has nodes (target nodes path)
-target_has K nodes path v h = (resolved K nodes path (target nodes path) v (led (resolve nodes path) h)).has
+target_has K nodes path v h = (resolved K nodes path (target nodes path) v (unwrapped (resolve nodes path) h)).has
 
 -- only the root's path leads to the root
 inner_target : (K : Capacity) (nodes : List NodeRow) (path : List (List ℕ)) → IsVolume K nodes → leads nodes path ≡ true → is_root path ≡ false → (target nodes path == 0) ≡ false
 inner_target K nodes path v h other = not_true (target nodes path == 0) (λ e.
-    let r = resolved K nodes path (target nodes path) v (led (resolve nodes path) h) in
+    let r = resolved K nodes path (target nodes path) v (unwrapped (resolve nodes path) h) in
     let long : length (path_of nodes 0) ≡ length path = subst (λ (n : ℕ). length (path_of nodes n) ≡ length path) (eq_is (target nodes path) 0 e) r.long in
     let zero_long : length path ≡ 0 = sym long ∙ ap length (path_root nodes) in
     clash (is_root path) (ap (λ n. n == 0) zero_long) other)
@@ -321,13 +317,6 @@ touch_kept K R path moment store h folder quota r =
     let rises = r.rises in
     absurd (omega (arith, e, rises))
 
-childless : (p : NodeRow → Bool) (nodes : List NodeRow) → length (filter p nodes) ≡ 0 → list_any p nodes ≡ false
-childless p [] h = refl
-childless p (x ∷ xs) h = elim (cases_Bool (p x)) [
-  | inl e ↦ let kept = rw e at h in absurd (omega (arith, kept))
-  | inr e ↦ let rest = rw e at h in rw e (childless p xs rest)
-]
-
 remove_kept : (K : Capacity) (R : Rows) (path : List (List ℕ)) (moment : ℕ) → IsStore K R → first (remove_checks R path) ≡ None → Kept K R (Remove path) moment
 remove_kept K R path moment store h folder quota r =
     let x = target R.nodes path in
@@ -339,7 +328,7 @@ remove_kept K R path moment store h folder quota r =
     let inner = inner_target K R.nodes path store.volume there (when_none InvalidMove (is_root path) b.0) in
     let found = has_found number x R.nodes (target_has K R.nodes path store.volume there) in
     let none : length (children R.nodes x) ≡ 0 = eq_is (length (children R.nodes x)) 0 (not_false (length (children R.nodes x) == 0) (when_none NotEmpty (not (length (children R.nodes x) == 0)) c.0)) in
-    let goes = removes_of K R.nodes x store.volume (record { inner = inner; row = found.row; found = found.is; leaf = childless (is_child x) R.nodes none }) in
+    let goes = removes_of K R.nodes x store.volume (record { inner = inner; row = found.row; found = found.is; leaf = none_filtered (is_child x) R.nodes none }) in
     let e = usage-removed K R.nodes x goes store.volume.ascending found.row found.is folder in
     let rises = r.rises in
     absurd (omega (arith, e, rises))
@@ -374,7 +363,7 @@ move_kept K R from to moment store h folder quota r =
     let d_has = folder_has old d d_is in
     let apart : is_under old x d ≡ false = not_true (is_under old x d) (λ u. elim (is_or_not (is_folder old x)) [
       | inl e ↦
-          let leads_x : leads_to_folder old from ≡ true = ap (λ o. option_map_or (is_folder old) o false) (led (resolve old from) there) ∙ e in
+          let leads_x : leads_to_folder old from ≡ true = ap (λ o. option_map_or (is_folder old) o false) (unwrapped (resolve old from) there) ∙ e in
           clash below (and_from (leads_to_folder old from) (is_under old x d) leads_x u) (when_none InvalidMove below a5.0)
       | inr e ↦ clash (is_folder old x) (subst (λ (j : ℕ). is_folder old j ≡ true) (below_file K old x d store.volume e d_has u) d_is) e
     ]) in

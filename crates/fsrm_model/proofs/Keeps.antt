@@ -15,7 +15,7 @@ use Rattle.fsrm_model.specs.Tree.{number, node_of, parent_of, is_folder, is_chil
 use Rattle.fsrm_model.specs.FileOps.{placed}
 use Rattle.fsrm_model.specs.Valid.{is_root_node, is_own, IsVolume}
 use Rattle.fsrm_model.proofs.TestLaws.{is_or_not, clash, not_true, is_false, both, both_true, eq_is, eq_same, eq_turned}
-use Rattle.fsrm_model.proofs.ValidLaws.{folder_has}
+use Rattle.fsrm_model.proofs.ValidLaws.{folder_has, found_parent}
 use Rattle.fsrm_model.proofs.ChainLaws.{is_in, IsTree, Has, chain-new, chain-new_other, sum_by-with_row}
 use Rattle.fsrm_model.proofs.ChangeLaws.{KeepsPlace, chain-change, sum_by-with_change}
 use Rattle.fsrm_model.proofs.MoveLaws.{Moves, moved_tree}
@@ -39,9 +39,6 @@ folder_found nodes n h = folder_at nodes n (node_of nodes n) refl h
 
 pub found_folder : (nodes : List NodeRow) (n : ℕ) (r : NodeRow) → node_of nodes n ≡ Some r → is_folder nodes n ≡ r.folder
 found_folder nodes n r h = ap (λ o. option_map_or (λ node. node.folder) o false) h
-
-pub found_parent : (nodes : List NodeRow) (n : ℕ) (r : NodeRow) → node_of nodes n ≡ Some r → parent_of nodes n ≡ r.parent
-found_parent nodes n r h = ap (λ o. option_map_or (λ node. node.parent) o 0) h
 
 -- a volume is a tree
 pub tree_of : (K : Capacity) (nodes : List NodeRow) → IsVolume K nodes → IsTree nodes
@@ -155,7 +152,7 @@ pub record KeepsNode (c : NodeRow → NodeRow) : Type 0 where
 pub place_of : (c : NodeRow → NodeRow) → KeepsNode c → KeepsPlace c
 place_of c k = record { same_number = k.same_number; same_parent = k.same_parent }
 
-cond_same : {A : Type 0} (g : NodeRow → A) (c : NodeRow → NodeRow) → ((r : NodeRow) → g (c r) ≡ g r) → (b : Bool) (r : NodeRow) → g (cond b (c r) r) ≡ g r
+pub cond_same : {A : Type 0} (g : NodeRow → A) (c : NodeRow → NodeRow) → ((r : NodeRow) → g (c r) ≡ g r) → (b : Bool) (r : NodeRow) → g (cond b (c r) r) ≡ g r
 cond_same g c h true r = h r
 cond_same g c h false r = refl
 

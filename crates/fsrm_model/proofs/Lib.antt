@@ -35,3 +35,5 @@ pub mod HardLimits
 pub mod QuotaRefusals
 pub mod ClimbRows
 pub mod DateLaws
+pub mod RowLaws
+pub mod SortedRows

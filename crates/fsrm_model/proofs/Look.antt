@@ -1,7 +1,8 @@
 -- What is found in rows of which one is new, changed or gone.
 use Rattle.std.proofs.Common.{◌≡◌, ℕ, ◌==◌, Bool, true, false, cond, not, ◌||◌, ◌⊎◌, inl, inr, List, [], ◌∷◌, refl, sym, ◌∙◌, ap, subst, arith, Some, None, Option}
+use Rattle.std.proofs.lemmas.Bool.{cases_Bool}
 use Rattle.std.proofs.lemmas.Option.{same_Some}
-use Rattle.std.specs.Prelude.{find, map, filter, is_some, option_map, if◌then◌else◌}
+use Rattle.std.specs.Prelude.{find, map, filter, length, unwrap_or, is_some, option_map, if◌then◌else◌}
 use Rattle.std.specs.List.{list_any}
 use Rattle.fsrm_model.specs.Keyed.{has_row, row_of, with_row, with_change, without_row, is_ascending}
 use Rattle.fsrm_model.proofs.ChainLaws.{find-with_row, find-with_row_same}
@@ -27,9 +28,6 @@ found_passes p (x ∷ xs) r h = passes_at p x r (find p xs) (p x) refl h (found_
 
 pub found_key : {X : Type 0} (key : X → ℕ) (n : ℕ) (rows : List X) (r : X) → row_of key n rows ≡ Some r → key r ≡ n
 found_key key n rows r h = eq_is (key r) n (found_passes (λ x. key x == n) rows r h)
-
-found_is_some : {X : Type 0} (o : Option X) (r : X) → o ≡ Some r → is_some o ≡ true
-found_is_some o r h = ap is_some h
 
 pub found_has : {X : Type 0} (key : X → ℕ) (n : ℕ) (rows : List X) (r : X) → row_of key n rows ≡ Some r → has_row key n rows ≡ true
 found_has key n rows r h = sym (is_some-find (λ x. key x == n) rows) ∙ ap is_some h
@@ -172,3 +170,20 @@ row_of-new_other key row m rows h = find-with_row key (λ r. key r == m) row row
 pub has_row-new_other : {X : Type 0} (key : X → ℕ) (row : X) (m : ℕ) (rows : List X) → (m == key row) ≡ false → has_row key m (with_row key row rows) ≡ has_row key m rows
 has_row-new_other key row m rows h =
     sym (is_some-find (λ x. key x == m) (with_row key row rows)) ∙ (ap is_some (row_of-new_other key row m rows h) ∙ is_some-find (λ x. key x == m) rows)
+
+-- where no row passes, none is found to
+pub none_filtered : {X : Type 0} (p : X → Bool) (xs : List X) → length (filter p xs) ≡ 0 → list_any p xs ≡ false
+none_filtered p [] h = refl
+none_filtered p (x ∷ xs) h = elim (cases_Bool (p x)) [
+  | inl e ↦ let kept = rw e at h in absurd (omega (arith, kept))
+  | inr e ↦ let rest = rw e at h in rw e (none_filtered p xs rest)
+]
+
+-- of what may be there
+pub is_some-mapped : {X Y : Type 0} (f : X → Y) (o : Option X) → is_some (option_map f o) ≡ is_some o
+is_some-mapped f None = refl
+is_some-mapped f (Some x) = refl
+
+pub unwrapped : (o : Option ℕ) → is_some o ≡ true → o ≡ Some (unwrap_or o 0)
+unwrapped None h = absurd (clash false h refl)
+unwrapped (Some n) h = refl

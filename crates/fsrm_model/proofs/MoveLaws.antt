@@ -83,7 +83,7 @@ moved_chain old new x d m (suc k) (suc n) h =
     ap (λ i. chain_in i new (suc n)) i ∙ moved_at old new x d k n m (suc n == x) refl h (moved_chain old new x d m k (parent_of old (suc n)))
 
 -- what is in a joined chain
-in_joined : (xs ys : List ℕ) (y : ℕ) → is_in ys y ≡ true → is_in (xs ++ ys) y ≡ true
+pub in_joined : (xs ys : List ℕ) (y : ℕ) → is_in ys y ≡ true → is_in (xs ++ ys) y ≡ true
 in_joined [] ys y h = h
 in_joined (x ∷ xs) ys y h = or_true (x == y) (is_in (xs ++ ys) y) (in_joined xs ys y h)
   where
@@ -277,7 +277,7 @@ pub record KeepsSpace (K : Capacity) (c : NodeRow → NodeRow) : Type 0 where
   pub same_number : (r : NodeRow) → (c r).number ≡ r.number
   pub same_space : (r : NodeRow) → space K (c r) ≡ space K r
 
-placed_share : (K : Capacity) (new : List NodeRow) (f : ℕ) (c : NodeRow → NodeRow) → KeepsSpace K c → (b : Bool) (r : NodeRow) → share K new f (cond b (c r) r) ≡ share K new f r
+pub placed_share : (K : Capacity) (new : List NodeRow) (f : ℕ) (c : NodeRow → NodeRow) → KeepsSpace K c → (b : Bool) (r : NodeRow) → share K new f (cond b (c r) r) ≡ share K new f r
 placed_share K new f c k true r = ap (λ n. cond (is_in (chain new n) f) (space K (c r)) 0) (k.same_number r) ∙ ap (λ s. cond (is_in (chain new r.number) f) s 0) (k.same_space r)
 placed_share K new f c k false r = refl
 

@@ -20,6 +20,7 @@ use Rattle.fsrm_model.specs.Tree.{usage, is_under}
 use Rattle.fsrm_model.specs.Work.{Work}
 use Rattle.fsrm_model.proofs.Look.{clash, found_passes, found_own, found_key, find-map}
 use Rattle.fsrm_model.proofs.Members.{all_found}
+use Rattle.fsrm_model.proofs.TestLaws.{implied}
 
 -- what is found among the rows that pass a test
 find_both : {X : Type 0} (p q : X → Bool) (xs : List X) → find p (filter q xs) ≡ find (λ x. q x && p x) xs
@@ -39,10 +40,6 @@ all_both p q (x ∷ xs) = elim (cases_Bool (q x)) [
 mapped : {X Y : Type 0} (f : X → Y) (o : Option X) (y : Y) → option_map f o ≡ Some y → (x : X) × (o ≡ Some x) × (f x ≡ y)
 mapped f None y h = absurd (cc h)
 mapped f (Some x) y h = (x, refl, cc h)
-
-implied : (a b : Bool) → (not a || b) ≡ true → a ≡ true → b ≡ true
-implied true b h e = h
-implied false b h e = absurd (cc e)
 
 -- a quota that refuses, part by part
 over_parts : (K : Capacity) (R : Rows) (nodes : List NodeRow) (folder : ℕ) (quota : QuotaRow) → quota_of R folder ≡ Some quota → refuses quota (usage K R.nodes folder) (usage K nodes folder) ≡ true → IsOver K R nodes folder quota

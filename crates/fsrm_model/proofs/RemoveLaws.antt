@@ -9,7 +9,7 @@ use Rattle.fsrm_model.specs.declared.row.NodeRow.{NodeRow}
 use Rattle.fsrm_model.specs.Keyed.{has_row, row_of, without_row, is_ascending}
 use Rattle.fsrm_model.specs.Tree.{number, node_of, parent_of, chain, chain_in, usage}
 use Rattle.fsrm_model.specs.Space.{space}
-use Rattle.fsrm_model.proofs.TestLaws.{clash, not_true, eq_is}
+use Rattle.fsrm_model.proofs.TestLaws.{clash, not_true, eq_is, nor}
 use Rattle.fsrm_model.proofs.ChainLaws.{is_in, IsTree, Has, same_chain, share, usage_is, sum_by_same, all_rows}
 use Rattle.fsrm_model.proofs.ChangeLaws.{absent_later, ascending_tail}
 use Rattle.fsrm_model.proofs.DepthLaws.{soon}
@@ -27,15 +27,12 @@ pub record Removes (old new : List NodeRow) (x : ℕ) : Type 0 where
 alone : (b : Bool) → b ≡ false → (b || false) ≡ false
 alone b h = ap (λ b. b || false) h
 
-joined : (a b : Bool) → a ≡ false → b ≡ false → (a || b) ≡ false
-joined a b h g = ap (λ a. a || b) h ∙ g
-
 -- it is in no other node's chain
 pub chain_lacks_leaf : (old new : List NodeRow) (x : ℕ) → Removes old new x → (k n : ℕ) → Has old n → (n == x) ≡ false → is_in (chain_in k old n) x ≡ false
 chain_lacks_leaf old new x m zero n h e = alone (n == x) e
 chain_lacks_leaf old new x m (suc k) zero h e = alone (0 == x) e
 chain_lacks_leaf old new x m (suc k) (suc n) h e =
-    joined (suc n == x) _ e (chain_lacks_leaf old new x m k (parent_of old (suc n)) (m.tree.closed (suc n) h) (m.leaf (suc n) h))
+    nor (suc n == x) _ e (chain_lacks_leaf old new x m k (parent_of old (suc n)) (m.tree.closed (suc n) h) (m.leaf (suc n) h))
 
 is_other : (old new : List NodeRow) (x n : ℕ) → Removes old new x → Has new n → (n == x) ≡ false
 is_other old new x n m h = not_true _ (λ e. clash _ (subst (λ (j : ℕ). has_row number j new ≡ true) (eq_is n x e) h) m.gone)
@@ -82,7 +79,7 @@ kept_row : {X : Type 0} (b : Bool) (r : X) (rows rows' : List X) (m : Bool) → 
 kept_row true r rows rows' m h f = cc
 kept_row false r rows rows' m h f = ap (λ xs. r ∷ xs) (f h)
 
-without_absent : {X : Type 0} (key : X → ℕ) (n : ℕ) (rows : List X) → has_row key n rows ≡ false → without_row key n rows ≡ rows
+pub without_absent : {X : Type 0} (key : X → ℕ) (n : ℕ) (rows : List X) → has_row key n rows ≡ false → without_row key n rows ≡ rows
 without_absent key n [] h = refl
 without_absent key n (r ∷ rows) h = kept_row (key r == n) r rows (without_row key n rows) (has_row key n rows) h (without_absent key n rows)
 

@@ -1,10 +1,10 @@
 -- Where paths lead: a path's last name is that of a child of where the names before it lead to.
-use Rattle.std.proofs.Common.{◌≡◌, ℕ, suc, ◌+◌, ◌-◌, ◌<◌, ◌==◌, true, false, List, [], ◌∷◌, ◌++◌, length, take, drop, refl, sym, ◌∙◌, ap, subst, arith, Some, None, Option}
+use Rattle.std.proofs.Common.{◌≡◌, ℕ, suc, ◌+◌, ◌-◌, ◌<◌, ◌==◌, true, false, List, [], ◌∷◌, ◌++◌, length, take, refl, sym, ◌∙◌, ap, subst, arith, Some, None, Option}
 use Rattle.std.proofs.lemmas.Bool.Decides.{nat_tests}
-use Rattle.std.proofs.lemmas.List.{take_all, take_more, take-append-drop, length-drop, length-map, length-reverse}
+use Rattle.std.proofs.lemmas.List.{take_all, take_more, length-drop, length-map, length-reverse}
 use Rattle.std.proofs.lemmas.Option.{same_Some}
 use Rattle.std.proofs.lemmas.Slice.Eq.{bytes_eq-Decides}
-use Rattle.std.specs.Prelude.{map, reverse, option_map, slice_index_or}
+use Rattle.std.specs.Prelude.{map, reverse, option_map}
 use Rattle.std.specs.Option.{option_and_then}
 use Rattle.fsrm_model.specs.declared.row.Capacity.{Capacity}
 use Rattle.fsrm_model.specs.declared.row.NodeRow.{NodeRow}
@@ -14,10 +14,9 @@ use Rattle.fsrm_model.specs.Tree.{number, node_of, name_of, is_folder, child_of,
 use Rattle.fsrm_model.specs.Leads.{is_root}
 use Rattle.fsrm_model.specs.Valid.{IsVolume}
 use Rattle.fsrm_model.proofs.TestLaws.{both}
-use Rattle.fsrm_model.proofs.ChainLaws.{Has}
 use Rattle.fsrm_model.proofs.DepthLaws.{some_member}
 use Rattle.fsrm_model.proofs.Look.{found_has}
-use Rattle.fsrm_model.proofs.Walks.{walk, walk-append, then_then, walk_complete, walk_sound, resolve_is, child_found, path_root}
+use Rattle.fsrm_model.proofs.Walks.{walk, walk-append, then_then, walk_sound, resolve_is, child_found, path_root}
 
 -- the empty path leads to the root
 pub resolve_root : (K : Capacity) (nodes : List NodeRow) → IsVolume K nodes → resolve nodes [] ≡ Some 0
@@ -43,38 +42,11 @@ resolve_step K nodes path v h =
 pub resolve_child : (K : Capacity) (nodes : List NodeRow) (path : List (List ℕ)) (d : ℕ) → IsVolume K nodes → 0 < length path → resolve nodes (folder_part path) ≡ Some d → resolve nodes path ≡ child_number nodes d (last_name path)
 resolve_child K nodes path d v h e = resolve_step K nodes path v h ∙ ap (option_and_then (λ d. child_number nodes d (last_name path))) e
 
-pub resolve_none : (K : Capacity) (nodes : List NodeRow) (path : List (List ℕ)) → IsVolume K nodes → 0 < length path → resolve nodes (folder_part path) ≡ None → resolve nodes path ≡ None
-resolve_none K nodes path v h e = resolve_step K nodes path v h ∙ ap (option_and_then (λ d. child_number nodes d (last_name path))) e
-
--- a walk one name further
-pub walk_more : (nodes : List NodeRow) (n k : ℕ) (path : List (List ℕ)) → k < length path → walk nodes n (take (k + 1) path) ≡ option_and_then (λ d. child_number nodes d (slice_index_or path k [])) (walk nodes n (take k path))
-walk_more nodes n k path h = ap (walk nodes n) (take_more path k [] h) ∙ walk-append nodes n (take k path) (slice_index_or path k [])
-
-pub resolve_more : (K : Capacity) (nodes : List NodeRow) (k : ℕ) (path : List (List ℕ)) → IsVolume K nodes → k < length path → resolve nodes (take (k + 1) path) ≡ option_and_then (λ d. child_number nodes d (slice_index_or path k [])) (resolve nodes (take k path))
-resolve_more K nodes k path v h =
-    resolve_is K nodes v (take (k + 1) path)
-    ∙ (walk_more nodes 0 k path h
-    ∙ ap (option_and_then (λ d. child_number nodes d (slice_index_or path k []))) (sym (resolve_is K nodes v (take k path))))
-
-pub resolve_more_some : (K : Capacity) (nodes : List NodeRow) (k d : ℕ) (path : List (List ℕ)) → IsVolume K nodes → k < length path → resolve nodes (take k path) ≡ Some d → resolve nodes (take (k + 1) path) ≡ child_number nodes d (slice_index_or path k [])
-resolve_more_some K nodes k d path v h e = resolve_more K nodes k path v h ∙ ap (option_and_then (λ d. child_number nodes d (slice_index_or path k []))) e
-
-pub resolve_all : (nodes : List NodeRow) (path : List (List ℕ)) → resolve nodes (take (length path) path) ≡ resolve nodes path
-resolve_all nodes path = ap (resolve nodes) (take_all (length path) path (omega arith))
-
 -- a walk in two parts
 pub walk-joined : (nodes : List NodeRow) (n : ℕ) (xs ys : List (List ℕ)) → walk nodes n (xs ++ ys) ≡ option_and_then (λ d. walk nodes d ys) (walk nodes n xs)
 walk-joined nodes n [] ys = refl
 walk-joined nodes n (x ∷ xs) ys =
     then_then (λ c. walk nodes c xs) (λ d. walk nodes d ys) (λ c. walk nodes c (xs ++ ys)) (child_number nodes n x) (λ c. walk-joined nodes c xs ys)
-
--- where a front of a path leads nowhere, the path leads nowhere
-pub resolve_stopped : (K : Capacity) (nodes : List NodeRow) (k : ℕ) (path : List (List ℕ)) → IsVolume K nodes → resolve nodes (take k path) ≡ None → resolve nodes path ≡ None
-resolve_stopped K nodes k path v h =
-    resolve_is K nodes v path
-    ∙ (ap (walk nodes 0) (sym (take-append-drop k path))
-    ∙ (walk-joined nodes 0 (take k path) (drop k path)
-    ∙ ap (option_and_then (λ d. walk nodes d (drop k path))) (sym (resolve_is K nodes v (take k path)) ∙ h)))
 
 -- the node that a path leads to
 pub record Resolved (nodes : List NodeRow) (path : List (List ℕ)) (n : ℕ) : Type 0 where
@@ -107,10 +79,6 @@ same_itself a = let d = bytes_eq-Decides (folded a) (folded a) in grind arith
 pub same_paths : (path : List (List ℕ)) → same_names path path ≡ true
 same_paths [] = refl
 same_paths (a ∷ path) = rw (same_itself a, same_paths path) refl
-
-pub resolve_own : (K : Capacity) (nodes : List NodeRow) (n : ℕ) → IsVolume K nodes → Has nodes n → resolve nodes (path_of nodes n) ≡ Some n
-resolve_own K nodes n v h =
-    resolve_is K nodes v (path_of nodes n) ∙ walk_complete K nodes v (length (chain nodes n)) n (path_of nodes n) h (omega arith) (same_paths (path_of nodes n))
 
 -- a folder's child of a name
 pub record NamedChild (nodes : List NodeRow) (d : ℕ) (name : List ℕ) (n : ℕ) : Type 0 where

@@ -1,22 +1,15 @@
 -- Laws of lines and of the text of their replies.
-use Rattle.std.proofs.Common.{◌≡◌, ℕ, ◌+◌, ◌<◌, ◌≤◌, List, [], ◌∷◌, ◌++◌, length, take, refl, sym, ap, ◌∙◌, true, false, arith, append_assoc, Bool, inl, inr, Some}
-use Rattle.std.specs.Prelude.{nat_lt, ◌||◌, Err}
+use Rattle.std.proofs.Common.{◌≡◌, ℕ, ◌+◌, ◌<◌, ◌≤◌, List, [], ◌∷◌, ◌++◌, length, take, refl, sym, ap, ◌∙◌, true, false, arith, append_assoc, inl, inr, Some}
+use Rattle.std.specs.Prelude.{nat_lt, Err}
 use Rattle.std.specs.List.{list_any}
-use Rattle.std.proofs.lemmas.Bool.{lt-ltb, cases_lt, true≢false}
+use Rattle.std.proofs.lemmas.Bool.{lt-ltb, cases_lt}
 use Rattle.std.proofs.lemmas.List.{take_all, length-take}
 use Rattle.fsrm_model.specs.declared.row.Capacity.{Capacity}
 use Rattle.fsrm_model.specs.declared.row.Rows.{Rows}
 use Rattle.fsrm_model.specs.declared.command.Refusal.TheVariants.{LineTooLong}
 use Rattle.fsrm_model.specs.Line.{read_line}
 use Rattle.fsrm_model.specs.Script.{is_end, lines, onto_first, spelled_lines, AreLines, without_cr, replied, replied_to, text_from, fold_from, line_cost, read_cost, cost_from}
-
--- neither passes
-pub neither : (a b : Bool) → (a || b) ≡ false → (a ≡ false) × (b ≡ false)
-neither true b h = absurd (true≢false h)
-neither false b h = (refl, h)
-
-pub nor : (a b : Bool) → a ≡ false → b ≡ false → (a || b) ≡ false
-nor a b p q = rw p q
+use Rattle.fsrm_model.proofs.TestLaws.{neither}
 
 -- a line that has ended
 pub lines_ended : (line rest : List ℕ) → list_any is_end line ≡ false → lines (line ++ 10 ∷ rest) ≡ line ∷ lines rest
@@ -55,7 +48,7 @@ without_cr_long [] = omega arith
 without_cr_long (b ∷ []) = omega arith
 without_cr_long (b ∷ c ∷ bs) = omega (arith, without_cr_long (c ∷ bs))
 
-too_long : (line : List ℕ) → 65536 < length line → read_line line ≡ Some (Err LineTooLong)
+pub too_long : (line : List ℕ) → 65536 < length line → read_line line ≡ Some (Err LineTooLong)
 unfolding read_line
 too_long line h = let test : nat_lt 65536 (length line) ≡ true = lt-ltb 65536 (length line) h in rw test refl
 

@@ -14,8 +14,9 @@ use Rattle.fsrm_model.proofs.DepthLaws.{not_above}
 use Rattle.fsrm_model.proofs.Sums.{sum_by-add, sum_by_each, sum_by_nothing, sum_by-ones, sum_by_turned, sum_by_only}
 use Rattle.fsrm_model.proofs.Look.{has_found, found_key}
 use Rattle.fsrm_model.proofs.Members.{none_passes, filter_none}
-use Rattle.fsrm_model.proofs.Keeps.{tree_of, found_parent}
+use Rattle.fsrm_model.proofs.Keeps.{tree_of}
 use Rattle.fsrm_model.proofs.Below.{chain_root}
+use Rattle.fsrm_model.proofs.ValidLaws.{found_parent}
 
 -- a node is in no chain of its parent
 pub parent_lacks : (nodes : List NodeRow) → IsTree nodes → (n : ℕ) → Has nodes (suc n) → is_under nodes (suc n) (parent_of nodes (suc n)) ≡ false

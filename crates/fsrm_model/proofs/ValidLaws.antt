@@ -71,8 +71,8 @@ sound_case K nodes node false e root h =
 pub sound_parts : (K : Capacity) (nodes : List NodeRow) (node : NodeRow) → Has nodes 0 → is_sound_node K nodes node ≡ true → SoundParts nodes node
 sound_parts K nodes node root h = sound_case K nodes node (node.number == 0) refl root (both _ _ h).1
 
-parent_is : (nodes : List NodeRow) (n : ℕ) (r : NodeRow) → node_of nodes n ≡ Some r → parent_of nodes n ≡ r.parent
-parent_is nodes n r e = rw e refl
+pub found_parent : (nodes : List NodeRow) (n : ℕ) (r : NodeRow) → node_of nodes n ≡ Some r → parent_of nodes n ≡ r.parent
+found_parent nodes n r e = rw e refl
 
 -- the nodes of valid rows are a tree
 pub valid_tree : (K : Capacity) (nodes : List NodeRow) → is_tree K nodes ≡ true → IsTree nodes
@@ -84,7 +84,7 @@ valid_tree K nodes h =
       root = heads.1;
       closed = λ n is.
           let f = found number n nodes (is_sound_node K nodes) is each.0 in
-          subst (Has nodes) (sym (parent_is nodes n f.row f.found)) (sound_parts K nodes f.row heads.1 f.passes).parent;
+          subst (Has nodes) (sym (found_parent nodes n f.row f.found)) (sound_parts K nodes f.row heads.1 f.passes).parent;
       rooted = λ n is.
           let f = found number n nodes (is_sound_node K nodes) is each.0 in
           subst (λ (n : ℕ). is_in (chain nodes n) 0 ≡ true) f.key_is (sound_parts K nodes f.row heads.1 f.passes).rooted;

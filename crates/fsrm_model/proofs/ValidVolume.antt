@@ -1,15 +1,13 @@
 -- The test of a store's nodes says the same as what a volume has part by part.
-use Rattle.std.proofs.Common.{◌≡◌, ℕ, ◌<◌, ◌≤◌, ◌==◌, Bool, true, false, cond, not, ◌||◌, ◌&&◌, List, [], ◌∷◌, length, refl, sym, ◌∙◌, ap, arith, inl, inr, Some, nat_le, nat_lt}
-use Rattle.std.proofs.lemmas.Bool.Decides.{nat_tests}
+use Rattle.std.proofs.Common.{◌≡◌, ℕ, ◌==◌, Bool, true, false, cond, not, ◌||◌, ◌&&◌, List, length, refl, sym, ◌∙◌, ap, inl, inr, Some, nat_le, nat_lt}
 use Rattle.std.specs.List.{list_all}
 use Rattle.fsrm_model.specs.declared.row.Capacity.{Capacity}
 use Rattle.fsrm_model.specs.declared.row.NodeRow.{NodeRow}
 use Rattle.fsrm_model.specs.Keyed.{is_ascending, has_row}
 use Rattle.fsrm_model.specs.Name.{same_name}
 use Rattle.fsrm_model.specs.Tree.{number, node_of, is_folder, is_child, is_under, name_bytes}
-use Rattle.fsrm_model.specs.Fresh.{root_node}
 use Rattle.fsrm_model.specs.Valid.{is_tree, is_sound_node, is_root_node, is_inner_node, is_only_one, is_own, IsVolume}
-use Rattle.fsrm_model.proofs.TestLaws.{is_or_not, is_false, both, both_true, eq_is, eq_same, lt_test}
+use Rattle.fsrm_model.proofs.TestLaws.{is_or_not, is_false, both, both_true, eq_is, eq_same, le_is, le_test}
 use Rattle.fsrm_model.proofs.ValidLaws.{valid_tree}
 use Rattle.fsrm_model.proofs.Look.{has_found, found_has, found_key}
 use Rattle.fsrm_model.proofs.Members.{all_pass, all_found}
@@ -43,7 +41,7 @@ root_parent r h =
     let first : ((r.folder && (length r.name == 0)) ≡ true) × (((r.parent == 0) && (r.length == 0)) ≡ true) = both _ _ (both _ _ h).0 in
     eq_is _ _ (both (r.parent == 0) (r.length == 0) first.1).0
 
-root_folder : (r : NodeRow) → is_root_node r ≡ true → r.folder ≡ true
+pub root_folder : (r : NodeRow) → is_root_node r ≡ true → r.folder ≡ true
 root_folder r h =
     let first : ((r.folder && (length r.name == 0)) ≡ true) × (((r.parent == 0) && (r.length == 0)) ≡ true) = both _ _ (both _ _ h).0 in
     (both r.folder (length r.name == 0) first.0).0
@@ -53,12 +51,6 @@ only_one : (same child : Bool) → (same || not child) ≡ true → child ≡ tr
 only_one true child h e = refl
 only_one false true h e = cc
 only_one false false h e = cc
-
-le_is : (m n : ℕ) → nat_le m n ≡ true → m ≤ n
-le_is m n h = grind (arith, nat_tests)
-
-le_test : (m n : ℕ) → m ≤ n → nat_le m n ≡ true
-le_test m n h = grind (arith, nat_tests)
 
 pub volume_of_tree : (K : Capacity) (nodes : List NodeRow) → is_tree K nodes ≡ true → IsVolume K nodes
 volume_of_tree K nodes h =
@@ -127,7 +119,3 @@ tree_of_volume K nodes v =
     (both_true (list_all (is_sound_node K nodes) nodes) (nat_le (name_bytes nodes) K.names)
     (all_pass number (is_sound_node K nodes) nodes v.ascending (λ r f. sound_at K nodes r v f))
     (le_test _ _ v.names))
-
--- the root alone is a volume
-pub new_volume : (K : Capacity) → 0 < K.nodes → IsVolume K (root_node ∷ [])
-new_volume K h = volume_of_tree K (root_node ∷ []) (rw (lt_test 0 K.nodes h, le_test 0 K.names (omega arith)) refl)

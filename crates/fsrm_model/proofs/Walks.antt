@@ -14,7 +14,8 @@ use Rattle.fsrm_model.proofs.TestLaws.{clash, is_false, both, both_true, eq_is, 
 use Rattle.fsrm_model.proofs.ChainLaws.{Has, chain_step}
 use Rattle.fsrm_model.proofs.DepthLaws.{some_member}
 use Rattle.fsrm_model.proofs.Look.{has_found, found_has, found_key, found_any, found_own, found_passes, is_some-find, some_row}
-use Rattle.fsrm_model.proofs.Keeps.{tree_of, found_parent, is_child_test, same_joined}
+use Rattle.fsrm_model.proofs.Keeps.{tree_of, is_child_test, same_joined}
+use Rattle.fsrm_model.proofs.ValidLaws.{found_parent}
 
 -- the node that names lead to from a node on
 abbrev pub walk : List NodeRow → ℕ → List (List ℕ) → Option ℕ

@@ -32,3 +32,4 @@ pub mod Spelling
 pub mod Script
 pub mod WorkedRows
 pub mod Patterns
+pub mod Places

@@ -1,2 +1,1 @@
 pub mod QuotaRows
-pub mod SortedRows

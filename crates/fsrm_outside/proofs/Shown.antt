@@ -43,6 +43,3 @@ shows_no_more a b c bytes done p q = record { front = take done bytes; shown = q
 -- what is taken of the rest stays within the whole
 pub taken_within : (bytes : List ℕ) (done count : ℕ) → done ≤ length bytes → count ≤ length (take (length bytes - done) (drop done bytes)) → done + count ≤ length bytes
 taken_within bytes done count before now = omega (arith, length-drop done bytes, ap length (left_whole bytes done))
-
-pub shows_all : (a b : Option (List ℕ)) (bytes : List ℕ) (done : ℕ) → length bytes ≤ done → b ≡ append_known a (take done bytes) → b ≡ append_known a bytes
-shows_all a b bytes done all p = p ∙ ap (append_known a) (take_all done bytes all)

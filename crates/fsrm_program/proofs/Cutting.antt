@@ -7,12 +7,8 @@ use Rattle.std.proofs.Math.Seq.{take-append-add}
 use Rattle.std.proofs.lemmas.Bool.{eqb-true, eq-eqb, both_ways}
 use Rattle.memchr.specs.Find.{IsFirstByte, is_byte}
 use Rattle.fsrm_model.specs.Script.{is_end}
-use Rattle.fsrm_model.proofs.ScriptLaws.{nor}
 use Rattle.fsrm_program.specs.Bytes.{CutsLine}
-
-not_true : (b : Bool) → (b ≡ true → ⊥) → b ≡ false
-not_true true h = absurd (h refl)
-not_true false h = refl
+use Rattle.fsrm_model.proofs.TestLaws.{nor, not_true}
 
 -- no LF at any place
 none_ends : (bytes : List ℕ) → ((k : ℕ) → k < length bytes → is_end (slice_index bytes k) ≡ true → ⊥) → list_any is_end bytes ≡ false

@@ -5,14 +5,7 @@ use Rattle.std.proofs.lemmas.Bool.{false≢true, lt-ltb}
 use Rattle.fsrm_model.specs.Name.{is_name}
 use Rattle.fsrm_model.specs.Reading.{path_from, path_parts, is_on_volume, has_path_form}
 use Rattle.name_rules.specs.Parts.{parts_of}
-
-both : (a b : Bool) → (a && b) ≡ true → (a ≡ true) × (b ≡ true)
-both true b h = (refl, h)
-both false b h = absurd (false≢true h)
-
-never : (a : Bool) → (a && false) ≡ false
-never true = refl
-never false = refl
+use Rattle.fsrm_model.proofs.TestLaws.{and_false, both}
 
 -- one more name
 pub names_more : (names : List (List ℕ)) (name : List ℕ) → list_all is_name names ≡ true → is_name name ≡ true → list_all is_name (names ++ name ∷ []) ≡ true
@@ -24,7 +17,7 @@ names_more (first ∷ names) name h is =
 -- a part that isn't a name
 pub names_broken : (names : List (List ℕ)) (part : List ℕ) (rest : List (List ℕ)) → is_name part ≡ false → list_all is_name (names ++ part ∷ rest) ≡ false
 names_broken [] part rest is = ap (λ b. b && list_all is_name rest) is
-names_broken (first ∷ names) part rest is = ap (λ b. is_name first && b) (names_broken names part rest is) ∙ never (is_name first)
+names_broken (first ∷ names) part rest is = ap (λ b. is_name first && b) (names_broken names part rest is) ∙ and_false (is_name first)
 
 -- no name is empty
 names_full : (names : List (List ℕ)) → list_all is_name names ≡ true → list_all (λ part. nat_lt 0 (length part)) names ≡ true

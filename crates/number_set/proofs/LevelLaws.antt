@@ -7,11 +7,11 @@ use Rattle.std.specs.Int.{bit_at}
 use Rattle.std.specs.List.{range_with_len}
 use Rattle.std.specs.Prelude.{slice_get, filter, MatchOption}
 use Rattle.fsrm_model.specs.Numbers.{is_in, is_set, with_number, without_number}
-use Rattle.fsrm_model.proofs.TestLaws.{is_or_not, eq_is, lt_test, not_true}
+use Rattle.fsrm_model.proofs.TestLaws.{is_or_not, eq_is, lt_test, not_true, eq_test}
 use Rattle.number_set.specs.Numbers.{Numbers, no_numbers}
 use Rattle.number_set.specs.Words.{has_bit, is_occupied, numbers_of, Marks, IsLeastIn}
 use Rattle.number_set.proofs.NumberLaws.{in_with, in_without, in_filter, set_with, set_without, set_filter, same_set, first_least}
-use Rattle.number_set.proofs.WordLaws.{test_same, test_apart, empty_word}
+use Rattle.number_set.proofs.WordLaws.{test_apart, empty_word}
 
 -- the numbers from one on
 in_range : (a k m : ℕ) → a ≤ m → m < a + k → is_in (range_with_len a k) m ≡ true
@@ -20,7 +20,7 @@ in_range a (suc k) m le lt =
     elim (is_or_not (a == m)) [
       | inl e ↦ ap (λ b. b || is_in (range_with_len (a + 1) k) m) e
       | inr e ↦
-          let apart : a ≡ m → ⊥ = λ h. (let t : (a == m) ≡ true = test_same a m h in cc) in
+          let apart : a ≡ m → ⊥ = λ h. (let t : (a == m) ≡ true = eq_test a m h in cc) in
           ap (λ b. b || is_in (range_with_len (a + 1) k) m) e ∙ in_range (a + 1) k m (omega arith) (omega arith)
     ]
 
@@ -164,7 +164,7 @@ first_is_least (k ∷ ns) m h g below =
       | inr e ↦
           let later : is_in ns m ≡ true = sym (ap (λ b. b || is_in ns m) e) ∙ g in
           let l : k < m = first_least k m ns h later in
-          let there : is_in (k ∷ ns) k ≡ true = ap (λ b. b || is_in ns k) (test_same k k refl) in
+          let there : is_in (k ∷ ns) k ≡ true = ap (λ b. b || is_in ns k) (eq_test k k refl) in
           let not_there : is_in (k ∷ ns) k ≡ false = below k l in
           cc
     ]
@@ -185,7 +185,7 @@ first_word up words place m is = at up.members is m.set refl
     at [] h set is = cc
     at (k ∷ ns) h set is =
         let first : place ≡ k = cc in
-        let has : is_in (k ∷ ns) place ≡ true = ap (λ b. b || is_in ns place) (test_same k place (sym first)) in
+        let has : is_in (k ∷ ns) place ≡ true = ap (λ b. b || is_in ns place) (eq_test k place (sym first)) in
         let there : is_occupied words place ≡ true = sym (m.members place) ∙ (ap (λ ms. is_in ms place) is ∙ has) in
         record {
           inside = elim (cases_lt place (length words)) [
@@ -219,7 +219,7 @@ least_none words place f empty =
             | inl e ↦ no_bit words n (ap (is_occupied words) (eq_is _ _ e) ∙ empty)
             | inr e ↦
                 let one : length words ≡ 1 = f.only empty in
-                let apart : n / 64 ≡ place → ⊥ = λ h. (let t : (n / 64 == place) ≡ true = test_same _ _ h in cc) in
+                let apart : n / 64 ≡ place → ⊥ = λ h. (let t : (n / 64 == place) ≡ true = eq_test _ _ h in cc) in
                 past words n (omega arith)
           ]
     ])))
@@ -237,7 +237,7 @@ pub without_first : (n : ℕ) (ns : List ℕ) → Some n ≡ slice_get ns 0 → 
 without_first n [] h = cc
 without_first n (k ∷ ns) h =
     let is : n ≡ k = cc in
-    let gone : without_number n (k ∷ ns) ≡ without_number n ns = ap (λ b. cond (not b) (k ∷ without_number n ns) (without_number n ns)) (test_same k n (sym is)) in
+    let gone : without_number n (k ∷ ns) ≡ without_number n ns = ap (λ b. cond (not b) (k ∷ without_number n ns) (without_number n ns)) (eq_test k n (sym is)) in
     omega (arith, ap length gone, kept (λ j. not (j == n)) ns)
   where
     one_more : (b : Bool) (k : ℕ) (ns ms : List ℕ) → length ms ≤ length ns → length (cond b (k ∷ ms) ms) ≤ length (k ∷ ns)

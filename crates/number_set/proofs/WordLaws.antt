@@ -5,18 +5,16 @@ use Rattle.std.proofs.lemmas.Nat.{and_le_l, le_or_r, one_shl, pow_pos}
 use Rattle.std.proofs.lemmas.Nat.Bits.{bit_at_set_same, bit_at_set_other, bit_at_clear_same, bit_at_clear_other, bit_at-trailing_zeros}
 use Rattle.std.specs.Int.{bit_at, bit_not, trailing_zeros, w64}
 use Rattle.std.specs.Prelude.{bit_and, bit_or}
-use Rattle.fsrm_model.proofs.TestLaws.{is_or_not, eq_is, eq_same}
+use Rattle.fsrm_model.proofs.TestLaws.{is_or_not, eq_is, eq_same, eq_test}
 use Rattle.number_set.specs.Words.{has_bit, is_occupied, IsLeastIn}
 
 -- of tests of numbers
-pub test_same : (m n : ℕ) → m ≡ n → (m == n) ≡ true
-test_same m n e = grind (arith, nat_tests)
 
 pub test_apart : (m n : ℕ) → m ≢ n → (m == n) ≡ false
 test_apart m n e = grind (arith, nat_tests)
 
 pub are_apart : (m n : ℕ) → (m == n) ≡ false → m ≢ n
-are_apart m n h e = let t = test_same m n e in cc
+are_apart m n h e = let t = eq_test m n e in cc
 
 -- a changed word
 changed : (words : List ℕ) (m n w : ℕ) (f : Bool → Bool → Bool) → ((b : Bool) → f false b ≡ b) → ((i : ℕ) → i < 64 → (bit_at w i == 1) ≡ f (m % 64 == i) (bit_at (get_or words (m / 64) 0) i == 1)) → m / 64 < length words → has_bit (set words (m / 64) w) n ≡ f (m == n) (has_bit words n)
@@ -40,7 +38,7 @@ changed words m n w f keeps bits within =
     same_place : (m n : ℕ) → n / 64 ≡ m / 64 → (m % 64 == n % 64) ≡ (m == n)
     same_place m n h =
         elim (is_or_not (m == n)) [
-          | inl e ↦ test_same _ _ (ap (λ k. k % 64) (eq_is m n e)) ∙ sym e
+          | inl e ↦ eq_test _ _ (ap (λ k. k % 64) (eq_is m n e)) ∙ sym e
           | inr e ↦ let apart : m ≢ n = are_apart m n e in test_apart _ _ (λ g. apart (omega arith)) ∙ sym e
         ]
 

@@ -15,6 +15,7 @@ use Rattle.quota_usage.specs.Climb.{amended, amended_counter, climbed, FitsAbove
 use Rattle.quota_usage.specs.Counters.{counted, used_in}
 use Rattle.quota_usage.specs.declared.change.Counter.{Counter}
 use Rattle.quota_usage.specs.declared.change.Exceeded.{Exceeded}
+use Rattle.fsrm_model.proofs.DepthLaws.{some_member}
 
 -- the parent of a node on the way is on the way
 pub on_up : (nodes : List NodeRow) → IsTree nodes → (start n : ℕ) → Has nodes start → Has nodes n → (n ≡ 0 → ⊥) → is_under nodes n start ≡ true → is_under nodes (parent_of nodes n) start ≡ true
@@ -39,13 +40,8 @@ pub height_root : (nodes : List NodeRow) → length (chain nodes 0) ≡ 1
 height_root [] = refl
 height_root (r ∷ rows) = refl
 
-chain_some : (k : ℕ) (nodes : List NodeRow) (n : ℕ) → 0 < length (chain_in k nodes n)
-chain_some zero nodes n = omega arith
-chain_some (suc k) nodes zero = omega arith
-chain_some (suc k) nodes (suc n) = omega arith
-
 pub height_some : (nodes : List NodeRow) (n : ℕ) → 0 < length (chain nodes n)
-height_some nodes n = chain_some (length nodes) nodes n
+height_some nodes n = some_member (length nodes) nodes n
 
 pub height_up : (nodes : List NodeRow) → IsTree nodes → (n : ℕ) → Has nodes n → (n ≡ 0 → ⊥) → length (chain nodes n) ≡ length (chain nodes (parent_of nodes n)) + 1
 height_up nodes t n h i = let e = ap length (climb nodes t n h i) in omega (arith, e)

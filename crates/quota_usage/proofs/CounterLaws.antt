@@ -16,9 +16,9 @@ use Rattle.fsrm_model.proofs.Order.{ascending-with_row, ascending-filter, ascend
 use Rattle.quota_usage.specs.Climb.{amended_counter}
 use Rattle.quota_usage.specs.Counters.{counted, used_in, with_counter, without_counter}
 use Rattle.quota_usage.specs.Kept.{IsKept}
-use Rattle.fsrm_objects.specs.Places.{IsAt, IsGap}
+use Rattle.fsrm_model.specs.Places.{IsAt, IsGap}
 use Rattle.quota_usage.specs.declared.change.Counter.{Counter}
-use Rattle.fsrm_objects.proofs.SortedRows.{set_found, remove_found, insert_row}
+use Rattle.fsrm_model.proofs.SortedRows.{set_found, remove_found, insert_row}
 
 abbrev pub blank : Counter
 blank = record { folder = 0; bytes = 0 }

@@ -10,7 +10,7 @@ use Rattle.fsrm_model.specs.declared.row.QuotaRow.{QuotaRow}
 use Rattle.fsrm_model.specs.Keyed.{row_of, is_ascending}
 use Rattle.fsrm_model.specs.Quota.{folder_of, counts, refuses}
 use Rattle.fsrm_model.specs.Tree.{is_under}
-use Rattle.fsrm_model.proofs.TestLaws.{both, clash, eq_is, is_or_not, not_true}
+use Rattle.fsrm_model.proofs.TestLaws.{both, clash, eq_is, is_or_not, not_true, implied, is_false}
 use Rattle.fsrm_model.proofs.ChainLaws.{IsTree, Has}
 use Rattle.fsrm_model.proofs.Below.{chain_root, each_above}
 use Rattle.fsrm_model.proofs.Look.{found_key, found_own, found_passes, found_any, is_some-find}
@@ -24,7 +24,7 @@ use Rattle.quota_usage.proofs.Meetings.{has_above}
 use Rattle.quota_usage.proofs.Refusals.{counted_is, uncounted}
 
 -- a change that rises gives
-rises_at : (n minus plus : ℕ) (b : Bool) → nat_lt n (n - minus + cond b plus 0) ≡ true → b ≡ true
+pub rises_at : (n minus plus : ℕ) (b : Bool) → nat_lt n (n - minus + cond b plus 0) ≡ true → b ≡ true
 rises_at n minus plus true h = refl
 rises_at n minus plus false h = absurd (no_rise n (n - minus + 0) (omega arith) h)
   where
@@ -104,24 +104,20 @@ fails : {X : Type 0} (Q : X → Bool) (xs : List X) → list_all Q xs ≡ false 
 fails Q [] h = cc
 fails Q (x ∷ xs) h = fails_at Q x xs (Q x) refl h (fails Q xs)
 
-not_is : (b : Bool) → not b ≡ true → b ≡ false
-not_is true h = cc
-not_is false h = refl
-
 all_rows_pass : {X : Type 0} (Q : X → Bool) (key : X → ℕ) (xs : List X) → is_ascending key xs ≡ true → ((n : ℕ) (a : X) → row_of key n xs ≡ Some a → Q a ≡ true) → list_all Q xs ≡ true
 all_rows_pass Q key xs asc h =
     elim (is_or_not (list_all Q xs)) [
       | inl t ↦ t
       | inr t ↦
           let g = fails Q xs t in
-          absurd (clash (Q g.row) (h (key g.row) g.row (found_own key (λ x. not (Q x)) xs g.row asc g.is)) (not_is _ (found_passes (λ x. not (Q x)) xs g.row g.is)))
+          absurd (clash (Q g.row) (h (key g.row) g.row (found_own key (λ x. not (Q x)) xs g.row asc g.is)) (is_false _ (found_passes (λ x. not (Q x)) xs g.row g.is)))
     ]
 
 none_kept : {X : Type 0} (p : X → Bool) (xs : List X) → list_all (λ x. not (p x)) xs ≡ true → filter p xs ≡ []
 none_kept p [] h = refl
 none_kept p (x ∷ xs) h =
     let parts : (not (p x) ≡ true) × (list_all (λ x. not (p x)) xs ≡ true) = both _ _ h in
-    ap (λ b. cond b (x ∷ filter p xs) (filter p xs)) (not_is (p x) parts.0) ∙ none_kept p xs parts.1
+    ap (λ b. cond b (x ∷ filter p xs) (filter p xs)) (is_false (p x) parts.0) ∙ none_kept p xs parts.1
 
 -- the quota that refuses
 record Refuser (nodes : List NodeRow) (quotas : List QuotaRow) (counters : List Counter) (change : Change) (f : ℕ) (e : Exceeded) : Type 0 where
@@ -143,13 +139,9 @@ refuser_of nodes quotas counters change f e None is h =
 refuser_of nodes quotas counters change f e (Some q) is h =
     refuser_case nodes quotas counters change f e q (refuses_change nodes counters change q) refl is (sym (refusal_is nodes quotas counters change f q is) ∙ h)
 
-implied : (a b : Bool) → (a ≡ true → b ≡ true) → (not a || b) ≡ true
-implied true b h = h refl
-implied false b h = refl
-
-implies : (a b : Bool) → (not a || b) ≡ true → a ≡ true → b ≡ true
-implies true b h e = h
-implies false b h e = cc
+implies : (a b : Bool) → (a ≡ true → b ≡ true) → (not a || b) ≡ true
+implies true b h = h refl
+implies false b h = refl
 
 one_place : (nodes : List NodeRow) → IsTree nodes → (x f : ℕ) → Has nodes x → Has nodes f → is_under nodes x f ≡ true → is_under nodes f x ≡ true → f ≡ x
 one_place nodes t x f hx hf up down =
@@ -217,7 +209,7 @@ deepest_some nodes quotas counters change d x c n (Some q) e any =
     let parts = both (refuses_change nodes counters change q) (list_all (λ (above : QuotaRow). is_under nodes above.folder q.folder) (over_by nodes quotas counters change)) (found_passes (is_deepest nodes quotas counters change) quotas q e) in
     let on : is_under nodes q.folder d ≡ true = on_way nodes quotas counters change d q c parts.0 in
     let each : list_all (λ (a : QuotaRow). not (refuses_change nodes counters change a) || is_under nodes a.folder q.folder) quotas ≡ true = sym (list_all-filter (refuses_change nodes counters change) (λ (above : QuotaRow). is_under nodes above.folder q.folder) quotas) ∙ parts.1 in
-    let up : is_under nodes w.quota.folder q.folder ≡ true = implies (refuses_change nodes counters change w.quota) _ (all_row (λ (a : QuotaRow). not (refuses_change nodes counters change a) || is_under nodes a.folder q.folder) folder_of n.place quotas w.quota each w.found) w.over in
+    let up : is_under nodes w.quota.folder q.folder ≡ true = implied (refuses_change nodes counters change w.quota) _ (all_row (λ (a : QuotaRow). not (refuses_change nodes counters change a) || is_under nodes a.folder q.folder) folder_of n.place quotas w.quota each w.found) w.over in
     let up_place : is_under nodes n.place q.folder ≡ true = subst (λ j. is_under nodes j q.folder ≡ true) key up in
     let down : is_under nodes q.folder n.place ≡ true = above_first nodes quotas counters change d x c n q.folder q found parts.0 in
     let place : q.folder ≡ n.place = one_place nodes c.tree n.place q.folder (has_above nodes c.tree n.place d c.has_to n.on) (has_above nodes c.tree q.folder d c.has_to on) up_place down in
@@ -232,7 +224,7 @@ refused_to nodes quotas counters change d x c n =
     list_all-filter (refuses_change nodes counters change) (λ (above : QuotaRow). is_under nodes above.folder w.quota.folder) quotas
     ∙ all_rows_pass (λ (q : QuotaRow). not (refuses_change nodes counters change q) || is_under nodes q.folder w.quota.folder) folder_of quotas c.ascending
     (λ f q found.
-    implied (refuses_change nodes counters change q) _ (λ is.
+    implies (refuses_change nodes counters change q) _ (λ is.
     let own : q.folder ≡ f = found_key folder_of f quotas q found in
     ap (is_under nodes q.folder) key ∙ subst (λ j. is_under nodes j n.place ≡ true) (sym own) (above_first nodes quotas counters change d x c n f q found is))) in
     let passes : is_deepest nodes quotas counters change w.quota ≡ true = ap (λ b. b && list_all (λ (above : QuotaRow). is_under nodes above.folder w.quota.folder) (over_by nodes quotas counters change)) w.over ∙ all in

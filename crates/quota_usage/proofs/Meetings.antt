@@ -3,7 +3,7 @@ use Rattle.std.proofs.Common.{◌≡◌, ℕ, ◌+◌, ◌-◌, ◌<◌, ◌≤�
 use Rattle.fsrm_model.specs.declared.row.NodeRow.{NodeRow}
 use Rattle.fsrm_model.specs.declared.row.QuotaRow.{QuotaRow}
 use Rattle.fsrm_model.specs.Tree.{parent_of, chain, is_under}
-use Rattle.fsrm_model.proofs.TestLaws.{is_or_not, eq_is, eq_same, or_later, clash, not_true}
+use Rattle.fsrm_model.proofs.TestLaws.{is_or_not, eq_is, eq_same, or_later, clash, not_true, is_apart}
 use Rattle.fsrm_model.proofs.ChainLaws.{IsTree, Has, is_in, chain_in_has}
 use Rattle.fsrm_model.proofs.Below.{above_all, above_shorter}
 use Rattle.fsrm_model.proofs.Climbs.{climb, under_up, under_own}
@@ -26,9 +26,6 @@ over nodes t x f n h on above =
       | inl e ↦ subst (λ j. is_under nodes j n ≡ true) (sym (eq_is x 0 e)) (t.rooted n h)
       | inr e ↦ above_all nodes t x f n e (has_above nodes t f n h on) h on above
     ]
-
-is_apart : (n m : ℕ) → (n ≡ m → ⊥) → (n == m) ≡ false
-is_apart n m h = not_true _ (λ e. h (eq_is n m e))
 
 apart_is : (n m : ℕ) → (n == m) ≡ false → n ≡ m → ⊥
 apart_is n m h e = clash _ (subst (λ j. (n == j) ≡ true) e (eq_same n)) h

@@ -11,7 +11,7 @@ use Rattle.fsrm_model.specs.Quota.{folder_of, refuses}
 use Rattle.fsrm_model.proofs.Look.{found_key}
 use Rattle.quota_usage.specs.Climb.{judged, refusal_of, refusal_at, IsNearestTo}
 use Rattle.quota_usage.specs.Counters.{counted, used_in}
-use Rattle.fsrm_objects.specs.Places.{IsAt}
+use Rattle.fsrm_model.specs.Places.{IsAt}
 use Rattle.quota_usage.specs.declared.change.Counter.{Counter}
 use Rattle.quota_usage.proofs.CounterLaws.{blank, used_at}
 

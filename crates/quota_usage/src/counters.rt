@@ -4,7 +4,7 @@ ghost use Rattle.std.specs.Prelude.{◌≡◌, ℕ, ◌<◌, ◌^◌, IfOk, IfEr
 ghost use Rattle.fsrm_model.specs.Keyed.{is_ascending, with_change};
 ghost use Rattle.quota_usage.specs.Climb.{amended, amended_counter};
 ghost use Rattle.quota_usage.specs.Counters.{counted, used_in};
-ghost use Rattle.fsrm_objects.specs.Places.{IsAt, IsGap};
+ghost use Rattle.fsrm_model.specs.Places.{IsAt, IsGap};
 
 use crate::change::Counter;
 

@@ -25,7 +25,7 @@ use Rattle.fsrm_model.proofs.Keeps.{folder_found}
 use Rattle.fsrm_model.proofs.Look.{found_has, found_key, is_some-find}
 use Rattle.fsrm_model.proofs.Members.{filter_none}
 use Rattle.fsrm_model.proofs.Order.{parts}
-use Rattle.fsrm_model.proofs.TestLaws.{lt_is, eq_is, eq_same}
+use Rattle.fsrm_model.proofs.TestLaws.{lt_is, eq_is, eq_same, eq_below, le_is}
 use Rattle.fsrm_outside.specs.Shown.{ShowsFront}
 use Rattle.fsrm_outside.proofs.Shown.{shows_then, shows_then_front}
 use Rattle.reply_text.proofs.Sent.{front_more}
@@ -36,9 +36,6 @@ pub is_node : (K : Capacity) (R : Rows) (quota : QuotaRow) → IsStore K R → r
 is_node K R quota store h =
     let found = folder_found R.nodes quota.folder (store.quotas.folders quota.folder quota h) in
     found_has number quota.folder R.nodes found.row found.found
-
-le_is : (m n : ℕ) → nat_le m n ≡ true → m ≤ n
-le_is m n h = grind (arith, nat_tests)
 
 pub in_time : (K : Capacity) (R : Rows) (quota : QuotaRow) → IsStore K R → row_of folder_of quota.folder R.quotas ≡ Some quota → quota.peak_at ≤ latest_moment
 in_time K R quota store h = le_is quota.peak_at latest_moment (store.quotas.moments quota.folder quota h)
@@ -68,9 +65,6 @@ later_key key x q (y ∷ ys) zero a h =
 later_key key x q (y ∷ ys) (suc k) a h =
     omega (arith, lt_is (key x) (key y) (parts key x (y ∷ ys) a).above, later_key key y q ys k (parts key x (y ∷ ys) a).rest h)
 
-apart : (m n : ℕ) → m < n → (m == n) ≡ false
-apart m n h = grind (arith, nat_tests)
-
 -- the row at a place is found by its key
 pub at_place : {X : Type 0} (key : X → ℕ) (rows : List X) (k : ℕ) (q : X) → is_ascending key rows ≡ true → slice_get rows k ≡ Some q → row_of key (key q) rows ≡ Some q
 at_place key [] k q a h = cc
@@ -78,7 +72,7 @@ at_place key (x ∷ xs) zero q a h =
     let e : x ≡ q = cc in
     subst (λ z. find (λ r. key r == key z) (x ∷ xs) ≡ Some z) e (rw (eq_same (key x)) refl)
 at_place key (x ∷ xs) (suc k) q a h =
-    rw (apart (key x) (key q) (later_key key x q xs k a h)) (at_place key xs k q (parts key x xs a).rest h)
+    rw (eq_below (key x) (key q) (later_key key x q xs k a h)) (at_place key xs k q (parts key x xs a).rest h)
 
 -- the lines up to a place, and one more
 pub flat_more : (f : QuotaRow → List ℕ) (rows : List QuotaRow) (k : ℕ) (q : QuotaRow) → slice_get rows k ≡ Some q → flat_map f (take (k + 1) rows) ≡ flat_map f (take k rows) ++ f q

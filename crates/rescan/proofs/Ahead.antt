@@ -11,24 +11,20 @@ use Rattle.fsrm_model.specs.Tree.{number, node_of, is_child, children, is_under,
 use Rattle.fsrm_model.specs.Valid.{IsVolume}
 use Rattle.fsrm_model.proofs.TestLaws.{clash, or_later, eq_is, eq_same}
 use Rattle.fsrm_model.proofs.ChainLaws.{Has, sum_by-filter}
-use Rattle.fsrm_model.proofs.Keeps.{found_parent, tree_of}
+use Rattle.fsrm_model.proofs.Keeps.{tree_of}
 use Rattle.fsrm_model.proofs.Look.{found_has, has_found, found_key}
-use Rattle.fsrm_model.proofs.Sums.{sum_by-add, sum_by_only}
-use Rattle.fsrm_model.proofs.ValidLaws.{folder_has}
+use Rattle.fsrm_model.proofs.Sums.{sum_by-add, sum_by_only, sum_by_most}
+use Rattle.fsrm_model.proofs.ValidLaws.{folder_has, found_parent}
 use Rattle.rescan.specs.Frontiers.{Front, has_above}
-use Rattle.rescan.proofs.CountLaws.{each_row}
 use Rattle.rescan.proofs.Leaving.{Leaving, above_one, without_in, waiting_has, without_gone}
 use Rattle.rescan.proofs.Opening.{opened, opened_gone, opened_less}
 use Rattle.rescan.proofs.Tops.{above_of, above_by, above_own, under_child}
+use Rattle.fsrm_model.proofs.RowLaws.{each_found}
 
 -- the looks that are ahead: one for each node at or below a waiting one, and two for each whose parent is that
 abbrev pub ahead : List NodeRow → List ℕ → ℕ
 ahead nodes waiting =
     sum_by (λ row. (if has_above nodes waiting row.number then 1 else 0) + (if not (row.number == 0) && has_above nodes waiting row.parent then 2 else 0)) nodes
-
-sum_most : {X : Type 0} (f g : X → ℕ) (xs : List X) → AllByRecursion (λ x. f x ≤ g x) xs → sum_by f xs ≤ sum_by g xs
-sum_most f g [] h = omega arith
-sum_most f g (x ∷ xs) h = omega (arith, sum_by-cons f x xs, sum_by-cons g x xs, h.0, sum_most f g xs h.1)
 
 same_each : {X : Type 0} (k : ℕ) (xs : List X) → sum_by (λ (x : X). k) xs ≡ k * length xs
 same_each k [] = omega arith
@@ -75,13 +71,13 @@ step_ahead K nodes waiting new n v hn was now less =
     let one : NodeRow → ℕ = λ r. cond (r.number == n) 1 0 in
     let two : NodeRow → ℕ = λ r. cond (is_child n r) 2 0 in
     let each : AllByRecursion (λ r. looks new r + (one r + two r) ≤ looks waiting r) nodes =
-    each_row number (λ r. looks new r + (one r + two r) ≤ looks waiting r) nodes v.ascending (step_row K nodes waiting new n v was now less) in
+    each_found number (λ r. looks new r + (one r + two r) ≤ looks waiting r) nodes v.ascending (step_row K nodes waiting new n v was now less) in
     let same : (f.row.number == n) ≡ true = ap (λ j. j == n) (found_key number n nodes f.row f.is) ∙ eq_same n in
     let single : sum_by one nodes ≡ 1 = sum_by_only number one n (λ r e. ap (λ b. cond b 1 0) e) nodes f.row v.ascending f.is ∙ ap (λ b. cond b 1 0) same in
     let pairs : sum_by two nodes ≡ 2 * length (children nodes n) = sym (sum_by-filter (is_child n) (λ r. 2) nodes) ∙ same_each 2 (children nodes n) in
     omega (
       arith,
-      sum_most (λ r. looks new r + (one r + two r)) (looks waiting) nodes each,
+      sum_by_most (λ r. looks new r + (one r + two r)) (looks waiting) nodes each,
       sum_by-add (looks new) (λ r. one r + two r) nodes,
       sum_by-add one two nodes,
       single,
@@ -113,10 +109,10 @@ pub whole_ahead : (K : Capacity) (nodes : List NodeRow) (x : ℕ) → IsVolume K
 whole_ahead K nodes x v =
     let looks : NodeRow → ℕ = λ r. cond (has_above nodes (x ∷ []) r.number) 1 0 + cond (not (r.number == 0) && has_above nodes (x ∷ []) r.parent) 2 0 in
     let most : NodeRow → ℕ = λ r. cond (is_under nodes x r.number) 3 0 in
-    let each : AllByRecursion (λ r. looks r ≤ most r) nodes = each_row number (λ r. looks r ≤ most r) nodes v.ascending (whole_row K nodes x v) in
+    let each : AllByRecursion (λ r. looks r ≤ most r) nodes = each_found number (λ r. looks r ≤ most r) nodes v.ascending (whole_row K nodes x v) in
     omega (
       arith,
-      sum_most looks most nodes each,
+      sum_by_most looks most nodes each,
       sum_by-filter (λ r. is_under nodes x r.number) (λ r. 3) nodes,
       same_each 3 (under nodes x),
     )

@@ -20,10 +20,13 @@ use Rattle.fsrm_model.proofs.Keeps.{volume-change}
 use Rattle.fsrm_model.proofs.Look.{found_key, row_of-change}
 use Rattle.volume_tree.specs.Volume.{Volume, with_touch, without_node}
 use Rattle.rescan.specs.Frontiers.{Front, Stands, Follows, scanned, unvisited, of_length, sized}
-use Rattle.rescan.proofs.CountLaws.{is_counted, part, each_row}
+use Rattle.rescan.proofs.CountLaws.{is_counted, part}
 use Rattle.rescan.proofs.KindLaws.{KeepsKind, kind_tops, kind_unvisited, kind_counted, kind_counted_same}
 use Rattle.rescan.proofs.LeafLaws.{IsLeaf, leaf_inner, tops_with, tops_without, counted_with, counted_without, unvisited_new, unvisited_gone}
 use Rattle.rescan.proofs.Tops.{tops_of, stands_by}
+use Rattle.fsrm_model.proofs.RemoveLaws.{without_absent}
+use Rattle.fsrm_model.proofs.RowLaws.{each_found, change_same, change_none}
+use Rattle.fsrm_model.proofs.ValidVolume.{root_folder}
 
 -- a change of a node that keeps number, parent, kind and length
 pub record KeepsShape (c : NodeRow → NodeRow) : Type 0 where
@@ -32,7 +35,7 @@ pub record KeepsShape (c : NodeRow → NodeRow) : Type 0 where
   pub same_folder : (r : NodeRow) → (c r).folder ≡ r.folder
   pub same_length : (r : NodeRow) → (c r).length ≡ r.length
 
-kind_of : (c : NodeRow → NodeRow) → KeepsShape c → KeepsKind c
+pub kind_of : (c : NodeRow → NodeRow) → KeepsShape c → KeepsKind c
 kind_of c k = record { same_number = k.same_number; same_parent = k.same_parent; same_folder = k.same_folder }
 
 -- it leaves a scan as it was
@@ -67,23 +70,6 @@ map_same : {X : Type 0} (f g : X → X) (rows : List X) → AllByRecursion (λ r
 map_same f g [] h = refl
 map_same f g (r ∷ rows) h = ap (λ y. y ∷ map f rows) h.0 ∙ ap (λ ys. g r ∷ ys) (map_same f g rows h.1)
 
-change_same : {X : Type 0} (key : X → ℕ) (n : ℕ) (c d : X → X) (rows : List X) → is_ascending key rows ≡ true → ((r : X) → row_of key n rows ≡ Some r → c r ≡ d r) → with_change key n c rows ≡ with_change key n d rows
-change_same {X} key n c d rows asc h =
-    map_same (λ r. if key r == n then c r else r) (λ r. if key r == n then d r else r) rows
-    (each_row key (λ r. (if key r == n then c r else r) ≡ (if key r == n then d r else r)) rows asc (λ r own. at r own (key r == n) refl))
-  where
-    at : (r : X) → row_of key (key r) rows ≡ Some r → (b : Bool) → (key r == n) ≡ b → cond b (c r) r ≡ cond b (d r) r
-    at r own true e = h r (subst (λ k. row_of key k rows ≡ Some r) (eq_is (key r) n e) own)
-    at r own false e = refl
-
-change_none : {X : Type 0} (key : X → ℕ) (n : ℕ) (rows : List X) → with_change key n (λ r. r) rows ≡ rows
-change_none key n [] = refl
-change_none key n (r ∷ rows) = ap (λ x. x ∷ with_change key n (λ r. r) rows) (either_way r (key r == n)) ∙ ap (λ rs. r ∷ rs) (change_none key n rows)
-  where
-    either_way : {X : Type 0} (r : X) (b : Bool) → cond b r r ≡ r
-    either_way r true = refl
-    either_way r false = refl
-
 twice_at : {X : Type 0} (key : X → ℕ) (n : ℕ) (c d : X → X) → ((r : X) → key (c r) ≡ key r) → (r : X) (b : Bool) → (key r == n) ≡ b → (if key (cond b (c r) r) == n then d (cond b (c r) r) else cond b (c r) r) ≡ cond b (d (c r)) r
 twice_at key n c d k r true e = ap (λ j. cond (j == n) (d (c r)) (c r)) (k r) ∙ ap (λ b. cond b (d (c r)) (c r)) e
 twice_at key n c d k r false e = ap (λ b. cond b (d r) r) e
@@ -110,15 +96,8 @@ change_gone key n c k [] = refl
 change_gone key n c k (r ∷ rows) = gone_at key n c k r (without_row key n (with_change key n c rows)) (without_row key n rows) (key r == n) refl (change_gone key n c k rows)
 
 -- what comes and goes leaves the others
-absent_at : {X : Type 0} (x : X) (xs ys : List X) (b m : Bool) → (b || m) ≡ false → (m ≡ false → ys ≡ xs) → cond (not b) (x ∷ ys) ys ≡ x ∷ xs
-absent_at x xs ys true m h f = cc
-absent_at x xs ys false m h f = ap (λ rs. x ∷ rs) (f h)
 
-without_absent : {X : Type 0} (key : X → ℕ) (n : ℕ) (rows : List X) → has_row key n rows ≡ false → without_row key n rows ≡ rows
-without_absent key n [] h = refl
-without_absent key n (r ∷ rows) h = absent_at r rows (without_row key n rows) (key r == n) (has_row key n rows) h (without_absent key n rows)
-
-made_at : {X : Type 0} (key : X → ℕ) (row r : X) (rows more : List X) (b : Bool) → has_row key (key row) (r ∷ rows) ≡ false → without_row key (key row) more ≡ rows → without_row key (key row) (cond b (row ∷ r ∷ rows) (r ∷ more)) ≡ r ∷ rows
+pub made_at : {X : Type 0} (key : X → ℕ) (row r : X) (rows more : List X) (b : Bool) → has_row key (key row) (r ∷ rows) ≡ false → without_row key (key row) more ≡ rows → without_row key (key row) (cond b (row ∷ r ∷ rows) (r ∷ more)) ≡ r ∷ rows
 made_at key row r rows more true absent h =
     ap (λ b. cond (not b) (row ∷ without_row key (key row) (r ∷ rows)) (without_row key (key row) (r ∷ rows))) (eq_same (key row)) ∙ without_absent key (key row) (r ∷ rows) absent
 made_at key row r rows more false absent h =
@@ -168,8 +147,6 @@ sized_resized nodes n bytes moment row asc found =
     subst (λ (j : ℕ). of_length j (resized bytes moment r) ≡ stamped moment r) (ap (λ (y : NodeRow). y.length) (same_Some r row (sym e ∙ found))) refl)
 
 -- files and folders
-root_folder : (r : NodeRow) → is_root_node r ≡ true → r.folder ≡ true
-root_folder r h = (both r.folder (length r.name == 0) (both (r.folder && (length r.name == 0)) ((r.parent == 0) && (r.length == 0)) (both _ _ h).0).0).0
 
 pub file_inner : (K : Capacity) (nodes : List NodeRow) (n : ℕ) (row : NodeRow) → IsVolume K nodes → node_of nodes n ≡ Some row → row.folder ≡ false → (n == 0) ≡ false
 file_inner K nodes n row v found file =
@@ -177,7 +154,7 @@ file_inner K nodes n row v found file =
     let root : is_root_node row ≡ true = v.root row (ap (node_of nodes) (sym (eq_is n 0 t)) ∙ found) in
     clash row.folder (root_folder row root) file)
 
-root_length : (r : NodeRow) → is_root_node r ≡ true → (r.length == 0) ≡ true
+pub root_length : (r : NodeRow) → is_root_node r ≡ true → (r.length == 0) ≡ true
 root_length r h = (both (r.parent == 0) (r.length == 0) (both (r.folder && (length r.name == 0)) ((r.parent == 0) && (r.length == 0)) (both _ _ h).0).1).1
 
 pub own_length : (r : NodeRow) → is_own r ≡ true → nat_le r.length (if r.folder then 0 else longest_file) ≡ true
@@ -185,7 +162,7 @@ own_length r h =
     (both (nat_le r.length (if r.folder then 0 else longest_file)) (is_moment r.created && (is_moment r.modified && is_moment r.accessed))
     (both (is_name r.name && nat_lt 0 r.owner) (nat_le r.length (if r.folder then 0 else longest_file) && (is_moment r.created && (is_moment r.modified && is_moment r.accessed))) h).1).0
 
-none_left : (n : ℕ) (b : Bool) → b ≡ true → nat_le n (cond b 0 longest_file) ≡ true → n ≡ 0
+pub none_left : (n : ℕ) (b : Bool) → b ≡ true → nat_le n (cond b 0 longest_file) ≡ true → n ≡ 0
 none_left n true e h = grind (arith, nat_tests)
 none_left n false e h = cc
 

@@ -17,7 +17,7 @@ use Rattle.fsrm_model.specs.Space.{alloc, space}
 use Rattle.fsrm_model.specs.Tree.{number, node_of, parent_of, is_folder, is_child, children, children_in_order}
 use Rattle.fsrm_model.specs.Valid.{IsVolume}
 use Rattle.fsrm_model.proofs.TestLaws.{both, eq_is, is_false, lt_is}
-use Rattle.fsrm_model.proofs.Keeps.{folder_found, found_folder, found_parent, is_child_test}
+use Rattle.fsrm_model.proofs.Keeps.{folder_found, found_folder, is_child_test}
 use Rattle.fsrm_model.proofs.Look.{found_key}
 use Rattle.volume_tree.specs.declared.answer.NodeView.{NodeView}
 use Rattle.volume_tree.specs.Volume.{IsChildAt, Shows}
@@ -25,6 +25,7 @@ use Rattle.volume_tree.proofs.Items.{in_order_moves}
 use Rattle.number_set.specs.Numbers.{Numbers}
 use Rattle.rescan.specs.Visits.{folders_in}
 use Rattle.rescan.proofs.Numbered.{has_row-filter}
+use Rattle.fsrm_model.proofs.ValidLaws.{found_parent}
 
 abbrev before : NodeRow → NodeRow → Bool
 before a b = name_before a.name b.name

@@ -87,7 +87,7 @@ finding_more v f waiting mid new found more n s d h out put in_found =
     }))
 
 -- at the end all are found
-no_above : (ns : List ℕ) → list_any (is_in []) ns ≡ false
+pub no_above : (ns : List ℕ) → list_any (is_in []) ns ≡ false
 no_above [] = refl
 no_above (n ∷ ns) = no_above ns
 

@@ -14,10 +14,12 @@ use Rattle.fsrm_model.specs.Space.{alloc, space}
 use Rattle.fsrm_model.specs.Tree.{number, node_of}
 use Rattle.fsrm_model.specs.Valid.{IsVolume}
 use Rattle.fsrm_model.proofs.Order.{parts}
-use Rattle.fsrm_model.proofs.TestLaws.{is_or_not, both, eq_is, lt_is}
+use Rattle.fsrm_model.proofs.TestLaws.{is_or_not, both, eq_is, lt_is, le_is}
 use Rattle.volume_tree.specs.Volume.{IsCapacity}
 use Rattle.rescan.specs.Frontiers.{Front, scanned, unvisited}
-use Rattle.rescan.proofs.CountLaws.{is_counted, part, counted_is, each_row}
+use Rattle.rescan.proofs.CountLaws.{is_counted, part, counted_is}
+use Rattle.volume_tree.proofs.FreshLaws.{few_nodes}
+use Rattle.fsrm_model.proofs.RowLaws.{each_found}
 
 -- so many nodes at most
 abbrev From : ℕ → ℕ → List NodeRow → Type 0
@@ -34,23 +36,11 @@ few_from n most (row ∷ rows) h a each =
     next n most row [] h low a = omega arith
     next n most row (other ∷ rows) h low a = let up : number row < number other = lt_is _ _ (parts number row (other ∷ rows) a).above in omega arith
 
-pub few_nodes : (K : Capacity) (nodes : List NodeRow) → IsVolume K nodes → length nodes ≤ K.nodes
-few_nodes K nodes v =
-    let each = each_row number (λ row. number row < K.nodes) nodes v.ascending (λ row f. lt_is (number row) K.nodes (v.below (number row) row f)) in
-    omega (arith, few_from 0 K.nodes nodes (first nodes) v.ascending each)
-  where
-    first : (rows : List NodeRow) → From 0 K.nodes rows
-    first [] = omega arith
-    first (row ∷ rows) = omega arith
-
 -- the root takes nothing, and a file no more than the longest
 pub root_empty : (K : Capacity) (nodes : List NodeRow) (r : NodeRow) → IsVolume K nodes → node_of nodes 0 ≡ Some r → space K r ≡ 0
 root_empty K nodes r v found =
     let folder : r.folder ≡ true = (both r.folder _ (both _ _ (both _ _ (v.root r found)).0).0).0 in
     ap (λ b. cond b 0 (alloc K r.length)) folder
-
-le_is : (m n : ℕ) → nat_le m n ≡ true → m ≤ n
-le_is m n h = grind (arith, nat_tests)
 
 space_at : (K : Capacity) (b : Bool) (n : ℕ) → nat_le n (cond b 0 longest_file) ≡ true → cond b 0 (alloc K n) ≤ longest_file
 space_at K true n h = omega arith
@@ -63,13 +53,13 @@ space_most K nodes v r f = elim (is_or_not (number r == 0)) [
 ]
 
 -- the space of all files, and of one more, is less than 2^64
-sum_most : (f : NodeRow → ℕ) (most : ℕ) (rows : List NodeRow) → AllByRecursion (λ r. f r ≤ most) rows → sum_by f rows ≤ length rows * most
+pub sum_most : (f : NodeRow → ℕ) (most : ℕ) (rows : List NodeRow) → AllByRecursion (λ r. f r ≤ most) rows → sum_by f rows ≤ length rows * most
 sum_most f most [] h = omega arith
 sum_most f most (r ∷ rows) h = omega (arith, sum_by-cons f r rows, h.0, sum_most f most rows h.1)
 
 pub total_small : (K : Capacity) (nodes : List NodeRow) → IsVolume K nodes → IsCapacity K → sum_by (space K) nodes < 2 ^ 64
 total_small K nodes v legal =
-    let small : AllByRecursion (λ r. space K r ≤ longest_file) nodes = each_row number (λ r. space K r ≤ longest_file) nodes v.ascending (space_most K nodes v) in
+    let small : AllByRecursion (λ r. space K r ≤ longest_file) nodes = each_found number (λ r. space K r ≤ longest_file) nodes v.ascending (space_most K nodes v) in
     let most : sum_by (space K) nodes ≤ length nodes * longest_file = sum_most (space K) longest_file nodes small in
     bound (length nodes) (sum_by (space K) nodes) most (omega (arith, few_nodes K nodes v, legal.nodes_most))
   where

@@ -26,9 +26,9 @@ use Rattle.rescan.proofs.MovedSums.{folder_sum, nothing_below}
 use Rattle.rescan.proofs.MovedTops.{TopsMoved}
 use Rattle.rescan.proofs.MovedWhole.{WholeMoved, whole_follows}
 use Rattle.rescan.proofs.MoveArms.{Goes, moves, kinds, moved_has, visited_is, outside_is, unvisited_is, counted_parts}
-use Rattle.rescan.proofs.StandingLaws.{scanned_is}
 use Rattle.rescan.proofs.Tops.{tops_of, above_of, under_under}
 use Rattle.volume_tree.specs.Volume.{Volume, with_place}
+use Rattle.fsrm_model.proofs.Look.{unwrapped}
 
 -- below a folder that isn't visited there is no topmost folder but itself
 lone_top : (nodes : List NodeRow) (f : Front) → IsTree nodes → AreTops nodes f → (x : ℕ) → (x == 0) ≡ false → Has nodes x → is_under nodes x (scanned f) ≡ false → is_counted nodes f x ≡ false → (n : ℕ) → is_in f.tops n ≡ true → is_under nodes x n ≡ true → x ≡ n
@@ -242,7 +242,7 @@ both_far v f f2 x d name before after g inside other hx hd goes =
 pub folder_follows : (v : Volume) (f f2 : Front) (x d : ℕ) (name : List ℕ) (before after : Standing) (g : Goes v f x d) → g.row.folder ≡ true → (f.folder ≡ Some x → ⊥) → IsVolume v.size (with_place v x d name).nodes → before ≡ standing v.nodes f x → after ≡ standing v.nodes f d → FolderGoes before after v.size v.nodes f f2 x → Goal v f f2 x d name
 folder_follows v f f2 x d name before after g is other w hx hd goes = elim (is_or_not (is_under v.nodes x (scanned f))) [
   | inl b ↦
-      let apart : x ≡ scanned f → ⊥ = λ e. other (scanned_is f.folder g.stands.active ∙ ap (λ j. Some j) (sym e)) in
+      let apart : x ≡ scanned f → ⊥ = λ e. other (unwrapped f.folder g.stands.active ∙ ap (λ j. Some j) (sym e)) in
       subst (λ (h : Front). Goal v f h x d name) (sym (both_far v f f2 x d name before after g b apart hx hd goes)) (whole_follows v f x d name g.stands w (whole v f x d name g b))
   | inr b ↦ by_standings v f f2 x d name before after (record { goes = g; folder = found_folder v.nodes x g.row g.found ∙ is; outside = b }) w hx hd goes
 ]

@@ -44,14 +44,6 @@ resized_follows v f g n bytes moment row s found w h =
     subst (λ left. Follows f g (with_length v n bytes moment) left) (kind_unvisited n (resized bytes moment) (resized_kind bytes moment) v.nodes f)
     (own_follows (with_length v n bytes moment) f g (unvisited new f) n bytes own h)
 
--- The other way round, the scan before the tree. There `own_stands` says what `on_resize` requires
-pub resized_later_follows : (v : Volume) (f g : Front) (left : List ℕ) (n bytes moment : ℕ) → IsVolume v.size (with_length v n bytes moment).nodes → Follows f g (sized v n bytes) left → Follows f g (with_length v n bytes moment) left
-resized_later_follows v f g left n bytes moment w h =
-    let same : with_change number n (stamped moment) (with_change number n (of_length bytes) v.nodes) ≡ with_change number n (resized bytes moment) v.nodes =
-    change_twice number n (of_length bytes) (stamped moment) (λ r. refl) v.nodes in
-    subst (λ ns. Follows f g (record v { nodes = ns }) left) same
-    (alike_follows (sized v n bytes) f g left n (stamped moment) (stamped_keeps moment) h (subst (IsVolume v.size) (sym same) w))
-
 -- A node is made. Without it the nodes are those before
 pub made_back : (v : Volume) (row : NodeRow) → has_row number row.number v.nodes ≡ false → without_node (with_node v row) row.number ≡ v
 made_back v row free = ap (λ ns. record v { nodes = ns }) (with_and_without number row v.nodes free)
@@ -65,12 +57,6 @@ made_stands v f row free s = subst (λ w. Stands w f) (sym (made_back v row free
 made_own : (v : Volume) (row : NodeRow) (bytes : ℕ) → has_row number row.number v.nodes ≡ false → IsVolume v.size v.nodes → row.length ≡ bytes → with_change number row.number (of_length bytes) (with_node v row).nodes ≡ (with_node v row).nodes
 made_own v row bytes free w is =
     sized_own (with_node v row).nodes row.number bytes row (ascending-with_row number row v.nodes free w.ascending) (made_found v row free) is
-
--- a folder is made: `on_create` alone
-pub mkdir_follows : (v : Volume) (f g : Front) (row : NodeRow) → has_row number row.number v.nodes ≡ false → row.length ≡ 0 → Stands v f → Follows f g (sized (with_node v row) row.number 0) (unvisited_with row (unvisited (without_node (with_node v row) row.number).nodes f)) → Follows f g (with_node v row) (unvisited_with row (unvisited v.nodes f))
-mkdir_follows v f g row free none s h =
-    subst (λ (w : Volume). Follows f g (with_node v row) (unvisited_with row (unvisited w.nodes f))) (made_back v row free)
-    (own_follows (with_node v row) f g (unvisited_with row (unvisited (without_node (with_node v row) row.number).nodes f)) row.number 0 (made_own v row 0 free s.volume none) h)
 
 -- a file is made: `on_create`, and `on_resize` from 0 to its length
 pub created_follows : (v : Volume) (f g h : Front) (row : NodeRow) → has_row number row.number v.nodes ≡ false → Stands v f → Follows f g (sized (with_node v row) row.number 0) (unvisited_with row (unvisited (without_node (with_node v row) row.number).nodes f)) → Follows g h (sized (with_node v row) row.number row.length) (unvisited (with_node v row).nodes g) → Follows f h (with_node v row) (unvisited_with row (unvisited v.nodes f))

@@ -13,15 +13,17 @@ use Rattle.fsrm_model.specs.Valid.{IsVolume}
 use Rattle.fsrm_model.proofs.TestLaws.{both, clash, eq_is, eq_same, suc_apart}
 use Rattle.fsrm_model.proofs.ChainLaws.{share, usage_is, sum_by_same}
 use Rattle.fsrm_model.proofs.Climbs.{under_up}
-use Rattle.fsrm_model.proofs.Keeps.{tree_of, found_folder, found_parent}
+use Rattle.fsrm_model.proofs.Keeps.{tree_of, found_folder}
 use Rattle.fsrm_model.proofs.Look.{found_has, has_found}
 use Rattle.fsrm_model.proofs.MoveLaws.{own_first}
 use Rattle.fsrm_model.proofs.Sums.{sum_by_each, sum_by_nothing}
 use Rattle.volume_tree.specs.Volume.{Volume}
 use Rattle.rescan.specs.Frontiers.{Front, Stands, Follows, has_above, scanned, unvisited}
 use Rattle.rescan.specs.Tops.{AreTops}
-use Rattle.rescan.proofs.CountLaws.{part, counted_is, each_row}
+use Rattle.rescan.proofs.CountLaws.{part, counted_is}
 use Rattle.rescan.proofs.Tops.{in_unvisited, above_of, stands_by, tops_of}
+use Rattle.fsrm_model.proofs.RowLaws.{each_found}
+use Rattle.fsrm_model.proofs.ValidLaws.{found_parent}
 
 -- no folder is unvisited exactly where there is no topmost one
 some_top : (tops : List ℕ) (t : ℕ) → is_in tops t ≡ true → (length tops == 0) ≡ false
@@ -165,5 +167,5 @@ ends v f s none =
     s.sum
     ∙ (counted_is K v.nodes s.volume f
     ∙ (sum_by_same (part K v.nodes f) (share K v.nodes (scanned f)) v.nodes
-    (each_row number (λ r. part K v.nodes f r ≡ share K v.nodes (scanned f) r) v.nodes s.volume.ascending (end_part K v.nodes f s.volume (tops_of v f s) none))
+    (each_found number (λ r. part K v.nodes f r ≡ share K v.nodes (scanned f) r) v.nodes s.volume.ascending (end_part K v.nodes f s.volume (tops_of v f s) none))
     ∙ sym (usage_is K v.nodes (scanned f))))

@@ -12,7 +12,7 @@ use Rattle.fsrm_model.specs.Tree.{number, node_of, parent_of, is_folder, is_unde
 use Rattle.fsrm_model.specs.Valid.{IsVolume}
 use Rattle.fsrm_model.proofs.ChangeLaws.{KeepsPlace, parent_of-change, chain-change, sum_by-with_change}
 use Rattle.fsrm_model.proofs.ChainLaws.{IsTree}
-use Rattle.fsrm_model.proofs.Keeps.{folder-change}
+use Rattle.fsrm_model.proofs.Keeps.{folder-change, cond_same}
 use Rattle.fsrm_model.proofs.Look.{has_row-change}
 use Rattle.fsrm_model.proofs.Sums.{sum_by-map, sum_by_each}
 use Rattle.rescan.specs.Frontiers.{Front, scanned, has_above, unvisited}
@@ -28,10 +28,6 @@ pub record KeepsKind (c : NodeRow → NodeRow) : Type 0 where
 pub place_of : (c : NodeRow → NodeRow) → KeepsKind c → KeepsPlace c
 place_of c k = record { same_number = k.same_number; same_parent = k.same_parent }
 
-either_way : {A : Type 0} (g : NodeRow → A) (c : NodeRow → NodeRow) → ((r : NodeRow) → g (c r) ≡ g r) → (b : Bool) (r : NodeRow) → g (cond b (c r) r) ≡ g r
-either_way g c h true r = h r
-either_way g c h false r = refl
-
 -- the way up, and which nodes are folders
 pub kind_folder : (n : ℕ) (c : NodeRow → NodeRow) → KeepsKind c → (nodes : List NodeRow) (m : ℕ) → is_folder (with_change number n c nodes) m ≡ is_folder nodes m
 kind_folder n c k nodes m = folder-change nodes n m c k.same_number k.same_folder
@@ -43,11 +39,11 @@ pub kind_above : (n : ℕ) (c : NodeRow → NodeRow) → KeepsKind c → (nodes 
 kind_above n c k nodes tops m = ap (list_any (is_in tops)) (chain-change n c (place_of c k) nodes m)
 
 -- what is unvisited
-kept_at : {X : Type 0} (key : X → ℕ) (x y : X) (xs ys : List X) (b : Bool) → key y ≡ key x → map key ys ≡ map key xs → map key (cond b (y ∷ ys) ys) ≡ map key (cond b (x ∷ xs) xs)
+pub kept_at : {X : Type 0} (key : X → ℕ) (x y : X) (xs ys : List X) (b : Bool) → key y ≡ key x → map key ys ≡ map key xs → map key (cond b (y ∷ ys) ys) ≡ map key (cond b (x ∷ xs) xs)
 kept_at key x y xs ys true h e = ap (λ k. k ∷ map key ys) h ∙ ap (λ ks. key x ∷ ks) e
 kept_at key x y xs ys false h e = e
 
-numbers_kept : {X : Type 0} (key : X → ℕ) (p q : X → Bool) (g : X → X) → ((x : X) → q (g x) ≡ p x) → ((x : X) → key (g x) ≡ key x) → (xs : List X) → map key (filter q (map g xs)) ≡ map key (filter p xs)
+pub numbers_kept : {X : Type 0} (key : X → ℕ) (p q : X → Bool) (g : X → X) → ((x : X) → q (g x) ≡ p x) → ((x : X) → key (g x) ≡ key x) → (xs : List X) → map key (filter q (map g xs)) ≡ map key (filter p xs)
 numbers_kept key p q g h k [] = refl
 numbers_kept {X} key p q g h k (x ∷ xs) =
     ap (λ b. map key (cond b (g x ∷ filter q (map g xs)) (filter q (map g xs)))) (h x)
@@ -61,10 +57,10 @@ kind_unvisited n c k nodes f =
     let q : NodeRow → Bool = λ r. r.folder && has_above new f.tops r.number in
     numbers_kept number p q g
     (λ r.
-    ap (λ b. b && has_above new f.tops (g r).number) (either_way (λ y. y.folder) c k.same_folder (number r == n) r)
-    ∙ (ap (λ m. r.folder && has_above new f.tops m) (either_way (λ y. y.number) c k.same_number (number r == n) r)
+    ap (λ b. b && has_above new f.tops (g r).number) (cond_same (λ y. y.folder) c k.same_folder (number r == n) r)
+    ∙ (ap (λ m. r.folder && has_above new f.tops m) (cond_same (λ y. y.number) c k.same_number (number r == n) r)
     ∙ ap (λ b. r.folder && b) (kind_above n c k nodes f.tops r.number)))
-    (λ r. either_way (λ y. y.number) c k.same_number (number r == n) r)
+    (λ r. cond_same (λ y. y.number) c k.same_number (number r == n) r)
     nodes
 
 -- the topmost unvisited folders, over nodes with the same folders and ways up
@@ -112,7 +108,7 @@ kind_counted_same K n c k l nodes f v w =
     counted_is K new w f
     ∙ (kind_parts K n c k nodes f new
     ∙ (sum_by-map (part K nodes f) g nodes
-    ∙ (sum_by_each (λ r. part K nodes f (g r)) (part K nodes f) (λ r. either_way (part K nodes f) c own (number r == n) r) nodes
+    ∙ (sum_by_each (λ r. part K nodes f (g r)) (part K nodes f) (λ r. cond_same (part K nodes f) c own (number r == n) r) nodes
     ∙ sym (counted_is K nodes v f))))
 
 -- the nodes before the change are a tree where those after it are one

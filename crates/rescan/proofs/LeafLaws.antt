@@ -10,11 +10,11 @@ use Rattle.fsrm_model.specs.Scan.{counted, unvisited_with}
 use Rattle.fsrm_model.specs.Space.{space}
 use Rattle.fsrm_model.specs.Tree.{number, node_of, parent_of, is_folder, is_child, chain, is_under}
 use Rattle.fsrm_model.specs.Valid.{IsVolume}
-use Rattle.fsrm_model.proofs.TestLaws.{is_or_not, clash, not_true, neither, eq_is, eq_same, eq_turned}
-use Rattle.fsrm_model.proofs.ValidLaws.{folder_has}
+use Rattle.fsrm_model.proofs.TestLaws.{is_or_not, clash, not_true, neither, eq_is, eq_same, eq_turned, not_zero}
+use Rattle.fsrm_model.proofs.ValidLaws.{folder_has, found_parent}
 use Rattle.fsrm_model.proofs.ChainLaws.{Has, chain_lacks, sum_by_same}
 use Rattle.fsrm_model.proofs.Climbs.{climb, under_own}
-use Rattle.fsrm_model.proofs.Keeps.{MayGo, removes_of, tree_of, zero_apart, found_parent, found_folder, as_suc}
+use Rattle.fsrm_model.proofs.Keeps.{MayGo, removes_of, tree_of, zero_apart, found_folder, as_suc}
 use Rattle.fsrm_model.proofs.Look.{found_has, found_key, row_of-without, has_row-without}
 use Rattle.fsrm_model.proofs.Members.{none_passes}
 use Rattle.fsrm_model.proofs.RemoveLaws.{removed_chain, sum_by-without_row}
@@ -22,8 +22,9 @@ use Rattle.fsrm_model.proofs.UsageLaws.{parent_lacks}
 use Rattle.number_set.proofs.NumberLaws.{in_with, in_without, set_with, set_without, same_set}
 use Rattle.rescan.specs.Frontiers.{Front, scanned, has_above, unvisited}
 use Rattle.rescan.specs.Tops.{AreTops}
-use Rattle.rescan.proofs.CountLaws.{is_counted, part, each_row, counted_is}
+use Rattle.rescan.proofs.CountLaws.{is_counted, part, counted_is}
 use Rattle.rescan.proofs.Tops.{in_unvisited, set_unvisited}
+use Rattle.fsrm_model.proofs.RowLaws.{each_found}
 
 -- a node that is there, and without which the others are a volume too
 pub record IsLeaf (K : Capacity) (nodes : List NodeRow) (n : ℕ) (row : NodeRow) : Type 0 where
@@ -33,9 +34,6 @@ pub record IsLeaf (K : Capacity) (nodes : List NodeRow) (n : ℕ) (row : NodeRow
 
 pub leaf_inner : (K : Capacity) (nodes : List NodeRow) (n : ℕ) (row : NodeRow) → IsLeaf K nodes n row → (n == 0) ≡ false
 leaf_inner K nodes n row l = zero_apart (without_row number n nodes) n l.rest.has_root (has_row-without number n nodes)
-
-not_zero : (n : ℕ) → (n == 0) ≡ false → n ≡ 0 → ⊥
-not_zero n h e = clash (n == 0) (ap (λ k. k == 0) e ∙ eq_same 0) h
 
 -- no node stands in it
 own_parent : (nodes : List NodeRow) (n : ℕ) → (K : Capacity) → IsVolume K nodes → (n == 0) ≡ false → Has nodes n → (parent_of nodes n == n) ≡ false
@@ -168,7 +166,7 @@ rest_sum : (K : Capacity) (nodes : List NodeRow) (n : ℕ) (row : NodeRow) → I
 rest_sum K nodes n row l f g same =
     let old = without_row number n nodes in
     let parts : AllByRecursion (λ r. part K old g r ≡ part K nodes f r) old =
-    each_row number (λ r. part K old g r ≡ part K nodes f r) old l.rest.ascending (λ r own. ap (λ b. cond b (space K r) 0) (same r.parent (folder_has old r.parent (l.rest.up r.number r own)))) in
+    each_found number (λ r. part K old g r ≡ part K nodes f r) old l.rest.ascending (λ r own. ap (λ b. cond b (space K r) 0) (same r.parent (folder_has old r.parent (l.rest.up r.number r own)))) in
     omega (arith, counted_is K old l.rest g, counted_is K nodes l.whole f, sum_by_same (part K old g) (part K nodes f) old parts, sum_by-without_row number (part K nodes f) n row nodes l.whole.ascending l.found)
 
 pub counted_with : (K : Capacity) (nodes : List NodeRow) (n : ℕ) (row : NodeRow) → IsLeaf K nodes n row → (f : Front) → counted K (without_row number n nodes) (scanned f) (unvisited (without_row number n nodes) f) + part K nodes f row ≡ counted K nodes (scanned f) (unvisited nodes f)

@@ -7,7 +7,7 @@ use Rattle.fsrm_model.specs.Numbers.{is_in, is_set, without_number}
 use Rattle.fsrm_model.specs.Space.{alloc, space}
 use Rattle.fsrm_model.specs.Tree.{number, node_of, is_folder, is_under}
 use Rattle.fsrm_model.specs.Valid.{IsVolume}
-use Rattle.fsrm_model.proofs.TestLaws.{is_or_not, clash, not_true, both, eq_is, eq_same}
+use Rattle.fsrm_model.proofs.TestLaws.{is_or_not, clash, not_true, both, eq_is, eq_same, same_tests}
 use Rattle.fsrm_model.proofs.ChainLaws.{Has, sum_by_same}
 use Rattle.fsrm_model.proofs.Climbs.{under_own}
 use Rattle.fsrm_model.proofs.Keeps.{found_folder}
@@ -17,10 +17,11 @@ use Rattle.number_set.proofs.NumberLaws.{in_without, set_without}
 use Rattle.rescan.specs.Frontiers.{Front, has_above}
 use Rattle.rescan.specs.Leaves.{counted_below, Leaves}
 use Rattle.rescan.specs.Tops.{AreTops}
-use Rattle.rescan.proofs.CountLaws.{is_counted, part, each_row}
-use Rattle.rescan.proofs.MovedSums.{in_folder, part_below, below_is}
-use Rattle.rescan.proofs.MovedTops.{same_tests, not_above}
+use Rattle.rescan.proofs.CountLaws.{is_counted, part}
+use Rattle.rescan.proofs.MovedSums.{in_folder, part_below, below_is, folder_part}
+use Rattle.rescan.proofs.MovedTops.{not_above}
 use Rattle.rescan.proofs.Tops.{above_of, above_by}
+use Rattle.fsrm_model.proofs.RowLaws.{each_found}
 
 -- what is still to be taken back, with these folders waiting
 abbrev pub left : Capacity → List NodeRow → Front → List ℕ → ℕ
@@ -63,12 +64,6 @@ above_none : (nodes : List NodeRow) (n : ℕ) → has_above nodes [] n ≡ false
 above_none nodes n = not_true _ (λ h. let a = above_of nodes [] n h in let m : false ≡ true = a.member in clash false m refl)
 
 -- a folder's row adds nothing
-pub row_of_folder : (K : Capacity) (nodes : List NodeRow) (f : Front) (r : NodeRow) → r.folder ≡ true → part K nodes f r ≡ 0
-row_of_folder K nodes f r e = at (is_counted nodes f r.parent) (ap (λ b. cond b 0 (alloc K r.length)) e)
-  where
-    at : (b : Bool) → space K r ≡ 0 → cond b (space K r) 0 ≡ 0
-    at true h = h
-    at false h = refl
 
 zero_either : (b c : Bool) (p : ℕ) → p ≡ 0 → cond b p 0 ≡ cond c p 0
 zero_either true true p h = refl
@@ -80,12 +75,12 @@ zero_either false false p h = refl
 left_one : (K : Capacity) (nodes : List NodeRow) (f : Front) (x : ℕ) → Tracked K nodes f x → left K nodes f (x ∷ []) ≡ counted_below K nodes f x
 left_one K nodes f x t =
     sum_by_same (λ r. if has_above nodes (x ∷ []) r.parent then part K nodes f r else 0) (part_below K nodes f x) nodes
-    (each_row number (λ r. (if has_above nodes (x ∷ []) r.parent then part K nodes f r else 0) ≡ part_below K nodes f x r) nodes t.volume.ascending row)
+    (each_found number (λ r. (if has_above nodes (x ∷ []) r.parent then part K nodes f r else 0) ≡ part_below K nodes f x r) nodes t.volume.ascending row)
     ∙ sym (below_is K nodes f x)
   where
     row : (r : NodeRow) → node_of nodes r.number ≡ Some r → (if has_above nodes (x ∷ []) r.parent then part K nodes f r else 0) ≡ part_below K nodes f x r
     row r own = elim (is_or_not r.folder) [
-      | inl e ↦ zero_either (has_above nodes (x ∷ []) r.parent) (is_under nodes x r.number) (part K nodes f r) (row_of_folder K nodes f r e)
+      | inl e ↦ zero_either (has_above nodes (x ∷ []) r.parent) (is_under nodes x r.number) (part K nodes f r) (folder_part K nodes f r e)
       | inr e ↦
           let at = in_folder K nodes x r t.volume own e in
           let other : (r.number == x) ≡ false = not_true _ (λ s. clash _ (ap (is_folder nodes) (eq_is r.number x s) ∙ t.folder) (found_folder nodes r.number r own ∙ e)) in

@@ -10,7 +10,7 @@ use Rattle.fsrm_model.specs.Scan.{unvisited_moved}
 use Rattle.fsrm_model.specs.Space.{alloc, space}
 use Rattle.fsrm_model.specs.Tree.{number, node_of, is_folder, is_under}
 use Rattle.fsrm_model.specs.Valid.{IsVolume}
-use Rattle.fsrm_model.proofs.TestLaws.{clash, not_true, eq_same}
+use Rattle.fsrm_model.proofs.TestLaws.{clash, not_true, eq_same, cond_most}
 use Rattle.fsrm_model.proofs.ChainLaws.{Has}
 use Rattle.fsrm_model.proofs.Files.{below_file}
 use Rattle.fsrm_model.proofs.Keeps.{found_folder, tree_of, moves_at, folder-change}
@@ -96,17 +96,13 @@ sum_most : {X : Type 0} (p q : X → ℕ) (xs : List X) → ((x : X) → p x ≤
 sum_most p q [] h = omega arith
 sum_most p q (x ∷ xs) h = omega (arith, sum_by-cons p x xs, sum_by-cons q x xs, h x, sum_most p q xs h)
 
-some_of : (b : Bool) (n : ℕ) → cond b n 0 ≤ n
-some_of true n = omega arith
-some_of false n = omega arith
-
 -- what is counted below a node was counted
 pub below_counted : (v : Volume) (f : Front) (x : ℕ) → Stands v f → counted_below v.size v.nodes f x ≤ f.sum
 below_counted v f x s =
     omega (
       arith,
       below_is v.size v.nodes f x,
-      sum_most (part_below v.size v.nodes f x) (part v.size v.nodes f) v.nodes (λ r. some_of (is_under v.nodes x r.number) (part v.size v.nodes f r)),
+      sum_most (part_below v.size v.nodes f x) (part v.size v.nodes f) v.nodes (λ r. cond_most (is_under v.nodes x r.number) (part v.size v.nodes f r)),
       counted_parts v f s,
     )
 
@@ -171,7 +167,7 @@ part_in v f x row s found =
     let only : NodeRow → ℕ = λ r. cond (r.number == x) (part K nodes f r) 0 in
     let here : (row.number == x) ≡ true = ap (λ j. j == x) (found_key number x nodes row found) ∙ eq_same x in
     let one : sum_by only nodes ≡ part K nodes f row = sum_by_only number only x (λ r e. ap (λ b. cond b (part K nodes f r) 0) e) nodes row s.volume.ascending found ∙ ap (λ b. cond b (part K nodes f row) 0) here in
-    omega (arith, one, sum_most only (part K nodes f) nodes (λ r. some_of (r.number == x) (part K nodes f r)), counted_parts v f s)
+    omega (arith, one, sum_most only (part K nodes f) nodes (λ r. cond_most (r.number == x) (part K nodes f r)), counted_parts v f s)
 
 pub share_counted : (v : Volume) (f : Front) (x d : ℕ) (g : Goes v f x d) → g.row.folder ≡ false → share_of v.size g.row.length (standing v.nodes f g.row.parent) ≤ f.sum
 share_counted v f x d g file =
@@ -197,7 +193,7 @@ share_fits v f x d g legal file =
     omega (
       arith,
       file_shares v f f x d [] g file refl refl,
-      sum_most (part K new f) (space K) new (λ r. some_of (is_counted new f r.parent) (space K r)),
+      sum_most (part K new f) (space K) new (λ r. cond_most (is_counted new f r.parent) (space K r)),
       whole,
       total_small K v.nodes g.stands.volume legal,
     )

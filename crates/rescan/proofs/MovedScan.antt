@@ -51,11 +51,6 @@ in_folders K nodes x n v =
     ∙ (in_numbers (λ r. is_under nodes x r.number && r.folder) nodes v.ascending n
     ∙ folder_at nodes x n (node_of nodes n) refl)
 
-pub set_folders : (K : Capacity) (nodes : List NodeRow) (x : ℕ) → IsVolume K nodes → is_set (folders_under nodes x) ≡ true
-set_folders K nodes x v =
-    ap (λ rows. is_set (map number rows)) (filter_twice (λ r. r.folder) (λ r. is_under nodes x r.number) nodes)
-    ∙ set_numbers (λ r. is_under nodes x r.number && r.folder) nodes v.ascending
-
 -- which way each choice goes
 pub record Choice (nodes : List NodeRow) (f : Front) (x d : ℕ) (keeps enters : Bool) : Type 0 where
   pub stay : is_folder nodes x ≡ true → is_counted nodes f d ≡ true → is_counted nodes f x ≡ true → keeps ≡ true

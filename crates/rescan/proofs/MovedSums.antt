@@ -12,17 +12,18 @@ use Rattle.fsrm_model.specs.Valid.{IsVolume, is_root_node}
 use Rattle.fsrm_model.proofs.TestLaws.{is_or_not, clash, not_true, both, both_true, eq_is, eq_same}
 use Rattle.fsrm_model.proofs.ChainLaws.{IsTree, Has, sum_by-filter, sum_by_same}
 use Rattle.fsrm_model.proofs.Files.{below_file}
-use Rattle.fsrm_model.proofs.Keeps.{found_folder, found_parent, tree_of}
+use Rattle.fsrm_model.proofs.Keeps.{found_folder, tree_of}
 use Rattle.fsrm_model.proofs.Look.{found_has, found_key}
 use Rattle.fsrm_model.proofs.MoveLaws.{Outside, under_before}
 use Rattle.fsrm_model.proofs.Sums.{sum_by-map, sum_by-add, sum_by_each, sum_by_nothing, sum_by_only}
-use Rattle.fsrm_model.proofs.ValidLaws.{folder_has}
+use Rattle.fsrm_model.proofs.ValidLaws.{folder_has, found_parent}
 use Rattle.rescan.specs.Frontiers.{Front, scanned, has_above}
 use Rattle.rescan.specs.Leaves.{counted_below}
 use Rattle.rescan.specs.Tops.{AreTops}
-use Rattle.rescan.proofs.CountLaws.{is_counted, part, each_row}
+use Rattle.rescan.proofs.CountLaws.{is_counted, part}
 use Rattle.rescan.proofs.MovedTops.{TopsMoved, in_scan, not_above, counted_other, counted_kept, counted_moved}
 use Rattle.rescan.proofs.Tops.{above_below, under_child}
+use Rattle.fsrm_model.proofs.RowLaws.{each_found}
 
 -- what a node adds to what is counted at and below another
 abbrev pub part_below : Capacity → List NodeRow → Front → ℕ → NodeRow → ℕ
@@ -122,7 +123,7 @@ folder_sum K nodes f f2 x d name keeps enters v s is left =
     let now : NodeRow → ℕ = λ r. part K new f2 (cond (r.number == x) (placed d name r) r) in
     let gone : NodeRow → ℕ = λ r. cond keeps 0 (part_below K nodes f x r) in
     let each : AllByRecursion (λ r. now r + gone r ≡ part K nodes f r) nodes =
-    each_row number (λ r. now r + gone r ≡ part K nodes f r) nodes v.ascending (folder_row K nodes f f2 x d name keeps enters v s is left) in
+    each_found number (λ r. now r + gone r ≡ part K nodes f r) nodes v.ascending (folder_row K nodes f f2 x d name keeps enters v s is left) in
     omega (
       arith,
       sum_by-map (part K new f2) (λ r. cond (r.number == x) (placed d name r) r) nodes,
@@ -143,7 +144,7 @@ counted_up nodes f x p t a inner hx hp outside below h =
 pub nothing_below : (K : Capacity) (nodes : List NodeRow) (f : Front) (x : ℕ) → IsVolume K nodes → AreTops nodes f → (x == 0) ≡ false → Has nodes x → is_folder nodes x ≡ true → is_under nodes x (scanned f) ≡ false → is_counted nodes f x ≡ false → counted_below K nodes f x ≡ 0
 nothing_below K nodes f x v a inner hx is outside none =
     below_is K nodes f x
-    ∙ (sum_by_same (part_below K nodes f x) (λ r. 0) nodes (each_row number (λ r. part_below K nodes f x r ≡ 0) nodes v.ascending row)
+    ∙ (sum_by_same (part_below K nodes f x) (λ r. 0) nodes (each_found number (λ r. part_below K nodes f x r ≡ 0) nodes v.ascending row)
     ∙ sum_by_nothing nodes)
   where
     row : (r : NodeRow) → node_of nodes r.number ≡ Some r → part_below K nodes f x r ≡ 0
@@ -193,7 +194,7 @@ file_sum K nodes f f2 x d name keeps enters row v s is found =
     let went : sum_by gone nodes ≡ part K nodes f row = sum_by_only number gone x (only_one x (part K nodes f)) nodes row v.ascending found ∙ ap (λ b. cond b (part K nodes f row) 0) here in
     let came : sum_by come nodes ≡ gives row = sum_by_only number come x (only_one x gives) nodes row v.ascending found ∙ ap (λ b. cond b (gives row) 0) here in
     let each : AllByRecursion (λ r. now r + gone r ≡ part K nodes f r + come r) nodes =
-    each_row number (λ r. now r + gone r ≡ part K nodes f r + come r) nodes v.ascending (file_row K nodes f f2 x d name keeps enters v s is) in
+    each_found number (λ r. now r + gone r ≡ part K nodes f r + come r) nodes v.ascending (file_row K nodes f f2 x d name keeps enters v s is) in
     omega (
       arith,
       sum_by-map (part K new f2) (λ r. cond (r.number == x) (placed d name r) r) nodes,

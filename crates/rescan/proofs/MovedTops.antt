@@ -4,7 +4,7 @@ use Rattle.std.specs.Prelude.{is_some, unwrap_or, if◌then◌else◌}
 use Rattle.fsrm_model.specs.declared.row.NodeRow.{NodeRow}
 use Rattle.fsrm_model.specs.Numbers.{is_in, is_set}
 use Rattle.fsrm_model.specs.Tree.{is_folder, is_under, chain}
-use Rattle.fsrm_model.proofs.TestLaws.{is_or_not, clash, not_true, both, both_true, is_or, or_later, eq_is, eq_same}
+use Rattle.fsrm_model.proofs.TestLaws.{is_or_not, clash, not_true, both, both_true, is_or, or_later, eq_is, eq_same, same_tests}
 use Rattle.fsrm_model.proofs.ChainLaws.{IsTree, Has}
 use Rattle.fsrm_model.proofs.Below.{below_moved}
 use Rattle.fsrm_model.proofs.Climbs.{under_own}
@@ -39,11 +39,6 @@ not_above nodes f n h = at (has_above nodes f.tops n) (both (is_under nodes (sca
     at : (b : Bool) → not b ≡ true → b ≡ false
     at true h = cc
     at false h = refl
-
-pub same_tests : (a b : Bool) → (a ≡ true → b ≡ true) → (b ≡ true → a ≡ true) → a ≡ b
-same_tests true b f g = sym (f refl)
-same_tests false true f g = g refl
-same_tests false false f g = refl
 
 top_has : (nodes : List NodeRow) (f : Front) → AreTops nodes f → (n : ℕ) → is_in f.tops n ≡ true → Has nodes n
 top_has nodes f a n h = folder_has nodes n (a.folders n h)

@@ -10,7 +10,7 @@ use Rattle.fsrm_model.specs.Scan.{unvisited_moved}
 use Rattle.fsrm_model.specs.Space.{space}
 use Rattle.fsrm_model.specs.Tree.{number, node_of, is_folder, is_under}
 use Rattle.fsrm_model.specs.Valid.{IsVolume}
-use Rattle.fsrm_model.proofs.TestLaws.{is_or_not, clash, not_true, eq_is, eq_same}
+use Rattle.fsrm_model.proofs.TestLaws.{is_or_not, clash, not_true, eq_is, eq_same, same_tests}
 use Rattle.fsrm_model.proofs.Below.{below_moved}
 use Rattle.fsrm_model.proofs.ChainLaws.{Has, sum_by_same}
 use Rattle.fsrm_model.proofs.Files.{above_folder}
@@ -21,11 +21,11 @@ use Rattle.fsrm_model.proofs.ValidLaws.{folder_has}
 use Rattle.number_set.proofs.NumberLaws.{same_set}
 use Rattle.rescan.specs.Frontiers.{Front, Stands, Follows, scanned, has_above, unvisited}
 use Rattle.rescan.specs.Tops.{AreTops}
-use Rattle.rescan.proofs.CountLaws.{is_counted, part, counted_is, each_row}
+use Rattle.rescan.proofs.CountLaws.{is_counted, part, counted_is}
 use Rattle.rescan.proofs.MovedSums.{in_folder, folder_part, placed_folder}
-use Rattle.rescan.proofs.MovedTops.{same_tests}
 use Rattle.rescan.proofs.Tops.{in_unvisited, set_unvisited, stands_by, above_of, above_by, under_under}
 use Rattle.volume_tree.specs.Volume.{Volume, with_place}
+use Rattle.fsrm_model.proofs.RowLaws.{each_found}
 
 -- the scanned folder is at or below the moved node
 pub record WholeMoved (nodes new : List NodeRow) (f : Front) (x d : ℕ) : Type 0 where
@@ -105,7 +105,7 @@ whole_sum K nodes f x d name v s =
     let new = with_change number x (placed d name) nodes in
     let now : NodeRow → ℕ = λ r. part K new f (cond (r.number == x) (placed d name r) r) in
     sum_by-map (part K new f) (λ r. cond (r.number == x) (placed d name r) r) nodes
-    ∙ sum_by_same now (part K nodes f) nodes (each_row number (λ r. now r ≡ part K nodes f r) nodes v.ascending (whole_row K nodes f x d name v s))
+    ∙ sum_by_same now (part K nodes f) nodes (each_found number (λ r. now r ≡ part K nodes f r) nodes v.ascending (whole_row K nodes f x d name v s))
 
 pub whole_follows : (v : Volume) (f : Front) (x d : ℕ) (name : List ℕ) → Stands v f → IsVolume v.size (with_place v x d name).nodes → WholeMoved v.nodes (with_place v x d name).nodes f x d → Follows f f (with_place v x d name) (unvisited_moved v.nodes (with_place v x d name).nodes (scanned f) x d (unvisited v.nodes f))
 whole_follows v f x d name stands w s =

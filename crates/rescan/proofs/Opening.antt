@@ -8,7 +8,7 @@ use Rattle.fsrm_model.specs.Numbers.{is_in, without_number, with_numbers}
 use Rattle.fsrm_model.specs.Space.{alloc, space}
 use Rattle.fsrm_model.specs.Tree.{number, node_of, parent_of, is_folder, is_child, children, is_under, chain}
 use Rattle.fsrm_model.specs.Valid.{IsVolume}
-use Rattle.fsrm_model.proofs.TestLaws.{is_or_not, clash, not_true, both_true, is_or, or_later, eq_is, eq_same, suc_apart}
+use Rattle.fsrm_model.proofs.TestLaws.{is_or_not, clash, not_true, both_true, is_or, or_later, eq_is, eq_same, suc_apart, not_zero, same_tests}
 use Rattle.fsrm_model.proofs.Below.{chain_root}
 use Rattle.fsrm_model.proofs.ChainLaws.{IsTree, Has, sum_by-filter, sum_by_same}
 use Rattle.fsrm_model.proofs.Climbs.{shorter, under_own}
@@ -20,11 +20,12 @@ use Rattle.number_set.proofs.NumberLaws.{in_withs, set_without, set_withs}
 use Rattle.rescan.specs.Frontiers.{Front, scanned, has_above}
 use Rattle.rescan.specs.Visits.{folders_in}
 use Rattle.rescan.proofs.ChildLaws.{ChildFolder, child_folder_of, child_folder_by}
-use Rattle.rescan.proofs.CountLaws.{is_counted, part, each_row}
-use Rattle.rescan.proofs.Leaving.{Leaving, Tracked, left, without_in, in_other, waiting_has, row_of_folder}
-use Rattle.rescan.proofs.MovedSums.{in_folder}
-use Rattle.rescan.proofs.MovedTops.{same_tests, in_scan, not_above}
+use Rattle.rescan.proofs.CountLaws.{is_counted, part}
+use Rattle.rescan.proofs.Leaving.{Leaving, Tracked, left, without_in, in_other, waiting_has}
+use Rattle.rescan.proofs.MovedSums.{in_folder, folder_part}
+use Rattle.rescan.proofs.MovedTops.{in_scan, not_above}
 use Rattle.rescan.proofs.Tops.{above_of, above_by, above_own, above_child, under_child, under_under, parent_folder}
+use Rattle.fsrm_model.proofs.RowLaws.{each_found}
 
 -- the waiting folders after one of them was passed: the folders in it take its place
 abbrev pub opened : List NodeRow → ℕ → List ℕ → List ℕ
@@ -43,8 +44,6 @@ opened_child : (K : Capacity) (nodes : List NodeRow) (n m : ℕ) (waiting : List
 opened_child K nodes n m waiting v c = in_withs (folders_in nodes n) (without_number n waiting) m ∙ ap (λ b. b || is_in (without_number n waiting) m) (child_folder_by nodes v.ascending n m c)
 
 -- a folder and the folders in it
-not_zero : (n : ℕ) → (n == 0) ≡ false → n ≡ 0 → ⊥
-not_zero n e h = clash (n == 0) (ap (λ j. j == 0) h ∙ eq_same 0) e
 
 child_has : (nodes : List NodeRow) (n c : ℕ) → ChildFolder nodes n c → Has nodes c
 child_has nodes n c h = folder_has nodes c h.folder_is
@@ -152,7 +151,7 @@ opened_row : (K : Capacity) (nodes : List NodeRow) (f : Front) (x : ℕ) (tops w
 opened_row K nodes f x tops waiting sum n v w here counted r own = elim (is_or_not r.folder) [
   | inl e ↦
       let empty : space K r ≡ 0 = ap (λ b. cond b 0 (alloc K r.length)) e in
-      none_each (has_above nodes waiting r.parent) (has_above nodes (opened nodes n waiting) r.parent) (is_child n r) (part K nodes f r) (space K r) (row_of_folder K nodes f r e) empty
+      none_each (has_above nodes waiting r.parent) (has_above nodes (opened nodes n waiting) r.parent) (is_child n r) (part K nodes f r) (space K r) (folder_part K nodes f r e) empty
   | inr e ↦
       let at = in_folder K nodes x r v own e in
       let inner : (r.number == 0) ≡ false = not_true _ (λ h. at.inner (eq_is r.number 0 h)) in
@@ -197,7 +196,7 @@ opened_left K nodes f x tops waiting sum n v w here counted =
     let was : NodeRow → ℕ = λ r. cond (has_above nodes waiting r.parent) (part K nodes f r) 0 in
     let now : NodeRow → ℕ = λ r. cond (has_above nodes (opened nodes n waiting) r.parent) (part K nodes f r) 0 in
     let child : NodeRow → ℕ = λ r. cond (is_child n r) (space K r) 0 in
-    let each : AllByRecursion (λ r. was r ≡ now r + child r) nodes = each_row number (λ r. was r ≡ now r + child r) nodes v.ascending (opened_row K nodes f x tops waiting sum n v w here counted) in
+    let each : AllByRecursion (λ r. was r ≡ now r + child r) nodes = each_found number (λ r. was r ≡ now r + child r) nodes v.ascending (opened_row K nodes f x tops waiting sum n v w here counted) in
     omega (arith, sum_by_same was (λ r. now r + child r) nodes each, sum_by-add now child nodes, sum_by-filter (is_child n) (space K) nodes)
 
 -- the step

@@ -10,10 +10,10 @@ use Rattle.fsrm_model.specs.Space.{alloc}
 use Rattle.fsrm_model.specs.Tree.{number, node_of, is_folder, chain, is_under}
 use Rattle.fsrm_model.specs.Valid.{IsVolume}
 use Rattle.fsrm_model.proofs.TestLaws.{clash, eq_same, not_true}
-use Rattle.fsrm_model.proofs.ValidLaws.{folder_has}
+use Rattle.fsrm_model.proofs.ValidLaws.{folder_has, found_parent}
 use Rattle.fsrm_model.proofs.ChainLaws.{IsTree}
 use Rattle.fsrm_model.proofs.Climbs.{climb}
-use Rattle.fsrm_model.proofs.Keeps.{found_folder, found_parent, tree_of}
+use Rattle.fsrm_model.proofs.Keeps.{found_folder, tree_of}
 use Rattle.fsrm_model.proofs.Look.{found_has}
 use Rattle.fsrm_model.proofs.RemoveLaws.{sum_by-without_row}
 use Rattle.volume_tree.specs.declared.answer.NodeView.{NodeView}

@@ -37,13 +37,6 @@ pub record Copies (whole : Numbers) (below : ℕ) (copy : Numbers) : Type 0 wher
   pub set : is_set copy.members ≡ true
   pub members : (n : ℕ) → is_in copy.members n ≡ (nat_lt n below && is_in whole.members n)
 
-pub none_copied : (whole copy : Numbers) → copy ≡ record { bound = whole.bound; members = [] } → Copies whole 0 copy
-none_copied whole copy e =
-    subst (Copies whole 0) (sym e) (record { bound = refl; set = refl; members = λ n. ap (λ b. b && is_in whole.members n) (sym (low n)) })
-  where
-    low : (n : ℕ) → nat_lt n 0 ≡ false
-    low n = grind (arith, nat_tests)
-
 below_more : (n k : ℕ) → nat_lt n (k + 1) ≡ ((k == n) || nat_lt n k)
 below_more n k = grind (arith, nat_tests)
 

@@ -16,6 +16,7 @@ use Rattle.rescan.specs.Frontiers.{Front, scanned, has_above}
 use Rattle.rescan.specs.Standings.{standing}
 use Rattle.rescan.specs.Tops.{AreTops}
 use Rattle.rescan.proofs.Tops.{above_own, above_of, above_root, above_child}
+use Rattle.fsrm_model.proofs.Look.{unwrapped}
 
 -- the standing, from its two tests
 abbrev stands_at : Bool → Bool → Standing
@@ -38,10 +39,6 @@ top_above nodes f t a top hs ht member above =
       | inr e ↦ eq_is top (scanned f) (each_above nodes t top (scanned f) e ht hs above (a.below top member))
     ]
 
-pub scanned_is : (o : Option ℕ) → is_some o ≡ true → o ≡ Some (unwrap_or o 0)
-scanned_is None h = cc
-scanned_is (Some s) h = refl
-
 -- no top is above the scanned folder, unless it is a top
 no_top_above : (nodes : List NodeRow) (f : Front) → IsTree nodes → AreTops nodes f → is_in f.tops (scanned f) ≡ false → has_above nodes f.tops (scanned f) ≡ false
 no_top_above nodes f t a lacks = not_true _ (λ h.
@@ -63,7 +60,7 @@ at_root nodes f a n at above below lacks other root =
     let none : has_above nodes f.tops at ≡ false = ap (has_above nodes f.tops) root ∙ (above_root nodes f.tops ∙ (ap (is_in f.tops) (sym root) ∙ lacks)) in
     let apart : is_under nodes (scanned f) at ≡ false = not_true _ (λ h.
     let is : 0 ≡ scanned f = eq_is 0 (scanned f) (sym (chain_root nodes (scanned f)) ∙ (ap (is_under nodes (scanned f)) (sym root) ∙ h)) in
-    other (scanned_is f.folder a.active ∙ ap (λ j. Some j) (sym is ∙ sym root))) in
+    other (unwrapped f.folder a.active ∙ ap (λ j. Some j) (sym is ∙ sym root))) in
     sym (at_tests _ _ false false (above ∙ none) (below ∙ apart))
 
 -- the tests of a node that is neither a top nor the scanned folder are those of its parent
@@ -72,7 +69,7 @@ above_up nodes f t at h i lacks = above_child nodes f.tops t at h i ∙ ap (λ b
 
 pub below_up : (nodes : List NodeRow) (f : Front) → IsTree nodes → AreTops nodes f → (at : ℕ) → Has nodes at → (at ≡ 0 → ⊥) → (f.folder ≡ Some at → ⊥) → is_under nodes (scanned f) at ≡ is_under nodes (scanned f) (parent_of nodes at)
 below_up nodes f t a at h i other =
-    under_up nodes t (scanned f) at h i (λ e. other (scanned_is f.folder a.active ∙ ap (λ j. Some j) (sym e)))
+    under_up nodes t (scanned f) at h i (λ e. other (unwrapped f.folder a.active ∙ ap (λ j. Some j) (sym e)))
 
 -- the scanned folder, as it is compared
 pub same_folder : (o : Option ℕ) (n : ℕ) → option_eq eqb o (Some n) ≡ true → o ≡ Some n

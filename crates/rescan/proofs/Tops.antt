@@ -9,11 +9,11 @@ use Rattle.fsrm_model.specs.Numbers.{is_in, is_set}
 use Rattle.fsrm_model.specs.Scan.{is_topmost, counted}
 use Rattle.fsrm_model.specs.Tree.{number, node_of, parent_of, is_folder, chain, is_under}
 use Rattle.fsrm_model.specs.Valid.{IsVolume}
-use Rattle.fsrm_model.proofs.TestLaws.{clash, not_true, is_false, both, both_true, is_or, or_later, eq_is, eq_same, suc_apart, not_root}
-use Rattle.fsrm_model.proofs.ValidLaws.{folder_has}
+use Rattle.fsrm_model.proofs.TestLaws.{clash, not_true, is_false, both, both_true, is_or, or_later, eq_is, eq_same, suc_apart, not_root, same_tests}
+use Rattle.fsrm_model.proofs.ValidLaws.{folder_has, found_parent}
 use Rattle.fsrm_model.proofs.ChainLaws.{IsTree, Has}
 use Rattle.fsrm_model.proofs.Look.{found_key, has_found}
-use Rattle.fsrm_model.proofs.Keeps.{tree_of, found_parent}
+use Rattle.fsrm_model.proofs.Keeps.{tree_of}
 use Rattle.fsrm_model.proofs.MoveLaws.{own_first}
 use Rattle.fsrm_model.proofs.Below.{chain_root, above_all}
 use Rattle.fsrm_model.proofs.Climbs.{climb}
@@ -197,17 +197,13 @@ top_by K nodes v f (suc n) m h g =
     ]
 
 -- two tests that pass alike
-pub same_true : (a b : Bool) → (a ≡ true → b ≡ true) → (b ≡ true → a ≡ true) → a ≡ b
-same_true true b f g = sym (f refl)
-same_true false true f g = g refl
-same_true false false f g = refl
 
 pub tops_are : (K : Capacity) (nodes : List NodeRow) → IsVolume K nodes → (f : Front) → AreTops nodes f → f.tops ≡ filter (is_topmost nodes (unvisited nodes f)) (unvisited nodes f)
 tops_are K nodes v f t =
     let U = unvisited nodes f in
     let topmost = is_topmost nodes U in
     same_set f.tops (filter topmost U) t.ascending (set_filter topmost U (set_unvisited K nodes v f)) (λ n.
-    same_true (is_in f.tops n) (is_in (filter topmost U) n)
+    same_tests (is_in f.tops n) (is_in (filter topmost U) n)
     (λ m. in_filter topmost U n ∙ both_true (topmost n) (is_in U n) (topmost_at K nodes v f t n m) (unvisited_by K nodes v f n (t.folders n m) (above_own nodes f.tops n m)))
     (λ m.
     let is = both (topmost n) (is_in U n) (sym (in_filter topmost U n) ∙ m) in

@@ -11,11 +11,11 @@ use Rattle.fsrm_model.specs.Scan.{is_topmost, next_visit, visit, counted}
 use Rattle.fsrm_model.specs.Space.{space}
 use Rattle.fsrm_model.specs.Tree.{number, node_of, parent_of, is_folder, is_child, children, chain, is_under}
 use Rattle.fsrm_model.specs.Valid.{IsVolume}
-use Rattle.fsrm_model.proofs.TestLaws.{is_or_not, clash, not_true, both, both_true, is_or, or_later, eq_is, eq_same, eq_turned, is_false, suc_apart}
+use Rattle.fsrm_model.proofs.TestLaws.{is_or_not, clash, not_true, both, both_true, is_or, or_later, eq_is, eq_same, eq_turned, is_false, suc_apart, not_zero, same_tests}
 use Rattle.fsrm_model.proofs.ValidLaws.{folder_has}
 use Rattle.fsrm_model.proofs.ChainLaws.{IsTree, Has, sum_by-filter, sum_by_same}
 use Rattle.fsrm_model.proofs.Below.{chain_root}
-use Rattle.fsrm_model.proofs.Climbs.{shorter}
+use Rattle.fsrm_model.proofs.Climbs.{shorter, under_own}
 use Rattle.fsrm_model.proofs.Keeps.{tree_of, as_suc}
 use Rattle.fsrm_model.proofs.MoveLaws.{own_first}
 use Rattle.fsrm_model.proofs.Sums.{sum_by-add}
@@ -27,9 +27,10 @@ use Rattle.rescan.specs.Frontiers.{Front, Stands, Follows, has_above, scanned, u
 use Rattle.rescan.specs.Tops.{AreTops}
 use Rattle.rescan.specs.Visits.{folders_in, tops_after}
 use Rattle.rescan.proofs.ChildLaws.{ChildFolder, child_folder_of, child_folder_by}
-use Rattle.rescan.proofs.CountLaws.{part, counted_is, each_row}
+use Rattle.rescan.proofs.CountLaws.{part, counted_is}
 use Rattle.rescan.proofs.FitLaws.{root_empty, counted_small}
-use Rattle.rescan.proofs.Tops.{in_unvisited, set_unvisited, above_of, above_by, above_own, under_child, under_under, parent_folder, same_true, stands_by, tops_of}
+use Rattle.rescan.proofs.Tops.{in_unvisited, set_unvisited, above_of, above_by, above_own, under_child, under_under, parent_folder, stands_by, tops_of}
+use Rattle.fsrm_model.proofs.RowLaws.{each_found}
 
 -- the frontier after a visit, but for the sum
 abbrev pub after : List NodeRow → ℕ → Front → Front
@@ -59,8 +60,6 @@ stays_after nodes n tops m e h =
     ∙ or_later (is_in (folders_in nodes n) m) (not (n == m) && is_in tops m) (both_true (not (n == m)) (is_in tops m) (ap not e) h)
 
 -- a folder in another is below it, and not above it
-not_zero : (n : ℕ) → (n == 0) ≡ false → n ≡ 0 → ⊥
-not_zero n h e = clash (n == 0) (ap (λ k. k == 0) e ∙ eq_same 0) h
 
 under_by_child : (nodes : List NodeRow) → IsTree nodes → (n c x : ℕ) → ChildFolder nodes n c → is_under nodes x c ≡ ((c == x) || is_under nodes x n)
 under_by_child nodes t n c x h =
@@ -68,9 +67,6 @@ under_by_child nodes t n c x h =
 
 child_under : (nodes : List NodeRow) → IsTree nodes → (n c x : ℕ) → ChildFolder nodes n c → is_under nodes x n ≡ true → is_under nodes x c ≡ true
 child_under nodes t n c x h g = under_by_child nodes t n c x h ∙ or_later (c == x) (is_under nodes x n) g
-
-own_under : (nodes : List NodeRow) (n : ℕ) → is_under nodes n n ≡ true
-own_under nodes n = own_first (length nodes) nodes n
 
 child_lacks : (nodes : List NodeRow) → IsTree nodes → (n c : ℕ) → ChildFolder nodes n c → is_under nodes c n ≡ true → ⊥
 child_lacks nodes t n c h g =
@@ -104,7 +100,7 @@ through_in K nodes v (suc most) n (suc m) l h e u =
       | inl same ↦ record {
         child = suc m;
         is = record { folder_is = h; inner = suc_apart m; parent_is = sym (eq_is n up same) };
-        above = own_under nodes (suc m);
+        above = under_own nodes (suc m);
       }
       | inr other ↦
           let r = through_in K nodes v most n up (omega (arith, l, short)) (parent_folder K nodes v (suc m) has) other higher in
@@ -128,7 +124,7 @@ apart_after K nodes v f t n top a b (inl x) (inr y) u =
     ]
 apart_after K nodes v f t n top a b (inr x) (inl y) u =
     let tree = tree_of K nodes v in
-    let below : is_under nodes n a ≡ true = under_under nodes tree n b a (folder_has nodes b y.folder_is) (folder_has nodes a (t.folders a x.top)) u (child_under nodes tree n b n y (own_under nodes n)) in
+    let below : is_under nodes n a ≡ true = under_under nodes tree n b a (folder_has nodes b y.folder_is) (folder_has nodes a (t.folders a x.top)) u (child_under nodes tree n b n y (under_own nodes n)) in
     absurd (clash (n == a) (ap (λ k. n == k) (sym (t.apart a n x.top top below)) ∙ eq_same n) x.other)
 apart_after K nodes v f t n top a b (inr x) (inr y) u = t.apart a b x.top y.top u
 
@@ -155,7 +151,7 @@ tops_visited K nodes v f t n top =
 left_at : (K : Capacity) (nodes : List NodeRow) → IsVolume K nodes → (f : Front) → AreTops nodes f → (n : ℕ) → is_in f.tops n ≡ true → (m x : ℕ) → is_folder nodes m ≡ true → is_under nodes x m ≡ true → ChildFolder nodes n x ⊎ Stays f.tops n x → (not (n == m) && has_above nodes f.tops m) ≡ true
 left_at K nodes v f t n top m x h u (inl c) =
     let tree = tree_of K nodes v in
-    let below : is_under nodes n m ≡ true = under_under nodes tree n x m (folder_has nodes x c.folder_is) (folder_has nodes m h) u (child_under nodes tree n x n c (own_under nodes n)) in
+    let below : is_under nodes n m ≡ true = under_under nodes tree n x m (folder_has nodes x c.folder_is) (folder_has nodes m h) u (child_under nodes tree n x n c (under_own nodes n)) in
     let other : (n == m) ≡ false = not_true _ (λ e. child_lacks nodes tree n x c (subst (λ k. is_under nodes x k ≡ true) (sym (eq_is n m e)) u)) in
     both_true (not (n == m)) (has_above nodes f.tops m) (ap not other) (above_by nodes f.tops m n top below)
 left_at K nodes v f t n top m x h u (inr s) =
@@ -175,7 +171,7 @@ right_at K nodes v f n m h e x top u =
 
 above_after : (K : Capacity) (nodes : List NodeRow) → IsVolume K nodes → (f : Front) → AreTops nodes f → (n : ℕ) → is_in f.tops n ≡ true → (m : ℕ) → is_folder nodes m ≡ true → has_above nodes (tops_after nodes n f.tops) m ≡ (not (n == m) && has_above nodes f.tops m)
 above_after K nodes v f t n top m h =
-    same_true (has_above nodes (tops_after nodes n f.tops) m) (not (n == m) && has_above nodes f.tops m)
+    same_tests (has_above nodes (tops_after nodes n f.tops) m) (not (n == m) && has_above nodes f.tops m)
     (λ g.
     let a = above_of nodes (tops_after nodes n f.tops) m g in
     left_at K nodes v f t n top m a.top h a.above (which nodes v.ascending n f.tops a.top a.member))
@@ -239,7 +235,7 @@ pub counted_after : (K : Capacity) (nodes : List NodeRow) → IsVolume K nodes �
 counted_after K nodes v f t n top =
     let more : NodeRow → ℕ = λ r. if is_child n r then space K r else 0 in
     let each = sum_by_same (part K nodes (after nodes n f)) (λ r. part K nodes f r + more r) nodes
-    (each_row number (λ r. part K nodes (after nodes n f) r ≡ part K nodes f r + more r) nodes v.ascending (counts_at K nodes v f t n top)) in
+    (each_found number (λ r. part K nodes (after nodes n f) r ≡ part K nodes f r + more r) nodes v.ascending (counts_at K nodes v f t n top)) in
     omega (arith, counted_is K nodes v (after nodes n f), counted_is K nodes v f, each, sum_by-add (part K nodes f) more nodes, sum_by-filter (is_child n) (space K) nodes)
 
 -- the folder that is visited is the first of the topmost

@@ -106,8 +106,7 @@ impl Frontier {
             if self.tops.contains(next) {
                 self.tops.remove(next);
             } else {
-                self.sum -=
-                    enter_children(tree, next, &mut self.finger, &mut self.waiting, steps);
+                self.sum -= enter_children(tree, next, &mut self.finger, &mut self.waiting, steps);
             }
         }
     }

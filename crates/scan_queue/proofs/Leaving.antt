@@ -12,6 +12,7 @@ use Rattle.fsrm_model.proofs.Look.{has_found, has_row-without, row_of-without}
 use Rattle.fsrm_model.proofs.Members.{none_passes, filter_none}
 use Rattle.fsrm_model.proofs.ValidLaws.{folder_has}
 use Rattle.fsrm_model.proofs.TestLaws.{is_or_not, clash, not_true, both, eq_is, eq_turned}
+use Rattle.rescan.proofs.FrontierLaws.{root_folder}
 
 -- a file has no child
 pub file_children : (K : Capacity) (nodes : List NodeRow) (n : ℕ) → IsVolume K nodes → is_folder nodes n ≡ false → length (children nodes n) ≡ 0
@@ -46,17 +47,5 @@ folder_back nodes n m h =
 pub folder_stays : (nodes : List NodeRow) (n m : ℕ) → (m == n) ≡ false → is_folder nodes m ≡ true → is_folder (without_row number n nodes) m ≡ true
 folder_stays nodes n m e h = ap (λ o. option_map_or (λ node. node.folder) o false) (row_of-without number n m nodes e) ∙ h
 
-pub root_folder : (K : Capacity) (nodes : List NodeRow) → IsVolume K nodes → is_folder nodes 0 ≡ true
-root_folder K nodes v =
-    let f = has_found number 0 nodes v.has_root in
-    found_folder nodes 0 f.row f.is ∙ own f.row (v.root f.row f.is)
-  where
-    own : (r : NodeRow) → is_root_node r ≡ true → r.folder ≡ true
-    own r h = (both r.folder (length r.name == 0) (both (r.folder && (length r.name == 0)) ((r.parent == 0) && (r.length == 0)) (both _ _ h).0).0).0
-
 pub file_apart : (nodes : List NodeRow) (n m : ℕ) → is_folder nodes n ≡ false → is_folder nodes m ≡ true → (m == n) ≡ false
 file_apart nodes n m file folder = not_true (m == n) (λ t. clash (is_folder nodes n) (ap (is_folder nodes) (sym (eq_is m n t)) ∙ folder) file)
-
--- and the root is no file
-pub file_inner : (K : Capacity) (nodes : List NodeRow) (n : ℕ) → IsVolume K nodes → is_folder nodes n ≡ false → (n == 0) ≡ false
-file_inner K nodes n v file = eq_turned 0 n (file_apart nodes n 0 file (root_folder K nodes v))

@@ -13,27 +13,8 @@ use Rattle.fsrm_model.proofs.Order.{least_free_is}
 use Rattle.fsrm_model.proofs.TestLaws.{eq_same, neither}
 use Rattle.volume_tree.specs.Volume.{Volume, with_node, without_node}
 use Rattle.scan_queue.specs.Courses.{Course, Scanning}
-
--- rows without the one that came are those before
-absent_at : {X : Type 0} (x : X) (xs ys : List X) (b m : Bool) → (b || m) ≡ false → (m ≡ false → ys ≡ xs) → cond (not b) (x ∷ ys) ys ≡ x ∷ xs
-absent_at x xs ys true m h f = cc
-absent_at x xs ys false m h f = ap (λ rs. x ∷ rs) (f h)
-
-without_absent : {X : Type 0} (key : X → ℕ) (n : ℕ) (rows : List X) → has_row key n rows ≡ false → without_row key n rows ≡ rows
-without_absent key n [] h = refl
-without_absent key n (r ∷ rows) h = absent_at r rows (without_row key n rows) (key r == n) (has_row key n rows) h (without_absent key n rows)
-
-made_at : {X : Type 0} (key : X → ℕ) (row r : X) (rows more : List X) (b : Bool) → has_row key (key row) (r ∷ rows) ≡ false → without_row key (key row) more ≡ rows → without_row key (key row) (cond b (row ∷ r ∷ rows) (r ∷ more)) ≡ r ∷ rows
-made_at key row r rows more true absent h =
-    ap (λ b. cond (not b) (row ∷ without_row key (key row) (r ∷ rows)) (without_row key (key row) (r ∷ rows))) (eq_same (key row)) ∙ without_absent key (key row) (r ∷ rows) absent
-made_at key row r rows more false absent h =
-    let parts : ((key r == key row) ≡ false) × (has_row key (key row) rows ≡ false) = neither _ _ absent in
-    ap (λ b. cond (not b) (r ∷ without_row key (key row) more) (without_row key (key row) more)) parts.0 ∙ ap (λ rs. r ∷ rs) h
-
-with_and_without : {X : Type 0} (key : X → ℕ) (row : X) (rows : List X) → has_row key (key row) rows ≡ false → without_row key (key row) (with_row key row rows) ≡ rows
-with_and_without key row [] h = ap (λ b. cond (not b) (row ∷ []) []) (eq_same (key row))
-with_and_without key row (r ∷ rows) h =
-    made_at key row r rows (with_row key row rows) (nat_lt (key row) (key r)) h (with_and_without key row rows (neither (key r == key row) _ h).1)
+use Rattle.fsrm_model.proofs.RemoveLaws.{without_absent}
+use Rattle.rescan.proofs.ChangeLaws.{made_at, with_and_without}
 
 -- a volume with a new node
 pub record IsMade (v w : Volume) (n : ℕ) (folder : Bool) (bytes : ℕ) : Type 0 where

@@ -99,9 +99,6 @@ first_leaves folder queue h e =
     (ap (same_head (folder ∷ f.rest)) (left_first folder f.rest once) ∙ other_head folder f.rest (is_false (is_in f.rest folder) parts.0))
 
 -- another one leaves
-other_stays : (n folder : ℕ) (ms : List ℕ) (b : Bool) → b ≡ false → same_head (n ∷ ms) (cond (not b) (n ∷ ms) ms) ≡ true
-other_stays n folder ms true e = cc
-other_stays n folder ms false e = eq_same n
 
 pub record SameHead (old new : List ℕ) : Type 0 where
   pub same : same_head old new ≡ true

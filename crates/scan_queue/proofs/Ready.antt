@@ -39,10 +39,6 @@ no_tops : (tops left : List ℕ) (p : List ℕ → ℕ → Bool) → tops ≡ fi
 no_tops tops [] p e h = ap length e
 no_tops tops (n ∷ ns) p e h = absurd (omega arith)
 
-pub done_tops : (v : Volume) (course : Course) → Scanning v course → is_some (head course.queue) ≡ true → length (left v.nodes course) ≡ 0 → length course.front.tops ≡ 0
-done_tops v course s some h =
-    no_tops course.front.tops (unvisited v.nodes course.front) (is_topmost v.nodes) (s.stands (ap is_some s.active ∙ some)).tops h
-
 -- the length that a view shows
 pub shown_length : (nodes : List NodeRow) (n : ℕ) (view : NodeView) → Shows view nodes n → (r : NodeRow) → node_of nodes n ≡ Some r → r.length ≡ view.length
 shown_length nodes n view s r e = ap (λ (y : NodeRow). y.length) (same_Some r s.row (sym e ∙ s.found)) ∙ sym s.is.bytes

@@ -16,11 +16,9 @@ use Rattle.scan_queue.specs.Courses.{Course, Scanning, Turns}
 use Rattle.scan_queue.specs.Kept.{IsKept}
 use Rattle.fsrm_model.proofs.TestLaws.{eq_is, or_false}
 use Rattle.scan_queue.proofs.Queues.{SameHead, in_pushed, once_pushed, later_pushed, in_left, once_left, first_in, first_leaves, other_leaves, first_removed, nobody, somebody}
+use Rattle.rescan.proofs.FindLaws.{no_above}
 
 -- without a topmost folder nothing is unvisited
-none_above : (ns : List ℕ) → list_any (is_in []) ns ≡ false
-none_above [] = refl
-none_above (n ∷ ns) = none_above ns
 
 fails_later : (a b : Bool) → b ≡ false → (a && b) ≡ false
 fails_later true b h = h
@@ -33,7 +31,7 @@ filter_none p h (x ∷ xs) = ap (λ b. cond b (x ∷ filter p xs) (filter p xs))
 pub none_left : (nodes : List NodeRow) (front : Front) → front.tops ≡ [] → unvisited nodes front ≡ []
 none_left nodes front h =
     ap (λ tops. map number (filter (λ node. node.folder && has_above nodes tops node.number) nodes)) h
-    ∙ ap (map number) (filter_none (λ node. node.folder && has_above nodes [] node.number) (λ node. fails_later node.folder (has_above nodes [] node.number) (none_above (chain nodes node.number))) nodes)
+    ∙ ap (map number) (filter_none (λ node. node.folder && has_above nodes [] node.number) (λ node. fails_later node.folder (has_above nodes [] node.number) (no_above (chain nodes node.number))) nodes)
 
 -- the queue is kept
 pub kept_begun : (room : ℕ) (queue : List ℕ) (front : Front) → each_once queue ≡ true → ((folder : ℕ) → is_in queue folder ≡ true → folder < room) → Begins room (head queue) front → IsKept queue front

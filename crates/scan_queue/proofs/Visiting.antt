@@ -14,6 +14,7 @@ use Rattle.fsrm_model.proofs.RemoveLaws.{sum_by-without_row}
 use Rattle.fsrm_model.proofs.Sums.{sum_by-ones}
 use Rattle.volume_tree.specs.Volume.{Volume}
 use Rattle.rescan.specs.Frontiers.{Front, Stands, Follows, unvisited, visit_looks}
+use Rattle.number_set.proofs.NumberLaws.{in_filter}
 
 -- one visit more, and visits where nothing is left
 pub visits_more : (k : ℕ) (nodes : List NodeRow) (left : List ℕ) → visits (suc k) nodes left ≡ visit nodes (visits k nodes left)
@@ -87,22 +88,6 @@ none_of : (b : Bool) → false ≡ (b && false)
 none_of true = refl
 none_of false = refl
 
-in_filter : (p : ℕ → Bool) (ns : List ℕ) (m : ℕ) → is_in (filter p ns) m ≡ (p m && is_in ns m)
-in_filter p [] m = none_of (p m)
-in_filter p (k ∷ ns) m = at (p k) p k ns m refl (in_filter p ns m)
-  where
-    later : (p m b : Bool) → (p && b) ≡ (p && (false || b))
-    later p m b = refl
-
-    of : (b : Bool) (p : ℕ → Bool) (k : ℕ) (ns : List ℕ) (m : ℕ) (c : Bool) → p k ≡ b → (k == m) ≡ c → is_in (filter p ns) m ≡ (p m && is_in ns m) → is_in (cond b (k ∷ filter p ns) (filter p ns)) m ≡ (p m && (c || is_in ns m))
-    of true p k ns m true e g h = ap (λ d. d || is_in (filter p ns) m) g ∙ sym (ap (λ d. d && true) (ap p (sym (eq_is k m g)) ∙ e))
-    of true p k ns m false e g h = ap (λ d. d || is_in (filter p ns) m) g ∙ h
-    of false p k ns m true e g h = h ∙ ap (λ d. d && is_in ns m) (ap p (sym (eq_is k m g)) ∙ e) ∙ sym (ap (λ d. d && true) (ap p (sym (eq_is k m g)) ∙ e))
-    of false p k ns m false e g h = h
-
-    at : (b : Bool) (p : ℕ → Bool) (k : ℕ) (ns : List ℕ) (m : ℕ) → p k ≡ b → is_in (filter p ns) m ≡ (p m && is_in ns m) → is_in (cond b (k ∷ filter p ns) (filter p ns)) m ≡ (p m && ((k == m) || is_in ns m))
-    at b p k ns m e h = of b p k ns m (k == m) e refl h
-
 filter_members : (p q : ℕ → Bool) (ns : List ℕ) → ((k : ℕ) → is_in ns k ≡ true → p k ≡ q k) → filter p ns ≡ filter q ns
 filter_members p q [] h = refl
 filter_members p q (n ∷ ns) h =
@@ -134,14 +119,6 @@ pub record Made (v : Volume) (old new : Front) (made before now : ℕ) : Type 0 
   pub follows : Follows old new v (visits made v.nodes (unvisited v.nodes old))
   pub fewer : made + length (unvisited v.nodes new) ≡ length (unvisited v.nodes old)
   pub cost : now + sum_by (visit_cost v.nodes) (unvisited v.nodes new) ≤ before + sum_by (visit_cost v.nodes) (unvisited v.nodes old)
-
-pub made_none : (v : Volume) (old : Front) (steps : ℕ) → Stands v old → Made v old old 0 steps steps
-made_none v old steps s =
-    record {
-      follows = record { stands = s; unvisited_are = refl; folder = refl; room = refl };
-      fewer = omega arith;
-      cost = omega arith;
-    }
 
 pub made_more : (v : Volume) (old mid new : Front) (made before then now n : ℕ) → Made v old mid made before then → next_visit v.nodes (unvisited v.nodes mid) ≡ Some n → Follows mid new v (visit v.nodes (unvisited v.nodes mid)) → now ≤ then + visit_looks v.nodes (Some n) → Made v old new (made + 1) before now
 made_more v old mid new made before then now n m h f looks =
@@ -184,6 +161,3 @@ made_looks v old new made before now m =
     let whole = unvisited v.nodes old in
     let part : Part whole (unvisited v.nodes new) = subst (Part whole) (sym m.follows.unvisited_are) (visits_part made v.nodes whole) in
     omega (arith, m.cost, part_cost (visit_cost v.nodes) whole (unvisited v.nodes new) part)
-
-pub made_count : (v : Volume) (old new : Front) (made before now : ℕ) → Made v old new made before now → made ≡ length (unvisited v.nodes old) - length (unvisited v.nodes new)
-made_count v old new made before now m = omega (arith, m.fewer)

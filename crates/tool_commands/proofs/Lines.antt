@@ -62,10 +62,6 @@ skipped_at line n n_is inside =
 pub blanks_within : (line : List ℕ) (n : ℕ) → n ≡ prefix_len is_blank line → (n ≡ length line → ⊥) → n < length line
 blanks_within line n n_is more = omega (arith, prefix_len-le-length is_blank line)
 
-pub too_long : (line : List ℕ) → 65536 < length line → read_line line ≡ Some (Err LineTooLong)
-unfolding read_line
-too_long line long = let test : nat_lt 65536 (length line) ≡ true = lt-ltb 65536 (length line) long in rw test refl
-
 not_utf8 : (line : List ℕ) (b : Bool) → is_utf8 line ≡ b → (IsUtf8 line → ⊥) → is_utf8 line ≡ false
 not_utf8 line true e never = absurd (never (IsUtf8-from_is_utf8 line e))
 not_utf8 line false e never = e

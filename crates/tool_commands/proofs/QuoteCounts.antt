@@ -8,6 +8,7 @@ use Rattle.fsrm_model.specs.Words.{is_quote, is_closed, last_quote}
 use Rattle.memchr.specs.Find.{IsLastByte, is_byte, places}
 use Rattle.memchr.proofs.lemmas.CallerLemmas.{length-places}
 use Rattle.memchr.proofs.lemmas.PlaceLemmas.{places_between-none}
+use Rattle.fsrm_model.proofs.TestLaws.{fails}
 
 -- the quote that isn't ended, if any
 abbrev pub unclosed : List ℕ → Option ℕ
@@ -26,10 +27,6 @@ even_quotes line found found_is even =
     let count : length found ≡ count_by is_quote line = ap length found_is ∙ length-places (is_byte 34) line in
     let closed : is_closed line ≡ true = rw (← count, even) refl in
     rw closed refl
-
-fails : (b : Bool) → (b ≡ true → ⊥) → not b ≡ true
-fails true h = absurd (h refl)
-fails false h = refl
 
 last_quote_is : (line : List ℕ) (place : ℕ) → IsLastByte (is_byte 34) line (Some place) → last_quote line ≡ place + 1
 last_quote_is line place h =

@@ -19,6 +19,7 @@ use Rattle.fsrm_model.specs.Quota.{is_limit}
 use Rattle.fsrm_model.specs.Reading.{Read, ◌>>=◌, guarded, known, is_number, number_from, path_from, path_parts, has_path_form, limit_from, digits_of, bytes_of, choice_from}
 use Rattle.fsrm_model.specs.Valued.{is_path, is_owner, is_length, is_deed, is_command}
 use Rattle.fsrm_model.specs.Words.{Word, words}
+use Rattle.fsrm_model.proofs.TestLaws.{both_true}
 
 -- what is read passes the test
 abbrev Gives : {X : Type 0} → (X → Bool) → Read X → Type 0
@@ -42,9 +43,6 @@ guard p false refusal x passes = λ y is. absurd cc
 last : {X : Type 0} (p : X → Bool) (given : List Word) (x : X) → p x ≡ true → Gives p (no_more given x)
 last p [] x passes = done p x passes
 last p (word ∷ given) x passes = λ y is. absurd cc
-
-both : (a b : Bool) → a ≡ true → b ≡ true → (a && b) ≡ true
-both a b p q = rw (p, q) refl
 
 abbrev within : ℕ → ℕ → ℕ → Bool
 within low high n = nat_le low n && nat_le n high
@@ -73,20 +71,20 @@ mkdir_valid : (end : ℕ) (given : List Word) → Gives is_deed (mkdir_words end
 mkdir_valid end given =
     then (λ read. is_path read.0) is_deed (path_word end given) _ (path_valid end given) (λ path p.
     then (λ read. is_owner read.0) is_deed (owner_word end path.1) _ (owner_valid end path.1) (λ owner o.
-    last is_deed owner.1 (File (Mkdir path.0 owner.0)) (both (is_path path.0) (is_owner owner.0) p o)))
+    last is_deed owner.1 (File (Mkdir path.0 owner.0)) (both_true (is_path path.0) (is_owner owner.0) p o)))
 
 create_valid : (end : ℕ) (given : List Word) → Gives is_deed (create_words end given)
 create_valid end given =
     then (λ read. is_path read.0) is_deed (path_word end given) _ (path_valid end given) (λ path p.
     then (λ read. is_length read.0) is_deed (length_word end path.1) _ (length_valid end path.1) (λ size l.
     then (λ read. is_owner read.0) is_deed (owner_word end size.1) _ (owner_valid end size.1) (λ owner o.
-    last is_deed owner.1 (File (Create path.0 size.0 owner.0)) (both (is_path path.0) (is_length size.0 && is_owner owner.0) p (both (is_length size.0) (is_owner owner.0) l o)))))
+    last is_deed owner.1 (File (Create path.0 size.0 owner.0)) (both_true (is_path path.0) (is_length size.0 && is_owner owner.0) p (both_true (is_length size.0) (is_owner owner.0) l o)))))
 
 resize_valid : (end : ℕ) (given : List Word) → Gives is_deed (resize_words end given)
 resize_valid end given =
     then (λ read. is_path read.0) is_deed (path_word end given) _ (path_valid end given) (λ path p.
     then (λ read. is_length read.0) is_deed (length_word end path.1) _ (length_valid end path.1) (λ size l.
-    last is_deed size.1 (File (Resize path.0 size.0)) (both (is_path path.0) (is_length size.0) p l)))
+    last is_deed size.1 (File (Resize path.0 size.0)) (both_true (is_path path.0) (is_length size.0) p l)))
 
 touch_valid : (end : ℕ) (given : List Word) → Gives is_deed (touch_words end given)
 touch_valid end given =
@@ -96,7 +94,7 @@ move_valid : (end : ℕ) (given : List Word) → Gives is_deed (move_words end g
 move_valid end given =
     then (λ read. is_path read.0) is_deed (path_word end given) _ (path_valid end given) (λ from p.
     then (λ read. is_path read.0) is_deed (path_word end from.1) _ (path_valid end from.1) (λ to q.
-    last is_deed to.1 (File (Move from.0 to.0)) (both (is_path from.0) (is_path to.0) p q)))
+    last is_deed to.1 (File (Move from.0 to.0)) (both_true (is_path from.0) (is_path to.0) p q)))
 
 remove_valid : (end : ℕ) (given : List Word) → Gives is_deed (remove_words end given)
 remove_valid end given =
@@ -131,10 +129,10 @@ once_valid p column (Some x) value valid = λ y is. absurd cc
 with_value_valid : (key : Key) (column : ℕ) (value : List ℕ) (given : Given) → are_given given ≡ true → Gives are_given (with_value key column value given)
 with_value_valid ThePath column value given h =
     then (λ (path : Option (List (List ℕ))). option_map_or is_path path true) are_given (once column given.path (path_from value)) _ (once_valid is_path column given.path (path_from value) (path_from_valid value)) (λ path p.
-    done are_given (record given { path = path }) (both (option_map_or is_path path true) (option_map_or is_limit given.limit true) p (and_parts (option_map_or is_path given.path true) (option_map_or is_limit given.limit true) h).1))
+    done are_given (record given { path = path }) (both_true (option_map_or is_path path true) (option_map_or is_limit given.limit true) p (and_parts (option_map_or is_path given.path true) (option_map_or is_limit given.limit true) h).1))
 with_value_valid TheLimit column value given h =
     then (λ (limit : Option ℕ). option_map_or is_limit limit true) are_given (once column given.limit (limit_from column value)) _ (once_valid is_limit column given.limit (limit_from column value) (limit_from_valid column value)) (λ limit l.
-    done are_given (record given { limit = limit }) (both (option_map_or is_path given.path true) (option_map_or is_limit limit true) (and_parts (option_map_or is_path given.path true) (option_map_or is_limit given.limit true) h).0 l))
+    done are_given (record given { limit = limit }) (both_true (option_map_or is_path given.path true) (option_map_or is_limit limit true) (and_parts (option_map_or is_path given.path true) (option_map_or is_limit given.limit true) h).0 l))
 with_value_valid TheType column value given h =
     behind are_given (once column given.enforce (choice_from (codes "hard") (codes "soft") column value)) _ (λ enforce. done are_given (record given { enforce = enforce }) h)
 with_value_valid TheStatus column value given h =
@@ -165,13 +163,13 @@ quota_add_valid end words =
     then are_given is_deed (options all_keys words nothing) _ (options_valid all_keys words nothing refl) (λ given g.
     then is_path is_deed (required end given.path) _ (required_valid is_path end given.path (given_path given g)) (λ path p.
     then is_limit is_deed (required end given.limit) _ (required_valid is_limit end given.limit (given_limit given g)) (λ limit l.
-    done is_deed (QuotaAdd path limit (unwrap_or given.enforce true) (unwrap_or given.enabled true)) (both (is_path path) (is_limit limit) p l))))
+    done is_deed (QuotaAdd path limit (unwrap_or given.enforce true) (unwrap_or given.enabled true)) (both_true (is_path path) (is_limit limit) p l))))
 
 quota_modify_valid : (end : ℕ) (words : List Word) → Gives is_deed (quota_modify_words end words)
 quota_modify_valid end words =
     then are_given is_deed (options all_keys words nothing) _ (options_valid all_keys words nothing refl) (λ given g.
     then is_path is_deed (required end given.path) _ (required_valid is_path end given.path (given_path given g)) (λ path p.
-    done is_deed (QuotaModify path given.limit given.enforce given.enabled) (both (is_path path) (option_map_or is_limit given.limit true) p (given_limit given g))))
+    done is_deed (QuotaModify path given.limit given.enforce given.enabled) (both_true (is_path path) (option_map_or is_limit given.limit true) p (given_limit given g))))
 
 quota_delete_valid : (end : ℕ) (words : List Word) → Gives is_deed (quota_delete_words end words)
 quota_delete_valid end words =
@@ -222,7 +220,7 @@ command_of_valid : (end : ℕ) (given : List Word) → Gives is_command (command
 command_of_valid end given =
     then (λ read. within 0 latest_moment read.0) is_command (number_word 0 latest_moment end given) _ (number_valid 0 latest_moment end given) (λ moment m.
     then is_deed is_command (named_word command_table end moment.1) _ (named_valid command_table end moment.1 table_valid) (λ deed d.
-    done is_command (record { moment = moment.0; deed = deed }) (both (nat_le moment.0 latest_moment) (is_deed deed) (and_parts (nat_le 0 moment.0) (nat_le moment.0 latest_moment) m).1 d)))
+    done is_command (record { moment = moment.0; deed = deed }) (both_true (nat_le moment.0 latest_moment) (is_deed deed) (and_parts (nat_le 0 moment.0) (nat_le moment.0 latest_moment) m).1 d)))
 
 -- what words spell is valid
 pub read_words_valid : (line : List ℕ) (command : Command) → read_words line ≡ Ok command → is_command command ≡ true

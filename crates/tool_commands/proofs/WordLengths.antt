@@ -7,16 +7,13 @@ use Rattle.std.specs.Prelude.{not, ◌&&◌, ◌||◌}
 use Rattle.std.specs.List.{prefix_len}
 use Rattle.fsrm_model.specs.Words.{is_blank, is_quote}
 use Rattle.tool_commands.specs.Lengths.{is_plain, word_length, quoted_length}
+use Rattle.fsrm_model.proofs.TestLaws.{and_false}
 
 -- neither passes
 pub neither : (a b : Bool) → not (a || b) ≡ true → (a ≡ false) × (b ≡ false)
 neither true b h = absurd cc
 neither false true h = absurd cc
 neither false false h = (refl, refl)
-
-and_false : (a : Bool) → (a && false) ≡ false
-and_false true = refl
-and_false false = refl
 
 -- behind plain bytes
 pub word_length-plain : (text : List ℕ) → word_length false text ≡ prefix_len is_plain text + word_length false (drop (prefix_len is_plain text) text)
@@ -46,8 +43,6 @@ word_length-quoted (b ∷ bs) = at (is_quote b) refl (word_length-quoted bs)
         rw (more, and_false (is_blank b), e) (omega (arith, ih))
 
 -- a quote opens what stands within quotes
-pub word_length-quote : (bs : List ℕ) → word_length false (34 ∷ bs) ≡ suc (word_length true bs)
-word_length-quote bs = refl
 
 pub word_length-le-length : (quoted : Bool) (text : List ℕ) → word_length quoted text ≤ length text
 word_length-le-length quoted [] = omega arith

@@ -143,13 +143,3 @@ has_there nodes order folder place row h a p l f =
     let size = length-order_entries nodes order h in
     let is : row ≡ at h.entries place = same_Some _ _ (sym f ∙ node_there nodes order place h a l) in
     ap (λ (r : NodeRow). r.parent == folder) is ∙ has_at nodes order folder place h a s (omega arith) ((at h.entries place).parent == folder) refl
-
--- no folder has more children than the order has numbers
-pub few_children : (nodes : List NodeRow) (order : List ℕ) (folder : ℕ) → is_ascending number nodes ≡ true → IsOrder nodes order → length (children nodes folder) ≤ length order
-few_children nodes order folder a h =
-    let first = end_from nodes order folder (length h.entries) 0 h (omega arith) (λ k m. absurd (omega arith)) in
-    let end = end_from nodes order (folder + 1) (length h.entries) 0 h (omega arith) (λ k m. absurd (omega arith)) in
-    let within = end.ends.within in
-    let count = length-children nodes order folder first.place end.place h a first.ends end.ends in
-    let size = length-order_entries nodes order h in
-    omega arith

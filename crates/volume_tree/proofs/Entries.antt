@@ -13,7 +13,7 @@ use Rattle.fsrm_model.specs.Keyed.{is_ascending, row_of}
 use Rattle.fsrm_model.specs.Tree.{number, node_of}
 use Rattle.fsrm_model.proofs.Look.{found_key}
 use Rattle.fsrm_model.proofs.Order.{parts}
-use Rattle.fsrm_model.proofs.TestLaws.{eq_same}
+use Rattle.fsrm_model.proofs.TestLaws.{eq_same, is_false}
 use Rattle.volume_tree.specs.Kept.{IsOrder, IsPlace, inner, is_before}
 use Rattle.volume_tree.proofs.Items.{contains_passing, contains_found}
 
@@ -48,16 +48,12 @@ pub record Entry (nodes : List NodeRow) (row : NodeRow) : Type 0 where
   pub found : node_of nodes row.number ≡ Some row
   pub inner : (row.number == 0) ≡ false
 
-pub not_not : (b : Bool) → not b ≡ true → b ≡ false
-not_not true h = cc
-not_not false h = refl
-
 inner_entries : (nodes : List NodeRow) → is_ascending number nodes ≡ true → All (Entry nodes) (inner nodes)
 inner_entries nodes a =
     let test : NodeRow → Bool = λ node. not (node.number == 0) in
     let found = All-filter test (λ (r : NodeRow). node_of nodes r.number ≡ Some r) nodes (rows_found number nodes a) in
     let passes = filter_passes test nodes in
-    λ k d l. record { found = found k d l; inner = not_not _ (passes k d l) }
+    λ k d l. record { found = found k d l; inner = is_false _ (passes k d l) }
 
 pub entries_are : (nodes : List NodeRow) (order : List ℕ) (h : IsOrder nodes order) → is_ascending number nodes ≡ true → All (Entry nodes) h.entries
 entries_are nodes order h a = All-permutation (Entry nodes) (inner nodes) h.entries h.members (inner_entries nodes a)

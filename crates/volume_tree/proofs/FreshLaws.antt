@@ -12,17 +12,9 @@ use Rattle.fsrm_model.specs.Valid.{IsVolume}
 use Rattle.fsrm_model.proofs.ChainLaws.{all_rows, find-with_row_same}
 use Rattle.fsrm_model.proofs.Look.{FoundRow, is_some-find, has_found, has_row-without, has_row-without_other, has_row-new_other}
 use Rattle.fsrm_model.proofs.Order.{parts, is_above, join, least_free_is, ascending-with_row, ascending-filter}
-use Rattle.fsrm_model.proofs.TestLaws.{clash, eq_same, lt_is, lt_test}
+use Rattle.fsrm_model.proofs.TestLaws.{clash, eq_same, lt_is, lt_test, eq_test, eq_below}
 use Rattle.volume_tree.specs.Kept.{rows_of, AreSlots}
-
-apart_test : (m n : ℕ) → m < n → (m == n) ≡ false
-apart_test m n h = grind (arith, nat_tests)
-
-same_test : (m n : ℕ) → m ≡ n → (m == n) ≡ true
-same_test m n h = grind (arith, nat_tests)
-
-apart_above : (m n : ℕ) → n < m → (m == n) ≡ false
-apart_above m n h = grind (arith, nat_tests)
+use Rattle.volume_tree.proofs.SlotRows.{slots_ascend}
 
 -- rows of slots ascend
 above_slots : (m : ℕ) (x : NodeRow) (slots : List (Option NodeRow)) → AreSlots m slots → x.number < m → is_above number x (rows_of slots) ≡ true
@@ -36,9 +28,6 @@ ascending_from m (None ∷ slots) a = ascending_from (suc m) slots a.1
 ascending_from m (Some row ∷ slots) a =
     let is : row.number ≡ m = a.0 in
     join number row (rows_of slots) (above_slots (suc m) row slots a.1 (omega arith)) (ascending_from (suc m) slots a.1)
-
-pub ascending_slots : (slots : List (Option NodeRow)) → AreSlots 0 slots → is_ascending number (rows_of slots) ≡ true
-ascending_slots slots a = ascending_from 0 slots a
 
 -- numbers below the least free one are taken
 below_at : (n k : ℕ) (r : NodeRow) (rows : List NodeRow) (b : Bool) → (r.number == n) ≡ b → n ≤ k → k < cond b (least_free_from number (n + 1) rows) n → (n + 1 ≤ k → k < least_free_from number (n + 1) rows → has_row number k rows ≡ true) → ((r.number == k) || has_row number k rows) ≡ true
@@ -117,7 +106,7 @@ fresh_made row nodes a e = choose (cases_lt row.number (fresh (with_row number r
       where
         at : (m ≡ row.number) ⊎ ((m < row.number) ⊎ (row.number < m)) → has_row number m (with_row number row nodes) ≡ true
         at (inl s) = ap (λ n. has_row number n (with_row number row nodes)) s ∙ has_new row nodes free
-        at (inr (inl g)) = has_row-new_other number row m nodes (apart_test m row.number g) ∙ fresh_below m nodes (omega (arith, e))
+        at (inr (inl g)) = has_row-new_other number row m nodes (eq_below m row.number g) ∙ fresh_below m nodes (omega (arith, e))
         at (inr (inr g)) = absurd (omega arith)
 
     choose : (row.number < fresh (with_row number row nodes)) ⊎ (fresh (with_row number row nodes) ≤ row.number) → row.number + 1 ≤ fresh (with_row number row nodes)
@@ -131,7 +120,7 @@ free_from-map g k n (r ∷ rows) =
     ap (λ i. cond (i == n) (least_free_from number (n + 1) (map g rows)) n) (k r)
     ∙ ap (λ m. cond (r.number == n) m n) (free_from-map g k (n + 1) rows)
 
-same_at : (c : NodeRow → NodeRow) (r : NodeRow) (b : Bool) → (c r).number ≡ r.number → (cond b (c r) r).number ≡ r.number
+pub same_at : (c : NodeRow → NodeRow) (r : NodeRow) (b : Bool) → (c r).number ≡ r.number → (cond b (c r) r).number ≡ r.number
 same_at c r true h = h
 same_at c r false h = refl
 
@@ -142,14 +131,14 @@ fresh_changed n c k nodes = free_from-map (λ r. cond (r.number == n) (c r) r) (
 pub fresh_lower : (n : ℕ) (nodes : List NodeRow) → is_ascending number nodes ≡ true → n < fresh nodes → n ≡ fresh (without_row number n nodes)
 fresh_lower n nodes a l =
     fresh_is (without_row number n nodes) n (ascending-filter number (λ (r : NodeRow). not (r.number == n)) nodes a) (has_row-without number n nodes)
-    (λ j h. has_row-without_other number n j nodes (apart_test j n h) ∙ fresh_below j nodes (omega arith))
+    (λ j h. has_row-without_other number n j nodes (eq_below j n h) ∙ fresh_below j nodes (omega arith))
 
 -- once a greater one is, it stays
 pub fresh_stays : (n : ℕ) (nodes : List NodeRow) → is_ascending number nodes ≡ true → fresh nodes < n → fresh nodes ≡ fresh (without_row number n nodes)
 fresh_stays n nodes a l =
     fresh_is (without_row number n nodes) (fresh nodes) (ascending-filter number (λ (r : NodeRow). not (r.number == n)) nodes a)
-    (has_row-without_other number n (fresh nodes) nodes (apart_test (fresh nodes) n l) ∙ fresh_free nodes a)
-    (λ j h. has_row-without_other number n j nodes (apart_test j n (omega arith)) ∙ fresh_below j nodes h)
+    (has_row-without_other number n (fresh nodes) nodes (eq_below (fresh nodes) n l) ∙ fresh_free nodes a)
+    (λ j h. has_row-without_other number n j nodes (eq_below j n (omega arith)) ∙ fresh_below j nodes h)
 
 -- a node's number isn't the least free one
 pub fresh_apart : (n : ℕ) (nodes : List NodeRow) → is_ascending number nodes ≡ true → has_row number n nodes ≡ true → n ≡ fresh nodes → ⊥
@@ -184,7 +173,7 @@ rows_fit (Some row ∷ slots) = let l = rows_fit slots in omega (arith, l)
 -- the least free number is at most the next slot's
 pub fresh_near : (slots : List (Option NodeRow)) → AreSlots 0 slots → fresh (rows_of slots) ≤ length slots
 fresh_near slots a =
-    let most = fresh_most (rows_of slots) (ascending_slots slots a) in
+    let most = fresh_most (rows_of slots) (slots_ascend slots a) in
     let fit = rows_fit slots in
     omega (arith, most, fit)
 
@@ -196,7 +185,7 @@ full_from m (Some row ∷ slots) a e =
     let i : suc m ≡ m + 1 = omega arith in
     let n : m + 1 + length slots ≡ m + suc (length slots) = omega arith in
     let rest : length (rows_of slots) ≡ length slots = omega (arith, e) in
-    ap (λ b. cond b (least_free_from number (m + 1) (rows_of slots)) m) (same_test row.number m is)
+    ap (λ b. cond b (least_free_from number (m + 1) (rows_of slots)) m) (eq_test row.number m is)
     ∙ (full_from (m + 1) slots (subst (λ k. AreSlots k slots) i a.1) rest ∙ n)
 
 -- where no slot is empty the least free number is the next slot's

@@ -30,17 +30,6 @@ earlier nodes order folder name h i j l m t =
     let b = at h.entries j in
     comes_then a.parent a.name b.parent b.name folder name (h.ascending i j root_node l m) t
 
-pub halves_all : (nodes : List NodeRow) (order : List ℕ) (folder : ℕ) (name : List ℕ) → Halves nodes order folder name 0 (length order)
-halves_all nodes order folder name =
-    record {
-      narrows = λ h. let size = length-order_entries nodes order h in record {
-        ordered = omega arith;
-        within = omega arith;
-        before = λ k m. absurd (omega arith);
-        after = λ k m n. absurd (omega arith);
-      };
-    }
-
 pub row_is : (nodes : List NodeRow) (order : List ℕ) (k : ℕ) (row : NodeRow) (h : IsOrder nodes order) → is_ascending number nodes ≡ true → k < length h.entries → node_of nodes (slice_index order k) ≡ Some row → row ≡ at h.entries k
 row_is nodes order k row h a l e =
     let size = length-order_entries nodes order h in
@@ -105,11 +94,6 @@ halves_end nodes order folder name low high h a halves l =
 pub record IsFew (size begun looks : ℕ) : Type 0 where
   pub few : looks ≤ begun + 20
   pub left : size < 2 ^ (begun + 20 - looks)
-
-pub few_all : (size begun : ℕ) → size < 1048576 → IsFew size begun begun
-few_all size begun l =
-    let e : begun + 20 - begun ≡ 20 = omega arith in
-    record { few = omega arith; left = subst (λ n. size < 2 ^ n) (sym e) (omega arith) }
 
 less_left : (size more room : ℕ) → 0 < size → more + more ≤ size → size < 2 ^ room → (0 < room) × (more < 2 ^ (room - 1))
 less_left size more zero s m l = absurd (omega arith)

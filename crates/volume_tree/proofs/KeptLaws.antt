@@ -17,25 +17,17 @@ use Rattle.fsrm_model.specs.Tree.{number, node_of, parent_of, name_of, fresh, is
 use Rattle.fsrm_model.specs.Valid.{IsVolume, is_own, is_root_node}
 use Rattle.fsrm_model.proofs.ChainLaws.{length-with_row}
 use Rattle.fsrm_model.proofs.ChangeLaws.{length-change}
-use Rattle.fsrm_model.proofs.Keeps.{volume-new, volume-change, volume-moved, volume-removed, KeepsNode, name_bytes-change, found_folder, found_parent}
-use Rattle.fsrm_model.proofs.Look.{has_found}
+use Rattle.fsrm_model.proofs.Keeps.{volume-new, volume-change, volume-moved, volume-removed, KeepsNode, name_bytes-change, found_folder}
+use Rattle.fsrm_model.proofs.Look.{has_found, none_filtered}
 use Rattle.fsrm_model.proofs.Sizes.{length-removed, name_bytes-new, name_bytes-placed, name_bytes-removed}
-use Rattle.fsrm_model.proofs.TestLaws.{lt_is, lt_test, eq_is, not_true, clash, both}
+use Rattle.fsrm_model.proofs.TestLaws.{lt_is, lt_test, eq_is, not_true, clash, both, le_test, ge_is, is_inner}
 use Rattle.fsrm_model.proofs.Walks.{found_name, child_is, child_found}
 use Rattle.volume_tree.specs.Kept.{rows_of, AreSlots, IsOrder, IsPlace, IsKept}
 use Rattle.volume_tree.specs.Shift.{IsShifted}
 use Rattle.volume_tree.specs.Volume.{is_other}
 use Rattle.volume_tree.proofs.FreshLaws.{fresh_near, fresh_free, fresh_most, fresh_apart, fresh_changed, fresh_made, fresh_lower, fresh_stays, few_nodes}
 use Rattle.volume_tree.proofs.OrderLaws.{order_made, order_gone, order_kept, order_respelled, order_moved, length-order}
-
-le_test : (m n : ℕ) → m ≤ n → nat_le m n ≡ true
-le_test m n h = grind (arith, nat_tests)
-
-ge_is : (m n : ℕ) → nat_lt m n ≡ false → n ≤ m
-ge_is m n h = grind (arith, nat_tests)
-
-not_zero : (n : ℕ) → (n ≡ 0 → ⊥) → (n == 0) ≡ false
-not_zero n h = not_true (n == 0) (λ t. h (eq_is n 0 t))
+use Rattle.fsrm_model.proofs.ValidLaws.{found_parent}
 
 -- the order and the rows of slots have few members
 pub few_rows : (K : Capacity) (count used free : ℕ) (slots : List (Option NodeRow)) (order : List ℕ) → IsKept K count used free slots order → length (rows_of slots) ≤ most_nodes
@@ -60,7 +52,7 @@ kept_made K count used free next slots made order row place k e own folder alone
     let nodes = rows_of slots in
     let fr : row.number ≡ fresh nodes = e ∙ k.free_is in
     let lacks : has_row number row.number nodes ≡ false = ap (λ n. has_row number n nodes) fr ∙ fresh_free nodes k.volume.ascending in
-    let inner : (row.number == 0) ≡ false = not_zero row.number (λ z. fresh_apart 0 nodes k.volume.ascending k.volume.has_root (sym z ∙ fr)) in
+    let inner : (row.number == 0) ≡ false = is_inner row.number (λ z. fresh_apart 0 nodes k.volume.ascending k.volume.has_root (sym z ∙ fr)) in
     let most = fresh_most nodes k.volume.ascending in
     let c = k.count_is in
     let u = k.used_is in
@@ -101,7 +93,7 @@ kept_changed K count used free slots made order n c k keeps inner own are rows =
 
 -- a file is no root
 pub file_inner : (K : Capacity) (nodes : List NodeRow) (n : ℕ) → IsVolume K nodes → is_folder nodes n ≡ false → (n == 0) ≡ false
-file_inner K nodes n v h = not_zero n (λ is.
+file_inner K nodes n v h = is_inner n (λ is.
     let f = has_found number 0 nodes v.has_root in
     let folder : f.row.folder ≡ true = (both _ _ (both _ _ (both _ _ (v.root f.row f.is)).0).0).0 in
     let at : is_folder nodes 0 ≡ true = found_folder nodes 0 f.row f.is ∙ folder in
@@ -219,14 +211,6 @@ kept_moved K count used free now slots made order moved x d name k has volume by
       free_is = k.free_is ∙ (sym (fresh_changed x (placed d name) (λ r. refl) nodes) ∙ ap fresh (sym rows));
       order_is = subst (λ ns. IsOrder ns moved) (sym rows) ordered;
     }
-
-no_more : (p : NodeRow → Bool) (r : NodeRow) (nodes : List NodeRow) (b : Bool) → length (cond b (r ∷ filter p nodes) (filter p nodes)) ≡ 0 → (length (filter p nodes) ≡ 0 → list_any p nodes ≡ false) → (b || list_any p nodes) ≡ false
-no_more p r nodes true h f = absurd (omega (arith, h))
-no_more p r nodes false h f = f h
-
-none_filtered : (p : NodeRow → Bool) (nodes : List NodeRow) → length (filter p nodes) ≡ 0 → list_any p nodes ≡ false
-none_filtered p [] h = refl
-none_filtered p (r ∷ nodes) h = no_more p r nodes (p r) h (none_filtered p nodes)
 
 no_children : (n : ℕ) → not (n == 0) ≡ false → n ≡ 0
 no_children n h = grind (arith, nat_tests)

@@ -10,6 +10,7 @@ use Rattle.fsrm_model.specs.Valid.{IsVolume}
 use Rattle.volume_tree.specs.declared.answer.TreeFault.TheVariants.{AlreadyExists, InvalidMove, NamesFull}
 use Rattle.volume_tree.specs.Volume.{Volume, first_fault, fault_if, is_other, move_fault}
 use Rattle.volume_tree.proofs.KeptLaws.{volume_placed}
+use Rattle.fsrm_model.proofs.TestLaws.{ge_is}
 
 -- the folder isn't the node or below it, no other child has the name, and there is room for it
 pub record MayMove (v : Volume) (x d : ℕ) (name : List ℕ) : Type 0 where
@@ -28,13 +29,10 @@ none_due false true c h = cc
 none_due false false true h = cc
 none_due false false false h = record { first = refl; second = refl; third = refl }
 
-not_less : (m n : ℕ) → nat_lt m n ≡ false → n ≤ m
-not_less m n h = grind (arith, nat_tests)
-
 pub may_move : (v : Volume) (x d : ℕ) (name : List ℕ) → move_fault v x d name ≡ None → MayMove v x d name
 may_move v x d name h =
     let n = none_due _ _ _ h in
-    record { apart = n.first; alone = n.second; room = not_less _ _ n.third }
+    record { apart = n.first; alone = n.second; room = ge_is _ _ n.third }
 
 -- and then the nodes are those of a volume
 pub volume_moved : (v : Volume) (x d : ℕ) (name : List ℕ) → IsVolume v.size v.nodes → has_row number x v.nodes ≡ true → (x == 0) ≡ false → is_folder v.nodes d ≡ true → is_name name ≡ true → move_fault v x d name ≡ None → IsVolume v.size (with_change number x (placed d name) v.nodes)

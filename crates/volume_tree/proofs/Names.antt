@@ -7,14 +7,11 @@ use Rattle.std.specs.Cmp.Lexicographic.{slice_cmp, texts_ties}
 use Rattle.std.specs.Ordering.{ordering_reverse, is_eq}
 use Rattle.std.specs.Str.{chars}
 use Rattle.fsrm_model.specs.Name.{folded, same_name, name_before}
-use Rattle.fsrm_model.proofs.TestLaws.{not_true, eq_is}
+use Rattle.fsrm_model.proofs.TestLaws.{not_true, eq_is, lt_is}
 
 -- names that are one have one folding
 pub same_folded : (a b : List ℕ) → same_name a b ≡ true → folded a ≡ folded b
 same_folded a b h = (bytes_eq-Decides (folded a) (folded b)).0 h
-
-pub same_itself : (a : List ℕ) → same_name a a ≡ true
-same_itself a = (bytes_eq-Decides (folded a) (folded a)).1 refl
 
 less_is : (o : Ordering) → is_lt o ≡ true → o ≡ Less
 less_is Less h = refl
@@ -66,9 +63,6 @@ name_before_empty a = none_before_nothing (folded a)
 -- the order of two places, each a folder and a name
 abbrev pub comes : ℕ → List ℕ → ℕ → List ℕ → Bool
 comes p a q b = nat_lt p q || ((p == q) && name_before a b)
-
-lt_is : (m n : ℕ) → nat_lt m n ≡ true → m < n
-lt_is m n h = grind (arith, nat_tests)
 
 pub record Comes (p : ℕ) (a : List ℕ) (q : ℕ) (b : List ℕ) : Type 0 where
   pub way : (p < q) ⊎ ((p ≡ q) × (name_before a b ≡ true))

@@ -22,19 +22,17 @@ use Rattle.fsrm_model.proofs.Look.{found_lacks, found_key, has_found, is_some-fi
 use Rattle.fsrm_model.proofs.Order.{ascending-filter}
 use Rattle.fsrm_model.proofs.RemoveLaws.{sum_by-without_row}
 use Rattle.fsrm_model.proofs.Sums.{sum_by-ones}
-use Rattle.fsrm_model.proofs.TestLaws.{eq_is, eq_same, clash, not_true}
+use Rattle.fsrm_model.proofs.TestLaws.{eq_is, eq_same, clash, not_true, is_false}
 use Rattle.volume_tree.specs.Kept.{IsOrder, IsPlace, inner, is_before}
 use Rattle.volume_tree.proofs.Edits.{map-insert, map-remove, pairs_insert, removed, with_row_moves, filter-map, map-map_same, filters_turned}
-use Rattle.volume_tree.proofs.Entries.{at, There, there, Divides, place_divides, ascending_pairs, rows_found, entry_of, entry_there, same_entry, number_there, length-order_entries, not_not}
+use Rattle.volume_tree.proofs.Entries.{at, There, there, Divides, place_divides, ascending_pairs, rows_found, entry_of, entry_there, same_entry, number_there, length-order_entries}
 use Rattle.volume_tree.proofs.Items.{contains_cases, contains_kept, passes_kept, same_items}
-use Rattle.volume_tree.proofs.Names.{comes, comes_itself, comes_or_after, comes_as, as_comes, same_itself}
+use Rattle.volume_tree.proofs.Names.{comes, comes_itself, comes_or_after, comes_as, as_comes}
+use Rattle.fsrm_model.proofs.Resolves.{same_itself}
+use Rattle.volume_tree.proofs.FreshLaws.{same_at}
 
 abbrev Before : NodeRow → NodeRow → Type 0
 Before a b = is_before a b.parent b.name ≡ true
-
--- the root alone
-pub order_root : IsOrder (root_node ∷ []) []
-order_root = record { entries = []; numbers = refl; members = IsPermutation-refl []; ascending = λ i j d l m. absurd (omega arith) }
 
 -- how many there are
 pub length-order : (nodes : List NodeRow) (order : List ℕ) → is_ascending number nodes ≡ true → IsOrder nodes order → has_row number 0 nodes ≡ true → length order + 1 ≡ length nodes
@@ -49,19 +47,6 @@ length-order nodes order a h root =
 pub record StandsIn (order : List ℕ) (n : ℕ) : Type 0 where
   pub place : ℕ
   pub is : slice_get order place ≡ Some n
-
-pub found_in_order : (nodes : List NodeRow) (order : List ℕ) (n : ℕ) → is_ascending number nodes ≡ true → IsOrder nodes order → has_row number n nodes ≡ true → (n == 0) ≡ false → StandsIn order n
-found_in_order nodes order n a h has other =
-    let f = has_found number n nodes has in
-    let e = entry_of nodes order n f.row h f.is other in
-    let size = length-order_entries nodes order h in
-    let below = e.1 in
-    let l : e.0 < length order = omega arith in
-    let row_is : at h.entries e.0 ≡ f.row = get_or_default h.entries e.0 root_node f.row e.1 ∙ e.2 in
-    record {
-      place = e.0;
-      is = slice_get-get_or order e.0 0 l ∙ ap Some (number_there nodes order e.0 0 h l ∙ (ap (λ (r : NodeRow). r.number) row_is ∙ found_key number n nodes f.row f.is));
-    }
 
 -- no entry has a name that no child has
 no_row : (o : Option NodeRow) → option_map number o ≡ None → o ≡ None
@@ -142,13 +127,13 @@ gone_stands nodes order place n row h a t c =
     let inside : not (row.number == 0) ≡ true = passes_kept (λ node. not (node.number == 0)) (without_row number n nodes) row c in
     let other : not (row.number == n) ≡ true = passes_kept (λ node. not (node.number == n)) nodes row some in
     let own : node_of nodes row.number ≡ Some row = All-contains (λ (r : NodeRow). node_of nodes r.number ≡ Some r) nodes row (rows_found number nodes a) (contains_kept (λ node. not (node.number == n)) nodes row some) in
-    let e = entry_of nodes order row.number row h own (not_not _ inside) in
+    let e = entry_of nodes order row.number row h own (is_false _ inside) in
     let first = at h.entries place in
     let moved = IsPermutation-remove h.entries place first t.below (get_or_default h.entries place root_node first t.below) in
     elim (contains_cases first (remove h.entries place) row (Contains-permutation h.entries (first ∷ remove h.entries place) row moved e)) [
       | inl is ↦
           let same : row.number ≡ n = ap (λ (r : NodeRow). r.number) (sym is) ∙ t.number_is in
-          absurd (clash _ (subst (λ i. (i == n) ≡ true) (sym same) (eq_same n)) (not_not _ other))
+          absurd (clash _ (subst (λ i. (i == n) ≡ true) (sym same) (eq_same n)) (is_false _ other))
       | inr d ↦ d
     ]
 
@@ -208,14 +193,10 @@ changed_alike : (n : ℕ) (c : NodeRow → NodeRow) (r : NodeRow) (b : Bool) →
 changed_alike n c r true h = h refl
 changed_alike n c r false h = record { folder = refl; name = same_itself r.name }
 
-changed_number : (c : NodeRow → NodeRow) (r : NodeRow) (b : Bool) → (c r).number ≡ r.number → (cond b (c r) r).number ≡ r.number
-changed_number c r true h = h
-changed_number c r false h = refl
-
 pub order_kept : (nodes : List NodeRow) (order : List ℕ) (n : ℕ) (c : NodeRow → NodeRow) → IsOrder nodes order → ((r : NodeRow) → (c r).number ≡ r.number) → ((r : NodeRow) → (c r).parent ≡ r.parent) → ((r : NodeRow) → (c r).name ≡ r.name) → IsOrder (with_change number n c nodes) order
 order_kept nodes order n c h numbers folders names =
     order_alike nodes order (λ r. if number r == n then c r else r) h
-    (λ r. changed_number c r (number r == n) (numbers r))
+    (λ r. same_at c r (number r == n) (numbers r))
     (λ k d l.
     let r = get_or nodes k d in
     changed_alike n c r (number r == n) (λ t. record { folder = folders r; name = subst (λ text. same_name r.name text ≡ true) (sym (names r)) (same_itself r.name) }))
@@ -225,7 +206,7 @@ pub order_respelled : (nodes : List NodeRow) (order : List ℕ) (n folder : ℕ)
 order_respelled nodes order n folder name row a h f parent same =
     let c = placed folder name in
     order_alike nodes order (λ r. if number r == n then c r else r) h
-    (λ r. changed_number c r (number r == n) refl)
+    (λ r. same_at c r (number r == n) refl)
     (λ k d l.
     let r = get_or nodes k d in
     changed_alike n c r (number r == n) (λ t.
@@ -287,7 +268,7 @@ moved_members nodes order old n place c h a keeps t =
     let read : c row ≡ get_or (map g h.entries) old (c row) = sym (get_or-map g h.entries old root_node (c row) below ∙ ap (λ b. cond b (c row) row) own) in
     let rest : remove (map g h.entries) old ≡ less =
     sym (map-remove g h.entries old) ∙ map_fixed g less (λ k d l. ap (λ b. cond b (c (get_or less k d)) (get_or less k d)) (others_at nodes order old n h a t k d l)) in
-    let same : inner (map g nodes) ≡ map g (inner nodes) = filter-map (λ node. not (node.number == 0)) g (λ r. ap (λ i. not (i == 0)) (changed_number c r (number r == n) (keeps r))) nodes in
+    let same : inner (map g nodes) ≡ map g (inner nodes) = filter-map (λ node. not (node.number == 0)) g (λ r. ap (λ i. not (i == 0)) (same_at c r (number r == n) (keeps r))) nodes in
     let changed : IsPermutation (inner (map g nodes)) (map g h.entries) = subst (λ xs. IsPermutation xs (map g h.entries)) (sym same) (IsPermutation-map g (inner nodes) h.entries h.members) in
     let taken : IsPermutation (map g h.entries) (c row ∷ less) = subst (λ ys. IsPermutation (map g h.entries) (c row ∷ ys)) rest (IsPermutation-remove (map g h.entries) old (c row) (omega arith) read) in
     IsPermutation-trans (inner (map g nodes)) (map g h.entries) (insert less place (c row)) changed

@@ -11,10 +11,11 @@ use Rattle.fsrm_model.specs.Keyed.{is_ascending}
 use Rattle.fsrm_model.specs.Name.{same_name}
 use Rattle.fsrm_model.specs.Tree.{number, node_of, is_child, child_of, child_number}
 use Rattle.fsrm_model.proofs.Look.{found_any, found_key, found_own, found_passes, is_some-find}
-use Rattle.fsrm_model.proofs.TestLaws.{eq_is, clash, both}
+use Rattle.fsrm_model.proofs.TestLaws.{eq_is, clash, both, is_false}
 use Rattle.volume_tree.specs.Kept.{IsOrder, IsPlace, is_before}
-use Rattle.volume_tree.proofs.Entries.{at, Divides, place_divides, entry_of, entry_there, number_there, node_there, length-order_entries, not_not}
-use Rattle.volume_tree.proofs.Names.{comes_apart, comes_as, comes_turned, comes_itself, same_itself}
+use Rattle.volume_tree.proofs.Entries.{at, Divides, place_divides, entry_of, entry_there, number_there, node_there, length-order_entries}
+use Rattle.volume_tree.proofs.Names.{comes_apart, comes_as, comes_turned, comes_itself}
+use Rattle.fsrm_model.proofs.Resolves.{same_itself}
 
 -- a child of a name is an entry of it
 pub record NamedEntry (entries : List NodeRow) (folder : ℕ) (name : List ℕ) (row : NodeRow) : Type 0 where
@@ -30,7 +31,7 @@ named_entry nodes order folder name row h a f =
     let passes : (is_child folder row ≡ true) × (same_name row.name name ≡ true) = both _ _ (found_passes test nodes row f) in
     let child : (not (row.number == 0) ≡ true) × ((row.parent == folder) ≡ true) = both _ _ passes.0 in
     let own = found_own number test nodes row a f in
-    let e = entry_of nodes order row.number row h own (not_not _ child.0) in
+    let e = entry_of nodes order row.number row h own (is_false _ child.0) in
     let is : at h.entries e.0 ≡ row = get_or_default h.entries e.0 root_node row e.1 ∙ e.2 in
     record {
       place = e.0;
@@ -143,7 +144,7 @@ named_at nodes folder name n (Some row) a f e =
     record {
       row = row;
       found = ap (node_of nodes) (sym is) ∙ found_own number test nodes row a f;
-      inner = ap (λ i. i == 0) (sym is) ∙ not_not _ child.0;
+      inner = ap (λ i. i == 0) (sym is) ∙ is_false _ child.0;
       folder_is = eq_is _ _ child.1;
       named = passes.1;
     }

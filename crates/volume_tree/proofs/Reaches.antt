@@ -14,7 +14,7 @@ use Rattle.fsrm_model.proofs.Look.{found_key, has_found}
 use Rattle.fsrm_model.proofs.Members.{all_found}
 use Rattle.fsrm_model.proofs.MoveLaws.{members_has, stable_by}
 use Rattle.fsrm_model.proofs.TestLaws.{both, both_true, clash, eq_is, is_or_not, not_root}
-use Rattle.fsrm_model.proofs.ValidLaws.{folder_has}
+use Rattle.fsrm_model.proofs.ValidLaws.{folder_has, found_parent}
 use Rattle.volume_tree.specs.Sound.{AreMarks, Reaches, is_placed}
 
 -- the way up goes over the parent
@@ -100,8 +100,6 @@ within nodes (row ∷ rows) h =
     }
 
 -- each node's parent is a node
-parent_at : (nodes : List NodeRow) (n : ℕ) (r : NodeRow) → node_of nodes n ≡ Some r → parent_of nodes n ≡ r.parent
-parent_at nodes n r e = rw e refl
 
 placed_parent : (nodes : List NodeRow) (r : NodeRow) (b : Bool) → has_row number 0 nodes ≡ true → cond b (is_root_node r) (is_own r && is_folder nodes r.parent) ≡ true → Has nodes r.parent
 placed_parent nodes r true root h =
@@ -113,7 +111,7 @@ placed_parent nodes r false root h = folder_has nodes r.parent (both (is_own r) 
 closed : (nodes : List NodeRow) → has_row number 0 nodes ≡ true → list_all (is_placed nodes) nodes ≡ true → (n : ℕ) → Has nodes n → Has nodes (parent_of nodes n)
 closed nodes root placed n h =
     let f = has_found number n nodes h in
-    subst (Has nodes) (sym (parent_at nodes n f.row f.is))
+    subst (Has nodes) (sym (found_parent nodes n f.row f.is))
     (placed_parent nodes f.row (f.row.number == 0) root (all_found (is_placed nodes) (λ y. number y == n) nodes f.row placed f.is))
 
 -- where all ways come to the root, each does in as many steps as there are nodes

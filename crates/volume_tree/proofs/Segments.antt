@@ -14,9 +14,9 @@ use Rattle.fsrm_model.specs.Keyed.{is_ascending}
 use Rattle.fsrm_model.specs.Name.{name_before}
 use Rattle.fsrm_model.specs.Order.{in_order}
 use Rattle.fsrm_model.specs.Tree.{number, node_of, is_child, children, children_in_order}
-use Rattle.fsrm_model.proofs.TestLaws.{eq_is, clash, both}
+use Rattle.fsrm_model.proofs.TestLaws.{eq_is, clash, both, is_false}
 use Rattle.volume_tree.specs.Kept.{IsOrder, IsPlace}
-use Rattle.volume_tree.proofs.Entries.{at, place_divides, ascending_pairs, rows_found, entry_of, entry_there, not_not}
+use Rattle.volume_tree.proofs.Entries.{at, place_divides, ascending_pairs, rows_found, entry_of, entry_there}
 use Rattle.volume_tree.proofs.Halving.{before_empty}
 use Rattle.volume_tree.proofs.Items.{Differs, contains_found, contains_kept, contains_passing, passes_kept, same_sorted, in_order_moves, in_order_sorted}
 use Rattle.volume_tree.proofs.Names.{comes_equal, name_before_then, name_before_turned}
@@ -53,7 +53,7 @@ pub entry_of_child : (nodes : List NodeRow) (order : List ℕ) (folder : ℕ) (r
 entry_of_child nodes order folder row h a c =
     let own : node_of nodes row.number ≡ Some row = All-contains (λ (r : NodeRow). node_of nodes r.number ≡ Some r) nodes row (rows_found number nodes a) (contains_kept (is_child folder) nodes row c) in
     let test : (not (row.number == 0) ≡ true) × ((row.parent == folder) ≡ true) = both _ _ (passes_kept (is_child folder) nodes row c) in
-    let e = entry_of nodes order row.number row h own (not_not _ test.0) in
+    let e = entry_of nodes order row.number row h own (is_false _ test.0) in
     let is : at h.entries e.0 ≡ row = get_or_default h.entries e.0 root_node row e.1 ∙ e.2 in
     record { place = e.0; below = e.1; is = is; folder_is = ap (λ (r : NodeRow). r.parent) is ∙ eq_is _ _ test.1 }
 

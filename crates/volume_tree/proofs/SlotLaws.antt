@@ -10,25 +10,14 @@ use Rattle.fsrm_model.specs.Keyed.{has_row, with_row, with_change, without_row}
 use Rattle.fsrm_model.specs.Tree.{number, node_of}
 use Rattle.fsrm_model.proofs.ChangeLaws.{change_absent}
 use Rattle.fsrm_model.proofs.Look.{is_some-find, found_key, has_found}
-use Rattle.fsrm_model.proofs.TestLaws.{lt_test}
+use Rattle.fsrm_model.proofs.TestLaws.{lt_test, eq_test, eq_below, eq_above, not_lt}
 use Rattle.volume_tree.specs.Kept.{rows_of, IsSlot, AreSlots}
+use Rattle.fsrm_model.proofs.RemoveLaws.{without_absent}
 
 -- what stands at a place of slots
 abbrev pub row_in : Option (Option NodeRow) → Option NodeRow
 row_in None = None
 row_in (Some slot) = slot
-
-not_lt : (m n : ℕ) → n ≤ m → nat_lt m n ≡ false
-not_lt m n h = grind (arith, nat_tests)
-
-eq_test : (m n : ℕ) → m ≡ n → (m == n) ≡ true
-eq_test m n h = grind (arith, nat_tests)
-
-eq_apart : (m n : ℕ) → n < m → (m == n) ≡ false
-eq_apart m n h = grind (arith, nat_tests)
-
-eq_below : (m n : ℕ) → m < n → (m == n) ≡ false
-eq_below m n h = grind (arith, nat_tests)
 
 -- slots have no number below that of the first
 pub none_below : (m k : ℕ) (slots : List (Option NodeRow)) → AreSlots m slots → k < m → node_of (rows_of slots) k ≡ None
@@ -36,7 +25,7 @@ none_below m k [] a h = refl
 none_below m k (None ∷ slots) a h = none_below (suc m) k slots a.1 (omega arith)
 none_below m k (Some row ∷ slots) a h =
     let is : row.number ≡ m = a.0 in
-    let apart : (row.number == k) ≡ false = eq_apart row.number k (omega arith) in
+    let apart : (row.number == k) ≡ false = eq_above row.number k (omega arith) in
     ap (λ b. cond b (Some row) (node_of (rows_of slots) k)) apart ∙ none_below (suc m) k slots a.1 (omega arith)
 
 lacks_below : (m k : ℕ) (slots : List (Option NodeRow)) → AreSlots m slots → k < m → has_row number k (rows_of slots) ≡ false
@@ -154,14 +143,6 @@ put_rows slots row a l h =
     let none : node_of (rows_of slots) row.number ≡ None = none_of (node_of (rows_of slots) row.number) (is_some-find (λ (r : NodeRow). r.number == row.number) (rows_of slots) ∙ h) in
     let i : row.number ≡ 0 + row.number = omega arith in
     put_rows_from 0 row.number slots row a i (empty_at slots row.number l (sym (row_is row.number slots a) ∙ none))
-
-without_absent_at : {X : Type 0} (x : X) (xs ys : List X) (b m : Bool) → (b || m) ≡ false → (m ≡ false → ys ≡ xs) → cond (not b) (x ∷ ys) ys ≡ x ∷ xs
-without_absent_at x xs ys true m h f = cc
-without_absent_at x xs ys false m h f = ap (λ zs. x ∷ zs) (f h)
-
-pub without_absent : {X : Type 0} (key : X → ℕ) (n : ℕ) (rows : List X) → has_row key n rows ≡ false → without_row key n rows ≡ rows
-without_absent key n [] h = refl
-without_absent key n (x ∷ xs) h = without_absent_at x xs (without_row key n xs) (key x == n) (has_row key n xs) h (without_absent key n xs)
 
 gone_rows_from : (m k : ℕ) (slots : List (Option NodeRow)) → AreSlots m slots → rows_of (slice_set slots k None) ≡ without_row number (m + k) (rows_of slots)
 gone_rows_from m zero [] a = refl

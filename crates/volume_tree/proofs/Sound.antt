@@ -15,18 +15,13 @@ use Rattle.fsrm_model.specs.Valid.{is_tree, is_sound_node, is_root_node, is_inne
 use Rattle.fsrm_model.proofs.Look.{found_has}
 use Rattle.fsrm_model.proofs.Members.{all_found, all_pass}
 use Rattle.fsrm_model.proofs.Order.{is_above, join, parts}
-use Rattle.fsrm_model.proofs.TestLaws.{both, both_true, clash, eq_is, eq_same, is_false, lt_is, lt_test, not_true}
+use Rattle.fsrm_model.proofs.TestLaws.{both, both_true, clash, eq_is, eq_same, is_false, lt_is, lt_test, not_true, le_is, le_test}
 use Rattle.fsrm_model.proofs.ValidVolume.{volume_of_tree}
 use Rattle.volume_tree.specs.Kept.{IsOrder, is_before}
 use Rattle.volume_tree.specs.Sound.{HasTwins, are_from, are_sound, is_placed}
 use Rattle.volume_tree.proofs.Entries.{entry_of}
 use Rattle.volume_tree.proofs.Names.{comes_apart, same_folded}
-
-le_is : (m n : ℕ) → nat_le m n ≡ true → m ≤ n
-le_is m n h = grind (arith, nat_tests)
-
-le_test : (m n : ℕ) → m ≤ n → nat_le m n ≡ true
-le_test m n h = grind (arith, nat_tests)
+use Rattle.fsrm_model.proofs.Keeps.{same_turned}
 
 -- what numbers that ascend below a bound have
 record From (n bound : ℕ) (row : NodeRow) (rows : List NodeRow) : Type 0 where
@@ -108,12 +103,6 @@ sound_of K nodes v =
 pub bad_sound : (K : Capacity) (nodes : List NodeRow) → are_sound K.nodes nodes ≡ false → is_tree K nodes ≡ false
 bad_sound K nodes h = not_true (is_tree K nodes) (λ t. clash (are_sound K.nodes nodes) (sound_of K nodes (volume_of_tree K nodes t)) h)
 
-pub bad_names : (K : Capacity) (nodes : List NodeRow) → nat_le (name_bytes nodes) K.names ≡ false → is_tree K nodes ≡ false
-bad_names K nodes h =
-    not_true (is_tree K nodes) (λ t.
-    let v = volume_of_tree K nodes t in
-    clash (nat_le (name_bytes nodes) K.names) (le_test (name_bytes nodes) K.names v.names) h)
-
 pub bad_twins : (K : Capacity) (nodes : List NodeRow) → HasTwins nodes → is_tree K nodes ≡ false
 bad_twins K nodes t =
     not_true (is_tree K nodes) (λ is.
@@ -121,8 +110,6 @@ bad_twins K nodes t =
     t.apart (v.alone t.other.number t.one.number t.other t.one t.other_found t.one_found t.other_inner t.one_inner t.folder t.name))
 
 -- children of one name stand at one place of an order
-same_turned : (a b : List ℕ) → same_name a b ≡ true → same_name b a ≡ true
-same_turned a b h = (bytes_eq-Decides (folded b) (folded a)).1 (sym (same_folded a b h))
 
 before_other : (a b : NodeRow) → is_before a b.parent b.name ≡ true → a.parent ≡ b.parent → same_name a.name b.name ≡ true → ⊥
 before_other a b h e s = clash (same_name a.name b.name) s (comes_apart a.parent a.name b.parent b.name h e)

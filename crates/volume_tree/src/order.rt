@@ -144,12 +144,7 @@ fn first_behind(slots: &[Option<NodeRow>], order: &[u32], folder: u64, floor: us
 
 /// From where to where in the order a folder's children stand. They are sought from a place on, and found soon
 /// where they are near it.
-pub fn segment(
-    slots: &[Option<NodeRow>],
-    order: &[u32],
-    folder: u32,
-    near: usize,
-) -> (usize, usize)
+pub fn segment(slots: &[Option<NodeRow>], order: &[u32], folder: u32, near: usize) -> (usize, usize)
     requires slots { AreSlots 0 slots.now }
     requires order { IsOrder (rows_of slots.now) order.now }
     ensures { IsSegment (rows_of slots.now) order.now folder result.0 result.1 }

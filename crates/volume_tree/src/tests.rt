@@ -213,8 +213,14 @@ fn children_are_ordered<N: Named>(
     assert_eq!(end; child_name(&tree, end, 0, 4, &mut steps), "É");
     // Wherever the finger is: at the front, and behind them.
     let mut finger = Finger::default();
-    assert_eq!(end; tree.children(0, &mut finger, &mut steps), [4, 2, 5, 1, 3].as_slice());
-    assert_eq!(end; tree.children(0, &mut finger, &mut steps), [4, 2, 5, 1, 3].as_slice());
+    assert_eq!(end;
+        tree.children(0, &mut finger, &mut steps),
+        [4, 2, 5, 1, 3].as_slice()
+    );
+    assert_eq!(end;
+        tree.children(0, &mut finger, &mut steps),
+        [4, 2, 5, 1, 3].as_slice()
+    );
     assert_eq!(end; tree.child(0, "b", &mut steps), Some(1));
     assert_eq!(end; tree.child(0, "é", &mut steps), Some(3));
     assert_eq!(end; tree.child(0, "c", &mut steps), None);

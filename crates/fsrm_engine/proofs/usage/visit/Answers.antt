@@ -1,26 +1,26 @@
-use Rattle.std.proofs.Common.{arith}
+use Rattle.std.proofs.Common.{ℕ, List, ◌++◌, ◌∙◌, ap, arith}
 use Rattle.fsrm_engine.proofs.WalkLaws.{folder_sum, visited_count, visited_there, children_few, file_sum, file_count}
 use Rattle.fsrm_engine.proofs.usage.visit.Goals as goal
 
 pub returns-in_ok-extend_from_slice-clause-sum : goal.returns-in_ok-extend_from_slice-clause-sum
 returns-in_ok-extend_from_slice-clause-sum g c =
-    folder_sum c.args.tree.now.size c.args.tree.now.nodes c.args.node c.node-view.result c.args.pending.now.items c.extend_from_slice.new.self.items c.requires.volume c.node-view.ensures.view c.if-view.true c.in_ok-extend_from_slice.ensures.pushed
+    folder_sum c.args.tree.now.size c.args.tree.now.nodes c.args.node c.node-view.result c.args.pending.now.items c.extend_from_slice.new.self.items c.requires.volume c.node-view.ensures.view c.if-view.true (c.in_ok-extend_from_slice.ensures.items ∙ ap (λ (ns : List ℕ). c.args.pending.now.items ++ ns) c.children.ensures.numbers)
 
 pub returns-in_ok-extend_from_slice-clause-left : goal.returns-in_ok-extend_from_slice-clause-left
 returns-in_ok-extend_from_slice-clause-left g c =
-    visited_count c.args.tree.now.size c.args.tree.now.nodes c.args.node c.node-view.result c.args.pending.now.items c.extend_from_slice.new.self.items c.requires.volume c.node-view.ensures.view c.in_ok-extend_from_slice.ensures.pushed
+    visited_count c.args.tree.now.size c.args.tree.now.nodes c.args.node c.node-view.result c.args.pending.now.items c.extend_from_slice.new.self.items c.requires.volume c.node-view.ensures.view (c.in_ok-extend_from_slice.ensures.items ∙ ap (λ (ns : List ℕ). c.args.pending.now.items ++ ns) c.children.ensures.numbers)
 
 pub returns-in_ok-extend_from_slice-clause-pending : goal.returns-in_ok-extend_from_slice-clause-pending
 returns-in_ok-extend_from_slice-clause-pending g c =
-    visited_there c.args.tree.now.nodes c.args.node c.args.pending.now.items c.extend_from_slice.new.self.items c.requires.pending c.in_ok-extend_from_slice.ensures.pushed
+    visited_there c.args.tree.now.nodes c.args.node c.args.pending.now.items c.extend_from_slice.new.self.items c.requires.pending (c.in_ok-extend_from_slice.ensures.items ∙ ap (λ (ns : List ℕ). c.args.pending.now.items ++ ns) c.children.ensures.numbers)
 
 pub returns-in_ok-extend_from_slice-clause-looks : goal.returns-in_ok-extend_from_slice-clause-looks
 returns-in_ok-extend_from_slice-clause-looks g c =
-    omega (arith, c.node-view.ensures.count, c.extend_from_slice.ensures.looks, children_few c.args.tree.now.size c.args.tree.now.nodes c.args.node c.requires.volume c.requires.there)
+    omega (arith, c.node-view.ensures.count, c.children.ensures.count, children_few c.args.tree.now.size c.args.tree.now.nodes c.args.node c.requires.volume c.requires.there)
 
 pub returns-in_err-extend_from_slice-clause-looks : goal.returns-in_err-extend_from_slice-clause-looks
 returns-in_err-extend_from_slice-clause-looks g c =
-    omega (arith, c.node-view.ensures.count, c.extend_from_slice.ensures.looks, children_few c.args.tree.now.size c.args.tree.now.nodes c.args.node c.requires.volume c.requires.there)
+    omega (arith, c.node-view.ensures.count, c.children.ensures.count, children_few c.args.tree.now.size c.args.tree.now.nodes c.args.node c.requires.volume c.requires.there)
 
 pub returns-else-view-clause-sum : goal.returns-else-view-clause-sum
 returns-else-view-clause-sum g c =

@@ -1,6 +1,6 @@
 use Rattle.std.proofs.Common.{false, refl, ◌∙◌}
-use Rattle.scan_queue.proofs.Leaving.{root_folder}
 use Rattle.scan_queue.proofs.Made.{made, made_folder, made_length, made_scanning, made_there}
+use Rattle.rescan.proofs.FrontierLaws.{root_folder}
 use Rattle.scan_queue.proofs.tests.create.Goals as goal
 
 pub create-requires-clause-folder : goal.create-requires-clause-folder

@@ -1,6 +1,6 @@
 use Rattle.std.proofs.Common.{true, ◌∙◌}
-use Rattle.scan_queue.proofs.Leaving.{root_folder}
 use Rattle.scan_queue.proofs.Made.{made, made_folder, made_found, made_scanning, made_there}
+use Rattle.rescan.proofs.FrontierLaws.{root_folder}
 use Rattle.scan_queue.proofs.tests.mkdir.Goals as goal
 
 pub mkdir-requires-clause-folder : goal.mkdir-requires-clause-folder

@@ -2,8 +2,9 @@ use Rattle.std.proofs.Common.{◌≡◌, Some, sym, ap, ◌∙◌}
 use Rattle.std.specs.Str.Lossy.{utf8_valid_len}
 use Rattle.fsrm_model.specs.Line.{read_words}
 use Rattle.fsrm_model.specs.Valued.{is_command}
-use Rattle.tool_commands.proofs.Lines.{too_long, not_text, passed_over, by_words, fault_of}
+use Rattle.tool_commands.proofs.Lines.{not_text, passed_over, by_words, fault_of}
 use Rattle.tool_commands.proofs.Validity.{read_words_valid}
+use Rattle.fsrm_model.proofs.ScriptLaws.{too_long}
 use Rattle.tool_commands.proofs.reading.read_line.Goals as goal
 
 pub returns-then-line-gt-LONGEST_LINE-clause-fault : goal.returns-then-line-gt-LONGEST_LINE-clause-fault

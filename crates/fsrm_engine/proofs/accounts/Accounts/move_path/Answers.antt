@@ -4,7 +4,7 @@ use Rattle.fsrm_model.specs.declared.command.FileOp.TheVariants.{Move}
 use Rattle.fsrm_model.proofs.ValidLaws.{folder_has}
 use Rattle.volume_tree.specs.Volume.{Volume, move_fault}
 use Rattle.fsrm_engine.proofs.StepLaws.{done_at, refused_at, refused_by_same}
-use Rattle.fsrm_engine.proofs.PlaceLaws.{place_within, place_depth, has_resolved, apart}
+use Rattle.fsrm_engine.proofs.PlaceLaws.{place_within, place_depth, has_resolved}
 use Rattle.fsrm_engine.proofs.MoveLaws.{move_due, move_root, stray_due}
 use Rattle.fsrm_engine.proofs.GrowthLaws.{owned, admitted, refused_by_quota, due_none, due_some, stored}
 use Rattle.fsrm_engine.proofs.MoveKept.{moves_to, move_changes, move_done, move_effect, below_due, from_height, to_height, left_height, parent_there, there_moved, room_seen, move_fits, moved_fits}
@@ -18,6 +18,7 @@ use Rattle.fsrm_model.proofs.Resolves.{resolved}
 use Rattle.volume_tree.specs.Volume.{Move as Moving}
 use Rattle.fsrm_engine.proofs.FollowLaws.{within_scans, scans_at, nodes_at, goes_to, volume_is, made_ready, move_next, move_nodes}
 use Rattle.fsrm_engine.proofs.ScanLaws.{follow_op, op_refused, op_refused_by}
+use Rattle.fsrm_model.proofs.TestLaws.{is_inner}
 use Rattle.fsrm_engine.proofs.accounts.Accounts.move_path.Goals as goal
 
 pub returns-then-node-eq0-clause-ok : goal.returns-then-node-eq0-clause-ok
@@ -29,7 +30,7 @@ returns-then-node-eq0-clause-ok g c =
 pub returns-in-Err-clause-ok : goal.returns-in-Err-clause-ok
 returns-in-Err-clause-ok g c =
     refused_at _ _ _ c.args.moment (File (Move c.args.from.now c.args.to.now)) _ _ _ c.self.view_is c.requires.late
-    (stray_due c.self.inside.tree c.self.inside.objects.quotas c.self.inside.last_moment c.args.moment _ _ _ _ _ c.self.view_is c.self.invariant.volume (sym c.in-Some.ensures.value) (apart _ c.if-node-eq0.false) c.in-Err.ensures.err)
+    (stray_due c.self.inside.tree c.self.inside.objects.quotas c.self.inside.last_moment c.args.moment _ _ _ _ _ c.self.view_is c.self.invariant.volume (sym c.in-Some.ensures.value) (is_inner _ c.if-node-eq0.false) c.in-Err.ensures.err)
     c.refused-in-Err.ensures
 
 pub is_at_or_below-requires : goal.is_at_or_below-requires
@@ -42,7 +43,7 @@ returns-then-is_at_or_below-clause-ok g c =
     let v = c.self.inside.tree in
     let p = place_within v _ _ _ _ _ _ c.self.view_is c.in-Ok.ensures.ok in
     refused_at v _ _ c.args.moment (File (Move c.args.from.now c.args.to.now)) _ _ _ c.self.view_is c.requires.late
-    (below_due v c.self.inside.objects.quotas c.self.inside.last_moment c.args.moment c.args.from.now c.args.to.now c.in-Some.node c.in-Ok.place.folder c.in-Ok.place.name.now c.is_at_or_below.result c.self.invariant.volume (sym c.in-Some.ensures.value) (apart _ c.if-node-eq0.false) p c.is_at_or_below.ensures.below c.if-is_at_or_below.true)
+    (below_due v c.self.inside.objects.quotas c.self.inside.last_moment c.args.moment c.args.from.now c.args.to.now c.in-Some.node c.in-Ok.place.folder c.in-Ok.place.name.now c.is_at_or_below.result c.self.invariant.volume (sym c.in-Some.ensures.value) (is_inner _ c.if-node-eq0.false) p c.is_at_or_below.ensures.below c.if-is_at_or_below.true)
     c.refused-then-is_at_or_below.ensures
 
 pub returns-then-is_at_or_below-clause-looks : goal.returns-then-is_at_or_below-clause-looks
@@ -83,7 +84,7 @@ pub admit-requires-clause-fits : goal.admit-requires-clause-fits
 admit-requires-clause-fits g c =
     let v = c.self.inside.tree in
     let p = place_within v _ _ _ _ _ _ c.self.view_is c.in-Ok.ensures.ok in
-    let to = moves_to v.nodes c.in-Some.node c.in-Ok.place.folder c.node.result c.is_at_or_below.result c.node.ensures.view (apart _ c.if-node-eq0.false) p.folder_is c.is_at_or_below.ensures.below c.if-is_at_or_below.false in
+    let to = moves_to v.nodes c.in-Some.node c.in-Ok.place.folder c.node.result c.is_at_or_below.result c.node.ensures.view (is_inner _ c.if-node-eq0.false) p.folder_is c.is_at_or_below.ensures.below c.if-is_at_or_below.false in
     move_fits v c.self.inside.objects.quotas c.self.inside.usage c.in-Some.node c.in-Ok.place.folder c.in-Ok.place.name.now c.node.result c.in_ok-bytes.bytes c.self.invariant c.node.ensures.view to c.in_ok-bytes.ensures.bytes
 
 pub move_refusal-refusal-requires-clause-there : goal.move_refusal-refusal-requires-clause-there
@@ -95,10 +96,10 @@ returns-in-Err-admit-clause-ok g c =
     let quotas = c.self.inside.objects.quotas in
     let last = c.self.inside.last_moment in
     let p = place_within v _ _ _ _ _ _ c.self.view_is c.in-Ok.ensures.ok in
-    let to = moves_to v.nodes c.in-Some.node c.in-Ok.place.folder c.node.result c.is_at_or_below.result c.node.ensures.view (apart _ c.if-node-eq0.false) p.folder_is c.is_at_or_below.ensures.below c.if-is_at_or_below.false in
+    let to = moves_to v.nodes c.in-Some.node c.in-Ok.place.folder c.node.result c.is_at_or_below.result c.node.ensures.view (is_inner _ c.if-node-eq0.false) p.folder_is c.is_at_or_below.ensures.below c.if-is_at_or_below.false in
     let changes = move_changes v.size v.nodes quotas c.in-Some.node c.in-Ok.place.folder c.in-Ok.place.name.now c.node.result c.in_ok-bytes.bytes c.self.invariant.volume c.self.invariant.are_quotas c.node.ensures.view to c.in_ok-bytes.ensures.bytes in
     refused_at v quotas last c.args.moment (File (Move c.args.from.now c.args.to.now)) _ _ _ c.self.view_is c.requires.late
-    (move_due v quotas last c.args.moment c.args.from.now c.args.to.now c.in-Some.node c.in-Ok.place.folder c.in-Ok.place.name.now c.self.invariant.volume (sym c.in-Some.ensures.value) (apart _ c.if-node-eq0.false) p
+    (move_due v quotas last c.args.moment c.args.from.now c.args.to.now c.in-Some.node c.in-Ok.place.folder c.in-Ok.place.name.now c.self.invariant.volume (sym c.in-Some.ensures.value) (is_inner _ c.if-node-eq0.false) p
     ∙ due_some (move_fault v c.in-Some.node c.in-Ok.place.folder c.in-Ok.place.name.now) _ c.in-Err-admit.exceeded c.move_refusal-refusal.result
     (refused_by_quota v quotas last c.self.inside.usage _ _ c.in-Err-admit.exceeded c.self.invariant changes c.in-Err-admit.ensures.refused) c.move_refusal-refusal.ensures.refusal)
     c.refused-in-Err-admit.ensures
@@ -117,7 +118,7 @@ returns-in-Err-admit-clause-looks g c =
       c.in-Err-admit.ensures.looks,
       c.move_refusal-refusal.ensures.looks,
       place_depth _ _ _ _ _ c.self.invariant.volume p,
-      from_height v.size v.nodes c.args.from.now c.in-Some.node c.node.result c.self.invariant.volume (sym c.in-Some.ensures.value) (apart _ c.if-node-eq0.false) c.node.ensures.view,
+      from_height v.size v.nodes c.args.from.now c.in-Some.node c.node.result c.self.invariant.volume (sym c.in-Some.ensures.value) (is_inner _ c.if-node-eq0.false) c.node.ensures.view,
       room_seen v c.self.inside.objects.quotas c.self.inside.last_moment _ c.args.from.now c.args.to.now c.in-Some.node c.self.view_is c.self.invariant.volume (sym c.in-Some.ensures.value),
     )
 
@@ -138,14 +139,14 @@ pub charge-requires-clause-fits : goal.charge-requires-clause-fits
 charge-requires-clause-fits g c =
     let v = c.self.inside.tree in
     let p = place_within v _ _ _ _ _ _ c.self.view_is c.in-Ok.ensures.ok in
-    let to = moves_to v.nodes c.in-Some.node c.in-Ok.place.folder c.node.result c.is_at_or_below.result c.node.ensures.view (apart _ c.if-node-eq0.false) p.folder_is c.is_at_or_below.ensures.below c.if-is_at_or_below.false in
+    let to = moves_to v.nodes c.in-Some.node c.in-Ok.place.folder c.node.result c.is_at_or_below.result c.node.ensures.view (is_inner _ c.if-node-eq0.false) p.folder_is c.is_at_or_below.ensures.below c.if-is_at_or_below.false in
     moved_fits v c.make_move.new.self c.self.inside.objects.quotas c.self.inside.usage c.in-Some.node c.in-Ok.place.folder c.in-Ok.place.name.now c.node.result c.in_ok-bytes.bytes c.self.invariant c.node.ensures.view to c.in_ok-bytes.ensures.bytes (made_ready _ _ _ _ _ _ c.in-Ok-ready_move.ensures.ready c.make_move.ensures.made)
 
 pub invariant_of-self : goal.invariant_of-self
 invariant_of-self g c =
     let v = c.self.inside.tree in
     let p = place_within v _ _ _ _ _ _ c.self.view_is c.in-Ok.ensures.ok in
-    let to = moves_to v.nodes c.in-Some.node c.in-Ok.place.folder c.node.result c.is_at_or_below.result c.node.ensures.view (apart _ c.if-node-eq0.false) p.folder_is c.is_at_or_below.ensures.below c.if-is_at_or_below.false in
+    let to = moves_to v.nodes c.in-Some.node c.in-Ok.place.folder c.node.result c.is_at_or_below.result c.node.ensures.view (is_inner _ c.if-node-eq0.false) p.folder_is c.is_at_or_below.ensures.below c.if-is_at_or_below.false in
     (move_done v c.make_move.new.self c.self.inside.objects.quotas c.charge.new.objects c.self.inside.usage c.charge.new.usage c.in-Some.node c.in-Ok.place.folder c.in-Ok.place.name.now c.node.result c.in_ok-bytes.bytes c.args.moment
     c.self.invariant c.node.ensures.view to c.in_ok-bytes.ensures.bytes (made_ready _ _ _ _ _ _ c.in-Ok-ready_move.ensures.ready c.make_move.ensures.made) c.make_move.ensures.kept c.requires.moment c.charge.ensures.counters c.charge.ensures.quotas).engine
 
@@ -155,12 +156,12 @@ returns-in-Ok-ready_move-clause-ok g c =
     let quotas = c.self.inside.objects.quotas in
     let last = c.self.inside.last_moment in
     let p = place_within v _ _ _ _ _ _ c.self.view_is c.in-Ok.ensures.ok in
-    let to = moves_to v.nodes c.in-Some.node c.in-Ok.place.folder c.node.result c.is_at_or_below.result c.node.ensures.view (apart _ c.if-node-eq0.false) p.folder_is c.is_at_or_below.ensures.below c.if-is_at_or_below.false in
+    let to = moves_to v.nodes c.in-Some.node c.in-Ok.place.folder c.node.result c.is_at_or_below.result c.node.ensures.view (is_inner _ c.if-node-eq0.false) p.folder_is c.is_at_or_below.ensures.below c.if-is_at_or_below.false in
     let changes = move_changes v.size v.nodes quotas c.in-Some.node c.in-Ok.place.folder c.in-Ok.place.name.now c.node.result c.in_ok-bytes.bytes c.self.invariant.volume c.self.invariant.are_quotas c.node.ensures.view to c.in_ok-bytes.ensures.bytes in
     let d = move_done v c.make_move.new.self quotas c.charge.new.objects c.self.inside.usage c.charge.new.usage c.in-Some.node c.in-Ok.place.folder c.in-Ok.place.name.now c.node.result c.in_ok-bytes.bytes c.args.moment
     c.self.invariant c.node.ensures.view to c.in_ok-bytes.ensures.bytes (made_ready _ _ _ _ _ _ c.in-Ok-ready_move.ensures.ready c.make_move.ensures.made) c.make_move.ensures.kept c.requires.moment c.charge.ensures.counters c.charge.ensures.quotas in
     done_at v c.make_move.new.self quotas quotas c.charge.new.objects.quotas last c.args.moment (File (Move c.args.from.now c.args.to.now)) _ _ _ c.self.view_is c.requires.late
-    (move_due v quotas last c.args.moment c.args.from.now c.args.to.now c.in-Some.node c.in-Ok.place.folder c.in-Ok.place.name.now c.self.invariant.volume (sym c.in-Some.ensures.value) (apart _ c.if-node-eq0.false) p
+    (move_due v quotas last c.args.moment c.args.from.now c.args.to.now c.in-Some.node c.in-Ok.place.folder c.in-Ok.place.name.now c.self.invariant.volume (sym c.in-Some.ensures.value) (is_inner _ c.if-node-eq0.false) p
     ∙ due_none (move_fault v c.in-Some.node c.in-Ok.place.folder c.in-Ok.place.name.now) _ c.in-Ok-ready_move.ensures.may (admitted v quotas last c.self.inside.usage _ _ c.self.invariant changes c.in_default-admit.ensures.admitted))
     (move_effect v c.make_move.new.self quotas last c.args.moment c.args.from.now c.args.to.now c.in-Some.node c.in-Ok.place.folder c.in-Ok.place.name.now (sym c.in-Some.ensures.value) p (made_ready _ _ _ _ _ _ c.in-Ok-ready_move.ensures.ready c.make_move.ensures.made)) refl refl (ap (λ (u : Volume). u.size) (made_ready _ _ _ _ _ _ c.in-Ok-ready_move.ensures.ready c.make_move.ensures.made))
     d.raised_are c.done.ensures.rows c.done.ensures.answer
@@ -169,7 +170,7 @@ pub returns-in-Ok-ready_move-clause-kept : goal.returns-in-Ok-ready_move-clause-
 returns-in-Ok-ready_move-clause-kept g c =
     let v = c.self.inside.tree in
     let p = place_within v _ _ _ _ _ _ c.self.view_is c.in-Ok.ensures.ok in
-    let to = moves_to v.nodes c.in-Some.node c.in-Ok.place.folder c.node.result c.is_at_or_below.result c.node.ensures.view (apart _ c.if-node-eq0.false) p.folder_is c.is_at_or_below.ensures.below c.if-is_at_or_below.false in
+    let to = moves_to v.nodes c.in-Some.node c.in-Ok.place.folder c.node.result c.is_at_or_below.result c.node.ensures.view (is_inner _ c.if-node-eq0.false) p.folder_is c.is_at_or_below.ensures.below c.if-is_at_or_below.false in
     stored c.make_move.new.self c.charge.new.objects.quotas c.charge.new.usage c.args.moment c.done.new.self
     (move_done v c.make_move.new.self c.self.inside.objects.quotas c.charge.new.objects c.self.inside.usage c.charge.new.usage c.in-Some.node c.in-Ok.place.folder c.in-Ok.place.name.now c.node.result c.in_ok-bytes.bytes c.args.moment
     c.self.invariant c.node.ensures.view to c.in_ok-bytes.ensures.bytes (made_ready _ _ _ _ _ _ c.in-Ok-ready_move.ensures.ready c.make_move.ensures.made) c.make_move.ensures.kept c.requires.moment c.charge.ensures.counters c.charge.ensures.quotas).engine c.done.ensures.rows
@@ -179,7 +180,7 @@ returns-in-Ok-ready_move-clause-looks g c =
     let v = c.self.inside.tree in
     let w = c.make_move.new.self in
     let p = place_within v _ _ _ _ _ _ c.self.view_is c.in-Ok.ensures.ok in
-    let to = moves_to v.nodes c.in-Some.node c.in-Ok.place.folder c.node.result c.is_at_or_below.result c.node.ensures.view (apart _ c.if-node-eq0.false) p.folder_is c.is_at_or_below.ensures.below c.if-is_at_or_below.false in
+    let to = moves_to v.nodes c.in-Some.node c.in-Ok.place.folder c.node.result c.is_at_or_below.result c.node.ensures.view (is_inner _ c.if-node-eq0.false) p.folder_is c.is_at_or_below.ensures.below c.if-is_at_or_below.false in
     omega (
       arith,
       c.in-Some.ensures.looks,
@@ -194,7 +195,7 @@ returns-in-Ok-ready_move-clause-looks g c =
       c.charge.ensures.looks,
       (resolved v.size v.nodes c.args.from.now c.in-Some.node c.self.invariant.volume (sym c.in-Some.ensures.value)).deep,
       place_depth _ _ _ _ _ c.self.invariant.volume p,
-      from_height v.size v.nodes c.args.from.now c.in-Some.node c.node.result c.self.invariant.volume (sym c.in-Some.ensures.value) (apart _ c.if-node-eq0.false) c.node.ensures.view,
+      from_height v.size v.nodes c.args.from.now c.in-Some.node c.node.result c.self.invariant.volume (sym c.in-Some.ensures.value) (is_inner _ c.if-node-eq0.false) c.node.ensures.view,
       room_seen v c.self.inside.objects.quotas c.self.inside.last_moment _ c.args.from.now c.args.to.now c.in-Some.node c.self.view_is c.self.invariant.volume (sym c.in-Some.ensures.value),
       to_height v w c.in-Some.node c.in-Ok.place.folder c.in-Ok.place.name.now c.self.invariant.volume to (made_ready _ _ _ _ _ _ c.in-Ok-ready_move.ensures.ready c.make_move.ensures.made),
       left_height v w c.in-Some.node c.in-Ok.place.folder c.in-Ok.place.name.now c.node.result c.self.invariant.volume to c.node.ensures.view (made_ready _ _ _ _ _ _ c.in-Ok-ready_move.ensures.ready c.make_move.ensures.made),
@@ -205,7 +206,7 @@ returns-in-Err-ready_move-clause-ok g c =
     let v = c.self.inside.tree in
     let p = place_within v _ _ _ _ _ _ c.self.view_is c.in-Ok.ensures.ok in
     refused_by_same _ _ _ c.args.moment (File (Move c.args.from.now c.args.to.now)) _ _ _ _ _ c.self.view_is c.requires.late
-    (move_due v c.self.inside.objects.quotas c.self.inside.last_moment c.args.moment c.args.from.now c.args.to.now c.in-Some.node c.in-Ok.place.folder c.in-Ok.place.name.now c.self.invariant.volume (sym c.in-Some.ensures.value) (apart _ c.if-node-eq0.false) p)
+    (move_due v c.self.inside.objects.quotas c.self.inside.last_moment c.args.moment c.args.from.now c.args.to.now c.in-Some.node c.in-Ok.place.folder c.in-Ok.place.name.now c.self.invariant.volume (sym c.in-Some.ensures.value) (is_inner _ c.if-node-eq0.false) p)
     c.in-Err-ready_move.ensures.refused c.refused_by.ensures.ok
 
 pub returns-in-Err-ready_move-clause-looks : goal.returns-in-Err-ready_move-clause-looks
@@ -222,7 +223,7 @@ returns-in-Err-ready_move-clause-looks g c =
       c.in_default-admit.ensures.looks,
       c.in-Err-ready_move.ensures.looks,
       place_depth _ _ _ _ _ c.self.invariant.volume p,
-      from_height v.size v.nodes c.args.from.now c.in-Some.node c.node.result c.self.invariant.volume (sym c.in-Some.ensures.value) (apart _ c.if-node-eq0.false) c.node.ensures.view,
+      from_height v.size v.nodes c.args.from.now c.in-Some.node c.node.result c.self.invariant.volume (sym c.in-Some.ensures.value) (is_inner _ c.if-node-eq0.false) c.node.ensures.view,
       room_seen v c.self.inside.objects.quotas c.self.inside.last_moment _ c.args.from.now c.args.to.now c.in-Some.node c.self.view_is c.self.invariant.volume (sym c.in-Some.ensures.value),
     )
 
@@ -231,7 +232,7 @@ make_move-requires-clause-there g c =
     subst (λ (m : Moving). has_row number m.node c.self.inside.tree.nodes ≡ true) (sym c.in-Ok-ready_move.ensures.ready) (has_resolved _ _ _ _ c.self.invariant.volume (sym c.in-Some.ensures.value))
 
 pub make_move-requires-clause-inner : goal.make_move-requires-clause-inner
-make_move-requires-clause-inner g c = subst (λ (m : Moving). (m.node == 0) ≡ false) (sym c.in-Ok-ready_move.ensures.ready) (apart _ c.if-node-eq0.false)
+make_move-requires-clause-inner g c = subst (λ (m : Moving). (m.node == 0) ≡ false) (sym c.in-Ok-ready_move.ensures.ready) (is_inner _ c.if-node-eq0.false)
 
 pub make_move-requires-clause-folder : goal.make_move-requires-clause-folder
 make_move-requires-clause-folder g c =

@@ -1,6 +1,11 @@
-use Rattle.std.proofs.Common.{arith}
+use Rattle.std.proofs.Common.{◌≤◌, subst, arith}
 use Rattle.fsrm_engine.proofs.StepLaws.{cost_in_time}
 use Rattle.fsrm_engine.proofs.engine.Engine.apply.Goals as goal
 
+pub take-requires-clause-late : goal.take-requires-clause-late
+take-requires-clause-late g c = subst (λ k. k ≤ c.args.command.now.moment) c.last_moment.ensures.moment c.if-command-last_moment.false
+
 pub returns-clause-looks : goal.returns-clause-looks
-returns-clause-looks g c = omega (arith, c.take.ensures.looks, cost_in_time c.args.self.now.rows c.args.command.now (omega arith))
+returns-clause-looks g c =
+    let late = subst (λ k. k ≤ c.args.command.now.moment) c.last_moment.ensures.moment c.if-command-last_moment.false in
+    omega (arith, c.take.ensures.looks, cost_in_time c.args.self.now.rows c.args.command.now late)

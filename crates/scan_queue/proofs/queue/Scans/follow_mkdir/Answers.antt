@@ -10,7 +10,8 @@ use Rattle.volume_tree.specs.Volume.{without_node}
 use Rattle.scan_queue.specs.Courses.{Course, Scanning, Goes, left}
 use Rattle.scan_queue.proofs.Following.{kept_going, goes_idle, goes_on}
 use Rattle.scan_queue.proofs.Leaving.{folder_back}
-use Rattle.scan_queue.proofs.Lengths.{folder_length, own_follows}
+use Rattle.scan_queue.proofs.Lengths.{own_follows}
+use Rattle.rescan.proofs.ChangeLaws.{folder_length}
 use Rattle.scan_queue.proofs.queue.Scans.follow_mkdir.Goals as goal
 
 pub invariant_of-self : goal.invariant_of-self

@@ -8,7 +8,8 @@ use Rattle.volume_tree.specs.Volume.{without_node}
 use Rattle.scan_queue.specs.Courses.{Course, Scanning, Goes, left}
 use Rattle.scan_queue.proofs.Following.{absent_apart, goes_idle, goes_on, kept_going, not_scanned, stands_active}
 use Rattle.scan_queue.proofs.Leaving.{folder_stays, volume_without}
-use Rattle.scan_queue.proofs.Lengths.{folder_length, own_stands}
+use Rattle.scan_queue.proofs.Lengths.{own_stands}
+use Rattle.rescan.proofs.ChangeLaws.{folder_length}
 use Rattle.scan_queue.proofs.queue.Scans.follow_rmdir.Goals as goal
 
 pub on_remove-requires-clause-other : goal.on_remove-requires-clause-other

@@ -13,7 +13,7 @@ pub each : {X : Type 0} {P Q : X → Type 0} (rows : List X) → ((r : X) → P 
 each [] f h = tt
 each (r ∷ rows) f h = (f r h.0, each rows f h.1)
 
-own_later : {X : Type 0} (key : X → ℕ) (x : X) (xs : List X) → has_row key (key x) xs ≡ false → (r : X) → row_of key (key r) xs ≡ Some r → row_of key (key r) (x ∷ xs) ≡ Some r
+pub own_later : {X : Type 0} (key : X → ℕ) (x : X) (xs : List X) → has_row key (key x) xs ≡ false → (r : X) → row_of key (key r) xs ≡ Some r → row_of key (key r) (x ∷ xs) ≡ Some r
 own_later key x xs lacks r h = at (key x == key r) refl
   where
     at : (b : Bool) → (key x == key r) ≡ b → cond b (Some x) (row_of key (key r) xs) ≡ Some r

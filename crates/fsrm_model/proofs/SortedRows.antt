@@ -1,6 +1,5 @@
 -- Ascending rows: what a search by halves finds, and what an edit at that place makes.
-use Rattle.std.proofs.Common.{◌≡◌, ℕ, zero, suc, ◌<◌, ◌≤◌, ◌==◌, nat_lt, Bool, true, false, cond, not, ◌||◌, List, [], ◌∷◌, length, get_or, insert, remove, Some, None, Option, Result, Ok, Err, IfOk, IfErr, refl, sym, ◌∙◌, ap, subst, arith, tests}
-use Rattle.std.proofs.lemmas.Bool.Decides.{nat_tests}
+use Rattle.std.proofs.Common.{◌≡◌, ℕ, zero, suc, ◌<◌, ◌≤◌, ◌==◌, Bool, true, false, cond, not, ◌||◌, List, [], ◌∷◌, length, get_or, insert, remove, Some, None, Option, Result, Ok, Err, IfOk, IfErr, refl, sym, ◌∙◌, ap, subst, arith, tests}
 use Rattle.std.proofs.lemmas.Cmp.{ranked}
 use Rattle.std.proofs.lemmas.Option.{same_Some, slice_get-get_or, slice_get_within, get_or_from_slice_get}
 use Rattle.std.specs.List.Sorted.{IsSearchInRange, IsBinarySearchResult, IsNonDecreasingBy}
@@ -12,20 +11,9 @@ use Rattle.fsrm_model.specs.Keyed.{row_of, has_row, with_row, with_change, witho
 use Rattle.fsrm_model.proofs.ChangeLaws.{absent_later, ascending_tail, change_absent}
 use Rattle.fsrm_model.proofs.Look.{FoundRow, found_key, found_has, is_some-find}
 use Rattle.fsrm_model.proofs.Order.{parts, ascending-map, ascending-with_row, ascending-filter}
-use Rattle.fsrm_model.proofs.TestLaws.{eq_is, lt_is, lt_test}
-use Rattle.file_groups.specs.Places.{IsAt, IsGap}
-
-eq_test : (m n : ℕ) → m ≡ n → (m == n) ≡ true
-eq_test m n h = grind (arith, nat_tests)
-
-eq_above : (m n : ℕ) → n < m → (m == n) ≡ false
-eq_above m n h = grind (arith, nat_tests)
-
-eq_below : (m n : ℕ) → m < n → (m == n) ≡ false
-eq_below m n h = grind (arith, nat_tests)
-
-not_lt : (m n : ℕ) → n ≤ m → nat_lt m n ≡ false
-not_lt m n h = grind (arith, nat_tests)
+use Rattle.fsrm_model.proofs.TestLaws.{eq_is, lt_is, lt_test, eq_test, eq_below, eq_above, not_lt}
+use Rattle.fsrm_model.specs.Places.{IsAt, IsGap}
+use Rattle.fsrm_model.proofs.RemoveLaws.{without_absent}
 
 -- a later row's number is greater
 pub later_above : {X : Type 0} (key : X → ℕ) (x : X) (rows : List X) (p : ℕ) (r : X) → is_ascending key (x ∷ rows) ≡ true → slice_get rows p ≡ Some r → key x < key r
@@ -67,10 +55,6 @@ set_row key n c (x ∷ rows) (suc p) r a h e =
 kept_head : {X : Type 0} (b : Bool) (x : X) (rows kept : List X) (m : Bool) → (b || m) ≡ false → (m ≡ false → kept ≡ rows) → cond (not b) (x ∷ kept) kept ≡ x ∷ rows
 kept_head true x rows kept m h f = cc
 kept_head false x rows kept m h f = ap (λ ys. x ∷ ys) (f h)
-
-without_absent : {X : Type 0} (key : X → ℕ) (n : ℕ) (rows : List X) → has_row key n rows ≡ false → without_row key n rows ≡ rows
-without_absent key n [] h = refl
-without_absent key n (x ∷ rows) h = kept_head (key x == n) x rows (without_row key n rows) (has_row key n rows) h (without_absent key n rows)
 
 -- a removal at a place takes its row away
 pub remove_row : {X : Type 0} (key : X → ℕ) (n : ℕ) (rows : List X) (p : ℕ) (r : X) → is_ascending key rows ≡ true → slice_get rows p ≡ Some r → key r ≡ n → remove rows p ≡ without_row key n rows
