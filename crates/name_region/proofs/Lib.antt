@@ -1,2 +1,9 @@
-pub mod Spans
 pub mod Keys
+pub mod Slots
+pub mod Written
+pub mod Exchanged
+pub mod Rooms
+pub mod Links
+pub mod Texts
+pub mod Gathered
+pub mod Layouts

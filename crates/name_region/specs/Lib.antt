@@ -1,3 +1,5 @@
 pub mod Contents
-pub mod Block
+pub mod Rings
+pub mod Written
+pub mod Layout
 pub mod Kept

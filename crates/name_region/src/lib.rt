@@ -2,7 +2,12 @@
 #![tactic(auto)]
 
 mod block;
+mod holes;
+mod layout;
+mod numbers;
 mod region;
+mod rings;
+mod slot;
 #[cfg(test)]
 mod tests;
 

@@ -1,10 +1,10 @@
 //! Texts under keys that the region hands out.
 
-ghost use Rattle.std.specs.Prelude.{◌≡◌, ◌+◌, ◌<◌, ◌≤◌, IfOk, OnOk, OnErr, IsErrOf, length, None, Some, true, ℕ, slice_index};
-ghost use Rattle.std.specs.Vec.{vec_capacity};
+ghost use Rattle.std.specs.Prelude.{◌≡◌, ◌+◌, ◌<◌, ◌≤◌, IfOk, OnOk, OnErr, IsErrOf, length, None, Some, true};
 ghost use Rattle.name_region.specs.Contents.{fresh, is_live, live_count, text_of, used, with_text};
 
 use crate::block::Block;
+use crate::numbers::numbers;
 use fsrm_model::NoMemory;
 use std::alloc::Global;
 use std::marker::Model;
@@ -21,7 +21,7 @@ pub enum RegionFault {
 /// A reserved region of bytes, in which texts stand under keys. Contracts see how many bytes it
 /// has for texts, and under each key, from 0, the text or none.
 ///
-/// Only `reserve` takes memory: the bytes twice, and a few for each key.
+/// Only `reserve` takes memory: the bytes, and some 36 more for each key.
 #[derive(Drop)]
 pub struct Region {
     block: Block,
@@ -48,7 +48,7 @@ impl Region {
         ensures { IfOk result (λ region. region ≡ fresh bytes keys) }
     {
         let block = Block::reserve(alloc, bytes, keys)?;
-        let free = all_keys(alloc, keys)?;
+        let free = numbers(alloc, keys)?;
         Ok(Region {
             block,
             used: 0,
@@ -58,7 +58,8 @@ impl Region {
 
     /// Stores a text, and answers its key, below the number of keys. Full exactly where the texts
     /// would take more bytes than were reserved, otherwise NoKey exactly where all keys are live.
-    /// It takes time for the text's length, and for all texts where they have to be moved together.
+    /// It takes time for the text's length, and for all texts where they have to be moved together, which
+    /// is only where no hole between two of them, nor what is left behind the last one, is so long.
     pub fn store(&mut self, text: &str) -> Result<u32, RegionFault>
         ensures key { IfOk result (λ key. key < length self.old.texts) }
         ensures dead { IfOk result (λ key. text_of self.old key ≡ None) }
@@ -112,17 +113,4 @@ impl Region {
     {
         self.block.live(key)
     }
-}
-
-// The keys in their order.
-fn all_keys(alloc: Global, keys: u32) -> Result<Vec<u32>, NoMemory>
-    ensures len { IfOk result (λ free. length free.items ≡ keys) }
-    ensures items { IfOk result (λ free. (k : ℕ) → k < keys → slice_index free.items k ≡ k) }
-    ensures capacity { IfOk result (λ free. keys ≤ vec_capacity free) }
-{
-    let mut free = Vec::with_capacity(alloc, keys as usize)?;
-    for key in 0..keys {
-        free.push(key)?;
-    }
-    Ok(free)
 }

@@ -41,6 +41,24 @@ fn bytes_are_won_back_from_several_holes(rt: HostRuntime) -> Result<(), Fail> {
 }
 
 #[test]
+fn a_hole_is_filled_and_texts_are_moved_where_none_fits(rt: HostRuntime) -> Result<(), Fail> {
+    let mut region = Region::reserve(rt.alloc(), 8, 4)?;
+    let short = region.store("abc")?;
+    let long = region.store("defg")?;
+    assert_eq!(rt; region.store("hi"), Err(RegionFault::Full));
+    assert!(rt; region.live(short));
+    region.release(short);
+    let filled = region.store("hi")?;
+    let moved = region.store("jk")?;
+    assert!(rt; holds(&region, long, "defg") && holds(&region, filled, "hi"));
+    assert!(rt; holds(&region, moved, "jk"));
+    let empty = region.store("")?;
+    assert!(rt; holds(&region, empty, ""));
+    assert_eq!(rt; region.store(""), Err(RegionFault::NoKey));
+    Ok(())
+}
+
+#[test]
 fn a_key_can_be_had_again(rt: HostRuntime) -> Result<(), Fail> {
     let mut region = Region::reserve(rt.alloc(), 8, 4)?;
     let mut keys = [0; 4];
