@@ -26,3 +26,4 @@ pub mod TurnLaws
 pub mod StateLaws
 pub mod ScanSteps
 pub mod BesideLaws
+pub mod NamedLaws

@@ -5,6 +5,7 @@ ghost use Rattle.fsrm_model.specs.declared.command.Deed.TheVariants.{File};
 ghost use Rattle.fsrm_model.specs.Cost.{cost, deed_cost};
 ghost use Rattle.fsrm_model.specs.Fresh.{new_rows};
 ghost use Rattle.fsrm_model.specs.Limits.{latest_moment};
+ghost use Rattle.fsrm_model.specs.Named.{IsNamed};
 ghost use Rattle.fsrm_model.specs.Quota.{used_of};
 ghost use Rattle.fsrm_model.specs.Step.{step};
 ghost use Rattle.fsrm_model.specs.Valid.{IsVolume, IsStore};
@@ -104,7 +105,7 @@ impl Engine {
     }
 
     /// Takes a command: the answer is the plain machine's, and so are the rows and the acts that are
-    /// left. An `Err` changes nothing.
+    /// left. The nodes and quotas that it names are there. An `Err` changes nothing.
     pub fn apply<L: Ledger>(
         &mut self,
         alloc: Global,
@@ -114,6 +115,7 @@ impl Engine {
         requires valid { is_command command.now ≡ true }
         requires idle { self.old.waiting ≡ [] }
         ensures ok { IfOk result (λ answer. Takes self.old self.new (step self.old.size self.old.rows command.now) answer) }
+        ensures named { IfOk result (λ answer. IsNamed self.new.rows answer.outcome) }
         ensures err { OnErr result (self.new ≡ self.old) }
         ensures kept { IsStore self.new.size self.new.rows }
         ensures looks { steps.new ≤ steps.old + cost self.old.rows command.now }
@@ -164,8 +166,8 @@ impl Engine {
         }
     }
 
-    /// Takes a file operation of this moment, in seconds since 1970-01-01 00:00:00 UTC. An `Err`
-    /// changes nothing.
+    /// Takes a file operation of this moment, in seconds since 1970-01-01 00:00:00 UTC. What its answer
+    /// names is there. An `Err` changes nothing.
     pub fn file_op<L: Ledger>(
         &mut self,
         alloc: Global,
@@ -177,6 +179,7 @@ impl Engine {
         requires moment { moment ≤ latest_moment }
         requires idle { self.old.waiting ≡ [] }
         ensures ok { IfOk result (λ answer. Takes self.old self.new (step self.old.size self.old.rows (record { moment = moment; deed = File op.now })) answer) }
+        ensures named { IfOk result (λ answer. IsNamed self.new.rows answer.outcome) }
         ensures err { OnErr result (self.new ≡ self.old) }
         ensures kept { IsStore self.new.size self.new.rows }
         ensures looks { steps.new ≤ steps.old + cost self.old.rows (record { moment = moment; deed = File op.now }) }

@@ -5,6 +5,7 @@ ghost use Rattle.fsrm_model.specs.declared.row.QuotaState.TheVariants.{Complete}
 ghost use Rattle.fsrm_model.specs.declared.command.Deed.TheVariants.{Step};
 ghost use Rattle.fsrm_model.specs.Cost.{cost, deed_cost, step_cost};
 ghost use Rattle.fsrm_model.specs.Limits.{latest_moment};
+ghost use Rattle.fsrm_model.specs.Named.{IsNamed};
 ghost use Rattle.fsrm_model.specs.QuotaStates.{head, with_state};
 ghost use Rattle.fsrm_model.specs.Scan.{visits};
 ghost use Rattle.fsrm_model.specs.Step.{step};
@@ -25,6 +26,7 @@ impl Engine {
         requires moment { moment ≤ latest_moment }
         requires idle { self.old.waiting ≡ [] }
         ensures ok { Takes self.old self.new (step self.old.size self.old.rows (record { moment = moment; deed = Step n })) result }
+        ensures named { IsNamed self.new.rows result.outcome }
         ensures kept { IsStore self.new.size self.new.rows }
         ensures looks { steps.new ≤ steps.old + cost self.old.rows (record { moment = moment; deed = Step n }) }
     {

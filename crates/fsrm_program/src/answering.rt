@@ -82,8 +82,6 @@ fn take<L: Ledger>(
     ensures text { OnOk result (replies.new.bytes.items ≡ replies.old.bytes.items ++ reply engine.old.size (step engine.old.size engine.old.rows command.now).rows command.now.moment number (step engine.old.size engine.old.rows command.now).outcome) }
     ensures looks { steps.new ≤ steps.old + (cost engine.old.rows command.now + print_cost (step engine.old.size engine.old.rows command.now).rows (step engine.old.size engine.old.rows command.now).outcome) }
 {
-    // That its quotas are lent says that its rows are those of a store. So the folder that is scanned is there.
-    let _quotas = engine.objects();
     match engine.apply(alloc, command, steps) {
         Ok(answer) => append_answer(engine, alloc, replies, number, &answer, steps),
         Err(NoMemory) => Err(NoMemory),

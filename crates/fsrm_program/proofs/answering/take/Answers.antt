@@ -1,12 +1,9 @@
 use Rattle.std.proofs.Common.{◌∙◌}
-use Rattle.fsrm_program.proofs.Outcomes.{on_ok, acts_none, step_named, step_text}
+use Rattle.fsrm_program.proofs.Outcomes.{on_ok, acts_none, step_text}
 use Rattle.fsrm_program.proofs.answering.take.Goals as goal
 
 pub append_answer-requires : goal.append_answer-requires
-append_answer-requires g c =
-    let e = c.args.engine.now in
-    let took = c.in-Ok.ensures.ok in
-    record { named = step_named e.size c.apply.new.self.size e.rows c.apply.new.self.rows c.args.command.now c.in-Ok.answer.outcome took.size_is took.rows_are took.outcome_is c.objects-quotas.ensures.store c.apply.ensures.kept }
+append_answer-requires g c = record { named = c.in-Ok.ensures.named }
 
 pub returns-in-Ok-clause-idle : goal.returns-in-Ok-clause-idle
 returns-in-Ok-clause-idle g c =
