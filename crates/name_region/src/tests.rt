@@ -58,6 +58,21 @@ fn a_hole_is_filled_and_texts_are_moved_where_none_fits(rt: HostRuntime) -> Resu
     Ok(())
 }
 
+// It would take minutes, if each key were looked at for a hole.
+#[test]
+fn a_hole_is_found_among_many_keys(rt: HostRuntime) -> Result<(), Fail> {
+    for bytes in [200, 1000] {
+        let mut region = Region::reserve(rt.alloc(), bytes, 1_000_000)?;
+        for _ in 0..200_000 {
+            let key = region.store("name")?;
+            assert!(rt; region.live(key));
+            region.release(key);
+        }
+        assert_eq!(rt; region.used(), 0);
+    }
+    Ok(())
+}
+
 #[test]
 fn a_key_can_be_had_again(rt: HostRuntime) -> Result<(), Fail> {
     let mut region = Region::reserve(rt.alloc(), 8, 4)?;

@@ -1,7 +1,7 @@
 -- The room falls to the node before the key.
 use Rattle.std.proofs.Common.{◌≡◌, ◌<◌, ◌∙◌, arith, ap, false, length}
 use Rattle.name_region.specs.Layout.{slot_of}
-use Rattle.name_region.proofs.Exchanged.{exchanged_swap}
+use Rattle.name_region.proofs.Exchanged.{AreExchanged, exchanged_swap}
 use Rattle.name_region.proofs.Layouts.{slot_read, touch_next, AreLaidOut-taken, texts-taken, AreLaidOut-flagged, texts-flagged}
 use Rattle.name_region.proofs.layout.Layout.take.Goals as goal
 
@@ -37,30 +37,36 @@ overflow_sub-room c =
     let head = slot_read old.slots.items c.before-before.result c.index-head.result.now before_in c.index-head.ensures in
     omega (arith, ap (λ s. s.length) head, ap (λ s. s.room) head, laid.rooms.within c.before-before.result)
 
+key_in : (c : goal.After-note-2) → c.args.key < length c.args.self.now.slots.items
+key_in c = omega (arith, c.requires.key, c.requires.layout.links.count)
+
+before_in : (c : goal.After-note-2) → c.before-before.result < length c.args.self.now.slots.items
+before_in c = omega (arith, c.before-before.ensures.within, c.requires.layout.links.linked)
+
+slot : (c : goal.After-note-2) → c.index-slot.result.now ≡ slot_of c.args.self.now.slots.items c.args.key
+slot c = slot_read c.args.self.now.slots.items c.args.key c.index-slot.result.now (key_in c) c.index-slot.ensures
+
+head : (c : goal.After-note-2) → c.index-head.result.now ≡ slot_of c.args.self.now.slots.items c.before-before.result
+head c = slot_read c.args.self.now.slots.items c.before-before.result c.index-head.result.now (before_in c) c.index-head.ensures
+
+some : (c : goal.After-note-2) → 0 < (slot_of c.args.self.now.slots.items c.args.key).length
+some c = omega (arith, c.if-slot-eq0.false, ap (λ s. s.length) (slot c))
+
+exchanged : (c : goal.After-note-2) → AreExchanged c.args.self.now.places c.exchange.new.self c.args.key c.before-before.result
+exchanged c =
+    exchanged_swap c.args.self.now.places c.exchange.new.self c.args.key c.before-before.result
+    (omega (arith, key_in c, c.requires.layout.links.linked)) c.before-before.ensures.within c.exchange.ensures.exchanged
+
 pub returns-clause-layout : goal.returns-clause-layout
 returns-clause-layout c =
-    let laid = c.requires.layout in
     let old = c.args.self.now in
-    let key_in : c.args.key < length old.slots.items = omega (arith, c.requires.key, laid.links.count) in
-    let before_in : c.before-before.result < length old.slots.items = omega (arith, c.before-before.ensures.within, laid.links.linked) in
-    let slot = slot_read old.slots.items c.args.key c.index-slot.result.now key_in c.index-slot.ensures in
-    let head = slot_read old.slots.items c.before-before.result c.index-head.result.now before_in c.index-head.ensures in
-    let some : 0 < (slot_of old.slots.items c.args.key).length = omega (arith, c.if-slot-eq0.false, ap (λ s. s.length) slot) in
-    let exchanged = exchanged_swap old.places c.exchange.new.self c.args.key c.before-before.result (omega (arith, key_in, laid.links.linked)) c.before-before.ensures.within c.exchange.ensures.exchanged in
-    rw (slot, head)
-    (AreLaidOut-taken old.front old.holes old.block.items old.slots.items old.places laid c.before-before.result c.args.key c.exchange.new.self before_in c.requires.key c.before-before.ensures.value
-    some c.before-before.ensures.each_once exchanged c.note-2.new.self (c.note-2.ensures ∙ c.note.ensures))
+    rw (slot c, head c)
+    (AreLaidOut-taken old.front old.holes old.block.items old.slots.items old.places c.requires.layout c.before-before.result c.args.key c.exchange.new.self (before_in c) c.requires.key
+    c.before-before.ensures.value (some c) c.before-before.ensures.each_once (exchanged c) c.note-2.new.self (c.note-2.ensures ∙ c.note.ensures))
 
 pub returns-clause-texts : goal.returns-clause-texts
 returns-clause-texts c =
-    let laid = c.requires.layout in
     let old = c.args.self.now in
-    let key_in : c.args.key < length old.slots.items = omega (arith, c.requires.key, laid.links.count) in
-    let before_in : c.before-before.result < length old.slots.items = omega (arith, c.before-before.ensures.within, laid.links.linked) in
-    let slot = slot_read old.slots.items c.args.key c.index-slot.result.now key_in c.index-slot.ensures in
-    let head = slot_read old.slots.items c.before-before.result c.index-head.result.now before_in c.index-head.ensures in
-    let some : 0 < (slot_of old.slots.items c.args.key).length = omega (arith, c.if-slot-eq0.false, ap (λ s. s.length) slot) in
-    let exchanged = exchanged_swap old.places c.exchange.new.self c.args.key c.before-before.result (omega (arith, key_in, laid.links.linked)) c.before-before.ensures.within c.exchange.ensures.exchanged in
-    rw (slot, head)
-    (texts-taken old.front old.holes old.block.items old.slots.items old.places laid c.before-before.result c.args.key c.exchange.new.self before_in c.requires.key c.before-before.ensures.value
-    some c.before-before.ensures.each_once exchanged)
+    rw (slot c, head c)
+    (texts-taken old.front old.holes old.block.items old.slots.items old.places c.requires.layout c.before-before.result c.args.key c.exchange.new.self (before_in c) c.requires.key
+    c.before-before.ensures.value (some c) c.before-before.ensures.each_once (exchanged c))
