@@ -1,10 +1,10 @@
 """What bench/lines and bench/scans share: the program, its rival, and how a script is measured."""
 import os
 import re
+import resource
 import shutil
 import subprocess
 import sys
-import time
 
 HERE = os.path.dirname(os.path.abspath(__file__))
 COUNTED = shutil.which('valgrind') is not None
@@ -24,11 +24,18 @@ def rival_program(folder):
     return rival
 
 
+def processor_time():
+    """The seconds that a processor worked for the programs that have ended."""
+    used = resource.getrusage(resource.RUSAGE_CHILDREN)
+    return used.ru_utime + used.ru_stime
+
+
 def replay(program, script):
+    """How long a processor works on a script. What else the machine does counts for little there."""
     with open(script, 'rb') as lines:
-        begun = time.perf_counter()
+        begun = processor_time()
         subprocess.run([program, 'replay'], stdin=lines, stdout=subprocess.DEVNULL, check=True)
-        return time.perf_counter() - begun
+        return processor_time() - begun
 
 
 def seconds(program, script):
