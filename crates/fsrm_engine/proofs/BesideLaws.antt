@@ -1,5 +1,5 @@
 -- What the accounts and the scans do side by side is what the engine does.
-use Rattle.std.proofs.Common.{◌≡◌, ℕ, ◌==◌, Bool, true, false, List, ◌∷◌, Option, Some, None, nat_lt, refl, ap, subst, sym, ◌∙◌, ◌⊎◌, inl, inr}
+use Rattle.std.proofs.Common.{◌≡◌, ℕ, ◌==◌, Bool, true, false, List, Option, Some, None, refl, ap, subst, sym, ◌∙◌, ◌⊎◌, inl, inr}
 use Rattle.std.specs.Prelude.{Result, Ok, Err, IfOk, OnErr, not, ◌&&◌, if◌then◌else◌}
 use Rattle.fsrm_model.specs.declared.command.Answer.{Answer}
 use Rattle.fsrm_model.specs.declared.command.Command.{Command}
@@ -7,20 +7,19 @@ use Rattle.fsrm_model.specs.declared.command.Deed.TheVariants.{File, Usage, Quot
 use Rattle.fsrm_model.specs.declared.command.FileOp.{FileOp}
 use Rattle.fsrm_model.specs.declared.command.FileOp.TheVariants.{Mkdir, Create, Resize, Touch, Move, Remove}
 use Rattle.fsrm_model.specs.declared.command.Refusal.{Refusal}
-use Rattle.fsrm_model.specs.declared.command.Refusal.TheVariants.{ClockBack}
 use Rattle.fsrm_model.specs.declared.memory.NoMemory.{NoMemory as Wanting}
 use Rattle.fsrm_model.specs.declared.row.Capacity.{Capacity}
 use Rattle.fsrm_model.specs.declared.row.NodeRow.{NodeRow}
 use Rattle.fsrm_model.specs.declared.row.QuotaRow.{QuotaRow}
 use Rattle.fsrm_model.specs.declared.row.Rows.{Rows}
-use Rattle.fsrm_model.specs.Check.{◌when◌, first}
-use Rattle.fsrm_model.specs.FileOps.{plain, target}
+use Rattle.fsrm_model.specs.FileOps.{target}
 use Rattle.fsrm_model.specs.Keyed.{has_row, row_of, with_change, without_row}
 use Rattle.fsrm_model.specs.Numbers.{is_in, without_number}
 use Rattle.fsrm_model.specs.Quota.{folder_of}
 use Rattle.fsrm_model.specs.QuotaStates.{is_rebuilding, same_head, scan_begun, followed}
 use Rattle.fsrm_model.specs.QuotaWork.{reset}
-use Rattle.fsrm_model.specs.Step.{Stepped, step, work, decided}
+use Rattle.fsrm_model.specs.Step.{Stepped, step, work, decided, lasted, unlasting, unacted}
+use Rattle.fsrm_model.specs.Work.{Work}
 use Rattle.fsrm_model.specs.Valid.{IsQueue, IsStore}
 use Rattle.fsrm_model.proofs.Look.{changed_found, found_has, has_row-change, has_row-without, has_row-without_other, row_of-without, eq_turned}
 use Rattle.fsrm_model.proofs.TestLaws.{clash, is_or_not, eq_is}
@@ -74,38 +73,32 @@ queue_same quotas queue n c folder state k =
     by true r = state r
     by false r = refl
 
+-- a work whose effect keeps the queue beside the quotas
+queue_of : (K : Capacity) (R : Rows) (m : ℕ) (w : Work) (o : Option Refusal) → IsQueue R.quotas R.queue → IsQueue w.effect.quotas w.effect.queue → IsQueue (decided K R m w o).rows.quotas (decided K R m w o).rows.queue
+queue_of K R m w (Some refusal) k e = k
+queue_of K R m w None k e = by w.lasts
+  where
+    by : (b : Bool) → IsQueue (if b then lasted K (unacted (followed R w.effect)) m w.outcome else unlasting (followed R w.effect) w.outcome).rows.quotas (if b then lasted K (unacted (followed R w.effect)) m w.outcome else unlasting (followed R w.effect) w.outcome).rows.queue
+    by true = queue_peaked K w.effect.nodes m w.effect.quotas w.effect.queue e
+    by false = e
+
 -- behind a step
 pub queue_op : (K : Capacity) (R : Rows) (op : FileOp) (m : ℕ) → IsQueue R.quotas R.queue → IsQueue (step K R (at_moment m op)).rows.quotas (step K R (at_moment m op)).rows.queue
-queue_op K R op m k = by op (first ((ClockBack when nat_lt m R.last_moment) ∷ (work K R m (File op)).checks))
+queue_op K R op m k = queue_of K R m (work K R m (File op)) _ k (by op)
   where
-    by : (op : FileOp) (o : Option Refusal) → IsQueue (decided K R m (work K R m (File op)) o).rows.quotas (decided K R m (work K R m (File op)) o).rows.queue
-    by op (Some refusal) = k
-    by (Mkdir path owner) None = queue_peaked K (plain R.nodes (Mkdir path owner) m) m R.quotas R.queue k
-    by (Create path length owner) None = queue_peaked K (plain R.nodes (Create path length owner) m) m R.quotas R.queue k
-    by (Resize path length) None = queue_peaked K (plain R.nodes (Resize path length) m) m R.quotas R.queue k
-    by (Touch path) None = queue_peaked K (plain R.nodes (Touch path) m) m R.quotas R.queue k
-    by (Move from to) None = queue_peaked K (plain R.nodes (Move from to) m) m R.quotas R.queue k
-    by (Remove path) None =
-        queue_peaked K (plain R.nodes (Remove path) m) m (without_row folder_of (target R.nodes path) R.quotas) (without_number (target R.nodes path) R.queue)
-        (queue_without R.quotas R.queue (target R.nodes path) k)
+    by : (op : FileOp) → IsQueue (work K R m (File op)).effect.quotas (work K R m (File op)).effect.queue
+    by (Mkdir path owner) = k
+    by (Create path length owner) = k
+    by (Resize path length) = k
+    by (Touch path) = k
+    by (Move from to) = k
+    by (Remove path) = queue_without R.quotas R.queue (target R.nodes path) k
 
 pub queue_delete : (K : Capacity) (R : Rows) (path : List (List ℕ)) (m : ℕ) → IsQueue R.quotas R.queue → IsQueue (step K R (record { moment = m; deed = QuotaDelete path })).rows.quotas (step K R (record { moment = m; deed = QuotaDelete path })).rows.queue
-queue_delete K R path m k = by (first ((ClockBack when nat_lt m R.last_moment) ∷ (work K R m (QuotaDelete path)).checks))
-  where
-    by : (o : Option Refusal) → IsQueue (decided K R m (work K R m (QuotaDelete path)) o).rows.quotas (decided K R m (work K R m (QuotaDelete path)) o).rows.queue
-    by (Some refusal) = k
-    by None =
-        queue_peaked K R.nodes m (without_row folder_of (target R.nodes path) R.quotas) (without_number (target R.nodes path) R.queue)
-        (queue_without R.quotas R.queue (target R.nodes path) k)
+queue_delete K R path m k = queue_of K R m (work K R m (QuotaDelete path)) _ k (queue_without R.quotas R.queue (target R.nodes path) k)
 
 pub queue_reset : (K : Capacity) (R : Rows) (path : List (List ℕ)) (m : ℕ) → IsQueue R.quotas R.queue → IsQueue (step K R (record { moment = m; deed = QuotaResetpeak path })).rows.quotas (step K R (record { moment = m; deed = QuotaResetpeak path })).rows.queue
-queue_reset K R path m k = by (first ((ClockBack when nat_lt m R.last_moment) ∷ (work K R m (QuotaResetpeak path)).checks))
-  where
-    by : (o : Option Refusal) → IsQueue (decided K R m (work K R m (QuotaResetpeak path)) o).rows.quotas (decided K R m (work K R m (QuotaResetpeak path)) o).rows.queue
-    by (Some refusal) = k
-    by None =
-        queue_peaked K R.nodes m (with_change folder_of (target R.nodes path) (reset K R m) R.quotas) R.queue
-        (queue_same R.quotas R.queue (target R.nodes path) (reset K R m) (λ r. refl) (λ r. refl) k)
+queue_reset K R path m k = queue_of K R m (work K R m (QuotaResetpeak path)) _ k (queue_same R.quotas R.queue (target R.nodes path) (reset K R m) (λ r. refl) (λ r. refl) k)
 
 -- a command that leaves the queue and the nodes leaves the scans
 pub record Leaves (R : Rows) (s : Stepped) : Type 0 where
@@ -117,27 +110,23 @@ own_followed : (R E : Rows) → E.queue ≡ R.queue → E.unvisited ≡ R.unvisi
 own_followed R E queue unvisited =
     ap (λ b. if b then E.unvisited else scan_begun E.nodes E.queue) (ap (same_head R.queue) queue ∙ same_own R.queue) ∙ unvisited
 
-pub reset_leaves : (K : Capacity) (R : Rows) (path : List (List ℕ)) (m : ℕ) → Leaves R (step K R (record { moment = m; deed = QuotaResetpeak path }))
-reset_leaves K R path m = by (first ((ClockBack when nat_lt m R.last_moment) ∷ (work K R m (QuotaResetpeak path)).checks))
+leaves_of : (K : Capacity) (R : Rows) (m : ℕ) (w : Work) (o : Option Refusal) → w.effect.queue ≡ R.queue → w.effect.nodes ≡ R.nodes → w.effect.unvisited ≡ R.unvisited → Leaves R (decided K R m w o)
+leaves_of K R m w (Some refusal) queue nodes unvisited = record { queue = refl; nodes = refl; unvisited = refl }
+leaves_of K R m w None queue nodes unvisited = by w.lasts
   where
-    by : (o : Option Refusal) → Leaves R (decided K R m (work K R m (QuotaResetpeak path)) o)
-    by (Some refusal) = record { queue = refl; nodes = refl; unvisited = refl }
-    by None = record { queue = refl; nodes = refl; unvisited = own_followed R (work K R m (QuotaResetpeak path)).effect refl refl }
+    by : (b : Bool) → Leaves R (if b then lasted K (unacted (followed R w.effect)) m w.outcome else unlasting (followed R w.effect) w.outcome)
+    by true = record { queue = queue; nodes = nodes; unvisited = own_followed R w.effect queue unvisited }
+    by false = record { queue = queue; nodes = nodes; unvisited = own_followed R w.effect queue unvisited }
+
+pub reset_leaves : (K : Capacity) (R : Rows) (path : List (List ℕ)) (m : ℕ) → Leaves R (step K R (record { moment = m; deed = QuotaResetpeak path }))
+reset_leaves K R path m = leaves_of K R m (work K R m (QuotaResetpeak path)) _ refl refl refl
 
 pub sum_leaves : (K : Capacity) (R : Rows) (path : List (List ℕ)) (m : ℕ) → Leaves R (step K R (record { moment = m; deed = Usage path }))
-sum_leaves K R path m = by (first ((ClockBack when nat_lt m R.last_moment) ∷ (work K R m (Usage path)).checks))
-  where
-    by : (o : Option Refusal) → Leaves R (decided K R m (work K R m (Usage path)) o)
-    by (Some refusal) = record { queue = refl; nodes = refl; unvisited = refl }
-    by None = record { queue = refl; nodes = refl; unvisited = own_followed R R refl refl }
+sum_leaves K R path m = leaves_of K R m (work K R m (Usage path)) _ refl refl refl
 
 pub list_leaves : (K : Capacity) (R : Rows) (path : Option (List (List ℕ))) (m : ℕ) → Leaves R (step K R (record { moment = m; deed = QuotaList path }))
-list_leaves K R path m = by path (first ((ClockBack when nat_lt m R.last_moment) ∷ (work K R m (QuotaList path)).checks))
-  where
-    by : (path : Option (List (List ℕ))) (o : Option Refusal) → Leaves R (decided K R m (work K R m (QuotaList path)) o)
-    by path (Some refusal) = record { queue = refl; nodes = refl; unvisited = refl }
-    by None None = record { queue = refl; nodes = refl; unvisited = own_followed R R refl refl }
-    by (Some path) None = record { queue = refl; nodes = refl; unvisited = own_followed R R refl refl }
+list_leaves K R None m = leaves_of K R m (work K R m (QuotaList None)) _ refl refl refl
+list_leaves K R (Some path) m = leaves_of K R m (work K R m (QuotaList (Some path))) _ refl refl refl
 
 pub follow_same : (old : Machine) (s : Course) (c : Command) → Leaves (rows_with old s) (step old.size (rows_with old s) c) → ScansFollow old s s c
 follow_same old s c same =

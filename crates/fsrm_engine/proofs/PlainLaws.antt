@@ -1,6 +1,7 @@
 -- Which scans wait, and what the active one has to visit, matters to no command that changes no quota's state: it answers
 -- the same, and leaves the same beside them.
-use Rattle.std.proofs.Common.{◌≡◌, ℕ, ◌∷◌, Option, Some, None, nat_lt, refl, ap, subst, sym, ◌∙◌}
+use Rattle.std.specs.Prelude.{if◌then◌else◌}
+use Rattle.std.proofs.Common.{◌≡◌, ℕ, Bool, true, false, ◌∷◌, Option, Some, None, nat_lt, refl, ap, subst, sym, ◌∙◌}
 use Rattle.fsrm_model.specs.declared.command.Answer.{Answer}
 use Rattle.fsrm_model.specs.declared.command.Command.{Command}
 use Rattle.fsrm_model.specs.declared.command.Deed.{Deed}
@@ -13,8 +14,10 @@ use Rattle.fsrm_model.specs.declared.row.Capacity.{Capacity}
 use Rattle.fsrm_model.specs.declared.row.NodeRow.{NodeRow}
 use Rattle.fsrm_model.specs.declared.row.Rows.{Rows}
 use Rattle.std.specs.Prelude.{List}
-use Rattle.fsrm_model.specs.Check.{Check, ◌when◌, first}
-use Rattle.fsrm_model.specs.Step.{Stepped, step, work, decided}
+use Rattle.fsrm_model.specs.Check.{◌when◌, first}
+use Rattle.fsrm_model.specs.Step.{Stepped, step, work, decided, lasted, unlasting, unacted}
+use Rattle.fsrm_model.specs.QuotaStates.{followed}
+use Rattle.fsrm_model.specs.Work.{Work}
 use Rattle.scan_queue.specs.Courses.{Course, left}
 use Rattle.fsrm_engine.specs.Machine.{Machine, Takes, ScansFollow, with_scans, rows_with}
 
@@ -25,73 +28,55 @@ pub record SameBut (one other : Stepped) : Type 0 where
   pub acts : other.acts ≡ one.acts
   pub rows : other.rows ≡ with_scans one.rows other.rows.queue other.rows.unvisited
 
--- the rows of a step that is decided by the same check
-by_check : (K : Capacity) (R : Rows) (queue unvisited : List ℕ) (m : ℕ) (deed : Deed) → (work K (with_scans R queue unvisited) m deed).checks ≡ (work K R m deed).checks → ((o : Option Refusal) → SameBut (decided K R m (work K R m deed) o) (decided K (with_scans R queue unvisited) m (work K (with_scans R queue unvisited) m deed) o)) → SameBut (step K R (record { moment = m; deed = deed })) (step K (with_scans R queue unvisited) (record { moment = m; deed = deed }))
-by_check K R queue unvisited m deed same each =
-    let late = ClockBack when nat_lt m R.last_moment in
-    let other = with_scans R queue unvisited in
-    subst (λ (checks : List Check). SameBut (step K R (record { moment = m; deed = deed })) (decided K other m (work K other m deed) (first (late ∷ checks)))) (sym same) (each (first (late ∷ (work K R m deed).checks)))
+-- the works of a command over rows that differ in nothing but scans: they do so, too
+abbrev pub IsBeside : Work → Work → Type 0
+IsBeside one other = (queue unvisited : List ℕ) × (other ≡ record one { effect = with_scans one.effect queue unvisited })
 
--- file operations
-pub op_same : (K : Capacity) (R : Rows) (queue unvisited : List ℕ) (op : FileOp) (m : ℕ) → SameBut (step K R (record { moment = m; deed = File op })) (step K (with_scans R queue unvisited) (record { moment = m; deed = File op }))
-op_same K R queue unvisited op m = by_check K R queue unvisited m (File op) (checks op) (at op)
+decided_beside : (K : Capacity) (R : Rows) (queue unvisited : List ℕ) (m : ℕ) (one : Work) (q u : List ℕ) (o : Option Refusal) → SameBut (decided K R m one o) (decided K (with_scans R queue unvisited) m (record one { effect = with_scans one.effect q u }) o)
+decided_beside K R queue unvisited m one q u (Some refusal) = record { outcome = refl; lasting = refl; acts = refl; rows = refl }
+decided_beside K R queue unvisited m one q u None = by one.lasts
   where
     other : Rows
-    other = with_scans R queue unvisited
+    other = followed (with_scans R queue unvisited) (with_scans one.effect q u)
 
-    checks : (op : FileOp) → (work K other m (File op)).checks ≡ (work K R m (File op)).checks
-    checks (Mkdir path owner) = refl
-    checks (Create path length owner) = refl
-    checks (Resize path length) = refl
-    checks (Touch path) = refl
-    checks (Move from to) = refl
-    checks (Remove path) = refl
+    by : (b : Bool) → SameBut (if b then lasted K (unacted (followed R one.effect)) m one.outcome else unlasting (followed R one.effect) one.outcome) (if b then lasted K (unacted other) m one.outcome else unlasting other one.outcome)
+    by true = record { outcome = refl; lasting = refl; acts = refl; rows = refl }
+    by false = record { outcome = refl; lasting = refl; acts = refl; rows = refl }
 
-    at : (op : FileOp) (o : Option Refusal) → SameBut (decided K R m (work K R m (File op)) o) (decided K other m (work K other m (File op)) o)
-    at op (Some refusal) = record { outcome = refl; lasting = refl; acts = refl; rows = refl }
-    at (Mkdir path owner) None = record { outcome = refl; lasting = refl; acts = refl; rows = refl }
-    at (Create path length owner) None = record { outcome = refl; lasting = refl; acts = refl; rows = refl }
-    at (Resize path length) None = record { outcome = refl; lasting = refl; acts = refl; rows = refl }
-    at (Touch path) None = record { outcome = refl; lasting = refl; acts = refl; rows = refl }
-    at (Move from to) None = record { outcome = refl; lasting = refl; acts = refl; rows = refl }
-    at (Remove path) None = record { outcome = refl; lasting = refl; acts = refl; rows = refl }
+beside : (K : Capacity) (R : Rows) (queue unvisited : List ℕ) (m : ℕ) (deed : Deed) → IsBeside (work K R m deed) (work K (with_scans R queue unvisited) m deed) → SameBut (step K R (record { moment = m; deed = deed })) (step K (with_scans R queue unvisited) (record { moment = m; deed = deed }))
+beside K R queue unvisited m deed b =
+    let late = ClockBack when nat_lt m R.last_moment in
+    let one = work K R m deed in
+    subst (λ (w : Work). SameBut (step K R (record { moment = m; deed = deed })) (decided K (with_scans R queue unvisited) m w (first (late ∷ w.checks)))) (sym b.2)
+    (decided_beside K R queue unvisited m one b.0 b.1 (first (late ∷ one.checks)))
 
--- sums, lists, and a quota that is deleted or whose peak is reset
-pub sum_same : (K : Capacity) (R : Rows) (queue unvisited : List ℕ) (path : List (List ℕ)) (m : ℕ) → SameBut (step K R (record { moment = m; deed = Usage path })) (step K (with_scans R queue unvisited) (record { moment = m; deed = Usage path }))
-sum_same K R queue unvisited path m = by_check K R queue unvisited m (Usage path) refl at
+-- file operations, sums, lists, and a quota that is deleted or whose peak is reset
+pub op_same : (K : Capacity) (R : Rows) (queue unvisited : List ℕ) (op : FileOp) (m : ℕ) → SameBut (step K R (record { moment = m; deed = File op })) (step K (with_scans R queue unvisited) (record { moment = m; deed = File op }))
+op_same K R queue unvisited op m = beside K R queue unvisited m (File op) (by op)
   where
-    at : (o : Option Refusal) → SameBut (decided K R m (work K R m (Usage path)) o) (decided K (with_scans R queue unvisited) m (work K (with_scans R queue unvisited) m (Usage path)) o)
-    at (Some refusal) = record { outcome = refl; lasting = refl; acts = refl; rows = refl }
-    at None = record { outcome = refl; lasting = refl; acts = refl; rows = refl }
+    by : (op : FileOp) → IsBeside (work K R m (File op)) (work K (with_scans R queue unvisited) m (File op))
+    by (Mkdir path owner) = (_, _, refl)
+    by (Create path length owner) = (_, _, refl)
+    by (Resize path length) = (_, _, refl)
+    by (Touch path) = (_, _, refl)
+    by (Move from to) = (_, _, refl)
+    by (Remove path) = (_, _, refl)
+
+pub sum_same : (K : Capacity) (R : Rows) (queue unvisited : List ℕ) (path : List (List ℕ)) (m : ℕ) → SameBut (step K R (record { moment = m; deed = Usage path })) (step K (with_scans R queue unvisited) (record { moment = m; deed = Usage path }))
+sum_same K R queue unvisited path m = beside K R queue unvisited m (Usage path) (_, _, refl)
 
 pub delete_same : (K : Capacity) (R : Rows) (queue unvisited : List ℕ) (path : List (List ℕ)) (m : ℕ) → SameBut (step K R (record { moment = m; deed = QuotaDelete path })) (step K (with_scans R queue unvisited) (record { moment = m; deed = QuotaDelete path }))
-delete_same K R queue unvisited path m = by_check K R queue unvisited m (QuotaDelete path) refl at
-  where
-    at : (o : Option Refusal) → SameBut (decided K R m (work K R m (QuotaDelete path)) o) (decided K (with_scans R queue unvisited) m (work K (with_scans R queue unvisited) m (QuotaDelete path)) o)
-    at (Some refusal) = record { outcome = refl; lasting = refl; acts = refl; rows = refl }
-    at None = record { outcome = refl; lasting = refl; acts = refl; rows = refl }
+delete_same K R queue unvisited path m = beside K R queue unvisited m (QuotaDelete path) (_, _, refl)
 
 pub reset_same : (K : Capacity) (R : Rows) (queue unvisited : List ℕ) (path : List (List ℕ)) (m : ℕ) → SameBut (step K R (record { moment = m; deed = QuotaResetpeak path })) (step K (with_scans R queue unvisited) (record { moment = m; deed = QuotaResetpeak path }))
-reset_same K R queue unvisited path m = by_check K R queue unvisited m (QuotaResetpeak path) refl at
-  where
-    at : (o : Option Refusal) → SameBut (decided K R m (work K R m (QuotaResetpeak path)) o) (decided K (with_scans R queue unvisited) m (work K (with_scans R queue unvisited) m (QuotaResetpeak path)) o)
-    at (Some refusal) = record { outcome = refl; lasting = refl; acts = refl; rows = refl }
-    at None = record { outcome = refl; lasting = refl; acts = refl; rows = refl }
+reset_same K R queue unvisited path m = beside K R queue unvisited m (QuotaResetpeak path) (_, _, refl)
 
 pub list_same : (K : Capacity) (R : Rows) (queue unvisited : List ℕ) (path : Option (List (List ℕ))) (m : ℕ) → SameBut (step K R (record { moment = m; deed = QuotaList path })) (step K (with_scans R queue unvisited) (record { moment = m; deed = QuotaList path }))
-list_same K R queue unvisited path m = by_check K R queue unvisited m (QuotaList path) (checks path) (at path)
+list_same K R queue unvisited path m = beside K R queue unvisited m (QuotaList path) (by path)
   where
-    other : Rows
-    other = with_scans R queue unvisited
-
-    checks : (path : Option (List (List ℕ))) → (work K other m (QuotaList path)).checks ≡ (work K R m (QuotaList path)).checks
-    checks None = refl
-    checks (Some path) = refl
-
-    at : (path : Option (List (List ℕ))) (o : Option Refusal) → SameBut (decided K R m (work K R m (QuotaList path)) o) (decided K other m (work K other m (QuotaList path)) o)
-    at path (Some refusal) = record { outcome = refl; lasting = refl; acts = refl; rows = refl }
-    at None None = record { outcome = refl; lasting = refl; acts = refl; rows = refl }
-    at (Some path) None = record { outcome = refl; lasting = refl; acts = refl; rows = refl }
+    by : (path : Option (List (List ℕ))) → IsBeside (work K R m (QuotaList path)) (work K (with_scans R queue unvisited) m (QuotaList path))
+    by None = (_, _, refl)
+    by (Some path) = (_, _, refl)
 
 -- a machine with its scans
 abbrev pub whole : Machine → Course → Machine

@@ -19,7 +19,7 @@ use Rattle.fsrm_model.specs.FileOps.{plain}
 use Rattle.fsrm_model.specs.FileWork.{file_effect, unvisited_in}
 use Rattle.fsrm_model.specs.QuotaStates.{head, same_head, scan_begun, followed}
 use Rattle.fsrm_model.specs.Step.{Stepped, step, work, decided}
-use Rattle.fsrm_model.proofs.PlainMachine.{refused_same}
+use Rattle.fsrm_model.proofs.EachCommand.{refused_same}
 use Rattle.fsrm_model.proofs.TestLaws.{eq_same}
 use Rattle.scan_queue.specs.Courses.{Course, Goes, left}
 use Rattle.volume_tree.specs.Volume.{Volume}

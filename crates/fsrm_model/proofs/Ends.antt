@@ -40,13 +40,13 @@ step_nodes K R n = by (length (visits n R.nodes R.unvisited) == 0)
     by false = refl
 
 -- a file operation leaves the nodes that it makes
+pub effect_nodes : (R : Rows) (op : FileOp) (moment : ℕ) → (file_effect R op moment).nodes ≡ plain R.nodes op moment
+effect_nodes R (Mkdir path owner) moment = refl
+effect_nodes R (Create path length owner) moment = refl
+effect_nodes R (Resize path length) moment = refl
+effect_nodes R (Touch path) moment = refl
+effect_nodes R (Move from to) moment = refl
+effect_nodes R (Remove path) moment = refl
+
 pub op_nodes : (K : Capacity) (R : Rows) (op : FileOp) (moment : ℕ) → (decided K R moment (file_work K R op moment) None).rows.nodes ≡ plain R.nodes op moment
-op_nodes K R op moment = nodes_kept K R moment (file_work K R op moment) ∙ by op
-  where
-    by : (op : FileOp) → (file_effect R op moment).nodes ≡ plain R.nodes op moment
-    by (Mkdir path owner) = refl
-    by (Create path length owner) = refl
-    by (Resize path length) = refl
-    by (Touch path) = refl
-    by (Move from to) = refl
-    by (Remove path) = refl
+op_nodes K R op moment = nodes_kept K R moment (file_work K R op moment) ∙ effect_nodes R op moment

@@ -4,13 +4,9 @@ use Rattle.std.specs.Prelude.{nat_lt, filter, is_some, option_map, unwrap_or}
 use Rattle.std.specs.List.{AllByRecursion, list_all, list_any}
 use Rattle.std.specs.Option.{option_map_or}
 use Rattle.std.proofs.lemmas.Bool.{and_parts, and_from, ltb-false, cases_Bool}
-use Rattle.fsrm_model.specs.declared.command.Command.{Command}
-use Rattle.fsrm_model.specs.declared.command.Deed.{Deed}
-use Rattle.fsrm_model.specs.declared.command.Deed.TheVariants.{File, Usage, Step, QuotaAdd, QuotaModify, QuotaDelete, QuotaScan, QuotaResetpeak, QuotaList}
 use Rattle.fsrm_model.specs.declared.command.FileOp.{FileOp}
 use Rattle.fsrm_model.specs.declared.command.FileOp.TheVariants.{Mkdir, Create, Resize, Touch, Move, Remove}
-use Rattle.fsrm_model.specs.declared.command.Refusal.{Refusal}
-use Rattle.fsrm_model.specs.declared.command.Refusal.TheVariants.{ClockBack, PathNotFound, AlreadyExists, InvalidMove, NotEmpty, QuotaExceeded}
+use Rattle.fsrm_model.specs.declared.command.Refusal.TheVariants.{PathNotFound, AlreadyExists, InvalidMove, NotEmpty, QuotaExceeded}
 use Rattle.fsrm_model.specs.declared.row.Capacity.{Capacity}
 use Rattle.fsrm_model.specs.declared.row.NodeRow.{NodeRow}
 use Rattle.fsrm_model.specs.declared.row.QuotaRow.{QuotaRow}
@@ -23,7 +19,6 @@ use Rattle.fsrm_model.specs.Keyed.{has_row, with_row}
 use Rattle.fsrm_model.specs.Leads.{is_root, leads, leads_to_folder, leads_to_file, leads_to_other}
 use Rattle.fsrm_model.specs.Quota.{folder_of, quota_of, counts, refuses, over, deepest, exceeded}
 use Rattle.fsrm_model.specs.Space.{space}
-use Rattle.fsrm_model.specs.Step.{step, work, decided}
 use Rattle.fsrm_model.specs.Tree.{number, parent_of, is_folder, is_child, children, chain, is_under, usage, resolve, folder_part, last_name, fresh, path_of}
 use Rattle.fsrm_model.specs.Valid.{IsVolume, IsStore}
 use Rattle.fsrm_model.proofs.TestLaws.{is_or_not, lt_is, clash, not_true, or_later, eq_is}
@@ -34,11 +29,11 @@ use Rattle.fsrm_model.proofs.MoveLaws.{KeepsSpace, usage-moved, under_other}
 use Rattle.fsrm_model.proofs.RemoveLaws.{usage-removed}
 use Rattle.fsrm_model.proofs.Below.{chain_root, above_all, usage-moved_below}
 use Rattle.fsrm_model.proofs.Climbs.{under_own}
-use Rattle.fsrm_model.proofs.Ends.{nodes_kept, op_nodes, step_nodes}
 use Rattle.fsrm_model.proofs.Files.{below_file}
 use Rattle.fsrm_model.proofs.Keeps.{tree_of, zero_apart, as_suc, moves_at, removes_of}
 use Rattle.fsrm_model.proofs.Look.{found_key, has_found, found_any, is_some-find, none_filtered, unwrapped}
 use Rattle.fsrm_model.proofs.Order.{least_free_is}
+use Rattle.fsrm_model.proofs.Orderly.{Rising, IsWithin, first_none, when_none, not_false}
 use Rattle.fsrm_model.proofs.QuotaLaws.{over_test}
 use Rattle.fsrm_model.proofs.Resolves.{resolved}
 use Rattle.fsrm_model.proofs.ValidLaws.{folder_has}
@@ -157,13 +152,6 @@ none_mapped : {X Y : Type 0} (f : X → Y) (o : Option X) → option_map f o ≡
 none_mapped f None h = refl
 none_mapped f (Some x) h = absurd (cc h)
 
--- a quota of a store whose usage rises
-record Rising (K : Capacity) (R : Rows) (new : List NodeRow) (folder : ℕ) (quota : QuotaRow) : Type 0 where
-  there : quota_of R folder ≡ Some quota
-  counting : counts quota ≡ true
-  enforced : quota.enforce ≡ true
-  rises : usage K R.nodes folder < usage K new folder
-
 no_quota_over : (K : Capacity) (R : Rows) (new : List NodeRow) (t : ℕ) → IsStore K R → Has R.nodes t → ((f : ℕ) → is_folder R.nodes f ≡ true → usage K R.nodes f < usage K new f → Stays R.nodes new t f) → exceeded K R new ≡ None → (folder : ℕ) (quota : QuotaRow) → Rising K R new folder quota → usage K new folder ≤ quota.limit
 no_quota_over K R new t store h grows none folder quota r =
     let rises : QuotaRow → Bool = λ q. refuses q (usage K R.nodes q.folder) (usage K new q.folder) in
@@ -181,19 +169,6 @@ no_quota_over K R new t store h grows none folder quota r =
           let test : rises quota ≡ true = subst (λ (f : ℕ). refuses quota (usage K R.nodes f) (usage K new f) ≡ true) (sym key) (over_test K R new folder quota o) in
           absurd (clash (list_any rises R.quotas) (found_any folder_of rises folder R.quotas quota r.there test) (filter_empty rises R.quotas empty))
     ]
-
--- checks that none refuses
-first_none : (c : Check) (cs : List Check) → first (c ∷ cs) ≡ None → (c ≡ None) × (first cs ≡ None)
-first_none None cs h = (refl, h)
-first_none (Some r) cs h = absurd (cc h)
-
-when_none : (refusal : Refusal) (b : Bool) → (refusal when b) ≡ None → b ≡ false
-when_none refusal true h = absurd (cc h)
-when_none refusal false h = refl
-
-not_false : (b : Bool) → not b ≡ false → b ≡ true
-not_false true h = refl
-not_false false h = absurd (clash true refl h)
 
 -- what a path leads to
 folder_led : (nodes : List NodeRow) (o : Option ℕ) → option_map_or (is_folder nodes) o false ≡ true → is_folder nodes (unwrap_or o 0) ≡ true
@@ -233,8 +208,8 @@ moved b true old new s e l = refl
 moved b false old new s e l = absurd (omega (arith, e))
 
 -- a file operation that no check refuses
-abbrev Kept : Capacity → Rows → FileOp → ℕ → Type 0
-Kept K R op moment = (folder : ℕ) (quota : QuotaRow) → Rising K R (plain R.nodes op moment) folder quota → usage K (plain R.nodes op moment) folder ≤ quota.limit
+abbrev pub Kept : Capacity → Rows → FileOp → ℕ → Type 0
+Kept K R op moment = IsWithin K R (plain R.nodes op moment)
 
 quota_has : (K : Capacity) (R : Rows) (folder : ℕ) (quota : QuotaRow) → IsStore K R → quota_of R folder ≡ Some quota → Has R.nodes folder
 quota_has K R folder quota store there = folder_has R.nodes folder (store.quotas.folders folder quota there)
@@ -382,37 +357,10 @@ move_kept K R from to moment store h folder quota r =
     ])
     a8.0 folder quota r
 
-op_kept : (K : Capacity) (R : Rows) (op : FileOp) (moment : ℕ) → IsStore K R → first (file_checks K R op (file_effect R op moment)) ≡ None → Kept K R op moment
-op_kept K R (Mkdir path owner) moment store h = mkdir_kept K R path owner moment store h
-op_kept K R (Create path length owner) moment store h = create_kept K R path length owner moment store h
-op_kept K R (Resize path length) moment store h = resize_kept K R path length moment store h
-op_kept K R (Touch path) moment store h = touch_kept K R path moment store h
-op_kept K R (Move from to) moment store h = move_kept K R from to moment store h
-op_kept K R (Remove path) moment store h = remove_kept K R path moment store h
-
--- whatever the command
-pub limits_kept : (K : Capacity) (R : Rows) (c : Command) (folder : ℕ) (quota : QuotaRow) → IsStore K R → quota_of R folder ≡ Some quota → counts quota ≡ true → quota.enforce ≡ true → usage K R.nodes folder < usage K (step K R c).rows.nodes folder → usage K (step K R c).rows.nodes folder ≤ quota.limit
-limits_kept K R c folder quota store there counting enforced rises =
-    by c.deed (first ((ClockBack when nat_lt c.moment R.last_moment) ∷ (work K R c.moment c.deed).checks)) refl rises
-  where
-    never : usage K R.nodes folder < usage K R.nodes folder → ⊥
-    never l = omega arith
-
-    by : (deed : Deed) (o : Option Refusal) → first ((ClockBack when nat_lt c.moment R.last_moment) ∷ (work K R c.moment deed).checks) ≡ o → usage K R.nodes folder < usage K (decided K R c.moment (work K R c.moment deed) o).rows.nodes folder → usage K (decided K R c.moment (work K R c.moment deed) o).rows.nodes folder ≤ quota.limit
-    by deed (Some r) e l = absurd (never l)
-    by (File op) None e l =
-        subst (λ nodes. usage K nodes folder ≤ quota.limit) (sym (op_nodes K R op c.moment))
-        (op_kept K R op c.moment store (first_none (ClockBack when nat_lt c.moment R.last_moment) (file_checks K R op (file_effect R op c.moment)) e).1 folder quota
-        (record { there = there; counting = counting; enforced = enforced; rises = subst (λ nodes. usage K R.nodes folder < usage K nodes folder) (op_nodes K R op c.moment) l }))
-    by (Usage path) None e l = absurd (never l)
-    by (Step n) None e l =
-        let same = nodes_kept K R c.moment (work K R c.moment (Step n)) ∙ step_nodes K R n in
-        absurd (never (subst (λ nodes. usage K R.nodes folder < usage K nodes folder) same l))
-    by (QuotaAdd path limit enforce enabled) None e l = absurd (never l)
-    by (QuotaModify path limit enforce enabled) None e l = absurd (never l)
-    by (QuotaDelete path) None e l = absurd (never l)
-    by (QuotaScan path) None e l =
-        absurd (never (subst (λ nodes. usage K R.nodes folder < usage K nodes folder) (nodes_kept K R c.moment (work K R c.moment (QuotaScan path))) l))
-    by (QuotaResetpeak path) None e l = absurd (never l)
-    by (QuotaList None) None e l = absurd (never l)
-    by (QuotaList (Some path)) None e l = absurd (never l)
+pub op_within : (K : Capacity) (R : Rows) (op : FileOp) (moment : ℕ) → IsStore K R → first (file_checks K R op (file_effect R op moment)) ≡ None → Kept K R op moment
+op_within K R (Mkdir path owner) moment store h = mkdir_kept K R path owner moment store h
+op_within K R (Create path length owner) moment store h = create_kept K R path length owner moment store h
+op_within K R (Resize path length) moment store h = resize_kept K R path length moment store h
+op_within K R (Touch path) moment store h = touch_kept K R path moment store h
+op_within K R (Move from to) moment store h = move_kept K R from to moment store h
+op_within K R (Remove path) moment store h = remove_kept K R path moment store h

@@ -32,7 +32,12 @@ pub mod LineRefusals
 pub mod Ends
 pub mod QuotaLaws
 pub mod HardLimits
-pub mod QuotaRefusals
+pub mod Orderly
+pub mod OrderlyLaws
+pub mod FileOrderly
+pub mod QuotaOrderly
+pub mod ScanOrderly
+pub mod EachCommand
 pub mod ClimbRows
 pub mod DateLaws
 pub mod RowLaws

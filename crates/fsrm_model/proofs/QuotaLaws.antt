@@ -1,6 +1,6 @@
 -- The quota that refuses, and the peaks.
 use Rattle.std.proofs.Common.{◌≡◌, ℕ, ◌≤◌, Bool, true, false, cond, List, [], ◌∷◌, refl, sym, ◌∙◌, ap, subst, inl, inr, arith, Some, None}
-use Rattle.std.specs.Prelude.{Option, ◌==◌, ◌&&◌, ◌||◌, not, nat_lt, find, filter, option_map, if◌then◌else◌}
+use Rattle.std.specs.Prelude.{Option, ◌==◌, ◌&&◌, ◌||◌, not, nat_lt, find, filter, map, option_map, if◌then◌else◌}
 use Rattle.std.specs.List.{list_all}
 use Rattle.std.proofs.lemmas.Bool.{cases_Bool, and_parts, and_from, ltb-true, lt-ltb, ltb-false}
 use Rattle.fsrm_model.specs.declared.command.Command.{Command}
@@ -12,7 +12,7 @@ use Rattle.fsrm_model.specs.declared.row.QuotaRow.{QuotaRow}
 use Rattle.fsrm_model.specs.declared.row.Rows.{Rows}
 use Rattle.fsrm_model.specs.Check.{◌when◌, first}
 use Rattle.fsrm_model.specs.Exceeds.{IsOver, Exceeds}
-use Rattle.fsrm_model.specs.Keyed.{is_ascending}
+use Rattle.fsrm_model.specs.Keyed.{is_ascending, has_row}
 use Rattle.fsrm_model.specs.Quota.{folder_of, quota_of, counts, refuses, over, deepest, exceeded, peaked, peaks}
 use Rattle.fsrm_model.specs.QuotaStates.{followed}
 use Rattle.fsrm_model.specs.Step.{step, work, decided, lasted, unlasting, unacted}
@@ -103,6 +103,13 @@ same_folder K nodes moment quota = by (counts quota && nat_lt quota.peak (usage 
     by : (b : Bool) → folder_of (if b then record quota { peak = usage K nodes quota.folder; peak_at = moment } else quota) ≡ folder_of quota
     by true = refl
     by false = refl
+
+-- peaks that are raised leave each quota at its folder
+pub peaked_there : (K : Capacity) (nodes : List NodeRow) (moment folder : ℕ) (quotas : List QuotaRow) → has_row folder_of folder (map (peaked K nodes moment) quotas) ≡ has_row folder_of folder quotas
+peaked_there K nodes moment folder [] = refl
+peaked_there K nodes moment folder (quota ∷ quotas) =
+    ap (λ n. (n == folder) || has_row folder_of folder (map (peaked K nodes moment) quotas)) (same_folder K nodes moment quota)
+    ∙ ap (λ b. (quota.folder == folder) || b) (peaked_there K nodes moment folder quotas)
 
 pub peaks_raised : (K : Capacity) (R : Rows) (moment folder : ℕ) (quota : QuotaRow) → quota_of (peaks K R moment) folder ≡ Some quota → counts quota ≡ true → usage K R.nodes folder ≤ quota.peak
 peaks_raised K R moment folder quota there counting =

@@ -33,3 +33,4 @@ pub mod Script
 pub mod WorkedRows
 pub mod Patterns
 pub mod Places
+pub mod Lasting

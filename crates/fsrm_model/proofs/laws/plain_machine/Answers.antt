@@ -1,7 +1,8 @@
 use Rattle.std.proofs.Common.{ap, Some, None}
 use Rattle.std.specs.Prelude.{Err, Ok}
 use Rattle.fsrm_model.specs.Script.{Replied, without_cr}
-use Rattle.fsrm_model.proofs.PlainMachine.{replied-read, refused_same, sum_fresh}
+use Rattle.fsrm_model.proofs.EachCommand.{refused_same, sum_fresh}
+use Rattle.fsrm_model.proofs.PlainMachine.{replied-read}
 use Rattle.fsrm_model.proofs.SpellingLaws.{spelled_reads, skips_read}
 use Rattle.fsrm_model.proofs.laws.plain_machine.Goals as goal
 

@@ -1,6 +1,5 @@
 use Rattle.fsrm_model.proofs.QuotaLaws.{exceeded_is, peaks_last}
-use Rattle.fsrm_model.proofs.QuotaRefusals.{quota_refuses}
-use Rattle.fsrm_model.proofs.HardLimits.{limits_kept}
+use Rattle.fsrm_model.proofs.EachCommand.{quota_refuses, limits_kept}
 use Rattle.fsrm_model.proofs.laws.quotas.Goals as goal
 
 pub returns-clause-exceeds : goal.returns-clause-exceeds

@@ -12,4 +12,4 @@ returns-clause-looks g c =
     omega (arith, c.take.ensures.looks, cost_in_time c.args.self.now.rows c.args.command.now late)
 
 pub returns-clause-named : goal.returns-clause-named
-returns-clause-named g c = result_named c.args.self.now c.take.new.self c.args.command.now c.take.result c.take.ensures.ok c.last_moment.ensures.store c.take.ensures.kept
+returns-clause-named g c = result_named c.args.self.now c.take.new.self c.args.command.now c.take.result c.take.ensures.ok c.last_moment.ensures.store

@@ -13,4 +13,4 @@ returns-clause-looks g c =
     omega (arith, c.operate.ensures.looks, cost_in_time c.args.self.now.rows (record { moment = c.args.moment; deed = File c.args.op.now }) late)
 
 pub returns-clause-named : goal.returns-clause-named
-returns-clause-named g c = result_named c.args.self.now c.operate.new.self (record { moment = c.args.moment; deed = File c.args.op.now }) c.operate.result c.operate.ensures.ok c.last_moment.ensures.store c.operate.ensures.kept
+returns-clause-named g c = result_named c.args.self.now c.operate.new.self (record { moment = c.args.moment; deed = File c.args.op.now }) c.operate.result c.operate.ensures.ok c.last_moment.ensures.store

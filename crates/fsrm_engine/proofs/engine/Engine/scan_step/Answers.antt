@@ -13,4 +13,4 @@ returns-clause-looks g c =
     omega (arith, c.go_on.ensures.looks, cost_in_time c.args.self.now.rows (record { moment = c.args.moment; deed = Step c.args.n }) late)
 
 pub returns-clause-named : goal.returns-clause-named
-returns-clause-named g c = takes_named c.args.self.now c.go_on.new.self (record { moment = c.args.moment; deed = Step c.args.n }) c.go_on.result c.go_on.ensures.ok c.last_moment.ensures.store c.go_on.ensures.kept
+returns-clause-named g c = takes_named c.args.self.now c.go_on.new.self (record { moment = c.args.moment; deed = Step c.args.n }) c.go_on.result c.go_on.ensures.ok c.last_moment.ensures.store

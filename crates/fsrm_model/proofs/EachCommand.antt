@@ -1,0 +1,112 @@
+-- Each command's work is orderly. Here alone the laws over all commands go through them, one by one.
+use Rattle.std.proofs.Common.{◌≡◌, ℕ, ◌<◌, ◌≤◌, ◌⊎◌, inl, inr, true, List, false, refl, Some, nat_lt, subst}
+use Rattle.fsrm_model.specs.declared.command.Command.{Command}
+use Rattle.fsrm_model.specs.declared.command.Deed.{Deed}
+use Rattle.fsrm_model.specs.declared.command.Deed.TheVariants.{File, Usage, Step, QuotaAdd, QuotaModify, QuotaDelete, QuotaScan, QuotaResetpeak, QuotaList}
+use Rattle.fsrm_model.specs.declared.command.FileOp.{FileOp}
+use Rattle.fsrm_model.specs.declared.command.Outcome.TheVariants.{Refused}
+use Rattle.fsrm_model.specs.declared.command.Refusal.{Refusal}
+use Rattle.fsrm_model.specs.declared.command.Refusal.TheVariants.{QuotaExceeded}
+use Rattle.fsrm_model.specs.declared.command.Outcome.TheVariants.{Sum}
+use Rattle.std.specs.Prelude.{sum_by}
+use Rattle.fsrm_model.specs.declared.row.Capacity.{Capacity}
+use Rattle.fsrm_model.specs.declared.row.NodeRow.{NodeRow}
+use Rattle.fsrm_model.specs.declared.row.QuotaRow.{QuotaRow}
+use Rattle.fsrm_model.specs.declared.row.Rows.{Rows}
+use Rattle.fsrm_model.specs.Exceeds.{Exceeds}
+use Rattle.fsrm_model.specs.FileOps.{plain}
+use Rattle.fsrm_model.specs.Lasting.{lasting}
+use Rattle.fsrm_model.specs.Named.{IsNamed}
+use Rattle.fsrm_model.specs.Quota.{quota_of, counts}
+use Rattle.fsrm_model.specs.Space.{space}
+use Rattle.fsrm_model.specs.Step.{step, work}
+use Rattle.fsrm_model.specs.Tree.{usage, under}
+use Rattle.fsrm_model.specs.Valid.{IsStore}
+use Rattle.fsrm_model.specs.Work.{Work}
+use Rattle.fsrm_model.proofs.Ends.{effect_nodes}
+use Rattle.fsrm_model.proofs.FileOrderly.{file_orderly, file_limits, usage_still}
+use Rattle.fsrm_model.proofs.Orderly.{IsOrderly, IsStill, KeepsLimits, still_limits}
+use Rattle.fsrm_model.proofs.OrderlyLaws.{verdict, refused_kept, refused_by, sum_afresh, refusal_exceeds, still_unexceeded, limits_hold, outcome_named, unlasting_kept}
+use Rattle.fsrm_model.proofs.QuotaOrderly.{add_still, modify_still, delete_still, reset_still, list_still}
+use Rattle.fsrm_model.proofs.ScanOrderly.{scan_still, step_still}
+
+-- the nodes that a file operation makes
+record IsFileWork (R : Rows) (moment : ℕ) (deed : Deed) (nodes : List NodeRow) : Type 0 where
+  op : FileOp
+  is : deed ≡ File op
+  made : nodes ≡ plain R.nodes op moment
+
+-- a work is orderly and keeps limits, and only a file operation makes other nodes
+record IsCertified (K : Capacity) (R : Rows) (moment : ℕ) (deed : Deed) (w : Work) : Type 0 where
+  orderly : IsOrderly K R w
+  limits : KeepsLimits K R w
+  nodes : (w.effect.nodes ≡ R.nodes) ⊎ IsFileWork R moment deed w.effect.nodes
+
+still : {K : Capacity} {R : Rows} {moment : ℕ} {deed : Deed} {w : Work} → IsStill K R w → IsCertified K R moment deed w
+still {K} {R} {moment} {deed} {w} s = record { orderly = s.orderly; limits = still_limits K R w s.same; nodes = inl s.same }
+
+certified : (K : Capacity) (R : Rows) (moment : ℕ) (deed : Deed) → IsCertified K R moment deed (work K R moment deed)
+certified K R moment (File op) =
+    record {
+      orderly = file_orderly K R op moment;
+      limits = file_limits K R op moment;
+      nodes = inr (record { op = op; is = refl; made = effect_nodes R op moment });
+    }
+certified K R moment (Usage path) = still (usage_still K R path)
+certified K R moment (Step n) = still (step_still K R n)
+certified K R moment (QuotaAdd path limit enforce enabled) = still (add_still K R moment path limit enforce enabled)
+certified K R moment (QuotaModify path limit enforce enabled) = still (modify_still K R path limit enforce enabled)
+certified K R moment (QuotaDelete path) = still (delete_still K R path)
+certified K R moment (QuotaScan path) = still (scan_still K R path)
+certified K R moment (QuotaResetpeak path) = still (reset_still K R moment path)
+certified K R moment (QuotaList path) = still (list_still K R path)
+
+pub orderly : (K : Capacity) (R : Rows) (moment : ℕ) (deed : Deed) → IsOrderly K R (work K R moment deed)
+orderly K R moment deed = (certified K R moment deed).orderly
+
+-- a refusal changes nothing
+pub refused_same : (K : Capacity) (R : Rows) (c : Command) (refusal : Refusal) → (step K R c).outcome ≡ Refused refusal → (step K R c).rows ≡ R
+refused_same K R c refusal h =
+    let w = work K R c.moment c.deed in
+    refused_kept K R c.moment w (orderly K R c.moment c.deed) (verdict (nat_lt c.moment R.last_moment) w) refusal h
+
+pub sum_fresh : (K : Capacity) (R : Rows) (c : Command) (folder bytes : ℕ) → (step K R c).outcome ≡ Sum folder bytes → bytes ≡ sum_by (space K) (under R.nodes folder)
+sum_fresh K R c folder bytes h =
+    let w = work K R c.moment c.deed in
+    sum_afresh K R c.moment w (orderly K R c.moment c.deed) (verdict (nat_lt c.moment R.last_moment) w) folder bytes h
+
+-- the file operation that a quota refuses
+abbrev RefusedOp : Capacity → Rows → ℕ → Deed → ℕ → ℕ → ℕ → Type 0
+RefusedOp K R moment deed folder would limit = (op : FileOp) × (deed ≡ File op) × Exceeds K R (plain R.nodes op moment) folder would limit
+
+pub quota_refuses : (K : Capacity) (R : Rows) (c : Command) (folder would limit : ℕ) → IsStore K R → (step K R c).outcome ≡ Refused (QuotaExceeded folder would limit) → RefusedOp K R c.moment c.deed folder would limit
+quota_refuses K R c folder would limit store h =
+    let w = work K R c.moment c.deed in
+    let late = nat_lt c.moment R.last_moment in
+    let sure = certified K R c.moment c.deed in
+    let by = refused_by K R c.moment w sure.orderly (verdict late w) (QuotaExceeded folder would limit) h in
+    let over = refusal_exceeds K R late w sure.orderly store folder would limit by in
+    elim sure.nodes [
+      | inl same ↦ absurd (still_unexceeded K R w.effect.nodes folder would limit same over)
+      | inr file ↦ (file.op, file.is, subst (λ (nodes : List NodeRow). Exceeds K R nodes folder would limit) file.made over)
+    ]
+
+pub limits_kept : (K : Capacity) (R : Rows) (c : Command) (folder : ℕ) (quota : QuotaRow) → IsStore K R → quota_of R folder ≡ Some quota → counts quota ≡ true → quota.enforce ≡ true → usage K R.nodes folder < usage K (step K R c).rows.nodes folder → usage K (step K R c).rows.nodes folder ≤ quota.limit
+limits_kept K R c folder quota store there counting enforced rises =
+    let w = work K R c.moment c.deed in
+    let late = nat_lt c.moment R.last_moment in
+    limits_hold K R c.moment late w (certified K R c.moment c.deed).limits store (verdict late w) refl folder quota (record { there = there; counting = counting; enforced = enforced; rises = rises })
+
+-- an outcome names what is there
+pub named : (K : Capacity) (R : Rows) (c : Command) → IsStore K R → IsNamed (step K R c).rows (step K R c).outcome
+named K R c store =
+    let w = work K R c.moment c.deed in
+    let late = nat_lt c.moment R.last_moment in
+    outcome_named K R c.moment late w (orderly K R c.moment c.deed) store (verdict late w) refl
+
+-- a command that doesn't last leaves what a store keeps
+pub lasting_kept : (K : Capacity) (R : Rows) (c : Command) → IsStore K R → (step K R c).lasting ≡ false → lasting (step K R c).rows ≡ lasting R
+lasting_kept K R c store h =
+    let w = work K R c.moment c.deed in
+    let late = nat_lt c.moment R.last_moment in
+    unlasting_kept K R c.moment late w (orderly K R c.moment c.deed) store (verdict late w) refl h
