@@ -15,7 +15,7 @@ pub mod steps;
 mod tests;
 pub mod text;
 
-pub use command::{Act, Answer, Ask, Command, Deed, FileOp, Outcome, Refusal, Subject};
+pub use command::{Act, Added, Answer, Ask, Command, Deed, FileOp, Outcome, Refusal, Subject};
 pub use list::List;
 pub use memory::{Duplicate, NoMemory};
 pub use path::Path;
