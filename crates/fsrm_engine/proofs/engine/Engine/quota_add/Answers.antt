@@ -1,4 +1,4 @@
-use Rattle.std.proofs.Common.{◌≡◌, true, false, refl, ap, sym, ◌∙◌, subst, None, []}
+use Rattle.std.proofs.Common.{◌≡◌, ℕ, Bool, Option, true, false, refl, ap, sym, ◌∙◌, subst, None, []}
 use Rattle.std.specs.Prelude.{unwrap_or, if◌then◌else◌}
 use Rattle.fsrm_model.specs.declared.command.Deed.TheVariants.{QuotaAdd}
 use Rattle.fsrm_model.specs.declared.command.Refusal.TheVariants.{TableFull}
@@ -51,5 +51,7 @@ returns-clause-ok g c =
     (table_has R.quotas _ c.quota_count.result c.quota_count.ensures c.if-quota_count-ge-MOST_QUOTAS.false))
     (ap (λ k. with_quota R (new_quota k (unwrap_or c.args.limit 0) (unwrap_or c.args.enforce true) (if c.args.enabled then start R.nodes k else Disabled) c.args.moment)) (target_is R.nodes c.args.path.now n at.resolved)
     ∙ (ap (λ s. with_quota R (new_quota n (unwrap_or c.args.limit 0) (unwrap_or c.args.enforce true) s c.args.moment)) (sym c.first_state-state.ensures.state)
-    ∙ ap (with_quota R) (sym c.new_quota-row.ensures)))
+    ∙ (ap (λ (l : ℕ). with_quota R (new_quota n l (unwrap_or c.args.enforce true) c.first_state-state.result c.args.moment)) (ap (λ (l : Option ℕ). unwrap_or l 0) c.unwrap-limit.ensures)
+    ∙ (ap (λ (e : Bool). with_quota R (new_quota n c.unwrap-limit.result e c.first_state-state.result c.args.moment)) (sym c.unwrap_or-enforce.ensures)
+    ∙ ap (with_quota R) (sym c.new_quota-row.ensures)))))
     refl refl c.in_ok-enlist.ensures.listed c.in_ok-enlist.ensures.level c.done.ensures.rows c.done.ensures.answer
