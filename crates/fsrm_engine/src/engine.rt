@@ -152,12 +152,14 @@ impl Engine {
                 limit,
                 enforce,
                 enabled,
+                ..
             } => self.quota_add(alloc, path, *limit, *enforce, *enabled, moment, steps),
             Deed::QuotaModify {
                 path,
                 limit,
                 enforce,
                 enabled,
+                ..
             } => self.quota_modify(alloc, path, *limit, *enforce, *enabled, moment, steps),
             Deed::QuotaDelete { path } => Ok(self.quota_delete(path, moment, steps)),
             Deed::QuotaScan { path } => self.quota_scan(path, moment, steps),

@@ -239,19 +239,19 @@ impl Engine {
         &mut self,
         alloc: Global,
         path: &Path,
-        limit: u64,
-        enforce: bool,
+        limit: Option<u64>,
+        enforce: Option<bool>,
         enabled: bool,
         moment: u64,
         steps: &mut Steps<L>,
     ) -> Result<Answer, NoMemory>
-        requires limit { is_limit limit ≡ true }
+        requires limit { option_map_or is_limit limit false ≡ true }
         requires moment { moment ≤ latest_moment }
         requires late { self.old.rows.last_moment ≤ moment }
-        ensures ok { IfOk result (λ answer. Takes self.old self.new (step self.old.size self.old.rows (record { moment = moment; deed = QuotaAdd path.now limit enforce enabled })) answer) }
+        ensures ok { IfOk result (λ answer. Takes self.old self.new (step self.old.size self.old.rows (record { moment = moment; deed = QuotaAdd path.now limit enforce enabled None [] [] })) answer) }
         ensures err { OnErr result (self.new ≡ self.old) }
         ensures kept { IsStore self.new.size self.new.rows }
-        ensures looks { steps.new ≤ steps.old + deed_cost self.old.rows (QuotaAdd path.now limit enforce enabled) }
+        ensures looks { steps.new ≤ steps.old + deed_cost self.old.rows (QuotaAdd path.now limit enforce enabled None [] []) }
     {
         let Some(folder) = self.folder(path, steps) else {
             return Ok(refused(Refusal::PathNotFound));
@@ -263,6 +263,9 @@ impl Engine {
             return Ok(refused(Refusal::TableFull));
         }
         let state = self.first_state(folder, enabled, steps);
+        // A command gives a limit, and a quota is hard where its type isn't given.
+        let limit = limit.unwrap();
+        let enforce = enforce.unwrap_or(true);
         let row = new_quota(alloc, folder, limit, enforce, state, moment);
         self.enlist(row)?;
         Ok(self.done(moment))
@@ -281,10 +284,10 @@ impl Engine {
         requires limit { option_map_or is_limit limit true ≡ true }
         requires moment { moment ≤ latest_moment }
         requires late { self.old.rows.last_moment ≤ moment }
-        ensures ok { IfOk result (λ answer. Takes self.old self.new (step self.old.size self.old.rows (record { moment = moment; deed = QuotaModify path.now limit enforce enabled })) answer) }
+        ensures ok { IfOk result (λ answer. Takes self.old self.new (step self.old.size self.old.rows (record { moment = moment; deed = QuotaModify path.now limit enforce enabled [] [] [] })) answer) }
         ensures err { OnErr result (self.new ≡ self.old) }
         ensures kept { IsStore self.new.size self.new.rows }
-        ensures looks { steps.new ≤ steps.old + deed_cost self.old.rows (QuotaModify path.now limit enforce enabled) }
+        ensures looks { steps.new ≤ steps.old + deed_cost self.old.rows (QuotaModify path.now limit enforce enabled [] [] []) }
     {
         let Some(folder) = self.folder(path, steps) else {
             return Ok(refused(Refusal::PathNotFound));

@@ -229,20 +229,20 @@ list_at given path limit enforce enabled words p l t e s =
 
 add_spells : QuotaSpelled (codes "add") quota_add_words
 add_spells a b first second word end words d named h =
-    let given = both_ok (options all_keys words nothing) (λ given. required end given.path >>= λ path. required end given.limit >>= λ limit. Ok (QuotaAdd path limit (unwrap_or given.enforce true) (unwrap_or given.enabled true))) d h in
-    let path = both_ok (required end given.0.path) (λ path. required end given.0.limit >>= λ limit. Ok (QuotaAdd path limit (unwrap_or given.0.enforce true) (unwrap_or given.0.enabled true))) d given.2 in
-    let limit = both_ok (required end given.0.limit) (λ limit. Ok (QuotaAdd path.0 limit (unwrap_or given.0.enforce true) (unwrap_or given.0.enabled true))) d path.2 in
-    let made : QuotaAdd path.0 limit.0 (unwrap_or given.0.enforce true) (unwrap_or given.0.enabled true) ≡ d = cc limit.2 in
+    let given = both_ok (options all_keys words nothing) (λ given. required end given.path >>= λ path. required end given.limit >>= λ limit. Ok (QuotaAdd path (Some limit) given.enforce (unwrap_or given.enabled true) None [] [])) d h in
+    let path = both_ok (required end given.0.path) (λ path. required end given.0.limit >>= λ limit. Ok (QuotaAdd path (Some limit) given.0.enforce (unwrap_or given.0.enabled true) None [] [])) d given.2 in
+    let limit = both_ok (required end given.0.limit) (λ limit. Ok (QuotaAdd path.0 (Some limit) given.0.enforce (unwrap_or given.0.enabled true) None [] [])) d path.2 in
+    let made : QuotaAdd path.0 (Some limit.0) given.0.enforce (unwrap_or given.0.enabled true) None [] [] ≡ d = cc limit.2 in
     let s = list_at given.0 (Some path.0) (Some limit.0) given.0.enforce given.0.enabled (texts words) (required_ok end given.0.path path.0 path.1) (required_ok end given.0.limit limit.0 limit.1) refl refl (options_spelled all_keys words given.0 given.1) in
-    subst (Behind a b (texts (word ∷ words))) made (given.0.enforce, given.0.enabled, refl, refl, (a, b, word.text, texts words, refl, first, second, named, s))
+    subst (Behind a b (texts (word ∷ words))) made (limit.0, given.0.enabled, refl, refl, refl, refl, refl, (a, b, word.text, texts words, refl, first, second, named, s))
 
 modify_spells : QuotaSpelled (codes "modify") quota_modify_words
 modify_spells a b first second word end words d named h =
-    let given = both_ok (options all_keys words nothing) (λ given. required end given.path >>= λ path. Ok (QuotaModify path given.limit given.enforce given.enabled)) d h in
-    let path = both_ok (required end given.0.path) (λ path. Ok (QuotaModify path given.0.limit given.0.enforce given.0.enabled)) d given.2 in
-    let made : QuotaModify path.0 given.0.limit given.0.enforce given.0.enabled ≡ d = cc path.2 in
+    let given = both_ok (options all_keys words nothing) (λ given. required end given.path >>= λ path. Ok (QuotaModify path given.limit given.enforce given.enabled [] [] [])) d h in
+    let path = both_ok (required end given.0.path) (λ path. Ok (QuotaModify path given.0.limit given.0.enforce given.0.enabled [] [] [])) d given.2 in
+    let made : QuotaModify path.0 given.0.limit given.0.enforce given.0.enabled [] [] [] ≡ d = cc path.2 in
     let s = list_at given.0 (Some path.0) given.0.limit given.0.enforce given.0.enabled (texts words) (required_ok end given.0.path path.0 path.1) refl refl refl (options_spelled all_keys words given.0 given.1) in
-    subst (Behind a b (texts (word ∷ words))) made (a, b, word.text, texts words, refl, first, second, named, s)
+    subst (Behind a b (texts (word ∷ words))) made (refl, refl, refl, (a, b, word.text, texts words, refl, first, second, named, s))
 
 -- a command that takes a path alone
 path_options : (words : List Word) (given : Given) → options (ThePath ∷ []) words nothing ≡ Ok given → SpellsOptions (texts words) (path_option given.path ++ [])
@@ -379,18 +379,18 @@ deed_reads end given (Usage path) s =
 deed_reads end given (Step n) s =
     let r = behind_name command_table (codes "step") step_words end given s.0 (s.1 ∷ []) s.2 s.3 (λ word end more. refl) in
     r.1 ∙ one_number_reads 1 most_visits (λ n. Step n) end r.0 s.1 n r.2 s.4
-deed_reads end given (QuotaAdd path limit enforce enabled) s =
-    let r = quota_read (codes "add") quota_add_words end given (PathIs path ∷ LimitIs limit ∷ (type_option s.0 ++ status_option s.1)) (λ word end more. refl) s.4 in
-    let all : Given = record { path = Some path; limit = Some limit; enforce = s.0; enabled = s.1 } in
+deed_reads end given (QuotaAdd path limit enforce enabled template percents notices) s =
+    let r = quota_read (codes "add") quota_add_words end given (PathIs path ∷ LimitIs s.0 ∷ (type_option enforce ++ status_option s.1)) (λ word end more. refl) s.7 in
+    let all : Given = record { path = Some path; limit = Some s.0; enforce = enforce; enabled = s.1 } in
     r.read
-    ∙ then_ok (options all_keys r.more nothing) all (λ given. required end given.path >>= λ path. required end given.limit >>= λ limit. Ok (QuotaAdd path limit (unwrap_or given.enforce true) (unwrap_or given.enabled true))) (options_from all_keys r.more all (takes_all all) r.spelled)
-    ∙ ap (λ (enforce : Bool). Ok (QuotaAdd path limit enforce (unwrap_or s.1 true))) s.2
-    ∙ ap (λ (enabled : Bool). Ok (QuotaAdd path limit enforce enabled)) s.3
-deed_reads end given (QuotaModify path limit enforce enabled) s =
-    let r = quota_read (codes "modify") quota_modify_words end given (PathIs path ∷ (limit_option limit ++ (type_option enforce ++ status_option enabled))) (λ word end more. refl) s in
+    ∙ then_ok (options all_keys r.more nothing) all (λ given. required end given.path >>= λ path. required end given.limit >>= λ limit. Ok (QuotaAdd path (Some limit) given.enforce (unwrap_or given.enabled true) None [] [])) (options_from all_keys r.more all (takes_all all) r.spelled)
+    ∙ rw (s.2, s.3, s.4, s.5, s.6) refl
+deed_reads end given (QuotaModify path limit enforce enabled removed percents notices) s =
+    let r = quota_read (codes "modify") quota_modify_words end given (PathIs path ∷ (limit_option limit ++ (type_option enforce ++ status_option enabled))) (λ word end more. refl) s.3 in
     let all : Given = record { path = Some path; limit = limit; enforce = enforce; enabled = enabled } in
     r.read
-    ∙ then_ok (options all_keys r.more nothing) all (λ given. required end given.path >>= λ path. Ok (QuotaModify path given.limit given.enforce given.enabled)) (options_from all_keys r.more all (takes_all all) r.spelled)
+    ∙ then_ok (options all_keys r.more nothing) all (λ given. required end given.path >>= λ path. Ok (QuotaModify path given.limit given.enforce given.enabled [] [] [])) (options_from all_keys r.more all (takes_all all) r.spelled)
+    ∙ rw (s.0, s.1, s.2) refl
 deed_reads end given (QuotaDelete path) s =
     let r = quota_read (codes "delete") quota_delete_words end given (PathIs path ∷ []) (λ word end more. refl) s in
     r.read ∙ one_required_reads (λ path. QuotaDelete path) end r.more path r.spelled

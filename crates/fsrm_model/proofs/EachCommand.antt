@@ -54,8 +54,8 @@ certified K R moment (File op) =
     }
 certified K R moment (Usage path) = still (usage_still K R path)
 certified K R moment (Step n) = still (step_still K R n)
-certified K R moment (QuotaAdd path limit enforce enabled) = still (add_still K R moment path limit enforce enabled)
-certified K R moment (QuotaModify path limit enforce enabled) = still (modify_still K R path limit enforce enabled)
+certified K R moment (QuotaAdd path limit enforce enabled template percents notices) = still (add_still K R moment path limit enforce enabled)
+certified K R moment (QuotaModify path limit enforce enabled removed percents notices) = still (modify_still K R path limit enforce enabled)
 certified K R moment (QuotaDelete path) = still (delete_still K R path)
 certified K R moment (QuotaScan path) = still (scan_still K R path)
 certified K R moment (QuotaResetpeak path) = still (reset_still K R moment path)

@@ -157,14 +157,14 @@ all_keys = ThePath ∷ TheLimit ∷ TheType ∷ TheStatus ∷ []
 
 add_line : ReadsLine quota_add_words
 add_line end words =
-    then_line (options all_keys words nothing) (λ given. required end given.path >>= λ path. required end given.limit >>= λ limit. Ok (QuotaAdd path limit (unwrap_or given.enforce true) (unwrap_or given.enabled true))) (options_line all_keys words nothing)
-    (λ given. then_line (required end given.path) (λ path. required end given.limit >>= λ limit. Ok (QuotaAdd path limit (unwrap_or given.enforce true) (unwrap_or given.enabled true))) (required_line end given.path)
-    (λ path. then_line (required end given.limit) (λ limit. Ok (QuotaAdd path limit (unwrap_or given.enforce true) (unwrap_or given.enabled true))) (required_line end given.limit) (λ limit. tt)))
+    then_line (options all_keys words nothing) (λ given. required end given.path >>= λ path. required end given.limit >>= λ limit. Ok (QuotaAdd path (Some limit) given.enforce (unwrap_or given.enabled true) None [] [])) (options_line all_keys words nothing)
+    (λ given. then_line (required end given.path) (λ path. required end given.limit >>= λ limit. Ok (QuotaAdd path (Some limit) given.enforce (unwrap_or given.enabled true) None [] [])) (required_line end given.path)
+    (λ path. then_line (required end given.limit) (λ limit. Ok (QuotaAdd path (Some limit) given.enforce (unwrap_or given.enabled true) None [] [])) (required_line end given.limit) (λ limit. tt)))
 
 modify_line : ReadsLine quota_modify_words
 modify_line end words =
-    then_line (options all_keys words nothing) (λ given. required end given.path >>= λ path. Ok (QuotaModify path given.limit given.enforce given.enabled)) (options_line all_keys words nothing)
-    (λ given. then_line (required end given.path) (λ path. Ok (QuotaModify path given.limit given.enforce given.enabled)) (required_line end given.path) (λ path. tt))
+    then_line (options all_keys words nothing) (λ given. required end given.path >>= λ path. Ok (QuotaModify path given.limit given.enforce given.enabled [] [] [])) (options_line all_keys words nothing)
+    (λ given. then_line (required end given.path) (λ path. Ok (QuotaModify path given.limit given.enforce given.enabled [] [] [])) (required_line end given.path) (λ path. tt))
 
 one_required_line : (deed : Path → Deed) (end : ℕ) (words : List Word) → AsLine (options (ThePath ∷ []) words nothing >>= λ given. required end given.path >>= λ path. Ok (deed path))
 one_required_line deed end words =

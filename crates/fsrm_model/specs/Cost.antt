@@ -34,8 +34,8 @@ abbrev pub names_of : Deed → ℕ
 names_of (File op) = names_of_op op
 names_of (Usage path) = length path
 names_of (Step n) = 0
-names_of (QuotaAdd path limit enforce enabled) = length path
-names_of (QuotaModify path limit enforce enabled) = length path
+names_of (QuotaAdd path limit enforce enabled template percents notices) = length path
+names_of (QuotaModify path limit enforce enabled removed percents notices) = length path
 names_of (QuotaDelete path) = length path
 names_of (QuotaScan path) = length path
 names_of (QuotaResetpeak path) = length path

@@ -88,19 +88,19 @@ step_words end given = do
   visits ← number_word 1 most_visits end given
   no_more visits.1 (Step visits.0)
 
--- the options behind the names of each command on quotas. A quota is hard and enabled where nothing else is given
+-- the options behind the names of each command on quotas. A quota is enabled where nothing else is given
 abbrev pub quota_add_words : ℕ → List Word → Read Deed
 quota_add_words end words = do
   given ← options (ThePath ∷ TheLimit ∷ TheType ∷ TheStatus ∷ []) words nothing
   path ← required end given.path
   limit ← required end given.limit
-  Ok (QuotaAdd path limit (unwrap_or given.enforce true) (unwrap_or given.enabled true))
+  Ok (QuotaAdd path (Some limit) given.enforce (unwrap_or given.enabled true) None [] [])
 
 abbrev pub quota_modify_words : ℕ → List Word → Read Deed
 quota_modify_words end words = do
   given ← options (ThePath ∷ TheLimit ∷ TheType ∷ TheStatus ∷ []) words nothing
   path ← required end given.path
-  Ok (QuotaModify path given.limit given.enforce given.enabled)
+  Ok (QuotaModify path given.limit given.enforce given.enabled [] [] [])
 
 abbrev pub quota_delete_words : ℕ → List Word → Read Deed
 quota_delete_words end words = do

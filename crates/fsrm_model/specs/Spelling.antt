@@ -161,11 +161,12 @@ abbrev pub SpellsDeed : List (List ℕ) → Deed → Type 0
 SpellsDeed words (File op) = SpellsOp words op
 SpellsDeed words (Usage path) = (name a : List ℕ) × (words ≡ name ∷ a ∷ []) × IsNamed (codes "usage") name × WritesPath a path
 SpellsDeed words (Step n) = (name a : List ℕ) × (words ≡ name ∷ a ∷ []) × IsNamed (codes "step") name × Writes 1 most_visits a n
-SpellsDeed words (QuotaAdd path limit enforce enabled) =
-    (type status : Option Bool) × (unwrap_or type true ≡ enforce) × (unwrap_or status true ≡ enabled)
-    × SpellsQuota words (codes "add") (PathIs path ∷ LimitIs limit ∷ (type_option type ++ status_option status))
-SpellsDeed words (QuotaModify path limit enforce enabled) =
-    SpellsQuota words (codes "modify") (PathIs path ∷ (limit_option limit ++ (type_option enforce ++ status_option enabled)))
+SpellsDeed words (QuotaAdd path limit enforce enabled template percents notices) =
+    (bytes : ℕ) × (status : Option Bool) × (limit ≡ Some bytes) × (unwrap_or status true ≡ enabled) × (template ≡ None) × (percents ≡ []) × (notices ≡ [])
+    × SpellsQuota words (codes "add") (PathIs path ∷ LimitIs bytes ∷ (type_option enforce ++ status_option status))
+SpellsDeed words (QuotaModify path limit enforce enabled removed percents notices) =
+    (removed ≡ []) × (percents ≡ []) × (notices ≡ [])
+    × SpellsQuota words (codes "modify") (PathIs path ∷ (limit_option limit ++ (type_option enforce ++ status_option enabled)))
 SpellsDeed words (QuotaDelete path) = SpellsQuota words (codes "delete") (PathIs path ∷ [])
 SpellsDeed words (QuotaScan path) = SpellsQuota words (codes "scan") (PathIs path ∷ [])
 SpellsDeed words (QuotaResetpeak path) = SpellsQuota words (codes "resetpeak") (PathIs path ∷ [])

@@ -23,8 +23,8 @@ abbrev pub work : Capacity → Rows → ℕ → Deed → Work
 work K R moment (File op) = file_work K R op moment
 work K R moment (Usage path) = usage_work K R path
 work K R moment (Step n) = step_work K R n
-work K R moment (QuotaAdd path limit enforce enabled) = add_work R moment path limit enforce enabled
-work K R moment (QuotaModify path limit enforce enabled) = modify_work R path limit enforce enabled
+work K R moment (QuotaAdd path limit enforce enabled template percents notices) = add_work R moment path limit enforce enabled
+work K R moment (QuotaModify path limit enforce enabled removed percents notices) = modify_work R path limit enforce enabled
 work K R moment (QuotaDelete path) = delete_work R path
 work K R moment (QuotaScan path) = scan_work R path
 work K R moment (QuotaResetpeak path) = reset_work K R moment path

@@ -1,5 +1,5 @@
 -- Which commands are valid: those whose values have their forms and ranges.
-use Rattle.std.specs.Prelude.{ℕ, ◌&&◌, nat_le, Bool, true, List}
+use Rattle.std.specs.Prelude.{ℕ, ◌&&◌, nat_le, Bool, true, false, List, [], ◌∷◌, is_none}
 use Rattle.std.specs.List.{list_all}
 use Rattle.std.specs.Option.{option_map_or}
 use Rattle.fsrm_model.specs.declared.command.Command.{Command}
@@ -29,12 +29,19 @@ is_op (Touch path) = is_path path
 is_op (Move from to) = is_path from && is_path to
 is_op (Remove path) = is_path path
 
+abbrev pub is_empty : {X : Type 0} → List X → Bool
+is_empty [] = true
+is_empty (x ∷ xs) = false
+
+-- a new quota has a limit. Neither templates nor thresholds can be given yet
 abbrev pub is_deed : Deed → Bool
 is_deed (File op) = is_op op
 is_deed (Usage path) = is_path path
 is_deed (Step n) = nat_le 1 n && nat_le n most_visits
-is_deed (QuotaAdd path limit enforce enabled) = is_path path && is_limit limit
-is_deed (QuotaModify path limit enforce enabled) = is_path path && option_map_or is_limit limit true
+is_deed (QuotaAdd path limit enforce enabled template percents notices) =
+    (is_path path && option_map_or is_limit limit false) && (is_none template && (is_empty percents && is_empty notices))
+is_deed (QuotaModify path limit enforce enabled removed percents notices) =
+    (is_path path && option_map_or is_limit limit true) && (is_empty removed && (is_empty percents && is_empty notices))
 is_deed (QuotaDelete path) = is_path path
 is_deed (QuotaScan path) = is_path path
 is_deed (QuotaResetpeak path) = is_path path

@@ -11,7 +11,7 @@ pub mod space;
 #[cfg(test)]
 mod tests;
 
-pub use command::{Act, Answer, Ask, Command, Deed, FileOp, Outcome, Refusal, Subject};
+pub use command::{Act, Added, Answer, Ask, Command, Deed, FileOp, Outcome, Refusal, Subject};
 pub use fsrm_base::{Duplicate, Ledger, List, NoMemory, Steps, Text, Weightless, WeightlessPage};
 pub use path::Path;
 pub use row::{

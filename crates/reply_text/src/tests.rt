@@ -71,9 +71,12 @@ fn replies_are_written<N: Ledger>(
         moment: 951_782_400,
         deed: Deed::QuotaAdd {
             path: Path::from_parts(List::new(rt.alloc())),
-            limit: 1_024,
-            enforce: true,
+            limit: Some(1_024),
+            enforce: None,
             enabled: true,
+            source_template: None,
+            add_threshold: List::new(rt.alloc()),
+            add_notification: List::new(rt.alloc()),
         },
     };
     engine.apply(rt.alloc(), &add, &mut steps)?;

@@ -163,13 +163,13 @@ quota_add_valid end words =
     then are_given is_deed (options all_keys words nothing) _ (options_valid all_keys words nothing refl) (λ given g.
     then is_path is_deed (required end given.path) _ (required_valid is_path end given.path (given_path given g)) (λ path p.
     then is_limit is_deed (required end given.limit) _ (required_valid is_limit end given.limit (given_limit given g)) (λ limit l.
-    done is_deed (QuotaAdd path limit (unwrap_or given.enforce true) (unwrap_or given.enabled true)) (both_true (is_path path) (is_limit limit) p l))))
+    done is_deed (QuotaAdd path (Some limit) given.enforce (unwrap_or given.enabled true) None [] []) (both_true (is_path path && is_limit limit) true (both_true (is_path path) (is_limit limit) p l) refl))))
 
 quota_modify_valid : (end : ℕ) (words : List Word) → Gives is_deed (quota_modify_words end words)
 quota_modify_valid end words =
     then are_given is_deed (options all_keys words nothing) _ (options_valid all_keys words nothing refl) (λ given g.
     then is_path is_deed (required end given.path) _ (required_valid is_path end given.path (given_path given g)) (λ path p.
-    done is_deed (QuotaModify path given.limit given.enforce given.enabled) (both_true (is_path path) (option_map_or is_limit given.limit true) p (given_limit given g))))
+    done is_deed (QuotaModify path given.limit given.enforce given.enabled [] [] []) (both_true (is_path path && option_map_or is_limit given.limit true) true (both_true (is_path path) (option_map_or is_limit given.limit true) p (given_limit given g)) refl)))
 
 quota_delete_valid : (end : ℕ) (words : List Word) → Gives is_deed (quota_delete_words end words)
 quota_delete_valid end words =

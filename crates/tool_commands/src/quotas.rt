@@ -9,7 +9,7 @@ use crate::options::{Key, read_options};
 use crate::reading::LineFault;
 use crate::values::is_named;
 use crate::words::{Word, Words};
-use fsrm_model::Deed;
+use fsrm_model::{Deed, List};
 use std::alloc::Global;
 
 /// What may be given of a quota.
@@ -22,14 +22,14 @@ fn add(alloc: Global, words: &mut Words<'_>) -> Result<Deed, LineFault>
     let missing = LineFault::bad_line(words.end());
     let path = given.path.ok_or(missing)?;
     let limit = given.limit.ok_or(missing)?;
-    // A quota is hard where its type isn't given, and enabled where its status isn't.
-    let enforce = given.enforce.unwrap_or(true);
-    let enabled = given.enabled.unwrap_or(true);
     Ok(Deed::QuotaAdd {
         path,
-        limit,
-        enforce,
-        enabled,
+        limit: Some(limit),
+        enforce: given.enforce,
+        enabled: given.enabled.unwrap_or(true),
+        source_template: None,
+        add_threshold: List::new(alloc),
+        add_notification: List::new(alloc),
     })
 }
 
@@ -43,6 +43,9 @@ fn modify(alloc: Global, words: &mut Words<'_>) -> Result<Deed, LineFault>
         limit: given.limit,
         enforce: given.enforce,
         enabled: given.enabled,
+        remove_threshold: List::new(alloc),
+        add_threshold: List::new(alloc),
+        add_notification: List::new(alloc),
     })
 }
 

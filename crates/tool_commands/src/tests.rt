@@ -153,15 +153,17 @@ fn quota_text(alloc: Global, deed: &Deed) -> Result<String, Fail> {
             limit,
             enforce,
             enabled,
+            ..
         } => {
             let path = bracketed(alloc, path)?;
-            format!(in alloc; "add {path} {limit} {enforce} {enabled}")?
+            format!(in alloc; "add {path} {limit:?} {enforce:?} {enabled}")?
         }
         Deed::QuotaModify {
             path,
             limit,
             enforce,
             enabled,
+            ..
         } => {
             let path = bracketed(alloc, path)?;
             format!(in alloc; "modify {path} {limit:?} {enforce:?} {enabled:?}")?
@@ -307,7 +309,7 @@ fn limit_of(alloc: Global, text: &str) -> Result<u64, LineFault> {
                 deed: Deed::QuotaAdd { limit, .. },
                 ..
             },
-        ) => Ok(limit),
+        ) => Ok(limit.unwrap_or(0)),
         _ => Ok(0),
     }
 }
