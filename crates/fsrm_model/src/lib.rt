@@ -11,8 +11,6 @@ pub mod path;
 pub mod row;
 pub mod space;
 pub mod steps;
-#[cfg(test)]
-mod tests;
 pub mod text;
 
 pub use command::{Act, Answer, Ask, Command, Deed, FileOp, Outcome, Refusal, Subject};
