@@ -8,8 +8,6 @@ pub mod laws;
 pub mod path;
 pub mod row;
 pub mod space;
-#[cfg(test)]
-mod tests;
 
 pub use command::{Act, Added, Answer, Ask, Command, Deed, FileOp, Outcome, Refusal, Subject};
 pub use fsrm_base::{Duplicate, Ledger, List, NoMemory, Steps, Text, Weightless, WeightlessPage};

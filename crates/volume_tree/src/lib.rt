@@ -9,8 +9,6 @@ mod moves;
 mod order;
 mod rows;
 mod slots;
-#[cfg(test)]
-mod tests;
 mod tree;
 
 pub use answer::{NodeView, RowsFault, TreeFault};
