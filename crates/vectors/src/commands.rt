@@ -10,14 +10,13 @@ fn a_line_tells_the_owner(rt: HostRuntime) -> Result<(), Fail> {
     assert!(rt;
         matches!(
             read,
-            Ok(
-                Some(
-                    Command {
-                        moment: 7,
-                        deed: Deed::File(FileOp::Mkdir { owner: 4_294_967_295, .. }),
-                    },
-                ),
-            )
+            Ok(Some(Command {
+                moment: 7,
+                deed: Deed::File(FileOp::Mkdir {
+                    owner: 4_294_967_295,
+                    ..
+                }),
+            },),)
         )
     );
     Ok(())

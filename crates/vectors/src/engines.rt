@@ -25,7 +25,10 @@ fn operations_are_taken<L: Ledger>(
     let answer = engine.scan_step(1, 7, steps);
     assert!(end; matches!(answer.outcome, Outcome::Refused(Refusal::NothingToScan)));
     assert_eq!(end; (engine.tree().count(), engine.used(0)), (1, None));
-    assert_eq!(end; (engine.settings().scans, engine.settings().last_moment), (0, 0));
+    assert_eq!(end;
+        (engine.settings().scans, engine.settings().last_moment),
+        (0, 0)
+    );
     Ok(())
 }
 
@@ -39,7 +42,10 @@ fn replies_are_written<L: Ledger>(
 ) -> Result<(), Fail> {
     let mut engine = Engine::new(alloc, SMALL)?;
     engine.apply(alloc, &root_quota(alloc, 951_782_400), steps)?;
-    assert_eq!(end; (engine.objects().quota_count(), engine.used(0)), (1, Some(0)));
+    assert_eq!(end;
+        (engine.objects().quota_count(), engine.used(0)),
+        (1, Some(0))
+    );
     let mut outside = MemoryOutside::new(alloc, [].as_slice(), [].as_slice())?;
     write_head(alloc, &mut outside, 3, &Refusal::NotFound)?;
     let list = Answer {

@@ -15,16 +15,33 @@ use std::test::Fail;
 fn patterns_are_read(rt: HostRuntime) {
     for text in ["*", "?", "*.*", "a.", "...", ".*", " ", "é?*文"] {
         let read = Pattern::read(rt.alloc(), text);
-        assert!(rt; read.is_ok_and(|pattern| pattern.as_str() == text), "{text}");
+        assert!(rt;
+            read.is_ok_and(|pattern| pattern.as_str() == text),
+            "{text}"
+        );
     }
 }
 
 #[test]
 fn other_texts_are_no_patterns(rt: HostRuntime) {
-    for text in ["", ".", "..", "*<", "?>", "*:b", "\"*\"", "*/b", "a\\*", "*|", "*\0", "*\u{7f}"] {
+    for text in [
+        "", ".", "..", "*<", "?>", "*:b", "\"*\"", "*/b", "a\\*", "*|", "*\0", "*\u{7f}",
+    ] {
         let fault = Pattern::read(rt.alloc(), text).err();
         assert_eq!(rt; fault, Some(NameFault::InvalidName), "{text:?}");
     }
+}
+
+#[test]
+fn a_pattern_has_at_most_255_bytes(rt: HostRuntime) -> Result<(), Fail> {
+    let mut text = String::from_str(rt.alloc(), "?")?;
+    for _ in 0..127 {
+        text.push_str("é")?;
+    }
+    assert!(rt; Pattern::read(rt.alloc(), text.as_str()).is_ok());
+    text.push('*')?;
+    assert!(rt; Pattern::read(rt.alloc(), text.as_str()).is_err());
+    Ok(())
 }
 
 #[test]
@@ -124,7 +141,12 @@ fn a_group_takes_the_least_number_that_is_free(rt: HostRuntime) -> Result<(), Fa
 fn a_non_member_is_taken_out(rt: HostRuntime) -> Result<(), Fail> {
     let alloc = rt.alloc();
     let mut groups = Groups::new(alloc);
-    let office = groups.add("Office", patterns(alloc, "*.doc")?, patterns(alloc, "~*")?, 13);
+    let office = groups.add(
+        "Office",
+        patterns(alloc, "*.doc")?,
+        patterns(alloc, "~*")?,
+        13,
+    );
     assert_eq!(rt; office, Ok(0));
     assert!(rt; is_there(&groups, 0));
     assert!(rt; groups.in_group(0, "a.DOC") && !groups.in_group(0, "~a.doc"));

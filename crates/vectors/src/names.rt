@@ -31,7 +31,15 @@ fn names_are_ordered_by_folded_characters(rt: HostRuntime) {
         ("report", "report\u{301}"),
         ("report 1 é", "report 2 É"),
     ] {
-        assert_eq!(rt; fold_cmp(lesser, greater), Ordering::Less, "{lesser} and {greater}");
-        assert_eq!(rt; fold_cmp(greater, lesser), Ordering::Greater, "{greater} and {lesser}");
+        assert_eq!(rt;
+            fold_cmp(lesser, greater),
+            Ordering::Less,
+            "{lesser} and {greater}"
+        );
+        assert_eq!(rt;
+            fold_cmp(greater, lesser),
+            Ordering::Greater,
+            "{greater} and {lesser}"
+        );
     }
 }

@@ -44,7 +44,9 @@ fn a_quota_changes(rt: HostRuntime) -> Result<(), Fail> {
     objects.set_peak(5, 77, 8);
     assert!(rt; has_quota(&objects, 5));
     objects.set_state(5, QuotaState::Disabled);
-    let row = objects.quota(5).map(|row| (row.limit, row.peak, row.peak_at, row.state));
+    let row = objects
+        .quota(5)
+        .map(|row| (row.limit, row.peak, row.peak_at, row.state));
     assert_eq!(rt; row, Some((6_000, 77, 8, QuotaState::Disabled)));
     Ok(())
 }

@@ -4,7 +4,7 @@ ghost use Rattle.std.specs.Prelude.{◌≡◌, true};
 ghost use Rattle.fsrm_model.specs.Name.{is_name};
 ghost use Rattle.fsrm_model.specs.Tree.{is_folder as is_folder_of};
 
-use crate::values::{SMALL, folder, one};
+use crate::values::{SMALL, TINY, folder, one};
 use fsrm_model::{Ledger, List, NodeRow, Steps, Weightless};
 use name_rules::read_path;
 use std::alloc::Global;
@@ -61,8 +61,14 @@ fn files_change<L: Ledger>(
     tree.touch(1, 9, steps);
     assert!(end; tree.live(1));
     let file = tree.node(1, steps);
-    assert_eq!(end; (file.number, file.parent, file.name, file.length), (1, 0, "a", 6));
-    assert_eq!(end; (file.owner, file.created, file.modified, file.accessed), (3, 7, 8, 9));
+    assert_eq!(end;
+        (file.number, file.parent, file.name, file.length),
+        (1, 0, "a", 6)
+    );
+    assert_eq!(end;
+        (file.owner, file.created, file.modified, file.accessed),
+        (3, 7, 8, 9)
+    );
     Ok(())
 }
 
@@ -88,8 +94,14 @@ fn children_are_ordered<L: Ledger>(
     let tree = some_children(alloc, end, steps)?;
     // Wherever the finger is: at the front, and behind them.
     let mut finger = Finger::default();
-    assert_eq!(end; tree.children(0, &mut finger, steps), [4, 2, 1, 3].as_slice());
-    assert_eq!(end; tree.children(0, &mut finger, steps), [4, 2, 1, 3].as_slice());
+    assert_eq!(end;
+        tree.children(0, &mut finger, steps),
+        [4, 2, 1, 3].as_slice()
+    );
+    assert_eq!(end;
+        tree.children(0, &mut finger, steps),
+        [4, 2, 1, 3].as_slice()
+    );
     assert!(end; 1 < tree.child_count(0, steps));
     assert_eq!(end; tree.child_at(0, 1, steps), 2);
     assert_eq!(end; tree.child(0, "é", steps), Some(3));
@@ -107,7 +119,10 @@ fn nodes_move<L: Ledger>(
     let ready = tree.ready_move(1, 3, "c", steps)?;
     tree.make_move(ready, steps);
     assert!(end; tree.live(2) && is_folder(&tree, 3, steps));
-    assert_eq!(end; tree.move_node(2, 3, "C", steps), Err(TreeFault::AlreadyExists));
+    assert_eq!(end;
+        tree.move_node(2, 3, "C", steps),
+        Err(TreeFault::AlreadyExists)
+    );
     assert!(end; tree.live(1));
     assert!(end; tree.is_at_or_below(3, 1, steps));
     assert_eq!(end; tree.remove(1, steps), Ok(()));
@@ -124,6 +139,8 @@ fn rows_go_round<L: Ledger>(
     let rows = tree.to_rows(alloc, steps)?;
     let again = Tree::from_rows(alloc, &rows, SMALL)?;
     assert_eq!(end; (again.count(), again.capacity()), (5, SMALL));
+    let fault = Tree::from_rows(alloc, &rows, TINY).err();
+    assert_eq!(end; fault, Some(RowsFault::BadRows));
     Ok(())
 }
 

@@ -14,6 +14,12 @@ pub const SMALL: Capacity = Capacity {
     names: 256,
 };
 
+/// A volume with room for three nodes.
+pub const TINY: Capacity = Capacity {
+    nodes: 3,
+    names: 256,
+};
+
 /// The path of the root.
 pub fn root(alloc: Global) -> Path
     ensures { result ≡ [] }
