@@ -2,6 +2,7 @@ pub mod PlainMachine
 pub mod ScriptLaws
 pub mod Parts
 pub mod TestLaws
+pub mod CapacityLaws
 pub mod ChainLaws
 pub mod ValidLaws
 pub mod ChangeLaws

@@ -3,6 +3,7 @@ pub mod Keyed
 pub mod Numbers
 pub mod Order
 pub mod Name
+pub mod Capacities
 pub mod Space
 pub mod Tree
 pub mod Fresh
