@@ -4,12 +4,12 @@ ghost use Rattle.std.specs.Prelude.{◌≡◌, ◌+◌, ◌≤◌, ◌&&◌, ◌
 ghost use Rattle.std.specs.List.{IsAllAdjacentAnswer, list_all};
 ghost use Rattle.std.specs.List.Sorted.{IsPermutation, IsSortedBy};
 ghost use Rattle.std.specs.Ordering.{is_lt};
+ghost use Rattle.fsrm_model.specs.Capacities.{is_capacity};
 ghost use Rattle.fsrm_model.specs.Keyed.{has_row, is_ascending};
 ghost use Rattle.fsrm_model.specs.Tree.{number as key, is_folder, is_under, name_bytes};
 ghost use Rattle.fsrm_model.specs.Valid.{is_tree, is_moment, is_own, is_root_node};
 ghost use Rattle.volume_tree.specs.Kept.{AreSlots, IsKept, IsOrder, inner, is_before, rows_of};
 ghost use Rattle.volume_tree.specs.Sound.{AreMarks, HasTwins, Reaches, are_from, are_sound, is_placed};
-ghost use Rattle.volume_tree.specs.Volume.{IsCapacity};
 
 use crate::answer::RowsFault;
 use crate::climb::parent;
@@ -55,7 +55,7 @@ pub struct Parts {
 /// The parts of the tree of these rows. They are bad exactly where they aren't the nodes of a
 /// volume of this size.
 pub fn read(alloc: Global, rows: &[NodeRow], size: Capacity) -> Result<Parts, RowsFault>
-    requires { IsCapacity size }
+    requires { is_capacity size ≡ true }
     ensures kept { IfOk result (λ made. IsKept size made.count made.used made.free made.slots.items made.order.items) }
     ensures nodes { IfOk result (λ made. rows_of made.slots.items ≡ rows.now) }
     ensures may { OnOk result (is_tree size rows.now ≡ true) }
@@ -381,6 +381,7 @@ mod tests {
     const SIZE: Capacity = Capacity {
         nodes: 1000,
         names: 2000,
+        cluster: 4096,
     };
 
     fn folder(alloc: Global, number: u32, parent: u32, name: &str) -> Result<NodeRow, NoMemory> {

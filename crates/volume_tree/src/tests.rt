@@ -121,6 +121,7 @@ fn nodes_fill<N: Named>(rt: &HostRuntime, end: &impl Abort, blank: Blank) -> Res
     let size = Capacity {
         nodes: 2,
         names: 256,
+        cluster: 4096,
     };
     let mut tree = Tree::reserve(rt.alloc(), size)?;
     let made = create(&mut tree, end, 0, "a", &mut steps);
@@ -149,6 +150,7 @@ fn names_fill<N: Named>(rt: &HostRuntime, end: &impl Abort, blank: Blank) -> Res
     let size = Capacity {
         nodes: 9,
         names: 256,
+        cluster: 4096,
     };
     let mut tree = Tree::reserve(rt.alloc(), size)?;
     let made = create(
@@ -193,6 +195,7 @@ fn children_are_ordered<N: Named>(
     let size = Capacity {
         nodes: 9,
         names: 256,
+        cluster: 4096,
     };
     let mut tree = Tree::reserve(rt.alloc(), size)?;
     let made = create(&mut tree, end, 0, "B", &mut steps);
@@ -242,6 +245,7 @@ fn nodes_move<N: Named>(rt: &HostRuntime, end: &impl Abort, blank: Blank) -> Res
     let size = Capacity {
         nodes: 9,
         names: 256,
+        cluster: 4096,
     };
     let mut tree = Tree::reserve(rt.alloc(), size)?;
     assert_eq!(end; mkdir(&mut tree, end, 0, "a", &mut steps), Ok(1));
@@ -292,6 +296,7 @@ fn nodes_move_in_halves<N: Named>(
     let size = Capacity {
         nodes: 9,
         names: 256,
+        cluster: 4096,
     };
     let mut tree = Tree::reserve(rt.alloc(), size)?;
     assert_eq!(end; mkdir(&mut tree, end, 0, "a", &mut steps), Ok(1));
@@ -326,6 +331,7 @@ fn files_change<N: Named>(rt: &HostRuntime, end: &impl Abort, blank: Blank) -> R
     let size = Capacity {
         nodes: 9,
         names: 256,
+        cluster: 4096,
     };
     let mut tree = Tree::reserve(rt.alloc(), size)?;
     assert_eq!(end; create(&mut tree, end, 0, "a", &mut steps), Ok(1));
@@ -356,6 +362,7 @@ fn rows_go_round<N: Named>(rt: &HostRuntime, end: &impl Abort, blank: Blank) -> 
     let size = Capacity {
         nodes: 9,
         names: 256,
+        cluster: 4096,
     };
     let mut tree = Tree::reserve(rt.alloc(), size)?;
     assert_eq!(end; mkdir(&mut tree, end, 0, "b", &mut steps), Ok(1));
@@ -375,6 +382,7 @@ fn rows_go_round<N: Named>(rt: &HostRuntime, end: &impl Abort, blank: Blank) -> 
     let small = Capacity {
         nodes: 3,
         names: 256,
+        cluster: 4096,
     };
     let made = Tree::from_rows(rt.alloc(), &rows, small);
     assert_eq!(end; made.err(), Some(RowsFault::BadRows));
