@@ -1,5 +1,6 @@
 -- How large a store may be, part by part, and what its files may take.
-use Rattle.std.proofs.Common.{◌≡◌, ℕ, ◌<◌, ◌≤◌, true, List, [], ◌∷◌, inl, inr, subst, arith}
+use Rattle.std.proofs.Common.{◌≡◌, ℕ, zero, suc, ◌+◌, ◌-◌, ◌*◌, ◌/◌, ◌<◌, ◌≤◌, true, List, [], ◌∷◌, inl, inr, refl, ap, ◌∙◌, subst, arith}
+use Rattle.std.proofs.Math.Nat.{div-eq_of_lt}
 use Rattle.std.specs.List.{AllByRecursion}
 use Rattle.fsrm_model.specs.declared.row.Capacity.{Capacity}
 use Rattle.fsrm_model.specs.Capacities.{cluster_sizes, is_cluster, is_capacity}
@@ -66,6 +67,13 @@ cluster_some cluster h = (fits cluster h).0
 -- the longest file ends with a cluster, of whatever size
 pub rounded_most : (cluster n : ℕ) → is_cluster cluster ≡ true → n ≤ longest_file → rounded cluster n ≤ longest_file
 rounded_most cluster n h most = (fits cluster h).1 n most
+
+-- nothing takes nothing
+pub rounded_none : (cluster : ℕ) → rounded cluster 0 ≡ 0
+rounded_none zero = refl
+rounded_none (suc n) =
+    let none : (0 + (suc n - 1)) / suc n ≡ 0 = div-eq_of_lt (omega arith) in
+    ap (λ k. k * suc n) none ∙ omega arith
 
 pub alloc_most : (K : Capacity) (n : ℕ) → is_capacity K ≡ true → n ≤ longest_file → alloc K n ≤ longest_file
 alloc_most K n h most = rounded_most K.cluster n (cluster_is K h) most

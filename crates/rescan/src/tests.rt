@@ -27,10 +27,12 @@ fn small_tree<L: Ledger>(
 ) -> Result<Tree, Fail>
     ensures volume { IfOk result (λ tree. IsVolume tree.size tree.nodes) }
     ensures nodes { IfOk result (λ tree. tree.size.nodes ≡ 9) }
+    ensures cluster { IfOk result (λ tree. tree.size.cluster ≡ 4096) }
 {
     let size = Capacity {
         nodes: 9,
         names: 256,
+        cluster: 4096,
     };
     let mut tree = Tree::reserve(alloc, size)?;
     assert!(end; is_folder(&tree, 0, steps));
@@ -40,6 +42,7 @@ fn small_tree<L: Ledger>(
     assert!(end; is_folder(&tree, 2, steps));
     assert_eq!(end; tree.create(2, "first", 4096, 1, 0, steps), Ok(3));
     assert!(end; tree.capacity().nodes == 9);
+    assert!(end; tree.capacity().cluster == 4096);
     Ok(tree)
 }
 
@@ -50,7 +53,7 @@ fn scans<N: Named>(rt: &HostRuntime, end: &impl Abort, blank: Blank) -> Result<(
 {
     let mut steps = Steps::new(rt, Weightless::<N>::of(blank));
     let tree = small_tree(rt.alloc(), end, &mut steps)?;
-    let mut frontier = Frontier::reserve(rt.alloc(), 9)?;
+    let mut frontier = Frontier::reserve(rt.alloc(), 9, 4096)?;
     assert!(end; is_folder(&tree, 0, &mut steps));
     frontier.start(0);
     assert!(end; frontier.visit(&tree, &mut steps) == Some(0));
@@ -67,7 +70,7 @@ fn scans<N: Named>(rt: &HostRuntime, end: &impl Abort, blank: Blank) -> Result<(
 }
 
 fn gives_up(alloc: Global, end: &impl Abort) -> Result<(), Fail> {
-    let mut frontier = Frontier::reserve(alloc, 9)?;
+    let mut frontier = Frontier::reserve(alloc, 9, 4096)?;
     frontier.start(2);
     assert!(end; frontier.folder() == Some(2));
     frontier.drop_scan();

@@ -87,9 +87,10 @@ fn files_are_followed<N: Named>(
     let size = Capacity {
         nodes: 9,
         names: 256,
+        cluster: 4096,
     };
     let mut tree = Tree::reserve(rt.alloc(), size)?;
-    let mut frontier = Frontier::reserve(rt.alloc(), 9)?;
+    let mut frontier = Frontier::reserve(rt.alloc(), 9, 4096)?;
     frontier.start(0);
     // The root isn't visited yet, and what is made in it waits to be counted.
     create(&mut tree, &mut frontier, "first", 1, &mut steps)?;

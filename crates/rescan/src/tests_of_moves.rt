@@ -31,10 +31,12 @@ fn small_tree<L: Ledger>(
 ) -> Result<Tree, Fail>
     ensures volume { IfOk result (λ tree. IsVolume tree.size tree.nodes) }
     ensures nodes { IfOk result (λ tree. tree.size.nodes ≡ 9) }
+    ensures cluster { IfOk result (λ tree. tree.size.cluster ≡ 4096) }
 {
     let size = Capacity {
         nodes: 9,
         names: 256,
+        cluster: 4096,
     };
     let mut tree = Tree::reserve(alloc, size)?;
     assert!(end; is_folder(&tree, 0, steps));
@@ -48,6 +50,7 @@ fn small_tree<L: Ledger>(
     assert!(end; is_folder(&tree, 0, steps));
     assert_eq!(end; tree.mkdir(0, "other", 1, 0, steps), Ok(5));
     assert!(end; tree.capacity().nodes == 9);
+    assert!(end; tree.capacity().cluster == 4096);
     Ok(tree)
 }
 
@@ -83,7 +86,7 @@ fn moves_are_followed<N: Named>(
 {
     let mut steps = Steps::new(rt, Weightless::<N>::of(blank));
     let mut tree = small_tree(rt.alloc(), end, &mut steps)?;
-    let mut frontier = Frontier::reserve(rt.alloc(), 9)?;
+    let mut frontier = Frontier::reserve(rt.alloc(), 9, 4096)?;
     assert!(end; is_folder(&tree, 1, &mut steps));
     frontier.start(1);
     assert_eq!(end; frontier.visit(&tree, &mut steps), Some(1));

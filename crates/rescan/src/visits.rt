@@ -84,13 +84,14 @@ pub(crate) fn enter_children<L: Ledger>(
     ensures small { sum_by (space tree.now.size) tree.now.nodes < 2 ^ 64 }
     ensures looks { steps.new ≤ steps.old + (1 + length (children tree.now.nodes folder)) }
 {
+    let cluster = tree.capacity().cluster;
     let mut bytes = 0u64;
     for &child in tree.children(folder, finger, steps) {
         let node = tree.node(child, steps);
         if node.folder {
             set.insert(child);
         } else {
-            bytes += allocated(node.length);
+            bytes += allocated(node.length, cluster);
         }
     }
     bytes
