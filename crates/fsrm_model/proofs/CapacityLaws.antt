@@ -5,9 +5,9 @@ use Rattle.std.specs.List.{AllByRecursion}
 use Rattle.fsrm_model.specs.declared.row.Capacity.{Capacity}
 use Rattle.fsrm_model.specs.Capacities.{cluster_sizes, is_cluster, is_capacity}
 use Rattle.fsrm_model.specs.Limits.{longest_file, most_nodes, most_names}
-use Rattle.fsrm_model.specs.Numbers.{is_in}
+use Rattle.fsrm_base.specs.Numbers.{is_in}
 use Rattle.fsrm_model.specs.Space.{rounded, alloc}
-use Rattle.fsrm_model.proofs.TestLaws.{both, le_is, eq_is, is_or}
+use Rattle.fsrm_base.proofs.TestLaws.{both, le_is, eq_is, is_or}
 
 pub nodes_least : (K : Capacity) → is_capacity K ≡ true → 2 ≤ K.nodes
 nodes_least K h = le_is 2 K.nodes (both _ _ (both _ _ h).0).0
