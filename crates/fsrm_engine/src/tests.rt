@@ -24,6 +24,7 @@ fn commands_are_taken<N: Ledger>(
     let size = Capacity {
         nodes: 9,
         names: 256,
+        cluster: 4096,
     };
     let mut engine = Engine::new(rt.alloc(), size)?;
     let sum = Command {
@@ -56,6 +57,7 @@ fn operations_are_taken<N: Ledger>(
     let size = Capacity {
         nodes: 9,
         names: 256,
+        cluster: 4096,
     };
     let mut engine = Engine::new(rt.alloc(), size)?;
     let removal = FileOp::Remove {
@@ -68,6 +70,7 @@ fn operations_are_taken<N: Ledger>(
         run_limit: 60,
         scans: 0,
         last_moment: 0,
+        cluster: 4096,
     };
     assert_eq!(end; engine.settings(), settings);
     Ok(())
@@ -94,6 +97,7 @@ fn quotas_are_added<N: Ledger>(rt: &HostRuntime, end: &impl Abort, blank: Blank)
     let size = Capacity {
         nodes: 9,
         names: 256,
+        cluster: 4096,
     };
     let mut engine = Engine::new(rt.alloc(), size)?;
     assert_eq!(end; engine.used(0), None);
@@ -130,6 +134,7 @@ fn nothing_is_scanned<N: Ledger>(
     let size = Capacity {
         nodes: 9,
         names: 256,
+        cluster: 4096,
     };
     let mut engine = Engine::new(rt.alloc(), size)?;
     let step = Command {

@@ -21,6 +21,7 @@ fn counts<N: Ledger>(rt: &HostRuntime, end: &impl Abort, blank: Blank) -> Result
     let size = Capacity {
         nodes: 9,
         names: 256,
+        cluster: 4096,
     };
     let tree = Tree::reserve(rt.alloc(), size)?;
     let mut usage = Usage::reserve(rt.alloc())?;
@@ -47,6 +48,7 @@ fn judges<N: Ledger>(rt: &HostRuntime, end: &impl Abort, blank: Blank) -> Result
     let size = Capacity {
         nodes: 9,
         names: 256,
+        cluster: 4096,
     };
     let tree = Tree::reserve(rt.alloc(), size)?;
     let mut objects = Objects::new(rt.alloc());

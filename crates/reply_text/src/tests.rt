@@ -65,6 +65,7 @@ fn replies_are_written<N: Ledger>(
     let size = Capacity {
         nodes: 9,
         names: 256,
+        cluster: 4096,
     };
     let mut engine = Engine::new(rt.alloc(), size)?;
     let add = Command {

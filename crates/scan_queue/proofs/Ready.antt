@@ -12,11 +12,11 @@ use Rattle.fsrm_base.proofs.TestLaws.{lt_is}
 use Rattle.fsrm_model.proofs.ValidLaws.{folder_has}
 use Rattle.volume_tree.specs.declared.answer.NodeView.{NodeView}
 use Rattle.volume_tree.specs.Volume.{Volume, Shows}
-use Rattle.rescan.specs.Frontiers.{idle, unvisited}
+use Rattle.rescan.specs.Frontiers.{Room, Suits, idle, unvisited}
 use Rattle.scan_queue.specs.Courses.{Course, Scanning, left}
 
 -- before the first scan
-pub empty_scanning : (v : Volume) (room : ℕ) → IsVolume v.size v.nodes → v.size.nodes ≤ room → Scanning v (record { queue = []; front = idle room })
+pub empty_scanning : (v : Volume) (room : Room) → IsVolume v.size v.nodes → Suits v.size room → Scanning v (record { queue = []; front = idle room })
 empty_scanning v room w fits =
     record {
       volume = w;
@@ -28,11 +28,11 @@ empty_scanning v room w fits =
     }
 
 -- a folder of the volume is within the frontier's room
-pub folder_within : (v : Volume) (course : Course) (n : ℕ) → Scanning v course → is_folder v.nodes n ≡ true → n < course.front.room
+pub folder_within : (v : Volume) (course : Course) (n : ℕ) → Scanning v course → is_folder v.nodes n ≡ true → n < course.front.room.nodes
 folder_within v course n s h =
     let f = has_found number n v.nodes (folder_has v.nodes n h) in
     let below : n < v.size.nodes = lt_is n v.size.nodes (s.volume.below n f.row f.is) in
-    omega (arith, below, s.fits)
+    omega (arith, below, s.fits.nodes)
 
 -- where nothing is unvisited there is no topmost folder
 no_tops : (tops left : List ℕ) (p : List ℕ → ℕ → Bool) → tops ≡ filter (p left) left → length left ≡ 0 → length tops ≡ 0

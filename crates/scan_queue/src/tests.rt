@@ -25,10 +25,11 @@ fn is_folder<L: Ledger>(tree: &Tree, node: u32, steps: &mut Steps<L>) -> bool
 fn empty_queue(alloc: Global, tree: &Tree) -> Result<Scans, Fail>
     requires volume { IsVolume tree.now.size tree.now.nodes }
     requires small { tree.now.size.nodes ≤ 9 }
+    requires cluster { tree.now.size.cluster ≡ 4096 }
     ensures { IfOk result (λ scans. Scanning tree.now scans) }
 {
     let _tree = tree;
-    let scans = Scans::reserve(alloc, 9)?;
+    let scans = Scans::reserve(alloc, 9, 4096)?;
     Ok(scans)
 }
 
@@ -187,6 +188,7 @@ fn leave(tree: &Tree, scans: &mut Scans, folder: u32)
 const SMALL: Capacity = Capacity {
     nodes: 9,
     names: 256,
+    cluster: 4096,
 };
 
 fn file_waits<N: Named>(rt: &HostRuntime, end: &impl Abort, blank: Blank) -> Result<(), Fail>
@@ -305,7 +307,7 @@ fn scans_go_on_one_after_the_other(rt: HostRuntime) -> Result<(), Fail> {
 }
 
 fn counted(alloc: Global) -> Result<usize, Fail> {
-    let scans = Scans::reserve(alloc, 9)?;
+    let scans = Scans::reserve(alloc, 9, 4096)?;
     Ok(scans.count())
 }
 

@@ -7,6 +7,7 @@ ghost use Rattle.fsrm_model.specs.Fresh.{root_node};
 ghost use Rattle.fsrm_base.specs.Keyed.{has_row};
 ghost use Rattle.fsrm_model.specs.Limits.{longest_file, latest_moment};
 ghost use Rattle.fsrm_model.specs.Name.{is_name};
+ghost use Rattle.fsrm_model.specs.Space.{alloc};
 ghost use Rattle.fsrm_model.specs.Tree.{number as key, fresh, is_folder, is_under, children, children_in_order, child_number, chain, resolve, name_bytes};
 ghost use Rattle.fsrm_model.specs.Valid.{is_tree, IsVolume};
 ghost use Rattle.volume_tree.specs.Volume.{IsFault, IsChildAt, Shows, new_fault, remove_fault, with_node, with_length, with_touch, without_node};
@@ -16,7 +17,7 @@ use crate::climb::is_at_or_below;
 use crate::entry::own_place;
 use crate::finger::Finger;
 use crate::{order, rows, slots};
-use fsrm_model::{Capacity, Ledger, List, NoMemory, NodeRow, Path, Steps, Text};
+use fsrm_model::{Capacity, Ledger, List, NoMemory, NodeRow, Path, Steps, Text, allocated};
 use std::alloc::Global;
 use std::marker::Model;
 
@@ -116,6 +117,15 @@ impl Tree {
         ensures legal { is_capacity result ≡ true }
     {
         self.size
+    }
+
+    /// What a file of so many bytes takes: whole clusters.
+    pub fn allocated(&self, bytes: u64) -> u64
+        requires { bytes ≤ longest_file }
+        ensures space { result ≡ alloc self.now.size bytes }
+        ensures small { result ≤ longest_file }
+    {
+        allocated(bytes, self.size.cluster)
     }
 
     /// Whether there is a node of this number.
