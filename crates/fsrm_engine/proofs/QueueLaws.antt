@@ -1,5 +1,5 @@
 -- The queue of scans has no more folders than there are quotas.
-use Rattle.std.proofs.Common.{◌≡◌, ℕ, ◌==◌, ◌<◌, ◌≤◌, true, false, not, List, [], ◌∷◌, ◌||◌, length, sym, ap, ◌∙◌, arith}
+use Rattle.std.proofs.Common.{◌≡◌, ℕ, ◌==◌, ◌≤◌, true, false, not, List, [], ◌∷◌, ◌||◌, length, sym, ap, ◌∙◌, arith}
 use Rattle.fsrm_base.specs.Keyed.{has_row, without_row}
 use Rattle.fsrm_base.specs.Numbers.{is_in, each_once}
 use Rattle.fsrm_base.proofs.Look.{has_row-without_other}
