@@ -7,6 +7,7 @@ use Rattle.fsrm_model.specs.declared.row.Capacity.{Capacity}
 use Rattle.fsrm_model.specs.declared.row.NodeRow.{NodeRow}
 use Rattle.fsrm_model.specs.declared.row.QuotaRow.{QuotaRow}
 use Rattle.fsrm_model.specs.declared.row.Rows.{Rows}
+use Rattle.fsrm_model.specs.Capacities.{is_capacity}
 use Rattle.fsrm_model.specs.Fresh.{rows_of_nodes}
 use Rattle.fsrm_base.specs.Keyed.{row_of, with_change}
 use Rattle.fsrm_model.specs.Quota.{folder_of, counts, peaked, peaks}
@@ -16,7 +17,7 @@ use Rattle.fsrm_model.specs.Tree.{usage}
 use Rattle.fsrm_model.specs.Valid.{IsVolume, AreQuotas, IsQueue}
 use Rattle.quota_usage.specs.declared.change.Counter.{Counter}
 use Rattle.scan_queue.specs.Courses.{Course, Scanning, left}
-use Rattle.volume_tree.specs.Volume.{Volume, IsCapacity}
+use Rattle.volume_tree.specs.Volume.{Volume}
 
 -- how much it may hold, its rows, and the acts that wait to be handed out
 pub record Machine : Type 0 where
@@ -98,7 +99,7 @@ sums_of K nodes quotas = map (counter_of K nodes) (filter counts quotas)
 -- what an engine keeps: its counters are the sums over the tree, and no peak is below what is used
 pub record IsEngine (size : Capacity) (nodes : List NodeRow) (quotas : List QuotaRow) (counters : List Counter) : Type 0 where
   pub volume : IsVolume size nodes
-  pub legal : IsCapacity size
+  pub legal : is_capacity size ≡ true
   pub are_quotas : AreQuotas nodes quotas
   pub sums : counters ≡ sums_of size nodes quotas
   pub peaks : (folder : ℕ) (quota : QuotaRow) → row_of folder_of folder quotas ≡ Some quota → counts quota ≡ true → usage size nodes folder ≤ quota.peak

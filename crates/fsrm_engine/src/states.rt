@@ -63,7 +63,7 @@ fn is_disabled(state: QuotaState) -> bool
 
 // Has a folder's scan wait where its quota is rebuilding, and else not. An `Err` changes nothing.
 fn requeue(scans: &mut Scans, folder: u32, state: QuotaState) -> Result<(), NoMemory>
-    requires room { folder < scans.old.front.room }
+    requires room { folder < scans.old.front.room.nodes }
     ensures queue { OnOk result (scans.new.queue ≡ queued scans.old.queue folder state) }
     ensures turns { OnOk result ((v : Volume) → Scanning v scans.old → is_folder v.nodes folder ≡ true → Turns scans.old scans.new v) }
     ensures err { OnErr result (scans.new ≡ scans.old) }

@@ -1,6 +1,7 @@
 pub mod PlainMachine
 pub mod ScriptLaws
 pub mod Parts
+pub mod CapacityLaws
 pub mod ChainLaws
 pub mod ValidLaws
 pub mod ChangeLaws

@@ -1,5 +1,6 @@
 pub mod Limits
 pub mod Name
+pub mod Capacities
 pub mod Space
 pub mod Tree
 pub mod Fresh

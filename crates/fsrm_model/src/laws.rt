@@ -25,7 +25,7 @@ ghost use Rattle.fsrm_model.specs.Step.{step};
 ghost use Rattle.fsrm_model.specs.Text.{reply};
 ghost use Rattle.fsrm_model.specs.Tree.{under, usage};
 ghost use Rattle.fsrm_model.specs.Valid.{IsStore};
-ghost use Rattle.fsrm_model.specs.WorkedRows.{nothing_done, first_files, clock, moves, bad_lines, words_apart, root_and_places, few_nodes, few_name_bytes, folded_names, rounded_usage, nested_quotas, up_to_the_limit, above_the_limit, move_below_a_quota, scan_in_steps, visited_again, out_and_back, out_for_good, scan_refusals, scans_in_turn, quota_options, quota_limits, quota_peaks, quotas_gone};
+ghost use Rattle.fsrm_model.specs.WorkedRows.{nothing_done, first_files, clock, moves, bad_lines, words_apart, root_and_places, few_nodes, few_name_bytes, folded_names, rounded_usage, large_clusters, small_clusters, nested_quotas, up_to_the_limit, above_the_limit, move_below_a_quota, scan_in_steps, visited_again, out_and_back, out_for_good, scan_refusals, scans_in_turn, quota_options, quota_limits, quota_peaks, quotas_gone};
 
 /// The plain machine's text of worked scripts.
 pub fn worked_rows()
@@ -40,6 +40,8 @@ pub fn worked_rows()
     ensures few_name_bytes { few_name_bytes }
     ensures folding { folded_names }
     ensures rounded_usage { rounded_usage }
+    ensures large_clusters { large_clusters }
+    ensures small_clusters { small_clusters }
     ensures nested_quotas { nested_quotas }
     ensures up_to_the_limit { up_to_the_limit }
     ensures above_the_limit { above_the_limit }

@@ -2,6 +2,7 @@
 
 ghost use Rattle.std.specs.Prelude.{◌≡◌, ℕ, ◌≤◌, ◌<◌, ◌+◌, ◌-◌, [], length, IfOk, IfErr, OnOk, OnErr, IsErrOf};
 ghost use Rattle.std.specs.Option.{ForSome};
+ghost use Rattle.fsrm_model.specs.Fresh.{default_capacity, new_rows};
 ghost use Rattle.fsrm_model.specs.Limits.{longest_script};
 ghost use Rattle.fsrm_outside.specs.Causes.{Rose};
 ghost use Rattle.fsrm_program.specs.Bytes.{IsAtEnd, TakenMost};
@@ -121,13 +122,14 @@ fn finish<S: Sink, L: Ledger>(
 
 // Before the first byte: a volume with the root alone, of the default size.
 fn new_session(alloc: Global) -> Result<Session, NoMemory>
-    ensures state { IfOk result (λ session. (looks : ℕ) → state_of session looks ≡ start looks) }
+    ensures state { IfOk result (λ session. (looks : ℕ) → state_of session looks ≡ start default_capacity new_rows looks) }
     ensures written { IfOk result (λ session. session.replies.bytes.items ≡ []) }
     ensures idle { IfOk result (λ session. session.engine.waiting ≡ []) }
 {
     let size = Capacity {
         nodes: 65_536,
         names: 4_194_304,
+        cluster: 4_096,
     };
     Ok(Session {
         engine: Engine::new(alloc, size)?,
@@ -138,16 +140,16 @@ fn new_session(alloc: Global) -> Result<Session, NoMemory>
     })
 }
 
-// Runs the script over this volume.
+// Runs the script over this engine's rows.
 fn run_session<O: Outside, L: Ledger>(
     outside: &mut O,
     session: &mut Session,
     steps: &mut Steps<L>,
 ) -> Status
-    requires state { state_of session.old steps.old ≡ start steps.old }
+    requires state { state_of session.old steps.old ≡ start session.old.engine.size session.old.engine.rows steps.old }
     requires written { session.old.replies.bytes.items ≡ [] }
     requires idle { session.old.engine.waiting ≡ [] }
-    ensures run { ForSome (O.left outside.old) (λ script. IsRun result script steps.old steps.new (O.left outside.new) (O.shown outside.old) (O.shown outside.new)) }
+    ensures run { ForSome (O.left outside.old) (λ script. IsRun session.old.engine.size session.old.engine.rows result script steps.old steps.new (O.left outside.new) (O.shown outside.old) (O.shown outside.new)) }
     ensures taken { TakenMost (O.left outside.old) (O.left outside.new) (most_taken result) }
     ensures read_later { O.read_faults outside.old ≤ O.read_faults outside.new }
     ensures write_later { O.write_faults outside.old ≤ O.write_faults outside.new }
@@ -167,7 +169,7 @@ fn run_session<O: Outside, L: Ledger>(
 
 /// Runs the script over a new volume.
 pub fn replay<O: Outside, L: Ledger>(alloc: Global, outside: &mut O, steps: &mut Steps<L>) -> Status
-    ensures run { ForSome (O.left outside.old) (λ script. IsRun result script steps.old steps.new (O.left outside.new) (O.shown outside.old) (O.shown outside.new)) }
+    ensures run { ForSome (O.left outside.old) (λ script. IsRun default_capacity new_rows result script steps.old steps.new (O.left outside.new) (O.shown outside.old) (O.shown outside.new)) }
     ensures taken { TakenMost (O.left outside.old) (O.left outside.new) (most_taken result) }
     ensures read_later { O.read_faults outside.old ≤ O.read_faults outside.new }
     ensures write_later { O.write_faults outside.old ≤ O.write_faults outside.new }

@@ -15,6 +15,7 @@ use Rattle.fsrm_model.specs.Scan.{counted, unvisited_with}
 use Rattle.fsrm_model.specs.Space.{alloc}
 use Rattle.fsrm_model.specs.Tree.{number, node_of}
 use Rattle.fsrm_model.specs.Valid.{IsVolume, is_moment, is_own, is_root_node}
+use Rattle.fsrm_model.proofs.CapacityLaws.{rounded_none}
 use Rattle.fsrm_base.proofs.TestLaws.{is_or_not, both, both_true, clash, eq_is, eq_same, neither, not_true}
 use Rattle.fsrm_model.proofs.Keeps.{volume-change}
 use Rattle.fsrm_base.proofs.Look.{found_key, row_of-change}
@@ -184,7 +185,7 @@ empty_part K nodes f row = at (is_counted nodes f row.parent) row.folder
   where
     at : (b d : Bool) → cond b (cond d 0 (alloc K 0)) 0 ≡ 0
     at true true = refl
-    at true false = refl
+    at true false = rounded_none K.cluster
     at false d = refl
 
 -- a scan goes on over a new node that is still empty

@@ -17,7 +17,7 @@ use Rattle.fsrm_model.proofs.MoveLaws.{under_after}
 use Rattle.fsrm_model.proofs.Climbs.{under_own}
 use Rattle.fsrm_model.proofs.ValidLaws.{folder_has}
 use Rattle.number_set.proofs.NumberLaws.{in_withs, in_withouts, set_withs, set_withouts, same_set}
-use Rattle.rescan.specs.Frontiers.{Front, Stands, Follows, scanned, has_above, unvisited}
+use Rattle.rescan.specs.Frontiers.{Front, Stands, Suits, Follows, scanned, has_above, unvisited}
 use Rattle.rescan.specs.Tops.{AreTops}
 use Rattle.rescan.proofs.CountLaws.{is_counted, part, counted_is}
 use Rattle.rescan.proofs.MovedTops.{TopsMoved, moved_tops, above_other, above_kept, above_moved}
@@ -155,7 +155,7 @@ pub moved_follows : (v : Volume) (f f2 : Front) (x d : ℕ) (name : List ℕ) (k
 moved_follows v f f2 x d name keeps enters stands w folder s choice room sum =
     let new = (with_place v x d name).nodes in
     record {
-      stands = stands_by (with_place v x d name) f2 w (subst (λ (r : ℕ). v.size.nodes ≤ r) (sym room) stands.fits) (moved_tops v.nodes new f f2 x d keeps enters s) (sum ∙ sym (counted_is v.size new w f2));
+      stands = stands_by (with_place v x d name) f2 w (subst (Suits v.size) (sym room) stands.fits) (moved_tops v.nodes new f f2 x d keeps enters s) (sum ∙ sym (counted_is v.size new w f2));
       unvisited_are = moved_unvisited v.size v.nodes new f f2 x d keeps enters stands.volume w folder s choice;
       folder = s.folder;
       room = room;

@@ -20,7 +20,7 @@ use Rattle.fsrm_model.proofs.Climbs.{climb}
 use Rattle.fsrm_model.proofs.UsageLaws.{parent_lacks}
 use Rattle.number_set.proofs.NumberLaws.{in_filter, set_filter, same_set}
 use Rattle.volume_tree.specs.Volume.{Volume}
-use Rattle.rescan.specs.Frontiers.{Front, Stands, scanned, has_above, unvisited}
+use Rattle.rescan.specs.Frontiers.{Front, Stands, Suits, scanned, has_above, unvisited}
 use Rattle.rescan.specs.Tops.{AreTops}
 use Rattle.rescan.proofs.Numbered.{in_numbers, set_numbers}
 
@@ -210,7 +210,7 @@ tops_are K nodes v f t =
     let parts = both (is_folder nodes n) (has_above nodes f.tops n) (sym (in_unvisited K nodes v f n) ∙ is.1) in
     top_by K nodes v f n is.0 parts.0 parts.1))
 
-pub stands_by : (v : Volume) (f : Front) → IsVolume v.size v.nodes → v.size.nodes ≤ f.room → AreTops v.nodes f → f.sum ≡ counted v.size v.nodes (scanned f) (unvisited v.nodes f) → Stands v f
+pub stands_by : (v : Volume) (f : Front) → IsVolume v.size v.nodes → Suits v.size f.room → AreTops v.nodes f → f.sum ≡ counted v.size v.nodes (scanned f) (unvisited v.nodes f) → Stands v f
 stands_by v f volume fits t sum =
     record {
       volume = volume;

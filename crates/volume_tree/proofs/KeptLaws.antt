@@ -15,6 +15,7 @@ use Rattle.fsrm_model.specs.Limits.{latest_moment, longest_file, most_nodes}
 use Rattle.fsrm_model.specs.Name.{folded, is_name, same_name}
 use Rattle.fsrm_model.specs.Tree.{number, node_of, parent_of, name_of, fresh, is_folder, is_child, is_under, child_of, child_number, children, name_bytes}
 use Rattle.fsrm_model.specs.Valid.{IsVolume, is_own, is_root_node}
+use Rattle.fsrm_model.proofs.CapacityLaws.{nodes_most}
 use Rattle.fsrm_base.proofs.EditedRows.{length-with_row, length-change}
 use Rattle.fsrm_model.proofs.Keeps.{volume-new, volume-change, volume-moved, volume-removed, KeepsNode, name_bytes-change, found_folder}
 use Rattle.fsrm_base.proofs.Look.{has_found, none_filtered}
@@ -32,7 +33,7 @@ use Rattle.fsrm_model.proofs.ValidLaws.{found_parent}
 pub few_rows : (K : Capacity) (count used free : ℕ) (slots : List (Option NodeRow)) (order : List ℕ) → IsKept K count used free slots order → length (rows_of slots) ≤ most_nodes
 few_rows K count used free slots order k =
     let few = few_nodes K (rows_of slots) k.volume in
-    let most = k.size.nodes_most in
+    let most = nodes_most K k.size in
     omega (arith, few, most)
 
 pub few_order : (K : Capacity) (count used free : ℕ) (slots : List (Option NodeRow)) (order : List ℕ) → IsKept K count used free slots order → length order < most_nodes

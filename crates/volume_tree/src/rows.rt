@@ -9,7 +9,7 @@ ghost use Rattle.fsrm_model.specs.Tree.{number as key, is_folder, is_under, name
 ghost use Rattle.fsrm_model.specs.Valid.{is_tree, is_moment, is_own, is_root_node};
 ghost use Rattle.volume_tree.specs.Kept.{AreSlots, IsKept, IsOrder, inner, is_before, rows_of};
 ghost use Rattle.volume_tree.specs.Sound.{AreMarks, HasTwins, Reaches, are_from, are_sound, is_placed};
-ghost use Rattle.volume_tree.specs.Volume.{IsCapacity};
+ghost use Rattle.fsrm_model.specs.Capacities.{is_capacity};
 
 use crate::answer::RowsFault;
 use crate::climb::parent;
@@ -55,7 +55,7 @@ pub struct Parts {
 /// The parts of the tree of these rows. They are bad exactly where they aren't the nodes of a
 /// volume of this size.
 pub fn read(alloc: Global, rows: &[NodeRow], size: Capacity) -> Result<Parts, RowsFault>
-    requires { IsCapacity size }
+    requires { is_capacity size ≡ true }
     ensures kept { IfOk result (λ made. IsKept size made.count made.used made.free made.slots.items made.order.items) }
     ensures nodes { IfOk result (λ made. rows_of made.slots.items ≡ rows.now) }
     ensures may { OnOk result (is_tree size rows.now ≡ true) }

@@ -2,6 +2,7 @@ use Rattle.std.proofs.Common.{◌≡◌, ℕ, ◌-◌, ◌<◌, true, false, len
 use Rattle.fsrm_model.specs.declared.row.NodeRow.{NodeRow}
 use Rattle.fsrm_base.specs.Keyed.{has_row}
 use Rattle.fsrm_model.specs.Tree.{number, name_of, parent_of, fresh, child_number}
+use Rattle.fsrm_model.proofs.CapacityLaws.{names_most}
 use Rattle.volume_tree.specs.Kept.{IsKept, rows_of}
 use Rattle.volume_tree.specs.Volume.{Volume}
 use Rattle.fsrm_model.specs.Limits.{most_nodes}
@@ -28,7 +29,7 @@ name_length-bytes-requires-clause-short g c =
     let fit = name_fits c.self.inside.size _ c.args.node c.self.invariant.volume has in
     let same : length (name_of (rows_of c.deref-5.result.now) c.args.node) ≡ length (name_of (rows_of c.self.inside.slots.items) c.args.node) = ap (λ (slots : List (Option NodeRow)). length (name_of (rows_of slots) c.args.node)) c.deref-5.ensures.value in
     let names = c.self.invariant.volume.names in
-    let most = c.self.invariant.size.names_most in
+    let most = names_most c.self.inside.size c.self.invariant.size in
     omega (arith, fit, same, names, most)
 
 pub remove-requires : goal.remove-requires
