@@ -23,6 +23,7 @@ fn small_tree<L: Ledger>(
 ) -> Result<Tree, Fail>
     ensures volume { IfOk result (λ tree. IsVolume tree.size tree.nodes) }
     ensures nodes { IfOk result (λ tree. tree.size.nodes ≡ 9) }
+    ensures cluster { IfOk result (λ tree. tree.size.cluster ≡ 4096) }
 {
     let mut tree = Tree::reserve(alloc, SMALL)?;
     assert!(end; is_folder(&tree, 0, steps));
@@ -30,6 +31,7 @@ fn small_tree<L: Ledger>(
     assert!(end; is_folder(&tree, 0, steps));
     assert_eq!(end; tree.mkdir(0, "letters", 1, 0, steps), Ok(2));
     assert!(end; tree.capacity().nodes == 9);
+    assert!(end; tree.capacity().cluster == 4_096);
     Ok(tree)
 }
 
@@ -40,7 +42,7 @@ fn scans<N: Named>(rt: &HostRuntime, end: &impl Abort, blank: Blank) -> Result<(
 {
     let mut steps = Steps::new(rt, Weightless::<N>::of(blank));
     let tree = small_tree(rt.alloc(), end, &mut steps)?;
-    let mut frontier = Frontier::reserve(rt.alloc(), 9)?;
+    let mut frontier = Frontier::reserve(rt.alloc(), 9, 4_096)?;
     assert!(end; is_folder(&tree, 0, &mut steps));
     frontier.start(0);
     assert!(end; frontier.visit(&tree, &mut steps) == Some(0));
@@ -60,7 +62,7 @@ fn a_scan_counts_each_file_once(rt: HostRuntime) -> Result<(), Fail> {
 
 #[test]
 fn a_scan_is_given_up(rt: HostRuntime) -> Result<(), Fail> {
-    let mut frontier = Frontier::reserve(rt.alloc(), 9)?;
+    let mut frontier = Frontier::reserve(rt.alloc(), 9, 4_096)?;
     frontier.start(2);
     assert_eq!(rt; frontier.folder(), Some(2));
     frontier.drop_scan();
@@ -70,7 +72,7 @@ fn a_scan_is_given_up(rt: HostRuntime) -> Result<(), Fail> {
 
 #[test]
 fn scans_wait_in_turn(rt: HostRuntime) -> Result<(), Fail> {
-    let mut scans = Scans::reserve(rt.alloc(), 9)?;
+    let mut scans = Scans::reserve(rt.alloc(), 9, 4_096)?;
     scans.push(7)?;
     assert!(rt; scans.contains(7) && !scans.contains(2));
     scans.push(2)?;

@@ -12,12 +12,14 @@ use std::test::Fail;
 pub const SMALL: Capacity = Capacity {
     nodes: 9,
     names: 256,
+    cluster: 4_096,
 };
 
 /// A volume with room for three nodes.
 pub const TINY: Capacity = Capacity {
     nodes: 3,
     names: 256,
+    cluster: 4_096,
 };
 
 /// The path of the root.
