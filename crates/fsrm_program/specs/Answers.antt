@@ -7,7 +7,7 @@ use Rattle.fsrm_model.specs.declared.row.Capacity.{Capacity}
 use Rattle.fsrm_model.specs.declared.row.Rows.{Rows}
 use Rattle.fsrm_model.specs.Script.{text, text_from, script_cost, is_end, spelled_lines, AreLines}
 use Rattle.fsrm_program.specs.declared.status.Status.{Status}
-use Rattle.fsrm_program.specs.declared.status.Status.TheVariants.{Done, ReadFault, TooLong, NoMemory}
+use Rattle.fsrm_program.specs.declared.status.Status.TheVariants.{Done, ReadFault, WriteFault, TooLong, NoMemory}
 use Rattle.fsrm_outside.specs.Shown.{ShowsFront}
 
 -- the words that the program takes
@@ -53,6 +53,18 @@ abbrev pub OnReadStop : Status → Type 0 → Type 0
 OnReadStop ReadFault P = P
 OnReadStop TooLong P = P
 OnReadStop other P = Unit {0}
+
+-- no read failed, unless the status says so
+abbrev pub KeepsReads : Status → ℕ → ℕ → Type 0
+KeepsReads ReadFault before now = Unit {0}
+KeepsReads other before now = now ≡ before
+
+-- no write failed, unless the status says so. After a read that ended the run replies are still written, and a write may fail
+abbrev pub KeepsWrites : Status → ℕ → ℕ → Type 0
+KeepsWrites WriteFault before now = Unit {0}
+KeepsWrites ReadFault before now = Unit {0}
+KeepsWrites TooLong before now = Unit {0}
+KeepsWrites other before now = now ≡ before
 
 -- the answers of a run over which no device failed
 abbrev pub IsDoneOrNoMemory : Status → Type 0

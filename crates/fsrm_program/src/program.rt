@@ -9,7 +9,7 @@ ghost use Rattle.fsrm_model.specs.Script.{text, script_cost};
 ghost use Rattle.fsrm_outside.specs.Causes.{Rose};
 ghost use Rattle.fsrm_outside.specs.Shown.{ShowsFront};
 ghost use Rattle.fsrm_program.specs.Bytes.{TakenMost};
-ghost use Rattle.fsrm_program.specs.Answers.{AreWords, IsWhole, IsTooLong, most_taken, IsEnded, OnReadStop, IsDoneOrNoMemory};
+ghost use Rattle.fsrm_program.specs.Answers.{AreWords, IsWhole, IsTooLong, most_taken, IsEnded, OnReadStop, IsDoneOrNoMemory, KeepsReads, KeepsWrites};
 
 use crate::replay::replay;
 use crate::status::Status;
@@ -57,6 +57,9 @@ pub fn run<O: Outside, L: Ledger>(
     // Over devices that don't fail, a script of at most 2^32 bytes is done, but for want of memory.
     ensures complete { AreWords (map string_bytes words.now) → ForSome (O.left outside.old) (λ script. length script ≤ longest_script → (Rose (O.read_faults outside.old) (O.read_faults outside.new) → ⊥) → (Rose (O.write_faults outside.old) (O.write_faults outside.new) → ⊥) → IsDoneOrNoMemory result) }
 
+    // A failed read is told as ReadFault and a failed write as WriteFault, unless a read had ended the run before it.
+    ensures reads_kept { KeepsReads result (O.read_faults outside.old) (O.read_faults outside.new) }
+    ensures writes_kept { KeepsWrites result (O.write_faults outside.old) (O.write_faults outside.new) }
     // No count of faults falls.
     ensures read_later { O.read_faults outside.old ≤ O.read_faults outside.new }
     ensures write_later { O.write_faults outside.old ≤ O.write_faults outside.new }

@@ -1,6 +1,6 @@
 //! Runs a script over a new volume.
 
-ghost use Rattle.std.specs.Prelude.{◌≡◌, ℕ, ◌≤◌, ◌<◌, ◌+◌, ◌-◌, [], length, IfOk, IfErr, OnOk, OnErr, IsErrOf};
+ghost use Rattle.std.specs.Prelude.{◌≡◌, ℕ, ◌≤◌, ◌<◌, ◌+◌, ◌-◌, [], length, IfOk, IfErr, OnOk, OnErr, IsErrOf, MatchResult};
 ghost use Rattle.std.specs.Option.{ForSome};
 ghost use Rattle.fsrm_model.specs.Fresh.{default_capacity, new_rows};
 ghost use Rattle.fsrm_model.specs.Limits.{longest_script};
@@ -9,7 +9,7 @@ ghost use Rattle.fsrm_program.specs.Bytes.{IsAtEnd, TakenMost};
 ghost use Rattle.fsrm_program.specs.Progress.{State, Takes, start};
 ghost use Rattle.fsrm_program.specs.Held.{state_of};
 ghost use Rattle.fsrm_program.specs.Stops.{Stops, StopsAt, Reads, Finishes, FinishesFront, IsGivenUp};
-ghost use Rattle.fsrm_program.specs.Answers.{IsRun, most_taken};
+ghost use Rattle.fsrm_program.specs.Answers.{IsRun, KeepsReads, KeepsWrites, most_taken};
 
 use crate::batch::Batch;
 use crate::pieces::next_piece;
@@ -50,6 +50,8 @@ fn pass<O: Outside, L: Ledger>(
     ensures write_later { O.write_faults outside.old ≤ O.write_faults outside.new }
     ensures read_cause { IsErrOf result Status.ReadFault → Rose (O.read_faults outside.old) (O.read_faults outside.new) }
     ensures write_cause { IsErrOf result Status.WriteFault → Rose (O.write_faults outside.old) (O.write_faults outside.new) }
+    ensures reads_kept { MatchResult result (λ _. O.read_faults outside.new ≡ O.read_faults outside.old) (λ status. KeepsReads status (O.read_faults outside.old) (O.read_faults outside.new)) }
+    ensures writes_kept { MatchResult result (λ _. O.write_faults outside.new ≡ O.write_faults outside.old) (λ status. KeepsWrites status (O.write_faults outside.old) (O.write_faults outside.new)) }
 {
     let count = match next_piece(outside, buffer, taken) {
         Ok(count) => count,
@@ -83,6 +85,8 @@ fn read_all<O: Outside, L: Ledger>(
     ensures write_later { O.write_faults outside.old ≤ O.write_faults outside.new }
     ensures read_cause { IsErrOf result Status.ReadFault → Rose (O.read_faults outside.old) (O.read_faults outside.new) }
     ensures write_cause { IsErrOf result Status.WriteFault → Rose (O.write_faults outside.old) (O.write_faults outside.new) }
+    ensures reads_kept { MatchResult result (λ _. O.read_faults outside.new ≡ O.read_faults outside.old) (λ status. KeepsReads status (O.read_faults outside.old) (O.read_faults outside.new)) }
+    ensures writes_kept { MatchResult result (λ _. O.write_faults outside.new ≡ O.write_faults outside.old) (λ status. KeepsWrites status (O.write_faults outside.old) (O.write_faults outside.new)) }
 {
     let mut buffer = [0u8; PIECE];
     let mut taken = 0u64;
@@ -107,6 +111,7 @@ fn finish<S: Sink, L: Ledger>(
     ensures err { OnErr result (FinishesFront (state_of session.old steps.old) steps.new (S.shown sink.old) (S.shown sink.new)) }
     ensures later { S.write_faults sink.old ≤ S.write_faults sink.new }
     ensures cause { IsErrOf result Status.WriteFault → Rose (S.write_faults sink.old) (S.write_faults sink.new) }
+    ensures kept { MatchResult result (λ _. S.write_faults sink.new ≡ S.write_faults sink.old) (λ status. KeepsWrites status (S.write_faults sink.old) (S.write_faults sink.new)) }
     ensures only { IfErr result IsGivenUp }
     ensures by { S.by_write sink.old sink.new }
 {
@@ -155,6 +160,8 @@ fn run_session<O: Outside, L: Ledger>(
     ensures write_later { O.write_faults outside.old ≤ O.write_faults outside.new }
     ensures read_cause { result ≡ Status.ReadFault → Rose (O.read_faults outside.old) (O.read_faults outside.new) }
     ensures write_cause { result ≡ Status.WriteFault → Rose (O.write_faults outside.old) (O.write_faults outside.new) }
+    ensures reads_kept { KeepsReads result (O.read_faults outside.old) (O.read_faults outside.new) }
+    ensures writes_kept { KeepsWrites result (O.write_faults outside.old) (O.write_faults outside.new) }
     ensures no_usage { result ≡ Status.Usage → ⊥ }
 {
     match read_all(outside, session, steps) {
@@ -175,6 +182,8 @@ pub fn replay<O: Outside, L: Ledger>(alloc: Global, outside: &mut O, steps: &mut
     ensures write_later { O.write_faults outside.old ≤ O.write_faults outside.new }
     ensures read_cause { result ≡ Status.ReadFault → Rose (O.read_faults outside.old) (O.read_faults outside.new) }
     ensures write_cause { result ≡ Status.WriteFault → Rose (O.write_faults outside.old) (O.write_faults outside.new) }
+    ensures reads_kept { KeepsReads result (O.read_faults outside.old) (O.read_faults outside.new) }
+    ensures writes_kept { KeepsWrites result (O.write_faults outside.old) (O.write_faults outside.new) }
     ensures no_usage { result ≡ Status.Usage → ⊥ }
 {
     match new_session(alloc) {
