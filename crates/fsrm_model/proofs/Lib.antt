@@ -25,6 +25,7 @@ pub mod ReadLaws
 pub mod PathLaws
 pub mod WordLaws
 pub mod ValueLaws
+pub mod LineValues
 pub mod OptionLaws
 pub mod CommandLaws
 pub mod SpellingLaws

@@ -27,6 +27,7 @@ pub mod Text
 pub mod Reading
 pub mod Words
 pub mod Options
+pub mod Tools
 pub mod Line
 pub mod Spelling
 pub mod Script
