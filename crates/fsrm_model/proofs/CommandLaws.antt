@@ -1,6 +1,6 @@
 -- Words are read as the command that they spell, and refused only as a line is.
 use Rattle.std.proofs.Common.{◌≡◌, ℕ, List, [], ◌∷◌, ◌++◌, Bool, true, false, refl, sym, ◌∙◌, ap, subst, inl, inr}
-use Rattle.std.specs.Prelude.{Ok, Err, ◌⊎◌, codes, map, not, Option, Some, None, option_map, if◌then◌else◌}
+use Rattle.std.specs.Prelude.{Ok, ◌⊎◌, codes, map, not, Option, Some, None, option_map, if◌then◌else◌}
 use Rattle.std.specs.List.{list_all, list_any, AllByRecursion}
 use Rattle.std.specs.Str.{str_eq_ignore_ascii_case}
 use Rattle.std.proofs.lemmas.Bool.{and_parts, or_parts, cases_Bool, true≢false}
@@ -10,13 +10,13 @@ use Rattle.fsrm_model.specs.declared.command.Deed.TheVariants.{File, Usage, Step
 use Rattle.fsrm_model.specs.declared.command.FileOp.TheVariants.{Mkdir, Create, Resize, Touch, Move, Remove}
 use Rattle.fsrm_model.specs.declared.command.Refusal.TheVariants.{BadLine}
 use Rattle.fsrm_model.specs.Limits.{latest_moment, longest_file, last_owner, most_visits}
-use Rattle.fsrm_model.specs.Line.{next_word, no_more, number_word, path_word, owner_word, length_word, mkdir_words, create_words, resize_words, touch_words, move_words, remove_words, usage_words, step_words, Reader, named_word, option_words, tool_words, placed, tool_reader, readers, deed_words, command_of}
+use Rattle.fsrm_model.specs.Line.{no_more, number_word, path_word, owner_word, length_word, mkdir_words, create_words, resize_words, touch_words, move_words, remove_words, usage_words, step_words, Reader, named_word, option_words, tool_words, placed, tool_reader, readers, deed_words, command_of}
 use Rattle.fsrm_model.specs.Options.{options}
 use Rattle.fsrm_model.specs.Reading.{Read, ◌>>=◌, known, number_from, path_from}
 use Rattle.fsrm_model.specs.Spelling.{IsNamed, Writes, WritesPath, SpellsOptions, SpellsTool, SpellsPlaced, SpellsDeed}
 use Rattle.fsrm_model.specs.Tools.{Names, named, ToolCommand, tools}
 use Rattle.fsrm_model.specs.Words.{Word}
-use Rattle.fsrm_model.proofs.LineValues.{AsLine, then_line, known_line, next_line, end_line, number_word_line, path_word_line, one_path_line, path_number_line, one_number_line}
+use Rattle.fsrm_model.proofs.LineValues.{AsLine, then_line, known_line, end_line, number_word_line, path_word_line, one_path_line, path_number_line, one_number_line}
 use Rattle.fsrm_model.proofs.OptionLaws.{options_spell, spelled_options, options_line}
 use Rattle.fsrm_model.proofs.PathLaws.{path_writes, path_reads}
 use Rattle.fsrm_model.proofs.ReadLaws.{then_ok, both_ok, number_writes, number_reads}
@@ -309,92 +309,95 @@ reader_found text reader h = at (named placed text) refl
     at None e = inr (by_tool (named tools text) refl (sym (named-append placed (map tool_reader tools) text e ∙ named_tools tools text) ∙ h))
 
 -- the next word's name
-named_word_is : {X : Type 0} (names : Names X) (end : ℕ) (given : List Word) (own : X × List Word) → named_word names end given ≡ Ok own → (word : Word) × (given ≡ word ∷ own.1) × (named names word.text ≡ Some own.0)
-named_word_is names end [] own h = absurd (cc h)
-named_word_is {X} names end (word ∷ more) own h =
-    let found = both_ok (known (BadLine word.column) (named names word.text)) (λ x. Ok (x, more)) own h in
-    let same : (found.0, more) ≡ own = cc found.2 in
-    subst (λ (o : X × List Word). (w : Word) × (word ∷ more ≡ w ∷ o.1) × (named names w.text ≡ Some o.0)) same (word, refl, known_ok (BadLine word.column) (named names word.text) found.0 found.1)
+record NextName {X : Type 0} (names : Names X) (given : List Word) (next : X → List Word → Read Deed) (d : Deed) : Type 0 where
+  word : Word
+  own : X
+  more : List Word
+  given_is : given ≡ word ∷ more
+  own_is : named names word.text ≡ Some own
+  read : next own more ≡ Ok d
 
-named_word_reads : {X : Type 0} (names : Names X) (end : ℕ) (given : List Word) (text : List ℕ) (behind : List (List ℕ)) (x : X) → texts given ≡ text ∷ behind → named names text ≡ Some x → IsRead (named_word names end given) x behind
-named_word_reads names end [] text behind x e h = absurd (cc e)
-named_word_reads {X} names end (word ∷ more) text behind x e h =
+named_word_is : {X : Type 0} (names : Names X) (end : ℕ) (given : List Word) (next : X → List Word → Read Deed) (d : Deed) → named_word names end given next ≡ Ok d → NextName names given next d
+named_word_is names end [] next d h = absurd (cc h)
+named_word_is names end (word ∷ more) next d h =
+    let found = both_ok (known (BadLine word.column) (named names word.text)) (λ own. next own more) d h in
+    record { word = word; own = found.0; more = more; given_is = refl; own_is = known_ok (BadLine word.column) (named names word.text) found.0 found.1; read = found.2 }
+
+named_word_reads : {X : Type 0} (names : Names X) (end : ℕ) (given : List Word) (next : X → List Word → Read Deed) (text : List ℕ) (behind : List (List ℕ)) (own : X) → texts given ≡ text ∷ behind → named names text ≡ Some own → (more : List Word) × (named_word names end given next ≡ next own more) × (texts more ≡ behind)
+named_word_reads names end [] next text behind own e h = absurd (cc e)
+named_word_reads {X} names end (word ∷ more) next text behind own e h =
     let same : word.text ≡ text = cc e in
-    let here : named names word.text ≡ Some x = ap (named names) same ∙ h in
-    (more, ap (λ (o : Option X). known (BadLine word.column) o >>= λ own. Ok (own, more)) here, cc e)
+    let here : named names word.text ≡ Some own = ap (named names) same ∙ h in
+    (more, ap (λ (o : Option X). known (BadLine word.column) o >>= λ own. next own more) here, cc e)
 
-named_word_line : {X : Type 0} (names : Names X) (end : ℕ) (given : List Word) → AsLine (named_word names end given)
-named_word_line names end given =
-    then_line (next_word end given) (λ name. known (BadLine name.0.column) (named names name.0.text) >>= λ own. Ok (own, name.1)) (next_line end given)
-    (λ name. then_line (known (BadLine name.0.column) (named names name.0.text)) (λ own. Ok (own, name.1)) (known_line (BadLine name.0.column) (named names name.0.text) refl) (λ own. tt))
+named_word_line : {X : Type 0} (names : Names X) (end : ℕ) (given : List Word) (next : X → List Word → Read Deed) → ((text : List ℕ) (own : X) (more : List Word) → named names text ≡ Some own → AsLine (next own more)) → AsLine (named_word names end given next)
+named_word_line names end [] next h = refl
+named_word_line {X} names end (word ∷ more) next h = at (named names word.text) refl
+  where
+    at : (o : Option X) → named names word.text ≡ o → AsLine (known (BadLine word.column) o >>= λ own. next own more)
+    at None e = refl
+    at (Some own) e = h word.text own more e
 
 -- the words behind a tool's name
+abbrev tool_next : ℕ → Names ToolCommand → List Word → Read Deed
+tool_next end commands words = named_word commands end words (λ command words. option_words command end words)
+
 tool_spells : (word : Word) (objects : Names (Names ToolCommand)) (end : ℕ) (given : List Word) (d : Deed) → named tools word.text ≡ Some objects → tool_words objects end given ≡ Ok d → SpellsTool (texts (word ∷ given)) d
 tool_spells word objects end given d tool h =
-    let commands = both_ok (named_word objects end given) (λ commands. named_word commands.0 end commands.1 >>= λ command. option_words command.0 end command.1) d h in
-    let command = both_ok (named_word commands.0.0 end commands.0.1) (λ command. option_words command.0 end command.1) d commands.2 in
-    let read = both_ok (options command.0.0.keys command.0.1 []) (λ given. known (BadLine end) (command.0.0.deed given)) d command.2 in
-    let b = named_word_is objects end given commands.0 commands.1 in
-    let c = named_word_is commands.0.0 end commands.0.1 command.0 command.1 in
+    let object = named_word_is objects end given (tool_next end) d h in
+    let command = named_word_is object.own end object.more (λ command words. option_words command end words) d object.read in
+    let read = both_ok (options command.own.keys command.more []) (λ given. known (BadLine end) (command.own.deed given)) d command.read in
     record {
       tool = word.text;
-      object = b.0.text;
-      command = c.0.text;
-      rest = texts command.0.1;
-      words_are = ap (λ (ws : List Word). texts (word ∷ ws)) (behind_word b.0 b.1 c.1);
+      object = object.word.text;
+      command = command.word.text;
+      rest = texts command.more;
+      words_are = ap (λ (ws : List Word). texts (word ∷ ws)) (behind_word object.word object.given_is command.given_is);
       objects = objects;
-      commands = commands.0.0;
-      own = command.0.0;
+      commands = object.own;
+      own = command.own;
       tool_is = tool;
-      object_is = b.2;
-      command_is = c.2;
+      object_is = object.own_is;
+      command_is = command.own_is;
       given = read.0;
-      options_are = options_spell command.0.0.keys command.0.1 read.0 read.1;
-      deed_is = known_ok (BadLine end) (command.0.0.deed read.0) d read.2;
+      options_are = options_spell command.own.keys command.more read.0 read.1;
+      deed_is = known_ok (BadLine end) (command.own.deed read.0) d read.2;
     }
 
 tool_reads : (end : ℕ) (given : List Word) (d : Deed) → SpellsTool (texts given) d → deed_words end given ≡ Ok d
 tool_reads end given d s =
-    let a = named_word_reads readers end given s.tool (s.object ∷ s.command ∷ s.rest) (tool_words s.objects) s.words_are (tool_read s.tool s.objects s.tool_is) in
-    let b = named_word_reads s.objects end a.0 s.object (s.command ∷ s.rest) s.commands a.2 s.object_is in
-    let c = named_word_reads s.commands end b.0 s.command s.rest s.own b.2 s.command_is in
+    let a = named_word_reads readers end given (λ reader words. reader end words) s.tool (s.object ∷ s.command ∷ s.rest) (tool_words s.objects) s.words_are (tool_read s.tool s.objects s.tool_is) in
+    let b = named_word_reads s.objects end a.0 (tool_next end) s.object (s.command ∷ s.rest) s.commands a.2 s.object_is in
+    let c = named_word_reads s.commands end b.0 (λ command words. option_words command end words) s.command s.rest s.own b.2 s.command_is in
     let given_are = spelled_options s.own.keys c.0 s.given (subst (λ (ts : List (List ℕ)). SpellsOptions s.own.keys ts s.given) (sym c.2) s.options_are) in
-    then_ok (named_word readers end given) (tool_words s.objects, a.0) (λ reader. reader.0 end reader.1) a.1
-    ∙ then_ok (named_word s.objects end a.0) (s.commands, b.0) (λ commands. named_word commands.0 end commands.1 >>= λ command. option_words command.0 end command.1) b.1
-    ∙ then_ok (named_word s.commands end b.0) (s.own, c.0) (λ command. option_words command.0 end command.1) c.1
+    a.1 ∙ b.1 ∙ c.1
     ∙ then_ok (options s.own.keys c.0 []) s.given (λ given. known (BadLine end) (s.own.deed given)) given_are
     ∙ ap (λ (o : Option Deed). known (BadLine end) o) s.deed_is
 
 tool_line : (objects : Names (Names ToolCommand)) → ReadsLine (tool_words objects)
 tool_line objects end given =
-    then_line (named_word objects end given) (λ commands. named_word commands.0 end commands.1 >>= λ command. option_words command.0 end command.1) (named_word_line objects end given)
-    (λ commands. then_line (named_word commands.0 end commands.1) (λ command. option_words command.0 end command.1) (named_word_line commands.0 end commands.1)
-    (λ command. then_line (options command.0.keys command.1 []) (λ given. known (BadLine end) (command.0.deed given)) (options_line command.0.keys command.1 [])
-    (λ given. known_line (BadLine end) (command.0.deed given) refl)))
+    named_word_line objects end given (tool_next end) (λ text commands words found.
+    named_word_line commands end words (λ command words. option_words command end words) (λ text command words found.
+    then_line (options command.keys words []) (λ given. known (BadLine end) (command.deed given)) (options_line command.keys words [])
+    (λ given. known_line (BadLine end) (command.deed given) refl)))
 
 -- words that are read as a deed spell it
 deed_spells : (end : ℕ) (given : List Word) (d : Deed) → deed_words end given ≡ Ok d → SpellsDeed (texts given) d
 deed_spells end given d h =
-    let reader = both_ok (named_word readers end given) (λ reader. reader.0 end reader.1) d h in
-    let a = named_word_is readers end given reader.0 reader.1 in
-    elim (reader_found a.0.text reader.0.0 a.2) [
-      | inl place ↦ inl (subst (λ (ws : List Word). SpellsPlaced (texts ws) d) (sym a.1) (place.own.spells a.0 end reader.0.1 d place.is reader.2))
+    let name = named_word_is readers end given (λ reader words. reader end words) d h in
+    elim (reader_found name.word.text name.own name.own_is) [
+      | inl place ↦ inl (subst (λ (ws : List Word). SpellsPlaced (texts ws) d) (sym name.given_is) (place.own.spells name.word end name.more d place.is name.read))
       | inr tool ↦
-          let read : tool_words tool.objects end reader.0.1 ≡ Ok d = ap (λ (r : Reader). r end reader.0.1) tool.own ∙ reader.2 in
-          inr (subst (λ (ws : List Word). SpellsTool (texts ws) d) (sym a.1) (tool_spells a.0 tool.objects end reader.0.1 d tool.is read))
+          let read : tool_words tool.objects end name.more ≡ Ok d = ap (λ (r : Reader). r end name.more) tool.own ∙ name.read in
+          inr (subst (λ (ws : List Word). SpellsTool (texts ws) d) (sym name.given_is) (tool_spells name.word tool.objects end name.more d tool.is read))
     ]
 
 deed_line : ReadsLine deed_words
-deed_line end given = at (named_word readers end given) refl
-  where
-    at : (r : Read (Reader × List Word)) → named_word readers end given ≡ r → AsLine (r >>= λ reader. reader.0 end reader.1)
-    at (Err refusal) e = subst AsLine e (named_word_line readers end given)
-    at (Ok reader) e =
-        let a = named_word_is readers end given reader e in
-        elim (reader_found a.0.text reader.0 a.2) [
-          | inl place ↦ place.own.line end reader.1
-          | inr tool ↦ subst (λ (r : Reader). AsLine (r end reader.1)) tool.own (tool_line tool.objects end reader.1)
-        ]
+deed_line end given =
+    named_word_line readers end given (λ reader words. reader end words) (λ text reader words found. elim (reader_found text reader found) [
+      | inl place ↦ place.own.line end words
+      | inr tool ↦ subst (λ (r : Reader). AsLine (r end words)) tool.own (tool_line tool.objects end words)
+    ])
 
 create_reads : (end : ℕ) (given : List Word) (a b c : List ℕ) (path : Path) (size owner : ℕ) → texts given ≡ a ∷ b ∷ c ∷ [] → WritesPath a path → Writes 0 longest_file b size → Writes 1 last_owner c owner → create_words end given ≡ Ok (File (Create path size owner))
 create_reads end given a b c path size owner e w v u =
@@ -417,8 +420,7 @@ move_reads end given a b from to e w v =
 -- a command whose words have their places is read from those behind its name
 placed_word : (name : List ℕ) (reads : Reader) (end : ℕ) (given : List Word) (text : List ℕ) (behind : List (List ℕ)) → texts given ≡ text ∷ behind → IsNamed name text → named readers name ≡ Some reads → (more : List Word) × (deed_words end given ≡ reads end more) × (texts more ≡ behind)
 placed_word name reads end given text behind e is own =
-    let a = named_word_reads readers end given text behind reads e (named_same readers name text is ∙ own) in
-    (a.0, then_ok (named_word readers end given) (reads, a.0) (λ reader. reader.0 end reader.1) a.1, a.2)
+    named_word_reads readers end given (λ reader words. reader end words) text behind reads e (named_same readers name text is ∙ own)
 
 placed_reads : (end : ℕ) (given : List Word) (d : Deed) → SpellsPlaced (texts given) d → deed_words end given ≡ Ok d
 placed_reads end given (File (Mkdir path owner)) s =

@@ -30,6 +30,7 @@ pub mod OptionLaws
 pub mod CommandLaws
 pub mod SpellingLaws
 pub mod LineRefusals
+pub mod SpelledValues
 pub mod Ends
 pub mod QuotaLaws
 pub mod HardLimits

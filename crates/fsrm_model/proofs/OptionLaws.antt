@@ -51,7 +51,7 @@ is_own (LimitIs limit) = refl
 is_own (TypeIs enforce) = refl
 is_own (StatusIs enabled) = refl
 
-own_key : (key : Key) (given : Given) → is_of key given ≡ true → key ≡ key_of given
+pub own_key : (key : Key) (given : Given) → is_of key given ≡ true → key ≡ key_of given
 own_key ThePath (PathIs path) h = refl
 own_key TheLimit (LimitIs limit) h = refl
 own_key TheType (TypeIs enforce) h = refl

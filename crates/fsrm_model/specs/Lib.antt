@@ -8,6 +8,7 @@ pub mod Tree
 pub mod Fresh
 pub mod FileOps
 pub mod Valid
+pub mod Entry
 pub mod Valued
 pub mod Check
 pub mod Quota

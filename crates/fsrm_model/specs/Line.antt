@@ -93,12 +93,12 @@ step_words end given = do
 abbrev pub Reader : Type 0
 Reader = ℕ → List Word → Read Deed
 
--- what the next word's name stands for, and the words behind it
-abbrev pub named_word : {X : Type 0} → Names X → ℕ → List Word → Read (X × List Word)
-named_word names end given = do
+-- what the next word's name stands for goes on with the words behind it
+abbrev pub named_word : {X : Type 0} → Names X → ℕ → List Word → (X → List Word → Read Deed) → Read Deed
+named_word names end given next = do
   name ← next_word end given
   own ← known (BadLine name.0.column) (named names name.0.text)
-  Ok (own, name.1)
+  next own name.1
 
 -- the options behind the names of a tool's command. One that is missing is refused behind the line's end
 abbrev pub option_words : ToolCommand → Reader
@@ -108,10 +108,8 @@ option_words command end words = do
 
 -- what a tool manages, what is to be done with it, and options
 abbrev pub tool_words : Names (Names ToolCommand) → Reader
-tool_words objects end given = do
-  commands ← named_word objects end given
-  command ← named_word commands.0 end commands.1
-  option_words command.0 end command.1
+tool_words objects end given =
+    named_word objects end given (λ commands words. named_word commands end words (λ command words. option_words command end words))
 
 -- the commands whose words have their places
 abbrev pub placed : Names Reader
@@ -127,9 +125,7 @@ readers = placed ++ map tool_reader tools
 
 -- a command's name, and its words
 abbrev pub deed_words : Reader
-deed_words end given = do
-  reader ← named_word readers end given
-  reader.0 end reader.1
+deed_words end given = named_word readers end given (λ reader words. reader end words)
 
 -- the moment, the command's name, and its words
 abbrev pub command_of : ℕ → List Word → Read Command
