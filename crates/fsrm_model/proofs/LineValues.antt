@@ -97,4 +97,3 @@ path_number_line low high deed end given =
 pub one_number_line : (low high : ℕ) (deed : ℕ → Deed) (end : ℕ) (given : List Word) → AsLine (number_word low high end given >>= λ n. no_more n.1 (deed n.0))
 one_number_line low high deed end given =
     then_line (number_word low high end given) (λ n. no_more n.1 (deed n.0)) (number_word_line low high end given) (λ n. end_line n.1 (deed n.0))
-
