@@ -21,10 +21,12 @@ pub mod ReadLaws
 pub mod PathLaws
 pub mod WordLaws
 pub mod ValueLaws
+pub mod LineValues
 pub mod OptionLaws
 pub mod CommandLaws
 pub mod SpellingLaws
 pub mod LineRefusals
+pub mod SpelledValues
 pub mod Ends
 pub mod QuotaLaws
 pub mod HardLimits

@@ -6,6 +6,7 @@ pub mod Tree
 pub mod Fresh
 pub mod FileOps
 pub mod Valid
+pub mod Entry
 pub mod Valued
 pub mod Check
 pub mod Quota
@@ -25,6 +26,7 @@ pub mod Text
 pub mod Reading
 pub mod Words
 pub mod Options
+pub mod Tools
 pub mod Line
 pub mod Spelling
 pub mod Script

@@ -25,6 +25,7 @@ ghost use Rattle.fsrm_model.specs.Step.{step};
 ghost use Rattle.fsrm_model.specs.Text.{reply};
 ghost use Rattle.fsrm_model.specs.Tree.{under, usage};
 ghost use Rattle.fsrm_model.specs.Valid.{IsStore};
+ghost use Rattle.fsrm_model.specs.Valued.{is_command};
 ghost use Rattle.fsrm_model.specs.WorkedRows.{nothing_done, first_files, clock, moves, bad_lines, words_apart, root_and_places, few_nodes, few_name_bytes, folded_names, rounded_usage, large_clusters, small_clusters, nested_quotas, up_to_the_limit, above_the_limit, move_below_a_quota, scan_in_steps, visited_again, out_and_back, out_for_good, scan_refusals, scans_in_turn, quota_options, quota_limits, quota_peaks, quotas_gone};
 
 /// The plain machine's text of worked scripts.
@@ -58,11 +59,12 @@ pub fn worked_rows()
     ensures quotas_gone { quotas_gone }
 {}
 
-/// What a line is read as is what it spells, and a line that spells a command is read as it. Exactly
+/// What a line is read as is what it spells, and a line that spells a command is read as it. The command is valid. Exactly
 /// those lines are skipped that have blanks alone, or a `#` behind them. Each other line is refused,
 /// by a refusal that comes from reading alone.
 pub fn spelling()
     ensures commands { (line : List ℕ) (c : Command) → (read_line line ≡ Some (Ok c)) ↔ Spells line c }
+    ensures valid { (line : List ℕ) (c : Command) → Spells line c → is_command c ≡ true }
     ensures skipped { (line : List ℕ) → (read_line line ≡ None) ↔ Skips line }
     ensures refusals { (line : List ℕ) (refusal : Refusal) → read_line line ≡ Some (Err refusal) → is_line_refusal refusal ≡ true }
 {}
