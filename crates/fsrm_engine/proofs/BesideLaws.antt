@@ -20,7 +20,8 @@ use Rattle.fsrm_model.specs.QuotaStates.{is_rebuilding, same_head, scan_begun, f
 use Rattle.fsrm_model.specs.QuotaWork.{reset}
 use Rattle.fsrm_model.specs.Step.{Stepped, step, work, decided, lasted, unlasting, unacted}
 use Rattle.fsrm_model.specs.Work.{Work}
-use Rattle.fsrm_model.specs.Valid.{IsQueue, IsStore}
+use Rattle.fsrm_model.specs.Valid.{IsStore}
+use Rattle.fsrm_model.specs.ValidScans.{IsQueue}
 use Rattle.fsrm_model.proofs.Look.{changed_found, found_has, has_row-change, has_row-without, has_row-without_other, row_of-without, eq_turned}
 use Rattle.fsrm_model.proofs.TestLaws.{clash, is_or_not, eq_is}
 use Rattle.number_set.proofs.NumberLaws.{in_without}

@@ -19,7 +19,7 @@ use Rattle.fsrm_model.specs.Scan.{visits}
 use Rattle.fsrm_model.specs.ScanWork.{step_work}
 use Rattle.fsrm_model.specs.Step.{step}
 use Rattle.fsrm_model.specs.Tree.{usage}
-use Rattle.fsrm_model.specs.Valid.{IsQueue}
+use Rattle.fsrm_model.specs.ValidScans.{IsQueue}
 use Rattle.fsrm_model.proofs.TestLaws.{eq_same, suc_apart}
 use Rattle.scan_queue.specs.Courses.{Course, Turns}
 use Rattle.fsrm_engine.specs.Machine.{Machine, Takes, AreScans, volume_of, lasting_rows, rows_with, with_rows}

@@ -13,7 +13,8 @@ use Rattle.fsrm_model.specs.Quota.{folder_of, counts, peaked}
 use Rattle.fsrm_model.specs.QuotaStates.{is_rebuilding, queued, head, same_head, scan_begun, followed}
 use Rattle.fsrm_model.specs.Scan.{AreUnvisited}
 use Rattle.fsrm_model.specs.Tree.{usage}
-use Rattle.fsrm_model.specs.Valid.{IsStore, IsQueue, AreLeft}
+use Rattle.fsrm_model.specs.Valid.{IsStore}
+use Rattle.fsrm_model.specs.ValidScans.{IsQueue, AreLeft}
 use Rattle.fsrm_model.proofs.ChainLaws.{find-with_row_same}
 use Rattle.fsrm_model.proofs.Look.{is_some-find, found_key, found_has, find-map, row_of-change, has_row-change, changed_found, row_of-new_other, has_row-without, has_row-without_other}
 use Rattle.fsrm_model.proofs.TestLaws.{is_or_not, both, both_true, neither, eq_is, eq_same, eq_turned}

@@ -13,7 +13,8 @@ use Rattle.fsrm_model.specs.Quota.{folder_of, counts, peaked, peaks}
 use Rattle.fsrm_model.specs.QuotaStates.{followed, head, queued}
 use Rattle.fsrm_model.specs.Step.{Stepped, step}
 use Rattle.fsrm_model.specs.Tree.{usage}
-use Rattle.fsrm_model.specs.Valid.{IsVolume, AreQuotas, IsQueue}
+use Rattle.fsrm_model.specs.Valid.{IsVolume, AreQuotas}
+use Rattle.fsrm_model.specs.ValidScans.{IsQueue}
 use Rattle.quota_usage.specs.declared.change.Counter.{Counter}
 use Rattle.scan_queue.specs.Courses.{Course, Scanning, left}
 use Rattle.volume_tree.specs.Volume.{Volume, IsCapacity}

@@ -19,6 +19,7 @@ pub mod Members
 pub mod UsageLaws
 pub mod Resolves
 pub mod ValidVolume
+pub mod ValidTests
 pub mod Sizes
 pub mod Files
 pub mod ReadLaws

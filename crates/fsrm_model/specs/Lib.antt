@@ -7,7 +7,9 @@ pub mod Space
 pub mod Tree
 pub mod Fresh
 pub mod FileOps
+pub mod Texts
 pub mod Valid
+pub mod ValidScans
 pub mod Valued
 pub mod Check
 pub mod Quota
@@ -31,6 +33,7 @@ pub mod Line
 pub mod Spelling
 pub mod Script
 pub mod WorkedRows
+pub mod ValidRows
 pub mod Patterns
 pub mod Places
 pub mod Lasting

@@ -1,6 +1,6 @@
 //! Laws of the definitions, and worked examples.
 
-ghost use Rattle.std.specs.Prelude.{◌≡◌, ◌↔◌, ℕ, ◌+◌, ◌<◌, ◌≤◌, List, [], ◌∷◌, ◌++◌, true, false, Some, None, Ok, Err, sum_by, pos};
+ghost use Rattle.std.specs.Prelude.{◌≡◌, ◌↔◌, ℕ, ◌+◌, ◌<◌, ◌≤◌, List, [], ◌∷◌, ◌++◌, true, false, Option, Some, None, Ok, Err, sum_by, pos};
 ghost use Rattle.std.specs.List.{list_any};
 ghost use Rattle.jiff_core.specs.Calendar.{days_from_civil};
 ghost use Rattle.fsrm_model.specs.declared.command.Command.{Command};
@@ -16,15 +16,18 @@ ghost use Rattle.fsrm_model.specs.declared.row.Rows.{Rows};
 ghost use Rattle.fsrm_model.specs.Date.{date_of};
 ghost use Rattle.fsrm_model.specs.Exceeds.{Exceeds};
 ghost use Rattle.fsrm_model.specs.FileOps.{plain};
+ghost use Rattle.fsrm_model.specs.Keyed.{is_ascending};
 ghost use Rattle.fsrm_model.specs.Line.{read_line, is_line_refusal};
-ghost use Rattle.fsrm_model.specs.Quota.{quota_of, counts, exceeded};
+ghost use Rattle.fsrm_model.specs.Quota.{folder_of, quota_of, counts, exceeded};
 ghost use Rattle.fsrm_model.specs.Script.{is_end, lines, spelled_lines, AreLines, without_cr, replied, text, text_from};
 ghost use Rattle.fsrm_model.specs.Space.{space};
 ghost use Rattle.fsrm_model.specs.Spelling.{Spells, Skips};
 ghost use Rattle.fsrm_model.specs.Step.{step};
 ghost use Rattle.fsrm_model.specs.Text.{reply};
-ghost use Rattle.fsrm_model.specs.Tree.{under, usage};
-ghost use Rattle.fsrm_model.specs.Valid.{IsStore};
+ghost use Rattle.fsrm_model.specs.Tree.{number, under, usage};
+ghost use Rattle.fsrm_model.specs.Valid.{is_tree, IsVolume, are_quotas, AreQuotas, are_tables, AreTables, is_valid, IsStore};
+ghost use Rattle.fsrm_model.specs.ValidRows.{valid_rows, wrong_nodes, wrong_quotas, wrong_tables, wrong_queues, wrong_unvisited};
+ghost use Rattle.fsrm_model.specs.ValidScans.{is_queue, IsQueue, are_left, AreLeft};
 ghost use Rattle.fsrm_model.specs.WorkedRows.{nothing_done, first_files, clock, moves, bad_lines, words_apart, root_and_places, few_nodes, few_name_bytes, folded_names, rounded_usage, nested_quotas, up_to_the_limit, above_the_limit, move_below_a_quota, scan_in_steps, visited_again, out_and_back, out_for_good, scan_refusals, scans_in_turn, quota_options, quota_limits, quota_peaks, quotas_gone};
 
 /// The plain machine's text of worked scripts.
@@ -105,6 +108,26 @@ pub fn quotas()
     ensures limits { (K : Capacity) (R : Rows) (c : Command) (folder : ℕ) (quota : QuotaRow) → IsStore K R → quota_of R folder ≡ Some quota → counts quota ≡ true → quota.enforce ≡ true → usage K R.nodes folder < usage K (step K R c).rows.nodes folder → usage K (step K R c).rows.nodes folder ≤ quota.limit }
     // A command that lasts leaves no counting quota whose peak is below its usage.
     ensures peaks { (K : Capacity) (R : Rows) (c : Command) (folder : ℕ) (quota : QuotaRow) → (step K R c).lasting ≡ true → quota_of (step K R c).rows folder ≡ Some quota → counts quota ≡ true → usage K (step K R c).rows.nodes folder ≤ quota.peak }
+{}
+
+/// Which rows are those of a store, as a test and part by part.
+pub fn valid()
+    ensures whole { (K : Capacity) (R : Rows) → (is_valid K R ≡ true) ↔ IsStore K R }
+    ensures nodes { (K : Capacity) (nodes : List NodeRow) → (is_tree K nodes ≡ true) ↔ IsVolume K nodes }
+    ensures quotas { (nodes : List NodeRow) (quotas : List QuotaRow) → (are_quotas nodes quotas ≡ true) ↔ AreQuotas nodes quotas }
+    ensures tables { (R : Rows) → (are_tables R ≡ true) ↔ AreTables R }
+    ensures queue { (quotas : List QuotaRow) (queue : List ℕ) → is_ascending folder_of quotas ≡ true → (is_queue quotas queue ≡ true) ↔ IsQueue quotas queue }
+    ensures unvisited { (nodes : List NodeRow) (scanned : Option ℕ) (unvisited : List ℕ) → is_ascending number nodes ≡ true → (are_left nodes scanned unvisited ≡ true) ↔ AreLeft nodes scanned unvisited }
+{}
+
+/// Rows that are those of a store, and rows in which one thing is wrong.
+pub fn valid_rows()
+    ensures valid { valid_rows }
+    ensures nodes { wrong_nodes }
+    ensures quotas { wrong_quotas }
+    ensures tables { wrong_tables }
+    ensures queues { wrong_queues }
+    ensures unvisited { wrong_unvisited }
 {}
 
 /// The civil date of a moment is that of jiff's calendar.
