@@ -33,47 +33,6 @@ use Rattle.fsrm_engine.proofs.PlainLaws.{SameBut, op_same, sum_same, delete_same
 use Rattle.fsrm_engine.proofs.ScanLaws.{at_moment, same_own}
 use Rattle.fsrm_engine.proofs.TurnLaws.{engine_of, queue_peaked, store_of}
 
--- the queue without a folder whose quota is gone
-apart_in : (n f : ℕ) (queue : List ℕ) → is_in (without_number n queue) f ≡ true → ((f == n) ≡ false) × (is_in queue f ≡ true)
-apart_in n f queue h = by (n == f) (is_in queue f) refl refl (sym (in_without n f queue) ∙ h)
-  where
-    by : (a b : Bool) → (n == f) ≡ a → is_in queue f ≡ b → (not a && b) ≡ true → ((f == n) ≡ false) × (is_in queue f ≡ true)
-    by true b e g h = absurd (cc h)
-    by false true e g h = (eq_turned n f e, g)
-    by false false e g h = absurd (cc h)
-
-in_apart : (n f : ℕ) (queue : List ℕ) → (f == n) ≡ false → is_in (without_number n queue) f ≡ is_in queue f
-in_apart n f queue h = in_without n f queue ∙ ap (λ b. not b && is_in queue f) (eq_turned f n h)
-
-pub queue_without : (quotas : List QuotaRow) (queue : List ℕ) (n : ℕ) → IsQueue quotas queue → IsQueue (without_row folder_of n quotas) (without_number n queue)
-queue_without quotas queue n k =
-    record {
-      once = once_left n queue k.once;
-      queued = λ f h. let both = apart_in n f queue h in has_row-without_other folder_of n f quotas both.0 ∙ k.queued f both.1;
-      rebuilding = λ f q found. by f q found (is_or_not (f == n));
-    }
-  where
-    by : (f : ℕ) (q : QuotaRow) → row_of folder_of f (without_row folder_of n quotas) ≡ Some q → ((f == n) ≡ true) ⊎ ((f == n) ≡ false) → is_in (without_number n queue) f ≡ is_rebuilding q.state
-    by f q found (inl t) =
-        absurd (clash (has_row folder_of f (without_row folder_of n quotas)) (found_has folder_of f (without_row folder_of n quotas) q found)
-        (ap (λ k. has_row folder_of k (without_row folder_of n quotas)) (eq_is f n t) ∙ has_row-without folder_of n quotas))
-    by f q found (inr t) = in_apart n f queue t ∙ k.rebuilding f q (sym (row_of-without folder_of n f quotas t) ∙ found)
-
--- the queue beside quotas of the same states
-pub queue_same : (quotas : List QuotaRow) (queue : List ℕ) (n : ℕ) (c : QuotaRow → QuotaRow) → ((r : QuotaRow) → (c r).folder ≡ r.folder) → ((r : QuotaRow) → (c r).state ≡ r.state) → IsQueue quotas queue → IsQueue (with_change folder_of n c quotas) queue
-queue_same quotas queue n c folder state k =
-    record {
-      once = k.once;
-      queued = λ f h. has_row-change folder_of n c folder f quotas ∙ k.queued f h;
-      rebuilding = λ f q found.
-          let was = changed_found folder_of n c folder f quotas q found in
-          k.rebuilding f was.row was.found ∙ ap is_rebuilding (sym (by (f == n) was.row) ∙ ap (λ (r : QuotaRow). r.state) (sym was.is));
-    }
-  where
-    by : (b : Bool) (r : QuotaRow) → (if b then c r else r).state ≡ r.state
-    by true r = state r
-    by false r = refl
-
 -- a work whose effect keeps the queue beside the quotas
 queue_of : (K : Capacity) (R : Rows) (m : ℕ) (w : Work) (o : Option Refusal) → IsQueue R.quotas R.queue → IsQueue w.effect.quotas w.effect.queue → IsQueue (decided K R m w o).rows.quotas (decided K R m w o).rows.queue
 queue_of K R m w (Some refusal) k e = k

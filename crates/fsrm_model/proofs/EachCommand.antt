@@ -9,6 +9,7 @@ use Rattle.fsrm_model.specs.declared.command.Refusal.{Refusal}
 use Rattle.fsrm_model.specs.declared.command.Refusal.TheVariants.{QuotaExceeded}
 use Rattle.fsrm_model.specs.declared.command.Outcome.TheVariants.{Sum}
 use Rattle.std.specs.Prelude.{sum_by}
+use Rattle.std.specs.Option.{option_map_or}
 use Rattle.fsrm_model.specs.declared.row.Capacity.{Capacity}
 use Rattle.fsrm_model.specs.declared.row.NodeRow.{NodeRow}
 use Rattle.fsrm_model.specs.declared.row.QuotaRow.{QuotaRow}
@@ -17,18 +18,25 @@ use Rattle.fsrm_model.specs.Exceeds.{Exceeds}
 use Rattle.fsrm_model.specs.FileOps.{plain}
 use Rattle.fsrm_model.specs.Lasting.{lasting}
 use Rattle.fsrm_model.specs.Named.{IsNamed}
-use Rattle.fsrm_model.specs.Quota.{quota_of, counts}
+use Rattle.fsrm_model.specs.Limits.{latest_moment}
+use Rattle.fsrm_model.specs.Quota.{quota_of, counts, is_limit}
 use Rattle.fsrm_model.specs.Space.{space}
 use Rattle.fsrm_model.specs.Step.{step, work}
 use Rattle.fsrm_model.specs.Tree.{usage, under}
-use Rattle.fsrm_model.specs.Valid.{IsStore}
+use Rattle.fsrm_model.specs.Valid.{is_moment, IsStore}
+use Rattle.fsrm_model.specs.Valued.{is_path, is_deed, is_command}
 use Rattle.fsrm_model.specs.Work.{Work}
 use Rattle.fsrm_model.proofs.Ends.{effect_nodes}
 use Rattle.fsrm_model.proofs.FileOrderly.{file_orderly, file_limits, usage_still}
-use Rattle.fsrm_model.proofs.Orderly.{IsOrderly, IsStill, KeepsLimits, still_limits}
-use Rattle.fsrm_model.proofs.OrderlyLaws.{verdict, refused_kept, refused_by, sum_afresh, refusal_exceeds, still_unexceeded, limits_hold, outcome_named, unlasting_kept}
+use Rattle.fsrm_model.proofs.FileKept.{file_kept}
+use Rattle.fsrm_model.proofs.Orderly.{IsOrderly, IsStill, KeepsLimits, KeepsValid, still_limits}
+use Rattle.fsrm_model.proofs.OrderlyLaws.{verdict, refused_kept, refused_by, sum_afresh, refusal_exceeds, still_unexceeded, limits_hold, outcome_named, unlasting_kept, valid_kept}
+use Rattle.fsrm_model.proofs.QuotaKept.{add_kept, modify_kept, delete_kept, reset_kept, list_kept}
 use Rattle.fsrm_model.proofs.QuotaOrderly.{add_still, modify_still, delete_still, reset_still, list_still}
+use Rattle.fsrm_model.proofs.RowsKept.{nothing_followed}
+use Rattle.fsrm_model.proofs.ScanKept.{scan_kept, step_kept}
 use Rattle.fsrm_model.proofs.ScanOrderly.{scan_still, step_still}
+use Rattle.fsrm_model.proofs.TestLaws.{both, le_is}
 
 -- the nodes that a file operation makes
 record IsFileWork (R : Rows) (moment : ℕ) (deed : Deed) (nodes : List NodeRow) : Type 0 where
@@ -36,14 +44,16 @@ record IsFileWork (R : Rows) (moment : ℕ) (deed : Deed) (nodes : List NodeRow)
   is : deed ≡ File op
   made : nodes ≡ plain R.nodes op moment
 
--- a work is orderly and keeps limits, and only a file operation makes other nodes
+-- a work is orderly and keeps limits, only a file operation makes other nodes, and of a command whose values are in
+-- their ranges it leaves the rows of a store
 record IsCertified (K : Capacity) (R : Rows) (moment : ℕ) (deed : Deed) (w : Work) : Type 0 where
   orderly : IsOrderly K R w
   limits : KeepsLimits K R w
   nodes : (w.effect.nodes ≡ R.nodes) ⊎ IsFileWork R moment deed w.effect.nodes
+  kept : moment ≤ latest_moment → is_deed deed ≡ true → KeepsValid K R w
 
-still : {K : Capacity} {R : Rows} {moment : ℕ} {deed : Deed} {w : Work} → IsStill K R w → IsCertified K R moment deed w
-still {K} {R} {moment} {deed} {w} s = record { orderly = s.orderly; limits = still_limits K R w s.same; nodes = inl s.same }
+still : {K : Capacity} {R : Rows} {moment : ℕ} {deed : Deed} {w : Work} → IsStill K R w → (moment ≤ latest_moment → is_deed deed ≡ true → KeepsValid K R w) → IsCertified K R moment deed w
+still {K} {R} {moment} {deed} {w} s kept = record { orderly = s.orderly; limits = still_limits K R w s.same; nodes = inl s.same; kept = kept }
 
 certified : (K : Capacity) (R : Rows) (moment : ℕ) (deed : Deed) → IsCertified K R moment deed (work K R moment deed)
 certified K R moment (File op) =
@@ -51,15 +61,18 @@ certified K R moment (File op) =
       orderly = file_orderly K R op moment;
       limits = file_limits K R op moment;
       nodes = inr (record { op = op; is = refl; made = effect_nodes R op moment });
+      kept = λ late legal. file_kept K R op moment legal late;
     }
-certified K R moment (Usage path) = still (usage_still K R path)
-certified K R moment (Step n) = still (step_still K R n)
-certified K R moment (QuotaAdd path limit enforce enabled) = still (add_still K R moment path limit enforce enabled)
-certified K R moment (QuotaModify path limit enforce enabled) = still (modify_still K R path limit enforce enabled)
-certified K R moment (QuotaDelete path) = still (delete_still K R path)
-certified K R moment (QuotaScan path) = still (scan_still K R path)
-certified K R moment (QuotaResetpeak path) = still (reset_still K R moment path)
-certified K R moment (QuotaList path) = still (list_still K R path)
+certified K R moment (Usage path) = still (usage_still K R path) (λ late legal store h. nothing_followed K R store)
+certified K R moment (Step n) = still (step_still K R n) (λ late legal. step_kept K R n)
+certified K R moment (QuotaAdd path limit enforce enabled) =
+    still (add_still K R moment path limit enforce enabled) (λ late legal. add_kept K R moment path limit enforce enabled (both (is_path path) (is_limit limit) legal).1 late)
+certified K R moment (QuotaModify path limit enforce enabled) =
+    still (modify_still K R path limit enforce enabled) (λ late legal. modify_kept K R path limit enforce enabled (both (is_path path) (option_map_or is_limit limit true) legal).1)
+certified K R moment (QuotaDelete path) = still (delete_still K R path) (λ late legal. delete_kept K R path)
+certified K R moment (QuotaScan path) = still (scan_still K R path) (λ late legal. scan_kept K R path)
+certified K R moment (QuotaResetpeak path) = still (reset_still K R moment path) (λ late legal. reset_kept K R moment path late)
+certified K R moment (QuotaList path) = still (list_still K R path) (λ late legal. list_kept K R path)
 
 pub orderly : (K : Capacity) (R : Rows) (moment : ℕ) (deed : Deed) → IsOrderly K R (work K R moment deed)
 orderly K R moment deed = (certified K R moment deed).orderly
@@ -110,3 +123,12 @@ lasting_kept K R c store h =
     let w = work K R c.moment c.deed in
     let late = nat_lt c.moment R.last_moment in
     unlasting_kept K R c.moment late w (orderly K R c.moment c.deed) store (verdict late w) refl h
+
+-- a valid command leaves valid rows
+pub step_valid : (K : Capacity) (R : Rows) (c : Command) → IsStore K R → is_command c ≡ true → IsStore K (step K R c).rows
+step_valid K R c store legal =
+    let w = work K R c.moment c.deed in
+    let late = nat_lt c.moment R.last_moment in
+    let values : (is_moment c.moment ≡ true) × (is_deed c.deed ≡ true) = both _ _ legal in
+    let moment = le_is c.moment latest_moment values.0 in
+    valid_kept K R c.moment late w ((certified K R c.moment c.deed).kept moment values.1) store moment (verdict late w) refl

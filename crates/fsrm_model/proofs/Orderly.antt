@@ -15,6 +15,7 @@ use Rattle.fsrm_model.specs.Check.{Check, ◌when◌, first}
 use Rattle.fsrm_model.specs.Lasting.{lasting}
 use Rattle.fsrm_model.specs.Named.{IsNamed}
 use Rattle.fsrm_model.specs.Quota.{quota_of, counts, over, deepest, exceeded}
+use Rattle.fsrm_model.specs.QuotaStates.{followed}
 use Rattle.fsrm_model.specs.Text.{is_bare}
 use Rattle.fsrm_model.specs.Tree.{usage}
 use Rattle.fsrm_model.specs.Valid.{IsStore}
@@ -66,6 +67,10 @@ pub record IsStill (K : Capacity) (R : Rows) (w : Work) : Type 0 where
 -- a work that lets no usage rise above its limit
 abbrev pub KeepsLimits : Capacity → Rows → Work → Type 0
 KeepsLimits K R w = IsStore K R → first w.checks ≡ None → IsWithin K R w.effect.nodes
+
+-- a work that leaves the rows of a store
+abbrev pub KeepsValid : Capacity → Rows → Work → Type 0
+KeepsValid K R w = IsStore K R → first w.checks ≡ None → IsStore K (followed R w.effect)
 
 -- nodes that stay let no usage rise
 pub none_rises : (K : Capacity) (R : Rows) (new : List NodeRow) → new ≡ R.nodes → (folder : ℕ) → usage K R.nodes folder < usage K new folder → ⊥

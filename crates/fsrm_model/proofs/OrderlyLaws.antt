@@ -1,5 +1,5 @@
 -- The laws over all commands, of any work that is orderly.
-use Rattle.std.proofs.Common.{◌≡◌, ℕ, Bool, true, false, List, ◌∷◌, refl, sym, ap, ◌∙◌, subst, Some, None, Option}
+use Rattle.std.proofs.Common.{◌≡◌, ℕ, ◌≤◌, Bool, true, false, List, ◌∷◌, refl, sym, ap, ◌∙◌, subst, Some, None, Option}
 use Rattle.std.specs.Prelude.{if◌then◌else◌}
 use Rattle.fsrm_model.specs.declared.command.Ask.TheVariants.{Quotas}
 use Rattle.fsrm_model.specs.declared.command.Outcome.{Outcome}
@@ -12,6 +12,7 @@ use Rattle.fsrm_model.specs.declared.row.Rows.{Rows}
 use Rattle.fsrm_model.specs.Check.{Check, ◌when◌, first}
 use Rattle.fsrm_model.specs.Exceeds.{Exceeds}
 use Rattle.fsrm_model.specs.Lasting.{lasting}
+use Rattle.fsrm_model.specs.Limits.{latest_moment}
 use Rattle.fsrm_model.specs.Named.{IsNamed}
 use Rattle.fsrm_model.specs.QuotaStates.{followed}
 use Rattle.fsrm_model.specs.Step.{decided, lasted, unlasting, unacted}
@@ -19,8 +20,9 @@ use Rattle.fsrm_model.specs.Tree.{usage}
 use Rattle.fsrm_model.specs.Valid.{IsStore}
 use Rattle.fsrm_model.specs.Work.{Work}
 use Rattle.fsrm_model.proofs.Ends.{outcome_kept, nodes_kept}
-use Rattle.fsrm_model.proofs.Orderly.{IsAnswer, IsCheck, IsWithin, KeepsLimits, IsOrderly, bare, first_check, first_none, none_rises}
+use Rattle.fsrm_model.proofs.Orderly.{IsAnswer, IsCheck, IsWithin, KeepsLimits, KeepsValid, IsOrderly, bare, first_check, first_none, none_rises}
 use Rattle.fsrm_model.proofs.QuotaLaws.{exceeded_is, peaked_there}
+use Rattle.fsrm_model.proofs.RowsKept.{valid_ended}
 use Rattle.fsrm_model.proofs.ValidLaws.{folder_has}
 
 -- what decides: whether the moment is too early, and then the work's own checks
@@ -99,3 +101,12 @@ quiet_end K R moment w false e h l = h e
 pub unlasting_kept : (K : Capacity) (R : Rows) (moment : ℕ) (late : Bool) (w : Work) → IsOrderly K R w → IsStore K R → (o : Option Refusal) → verdict late w ≡ o → (decided K R moment w o).lasting ≡ false → lasting (decided K R moment w o).rows ≡ lasting R
 unlasting_kept K R moment late w c store (Some refusal) e l = refl
 unlasting_kept K R moment late w c store None e l = quiet_end K R moment w w.lasts refl (c.quiet store (first_none (ClockBack when late) w.checks e).1) l
+
+-- the rows of a store stay such, over a refusal and over the end of a command
+valid_end : (K : Capacity) (R : Rows) (moment : ℕ) (w : Work) (lasts : Bool) → moment ≤ latest_moment → IsStore K (followed R w.effect) → IsStore K (if lasts then lasted K (unacted (followed R w.effect)) moment w.outcome else unlasting (followed R w.effect) w.outcome).rows
+valid_end K R moment w true late s = valid_ended K (followed R w.effect) moment s late
+valid_end K R moment w false late s = s
+
+pub valid_kept : (K : Capacity) (R : Rows) (moment : ℕ) (late : Bool) (w : Work) → KeepsValid K R w → IsStore K R → moment ≤ latest_moment → (o : Option Refusal) → verdict late w ≡ o → IsStore K (decided K R moment w o).rows
+valid_kept K R moment late w keeps store legal (Some refusal) e = store
+valid_kept K R moment late w keeps store legal None e = valid_end K R moment w w.lasts legal (keeps store (first_none (ClockBack when late) w.checks e).1)

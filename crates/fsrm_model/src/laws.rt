@@ -27,6 +27,7 @@ ghost use Rattle.fsrm_model.specs.Text.{reply};
 ghost use Rattle.fsrm_model.specs.Tree.{number, under, usage};
 ghost use Rattle.fsrm_model.specs.Valid.{is_tree, IsVolume, are_quotas, AreQuotas, are_tables, AreTables, is_valid, IsStore};
 ghost use Rattle.fsrm_model.specs.ValidRows.{valid_rows, wrong_nodes, wrong_quotas, wrong_tables, wrong_queues, wrong_unvisited};
+ghost use Rattle.fsrm_model.specs.Valued.{is_command};
 ghost use Rattle.fsrm_model.specs.ValidScans.{is_queue, IsQueue, are_left, AreLeft};
 ghost use Rattle.fsrm_model.specs.WorkedRows.{nothing_done, first_files, clock, moves, bad_lines, words_apart, root_and_places, few_nodes, few_name_bytes, folded_names, rounded_usage, nested_quotas, up_to_the_limit, above_the_limit, move_below_a_quota, scan_in_steps, visited_again, out_and_back, out_for_good, scan_refusals, scans_in_turn, quota_options, quota_limits, quota_peaks, quotas_gone};
 
@@ -110,7 +111,7 @@ pub fn quotas()
     ensures peaks { (K : Capacity) (R : Rows) (c : Command) (folder : ℕ) (quota : QuotaRow) → (step K R c).lasting ≡ true → quota_of (step K R c).rows folder ≡ Some quota → counts quota ≡ true → usage K (step K R c).rows.nodes folder ≤ quota.peak }
 {}
 
-/// Which rows are those of a store, as a test and part by part.
+/// Which rows are those of a store, as a test and part by part; and that they stay such.
 pub fn valid()
     ensures whole { (K : Capacity) (R : Rows) → (is_valid K R ≡ true) ↔ IsStore K R }
     ensures nodes { (K : Capacity) (nodes : List NodeRow) → (is_tree K nodes ≡ true) ↔ IsVolume K nodes }
@@ -118,6 +119,8 @@ pub fn valid()
     ensures tables { (R : Rows) → (are_tables R ≡ true) ↔ AreTables R }
     ensures queue { (quotas : List QuotaRow) (queue : List ℕ) → is_ascending folder_of quotas ≡ true → (is_queue quotas queue ≡ true) ↔ IsQueue quotas queue }
     ensures unvisited { (nodes : List NodeRow) (scanned : Option ℕ) (unvisited : List ℕ) → is_ascending number nodes ≡ true → (are_left nodes scanned unvisited ≡ true) ↔ AreLeft nodes scanned unvisited }
+    // A command whose values are in their ranges leaves valid rows, whatever it answers.
+    ensures kept { (K : Capacity) (R : Rows) (c : Command) → IsStore K R → is_command c ≡ true → IsStore K (step K R c).rows }
 {}
 
 /// Rows that are those of a store, and rows in which one thing is wrong.

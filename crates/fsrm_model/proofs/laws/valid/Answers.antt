@@ -1,3 +1,4 @@
+use Rattle.fsrm_model.proofs.EachCommand.{step_valid}
 use Rattle.fsrm_model.proofs.ValidTests.{valid_by_test, test_by_valid, quotas_by_test, test_by_quotas, tables_by_test, test_by_tables, queue_by_test, test_by_queue, left_by_test, test_by_left}
 use Rattle.fsrm_model.proofs.ValidVolume.{volume_of_tree, tree_of_volume}
 use Rattle.fsrm_model.proofs.laws.valid.Goals as goal
@@ -19,3 +20,6 @@ returns-clause-queue c = λ quotas queue asc. (queue_by_test quotas queue, test_
 
 pub returns-clause-unvisited : goal.returns-clause-unvisited
 returns-clause-unvisited c = λ nodes scanned unvisited asc. (left_by_test nodes scanned unvisited, test_by_left nodes scanned unvisited asc)
+
+pub returns-clause-kept : goal.returns-clause-kept
+returns-clause-kept c = step_valid
