@@ -1,52 +1,23 @@
 -- The queue of scans behind a command that gives a quota its state.
-use Rattle.std.proofs.Common.{◌≡◌, ℕ, ◌==◌, Bool, true, false, cond, not, ◌||◌, ◌&&◌, List, [], ◌∷◌, ◌++◌, Option, Some, None, ◌⊎◌, inl, inr, refl, ap, sym, ◌∙◌, subst}
-use Rattle.std.proofs.lemmas.Option.{same_Some}
-use Rattle.std.specs.Prelude.{is_some, map, unwrap_or, option_map, nat_lt, if◌then◌else◌}
-use Rattle.fsrm_model.specs.declared.row.Capacity.{Capacity}
-use Rattle.fsrm_model.specs.declared.row.NodeRow.{NodeRow}
+use Rattle.std.proofs.Common.{◌≡◌, ℕ, ◌==◌, Bool, true, false, cond, not, List, [], ◌∷◌, refl, ap, sym, ◌∙◌, subst}
+use Rattle.std.specs.Prelude.{nat_lt, if◌then◌else◌}
+use Rattle.std.specs.List.{list_all}
 use Rattle.fsrm_model.specs.declared.row.QuotaRow.{QuotaRow}
-use Rattle.fsrm_model.specs.declared.row.QuotaState.{QuotaState}
 use Rattle.fsrm_model.specs.declared.row.Rows.{Rows}
-use Rattle.fsrm_model.specs.Keyed.{row_of, has_row, with_row, with_change, without_row}
-use Rattle.fsrm_model.specs.Numbers.{itself, is_in, each_once, without_number}
-use Rattle.fsrm_model.specs.Quota.{folder_of, counts, peaked}
-use Rattle.fsrm_model.specs.QuotaStates.{is_rebuilding, queued, head, same_head, scan_begun, followed}
-use Rattle.fsrm_model.specs.Scan.{AreUnvisited}
-use Rattle.fsrm_model.specs.Tree.{usage}
-use Rattle.fsrm_model.specs.Valid.{IsStore}
-use Rattle.fsrm_model.specs.ValidScans.{IsQueue, AreLeft}
-use Rattle.fsrm_model.proofs.ChainLaws.{find-with_row_same}
-use Rattle.fsrm_model.proofs.Look.{is_some-find, found_key, found_has, find-map, row_of-change, has_row-change, changed_found, row_of-new_other, has_row-without, has_row-without_other}
-use Rattle.fsrm_model.proofs.TestLaws.{is_or_not, both, both_true, neither, eq_is, eq_same, eq_turned}
+use Rattle.fsrm_model.specs.Keyed.{has_row, with_row, with_change, without_row}
+use Rattle.fsrm_model.specs.Quota.{folder_of}
+use Rattle.fsrm_model.specs.QuotaStates.{queued, same_head, scan_begun, followed}
+use Rattle.fsrm_model.specs.Valid.{is_plain, AreQuotas, IsStore}
+use Rattle.fsrm_model.specs.ValidScans.{IsQueue}
+use Rattle.fsrm_model.proofs.QueueKept.{queue_changed}
+use Rattle.fsrm_model.proofs.RowsKept.{quotas_followed}
+use Rattle.fsrm_model.proofs.TestLaws.{neither, eq_is, eq_same}
 use Rattle.scan_queue.specs.Courses.{Course, Turns, left}
-use Rattle.fsrm_engine.specs.Machine.{Machine, IsSound, AreScans, rows_with, volume_of, with_quotas, with_rows}
+use Rattle.fsrm_engine.specs.Machine.{Machine, IsSound, IsWhole, rows_with, volume_of, with_quotas, with_rows}
 use Rattle.fsrm_engine.proofs.CountingLaws.{put_in}
-use Rattle.fsrm_engine.proofs.PeakLaws.{peaked_folder}
 use Rattle.fsrm_model.proofs.RemoveLaws.{without_absent}
 
--- the rows of a machine are those of a store
-pub left_of : (a : Machine) (s : Course) → AreScans a s → AreLeft a.rows.nodes (head s.queue) (left a.rows.nodes s)
-left_of a s k = at (head s.queue) refl
-  where
-    at : (o : Option ℕ) → head s.queue ≡ o → AreLeft a.rows.nodes o (left a.rows.nodes s)
-    at None e = k.idle e
-    at (Some n) e =
-        let is = k.scanning.active ∙ e in
-        subst (λ n. AreUnvisited a.rows.nodes n (left a.rows.nodes s)) (ap (λ o. unwrap_or o 0) is) (k.scanning.stands (ap is_some is)).are
-
-pub store_of : (a : Machine) (s : Course) → IsSound a.size a.rows → AreScans a s → IsStore a.size (rows_with a s)
-store_of a s sound k = record { volume = sound.volume; quotas = sound.quotas; queue = k.queue; unvisited = left_of a s k }
-
--- the scans of a machine with other quotas, behind a turn of the queue
-turned_idle : (nodes : List NodeRow) (was queue lefts lefts' : List ℕ) → (head was ≡ None → lefts ≡ []) → lefts' ≡ (if same_head was queue then lefts else scan_begun nodes queue) → head queue ≡ None → lefts' ≡ []
-turned_idle nodes [] [] lefts lefts' old is none = is ∙ old refl
-turned_idle nodes (k ∷ was) [] lefts lefts' old is none = is
-turned_idle nodes was (k ∷ queue) lefts lefts' old is none = cc
-
-pub turned : (a : Machine) (s t : Course) (quotas : List QuotaRow) (m : ℕ) → AreScans a s → Turns s t (volume_of a) → IsQueue quotas t.queue → AreScans (record a { rows = record a.rows { quotas = quotas; last_moment = m } }) t
-turned a s t quotas m k turns queue =
-    record { scanning = turns.scanning; queue = queue; idle = turned_idle a.rows.nodes s.queue t.queue (left a.rows.nodes s) (left a.rows.nodes t) k.idle turns.left_is }
-
+-- the rows of a machine with other quotas, behind a turn of the queue
 pub rows_turned : (a : Machine) (s t : Course) (quotas : List QuotaRow) (queue : List ℕ) (m : ℕ) → Turns s t (volume_of a) → t.queue ≡ queue → rows_with (record a { rows = record a.rows { quotas = quotas; last_moment = m } }) t ≡ record (followed (rows_with a s) (record (rows_with a s) { quotas = quotas; queue = queue })) { last_moment = m }
 rows_turned a s t quotas queue m turns is =
     ap (λ l. record a.rows { quotas = quotas; queue = t.queue; unvisited = l; last_moment = m }) turns.left_is
@@ -56,9 +27,15 @@ rows_turned a s t quotas queue m turns is =
 abbrev pub engine_of : Machine → Course → Machine
 engine_of a s = record { size = a.size; rows = rows_with a s; waiting = a.waiting }
 
-pub turned_by : (a b : Machine) (s t : Course) (after : List QuotaRow) (queue : List ℕ) → AreScans a s → Turns s t (volume_of a) → t.queue ≡ queue → b ≡ with_quotas a after → IsQueue after queue → AreScans b t
-turned_by a b s t after queue k turns is made q =
-    subst (λ b. AreScans b t) (sym made) (turned a s t after a.rows.last_moment k turns (subst (IsQueue after) (sym is) q))
+pub turned : (a : Machine) (s t : Course) (quotas : List QuotaRow) (queue : List ℕ) (m : ℕ) → Turns s t (volume_of a) → t.queue ≡ queue → IsStore a.size (record (followed (rows_with a s) (record (rows_with a s) { quotas = quotas; queue = queue })) { last_moment = m }) → IsWhole (record a { rows = record a.rows { quotas = quotas; last_moment = m } }) t
+turned a s t quotas queue m turns is valid =
+    record { scanning = turns.scanning; valid = subst (λ (R : Rows). IsStore a.size R) (sym (rows_turned a s t quotas queue m turns is)) valid }
+
+pub turned_by : (a b : Machine) (s t : Course) (after : List QuotaRow) (queue : List ℕ) → IsWhole a s → Turns s t (volume_of a) → t.queue ≡ queue → b ≡ with_quotas a after → IsSound b.size b.rows → list_all is_plain after ≡ true → IsQueue after queue → IsWhole b t
+turned_by a b s t after queue k turns is made sound plain q =
+    let are : AreQuotas a.rows.nodes after = subst (λ (b : Machine). AreQuotas b.rows.nodes b.rows.quotas) made sound.quotas in
+    subst (λ b. IsWhole b t) (sym made)
+    (turned a s t after queue a.rows.last_moment turns is (quotas_followed a.size (rows_with a s) after queue k.valid are plain q))
 
 pub engine_turned : (a b : Machine) (s t : Course) (after : List QuotaRow) (queue : List ℕ) → Turns s t (volume_of a) → t.queue ≡ queue → b ≡ with_quotas a after → engine_of b t ≡ with_rows (engine_of a s) (followed (rows_with a s) (record (rows_with a s) { quotas = after; queue = queue }))
 engine_turned a b s t after queue turns is made =

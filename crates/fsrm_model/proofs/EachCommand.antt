@@ -15,6 +15,7 @@ use Rattle.fsrm_model.specs.declared.row.NodeRow.{NodeRow}
 use Rattle.fsrm_model.specs.declared.row.QuotaRow.{QuotaRow}
 use Rattle.fsrm_model.specs.declared.row.Rows.{Rows}
 use Rattle.fsrm_model.specs.Exceeds.{Exceeds}
+use Rattle.fsrm_model.specs.Exceptions.{MayLeave}
 use Rattle.fsrm_model.specs.FileOps.{plain}
 use Rattle.fsrm_model.specs.Lasting.{lasting}
 use Rattle.fsrm_model.specs.Named.{IsNamed}
@@ -30,7 +31,7 @@ use Rattle.fsrm_model.proofs.Ends.{effect_nodes}
 use Rattle.fsrm_model.proofs.FileOrderly.{file_orderly, file_limits, usage_still}
 use Rattle.fsrm_model.proofs.FileKept.{file_kept}
 use Rattle.fsrm_model.proofs.Orderly.{IsOrderly, IsStill, KeepsLimits, KeepsValid, still_limits}
-use Rattle.fsrm_model.proofs.OrderlyLaws.{verdict, refused_kept, refused_by, sum_afresh, refusal_exceeds, still_unexceeded, limits_hold, outcome_named, unlasting_kept, valid_kept}
+use Rattle.fsrm_model.proofs.OrderlyLaws.{verdict, refused_kept, nothing_left, refused_by, sum_afresh, refusal_exceeds, still_unexceeded, limits_hold, outcome_named, unlasting_kept, valid_kept}
 use Rattle.fsrm_model.proofs.QuotaKept.{add_kept, modify_kept, delete_kept, reset_kept, list_kept}
 use Rattle.fsrm_model.proofs.QuotaOrderly.{add_still, modify_still, delete_still, reset_still, list_still}
 use Rattle.fsrm_model.proofs.RowsKept.{nothing_followed}
@@ -77,11 +78,17 @@ certified K R moment (QuotaList path) = still (list_still K R path) (λ late leg
 pub orderly : (K : Capacity) (R : Rows) (moment : ℕ) (deed : Deed) → IsOrderly K R (work K R moment deed)
 orderly K R moment deed = (certified K R moment deed).orderly
 
--- a refusal changes nothing
+-- so far a refusal changes nothing; one that does is an exception, and none is one
 pub refused_same : (K : Capacity) (R : Rows) (c : Command) (refusal : Refusal) → (step K R c).outcome ≡ Refused refusal → (step K R c).rows ≡ R
 refused_same K R c refusal h =
     let w = work K R c.moment c.deed in
     refused_kept K R c.moment w (orderly K R c.moment c.deed) (verdict (nat_lt c.moment R.last_moment) w) refusal h
+
+pub refused_or_exception : (K : Capacity) (R : Rows) (c : Command) (refusal : Refusal) → (step K R c).outcome ≡ Refused refusal → ((step K R c).rows ≡ R) ⊎ MayLeave K R c.moment (work K R c.moment c.deed) refusal
+refused_or_exception K R c refusal h = inl (refused_same K R c refusal h)
+
+pub no_exception : (K : Capacity) (R : Rows) (moment : ℕ) (deed : Deed) (refusal : Refusal) → MayLeave K R moment (work K R moment deed) refusal → ⊥
+no_exception K R moment deed refusal may = nothing_left K R moment (work K R moment deed) refusal (orderly K R moment deed) may
 
 pub sum_fresh : (K : Capacity) (R : Rows) (c : Command) (folder bytes : ℕ) → (step K R c).outcome ≡ Sum folder bytes → bytes ≡ sum_by (space K) (under R.nodes folder)
 sum_fresh K R c folder bytes h =
@@ -124,11 +131,16 @@ lasting_kept K R c store h =
     let late = nat_lt c.moment R.last_moment in
     unlasting_kept K R c.moment late w (orderly K R c.moment c.deed) store (verdict late w) refl h
 
--- a valid command leaves valid rows
+-- a command leaves valid rows where its work does
+pub kept_valid : (K : Capacity) (R : Rows) (moment : ℕ) (deed : Deed) → IsStore K R → moment ≤ latest_moment → KeepsValid K R (work K R moment deed) → IsStore K (step K R (record { moment = moment; deed = deed })).rows
+kept_valid K R moment deed store legal kept =
+    let w = work K R moment deed in
+    let late = nat_lt moment R.last_moment in
+    valid_kept K R moment late w kept store legal (verdict late w) refl
+
+-- and where its values are in their ranges
 pub step_valid : (K : Capacity) (R : Rows) (c : Command) → IsStore K R → is_command c ≡ true → IsStore K (step K R c).rows
 step_valid K R c store legal =
-    let w = work K R c.moment c.deed in
-    let late = nat_lt c.moment R.last_moment in
     let values : (is_moment c.moment ≡ true) × (is_deed c.deed ≡ true) = both _ _ legal in
     let moment = le_is c.moment latest_moment values.0 in
-    valid_kept K R c.moment late w ((certified K R c.moment c.deed).kept moment values.1) store moment (verdict late w) refl
+    kept_valid K R c.moment c.deed store moment ((certified K R c.moment c.deed).kept moment values.1)

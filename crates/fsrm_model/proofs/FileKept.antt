@@ -30,7 +30,7 @@ use Rattle.fsrm_model.proofs.Orderly.{KeepsValid, first_none}
 use Rattle.fsrm_model.proofs.OwnLaws.{own_parts, own_joined, own_named, own_new, file_inner, file_short}
 use Rattle.fsrm_model.proofs.QueueKept.{queue_without}
 use Rattle.fsrm_model.proofs.QuotasKept.{quotas_stay, quotas-without}
-use Rattle.fsrm_model.proofs.RowsKept.{valid_with, same_heads, left_followed, left_after, head_folder}
+use Rattle.fsrm_model.proofs.RowsKept.{plain-without, valid_with, same_heads, left_followed, left_after, head_folder}
 use Rattle.fsrm_model.proofs.Sizes.{name_bytes-new, name_bytes-placed}
 use Rattle.fsrm_model.proofs.TestLaws.{both, not_true, clash, eq_is, le_is, le_test, lt_test}
 use Rattle.fsrm_model.proofs.UnvisitedKept.{unvisited-new, unvisited-change, unvisited-moved, unvisited-removed}
@@ -41,7 +41,7 @@ nodes_followed : (K : Capacity) (R : Rows) (new : List NodeRow) (after : ℕ →
 nodes_followed K R new after s volume folders unvisited =
     let left = option_map_or after (head R.queue) [] in
     valid_with K R new R.quotas R.queue (if same_head R.queue R.queue then left else scan_begun new R.queue) R.last_moment s volume
-    (quotas_stay R.nodes new R.quotas s.quotas (λ f q found is. folders f is)) s.queue
+    (quotas_stay R.nodes new R.quotas s.quotas (λ f q found is. folders f is)) s.tables.plain s.queue
     (left_followed K new R.queue R.queue left volume (λ same. left_after R.nodes new (head R.queue) R.unvisited after s.unvisited unvisited))
     s.last_moment
 
@@ -177,6 +177,7 @@ remove_kept K R path moment s h =
     (quotas_stay R.nodes new quotas (quotas-without R.nodes R.quotas x s.quotas) (λ f q found is.
     let apart : (f == x) ≡ false = not_true (f == x) (λ e. clash _ (subst (λ k. has_row folder_of k quotas ≡ true) (eq_is f x e) (found_has folder_of f quotas q found)) (has_row-without folder_of x R.quotas)) in
     ap (λ o. option_map_or (λ node. node.folder) o false) (row_of-without number x f R.nodes apart) ∙ is))
+    (plain-without x R.quotas s.tables.plain)
     (queue_without R.quotas R.queue x s.queue)
     (left_followed K new R.queue queue left volume (λ same. subst (λ (o : Option ℕ). AreLeft new o left) (same_heads R.queue queue same) stays))
     s.last_moment

@@ -25,7 +25,7 @@ use Rattle.fsrm_model.proofs.Orderly.{KeepsValid, first_none, when_none}
 use Rattle.fsrm_model.proofs.QueueKept.{queue_added, queue_changed, queue_same, queue_without}
 use Rattle.fsrm_model.proofs.QuotaOrderly.{quota_there}
 use Rattle.fsrm_model.proofs.QuotasKept.{quota_at, quotas-new, quotas-change, quotas-without}
-use Rattle.fsrm_model.proofs.RowsKept.{quotas_followed, nothing_followed}
+use Rattle.fsrm_model.proofs.RowsKept.{plain-new, plain-change, plain-without, quotas_followed, nothing_followed}
 use Rattle.fsrm_model.proofs.TestLaws.{ge_is, le_test}
 
 pub add_kept : (K : Capacity) (R : Rows) (moment : ℕ) (path : List (List ℕ)) (limit : ℕ) (enforce enabled : Bool) → is_limit limit ≡ true → moment ≤ latest_moment → KeepsValid K R (add_work R moment path limit enforce enabled)
@@ -41,7 +41,8 @@ add_kept K R moment path limit enforce enabled legal late s h =
     let few : length (with_row folder_of quota R.quotas) ≤ most_quotas = ge_is _ _ (when_none TableFull (nat_lt most_quotas (length (with_row folder_of quota R.quotas))) c.0) in
     quotas_followed K R (with_row folder_of quota R.quotas) (queued R.queue folder quota.state) s
     (quotas-new R.nodes R.quotas quota s.quotas absent (omega (arith, length-with_row folder_of quota R.quotas, few)) (folder_at R.nodes path a.0)
-    (record { limit = legal; moment = le_test moment latest_moment late; plain = refl }))
+    (record { limit = legal; moment = le_test moment latest_moment late }))
+    (plain-new quota R.quotas refl s.tables.plain)
     (queue_added R.quotas R.queue quota s.queue absent)
 
 -- another limit is one
@@ -54,7 +55,7 @@ pub state_quotas : (K : Capacity) (R : Rows) (folder : ℕ) (state : QuotaState)
 state_quotas K R folder state quotas a =
     quotas-change R.nodes quotas folder (in_state state) a (λ q. refl) (λ q found.
     let is = quota_at R.nodes quotas folder q a found in
-    record { limit = is.limit; moment = is.moment; plain = is.plain })
+    record { limit = is.limit; moment = is.moment })
 
 pub modify_kept : (K : Capacity) (R : Rows) (path : List (List ℕ)) (limit : Option ℕ) (enforce enabled : Option Bool) → option_map_or is_limit limit true ≡ true → KeepsValid K R (modify_work R path limit enforce enabled)
 modify_kept K R path limit enforce enabled legal s h =
@@ -65,9 +66,10 @@ modify_kept K R path limit enforce enabled legal s h =
     let state = state_after R folder enabled in
     let are = quotas-change R.nodes R.quotas folder change s.quotas (λ q. refl) (λ q found.
     let is = quota_at R.nodes R.quotas folder q s.quotas found in
-    record { limit = limit_kept limit q.limit legal is.limit; moment = is.moment; plain = is.plain }) in
+    record { limit = limit_kept limit q.limit legal is.limit; moment = is.moment }) in
     quotas_followed K R (with_change folder_of folder (in_state state) quotas) (queued R.queue folder state) s
     (state_quotas K R folder state quotas are)
+    (plain-change folder (in_state state) quotas (λ q is. is) (plain-change folder change R.quotas (λ q is. is) s.tables.plain))
     (queue_changed quotas R.queue folder state (in_state state) (queue_same R.quotas R.queue folder change (λ q. refl) (λ q. refl) s.queue)
     (has_row-change folder_of folder change (λ q. refl) folder R.quotas ∙ there) (λ q. refl) (λ q. refl))
 
@@ -75,7 +77,7 @@ pub delete_kept : (K : Capacity) (R : Rows) (path : List (List ℕ)) → KeepsVa
 delete_kept K R path s h =
     let folder = target R.nodes path in
     quotas_followed K R (without_row folder_of folder R.quotas) (without_number folder R.queue) s
-    (quotas-without R.nodes R.quotas folder s.quotas) (queue_without R.quotas R.queue folder s.queue)
+    (quotas-without R.nodes R.quotas folder s.quotas) (plain-without folder R.quotas s.tables.plain) (queue_without R.quotas R.queue folder s.queue)
 
 pub reset_kept : (K : Capacity) (R : Rows) (moment : ℕ) (path : List (List ℕ)) → moment ≤ latest_moment → KeepsValid K R (reset_work K R moment path)
 reset_kept K R moment path late s h =
@@ -83,7 +85,8 @@ reset_kept K R moment path late s h =
     quotas_followed K R (with_change folder_of folder (reset K R moment) R.quotas) R.queue s
     (quotas-change R.nodes R.quotas folder (reset K R moment) s.quotas (λ q. refl) (λ q found.
     let is = quota_at R.nodes R.quotas folder q s.quotas found in
-    record { limit = is.limit; moment = le_test moment latest_moment late; plain = is.plain }))
+    record { limit = is.limit; moment = le_test moment latest_moment late }))
+    (plain-change folder (reset K R moment) R.quotas (λ q is. is) s.tables.plain)
     (queue_same R.quotas R.queue folder (reset K R moment) (λ q. refl) (λ q. refl) s.queue)
 
 -- a list leaves them as they are

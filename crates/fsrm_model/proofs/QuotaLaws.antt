@@ -125,7 +125,7 @@ pub peaks_last : (K : Capacity) (R : Rows) (c : Command) (folder : ℕ) (quota :
 peaks_last K R c folder quota lasting there counting =
     by (work K R c.moment c.deed) (first ((ClockBack when nat_lt c.moment R.last_moment) ∷ (work K R c.moment c.deed).checks)) lasting there
   where
-    ended : (w : Work) (lasts : Bool) → (if lasts then lasted K (unacted (followed R w.effect)) c.moment w.outcome else unlasting (followed R w.effect) w.outcome).lasting ≡ true → quota_of (if lasts then lasted K (unacted (followed R w.effect)) c.moment w.outcome else unlasting (followed R w.effect) w.outcome).rows folder ≡ Some quota → usage K (if lasts then lasted K (unacted (followed R w.effect)) c.moment w.outcome else unlasting (followed R w.effect) w.outcome).rows.nodes folder ≤ quota.peak
+    ended : (w : Work) (lasts : Bool) → (if lasts then lasted K R (unacted (followed R w.effect)) c.moment w.outcome else unlasting (followed R w.effect) w.outcome).lasting ≡ true → quota_of (if lasts then lasted K R (unacted (followed R w.effect)) c.moment w.outcome else unlasting (followed R w.effect) w.outcome).rows folder ≡ Some quota → usage K (if lasts then lasted K R (unacted (followed R w.effect)) c.moment w.outcome else unlasting (followed R w.effect) w.outcome).rows.nodes folder ≤ quota.peak
     ended w true l t = peaks_raised K (followed R w.effect) c.moment folder quota t counting
     ended w false l t = absurd (clash false l refl)
 

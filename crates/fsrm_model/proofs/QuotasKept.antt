@@ -10,7 +10,7 @@ use Rattle.fsrm_model.specs.Keyed.{row_of, has_row, is_ascending, with_row, with
 use Rattle.fsrm_model.specs.Limits.{most_quotas}
 use Rattle.fsrm_model.specs.Quota.{folder_of, is_limit, counts, peaked}
 use Rattle.fsrm_model.specs.Tree.{is_folder, usage}
-use Rattle.fsrm_model.specs.Valid.{is_moment, is_plain, AreQuotas}
+use Rattle.fsrm_model.specs.Valid.{is_moment, AreQuotas}
 use Rattle.fsrm_model.proofs.Look.{new_found, changed_found, row_of-without, has_row-without, found_has, find-map}
 use Rattle.fsrm_model.proofs.Order.{ascending-with_row, ascending-change, ascending-filter, ascending-map, length-with_row, length-change}
 use Rattle.fsrm_model.proofs.QuotaLaws.{peaked_folder}
@@ -20,11 +20,10 @@ use Rattle.fsrm_model.proofs.TestLaws.{is_or_not, clash, eq_is}
 pub record IsQuota (quota : QuotaRow) : Type 0 where
   pub limit : is_limit quota.limit ≡ true
   pub moment : is_moment quota.peak_at ≡ true
-  pub plain : is_plain quota ≡ true
 
 pub quota_at : (nodes : List NodeRow) (quotas : List QuotaRow) (folder : ℕ) (quota : QuotaRow) → AreQuotas nodes quotas → row_of folder_of folder quotas ≡ Some quota → IsQuota quota
 quota_at nodes quotas folder quota a found =
-    record { limit = a.limits folder quota found; moment = a.moments folder quota found; plain = a.plain folder quota found }
+    record { limit = a.limits folder quota found; moment = a.moments folder quota found }
 
 quotas_of : (nodes : List NodeRow) (quotas : List QuotaRow) → is_ascending folder_of quotas ≡ true → length quotas ≤ most_quotas → ((folder : ℕ) (quota : QuotaRow) → row_of folder_of folder quotas ≡ Some quota → (is_folder nodes folder ≡ true) × IsQuota quota) → AreQuotas nodes quotas
 quotas_of nodes quotas asc few each =
@@ -34,7 +33,6 @@ quotas_of nodes quotas asc few each =
       folders = λ f q found. (each f q found).0;
       limits = λ f q found. (each f q found).1.limit;
       moments = λ f q found. (each f q found).1.moment;
-      plain = λ f q found. (each f q found).1.plain;
     }
 
 -- one more
@@ -89,7 +87,7 @@ peaked_is : (K : Capacity) (nodes : List NodeRow) (m : ℕ) (q : QuotaRow) → i
 peaked_is K nodes m q late is = at (counts q && nat_lt q.peak (usage K nodes q.folder))
   where
     at : (b : Bool) → IsQuota (cond b (record q { peak = usage K nodes q.folder; peak_at = m }) q)
-    at true = record { limit = is.limit; moment = late; plain = is.plain }
+    at true = record { limit = is.limit; moment = late }
     at false = is
 
 pub quotas-peaked : (K : Capacity) (nodes : List NodeRow) (quotas : List QuotaRow) (m : ℕ) → AreQuotas nodes quotas → is_moment m ≡ true → AreQuotas nodes (map (peaked K nodes m) quotas)

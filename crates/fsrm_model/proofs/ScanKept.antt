@@ -19,7 +19,7 @@ use Rattle.fsrm_model.proofs.Orderly.{KeepsValid, first_none, when_none}
 use Rattle.fsrm_model.proofs.QueueKept.{queue_changed}
 use Rattle.fsrm_model.proofs.QuotaKept.{state_quotas}
 use Rattle.fsrm_model.proofs.QuotaOrderly.{quota_there}
-use Rattle.fsrm_model.proofs.RowsKept.{valid_with, same_heads, left_followed, left_visits, quotas_followed, head_in}
+use Rattle.fsrm_model.proofs.RowsKept.{plain-change, valid_with, same_heads, left_followed, left_visits, quotas_followed, head_in}
 
 -- the first checks of a scan are those of a quota
 scan_there : (R : Rows) (path : List (List ℕ)) → first (scan_work R path).checks ≡ None → has_row folder_of (target R.nodes path) R.quotas ≡ true
@@ -37,6 +37,7 @@ scan_kept K R path s h =
     let folder = target R.nodes path in
     quotas_followed K R (with_change folder_of folder (in_state Rebuilding) R.quotas) (queued R.queue folder Rebuilding) s
     (state_quotas K R folder Rebuilding R.quotas s.quotas)
+    (plain-change folder (in_state Rebuilding) R.quotas (λ q is. is) s.tables.plain)
     (queue_changed R.quotas R.queue folder Rebuilding (in_state Rebuilding) s.queue (scan_there R path h) (λ q. refl) (λ q. refl))
 
 -- where scans wait, one is the first
@@ -69,10 +70,11 @@ step_kept K R n s h =
         let queue = queued R.queue scanned Complete in
         valid_with K R R.nodes (with_change folder_of scanned (in_state Complete) R.quotas) queue (if same_head R.queue queue then left else scan_begun R.nodes queue) R.last_moment s s.volume
         (state_quotas K R scanned Complete R.quotas s.quotas)
+        (plain-change scanned (in_state Complete) R.quotas (λ q is. is) s.tables.plain)
         (queue_changed R.quotas R.queue scanned Complete (in_state Complete) s.queue there (λ q. refl) (λ q. refl))
         (left_followed K R.nodes R.queue queue left s.volume (still queue))
         s.last_moment
     by false there =
-        valid_with K R R.nodes R.quotas R.queue (if same_head R.queue R.queue then left else scan_begun R.nodes R.queue) R.last_moment s s.volume s.quotas s.queue
+        valid_with K R R.nodes R.quotas R.queue (if same_head R.queue R.queue then left else scan_begun R.nodes R.queue) R.last_moment s s.volume s.quotas s.tables.plain s.queue
         (left_followed K R.nodes R.queue R.queue left s.volume (still R.queue))
         s.last_moment

@@ -1,11 +1,12 @@
 -- The test of a store's rows says the same as what they have part by part.
-use Rattle.std.proofs.Common.{◌≡◌, ℕ, ◌==◌, Bool, true, false, not, ◌||◌, ◌&&◌, List, [], ◌∷◌, length, refl, sym, ◌∙◌, ap, subst, Some, None, Option, nat_le}
+use Rattle.std.proofs.Common.{◌<◌, ◌≡◌, ℕ, arith, ◌==◌, Bool, true, false, not, ◌||◌, ◌&&◌, List, [], ◌∷◌, length, refl, sym, ◌∙◌, ap, subst, Some, None, Option, nat_le}
 use Rattle.std.specs.List.{list_all}
 use Rattle.std.specs.Option.{option_map_or}
 use Rattle.fsrm_model.specs.declared.row.Capacity.{Capacity}
 use Rattle.fsrm_model.specs.declared.row.NodeRow.{NodeRow}
 use Rattle.fsrm_model.specs.declared.row.QuotaRow.{QuotaRow}
 use Rattle.fsrm_model.specs.declared.row.Rows.{Rows}
+use Rattle.fsrm_model.specs.Fresh.{new_rows}
 use Rattle.fsrm_model.specs.Keyed.{row_of, has_row, is_ascending}
 use Rattle.fsrm_model.specs.Limits.{most_minutes, most_quotas, most_text_bytes}
 use Rattle.fsrm_model.specs.Numbers.{is_in, is_set, each_once}
@@ -19,7 +20,7 @@ use Rattle.fsrm_model.specs.ValidScans.{is_waiting, is_queue, IsQueue, are_left,
 use Rattle.fsrm_model.proofs.Keeps.{folder_found, found_folder}
 use Rattle.fsrm_model.proofs.Look.{found_key, found_has, has_found}
 use Rattle.fsrm_model.proofs.Members.{all_pass, all_found}
-use Rattle.fsrm_model.proofs.TestLaws.{both, both_true, implied, is_false, eq_is, eq_same, le_is, le_test, or_later, same_tests}
+use Rattle.fsrm_model.proofs.TestLaws.{both, both_true, implied, is_false, eq_is, eq_same, le_is, le_test, lt_test, or_later, same_tests}
 use Rattle.fsrm_model.proofs.ValidLaws.{found_parent}
 use Rattle.fsrm_model.proofs.ValidVolume.{volume_of_tree, tree_of_volume}
 
@@ -44,20 +45,12 @@ record QuotaParts (nodes : List NodeRow) (quota : QuotaRow) : Type 0 where
   folder : is_folder nodes quota.folder ≡ true
   limit : is_limit quota.limit ≡ true
   moment : is_moment quota.peak_at ≡ true
-  plain : is_plain quota ≡ true
 
 quota_parts : (nodes : List NodeRow) (quota : QuotaRow) → is_sound_quota nodes quota ≡ true → QuotaParts nodes quota
 quota_parts nodes quota h =
-    let halves : ((is_folder nodes quota.folder && is_limit quota.limit) ≡ true) × ((is_moment quota.peak_at && is_plain quota) ≡ true) = both _ _ h in
-    let place : (is_folder nodes quota.folder ≡ true) × (is_limit quota.limit ≡ true) = both _ _ halves.0 in
-    let rest : (is_moment quota.peak_at ≡ true) × (is_plain quota ≡ true) = both _ _ halves.1 in
-    record { folder = place.0; limit = place.1; moment = rest.0; plain = rest.1 }
-
-quota_joined : (nodes : List NodeRow) (quota : QuotaRow) → QuotaParts nodes quota → is_sound_quota nodes quota ≡ true
-quota_joined nodes quota p =
-    both_true (is_folder nodes quota.folder && is_limit quota.limit) (is_moment quota.peak_at && is_plain quota)
-    (both_true (is_folder nodes quota.folder) (is_limit quota.limit) p.folder p.limit)
-    (both_true (is_moment quota.peak_at) (is_plain quota) p.moment p.plain)
+    let place : (is_folder nodes quota.folder ≡ true) × ((is_limit quota.limit && is_moment quota.peak_at) ≡ true) = both _ _ h in
+    let values : (is_limit quota.limit ≡ true) × (is_moment quota.peak_at ≡ true) = both _ _ place.1 in
+    record { folder = place.0; limit = values.0; moment = values.1 }
 
 pub quotas_by_test : (nodes : List NodeRow) (quotas : List QuotaRow) → are_quotas nodes quotas ≡ true → AreQuotas nodes quotas
 quotas_by_test nodes quotas h =
@@ -70,7 +63,6 @@ quotas_by_test nodes quotas h =
       folders = λ f q found. subst (λ n. is_folder nodes n ≡ true) (found_key folder_of f quotas q found) (parts f q found).folder;
       limits = λ f q found. (parts f q found).limit;
       moments = λ f q found. (parts f q found).moment;
-      plain = λ f q found. (parts f q found).plain;
     }
 
 pub test_by_quotas : (nodes : List NodeRow) (quotas : List QuotaRow) → AreQuotas nodes quotas → are_quotas nodes quotas ≡ true
@@ -78,7 +70,8 @@ test_by_quotas nodes quotas a =
     both_true (is_ascending folder_of quotas && nat_le (length quotas) most_quotas) (list_all (is_sound_quota nodes) quotas)
     (both_true (is_ascending folder_of quotas) (nat_le (length quotas) most_quotas) a.ascending (le_test _ _ a.few))
     (all_pass folder_of (is_sound_quota nodes) quotas a.ascending (λ q own.
-    quota_joined nodes q (record { folder = a.folders q.folder q own; limit = a.limits q.folder q own; moment = a.moments q.folder q own; plain = a.plain q.folder q own })))
+    both_true (is_folder nodes q.folder) (is_limit q.limit && is_moment q.peak_at) (a.folders q.folder q own)
+    (both_true (is_limit q.limit) (is_moment q.peak_at) (a.limits q.folder q own) (a.moments q.folder q own))))
 
 -- the queue
 waiting_has : (quotas : List QuotaRow) (folder : ℕ) (o : Option QuotaRow) → row_of folder_of folder quotas ≡ o → option_map_or (λ quota. is_rebuilding quota.state) o false ≡ true → has_row folder_of folder quotas ≡ true
@@ -168,26 +161,31 @@ empty_is (x ∷ xs) h = absurd (cc h)
 
 pub tables_by_test : (R : Rows) → are_tables R ≡ true → AreTables R
 tables_by_test R h =
-    let halves : ((is_empty R.templates && (is_empty R.autos && is_empty R.groups)) ≡ true) × (((is_empty R.screens && (is_empty R.excepts && is_empty R.jobs)) && (is_empty R.acts && is_empty R.audits)) ≡ true) = both _ _ h in
+    let three = is_empty R.templates && (is_empty R.autos && is_empty R.groups) in
+    let six = is_empty R.screens && (is_empty R.excepts && is_empty R.jobs) in
+    let both_logs = is_empty R.acts && is_empty R.audits in
+    let quotas : (list_all is_plain R.quotas ≡ true) × ((three && (six && both_logs)) ≡ true) = both _ _ h in
+    let halves : (three ≡ true) × ((six && both_logs) ≡ true) = both _ _ quotas.1 in
     let one : (is_empty R.templates ≡ true) × ((is_empty R.autos && is_empty R.groups) ≡ true) = both _ _ halves.0 in
     let two : (is_empty R.autos ≡ true) × (is_empty R.groups ≡ true) = both _ _ one.1 in
-    let rest : ((is_empty R.screens && (is_empty R.excepts && is_empty R.jobs)) ≡ true) × ((is_empty R.acts && is_empty R.audits) ≡ true) = both _ _ halves.1 in
-    let three : (is_empty R.screens ≡ true) × ((is_empty R.excepts && is_empty R.jobs) ≡ true) = both _ _ rest.0 in
-    let four : (is_empty R.excepts ≡ true) × (is_empty R.jobs ≡ true) = both _ _ three.1 in
+    let rest : (six ≡ true) × (both_logs ≡ true) = both _ _ halves.1 in
+    let four : (is_empty R.screens ≡ true) × ((is_empty R.excepts && is_empty R.jobs) ≡ true) = both _ _ rest.0 in
+    let five : (is_empty R.excepts ≡ true) × (is_empty R.jobs ≡ true) = both _ _ four.1 in
     let logs : (is_empty R.acts ≡ true) × (is_empty R.audits ≡ true) = both _ _ rest.1 in
     record {
+      plain = quotas.0;
       templates = empty_is R.templates one.0;
       autos = empty_is R.autos two.0;
       groups = empty_is R.groups two.1;
-      screens = empty_is R.screens three.0;
-      excepts = empty_is R.excepts four.0;
-      jobs = empty_is R.jobs four.1;
+      screens = empty_is R.screens four.0;
+      excepts = empty_is R.excepts five.0;
+      jobs = empty_is R.jobs five.1;
       acts = empty_is R.acts logs.0;
       audits = empty_is R.audits logs.1;
     }
 
 pub test_by_tables : (R : Rows) → AreTables R → are_tables R ≡ true
-test_by_tables R t = rw (t.templates, t.autos, t.groups, t.screens, t.excepts, t.jobs, t.acts, t.audits) refl
+test_by_tables R t = rw (t.plain, t.templates, t.autos, t.groups, t.screens, t.excepts, t.jobs, t.acts, t.audits) refl
 
 -- all of it
 pub valid_by_test : (K : Capacity) (R : Rows) → is_valid K R ≡ true → IsStore K R
@@ -226,3 +224,7 @@ test_by_valid K R s =
   where
     joined : (a b c d e f g i : Bool) → a ≡ true → b ≡ true → c ≡ true → d ≡ true → e ≡ true → f ≡ true → g ≡ true → i ≡ true → ((a && (b && c)) && ((d && (e && f)) && (g && i))) ≡ true
     joined a b c d e f g i ha hb hc hd he hf hg hi = rw (ha, hb, hc, hd, he, hf, hg, hi) refl
+
+-- the rows of a new store are valid
+pub new_valid : (K : Capacity) → 0 < K.nodes → IsStore K new_rows
+new_valid K some = valid_by_test K new_rows (rw (lt_test 0 K.nodes some, le_test 0 K.names (omega arith)) refl)

@@ -21,7 +21,9 @@ pub mod Leads
 pub mod FileWork
 pub mod QuotaWork
 pub mod ScanWork
+pub mod Due
 pub mod Step
+pub mod Exceptions
 pub mod Named
 pub mod Cost
 pub mod Date

@@ -63,18 +63,10 @@ pub record IsVolume (K : Capacity) (nodes : List NodeRow) : Type 0 where
   pub alone : (n m : ℕ) (r s : NodeRow) → node_of nodes n ≡ Some r → node_of nodes m ≡ Some s → (n == 0) ≡ false → (m == 0) ≡ false → s.parent ≡ r.parent → same_name s.name r.name ≡ true → m ≡ n
   pub names : name_bytes nodes ≤ K.names
 
-abbrev pub is_empty : {X : Type 0} → List X → Bool
-is_empty [] = true
-is_empty (x ∷ xs) = false
-
--- a quota without what no command gives it so far
-abbrev pub is_plain : QuotaRow → Bool
-is_plain quota = is_empty quota.thresholds && is_none quota.template
-
 -- a quota's folder is there, and its values are in their ranges
 abbrev pub is_sound_quota : List NodeRow → QuotaRow → Bool
 is_sound_quota nodes quota =
-    (is_folder nodes quota.folder && is_limit quota.limit) && (is_moment quota.peak_at && is_plain quota)
+    is_folder nodes quota.folder && (is_limit quota.limit && is_moment quota.peak_at)
 
 -- the quotas of a store with these nodes: in the order of their folders' numbers, each on another folder
 abbrev pub are_quotas : List NodeRow → List QuotaRow → Bool
@@ -88,15 +80,23 @@ pub record AreQuotas (nodes : List NodeRow) (quotas : List QuotaRow) : Type 0 wh
   pub folders : (folder : ℕ) (quota : QuotaRow) → row_of folder_of folder quotas ≡ Some quota → is_folder nodes folder ≡ true
   pub limits : (folder : ℕ) (quota : QuotaRow) → row_of folder_of folder quotas ≡ Some quota → is_limit quota.limit ≡ true
   pub moments : (folder : ℕ) (quota : QuotaRow) → row_of folder_of folder quotas ≡ Some quota → is_moment quota.peak_at ≡ true
-  pub plain : (folder : ℕ) (quota : QuotaRow) → row_of folder_of folder quotas ≡ Some quota → is_plain quota ≡ true
 
--- the other tables, and the logs: no command fills them so far
+abbrev pub is_empty : {X : Type 0} → List X → Bool
+is_empty [] = true
+is_empty (x ∷ xs) = false
+
+-- What no command fills so far is empty: a quota's thresholds and its template, the other tables, the logs
+abbrev pub is_plain : QuotaRow → Bool
+is_plain quota = is_empty quota.thresholds && is_none quota.template
+
 abbrev pub are_tables : Rows → Bool
 are_tables R =
-    (is_empty R.templates && (is_empty R.autos && is_empty R.groups))
-    && ((is_empty R.screens && (is_empty R.excepts && is_empty R.jobs)) && (is_empty R.acts && is_empty R.audits))
+    list_all is_plain R.quotas
+    && ((is_empty R.templates && (is_empty R.autos && is_empty R.groups))
+    && ((is_empty R.screens && (is_empty R.excepts && is_empty R.jobs)) && (is_empty R.acts && is_empty R.audits)))
 
 pub record AreTables (R : Rows) : Type 0 where
+  pub plain : list_all is_plain R.quotas ≡ true
   pub templates : R.templates ≡ []
   pub autos : R.autos ≡ []
   pub groups : R.groups ≡ []

@@ -1,5 +1,5 @@
 use Rattle.fsrm_model.proofs.EachCommand.{step_valid}
-use Rattle.fsrm_model.proofs.ValidTests.{valid_by_test, test_by_valid, quotas_by_test, test_by_quotas, tables_by_test, test_by_tables, queue_by_test, test_by_queue, left_by_test, test_by_left}
+use Rattle.fsrm_model.proofs.ValidTests.{valid_by_test, test_by_valid, quotas_by_test, test_by_quotas, tables_by_test, test_by_tables, queue_by_test, test_by_queue, left_by_test, test_by_left, new_valid}
 use Rattle.fsrm_model.proofs.ValidVolume.{volume_of_tree, tree_of_volume}
 use Rattle.fsrm_model.proofs.laws.valid.Goals as goal
 
@@ -23,3 +23,6 @@ returns-clause-unvisited c = λ nodes scanned unvisited asc. (left_by_test nodes
 
 pub returns-clause-kept : goal.returns-clause-kept
 returns-clause-kept c = step_valid
+
+pub returns-clause-new : goal.returns-clause-new
+returns-clause-new c = new_valid
