@@ -1,5 +1,5 @@
 -- An engine, and what it keeps of accounts, as the plain machine sees them.
-use Rattle.std.specs.Prelude.{◌≡◌, ℕ, ◌≤◌, true, List, [], map, filter, Some, None}
+use Rattle.std.specs.Prelude.{◌≡◌, ℕ, ◌≤◌, true, List, map, filter, Some}
 use Rattle.fsrm_model.specs.declared.command.Act.{Act}
 use Rattle.fsrm_model.specs.declared.command.Answer.{Answer}
 use Rattle.fsrm_model.specs.declared.command.Command.{Command}
@@ -11,10 +11,10 @@ use Rattle.fsrm_model.specs.Capacities.{is_capacity}
 use Rattle.fsrm_model.specs.Fresh.{rows_of_nodes}
 use Rattle.fsrm_base.specs.Keyed.{row_of, with_change}
 use Rattle.fsrm_model.specs.Quota.{folder_of, counts, peaked, peaks}
-use Rattle.fsrm_model.specs.QuotaStates.{followed, head, queued}
+use Rattle.fsrm_model.specs.QuotaStates.{followed, queued}
 use Rattle.fsrm_model.specs.Step.{Stepped, step}
 use Rattle.fsrm_model.specs.Tree.{usage}
-use Rattle.fsrm_model.specs.Valid.{IsVolume, AreQuotas, IsQueue}
+use Rattle.fsrm_model.specs.Valid.{IsVolume, AreQuotas, IsStore}
 use Rattle.quota_usage.specs.declared.change.Counter.{Counter}
 use Rattle.scan_queue.specs.Courses.{Course, Scanning, left}
 use Rattle.volume_tree.specs.Volume.{Volume}
@@ -82,11 +82,10 @@ pub record IsSound (K : Capacity) (R : Rows) : Type 0 where
 abbrev pub IsLevel : Machine → Type 0
 IsLevel machine = (moment : ℕ) → machine.rows.quotas ≡ map (peaked machine.size machine.rows.nodes moment) machine.rows.quotas
 
--- The scans that wait are those of the rebuilding quotas, and the active one goes on over the machine's nodes
-pub record AreScans (machine : Machine) (course : Course) : Type 0 where
+-- An engine of these accounts and scans: the active scan goes on over the machine's nodes, and the rows are valid
+pub record IsWhole (machine : Machine) (course : Course) : Type 0 where
   pub scanning : ScansOf machine course
-  pub queue : IsQueue machine.rows.quotas course.queue
-  pub idle : head course.queue ≡ None → left machine.rows.nodes course ≡ []
+  pub valid : IsStore machine.size (rows_with machine course)
 
 -- what the files at and below a quota's folder take
 abbrev pub counter_of : Capacity → List NodeRow → QuotaRow → Counter

@@ -47,13 +47,13 @@ pub struct Engine {
 
 impl Model for Engine {
     ghost use Rattle.std.specs.Prelude.{[]};
-    ghost use Rattle.fsrm_engine.specs.Machine.{Machine, rows_with, AreScans};
+    ghost use Rattle.fsrm_engine.specs.Machine.{Machine, rows_with, IsWhole};
 
     ghost Value = { Machine };
 
     ghost view = { λ e. record { size = e.accounts.size; rows = rows_with e.accounts e.scans; waiting = e.accounts.waiting } };
 
-    ghost invariant = { λ e. AreScans e.accounts e.scans };
+    ghost invariant = { λ e. IsWhole e.accounts e.scans };
 }
 
 impl Engine {

@@ -16,7 +16,7 @@ ghost use Rattle.scan_queue.specs.Courses.{Scanning, Turns};
 ghost use Rattle.volume_tree.specs.Volume.{Volume};
 ghost use Rattle.fsrm_model.specs.QuotaWork.{new_quota, modified};
 ghost use Rattle.fsrm_model.specs.Step.{step};
-ghost use Rattle.fsrm_model.specs.Valid.{IsStore, is_moment};
+ghost use Rattle.fsrm_model.specs.Valid.{IsStore, is_moment, is_plain};
 ghost use Rattle.fsrm_engine.specs.Machine.{Takes, IsLevel, with_rows, with_other};
 ghost use Rattle.fsrm_engine.specs.Places.{IsFolderAt};
 
@@ -132,6 +132,7 @@ impl Engine {
         requires folder { is_folder self.old.rows.nodes row.folder ≡ true }
         requires limit { is_limit row.limit ≡ true }
         requires moment { is_moment row.peak_at ≡ true }
+        requires plain { is_plain row ≡ true }
         requires nothing { counts row ≡ true → usage self.old.size self.old.rows.nodes row.folder ≡ 0 }
         ensures listed { OnOk result (self.new ≡ with_rows self.old (followed self.old.rows (with_quota self.old.rows row))) }
         ensures level { OnOk result (IsLevel self.new) }
@@ -155,6 +156,7 @@ impl Engine {
         requires folder { is_folder self.old.rows.nodes row.folder ≡ true }
         requires limit { is_limit row.limit ≡ true }
         requires moment { is_moment row.peak_at ≡ true }
+        requires plain { is_plain row ≡ true }
         requires peak { (quota : QuotaRow) → row_of folder_of row.folder self.old.rows.quotas ≡ Some quota → row.peak ≡ quota.peak }
         requires nothing { (quota : QuotaRow) → row_of folder_of row.folder self.old.rows.quotas ≡ Some quota → counts quota ≡ false → counts row ≡ true → usage self.old.size self.old.rows.nodes row.folder ≡ 0 }
         ensures replaced { OnOk result (self.new ≡ with_rows self.old (followed self.old.rows (with_other self.old.rows row))) }
@@ -183,7 +185,8 @@ impl Engine {
 
     // The answer to a command that was done, whose moment is now the last.
     fn done(&mut self, moment: u64) -> Answer
-        requires { IsStore self.old.size self.old.rows }
+        requires store { IsStore self.old.size self.old.rows }
+        requires moment { moment ≤ latest_moment }
         ensures rows { self.new ≡ with_rows self.old (record self.old.rows { last_moment = moment }) }
         ensures answer { result ≡ record { outcome = Done None; lasting = true } }
         ensures kept { IsStore self.new.size self.new.rows }

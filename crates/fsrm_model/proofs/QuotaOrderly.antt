@@ -32,7 +32,7 @@ some_there : (o : Option QuotaRow) → is_none o ≡ false → is_some o ≡ tru
 some_there None h = absurd (cc h)
 some_there (Some quota) h = refl
 
-quota_there : (R : Rows) (path : List (List ℕ)) → first (quota_checks R path) ≡ None → has_row folder_of (target R.nodes path) R.quotas ≡ true
+pub quota_there : (R : Rows) (path : List (List ℕ)) → first (quota_checks R path) ≡ None → has_row folder_of (target R.nodes path) R.quotas ≡ true
 quota_there R path h =
     let o = quota_of R (target R.nodes path) in
     let rest = first_none (PathNotFound when not (leads_to_folder R.nodes path)) ((NotFound when is_none o) ∷ []) h in

@@ -50,3 +50,11 @@ most_quotas = 4096
 -- how many visits one step of a scan may make
 abbrev pub most_visits : ℕ
 most_visits = 1000000
+
+-- the bytes of all texts of objects: names of templates, groups and jobs, patterns, texts of actions, and the like
+abbrev pub most_text_bytes : ℕ
+most_text_bytes = 4194304
+
+-- the greatest run limit of actions, in minutes
+abbrev pub most_minutes : ℕ
+most_minutes = 525600

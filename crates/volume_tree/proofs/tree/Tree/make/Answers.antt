@@ -8,7 +8,8 @@ use Rattle.fsrm_model.specs.Limits.{most_nodes}
 use Rattle.std.specs.Prelude.{insert}
 use Rattle.fsrm_model.specs.Name.{is_name}
 use Rattle.volume_tree.specs.Kept.{IsPlace}
-use Rattle.volume_tree.proofs.KeptLaws.{few_order, free_near, free_lacks, free_few, next_of, own_new, kept_made, inserted_is}
+use Rattle.volume_tree.proofs.KeptLaws.{few_order, free_near, free_lacks, free_few, next_of, kept_made, inserted_is}
+use Rattle.fsrm_model.proofs.OwnLaws.{own_new}
 use Rattle.volume_tree.proofs.tree.Tree.make.Goals as goal
 
 pub search-requires-clause-few : goal.search-requires-clause-few
