@@ -55,8 +55,8 @@ move_changes K nodes quotas x d name view bytes v qs s m moved =
     subst (λ (p : ℕ). Changes K nodes (moved_nodes nodes x d name) quotas (move_change p d bytes)) (found_parent nodes x s.row s.found ∙ sym s.is.parent)
     (changes_moved K nodes quotas x d name bytes v qs m moved)
 
-pub move_done : (v w : Volume) (quotas : List QuotaRow) (tables : Tables) (counters charged_are : List Counter) (x d : ℕ) (name : List ℕ) (view : NodeView) (bytes m : ℕ) → IsEngine v.size v.nodes quotas counters → Shows view v.nodes x → MovesTo v.nodes x d → IsMoved v.size v.nodes quotas x bytes → w ≡ with_place v x d name → IsVolume w.size w.nodes → m ≤ 4102444799 →
-    charged_are ≡ map (charged_counter w.nodes (move_change view.parent d bytes)) counters → tables ≡ record { quotas = map (raised_above w.nodes (Some d) charged_are m) quotas } → ChargedTo v w quotas tables.quotas charged_are m
+pub move_done : {level : Bool} (v w : Volume) (quotas : List QuotaRow) (tables : Tables) (counters charged_are : List Counter) (x d : ℕ) (name : List ℕ) (view : NodeView) (bytes m : ℕ) → IsEngine v.size v.nodes quotas counters level → Shows view v.nodes x → MovesTo v.nodes x d → IsMoved v.size v.nodes quotas x bytes → w ≡ with_place v x d name → IsVolume w.size w.nodes → m ≤ 4102444799 →
+    charged_are ≡ map (charged_counter w.nodes (move_change view.parent d bytes)) counters → tables ≡ record { quotas = map (raised_above w.nodes (Some d) charged_are m) quotas } → ChargedTo v w quotas tables.quotas charged_are m level
 move_done v w quotas tables counters charged_are x d name view bytes m e s to moved made kept late charging raising =
     charged_at v w (moved_nodes v.nodes x d name) quotas tables counters charged_are (move_change view.parent d bytes) m made e kept
     (λ f q found was. placed_folder v.nodes x d name f was)
@@ -120,11 +120,11 @@ room_seen v quotas last old from to n view k h =
     subst (λ (o : Machine). 7 * length (under v.nodes n) ≤ 7 + op_cost o.rows.nodes (Move from to)) view (move_room v.size v.nodes from to n k h)
 
 -- what moves fits, on the old ways up and on the new
-pub move_fits : (v : Volume) (quotas : List QuotaRow) (counters : List Counter) (x d : ℕ) (name : List ℕ) (view : NodeView) (bytes : ℕ) → IsEngine v.size v.nodes quotas counters → Shows view v.nodes x → MovesTo v.nodes x d → IsMoved v.size v.nodes quotas x bytes → Fits v.nodes counters (move_change view.parent d bytes)
+pub move_fits : {level : Bool} (v : Volume) (quotas : List QuotaRow) (counters : List Counter) (x d : ℕ) (name : List ℕ) (view : NodeView) (bytes : ℕ) → IsEngine v.size v.nodes quotas counters level → Shows view v.nodes x → MovesTo v.nodes x d → IsMoved v.size v.nodes quotas x bytes → Fits v.nodes counters (move_change view.parent d bytes)
 move_fits v quotas counters x d name view bytes e s to moved =
     fits_moved v.size v.nodes quotas counters x d name (move_change view.parent d bytes) e.volume e.legal e.are_quotas e.sums (move_changes v.size v.nodes quotas x d name view bytes e.volume e.are_quotas s to moved)
 
-pub moved_fits : (v w : Volume) (quotas : List QuotaRow) (counters : List Counter) (x d : ℕ) (name : List ℕ) (view : NodeView) (bytes : ℕ) → IsEngine v.size v.nodes quotas counters → Shows view v.nodes x → MovesTo v.nodes x d → IsMoved v.size v.nodes quotas x bytes → w ≡ with_place v x d name → Fits w.nodes counters (move_change view.parent d bytes)
+pub moved_fits : {level : Bool} (v w : Volume) (quotas : List QuotaRow) (counters : List Counter) (x d : ℕ) (name : List ℕ) (view : NodeView) (bytes : ℕ) → IsEngine v.size v.nodes quotas counters level → Shows view v.nodes x → MovesTo v.nodes x d → IsMoved v.size v.nodes quotas x bytes → w ≡ with_place v x d name → Fits w.nodes counters (move_change view.parent d bytes)
 moved_fits v w quotas counters x d name view bytes e s to moved made =
     subst (λ (u : Volume). Fits u.nodes counters (move_change view.parent d bytes)) (sym made)
     (fits_new v.size v.nodes (moved_nodes v.nodes x d name) quotas counters (move_change view.parent d bytes) (move_changes v.size v.nodes quotas x d name view bytes e.volume e.are_quotas s to moved)

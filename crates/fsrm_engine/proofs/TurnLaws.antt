@@ -18,7 +18,7 @@ use Rattle.fsrm_model.proofs.ChainLaws.{find-with_row_same}
 use Rattle.fsrm_model.proofs.Look.{is_some-find, found_key, found_has, find-map, row_of-change, has_row-change, changed_found, row_of-new_other, has_row-without, has_row-without_other}
 use Rattle.fsrm_model.proofs.TestLaws.{is_or_not, both, both_true, neither, eq_is, eq_same, eq_turned}
 use Rattle.scan_queue.specs.Courses.{Course, Turns, left}
-use Rattle.fsrm_engine.specs.Machine.{Machine, IsSound, AreScans, rows_with, volume_of, with_quotas, with_rows}
+use Rattle.fsrm_engine.specs.Machine.{Machine, IsSound, AreScans, rows_with, volume_of, with_quotas, with_rows, settled}
 use Rattle.fsrm_engine.proofs.CountingLaws.{put_in}
 use Rattle.fsrm_engine.proofs.PeakLaws.{peaked_folder}
 use Rattle.fsrm_model.proofs.RemoveLaws.{without_absent}
@@ -223,6 +223,11 @@ queue_peaked K nodes m quotas queue k =
     by_row f q None h e = cc
     by_row f q (Some r) h e =
         k.rebuilding f r h ∙ ap is_rebuilding (sym (peaked_state K nodes m r) ∙ ap (λ (q : QuotaRow). q.state) (same_Some (peaked K nodes m r) q e))
+
+-- the scans of a machine after the end of a command
+pub scans_settled : (a b : Machine) (s : Course) (m : ℕ) → AreScans a s → b ≡ settled a m → AreScans b s
+scans_settled a b s m k made =
+    subst (λ b. AreScans b s) (sym made) (record { scanning = k.scanning; queue = queue_peaked a.size a.rows.nodes m a.rows.quotas s.queue k.queue; idle = k.idle })
 
 -- a quota that was added and taken away again
 pub with_and_without : (row : QuotaRow) (quotas : List QuotaRow) → has_row folder_of row.folder quotas ≡ false → without_row folder_of row.folder (with_row folder_of row quotas) ≡ quotas

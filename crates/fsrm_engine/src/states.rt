@@ -17,7 +17,7 @@ ghost use Rattle.volume_tree.specs.Volume.{Volume};
 ghost use Rattle.fsrm_model.specs.QuotaWork.{new_quota, modified};
 ghost use Rattle.fsrm_model.specs.Step.{step};
 ghost use Rattle.fsrm_model.specs.Valid.{IsStore, is_moment};
-ghost use Rattle.fsrm_engine.specs.Machine.{Takes, IsLevel, with_rows, with_other};
+ghost use Rattle.fsrm_engine.specs.Machine.{Takes, with_rows, with_other, settled};
 ghost use Rattle.fsrm_engine.specs.Places.{IsFolderAt};
 
 use crate::counting::is_counting;
@@ -134,7 +134,6 @@ impl Engine {
         requires moment { is_moment row.peak_at ≡ true }
         requires nothing { counts row ≡ true → usage self.old.size self.old.rows.nodes row.folder ≡ 0 }
         ensures listed { OnOk result (self.new ≡ with_rows self.old (followed self.old.rows (with_quota self.old.rows row))) }
-        ensures level { OnOk result (IsLevel self.new) }
         ensures err { OnErr result (self.new ≡ self.old) }
         ensures kept { OnOk result (IsStore self.new.size self.new.rows) }
     {
@@ -158,7 +157,6 @@ impl Engine {
         requires peak { (quota : QuotaRow) → row_of folder_of row.folder self.old.rows.quotas ≡ Some quota → row.peak ≡ quota.peak }
         requires nothing { (quota : QuotaRow) → row_of folder_of row.folder self.old.rows.quotas ≡ Some quota → counts quota ≡ false → counts row ≡ true → usage self.old.size self.old.rows.nodes row.folder ≡ 0 }
         ensures replaced { OnOk result (self.new ≡ with_rows self.old (followed self.old.rows (with_other self.old.rows row))) }
-        ensures level { OnOk result (IsLevel self.new) }
         ensures err { OnErr result (self.new ≡ self.old) }
         ensures kept { OnOk result (IsStore self.new.size self.new.rows) }
     {
@@ -172,7 +170,6 @@ impl Engine {
         requires there { has_row folder_of folder self.old.rows.quotas ≡ true }
         requires folder { is_folder self.old.rows.nodes folder ≡ true }
         ensures rebuilt { OnOk result (self.new ≡ with_rows self.old (followed self.old.rows (with_state self.old.rows folder Rebuilding))) }
-        ensures level { OnOk result (IsLevel self.new) }
         ensures err { OnErr result (self.new ≡ self.old) }
         ensures kept { OnOk result (IsStore self.new.size self.new.rows) }
     {
@@ -181,10 +178,10 @@ impl Engine {
         Ok(())
     }
 
-    // The answer to a command that was done, whose moment is now the last.
+    // The answer to a command of this moment that was done.
     fn done(&mut self, moment: u64) -> Answer
-        requires { IsStore self.old.size self.old.rows }
-        ensures rows { self.new ≡ with_rows self.old (record self.old.rows { last_moment = moment }) }
+        requires { moment ≤ latest_moment }
+        ensures rows { self.new ≡ settled self.old moment }
         ensures answer { result ≡ record { outcome = Done None; lasting = true } }
         ensures kept { IsStore self.new.size self.new.rows }
     {

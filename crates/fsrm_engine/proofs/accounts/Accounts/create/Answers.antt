@@ -7,7 +7,7 @@ use Rattle.fsrm_engine.proofs.StepLaws.{done_at, refused_at, refused_by_at}
 use Rattle.fsrm_engine.proofs.PlaceLaws.{place_within, place_depth}
 use Rattle.fsrm_engine.proofs.NewLaws.{create_due}
 use Rattle.fsrm_engine.proofs.FitLaws.{fits_plus}
-use Rattle.fsrm_engine.proofs.GrowthLaws.{owned, admitted, refused_by_quota, due_none, due_some, stored}
+use Rattle.fsrm_engine.proofs.GrowthLaws.{owned, admitted, refused_by_quota, due_none, due_some}
 use Rattle.fsrm_engine.proofs.MakeLaws.{make_changes, make_done, make_effect, made_height, there_made}
 use Rattle.fsrm_model.specs.declared.command.Answer.{Answer}
 use Rattle.fsrm_engine.proofs.FollowLaws.{is_made, back_scans, within_scans, scans_at, nodes_at, left_back, made_length, made_chain}
@@ -75,14 +75,6 @@ returns-in-Ok-create-clause-ok g c =
     ∙ due_none (new_fault v c.in-Ok.place.folder c.in-Ok.place.name.now) _ c.in-Ok-create.ensures.may (admitted v quotas last c.self.inside.usage _ _ c.self.invariant changes c.in_default.ensures.admitted))
     (make_effect v c.create.new.self quotas last c.args.moment c.args.path.now c.args.length c.args.owner c.in-Ok.place.folder c.in-Ok.place.name.now p c.in-Ok-create.ensures.made) refl refl (ap (λ (u : Volume). u.size) c.in-Ok-create.ensures.made)
     d.raised_are c.done.ensures.rows c.done.ensures.answer
-
-pub returns-in-Ok-create-clause-kept : goal.returns-in-Ok-create-clause-kept
-returns-in-Ok-create-clause-kept g c =
-    let v = c.self.inside.tree in
-    let p = place_within v _ _ _ _ _ _ c.self.view_is c.in-Ok.ensures.ok in
-    stored c.create.new.self c.charge.new.objects.quotas c.charge.new.usage c.args.moment c.done.new.self
-    (make_done v c.create.new.self c.self.inside.objects.quotas c.charge.new.objects c.self.inside.usage c.charge.new.usage c.in-Ok.place.folder c.in-Ok.place.name.now c.args.length c.args.owner c.args.moment c.allocated.result
-    c.self.invariant p.folder_is (c.allocated.ensures.space v.size) c.in-Ok-create.ensures.made c.in-Ok-create.ensures.kept c.requires.moment c.charge.ensures.counters c.charge.ensures.quotas).engine c.done.ensures.rows
 
 pub returns-in-Ok-create-clause-looks : goal.returns-in-Ok-create-clause-looks
 returns-in-Ok-create-clause-looks g c =

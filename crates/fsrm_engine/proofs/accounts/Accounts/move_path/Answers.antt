@@ -6,7 +6,7 @@ use Rattle.volume_tree.specs.Volume.{Volume, move_fault}
 use Rattle.fsrm_engine.proofs.StepLaws.{done_at, refused_at, refused_by_same}
 use Rattle.fsrm_engine.proofs.PlaceLaws.{place_within, place_depth, has_resolved}
 use Rattle.fsrm_engine.proofs.MoveLaws.{move_due, move_root, stray_due}
-use Rattle.fsrm_engine.proofs.GrowthLaws.{owned, admitted, refused_by_quota, due_none, due_some, stored}
+use Rattle.fsrm_engine.proofs.GrowthLaws.{owned, admitted, refused_by_quota, due_none, due_some}
 use Rattle.fsrm_engine.proofs.MoveKept.{moves_to, move_changes, move_done, move_effect, below_due, from_height, to_height, left_height, parent_there, there_moved, room_seen, move_fits, moved_fits}
 use Rattle.std.proofs.Common.{◌≡◌, ◌==◌, true, false, None, subst}
 use Rattle.fsrm_model.specs.declared.command.Answer.{Answer}
@@ -165,15 +165,6 @@ returns-in-Ok-ready_move-clause-ok g c =
     ∙ due_none (move_fault v c.in-Some.node c.in-Ok.place.folder c.in-Ok.place.name.now) _ c.in-Ok-ready_move.ensures.may (admitted v quotas last c.self.inside.usage _ _ c.self.invariant changes c.in_default-admit.ensures.admitted))
     (move_effect v c.make_move.new.self quotas last c.args.moment c.args.from.now c.args.to.now c.in-Some.node c.in-Ok.place.folder c.in-Ok.place.name.now (sym c.in-Some.ensures.value) p (made_ready _ _ _ _ _ _ c.in-Ok-ready_move.ensures.ready c.make_move.ensures.made)) refl refl (ap (λ (u : Volume). u.size) (made_ready _ _ _ _ _ _ c.in-Ok-ready_move.ensures.ready c.make_move.ensures.made))
     d.raised_are c.done.ensures.rows c.done.ensures.answer
-
-pub returns-in-Ok-ready_move-clause-kept : goal.returns-in-Ok-ready_move-clause-kept
-returns-in-Ok-ready_move-clause-kept g c =
-    let v = c.self.inside.tree in
-    let p = place_within v _ _ _ _ _ _ c.self.view_is c.in-Ok.ensures.ok in
-    let to = moves_to v.nodes c.in-Some.node c.in-Ok.place.folder c.node.result c.is_at_or_below.result c.node.ensures.view (is_inner _ c.if-node-eq0.false) p.folder_is c.is_at_or_below.ensures.below c.if-is_at_or_below.false in
-    stored c.make_move.new.self c.charge.new.objects.quotas c.charge.new.usage c.args.moment c.done.new.self
-    (move_done v c.make_move.new.self c.self.inside.objects.quotas c.charge.new.objects c.self.inside.usage c.charge.new.usage c.in-Some.node c.in-Ok.place.folder c.in-Ok.place.name.now c.node.result c.in_ok-bytes.bytes c.args.moment
-    c.self.invariant c.node.ensures.view to c.in_ok-bytes.ensures.bytes (made_ready _ _ _ _ _ _ c.in-Ok-ready_move.ensures.ready c.make_move.ensures.made) c.make_move.ensures.kept c.requires.moment c.charge.ensures.counters c.charge.ensures.quotas).engine c.done.ensures.rows
 
 pub returns-in-Ok-ready_move-clause-looks : goal.returns-in-Ok-ready_move-clause-looks
 returns-in-Ok-ready_move-clause-looks g c =

@@ -10,7 +10,7 @@ use Rattle.fsrm_model.specs.QuotaStates.{start, with_quota}
 use Rattle.fsrm_model.specs.QuotaWork.{new_quota}
 use Rattle.fsrm_model.specs.Tree.{usage}
 use Rattle.fsrm_engine.proofs.PlaceLaws.{target_is}
-use Rattle.fsrm_engine.proofs.StateLaws.{settled, add_checks, table_is, table_has, lacks_of, first_empty, empty_folder}
+use Rattle.fsrm_engine.proofs.StateLaws.{done_settled, add_checks, table_is, table_has, lacks_of, first_empty, empty_folder}
 use Rattle.fsrm_engine.proofs.WholeLaws.{refused_whole}
 use Rattle.fsrm_engine.proofs.engine.Engine.quota_add.Goals as goal
 
@@ -46,10 +46,10 @@ returns-clause-ok g c =
     let n = c.in-Some.folder in
     let at = c.in-Some.ensures.folder in
     let absent = lacks_of (λ q. q.state) R.quotas n c.state.result c.state.ensures (sym c.is_some.ensures ∙ c.if-is_some.false) in
-    settled c.args.self.now c.enlist.new.self c.done.new.self c.args.moment (QuotaAdd c.args.path.now c.args.limit c.args.enforce c.args.enabled) c.done.result (with_quota R c.new_quota-row.result) c.in-Some.ensures.idle c.requires.late
+    done_settled c.args.self.now c.enlist.new.self c.done.new.self c.args.moment (QuotaAdd c.args.path.now c.args.limit c.args.enforce c.args.enabled) c.done.result (with_quota R c.new_quota-row.result) c.in-Some.ensures.idle c.requires.late
     (add_checks R c.args.path.now n false (λ k. new_quota k c.args.limit c.args.enforce (if c.args.enabled then start R.nodes k else Disabled) c.args.moment) at absent
     (table_has R.quotas _ c.quota_count.result c.quota_count.ensures c.if-quota_count-ge-MOST_QUOTAS.false))
     (ap (λ k. with_quota R (new_quota k c.args.limit c.args.enforce (if c.args.enabled then start R.nodes k else Disabled) c.args.moment)) (target_is R.nodes c.args.path.now n at.resolved)
     ∙ (ap (λ s. with_quota R (new_quota n c.args.limit c.args.enforce s c.args.moment)) (sym c.first_state-state.ensures.state)
     ∙ ap (with_quota R) (sym c.new_quota-row.ensures)))
-    refl refl c.in_ok-enlist.ensures.listed c.in_ok-enlist.ensures.level c.done.ensures.rows c.done.ensures.answer
+    refl refl c.in_ok-enlist.ensures.listed c.done.ensures.rows c.done.ensures.answer
