@@ -1,8 +1,8 @@
 -- Files that are made, or get another length, and moves: what quotas refuse, and what is kept.
 use Rattle.std.proofs.Common.{◌≡◌, ℕ, ◌≤◌, Bool, true, false, cond, List, [], ◌∷◌, length, Option, Some, None, nat_le, refl, ap, sym, ◌∙◌, subst, arith}
 use Rattle.std.proofs.lemmas.Bool.Decides.{nat_tests}
-use Rattle.std.specs.Prelude.{map, unwrap_or, not}
-use Rattle.std.specs.Option.{option_and_then, option_map_or}
+use Rattle.std.specs.Prelude.{map, not}
+use Rattle.std.specs.Option.{option_map_or}
 use Rattle.fsrm_model.specs.declared.command.Deed.TheVariants.{File}
 use Rattle.fsrm_model.specs.declared.command.FileOp.TheVariants.{Resize}
 use Rattle.fsrm_model.specs.declared.command.Refusal.{Refusal}
@@ -12,7 +12,7 @@ use Rattle.fsrm_model.specs.declared.row.NodeRow.{NodeRow}
 use Rattle.fsrm_model.specs.declared.row.QuotaRow.{QuotaRow}
 use Rattle.fsrm_model.specs.Check.{Check, ◌when◌, first}
 use Rattle.fsrm_model.specs.FileOps.{target, resized, made_node, placed}
-use Rattle.fsrm_model.specs.Keyed.{row_of, has_row, with_row, with_change}
+use Rattle.fsrm_base.specs.Keyed.{row_of, has_row, with_row, with_change}
 use Rattle.fsrm_model.specs.Leads.{leads_to_file}
 use Rattle.fsrm_model.specs.Quota.{folder_of, exceeded, peaked}
 use Rattle.fsrm_model.specs.Space.{alloc, space}
@@ -21,10 +21,10 @@ use Rattle.fsrm_model.specs.Valid.{IsVolume, AreQuotas, is_moment}
 use Rattle.fsrm_model.proofs.ChangeLaws.{KeepsPlace, chain-change}
 use Rattle.fsrm_model.proofs.Climbs.{shorter}
 use Rattle.fsrm_model.proofs.Resolves.{resolved}
-use Rattle.fsrm_model.proofs.Look.{has_row-change}
+use Rattle.fsrm_base.proofs.Look.{has_row-change}
 use Rattle.fsrm_model.proofs.Keeps.{tree_of, found_folder, folder-new, folder-change}
-use Rattle.fsrm_model.proofs.Order.{least_free_is}
-use Rattle.fsrm_model.proofs.TestLaws.{clash, both}
+use Rattle.fsrm_base.proofs.Order.{least_free_is}
+use Rattle.fsrm_base.proofs.TestLaws.{clash, both}
 use Rattle.fsrm_objects.specs.Tables.{Tables}
 use Rattle.quota_usage.specs.declared.change.Change.{Change}
 use Rattle.quota_usage.specs.declared.change.Counter.{Counter}
@@ -34,11 +34,11 @@ use Rattle.quota_usage.specs.Counters.{counted}
 use Rattle.volume_tree.specs.declared.answer.NodeView.{NodeView}
 use Rattle.volume_tree.specs.declared.answer.TreeFault.{TreeFault}
 use Rattle.volume_tree.specs.Volume.{Volume, with_length}
-use Rattle.fsrm_engine.specs.Faults.{exceeded_refusal, refusal_of}
+use Rattle.fsrm_engine.specs.Faults.{exceeded_refusal}
 use Rattle.fsrm_engine.specs.Machine.{rows_at, sums_of, IsEngine}
 use Rattle.fsrm_engine.specs.Peaks.{raised_above}
 use Rattle.fsrm_engine.specs.Places.{IsFile}
-use Rattle.fsrm_engine.proofs.StepLaws.{asked_of, due, tree_first, last_check, some_first}
+use Rattle.fsrm_engine.proofs.StepLaws.{asked_of, due, tree_first, last_check}
 use Rattle.fsrm_engine.proofs.PlaceLaws.{target_is}
 use Rattle.fsrm_engine.proofs.SumLaws.{sums_has}
 use Rattle.fsrm_engine.proofs.ChangeLaws.{Changes, changes_resized}
@@ -135,8 +135,8 @@ refused_by_quota v quotas last counters new change x e c h = one_exceeded v.size
 pub due_none : (o : Option TreeFault) (more : Option Refusal) → o ≡ None → more ≡ None → tree_first o more ≡ None
 due_none o more h n = ap (λ o. tree_first o more) h ∙ n
 
-pub due_some : (o : Option TreeFault) (more : Option Refusal) (x : Exceeded) (refusal : Refusal) → more ≡ Some (exceeded_refusal x) → refusal ≡ unwrap_or (option_and_then refusal_of o) (exceeded_refusal x) → tree_first o more ≡ Some refusal
-due_some o more x refusal h is = ap (tree_first o) h ∙ (some_first (option_and_then refusal_of o) (exceeded_refusal x) ∙ ap Some (sym is))
+pub due_quota : (o : Option TreeFault) (more : Option Refusal) (x : Exceeded) → o ≡ None → more ≡ Some (exceeded_refusal x) → tree_first o more ≡ Some (exceeded_refusal x)
+due_quota o more x h is = ap (λ o. tree_first o more) h ∙ is
 
 -- the folders of quotas stay folders
 pub resized_folder : (nodes : List NodeRow) (x bytes m f : ℕ) → is_folder nodes f ≡ true → is_folder (with_change number x (resized bytes m) nodes) f ≡ true

@@ -1,22 +1,20 @@
 -- A node that moves: what quotas refuse, and what is kept.
-use Rattle.std.proofs.Common.{◌≡◌, ℕ, ◌+◌, ◌*◌, ◌≤◌, ◌==◌, Bool, true, false, List, [], ◌∷◌, length, Some, refl, ap, sym, ◌∙◌, subst, arith}
+use Rattle.std.proofs.Common.{◌≡◌, ℕ, ◌+◌, ◌*◌, ◌≤◌, ◌==◌, Bool, true, false, List, [], ◌∷◌, length, Option, Some, None, refl, ap, sym, ◌∙◌, subst, arith}
 use Rattle.std.specs.Prelude.{map, nat_lt, if◌then◌else◌}
 use Rattle.fsrm_model.specs.declared.command.Deed.TheVariants.{File}
 use Rattle.fsrm_model.specs.declared.command.FileOp.TheVariants.{Move}
-use Rattle.fsrm_model.specs.declared.command.Refusal.TheVariants.{InvalidMove}
 use Rattle.fsrm_model.specs.declared.row.Capacity.{Capacity}
 use Rattle.fsrm_model.specs.declared.row.NodeRow.{NodeRow}
 use Rattle.fsrm_model.specs.declared.row.QuotaRow.{QuotaRow}
 use Rattle.fsrm_model.specs.Cost.{op_cost}
 use Rattle.fsrm_model.specs.FileOps.{placed}
-use Rattle.fsrm_model.specs.Keyed.{has_row, with_change}
+use Rattle.fsrm_base.specs.Keyed.{has_row, with_change}
 use Rattle.fsrm_model.specs.Leads.{leads_to_folder}
-use Rattle.fsrm_model.specs.Quota.{exceeded}
 use Rattle.fsrm_model.specs.Tree.{number, name_of, parent_of, is_folder, is_under, under, chain, resolve, child_number, name_bytes}
 use Rattle.fsrm_model.specs.Valid.{IsVolume, AreQuotas}
 use Rattle.fsrm_model.proofs.Climbs.{shorter}
 use Rattle.fsrm_model.proofs.Keeps.{tree_of}
-use Rattle.fsrm_model.proofs.Look.{has_row-change, found_has, has_found}
+use Rattle.fsrm_base.proofs.Look.{has_row-change, found_has, has_found}
 use Rattle.fsrm_model.proofs.Resolves.{resolved}
 use Rattle.fsrm_model.proofs.UsageLaws.{count_of_file}
 use Rattle.fsrm_objects.specs.Tables.{Tables}
@@ -24,15 +22,16 @@ use Rattle.quota_usage.specs.declared.change.Change.{Change}
 use Rattle.quota_usage.specs.declared.change.Counter.{Counter}
 use Rattle.quota_usage.specs.Charge.{charged_counter, Fits}
 use Rattle.volume_tree.specs.declared.answer.NodeView.{NodeView}
-use Rattle.volume_tree.specs.Volume.{Volume, Shows, with_place, fault_if, first_fault, is_other}
+use Rattle.volume_tree.specs.Volume.{Volume, Shows, with_place, fault_if, first_fault, is_other, move_fault}
+use Rattle.volume_tree.specs.declared.answer.TreeFault.{TreeFault}
 use Rattle.volume_tree.specs.declared.answer.TreeFault.TheVariants as fault
 use Rattle.fsrm_engine.specs.Machine.{rows_at, IsEngine}
 use Rattle.fsrm_engine.specs.Peaks.{raised_above}
 use Rattle.fsrm_engine.specs.Places.{IsPlace, IsMoved}
 use Rattle.fsrm_engine.specs.Machine.{Machine}
-use Rattle.fsrm_engine.proofs.StepLaws.{asked_of, due, machine, tree_first}
+use Rattle.fsrm_engine.proofs.StepLaws.{asked_of, machine}
 use Rattle.fsrm_engine.proofs.PlaceLaws.{leads_to_folder_is, target_is}
-use Rattle.fsrm_engine.proofs.MoveLaws.{moved_is, move_due}
+use Rattle.fsrm_engine.proofs.MoveLaws.{moved_is}
 use Rattle.fsrm_engine.proofs.ChangeLaws.{Changes, MovesTo, changes_moved, moved_chain_to, moved_chain_from, not_zero}
 use Rattle.fsrm_engine.proofs.FitLaws.{fits_moved, fits_new}
 use Rattle.fsrm_engine.proofs.GrowthLaws.{ChargedTo, charged_at, placed_folder}
@@ -67,12 +66,13 @@ pub move_effect : (v w : Volume) (quotas : List QuotaRow) (last m : ℕ) (from t
 move_effect v w quotas last m from to n d name h p made =
     ap (λ (u : Volume). rows_at u.nodes quotas last) (sym (made ∙ moved_is v from to n d name h p))
 
--- a folder's place at or below itself is refused at once
-pub below_due : (v : Volume) (quotas : List QuotaRow) (last m : ℕ) (from to : List (List ℕ)) (n d : ℕ) (name : List ℕ) (below : Bool) → IsVolume v.size v.nodes → resolve v.nodes from ≡ Some n → (n == 0) ≡ false → IsPlace v.nodes to d name → below ≡ is_under v.nodes n d → below ≡ true → due v quotas last m (File (Move from to)) ≡ Some InvalidMove
-below_due v quotas last m from to n d name below k h inner p is is_below =
-    let over = exceeded v.size (rows_at v.nodes quotas last) (with_place v n d name).nodes in
-    move_due v quotas last m from to n d name k h inner p
-    ∙ ap (λ b. tree_first (first_fault (fault_if fault.InvalidMove b ∷ fault_if fault.AlreadyExists (is_other (child_number v.nodes d name) n) ∷ fault_if fault.NamesFull (nat_lt (v.size.names + length (name_of v.nodes n)) (name_bytes v.nodes + length name)) ∷ [])) over) (sym is ∙ is_below)
+-- where a move is ready its folder isn't at or below what moves
+pub ready_apart : (v : Volume) (n d : ℕ) (name : List ℕ) → move_fault v n d name ≡ None → is_under v.nodes n d ≡ false
+ready_apart v n d name h = at (is_under v.nodes n d) (fault_if fault.AlreadyExists (is_other (child_number v.nodes d name) n) ∷ fault_if fault.NamesFull (nat_lt (v.size.names + length (name_of v.nodes n)) (name_bytes v.nodes + length name)) ∷ []) h
+  where
+    at : (b : Bool) (more : List (Option TreeFault)) → first_fault (fault_if fault.InvalidMove b ∷ more) ≡ None → b ≡ false
+    at true more h = cc
+    at false more h = refl
 
 -- how high the two folders are, before and after
 pub from_height : (K : Capacity) (nodes : List NodeRow) (path : List (List ℕ)) (n : ℕ) (view : NodeView) → IsVolume K nodes → resolve nodes path ≡ Some n → (n == 0) ≡ false → Shows view nodes n → length (chain nodes view.parent) ≤ length path

@@ -11,23 +11,23 @@ use Rattle.fsrm_model.specs.declared.row.NodeRow.{NodeRow}
 use Rattle.fsrm_model.specs.declared.row.QuotaRow.{QuotaRow}
 use Rattle.fsrm_model.specs.Check.{◌when◌, first}
 use Rattle.fsrm_model.specs.FileOps.{target}
-use Rattle.fsrm_model.specs.Keyed.{row_of, has_row, with_change}
+use Rattle.fsrm_base.specs.Keyed.{row_of, has_row, with_change}
 use Rattle.fsrm_model.specs.Leads.{leads_to_folder}
 use Rattle.fsrm_model.specs.Limits.{latest_moment}
 use Rattle.fsrm_model.specs.Quota.{folder_of, counts, peaked}
 use Rattle.fsrm_model.specs.QuotaWork.{quota_checks, reset}
 use Rattle.fsrm_model.specs.Step.{step}
 use Rattle.fsrm_model.specs.Tree.{usage}
-use Rattle.fsrm_model.proofs.Look.{found_key, found_has, has_found}
+use Rattle.fsrm_base.proofs.Look.{found_key, found_has, has_found}
 use Rattle.fsrm_objects.specs.Tables.{peaked_at}
-use Rattle.fsrm_model.proofs.SortedRows.{has_lent}
+use Rattle.fsrm_base.proofs.SortedRows.{has_lent}
 use Rattle.quota_usage.specs.declared.change.Counter.{Counter}
 use Rattle.quota_usage.specs.Counters.{used_in}
 use Rattle.volume_tree.specs.Volume.{Volume}
 use Rattle.fsrm_engine.specs.Machine.{Machine, Takes, rows_at, IsEngine}
 use Rattle.fsrm_engine.specs.Places.{IsFolder}
 use Rattle.fsrm_engine.proofs.PlaceLaws.{target_is, leads_to_folder_is}
-use Rattle.fsrm_model.proofs.RowLaws.{change_same}
+use Rattle.fsrm_base.proofs.RowLaws.{change_same}
 use Rattle.fsrm_engine.proofs.StepLaws.{machine, asked_of, due, done_at}
 use Rattle.fsrm_engine.proofs.SumLaws.{used_found, sums_kept}
 use Rattle.fsrm_engine.proofs.CountingLaws.{is_moment_of, engine_changed}

@@ -1,7 +1,4 @@
 pub mod Limits
-pub mod Keyed
-pub mod Numbers
-pub mod Order
 pub mod Name
 pub mod Space
 pub mod Tree
@@ -32,5 +29,4 @@ pub mod Spelling
 pub mod Script
 pub mod WorkedRows
 pub mod Patterns
-pub mod Places
 pub mod Lasting

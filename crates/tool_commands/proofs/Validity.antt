@@ -19,7 +19,7 @@ use Rattle.fsrm_model.specs.Quota.{is_limit}
 use Rattle.fsrm_model.specs.Reading.{Read, ◌>>=◌, guarded, known, is_number, number_from, path_from, path_parts, has_path_form, limit_from, digits_of, bytes_of, choice_from}
 use Rattle.fsrm_model.specs.Valued.{is_path, is_owner, is_length, is_deed, is_command}
 use Rattle.fsrm_model.specs.Words.{Word, words}
-use Rattle.fsrm_model.proofs.TestLaws.{both_true}
+use Rattle.fsrm_base.proofs.TestLaws.{both_true}
 
 -- what is read passes the test
 abbrev Gives : {X : Type 0} → (X → Bool) → Read X → Type 0
