@@ -1,8 +1,8 @@
 -- Files that are made, or get another length, and moves: what quotas refuse, and what is kept.
 use Rattle.std.proofs.Common.{◌≡◌, ℕ, ◌≤◌, Bool, true, false, cond, List, [], ◌∷◌, length, Option, Some, None, nat_le, refl, ap, sym, ◌∙◌, subst, arith}
 use Rattle.std.proofs.lemmas.Bool.Decides.{nat_tests}
-use Rattle.std.specs.Prelude.{map, unwrap_or, not}
-use Rattle.std.specs.Option.{option_and_then, option_map_or}
+use Rattle.std.specs.Prelude.{map, not}
+use Rattle.std.specs.Option.{option_map_or}
 use Rattle.fsrm_model.specs.declared.command.Deed.TheVariants.{File}
 use Rattle.fsrm_model.specs.declared.command.FileOp.TheVariants.{Resize}
 use Rattle.fsrm_model.specs.declared.command.Refusal.{Refusal}
@@ -29,21 +29,21 @@ use Rattle.fsrm_objects.specs.Tables.{Tables}
 use Rattle.quota_usage.specs.declared.change.Change.{Change}
 use Rattle.quota_usage.specs.declared.change.Counter.{Counter}
 use Rattle.quota_usage.specs.declared.change.Exceeded.{Exceeded}
-use Rattle.quota_usage.specs.Charge.{charged_counter, over_by, exceeded_by}
+use Rattle.quota_usage.specs.Charge.{is_above, charged_counter, over_by, exceeded_by}
 use Rattle.quota_usage.specs.Counters.{counted}
 use Rattle.volume_tree.specs.declared.answer.NodeView.{NodeView}
 use Rattle.volume_tree.specs.declared.answer.TreeFault.{TreeFault}
 use Rattle.volume_tree.specs.Volume.{Volume, with_length}
-use Rattle.fsrm_engine.specs.Faults.{exceeded_refusal, refusal_of}
-use Rattle.fsrm_engine.specs.Machine.{IsSound, Machine, rows_at, sums_of, IsEngine}
+use Rattle.fsrm_engine.specs.Faults.{exceeded_refusal}
+use Rattle.fsrm_engine.specs.Machine.{rows_at, sums_of, IsEngine}
 use Rattle.fsrm_engine.specs.Peaks.{raised_above}
 use Rattle.fsrm_engine.specs.Places.{IsFile}
-use Rattle.fsrm_engine.proofs.StepLaws.{machine, asked_of, due, tree_first, last_check, some_first}
+use Rattle.fsrm_engine.proofs.StepLaws.{asked_of, due, tree_first, last_check}
 use Rattle.fsrm_engine.proofs.PlaceLaws.{target_is}
 use Rattle.fsrm_engine.proofs.SumLaws.{sums_has}
 use Rattle.fsrm_engine.proofs.ChangeLaws.{Changes, changes_resized}
 use Rattle.fsrm_engine.proofs.OverLaws.{none_exceeded, one_exceeded}
-use Rattle.fsrm_engine.proofs.PeakLaws.{engine_peaked, quotas_kept, counters_charged, peaks_raised}
+use Rattle.fsrm_engine.proofs.PeakLaws.{quotas_kept, counters_charged, peaks_raised, some_settled, engine_raised}
 use Rattle.fsrm_model.proofs.ValidLaws.{found_parent}
 
 -- a counter's folder has a quota
@@ -51,17 +51,19 @@ pub owned : (K : Capacity) (nodes : List NodeRow) (quotas : List QuotaRow) (coun
 owned K nodes quotas counters sums folder h = sums_has K nodes folder quotas (subst (λ (cs : List Counter). has_row counted folder cs ≡ true) sums h)
 
 -- what is kept where counters were charged and peaks raised
-pub record Charged (K : Capacity) (new : List NodeRow) (quotas raised : List QuotaRow) (counters : List Counter) (m : ℕ) : Type 0 where
-  pub engine : IsEngine K new raised counters
-  pub raised_are : raised ≡ map (peaked K new m) quotas
+pub record Charged (K : Capacity) (new : List NodeRow) (quotas raised : List QuotaRow) (counters : List Counter) (m : ℕ) (level : Bool) : Type 0 where
+  pub engine : IsEngine K new raised counters level
+  pub raised_are : map (peaked K new m) raised ≡ map (peaked K new m) quotas
 
-pub charged_done : (K : Capacity) (nodes new : List NodeRow) (quotas raised : List QuotaRow) (counters charged_are : List Counter) (change : Change) (m : ℕ) → IsEngine K nodes quotas counters → IsVolume K new → ((f : ℕ) (q : QuotaRow) → row_of folder_of f quotas ≡ Some q → is_folder nodes f ≡ true → is_folder new f ≡ true) → Changes K nodes new quotas change → is_moment m ≡ true → charged_are ≡ map (charged_counter new change) counters → raised ≡ map (raised_above new change.to charged_are m) quotas → Charged K new quotas raised charged_are m
-charged_done K nodes new quotas raised counters charged_are change m e v folders c moment charging raising =
+pub charged_done : {level : Bool} (K : Capacity) (nodes new : List NodeRow) (quotas raised : List QuotaRow) (counters charged_are : List Counter) (change : Change) (m : ℕ) → IsEngine K nodes quotas counters level → IsVolume K new → ((f : ℕ) (q : QuotaRow) → row_of folder_of f quotas ≡ Some q → is_folder nodes f ≡ true → is_folder new f ≡ true) → Changes K nodes new quotas change → is_moment m ≡ true → charged_are ≡ map (charged_counter new change) counters → raised ≡ map (raised_above new change.to charged_are m) quotas → Charged K new quotas raised charged_are m level
+charged_done {level} K nodes new quotas raised counters charged_are change m e v folders c moment charging raising =
     let sums : charged_are ≡ sums_of K new quotas = charging ∙ counters_charged K nodes new quotas counters change e.are_quotas c e.sums in
-    let due_are : raised ≡ map (peaked K new m) quotas = raising ∙ peaks_raised K nodes new quotas charged_are change m e.are_quotas c sums e.peaks in
+    let qs = quotas_kept nodes new quotas e.are_quotas folders in
+    let above : QuotaRow → Bool = λ q. is_above new change.to q.folder in
     record {
-      engine = subst (λ (qs : List QuotaRow). IsEngine K new qs charged_are) (sym due_are) (engine_peaked K new quotas charged_are m v e.legal (quotas_kept nodes new quotas e.are_quotas folders) moment sums);
-      raised_are = due_are;
+      engine = subst (λ (rows : List QuotaRow). IsEngine K new rows charged_are level) (sym raising)
+          (engine_raised K new above quotas charged_are m v e.legal qs moment sums (λ l. peaks_raised K nodes new quotas charged_are change m e.are_quotas c sums (e.peaks l)));
+      raised_are = ap (map (peaked K new m)) raising ∙ some_settled K new above quotas charged_are m qs.ascending sums;
     }
 
 pub moment_is : (m : ℕ) → m ≤ 4102444799 → is_moment m ≡ true
@@ -123,18 +125,18 @@ resize_due v quotas last m path view bytes k f =
     ∙ ap (λ n. exceeded v.size (rows_at v.nodes quotas last) (with_change number n (resized bytes m) v.nodes)) (target_is v.nodes path view.number f.resolved)
 
 -- by the counters
-pub admitted : (v : Volume) (quotas : List QuotaRow) (last : ℕ) (counters : List Counter) (new : List NodeRow) (change : Change) → IsEngine v.size v.nodes quotas counters → Changes v.size v.nodes new quotas change → over_by v.nodes quotas counters change ≡ [] → exceeded v.size (rows_at v.nodes quotas last) new ≡ None
+pub admitted : {level : Bool} (v : Volume) (quotas : List QuotaRow) (last : ℕ) (counters : List Counter) (new : List NodeRow) (change : Change) → IsEngine v.size v.nodes quotas counters level → Changes v.size v.nodes new quotas change → over_by v.nodes quotas counters change ≡ [] → exceeded v.size (rows_at v.nodes quotas last) new ≡ None
 admitted v quotas last counters new change e c h = none_exceeded v.size (rows_at v.nodes quotas last) new change counters e.sums e.are_quotas c h
 
-pub refused_by_quota : (v : Volume) (quotas : List QuotaRow) (last : ℕ) (counters : List Counter) (new : List NodeRow) (change : Change) (x : Exceeded) → IsEngine v.size v.nodes quotas counters → Changes v.size v.nodes new quotas change → exceeded_by v.nodes quotas counters change ≡ Some x → exceeded v.size (rows_at v.nodes quotas last) new ≡ Some (exceeded_refusal x)
+pub refused_by_quota : {level : Bool} (v : Volume) (quotas : List QuotaRow) (last : ℕ) (counters : List Counter) (new : List NodeRow) (change : Change) (x : Exceeded) → IsEngine v.size v.nodes quotas counters level → Changes v.size v.nodes new quotas change → exceeded_by v.nodes quotas counters change ≡ Some x → exceeded v.size (rows_at v.nodes quotas last) new ≡ Some (exceeded_refusal x)
 refused_by_quota v quotas last counters new change x e c h = one_exceeded v.size (rows_at v.nodes quotas last) new change counters x e.sums e.are_quotas c h
 
 -- where the tree has nothing against it, the quota decides
 pub due_none : (o : Option TreeFault) (more : Option Refusal) → o ≡ None → more ≡ None → tree_first o more ≡ None
 due_none o more h n = ap (λ o. tree_first o more) h ∙ n
 
-pub due_some : (o : Option TreeFault) (more : Option Refusal) (x : Exceeded) (refusal : Refusal) → more ≡ Some (exceeded_refusal x) → refusal ≡ unwrap_or (option_and_then refusal_of o) (exceeded_refusal x) → tree_first o more ≡ Some refusal
-due_some o more x refusal h is = ap (tree_first o) h ∙ (some_first (option_and_then refusal_of o) (exceeded_refusal x) ∙ ap Some (sym is))
+pub due_quota : (o : Option TreeFault) (more : Option Refusal) (x : Exceeded) → o ≡ None → more ≡ Some (exceeded_refusal x) → tree_first o more ≡ Some (exceeded_refusal x)
+due_quota o more x h is = ap (λ o. tree_first o more) h ∙ is
 
 -- the folders of quotas stay folders
 pub resized_folder : (nodes : List NodeRow) (x bytes m f : ℕ) → is_folder nodes f ≡ true → is_folder (with_change number x (resized bytes m) nodes) f ≡ true
@@ -153,21 +155,17 @@ file_parent K nodes path view v f =
     subst (λ (n : ℕ). has_row number n nodes ≡ true) r.parent ((tree_of K nodes v).closed view.number f.there)
 
 -- the same of a tree that was changed
-pub record ChargedTo (v w : Volume) (quotas raised : List QuotaRow) (counters : List Counter) (m : ℕ) : Type 0 where
-  pub engine : IsEngine w.size w.nodes raised counters
-  pub raised_are : raised ≡ map (peaked v.size w.nodes m) quotas
+pub record ChargedTo (v w : Volume) (quotas raised : List QuotaRow) (counters : List Counter) (m : ℕ) (level : Bool) : Type 0 where
+  pub engine : IsEngine w.size w.nodes raised counters level
+  pub raised_are : map (peaked v.size w.nodes m) raised ≡ map (peaked v.size w.nodes m) quotas
 
-pub charged_at : (v w : Volume) (new : List NodeRow) (quotas : List QuotaRow) (tables : Tables) (counters charged_are : List Counter) (change : Change) (m : ℕ) → w ≡ record { size = v.size; nodes = new } → IsEngine v.size v.nodes quotas counters → IsVolume w.size w.nodes → ((f : ℕ) (q : QuotaRow) → row_of folder_of f quotas ≡ Some q → is_folder v.nodes f ≡ true → is_folder new f ≡ true) → Changes v.size v.nodes new quotas change → m ≤ 4102444799 → charged_are ≡ map (charged_counter w.nodes change) counters → tables ≡ record { quotas = map (raised_above w.nodes change.to charged_are m) quotas } → ChargedTo v w quotas tables.quotas charged_are m
-charged_at v w new quotas tables counters charged_are change m is e kept folders c late charging raising =
-    subst (λ (u : Volume). IsVolume u.size u.nodes → charged_are ≡ map (charged_counter u.nodes change) counters → tables ≡ record { quotas = map (raised_above u.nodes change.to charged_are m) quotas } → ChargedTo v u quotas tables.quotas charged_are m) (sym is)
+pub charged_at : {level : Bool} (v w : Volume) (new : List NodeRow) (quotas : List QuotaRow) (tables : Tables) (counters charged_are : List Counter) (change : Change) (m : ℕ) → w ≡ record { size = v.size; nodes = new } → IsEngine v.size v.nodes quotas counters level → IsVolume w.size w.nodes → ((f : ℕ) (q : QuotaRow) → row_of folder_of f quotas ≡ Some q → is_folder v.nodes f ≡ true → is_folder new f ≡ true) → Changes v.size v.nodes new quotas change → m ≤ 4102444799 → charged_are ≡ map (charged_counter w.nodes change) counters → tables ≡ record { quotas = map (raised_above w.nodes change.to charged_are m) quotas } → ChargedTo v w quotas tables.quotas charged_are m level
+charged_at {level} v w new quotas tables counters charged_are change m is e kept folders c late charging raising =
+    subst (λ (u : Volume). IsVolume u.size u.nodes → charged_are ≡ map (charged_counter u.nodes change) counters → tables ≡ record { quotas = map (raised_above u.nodes change.to charged_are m) quotas } → ChargedTo v u quotas tables.quotas charged_are m level) (sym is)
     (λ volume charging raising.
     let d = charged_done v.size v.nodes new quotas tables.quotas counters charged_are change m e volume folders c (moment_is m late) charging (ap (λ (t : Tables). t.quotas) raising) in
     record { engine = d.engine; raised_are = d.raised_are })
     kept charging raising
-
--- what an engine keeps is a store
-pub stored : (w : Volume) (quotas : List QuotaRow) (counters : List Counter) (m : ℕ) (o : Machine) → IsEngine w.size w.nodes quotas counters → o ≡ machine w quotas m → IsSound o.size o.rows
-stored w quotas counters m o e is = subst (λ (o : Machine). IsSound o.size o.rows) (sym is) (record { volume = e.volume; quotas = e.are_quotas })
 
 -- the rows that another length leaves
 pub resize_effect : (v w : Volume) (quotas : List QuotaRow) (last m : ℕ) (path : List (List ℕ)) (view : NodeView) (bytes : ℕ) → IsFile v.nodes path view → w ≡ with_length v view.number bytes m → (asked_of v quotas last m (File (Resize path bytes))).effect ≡ rows_at w.nodes quotas last
@@ -195,8 +193,8 @@ there_resized v w n bytes m p made h =
     ap (λ (u : Volume). has_row number p u.nodes) made ∙ (has_row-change number n (resized bytes m) (λ r. refl) p v.nodes ∙ h)
 
 -- what is kept where a file got another length
-pub resize_done : (v w : Volume) (quotas : List QuotaRow) (tables : Tables) (counters charged_are : List Counter) (path : List (List ℕ)) (view : NodeView) (bytes m minus plus : ℕ) → IsEngine v.size v.nodes quotas counters → IsFile v.nodes path view → minus ≡ alloc v.size view.length → plus ≡ alloc v.size bytes → w ≡ with_length v view.number bytes m → IsVolume w.size w.nodes → m ≤ 4102444799 →
-    charged_are ≡ map (charged_counter w.nodes (record { from = Some view.parent; to = Some view.parent; minus = minus; plus = plus })) counters → tables ≡ record { quotas = map (raised_above w.nodes (Some view.parent) charged_are m) quotas } → ChargedTo v w quotas tables.quotas charged_are m
+pub resize_done : {level : Bool} (v w : Volume) (quotas : List QuotaRow) (tables : Tables) (counters charged_are : List Counter) (path : List (List ℕ)) (view : NodeView) (bytes m minus plus : ℕ) → IsEngine v.size v.nodes quotas counters level → IsFile v.nodes path view → minus ≡ alloc v.size view.length → plus ≡ alloc v.size bytes → w ≡ with_length v view.number bytes m → IsVolume w.size w.nodes → m ≤ 4102444799 →
+    charged_are ≡ map (charged_counter w.nodes (record { from = Some view.parent; to = Some view.parent; minus = minus; plus = plus })) counters → tables ≡ record { quotas = map (raised_above w.nodes (Some view.parent) charged_are m) quotas } → ChargedTo v w quotas tables.quotas charged_are m level
 resize_done v w quotas tables counters charged_are path view bytes m minus plus e f less more made kept late charging raising =
     charged_at v w (with_change number view.number (resized bytes m) v.nodes) quotas tables counters charged_are (record { from = Some view.parent; to = Some view.parent; minus = minus; plus = plus }) m made e kept
     (λ f q found folder. resized_folder v.nodes view.number bytes m f folder)

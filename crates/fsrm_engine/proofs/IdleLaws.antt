@@ -28,7 +28,7 @@ use Rattle.fsrm_model.proofs.ChangeLaws.{KeepsPlace, usage-change}
 use Rattle.fsrm_model.proofs.Climbs.{shorter}
 use Rattle.fsrm_model.proofs.Keeps.{tree_of, folder-new, folder-change, found_folder, MayGo, removes_of, as_suc}
 use Rattle.fsrm_base.proofs.Look.{is_some-find, found_key, found_has, has_found, row_of-without, has_row-without, none_filtered, is_some-mapped}
-use Rattle.fsrm_base.proofs.Order.{ascending-filter, least_free_is}
+use Rattle.fsrm_base.proofs.Order.{least_free_is}
 use Rattle.fsrm_model.proofs.RemoveLaws.{usage-removed, removed_chain}
 use Rattle.fsrm_base.proofs.EditedRows.{without_absent}
 use Rattle.fsrm_model.proofs.Resolves.{resolved}
@@ -42,14 +42,15 @@ use Rattle.quota_usage.specs.Counters.{counted, used_in, without_counter}
 use Rattle.volume_tree.specs.declared.answer.NodeView.{NodeView}
 use Rattle.volume_tree.specs.declared.answer.TreeFault.TheVariants.{NotEmpty}
 use Rattle.volume_tree.specs.Volume.{Volume, Shows, with_node, with_touch, without_node, remove_fault}
-use Rattle.fsrm_engine.specs.Machine.{IsSound, Machine, Takes, rows_at, counter_of, sums_of, IsEngine}
+use Rattle.fsrm_engine.specs.Machine.{Machine, Takes, rows_at, counter_of, sums_of, IsEngine}
 use Rattle.fsrm_engine.specs.Places.{IsFile}
 use Rattle.fsrm_engine.proofs.ChangeLaws.{Changes, changes_removed, not_zero}
-use Rattle.fsrm_engine.proofs.PeakLaws.{peaks_stay, quotas_kept, counters_charged}
+use Rattle.fsrm_engine.proofs.CountingLaws.{engine_without}
+use Rattle.fsrm_engine.proofs.PeakLaws.{quotas_kept, counters_charged}
 use Rattle.fsrm_engine.proofs.PlaceLaws.{shown_folder, target_is}
 use Rattle.fsrm_base.proofs.RowLaws.{each_found, all_filter, map_same}
 use Rattle.fsrm_engine.proofs.StepLaws.{machine, due, asked_of, done_at}
-use Rattle.fsrm_engine.proofs.SumLaws.{shown_of, used_sums, sums_without}
+use Rattle.fsrm_engine.proofs.SumLaws.{shown_of, used_sums}
 use Rattle.fsrm_engine.proofs.WalkLaws.{usage_small}
 
 -- rows stay without a number that none has
@@ -99,15 +100,6 @@ quota_there quotas n o e h = quota_test quotas n o e ∙ h
 pub quota_absent : (tables : Tables) (n : ℕ) (o : Option (Bor QuotaRow)) → option_copied o ≡ row_of folder_of n tables.quotas → is_some o ≡ false → tables ≡ without_quota tables n
 quota_absent tables n o e h = ap (λ qs. record tables { quotas = qs }) (sym (without_absent folder_of n tables.quotas (quota_test tables.quotas n o e ∙ h)))
 
--- what an engine keeps, where no peak rises
-pub record Idle (K : Capacity) (nodes : List NodeRow) (quotas : List QuotaRow) (counters : List Counter) (m : ℕ) : Type 0 where
-  pub engine : IsEngine K nodes quotas counters
-  pub peaks : quotas ≡ map (peaked K nodes m) quotas
-
-idle : (K : Capacity) (nodes : List NodeRow) (quotas : List QuotaRow) (counters : List Counter) (m : ℕ) → IsEngine K nodes quotas counters → Idle K nodes quotas counters m
-idle K nodes quotas counters m e =
-    record { engine = e; peaks = peaks_stay K nodes m quotas e.are_quotas.ascending (λ q found counting. e.peaks q.folder q found counting) }
-
 sums_same : (K : Capacity) (nodes new : List NodeRow) (quotas : List QuotaRow) → is_ascending folder_of quotas ≡ true → ((f : ℕ) (q : QuotaRow) → row_of folder_of f quotas ≡ Some q → usage K new f ≡ usage K nodes f) → sums_of K nodes quotas ≡ sums_of K new quotas
 sums_same K nodes new quotas asc same =
     map_same (counter_of K nodes) (counter_of K new) (filter counts quotas)
@@ -116,32 +108,14 @@ sums_same K nodes new quotas asc same =
     (λ q found counting. ap (λ n. record { folder = q.folder; bytes = n }) (sym (same q.folder q found)))))
 
 -- usage stays
-idle_same : (K : Capacity) (nodes new : List NodeRow) (quotas : List QuotaRow) (counters : List Counter) (m : ℕ) → IsEngine K nodes quotas counters → IsVolume K new → ((f : ℕ) (q : QuotaRow) → row_of folder_of f quotas ≡ Some q → usage K new f ≡ usage K nodes f) → ((f : ℕ) (q : QuotaRow) → row_of folder_of f quotas ≡ Some q → is_folder nodes f ≡ true → is_folder new f ≡ true) → Idle K new quotas counters m
-idle_same K nodes new quotas counters m e v same folders =
-    idle K new quotas counters m (record {
+idle_same : {level : Bool} (K : Capacity) (nodes new : List NodeRow) (quotas : List QuotaRow) (counters : List Counter) → IsEngine K nodes quotas counters level → IsVolume K new → ((f : ℕ) (q : QuotaRow) → row_of folder_of f quotas ≡ Some q → usage K new f ≡ usage K nodes f) → ((f : ℕ) (q : QuotaRow) → row_of folder_of f quotas ≡ Some q → is_folder nodes f ≡ true → is_folder new f ≡ true) → IsEngine K new quotas counters level
+idle_same K nodes new quotas counters e v same folders =
+    record {
       volume = v;
       legal = e.legal;
       are_quotas = quotas_kept nodes new quotas e.are_quotas folders;
       sums = e.sums ∙ sums_same K nodes new quotas e.are_quotas.ascending same;
-      peaks = λ f q found counting. subst (λ n. n ≤ q.peak) (sym (same f q found)) (e.peaks f q found counting);
-    })
-
--- a quota and its counter go
-engine_without : (K : Capacity) (nodes : List NodeRow) (quotas : List QuotaRow) (counters : List Counter) (x : ℕ) → IsEngine K nodes quotas counters → IsEngine K nodes (without_row folder_of x quotas) (without_counter counters x)
-engine_without K nodes quotas counters x e =
-    let left = left_found folder_of x in
-    record {
-      volume = e.volume;
-      legal = e.legal;
-      are_quotas = record {
-        ascending = ascending-filter folder_of (λ q. not (folder_of q == x)) quotas e.are_quotas.ascending;
-        few = omega (arith, few_filter (λ q. not (folder_of q == x)) quotas, e.are_quotas.few);
-        folders = λ f q h. e.are_quotas.folders f q (left f quotas q h).found;
-        limits = λ f q h. e.are_quotas.limits f q (left f quotas q h).found;
-        moments = λ f q h. e.are_quotas.moments f q (left f quotas q h).found;
-      };
-      sums = ap (λ cs. without_counter cs x) e.sums ∙ sym (sums_without K nodes x quotas);
-      peaks = λ f q h counting. e.peaks f q (left f quotas q h).found counting;
+      peaks = λ l f q found counting. subst (λ n. n ≤ q.peak) (sym (same f q found)) (e.peaks l f q found counting);
     }
 
 no_more : (n new : ℕ) (b : Bool) → new ≡ n + cond b 0 0 → new ≡ n
@@ -149,8 +123,8 @@ no_more n new true h = omega arith
 no_more n new false h = omega arith
 
 -- a folder is made
-pub idle_made : (v w : Volume) (quotas : List QuotaRow) (counters : List Counter) (d : ℕ) (name : List ℕ) (owner m : ℕ) → IsEngine v.size v.nodes quotas counters → is_folder v.nodes d ≡ true → w ≡ with_node v (made_node v.nodes d name true 0 owner m) → IsVolume w.size w.nodes → Idle w.size w.nodes quotas counters m
-idle_made v w quotas counters d name owner m e folder made kept =
+pub idle_made : {level : Bool} (v w : Volume) (quotas : List QuotaRow) (counters : List Counter) (d : ℕ) (name : List ℕ) (owner m : ℕ) → IsEngine v.size v.nodes quotas counters level → is_folder v.nodes d ≡ true → w ≡ with_node v (made_node v.nodes d name true 0 owner m) → IsVolume w.size w.nodes → IsEngine w.size w.nodes quotas counters level
+idle_made {level} v w quotas counters d name owner m e folder made kept =
     let K = v.size in
     let nodes = v.nodes in
     let node = made_node nodes d name true 0 owner m in
@@ -159,8 +133,8 @@ idle_made v w quotas counters d name owner m e folder made kept =
     let inner : (fresh nodes == 0) ≡ false = not_true _ (λ z. clash _ (subst (Has nodes) (sym (eq_is _ _ z)) e.volume.has_root) free) in
     let s = as_suc (fresh nodes) inner in
     let hd : Has nodes d = folder_has nodes d folder in
-    subst (λ (w : Volume). Idle w.size w.nodes quotas counters m) (sym made)
-    (idle_same K nodes (with_row number node nodes) quotas counters m e (subst (λ (w : Volume). IsVolume w.size w.nodes) made kept)
+    subst (λ (w : Volume). IsEngine w.size w.nodes quotas counters level) (sym made)
+    (idle_same K nodes (with_row number node nodes) quotas counters e (subst (λ (w : Volume). IsVolume w.size w.nodes) made kept)
     (λ f q found. no_more (usage K nodes f) (usage K (with_row number node nodes) f) (is_under nodes f d) (usage-new K nodes t node s.0 s.1 free hd f (folder_has nodes f (e.are_quotas.folders f q found))))
     (λ f q found h. folder-new nodes node f free h))
 
@@ -169,15 +143,15 @@ same_space n new s true h = omega arith
 same_space n new s false h = omega arith
 
 -- a file is read
-pub idle_touched : (v w : Volume) (quotas : List QuotaRow) (counters : List Counter) (x m : ℕ) → IsEngine v.size v.nodes quotas counters → has_row number x v.nodes ≡ true → w ≡ with_touch v x m → IsVolume w.size w.nodes → Idle w.size w.nodes quotas counters m
-idle_touched v w quotas counters x m e has made kept =
+pub idle_touched : {level : Bool} (v w : Volume) (quotas : List QuotaRow) (counters : List Counter) (x m : ℕ) → IsEngine v.size v.nodes quotas counters level → has_row number x v.nodes ≡ true → w ≡ with_touch v x m → IsVolume w.size w.nodes → IsEngine w.size w.nodes quotas counters level
+idle_touched {level} v w quotas counters x m e has made kept =
     let K = v.size in
     let nodes = v.nodes in
     let new = with_change number x (touched m) nodes in
     let found = has_found number x nodes has in
     let place : KeepsPlace (touched m) = record { same_number = λ r. refl; same_parent = λ r. refl } in
-    subst (λ (w : Volume). Idle w.size w.nodes quotas counters m) (sym made)
-    (idle_same K nodes new quotas counters m e (subst (λ (w : Volume). IsVolume w.size w.nodes) made kept)
+    subst (λ (w : Volume). IsEngine w.size w.nodes quotas counters level) (sym made)
+    (idle_same K nodes new quotas counters e (subst (λ (w : Volume). IsVolume w.size w.nodes) made kept)
     (λ f q h. same_space (usage K nodes f) (usage K new f) (space K found.row) (is_under nodes f found.row.number) (usage-change K nodes x (touched m) place e.volume.ascending found.row found.is f))
     (λ f q h g. folder-change nodes x f (touched m) (λ r. refl) (λ r. refl) ∙ g))
 
@@ -227,20 +201,20 @@ no_less n new s true z h = omega arith
 no_less n new s false z h = omega arith
 
 -- a folder goes, and with it its quota
-pub idle_gone : (v w : Volume) (quotas after : List QuotaRow) (counters left : List Counter) (x m : ℕ) → IsEngine v.size v.nodes quotas counters → MayGo v.nodes x → is_folder v.nodes x ≡ true → w ≡ without_node v x → IsVolume w.size w.nodes → after ≡ without_row folder_of x quotas → left ≡ without_counter counters x → Idle w.size w.nodes after left m
-idle_gone v w quotas after counters left x m e may folder made kept quotas_are counters_are =
+pub idle_gone : {level : Bool} (v w : Volume) (quotas after : List QuotaRow) (counters left : List Counter) (x : ℕ) → IsEngine v.size v.nodes quotas counters level → MayGo v.nodes x → is_folder v.nodes x ≡ true → w ≡ without_node v x → IsVolume w.size w.nodes → after ≡ without_row folder_of x quotas → left ≡ without_counter counters x → IsEngine w.size w.nodes after left level
+idle_gone {level} v w quotas after counters left x e may folder made kept quotas_are counters_are =
     let K = v.size in
     let nodes = v.nodes in
     let new = without_row number x nodes in
     let r = removes_of K nodes x e.volume may in
     let none : space K may.row ≡ 0 = ap (λ b. cond b 0 (alloc K may.row.length)) (sym (found_folder nodes x may.row may.found) ∙ folder) in
-    let e' = engine_without K nodes quotas counters x e in
-    let i : Idle K new (without_row folder_of x quotas) (without_counter counters x) m =
-    idle_same K nodes new (without_row folder_of x quotas) (without_counter counters x) m e' (subst (λ (w : Volume). IsVolume w.size w.nodes) made kept)
+    let e' : IsEngine K nodes (without_row folder_of x quotas) (without_counter counters x) level = engine_without K nodes quotas counters (without_counter counters x) x e refl in
+    let i : IsEngine K new (without_row folder_of x quotas) (without_counter counters x) level =
+    idle_same K nodes new (without_row folder_of x quotas) (without_counter counters x) e' (subst (λ (w : Volume). IsVolume w.size w.nodes) made kept)
     (λ f q h. no_less (usage K nodes f) (usage K new f) (space K may.row) (is_under nodes f may.row.number) none (usage-removed K nodes x r e.volume.ascending may.row may.found f))
     (λ f q h g. folder_left nodes x f (left_found folder_of x f quotas q h).other g) in
-    subst (λ (w : Volume). Idle w.size w.nodes after left m) (sym made)
-    (subst (λ qs. Idle K new qs left m) (sym quotas_are) (subst (λ cs. Idle K new (without_row folder_of x quotas) cs m) (sym counters_are) i))
+    subst (λ (w : Volume). IsEngine w.size w.nodes after left level) (sym made)
+    (subst (λ qs. IsEngine K new qs left level) (sym quotas_are) (subst (λ cs. IsEngine K new (without_row folder_of x quotas) cs level) (sym counters_are) i))
 
 -- the counters of an engine are small
 small_at : (K : Capacity) (nodes : List NodeRow) (q : QuotaRow) (bytes : ℕ) (b : Bool) → usage K nodes q.folder ≤ 1048576 * longest_file → cond b (Some (usage K nodes q.folder)) None ≡ Some bytes → bytes ≤ 1048576 * longest_file
@@ -251,16 +225,16 @@ small_of : (K : Capacity) (nodes : List NodeRow) (o : Option QuotaRow) (bytes : 
 small_of K nodes None bytes v legal h = cc
 small_of K nodes (Some q) bytes v legal h = small_at K nodes q bytes (counts q) (usage_small K nodes q.folder v legal) h
 
-pub counters_small : (K : Capacity) (nodes : List NodeRow) (quotas : List QuotaRow) (counters : List Counter) (f bytes : ℕ) → IsEngine K nodes quotas counters → used_in counters f ≡ Some bytes → bytes ≤ 1048576 * longest_file
+pub counters_small : {level : Bool} (K : Capacity) (nodes : List NodeRow) (quotas : List QuotaRow) (counters : List Counter) (f bytes : ℕ) → IsEngine K nodes quotas counters level → used_in counters f ≡ Some bytes → bytes ≤ 1048576 * longest_file
 counters_small K nodes quotas counters f bytes e h =
     small_of K nodes (row_of folder_of f quotas) bytes e.volume e.legal (sym (ap (λ cs. used_in cs f) e.sums ∙ used_sums K nodes f quotas e.are_quotas.ascending) ∙ h)
 
 -- a file goes
-pub record FileGoes (w : Volume) (quotas : List QuotaRow) (counters : List Counter) (x : ℕ) (change : Change) : Type 0 where
+pub record FileGoes (w : Volume) (quotas : List QuotaRow) (counters : List Counter) (x : ℕ) (change : Change) (level : Bool) : Type 0 where
   pub is_change : IsChange w.nodes change
   pub fits : Fits w.nodes counters change
   pub no_quota : without_row folder_of x quotas ≡ quotas
-  pub engine : IsEngine w.size w.nodes quotas (map (charged_counter w.nodes change) counters)
+  pub engine : IsEngine w.size w.nodes quotas (map (charged_counter w.nodes change) counters) level
 
 no_room : (bytes less most : ℕ) → bytes ≤ 1048576 * longest_file → bytes - less + 0 < 2 ^ 64
 no_room bytes less most h = omega arith
@@ -269,8 +243,8 @@ no_room bytes less most h = omega arith
 abbrev pub gone_change : ℕ → ℕ → Change
 gone_change parent minus = record { from = Some parent; to = None; minus = minus; plus = 0 }
 
-pub file_goes : (v w : Volume) (quotas : List QuotaRow) (counters : List Counter) (x minus : ℕ) (view : NodeView) → IsEngine v.size v.nodes quotas counters → MayGo v.nodes x → is_folder v.nodes x ≡ false → w ≡ without_node v x → IsVolume w.size w.nodes → Shows view v.nodes x → minus ≡ alloc v.size view.length → FileGoes w quotas counters x (gone_change view.parent minus)
-file_goes v w quotas counters x minus view e may file made kept shows minus_is =
+pub file_goes : {level : Bool} (v w : Volume) (quotas : List QuotaRow) (counters : List Counter) (x minus : ℕ) (view : NodeView) → IsEngine v.size v.nodes quotas counters level → MayGo v.nodes x → is_folder v.nodes x ≡ false → w ≡ without_node v x → IsVolume w.size w.nodes → Shows view v.nodes x → minus ≡ alloc v.size view.length → FileGoes w quotas counters x (gone_change view.parent minus) level
+file_goes {level} v w quotas counters x minus view e may file made kept shows minus_is =
     let K = v.size in
     let nodes = v.nodes in
     let new = without_row number x nodes in
@@ -290,7 +264,7 @@ file_goes v w quotas counters x minus view e may file made kept shows minus_is =
     let none : has_row folder_of x quotas ≡ false = not_true _ (λ h. let q = has_found folder_of x quotas h in clash (is_folder nodes x) (e.are_quotas.folders x q.row q.is) file) in
     let out : (f : ℕ) (q : QuotaRow) → row_of folder_of f quotas ≡ Some q → is_folder nodes f ≡ true → is_folder new f ≡ true =
     λ f q h g. folder_left nodes x f (not_true _ (λ s. clash (is_folder nodes f) g (ap (is_folder nodes) (eq_is f x s) ∙ file))) g in
-    subst (λ (w : Volume). FileGoes w quotas counters x (gone_change view.parent minus)) (sym made)
+    subst (λ (w : Volume). FileGoes w quotas counters x (gone_change view.parent minus) level) (sym made)
     (record {
       is_change = record { from = subst (Has new) parent_is hp; to = tt };
       fits = record { fits = λ f bytes h. no_room bytes (cond (is_under new f view.parent) minus 0) 0 (counters_small K nodes quotas counters f bytes e h) };
@@ -300,16 +274,16 @@ file_goes v w quotas counters x minus view e may file made kept shows minus_is =
         legal = e.legal;
         are_quotas = quotas_kept nodes new quotas e.are_quotas out;
         sums = counters_charged K nodes new quotas counters (gone_change view.parent minus) e.are_quotas changes e.sums;
-        peaks = λ f q found counting.
+        peaks = λ l f q found counting.
             let a = changes.after f q found in
-            let b = e.peaks f q found counting in
+            let b = e.peaks l f q found counting in
             omega (arith, a, b);
       };
     })
 
-pub idle_charged : (w : Volume) (quotas : List QuotaRow) (counters charged : List Counter) (x m : ℕ) (change : Change) → FileGoes w quotas counters x change → charged ≡ map (charged_counter w.nodes change) counters → Idle w.size w.nodes quotas charged m
-idle_charged w quotas counters charged x m change g is =
-    idle w.size w.nodes quotas charged m (subst (IsEngine w.size w.nodes quotas) (sym is) g.engine)
+pub idle_charged : {level : Bool} (w : Volume) (quotas : List QuotaRow) (counters charged : List Counter) (x : ℕ) (change : Change) → FileGoes w quotas counters x change level → charged ≡ map (charged_counter w.nodes change) counters → IsEngine w.size w.nodes quotas charged level
+idle_charged {level} w quotas counters charged x change g is =
+    subst (λ (cs : List Counter). IsEngine w.size w.nodes quotas cs level) (sym is) g.engine
 
 -- how many looks the removal of a file takes
 pub looks_at_file : (v w : Volume) (path : List (List ℕ)) (x start seen followed gone last : ℕ) (view : NodeView) → IsVolume v.size v.nodes → resolve v.nodes path ≡ Some x → MayGo v.nodes x → w ≡ without_node v x → Shows view v.nodes x → seen ≡ start + 1 → followed ≤ seen + 2 * length (chain v.nodes x) → gone ≤ followed + 44 → last ≤ gone + 2 * (height w.nodes (Some view.parent) + 0) → last ≤ start + (4 * length path + 60)
@@ -328,22 +302,17 @@ looks_at_file v w path x start seen followed gone last view k h may made shows a
     ∙ (ap (λ n. length (chain new n)) (sym parent_is) ∙ ap length (removed_chain nodes new x r p hp)) in
     omega (arith, a, f, b, c, same, shorter nodes t x hx (not_zero x may.inner), (resolved K nodes path x k h).deep)
 
--- the answer to a command that was done, after which no peak rises
-pub done_idle : (v w : Volume) (quotas after : List QuotaRow) (counters : List Counter) (last m : ℕ) (deed : Deed) (old new : Machine) (answer : Answer) → machine v quotas last ≡ old → old.rows.last_moment ≤ m → due v quotas last m deed ≡ None → (asked_of v quotas last m deed).effect ≡ rows_at w.nodes after last → (asked_of v quotas last m deed).outcome ≡ Done None → (asked_of v quotas last m deed).lasts ≡ true → w.size ≡ v.size → Idle w.size w.nodes after counters m → new ≡ machine w after m → answer ≡ record { outcome = Done None; lasting = true } → Takes old new (step old.size old.rows (record { moment = m; deed = deed })) answer
-done_idle v w quotas after counters last m deed old new answer view late none effect outcome lasts size i n e =
-    done_at v w quotas after after last m deed old new answer view late none effect outcome lasts size (i.peaks ∙ ap (λ K. map (peaked K w.nodes m) after) size) n e
-
--- the rows of an engine, as it is seen from outside
-pub store_at : (w : Volume) (quotas : List QuotaRow) (counters : List Counter) (m : ℕ) (new : Machine) → IsEngine w.size w.nodes quotas counters → new ≡ machine w quotas m → IsSound new.size new.rows
-store_at w quotas counters m new e is =
-    subst (λ (n : Machine). IsSound n.size n.rows) (sym is) (record { volume = e.volume; quotas = e.are_quotas })
+-- the answer to a command that was done, before whose end no peak was raised
+pub done_idle : (v w : Volume) (quotas after : List QuotaRow) (last m : ℕ) (deed : Deed) (old new : Machine) (answer : Answer) → machine v quotas last ≡ old → old.rows.last_moment ≤ m → due v quotas last m deed ≡ None → (asked_of v quotas last m deed).effect ≡ rows_at w.nodes after last → (asked_of v quotas last m deed).outcome ≡ Done None → (asked_of v quotas last m deed).lasts ≡ true → w.size ≡ v.size → new ≡ machine w (map (peaked w.size w.nodes m) after) m → answer ≡ record { outcome = Done None; lasting = true } → Takes old new (step old.size old.rows (record { moment = m; deed = deed })) answer
+done_idle v w quotas after last m deed old new answer view late none effect outcome lasts size n e =
+    done_at v w quotas after after last m deed old new answer view late none effect outcome lasts size refl n e
 
 -- the counter of a folder is what its quota shows
 shown_at : (K : Capacity) (nodes : List NodeRow) (f : ℕ) (o : Option QuotaRow) → ((q : QuotaRow) → o ≡ Some q → q.folder ≡ f) → option_and_then (shown_of K nodes) o ≡ option_and_then (λ q. if counts q then Some (usage K nodes f) else None) o
 shown_at K nodes f None h = refl
 shown_at K nodes f (Some q) h = ap (λ n. cond (counts q) (Some (usage K nodes n)) None) (h q refl)
 
-pub used_at : (v : Volume) (quotas : List QuotaRow) (counters : List Counter) (last f : ℕ) (old : Machine) (o : Option ℕ) → machine v quotas last ≡ old → IsEngine v.size v.nodes quotas counters → o ≡ used_in counters f → o ≡ used_of old.size old.rows f
+pub used_at : {level : Bool} (v : Volume) (quotas : List QuotaRow) (counters : List Counter) (last f : ℕ) (old : Machine) (o : Option ℕ) → machine v quotas last ≡ old → IsEngine v.size v.nodes quotas counters level → o ≡ used_in counters f → o ≡ used_of old.size old.rows f
 used_at v quotas counters last f old o view e is =
     subst (λ (m : Machine). o ≡ used_of m.size m.rows f) view
     (is ∙ (ap (λ cs. used_in cs f) e.sums ∙ (used_sums v.size v.nodes f quotas e.are_quotas.ascending

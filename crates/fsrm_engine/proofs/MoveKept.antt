@@ -1,9 +1,8 @@
 -- A node that moves: what quotas refuse, and what is kept.
-use Rattle.std.proofs.Common.{◌≡◌, ℕ, ◌+◌, ◌*◌, ◌≤◌, ◌==◌, Bool, true, false, List, [], ◌∷◌, length, Some, refl, ap, sym, ◌∙◌, subst, arith}
+use Rattle.std.proofs.Common.{◌≡◌, ℕ, ◌+◌, ◌*◌, ◌≤◌, ◌==◌, Bool, true, false, List, [], ◌∷◌, length, Option, Some, None, refl, ap, sym, ◌∙◌, subst, arith}
 use Rattle.std.specs.Prelude.{map, nat_lt, if◌then◌else◌}
 use Rattle.fsrm_model.specs.declared.command.Deed.TheVariants.{File}
 use Rattle.fsrm_model.specs.declared.command.FileOp.TheVariants.{Move}
-use Rattle.fsrm_model.specs.declared.command.Refusal.TheVariants.{InvalidMove}
 use Rattle.fsrm_model.specs.declared.row.Capacity.{Capacity}
 use Rattle.fsrm_model.specs.declared.row.NodeRow.{NodeRow}
 use Rattle.fsrm_model.specs.declared.row.QuotaRow.{QuotaRow}
@@ -11,7 +10,6 @@ use Rattle.fsrm_model.specs.Cost.{op_cost}
 use Rattle.fsrm_model.specs.FileOps.{placed}
 use Rattle.fsrm_base.specs.Keyed.{has_row, with_change}
 use Rattle.fsrm_model.specs.Leads.{leads_to_folder}
-use Rattle.fsrm_model.specs.Quota.{exceeded}
 use Rattle.fsrm_model.specs.Tree.{number, name_of, parent_of, is_folder, is_under, under, chain, resolve, child_number, name_bytes}
 use Rattle.fsrm_model.specs.Valid.{IsVolume, AreQuotas}
 use Rattle.fsrm_model.proofs.Climbs.{shorter}
@@ -24,15 +22,16 @@ use Rattle.quota_usage.specs.declared.change.Change.{Change}
 use Rattle.quota_usage.specs.declared.change.Counter.{Counter}
 use Rattle.quota_usage.specs.Charge.{charged_counter, Fits}
 use Rattle.volume_tree.specs.declared.answer.NodeView.{NodeView}
-use Rattle.volume_tree.specs.Volume.{Volume, Shows, with_place, fault_if, first_fault, is_other}
+use Rattle.volume_tree.specs.Volume.{Volume, Shows, with_place, fault_if, first_fault, is_other, move_fault}
+use Rattle.volume_tree.specs.declared.answer.TreeFault.{TreeFault}
 use Rattle.volume_tree.specs.declared.answer.TreeFault.TheVariants as fault
 use Rattle.fsrm_engine.specs.Machine.{rows_at, IsEngine}
 use Rattle.fsrm_engine.specs.Peaks.{raised_above}
 use Rattle.fsrm_engine.specs.Places.{IsPlace, IsMoved}
 use Rattle.fsrm_engine.specs.Machine.{Machine}
-use Rattle.fsrm_engine.proofs.StepLaws.{asked_of, due, machine, tree_first}
+use Rattle.fsrm_engine.proofs.StepLaws.{asked_of, machine}
 use Rattle.fsrm_engine.proofs.PlaceLaws.{leads_to_folder_is, target_is}
-use Rattle.fsrm_engine.proofs.MoveLaws.{moved_is, move_due}
+use Rattle.fsrm_engine.proofs.MoveLaws.{moved_is}
 use Rattle.fsrm_engine.proofs.ChangeLaws.{Changes, MovesTo, changes_moved, moved_chain_to, moved_chain_from, not_zero}
 use Rattle.fsrm_engine.proofs.FitLaws.{fits_moved, fits_new}
 use Rattle.fsrm_engine.proofs.GrowthLaws.{ChargedTo, charged_at, placed_folder}
@@ -55,8 +54,8 @@ move_changes K nodes quotas x d name view bytes v qs s m moved =
     subst (λ (p : ℕ). Changes K nodes (moved_nodes nodes x d name) quotas (move_change p d bytes)) (found_parent nodes x s.row s.found ∙ sym s.is.parent)
     (changes_moved K nodes quotas x d name bytes v qs m moved)
 
-pub move_done : (v w : Volume) (quotas : List QuotaRow) (tables : Tables) (counters charged_are : List Counter) (x d : ℕ) (name : List ℕ) (view : NodeView) (bytes m : ℕ) → IsEngine v.size v.nodes quotas counters → Shows view v.nodes x → MovesTo v.nodes x d → IsMoved v.size v.nodes quotas x bytes → w ≡ with_place v x d name → IsVolume w.size w.nodes → m ≤ 4102444799 →
-    charged_are ≡ map (charged_counter w.nodes (move_change view.parent d bytes)) counters → tables ≡ record { quotas = map (raised_above w.nodes (Some d) charged_are m) quotas } → ChargedTo v w quotas tables.quotas charged_are m
+pub move_done : {level : Bool} (v w : Volume) (quotas : List QuotaRow) (tables : Tables) (counters charged_are : List Counter) (x d : ℕ) (name : List ℕ) (view : NodeView) (bytes m : ℕ) → IsEngine v.size v.nodes quotas counters level → Shows view v.nodes x → MovesTo v.nodes x d → IsMoved v.size v.nodes quotas x bytes → w ≡ with_place v x d name → IsVolume w.size w.nodes → m ≤ 4102444799 →
+    charged_are ≡ map (charged_counter w.nodes (move_change view.parent d bytes)) counters → tables ≡ record { quotas = map (raised_above w.nodes (Some d) charged_are m) quotas } → ChargedTo v w quotas tables.quotas charged_are m level
 move_done v w quotas tables counters charged_are x d name view bytes m e s to moved made kept late charging raising =
     charged_at v w (moved_nodes v.nodes x d name) quotas tables counters charged_are (move_change view.parent d bytes) m made e kept
     (λ f q found was. placed_folder v.nodes x d name f was)
@@ -67,12 +66,13 @@ pub move_effect : (v w : Volume) (quotas : List QuotaRow) (last m : ℕ) (from t
 move_effect v w quotas last m from to n d name h p made =
     ap (λ (u : Volume). rows_at u.nodes quotas last) (sym (made ∙ moved_is v from to n d name h p))
 
--- a folder's place at or below itself is refused at once
-pub below_due : (v : Volume) (quotas : List QuotaRow) (last m : ℕ) (from to : List (List ℕ)) (n d : ℕ) (name : List ℕ) (below : Bool) → IsVolume v.size v.nodes → resolve v.nodes from ≡ Some n → (n == 0) ≡ false → IsPlace v.nodes to d name → below ≡ is_under v.nodes n d → below ≡ true → due v quotas last m (File (Move from to)) ≡ Some InvalidMove
-below_due v quotas last m from to n d name below k h inner p is is_below =
-    let over = exceeded v.size (rows_at v.nodes quotas last) (with_place v n d name).nodes in
-    move_due v quotas last m from to n d name k h inner p
-    ∙ ap (λ b. tree_first (first_fault (fault_if fault.InvalidMove b ∷ fault_if fault.AlreadyExists (is_other (child_number v.nodes d name) n) ∷ fault_if fault.NamesFull (nat_lt (v.size.names + length (name_of v.nodes n)) (name_bytes v.nodes + length name)) ∷ [])) over) (sym is ∙ is_below)
+-- where a move is ready its folder isn't at or below what moves
+pub ready_apart : (v : Volume) (n d : ℕ) (name : List ℕ) → move_fault v n d name ≡ None → is_under v.nodes n d ≡ false
+ready_apart v n d name h = at (is_under v.nodes n d) (fault_if fault.AlreadyExists (is_other (child_number v.nodes d name) n) ∷ fault_if fault.NamesFull (nat_lt (v.size.names + length (name_of v.nodes n)) (name_bytes v.nodes + length name)) ∷ []) h
+  where
+    at : (b : Bool) (more : List (Option TreeFault)) → first_fault (fault_if fault.InvalidMove b ∷ more) ≡ None → b ≡ false
+    at true more h = cc
+    at false more h = refl
 
 -- how high the two folders are, before and after
 pub from_height : (K : Capacity) (nodes : List NodeRow) (path : List (List ℕ)) (n : ℕ) (view : NodeView) → IsVolume K nodes → resolve nodes path ≡ Some n → (n == 0) ≡ false → Shows view nodes n → length (chain nodes view.parent) ≤ length path
@@ -120,11 +120,11 @@ room_seen v quotas last old from to n view k h =
     subst (λ (o : Machine). 7 * length (under v.nodes n) ≤ 7 + op_cost o.rows.nodes (Move from to)) view (move_room v.size v.nodes from to n k h)
 
 -- what moves fits, on the old ways up and on the new
-pub move_fits : (v : Volume) (quotas : List QuotaRow) (counters : List Counter) (x d : ℕ) (name : List ℕ) (view : NodeView) (bytes : ℕ) → IsEngine v.size v.nodes quotas counters → Shows view v.nodes x → MovesTo v.nodes x d → IsMoved v.size v.nodes quotas x bytes → Fits v.nodes counters (move_change view.parent d bytes)
+pub move_fits : {level : Bool} (v : Volume) (quotas : List QuotaRow) (counters : List Counter) (x d : ℕ) (name : List ℕ) (view : NodeView) (bytes : ℕ) → IsEngine v.size v.nodes quotas counters level → Shows view v.nodes x → MovesTo v.nodes x d → IsMoved v.size v.nodes quotas x bytes → Fits v.nodes counters (move_change view.parent d bytes)
 move_fits v quotas counters x d name view bytes e s to moved =
     fits_moved v.size v.nodes quotas counters x d name (move_change view.parent d bytes) e.volume e.legal e.are_quotas e.sums (move_changes v.size v.nodes quotas x d name view bytes e.volume e.are_quotas s to moved)
 
-pub moved_fits : (v w : Volume) (quotas : List QuotaRow) (counters : List Counter) (x d : ℕ) (name : List ℕ) (view : NodeView) (bytes : ℕ) → IsEngine v.size v.nodes quotas counters → Shows view v.nodes x → MovesTo v.nodes x d → IsMoved v.size v.nodes quotas x bytes → w ≡ with_place v x d name → Fits w.nodes counters (move_change view.parent d bytes)
+pub moved_fits : {level : Bool} (v w : Volume) (quotas : List QuotaRow) (counters : List Counter) (x d : ℕ) (name : List ℕ) (view : NodeView) (bytes : ℕ) → IsEngine v.size v.nodes quotas counters level → Shows view v.nodes x → MovesTo v.nodes x d → IsMoved v.size v.nodes quotas x bytes → w ≡ with_place v x d name → Fits w.nodes counters (move_change view.parent d bytes)
 moved_fits v w quotas counters x d name view bytes e s to moved made =
     subst (λ (u : Volume). Fits u.nodes counters (move_change view.parent d bytes)) (sym made)
     (fits_new v.size v.nodes (moved_nodes v.nodes x d name) quotas counters (move_change view.parent d bytes) (move_changes v.size v.nodes quotas x d name view bytes e.volume e.are_quotas s to moved)

@@ -1,5 +1,5 @@
 -- Peaks after a command that lasts, and what an engine then keeps.
-use Rattle.std.proofs.Common.{◌≡◌, ℕ, ◌+◌, ◌-◌, ◌≤◌, ◌==◌, Bool, true, false, cond, ◌&&◌, List, Option, Some, None, nat_lt, refl, ap, sym, ◌∙◌, subst, arith}
+use Rattle.std.proofs.Common.{◌≡◌, ℕ, ◌+◌, ◌-◌, ◌≤◌, ◌==◌, Bool, true, false, cond, ◌&&◌, List, [], ◌∷◌, Option, Some, None, nat_lt, refl, ap, sym, ◌∙◌, subst, arith}
 use Rattle.std.proofs.lemmas.Bool.Decides.{nat_tests}
 use Rattle.std.proofs.lemmas.List.{length-map}
 use Rattle.std.proofs.lemmas.Option.{same_Some}
@@ -84,40 +84,45 @@ pub peaks_stay : (K : Capacity) (nodes : List NodeRow) (m : ℕ) (quotas : List 
 peaks_stay K nodes m quotas asc h =
     sym (map_id (peaked K nodes m) quotas (each_found folder_of _ quotas asc (λ q found. peak_stays K nodes m q (h q found))))
 
--- a row that is found after peaks were raised
-record Was (K : Capacity) (nodes : List NodeRow) (m f : ℕ) (quotas : List QuotaRow) (q : QuotaRow) : Type 0 where
+-- a row that is found after rows were changed
+record Was (g : QuotaRow → QuotaRow) (f : ℕ) (quotas : List QuotaRow) (q : QuotaRow) : Type 0 where
   old : QuotaRow
   found : row_of folder_of f quotas ≡ Some old
-  is : q ≡ peaked K nodes m old
+  is : q ≡ g old
 
 mapped_some : (g : QuotaRow → QuotaRow) (o : Option QuotaRow) (q : QuotaRow) → option_map g o ≡ Some q → (r : QuotaRow) × (o ≡ Some r) × (q ≡ g r)
 mapped_some g None q h = cc
 mapped_some g (Some r) q h = (r, refl, sym (same_Some (g r) q h))
 
-was : (K : Capacity) (nodes : List NodeRow) (m f : ℕ) (quotas : List QuotaRow) (q : QuotaRow) → row_of folder_of f (map (peaked K nodes m) quotas) ≡ Some q → Was K nodes m f quotas q
-was K nodes m f quotas q h =
-    let w = mapped_some (peaked K nodes m) (row_of folder_of f quotas) q (sym (find-map (λ q. folder_of q == f) (peaked K nodes m) (λ q. ap (λ n. n == f) (peaked_folder K nodes m q)) quotas) ∙ h) in
+was : (g : QuotaRow → QuotaRow) → ((q : QuotaRow) → (g q).folder ≡ q.folder) → (f : ℕ) (quotas : List QuotaRow) (q : QuotaRow) → row_of folder_of f (map g quotas) ≡ Some q → Was g f quotas q
+was g folder f quotas q h =
+    let w = mapped_some g (row_of folder_of f quotas) q (sym (find-map (λ q. folder_of q == f) g (λ q. ap (λ n. n == f) (folder q)) quotas) ∙ h) in
     record { old = w.0; found = w.1; is = w.2 }
 
 found_folder_is : (f : ℕ) (quotas : List QuotaRow) (q : QuotaRow) → row_of folder_of f quotas ≡ Some q → q.folder ≡ f
 found_folder_is f quotas q h = found_key folder_of f quotas q h
 
+-- quotas of which nothing but peaks changes
+pub quotas_mapped : (nodes : List NodeRow) (g : QuotaRow → QuotaRow) (quotas : List QuotaRow) → ((q : QuotaRow) → (g q).folder ≡ q.folder) → ((q : QuotaRow) → (g q).limit ≡ q.limit) → ((q : QuotaRow) → is_moment q.peak_at ≡ true → is_moment (g q).peak_at ≡ true) → AreQuotas nodes quotas → AreQuotas nodes (map g quotas)
+quotas_mapped nodes g quotas folder limit moment qs =
+    record {
+      ascending = ascending-map folder_of g folder quotas qs.ascending;
+      few = omega (arith, length-map quotas g, qs.few);
+      folders = λ f q h. let w = was g folder f quotas q h in qs.folders f w.old w.found;
+      limits = λ f q h. let w = was g folder f quotas q h in ap (λ (q : QuotaRow). is_limit q.limit) w.is ∙ (ap is_limit (limit w.old) ∙ qs.limits f w.old w.found);
+      moments = λ f q h. let w = was g folder f quotas q h in ap (λ (q : QuotaRow). is_moment q.peak_at) w.is ∙ moment w.old (qs.moments f w.old w.found);
+    }
+
 -- what an engine keeps, once peaks are raised
-pub engine_peaked : (K : Capacity) (nodes : List NodeRow) (quotas : List QuotaRow) (counters : List Counter) (m : ℕ) → IsVolume K nodes → is_capacity K ≡ true → AreQuotas nodes quotas → is_moment m ≡ true → counters ≡ sums_of K nodes quotas → IsEngine K nodes (map (peaked K nodes m) quotas) counters
+pub engine_peaked : {level : Bool} (K : Capacity) (nodes : List NodeRow) (quotas : List QuotaRow) (counters : List Counter) (m : ℕ) → IsVolume K nodes → is_capacity K ≡ true → AreQuotas nodes quotas → is_moment m ≡ true → counters ≡ sums_of K nodes quotas → IsEngine K nodes (map (peaked K nodes m) quotas) counters level
 engine_peaked K nodes quotas counters m v legal qs moment sums =
     record {
       volume = v;
       legal = legal;
-      are_quotas = record {
-        ascending = ascending-map folder_of (peaked K nodes m) (peaked_folder K nodes m) quotas qs.ascending;
-        few = omega (arith, length-map quotas (peaked K nodes m), qs.few);
-        folders = λ f q h. let w = was K nodes m f quotas q h in qs.folders f w.old w.found;
-        limits = λ f q h. let w = was K nodes m f quotas q h in ap (λ (q : QuotaRow). is_limit q.limit) w.is ∙ (ap is_limit (peaked_limit K nodes m w.old) ∙ qs.limits f w.old w.found);
-        moments = λ f q h. let w = was K nodes m f quotas q h in ap (λ (q : QuotaRow). is_moment q.peak_at) w.is ∙ peaked_moment K nodes m w.old moment (qs.moments f w.old w.found);
-      };
+      are_quotas = quotas_mapped nodes (peaked K nodes m) quotas (peaked_folder K nodes m) (peaked_limit K nodes m) (λ q. peaked_moment K nodes m q moment) qs;
       sums = sums ∙ sym (sums_kept K nodes (peaked K nodes m) (peaked_folder K nodes m) (peaked_counts K nodes m) quotas);
-      peaks = λ f q h c.
-          let w = was K nodes m f quotas q h in
+      peaks = λ l f q h c.
+          let w = was (peaked K nodes m) (peaked_folder K nodes m) f quotas q h in
           let counting : counts w.old ≡ true = sym (peaked_counts K nodes m w.old) ∙ (ap counts (sym w.is) ∙ c) in
           let most : usage K nodes w.old.folder ≤ q.peak = subst (λ (p : QuotaRow). usage K nodes w.old.folder ≤ p.peak) (sym w.is) (peaked_most K nodes m w.old counting) in
           subst (λ n. usage K nodes n ≤ q.peak) (found_folder_is f quotas w.old w.found) most;
@@ -149,6 +154,70 @@ raised_is K nodes quotas counters m q asc sums found =
     at : (b : Bool) → option_map_or (λ used. if nat_lt q.peak used then record q { peak = used; peak_at = m } else q) (cond b (Some (usage K nodes q.folder)) None) q ≡ cond (b && nat_lt q.peak (usage K nodes q.folder)) (record q { peak = usage K nodes q.folder; peak_at = m }) q
     at true = refl
     at false = refl
+
+-- a peak that was raised at a moment isn't raised again at it
+pub peaked_twice : (K : Capacity) (nodes : List NodeRow) (m : ℕ) (q : QuotaRow) → peaked K nodes m (peaked K nodes m q) ≡ peaked K nodes m q
+peaked_twice K nodes m q =
+    peak_stays K nodes m (peaked K nodes m q) (λ c.
+    subst (λ n. usage K nodes n ≤ (peaked K nodes m q).peak) (sym (peaked_folder K nodes m q)) (peaked_most K nodes m q (sym (peaked_counts K nodes m q) ∙ c)))
+
+-- some quotas, raised by their counters
+abbrev pub raised_some : (QuotaRow → Bool) → List Counter → ℕ → QuotaRow → QuotaRow
+raised_some p counters m q = if p q then raised counters m q else q
+
+raised_case : (P : QuotaRow → Type 0) (counters : List Counter) (m : ℕ) (q : QuotaRow) → P q → ((used : ℕ) → P (record q { peak = used; peak_at = m })) → (b : Bool) → P (cond b (raised counters m q) q)
+raised_case P counters m q old new false = old
+raised_case P counters m q old new true = at (used_in counters q.folder)
+  where
+    by : (used : ℕ) (b : Bool) → P (cond b (record q { peak = used; peak_at = m }) q)
+    by used true = new used
+    by used false = old
+
+    at : (o : Option ℕ) → P (option_map_or (λ used. if nat_lt q.peak used then record q { peak = used; peak_at = m } else q) o q)
+    at None = old
+    at (Some used) = by used (nat_lt q.peak used)
+
+some_folder : (p : QuotaRow → Bool) (counters : List Counter) (m : ℕ) (q : QuotaRow) → (raised_some p counters m q).folder ≡ q.folder
+some_folder p counters m q = raised_case (λ r. r.folder ≡ q.folder) counters m q refl (λ used. refl) (p q)
+
+some_counts : (p : QuotaRow → Bool) (counters : List Counter) (m : ℕ) (q : QuotaRow) → counts (raised_some p counters m q) ≡ counts q
+some_counts p counters m q = raised_case (λ r. counts r ≡ counts q) counters m q refl (λ used. refl) (p q)
+
+some_limit : (p : QuotaRow → Bool) (counters : List Counter) (m : ℕ) (q : QuotaRow) → (raised_some p counters m q).limit ≡ q.limit
+some_limit p counters m q = raised_case (λ r. r.limit ≡ q.limit) counters m q refl (λ used. refl) (p q)
+
+-- where peaks of some quotas were raised, raising all of them leaves the same as at once
+pub some_settled : (K : Capacity) (nodes : List NodeRow) (p : QuotaRow → Bool) (quotas : List QuotaRow) (counters : List Counter) (m : ℕ) → is_ascending folder_of quotas ≡ true → counters ≡ sums_of K nodes quotas → map (peaked K nodes m) (map (raised_some p counters m) quotas) ≡ map (peaked K nodes m) quotas
+some_settled K nodes p quotas counters m asc sums =
+    twice quotas
+    ∙ map_same (λ q. peaked K nodes m (raised_some p counters m q)) (peaked K nodes m) quotas (each_found folder_of _ quotas asc (λ q found. at q found (p q)))
+  where
+    twice : (rows : List QuotaRow) → map (peaked K nodes m) (map (raised_some p counters m) rows) ≡ map (λ q. peaked K nodes m (raised_some p counters m q)) rows
+    twice [] = refl
+    twice (r ∷ rows) = ap (λ rs. peaked K nodes m (raised_some p counters m r) ∷ rs) (twice rows)
+
+    at : (q : QuotaRow) → row_of folder_of (folder_of q) quotas ≡ Some q → (b : Bool) → peaked K nodes m (cond b (raised counters m q) q) ≡ peaked K nodes m q
+    at q found true = ap (peaked K nodes m) (raised_is K nodes quotas counters m q asc sums found) ∙ peaked_twice K nodes m q
+    at q found false = refl
+
+-- what is kept where peaks of some quotas were raised: of an engine that is level, of all that must be
+pub engine_raised : {level : Bool} (K : Capacity) (nodes : List NodeRow) (p : QuotaRow → Bool) (quotas : List QuotaRow) (counters : List Counter) (m : ℕ) → IsVolume K nodes → is_capacity K ≡ true → AreQuotas nodes quotas → is_moment m ≡ true → counters ≡ sums_of K nodes quotas → (level ≡ true → map (raised_some p counters m) quotas ≡ map (peaked K nodes m) quotas) → IsEngine K nodes (map (raised_some p counters m) quotas) counters level
+engine_raised {level} K nodes p quotas counters m v legal qs moment sums all =
+    record {
+      volume = v;
+      legal = legal;
+      are_quotas = quotas_mapped nodes (raised_some p counters m) quotas (some_folder p counters m) (some_limit p counters m)
+          (λ q old. raised_case (λ r. is_moment r.peak_at ≡ true) counters m q old (λ used. moment) (p q)) qs;
+      sums = sums ∙ sym (sums_kept K nodes (raised_some p counters m) (some_folder p counters m) (some_counts p counters m) quotas);
+      peaks = λ l f q h c.
+          let whole : IsEngine K nodes (map (peaked K nodes m) quotas) counters true = engine_peaked K nodes quotas counters m v legal qs moment sums in
+          whole.peaks refl f q (subst (λ rows. row_of folder_of f rows ≡ Some q) (all l) h) c;
+    }
+
+-- what is kept where all of them were
+pub all_raised : (K : Capacity) (nodes : List NodeRow) (quotas : List QuotaRow) (counters : List Counter) (m : ℕ) → is_ascending folder_of quotas ≡ true → counters ≡ sums_of K nodes quotas → map (raised counters m) quotas ≡ map (peaked K nodes m) quotas
+all_raised K nodes quotas counters m asc sums =
+    map_same (raised counters m) (peaked K nodes m) quotas (each_found folder_of _ quotas asc (λ q found. raised_is K nodes quotas counters m q asc sums found))
 
 -- peaks that were raised above the folder that gained are those that are due
 pub peaks_raised : (K : Capacity) (nodes new : List NodeRow) (quotas : List QuotaRow) (counters : List Counter) (change : Change) (m : ℕ) → AreQuotas nodes quotas → Changes K nodes new quotas change → counters ≡ sums_of K new quotas → ((f : ℕ) (q : QuotaRow) → row_of folder_of f quotas ≡ Some q → counts q ≡ true → usage K nodes f ≤ q.peak) → map (raised_above new change.to counters m) quotas ≡ map (peaked K new m) quotas

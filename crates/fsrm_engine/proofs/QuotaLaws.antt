@@ -11,56 +11,35 @@ use Rattle.fsrm_model.specs.declared.row.NodeRow.{NodeRow}
 use Rattle.fsrm_model.specs.declared.row.QuotaRow.{QuotaRow}
 use Rattle.fsrm_model.specs.Check.{◌when◌, first}
 use Rattle.fsrm_model.specs.FileOps.{target}
-use Rattle.fsrm_base.specs.Keyed.{row_of, has_row, with_change, without_row}
+use Rattle.fsrm_base.specs.Keyed.{row_of, has_row, with_change}
 use Rattle.fsrm_model.specs.Leads.{leads_to_folder}
 use Rattle.fsrm_model.specs.Limits.{latest_moment}
-use Rattle.fsrm_model.specs.Quota.{folder_of, counts, is_limit, peaked}
+use Rattle.fsrm_model.specs.Quota.{folder_of, counts, peaked}
 use Rattle.fsrm_model.specs.QuotaWork.{quota_checks, reset}
 use Rattle.fsrm_model.specs.Step.{step}
 use Rattle.fsrm_model.specs.Tree.{usage}
-use Rattle.fsrm_model.specs.Valid.{IsVolume, AreQuotas, is_moment}
-use Rattle.fsrm_base.proofs.Look.{found_key, found_has, has_found, changed_key, changed_found}
-use Rattle.fsrm_base.proofs.Order.{ascending-change, ascending-filter, length-change}
+use Rattle.fsrm_base.proofs.Look.{found_key, found_has, has_found}
 use Rattle.fsrm_objects.specs.Tables.{peaked_at}
 use Rattle.fsrm_base.proofs.SortedRows.{has_lent}
 use Rattle.quota_usage.specs.declared.change.Counter.{Counter}
-use Rattle.quota_usage.specs.Counters.{counted, used_in, without_counter}
+use Rattle.quota_usage.specs.Counters.{used_in}
 use Rattle.volume_tree.specs.Volume.{Volume}
-use Rattle.fsrm_engine.specs.Machine.{IsSound, Machine, Takes, rows_at, sums_of, IsEngine}
+use Rattle.fsrm_engine.specs.Machine.{Machine, Takes, rows_at, IsEngine}
 use Rattle.fsrm_engine.specs.Places.{IsFolder}
-use Rattle.fsrm_engine.proofs.PeakLaws.{engine_peaked, peaks_stay}
 use Rattle.fsrm_engine.proofs.PlaceLaws.{target_is, leads_to_folder_is}
 use Rattle.fsrm_base.proofs.RowLaws.{change_same}
 use Rattle.fsrm_engine.proofs.StepLaws.{machine, asked_of, due, done_at}
-use Rattle.fsrm_engine.proofs.SumLaws.{used_found, sums_without, sums_kept}
-use Rattle.fsrm_engine.proofs.CountingLaws.{is_moment_of, without_found, filter_few}
-
--- what holds of quotas and counters behind a command of this moment that left the nodes as they were
-pub record Kept (K : Capacity) (nodes : List NodeRow) (counters : List Counter) (m : ℕ) (after : List QuotaRow) : Type 0 where
-  pub are : AreQuotas nodes after
-  pub sums : counters ≡ sums_of K nodes after
-  pub peaks : after ≡ map (peaked K nodes m) after
-
--- of quotas and counters that are made so
-pub kept_same : (K : Capacity) (nodes : List NodeRow) (counters made : List Counter) (m : ℕ) (after set : List QuotaRow) → made ≡ counters → set ≡ after → Kept K nodes counters m after → Kept K nodes made m set
-kept_same K nodes counters made m after set c q k =
-    subst (λ (qs : List QuotaRow). Kept K nodes made m qs) (sym q) (subst (λ (cs : List Counter). Kept K nodes cs m after) (sym c) k)
-
--- then it is an engine
-pub engine_kept : (K : Capacity) (nodes : List NodeRow) (quotas after : List QuotaRow) (old counters : List Counter) (m : ℕ) → IsEngine K nodes quotas old → m ≤ latest_moment → Kept K nodes counters m after → IsEngine K nodes after counters
-engine_kept K nodes quotas after old counters m e late k =
-    subst (λ (qs : List QuotaRow). IsEngine K nodes qs counters) (sym k.peaks)
-    (engine_peaked K nodes after counters m e.volume e.legal k.are (is_moment_of m late) k.sums)
-
--- and its rows are those of a store
-pub store_kept : (v : Volume) (after : List QuotaRow) (counters : List Counter) (m : ℕ) (new : Machine) → IsVolume v.size v.nodes → Kept v.size v.nodes counters m after → new ≡ machine v after m → IsSound new.size new.rows
-store_kept v after counters m new volume k n =
-    subst (λ (o : Machine). IsSound o.size o.rows) (sym n) (record { volume = volume; quotas = k.are })
+use Rattle.fsrm_engine.proofs.SumLaws.{used_found, sums_kept}
+use Rattle.fsrm_engine.proofs.CountingLaws.{is_moment_of, engine_changed}
 
 -- the answer to a command on quotas that was done
-pub quotas_done : (v : Volume) (quotas after : List QuotaRow) (counters : List Counter) (last m : ℕ) (deed : Deed) (old new : Machine) (answer : Answer) → machine v quotas last ≡ old → old.rows.last_moment ≤ m → due v quotas last m deed ≡ None → (asked_of v quotas last m deed).effect ≡ rows_at v.nodes after last → (asked_of v quotas last m deed).outcome ≡ Done None → (asked_of v quotas last m deed).lasts ≡ true → Kept v.size v.nodes counters m after → new ≡ machine v after m → answer ≡ record { outcome = Done None; lasting = true } → Takes old new (step old.size old.rows (record { moment = m; deed = deed })) answer
-quotas_done v quotas after counters last m deed old new answer view late none effect outcome lasts k n e =
-    done_at v v quotas after after last m deed old new answer view late none effect outcome lasts refl k.peaks n e
+pub quotas_done : (v : Volume) (quotas after : List QuotaRow) (last m : ℕ) (deed : Deed) (old new : Machine) (answer : Answer) → machine v quotas last ≡ old → old.rows.last_moment ≤ m → due v quotas last m deed ≡ None → (asked_of v quotas last m deed).effect ≡ rows_at v.nodes after last → (asked_of v quotas last m deed).outcome ≡ Done None → (asked_of v quotas last m deed).lasts ≡ true → new ≡ machine v (map (peaked v.size v.nodes m) after) m → answer ≡ record { outcome = Done None; lasting = true } → Takes old new (step old.size old.rows (record { moment = m; deed = deed })) answer
+quotas_done v quotas after last m deed old new answer view late none effect outcome lasts n e =
+    done_at v v quotas after after last m deed old new answer view late none effect outcome lasts refl refl n e
+
+-- what an engine keeps, of quotas that are made so
+pub engine_same : {level : Bool} (K : Capacity) (nodes : List NodeRow) (counters : List Counter) (after set : List QuotaRow) → set ≡ after → IsEngine K nodes after counters level → IsEngine K nodes set counters level
+engine_same {level} K nodes counters after set is e = subst (λ (qs : List QuotaRow). IsEngine K nodes qs counters level) (sym is) e
 
 -- the quota of a folder that a path leads to
 pub record OnFolder (nodes : List NodeRow) (quotas : List QuotaRow) (path : List (List ℕ)) (n : ℕ) : Type 0 where
@@ -88,82 +67,30 @@ quota_due nodes quotas last path n o =
     at true false a b = refl
     at false b a e = cc
 
--- without a folder's quota
-
-pub kept_without : (K : Capacity) (nodes : List NodeRow) (quotas : List QuotaRow) (counters : List Counter) (m n : ℕ) → IsEngine K nodes quotas counters → Kept K nodes (without_counter counters n) m (without_row folder_of n quotas)
-kept_without K nodes quotas counters m n e =
-    let q = e.are_quotas in
-    let asc = ascending-filter folder_of (λ r. not (folder_of r == n)) quotas q.ascending in
-    record {
-      are = record {
-        ascending = asc;
-        few = omega (arith, filter_few (λ r. not (folder_of r == n)) quotas, q.few);
-        folders = λ f r h. q.folders f r (without_found n f quotas r h);
-        limits = λ f r h. q.limits f r (without_found n f quotas r h);
-        moments = λ f r h. q.moments f r (without_found n f quotas r h);
-      };
-      sums = ap (without_row counted n) e.sums ∙ sym (sums_without K nodes n quotas);
-      peaks = peaks_stay K nodes m (without_row folder_of n quotas) asc (λ r h c. e.peaks (folder_of r) r (without_found n (folder_of r) quotas r h) c);
-    }
-
--- a change of a quota that keeps what counts
-record Safe (K : Capacity) (nodes : List NodeRow) (c : QuotaRow → QuotaRow) : Type 0 where
-  folder : (r : QuotaRow) → (c r).folder ≡ r.folder
-  counting : (r : QuotaRow) → counts (c r) ≡ counts r
-  limit : (r : QuotaRow) → is_limit r.limit ≡ true → is_limit (c r).limit ≡ true
-  moment : (r : QuotaRow) → is_moment r.peak_at ≡ true → is_moment (c r).peak_at ≡ true
-  peak : (r : QuotaRow) → counts r ≡ true → usage K nodes r.folder ≤ r.peak → usage K nodes r.folder ≤ (c r).peak
-
--- a fact of a changed row, from the same of the row as it was
-of_changed : (n : ℕ) (c : QuotaRow → QuotaRow) (P : QuotaRow → Type 0) → ((r : QuotaRow) → (c r).folder ≡ r.folder) → ((r : QuotaRow) → P r → P (c r)) → (f : ℕ) (quotas : List QuotaRow) (r : QuotaRow) → ((r : QuotaRow) → row_of folder_of f quotas ≡ Some r → P r) → row_of folder_of f (with_change folder_of n c quotas) ≡ Some r → P r
-of_changed n c P k s f quotas r old h =
-    let w = changed_found folder_of n c k f quotas r h in
-    subst P (sym w.is) (at (f == n) w.row (old w.row w.found))
+-- with the peak that is used now
+pub engine_reset : {level : Bool} (K : Capacity) (nodes : List NodeRow) (quotas : List QuotaRow) (counters : List Counter) (last m n : ℕ) → IsEngine K nodes quotas counters level → m ≤ latest_moment → IsEngine K nodes (with_change folder_of n (reset K (rows_at nodes quotas last) m) quotas) counters level
+engine_reset K nodes quotas counters last m n e late =
+    engine_changed K nodes quotas counters counters n c e (λ r. refl) (λ r found. e.are_quotas.limits n r found) (λ r found. is_moment_of m late)
+    (λ l r found t. subst (λ k. usage K nodes k ≤ (c r).peak) (found_key folder_of n quotas r found) (at r (counts r) t))
+    (e.sums ∙ sym (sums_kept K nodes (λ r. if folder_of r == n then c r else r) (λ r. same_folder (folder_of r == n) r) (λ r. same_counts (folder_of r == n) r) quotas))
   where
-    at : (b : Bool) (r : QuotaRow) → P r → P (cond b (c r) r)
-    at true r p = s r p
-    at false r p = p
+    c : QuotaRow → QuotaRow
+    c = reset K (rows_at nodes quotas last) m
 
-kept_changed : (K : Capacity) (nodes : List NodeRow) (quotas : List QuotaRow) (counters : List Counter) (m n : ℕ) (c : QuotaRow → QuotaRow) → IsEngine K nodes quotas counters → Safe K nodes c → Kept K nodes counters m (with_change folder_of n c quotas)
-kept_changed K nodes quotas counters m n c e s =
-    let q = e.are_quotas in
-    let asc = ascending-change folder_of n c s.folder quotas q.ascending in
-    record {
-      are = record {
-        ascending = asc;
-        few = omega (arith, length-change folder_of n c quotas, q.few);
-        folders = λ f r h. q.folders f _ (changed_found folder_of n c s.folder f quotas r h).found;
-        limits = λ f r h. of_changed n c (λ r. is_limit r.limit ≡ true) s.folder s.limit f quotas r (q.limits f) h;
-        moments = λ f r h. of_changed n c (λ r. is_moment r.peak_at ≡ true) s.folder s.moment f quotas r (q.moments f) h;
-      };
-      sums = e.sums ∙ sym (sums_kept K nodes (λ r. if folder_of r == n then c r else r) (λ r. changed_key folder_of n c s.folder (folder_of r == n) r) (λ r. same_counts (folder_of r == n) r) quotas);
-      peaks = peaks_stay K nodes m (with_change folder_of n c quotas) asc (λ r h. of_changed n c (λ r. counts r ≡ true → usage K nodes r.folder ≤ r.peak) s.folder kept_peak (folder_of r) quotas r (old_peak (folder_of r)) h);
-    }
-  where
+    same_folder : (b : Bool) (r : QuotaRow) → (cond b (c r) r).folder ≡ r.folder
+    same_folder true r = refl
+    same_folder false r = refl
+
     same_counts : (b : Bool) (r : QuotaRow) → counts (cond b (c r) r) ≡ counts r
-    same_counts true r = s.counting r
+    same_counts true r = refl
     same_counts false r = refl
 
-    kept_peak : (r : QuotaRow) → (counts r ≡ true → usage K nodes r.folder ≤ r.peak) → counts (c r) ≡ true → usage K nodes (c r).folder ≤ (c r).peak
-    kept_peak r h t =
-        let was : counts r ≡ true = sym (s.counting r) ∙ t in
-        subst (λ k. usage K nodes k ≤ (c r).peak) (sym (s.folder r)) (s.peak r was (h was))
-
-    old_peak : (f : ℕ) (r : QuotaRow) → row_of folder_of f quotas ≡ Some r → counts r ≡ true → usage K nodes r.folder ≤ r.peak
-    old_peak f r found t = subst (λ k. usage K nodes k ≤ r.peak) (sym (found_key folder_of f quotas r found)) (e.peaks f r found t)
-
--- with the peak that is used now
-pub kept_reset : (K : Capacity) (nodes : List NodeRow) (quotas : List QuotaRow) (counters : List Counter) (last m n : ℕ) → IsEngine K nodes quotas counters → m ≤ latest_moment → Kept K nodes counters m (with_change folder_of n (reset K (rows_at nodes quotas last) m) quotas)
-kept_reset K nodes quotas counters last m n e late =
-    kept_changed K nodes quotas counters m n (reset K (rows_at nodes quotas last) m) e
-    (record { folder = λ r. refl; counting = λ r. refl; limit = λ r o. o; moment = λ r o. is_moment_of m late; peak = λ r c o. at r (counts r) c })
-  where
     at : (r : QuotaRow) (b : Bool) → b ≡ true → usage K nodes r.folder ≤ cond b (usage K nodes r.folder) 0
     at r true h = omega arith
     at r false h = cc
 
 -- what is written is what is due
-pub reset_is : (K : Capacity) (nodes : List NodeRow) (quotas : List QuotaRow) (counters : List Counter) (last m n used : ℕ) → IsEngine K nodes quotas counters → used ≡ unwrap_or (used_in counters n) 0 → with_change folder_of n (peaked_at used m) quotas ≡ with_change folder_of n (reset K (rows_at nodes quotas last) m) quotas
+pub reset_is : {level : Bool} (K : Capacity) (nodes : List NodeRow) (quotas : List QuotaRow) (counters : List Counter) (last m n used : ℕ) → IsEngine K nodes quotas counters level → used ≡ unwrap_or (used_in counters n) 0 → with_change folder_of n (peaked_at used m) quotas ≡ with_change folder_of n (reset K (rows_at nodes quotas last) m) quotas
 reset_is K nodes quotas counters last m n used e h =
     change_same folder_of n (peaked_at used m) (reset K (rows_at nodes quotas last) m) quotas e.are_quotas.ascending (λ r found.
     ap (λ p. record r { peak = p; peak_at = m })

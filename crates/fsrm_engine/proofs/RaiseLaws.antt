@@ -1,20 +1,21 @@
 -- One quota's peak, raised by its counter.
-use Rattle.std.proofs.Common.{◌≡◌, ℕ, ◌<◌, ◌≤◌, ◌==◌, Bool, true, false, cond, inl, inr, List, [], ◌∷◌, Option, Some, None, nat_lt, refl, ap, sym, ◌∙◌, subst, arith}
+use Rattle.std.proofs.Common.{◌≡◌, ℕ, ◌+◌, ◌<◌, ◌≤◌, ◌==◌, Bool, true, false, cond, inl, inr, List, [], ◌∷◌, ◌++◌, length, slice_get, ◌||◌, append_assoc, length-append, Option, Some, None, nat_lt, refl, ap, sym, ◌∙◌, subst, arith}
 use Rattle.std.proofs.lemmas.Bool.Decides.{nat_tests}
 use Rattle.std.proofs.lemmas.Option.{same_Some}
 use Rattle.std.specs.Prelude.{map, is_some, if◌then◌else◌}
 use Rattle.std.specs.Option.{option_map_or}
 use Rattle.fsrm_model.specs.declared.row.QuotaRow.{QuotaRow}
-use Rattle.fsrm_base.specs.Keyed.{row_of, is_ascending, with_change}
+use Rattle.std.proofs.lemmas.List.{length-map, map-append, append-nil}
+use Rattle.fsrm_base.specs.Keyed.{row_of, has_row, is_ascending, with_change}
 use Rattle.fsrm_model.specs.Quota.{folder_of}
 use Rattle.fsrm_model.specs.declared.row.NodeRow.{NodeRow}
 use Rattle.fsrm_model.specs.Tree.{parent_of, is_under}
 use Rattle.fsrm_model.proofs.Below.{above_all}
 use Rattle.fsrm_model.proofs.ChainLaws.{IsTree, Has}
 use Rattle.fsrm_base.specs.Numbers.{is_in}
-use Rattle.fsrm_base.proofs.EditedRows.{change_absent}
+use Rattle.fsrm_base.proofs.EditedRows.{change_absent, absent_later, ascending_tail}
 use Rattle.fsrm_model.proofs.Climbs.{climb, under_own}
-use Rattle.fsrm_base.proofs.TestLaws.{eq_is, is_or_not, or_later}
+use Rattle.fsrm_base.proofs.TestLaws.{clash, eq_is, eq_same, is_or_not, not_true, or_later}
 use Rattle.volume_tree.specs.declared.answer.NodeView.{NodeView}
 use Rattle.volume_tree.specs.Volume.{Shows}
 use Rattle.fsrm_base.proofs.Look.{found_key, is_some-find}
@@ -94,3 +95,70 @@ none_above nodes place counters m quotas h = stays nodes counters m quotas ∙ a
     stays : (nodes : List NodeRow) (counters : List Counter) (m : ℕ) (quotas : List QuotaRow) → quotas ≡ map (raised_above nodes None counters m) quotas
     stays nodes counters m [] = refl
     stays nodes counters m (q ∷ qs) = ap (λ rs. q ∷ rs) (stays nodes counters m qs)
+
+-- the peaks before a place of a table were raised
+pub record RaisedTo (raise : QuotaRow → QuotaRow) (old now : List QuotaRow) (place : ℕ) : Type 0 where
+  pub passed : List QuotaRow
+  pub ahead : List QuotaRow
+  pub whole : old ≡ passed ++ ahead
+  pub count : length passed ≡ place
+  pub now_is : now ≡ map raise passed ++ ahead
+
+pub raised_none : (raise : QuotaRow → QuotaRow) (old : List QuotaRow) → RaisedTo raise old old 0
+raised_none raise old = record { passed = []; ahead = old; whole = refl; count = refl; now_is = refl }
+
+-- another row in the place of one among ascending rows
+change_there : {X : Type 0} (key : X → ℕ) (c : X → X) (before : List X) (q : X) (after : List X) → is_ascending key (before ++ q ∷ after) ≡ true → with_change key (key q) c (before ++ q ∷ after) ≡ before ++ c q ∷ after
+change_there key c [] q after asc =
+    ap (λ b. cond b (c q) q ∷ with_change key (key q) c after) (eq_same (key q))
+    ∙ ap (λ rs. c q ∷ rs) (change_absent key (key q) c after (absent_later key (key q) q after (le_same (key q)) asc))
+  where
+    le_same : (n : ℕ) → n ≤ n
+    le_same n = omega arith
+change_there key c (x ∷ before) q after asc =
+    ap (λ b. cond b (c x) x ∷ with_change key (key q) c (before ++ q ∷ after))
+    (not_true (key x == key q) (λ e.
+    clash (has_row key (key x) (before ++ q ∷ after))
+    (ap (λ n. has_row key n (before ++ q ∷ after)) (eq_is (key x) (key q) e) ∙ has_it before)
+    (absent_later key (key x) x (before ++ q ∷ after) (le_same (key x)) asc)))
+    ∙ ap (λ rs. x ∷ rs) (change_there key c before q after (ascending_tail key x (before ++ q ∷ after) asc))
+  where
+    le_same : (n : ℕ) → n ≤ n
+    le_same n = omega arith
+
+    has_it : (rows : List _) → has_row key (key q) (rows ++ q ∷ after) ≡ true
+    has_it [] = ap (λ b. b || has_row key (key q) after) (eq_same (key q))
+    has_it (r ∷ rows) = or_later (key r == key q) (has_row key (key q) (rows ++ q ∷ after)) (has_it rows)
+
+-- the row at a place
+row_at : {X : Type 0} (before ahead : List X) (x : X) → slice_get (before ++ ahead) (length before) ≡ Some x → (rest : List X) × (ahead ≡ x ∷ rest)
+row_at [] [] x h = cc
+row_at [] (y ∷ ahead) x h = (ahead, ap (λ z. z ∷ ahead) (same_Some y x h))
+row_at (b ∷ before) ahead x h = row_at before ahead x h
+
+pub raised_next : (counters : List Counter) (m : ℕ) (old now : List QuotaRow) (place : ℕ) (q : QuotaRow) → is_ascending folder_of now ≡ true → slice_get now place ≡ Some q → RaisedTo (raised counters m) old now place → RaisedTo (raised counters m) old (with_change folder_of q.folder (raised counters m) now) (place + 1)
+raised_next counters m old now place q asc at r =
+    let raise = raised counters m in
+    let len : length (map raise r.passed) ≡ place = length-map r.passed raise ∙ r.count in
+    let there : slice_get (map raise r.passed ++ r.ahead) (length (map raise r.passed)) ≡ Some q = ap (slice_get (map raise r.passed ++ r.ahead)) len ∙ (ap (λ rows. slice_get rows place) (sym r.now_is) ∙ at) in
+    let w = row_at (map raise r.passed) r.ahead q there in
+    let now_is : now ≡ map raise r.passed ++ q ∷ w.0 = r.now_is ∙ ap (λ rows. map raise r.passed ++ rows) w.1 in
+    record {
+      passed = r.passed ++ q ∷ [];
+      ahead = w.0;
+      whole = r.whole ∙ (ap (λ rows. r.passed ++ rows) w.1 ∙ sym (append_assoc r.passed (q ∷ []) w.0));
+      count = omega (arith, length-append r.passed (q ∷ []), r.count);
+      now_is =
+          ap (with_change folder_of q.folder raise) now_is
+          ∙ (change_there folder_of raise (map raise r.passed) q w.0 (ap (is_ascending folder_of) (sym now_is) ∙ asc)
+          ∙ sym (ap (λ rows. rows ++ w.0) (map-append raise r.passed (q ∷ [])) ∙ append_assoc (map raise r.passed) (raise q ∷ []) w.0));
+    }
+
+pub raised_whole : (raise : QuotaRow → QuotaRow) (old now : List QuotaRow) (place : ℕ) → length old ≤ place → RaisedTo raise old now place → now ≡ map raise old
+raised_whole raise old now place end r =
+    let none : r.ahead ≡ [] = empty r.ahead (omega (arith, end, ap length r.whole, length-append r.passed r.ahead, r.count)) in
+    r.now_is ∙ (ap (λ rows. map raise r.passed ++ rows) none ∙ (append-nil (map raise r.passed) ∙ ap (map raise) (sym (r.whole ∙ (ap (λ rows. r.passed ++ rows) none ∙ append-nil r.passed)))))
+  where
+    empty : (rows : List QuotaRow) → length rows ≤ 0 → rows ≡ []
+    empty [] h = refl
+    empty (x ∷ rows) h = absurd (omega arith)

@@ -30,22 +30,21 @@ use Rattle.fsrm_base.proofs.Look.{is_some-find}
 use Rattle.fsrm_base.proofs.Order.{length-with_row}
 use Rattle.fsrm_base.proofs.TestLaws.{clash, eq_is}
 use Rattle.fsrm_model.proofs.UsageLaws.{usage_children}
-use Rattle.fsrm_engine.specs.Machine.{Machine, Takes, IsLevel, with_rows}
+use Rattle.fsrm_engine.specs.Machine.{Machine, Takes, settled, with_rows}
 use Rattle.fsrm_engine.specs.Places.{IsFolder}
 use Rattle.fsrm_engine.proofs.PlaceLaws.{target_is, leads_to_folder_is}
 use Rattle.fsrm_base.proofs.RowLaws.{change_same}
 use Rattle.fsrm_engine.proofs.WholeLaws.{asks_of, done_whole}
 use Rattle.rescan.proofs.ChangeLaws.{change_twice}
 
--- the answer to a command that was done: a machine that is settled, and then has the command's moment
-pub settled : (old mid new : Machine) (m : ℕ) (deed : Deed) (answer : Answer) (effect : Rows) → old.waiting ≡ [] → old.rows.last_moment ≤ m → first (asks_of old m deed).checks ≡ None → (asks_of old m deed).effect ≡ effect → (asks_of old m deed).outcome ≡ Done None → (asks_of old m deed).lasts ≡ true → mid ≡ with_rows old (followed old.rows effect) → IsLevel mid → new ≡ with_rows mid (record mid.rows { last_moment = m }) → answer ≡ record { outcome = Done None; lasting = true } → Takes old new (step old.size old.rows (record { moment = m; deed = deed })) answer
-settled old mid new m deed answer effect idle late none made is lasts settles level ends e =
+-- the answer to a command that was done: its effect, and then its end
+pub done_settled : (old mid new : Machine) (m : ℕ) (deed : Deed) (answer : Answer) (effect : Rows) → old.waiting ≡ [] → old.rows.last_moment ≤ m → first (asks_of old m deed).checks ≡ None → (asks_of old m deed).effect ≡ effect → (asks_of old m deed).outcome ≡ Done None → (asks_of old m deed).lasts ≡ true → mid ≡ with_rows old (followed old.rows effect) → new ≡ settled mid m → answer ≡ record { outcome = Done None; lasting = true } → Takes old new (step old.size old.rows (record { moment = m; deed = deed })) answer
+done_settled old mid new m deed answer effect idle late none made is lasts settles ends e =
     done_whole old new m deed answer effect (Done None) late none made is lasts
     (ap (λ (o : Machine). o.size) ends ∙ ap (λ (o : Machine). o.size) settles)
     (ap (λ (o : Machine). o.waiting) ends ∙ (ap (λ (o : Machine). o.waiting) settles ∙ idle))
     (ap (λ (o : Machine). o.rows) ends
-    ∙ (ap (λ (qs : List QuotaRow). record mid.rows { quotas = qs; last_moment = m }) (level m)
-    ∙ ap (λ (o : Machine). record (peaks o.size o.rows m) { last_moment = m }) settles))
+    ∙ ap (λ (o : Machine). record (peaks o.size o.rows m) { last_moment = m }) settles)
     e
 
 -- Refusals: the path leads to no folder, or that folder has no quota

@@ -2,7 +2,7 @@
 use Rattle.std.proofs.Common.{◌≡◌, ℕ, ◌≤◌, true, false, List, [], ◌∷◌, Option, Some, None, Result, Ok, Err, nat_lt, refl, ap, sym, ◌∙◌, subst, arith}
 use Rattle.std.proofs.lemmas.Bool.Decides.{nat_tests}
 use Rattle.std.proofs.lemmas.Option.{same_Some}
-use Rattle.std.specs.Prelude.{option_map, unwrap_or, map, IfOk, if◌then◌else◌}
+use Rattle.std.specs.Prelude.{option_map, map, IfOk, if◌then◌else◌}
 use Rattle.std.specs.Option.{option_and_then}
 use Rattle.fsrm_model.specs.declared.command.Answer.{Answer}
 use Rattle.fsrm_model.specs.declared.command.Command.{Command}
@@ -103,11 +103,6 @@ pub last_check : (o : Option Refusal) → first (o ∷ []) ≡ o
 last_check None = refl
 last_check (Some refusal) = refl
 
--- where there is another refusal, one is due
-pub some_first : (o : Option Refusal) (more : Refusal) → or_else o (Some more) ≡ Some (unwrap_or o more)
-some_first None more = refl
-some_first (Some refusal) more = refl
-
 fault_due : (fault : TreeFault) (o : Option TreeFault) (more : Option Refusal) (refusal : Refusal) → IsFault fault o → refusal_of fault ≡ Some refusal → tree_first o more ≡ Some refusal
 fault_due AlreadyExists o more refusal h r = ap (λ o. tree_first o more) h ∙ r
 fault_due InvalidMove o more refusal h r = ap (λ o. tree_first o more) h ∙ r
@@ -117,23 +112,32 @@ fault_due NamesFull o more refusal h r = ap (λ o. tree_first o more) h ∙ r
 fault_due NoMemory o more refusal h r = cc
 
 -- the answer to a command that the tree refused, which then is as it was
-pub refused_by_at : (v v' : Volume) (quotas : List QuotaRow) (last m : ℕ) (deed : Deed) (old : Machine) (fault : TreeFault) (fault_is : Option TreeFault) (more : Option Refusal) (result : Result Answer Wanting) → machine v quotas last ≡ old → old.rows.last_moment ≤ m → v' ≡ v → due v quotas last m deed ≡ tree_first fault_is more → IsFault fault fault_is → IfOk result (λ answer. answer_of fault ≡ Some answer) → IfOk result (λ answer. Takes old (machine v' quotas last) (step old.size old.rows (record { moment = m; deed = deed })) answer)
+refused_by_at : (v v' : Volume) (quotas : List QuotaRow) (last m : ℕ) (deed : Deed) (old : Machine) (fault : TreeFault) (fault_is : Option TreeFault) (more : Option Refusal) (result : Result Answer Wanting) → machine v quotas last ≡ old → old.rows.last_moment ≤ m → v' ≡ v → due v quotas last m deed ≡ tree_first fault_is more → IsFault fault fault_is → IfOk result (λ answer. answer_of fault ≡ Some answer) → IfOk result (λ answer. Takes old (machine v' quotas last) (step old.size old.rows (record { moment = m; deed = deed })) answer)
 refused_by_at v v' quotas last m deed old fault fault_is more (Err e) view late same h is given = tt
 refused_by_at v v' quotas last m deed old fault fault_is more (Ok answer) view late same h is given =
     let t = told (refusal_of fault) answer given in
     takes_refused v v' quotas last m deed old answer t.refusal view same
     (step_by v.size (rows_at v.nodes quotas last) m deed (Some t.refusal) (was_late v quotas last m old view late) (h ∙ fault_due fault fault_is more t.refusal is t.is)) t.answer_is
 
--- the answer to a command that was done, and leaves these nodes and quotas before peaks are raised
-pub done_at : (v w : Volume) (quotas after peaks : List QuotaRow) (last m : ℕ) (deed : Deed) (old new : Machine) (answer : Answer) → machine v quotas last ≡ old → old.rows.last_moment ≤ m → due v quotas last m deed ≡ None → (asked_of v quotas last m deed).effect ≡ rows_at w.nodes after last → (asked_of v quotas last m deed).outcome ≡ Done None → (asked_of v quotas last m deed).lasts ≡ true → w.size ≡ v.size → peaks ≡ map (peaked v.size w.nodes m) after → new ≡ machine w peaks m → answer ≡ record { outcome = Done None; lasting = true } → Takes old new (step old.size old.rows (record { moment = m; deed = deed })) answer
-done_at v w quotas after peaks last m deed old new answer view late none effect outcome lasts size raised n e =
+-- a fault that is due, and isn't for want of memory
+pub is_fault : (fault : TreeFault) (o : Option TreeFault) → o ≡ Some fault → IsFault fault o
+is_fault AlreadyExists o h = h
+is_fault InvalidMove o h = h
+is_fault NotEmpty o h = h
+is_fault VolumeFull o h = h
+is_fault NamesFull o h = h
+is_fault NoMemory o h = tt
+
+-- the answer to a command that was done, and leaves these nodes and quotas before peaks are raised. Some may have been
+pub done_at : (v w : Volume) (quotas after some : List QuotaRow) (last m : ℕ) (deed : Deed) (old new : Machine) (answer : Answer) → machine v quotas last ≡ old → old.rows.last_moment ≤ m → due v quotas last m deed ≡ None → (asked_of v quotas last m deed).effect ≡ rows_at w.nodes after last → (asked_of v quotas last m deed).outcome ≡ Done None → (asked_of v quotas last m deed).lasts ≡ true → w.size ≡ v.size → map (peaked v.size w.nodes m) some ≡ map (peaked v.size w.nodes m) after → new ≡ machine w (map (peaked w.size w.nodes m) some) m → answer ≡ record { outcome = Done None; lasting = true } → Takes old new (step old.size old.rows (record { moment = m; deed = deed })) answer
+done_at v w quotas after some last m deed old new answer view late none effect outcome lasts size same n e =
     let R = rows_at v.nodes quotas last in
     let asked = work v.size R m deed in
     let s : step v.size R (record { moment = m; deed = deed }) ≡ record { rows = rows_at w.nodes (map (peaked v.size w.nodes m) after) m; outcome = Done None; lasting = true; acts = [] } =
     step_by v.size R m deed None (was_late v quotas last m old view late) none
     ∙ accepted_is v.size R m asked w.nodes after last refl effect outcome lasts in
     from_outside v quotas last m deed old new answer _ view s
-    (ap (λ (o : Machine). o.size) n ∙ size) (ap (λ (o : Machine). o.rows) n ∙ ap (λ (qs : List QuotaRow). rows_at w.nodes qs m) raised) (ap (λ (o : Machine). o.waiting) n)
+    (ap (λ (o : Machine). o.size) n ∙ size) (ap (λ (o : Machine). o.rows) n ∙ ap (λ (qs : List QuotaRow). rows_at w.nodes qs m) (ap (λ (K : Capacity). map (peaked K w.nodes m) some) size ∙ same)) (ap (λ (o : Machine). o.waiting) n)
     (ap (λ (a : Answer). a.outcome) e) (ap (λ (a : Answer). a.lasting) e)
   where
     accepted_is : (K : Capacity) (R : Rows) (m : ℕ) (asked : Work) (nodes : List NodeRow) (after : List QuotaRow) (last : ℕ) → R.queue ≡ [] → asked.effect ≡ rows_at nodes after last → asked.outcome ≡ Done None → asked.lasts ≡ true → accepted K R m asked ≡ record { rows = rows_at nodes (map (peaked K nodes m) after) m; outcome = Done None; lasting = true; acts = [] }

@@ -1,19 +1,20 @@
 -- The queue of scans behind a command that gives a quota its state.
-use Rattle.std.proofs.Common.{◌≡◌, ℕ, ◌==◌, Bool, true, false, cond, not, List, [], ◌∷◌, refl, ap, sym, ◌∙◌, subst}
+use Rattle.std.proofs.Common.{◌≡◌, ℕ, ◌≤◌, ◌==◌, Bool, true, false, cond, not, List, [], ◌∷◌, refl, ap, sym, ◌∙◌, subst}
 use Rattle.std.specs.Prelude.{nat_lt, if◌then◌else◌}
 use Rattle.std.specs.List.{list_all}
 use Rattle.fsrm_model.specs.declared.row.QuotaRow.{QuotaRow}
 use Rattle.fsrm_model.specs.declared.row.Rows.{Rows}
 use Rattle.fsrm_base.specs.Keyed.{has_row, with_row, with_change, without_row}
+use Rattle.fsrm_model.specs.Limits.{latest_moment}
 use Rattle.fsrm_model.specs.Quota.{folder_of}
 use Rattle.fsrm_model.specs.QuotaStates.{queued, same_head, scan_begun, followed}
 use Rattle.fsrm_model.specs.Valid.{is_plain, AreQuotas, IsStore}
 use Rattle.fsrm_model.specs.ValidScans.{IsQueue}
 use Rattle.fsrm_model.proofs.QueueKept.{queue_changed}
-use Rattle.fsrm_model.proofs.RowsKept.{quotas_followed}
+use Rattle.fsrm_model.proofs.RowsKept.{quotas_followed, valid_ended}
 use Rattle.fsrm_base.proofs.TestLaws.{neither, eq_is, eq_same}
 use Rattle.scan_queue.specs.Courses.{Course, Turns, left}
-use Rattle.fsrm_engine.specs.Machine.{Machine, IsSound, IsWhole, rows_with, volume_of, with_quotas, with_rows}
+use Rattle.fsrm_engine.specs.Machine.{Machine, IsSound, IsWhole, rows_with, volume_of, with_quotas, with_rows, settled}
 use Rattle.fsrm_engine.proofs.CountingLaws.{put_in}
 use Rattle.fsrm_base.proofs.EditedRows.{without_absent}
 
@@ -65,3 +66,8 @@ with_and_without row (r ∷ quotas) absent =
     at : (b : Bool) → (folder_of r == row.folder) ≡ false → without_row folder_of row.folder (with_row folder_of row quotas) ≡ quotas → without_row folder_of row.folder quotas ≡ quotas → without_row folder_of row.folder (cond b (row ∷ r ∷ quotas) (r ∷ with_row folder_of row quotas)) ≡ r ∷ quotas
     at true apart rest none = rw (eq_same (folder_of row), apart) (ap (λ qs. r ∷ qs) none)
     at false apart rest none = rw (apart) (ap (λ qs. r ∷ qs) rest)
+
+-- an engine after the end of a command
+pub whole_settled : (a b : Machine) (s : Course) (m : ℕ) → IsWhole a s → m ≤ latest_moment → b ≡ settled a m → IsWhole b s
+whole_settled a b s m k late made =
+    subst (λ b. IsWhole b s) (sym made) (record { scanning = k.scanning; valid = valid_ended a.size (rows_with a s) m k.valid late })

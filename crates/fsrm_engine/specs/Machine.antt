@@ -1,5 +1,5 @@
 -- An engine, and what it keeps of accounts, as the plain machine sees them.
-use Rattle.std.specs.Prelude.{◌≡◌, ℕ, ◌≤◌, true, List, map, filter, Some}
+use Rattle.std.specs.Prelude.{◌≡◌, ℕ, ◌≤◌, Bool, true, List, map, filter, Some}
 use Rattle.fsrm_model.specs.declared.command.Act.{Act}
 use Rattle.fsrm_model.specs.declared.command.Answer.{Answer}
 use Rattle.fsrm_model.specs.declared.command.Command.{Command}
@@ -10,7 +10,7 @@ use Rattle.fsrm_model.specs.declared.row.Rows.{Rows}
 use Rattle.fsrm_model.specs.Capacities.{is_capacity}
 use Rattle.fsrm_model.specs.Fresh.{rows_of_nodes}
 use Rattle.fsrm_base.specs.Keyed.{row_of, with_change}
-use Rattle.fsrm_model.specs.Quota.{folder_of, counts, peaked, peaks}
+use Rattle.fsrm_model.specs.Quota.{folder_of, counts, peaks}
 use Rattle.fsrm_model.specs.QuotaStates.{followed, queued}
 use Rattle.fsrm_model.specs.Step.{Stepped, step}
 use Rattle.fsrm_model.specs.Tree.{usage}
@@ -61,6 +61,10 @@ pub record ScansFollow (machine : Machine) (old new : Course) (command : Command
 abbrev pub lasting_rows : Machine → Rows → ℕ → Rows
 lasting_rows machine effect moment = record (peaks machine.size (followed machine.rows effect) moment) { last_moment = moment }
 
+-- a machine after a command of this moment that lasts: peaks are raised, and its moment is the last one
+abbrev pub settled : Machine → ℕ → Machine
+settled machine moment = record machine { rows = record (peaks machine.size machine.rows moment) { last_moment = moment } }
+
 -- rows with another quota in the place of its folder's
 abbrev pub with_other : Rows → QuotaRow → Rows
 with_other rows quota =
@@ -78,10 +82,6 @@ pub record IsSound (K : Capacity) (R : Rows) : Type 0 where
   pub volume : IsVolume K R.nodes
   pub quotas : AreQuotas R.nodes R.quotas
 
--- at no moment a peak would rise
-abbrev pub IsLevel : Machine → Type 0
-IsLevel machine = (moment : ℕ) → machine.rows.quotas ≡ map (peaked machine.size machine.rows.nodes moment) machine.rows.quotas
-
 -- An engine of these accounts and scans: the active scan goes on over the machine's nodes, and the rows are valid
 pub record IsWhole (machine : Machine) (course : Course) : Type 0 where
   pub scanning : ScansOf machine course
@@ -95,10 +95,10 @@ counter_of K nodes quota = record { folder = quota.folder; bytes = usage K nodes
 abbrev pub sums_of : Capacity → List NodeRow → List QuotaRow → List Counter
 sums_of K nodes quotas = map (counter_of K nodes) (filter counts quotas)
 
--- what an engine keeps: its counters are the sums over the tree, and no peak is below what is used
-pub record IsEngine (size : Capacity) (nodes : List NodeRow) (quotas : List QuotaRow) (counters : List Counter) : Type 0 where
+-- what an engine keeps: its counters are the sums over the tree, and where it is level no peak is below what is used
+pub record IsEngine (size : Capacity) (nodes : List NodeRow) (quotas : List QuotaRow) (counters : List Counter) (level : Bool) : Type 0 where
   pub volume : IsVolume size nodes
   pub legal : is_capacity size ≡ true
   pub are_quotas : AreQuotas nodes quotas
   pub sums : counters ≡ sums_of size nodes quotas
-  pub peaks : (folder : ℕ) (quota : QuotaRow) → row_of folder_of folder quotas ≡ Some quota → counts quota ≡ true → usage size nodes folder ≤ quota.peak
+  pub peaks : level ≡ true → (folder : ℕ) (quota : QuotaRow) → row_of folder_of folder quotas ≡ Some quota → counts quota ≡ true → usage size nodes folder ≤ quota.peak

@@ -8,9 +8,9 @@ ghost use Rattle.fsrm_model.specs.Fresh.{new_rows};
 ghost use Rattle.fsrm_model.specs.Limits.{latest_moment};
 ghost use Rattle.fsrm_model.specs.Quota.{used_of};
 ghost use Rattle.fsrm_model.specs.Step.{step};
-ghost use Rattle.fsrm_model.specs.Valid.{IsVolume};
+ghost use Rattle.fsrm_model.specs.Valid.{IsVolume, AreQuotas};
 ghost use Rattle.fsrm_model.specs.Valued.{is_op, is_command};
-ghost use Rattle.fsrm_engine.specs.Machine.{IsSound, Takes, ScansOf, ScansFollow};
+ghost use Rattle.fsrm_engine.specs.Machine.{IsSound, Takes, ScansOf, ScansFollow, rows_at, sums_of};
 
 use crate::exits::refused;
 use fsrm_model::{Answer, Capacity, Command, Deed, FileOp, Ledger, NoMemory, Refusal, Steps};
@@ -30,6 +30,8 @@ pub struct Accounts {
     // What is used below each counting quota.
     pub(crate) usage: Usage,
     pub(crate) last_moment: u64,
+    // Whether no peak is below what is used. It needn't be so of rows that come from outside.
+    pub(crate) level: bool,
 }
 
 impl Model for Accounts {
@@ -40,7 +42,7 @@ impl Model for Accounts {
 
     ghost view = { λ a. record { size = a.tree.size; rows = rows_at a.tree.nodes a.objects.quotas a.last_moment; waiting = [] } };
 
-    ghost invariant = { λ a. IsEngine a.tree.size a.tree.nodes a.objects.quotas a.usage };
+    ghost invariant = { λ a. IsEngine a.tree.size a.tree.nodes a.objects.quotas a.usage a.level };
 }
 
 impl Accounts {
@@ -51,12 +53,24 @@ impl Accounts {
     {
         let tree = Tree::reserve(alloc, size)?;
         let usage = Usage::reserve(alloc)?;
-        Ok(Accounts {
+        Ok(Accounts::of(tree, Objects::new(alloc), usage, 0))
+    }
+
+    /// Accounts of these parts, which may come from outside: a peak may be below what is used.
+    pub fn of(tree: Tree, objects: Objects, usage: Usage, last_moment: u64) -> Accounts
+        requires volume { IsVolume tree.size tree.nodes }
+        requires legal { is_capacity tree.size ≡ true }
+        requires quotas { AreQuotas tree.nodes objects.quotas }
+        requires sums { usage ≡ sums_of tree.size tree.nodes objects.quotas }
+        ensures { result ≡ record { size = tree.size; rows = rows_at tree.nodes objects.quotas last_moment; waiting = [] } }
+    {
+        Accounts {
             tree,
-            objects: Objects::new(alloc),
+            objects,
             usage,
-            last_moment: 0,
-        })
+            last_moment,
+            level: false,
+        }
     }
 
     /// What the files at and below a folder with a counting quota take, in bytes. None for every other

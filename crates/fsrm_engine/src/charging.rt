@@ -56,6 +56,17 @@ fn raise_peaks<L: Ledger>(
     }
 }
 
+/// Makes what each folder uses its quota's peak, where it is more than the peak.
+pub fn raise_all(usage: &Usage, objects: &mut Objects, moment: u64)
+    requires { is_ascending folder_of objects.old.quotas ≡ true }
+    ensures { objects.new ≡ record { quotas = map (raised usage.now moment) objects.old.quotas } }
+{
+    for place in 0..objects.quota_count() {
+        let folder = objects.quota_at(place).folder;
+        raise_peak(usage, objects, folder, moment);
+    }
+}
+
 /// Makes a change of the counters, and raises the peaks of the folders that gained.
 pub fn charge<L: Ledger>(
     tree: &Tree,

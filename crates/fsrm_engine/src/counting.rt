@@ -10,7 +10,7 @@ ghost use Rattle.fsrm_model.specs.QuotaStates.{in_state};
 ghost use Rattle.fsrm_model.specs.Tree.{is_folder, usage};
 ghost use Rattle.fsrm_model.specs.Valid.{is_moment};
 ghost use Rattle.quota_usage.specs.Counters.{counted, with_counter, without_counter};
-ghost use Rattle.fsrm_engine.specs.Machine.{IsSound, IsLevel, with_quotas};
+ghost use Rattle.fsrm_engine.specs.Machine.{IsSound, with_quotas, settled};
 
 use crate::accounts::Accounts;
 use crate::charging::{drop_quota, end_count, raise_peak};
@@ -50,7 +50,6 @@ impl Accounts {
         ensures added { OnOk result (self.new ≡ with_quotas self.old (with_row folder_of row self.old.rows.quotas)) }
         ensures err { OnErr result (self.new ≡ self.old) }
         ensures kept { IsSound self.new.size self.new.rows }
-        ensures level { OnOk result (IsLevel self.new) }
     {
         let folder = row.folder;
         let counting = is_counting(row.state);
@@ -80,7 +79,6 @@ impl Accounts {
         requires nothing { (quota : QuotaRow) → row_of folder_of row.folder self.old.rows.quotas ≡ Some quota → counts quota ≡ false → counts row ≡ true → usage self.old.size self.old.rows.nodes row.folder ≡ 0 }
         ensures put { self.new ≡ with_quotas self.old (with_change folder_of row.folder (λ quota. row) self.old.rows.quotas) }
         ensures kept { IsSound self.new.size self.new.rows }
-        ensures level { IsLevel self.new }
     {
         recount(&mut self.usage, row.folder, is_counting(row.state));
         self.objects.set_quota(row);
@@ -91,7 +89,6 @@ impl Accounts {
         requires { has_row folder_of folder self.old.rows.quotas ≡ true }
         ensures rebuilt { self.new ≡ with_quotas self.old (with_change folder_of folder (in_state Rebuilding) self.old.rows.quotas) }
         ensures kept { IsSound self.new.size self.new.rows }
-        ensures level { IsLevel self.new }
     {
         end_count(&mut self.usage, folder);
         self.objects.set_state(folder, QuotaState::Rebuilding);
@@ -104,12 +101,12 @@ impl Accounts {
         requires uncounted { (quota : QuotaRow) → row_of folder_of folder self.old.rows.quotas ≡ Some quota → counts quota ≡ false }
         requires used { used ≡ usage self.old.size self.old.rows.nodes folder }
         requires moment { moment ≤ latest_moment }
-        ensures completed { self.new ≡ record self.old { rows = record self.old.rows { quotas = map (peaked self.old.size self.old.rows.nodes moment) (with_change folder_of folder (in_state Complete) self.old.rows.quotas); last_moment = moment } } }
+        ensures completed { self.new ≡ settled (with_quotas self.old (with_change folder_of folder (in_state Complete) self.old.rows.quotas)) moment }
         ensures kept { IsSound self.new.size self.new.rows }
     {
         self.objects.set_state(folder, QuotaState::Complete);
         self.usage.begin(folder, used);
         raise_peak(&self.usage, &mut self.objects, folder, moment);
-        self.last_moment = moment;
+        self.settle(moment);
     }
 }

@@ -3,16 +3,17 @@
 
 mod accounts;
 mod beside;
+mod changes;
 mod charging;
 mod counting;
+mod creations;
 mod engine;
 mod exits;
-mod files;
-mod growth;
 mod moves;
 mod path_text;
 mod places;
 mod quotas;
+mod removals;
 mod scanning;
 mod states;
 mod usage;

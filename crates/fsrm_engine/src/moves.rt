@@ -9,22 +9,17 @@ ghost use Rattle.fsrm_model.specs.Limits.{latest_moment, longest_file};
 ghost use Rattle.fsrm_model.specs.Step.{step};
 ghost use Rattle.fsrm_engine.specs.Machine.{IsSound, Takes, ScansOf, ScansFollow};
 ghost use Rattle.fsrm_base.specs.Keyed.{has_row};
-ghost use Rattle.fsrm_model.specs.Tree.{number as key, is_under, under, child_number};
+ghost use Rattle.fsrm_model.specs.Tree.{number as key, under};
 ghost use Rattle.fsrm_model.specs.Valid.{IsVolume};
-ghost use Rattle.fsrm_engine.specs.Faults.{refusal_of, exceeded_refusal};
 ghost use Rattle.fsrm_engine.specs.Places.{IsMoved};
-ghost use Rattle.std.specs.Prelude.{unwrap_or};
-ghost use Rattle.std.specs.Option.{option_and_then};
-ghost use Rattle.volume_tree.specs.Volume.{is_other, move_fault};
 
 use crate::accounts::Accounts;
 use crate::charging::charge;
 use crate::exits::{exceeded_by, refused, refused_by};
-use crate::places::Place;
 use crate::usage::usage_of;
 use fsrm_model::{Answer, Ledger, NoMemory, Path, Refusal, Steps};
 use fsrm_objects::Objects;
-use quota_usage::{Change, Exceeded};
+use quota_usage::Change;
 use scan_queue::Scans;
 use std::alloc::Global;
 use volume_tree::Tree;
@@ -47,41 +42,6 @@ fn moved_bytes<L: Ledger>(
         return Ok(0);
     }
     usage_of(tree, alloc, node, steps)
-}
-
-// Whether a child of the place's folder other than this node has the name.
-fn is_taken<L: Ledger>(tree: &Tree, node: u32, place: Place<'_>, steps: &mut Steps<L>) -> bool
-    ensures taken { result ≡ is_other (child_number tree.now.nodes place.entry.folder place.entry.name.now) node }
-    ensures looks { steps.new ≤ steps.old + 22 }
-{
-    match tree.child(place.folder, place.name, steps) {
-        Some(child) => child != node,
-        None => false,
-    }
-}
-
-// Why a move that a quota refuses can't be made: what the tree has against it comes first.
-fn move_refusal<L: Ledger>(
-    tree: &Tree,
-    node: u32,
-    place: Place<'_>,
-    exceeded: Exceeded,
-    steps: &mut Steps<L>,
-) -> Refusal
-    requires there { has_row key node tree.now.nodes ≡ true }
-    requires apart { is_under tree.now.nodes node place.folder ≡ false }
-    ensures refusal { result ≡ unwrap_or (option_and_then refusal_of (move_fault tree.now node place.entry.folder place.entry.name.now)) (exceeded_refusal exceeded) }
-    ensures looks { steps.new ≤ steps.old + 23 }
-{
-    if is_taken(tree, node, place, steps) {
-        return Refusal::AlreadyExists;
-    }
-    let old_bytes = tree.node(node, steps).name.len() as u64;
-    let bytes = tree.name_bytes() as u64 + place.name.len() as u64;
-    if bytes > tree.capacity().names as u64 + old_bytes {
-        return Refusal::NamesFull;
-    }
-    exceeded_by(exceeded)
 }
 
 impl Accounts {
@@ -115,9 +75,10 @@ impl Accounts {
             Ok(place) => place,
             Err(refusal) => return Ok(refused(refusal)),
         };
-        if self.tree.is_at_or_below(node, place.folder, steps) {
-            return Ok(refused(Refusal::InvalidMove));
-        }
+        let ready = match self.tree.ready_move(node, place.folder, place.name, steps) {
+            Ok(ready) => ready,
+            Err(fault) => return refused_by(fault),
+        };
         let bytes = moved_bytes(&self.tree, &self.objects, alloc, node, steps)?;
         let change = Change {
             from: Some(self.tree.node(node, steps).parent),
@@ -126,24 +87,18 @@ impl Accounts {
             plus: bytes,
         };
         if let Err(exceeded) = self.usage.admit(&self.tree, &self.objects, &change, steps) {
-            let refusal = move_refusal(&self.tree, node, place, exceeded, steps);
-            return Ok(refused(refusal));
+            return Ok(refused(exceeded_by(exceeded)));
         }
-        match self.tree.ready_move(node, place.folder, place.name, steps) {
-            Ok(ready) => {
-                scans.follow_move(&self.tree, node, place.folder, steps);
-                self.tree.make_move(ready, steps);
-                charge(
-                    &self.tree,
-                    &mut self.usage,
-                    &mut self.objects,
-                    &change,
-                    moment,
-                    steps,
-                );
-                Ok(self.done(moment))
-            }
-            Err(fault) => refused_by(fault),
-        }
+        scans.follow_move(&self.tree, node, place.folder, steps);
+        self.tree.make_move(ready, steps);
+        charge(
+            &self.tree,
+            &mut self.usage,
+            &mut self.objects,
+            &change,
+            moment,
+            steps,
+        );
+        Ok(self.done(moment))
     }
 }

@@ -1,11 +1,14 @@
-//! What paths lead to, and the end of a command that was done.
+//! What paths lead to, and the end of a command that lasts.
 
-ghost use Rattle.std.specs.Prelude.{◌≡◌, ◌+◌, ◌*◌, ◌≤◌, [], true, length, IfOk, IfErr, None};
+ghost use Rattle.std.specs.Prelude.{◌≡◌, ◌+◌, ◌*◌, ◌≤◌, [], true, length, map, IfOk, IfErr, None};
 ghost use Rattle.fsrm_model.specs.declared.command.Outcome.TheVariants.{Done};
-ghost use Rattle.fsrm_engine.specs.Machine.{IsSound};
+ghost use Rattle.fsrm_engine.specs.Machine.{IsSound, settled, with_quotas};
+ghost use Rattle.fsrm_model.specs.Limits.{latest_moment};
+ghost use Rattle.fsrm_model.specs.Quota.{peaked};
 ghost use Rattle.fsrm_engine.specs.Places.{IsPlace, IsRefusedPlace, IsFileAt, IsFolderAt};
 
 use crate::accounts::Accounts;
+use crate::charging::raise_all;
 use fsrm_model::{Answer, Ledger, Outcome, Path, Refusal, Steps};
 use volume_tree::NodeView;
 
@@ -67,12 +70,37 @@ impl Accounts {
         }
     }
 
-    /// The answer to a command that was done, whose moment is now the last.
+    // Raises each peak that is below what is used.
+    fn raise_peaks(&mut self, moment: u64)
+        requires { moment ≤ latest_moment }
+        ensures raised { self.new ≡ with_quotas self.old (map (peaked self.old.size self.old.rows.nodes moment) self.old.rows.quotas) }
+        ensures kept { IsSound self.new.size self.new.rows }
+    {
+        if self.level {
+            return;
+        }
+        raise_all(&self.usage, &mut self.objects, moment);
+        self.level = true;
+    }
+
+    /// Ends a command of this moment that lasts.
+    pub(crate) fn settle(&mut self, moment: u64)
+        requires { moment ≤ latest_moment }
+        ensures rows { self.new ≡ settled self.old moment }
+        ensures kept { IsSound self.new.size self.new.rows }
+    {
+        self.raise_peaks(moment);
+        self.last_moment = moment;
+    }
+
+    /// The answer to a command of this moment that was done.
     pub(crate) fn done(&mut self, moment: u64) -> Answer
-        ensures rows { self.new ≡ record self.old { rows = record self.old.rows { last_moment = moment } } }
+        requires { moment ≤ latest_moment }
+        ensures rows { self.new ≡ settled self.old moment }
+        ensures kept { IsSound self.new.size self.new.rows }
         ensures answer { result ≡ record { outcome = Done None; lasting = true } }
     {
-        self.last_moment = moment;
+        self.settle(moment);
         Answer {
             outcome: Outcome::Done { passive: None },
             lasting: true,

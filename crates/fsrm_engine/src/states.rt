@@ -17,7 +17,7 @@ ghost use Rattle.volume_tree.specs.Volume.{Volume};
 ghost use Rattle.fsrm_model.specs.QuotaWork.{new_quota, modified};
 ghost use Rattle.fsrm_model.specs.Step.{step};
 ghost use Rattle.fsrm_model.specs.Valid.{IsStore, is_moment, is_plain};
-ghost use Rattle.fsrm_engine.specs.Machine.{Takes, IsLevel, with_rows, with_other};
+ghost use Rattle.fsrm_engine.specs.Machine.{Takes, with_rows, with_other, settled};
 ghost use Rattle.fsrm_engine.specs.Places.{IsFolderAt};
 
 use crate::counting::is_counting;
@@ -135,7 +135,6 @@ impl Engine {
         requires plain { is_plain row ≡ true }
         requires nothing { counts row ≡ true → usage self.old.size self.old.rows.nodes row.folder ≡ 0 }
         ensures listed { OnOk result (self.new ≡ with_rows self.old (followed self.old.rows (with_quota self.old.rows row))) }
-        ensures level { OnOk result (IsLevel self.new) }
         ensures err { OnErr result (self.new ≡ self.old) }
         ensures kept { OnOk result (IsStore self.new.size self.new.rows) }
     {
@@ -160,7 +159,6 @@ impl Engine {
         requires peak { (quota : QuotaRow) → row_of folder_of row.folder self.old.rows.quotas ≡ Some quota → row.peak ≡ quota.peak }
         requires nothing { (quota : QuotaRow) → row_of folder_of row.folder self.old.rows.quotas ≡ Some quota → counts quota ≡ false → counts row ≡ true → usage self.old.size self.old.rows.nodes row.folder ≡ 0 }
         ensures replaced { OnOk result (self.new ≡ with_rows self.old (followed self.old.rows (with_other self.old.rows row))) }
-        ensures level { OnOk result (IsLevel self.new) }
         ensures err { OnErr result (self.new ≡ self.old) }
         ensures kept { OnOk result (IsStore self.new.size self.new.rows) }
     {
@@ -174,7 +172,6 @@ impl Engine {
         requires there { has_row folder_of folder self.old.rows.quotas ≡ true }
         requires folder { is_folder self.old.rows.nodes folder ≡ true }
         ensures rebuilt { OnOk result (self.new ≡ with_rows self.old (followed self.old.rows (with_state self.old.rows folder Rebuilding))) }
-        ensures level { OnOk result (IsLevel self.new) }
         ensures err { OnErr result (self.new ≡ self.old) }
         ensures kept { OnOk result (IsStore self.new.size self.new.rows) }
     {
@@ -183,11 +180,10 @@ impl Engine {
         Ok(())
     }
 
-    // The answer to a command that was done, whose moment is now the last.
+    // The answer to a command of this moment that was done.
     fn done(&mut self, moment: u64) -> Answer
-        requires store { IsStore self.old.size self.old.rows }
-        requires moment { moment ≤ latest_moment }
-        ensures rows { self.new ≡ with_rows self.old (record self.old.rows { last_moment = moment }) }
+        requires { moment ≤ latest_moment }
+        ensures rows { self.new ≡ settled self.old moment }
         ensures answer { result ≡ record { outcome = Done None; lasting = true } }
         ensures kept { IsStore self.new.size self.new.rows }
     {

@@ -1,12 +1,11 @@
 -- What the calls of a tree keep.
-use Rattle.std.proofs.Common.{◌≡◌, ℕ, zero, suc, ◌+◌, ◌-◌, ◌<◌, ◌≤◌, ◌==◌, Bool, true, false, cond, not, ◌&&◌, ◌||◌, ◌⊎◌, inl, inr, List, [], ◌∷◌, length, refl, sym, ◌∙◌, ap, subst, arith, nat_lt, nat_le, Some, None, Option, Ok, Err, Result}
+use Rattle.std.proofs.Common.{◌≡◌, ℕ, zero, suc, ◌+◌, ◌-◌, ◌<◌, ◌≤◌, ◌==◌, Bool, true, false, cond, not, ◌&&◌, ◌⊎◌, inl, inr, List, [], ◌∷◌, length, refl, sym, ◌∙◌, ap, subst, arith, nat_lt, nat_le, Some, None, Option, Ok, Err, Result}
 use Rattle.std.proofs.Math.Nat.{min-eq_left, min-eq_right}
 use Rattle.std.proofs.lemmas.Bool.{cases_order}
 use Rattle.std.proofs.lemmas.Bool.Decides.{nat_tests}
 use Rattle.std.proofs.lemmas.Option.{same_Some}
 use Rattle.std.proofs.lemmas.Slice.Eq.{bytes_eq-Decides}
 use Rattle.std.specs.Prelude.{filter, insert, remove, min, slice_get, slice_index, slice_index_or, is_some, option_map, if◌then◌else◌, IfOk, IfErr, OnOk, is_ok}
-use Rattle.std.specs.List.{list_any}
 use Rattle.fsrm_model.specs.declared.row.Capacity.{Capacity}
 use Rattle.fsrm_model.specs.declared.row.NodeRow.{NodeRow}
 use Rattle.fsrm_model.specs.FileOps.{resized, touched, placed}
@@ -21,7 +20,7 @@ use Rattle.fsrm_model.proofs.Keeps.{volume-new, volume-change, volume-moved, vol
 use Rattle.fsrm_base.proofs.Look.{has_found, none_filtered}
 use Rattle.fsrm_model.proofs.OwnLaws.{own_parts, own_joined, own_named, file_short, file_inner}
 use Rattle.fsrm_model.proofs.Sizes.{length-removed, name_bytes-new, name_bytes-placed, name_bytes-removed}
-use Rattle.fsrm_base.proofs.TestLaws.{lt_is, lt_test, eq_is, not_true, clash, both, le_test, ge_is, is_inner}
+use Rattle.fsrm_base.proofs.TestLaws.{lt_is, lt_test, eq_is, clash, both, le_test, ge_is, is_inner}
 use Rattle.fsrm_model.proofs.Walks.{found_name, child_is, child_found}
 use Rattle.volume_tree.specs.Kept.{rows_of, AreSlots, IsOrder, IsPlace, IsKept}
 use Rattle.volume_tree.specs.Shift.{IsShifted}

@@ -1,6 +1,5 @@
 -- What a move that a tree has nothing against says.
-use Rattle.std.proofs.Common.{◌≡◌, ℕ, ◌+◌, ◌≤◌, ◌==◌, Bool, true, false, length, List, refl, None, arith, nat_lt}
-use Rattle.std.proofs.lemmas.Bool.Decides.{nat_tests}
+use Rattle.std.proofs.Common.{◌≡◌, ℕ, ◌+◌, ◌≤◌, ◌==◌, Bool, true, false, length, List, refl, None}
 use Rattle.std.specs.Prelude.{[], ◌∷◌}
 use Rattle.fsrm_model.specs.FileOps.{placed}
 use Rattle.fsrm_base.specs.Keyed.{has_row, with_change}

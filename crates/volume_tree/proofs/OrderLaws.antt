@@ -1,5 +1,5 @@
 -- The order of a volume's nodes after one is new, changed, moved or gone.
-use Rattle.std.proofs.Common.{◌≡◌, ℕ, ◌+◌, ◌-◌, ◌<◌, ◌≤◌, ◌==◌, ◌&&◌, not, nat_lt, Bool, true, false, cond, All, AllPairs, inl, inr, List, [], ◌∷◌, length, get_or, insert, remove, map, slice_get, IsPermutation, Option, Some, None, option_map, refl, sym, ◌∙◌, ap, subst, arith}
+use Rattle.std.proofs.Common.{◌≡◌, ℕ, ◌+◌, ◌-◌, ◌<◌, ◌≤◌, ◌==◌, ◌&&◌, not, nat_lt, Bool, true, false, cond, All, AllPairs, inl, inr, List, ◌∷◌, length, get_or, insert, remove, map, slice_get, IsPermutation, Option, Some, None, option_map, refl, sym, ◌∙◌, ap, subst, arith}
 use Rattle.std.specs.Prelude.{if◌then◌else◌, is_some}
 use Rattle.std.specs.List.{Contains, list_any}
 use Rattle.std.proofs.lemmas.Bool.{cases_lt}
@@ -10,22 +10,22 @@ use Rattle.std.proofs.lemmas.List.Elements.{All-contains, All-filter, All-contai
 use Rattle.std.proofs.lemmas.List.Folds.{map_fixed}
 use Rattle.std.proofs.lemmas.List.Kept.{AllPairs-filter}
 use Rattle.std.proofs.lemmas.List.Quantifiers.{all_pairs_remove}
-use Rattle.std.proofs.lemmas.List.Sorted.{IsPermutation-refl, IsPermutation-cons, IsPermutation-trans, IsPermutation-sym, IsPermutation-insert, IsPermutation-remove, IsPermutation-map, All-permutation, Contains-permutation, length_permutation}
-use Rattle.std.proofs.lemmas.Option.{same_Some, slice_get-get_or}
+use Rattle.std.proofs.lemmas.List.Sorted.{IsPermutation-cons, IsPermutation-trans, IsPermutation-sym, IsPermutation-insert, IsPermutation-remove, IsPermutation-map, All-permutation, Contains-permutation, length_permutation}
+use Rattle.std.proofs.lemmas.Option.{same_Some}
 use Rattle.fsrm_model.specs.declared.row.NodeRow.{NodeRow}
 use Rattle.fsrm_model.specs.FileOps.{placed}
 use Rattle.fsrm_model.specs.Fresh.{root_node}
 use Rattle.fsrm_base.specs.Keyed.{is_ascending, has_row, with_row, with_change, without_row}
 use Rattle.fsrm_model.specs.Name.{same_name}
 use Rattle.fsrm_model.specs.Tree.{number, node_of, is_child, child_of, child_number}
-use Rattle.fsrm_base.proofs.Look.{found_lacks, found_key, has_found, is_some-find, row_of-without}
+use Rattle.fsrm_base.proofs.Look.{found_lacks, has_found, is_some-find, row_of-without}
 use Rattle.fsrm_base.proofs.Order.{ascending-filter}
 use Rattle.fsrm_base.proofs.EditedRows.{sum_by-without_row}
 use Rattle.fsrm_base.proofs.Sums.{sum_by-ones}
 use Rattle.fsrm_base.proofs.TestLaws.{eq_is, eq_same, clash, not_true, is_false}
 use Rattle.volume_tree.specs.Kept.{IsOrder, IsPlace, inner, is_before}
 use Rattle.volume_tree.proofs.Edits.{map-insert, map-remove, pairs_insert, removed, with_row_moves, filter-map, map-map_same, filters_turned}
-use Rattle.volume_tree.proofs.Entries.{at, There, there, Divides, place_divides, ascending_pairs, rows_found, entry_of, entry_there, same_entry, number_there, length-order_entries}
+use Rattle.volume_tree.proofs.Entries.{at, There, there, Divides, place_divides, ascending_pairs, rows_found, entry_of, entry_there, same_entry, length-order_entries}
 use Rattle.volume_tree.proofs.Items.{contains_cases, contains_kept, passes_kept, same_items}
 use Rattle.volume_tree.proofs.Names.{comes, comes_itself, comes_or_after, comes_as, as_comes}
 use Rattle.fsrm_model.proofs.Resolves.{same_itself}

@@ -1,15 +1,13 @@
 -- Rows that pass each part of the reading are the nodes of a volume, and those that fail one are not.
 use Rattle.std.proofs.Common.{◌≡◌, ℕ, suc, ◌≤◌, ◌==◌, ◌||◌, ◌&&◌, Bool, true, false, cond, not, inl, inr, List, [], ◌∷◌, get_or, refl, sym, ◌∙◌, ap, arith, nat_le, nat_lt, Some}
 use Rattle.std.proofs.lemmas.Bool.{cases_order}
-use Rattle.std.proofs.lemmas.Bool.Decides.{nat_tests}
 use Rattle.std.proofs.lemmas.List.{get_or_default}
-use Rattle.std.proofs.lemmas.Slice.Eq.{bytes_eq-Decides}
 use Rattle.std.specs.List.{list_all}
 use Rattle.fsrm_model.specs.declared.row.Capacity.{Capacity}
 use Rattle.fsrm_model.specs.declared.row.NodeRow.{NodeRow}
 use Rattle.fsrm_model.specs.Fresh.{root_node}
 use Rattle.fsrm_base.specs.Keyed.{is_ascending, has_row}
-use Rattle.fsrm_model.specs.Name.{folded, same_name}
+use Rattle.fsrm_model.specs.Name.{same_name}
 use Rattle.fsrm_model.specs.Tree.{number, node_of, is_folder, is_child, is_under, name_bytes}
 use Rattle.fsrm_model.specs.Valid.{is_tree, is_sound_node, is_root_node, is_inner_node, is_only_one, is_own, IsVolume}
 use Rattle.fsrm_base.proofs.Look.{found_has}
@@ -20,7 +18,7 @@ use Rattle.fsrm_model.proofs.ValidVolume.{volume_of_tree}
 use Rattle.volume_tree.specs.Kept.{IsOrder, is_before}
 use Rattle.volume_tree.specs.Sound.{HasTwins, are_from, are_sound, is_placed}
 use Rattle.volume_tree.proofs.Entries.{entry_of}
-use Rattle.volume_tree.proofs.Names.{comes_apart, same_folded}
+use Rattle.volume_tree.proofs.Names.{comes_apart}
 use Rattle.fsrm_model.proofs.Keeps.{same_turned}
 
 -- what numbers that ascend below a bound have

@@ -1,18 +1,18 @@
 -- Between which places the first child of a folder is sought, and where its children stand.
-use Rattle.std.proofs.Common.{◌≡◌, ℕ, ◌+◌, ◌-◌, ◌<◌, ◌≤◌, ◌==◌, ◌&&◌, ◌||◌, nat_lt, Bool, true, false, inl, inr, List, [], ◌∷◌, length, map, drop, take, slice_get, slice_index, Some, refl, sym, ◌∙◌, ap, subst, arith}
+use Rattle.std.proofs.Common.{◌≡◌, ℕ, ◌+◌, ◌-◌, ◌<◌, ◌≤◌, nat_lt, true, false, inl, inr, List, [], length, map, drop, take, slice_get, slice_index, Some, sym, ◌∙◌, ap, subst, arith}
 use Rattle.std.specs.List.{between}
-use Rattle.std.proofs.lemmas.Bool.{cases_eq, cases_lt}
+use Rattle.std.proofs.lemmas.Bool.{cases_eq}
 use Rattle.std.proofs.lemmas.Bool.Decides.{nat_tests}
 use Rattle.std.proofs.lemmas.List.{drop-map, take-map}
 use Rattle.std.proofs.lemmas.Option.{same_Some, slice_get-get_or, slice_get_within}
 use Rattle.fsrm_model.specs.declared.row.NodeRow.{NodeRow}
 use Rattle.fsrm_base.specs.Keyed.{is_ascending}
-use Rattle.fsrm_model.specs.Tree.{number, node_of, children, children_in_order}
+use Rattle.fsrm_model.specs.Tree.{number, node_of}
 use Rattle.fsrm_base.proofs.TestLaws.{not_true, clash}
 use Rattle.volume_tree.specs.Kept.{IsOrder, IsPlace, IsFloor, IsCeiling, IsSegment, is_before}
 use Rattle.volume_tree.proofs.Entries.{at, there, node_there, length-order_entries}
-use Rattle.volume_tree.proofs.Halving.{Halves, Narrows, earlier, row_is, before_empty, lower_before, upper_stays}
-use Rattle.volume_tree.proofs.Segments.{Ends, place_ends, ends_ordered, segment, children_are_segment}
+use Rattle.volume_tree.proofs.Halving.{Halves, earlier, row_is, before_empty, lower_before, upper_stays}
+use Rattle.volume_tree.proofs.Segments.{place_ends, ends_ordered, children_are_segment}
 
 -- a search between a floor and a ceiling
 pub halves_between : (nodes : List NodeRow) (order : List ℕ) (folder : ℕ) (name : List ℕ) (low high : ℕ) → is_ascending number nodes ≡ true → low ≤ high → IsFloor nodes order folder name low → IsCeiling nodes order folder name high → Halves nodes order folder name low high

@@ -1,5 +1,9 @@
 //! What a tree answers.
 
+ghost use Rattle.std.specs.Prelude.{◌≡◌};
+
+use fsrm_model::NoMemory;
+
 /// Why a tree refused.
 #[derive(Clone, Copy, Debug, PartialEq, Eq)]
 pub enum TreeFault {
@@ -15,6 +19,16 @@ pub enum TreeFault {
     NamesFull,
     /// There was no memory. Nothing in the volume is the cause.
     NoMemory,
+}
+
+impl From<NoMemory> for TreeFault {
+    ghost use Rattle.volume_tree.specs.declared.answer.TreeFault.{TreeFault};
+
+    ghost from_gives = { λ _ fault. fault ≡ TreeFault.NoMemory };
+
+    fn from(_fault: NoMemory) -> Self {
+        TreeFault::NoMemory
+    }
 }
 
 /// Why rows made no tree.

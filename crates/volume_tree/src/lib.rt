@@ -3,6 +3,7 @@
 
 mod answer;
 mod climb;
+mod creations;
 mod entry;
 mod finger;
 mod moves;

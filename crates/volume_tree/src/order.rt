@@ -186,6 +186,27 @@ pub fn search<L: Ledger>(
     }
 }
 
+/// Where a name that no child of a folder has is to stand in the order. It looks at no more than 21 nodes.
+pub fn new_place<L: Ledger>(
+    slots: &[Option<NodeRow>],
+    order: &[u32],
+    folder: u32,
+    name: &str,
+    steps: &mut Steps<L>,
+) -> usize
+    requires slots { AreSlots 0 slots.now }
+    requires order { IsOrder (rows_of slots.now) order.now }
+    requires few { length order.now < most_nodes }
+    requires none { child_number (rows_of slots.now) folder name.now ≡ None }
+    ensures place { IsPlace (rows_of slots.now) order.now folder name.now result }
+    ensures looks { steps.new ≤ steps.old + 21 }
+{
+    // The place isn't kept from the question whether there is one, since other places may have moved since.
+    match search(slots, order, folder, name, steps) {
+        Ok(place) | Err(place) => place,
+    }
+}
+
 /// How many children a folder has.
 pub fn child_count(slots: &[Option<NodeRow>], order: &[u32], folder: u32) -> usize
     requires slots { AreSlots 0 slots.now }

@@ -21,33 +21,6 @@ use fsrm_model::{Capacity, Ledger, List, NoMemory, NodeRow, Path, Steps, Text, a
 use std::alloc::Global;
 use std::marker::Model;
 
-// What a new node is, beside its place. A folder has no length.
-#[derive(Clone, Copy)]
-struct NewNode {
-    folder: bool,
-    length: u64,
-    owner: u32,
-    moment: u64,
-}
-
-impl NewNode {
-    fn row(self, number: u32, parent: u32, name: Text) -> NodeRow
-        ensures { result ≡ record { number = number; parent = parent; name = name; folder = self.folder; length = self.length; owner = self.owner; created = self.moment; modified = self.moment; accessed = self.moment } }
-    {
-        NodeRow {
-            number,
-            parent,
-            name,
-            folder: self.folder,
-            length: self.length,
-            owner: self.owner,
-            created: self.moment,
-            modified: self.moment,
-            accessed: self.moment,
-        }
-    }
-}
-
 /// A volume's folders and files, in memory of its own. Contracts see its size and its nodes.
 ///
 /// A look is a call of `node`, `child_count` or `child_at`, or one node that another call compares
@@ -56,9 +29,9 @@ impl NewNode {
 pub struct Tree {
     pub(crate) size: Capacity,
     // How many nodes there are, the bytes of all their names, and the least number that is free.
-    count: u32,
+    pub(crate) count: u32,
     pub(crate) used: u32,
-    free: u32,
+    pub(crate) free: u32,
     // Each row stands in the slot of its number.
     pub(crate) slots: Vec<Option<NodeRow>>,
     // The numbers of all nodes but the root, by folders and in each by folded names.
@@ -236,75 +209,6 @@ impl Tree {
         &self.order[first..end]
     }
 
-    /// Makes a folder in a folder, and gives its number, the least that is free. It takes no more
-    /// than 44 looks.
-    ///
-    /// It is refused where the folder has a child of this name, else where the volume is full, else
-    /// where the names are. An `Err` changes nothing.
-    pub fn mkdir<L: Ledger>(
-        &mut self,
-        folder: u32,
-        name: &str,
-        owner: u32,
-        moment: u64,
-        steps: &mut Steps<L>,
-    ) -> Result<u32, TreeFault>
-        requires folder { is_folder self.old.nodes folder ≡ true }
-        requires name { is_name name.now ≡ true }
-        requires owner { 1 ≤ owner }
-        requires moment { moment ≤ latest_moment }
-        ensures number { IfOk result (λ number. number ≡ fresh self.old.nodes) }
-        ensures made { OnOk result (self.new ≡ with_node self.old (made_node self.old.nodes folder name.now true 0 owner moment)) }
-        ensures may { OnOk result (new_fault self.old folder name.now ≡ None) }
-        ensures refused { IfErr result (λ fault. IsFault fault (new_fault self.old folder name.now)) }
-        ensures err { OnErr result (self.new ≡ self.old) }
-        ensures kept { IsVolume self.new.size self.new.nodes }
-        ensures looks { steps.new ≤ steps.old + 44 }
-    {
-        let new = NewNode {
-            folder: true,
-            length: 0,
-            owner,
-            moment,
-        };
-        self.make(folder, name, new, steps)
-    }
-
-    /// Makes a file of so many bytes in a folder, and gives its number, the least that is free. It
-    /// takes no more than 44 looks.
-    ///
-    /// It is refused as `mkdir` is. An `Err` changes nothing.
-    pub fn create<L: Ledger>(
-        &mut self,
-        folder: u32,
-        name: &str,
-        length: u64,
-        owner: u32,
-        moment: u64,
-        steps: &mut Steps<L>,
-    ) -> Result<u32, TreeFault>
-        requires folder { is_folder self.old.nodes folder ≡ true }
-        requires name { is_name name.now ≡ true }
-        requires length { length ≤ longest_file }
-        requires owner { 1 ≤ owner }
-        requires moment { moment ≤ latest_moment }
-        ensures number { IfOk result (λ number. number ≡ fresh self.old.nodes) }
-        ensures made { OnOk result (self.new ≡ with_node self.old (made_node self.old.nodes folder name.now false length owner moment)) }
-        ensures may { OnOk result (new_fault self.old folder name.now ≡ None) }
-        ensures refused { IfErr result (λ fault. IsFault fault (new_fault self.old folder name.now)) }
-        ensures err { OnErr result (self.new ≡ self.old) }
-        ensures kept { IsVolume self.new.size self.new.nodes }
-        ensures looks { steps.new ≤ steps.old + 44 }
-    {
-        let new = NewNode {
-            folder: false,
-            length,
-            owner,
-            moment,
-        };
-        self.make(folder, name, new, steps)
-    }
-
     /// Sets a file's length, in bytes, and the moment that it was modified. It takes no more than 2
     /// looks.
     pub fn resize<L: Ledger>(&mut self, node: u32, length: u64, moment: u64, steps: &mut Steps<L>)
@@ -397,53 +301,5 @@ impl Tree {
             order: parts.order,
             alloc,
         })
-    }
-
-    // Makes a node as `mkdir` and `create` do.
-    fn make<L: Ledger>(
-        &mut self,
-        folder: u32,
-        name: &str,
-        new: NewNode,
-        steps: &mut Steps<L>,
-    ) -> Result<u32, TreeFault>
-        requires folder { is_folder self.old.nodes folder ≡ true }
-        requires name { is_name name.now ≡ true }
-        requires length { new.length ≤ (if new.folder then 0 else longest_file) }
-        requires owner { 1 ≤ new.owner }
-        requires moment { new.moment ≤ latest_moment }
-        ensures number { IfOk result (λ number. number ≡ fresh self.old.nodes) }
-        ensures made { OnOk result (self.new ≡ with_node self.old (made_node self.old.nodes folder name.now new.folder new.length new.owner new.moment)) }
-        ensures may { OnOk result (new_fault self.old folder name.now ≡ None) }
-        ensures refused { IfErr result (λ fault. IsFault fault (new_fault self.old folder name.now)) }
-        ensures err { OnErr result (self.new ≡ self.old) }
-        ensures kept { IsVolume self.new.size self.new.nodes }
-        ensures looks { steps.new ≤ steps.old + 44 }
-    {
-        let Err(place) = order::search(&self.slots, &self.order, folder, name, steps) else {
-            return Err(TreeFault::AlreadyExists);
-        };
-        if self.count >= self.size.nodes {
-            return Err(TreeFault::VolumeFull);
-        }
-        if self.used as u64 + name.len() as u64 > self.size.names as u64 {
-            return Err(TreeFault::NamesFull);
-        }
-        // With room in the order nothing can fail once the slot is filled.
-        let Ok(()) = self.order.reserve(1) else {
-            return Err(TreeFault::NoMemory);
-        };
-        let Ok(text) = Text::from_str(self.alloc, name) else {
-            return Err(TreeFault::NoMemory);
-        };
-        let number = self.free;
-        let Ok(()) = slots::put(&mut self.slots, new.row(number, folder, text)) else {
-            return Err(TreeFault::NoMemory);
-        };
-        self.order.insert(place, number).unwrap();
-        self.count += 1;
-        self.used += name.len() as u32;
-        self.free = slots::free_among(&self.slots, self.count, number + 1);
-        Ok(number)
     }
 }

@@ -5,7 +5,7 @@ use Rattle.fsrm_model.specs.Quota.{folder_of}
 use Rattle.fsrm_model.specs.Tree.{is_folder, usage}
 use Rattle.fsrm_objects.specs.Tables.{Tables}
 use Rattle.fsrm_engine.specs.Machine.{Machine}
-use Rattle.fsrm_engine.proofs.CountingLaws.{added, level, room_more}
+use Rattle.fsrm_engine.proofs.CountingLaws.{added, room_more}
 use Rattle.fsrm_engine.proofs.accounts.Accounts.add.Goals as goal
 
 pub recount-requires : goal.recount-requires
@@ -29,6 +29,3 @@ invariant_of-self-2 c =
 
 pub returns-clause-kept : goal.returns-clause-kept
 returns-clause-kept c = let e = invariant_of-self-2 c in record { volume = e.volume; quotas = e.are_quotas }
-
-pub returns-clause-level : goal.returns-clause-level
-returns-clause-level c = level c.self.inside.tree.size c.self.inside.tree.nodes c.add_quota.new.self.quotas c.recount.new.usage (invariant_of-self-2 c)

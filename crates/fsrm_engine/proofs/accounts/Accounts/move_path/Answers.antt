@@ -3,17 +3,18 @@ use Rattle.fsrm_model.specs.declared.command.Deed.TheVariants.{File}
 use Rattle.fsrm_model.specs.declared.command.FileOp.TheVariants.{Move}
 use Rattle.fsrm_model.proofs.ValidLaws.{folder_has}
 use Rattle.volume_tree.specs.Volume.{Volume, move_fault}
+use Rattle.fsrm_engine.specs.Faults.{refused_answer}
 use Rattle.fsrm_engine.proofs.StepLaws.{done_at, refused_at, refused_by_same}
 use Rattle.fsrm_engine.proofs.PlaceLaws.{place_within, place_depth, has_resolved}
 use Rattle.fsrm_engine.proofs.MoveLaws.{move_due, move_root, stray_due}
-use Rattle.fsrm_engine.proofs.GrowthLaws.{owned, admitted, refused_by_quota, due_none, due_some, stored}
-use Rattle.fsrm_engine.proofs.MoveKept.{moves_to, move_changes, move_done, move_effect, below_due, from_height, to_height, left_height, parent_there, there_moved, room_seen, move_fits, moved_fits}
+use Rattle.fsrm_engine.proofs.GrowthLaws.{owned, admitted, refused_by_quota, due_none, due_quota}
+use Rattle.fsrm_engine.proofs.MoveKept.{moves_to, move_changes, move_done, move_effect, ready_apart, from_height, to_height, left_height, parent_there, there_moved, room_seen, move_fits, moved_fits}
 use Rattle.std.proofs.Common.{◌≡◌, ◌==◌, true, false, None, subst}
 use Rattle.fsrm_model.specs.declared.command.Answer.{Answer}
 use Rattle.fsrm_model.specs.FileOps.{plain}
 use Rattle.fsrm_base.specs.Keyed.{has_row}
 use Rattle.fsrm_model.specs.Name.{is_name}
-use Rattle.fsrm_model.specs.Tree.{number, is_folder}
+use Rattle.fsrm_model.specs.Tree.{number, is_folder, is_under}
 use Rattle.fsrm_model.proofs.Resolves.{resolved}
 use Rattle.volume_tree.specs.Volume.{Move as Moving}
 use Rattle.fsrm_engine.proofs.FollowLaws.{within_scans, scans_at, nodes_at, goes_to, volume_is, made_ready, move_next, move_nodes}
@@ -33,24 +34,6 @@ returns-in-Err-clause-ok g c =
     (stray_due c.self.inside.tree c.self.inside.objects.quotas c.self.inside.last_moment c.args.moment _ _ _ _ _ c.self.view_is c.self.invariant.volume (sym c.in-Some.ensures.value) (is_inner _ c.if-node-eq0.false) c.in-Err.ensures.err)
     c.refused-in-Err.ensures
 
-pub is_at_or_below-requires : goal.is_at_or_below-requires
-is_at_or_below-requires g c =
-    let p = place_within c.self.inside.tree _ _ _ _ _ _ c.self.view_is c.in-Ok.ensures.ok in
-    folder_has c.self.inside.tree.nodes c.in-Ok.place.folder p.folder_is
-
-pub returns-then-is_at_or_below-clause-ok : goal.returns-then-is_at_or_below-clause-ok
-returns-then-is_at_or_below-clause-ok g c =
-    let v = c.self.inside.tree in
-    let p = place_within v _ _ _ _ _ _ c.self.view_is c.in-Ok.ensures.ok in
-    refused_at v _ _ c.args.moment (File (Move c.args.from.now c.args.to.now)) _ _ _ c.self.view_is c.requires.late
-    (below_due v c.self.inside.objects.quotas c.self.inside.last_moment c.args.moment c.args.from.now c.args.to.now c.in-Some.node c.in-Ok.place.folder c.in-Ok.place.name.now c.is_at_or_below.result c.self.invariant.volume (sym c.in-Some.ensures.value) (is_inner _ c.if-node-eq0.false) p c.is_at_or_below.ensures.below c.if-is_at_or_below.true)
-    c.refused-then-is_at_or_below.ensures
-
-pub returns-then-is_at_or_below-clause-looks : goal.returns-then-is_at_or_below-clause-looks
-returns-then-is_at_or_below-clause-looks g c =
-    let p = place_within c.self.inside.tree _ _ _ _ _ _ c.self.view_is c.in-Ok.ensures.ok in
-    omega (arith, c.in-Some.ensures.looks, c.in-Ok.ensures.looks, c.is_at_or_below.ensures.looks, place_depth _ _ _ _ _ c.self.invariant.volume p)
-
 pub moved_bytes-requires-clause-there : goal.moved_bytes-requires-clause-there
 moved_bytes-requires-clause-there g c = has_resolved _ _ _ _ c.self.invariant.volume (sym c.in-Some.ensures.value)
 
@@ -62,7 +45,7 @@ returns-in_err-bytes-clause-looks g c =
       arith,
       c.in-Some.ensures.looks,
       c.in-Ok.ensures.looks,
-      c.is_at_or_below.ensures.looks,
+      c.in-Ok-ready_move.ensures.looks,
       c.moved_bytes.ensures.looks,
       place_depth _ _ _ _ _ c.self.invariant.volume p,
       room_seen v c.self.inside.objects.quotas c.self.inside.last_moment _ c.args.from.now c.args.to.now c.in-Some.node c.self.view_is c.self.invariant.volume (sym c.in-Some.ensures.value),
@@ -84,11 +67,8 @@ pub admit-requires-clause-fits : goal.admit-requires-clause-fits
 admit-requires-clause-fits g c =
     let v = c.self.inside.tree in
     let p = place_within v _ _ _ _ _ _ c.self.view_is c.in-Ok.ensures.ok in
-    let to = moves_to v.nodes c.in-Some.node c.in-Ok.place.folder c.node.result c.is_at_or_below.result c.node.ensures.view (is_inner _ c.if-node-eq0.false) p.folder_is c.is_at_or_below.ensures.below c.if-is_at_or_below.false in
+    let to = moves_to v.nodes c.in-Some.node c.in-Ok.place.folder c.node.result (is_under v.nodes c.in-Some.node c.in-Ok.place.folder) c.node.ensures.view (is_inner _ c.if-node-eq0.false) p.folder_is refl (ready_apart v c.in-Some.node c.in-Ok.place.folder c.in-Ok.place.name.now c.in-Ok-ready_move.ensures.may) in
     move_fits v c.self.inside.objects.quotas c.self.inside.usage c.in-Some.node c.in-Ok.place.folder c.in-Ok.place.name.now c.node.result c.in_ok-bytes.bytes c.self.invariant c.node.ensures.view to c.in_ok-bytes.ensures.bytes
-
-pub move_refusal-refusal-requires-clause-there : goal.move_refusal-refusal-requires-clause-there
-move_refusal-refusal-requires-clause-there g c = has_resolved _ _ _ _ c.self.invariant.volume (sym c.in-Some.ensures.value)
 
 pub returns-in-Err-admit-clause-ok : goal.returns-in-Err-admit-clause-ok
 returns-in-Err-admit-clause-ok g c =
@@ -96,13 +76,13 @@ returns-in-Err-admit-clause-ok g c =
     let quotas = c.self.inside.objects.quotas in
     let last = c.self.inside.last_moment in
     let p = place_within v _ _ _ _ _ _ c.self.view_is c.in-Ok.ensures.ok in
-    let to = moves_to v.nodes c.in-Some.node c.in-Ok.place.folder c.node.result c.is_at_or_below.result c.node.ensures.view (is_inner _ c.if-node-eq0.false) p.folder_is c.is_at_or_below.ensures.below c.if-is_at_or_below.false in
+    let to = moves_to v.nodes c.in-Some.node c.in-Ok.place.folder c.node.result (is_under v.nodes c.in-Some.node c.in-Ok.place.folder) c.node.ensures.view (is_inner _ c.if-node-eq0.false) p.folder_is refl (ready_apart v c.in-Some.node c.in-Ok.place.folder c.in-Ok.place.name.now c.in-Ok-ready_move.ensures.may) in
     let changes = move_changes v.size v.nodes quotas c.in-Some.node c.in-Ok.place.folder c.in-Ok.place.name.now c.node.result c.in_ok-bytes.bytes c.self.invariant.volume c.self.invariant.are_quotas c.node.ensures.view to c.in_ok-bytes.ensures.bytes in
     refused_at v quotas last c.args.moment (File (Move c.args.from.now c.args.to.now)) _ _ _ c.self.view_is c.requires.late
     (move_due v quotas last c.args.moment c.args.from.now c.args.to.now c.in-Some.node c.in-Ok.place.folder c.in-Ok.place.name.now c.self.invariant.volume (sym c.in-Some.ensures.value) (is_inner _ c.if-node-eq0.false) p
-    ∙ due_some (move_fault v c.in-Some.node c.in-Ok.place.folder c.in-Ok.place.name.now) _ c.in-Err-admit.exceeded c.move_refusal-refusal.result
-    (refused_by_quota v quotas last c.self.inside.usage _ _ c.in-Err-admit.exceeded c.self.invariant changes c.in-Err-admit.ensures.refused) c.move_refusal-refusal.ensures.refusal)
-    c.refused-in-Err-admit.ensures
+    ∙ due_quota (move_fault v c.in-Some.node c.in-Ok.place.folder c.in-Ok.place.name.now) _ c.in-Err-admit.exceeded c.in-Ok-ready_move.ensures.may
+    (refused_by_quota v quotas last c.self.inside.usage _ _ c.in-Err-admit.exceeded c.self.invariant changes c.in-Err-admit.ensures.refused))
+    (c.refused-in-Err-admit.ensures ∙ ap refused_answer c.exceeded_by.ensures)
 
 pub returns-in-Err-admit-clause-looks : goal.returns-in-Err-admit-clause-looks
 returns-in-Err-admit-clause-looks g c =
@@ -112,11 +92,10 @@ returns-in-Err-admit-clause-looks g c =
       arith,
       c.in-Some.ensures.looks,
       c.in-Ok.ensures.looks,
-      c.is_at_or_below.ensures.looks,
+      c.in-Ok-ready_move.ensures.looks,
       c.in_ok-bytes.ensures.looks,
       c.node.ensures.count,
       c.in-Err-admit.ensures.looks,
-      c.move_refusal-refusal.ensures.looks,
       place_depth _ _ _ _ _ c.self.invariant.volume p,
       from_height v.size v.nodes c.args.from.now c.in-Some.node c.node.result c.self.invariant.volume (sym c.in-Some.ensures.value) (is_inner _ c.if-node-eq0.false) c.node.ensures.view,
       room_seen v c.self.inside.objects.quotas c.self.inside.last_moment _ c.args.from.now c.args.to.now c.in-Some.node c.self.view_is c.self.invariant.volume (sym c.in-Some.ensures.value),
@@ -139,24 +118,24 @@ pub charge-requires-clause-fits : goal.charge-requires-clause-fits
 charge-requires-clause-fits g c =
     let v = c.self.inside.tree in
     let p = place_within v _ _ _ _ _ _ c.self.view_is c.in-Ok.ensures.ok in
-    let to = moves_to v.nodes c.in-Some.node c.in-Ok.place.folder c.node.result c.is_at_or_below.result c.node.ensures.view (is_inner _ c.if-node-eq0.false) p.folder_is c.is_at_or_below.ensures.below c.if-is_at_or_below.false in
+    let to = moves_to v.nodes c.in-Some.node c.in-Ok.place.folder c.node.result (is_under v.nodes c.in-Some.node c.in-Ok.place.folder) c.node.ensures.view (is_inner _ c.if-node-eq0.false) p.folder_is refl (ready_apart v c.in-Some.node c.in-Ok.place.folder c.in-Ok.place.name.now c.in-Ok-ready_move.ensures.may) in
     moved_fits v c.make_move.new.self c.self.inside.objects.quotas c.self.inside.usage c.in-Some.node c.in-Ok.place.folder c.in-Ok.place.name.now c.node.result c.in_ok-bytes.bytes c.self.invariant c.node.ensures.view to c.in_ok-bytes.ensures.bytes (made_ready _ _ _ _ _ _ c.in-Ok-ready_move.ensures.ready c.make_move.ensures.made)
 
 pub invariant_of-self : goal.invariant_of-self
 invariant_of-self g c =
     let v = c.self.inside.tree in
     let p = place_within v _ _ _ _ _ _ c.self.view_is c.in-Ok.ensures.ok in
-    let to = moves_to v.nodes c.in-Some.node c.in-Ok.place.folder c.node.result c.is_at_or_below.result c.node.ensures.view (is_inner _ c.if-node-eq0.false) p.folder_is c.is_at_or_below.ensures.below c.if-is_at_or_below.false in
+    let to = moves_to v.nodes c.in-Some.node c.in-Ok.place.folder c.node.result (is_under v.nodes c.in-Some.node c.in-Ok.place.folder) c.node.ensures.view (is_inner _ c.if-node-eq0.false) p.folder_is refl (ready_apart v c.in-Some.node c.in-Ok.place.folder c.in-Ok.place.name.now c.in-Ok-ready_move.ensures.may) in
     (move_done v c.make_move.new.self c.self.inside.objects.quotas c.charge.new.objects c.self.inside.usage c.charge.new.usage c.in-Some.node c.in-Ok.place.folder c.in-Ok.place.name.now c.node.result c.in_ok-bytes.bytes c.args.moment
     c.self.invariant c.node.ensures.view to c.in_ok-bytes.ensures.bytes (made_ready _ _ _ _ _ _ c.in-Ok-ready_move.ensures.ready c.make_move.ensures.made) c.make_move.ensures.kept c.requires.moment c.charge.ensures.counters c.charge.ensures.quotas).engine
 
-pub returns-in-Ok-ready_move-clause-ok : goal.returns-in-Ok-ready_move-clause-ok
-returns-in-Ok-ready_move-clause-ok g c =
+pub returns-clause-ok : goal.returns-clause-ok
+returns-clause-ok g c =
     let v = c.self.inside.tree in
     let quotas = c.self.inside.objects.quotas in
     let last = c.self.inside.last_moment in
     let p = place_within v _ _ _ _ _ _ c.self.view_is c.in-Ok.ensures.ok in
-    let to = moves_to v.nodes c.in-Some.node c.in-Ok.place.folder c.node.result c.is_at_or_below.result c.node.ensures.view (is_inner _ c.if-node-eq0.false) p.folder_is c.is_at_or_below.ensures.below c.if-is_at_or_below.false in
+    let to = moves_to v.nodes c.in-Some.node c.in-Ok.place.folder c.node.result (is_under v.nodes c.in-Some.node c.in-Ok.place.folder) c.node.ensures.view (is_inner _ c.if-node-eq0.false) p.folder_is refl (ready_apart v c.in-Some.node c.in-Ok.place.folder c.in-Ok.place.name.now c.in-Ok-ready_move.ensures.may) in
     let changes = move_changes v.size v.nodes quotas c.in-Some.node c.in-Ok.place.folder c.in-Ok.place.name.now c.node.result c.in_ok-bytes.bytes c.self.invariant.volume c.self.invariant.are_quotas c.node.ensures.view to c.in_ok-bytes.ensures.bytes in
     let d = move_done v c.make_move.new.self quotas c.charge.new.objects c.self.inside.usage c.charge.new.usage c.in-Some.node c.in-Ok.place.folder c.in-Ok.place.name.now c.node.result c.in_ok-bytes.bytes c.args.moment
     c.self.invariant c.node.ensures.view to c.in_ok-bytes.ensures.bytes (made_ready _ _ _ _ _ _ c.in-Ok-ready_move.ensures.ready c.make_move.ensures.made) c.make_move.ensures.kept c.requires.moment c.charge.ensures.counters c.charge.ensures.quotas in
@@ -166,30 +145,20 @@ returns-in-Ok-ready_move-clause-ok g c =
     (move_effect v c.make_move.new.self quotas last c.args.moment c.args.from.now c.args.to.now c.in-Some.node c.in-Ok.place.folder c.in-Ok.place.name.now (sym c.in-Some.ensures.value) p (made_ready _ _ _ _ _ _ c.in-Ok-ready_move.ensures.ready c.make_move.ensures.made)) refl refl (ap (λ (u : Volume). u.size) (made_ready _ _ _ _ _ _ c.in-Ok-ready_move.ensures.ready c.make_move.ensures.made))
     d.raised_are c.done.ensures.rows c.done.ensures.answer
 
-pub returns-in-Ok-ready_move-clause-kept : goal.returns-in-Ok-ready_move-clause-kept
-returns-in-Ok-ready_move-clause-kept g c =
-    let v = c.self.inside.tree in
-    let p = place_within v _ _ _ _ _ _ c.self.view_is c.in-Ok.ensures.ok in
-    let to = moves_to v.nodes c.in-Some.node c.in-Ok.place.folder c.node.result c.is_at_or_below.result c.node.ensures.view (is_inner _ c.if-node-eq0.false) p.folder_is c.is_at_or_below.ensures.below c.if-is_at_or_below.false in
-    stored c.make_move.new.self c.charge.new.objects.quotas c.charge.new.usage c.args.moment c.done.new.self
-    (move_done v c.make_move.new.self c.self.inside.objects.quotas c.charge.new.objects c.self.inside.usage c.charge.new.usage c.in-Some.node c.in-Ok.place.folder c.in-Ok.place.name.now c.node.result c.in_ok-bytes.bytes c.args.moment
-    c.self.invariant c.node.ensures.view to c.in_ok-bytes.ensures.bytes (made_ready _ _ _ _ _ _ c.in-Ok-ready_move.ensures.ready c.make_move.ensures.made) c.make_move.ensures.kept c.requires.moment c.charge.ensures.counters c.charge.ensures.quotas).engine c.done.ensures.rows
-
-pub returns-in-Ok-ready_move-clause-looks : goal.returns-in-Ok-ready_move-clause-looks
-returns-in-Ok-ready_move-clause-looks g c =
+pub returns-clause-looks : goal.returns-clause-looks
+returns-clause-looks g c =
     let v = c.self.inside.tree in
     let w = c.make_move.new.self in
     let p = place_within v _ _ _ _ _ _ c.self.view_is c.in-Ok.ensures.ok in
-    let to = moves_to v.nodes c.in-Some.node c.in-Ok.place.folder c.node.result c.is_at_or_below.result c.node.ensures.view (is_inner _ c.if-node-eq0.false) p.folder_is c.is_at_or_below.ensures.below c.if-is_at_or_below.false in
+    let to = moves_to v.nodes c.in-Some.node c.in-Ok.place.folder c.node.result (is_under v.nodes c.in-Some.node c.in-Ok.place.folder) c.node.ensures.view (is_inner _ c.if-node-eq0.false) p.folder_is refl (ready_apart v c.in-Some.node c.in-Ok.place.folder c.in-Ok.place.name.now c.in-Ok-ready_move.ensures.may) in
     omega (
       arith,
       c.in-Some.ensures.looks,
       c.in-Ok.ensures.looks,
-      c.is_at_or_below.ensures.looks,
+      c.in-Ok-ready_move.ensures.looks,
       c.in_ok-bytes.ensures.looks,
       c.node.ensures.count,
       c.in_default-admit.ensures.looks,
-      c.in-Ok-ready_move.ensures.looks,
       c.follow_move.ensures.looks,
       c.make_move.ensures.looks,
       c.charge.ensures.looks,
@@ -211,21 +180,8 @@ returns-in-Err-ready_move-clause-ok g c =
 
 pub returns-in-Err-ready_move-clause-looks : goal.returns-in-Err-ready_move-clause-looks
 returns-in-Err-ready_move-clause-looks g c =
-    let v = c.self.inside.tree in
-    let p = place_within v _ _ _ _ _ _ c.self.view_is c.in-Ok.ensures.ok in
-    omega (
-      arith,
-      c.in-Some.ensures.looks,
-      c.in-Ok.ensures.looks,
-      c.is_at_or_below.ensures.looks,
-      c.in_ok-bytes.ensures.looks,
-      c.node.ensures.count,
-      c.in_default-admit.ensures.looks,
-      c.in-Err-ready_move.ensures.looks,
-      place_depth _ _ _ _ _ c.self.invariant.volume p,
-      from_height v.size v.nodes c.args.from.now c.in-Some.node c.node.result c.self.invariant.volume (sym c.in-Some.ensures.value) (is_inner _ c.if-node-eq0.false) c.node.ensures.view,
-      room_seen v c.self.inside.objects.quotas c.self.inside.last_moment _ c.args.from.now c.args.to.now c.in-Some.node c.self.view_is c.self.invariant.volume (sym c.in-Some.ensures.value),
-    )
+    let p = place_within c.self.inside.tree _ _ _ _ _ _ c.self.view_is c.in-Ok.ensures.ok in
+    omega (arith, c.in-Some.ensures.looks, c.in-Ok.ensures.looks, c.in-Err-ready_move.ensures.looks, place_depth _ _ _ _ _ c.self.invariant.volume p)
 
 pub make_move-requires-clause-there : goal.make_move-requires-clause-there
 make_move-requires-clause-there g c =
@@ -258,8 +214,7 @@ pub follow_move-requires-clause-folder : goal.follow_move-requires-clause-folder
 follow_move-requires-clause-folder g c = (place_within c.self.inside.tree _ _ _ _ _ _ c.self.view_is c.in-Ok.ensures.ok).folder_is
 
 pub follow_move-requires-clause-apart : goal.follow_move-requires-clause-apart
-follow_move-requires-clause-apart g c =
-    sym c.is_at_or_below.ensures.below ∙ c.if-is_at_or_below.false
+follow_move-requires-clause-apart g c = ready_apart c.self.inside.tree c.in-Some.node c.in-Ok.place.folder c.in-Ok.place.name.now c.in-Ok-ready_move.ensures.may
 
 pub returns-then-node-eq0-clause-scans : goal.returns-then-node-eq0-clause-scans
 returns-then-node-eq0-clause-scans g c =
@@ -269,28 +224,24 @@ pub returns-in-Err-clause-scans : goal.returns-in-Err-clause-scans
 returns-in-Err-clause-scans g c =
     op_refused _ _ _ (Move c.args.from.now c.args.to.now) c.args.moment _ _ (returns-in-Err-clause-ok g c) c.refused-in-Err.ensures
 
-pub returns-then-is_at_or_below-clause-scans : goal.returns-then-is_at_or_below-clause-scans
-returns-then-is_at_or_below-clause-scans g c =
-    op_refused _ _ _ (Move c.args.from.now c.args.to.now) c.args.moment _ _ (returns-then-is_at_or_below-clause-ok g c) c.refused-then-is_at_or_below.ensures
-
 pub returns-in-Err-admit-clause-scans : goal.returns-in-Err-admit-clause-scans
 returns-in-Err-admit-clause-scans g c =
-    op_refused _ _ _ (Move c.args.from.now c.args.to.now) c.args.moment _ _ (returns-in-Err-admit-clause-ok g c) c.refused-in-Err-admit.ensures
+    op_refused _ _ _ (Move c.args.from.now c.args.to.now) c.args.moment _ _ (returns-in-Err-admit-clause-ok g c) (c.refused-in-Err-admit.ensures ∙ ap refused_answer c.exceeded_by.ensures)
 
-pub returns-in-Ok-ready_move-clause-scans : goal.returns-in-Ok-ready_move-clause-scans
-returns-in-Ok-ready_move-clause-scans g c =
+pub returns-clause-scans : goal.returns-clause-scans
+returns-clause-scans g c =
     let i = c.self.inside in
     let v = i.tree in
     let p = place_within v _ _ _ _ _ _ c.self.view_is c.in-Ok.ensures.ok in
     let made = made_ready _ _ _ _ _ _ c.in-Ok-ready_move.ensures.ready c.make_move.ensures.made in
     let goes = goes_to _ _ c.make_move.new.self _ _ made (c.follow_move.ensures.follows c.in-Ok.place.name.now (volume_is _ _ made c.make_move.ensures.kept)) in
     let nodes = move_nodes v c.in-Some.node c.in-Ok.place.folder c.in-Ok.place.name.now i.objects.quotas i.last_moment c.args.self.now c.args.from.now c.args.to.now c.args.moment c.self.view_is (sym c.in-Some.ensures.value) p in
-    follow_op _ _ _ _ c.make_move.new.self (Move c.args.from.now c.args.to.now) c.args.moment _ _ (returns-in-Ok-ready_move-clause-ok g c) (ap (λ (a : Answer). a.outcome) c.done.ensures.answer)
+    follow_op _ _ _ _ c.make_move.new.self (Move c.args.from.now c.args.to.now) c.args.moment _ _ (returns-clause-ok g c) (ap (λ (a : Answer). a.outcome) c.done.ensures.answer)
     (nodes_at c.make_move.new.self _ c.args.moment _ c.done.ensures.rows) goes refl
     (move_next v c.make_move.new.self i.objects.quotas i.last_moment c.args.self.now c.args.scans.now c.args.from.now c.args.to.now c.in-Some.node c.in-Ok.place.folder c.in-Ok.place.name.now (plain c.args.self.now.rows.nodes (Move c.args.from.now c.args.to.now) c.args.moment) c.self.view_is (sym c.in-Some.ensures.value) p nodes)
 
-pub returns-in-Ok-ready_move-clause-scanning : goal.returns-in-Ok-ready_move-clause-scanning
-returns-in-Ok-ready_move-clause-scanning g c =
+pub returns-clause-scanning : goal.returns-clause-scanning
+returns-clause-scanning g c =
     let made = made_ready _ _ _ _ _ _ c.in-Ok-ready_move.ensures.ready c.make_move.ensures.made in
     let goes = goes_to _ _ c.make_move.new.self _ _ made (c.follow_move.ensures.follows c.in-Ok.place.name.now (volume_is _ _ made c.make_move.ensures.kept)) in
     scans_at c.make_move.new.self _ c.args.moment _ _ c.done.ensures.rows goes.scanning

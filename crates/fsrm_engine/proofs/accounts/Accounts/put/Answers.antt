@@ -4,7 +4,7 @@ use Rattle.fsrm_model.specs.Quota.{folder_of}
 use Rattle.fsrm_model.specs.Tree.{usage}
 use Rattle.fsrm_objects.specs.Tables.{Tables}
 use Rattle.fsrm_engine.specs.Machine.{Machine}
-use Rattle.fsrm_engine.proofs.CountingLaws.{put_engine, level, room_for}
+use Rattle.fsrm_engine.proofs.CountingLaws.{put_engine, room_for}
 use Rattle.fsrm_engine.proofs.accounts.Accounts.put.Goals as goal
 
 pub recount-requires : goal.recount-requires
@@ -28,6 +28,3 @@ invariant_of-self c =
 
 pub returns-clause-kept : goal.returns-clause-kept
 returns-clause-kept c = let e = invariant_of-self c in record { volume = e.volume; quotas = e.are_quotas }
-
-pub returns-clause-level : goal.returns-clause-level
-returns-clause-level c = level c.self.inside.tree.size c.self.inside.tree.nodes c.set_quota.new.self.quotas c.recount.new.usage (invariant_of-self c)

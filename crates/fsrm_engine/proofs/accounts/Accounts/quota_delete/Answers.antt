@@ -6,7 +6,8 @@ use Rattle.fsrm_model.specs.Quota.{folder_of}
 use Rattle.fsrm_objects.specs.Tables.{Tables}
 use Rattle.fsrm_engine.specs.Machine.{rows_at}
 use Rattle.fsrm_engine.proofs.PlaceLaws.{folder_within, target_is}
-use Rattle.fsrm_engine.proofs.QuotaLaws.{kept_same, kept_without, engine_kept, store_kept, on_folder, quota_due, quotas_done}
+use Rattle.fsrm_engine.proofs.CountingLaws.{engine_without}
+use Rattle.fsrm_engine.proofs.QuotaLaws.{engine_same, on_folder, quota_due, quotas_done}
 use Rattle.fsrm_engine.proofs.FollowLaws.{within_scans, scans_at}
 use Rattle.fsrm_model.specs.declared.command.Answer.{Answer}
 use Rattle.fsrm_engine.proofs.GoingLaws.{delete_follow}
@@ -14,9 +15,9 @@ use Rattle.fsrm_engine.proofs.accounts.Accounts.quota_delete.Goals as goal
 
 pub invariant_of-self : goal.invariant_of-self
 invariant_of-self g c =
-    engine_kept _ _ _ _ _ _ c.args.moment c.self.invariant c.requires.moment
-    (kept_same _ _ _ _ _ _ _ c.drop_quota.ensures.usage (ap (λ (t : Tables). t.quotas) c.drop_quota.ensures.objects)
-    (kept_without _ _ _ _ c.args.moment c.in-Some.folder c.self.invariant))
+    let i = c.self.inside in
+    engine_same i.tree.size i.tree.nodes c.drop_quota.new.usage (without_row folder_of c.in-Some.folder i.objects.quotas) c.drop_quota.new.objects.quotas (ap (λ (t : Tables). t.quotas) c.drop_quota.ensures.objects)
+    (engine_without i.tree.size i.tree.nodes i.objects.quotas i.usage c.drop_quota.new.usage c.in-Some.folder c.self.invariant c.drop_quota.ensures.usage)
 
 pub returns-clause-ok : goal.returns-clause-ok
 returns-clause-ok g c =
@@ -24,19 +25,11 @@ returns-clause-ok g c =
     let quotas = c.self.inside.objects.quotas in
     let at = folder_within v _ _ _ _ _ c.self.view_is c.in-Some.ensures.folder in
     let is = ap (λ (t : Tables). t.quotas) c.drop_quota.ensures.objects in
-    quotas_done v quotas _ _ _ c.args.moment (QuotaDelete c.args.path.now) _ _ _ c.self.view_is c.requires.late
+    quotas_done v quotas _ _ c.args.moment (QuotaDelete c.args.path.now) _ _ _ c.self.view_is c.requires.late
     (quota_due _ _ c.self.inside.last_moment _ _ (on_folder _ _ _ _ c.quota.result at c.quota.ensures c.if-is_none.ensures))
     (ap (λ (qs : List QuotaRow). rows_at v.nodes qs c.self.inside.last_moment) (ap (λ n. without_row folder_of n quotas) (target_is v.nodes c.args.path.now _ at.resolved) ∙ sym is))
     refl refl
-    (kept_same _ _ _ _ _ _ _ c.drop_quota.ensures.usage is (kept_without _ _ _ _ c.args.moment c.in-Some.folder c.self.invariant))
     c.done.ensures.rows c.done.ensures.answer
-
-pub returns-clause-kept : goal.returns-clause-kept
-returns-clause-kept g c =
-    store_kept c.self.inside.tree _ _ c.args.moment _ c.self.invariant.volume
-    (kept_same _ _ _ _ _ _ _ c.drop_quota.ensures.usage (ap (λ (t : Tables). t.quotas) c.drop_quota.ensures.objects)
-    (kept_without _ _ _ _ c.args.moment c.in-Some.folder c.self.invariant))
-    c.done.ensures.rows
 
 pub returns-clause-scans : goal.returns-clause-scans
 returns-clause-scans g c =

@@ -2,7 +2,7 @@ use Rattle.std.proofs.Common.{None, refl, ap, sym, ◌∙◌}
 use Rattle.fsrm_model.specs.declared.command.Deed.TheVariants.{File}
 use Rattle.fsrm_model.specs.declared.command.FileOp.TheVariants.{Remove}
 use Rattle.volume_tree.specs.Volume.{Volume}
-use Rattle.fsrm_engine.proofs.IdleLaws.{resolved_within, folder_within_is, may_go, file_goes, idle_charged, gone_is, done_idle, store_at, looks_at_file}
+use Rattle.fsrm_engine.proofs.IdleLaws.{resolved_within, folder_within_is, may_go, file_goes, idle_charged, gone_is, done_idle, looks_at_file}
 use Rattle.fsrm_engine.proofs.PlaceLaws.{has_resolved}
 use Rattle.fsrm_engine.proofs.RemoveLaws.{remove_due}
 use Rattle.fsrm_engine.proofs.GoingLaws.{no_fault, goes_well}
@@ -47,7 +47,7 @@ invariant_of-self g c =
     let file = folder_within_is i.tree i.objects.quotas i.last_moment _ _ _ c.self.view_is c.requires.kind in
     let may = may_go i.tree c.args.node c.requires.inner (has_resolved _ _ _ _ c.self.invariant.volume at) (when_ok _ _ c.unwrap.ensures c.remove.ensures.may) in
     let goes = file_goes i.tree c.remove.new.self i.objects.quotas i.usage c.args.node c.allocated.result c.node-view.result c.self.invariant may file (when_ok _ _ c.unwrap.ensures c.remove.ensures.made) c.remove.ensures.kept c.node-view.ensures.view c.allocated.ensures.space in
-    (idle_charged c.remove.new.self i.objects.quotas i.usage c.charge.new.self c.args.node c.args.moment _ goes c.charge.ensures.made).engine
+    idle_charged c.remove.new.self i.objects.quotas i.usage c.charge.new.self c.args.node _ goes c.charge.ensures.made
 
 pub returns-clause-ok : goal.returns-clause-ok
 returns-clause-ok g c =
@@ -57,23 +57,11 @@ returns-clause-ok g c =
     let may = may_go i.tree c.args.node c.requires.inner (has_resolved _ _ _ _ c.self.invariant.volume at) (when_ok _ _ c.unwrap.ensures c.remove.ensures.may) in
     let made = when_ok _ _ c.unwrap.ensures c.remove.ensures.made in
     let goes = file_goes i.tree c.remove.new.self i.objects.quotas i.usage c.args.node c.allocated.result c.node-view.result c.self.invariant may file made c.remove.ensures.kept c.node-view.ensures.view c.allocated.ensures.space in
-    done_idle i.tree c.remove.new.self i.objects.quotas i.objects.quotas c.charge.new.self i.last_moment c.args.moment (File (Remove c.args.path.now)) _ _ _ c.self.view_is c.requires.late
+    done_idle i.tree c.remove.new.self i.objects.quotas i.objects.quotas i.last_moment c.args.moment (File (Remove c.args.path.now)) _ _ _ c.self.view_is c.requires.late
     (remove_due i.tree i.objects.quotas i.last_moment c.args.moment _ _ c.self.invariant.volume at c.requires.inner ∙ ap (λ o. tree_first o None) (when_ok _ _ c.unwrap.ensures c.remove.ensures.may))
     (gone_is i.tree c.remove.new.self i.objects.quotas i.objects.quotas i.last_moment c.args.path.now c.args.node at made (sym goes.no_quota))
     refl refl (ap (λ (w : Volume). w.size) made)
-    (idle_charged c.remove.new.self i.objects.quotas i.usage c.charge.new.self c.args.node c.args.moment _ goes c.charge.ensures.made)
     c.done.ensures.rows c.done.ensures.answer
-
-pub returns-clause-kept : goal.returns-clause-kept
-returns-clause-kept g c =
-    let i = c.self.inside in
-    let at = resolved_within i.tree i.objects.quotas i.last_moment _ _ _ c.self.view_is c.requires.resolved in
-    let file = folder_within_is i.tree i.objects.quotas i.last_moment _ _ _ c.self.view_is c.requires.kind in
-    let may = may_go i.tree c.args.node c.requires.inner (has_resolved _ _ _ _ c.self.invariant.volume at) (when_ok _ _ c.unwrap.ensures c.remove.ensures.may) in
-    let goes = file_goes i.tree c.remove.new.self i.objects.quotas i.usage c.args.node c.allocated.result c.node-view.result c.self.invariant may file (when_ok _ _ c.unwrap.ensures c.remove.ensures.made) c.remove.ensures.kept c.node-view.ensures.view c.allocated.ensures.space in
-    store_at c.remove.new.self i.objects.quotas c.charge.new.self c.args.moment _
-    (idle_charged c.remove.new.self i.objects.quotas i.usage c.charge.new.self c.args.node c.args.moment _ goes c.charge.ensures.made).engine
-    c.done.ensures.rows
 
 pub returns-clause-looks : goal.returns-clause-looks
 returns-clause-looks g c =

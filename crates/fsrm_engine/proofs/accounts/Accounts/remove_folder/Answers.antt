@@ -3,7 +3,7 @@ use Rattle.fsrm_model.specs.declared.command.Deed.TheVariants.{File}
 use Rattle.fsrm_model.specs.declared.command.FileOp.TheVariants.{Remove}
 use Rattle.fsrm_objects.specs.Tables.{Tables}
 use Rattle.volume_tree.specs.Volume.{Volume}
-use Rattle.fsrm_engine.proofs.IdleLaws.{resolved_within, folder_within_is, may_go, idle_gone, gone_is, done_idle, store_at}
+use Rattle.fsrm_engine.proofs.IdleLaws.{resolved_within, folder_within_is, may_go, idle_gone, gone_is, done_idle}
 use Rattle.fsrm_engine.proofs.PlaceLaws.{has_resolved}
 use Rattle.fsrm_engine.proofs.RemoveLaws.{remove_due}
 use Rattle.fsrm_engine.proofs.GoingLaws.{no_fault, full_fault, goes_well, left_queue, follow_rmdir_done, next_without}
@@ -24,8 +24,8 @@ invariant_of-self g c =
     let i = c.self.inside in
     let at = resolved_within i.tree i.objects.quotas i.last_moment _ _ _ c.self.view_is c.requires.resolved in
     let may = may_go i.tree c.args.node c.requires.inner (has_resolved _ _ _ _ c.self.invariant.volume at) (when_ok _ _ c.unwrap.ensures c.remove.ensures.may) in
-    (idle_gone i.tree c.remove.new.self i.objects.quotas c.drop_quota.new.objects.quotas i.usage c.drop_quota.new.usage c.args.node c.args.moment c.self.invariant may
-    (folder_within_is i.tree i.objects.quotas i.last_moment _ _ _ c.self.view_is c.requires.kind) (when_ok _ _ c.unwrap.ensures c.remove.ensures.made) c.remove.ensures.kept (ap (λ (t : Tables). t.quotas) c.drop_quota.ensures.objects) c.drop_quota.ensures.usage).engine
+    idle_gone i.tree c.remove.new.self i.objects.quotas c.drop_quota.new.objects.quotas i.usage c.drop_quota.new.usage c.args.node c.self.invariant may
+    (folder_within_is i.tree i.objects.quotas i.last_moment _ _ _ c.self.view_is c.requires.kind) (when_ok _ _ c.unwrap.ensures c.remove.ensures.made) c.remove.ensures.kept (ap (λ (t : Tables). t.quotas) c.drop_quota.ensures.objects) c.drop_quota.ensures.usage
 
 pub returns-clause-ok : goal.returns-clause-ok
 returns-clause-ok g c =
@@ -34,23 +34,11 @@ returns-clause-ok g c =
     let may = may_go i.tree c.args.node c.requires.inner (has_resolved _ _ _ _ c.self.invariant.volume at) (when_ok _ _ c.unwrap.ensures c.remove.ensures.may) in
     let made = when_ok _ _ c.unwrap.ensures c.remove.ensures.made in
     let left = ap (λ (t : Tables). t.quotas) c.drop_quota.ensures.objects in
-    done_idle i.tree c.remove.new.self i.objects.quotas c.drop_quota.new.objects.quotas c.drop_quota.new.usage i.last_moment c.args.moment (File (Remove c.args.path.now)) _ _ _ c.self.view_is c.requires.late
+    done_idle i.tree c.remove.new.self i.objects.quotas c.drop_quota.new.objects.quotas i.last_moment c.args.moment (File (Remove c.args.path.now)) _ _ _ c.self.view_is c.requires.late
     (remove_due i.tree i.objects.quotas i.last_moment c.args.moment _ _ c.self.invariant.volume at c.requires.inner ∙ ap (λ o. tree_first o None) (when_ok _ _ c.unwrap.ensures c.remove.ensures.may))
     (gone_is i.tree c.remove.new.self i.objects.quotas c.drop_quota.new.objects.quotas i.last_moment c.args.path.now c.args.node at made left)
     refl refl (ap (λ (w : Volume). w.size) made)
-    (idle_gone i.tree c.remove.new.self i.objects.quotas c.drop_quota.new.objects.quotas i.usage c.drop_quota.new.usage c.args.node c.args.moment c.self.invariant may
-    (folder_within_is i.tree i.objects.quotas i.last_moment _ _ _ c.self.view_is c.requires.kind) made c.remove.ensures.kept left c.drop_quota.ensures.usage)
     c.done.ensures.rows c.done.ensures.answer
-
-pub returns-clause-kept : goal.returns-clause-kept
-returns-clause-kept g c =
-    let i = c.self.inside in
-    let at = resolved_within i.tree i.objects.quotas i.last_moment _ _ _ c.self.view_is c.requires.resolved in
-    let may = may_go i.tree c.args.node c.requires.inner (has_resolved _ _ _ _ c.self.invariant.volume at) (when_ok _ _ c.unwrap.ensures c.remove.ensures.may) in
-    store_at c.remove.new.self c.drop_quota.new.objects.quotas c.drop_quota.new.usage c.args.moment _
-    (idle_gone i.tree c.remove.new.self i.objects.quotas c.drop_quota.new.objects.quotas i.usage c.drop_quota.new.usage c.args.node c.args.moment c.self.invariant may
-    (folder_within_is i.tree i.objects.quotas i.last_moment _ _ _ c.self.view_is c.requires.kind) (when_ok _ _ c.unwrap.ensures c.remove.ensures.made) c.remove.ensures.kept (ap (λ (t : Tables). t.quotas) c.drop_quota.ensures.objects) c.drop_quota.ensures.usage).engine
-    c.done.ensures.rows
 
 pub unwrap-requires : goal.unwrap-requires
 unwrap-requires g c = goes_well c.self.inside.tree c.args.node c.remove.result (no_fault c.self.inside.tree c.args.node (omega (arith, c.child_count.ensures.value, c.if-child_count-gt0.false))) c.remove.ensures.refused c.remove.ensures.only

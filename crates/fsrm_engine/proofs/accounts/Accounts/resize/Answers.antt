@@ -6,7 +6,7 @@ use Rattle.fsrm_engine.specs.Faults.{refused_answer}
 use Rattle.fsrm_engine.proofs.StepLaws.{done_at, refused_at}
 use Rattle.fsrm_engine.proofs.PlaceLaws.{file_within, shown_folder}
 use Rattle.fsrm_engine.proofs.FitLaws.{fits_plus}
-use Rattle.fsrm_engine.proofs.GrowthLaws.{owned, resize_changes, resize_due, admitted, refused_by_quota, file_parent, file_height, there_resized, resized_height, resize_effect, resize_done, stored}
+use Rattle.fsrm_engine.proofs.GrowthLaws.{owned, resize_changes, resize_due, admitted, refused_by_quota, file_parent, file_height, there_resized, resized_height, resize_effect, resize_done}
 use Rattle.fsrm_model.specs.declared.command.Answer.{Answer}
 use Rattle.fsrm_model.proofs.Resolves.{resolved}
 use Rattle.fsrm_engine.proofs.FollowLaws.{within_scans, scans_at, nodes_at, goes_to, volume_is, left_within, shown_length}
@@ -75,14 +75,6 @@ returns-clause-ok g c =
     (resize_due v quotas last c.args.moment c.args.path.now c.in-Some.file c.args.length c.self.invariant.volume f ∙ admitted v quotas last c.self.inside.usage _ _ c.self.invariant changes c.in_default-admit.ensures.admitted)
     (resize_effect v c.resize.new.self quotas last c.args.moment c.args.path.now c.in-Some.file c.args.length f c.resize.ensures.made) refl refl (ap (λ (u : Volume). u.size) c.resize.ensures.made)
     d.raised_are c.done.ensures.rows c.done.ensures.answer
-
-pub returns-clause-kept : goal.returns-clause-kept
-returns-clause-kept g c =
-    let v = c.self.inside.tree in
-    let f = file_within v _ _ _ _ _ c.self.view_is c.in-Some.ensures.file in
-    stored c.resize.new.self c.charge.new.objects.quotas c.charge.new.usage c.args.moment c.done.new.self
-    (resize_done v c.resize.new.self c.self.inside.objects.quotas c.charge.new.objects c.self.inside.usage c.charge.new.usage c.args.path.now c.in-Some.file c.args.length c.args.moment c.allocated.result c.allocated-2.result
-    c.self.invariant f c.allocated.ensures.space c.allocated-2.ensures.space c.resize.ensures.made c.resize.ensures.kept c.requires.moment c.charge.ensures.counters c.charge.ensures.quotas).engine c.done.ensures.rows
 
 pub returns-clause-looks : goal.returns-clause-looks
 returns-clause-looks g c =

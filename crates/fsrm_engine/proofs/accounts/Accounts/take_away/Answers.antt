@@ -7,7 +7,7 @@ use Rattle.fsrm_engine.proofs.accounts.Accounts.take_away.Goals as goal
 
 pub invariant_of-self : goal.invariant_of-self
 invariant_of-self c =
-    subst (λ (qs : List QuotaRow). IsEngine c.self.inside.tree.size c.self.inside.tree.nodes qs c.drop_quota.new.usage)
+    subst (λ (qs : List QuotaRow). IsEngine c.self.inside.tree.size c.self.inside.tree.nodes qs c.drop_quota.new.usage c.self.inside.level)
     (sym (ap (λ (t : Tables). t.quotas) c.drop_quota.ensures.objects))
     (engine_without c.self.inside.tree.size c.self.inside.tree.nodes c.self.inside.objects.quotas c.self.inside.usage c.drop_quota.new.usage c.args.folder c.self.invariant c.drop_quota.ensures.usage)
 

@@ -10,7 +10,7 @@ use Rattle.fsrm_model.specs.QuotaStates.{start, with_quota}
 use Rattle.fsrm_model.specs.QuotaWork.{new_quota}
 use Rattle.fsrm_model.specs.Tree.{usage}
 use Rattle.fsrm_engine.proofs.PlaceLaws.{target_is}
-use Rattle.fsrm_engine.proofs.StateLaws.{settled, add_checks, table_is, table_has, lacks_of, first_empty, empty_folder}
+use Rattle.fsrm_engine.proofs.StateLaws.{done_settled, add_checks, table_is, table_has, lacks_of, first_empty, empty_folder}
 use Rattle.fsrm_engine.proofs.WholeLaws.{refused_whole}
 use Rattle.fsrm_engine.proofs.engine.Engine.quota_add.Goals as goal
 
@@ -46,7 +46,7 @@ returns-clause-ok g c =
     let n = c.in-Some.folder in
     let at = c.in-Some.ensures.folder in
     let absent = lacks_of (λ q. q.state) R.quotas n c.state.result c.state.ensures (sym c.is_some.ensures ∙ c.if-is_some.false) in
-    settled c.args.self.now c.enlist.new.self c.done.new.self c.args.moment (QuotaAdd c.args.path.now c.args.limit c.args.enforce c.args.enabled None [] []) c.done.result (with_quota R c.new_quota-row.result) c.in-Some.ensures.idle c.requires.late
+    done_settled c.args.self.now c.enlist.new.self c.done.new.self c.args.moment (QuotaAdd c.args.path.now c.args.limit c.args.enforce c.args.enabled None [] []) c.done.result (with_quota R c.new_quota-row.result) c.in-Some.ensures.idle c.requires.late
     (add_checks R c.args.path.now n false (λ k. new_quota k (unwrap_or c.args.limit 0) (unwrap_or c.args.enforce true) (if c.args.enabled then start R.nodes k else Disabled) c.args.moment) at absent
     (table_has R.quotas _ c.quota_count.result c.quota_count.ensures c.if-quota_count-ge-MOST_QUOTAS.false))
     (ap (λ k. with_quota R (new_quota k (unwrap_or c.args.limit 0) (unwrap_or c.args.enforce true) (if c.args.enabled then start R.nodes k else Disabled) c.args.moment)) (target_is R.nodes c.args.path.now n at.resolved)
@@ -54,4 +54,4 @@ returns-clause-ok g c =
     ∙ (ap (λ (l : ℕ). with_quota R (new_quota n l (unwrap_or c.args.enforce true) c.first_state-state.result c.args.moment)) (ap (λ (l : Option ℕ). unwrap_or l 0) c.unwrap-limit.ensures)
     ∙ (ap (λ (e : Bool). with_quota R (new_quota n c.unwrap-limit.result e c.first_state-state.result c.args.moment)) (sym c.unwrap_or-enforce.ensures)
     ∙ ap (with_quota R) (sym c.new_quota-row.ensures)))))
-    refl refl c.in_ok-enlist.ensures.listed c.in_ok-enlist.ensures.level c.done.ensures.rows c.done.ensures.answer
+    refl refl c.in_ok-enlist.ensures.listed c.done.ensures.rows c.done.ensures.answer

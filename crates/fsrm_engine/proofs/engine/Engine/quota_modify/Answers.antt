@@ -16,7 +16,7 @@ use Rattle.fsrm_base.proofs.Members.{all_found}
 use Rattle.fsrm_base.proofs.Look.{found_has, found_key}
 use Rattle.fsrm_engine.specs.Machine.{with_other}
 use Rattle.fsrm_engine.proofs.PlaceLaws.{target_is}
-use Rattle.fsrm_engine.proofs.StateLaws.{settled, missing, checked, some_of, none_of, after_empty, empty_folder, modified_to}
+use Rattle.fsrm_engine.proofs.StateLaws.{done_settled, missing, checked, some_of, none_of, after_empty, empty_folder, modified_to}
 use Rattle.fsrm_engine.proofs.WholeLaws.{refused_whole}
 use Rattle.fsrm_engine.proofs.engine.Engine.quota_modify.Goals as goal
 
@@ -87,11 +87,11 @@ returns-clause-ok g c =
     let q = some_of (modified c.args.limit c.args.enforce) (quota_of R n) c.in-Some-2.row (sym c.in_ok-row.ensures ∙ c.in-Some-2.is) in
     let is : c.in-Some-2.row.folder ≡ n = sym (ap (λ (r : QuotaRow). r.folder) q.is) ∙ found_key folder_of n R.quotas q.quota q.found in
     let state = c.state_after-row.result in
-    settled c.args.self.now c.replace.new.self c.done.new.self c.args.moment (QuotaModify c.args.path.now c.args.limit c.args.enforce c.args.enabled [] [] []) c.done.result (with_other R (in_state state c.in-Some-2.row)) c.in-Some.ensures.idle c.requires.late
+    done_settled c.args.self.now c.replace.new.self c.done.new.self c.args.moment (QuotaModify c.args.path.now c.args.limit c.args.enforce c.args.enabled [] [] []) c.done.result (with_other R (in_state state c.in-Some-2.row)) c.in-Some.ensures.idle c.requires.late
     (checked R c.args.path.now n false (λ k. []) at (ap is_none q.found))
     (ap (λ k. with_state (record R { quotas = with_change folder_of k (modified c.args.limit c.args.enforce) R.quotas }) k (state_after R k c.args.enabled)) (target_is R.nodes c.args.path.now n at.resolved)
     ∙ (ap (λ s. with_state (record R { quotas = with_change folder_of n (modified c.args.limit c.args.enforce) R.quotas }) n s) (sym c.state_after-row.ensures.state)
     ∙ (ap (λ (qs : List QuotaRow). record R { quotas = qs; queue = queued R.queue n state }) (modified_to R n c.args.limit c.args.enforce state q.quota c.in-Some.ensures.store.quotas.ascending q.found)
     ∙ (ap (λ (r : QuotaRow). record R { quotas = with_change folder_of n (λ old. in_state state r) R.quotas; queue = queued R.queue n state }) q.is
     ∙ ap (λ k. record R { quotas = with_change folder_of k (λ old. in_state state c.in-Some-2.row) R.quotas; queue = queued R.queue k state }) (sym is)))))
-    refl refl c.in_ok-replace.ensures.replaced c.in_ok-replace.ensures.level c.done.ensures.rows c.done.ensures.answer
+    refl refl c.in_ok-replace.ensures.replaced c.done.ensures.rows c.done.ensures.answer

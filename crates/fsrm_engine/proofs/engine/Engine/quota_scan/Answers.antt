@@ -11,7 +11,7 @@ use Rattle.fsrm_model.specs.QuotaStates.{is_disabled, state_of, with_state}
 use Rattle.fsrm_base.proofs.Look.{found_has}
 use Rattle.fsrm_engine.specs.Machine.{Machine}
 use Rattle.fsrm_engine.proofs.PlaceLaws.{target_is}
-use Rattle.fsrm_engine.proofs.StateLaws.{settled, missing, checked, some_of, none_of}
+use Rattle.fsrm_engine.proofs.StateLaws.{done_settled, missing, checked, some_of, none_of}
 use Rattle.fsrm_engine.proofs.WholeLaws.{refused_whole, passing_whole}
 use Rattle.fsrm_engine.proofs.engine.Engine.quota_scan.Goals as goal
 
@@ -51,12 +51,12 @@ returns-then-is_counting-clause-ok g c =
     let at = c.in-Some.ensures.folder in
     let to = target_is R.nodes c.args.path.now n at.resolved in
     let q = some_of (λ q. q.state) (quota_of R n) c.in-Some-state.state (sym c.state.ensures ∙ c.in-Some-state.is) in
-    settled c.args.self.now c.rebuild.new.self c.done.new.self c.args.moment (QuotaScan c.args.path.now) c.done.result (with_state R n Rebuilding) c.in-Some.ensures.idle c.requires.late
+    done_settled c.args.self.now c.rebuild.new.self c.done.new.self c.args.moment (QuotaScan c.args.path.now) c.done.result (with_state R n Rebuilding) c.in-Some.ensures.idle c.requires.late
     (checked R c.args.path.now n false (λ k. (InvalidCombination when is_disabled (state_of R k)) ∷ []) at (ap is_none q.found)
     ∙ ap (λ b. first ((InvalidCombination when b) ∷ [])) (ap (λ o. is_disabled (option_map_or (λ quota. quota.state) o Disabled)) q.found ∙ (ap is_disabled q.is ∙ (sym c.is_disabled.ensures ∙ c.if-is_disabled.false))))
     (ap (λ k. with_state R k Rebuilding) to) refl
     (ap (λ k. option_map_or counts (quota_of R k) false) to ∙ (ap (λ o. option_map_or counts o false) q.found ∙ (ap is_complete q.is ∙ (sym c.is_counting.ensures ∙ c.if-is_counting.true))))
-    c.in_ok-rebuild.ensures.rebuilt c.in_ok-rebuild.ensures.level c.done.ensures.rows c.done.ensures.answer
+    c.in_ok-rebuild.ensures.rebuilt c.done.ensures.rows c.done.ensures.answer
 
 pub returns-clause-ok : goal.returns-clause-ok
 returns-clause-ok g c =

@@ -1,83 +1,22 @@
-//! File operations after which no folder uses more than before.
+//! Files and folders that are removed.
 
 ghost use Rattle.std.specs.Prelude.{◌≡◌, ◌+◌, ◌*◌, ◌≤◌, ◌<◌, ◌==◌, [], true, false, length, IfOk, IfErr, OnOk, OnErr, Some, None};
 ghost use Rattle.fsrm_model.specs.declared.command.Deed.TheVariants.{File};
-ghost use Rattle.fsrm_model.specs.declared.command.FileOp.TheVariants.{Mkdir, Touch, Remove};
+ghost use Rattle.fsrm_model.specs.declared.command.FileOp.TheVariants.{Remove};
 ghost use Rattle.fsrm_model.specs.Cost.{deed_cost};
-ghost use Rattle.fsrm_model.specs.Limits.{latest_moment, longest_file};
+ghost use Rattle.fsrm_model.specs.Limits.{latest_moment};
 ghost use Rattle.fsrm_model.specs.Step.{step};
 ghost use Rattle.fsrm_engine.specs.Machine.{IsSound, Takes, ScansOf, ScansFollow};
-ghost use Rattle.scan_queue.specs.Courses.{Course};
 ghost use Rattle.fsrm_model.specs.Tree.{resolve, is_folder};
 
 use crate::accounts::Accounts;
 use crate::charging::drop_quota;
-use crate::exits::{refused, refused_by};
+use crate::exits::refused;
 use fsrm_model::{Answer, Ledger, NoMemory, Path, Refusal, Steps};
 use quota_usage::Change;
 use scan_queue::Scans;
 
 impl Accounts {
-    pub(crate) fn mkdir<L: Ledger>(
-        &mut self,
-        scans: &mut Scans,
-        path: &Path,
-        owner: u32,
-        moment: u64,
-        steps: &mut Steps<L>,
-    ) -> Result<Answer, NoMemory>
-        requires owner { 1 ≤ owner }
-        requires moment { moment ≤ latest_moment }
-        requires late { self.old.rows.last_moment ≤ moment }
-        requires scanning { ScansOf self.old scans.old }
-        ensures ok { IfOk result (λ answer. Takes self.old self.new (step self.old.size self.old.rows (record { moment = moment; deed = File (Mkdir path.now owner) })) answer) }
-        ensures scans { IfOk result (λ answer. ScansFollow self.old scans.old scans.new (record { moment = moment; deed = File (Mkdir path.now owner) })) }
-        ensures scanning { ScansOf self.new scans.new }
-        ensures err { OnErr result (self.new ≡ self.old) }
-        ensures left { OnErr result (scans.new ≡ scans.old) }
-        ensures kept { IsSound self.new.size self.new.rows }
-        ensures looks { steps.new ≤ steps.old + deed_cost self.old.rows (File (Mkdir path.now owner)) }
-    {
-        let place = match self.place(path, steps) {
-            Ok(place) => place,
-            Err(refusal) => return Ok(refused(refusal)),
-        };
-        match self
-            .tree
-            .mkdir(place.folder, place.name, owner, moment, steps)
-        {
-            Ok(node) => {
-                scans.follow_mkdir(&self.tree, node);
-                Ok(self.done(moment))
-            }
-            Err(fault) => refused_by(fault),
-        }
-    }
-
-    // Which folders are unvisited, and what of them is counted, doesn't hang on when a file was read.
-    pub(crate) fn touch<L: Ledger>(
-        &mut self,
-        path: &Path,
-        moment: u64,
-        steps: &mut Steps<L>,
-    ) -> Result<Answer, NoMemory>
-        requires moment { moment ≤ latest_moment }
-        requires late { self.old.rows.last_moment ≤ moment }
-        ensures ok { IfOk result (λ answer. Takes self.old self.new (step self.old.size self.old.rows (record { moment = moment; deed = File (Touch path.now) })) answer) }
-        ensures scans { (course : Course) → ScansOf self.old course → IfOk result (λ answer. ScansFollow self.old course course (record { moment = moment; deed = File (Touch path.now) })) }
-        ensures scanning { (course : Course) → ScansOf self.old course → ScansOf self.new course }
-        ensures err { OnErr result (self.new ≡ self.old) }
-        ensures kept { IsSound self.new.size self.new.rows }
-        ensures looks { steps.new ≤ steps.old + deed_cost self.old.rows (File (Touch path.now)) }
-    {
-        let Some(file) = self.file(path, steps) else {
-            return Ok(refused(Refusal::PathNotFound));
-        };
-        let node = file.number;
-        self.tree.touch(node, moment, steps);
-        Ok(self.done(moment))
-    }
-
     pub(crate) fn remove<L: Ledger>(
         &mut self,
         scans: &mut Scans,

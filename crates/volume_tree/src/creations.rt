@@ -1,0 +1,225 @@
+//! New nodes, in two halves: what can refuse one, and then the creation, which can only run out of memory.
+
+ghost use Rattle.std.specs.Prelude.{◌≡◌, ◌+◌, ◌≤◌, if◌then◌else◌, IfOk, IfErr, OnOk, OnErr, true, false, length, None, Some};
+ghost use Rattle.fsrm_model.specs.FileOps.{made_node};
+ghost use Rattle.fsrm_model.specs.Limits.{longest_file, latest_moment};
+ghost use Rattle.fsrm_model.specs.Name.{is_name};
+ghost use Rattle.fsrm_model.specs.Tree.{fresh, is_folder};
+ghost use Rattle.fsrm_model.specs.Valid.{IsVolume};
+ghost use Rattle.volume_tree.specs.Volume.{IsFault, new_fault, with_node};
+
+use crate::answer::TreeFault;
+use crate::tree::Tree;
+use crate::{order, slots};
+use fsrm_model::{Ledger, NoMemory, NodeRow, Steps, Text};
+
+// What a new node is, beside its place. A folder has no length.
+#[derive(Clone, Copy)]
+struct NewNode {
+    folder: bool,
+    length: u64,
+    owner: u32,
+    moment: u64,
+}
+
+impl NewNode {
+    fn row(self, number: u32, parent: u32, name: Text) -> NodeRow
+        ensures { result ≡ record { number = number; parent = parent; name = name; folder = self.folder; length = self.length; owner = self.owner; created = self.moment; modified = self.moment; accessed = self.moment } }
+    {
+        NodeRow {
+            number,
+            parent,
+            name,
+            folder: self.folder,
+            length: self.length,
+            owner: self.owner,
+            created: self.moment,
+            modified: self.moment,
+            accessed: self.moment,
+        }
+    }
+}
+
+impl Tree {
+    /// Makes a folder in a folder, and gives its number, the least that is free. It takes no more
+    /// than 44 looks.
+    ///
+    /// It is refused where the folder has a child of this name, else where the volume is full, else
+    /// where the names are. An `Err` changes nothing.
+    pub fn mkdir<L: Ledger>(
+        &mut self,
+        folder: u32,
+        name: &str,
+        owner: u32,
+        moment: u64,
+        steps: &mut Steps<L>,
+    ) -> Result<u32, TreeFault>
+        requires folder { is_folder self.old.nodes folder ≡ true }
+        requires name { is_name name.now ≡ true }
+        requires owner { 1 ≤ owner }
+        requires moment { moment ≤ latest_moment }
+        ensures number { IfOk result (λ number. number ≡ fresh self.old.nodes) }
+        ensures made { OnOk result (self.new ≡ with_node self.old (made_node self.old.nodes folder name.now true 0 owner moment)) }
+        ensures may { OnOk result (new_fault self.old folder name.now ≡ None) }
+        ensures refused { IfErr result (λ fault. IsFault fault (new_fault self.old folder name.now)) }
+        ensures err { OnErr result (self.new ≡ self.old) }
+        ensures kept { IsVolume self.new.size self.new.nodes }
+        ensures looks { steps.new ≤ steps.old + 44 }
+    {
+        self.may_create(folder, name, steps)?;
+        Ok(self.make_folder(folder, name, owner, moment, steps)?)
+    }
+
+    /// Makes a file of so many bytes in a folder, and gives its number, the least that is free. It
+    /// takes no more than 44 looks.
+    ///
+    /// It is refused as `mkdir` is. An `Err` changes nothing.
+    pub fn create<L: Ledger>(
+        &mut self,
+        folder: u32,
+        name: &str,
+        length: u64,
+        owner: u32,
+        moment: u64,
+        steps: &mut Steps<L>,
+    ) -> Result<u32, TreeFault>
+        requires folder { is_folder self.old.nodes folder ≡ true }
+        requires name { is_name name.now ≡ true }
+        requires length { length ≤ longest_file }
+        requires owner { 1 ≤ owner }
+        requires moment { moment ≤ latest_moment }
+        ensures number { IfOk result (λ number. number ≡ fresh self.old.nodes) }
+        ensures made { OnOk result (self.new ≡ with_node self.old (made_node self.old.nodes folder name.now false length owner moment)) }
+        ensures may { OnOk result (new_fault self.old folder name.now ≡ None) }
+        ensures refused { IfErr result (λ fault. IsFault fault (new_fault self.old folder name.now)) }
+        ensures err { OnErr result (self.new ≡ self.old) }
+        ensures kept { IsVolume self.new.size self.new.nodes }
+        ensures looks { steps.new ≤ steps.old + 44 }
+    {
+        self.may_create(folder, name, steps)?;
+        Ok(self.make_file(folder, name, length, owner, moment, steps)?)
+    }
+
+    /// The first half of `mkdir` and `create`: all that can refuse a new node of this name in a folder.
+    /// It takes no memory, and no more than 22 looks.
+    ///
+    /// It is refused as they are, but for memory.
+    pub fn may_create<L: Ledger>(
+        &self,
+        folder: u32,
+        name: &str,
+        steps: &mut Steps<L>,
+    ) -> Result<(), TreeFault>
+        ensures may { OnOk result (new_fault self.now folder name.now ≡ None) }
+        ensures fault { IfErr result (λ fault. new_fault self.now folder name.now ≡ Some fault) }
+        ensures kept { IsVolume self.now.size self.now.nodes }
+        ensures looks { steps.new ≤ steps.old + 22 }
+    {
+        let size = self.size;
+        if self.child(folder, name, steps).is_some() {
+            return Err(TreeFault::AlreadyExists);
+        }
+        if self.count >= size.nodes {
+            return Err(TreeFault::VolumeFull);
+        }
+        if self.used as u64 + name.len() as u64 > size.names as u64 {
+            return Err(TreeFault::NamesFull);
+        }
+        Ok(())
+    }
+
+    /// The second half of `mkdir`: makes a folder that the tree has nothing against, and gives its number,
+    /// the least that is free. It takes no more than 22 looks. An `Err` changes nothing.
+    pub fn make_folder<L: Ledger>(
+        &mut self,
+        folder: u32,
+        name: &str,
+        owner: u32,
+        moment: u64,
+        steps: &mut Steps<L>,
+    ) -> Result<u32, NoMemory>
+        requires folder { is_folder self.old.nodes folder ≡ true }
+        requires name { is_name name.now ≡ true }
+        requires owner { 1 ≤ owner }
+        requires moment { moment ≤ latest_moment }
+        requires may { new_fault self.old folder name.now ≡ None }
+        ensures number { IfOk result (λ number. number ≡ fresh self.old.nodes) }
+        ensures made { OnOk result (self.new ≡ with_node self.old (made_node self.old.nodes folder name.now true 0 owner moment)) }
+        ensures err { OnErr result (self.new ≡ self.old) }
+        ensures kept { IsVolume self.new.size self.new.nodes }
+        ensures looks { steps.new ≤ steps.old + 22 }
+    {
+        let new = NewNode {
+            folder: true,
+            length: 0,
+            owner,
+            moment,
+        };
+        self.make(folder, name, new, steps)
+    }
+
+    /// The second half of `create`: makes a file that the tree has nothing against, and gives its number,
+    /// the least that is free. It takes no more than 22 looks. An `Err` changes nothing.
+    pub fn make_file<L: Ledger>(
+        &mut self,
+        folder: u32,
+        name: &str,
+        length: u64,
+        owner: u32,
+        moment: u64,
+        steps: &mut Steps<L>,
+    ) -> Result<u32, NoMemory>
+        requires folder { is_folder self.old.nodes folder ≡ true }
+        requires name { is_name name.now ≡ true }
+        requires length { length ≤ longest_file }
+        requires owner { 1 ≤ owner }
+        requires moment { moment ≤ latest_moment }
+        requires may { new_fault self.old folder name.now ≡ None }
+        ensures number { IfOk result (λ number. number ≡ fresh self.old.nodes) }
+        ensures made { OnOk result (self.new ≡ with_node self.old (made_node self.old.nodes folder name.now false length owner moment)) }
+        ensures err { OnErr result (self.new ≡ self.old) }
+        ensures kept { IsVolume self.new.size self.new.nodes }
+        ensures looks { steps.new ≤ steps.old + 22 }
+    {
+        let new = NewNode {
+            folder: false,
+            length,
+            owner,
+            moment,
+        };
+        self.make(folder, name, new, steps)
+    }
+
+    // Makes a node as `make_folder` and `make_file` do.
+    fn make<L: Ledger>(
+        &mut self,
+        folder: u32,
+        name: &str,
+        new: NewNode,
+        steps: &mut Steps<L>,
+    ) -> Result<u32, NoMemory>
+        requires folder { is_folder self.old.nodes folder ≡ true }
+        requires name { is_name name.now ≡ true }
+        requires length { new.length ≤ (if new.folder then 0 else longest_file) }
+        requires owner { 1 ≤ new.owner }
+        requires moment { new.moment ≤ latest_moment }
+        requires may { new_fault self.old folder name.now ≡ None }
+        ensures number { IfOk result (λ number. number ≡ fresh self.old.nodes) }
+        ensures made { OnOk result (self.new ≡ with_node self.old (made_node self.old.nodes folder name.now new.folder new.length new.owner new.moment)) }
+        ensures err { OnErr result (self.new ≡ self.old) }
+        ensures kept { IsVolume self.new.size self.new.nodes }
+        ensures looks { steps.new ≤ steps.old + 22 }
+    {
+        // With room in the order nothing can fail once the slot is filled.
+        self.order.reserve(1)?;
+        let text = Text::from_str(self.alloc, name)?;
+        let place = order::new_place(&self.slots, &self.order, folder, name, steps);
+        let number = self.free;
+        slots::put(&mut self.slots, new.row(number, folder, text))?;
+        self.order.insert(place, number).unwrap();
+        self.count += 1;
+        self.used += name.len() as u32;
+        self.free = slots::free_among(&self.slots, self.count, number + 1);
+        Ok(number)
+    }
+}
