@@ -1,6 +1,7 @@
 pub mod SlotLaws
 pub mod FreshLaws
 pub mod FromRows
+pub mod HoleLaws
 pub mod EntryRows
 pub mod Sound
 pub mod Reaches

@@ -16,6 +16,7 @@ use crate::entry::own_place;
 use crate::finger::Finger;
 use crate::{order, rows, slots};
 use fsrm_model::{Capacity, Ledger, List, NoMemory, NodeRow, Path, Steps, Text};
+use number_set::NumberSet;
 use std::alloc::Global;
 use std::marker::Model;
 
@@ -26,12 +27,13 @@ use std::marker::Model;
 #[derive(Drop)]
 pub struct Tree {
     pub(crate) size: Capacity,
-    // How many nodes there are, the bytes of all their names, and the least number that is free.
+    // How many nodes there are, and the bytes of all their names.
     pub(crate) count: u32,
     pub(crate) used: u32,
-    pub(crate) free: u32,
     // Each row stands in the slot of its number.
     pub(crate) slots: Vec<Option<NodeRow>>,
+    // The numbers of the slots that are empty.
+    pub(crate) holes: NumberSet,
     // The numbers of all nodes but the root, by folders and in each by folded names.
     pub(crate) order: Vec<u32>,
     pub(crate) alloc: Global,
@@ -45,7 +47,7 @@ impl Model for Tree {
 
     ghost view = { λ t. record { size = t.size; nodes = rows_of t.slots.items } };
 
-    ghost invariant = { λ t. IsKept t.size t.count t.used t.free t.slots.items t.order.items };
+    ghost invariant = { λ t. IsKept t.size t.count t.used t.holes t.slots.items t.order.items };
 }
 
 impl Tree {
@@ -57,12 +59,13 @@ impl Tree {
         ensures kept { IfOk result (λ tree. IsVolume tree.size tree.nodes) }
     {
         let slots = slots::root_alone(alloc)?;
+        let holes = NumberSet::reserve(alloc, size.nodes)?;
         Ok(Tree {
             size,
             count: 1,
             used: 0,
-            free: 1,
             slots,
+            holes,
             order: Vec::new(alloc),
             alloc,
         })
@@ -250,7 +253,7 @@ impl Tree {
         self.order.remove(place);
         self.count -= 1;
         self.used -= bytes;
-        self.free = self.free.min(node);
+        self.holes.insert(node);
         Ok(())
     }
 
@@ -286,8 +289,8 @@ impl Tree {
             size,
             count: parts.count,
             used: parts.used,
-            free: parts.free,
             slots: parts.slots,
+            holes: parts.holes,
             order: parts.order,
             alloc,
         })

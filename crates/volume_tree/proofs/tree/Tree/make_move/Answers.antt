@@ -83,8 +83,8 @@ invariant_of-self g c =
     let fit = name_fits i.size _ m.node c.self.invariant.volume has in
     let same = c.self.invariant.used_is in
     let text : length c.as_str-2.result.now ≡ length m.name = ap length c.as_str-2.ensures in
-    kept_moved i.size i.count i.used i.free (i.used - c.name_length-old_bytes.result + length c.as_str-2.result.now) slots c.set_place.new.slots.items order c.reorder.new.order.items m.node m.folder m.name c.self.invariant has volume
-    (omega (arith, bytes, fit, same, text)) c.set_place.ensures.slots c.set_place.ensures.set placed_at
+    kept_moved i.size i.count i.used (i.used - c.name_length-old_bytes.result + length c.as_str-2.result.now) i.holes slots c.set_place.new.slots.items order c.reorder.new.order.items m.node m.folder m.name c.self.invariant has volume
+    (omega (arith, bytes, fit, same, text)) c.set_place.ensures.slots c.set_place.ensures.set c.set_place.ensures.len placed_at
 
 pub returns-clause-kept : goal.returns-clause-kept
 returns-clause-kept g c = (invariant_of-self g c).volume
