@@ -7,6 +7,7 @@ pub mod Sound
 pub mod Reaches
 pub mod OrderLaws
 pub mod KeptLaws
+pub mod LookLaws
 pub mod MakeLaws
 pub mod MoveLaws
 pub mod WalkLaws

@@ -63,6 +63,12 @@ pub record IsKept (K : Capacity) (count used : ℕ) (holes : Numbers) (slots : L
   pub holes_are : AreHoles slots holes.members
   pub order_is : IsOrder (rows_of slots) order
 
+-- a node is there, and stands in a folder
+pub record IsIn (nodes : List NodeRow) (n folder : ℕ) : Type 0 where
+  pub row : NodeRow
+  pub found : node_of nodes n ≡ Some row
+  pub parent_is : folder ≡ row.parent
+
 -- where in the order a name of a folder stands, or is to stand
 pub record IsPlace (nodes : List NodeRow) (order : List ℕ) (folder : ℕ) (name : List ℕ) (place : ℕ) : Type 0 where
   pub within : place ≤ length order

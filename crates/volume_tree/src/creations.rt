@@ -113,6 +113,7 @@ impl Tree {
         ensures may { OnOk result (new_fault self.now folder name.now ≡ None) }
         ensures fault { IfErr result (λ fault. new_fault self.now folder name.now ≡ Some fault) }
         ensures kept { IsVolume self.now.size self.now.nodes }
+        ensures some { steps.old + 1 ≤ steps.new }
         ensures looks { steps.new ≤ steps.old + 22 }
     {
         let size = self.size;

@@ -5,14 +5,13 @@ ghost use Rattle.std.specs.List.{IsAllAdjacentAnswer, list_all};
 ghost use Rattle.std.specs.List.Sorted.{IsPermutation, IsSortedBy};
 ghost use Rattle.std.specs.Ordering.{is_lt};
 ghost use Rattle.fsrm_base.specs.Keyed.{has_row, is_ascending};
-ghost use Rattle.fsrm_model.specs.Tree.{number as key, is_folder, is_under, name_bytes};
+ghost use Rattle.fsrm_model.specs.Tree.{number as key, parent_of, is_folder, is_under, name_bytes};
 ghost use Rattle.fsrm_model.specs.Valid.{is_tree, is_moment, is_own, is_root_node};
 ghost use Rattle.volume_tree.specs.Kept.{AreSlots, IsKept, IsOrder, inner, is_before, rows_of};
 ghost use Rattle.volume_tree.specs.Sound.{AreMarks, HasTwins, Reaches, are_from, are_sound, is_placed};
 ghost use Rattle.volume_tree.specs.Volume.{IsCapacity};
 
 use crate::answer::RowsFault;
-use crate::climb::parent;
 use crate::slots::{holes_in, row};
 use fsrm_model::{Capacity, Duplicate, Ledger, List, NoMemory, NodeRow, Steps};
 use name_rules::{fold_cmp, is_name};
@@ -262,6 +261,17 @@ fn mark(marks: &mut [bool], number: u32)
     let place = number as usize;
     if place < marks.len() {
         marks[place] = true;
+    }
+}
+
+// The parent of a node, 0 where there is no such node.
+fn parent(slots: &[Option<NodeRow>], number: u32) -> u32
+    requires { AreSlots 0 slots.now }
+    ensures { result ≡ parent_of (rows_of slots.now) number }
+{
+    match row(slots, number) {
+        Some(row) => row.parent,
+        None => 0,
     }
 }
 

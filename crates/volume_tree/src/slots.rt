@@ -10,7 +10,8 @@ ghost use Rattle.volume_tree.specs.Kept.{AreHoles, AreSlots, rows_of};
 ghost use Rattle.volume_tree.specs.Volume.{Shows};
 
 use crate::answer::NodeView;
-use fsrm_model::{NoMemory, NodeRow, Text};
+use crate::reads;
+use fsrm_model::{Ledger, NoMemory, NodeRow, Steps, Text};
 use number_set::NumberSet;
 use std::alloc::Global;
 
@@ -65,46 +66,91 @@ pub fn put(slots: &mut Vec<Option<NodeRow>>, row: NodeRow) -> Result<(), NoMemor
     Ok(())
 }
 
-/// Takes a row away.
-pub fn take_away(slots: &mut Vec<Option<NodeRow>>, number: u32)
+/// Takes a row away, and gives the bytes of its name. It takes one look.
+pub fn take_away<L: Ledger>(
+    slots: &mut Vec<Option<NodeRow>>,
+    number: u32,
+    steps: &mut Steps<L>,
+) -> u32
     requires slots { AreSlots 0 slots.old.items }
     requires there { has_row key number (rows_of slots.old.items) ≡ true }
+    requires short { length (name_of (rows_of slots.old.items) number) < 2 ^ 32 }
     ensures slots { AreSlots 0 slots.new.items }
     ensures gone { rows_of slots.new.items ≡ without_row key number (rows_of slots.old.items) }
     ensures len { length slots.new.items ≡ length slots.old.items }
+    ensures bytes { result ≡ length (name_of (rows_of slots.old.items) number) }
+    ensures count { steps.new ≡ steps.old + 1 }
 {
+    let bytes = name_length(slots, number, steps);
     slots[number as usize] = None;
+    bytes
 }
 
-/// Sets a file's length, and the moment that it was modified.
-pub fn set_length(slots: &mut Vec<Option<NodeRow>>, number: u32, bytes: u64, moment: u64)
+/// Sets a file's length, and the moment that it was modified. It takes one look.
+pub fn set_length<L: Ledger>(
+    slots: &mut Vec<Option<NodeRow>>,
+    number: u32,
+    bytes: u64,
+    moment: u64,
+    steps: &mut Steps<L>,
+)
     requires slots { AreSlots 0 slots.old.items }
     requires there { has_row key number (rows_of slots.old.items) ≡ true }
     ensures slots { AreSlots 0 slots.new.items }
     ensures set { rows_of slots.new.items ≡ with_change key number (resized bytes moment) (rows_of slots.old.items) }
     ensures len { length slots.new.items ≡ length slots.old.items }
+    ensures count { steps.new ≡ steps.old + 1 }
 {
+    steps.tick();
     if let Some(row) = &mut slots[number as usize] {
         row.length = bytes;
         row.modified = moment;
     }
 }
 
-/// Sets the moment that a file was accessed.
-pub fn set_accessed(slots: &mut Vec<Option<NodeRow>>, number: u32, moment: u64)
+/// Sets the moment that a file was accessed. It takes one look.
+pub fn set_accessed<L: Ledger>(
+    slots: &mut Vec<Option<NodeRow>>,
+    number: u32,
+    moment: u64,
+    steps: &mut Steps<L>,
+)
     requires slots { AreSlots 0 slots.old.items }
     requires there { has_row key number (rows_of slots.old.items) ≡ true }
     ensures slots { AreSlots 0 slots.new.items }
     ensures set { rows_of slots.new.items ≡ with_change key number (touched moment) (rows_of slots.old.items) }
     ensures len { length slots.new.items ≡ length slots.old.items }
+    ensures count { steps.new ≡ steps.old + 1 }
 {
+    steps.tick();
     if let Some(row) = &mut slots[number as usize] {
         row.accessed = moment;
     }
 }
 
-/// Puts a node into a folder under a name.
-pub fn set_place(slots: &mut Vec<Option<NodeRow>>, number: u32, folder: u32, name: Text)
+/// Puts a node into a folder under a name, and gives the bytes of its old name. It takes one look.
+pub fn set_place<L: Ledger>(
+    slots: &mut Vec<Option<NodeRow>>,
+    number: u32,
+    folder: u32,
+    name: Text,
+    steps: &mut Steps<L>,
+) -> u32
+    requires slots { AreSlots 0 slots.old.items }
+    requires there { has_row key number (rows_of slots.old.items) ≡ true }
+    requires short { length (name_of (rows_of slots.old.items) number) < 2 ^ 32 }
+    ensures slots { AreSlots 0 slots.new.items }
+    ensures set { rows_of slots.new.items ≡ with_change key number (placed folder name) (rows_of slots.old.items) }
+    ensures len { length slots.new.items ≡ length slots.old.items }
+    ensures bytes { result ≡ length (name_of (rows_of slots.old.items) number) }
+    ensures count { steps.new ≡ steps.old + 1 }
+{
+    let bytes = name_length(slots, number, steps);
+    write_place(slots, number, folder, name);
+    bytes
+}
+
+fn write_place(slots: &mut Vec<Option<NodeRow>>, number: u32, folder: u32, name: Text)
     requires slots { AreSlots 0 slots.old.items }
     requires there { has_row key number (rows_of slots.old.items) ≡ true }
     ensures slots { AreSlots 0 slots.new.items }
@@ -146,25 +192,29 @@ pub fn holes_in(alloc: Global, slots: &[Option<NodeRow>], bound: u32) -> Result<
     Ok(holes)
 }
 
-/// The bytes of a node's name.
-pub fn name_length(slots: &[Option<NodeRow>], number: u32) -> u32
-    requires slots { AreSlots 0 slots.now }
-    requires short { length (name_of (rows_of slots.now) number) < 2 ^ 32 }
-    ensures { result ≡ length (name_of (rows_of slots.now) number) }
-{
-    match row(slots, number) {
-        Some(row) => row.name.as_str().len() as u32,
-        None => 0,
-    }
-}
-
-/// A node that is there, lent.
-pub fn view(slots: &[Option<NodeRow>], number: u32) -> NodeView<'_>
+/// The bytes of a node's name. It takes one look.
+pub fn name_length<L: Ledger>(slots: &[Option<NodeRow>], number: u32, steps: &mut Steps<L>) -> u32
     requires slots { AreSlots 0 slots.now }
     requires there { has_row key number (rows_of slots.now) ≡ true }
-    ensures { Shows result (rows_of slots.now) number }
+    requires short { length (name_of (rows_of slots.now) number) < 2 ^ 32 }
+    ensures bytes { result ≡ length (name_of (rows_of slots.now) number) }
+    ensures count { steps.new ≡ steps.old + 1 }
 {
-    let row = row(slots, number).unwrap();
+    reads::node(slots, number, steps).name.as_str().len() as u32
+}
+
+/// A node that is there, lent. It takes one look.
+pub fn view<'a, L: Ledger>(
+    slots: &'a [Option<NodeRow>],
+    number: u32,
+    steps: &mut Steps<L>,
+) -> NodeView<'a>
+    requires slots { AreSlots 0 slots.now }
+    requires there { has_row key number (rows_of slots.now) ≡ true }
+    ensures view { Shows result (rows_of slots.now) number }
+    ensures count { steps.new ≡ steps.old + 1 }
+{
+    let row = reads::node(slots, number, steps);
     NodeView {
         number: row.number,
         parent: row.parent,

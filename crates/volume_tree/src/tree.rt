@@ -1,6 +1,6 @@
 //! A volume's nodes.
 
-ghost use Rattle.std.specs.Prelude.{◌≡◌, ◌+◌, ◌*◌, ◌<◌, ◌≤◌, ◌==◌, if◌then◌else◌, IfOk, IfErr, OnOk, OnErr, IsErrOf, true, false, length, take, map, None, Some, ◌∷◌, []};
+ghost use Rattle.std.specs.Prelude.{◌≡◌, ◌+◌, ◌*◌, ◌<◌, ◌≤◌, ◌==◌, if◌then◌else◌, IfOk, IfErr, OnOk, OnErr, OnSome, IsErrOf, true, false, length, take, map, None, Some, ◌∷◌, []};
 ghost use Rattle.fsrm_model.specs.FileOps.{made_node};
 ghost use Rattle.fsrm_model.specs.Fresh.{root_node};
 ghost use Rattle.fsrm_base.specs.Keyed.{has_row};
@@ -8,13 +8,14 @@ ghost use Rattle.fsrm_model.specs.Limits.{longest_file, latest_moment};
 ghost use Rattle.fsrm_model.specs.Name.{is_name};
 ghost use Rattle.fsrm_model.specs.Tree.{number as key, fresh, is_folder, is_under, children, children_in_order, child_number, chain, resolve, name_bytes};
 ghost use Rattle.fsrm_model.specs.Valid.{is_tree, IsVolume};
+ghost use Rattle.volume_tree.specs.Looks.{passed};
 ghost use Rattle.volume_tree.specs.Volume.{IsCapacity, IsFault, IsChildAt, Shows, new_fault, remove_fault, with_node, with_length, with_touch, without_node};
 
 use crate::answer::{NodeView, RowsFault, TreeFault};
 use crate::climb::is_at_or_below;
 use crate::entry::own_place;
 use crate::finger::Finger;
-use crate::{order, rows, slots};
+use crate::{order, rows, segment, slots};
 use fsrm_model::{Capacity, Ledger, List, NoMemory, NodeRow, Path, Steps, Text};
 use number_set::NumberSet;
 use std::alloc::Global;
@@ -100,11 +101,14 @@ impl Tree {
         slots::row(&self.slots, node).is_some()
     }
 
-    /// The number of a folder's child of this name. It takes no more than 22 looks.
+    /// The number of a folder's child of this name. It takes a look, and no more than 22.
     pub fn child<L: Ledger>(&self, folder: u32, name: &str, steps: &mut Steps<L>) -> Option<u32>
         ensures value { result ≡ child_number self.now.nodes folder name.now }
+        ensures some { steps.old + 1 ≤ steps.new }
         ensures looks { steps.new ≤ steps.old + 22 }
     {
+        // A look at the folder.
+        steps.tick();
         match order::search(&self.slots, &self.order, folder, name, steps) {
             Ok(place) => Some(self.order[place]),
             Err(_) => None,
@@ -112,7 +116,7 @@ impl Tree {
     }
 
     /// The node that the first names of a path lead to, so many of them. It takes no more than 22
-    /// looks for each, and one more.
+    /// looks for each, and one more: that one at least, and one for each where it finds the node.
     pub fn resolve_first<L: Ledger>(
         &self,
         path: &Path,
@@ -121,8 +125,12 @@ impl Tree {
     ) -> Option<u32>
         requires names { names ≤ length path.now }
         ensures value { result ≡ resolve self.now.nodes (take names path.now) }
+        ensures some { steps.old + 1 ≤ steps.new }
+        ensures each { OnSome result (steps.old + (names + 1) ≤ steps.new) }
         ensures looks { steps.new ≤ steps.old + (22 * names + 1) }
     {
+        // A look at the root.
+        steps.tick();
         let mut at = 0;
         for place in 0..names {
             match order::search(&self.slots, &self.order, at, path.part(place), steps) {
@@ -133,9 +141,12 @@ impl Tree {
         Some(at)
     }
 
-    /// The node that a path leads to. It takes no more than 22 looks for each name, and one more.
+    /// The node that a path leads to. It takes no more than 22 looks for each name, and one more: that one
+    /// at least, and one for each name where it finds the node.
     pub fn resolve<L: Ledger>(&self, path: &Path, steps: &mut Steps<L>) -> Option<u32>
         ensures value { result ≡ resolve self.now.nodes path.now }
+        ensures some { steps.old + 1 ≤ steps.new }
+        ensures each { OnSome result (steps.old + (length path.now + 1) ≤ steps.new) }
         ensures looks { steps.new ≤ steps.old + (22 * length path.now + 1) }
     {
         self.resolve_first(path, path.depth(), steps)
@@ -148,15 +159,15 @@ impl Tree {
         ensures short { result.length ≤ longest_file }
         ensures count { steps.new ≡ steps.old + 1 }
     {
-        steps.tick();
-        slots::view(&self.slots, node)
+        slots::view(&self.slots, node, steps)
     }
 
-    /// Whether a node is another one or stands below it. It takes no more than a look for each node from
-    /// it up to the root.
+    /// Whether a node is another one or stands below it. It takes a look for each node from it up to that
+    /// other one, or else to the root.
     pub fn is_at_or_below<L: Ledger>(&self, top: u32, node: u32, steps: &mut Steps<L>) -> bool
         requires { has_row key node self.now.nodes ≡ true }
         ensures below { result ≡ is_under self.now.nodes top node }
+        ensures count { steps.new ≡ steps.old + passed top (chain self.now.nodes node) }
         ensures looks { steps.new ≤ steps.old + length (chain self.now.nodes node) }
     {
         is_at_or_below(&self.slots, top, node, steps)
@@ -168,7 +179,7 @@ impl Tree {
         ensures count { steps.new ≡ steps.old + 1 }
     {
         steps.tick();
-        order::child_count(&self.slots, &self.order, folder) as u32
+        segment::child_count(&self.slots, &self.order, folder) as u32
     }
 
     /// The number of the child that stands at a place, from 0 on, among a folder's children in the
@@ -179,10 +190,11 @@ impl Tree {
         ensures count { steps.new ≡ steps.old + 1 }
     {
         steps.tick();
-        order::child_at(&self.slots, &self.order, folder, place)
+        segment::child_at(&self.slots, &self.order, folder, place)
     }
 
-    /// The numbers of a folder's children, in the order of their folded names. It takes one look.
+    /// The numbers of a folder's children, in the order of their folded names. It takes a look, and one for
+    /// each child.
     ///
     /// The search begins at the finger and leaves it behind these children, so that those of the next folder
     /// are found at once.
@@ -194,16 +206,17 @@ impl Tree {
     ) -> &[u32]
         ensures numbers { result.now ≡ map key (children_in_order self.now.nodes folder) }
         ensures legal { IsCapacity self.now.size }
-        ensures count { steps.new ≡ steps.old + 1 }
+        ensures count { steps.new ≡ steps.old + (1 + length (children self.now.nodes folder)) }
     {
-        steps.tick();
-        let (first, end) = order::segment(&self.slots, &self.order, folder, finger.place);
+        let (first, end) = segment::segment(&self.slots, &self.order, folder, finger.place);
         finger.place = end;
-        &self.order[first..end]
+        let numbers = &self.order[first..end];
+        steps.tick();
+        steps.count(numbers.len());
+        numbers
     }
 
-    /// Sets a file's length, in bytes, and the moment that it was modified. It takes no more than 2
-    /// looks.
+    /// Sets a file's length, in bytes, and the moment that it was modified. It takes one look.
     pub fn resize<L: Ledger>(&mut self, node: u32, length: u64, moment: u64, steps: &mut Steps<L>)
         requires there { has_row key node self.old.nodes ≡ true }
         requires file { is_folder self.old.nodes node ≡ false }
@@ -211,23 +224,21 @@ impl Tree {
         requires moment { moment ≤ latest_moment }
         ensures made { self.new ≡ with_length self.old node length moment }
         ensures kept { IsVolume self.new.size self.new.nodes }
-        ensures looks { steps.new ≤ steps.old + 2 }
+        ensures count { steps.new ≡ steps.old + 1 }
     {
-        steps.tick();
-        slots::set_length(&mut self.slots, node, length, moment);
+        slots::set_length(&mut self.slots, node, length, moment, steps);
     }
 
-    /// Sets the moment that a file was accessed. It takes no more than 2 looks.
+    /// Sets the moment that a file was accessed. It takes one look.
     pub fn touch<L: Ledger>(&mut self, node: u32, moment: u64, steps: &mut Steps<L>)
         requires there { has_row key node self.old.nodes ≡ true }
         requires file { is_folder self.old.nodes node ≡ false }
         requires moment { moment ≤ latest_moment }
         ensures made { self.new ≡ with_touch self.old node moment }
         ensures kept { IsVolume self.new.size self.new.nodes }
-        ensures looks { steps.new ≤ steps.old + 2 }
+        ensures count { steps.new ≡ steps.old + 1 }
     {
-        steps.tick();
-        slots::set_accessed(&mut self.slots, node, moment);
+        slots::set_accessed(&mut self.slots, node, moment, steps);
     }
 
     /// Takes away a node other than the root. It takes no more than 44 looks.
@@ -248,8 +259,7 @@ impl Tree {
             return Err(TreeFault::NotEmpty);
         }
         let place = own_place(&self.slots, &self.order, node, steps);
-        let bytes = slots::name_length(&self.slots, node);
-        slots::take_away(&mut self.slots, node);
+        let bytes = slots::take_away(&mut self.slots, node, steps);
         self.order.remove(place);
         self.count -= 1;
         self.used -= bytes;

@@ -24,14 +24,13 @@ own_place-place-requires-clause-found g c =
     subst (λ (slots : List (Option NodeRow)). child_number (rows_of slots) (parent_of (rows_of slots) c.args.node) (name_of (rows_of slots) c.args.node) ≡ Some c.args.node) (sym c.deref-3.ensures.value)
     (own_child c.self.inside.size _ c.args.node c.self.invariant.volume has c.requires.inner)
 
-pub name_length-bytes-requires-clause-short : goal.name_length-bytes-requires-clause-short
-name_length-bytes-requires-clause-short g c =
+pub take_away-bytes-requires-clause-short : goal.take_away-bytes-requires-clause-short
+take_away-bytes-requires-clause-short g c =
     let has : has_row number c.args.node (rows_of c.self.inside.slots.items) ≡ true = ap (λ (v : Volume). has_row number c.args.node v.nodes) c.self.view_is ∙ c.requires.there in
     let fit = name_fits c.self.inside.size _ c.args.node c.self.invariant.volume has in
-    let same : length (name_of (rows_of c.deref-5.result.now) c.args.node) ≡ length (name_of (rows_of c.self.inside.slots.items) c.args.node) = ap (λ (slots : List (Option NodeRow)). length (name_of (rows_of slots) c.args.node)) c.deref-5.ensures.value in
     let names = c.self.invariant.volume.names in
     let most = c.self.invariant.size.names_most in
-    omega (arith, fit, same, names, most)
+    omega (arith, fit, names, most)
 
 pub remove-requires : goal.remove-requires
 remove-requires g c =
@@ -43,10 +42,9 @@ pub overflow_sub-self-2 : goal.overflow_sub-self-2
 overflow_sub-self-2 g c =
     let has : has_row number c.args.node (rows_of c.self.inside.slots.items) ≡ true = ap (λ (v : Volume). has_row number c.args.node v.nodes) c.self.view_is ∙ c.requires.there in
     let fit = name_fits c.self.inside.size _ c.args.node c.self.invariant.volume has in
-    let same : length (name_of (rows_of c.deref-5.result.now) c.args.node) ≡ length (name_of (rows_of c.self.inside.slots.items) c.args.node) = ap (λ (slots : List (Option NodeRow)). length (name_of (rows_of slots) c.args.node)) c.deref-5.ensures.value in
-    let bytes = c.name_length-bytes.ensures in
+    let bytes = c.take_away-bytes.ensures.bytes in
     let used = c.self.invariant.used_is in
-    omega (arith, fit, same, bytes, used)
+    omega (arith, fit, bytes, used)
 
 pub invariant_of-self : goal.invariant_of-self
 invariant_of-self g c =
@@ -56,12 +54,12 @@ invariant_of-self g c =
     let order = i.order.items in
     let at : slice_get order c.own_place-place.result ≡ Some c.args.node = ap (λ (order : List ℕ). slice_get order c.own_place-place.result) (sym c.deref-4.ensures.value) ∙ c.own_place-place.ensures.place in
     let leaf : not (length (children (rows_of slots) c.args.node) == 0) ≡ false = ap (λ (slots : List (Option NodeRow)). not (length (children (rows_of slots) c.args.node) == 0)) (sym c.deref.ensures.value) ∙ (sym c.has_child.ensures.value ∙ c.if-has_child.false) in
-    let bytes : c.name_length-bytes.result ≡ length (name_of (rows_of slots) c.args.node) = c.name_length-bytes.ensures ∙ ap (λ (slots : List (Option NodeRow)). length (name_of (rows_of slots) c.args.node)) c.deref-5.ensures.value in
-    let kept = kept_gone i.size i.count i.used i.holes slots c.take_away.new.slots.items order c.args.node c.own_place-place.result c.self.invariant has c.requires.inner leaf at c.take_away.ensures.slots c.take_away.ensures.gone c.take_away.ensures.len in
+    let bytes : c.take_away-bytes.result ≡ length (name_of (rows_of slots) c.args.node) = c.take_away-bytes.ensures.bytes in
+    let kept = kept_gone i.size i.count i.used i.holes slots c.take_away-bytes.new.slots.items order c.args.node c.own_place-place.result c.self.invariant has c.requires.inner leaf at c.take_away-bytes.ensures.slots c.take_away-bytes.ensures.gone c.take_away-bytes.ensures.len in
     let holes : Numbers = record i.holes { members = with_number c.args.node i.holes.members } in
-    subst (λ (set : Numbers). IsKept i.size (i.count - 1) (i.used - c.name_length-bytes.result) set c.take_away.new.slots.items c.remove.new.self.items) (sym c.insert.ensures)
-    (subst (λ (items : List ℕ). IsKept i.size (i.count - 1) (i.used - c.name_length-bytes.result) holes c.take_away.new.slots.items items) (sym c.remove.ensures.items)
-    (subst (λ (n : ℕ). IsKept i.size (i.count - 1) (i.used - n) holes c.take_away.new.slots.items (remove order c.own_place-place.result)) (sym bytes) kept))
+    subst (λ (set : Numbers). IsKept i.size (i.count - 1) (i.used - c.take_away-bytes.result) set c.take_away-bytes.new.slots.items c.remove.new.self.items) (sym c.insert.ensures)
+    (subst (λ (items : List ℕ). IsKept i.size (i.count - 1) (i.used - c.take_away-bytes.result) holes c.take_away-bytes.new.slots.items items) (sym c.remove.ensures.items)
+    (subst (λ (n : ℕ). IsKept i.size (i.count - 1) (i.used - n) holes c.take_away-bytes.new.slots.items (remove order c.own_place-place.result)) (sym bytes) kept))
 
 pub insert-requires : goal.insert-requires
 insert-requires g c =

@@ -1,7 +1,7 @@
 use Rattle.std.proofs.Common.{[], length, refl}
 use Rattle.volume_tree.specs.Kept.{rows_of}
 use Rattle.volume_tree.proofs.Spans.{floor_first, ceiling_last}
-use Rattle.volume_tree.proofs.order.first_from.Goals as goal
+use Rattle.volume_tree.proofs.segment.first_from.Goals as goal
 
 pub first_between-requires-clause-floor : goal.first_between-requires-clause-floor
 first_between-requires-clause-floor c = floor_first (rows_of c.args.slots.now) c.args.order.now c.args.folder []

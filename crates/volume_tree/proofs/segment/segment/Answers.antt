@@ -1,7 +1,7 @@
 use Rattle.volume_tree.specs.Kept.{rows_of}
 use Rattle.volume_tree.proofs.SlotRows.{slots_ascend}
 use Rattle.volume_tree.proofs.Spans.{floor_next, segment_of}
-use Rattle.volume_tree.proofs.order.segment.Goals as goal
+use Rattle.volume_tree.proofs.segment.segment.Goals as goal
 
 pub first_behind-end-requires-clause-floor : goal.first_behind-end-requires-clause-floor
 first_behind-end-requires-clause-floor c = floor_next (rows_of c.args.slots.now) c.args.order.now c.from-folder.result c.first_behind-first.result c.first_behind-first.ensures

@@ -1,5 +1,5 @@
 use Rattle.std.proofs.Common.{◌+◌, ◌≤◌, length}
-use Rattle.volume_tree.proofs.order.floor_near.Given as goal
+use Rattle.volume_tree.proofs.segment.floor_near.Given as goal
 
 abbrev pub invariant-loop-low : goal.invariant-loop-low
 invariant-loop-low l = record {

@@ -1,7 +1,7 @@
 use Rattle.volume_tree.specs.Kept.{rows_of}
 use Rattle.volume_tree.proofs.Children.{counted}
 use Rattle.volume_tree.proofs.SlotRows.{slots_ascend}
-use Rattle.volume_tree.proofs.order.child_count.Goals as goal
+use Rattle.volume_tree.proofs.segment.child_count.Goals as goal
 
 pub overflow_sub-result : goal.overflow_sub-result
 overflow_sub-result c =
