@@ -6,8 +6,6 @@ mod groups;
 mod matching;
 mod pattern;
 mod rows;
-#[cfg(test)]
-mod tests;
 
 pub use answer::GroupFault;
 pub use groups::Groups;

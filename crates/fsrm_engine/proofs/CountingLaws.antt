@@ -231,7 +231,7 @@ state_is state n quotas quota asc found =
     change_same folder_of n (in_state state) (λ old. in_state state quota) quotas asc (λ r h. ap (in_state state) (same_Some r quota (sym h ∙ found)))
 
 -- there is room for the counter of a quota that doesn't count yet
-fewer : {X : Type 0} (key : X → ℕ) (n : ℕ) (rows : List X) → has_row key n rows ≡ true → length (without_row key n rows) < length rows
+pub fewer : {X : Type 0} (key : X → ℕ) (n : ℕ) (rows : List X) → has_row key n rows ≡ true → length (without_row key n rows) < length rows
 fewer key n [] h = cc
 fewer key n (x ∷ rows) h = at (key x == n) h (filter_few (λ r. not (key r == n)) rows) (fewer key n rows)
   where

@@ -9,6 +9,7 @@ use Rattle.std.specs.List.{AllByRecursion}
 use Rattle.fsrm_model.specs.declared.row.Capacity.{Capacity}
 use Rattle.fsrm_model.specs.declared.row.NodeRow.{NodeRow}
 use Rattle.fsrm_model.specs.declared.row.QuotaRow.{QuotaRow}
+use Rattle.fsrm_model.specs.Capacities.{is_capacity}
 use Rattle.fsrm_model.specs.FileOps.{placed}
 use Rattle.fsrm_base.specs.Keyed.{row_of, with_change, without_row}
 use Rattle.fsrm_model.specs.Limits.{longest_file}
@@ -25,7 +26,6 @@ use Rattle.quota_usage.specs.declared.change.Change.{Change}
 use Rattle.quota_usage.specs.declared.change.Counter.{Counter}
 use Rattle.quota_usage.specs.Charge.{is_above, charged, Fits}
 use Rattle.quota_usage.specs.Counters.{used_in}
-use Rattle.volume_tree.specs.Volume.{IsCapacity}
 use Rattle.fsrm_engine.specs.Machine.{sums_of}
 use Rattle.fsrm_base.proofs.RowLaws.{each, each_found, all_filter}
 use Rattle.fsrm_engine.proofs.SumLaws.{shown_of, used_sums}
@@ -34,11 +34,11 @@ use Rattle.fsrm_engine.proofs.WalkLaws.{row_space, nodes_few}
 use Rattle.rescan.proofs.FitLaws.{sum_most, root_empty, sum_le}
 
 -- the space of all files, and of one more, is less than 2^64
-pub total_small : (K : Capacity) (nodes : List NodeRow) → IsVolume K nodes → IsCapacity K → sum_by (space K) nodes + longest_file < 2 ^ 64
+pub total_small : (K : Capacity) (nodes : List NodeRow) → IsVolume K nodes → is_capacity K ≡ true → sum_by (space K) nodes + longest_file < 2 ^ 64
 total_small K nodes v legal =
     let root = has_found number 0 nodes v.has_root in
     let rest = without_row number 0 nodes in
-    let small : AllByRecursion (λ r. space K r ≤ longest_file) nodes = each_found number (λ r. space K r ≤ longest_file) nodes v.ascending (λ r found. row_space K nodes v r found) in
+    let small : AllByRecursion (λ r. space K r ≤ longest_file) nodes = each_found number (λ r. space K r ≤ longest_file) nodes v.ascending (λ r found. row_space K nodes v legal r found) in
     let most : sum_by (space K) rest ≤ length rest * longest_file = sum_most (space K) longest_file rest (all_filter _ (λ r. space K r ≤ longest_file) nodes (each nodes (λ r h p. h) small)) in
     let split = sum_by-without_row number (space K) 0 root.row nodes v.ascending root.is in
     let none = root_empty K nodes root.row v root.is in
@@ -85,7 +85,7 @@ counting K nodes quotas counters f bytes qs sums h =
     counting_at K nodes quotas f bytes (row_of folder_of f quotas) refl (sym (used_sums K nodes f quotas qs.ascending) ∙ (ap (λ cs. used_in cs f) (sym sums) ∙ h))
 
 -- a file more, or a longer one, fits
-pub fits_plus : (K : Capacity) (nodes any : List NodeRow) (quotas : List QuotaRow) (counters : List Counter) (change : Change) → IsVolume K nodes → IsCapacity K → AreQuotas nodes quotas → counters ≡ sums_of K nodes quotas → change.plus ≤ longest_file → Fits any counters change
+pub fits_plus : (K : Capacity) (nodes any : List NodeRow) (quotas : List QuotaRow) (counters : List Counter) (change : Change) → IsVolume K nodes → is_capacity K ≡ true → AreQuotas nodes quotas → counters ≡ sums_of K nodes quotas → change.plus ≤ longest_file → Fits any counters change
 fits_plus K nodes any quotas counters change v legal qs sums plus = record {
   fits = λ f bytes h.
       let is : bytes ≡ usage K nodes f = (counting K nodes quotas counters f bytes qs sums h).is in
@@ -93,7 +93,7 @@ fits_plus K nodes any quotas counters change v legal qs sums plus = record {
 }
 
 -- what moves fits where it comes to
-pub fits_moved : (K : Capacity) (nodes : List NodeRow) (quotas : List QuotaRow) (counters : List Counter) (x d : ℕ) (name : List ℕ) (change : Change) → IsVolume K nodes → IsCapacity K → AreQuotas nodes quotas → counters ≡ sums_of K nodes quotas → Changes K nodes (with_change number x (placed d name) nodes) quotas change → Fits nodes counters change
+pub fits_moved : (K : Capacity) (nodes : List NodeRow) (quotas : List QuotaRow) (counters : List Counter) (x d : ℕ) (name : List ℕ) (change : Change) → IsVolume K nodes → is_capacity K ≡ true → AreQuotas nodes quotas → counters ≡ sums_of K nodes quotas → Changes K nodes (with_change number x (placed d name) nodes) quotas change → Fits nodes counters change
 fits_moved K nodes quotas counters x d name change v legal qs sums c = record {
   fits = λ f bytes h.
       let w = counting K nodes quotas counters f bytes qs sums h in

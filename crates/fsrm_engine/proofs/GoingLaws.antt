@@ -23,7 +23,7 @@ use Rattle.std.proofs.lemmas.Bool.Decides.{nat_tests}
 use Rattle.fsrm_base.proofs.Look.{eq_turned}
 use Rattle.fsrm_base.proofs.TestLaws.{eq_same, eq_is}
 use Rattle.number_set.proofs.NumberLaws.{in_without}
-use Rattle.rescan.specs.Frontiers.{unvisited}
+use Rattle.rescan.specs.Frontiers.{Room, unvisited}
 use Rattle.rescan.proofs.ChangeLaws.{removed}
 use Rattle.rescan.proofs.FollowLaws.{folder_stands}
 use Rattle.rescan.proofs.FrontierLaws.{begun, begun_unvisited, begins}
@@ -109,14 +109,15 @@ follow_rmdir_done old new s s1 t v w quotas last path n m answer view at takes i
 -- the folders at and below another one, without a folder that goes
 begun_without : (v : Volume) (n f : ℕ) (row : NodeRow) → IsVolume v.size v.nodes → IsVolume v.size (without_node v n).nodes → node_of v.nodes n ≡ Some row → row.folder ≡ true → is_folder v.nodes f ≡ true → (n == f) ≡ false → without_number n (folders_under v.nodes f) ≡ folders_under (without_node v n).nodes f
 begun_without v n f row k kept found folder is apart =
-    let front = begun v.size.nodes f in
+    let room : Room = record { nodes = v.size.nodes; cluster = v.size.cluster } in
+    let front = begun room f in
     let new = (without_node v n).nodes in
-    let stands = (begins v v.size.nodes f k (omega arith) is).stands in
+    let stands = (begins v room f k (record { nodes = omega arith; cluster = refl }) is).stands in
     let follows = removed v n row front kept found apart (folder_stands v front n row stands found folder) in
     let alone : without_number n (f ∷ []) ≡ f ∷ [] = ap (λ b. if not b then f ∷ [] else []) (eq_turned n f apart) in
-    ap (without_number n) (sym (begun_unvisited v.nodes v.size.nodes f))
+    ap (without_number n) (sym (begun_unvisited v.nodes room f))
     ∙ (sym follows.unvisited_are
-    ∙ (ap (λ tops. unvisited new (record front { tops = tops })) alone ∙ begun_unvisited new v.size.nodes f))
+    ∙ (ap (λ tops. unvisited new (record front { tops = tops })) alone ∙ begun_unvisited new room f))
 
 -- of the folder whose scan is next
 pub next_without : (v w : Volume) (s1 : Course) (n : ℕ) (row : NodeRow) → Scanning v s1 → is_in s1.queue n ≡ false → w ≡ without_node v n → IsVolume w.size w.nodes → node_of v.nodes n ≡ Some row → row.folder ≡ true → (f : ℕ) → head s1.queue ≡ Some f → without_number n (folders_under v.nodes f) ≡ folders_under w.nodes f

@@ -13,6 +13,7 @@ use Rattle.fsrm_model.specs.declared.command.Refusal.TheVariants.{PathNotFound}
 use Rattle.fsrm_model.specs.declared.row.Capacity.{Capacity}
 use Rattle.fsrm_model.specs.declared.row.NodeRow.{NodeRow}
 use Rattle.fsrm_model.specs.declared.row.QuotaRow.{QuotaRow}
+use Rattle.fsrm_model.specs.Capacities.{is_capacity}
 use Rattle.fsrm_model.specs.Check.{◌when◌, first}
 use Rattle.fsrm_model.specs.FileOps.{made_node, touched, target}
 use Rattle.fsrm_base.specs.Keyed.{row_of, has_row, is_ascending, with_row, with_change, without_row}
@@ -40,7 +41,7 @@ use Rattle.quota_usage.specs.Charge.{charged, charged_counter, IsChange, Fits, h
 use Rattle.quota_usage.specs.Counters.{counted, used_in, without_counter}
 use Rattle.volume_tree.specs.declared.answer.NodeView.{NodeView}
 use Rattle.volume_tree.specs.declared.answer.TreeFault.TheVariants.{NotEmpty}
-use Rattle.volume_tree.specs.Volume.{Volume, Shows, IsCapacity, with_node, with_touch, without_node, remove_fault}
+use Rattle.volume_tree.specs.Volume.{Volume, Shows, with_node, with_touch, without_node, remove_fault}
 use Rattle.fsrm_engine.specs.Machine.{IsSound, Machine, Takes, rows_at, counter_of, sums_of, IsEngine}
 use Rattle.fsrm_engine.specs.Places.{IsFile}
 use Rattle.fsrm_engine.proofs.ChangeLaws.{Changes, changes_removed, not_zero}
@@ -246,7 +247,7 @@ small_at : (K : Capacity) (nodes : List NodeRow) (q : QuotaRow) (bytes : ℕ) (b
 small_at K nodes q bytes true l h = subst (λ n. n ≤ 1048576 * longest_file) (same_Some _ _ h) l
 small_at K nodes q bytes false l h = cc
 
-small_of : (K : Capacity) (nodes : List NodeRow) (o : Option QuotaRow) (bytes : ℕ) → IsVolume K nodes → IsCapacity K → option_and_then (shown_of K nodes) o ≡ Some bytes → bytes ≤ 1048576 * longest_file
+small_of : (K : Capacity) (nodes : List NodeRow) (o : Option QuotaRow) (bytes : ℕ) → IsVolume K nodes → is_capacity K ≡ true → option_and_then (shown_of K nodes) o ≡ Some bytes → bytes ≤ 1048576 * longest_file
 small_of K nodes None bytes v legal h = cc
 small_of K nodes (Some q) bytes v legal h = small_at K nodes q bytes (counts q) (usage_small K nodes q.folder v legal) h
 
@@ -268,7 +269,7 @@ no_room bytes less most h = omega arith
 abbrev pub gone_change : ℕ → ℕ → Change
 gone_change parent minus = record { from = Some parent; to = None; minus = minus; plus = 0 }
 
-pub file_goes : (v w : Volume) (quotas : List QuotaRow) (counters : List Counter) (x minus : ℕ) (view : NodeView) → IsEngine v.size v.nodes quotas counters → MayGo v.nodes x → is_folder v.nodes x ≡ false → w ≡ without_node v x → IsVolume w.size w.nodes → Shows view v.nodes x → ((K : Capacity) → minus ≡ alloc K view.length) → FileGoes w quotas counters x (gone_change view.parent minus)
+pub file_goes : (v w : Volume) (quotas : List QuotaRow) (counters : List Counter) (x minus : ℕ) (view : NodeView) → IsEngine v.size v.nodes quotas counters → MayGo v.nodes x → is_folder v.nodes x ≡ false → w ≡ without_node v x → IsVolume w.size w.nodes → Shows view v.nodes x → minus ≡ alloc v.size view.length → FileGoes w quotas counters x (gone_change view.parent minus)
 file_goes v w quotas counters x minus view e may file made kept shows minus_is =
     let K = v.size in
     let nodes = v.nodes in
@@ -282,7 +283,7 @@ file_goes v w quotas counters x minus view e may file made kept shows minus_is =
     let parent_is : p ≡ view.parent = found_parent nodes x row shows.found ∙ sym shows.is.parent in
     let space_is : space K row ≡ minus =
     ap (λ b. cond b 0 (alloc K row.length)) (sym (found_folder nodes x row shows.found) ∙ file)
-    ∙ (ap (alloc K) (sym shows.is.bytes) ∙ sym (minus_is K)) in
+    ∙ (ap (alloc K) (sym shows.is.bytes) ∙ sym minus_is) in
     let change_is : gone_change p (space K row) ≡ gone_change view.parent minus =
     ap (λ n. gone_change n (space K row)) parent_is ∙ ap (gone_change view.parent) space_is in
     let changes = subst (Changes K nodes new quotas) change_is (changes_removed K nodes quotas x row e.volume e.are_quotas may shows.found file) in

@@ -27,3 +27,4 @@ pub mod StateLaws
 pub mod ScanSteps
 pub mod BesideLaws
 pub mod NamedLaws
+pub mod QueueLaws

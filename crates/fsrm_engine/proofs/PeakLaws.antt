@@ -9,6 +9,7 @@ use Rattle.fsrm_model.specs.declared.row.Capacity.{Capacity}
 use Rattle.fsrm_model.specs.declared.row.NodeRow.{NodeRow}
 use Rattle.fsrm_model.specs.declared.row.QuotaRow.{QuotaRow}
 use Rattle.fsrm_base.specs.Keyed.{row_of, is_ascending}
+use Rattle.fsrm_model.specs.Capacities.{is_capacity}
 use Rattle.fsrm_model.specs.Quota.{folder_of, counts, is_limit, peaked}
 use Rattle.fsrm_model.specs.Tree.{is_folder, usage}
 use Rattle.fsrm_model.specs.Valid.{IsVolume, AreQuotas, is_moment}
@@ -18,7 +19,6 @@ use Rattle.quota_usage.specs.declared.change.Change.{Change}
 use Rattle.quota_usage.specs.declared.change.Counter.{Counter}
 use Rattle.quota_usage.specs.Charge.{is_above, charged_counter}
 use Rattle.quota_usage.specs.Counters.{used_in}
-use Rattle.volume_tree.specs.Volume.{IsCapacity}
 use Rattle.fsrm_engine.specs.Machine.{sums_of, IsEngine}
 use Rattle.fsrm_engine.specs.Peaks.{raised, raised_above}
 use Rattle.fsrm_base.proofs.RowLaws.{each_found, map_same, map_id}
@@ -103,7 +103,7 @@ found_folder_is : (f : ℕ) (quotas : List QuotaRow) (q : QuotaRow) → row_of f
 found_folder_is f quotas q h = found_key folder_of f quotas q h
 
 -- what an engine keeps, once peaks are raised
-pub engine_peaked : (K : Capacity) (nodes : List NodeRow) (quotas : List QuotaRow) (counters : List Counter) (m : ℕ) → IsVolume K nodes → IsCapacity K → AreQuotas nodes quotas → is_moment m ≡ true → counters ≡ sums_of K nodes quotas → IsEngine K nodes (map (peaked K nodes m) quotas) counters
+pub engine_peaked : (K : Capacity) (nodes : List NodeRow) (quotas : List QuotaRow) (counters : List Counter) (m : ℕ) → IsVolume K nodes → is_capacity K ≡ true → AreQuotas nodes quotas → is_moment m ≡ true → counters ≡ sums_of K nodes quotas → IsEngine K nodes (map (peaked K nodes m) quotas) counters
 engine_peaked K nodes quotas counters m v legal qs moment sums =
     record {
       volume = v;

@@ -39,7 +39,7 @@ decided_beside K R queue unvisited m one q u None = by one.lasts
     other : Rows
     other = followed (with_scans R queue unvisited) (with_scans one.effect q u)
 
-    by : (b : Bool) → SameBut (if b then lasted K (unacted (followed R one.effect)) m one.outcome else unlasting (followed R one.effect) one.outcome) (if b then lasted K (unacted other) m one.outcome else unlasting other one.outcome)
+    by : (b : Bool) → SameBut (if b then lasted K R (unacted (followed R one.effect)) m one.outcome else unlasting (followed R one.effect) one.outcome) (if b then lasted K (with_scans R queue unvisited) (unacted other) m one.outcome else unlasting other one.outcome)
     by true = record { outcome = refl; lasting = refl; acts = refl; rows = refl }
     by false = record { outcome = refl; lasting = refl; acts = refl; rows = refl }
 

@@ -1,6 +1,5 @@
 -- Steps of the active scan.
-use Rattle.std.proofs.Common.{◌≡◌, ℕ, ◌≤◌, ◌==◌, ◌-◌, ◌||◌, Bool, true, false, List, [], ◌∷◌, length, Option, Some, None, refl, ap, sym, ◌∙◌, subst}
-use Rattle.std.proofs.lemmas.Option.{same_Some}
+use Rattle.std.proofs.Common.{◌≡◌, ℕ, ◌≤◌, ◌==◌, ◌-◌, Bool, true, false, List, [], ◌∷◌, length, Option, Some, None, refl, ap, sym, ◌∙◌, subst}
 use Rattle.std.specs.Prelude.{map, unwrap_or, if◌then◌else◌}
 use Rattle.fsrm_model.specs.declared.command.Deed.TheVariants.{Step}
 use Rattle.fsrm_model.specs.declared.command.Outcome.TheVariants.{Scanned}
@@ -12,25 +11,25 @@ use Rattle.fsrm_model.specs.declared.row.QuotaState.TheVariants.{Complete, Disab
 use Rattle.fsrm_model.specs.declared.row.Rows.{Rows}
 use Rattle.fsrm_model.specs.Check.{◌when◌, first}
 use Rattle.fsrm_base.specs.Keyed.{has_row, row_of, with_change}
-use Rattle.fsrm_base.specs.Numbers.{is_in, without_number}
+use Rattle.fsrm_model.specs.Limits.{latest_moment}
+use Rattle.fsrm_base.specs.Numbers.{without_number}
 use Rattle.fsrm_model.specs.Quota.{folder_of, counts, is_complete, peaked}
-use Rattle.fsrm_model.specs.QuotaStates.{is_rebuilding, in_state, queued, head, scan_begun, with_state}
+use Rattle.fsrm_model.specs.QuotaStates.{is_rebuilding, followed, in_state, queued, head, scan_begun, with_state}
 use Rattle.fsrm_model.specs.Scan.{visits}
 use Rattle.fsrm_model.specs.ScanWork.{step_work}
 use Rattle.fsrm_model.specs.Step.{step}
 use Rattle.fsrm_model.specs.Tree.{usage}
-use Rattle.fsrm_model.specs.Valid.{IsQueue}
-use Rattle.fsrm_base.proofs.TestLaws.{eq_same, suc_apart}
+use Rattle.fsrm_model.specs.Valid.{IsStore}
+use Rattle.fsrm_model.specs.ValidScans.{IsQueue}
+use Rattle.fsrm_base.proofs.TestLaws.{suc_apart}
 use Rattle.scan_queue.specs.Courses.{Course, Turns}
-use Rattle.fsrm_engine.specs.Machine.{Machine, Takes, AreScans, volume_of, lasting_rows, rows_with, with_rows}
+use Rattle.fsrm_model.proofs.QueueKept.{queue_changed}
+use Rattle.fsrm_model.proofs.QuotaKept.{state_quotas}
+use Rattle.fsrm_model.proofs.RowsKept.{head_in, plain-change, quotas_followed, valid_ended}
+use Rattle.fsrm_engine.specs.Machine.{Machine, Takes, IsWhole, volume_of, lasting_rows, rows_with, with_rows}
 use Rattle.fsrm_engine.proofs.WholeLaws.{done_whole, passing_whole}
-use Rattle.fsrm_engine.proofs.TurnLaws.{engine_of, turned, rows_turned, queue_changed, queue_peaked}
+use Rattle.fsrm_engine.proofs.TurnLaws.{engine_of, turned, rows_turned}
 use Rattle.fsrm_engine.proofs.ScanLaws.{same_own}
-
--- the head of the queue is in it
-pub head_in : (queue : List ℕ) (n : ℕ) → head queue ≡ Some n → is_in queue n ≡ true
-head_in [] n h = cc
-head_in (k ∷ queue) n h = ap (λ j. is_in (k ∷ queue) j) (sym (same_Some k n h)) ∙ ap (λ b. b || is_in queue k) (eq_same k)
 
 -- a quota that is rebuilding doesn't count
 rebuilding_counts : (state : QuotaState) → is_rebuilding state ≡ true → is_complete state ≡ false
@@ -55,13 +54,18 @@ finished a n m = record a { rows = record a.rows { quotas = counted_from a n m; 
 next_queue : (s t : Course) (n : ℕ) → head s.queue ≡ Some n → t.queue ≡ without_number (unwrap_or (head s.queue) 0) s.queue → t.queue ≡ queued s.queue n Complete
 next_queue s t n h is = is ∙ ap (λ o. without_number (unwrap_or o 0) s.queue) h
 
-pub finish_scans : (a b : Machine) (s t : Course) (n m : ℕ) → AreScans a s → head s.queue ≡ Some n → Turns s t (volume_of a) → t.queue ≡ without_number (unwrap_or (head s.queue) 0) s.queue → b ≡ finished a n m → AreScans b t
-finish_scans a b s t n m k h turns is made =
-    subst (λ b. AreScans b t) (sym made)
-    (turned a s t (counted_from a n m) m k turns
-    (subst (IsQueue (counted_from a n m)) (sym (next_queue s t n h is))
-    (queue_peaked a.size a.rows.nodes m (with_change folder_of n (in_state Complete) a.rows.quotas) (queued s.queue n Complete)
-    (queue_changed a.rows.quotas s.queue n Complete (in_state Complete) k.queue (head_quota a.rows.quotas s.queue n k.queue h) (λ r. refl) (λ r. refl)))))
+pub finish_scans : (a b : Machine) (s t : Course) (n m : ℕ) → IsWhole a s → m ≤ latest_moment → head s.queue ≡ Some n → Turns s t (volume_of a) → t.queue ≡ without_number (unwrap_or (head s.queue) 0) s.queue → b ≡ finished a n m → IsWhole b t
+finish_scans a b s t n m k late h turns is made =
+    let R = rows_with a s in
+    let queue = queued s.queue n Complete in
+    let counted = with_change folder_of n (in_state Complete) a.rows.quotas in
+    let there = head_quota a.rows.quotas s.queue n k.valid.queue h in
+    let follows : IsStore a.size (followed R (with_state R n Complete)) =
+    quotas_followed a.size R counted queue k.valid (state_quotas a.size R n Complete a.rows.quotas k.valid.quotas)
+    (plain-change n (in_state Complete) a.rows.quotas (λ q is. is) k.valid.tables.plain)
+    (queue_changed a.rows.quotas s.queue n Complete (in_state Complete) k.valid.queue there (λ r. refl) (λ r. refl)) in
+    subst (λ b. IsWhole b t) (sym made)
+    (turned a s t (counted_from a n m) queue m turns (next_queue s t n h is) (valid_ended a.size (followed R (with_state R n Complete)) m follows late))
 
 pub finish_engine : (a b : Machine) (s t : Course) (n m : ℕ) → head s.queue ≡ Some n → Turns s t (volume_of a) → t.queue ≡ without_number (unwrap_or (head s.queue) 0) s.queue → b ≡ finished a n m → engine_of b t ≡ record (engine_of a s) { rows = lasting_rows (engine_of a s) (with_state (rows_with a s) n Complete) m }
 finish_engine a b s t n m h turns is made =

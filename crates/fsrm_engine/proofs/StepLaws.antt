@@ -138,10 +138,10 @@ done_at v w quotas after peaks last m deed old new answer view late none effect 
   where
     accepted_is : (K : Capacity) (R : Rows) (m : ℕ) (asked : Work) (nodes : List NodeRow) (after : List QuotaRow) (last : ℕ) → R.queue ≡ [] → asked.effect ≡ rows_at nodes after last → asked.outcome ≡ Done None → asked.lasts ≡ true → accepted K R m asked ≡ record { rows = rows_at nodes (map (peaked K nodes m) after) m; outcome = Done None; lasting = true; acts = [] }
     accepted_is K R m asked nodes after last none effect outcome lasts =
-        ap (λ b. if b then lasted K (unacted (followed R asked.effect)) m asked.outcome else unlasting (followed R asked.effect) asked.outcome) lasts
-        ∙ (ap (λ (E : Rows). lasted K (unacted (followed R E)) m asked.outcome) effect
-        ∙ (ap (λ o. lasted K (unacted (followed R (rows_at nodes after last))) m o) outcome
-        ∙ ap (λ q. lasted K (unacted (record (rows_at nodes after last) { unvisited = if same_head q [] then [] else [] })) m (Done None)) none))
+        ap (λ b. if b then lasted K R (unacted (followed R asked.effect)) m asked.outcome else unlasting (followed R asked.effect) asked.outcome) lasts
+        ∙ (ap (λ (E : Rows). lasted K R (unacted (followed R E)) m asked.outcome) effect
+        ∙ (ap (λ o. lasted K R (unacted (followed R (rows_at nodes after last))) m o) outcome
+        ∙ ap (λ q. lasted K R (unacted (record (rows_at nodes after last) { unvisited = if same_head q [] then [] else [] })) m (Done None)) none))
 
 -- the answer to a command that changes nothing and isn't refused
 pub told_at : (v : Volume) (quotas : List QuotaRow) (last m : ℕ) (deed : Deed) (old : Machine) (answer : Answer) (outcome : Outcome) → machine v quotas last ≡ old → old.rows.last_moment ≤ m → due v quotas last m deed ≡ None → (asked_of v quotas last m deed).effect ≡ rows_at v.nodes quotas last → (asked_of v quotas last m deed).outcome ≡ outcome → (asked_of v quotas last m deed).lasts ≡ false → answer ≡ record { outcome = outcome; lasting = false } → Takes old old (step old.size old.rows (record { moment = m; deed = deed })) answer
@@ -150,7 +150,7 @@ told_at v quotas last m deed old answer outcome view late none effect is lasts e
     let asked = work v.size R m deed in
     let s : step v.size R (record { moment = m; deed = deed }) ≡ unlasting R outcome =
     step_by v.size R m deed None (was_late v quotas last m old view late) none
-    ∙ (ap (λ b. if b then lasted v.size (unacted (followed R asked.effect)) m asked.outcome else unlasting (followed R asked.effect) asked.outcome) lasts
+    ∙ (ap (λ b. if b then lasted v.size R (unacted (followed R asked.effect)) m asked.outcome else unlasting (followed R asked.effect) asked.outcome) lasts
     ∙ (ap (λ (S : Rows). unlasting (followed R S) asked.outcome) effect ∙ ap (unlasting R) is)) in
     subst (λ (o : Machine). Takes old o (step old.size old.rows (record { moment = m; deed = deed })) answer) view
     (from_outside v quotas last m deed old (machine v quotas last) answer (unlasting R outcome) view s refl refl refl (ap (λ (a : Answer). a.outcome) e) (ap (λ (a : Answer). a.lasting) e))

@@ -8,6 +8,7 @@ use Rattle.std.specs.List.{AllByRecursion, list_all}
 use Rattle.fsrm_model.specs.declared.row.Capacity.{Capacity}
 use Rattle.fsrm_model.specs.declared.row.NodeRow.{NodeRow}
 use Rattle.fsrm_base.specs.Keyed.{has_row, is_ascending}
+use Rattle.fsrm_model.specs.Capacities.{is_capacity}
 use Rattle.fsrm_model.specs.Limits.{longest_file}
 use Rattle.fsrm_model.specs.Name.{name_before}
 use Rattle.fsrm_base.specs.Order.{put, in_order}
@@ -19,11 +20,12 @@ use Rattle.fsrm_base.proofs.EditedRows.{all_rows}
 use Rattle.fsrm_base.proofs.Order.{parts}
 use Rattle.fsrm_base.proofs.Members.{all_pass}
 use Rattle.fsrm_base.proofs.Sums.{sum_by-map}
+use Rattle.fsrm_model.proofs.CapacityLaws.{nodes_most, alloc_most}
 use Rattle.fsrm_model.proofs.Keeps.{found_folder}
 use Rattle.fsrm_base.proofs.Look.{has_found}
 use Rattle.fsrm_model.proofs.UsageLaws.{usage_children, count_children, usage_of_file, count_of_file}
 use Rattle.volume_tree.specs.declared.answer.NodeView.{NodeView}
-use Rattle.volume_tree.specs.Volume.{IsCapacity, Shows}
+use Rattle.volume_tree.specs.Volume.{Shows}
 use Rattle.fsrm_engine.specs.Walk.{usage_of_all, under_all, AreThere}
 use Rattle.volume_tree.proofs.FreshLaws.{few_nodes}
 use Rattle.volume_tree.proofs.Children.{children_many}
@@ -194,25 +196,22 @@ few_from n most (row ∷ rows) h a each =
     next n most row [] h low a = omega arith
     next n most row (other ∷ rows) h low a = let up : number row < number other = lt_is _ _ (parts number row (other ∷ rows) a).above in omega arith
 
-alloc_small : (K : Capacity) (n : ℕ) → n ≤ longest_file → alloc K n ≤ longest_file
-alloc_small K n h = omega arith
-
-small_at : (K : Capacity) (b : Bool) (n : ℕ) → nat_le n (cond b 0 longest_file) ≡ true → nat_le (cond b 0 (alloc K n)) longest_file ≡ true
-small_at K true n h = refl
-small_at K false n h = let le : n ≤ longest_file = le_is n longest_file h in le_test (alloc K n) longest_file (alloc_small K n le)
+small_at : (K : Capacity) (b : Bool) (n : ℕ) → is_capacity K ≡ true → nat_le n (cond b 0 longest_file) ≡ true → nat_le (cond b 0 (alloc K n)) longest_file ≡ true
+small_at K true n legal h = refl
+small_at K false n legal h = le_test (alloc K n) longest_file (alloc_most K n legal (le_is n longest_file h))
   where
     le_test : (m n : ℕ) → m ≤ n → nat_le m n ≡ true
     le_test m n h = grind (arith, nat_tests)
 
-small_row : (K : Capacity) (nodes : List NodeRow) → IsVolume K nodes → (row : NodeRow) → node_of nodes (number row) ≡ Some row → nat_le (space K row) longest_file ≡ true
-small_row K nodes v row f = elim (is_or_not (number row == 0)) [
+small_row : (K : Capacity) (nodes : List NodeRow) → IsVolume K nodes → is_capacity K ≡ true → (row : NodeRow) → node_of nodes (number row) ≡ Some row → nat_le (space K row) longest_file ≡ true
+small_row K nodes v legal row f = elim (is_or_not (number row == 0)) [
   | inl top ↦
       let root = v.root row (ap (node_of nodes) (sym (eq_is (number row) 0 top)) ∙ f) in
       let folder : row.folder ≡ true = (both _ _ (both _ _ (both _ _ root).0).0).0 in
       ap (λ (b : Bool). nat_le (cond b 0 (alloc K row.length)) longest_file) folder
   | inr inner ↦
       let own = v.own (number row) row f inner in
-      small_at K row.folder row.length (both _ _ (both _ _ own).1).0
+      small_at K row.folder row.length legal (both _ _ (both _ _ own).1).0
 ]
 
 sum_small : (f : NodeRow → ℕ) (p : NodeRow → Bool) (most : ℕ) (rows : List NodeRow) → list_all (λ row. nat_le (f row) most) rows ≡ true → sum_by f (filter p rows) ≤ length rows * most
@@ -225,11 +224,11 @@ sum_small f p most (row ∷ rows) each =
     at true low rest = omega (arith, sum_by-cons f row (filter p rows))
     at false low rest = omega arith
 
-pub usage_small : (K : Capacity) (nodes : List NodeRow) (n : ℕ) → IsVolume K nodes → IsCapacity K → usage K nodes n ≤ 1048576 * longest_file
+pub usage_small : (K : Capacity) (nodes : List NodeRow) (n : ℕ) → IsVolume K nodes → is_capacity K ≡ true → usage K nodes n ≤ 1048576 * longest_file
 usage_small K nodes n v legal =
-    let each = all_pass number (λ row. nat_le (space K row) longest_file) nodes v.ascending (small_row K nodes v) in
+    let each = all_pass number (λ row. nat_le (space K row) longest_file) nodes v.ascending (small_row K nodes v legal) in
     let sum : usage K nodes n ≤ length nodes * longest_file = sum_small (space K) (λ row. is_under nodes n row.number) longest_file nodes each in
-    let few : length nodes ≤ 1048576 = omega (arith, few_nodes K nodes v, legal.nodes_most) in
+    let few : length nodes ≤ 1048576 = omega (arith, few_nodes K nodes v, nodes_most K legal) in
     omega (arith, sum, few)
 
 -- what is left to be visited bounds the looks and the sum
@@ -238,13 +237,13 @@ looks_at_visit K nodes pending rest n now last start whole v h e looks more =
     let below : ℕ → ℕ = λ m. length (under nodes m) in
     omega (arith, looks, more, last_sum below pending rest n e, count_all K nodes pending v h, ap length e, length-append rest (n ∷ []))
 
-pub sum_at_visit : (K : Capacity) (nodes : List NodeRow) (pending rest new : List ℕ) (n start total bytes : ℕ) → IsVolume K nodes → IsCapacity K → pending ≡ rest ++ n ∷ [] → total + usage_of_all K nodes pending ≡ usage K nodes start → bytes + usage_of_all K nodes new ≡ usage K nodes n + usage_of_all K nodes rest → total + bytes ≤ 1048576 * longest_file
+pub sum_at_visit : (K : Capacity) (nodes : List NodeRow) (pending rest new : List ℕ) (n start total bytes : ℕ) → IsVolume K nodes → is_capacity K ≡ true → pending ≡ rest ++ n ∷ [] → total + usage_of_all K nodes pending ≡ usage K nodes start → bytes + usage_of_all K nodes new ≡ usage K nodes n + usage_of_all K nodes rest → total + bytes ≤ 1048576 * longest_file
 sum_at_visit K nodes pending rest new n start total bytes v legal e sum more =
     omega (arith, sum, more, last_sum (usage K nodes) pending rest n e, usage_small K nodes start v legal)
 
 -- each node's space is small, and the nodes are few
-pub row_space : (K : Capacity) (nodes : List NodeRow) → IsVolume K nodes → (row : NodeRow) → node_of nodes (number row) ≡ Some row → space K row ≤ longest_file
-row_space K nodes v row f = le_is (space K row) longest_file (small_row K nodes v row f)
+pub row_space : (K : Capacity) (nodes : List NodeRow) → IsVolume K nodes → is_capacity K ≡ true → (row : NodeRow) → node_of nodes (number row) ≡ Some row → space K row ≤ longest_file
+row_space K nodes v legal row f = le_is (space K row) longest_file (small_row K nodes v legal row f)
 
-pub nodes_few : (K : Capacity) (nodes : List NodeRow) → IsVolume K nodes → IsCapacity K → length nodes ≤ 1048576
-nodes_few K nodes v legal = omega (arith, few_nodes K nodes v, legal.nodes_most)
+pub nodes_few : (K : Capacity) (nodes : List NodeRow) → IsVolume K nodes → is_capacity K ≡ true → length nodes ≤ 1048576
+nodes_few K nodes v legal = omega (arith, few_nodes K nodes v, nodes_most K legal)

@@ -37,14 +37,14 @@ refused_whole old m deed answer refusal idle late h e =
     by_step old old m deed answer (unlasting old.rows (Refused refusal)) (step_by old.size old.rows m deed (Some refusal) late h)
     refl refl idle (ap (λ (a : Answer). a.outcome) e) (ap (λ (a : Answer). a.lasting) e)
 
-accepted_by : (K : Capacity) (R : Rows) (m : ℕ) (w : Work) (b : Bool) → w.lasts ≡ b → accepted K R m w ≡ (if b then lasted K (unacted (followed R w.effect)) m w.outcome else unlasting (followed R w.effect) w.outcome)
-accepted_by K R m w b h = ap (λ b. if b then lasted K (unacted (followed R w.effect)) m w.outcome else unlasting (followed R w.effect) w.outcome) h
+accepted_by : (K : Capacity) (R : Rows) (m : ℕ) (w : Work) (b : Bool) → w.lasts ≡ b → accepted K R m w ≡ (if b then lasted K R (unacted (followed R w.effect)) m w.outcome else unlasting (followed R w.effect) w.outcome)
+accepted_by K R m w b h = ap (λ b. if b then lasted K R (unacted (followed R w.effect)) m w.outcome else unlasting (followed R w.effect) w.outcome) h
 
 -- the answer to a command that was done, and lasts
 pub done_whole : (old new : Machine) (m : ℕ) (deed : Deed) (answer : Answer) (effect : Rows) (outcome : Outcome) → old.rows.last_moment ≤ m → first (asks_of old m deed).checks ≡ None → (asks_of old m deed).effect ≡ effect → (asks_of old m deed).outcome ≡ outcome → (asks_of old m deed).lasts ≡ true → new.size ≡ old.size → new.waiting ≡ [] → new.rows ≡ lasting_rows old effect m → answer ≡ record { outcome = outcome; lasting = true } → Takes old new (step old.size old.rows (record { moment = m; deed = deed })) answer
 done_whole old new m deed answer effect outcome late none made is lasts size idle rows e =
     let w = work old.size old.rows m deed in
-    by_step old new m deed answer (lasted old.size (unacted (followed old.rows w.effect)) m w.outcome)
+    by_step old new m deed answer (lasted old.size old.rows (unacted (followed old.rows w.effect)) m w.outcome)
     (step_by old.size old.rows m deed None late none ∙ accepted_by old.size old.rows m w true lasts)
     size (rows ∙ sym (ap (λ (R : Rows). lasting_rows old R m) made)) idle
     (ap (λ (a : Answer). a.outcome) e ∙ sym is) (ap (λ (a : Answer). a.lasting) e)

@@ -1,5 +1,5 @@
 -- An engine, and what it keeps of accounts, as the plain machine sees them.
-use Rattle.std.specs.Prelude.{◌≡◌, ℕ, ◌≤◌, true, List, [], map, filter, Some, None}
+use Rattle.std.specs.Prelude.{◌≡◌, ℕ, ◌≤◌, true, List, map, filter, Some}
 use Rattle.fsrm_model.specs.declared.command.Act.{Act}
 use Rattle.fsrm_model.specs.declared.command.Answer.{Answer}
 use Rattle.fsrm_model.specs.declared.command.Command.{Command}
@@ -7,16 +7,17 @@ use Rattle.fsrm_model.specs.declared.row.Capacity.{Capacity}
 use Rattle.fsrm_model.specs.declared.row.NodeRow.{NodeRow}
 use Rattle.fsrm_model.specs.declared.row.QuotaRow.{QuotaRow}
 use Rattle.fsrm_model.specs.declared.row.Rows.{Rows}
+use Rattle.fsrm_model.specs.Capacities.{is_capacity}
 use Rattle.fsrm_model.specs.Fresh.{rows_of_nodes}
 use Rattle.fsrm_base.specs.Keyed.{row_of, with_change}
 use Rattle.fsrm_model.specs.Quota.{folder_of, counts, peaked, peaks}
-use Rattle.fsrm_model.specs.QuotaStates.{followed, head, queued}
+use Rattle.fsrm_model.specs.QuotaStates.{followed, queued}
 use Rattle.fsrm_model.specs.Step.{Stepped, step}
 use Rattle.fsrm_model.specs.Tree.{usage}
-use Rattle.fsrm_model.specs.Valid.{IsVolume, AreQuotas, IsQueue}
+use Rattle.fsrm_model.specs.Valid.{IsVolume, AreQuotas, IsStore}
 use Rattle.quota_usage.specs.declared.change.Counter.{Counter}
 use Rattle.scan_queue.specs.Courses.{Course, Scanning, left}
-use Rattle.volume_tree.specs.Volume.{Volume, IsCapacity}
+use Rattle.volume_tree.specs.Volume.{Volume}
 
 -- how much it may hold, its rows, and the acts that wait to be handed out
 pub record Machine : Type 0 where
@@ -81,11 +82,10 @@ pub record IsSound (K : Capacity) (R : Rows) : Type 0 where
 abbrev pub IsLevel : Machine → Type 0
 IsLevel machine = (moment : ℕ) → machine.rows.quotas ≡ map (peaked machine.size machine.rows.nodes moment) machine.rows.quotas
 
--- The scans that wait are those of the rebuilding quotas, and the active one goes on over the machine's nodes
-pub record AreScans (machine : Machine) (course : Course) : Type 0 where
+-- An engine of these accounts and scans: the active scan goes on over the machine's nodes, and the rows are valid
+pub record IsWhole (machine : Machine) (course : Course) : Type 0 where
   pub scanning : ScansOf machine course
-  pub queue : IsQueue machine.rows.quotas course.queue
-  pub idle : head course.queue ≡ None → left machine.rows.nodes course ≡ []
+  pub valid : IsStore machine.size (rows_with machine course)
 
 -- what the files at and below a quota's folder take
 abbrev pub counter_of : Capacity → List NodeRow → QuotaRow → Counter
@@ -98,7 +98,7 @@ sums_of K nodes quotas = map (counter_of K nodes) (filter counts quotas)
 -- what an engine keeps: its counters are the sums over the tree, and no peak is below what is used
 pub record IsEngine (size : Capacity) (nodes : List NodeRow) (quotas : List QuotaRow) (counters : List Counter) : Type 0 where
   pub volume : IsVolume size nodes
-  pub legal : IsCapacity size
+  pub legal : is_capacity size ≡ true
   pub are_quotas : AreQuotas nodes quotas
   pub sums : counters ≡ sums_of size nodes quotas
   pub peaks : (folder : ℕ) (quota : QuotaRow) → row_of folder_of folder quotas ≡ Some quota → counts quota ≡ true → usage size nodes folder ≤ quota.peak

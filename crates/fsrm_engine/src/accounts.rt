@@ -2,6 +2,7 @@
 
 ghost use Rattle.std.specs.Prelude.{◌≡◌, ◌+◌, ◌≤◌, [], true, length, IfOk, OnErr};
 ghost use Rattle.fsrm_model.specs.declared.command.Deed.TheVariants.{File};
+ghost use Rattle.fsrm_model.specs.Capacities.{is_capacity};
 ghost use Rattle.fsrm_model.specs.Cost.{deed_cost};
 ghost use Rattle.fsrm_model.specs.Fresh.{new_rows};
 ghost use Rattle.fsrm_model.specs.Limits.{latest_moment};
@@ -10,7 +11,6 @@ ghost use Rattle.fsrm_model.specs.Step.{step};
 ghost use Rattle.fsrm_model.specs.Valid.{IsVolume};
 ghost use Rattle.fsrm_model.specs.Valued.{is_op, is_command};
 ghost use Rattle.fsrm_engine.specs.Machine.{IsSound, Takes, ScansOf, ScansFollow};
-ghost use Rattle.volume_tree.specs.Volume.{IsCapacity};
 
 use crate::exits::refused;
 use fsrm_model::{Answer, Capacity, Command, Deed, FileOp, Ledger, NoMemory, Refusal, Steps};
@@ -46,7 +46,7 @@ impl Model for Accounts {
 impl Accounts {
     /// A new volume of this size, without quotas.
     pub fn new(alloc: Global, size: Capacity) -> Result<Accounts, NoMemory>
-        requires { IsCapacity size }
+        requires { is_capacity size ≡ true }
         ensures { IfOk result (λ accounts. accounts ≡ record { size = size; rows = new_rows; waiting = [] }) }
     {
         let tree = Tree::reserve(alloc, size)?;

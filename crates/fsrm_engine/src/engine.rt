@@ -2,6 +2,7 @@
 
 ghost use Rattle.std.specs.Prelude.{◌≡◌, ◌+◌, ◌≤◌, [], true, length, IfOk, OnErr};
 ghost use Rattle.fsrm_model.specs.declared.command.Deed.TheVariants.{File};
+ghost use Rattle.fsrm_model.specs.Capacities.{is_capacity};
 ghost use Rattle.fsrm_model.specs.Cost.{cost, deed_cost};
 ghost use Rattle.fsrm_model.specs.Fresh.{new_rows};
 ghost use Rattle.fsrm_model.specs.Limits.{latest_moment};
@@ -11,7 +12,6 @@ ghost use Rattle.fsrm_model.specs.Step.{step};
 ghost use Rattle.fsrm_model.specs.Valid.{IsVolume, IsStore};
 ghost use Rattle.fsrm_model.specs.Valued.{is_op, is_command};
 ghost use Rattle.fsrm_engine.specs.Machine.{Takes};
-ghost use Rattle.volume_tree.specs.Volume.{IsCapacity};
 
 use crate::accounts::Accounts;
 use crate::exits::refused;
@@ -28,9 +28,11 @@ pub struct Settings {
     /// Minutes: what an action's run limit of -1 stands for.
     pub run_limit: u32,
     /// How many quotas wait to be scanned.
-    pub scans: usize,
+    pub scans: u32,
     /// The moment of the last command that lasts, in seconds since 1970-01-01 00:00:00 UTC.
     pub last_moment: u64,
+    /// The bytes of a cluster.
+    pub cluster: u32,
 }
 
 const RUN_LIMIT: u32 = 60;
@@ -45,24 +47,24 @@ pub struct Engine {
 
 impl Model for Engine {
     ghost use Rattle.std.specs.Prelude.{[]};
-    ghost use Rattle.fsrm_engine.specs.Machine.{Machine, rows_with, AreScans};
+    ghost use Rattle.fsrm_engine.specs.Machine.{Machine, rows_with, IsWhole};
 
     ghost Value = { Machine };
 
     ghost view = { λ e. record { size = e.accounts.size; rows = rows_with e.accounts e.scans; waiting = e.accounts.waiting } };
 
-    ghost invariant = { λ e. AreScans e.accounts e.scans };
+    ghost invariant = { λ e. IsWhole e.accounts e.scans };
 }
 
 impl Engine {
-    /// An engine over a new volume of this size: 2 to 1,048,576 nodes, and 256 to 268,435,456 bytes of
-    /// names.
+    /// An engine over a new volume of this size: 2 to 1,048,576 nodes, 256 to 268,435,456 bytes of
+    /// names, and clusters of 512 to 65,536 bytes, a power of 2.
     pub fn new(alloc: Global, size: Capacity) -> Result<Engine, NoMemory>
-        requires { IsCapacity size }
+        requires { is_capacity size ≡ true }
         ensures { IfOk result (λ engine. engine ≡ record { size = size; rows = new_rows; waiting = [] }) }
     {
         let accounts = Accounts::new(alloc, size)?;
-        let scans = Scans::reserve(alloc, size.nodes)?;
+        let scans = Scans::reserve(alloc, size.nodes, size.cluster)?;
         Ok(Engine { accounts, scans })
     }
 
@@ -96,11 +98,13 @@ impl Engine {
         ensures run_limit { result.run_limit ≡ self.now.rows.run_limit }
         ensures scans { result.scans ≡ length self.now.rows.queue }
         ensures last_moment { result.last_moment ≡ self.now.rows.last_moment }
+        ensures cluster { result.cluster ≡ self.now.size.cluster }
     {
         Settings {
             run_limit: RUN_LIMIT,
-            scans: self.scans.count(),
+            scans: self.scans.count() as u32,
             last_moment: self.accounts.last_moment,
+            cluster: self.accounts.tree.capacity().cluster,
         }
     }
 
@@ -152,12 +156,14 @@ impl Engine {
                 limit,
                 enforce,
                 enabled,
+                ..
             } => self.quota_add(alloc, path, *limit, *enforce, *enabled, moment, steps),
             Deed::QuotaModify {
                 path,
                 limit,
                 enforce,
                 enabled,
+                ..
             } => self.quota_modify(alloc, path, *limit, *enforce, *enabled, moment, steps),
             Deed::QuotaDelete { path } => Ok(self.quota_delete(path, moment, steps)),
             Deed::QuotaScan { path } => self.quota_scan(path, moment, steps),

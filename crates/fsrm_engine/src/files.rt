@@ -13,7 +13,7 @@ ghost use Rattle.fsrm_model.specs.Tree.{resolve, is_folder};
 use crate::accounts::Accounts;
 use crate::charging::drop_quota;
 use crate::exits::{refused, refused_by};
-use fsrm_model::{Answer, Ledger, NoMemory, Path, Refusal, Steps, allocated};
+use fsrm_model::{Answer, Ledger, NoMemory, Path, Refusal, Steps};
 use quota_usage::Change;
 use scan_queue::Scans;
 
@@ -165,7 +165,7 @@ impl Accounts {
         let change = Change {
             from: Some(view.parent),
             to: None,
-            minus: allocated(view.length),
+            minus: self.tree.allocated(view.length),
             plus: 0,
         };
         let bytes = view.length;

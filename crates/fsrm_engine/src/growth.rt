@@ -3,6 +3,7 @@
 ghost use Rattle.std.specs.Prelude.{◌≡◌, ◌+◌, ◌*◌, ◌≤◌, ◌<◌, ◌==◌, [], true, false, length, IfOk, IfErr, OnOk, OnErr, Some, None};
 ghost use Rattle.fsrm_model.specs.declared.command.Deed.TheVariants.{File};
 ghost use Rattle.fsrm_model.specs.declared.command.FileOp.TheVariants.{Create, Resize};
+ghost use Rattle.fsrm_model.specs.Capacities.{is_capacity};
 ghost use Rattle.fsrm_model.specs.Cost.{deed_cost};
 ghost use Rattle.fsrm_model.specs.Limits.{latest_moment, longest_file};
 ghost use Rattle.fsrm_model.specs.Step.{step};
@@ -10,13 +11,13 @@ ghost use Rattle.fsrm_engine.specs.Machine.{IsSound, Takes, ScansOf, ScansFollow
 ghost use Rattle.fsrm_engine.specs.Faults.{refusal_of, exceeded_refusal};
 ghost use Rattle.std.specs.Prelude.{unwrap_or};
 ghost use Rattle.std.specs.Option.{option_and_then};
-ghost use Rattle.volume_tree.specs.Volume.{IsCapacity, new_fault};
+ghost use Rattle.volume_tree.specs.Volume.{new_fault};
 
 use crate::accounts::Accounts;
 use crate::charging::charge;
 use crate::exits::{exceeded_by, refused, refused_by};
 use crate::places::Place;
-use fsrm_model::{Answer, Ledger, NoMemory, Path, Refusal, Steps, allocated};
+use fsrm_model::{Answer, Ledger, NoMemory, Path, Refusal, Steps};
 use quota_usage::{Change, Exceeded};
 use scan_queue::Scans;
 use volume_tree::Tree;
@@ -75,7 +76,7 @@ impl Accounts {
             from: None,
             to: Some(place.folder),
             minus: 0,
-            plus: allocated(length),
+            plus: self.tree.allocated(length),
         };
         if let Err(exceeded) = self.usage.admit(&self.tree, &self.objects, &change, steps) {
             return Ok(refused(new_refusal(&self.tree, place, exceeded, steps)));
@@ -128,8 +129,8 @@ impl Accounts {
         let change = Change {
             from: Some(file.parent),
             to: Some(file.parent),
-            minus: allocated(old),
-            plus: allocated(length),
+            minus: self.tree.allocated(old),
+            plus: self.tree.allocated(length),
         };
         if let Err(exceeded) = self.usage.admit(&self.tree, &self.objects, &change, steps) {
             return Ok(refused(exceeded_by(exceeded)));

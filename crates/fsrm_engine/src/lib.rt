@@ -15,8 +15,6 @@ mod places;
 mod quotas;
 mod scanning;
 mod states;
-#[cfg(test)]
-mod tests;
 mod usage;
 
 pub use engine::{Engine, Settings};

@@ -3,6 +3,7 @@
 ghost use Rattle.std.specs.Prelude.{◌≡◌, ◌+◌, ◌*◌, ◌≤◌, ◌<◌, ◌==◌, [], true, false, length, IfOk, IfErr, OnOk, OnErr, Some, None};
 ghost use Rattle.fsrm_model.specs.declared.command.Deed.TheVariants.{File};
 ghost use Rattle.fsrm_model.specs.declared.command.FileOp.TheVariants.{Move};
+ghost use Rattle.fsrm_model.specs.Capacities.{is_capacity};
 ghost use Rattle.fsrm_model.specs.Cost.{deed_cost};
 ghost use Rattle.fsrm_model.specs.Limits.{latest_moment, longest_file};
 ghost use Rattle.fsrm_model.specs.Step.{step};
@@ -14,7 +15,7 @@ ghost use Rattle.fsrm_engine.specs.Faults.{refusal_of, exceeded_refusal};
 ghost use Rattle.fsrm_engine.specs.Places.{IsMoved};
 ghost use Rattle.std.specs.Prelude.{unwrap_or};
 ghost use Rattle.std.specs.Option.{option_and_then};
-ghost use Rattle.volume_tree.specs.Volume.{IsCapacity, is_other, move_fault};
+ghost use Rattle.volume_tree.specs.Volume.{is_other, move_fault};
 
 use crate::accounts::Accounts;
 use crate::charging::charge;
@@ -37,7 +38,7 @@ fn moved_bytes<L: Ledger>(
     steps: &mut Steps<L>,
 ) -> Result<u64, NoMemory>
     requires volume { IsVolume tree.now.size tree.now.nodes }
-    requires legal { IsCapacity tree.now.size }
+    requires legal { is_capacity tree.now.size ≡ true }
     requires there { has_row key node tree.now.nodes ≡ true }
     ensures bytes { IfOk result (λ bytes. IsMoved tree.now.size tree.now.nodes objects.now.quotas node bytes) }
     ensures looks { steps.new ≤ steps.old + 3 * length (under tree.now.nodes node) }

@@ -16,7 +16,7 @@ ghost use Rattle.scan_queue.specs.Courses.{Scanning, Turns};
 ghost use Rattle.volume_tree.specs.Volume.{Volume};
 ghost use Rattle.fsrm_model.specs.QuotaWork.{new_quota, modified};
 ghost use Rattle.fsrm_model.specs.Step.{step};
-ghost use Rattle.fsrm_model.specs.Valid.{IsStore, is_moment};
+ghost use Rattle.fsrm_model.specs.Valid.{IsStore, is_moment, is_plain};
 ghost use Rattle.fsrm_engine.specs.Machine.{Takes, IsLevel, with_rows, with_other};
 ghost use Rattle.fsrm_engine.specs.Places.{IsFolderAt};
 
@@ -63,7 +63,7 @@ fn is_disabled(state: QuotaState) -> bool
 
 // Has a folder's scan wait where its quota is rebuilding, and else not. An `Err` changes nothing.
 fn requeue(scans: &mut Scans, folder: u32, state: QuotaState) -> Result<(), NoMemory>
-    requires room { folder < scans.old.front.room }
+    requires room { folder < scans.old.front.room.nodes }
     ensures queue { OnOk result (scans.new.queue ≡ queued scans.old.queue folder state) }
     ensures turns { OnOk result ((v : Volume) → Scanning v scans.old → is_folder v.nodes folder ≡ true → Turns scans.old scans.new v) }
     ensures err { OnErr result (scans.new ≡ scans.old) }
@@ -132,6 +132,7 @@ impl Engine {
         requires folder { is_folder self.old.rows.nodes row.folder ≡ true }
         requires limit { is_limit row.limit ≡ true }
         requires moment { is_moment row.peak_at ≡ true }
+        requires plain { is_plain row ≡ true }
         requires nothing { counts row ≡ true → usage self.old.size self.old.rows.nodes row.folder ≡ 0 }
         ensures listed { OnOk result (self.new ≡ with_rows self.old (followed self.old.rows (with_quota self.old.rows row))) }
         ensures level { OnOk result (IsLevel self.new) }
@@ -155,6 +156,7 @@ impl Engine {
         requires folder { is_folder self.old.rows.nodes row.folder ≡ true }
         requires limit { is_limit row.limit ≡ true }
         requires moment { is_moment row.peak_at ≡ true }
+        requires plain { is_plain row ≡ true }
         requires peak { (quota : QuotaRow) → row_of folder_of row.folder self.old.rows.quotas ≡ Some quota → row.peak ≡ quota.peak }
         requires nothing { (quota : QuotaRow) → row_of folder_of row.folder self.old.rows.quotas ≡ Some quota → counts quota ≡ false → counts row ≡ true → usage self.old.size self.old.rows.nodes row.folder ≡ 0 }
         ensures replaced { OnOk result (self.new ≡ with_rows self.old (followed self.old.rows (with_other self.old.rows row))) }
@@ -183,7 +185,8 @@ impl Engine {
 
     // The answer to a command that was done, whose moment is now the last.
     fn done(&mut self, moment: u64) -> Answer
-        requires { IsStore self.old.size self.old.rows }
+        requires store { IsStore self.old.size self.old.rows }
+        requires moment { moment ≤ latest_moment }
         ensures rows { self.new ≡ with_rows self.old (record self.old.rows { last_moment = moment }) }
         ensures answer { result ≡ record { outcome = Done None; lasting = true } }
         ensures kept { IsStore self.new.size self.new.rows }
@@ -239,19 +242,19 @@ impl Engine {
         &mut self,
         alloc: Global,
         path: &Path,
-        limit: u64,
-        enforce: bool,
+        limit: Option<u64>,
+        enforce: Option<bool>,
         enabled: bool,
         moment: u64,
         steps: &mut Steps<L>,
     ) -> Result<Answer, NoMemory>
-        requires limit { is_limit limit ≡ true }
+        requires limit { option_map_or is_limit limit false ≡ true }
         requires moment { moment ≤ latest_moment }
         requires late { self.old.rows.last_moment ≤ moment }
-        ensures ok { IfOk result (λ answer. Takes self.old self.new (step self.old.size self.old.rows (record { moment = moment; deed = QuotaAdd path.now limit enforce enabled })) answer) }
+        ensures ok { IfOk result (λ answer. Takes self.old self.new (step self.old.size self.old.rows (record { moment = moment; deed = QuotaAdd path.now limit enforce enabled None [] [] })) answer) }
         ensures err { OnErr result (self.new ≡ self.old) }
         ensures kept { IsStore self.new.size self.new.rows }
-        ensures looks { steps.new ≤ steps.old + deed_cost self.old.rows (QuotaAdd path.now limit enforce enabled) }
+        ensures looks { steps.new ≤ steps.old + deed_cost self.old.rows (QuotaAdd path.now limit enforce enabled None [] []) }
     {
         let Some(folder) = self.folder(path, steps) else {
             return Ok(refused(Refusal::PathNotFound));
@@ -263,6 +266,9 @@ impl Engine {
             return Ok(refused(Refusal::TableFull));
         }
         let state = self.first_state(folder, enabled, steps);
+        // A command gives a limit, and a quota is hard where its type isn't given.
+        let limit = limit.unwrap();
+        let enforce = enforce.unwrap_or(true);
         let row = new_quota(alloc, folder, limit, enforce, state, moment);
         self.enlist(row)?;
         Ok(self.done(moment))
@@ -281,10 +287,10 @@ impl Engine {
         requires limit { option_map_or is_limit limit true ≡ true }
         requires moment { moment ≤ latest_moment }
         requires late { self.old.rows.last_moment ≤ moment }
-        ensures ok { IfOk result (λ answer. Takes self.old self.new (step self.old.size self.old.rows (record { moment = moment; deed = QuotaModify path.now limit enforce enabled })) answer) }
+        ensures ok { IfOk result (λ answer. Takes self.old self.new (step self.old.size self.old.rows (record { moment = moment; deed = QuotaModify path.now limit enforce enabled [] [] [] })) answer) }
         ensures err { OnErr result (self.new ≡ self.old) }
         ensures kept { IsStore self.new.size self.new.rows }
-        ensures looks { steps.new ≤ steps.old + deed_cost self.old.rows (QuotaModify path.now limit enforce enabled) }
+        ensures looks { steps.new ≤ steps.old + deed_cost self.old.rows (QuotaModify path.now limit enforce enabled [] [] []) }
     {
         let Some(folder) = self.folder(path, steps) else {
             return Ok(refused(Refusal::PathNotFound));

@@ -2,18 +2,18 @@
 
 ghost use Rattle.std.specs.Prelude.{◌≡◌, ◌+◌, ◌*◌, ◌≤◌, ◌++◌, true, length, map, IfOk, OnOk, OnErr};
 ghost use Rattle.fsrm_model.specs.declared.command.Deed.TheVariants.{Usage};
+ghost use Rattle.fsrm_model.specs.Capacities.{is_capacity};
 ghost use Rattle.fsrm_model.specs.Cost.{deed_cost};
 ghost use Rattle.fsrm_base.specs.Keyed.{has_row};
 ghost use Rattle.fsrm_model.specs.Step.{step};
 ghost use Rattle.fsrm_model.specs.Tree.{number as key, children_in_order, usage, under};
 ghost use Rattle.fsrm_model.specs.Valid.{IsVolume};
 ghost use Rattle.fsrm_engine.specs.Machine.{IsSound, Takes};
-ghost use Rattle.volume_tree.specs.Volume.{IsCapacity};
 ghost use Rattle.fsrm_engine.specs.Walk.{usage_of_all, under_all, AreThere};
 
 use crate::accounts::Accounts;
 use crate::exits::refused;
-use fsrm_model::{Answer, Ledger, NoMemory, Outcome, Path, Refusal, Steps, allocated};
+use fsrm_model::{Answer, Ledger, NoMemory, Outcome, Path, Refusal, Steps};
 use std::alloc::Global;
 use volume_tree::{Finger, Tree};
 
@@ -40,7 +40,7 @@ fn visit<L: Ledger>(
         pending.extend_from_slice(tree.children(node, finger, steps))?;
         Ok(0)
     } else {
-        Ok(allocated(view.length))
+        Ok(tree.allocated(view.length))
     }
 }
 
@@ -52,7 +52,7 @@ pub fn usage_of<L: Ledger>(
     steps: &mut Steps<L>,
 ) -> Result<u64, NoMemory>
     requires volume { IsVolume tree.now.size tree.now.nodes }
-    requires legal { IsCapacity tree.now.size }
+    requires legal { is_capacity tree.now.size ≡ true }
     requires there { has_row key node tree.now.nodes ≡ true }
     ensures sum { IfOk result (λ bytes. bytes ≡ usage tree.now.size tree.now.nodes node) }
     ensures looks { steps.new ≤ steps.old + 3 * length (under tree.now.nodes node) }

@@ -1,24 +1,26 @@
--- Words are read as the command that they spell.
+-- Words are read as the command that they spell, and refused only as a line is.
 use Rattle.std.proofs.Common.{◌≡◌, ℕ, List, [], ◌∷◌, ◌++◌, Bool, true, false, refl, sym, ◌∙◌, ap, subst, inl, inr}
-use Rattle.std.specs.Prelude.{Ok, codes, Option, Some, None, unwrap_or}
+use Rattle.std.specs.Prelude.{Ok, ◌⊎◌, codes, map, not, Option, Some, None, option_map, if◌then◌else◌}
+use Rattle.std.specs.List.{list_all, list_any, AllByRecursion}
 use Rattle.std.specs.Str.{str_eq_ignore_ascii_case}
-use Rattle.std.proofs.lemmas.Bool.{cases_Bool}
-use Rattle.std.proofs.lemmas.List.{append-nil}
+use Rattle.std.proofs.lemmas.Bool.{and_parts, or_parts, cases_Bool, true≢false}
 use Rattle.fsrm_model.specs.declared.command.Command.{Command}
 use Rattle.fsrm_model.specs.declared.command.Deed.{Deed}
-use Rattle.fsrm_model.specs.declared.command.Deed.TheVariants.{File, Usage, Step, QuotaAdd, QuotaModify, QuotaDelete, QuotaScan, QuotaResetpeak, QuotaList}
+use Rattle.fsrm_model.specs.declared.command.Deed.TheVariants.{File, Usage, Step}
 use Rattle.fsrm_model.specs.declared.command.FileOp.TheVariants.{Mkdir, Create, Resize, Touch, Move, Remove}
 use Rattle.fsrm_model.specs.declared.command.Refusal.TheVariants.{BadLine}
 use Rattle.fsrm_model.specs.Limits.{latest_moment, longest_file, last_owner, most_visits}
-use Rattle.fsrm_model.specs.Line.{no_more, number_word, path_word, owner_word, length_word, mkdir_words, create_words, resize_words, touch_words, move_words, remove_words, usage_words, step_words, quota_add_words, quota_modify_words, quota_delete_words, quota_scan_words, quota_resetpeak_words, quota_list_words, Table, by_name, named_word, quota_table, dirquota_table, command_table, command_of}
-use Rattle.fsrm_model.specs.Options.{Key, ThePath, TheLimit, TheType, TheStatus, Given, nothing, options, required}
-use Rattle.fsrm_model.specs.Reading.{Read, ◌>>=◌, number_from, path_from}
-use Rattle.fsrm_model.specs.Spelling.{IsNamed, Writes, WritesPath, QuotaOption, PathIs, LimitIs, SpellsOptions, SpellsQuota, path_option, limit_option, type_option, status_option, SpellsDeed}
+use Rattle.fsrm_model.specs.Line.{no_more, number_word, path_word, owner_word, length_word, mkdir_words, create_words, resize_words, touch_words, move_words, remove_words, usage_words, step_words, Reader, named_word, option_words, tool_words, placed, tool_reader, readers, deed_words, command_of}
+use Rattle.fsrm_model.specs.Options.{options}
+use Rattle.fsrm_model.specs.Reading.{Read, ◌>>=◌, known, number_from, path_from}
+use Rattle.fsrm_model.specs.Spelling.{IsNamed, Writes, WritesPath, SpellsOptions, SpellsTool, SpellsPlaced, SpellsDeed}
+use Rattle.fsrm_model.specs.Tools.{Names, named, ToolCommand, tools}
 use Rattle.fsrm_model.specs.Words.{Word}
-use Rattle.fsrm_model.proofs.ReadLaws.{then_ok, both_ok, number_writes, number_reads}
+use Rattle.fsrm_model.proofs.LineValues.{AsLine, then_line, known_line, end_line, number_word_line, path_word_line, one_path_line, path_number_line, one_number_line}
+use Rattle.fsrm_model.proofs.OptionLaws.{options_spell, spelled_options, options_line}
 use Rattle.fsrm_model.proofs.PathLaws.{path_writes, path_reads}
+use Rattle.fsrm_model.proofs.ReadLaws.{then_ok, both_ok, number_writes, number_reads}
 use Rattle.fsrm_model.proofs.ValueLaws.{name_same, known_ok}
-use Rattle.fsrm_model.proofs.OptionLaws.{option_list, given_same, options_spelled, options_from, path_alone, takes_all, takes_path}
 use Rattle.fsrm_model.proofs.WordLaws.{texts}
 
 abbrev Path : Type 0
@@ -124,45 +126,39 @@ one_number_reads low high deed end given a n e w =
     let q = number_word_reads low high end given a [] n e w in
     then_ok (number_word low high end given) (n, q.0) (λ n. no_more n.1 (deed n.0)) q.1 ∙ no_more_reads q.0 (deed n) q.2
 
--- What words spell a deed, by a relation: what each command's words spell behind its name
-abbrev Relation : Type 1
-Relation = List (List ℕ) → Deed → Type 0
-
-abbrev SpelledBy : Relation → List ℕ → (ℕ → List Word → Read Deed) → Type 0
-SpelledBy S name reads = (word : Word) (end : ℕ) (given : List Word) (d : Deed) → IsNamed name word.text → reads end given ≡ Ok d → S (texts (word ∷ given)) d
-
-abbrev Spelled : List ℕ → (ℕ → List Word → Read Deed) → Type 0
-Spelled name reads = SpelledBy SpellsDeed name reads
+-- the words behind the name of a command whose words have their places
+abbrev Spelled : List ℕ → Reader → Type 0
+Spelled name reads = (word : Word) (end : ℕ) (given : List Word) (d : Deed) → IsNamed name word.text → reads end given ≡ Ok d → SpellsPlaced (texts (word ∷ given)) d
 
 mkdir_spells : Spelled (codes "mkdir") mkdir_words
 mkdir_spells word end given d named h =
     let s = path_number_spells 1 last_owner (λ path owner. File (Mkdir path owner)) end given d h in
-    subst (SpellsDeed (texts (word ∷ given))) s.7 (word.text, s.0, s.1, ap (λ (ts : List (List ℕ)). word.text ∷ ts) s.4, named, s.5, s.6)
+    subst (SpellsPlaced (texts (word ∷ given))) s.7 (word.text, s.0, s.1, ap (λ (ts : List (List ℕ)). word.text ∷ ts) s.4, named, s.5, s.6)
 
 resize_spells : Spelled (codes "resize") resize_words
 resize_spells word end given d named h =
     let s = path_number_spells 0 longest_file (λ path size. File (Resize path size)) end given d h in
-    subst (SpellsDeed (texts (word ∷ given))) s.7 (word.text, s.0, s.1, ap (λ (ts : List (List ℕ)). word.text ∷ ts) s.4, named, s.5, s.6)
+    subst (SpellsPlaced (texts (word ∷ given))) s.7 (word.text, s.0, s.1, ap (λ (ts : List (List ℕ)). word.text ∷ ts) s.4, named, s.5, s.6)
 
 touch_spells : Spelled (codes "touch") touch_words
 touch_spells word end given d named h =
     let s = one_path_spells (λ path. File (Touch path)) end given d h in
-    subst (SpellsDeed (texts (word ∷ given))) s.4 (word.text, s.0, ap (λ (ts : List (List ℕ)). word.text ∷ ts) s.2, named, s.3)
+    subst (SpellsPlaced (texts (word ∷ given))) s.4 (word.text, s.0, ap (λ (ts : List (List ℕ)). word.text ∷ ts) s.2, named, s.3)
 
 remove_spells : Spelled (codes "remove") remove_words
 remove_spells word end given d named h =
     let s = one_path_spells (λ path. File (Remove path)) end given d h in
-    subst (SpellsDeed (texts (word ∷ given))) s.4 (word.text, s.0, ap (λ (ts : List (List ℕ)). word.text ∷ ts) s.2, named, s.3)
+    subst (SpellsPlaced (texts (word ∷ given))) s.4 (word.text, s.0, ap (λ (ts : List (List ℕ)). word.text ∷ ts) s.2, named, s.3)
 
 usage_spells : Spelled (codes "usage") usage_words
 usage_spells word end given d named h =
     let s = one_path_spells (λ path. Usage path) end given d h in
-    subst (SpellsDeed (texts (word ∷ given))) s.4 (word.text, s.0, ap (λ (ts : List (List ℕ)). word.text ∷ ts) s.2, named, s.3)
+    subst (SpellsPlaced (texts (word ∷ given))) s.4 (word.text, s.0, ap (λ (ts : List (List ℕ)). word.text ∷ ts) s.2, named, s.3)
 
 step_spells : Spelled (codes "step") step_words
 step_spells word end given d named h =
     let s = one_number_spells 1 most_visits (λ n. Step n) end given d h in
-    subst (SpellsDeed (texts (word ∷ given))) s.4 (word.text, s.0, ap (λ (ts : List (List ℕ)). word.text ∷ ts) s.2, named, s.3)
+    subst (SpellsPlaced (texts (word ∷ given))) s.4 (word.text, s.0, ap (λ (ts : List (List ℕ)). word.text ∷ ts) s.2, named, s.3)
 
 move_spells : Spelled (codes "move") move_words
 move_spells word end given d named h =
@@ -172,7 +168,7 @@ move_spells word end given d named h =
     let a = path_word_writes end given from.0 from.1 in
     let b = path_word_writes end from.0.1 to.0 to.1 in
     let words : given ≡ a.word ∷ b.word ∷ [] = behind_word a.word a.given_is (behind_word b.word b.given_is last.0) in
-    subst (SpellsDeed (texts (word ∷ given))) last.1 (word.text, a.word.text, b.word.text, ap (λ (ws : List Word). texts (word ∷ ws)) words, named, a.writes, b.writes)
+    subst (SpellsPlaced (texts (word ∷ given))) last.1 (word.text, a.word.text, b.word.text, ap (λ (ws : List Word). texts (word ∷ ws)) words, named, a.writes, b.writes)
 
 create_spells : Spelled (codes "create") create_words
 create_spells word end given d named h =
@@ -185,134 +181,223 @@ create_spells word end given d named h =
     let c = number_word_writes 1 last_owner end size.0.1 owner.0 owner.1 in
     let rest : size.0.1 ≡ c.word ∷ [] = behind_word c.word c.given_is last.0 in
     let words : given ≡ a.word ∷ b.word ∷ c.word ∷ [] = behind_word a.word a.given_is (behind_word b.word b.given_is rest) in
-    subst (SpellsDeed (texts (word ∷ given))) last.1 (word.text, a.word.text, b.word.text, c.word.text, ap (λ (ws : List Word). texts (word ∷ ws)) words, named, a.writes, b.writes, c.writes)
+    subst (SpellsPlaced (texts (word ∷ given))) last.1 (word.text, a.word.text, b.word.text, c.word.text, ap (λ (ws : List Word). texts (word ∷ ws)) words, named, a.writes, b.writes, c.writes)
 
--- and so the words behind any name of a table whose rows do
-abbrev EachSpelled : Relation → Table → Type 0
-EachSpelled S [] = Unit {0}
-EachSpelled S (row ∷ rows) = SpelledBy S row.0 row.1 × EachSpelled S rows
+-- they are refused as a line is
+abbrev ReadsLine : Reader → Type 0
+ReadsLine reads = (end : ℕ) (given : List Word) → AsLine (reads end given)
 
-pub row_named : (row : List ℕ × (ℕ → List Word → Read Deed)) (rows : Table) (word : Word) (end : ℕ) (given : List Word) → IsNamed row.0 word.text → by_name (row ∷ rows) word end given ≡ row.1 end given
-row_named row rows word end given h = rw (h, by_name) refl
+create_line : ReadsLine create_words
+create_line end given =
+    then_line (path_word end given) (λ path. length_word end path.1 >>= λ size. owner_word end size.1 >>= λ owner. no_more owner.1 (File (Create path.0 size.0 owner.0))) (path_word_line end given)
+    (λ path. then_line (length_word end path.1) (λ size. owner_word end size.1 >>= λ owner. no_more owner.1 (File (Create path.0 size.0 owner.0))) (number_word_line 0 longest_file end path.1)
+    (λ size. then_line (owner_word end size.1) (λ owner. no_more owner.1 (File (Create path.0 size.0 owner.0))) (number_word_line 1 last_owner end size.1)
+    (λ owner. end_line owner.1 (File (Create path.0 size.0 owner.0)))))
 
-pub row_other : (row : List ℕ × (ℕ → List Word → Read Deed)) (rows : Table) (word : Word) (end : ℕ) (given : List Word) → str_eq_ignore_ascii_case row.0 word.text ≡ false → by_name (row ∷ rows) word end given ≡ by_name rows word end given
-row_other row rows word end given h = rw (h, by_name) refl
+move_line : ReadsLine move_words
+move_line end given =
+    then_line (path_word end given) (λ from. path_word end from.1 >>= λ to. no_more to.1 (File (Move from.0 to.0))) (path_word_line end given)
+    (λ from. then_line (path_word end from.1) (λ to. no_more to.1 (File (Move from.0 to.0))) (path_word_line end from.1) (λ to. end_line to.1 (File (Move from.0 to.0))))
 
-table_spells : (S : Relation) (rows : Table) → EachSpelled S rows → (word : Word) (end : ℕ) (given : List Word) (d : Deed) → by_name rows word end given ≡ Ok d → S (texts (word ∷ given)) d
-table_spells S [] each word end given d h = absurd (cc h)
-table_spells S (row ∷ rows) each word end given d h = elim (cases_Bool (str_eq_ignore_ascii_case row.0 word.text)) [
-  | inl named ↦ each.0 word end given d named (sym (row_named row rows word end given named) ∙ h)
-  | inr other ↦ table_spells S rows each.1 word end given d (sym (row_other row rows word end given other) ∙ h)
+-- what is known of each reader, one tuple for all
+record IsReader (row : List ℕ × Reader) : Type 0 where
+  spells : Spelled row.0 row.1
+  line : ReadsLine row.1
+
+placed_readers : AllByRecursion IsReader placed
+placed_readers = (
+  record { spells = mkdir_spells; line = path_number_line 1 last_owner (λ path owner. File (Mkdir path owner)) },
+  (
+    record { spells = create_spells; line = create_line },
+    (
+      record { spells = resize_spells; line = path_number_line 0 longest_file (λ path size. File (Resize path size)) },
+      (
+        record { spells = touch_spells; line = one_path_line (λ path. File (Touch path)) },
+        (
+          record { spells = move_spells; line = move_line },
+          (
+            record { spells = remove_spells; line = one_path_line (λ path. File (Remove path)) },
+            (
+              record { spells = usage_spells; line = one_path_line (λ path. Usage path) },
+              (record { spells = step_spells; line = one_number_line 1 most_visits (λ n. Step n) }, tt),
+            ),
+          ),
+        ),
+      ),
+    ),
+  ),
+)
+
+-- what is known of each name of names is known of the one that a text has
+pub named_each : {X : Type 0} (P : List ℕ × X → Type 0) (names : Names X) (text : List ℕ) (x : X) → AllByRecursion P names → named names text ≡ Some x → (name : List ℕ) × IsNamed name text × P (name, x)
+named_each P [] text x each h = absurd (cc h)
+named_each {X} P (row ∷ rows) text x each h = elim (cases_Bool (str_eq_ignore_ascii_case row.0 text)) [
+  | inl is ↦
+      let found = rw is at h in
+      let same : row.1 ≡ x = cc found in
+      (row.0, is, subst (λ (y : X). P (row.0, y)) same each.0)
+  | inr other ↦ let found = rw other at h in named_each P rows text x each.1 found
 ]
 
-named_spells : (S : Relation) (rows : Table) → EachSpelled S rows → (end : ℕ) (given : List Word) (d : Deed) → named_word rows end given ≡ Ok d → S (texts given) d
-named_spells S rows each end [] d h = absurd (cc h)
-named_spells S rows each end (word ∷ given) d h = table_spells S rows each word end given d h
+-- names of which none is the text's stand before others
+named-append : {X : Type 0} (xs ys : Names X) (text : List ℕ) → named xs text ≡ None → named (xs ++ ys) text ≡ named ys text
+named-append [] ys text h = refl
+named-append (row ∷ rows) ys text h = elim (cases_Bool (str_eq_ignore_ascii_case row.0 text)) [
+  | inl is ↦ let found = rw is at h in absurd (cc found)
+  | inr other ↦ let rest = rw other at h in rw other (named-append rows ys text rest)
+]
 
--- the commands on quotas, behind their first two names
-abbrev all_keys : List Key
-all_keys = ThePath ∷ TheLimit ∷ TheType ∷ TheStatus ∷ []
-
-required_ok : {X : Type 0} (end : ℕ) (o : Option X) (x : X) → required end o ≡ Ok x → o ≡ Some x
-required_ok end o x h = known_ok (BadLine end) o x h
-
-abbrev Behind : List ℕ → List ℕ → Relation
-Behind a b words d = SpellsDeed (a ∷ b ∷ words) d
-
-abbrev QuotaSpelled : List ℕ → (ℕ → List Word → Read Deed) → Type 0
-QuotaSpelled name reads = (a b : List ℕ) → IsNamed (codes "dirquota") a → IsNamed (codes "quota") b → SpelledBy (Behind a b) name reads
-
--- what was given, with a path that is there
-list_at : (given : Given) (path : Option Path) (limit : Option ℕ) (enforce enabled : Option Bool) (words : List (List ℕ)) → given.path ≡ path → given.limit ≡ limit → given.enforce ≡ enforce → given.enabled ≡ enabled → SpellsOptions words (option_list given) → SpellsOptions words (option_list (record { path = path; limit = limit; enforce = enforce; enabled = enabled }))
-list_at given path limit enforce enabled words p l t e s =
-    subst (SpellsOptions words) (ap option_list (given_same given (record { path = path; limit = limit; enforce = enforce; enabled = enabled }) p l t e)) s
-
-add_spells : QuotaSpelled (codes "add") quota_add_words
-add_spells a b first second word end words d named h =
-    let given = both_ok (options all_keys words nothing) (λ given. required end given.path >>= λ path. required end given.limit >>= λ limit. Ok (QuotaAdd path limit (unwrap_or given.enforce true) (unwrap_or given.enabled true))) d h in
-    let path = both_ok (required end given.0.path) (λ path. required end given.0.limit >>= λ limit. Ok (QuotaAdd path limit (unwrap_or given.0.enforce true) (unwrap_or given.0.enabled true))) d given.2 in
-    let limit = both_ok (required end given.0.limit) (λ limit. Ok (QuotaAdd path.0 limit (unwrap_or given.0.enforce true) (unwrap_or given.0.enabled true))) d path.2 in
-    let made : QuotaAdd path.0 limit.0 (unwrap_or given.0.enforce true) (unwrap_or given.0.enabled true) ≡ d = cc limit.2 in
-    let s = list_at given.0 (Some path.0) (Some limit.0) given.0.enforce given.0.enabled (texts words) (required_ok end given.0.path path.0 path.1) (required_ok end given.0.limit limit.0 limit.1) refl refl (options_spelled all_keys words given.0 given.1) in
-    subst (Behind a b (texts (word ∷ words))) made (given.0.enforce, given.0.enabled, refl, refl, (a, b, word.text, texts words, refl, first, second, named, s))
-
-modify_spells : QuotaSpelled (codes "modify") quota_modify_words
-modify_spells a b first second word end words d named h =
-    let given = both_ok (options all_keys words nothing) (λ given. required end given.path >>= λ path. Ok (QuotaModify path given.limit given.enforce given.enabled)) d h in
-    let path = both_ok (required end given.0.path) (λ path. Ok (QuotaModify path given.0.limit given.0.enforce given.0.enabled)) d given.2 in
-    let made : QuotaModify path.0 given.0.limit given.0.enforce given.0.enabled ≡ d = cc path.2 in
-    let s = list_at given.0 (Some path.0) given.0.limit given.0.enforce given.0.enabled (texts words) (required_ok end given.0.path path.0 path.1) refl refl refl (options_spelled all_keys words given.0 given.1) in
-    subst (Behind a b (texts (word ∷ words))) made (a, b, word.text, texts words, refl, first, second, named, s)
-
--- a command that takes a path alone
-path_options : (words : List Word) (given : Given) → options (ThePath ∷ []) words nothing ≡ Ok given → SpellsOptions (texts words) (path_option given.path ++ [])
-path_options words given h =
-    let alone = path_alone words nothing given h in
-    list_at given given.path None None None (texts words) refl alone.0 alone.1 alone.2 (options_spelled (ThePath ∷ []) words given h)
-
-one_required : (deed : Path → Deed) (end : ℕ) (words : List Word) (d : Deed) → (options (ThePath ∷ []) words nothing >>= λ given. required end given.path >>= λ path. Ok (deed path)) ≡ Ok d → (path : Path) × (SpellsOptions (texts words) (PathIs path ∷ [])) × (deed path ≡ d)
-one_required deed end words d h =
-    let given = both_ok (options (ThePath ∷ []) words nothing) (λ given. required end given.path >>= λ path. Ok (deed path)) d h in
-    let path = both_ok (required end given.0.path) (λ path. Ok (deed path)) d given.2 in
-    let there = required_ok end given.0.path path.0 path.1 in
-    (path.0, subst (λ (o : Option Path). SpellsOptions (texts words) (path_option o ++ [])) there (path_options words given.0 given.1), cc path.2)
-
-delete_spells : QuotaSpelled (codes "delete") quota_delete_words
-delete_spells a b first second word end words d named h =
-    let s = one_required (λ path. QuotaDelete path) end words d h in
-    subst (Behind a b (texts (word ∷ words))) s.2 (a, b, word.text, texts words, refl, first, second, named, s.1)
-
-scan_spells : QuotaSpelled (codes "scan") quota_scan_words
-scan_spells a b first second word end words d named h =
-    let s = one_required (λ path. QuotaScan path) end words d h in
-    subst (Behind a b (texts (word ∷ words))) s.2 (a, b, word.text, texts words, refl, first, second, named, s.1)
-
-resetpeak_spells : QuotaSpelled (codes "resetpeak") quota_resetpeak_words
-resetpeak_spells a b first second word end words d named h =
-    let s = one_required (λ path. QuotaResetpeak path) end words d h in
-    subst (Behind a b (texts (word ∷ words))) s.2 (a, b, word.text, texts words, refl, first, second, named, s.1)
-
-list_spells : QuotaSpelled (codes "list") quota_list_words
-list_spells a b first second word end words d named h =
-    let given = both_ok (options (ThePath ∷ []) words nothing) (λ given. Ok (QuotaList given.path)) d h in
-    let made : QuotaList given.0.path ≡ d = cc given.2 in
-    let s = subst (SpellsOptions (texts words)) (append-nil (path_option given.0.path)) (path_options words given.0 given.1) in
-    subst (Behind a b (texts (word ∷ words))) made (a, b, word.text, texts words, refl, first, second, named, s)
-
-quota_spells : (a : List ℕ) → IsNamed (codes "dirquota") a → SpelledBy (λ words d. SpellsDeed (a ∷ words) d) (codes "quota") (named_word quota_table)
-quota_spells a first word end given d named h =
-    named_spells (Behind a word.text) quota_table
-    (add_spells a word.text first named, (modify_spells a word.text first named, (delete_spells a word.text first named, (scan_spells a word.text first named, (resetpeak_spells a word.text first named, (list_spells a word.text first named, tt))))))
-    end given d h
-
-dirquota_spells : Spelled (codes "dirquota") (named_word dirquota_table)
-dirquota_spells word end given d named h =
-    named_spells (λ words d. SpellsDeed (word.text ∷ words) d) dirquota_table (quota_spells word.text named, tt) end given d h
-
-deed_spells : (end : ℕ) (given : List Word) (d : Deed) → named_word command_table end given ≡ Ok d → SpellsDeed (texts given) d
-deed_spells = named_spells SpellsDeed command_table (mkdir_spells, (create_spells, (resize_spells, (touch_spells, (move_spells, (remove_spells, (usage_spells, (step_spells, (dirquota_spells, tt)))))))))
+named_front : {X : Type 0} (xs ys : Names X) (text : List ℕ) (x : X) → named xs text ≡ Some x → named (xs ++ ys) text ≡ Some x
+named_front [] ys text x h = absurd (cc h)
+named_front (row ∷ rows) ys text x h = elim (cases_Bool (str_eq_ignore_ascii_case row.0 text)) [
+  | inl is ↦ let found = rw is at h in rw is found
+  | inr other ↦ let rest = rw other at h in rw other (named_front rows ys text x rest)
+]
 
 -- a name is read as the table's own spelling of it
-abbrev spelled_as : List ℕ → Word → Word
-spelled_as name word = record { column = word.column; text = name }
+named_same : {X : Type 0} (names : Names X) (name text : List ℕ) → IsNamed name text → named names text ≡ named names name
+named_same [] name text is = refl
+named_same {X} (row ∷ rows) name text is =
+    ap (λ (b : Bool). if b then Some row.1 else named rows text) (name_same row.0 name text is)
+    ∙ ap (λ (o : Option X). if str_eq_ignore_ascii_case row.0 name then Some row.1 else o) (named_same rows name text is)
 
-by_name_same : (rows : Table) (name : List ℕ) (word : Word) (end : ℕ) (given : List Word) → IsNamed name word.text → by_name rows word end given ≡ by_name rows (spelled_as name word) end given
-by_name_same [] name word end given named = refl
-by_name_same (row ∷ rows) name word end given named =
-    let test = name_same row.0 name word.text named in
-    let own = spelled_as name word in
-    elim (cases_Bool (str_eq_ignore_ascii_case row.0 name)) [
-      | inl is ↦ row_named row rows word end given (test ∙ is) ∙ sym (row_named row rows own end given is)
-      | inr other ↦ row_other row rows word end given (test ∙ other) ∙ by_name_same rows name word end given named ∙ sym (row_other row rows own end given other)
+-- the tools' names, as readers have them
+named_tools : (rows : Names (Names (Names ToolCommand))) (text : List ℕ) → named (map tool_reader rows) text ≡ option_map tool_words (named rows text)
+named_tools [] text = refl
+named_tools (row ∷ rows) text = elim (cases_Bool (str_eq_ignore_ascii_case row.0 text)) [
+  | inl is ↦ rw is refl
+  | inr other ↦ rw other (named_tools rows text)
+]
+
+-- no tool has the name of another command
+abbrev IsApart : List ℕ × Names (Names ToolCommand) → Type 0
+IsApart tool = named placed tool.0 ≡ None
+
+tools_apart : AllByRecursion IsApart tools
+tools_apart = (refl, tt)
+
+tool_read : (text : List ℕ) (objects : Names (Names ToolCommand)) → named tools text ≡ Some objects → named readers text ≡ Some (tool_words objects)
+tool_read text objects h =
+    let found = named_each IsApart tools text objects tools_apart h in
+    named-append placed (map tool_reader tools) text (named_same placed found.0 text found.1 ∙ found.2)
+    ∙ named_tools tools text
+    ∙ ap (option_map tool_words) h
+
+-- a name that stands for a reader: that of a command whose words have their places, or that of a tool
+record ByPlace (text : List ℕ) (reader : Reader) : Type 0 where
+  name : List ℕ
+  is : IsNamed name text
+  own : IsReader (name, reader)
+
+record ByTool (text : List ℕ) (reader : Reader) : Type 0 where
+  objects : Names (Names ToolCommand)
+  is : named tools text ≡ Some objects
+  own : tool_words objects ≡ reader
+
+reader_found : (text : List ℕ) (reader : Reader) → named readers text ≡ Some reader → ByPlace text reader ⊎ ByTool text reader
+reader_found text reader h = at (named placed text) refl
+  where
+    by_tool : (o : Option (Names (Names ToolCommand))) → named tools text ≡ o → option_map tool_words o ≡ Some reader → ByTool text reader
+    by_tool None e f = absurd (cc f)
+    by_tool (Some objects) e f = record { objects = objects; is = e; own = cc f }
+
+    at : (o : Option Reader) → named placed text ≡ o → ByPlace text reader ⊎ ByTool text reader
+    at (Some own) e =
+        let same : own ≡ reader = cc (sym (named_front placed (map tool_reader tools) text own e) ∙ h) in
+        let found = named_each IsReader placed text own placed_readers e in
+        inl (record { name = found.0; is = found.1; own = subst (λ (r : Reader). IsReader (found.0, r)) same found.2 })
+    at None e = inr (by_tool (named tools text) refl (sym (named-append placed (map tool_reader tools) text e ∙ named_tools tools text) ∙ h))
+
+-- the next word's name
+record NextName {X : Type 0} (names : Names X) (given : List Word) (next : X → List Word → Read Deed) (d : Deed) : Type 0 where
+  word : Word
+  own : X
+  more : List Word
+  given_is : given ≡ word ∷ more
+  own_is : named names word.text ≡ Some own
+  read : next own more ≡ Ok d
+
+named_word_is : {X : Type 0} (names : Names X) (end : ℕ) (given : List Word) (next : X → List Word → Read Deed) (d : Deed) → named_word names end given next ≡ Ok d → NextName names given next d
+named_word_is names end [] next d h = absurd (cc h)
+named_word_is names end (word ∷ more) next d h =
+    let found = both_ok (known (BadLine word.column) (named names word.text)) (λ own. next own more) d h in
+    record { word = word; own = found.0; more = more; given_is = refl; own_is = known_ok (BadLine word.column) (named names word.text) found.0 found.1; read = found.2 }
+
+named_word_reads : {X : Type 0} (names : Names X) (end : ℕ) (given : List Word) (next : X → List Word → Read Deed) (text : List ℕ) (behind : List (List ℕ)) (own : X) → texts given ≡ text ∷ behind → named names text ≡ Some own → (more : List Word) × (named_word names end given next ≡ next own more) × (texts more ≡ behind)
+named_word_reads names end [] next text behind own e h = absurd (cc e)
+named_word_reads {X} names end (word ∷ more) next text behind own e h =
+    let same : word.text ≡ text = cc e in
+    let here : named names word.text ≡ Some own = ap (named names) same ∙ h in
+    (more, ap (λ (o : Option X). known (BadLine word.column) o >>= λ own. next own more) here, cc e)
+
+named_word_line : {X : Type 0} (names : Names X) (end : ℕ) (given : List Word) (next : X → List Word → Read Deed) → ((text : List ℕ) (own : X) (more : List Word) → named names text ≡ Some own → AsLine (next own more)) → AsLine (named_word names end given next)
+named_word_line names end [] next h = refl
+named_word_line {X} names end (word ∷ more) next h = at (named names word.text) refl
+  where
+    at : (o : Option X) → named names word.text ≡ o → AsLine (known (BadLine word.column) o >>= λ own. next own more)
+    at None e = refl
+    at (Some own) e = h word.text own more e
+
+-- the words behind a tool's name
+abbrev tool_next : ℕ → Names ToolCommand → List Word → Read Deed
+tool_next end commands words = named_word commands end words (λ command words. option_words command end words)
+
+tool_spells : (word : Word) (objects : Names (Names ToolCommand)) (end : ℕ) (given : List Word) (d : Deed) → named tools word.text ≡ Some objects → tool_words objects end given ≡ Ok d → SpellsTool (texts (word ∷ given)) d
+tool_spells word objects end given d tool h =
+    let object = named_word_is objects end given (tool_next end) d h in
+    let command = named_word_is object.own end object.more (λ command words. option_words command end words) d object.read in
+    let read = both_ok (options command.own.keys command.more []) (λ given. known (BadLine end) (command.own.deed given)) d command.read in
+    record {
+      tool = word.text;
+      object = object.word.text;
+      command = command.word.text;
+      rest = texts command.more;
+      words_are = ap (λ (ws : List Word). texts (word ∷ ws)) (behind_word object.word object.given_is command.given_is);
+      objects = objects;
+      commands = object.own;
+      own = command.own;
+      tool_is = tool;
+      object_is = object.own_is;
+      command_is = command.own_is;
+      given = read.0;
+      options_are = options_spell command.own.keys command.more read.0 read.1;
+      deed_is = known_ok (BadLine end) (command.own.deed read.0) d read.2;
+    }
+
+tool_reads : (end : ℕ) (given : List Word) (d : Deed) → SpellsTool (texts given) d → deed_words end given ≡ Ok d
+tool_reads end given d s =
+    let a = named_word_reads readers end given (λ reader words. reader end words) s.tool (s.object ∷ s.command ∷ s.rest) (tool_words s.objects) s.words_are (tool_read s.tool s.objects s.tool_is) in
+    let b = named_word_reads s.objects end a.0 (tool_next end) s.object (s.command ∷ s.rest) s.commands a.2 s.object_is in
+    let c = named_word_reads s.commands end b.0 (λ command words. option_words command end words) s.command s.rest s.own b.2 s.command_is in
+    let given_are = spelled_options s.own.keys c.0 s.given (subst (λ (ts : List (List ℕ)). SpellsOptions s.own.keys ts s.given) (sym c.2) s.options_are) in
+    a.1 ∙ b.1 ∙ c.1
+    ∙ then_ok (options s.own.keys c.0 []) s.given (λ given. known (BadLine end) (s.own.deed given)) given_are
+    ∙ ap (λ (o : Option Deed). known (BadLine end) o) s.deed_is
+
+tool_line : (objects : Names (Names ToolCommand)) → ReadsLine (tool_words objects)
+tool_line objects end given =
+    named_word_line objects end given (tool_next end) (λ text commands words found.
+    named_word_line commands end words (λ command words. option_words command end words) (λ text command words found.
+    then_line (options command.keys words []) (λ given. known (BadLine end) (command.deed given)) (options_line command.keys words [])
+    (λ given. known_line (BadLine end) (command.deed given) refl)))
+
+-- words that are read as a deed spell it
+deed_spells : (end : ℕ) (given : List Word) (d : Deed) → deed_words end given ≡ Ok d → SpellsDeed (texts given) d
+deed_spells end given d h =
+    let name = named_word_is readers end given (λ reader words. reader end words) d h in
+    elim (reader_found name.word.text name.own name.own_is) [
+      | inl place ↦ inl (subst (λ (ws : List Word). SpellsPlaced (texts ws) d) (sym name.given_is) (place.own.spells name.word end name.more d place.is name.read))
+      | inr tool ↦
+          let read : tool_words tool.objects end name.more ≡ Ok d = ap (λ (r : Reader). r end name.more) tool.own ∙ name.read in
+          inr (subst (λ (ws : List Word). SpellsTool (texts ws) d) (sym name.given_is) (tool_spells name.word tool.objects end name.more d tool.is read))
     ]
 
--- the words behind a name, read by its command
-behind_name : (rows : Table) (name : List ℕ) (reads : ℕ → List Word → Read Deed) (end : ℕ) (given : List Word) (text : List ℕ) (behind : List (List ℕ)) → texts given ≡ text ∷ behind → IsNamed name text → ((word : Word) (end : ℕ) (more : List Word) → by_name rows (spelled_as name word) end more ≡ reads end more) → (more : List Word) × (named_word rows end given ≡ reads end more) × (texts more ≡ behind)
-behind_name rows name reads end [] text behind e named computes = absurd (cc e)
-behind_name rows name reads end (word ∷ more) text behind e named computes =
-    let same : word.text ≡ text = cc e in
-    let here : IsNamed name word.text = subst (IsNamed name) (sym same) named in
-    (more, by_name_same rows name word end more here ∙ computes word end more, cc e)
+deed_line : ReadsLine deed_words
+deed_line end given =
+    named_word_line readers end given (λ reader words. reader end words) (λ text reader words found. elim (reader_found text reader found) [
+      | inl place ↦ place.own.line end words
+      | inr tool ↦ subst (λ (r : Reader). AsLine (r end words)) tool.own (tool_line tool.objects end words)
+    ])
 
 create_reads : (end : ℕ) (given : List Word) (a b c : List ℕ) (path : Path) (size owner : ℕ) → texts given ≡ a ∷ b ∷ c ∷ [] → WritesPath a path → Writes 0 longest_file b size → Writes 1 last_owner c owner → create_words end given ≡ Ok (File (Create path size owner))
 create_reads end given a b c path size owner e w v u =
@@ -332,77 +417,42 @@ move_reads end given a b from to e w v =
     ∙ then_ok (path_word end p.0) (to, q.0) (λ to. no_more to.1 (File (Move from to.0))) q.1
     ∙ no_more_reads q.0 (File (Move from to)) q.2
 
--- the options behind three names
-record QuotaRead (words : List Word) (end : ℕ) (reads : ℕ → List Word → Read Deed) (wanted : List QuotaOption) : Type 0 where
-  more : List Word
-  read : named_word command_table end words ≡ reads end more
-  spelled : SpellsOptions (texts more) wanted
+-- a command whose words have their places is read from those behind its name
+placed_word : (name : List ℕ) (reads : Reader) (end : ℕ) (given : List Word) (text : List ℕ) (behind : List (List ℕ)) → texts given ≡ text ∷ behind → IsNamed name text → named readers name ≡ Some reads → (more : List Word) × (deed_words end given ≡ reads end more) × (texts more ≡ behind)
+placed_word name reads end given text behind e is own =
+    named_word_reads readers end given (λ reader words. reader end words) text behind reads e (named_same readers name text is ∙ own)
 
-quota_read : (name : List ℕ) (reads : ℕ → List Word → Read Deed) (end : ℕ) (words : List Word) (wanted : List QuotaOption) → ((word : Word) (end : ℕ) (more : List Word) → by_name quota_table (spelled_as name word) end more ≡ reads end more) → SpellsQuota (texts words) name wanted → QuotaRead words end reads wanted
-quota_read name reads end words wanted computes s =
-    let a = behind_name command_table (codes "dirquota") (named_word dirquota_table) end words s.0 (s.1 ∷ s.2 ∷ s.3) s.4 s.5 (λ word end more. refl) in
-    let b = behind_name dirquota_table (codes "quota") (named_word quota_table) end a.0 s.1 (s.2 ∷ s.3) a.2 s.6 (λ word end more. refl) in
-    let c = behind_name quota_table name reads end b.0 s.2 s.3 b.2 s.7 computes in
-    record { more = c.0; read = a.1 ∙ b.1 ∙ c.1; spelled = subst (λ (ts : List (List ℕ)). SpellsOptions ts wanted) (sym c.2) s.8 }
-
-path_from_options : (path : Option Path) (words : List Word) → SpellsOptions (texts words) (path_option path) → options (ThePath ∷ []) words nothing ≡ Ok (record { path = path; limit = None; enforce = None; enabled = None })
-path_from_options path words s =
-    options_from (ThePath ∷ []) words (record { path = path; limit = None; enforce = None; enabled = None }) (takes_path path) (subst (SpellsOptions (texts words)) (sym (append-nil (path_option path))) s)
-
-one_required_reads : (deed : Path → Deed) (end : ℕ) (words : List Word) (path : Path) → SpellsOptions (texts words) (PathIs path ∷ []) → (options (ThePath ∷ []) words nothing >>= λ given. required end given.path >>= λ path. Ok (deed path)) ≡ Ok (deed path)
-one_required_reads deed end words path s =
-    then_ok (options (ThePath ∷ []) words nothing) (record { path = Some path; limit = None; enforce = None; enabled = None }) (λ given. required end given.path >>= λ path. Ok (deed path)) (path_from_options (Some path) words s)
+placed_reads : (end : ℕ) (given : List Word) (d : Deed) → SpellsPlaced (texts given) d → deed_words end given ≡ Ok d
+placed_reads end given (File (Mkdir path owner)) s =
+    let r = placed_word (codes "mkdir") mkdir_words end given s.0 (s.1 ∷ s.2 ∷ []) s.3 s.4 refl in
+    r.1 ∙ path_number_reads 1 last_owner (λ path owner. File (Mkdir path owner)) end r.0 s.1 s.2 path owner r.2 s.5 s.6
+placed_reads end given (File (Create path size owner)) s =
+    let r = placed_word (codes "create") create_words end given s.0 (s.1 ∷ s.2 ∷ s.3 ∷ []) s.4 s.5 refl in
+    r.1 ∙ create_reads end r.0 s.1 s.2 s.3 path size owner r.2 s.6 s.7 s.8
+placed_reads end given (File (Resize path size)) s =
+    let r = placed_word (codes "resize") resize_words end given s.0 (s.1 ∷ s.2 ∷ []) s.3 s.4 refl in
+    r.1 ∙ path_number_reads 0 longest_file (λ path size. File (Resize path size)) end r.0 s.1 s.2 path size r.2 s.5 s.6
+placed_reads end given (File (Touch path)) s =
+    let r = placed_word (codes "touch") touch_words end given s.0 (s.1 ∷ []) s.2 s.3 refl in
+    r.1 ∙ one_path_reads (λ path. File (Touch path)) end r.0 s.1 path r.2 s.4
+placed_reads end given (File (Move from to)) s =
+    let r = placed_word (codes "move") move_words end given s.0 (s.1 ∷ s.2 ∷ []) s.3 s.4 refl in
+    r.1 ∙ move_reads end r.0 s.1 s.2 from to r.2 s.5 s.6
+placed_reads end given (File (Remove path)) s =
+    let r = placed_word (codes "remove") remove_words end given s.0 (s.1 ∷ []) s.2 s.3 refl in
+    r.1 ∙ one_path_reads (λ path. File (Remove path)) end r.0 s.1 path r.2 s.4
+placed_reads end given (Usage path) s =
+    let r = placed_word (codes "usage") usage_words end given s.0 (s.1 ∷ []) s.2 s.3 refl in
+    r.1 ∙ one_path_reads (λ path. Usage path) end r.0 s.1 path r.2 s.4
+placed_reads end given (Step n) s =
+    let r = placed_word (codes "step") step_words end given s.0 (s.1 ∷ []) s.2 s.3 refl in
+    r.1 ∙ one_number_reads 1 most_visits (λ n. Step n) end r.0 s.1 n r.2 s.4
+placed_reads end given other s = absurd s
 
 -- words that spell a deed are read as it
-deed_reads : (end : ℕ) (given : List Word) (d : Deed) → SpellsDeed (texts given) d → named_word command_table end given ≡ Ok d
-deed_reads end given (File (Mkdir path owner)) s =
-    let r = behind_name command_table (codes "mkdir") mkdir_words end given s.0 (s.1 ∷ s.2 ∷ []) s.3 s.4 (λ word end more. refl) in
-    r.1 ∙ path_number_reads 1 last_owner (λ path owner. File (Mkdir path owner)) end r.0 s.1 s.2 path owner r.2 s.5 s.6
-deed_reads end given (File (Create path size owner)) s =
-    let r = behind_name command_table (codes "create") create_words end given s.0 (s.1 ∷ s.2 ∷ s.3 ∷ []) s.4 s.5 (λ word end more. refl) in
-    r.1 ∙ create_reads end r.0 s.1 s.2 s.3 path size owner r.2 s.6 s.7 s.8
-deed_reads end given (File (Resize path size)) s =
-    let r = behind_name command_table (codes "resize") resize_words end given s.0 (s.1 ∷ s.2 ∷ []) s.3 s.4 (λ word end more. refl) in
-    r.1 ∙ path_number_reads 0 longest_file (λ path size. File (Resize path size)) end r.0 s.1 s.2 path size r.2 s.5 s.6
-deed_reads end given (File (Touch path)) s =
-    let r = behind_name command_table (codes "touch") touch_words end given s.0 (s.1 ∷ []) s.2 s.3 (λ word end more. refl) in
-    r.1 ∙ one_path_reads (λ path. File (Touch path)) end r.0 s.1 path r.2 s.4
-deed_reads end given (File (Move from to)) s =
-    let r = behind_name command_table (codes "move") move_words end given s.0 (s.1 ∷ s.2 ∷ []) s.3 s.4 (λ word end more. refl) in
-    r.1 ∙ move_reads end r.0 s.1 s.2 from to r.2 s.5 s.6
-deed_reads end given (File (Remove path)) s =
-    let r = behind_name command_table (codes "remove") remove_words end given s.0 (s.1 ∷ []) s.2 s.3 (λ word end more. refl) in
-    r.1 ∙ one_path_reads (λ path. File (Remove path)) end r.0 s.1 path r.2 s.4
-deed_reads end given (Usage path) s =
-    let r = behind_name command_table (codes "usage") usage_words end given s.0 (s.1 ∷ []) s.2 s.3 (λ word end more. refl) in
-    r.1 ∙ one_path_reads (λ path. Usage path) end r.0 s.1 path r.2 s.4
-deed_reads end given (Step n) s =
-    let r = behind_name command_table (codes "step") step_words end given s.0 (s.1 ∷ []) s.2 s.3 (λ word end more. refl) in
-    r.1 ∙ one_number_reads 1 most_visits (λ n. Step n) end r.0 s.1 n r.2 s.4
-deed_reads end given (QuotaAdd path limit enforce enabled) s =
-    let r = quota_read (codes "add") quota_add_words end given (PathIs path ∷ LimitIs limit ∷ (type_option s.0 ++ status_option s.1)) (λ word end more. refl) s.4 in
-    let all : Given = record { path = Some path; limit = Some limit; enforce = s.0; enabled = s.1 } in
-    r.read
-    ∙ then_ok (options all_keys r.more nothing) all (λ given. required end given.path >>= λ path. required end given.limit >>= λ limit. Ok (QuotaAdd path limit (unwrap_or given.enforce true) (unwrap_or given.enabled true))) (options_from all_keys r.more all (takes_all all) r.spelled)
-    ∙ ap (λ (enforce : Bool). Ok (QuotaAdd path limit enforce (unwrap_or s.1 true))) s.2
-    ∙ ap (λ (enabled : Bool). Ok (QuotaAdd path limit enforce enabled)) s.3
-deed_reads end given (QuotaModify path limit enforce enabled) s =
-    let r = quota_read (codes "modify") quota_modify_words end given (PathIs path ∷ (limit_option limit ++ (type_option enforce ++ status_option enabled))) (λ word end more. refl) s in
-    let all : Given = record { path = Some path; limit = limit; enforce = enforce; enabled = enabled } in
-    r.read
-    ∙ then_ok (options all_keys r.more nothing) all (λ given. required end given.path >>= λ path. Ok (QuotaModify path given.limit given.enforce given.enabled)) (options_from all_keys r.more all (takes_all all) r.spelled)
-deed_reads end given (QuotaDelete path) s =
-    let r = quota_read (codes "delete") quota_delete_words end given (PathIs path ∷ []) (λ word end more. refl) s in
-    r.read ∙ one_required_reads (λ path. QuotaDelete path) end r.more path r.spelled
-deed_reads end given (QuotaScan path) s =
-    let r = quota_read (codes "scan") quota_scan_words end given (PathIs path ∷ []) (λ word end more. refl) s in
-    r.read ∙ one_required_reads (λ path. QuotaScan path) end r.more path r.spelled
-deed_reads end given (QuotaResetpeak path) s =
-    let r = quota_read (codes "resetpeak") quota_resetpeak_words end given (PathIs path ∷ []) (λ word end more. refl) s in
-    r.read ∙ one_required_reads (λ path. QuotaResetpeak path) end r.more path r.spelled
-deed_reads end given (QuotaList path) s =
-    let r = quota_read (codes "list") quota_list_words end given (path_option path) (λ word end more. refl) s in
-    r.read ∙ then_ok (options (ThePath ∷ []) r.more nothing) (record { path = path; limit = None; enforce = None; enabled = None }) (λ given. Ok (QuotaList given.path)) (path_from_options path r.more r.spelled)
+deed_reads : (end : ℕ) (given : List Word) (d : Deed) → SpellsDeed (texts given) d → deed_words end given ≡ Ok d
+deed_reads end given d (inl s) = placed_reads end given d s
+deed_reads end given d (inr s) = tool_reads end given d s
 
 -- words that spell a command: its moment, and the command's own
 pub record SpellsCommand (given : List (List ℕ)) (command : Command) : Type 0 where
@@ -414,8 +464,8 @@ pub record SpellsCommand (given : List (List ℕ)) (command : Command) : Type 0 
 
 pub command_spells : (end : ℕ) (given : List Word) (command : Command) → command_of end given ≡ Ok command → SpellsCommand (texts given) command
 command_spells end given command h =
-    let moment = both_ok (number_word 0 latest_moment end given) (λ moment. named_word command_table end moment.1 >>= λ deed. Ok (record { moment = moment.0; deed = deed })) command h in
-    let deed = both_ok (named_word command_table end moment.0.1) (λ deed. Ok (record { moment = moment.0.0; deed = deed })) command moment.2 in
+    let moment = both_ok (number_word 0 latest_moment end given) (λ moment. deed_words end moment.1 >>= λ deed. Ok (record { moment = moment.0; deed = deed })) command h in
+    let deed = both_ok (deed_words end moment.0.1) (λ deed. Ok (record { moment = moment.0.0; deed = deed })) command moment.2 in
     let made : record { moment = moment.0.0; deed = deed.0 } ≡ command = cc deed.2 in
     let a = number_word_writes 0 latest_moment end given moment.0 moment.1 in
     subst (SpellsCommand (texts given)) made (record {
@@ -429,5 +479,10 @@ command_spells end given command h =
 pub command_reads : (end : ℕ) (given : List Word) (command : Command) → SpellsCommand (texts given) command → command_of end given ≡ Ok command
 command_reads end given command s =
     let moment = number_word_reads 0 latest_moment end given s.moment s.words command.moment s.words_are s.moment_is in
-    then_ok (number_word 0 latest_moment end given) (command.moment, moment.0) (λ moment. named_word command_table end moment.1 >>= λ deed. Ok (record { moment = moment.0; deed = deed })) moment.1
-    ∙ then_ok (named_word command_table end moment.0) command.deed (λ deed. Ok (record { moment = command.moment; deed = deed })) (deed_reads end moment.0 command.deed (subst (λ (ts : List (List ℕ)). SpellsDeed ts command.deed) (sym moment.2) s.deed_is))
+    then_ok (number_word 0 latest_moment end given) (command.moment, moment.0) (λ moment. deed_words end moment.1 >>= λ deed. Ok (record { moment = moment.0; deed = deed })) moment.1
+    ∙ then_ok (deed_words end moment.0) command.deed (λ deed. Ok (record { moment = command.moment; deed = deed })) (deed_reads end moment.0 command.deed (subst (λ (ts : List (List ℕ)). SpellsDeed ts command.deed) (sym moment.2) s.deed_is))
+
+pub command_line : (end : ℕ) (given : List Word) → AsLine (command_of end given)
+command_line end given =
+    then_line (number_word 0 latest_moment end given) (λ moment. deed_words end moment.1 >>= λ deed. Ok (record { moment = moment.0; deed = deed })) (number_word_line 0 latest_moment end given)
+    (λ moment. then_line (deed_words end moment.1) (λ deed. Ok (record { moment = moment.0; deed = deed })) (deed_line end moment.1) (λ deed. tt))

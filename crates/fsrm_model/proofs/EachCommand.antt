@@ -8,27 +8,37 @@ use Rattle.fsrm_model.specs.declared.command.Outcome.TheVariants.{Refused}
 use Rattle.fsrm_model.specs.declared.command.Refusal.{Refusal}
 use Rattle.fsrm_model.specs.declared.command.Refusal.TheVariants.{QuotaExceeded}
 use Rattle.fsrm_model.specs.declared.command.Outcome.TheVariants.{Sum}
-use Rattle.std.specs.Prelude.{sum_by}
+use Rattle.std.specs.List.{list_all}
+use Rattle.std.specs.Prelude.{◌&&◌, [], ◌∷◌, is_none, sum_by}
+use Rattle.std.specs.Option.{option_map_or}
 use Rattle.fsrm_model.specs.declared.row.Capacity.{Capacity}
 use Rattle.fsrm_model.specs.declared.row.NodeRow.{NodeRow}
 use Rattle.fsrm_model.specs.declared.row.QuotaRow.{QuotaRow}
 use Rattle.fsrm_model.specs.declared.row.Rows.{Rows}
 use Rattle.fsrm_model.specs.Exceeds.{Exceeds}
+use Rattle.fsrm_model.specs.Exceptions.{MayLeave}
 use Rattle.fsrm_model.specs.FileOps.{plain}
 use Rattle.fsrm_model.specs.Lasting.{lasting}
 use Rattle.fsrm_model.specs.Named.{IsNamed}
-use Rattle.fsrm_model.specs.Quota.{quota_of, counts}
+use Rattle.fsrm_model.specs.Limits.{latest_moment}
+use Rattle.fsrm_model.specs.Quota.{quota_of, counts, is_limit}
 use Rattle.fsrm_model.specs.Space.{space}
 use Rattle.fsrm_model.specs.Step.{step, work}
 use Rattle.fsrm_model.specs.Tree.{usage, under}
-use Rattle.fsrm_model.specs.Valid.{IsStore}
+use Rattle.fsrm_model.specs.Valid.{is_moment, IsStore}
+use Rattle.fsrm_model.specs.Valued.{is_path, is_empty, is_deed, is_short, is_command}
 use Rattle.fsrm_model.specs.Work.{Work}
 use Rattle.fsrm_model.proofs.Ends.{effect_nodes}
 use Rattle.fsrm_model.proofs.FileOrderly.{file_orderly, file_limits, usage_still}
-use Rattle.fsrm_model.proofs.Orderly.{IsOrderly, IsStill, KeepsLimits, still_limits}
-use Rattle.fsrm_model.proofs.OrderlyLaws.{verdict, refused_kept, refused_by, sum_afresh, refusal_exceeds, still_unexceeded, limits_hold, outcome_named, unlasting_kept}
+use Rattle.fsrm_model.proofs.FileKept.{file_kept}
+use Rattle.fsrm_model.proofs.Orderly.{IsOrderly, IsStill, KeepsLimits, KeepsValid, still_limits}
+use Rattle.fsrm_model.proofs.OrderlyLaws.{verdict, refused_kept, nothing_left, refused_by, sum_afresh, refusal_exceeds, still_unexceeded, limits_hold, outcome_named, unlasting_kept, valid_kept}
+use Rattle.fsrm_model.proofs.QuotaKept.{add_kept, modify_kept, delete_kept, reset_kept, list_kept}
 use Rattle.fsrm_model.proofs.QuotaOrderly.{add_still, modify_still, delete_still, reset_still, list_still}
+use Rattle.fsrm_model.proofs.RowsKept.{nothing_followed}
+use Rattle.fsrm_model.proofs.ScanKept.{scan_kept, step_kept}
 use Rattle.fsrm_model.proofs.ScanOrderly.{scan_still, step_still}
+use Rattle.fsrm_base.proofs.TestLaws.{both, le_is}
 
 -- the nodes that a file operation makes
 record IsFileWork (R : Rows) (moment : ℕ) (deed : Deed) (nodes : List NodeRow) : Type 0 where
@@ -36,14 +46,16 @@ record IsFileWork (R : Rows) (moment : ℕ) (deed : Deed) (nodes : List NodeRow)
   is : deed ≡ File op
   made : nodes ≡ plain R.nodes op moment
 
--- a work is orderly and keeps limits, and only a file operation makes other nodes
+-- a work is orderly and keeps limits, only a file operation makes other nodes, and of a command whose values are in
+-- their ranges it leaves the rows of a store
 record IsCertified (K : Capacity) (R : Rows) (moment : ℕ) (deed : Deed) (w : Work) : Type 0 where
   orderly : IsOrderly K R w
   limits : KeepsLimits K R w
   nodes : (w.effect.nodes ≡ R.nodes) ⊎ IsFileWork R moment deed w.effect.nodes
+  kept : moment ≤ latest_moment → is_deed deed ≡ true → KeepsValid K R w
 
-still : {K : Capacity} {R : Rows} {moment : ℕ} {deed : Deed} {w : Work} → IsStill K R w → IsCertified K R moment deed w
-still {K} {R} {moment} {deed} {w} s = record { orderly = s.orderly; limits = still_limits K R w s.same; nodes = inl s.same }
+still : {K : Capacity} {R : Rows} {moment : ℕ} {deed : Deed} {w : Work} → IsStill K R w → (moment ≤ latest_moment → is_deed deed ≡ true → KeepsValid K R w) → IsCertified K R moment deed w
+still {K} {R} {moment} {deed} {w} s kept = record { orderly = s.orderly; limits = still_limits K R w s.same; nodes = inl s.same; kept = kept }
 
 certified : (K : Capacity) (R : Rows) (moment : ℕ) (deed : Deed) → IsCertified K R moment deed (work K R moment deed)
 certified K R moment (File op) =
@@ -51,24 +63,37 @@ certified K R moment (File op) =
       orderly = file_orderly K R op moment;
       limits = file_limits K R op moment;
       nodes = inr (record { op = op; is = refl; made = effect_nodes R op moment });
+      kept = λ late legal. file_kept K R op moment legal late;
     }
-certified K R moment (Usage path) = still (usage_still K R path)
-certified K R moment (Step n) = still (step_still K R n)
-certified K R moment (QuotaAdd path limit enforce enabled) = still (add_still K R moment path limit enforce enabled)
-certified K R moment (QuotaModify path limit enforce enabled) = still (modify_still K R path limit enforce enabled)
-certified K R moment (QuotaDelete path) = still (delete_still K R path)
-certified K R moment (QuotaScan path) = still (scan_still K R path)
-certified K R moment (QuotaResetpeak path) = still (reset_still K R moment path)
-certified K R moment (QuotaList path) = still (list_still K R path)
+certified K R moment (Usage path) = still (usage_still K R path) (λ late legal store h. nothing_followed K R store)
+certified K R moment (Step n) = still (step_still K R n) (λ late legal. step_kept K R n)
+certified K R moment (QuotaAdd path limit enforce enabled template percents notices) =
+    still (add_still K R moment path limit enforce enabled) (λ late legal.
+    let values : (list_all is_path (path ∷ []) ≡ true) × ((option_map_or is_limit limit false && (is_none template && (is_empty percents && is_empty notices))) ≡ true) = both _ _ legal in
+    add_kept K R moment path limit enforce enabled (both (option_map_or is_limit limit false) _ values.1).0 late)
+certified K R moment (QuotaModify path limit enforce enabled removed percents notices) =
+    still (modify_still K R path limit enforce enabled) (λ late legal.
+    let values : (list_all is_path (path ∷ []) ≡ true) × ((option_map_or is_limit limit true && (is_empty removed && (is_empty percents && is_empty notices))) ≡ true) = both _ _ legal in
+    modify_kept K R path limit enforce enabled (both (option_map_or is_limit limit true) _ values.1).0)
+certified K R moment (QuotaDelete path) = still (delete_still K R path) (λ late legal. delete_kept K R path)
+certified K R moment (QuotaScan path) = still (scan_still K R path) (λ late legal. scan_kept K R path)
+certified K R moment (QuotaResetpeak path) = still (reset_still K R moment path) (λ late legal. reset_kept K R moment path late)
+certified K R moment (QuotaList path) = still (list_still K R path) (λ late legal. list_kept K R path)
 
 pub orderly : (K : Capacity) (R : Rows) (moment : ℕ) (deed : Deed) → IsOrderly K R (work K R moment deed)
 orderly K R moment deed = (certified K R moment deed).orderly
 
--- a refusal changes nothing
+-- so far a refusal changes nothing; one that does is an exception, and none is one
 pub refused_same : (K : Capacity) (R : Rows) (c : Command) (refusal : Refusal) → (step K R c).outcome ≡ Refused refusal → (step K R c).rows ≡ R
 refused_same K R c refusal h =
     let w = work K R c.moment c.deed in
     refused_kept K R c.moment w (orderly K R c.moment c.deed) (verdict (nat_lt c.moment R.last_moment) w) refusal h
+
+pub refused_or_exception : (K : Capacity) (R : Rows) (c : Command) (refusal : Refusal) → (step K R c).outcome ≡ Refused refusal → ((step K R c).rows ≡ R) ⊎ MayLeave K R c.moment (work K R c.moment c.deed) refusal
+refused_or_exception K R c refusal h = inl (refused_same K R c refusal h)
+
+pub no_exception : (K : Capacity) (R : Rows) (moment : ℕ) (deed : Deed) (refusal : Refusal) → MayLeave K R moment (work K R moment deed) refusal → ⊥
+no_exception K R moment deed refusal may = nothing_left K R moment (work K R moment deed) refusal (orderly K R moment deed) may
 
 pub sum_fresh : (K : Capacity) (R : Rows) (c : Command) (folder bytes : ℕ) → (step K R c).outcome ≡ Sum folder bytes → bytes ≡ sum_by (space K) (under R.nodes folder)
 sum_fresh K R c folder bytes h =
@@ -110,3 +135,18 @@ lasting_kept K R c store h =
     let w = work K R c.moment c.deed in
     let late = nat_lt c.moment R.last_moment in
     unlasting_kept K R c.moment late w (orderly K R c.moment c.deed) store (verdict late w) refl h
+
+-- a command leaves valid rows where its work does
+pub kept_valid : (K : Capacity) (R : Rows) (moment : ℕ) (deed : Deed) → IsStore K R → moment ≤ latest_moment → KeepsValid K R (work K R moment deed) → IsStore K (step K R (record { moment = moment; deed = deed })).rows
+kept_valid K R moment deed store legal kept =
+    let w = work K R moment deed in
+    let late = nat_lt moment R.last_moment in
+    valid_kept K R moment late w kept store legal (verdict late w) refl
+
+-- and where its values are in their ranges
+pub step_valid : (K : Capacity) (R : Rows) (c : Command) → IsStore K R → is_command c ≡ true → IsStore K (step K R c).rows
+step_valid K R c store legal =
+    let values : (is_moment c.moment ≡ true) × ((is_deed c.deed && is_short c.deed) ≡ true) = both _ _ legal in
+    let moment = le_is c.moment latest_moment values.0 in
+    let deed : (is_deed c.deed ≡ true) × (is_short c.deed ≡ true) = both _ _ values.1 in
+    kept_valid K R c.moment c.deed store moment ((certified K R c.moment c.deed).kept moment deed.0)

@@ -17,14 +17,14 @@ use Rattle.fsrm_model.specs.Work.{Work}
 pub outcome_kept : (K : Capacity) (R : Rows) (moment : ℕ) (w : Work) → (decided K R moment w None).outcome ≡ w.outcome
 outcome_kept K R moment w = by w.lasts
   where
-    by : (b : Bool) → (if b then lasted K (unacted (followed R w.effect)) moment w.outcome else unlasting (followed R w.effect) w.outcome).outcome ≡ w.outcome
+    by : (b : Bool) → (if b then lasted K R (unacted (followed R w.effect)) moment w.outcome else unlasting (followed R w.effect) w.outcome).outcome ≡ w.outcome
     by true = refl
     by false = refl
 
 pub nodes_kept : (K : Capacity) (R : Rows) (moment : ℕ) (w : Work) → (decided K R moment w None).rows.nodes ≡ w.effect.nodes
 nodes_kept K R moment w = by w.lasts
   where
-    by : (b : Bool) → (if b then lasted K (unacted (followed R w.effect)) moment w.outcome else unlasting (followed R w.effect) w.outcome).rows.nodes ≡ w.effect.nodes
+    by : (b : Bool) → (if b then lasted K R (unacted (followed R w.effect)) moment w.outcome else unlasting (followed R w.effect) w.outcome).rows.nodes ≡ w.effect.nodes
     by true = refl
     by false = refl
 

@@ -1,27 +1,26 @@
 -- A quota that counts and is enforced lets no usage rise above its limit.
 use Rattle.std.proofs.Common.{◌≡◌, ℕ, zero, suc, ◌+◌, ◌<◌, ◌≤◌, ◌==◌, Bool, true, false, cond, not, ◌||◌, ◌&&◌, ◌⊎◌, inl, inr, List, [], ◌∷◌, length, refl, sym, ◌∙◌, ap, subst, arith, Some, None, Option}
-use Rattle.std.specs.Prelude.{nat_lt, filter, is_some, option_map, unwrap_or}
+use Rattle.std.specs.Prelude.{nat_lt, filter, is_some, option_map}
 use Rattle.std.specs.List.{AllByRecursion, list_all, list_any}
-use Rattle.std.specs.Option.{option_map_or}
 use Rattle.std.proofs.lemmas.Bool.{and_parts, and_from, ltb-false, cases_Bool}
 use Rattle.fsrm_model.specs.declared.command.FileOp.{FileOp}
 use Rattle.fsrm_model.specs.declared.command.FileOp.TheVariants.{Mkdir, Create, Resize, Touch, Move, Remove}
-use Rattle.fsrm_model.specs.declared.command.Refusal.TheVariants.{PathNotFound, AlreadyExists, InvalidMove, NotEmpty, QuotaExceeded}
+use Rattle.fsrm_model.specs.declared.command.Refusal.TheVariants.{PathNotFound, QuotaExceeded}
 use Rattle.fsrm_model.specs.declared.row.Capacity.{Capacity}
 use Rattle.fsrm_model.specs.declared.row.NodeRow.{NodeRow}
 use Rattle.fsrm_model.specs.declared.row.QuotaRow.{QuotaRow}
 use Rattle.fsrm_model.specs.declared.row.Rows.{Rows}
-use Rattle.fsrm_model.specs.Check.{Check, ◌when◌, first, volume_full, names_full}
+use Rattle.fsrm_model.specs.Check.{◌when◌, first}
 use Rattle.fsrm_model.specs.Exceeds.{IsOver}
 use Rattle.fsrm_model.specs.FileOps.{target, target_folder, new_node, resized, touched, placed, plain}
 use Rattle.fsrm_model.specs.FileWork.{move_checks, remove_checks, file_checks, file_effect}
 use Rattle.fsrm_base.specs.Keyed.{has_row, with_row}
-use Rattle.fsrm_model.specs.Leads.{is_root, leads, leads_to_folder, leads_to_file, leads_to_other}
+use Rattle.fsrm_model.specs.Leads.{leads_to_file}
 use Rattle.fsrm_model.specs.Quota.{folder_of, quota_of, counts, refuses, over, deepest, exceeded}
 use Rattle.fsrm_model.specs.Space.{space}
-use Rattle.fsrm_model.specs.Tree.{number, parent_of, is_folder, is_child, children, chain, is_under, usage, resolve, folder_part, last_name, fresh, path_of}
-use Rattle.fsrm_model.specs.Valid.{IsVolume, IsStore}
-use Rattle.fsrm_base.proofs.TestLaws.{is_or_not, lt_is, clash, not_true, or_later, eq_is}
+use Rattle.fsrm_model.specs.Tree.{number, parent_of, is_folder, chain, is_under, usage, last_name, fresh}
+use Rattle.fsrm_model.specs.Valid.{IsStore}
+use Rattle.fsrm_base.proofs.TestLaws.{is_or_not, lt_is, clash, or_later, eq_is}
 use Rattle.fsrm_model.proofs.ChainLaws.{IsTree, Has, chain_step, chain-new_other, usage-new}
 use Rattle.fsrm_base.specs.Numbers.{is_in}
 use Rattle.fsrm_base.proofs.EditedRows.{all_rows}
@@ -31,15 +30,13 @@ use Rattle.fsrm_model.proofs.MoveLaws.{KeepsSpace, usage-moved, under_other}
 use Rattle.fsrm_model.proofs.RemoveLaws.{usage-removed}
 use Rattle.fsrm_model.proofs.Below.{chain_root, above_all, usage-moved_below}
 use Rattle.fsrm_model.proofs.Climbs.{under_own}
-use Rattle.fsrm_model.proofs.Files.{below_file}
+use Rattle.fsrm_model.proofs.FileParts.{NewChecks, new_parts, file_at, may_go, move_parts}
 use Rattle.fsrm_model.proofs.Keeps.{tree_of, zero_apart, as_suc, moves_at, removes_of}
-use Rattle.fsrm_base.proofs.Look.{found_key, has_found, found_any, is_some-find, none_filtered, unwrapped}
+use Rattle.fsrm_base.proofs.Look.{found_key, has_found, found_any, is_some-find}
 use Rattle.fsrm_base.proofs.Order.{least_free_is}
-use Rattle.fsrm_model.proofs.Orderly.{Rising, IsWithin, first_none, when_none, not_false}
+use Rattle.fsrm_model.proofs.Orderly.{Rising, IsWithin, first_none}
 use Rattle.fsrm_model.proofs.QuotaLaws.{over_test}
-use Rattle.fsrm_model.proofs.Resolves.{resolved}
 use Rattle.fsrm_model.proofs.ValidLaws.{folder_has}
-use Rattle.fsrm_model.proofs.Walks.{path_root}
 
 -- where each of two is below the other, one is below all
 record IsOrder {X : Type 0} (above : X → X → Bool) (Good : X → Type 0) : Type 0 where
@@ -172,26 +169,6 @@ no_quota_over K R new t store h grows none folder quota r =
           absurd (clash (list_any rises R.quotas) (found_any folder_of rises folder R.quotas quota r.there test) (filter_empty rises R.quotas empty))
     ]
 
--- what a path leads to
-folder_led : (nodes : List NodeRow) (o : Option ℕ) → option_map_or (is_folder nodes) o false ≡ true → is_folder nodes (unwrap_or o 0) ≡ true
-folder_led nodes None h = absurd (clash false h refl)
-folder_led nodes (Some n) h = h
-
-file_led : (nodes : List NodeRow) (o : Option ℕ) → option_map_or (λ n. not (is_folder nodes n)) o false ≡ true → is_some o ≡ true
-file_led nodes None h = absurd (clash false h refl)
-file_led nodes (Some n) h = refl
-
-target_has : (K : Capacity) (nodes : List NodeRow) (path : List (List ℕ)) → IsVolume K nodes → leads nodes path ≡ true → Has nodes (target nodes path)
-target_has K nodes path v h = (resolved K nodes path (target nodes path) v (unwrapped (resolve nodes path) h)).has
-
--- only the root's path leads to the root
-inner_target : (K : Capacity) (nodes : List NodeRow) (path : List (List ℕ)) → IsVolume K nodes → leads nodes path ≡ true → is_root path ≡ false → (target nodes path == 0) ≡ false
-inner_target K nodes path v h other = not_true (target nodes path == 0) (λ e.
-    let r = resolved K nodes path (target nodes path) v (unwrapped (resolve nodes path) h) in
-    let long : length (path_of nodes 0) ≡ length path = subst (λ (n : ℕ). length (path_of nodes n) ≡ length path) (eq_is (target nodes path) 0 e) r.long in
-    let zero_long : length path ≡ 0 = sym long ∙ ap length (path_root nodes) in
-    clash (is_root path) (ap (λ n. n == 0) zero_long) other)
-
 -- how a usage rises
 added : (b : Bool) (old new s : ℕ) → new ≡ old + cond b s 0 → old < new → b ≡ true
 added true old new s e l = refl
@@ -224,40 +201,23 @@ used_new K R node store own parent f h =
     let s = as_suc node.number (zero_apart R.nodes node.number store.volume.has_root free) in
     (usage-new K R.nodes tree node s.0 s.1 free (folder_has R.nodes node.parent parent) f h, chain-new_other R.nodes tree node free f h)
 
-abbrev NewChecks : Capacity → Rows → List (List ℕ) → Rows → List Check → Type 0
-NewChecks K R path after more = first ((AlreadyExists when is_root path) ∷ (PathNotFound when not (leads_to_folder R.nodes (folder_part path))) ∷ (AlreadyExists when leads R.nodes path) ∷ volume_full K after ∷ names_full K after ∷ more) ≡ None
-
-new_parts : (K : Capacity) (R : Rows) (path : List (List ℕ)) (after : Rows) (more : List Check) → NewChecks K R path after more → (is_folder R.nodes (target_folder R.nodes path) ≡ true) × (first more ≡ None)
-new_parts K R path after more h =
-    let names = names_full K after ∷ more in
-    let volume = volume_full K after ∷ names in
-    let taken = (AlreadyExists when leads R.nodes path) ∷ volume in
-    let folder = (PathNotFound when not (leads_to_folder R.nodes (folder_part path))) in
-    let a = first_none (AlreadyExists when is_root path) (folder ∷ taken) h in
-    let b = first_none folder taken a.1 in
-    let c = first_none (AlreadyExists when leads R.nodes path) volume b.1 in
-    let d = first_none (volume_full K after) names c.1 in
-    let e = first_none (names_full K after) more d.1 in
-    let leads_there = not_false (leads_to_folder R.nodes (folder_part path)) (when_none PathNotFound (not (leads_to_folder R.nodes (folder_part path))) b.0) in
-    (folder_led R.nodes (resolve R.nodes (folder_part path)) leads_there, e.1)
-
 mkdir_kept : (K : Capacity) (R : Rows) (path : List (List ℕ)) (owner moment : ℕ) → IsStore K R → NewChecks K R path (file_effect R (Mkdir path owner) moment) [] → Kept K R (Mkdir path owner) moment
 mkdir_kept K R path owner moment store h folder quota r =
     let node = new_node R.nodes path true 0 owner moment in
-    let p = new_parts K R path (file_effect R (Mkdir path owner) moment) [] h in
-    let used = used_new K R node store refl p.0 folder (quota_has K R folder quota store r.there) in
+    let p = new_parts K R path (file_effect R (Mkdir path owner) moment) [] store.volume h in
+    let used = used_new K R node store refl p.0.place.folder folder (quota_has K R folder quota store r.there) in
     absurd (added_nothing (is_under R.nodes folder node.parent) (usage K R.nodes folder) (usage K (plain R.nodes (Mkdir path owner) moment) folder) used.0 r.rises)
 
 create_kept : (K : Capacity) (R : Rows) (path : List (List ℕ)) (length owner moment : ℕ) → IsStore K R → NewChecks K R path (file_effect R (Create path length owner) moment) (exceeded K R (plain R.nodes (Create path length owner) moment) ∷ []) → Kept K R (Create path length owner) moment
 create_kept K R path length owner moment store h folder quota r =
     let node = new_node R.nodes path false length owner moment in
     let new = plain R.nodes (Create path length owner) moment in
-    let p = new_parts K R path (file_effect R (Create path length owner) moment) (exceeded K R new ∷ []) h in
+    let p = new_parts K R path (file_effect R (Create path length owner) moment) (exceeded K R new ∷ []) store.volume h in
     let none = first_none (exceeded K R new) [] p.1 in
-    no_quota_over K R new node.parent store (folder_has R.nodes node.parent p.0)
+    no_quota_over K R new node.parent store (folder_has R.nodes node.parent p.0.place.folder)
     (λ f is rise.
     let has = folder_has R.nodes f is in
-    let used = used_new K R node store refl p.0 f has in
+    let used = used_new K R node store refl p.0.place.folder f has in
     record { has = has; under = added (is_under R.nodes f node.parent) (usage K R.nodes f) (usage K new f) (space K node) used.0 rise; same = used.1 })
     none.0 folder quota r
 
@@ -267,8 +227,7 @@ resize_kept K R path length moment store h folder quota r =
     let n = target R.nodes path in
     let a = first_none (PathNotFound when not (leads_to_file R.nodes path)) (exceeded K R new ∷ []) h in
     let none = first_none (exceeded K R new) [] a.1 in
-    let leads_there = file_led R.nodes (resolve R.nodes path) (not_false (leads_to_file R.nodes path) (when_none PathNotFound (not (leads_to_file R.nodes path)) a.0)) in
-    let there = target_has K R.nodes path store.volume leads_there in
+    let there = (file_at K R.nodes path store.volume a.0).has in
     let found = has_found number n R.nodes there in
     let own : found.row.number ≡ n = found_key number n R.nodes found.row found.is in
     let keeps : KeepsPlace (resized length moment) = record { same_number = λ r. refl; same_parent = λ r. refl } in
@@ -287,8 +246,7 @@ touch_kept : (K : Capacity) (R : Rows) (path : List (List ℕ)) (moment : ℕ) �
 touch_kept K R path moment store h folder quota r =
     let n = target R.nodes path in
     let a = first_none (PathNotFound when not (leads_to_file R.nodes path)) [] h in
-    let leads_there = file_led R.nodes (resolve R.nodes path) (not_false (leads_to_file R.nodes path) (when_none PathNotFound (not (leads_to_file R.nodes path)) a.0)) in
-    let found = has_found number n R.nodes (target_has K R.nodes path store.volume leads_there) in
+    let found = has_found number n R.nodes (file_at K R.nodes path store.volume a.0).has in
     let keeps : KeepsPlace (touched moment) = record { same_number = λ r. refl; same_parent = λ r. refl } in
     let e = usage-change K R.nodes n (touched moment) keeps store.volume.ascending found.row found.is folder in
     let rises = r.rises in
@@ -297,16 +255,9 @@ touch_kept K R path moment store h folder quota r =
 remove_kept : (K : Capacity) (R : Rows) (path : List (List ℕ)) (moment : ℕ) → IsStore K R → first (remove_checks R path) ≡ None → Kept K R (Remove path) moment
 remove_kept K R path moment store h folder quota r =
     let x = target R.nodes path in
-    let last = (NotEmpty when not (length (children R.nodes x) == 0)) in
-    let a = first_none (PathNotFound when not (leads R.nodes path)) ((InvalidMove when is_root path) ∷ last ∷ []) h in
-    let b = first_none (InvalidMove when is_root path) (last ∷ []) a.1 in
-    let c = first_none last [] b.1 in
-    let there = not_false (leads R.nodes path) (when_none PathNotFound (not (leads R.nodes path)) a.0) in
-    let inner = inner_target K R.nodes path store.volume there (when_none InvalidMove (is_root path) b.0) in
-    let found = has_found number x R.nodes (target_has K R.nodes path store.volume there) in
-    let none : length (children R.nodes x) ≡ 0 = eq_is (length (children R.nodes x)) 0 (not_false (length (children R.nodes x) == 0) (when_none NotEmpty (not (length (children R.nodes x) == 0)) c.0)) in
-    let goes = removes_of K R.nodes x store.volume (record { inner = inner; row = found.row; found = found.is; leaf = none_filtered (is_child x) R.nodes none }) in
-    let e = usage-removed K R.nodes x goes store.volume.ascending found.row found.is folder in
+    let leaf = may_go K R path store.volume h in
+    let goes = removes_of K R.nodes x store.volume leaf in
+    let e = usage-removed K R.nodes x goes store.volume.ascending leaf.row leaf.found folder in
     let rises = r.rises in
     absurd (omega (arith, e, rises))
 
@@ -317,34 +268,9 @@ move_kept K R from to moment store h folder quota r =
     let after = file_effect R (Move from to) moment in
     let x = target old from in
     let d = target_folder old to in
-    let in_folder = leads_to_folder old (folder_part to) in
-    let below = leads_to_folder old from && is_under old x d in
-    let c8 = exceeded K R new ∷ [] in
-    let c7 = names_full K after ∷ c8 in
-    let c6 = (AlreadyExists when leads_to_other old to x) ∷ c7 in
-    let c5 = (InvalidMove when below) ∷ c6 in
-    let c4 = (PathNotFound when not in_folder) ∷ c5 in
-    let c3 = (AlreadyExists when is_root to) ∷ c4 in
-    let a1 = first_none (PathNotFound when not (leads old from)) ((InvalidMove when is_root from) ∷ c3) h in
-    let a2 = first_none (InvalidMove when is_root from) c3 a1.1 in
-    let a3 = first_none (AlreadyExists when is_root to) c4 a2.1 in
-    let a4 = first_none (PathNotFound when not in_folder) c5 a3.1 in
-    let a5 = first_none (InvalidMove when below) c6 a4.1 in
-    let a6 = first_none (AlreadyExists when leads_to_other old to x) c7 a5.1 in
-    let a7 = first_none (names_full K after) c8 a6.1 in
-    let a8 = first_none (exceeded K R new) [] a7.1 in
-    let there = not_false (leads old from) (when_none PathNotFound (not (leads old from)) a1.0) in
-    let inner = inner_target K old from store.volume there (when_none InvalidMove (is_root from) a2.0) in
-    let found = has_found number x old (target_has K old from store.volume there) in
-    let d_is : is_folder old d ≡ true = folder_led old (resolve old (folder_part to)) (not_false in_folder (when_none PathNotFound (not in_folder) a4.0)) in
-    let d_has = folder_has old d d_is in
-    let apart : is_under old x d ≡ false = not_true (is_under old x d) (λ u. elim (is_or_not (is_folder old x)) [
-      | inl e ↦
-          let leads_x : leads_to_folder old from ≡ true = ap (λ o. option_map_or (is_folder old) o false) (unwrapped (resolve old from) there) ∙ e in
-          clash below (and_from (leads_to_folder old from) (is_under old x d) leads_x u) (when_none InvalidMove below a5.0)
-      | inr e ↦ clash (is_folder old x) (subst (λ (j : ℕ). is_folder old j ≡ true) (below_file K old x d store.volume e d_has u) d_is) e
-    ]) in
-    let m = moves_at old x d (last_name to) found.row (tree_of K old store.volume) found.is inner d_is apart in
+    let p = move_parts K R from to after store.volume h in
+    let d_has = folder_has old d p.place.folder in
+    let m = moves_at old x d (last_name to) p.row (tree_of K old store.volume) p.found p.inner p.place.folder p.apart in
     let keeps : KeepsSpace K (placed d (last_name to)) = record { same_number = λ r. refl; same_space = λ r. refl } in
     no_quota_over K R new d store d_has
     (λ f is rise.
@@ -357,7 +283,7 @@ move_kept K R from to moment store h folder quota r =
         same = under_other old new x d m f lacks;
       }
     ])
-    a8.0 folder quota r
+    p.unexceeded folder quota r
 
 pub op_within : (K : Capacity) (R : Rows) (op : FileOp) (moment : ℕ) → IsStore K R → first (file_checks K R op (file_effect R op moment)) ≡ None → Kept K R op moment
 op_within K R (Mkdir path owner) moment store h = mkdir_kept K R path owner moment store h

@@ -15,6 +15,7 @@ use Rattle.fsrm_model.specs.Check.{Check, ◌when◌, first}
 use Rattle.fsrm_model.specs.Lasting.{lasting}
 use Rattle.fsrm_model.specs.Named.{IsNamed}
 use Rattle.fsrm_model.specs.Quota.{quota_of, counts, over, deepest, exceeded}
+use Rattle.fsrm_model.specs.QuotaStates.{followed}
 use Rattle.fsrm_model.specs.Text.{is_bare}
 use Rattle.fsrm_model.specs.Tree.{usage}
 use Rattle.fsrm_model.specs.Valid.{IsStore}
@@ -57,6 +58,7 @@ pub record IsOrderly (K : Capacity) (R : Rows) (w : Work) : Type 0 where
   pub checks : AreChecks K R w.effect.nodes w.checks
   pub named : IsStore K R → first w.checks ≡ None → IsNamed w.effect w.outcome
   pub quiet : IsStore K R → first w.checks ≡ None → w.lasts ≡ false → lasting w.effect ≡ lasting R
+  pub unjudged : w.judged ≡ None
 
 -- a work that leaves the nodes as they were
 pub record IsStill (K : Capacity) (R : Rows) (w : Work) : Type 0 where
@@ -66,6 +68,10 @@ pub record IsStill (K : Capacity) (R : Rows) (w : Work) : Type 0 where
 -- a work that lets no usage rise above its limit
 abbrev pub KeepsLimits : Capacity → Rows → Work → Type 0
 KeepsLimits K R w = IsStore K R → first w.checks ≡ None → IsWithin K R w.effect.nodes
+
+-- a work that leaves the rows of a store
+abbrev pub KeepsValid : Capacity → Rows → Work → Type 0
+KeepsValid K R w = IsStore K R → first w.checks ≡ None → IsStore K (followed R w.effect)
 
 -- nodes that stay let no usage rise
 pub none_rises : (K : Capacity) (R : Rows) (new : List NodeRow) → new ≡ R.nodes → (folder : ℕ) → usage K R.nodes folder < usage K new folder → ⊥
@@ -81,7 +87,7 @@ still_limits K R w same store none folder quota r = absurd (none_rises K R w.eff
 -- a command that lasts and is done, as most that change rows
 pub change_orderly : (K : Capacity) (R : Rows) (checks : List Check) (effect : Rows) → AreChecks K R effect.nodes checks → IsOrderly K R (asks checks effect (Done None) true)
 change_orderly K R checks effect are =
-    record { answer = tt; checks = are; named = λ store h. tt; quiet = λ store h never. absurd (cc never) }
+    record { answer = tt; checks = are; named = λ store h. tt; quiet = λ store h never. absurd (cc never); unjudged = refl }
 
 pub change_still : (K : Capacity) (R : Rows) (checks : List Check) (effect : Rows) → AreChecks K R effect.nodes checks → effect.nodes ≡ R.nodes → IsStill K R (asks checks effect (Done None) true)
 change_still K R checks effect are same = record { orderly = change_orderly K R checks effect are; same = same }
@@ -89,7 +95,7 @@ change_still K R checks effect are same = record { orderly = change_orderly K R 
 -- a command that only shows something
 pub show_still : (K : Capacity) (R : Rows) (checks : List Check) (outcome : Outcome) → IsAnswer K R outcome → AreChecks K R R.nodes checks → (IsStore K R → first checks ≡ None → IsNamed R outcome) → IsStill K R (asks checks R outcome false)
 show_still K R checks outcome answer are named =
-    record { orderly = record { answer = answer; checks = are; named = named; quiet = λ store h still. refl }; same = refl }
+    record { orderly = record { answer = answer; checks = are; named = named; quiet = λ store h still. refl; unjudged = refl }; same = refl }
 
 -- checks, one after another: one for something else than a quota, and that of quotas
 pub bare : {K : Capacity} {R : Rows} {nodes : List NodeRow} (refusal : Refusal) (test : Bool) → is_bare refusal ≡ true → IsCheck K R nodes (refusal when test)

@@ -1,5 +1,5 @@
 -- The laws over all commands, of any work that is orderly.
-use Rattle.std.proofs.Common.{◌≡◌, ℕ, Bool, true, false, List, ◌∷◌, refl, sym, ap, ◌∙◌, subst, Some, None, Option}
+use Rattle.std.proofs.Common.{◌≡◌, ℕ, ◌≤◌, Bool, true, false, List, ◌∷◌, refl, sym, ap, ◌∙◌, subst, inl, inr, Some, None, Option}
 use Rattle.std.specs.Prelude.{if◌then◌else◌}
 use Rattle.fsrm_model.specs.declared.command.Ask.TheVariants.{Quotas}
 use Rattle.fsrm_model.specs.declared.command.Outcome.{Outcome}
@@ -11,7 +11,9 @@ use Rattle.fsrm_model.specs.declared.row.NodeRow.{NodeRow}
 use Rattle.fsrm_model.specs.declared.row.Rows.{Rows}
 use Rattle.fsrm_model.specs.Check.{Check, ◌when◌, first}
 use Rattle.fsrm_model.specs.Exceeds.{Exceeds}
+use Rattle.fsrm_model.specs.Exceptions.{IsBlocked, IsDue, MayLeave}
 use Rattle.fsrm_model.specs.Lasting.{lasting}
+use Rattle.fsrm_model.specs.Limits.{latest_moment}
 use Rattle.fsrm_model.specs.Named.{IsNamed}
 use Rattle.fsrm_model.specs.QuotaStates.{followed}
 use Rattle.fsrm_model.specs.Step.{decided, lasted, unlasting, unacted}
@@ -19,8 +21,9 @@ use Rattle.fsrm_model.specs.Tree.{usage}
 use Rattle.fsrm_model.specs.Valid.{IsStore}
 use Rattle.fsrm_model.specs.Work.{Work}
 use Rattle.fsrm_model.proofs.Ends.{outcome_kept, nodes_kept}
-use Rattle.fsrm_model.proofs.Orderly.{IsAnswer, IsCheck, IsWithin, KeepsLimits, IsOrderly, bare, first_check, first_none, none_rises}
+use Rattle.fsrm_model.proofs.Orderly.{IsAnswer, IsCheck, IsWithin, KeepsLimits, KeepsValid, IsOrderly, bare, first_check, first_none, none_rises}
 use Rattle.fsrm_model.proofs.QuotaLaws.{exceeded_is, peaked_there}
+use Rattle.fsrm_model.proofs.RowsKept.{valid_ended}
 use Rattle.fsrm_model.proofs.ValidLaws.{folder_has}
 
 -- what decides: whether the moment is too early, and then the work's own checks
@@ -35,6 +38,14 @@ answered K R moment w outcome c h = subst (IsAnswer K R) (sym (outcome_kept K R 
 pub refused_kept : (K : Capacity) (R : Rows) (moment : ℕ) (w : Work) → IsOrderly K R w → (o : Option Refusal) (refusal : Refusal) → (decided K R moment w o).outcome ≡ Refused refusal → (decided K R moment w o).rows ≡ R
 refused_kept K R moment w c (Some r) refusal h = refl
 refused_kept K R moment w c None refusal h = absurd (answered K R moment w (Refused refusal) c h)
+
+-- and none leaves something
+pub nothing_left : (K : Capacity) (R : Rows) (moment : ℕ) (w : Work) (refusal : Refusal) → IsOrderly K R w → MayLeave K R moment w refusal → ⊥
+nothing_left K R moment w refusal c may = elim may [ inl blocked ↦ subst IsBlocked c.unjudged blocked | inr due ↦ none refusal due ]
+  where
+    none : (refusal : Refusal) → IsDue K R moment w refusal → ⊥
+    none (QuotaExceeded folder would limit) h = h
+    none other h = h
 
 -- what refuses is the first check that holds
 pub refused_by : (K : Capacity) (R : Rows) (moment : ℕ) (w : Work) → IsOrderly K R w → (o : Option Refusal) (refusal : Refusal) → (decided K R moment w o).outcome ≡ Refused refusal → o ≡ Some refusal
@@ -63,7 +74,7 @@ limits_hold K R moment late w keeps store None e =
     subst (IsWithin K R) (sym (nodes_kept K R moment w)) (keeps store (first_none (ClockBack when late) w.checks e).1)
 
 -- an outcome names what is there
-named_in : (K : Capacity) (R E : Rows) (moment : ℕ) (w : Work) (outcome : Outcome) (lasts : Bool) → IsAnswer K R outcome → IsNamed E outcome → IsNamed (if lasts then lasted K (unacted (followed R E)) moment w.outcome else unlasting (followed R E) w.outcome).rows outcome
+named_in : (K : Capacity) (R E : Rows) (moment : ℕ) (w : Work) (outcome : Outcome) (lasts : Bool) → IsAnswer K R outcome → IsNamed E outcome → IsNamed (if lasts then lasted K R (unacted (followed R E)) moment w.outcome else unlasting (followed R E) w.outcome).rows outcome
 named_in K R E moment w (Done None) b a h = tt
 named_in K R E moment w (Done (Some screen)) true a h = h
 named_in K R E moment w (Done (Some screen)) false a h = h
@@ -92,10 +103,19 @@ outcome_named K R moment late w c store None e =
     (named_in K R w.effect moment w w.outcome w.lasts c.answer (c.named store (first_none (ClockBack when late) w.checks e).1))
 
 -- what doesn't last leaves what a store keeps
-quiet_end : (K : Capacity) (R : Rows) (moment : ℕ) (w : Work) (lasts : Bool) → w.lasts ≡ lasts → (w.lasts ≡ false → lasting w.effect ≡ lasting R) → (if lasts then lasted K (unacted (followed R w.effect)) moment w.outcome else unlasting (followed R w.effect) w.outcome).lasting ≡ false → lasting (if lasts then lasted K (unacted (followed R w.effect)) moment w.outcome else unlasting (followed R w.effect) w.outcome).rows ≡ lasting R
+quiet_end : (K : Capacity) (R : Rows) (moment : ℕ) (w : Work) (lasts : Bool) → w.lasts ≡ lasts → (w.lasts ≡ false → lasting w.effect ≡ lasting R) → (if lasts then lasted K R (unacted (followed R w.effect)) moment w.outcome else unlasting (followed R w.effect) w.outcome).lasting ≡ false → lasting (if lasts then lasted K R (unacted (followed R w.effect)) moment w.outcome else unlasting (followed R w.effect) w.outcome).rows ≡ lasting R
 quiet_end K R moment w true e h l = absurd (cc l)
 quiet_end K R moment w false e h l = h e
 
 pub unlasting_kept : (K : Capacity) (R : Rows) (moment : ℕ) (late : Bool) (w : Work) → IsOrderly K R w → IsStore K R → (o : Option Refusal) → verdict late w ≡ o → (decided K R moment w o).lasting ≡ false → lasting (decided K R moment w o).rows ≡ lasting R
 unlasting_kept K R moment late w c store (Some refusal) e l = refl
 unlasting_kept K R moment late w c store None e l = quiet_end K R moment w w.lasts refl (c.quiet store (first_none (ClockBack when late) w.checks e).1) l
+
+-- the rows of a store stay such, over a refusal and over the end of a command
+valid_end : (K : Capacity) (R : Rows) (moment : ℕ) (w : Work) (lasts : Bool) → moment ≤ latest_moment → IsStore K (followed R w.effect) → IsStore K (if lasts then lasted K R (unacted (followed R w.effect)) moment w.outcome else unlasting (followed R w.effect) w.outcome).rows
+valid_end K R moment w true late s = valid_ended K (followed R w.effect) moment s late
+valid_end K R moment w false late s = s
+
+pub valid_kept : (K : Capacity) (R : Rows) (moment : ℕ) (late : Bool) (w : Work) → KeepsValid K R w → IsStore K R → moment ≤ latest_moment → (o : Option Refusal) → verdict late w ≡ o → IsStore K (decided K R moment w o).rows
+valid_kept K R moment late w keeps store legal (Some refusal) e = store
+valid_kept K R moment late w keeps store legal None e = valid_end K R moment w w.lasts legal (keeps store (first_none (ClockBack when late) w.checks e).1)

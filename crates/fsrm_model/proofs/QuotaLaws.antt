@@ -97,8 +97,8 @@ raised K nodes moment quota true true c m h = rw (c, m) (omega arith)
 raised K nodes moment quota true false c m h = rw (c, m) (ltb-false quota.peak (usage K nodes quota.folder) m)
 raised K nodes moment quota false more c m h = let same = rw c at h in absurd (clash (counts quota) same c)
 
-same_folder : (K : Capacity) (nodes : List NodeRow) (moment : ℕ) (quota : QuotaRow) → folder_of (peaked K nodes moment quota) ≡ folder_of quota
-same_folder K nodes moment quota = by (counts quota && nat_lt quota.peak (usage K nodes quota.folder))
+pub peaked_folder : (K : Capacity) (nodes : List NodeRow) (moment : ℕ) (quota : QuotaRow) → folder_of (peaked K nodes moment quota) ≡ folder_of quota
+peaked_folder K nodes moment quota = by (counts quota && nat_lt quota.peak (usage K nodes quota.folder))
   where
     by : (b : Bool) → folder_of (if b then record quota { peak = usage K nodes quota.folder; peak_at = moment } else quota) ≡ folder_of quota
     by true = refl
@@ -108,13 +108,13 @@ same_folder K nodes moment quota = by (counts quota && nat_lt quota.peak (usage 
 pub peaked_there : (K : Capacity) (nodes : List NodeRow) (moment folder : ℕ) (quotas : List QuotaRow) → has_row folder_of folder (map (peaked K nodes moment) quotas) ≡ has_row folder_of folder quotas
 peaked_there K nodes moment folder [] = refl
 peaked_there K nodes moment folder (quota ∷ quotas) =
-    ap (λ n. (n == folder) || has_row folder_of folder (map (peaked K nodes moment) quotas)) (same_folder K nodes moment quota)
+    ap (λ n. (n == folder) || has_row folder_of folder (map (peaked K nodes moment) quotas)) (peaked_folder K nodes moment quota)
     ∙ ap (λ b. (quota.folder == folder) || b) (peaked_there K nodes moment folder quotas)
 
 pub peaks_raised : (K : Capacity) (R : Rows) (moment folder : ℕ) (quota : QuotaRow) → quota_of (peaks K R moment) folder ≡ Some quota → counts quota ≡ true → usage K R.nodes folder ≤ quota.peak
 peaks_raised K R moment folder quota there counting =
     let raise = peaked K R.nodes moment in
-    let kept = find-map (λ q. folder_of q == folder) raise (λ q. ap (λ n. n == folder) (same_folder K R.nodes moment q)) R.quotas in
+    let kept = find-map (λ q. folder_of q == folder) raise (λ q. ap (λ n. n == folder) (peaked_folder K R.nodes moment q)) R.quotas in
     let old = mapped raise (quota_of R folder) quota (sym kept ∙ there) in
     let own : old.0.folder ≡ folder = found_key folder_of folder R.quotas old.0 old.1 in
     let high = raised K R.nodes moment old.0 (counts old.0) (nat_lt old.0.peak (usage K R.nodes old.0.folder)) refl refl (ap counts old.2 ∙ counting) in
@@ -125,7 +125,7 @@ pub peaks_last : (K : Capacity) (R : Rows) (c : Command) (folder : ℕ) (quota :
 peaks_last K R c folder quota lasting there counting =
     by (work K R c.moment c.deed) (first ((ClockBack when nat_lt c.moment R.last_moment) ∷ (work K R c.moment c.deed).checks)) lasting there
   where
-    ended : (w : Work) (lasts : Bool) → (if lasts then lasted K (unacted (followed R w.effect)) c.moment w.outcome else unlasting (followed R w.effect) w.outcome).lasting ≡ true → quota_of (if lasts then lasted K (unacted (followed R w.effect)) c.moment w.outcome else unlasting (followed R w.effect) w.outcome).rows folder ≡ Some quota → usage K (if lasts then lasted K (unacted (followed R w.effect)) c.moment w.outcome else unlasting (followed R w.effect) w.outcome).rows.nodes folder ≤ quota.peak
+    ended : (w : Work) (lasts : Bool) → (if lasts then lasted K R (unacted (followed R w.effect)) c.moment w.outcome else unlasting (followed R w.effect) w.outcome).lasting ≡ true → quota_of (if lasts then lasted K R (unacted (followed R w.effect)) c.moment w.outcome else unlasting (followed R w.effect) w.outcome).rows folder ≡ Some quota → usage K (if lasts then lasted K R (unacted (followed R w.effect)) c.moment w.outcome else unlasting (followed R w.effect) w.outcome).rows.nodes folder ≤ quota.peak
     ended w true l t = peaks_raised K (followed R w.effect) c.moment folder quota t counting
     ended w false l t = absurd (clash false l refl)
 

@@ -14,7 +14,7 @@ use Rattle.fsrm_model.specs.QuotaWork.{quota_checks, add_work, modify_work, dele
 use Rattle.fsrm_base.proofs.Look.{is_some-find}
 use Rattle.fsrm_model.proofs.Orderly.{IsStill, change_still, show_still, bare, first_none, when_none}
 
-pub add_still : (K : Capacity) (R : Rows) (moment : ℕ) (path : List (List ℕ)) (limit : ℕ) (enforce enabled : Bool) → IsStill K R (add_work R moment path limit enforce enabled)
+pub add_still : (K : Capacity) (R : Rows) (moment : ℕ) (path : List (List ℕ)) (limit : Option ℕ) (enforce : Option Bool) (enabled : Bool) → IsStill K R (add_work R moment path limit enforce enabled)
 add_still K R moment path limit enforce enabled =
     change_still K R _ _ (bare _ _ refl, (bare _ _ refl, (bare _ _ refl, tt))) refl
 
@@ -32,7 +32,7 @@ some_there : (o : Option QuotaRow) → is_none o ≡ false → is_some o ≡ tru
 some_there None h = absurd (cc h)
 some_there (Some quota) h = refl
 
-quota_there : (R : Rows) (path : List (List ℕ)) → first (quota_checks R path) ≡ None → has_row folder_of (target R.nodes path) R.quotas ≡ true
+pub quota_there : (R : Rows) (path : List (List ℕ)) → first (quota_checks R path) ≡ None → has_row folder_of (target R.nodes path) R.quotas ≡ true
 quota_there R path h =
     let o = quota_of R (target R.nodes path) in
     let rest = first_none (PathNotFound when not (leads_to_folder R.nodes path)) ((NotFound when is_none o) ∷ []) h in

@@ -75,6 +75,7 @@ scan_still K R path =
         checks = (bare _ _ refl, (bare _ _ refl, (bare _ _ refl, tt)));
         named = λ store h. tt;
         quiet = λ store h still. scan_quiet R (target R.nodes path) (quota_of R (target R.nodes path)) store.quotas.ascending refl (scan_enabled R path h) still;
+        unjudged = refl;
       };
       same = refl;
     }
@@ -107,6 +108,7 @@ step_still K R n =
             let none : (length R.queue == 0) ≡ false = when_none NothingToScan (length R.queue == 0) (first_none (NothingToScan when (length R.queue == 0)) [] h).0 in
             ap (has_row number (unwrap_or (head R.queue) 0)) (step_nodes K R n) ∙ head_node K R R.queue store refl none;
         quiet = λ store h still. step_quiet R (visits n R.nodes R.unvisited) (unwrap_or (head R.queue) 0) (length (visits n R.nodes R.unvisited) == 0) still;
+        unjudged = refl;
       };
       same = step_nodes K R n;
     }

@@ -1,6 +1,6 @@
 -- Limits, types and states are read exactly as they are written, and a word is parted at its first colon.
 use Rattle.std.proofs.Common.{◌≡◌, ℕ, ◌+◌, ◌<◌, List, [], ◌∷◌, ◌++◌, Bool, true, false, length, take, drop, refl, sym, ◌∙◌, ap, subst, inl, inr, arith}
-use Rattle.std.specs.Prelude.{Ok, Err, ◌*◌, ◌||◌, nat_lt, codes, Option, Some, None, find, option_map, if◌then◌else◌}
+use Rattle.std.specs.Prelude.{Ok, Err, ◌*◌, ◌||◌, not, nat_lt, codes, Option, Some, None, find, option_map, if◌then◌else◌}
 use Rattle.std.specs.Char.{is_ascii_digit, to_ascii_lowercase}
 use Rattle.std.specs.List.{list_all, list_any, prefix_len, position_or_len, before_first, after_first, take_while}
 use Rattle.std.specs.Str.{str_eq_ignore_ascii_case, str_to_ascii_lowercase, bytes_eq}
@@ -41,14 +41,8 @@ named_any : (test : ℕ → Bool) (name word : List ℕ) → IsCaseless test →
 named_any test name word caseless named =
     sym (any_lower test word caseless) ∙ ap (list_any test) (sym (named_lower name word named)) ∙ any_lower test name caseless
 
-colon_caseless : IsCaseless is_colon
-colon_caseless b = grind (arith, nat_tests)
-
 digit_caseless : IsCaseless is_ascii_digit
 digit_caseless b = grind (arith, nat_tests)
-
-pub named_no_colon : (name word : List ℕ) → IsNamed name word → list_any is_colon word ≡ list_any is_colon name
-named_no_colon name word named = named_any is_colon name word colon_caseless named
 
 -- the first element that passes a test
 found_within : {X : Type 0} (p : X → Bool) (xs : List X) → list_any p xs ≡ true → position_or_len p xs < length xs
@@ -85,12 +79,23 @@ colon_there (b ∷ front) rest = rw (colon_there front rest) (or_true (is_colon 
     or_true false = refl
 
 -- the digits that a text begins with
-digits_pass : {X : Type 0} (p : X → Bool) (xs : List X) → list_all p (take (prefix_len p xs) xs) ≡ true
-digits_pass p [] = refl
-digits_pass p (x ∷ xs) = elim (cases_Bool (p x)) [
-  | inl is ↦ ap (list_all p) (take_while-cons p x xs) ∙ rw is (and_from (p x) (list_all p (take_while p xs)) is (digits_pass p xs))
+front_passes : {X : Type 0} (p : X → Bool) (xs : List X) → list_all p (take (prefix_len p xs) xs) ≡ true
+front_passes p [] = refl
+front_passes p (x ∷ xs) = elim (cases_Bool (p x)) [
+  | inl is ↦ ap (list_all p) (take_while-cons p x xs) ∙ rw is (and_from (p x) (list_all p (take_while p xs)) is (front_passes p xs))
   | inr other ↦ ap (list_all p) (take_while-cons p x xs) ∙ rw other refl
 ]
+
+all_other : {X : Type 0} (p : X → Bool) (xs : List X) → list_all (λ x. not (p x)) xs ≡ true → list_any p xs ≡ false
+all_other p [] h = refl
+all_other p (x ∷ xs) h = let tests = and_parts (not (p x)) (list_all (λ x. not (p x)) xs) h in rw (is_false (p x) tests.0) (all_other p xs tests.1)
+  where
+    is_false : (b : Bool) → not b ≡ true → b ≡ false
+    is_false true h = absurd (cc h)
+    is_false false h = refl
+
+pub before_plain : (text : List ℕ) → list_any is_colon (before_first is_colon text) ≡ false
+before_plain text = all_other is_colon (before_first is_colon text) (front_passes (λ b. not (is_colon b)) text)
 
 digits_seam : (digits unit : List ℕ) → list_all is_ascii_digit digits ≡ true → list_any is_ascii_digit unit ≡ false → prefix_len is_ascii_digit (digits ++ unit) ≡ length digits
 digits_seam [] [] each none = refl
@@ -134,7 +139,7 @@ limit_writes column text limit h =
       bytes = unit.0;
       text_is = sym (ap (λ (n : ℕ). digits ++ drop n text) (length-prefix_len is_ascii_digit text) ∙ take-append-drop (prefix_len is_ascii_digit text) text);
       some = ltb-true 0 (length digits) form.0;
-      each = digits_pass is_ascii_digit text;
+      each = front_passes is_ascii_digit text;
       unit_is = known_ok (BadLine column) (bytes_of (drop (length digits) text)) unit.0 unit.1;
       value = legal.1;
       legal = subst (λ (n : ℕ). is_limit n ≡ true) legal.1 legal.0;

@@ -1,20 +1,20 @@
 -- How many looks at nodes a command may take. A look is one call of the tree's `node`, `child_count`
 -- or `child_at`, or one node that another call of the tree compares or passes.
 use Rattle.std.specs.Prelude.{ℕ, ◌+◌, ◌*◌, nat_lt, List, length, sum_by, Some, if◌then◌else◌}
-use Rattle.std.specs.Option.{option_map_or}
 use Rattle.fsrm_model.specs.declared.row.NodeRow.{NodeRow}
 use Rattle.fsrm_model.specs.declared.row.Rows.{Rows}
 use Rattle.fsrm_model.specs.declared.command.Command.{Command}
 use Rattle.fsrm_model.specs.declared.command.Deed.{Deed}
-use Rattle.fsrm_model.specs.declared.command.Deed.TheVariants.{File, Usage, Step, QuotaAdd, QuotaModify, QuotaDelete, QuotaScan, QuotaResetpeak, QuotaList}
+use Rattle.fsrm_model.specs.declared.command.Deed.TheVariants.{File, Usage, Step}
 use Rattle.fsrm_model.specs.declared.command.FileOp.{FileOp}
-use Rattle.fsrm_model.specs.declared.command.FileOp.TheVariants.{Mkdir, Create, Resize, Touch, Move, Remove}
+use Rattle.fsrm_model.specs.declared.command.FileOp.TheVariants.{Move}
 use Rattle.fsrm_model.specs.declared.command.Outcome.{Outcome}
 use Rattle.fsrm_model.specs.declared.command.Ask.{Ask}
 use Rattle.fsrm_model.specs.declared.command.Ask.TheVariants.{Quotas}
 use Rattle.fsrm_model.specs.declared.command.Outcome.TheVariants.{Done, Sum, Listing, Scanned, Refused}
 use Rattle.fsrm_model.specs.declared.command.Refusal.TheVariants.{QuotaExceeded}
 use Rattle.fsrm_base.specs.Numbers.{without_numbers}
+use Rattle.fsrm_model.specs.Entry.{paths}
 use Rattle.fsrm_model.specs.Scan.{visits}
 use Rattle.fsrm_model.specs.Tree.{under, children, path_of}
 use Rattle.fsrm_model.specs.FileOps.{target}
@@ -22,24 +22,8 @@ use Rattle.fsrm_model.specs.Leads.{leads, leads_to_folder}
 use Rattle.fsrm_model.specs.Text.{asked}
 
 -- the names of all paths of a command
-abbrev pub names_of_op : FileOp → ℕ
-names_of_op (Mkdir path owner) = length path
-names_of_op (Create path size owner) = length path
-names_of_op (Resize path size) = length path
-names_of_op (Touch path) = length path
-names_of_op (Move from to) = length from + length to
-names_of_op (Remove path) = length path
-
 abbrev pub names_of : Deed → ℕ
-names_of (File op) = names_of_op op
-names_of (Usage path) = length path
-names_of (Step n) = 0
-names_of (QuotaAdd path limit enforce enabled) = length path
-names_of (QuotaModify path limit enforce enabled) = length path
-names_of (QuotaDelete path) = length path
-names_of (QuotaScan path) = length path
-names_of (QuotaResetpeak path) = length path
-names_of (QuotaList path) = option_map_or length path 0
+names_of deed = sum_by length (paths deed)
 
 -- a folder that moves is looked through up to 8 times, a node that is summed up to 4 times
 abbrev pub op_cost : List NodeRow → FileOp → ℕ

@@ -5,7 +5,7 @@ use Rattle.fsrm_model.specs.declared.row.NodeRow.{NodeRow}
 use Rattle.fsrm_model.specs.declared.row.Rows.{Rows}
 
 abbrev pub default_capacity : Capacity
-default_capacity = record { nodes = 65536; names = 4194304 }
+default_capacity = record { nodes = 65536; names = 4194304; cluster = 4096 }
 
 abbrev pub root_node : NodeRow
 root_node =

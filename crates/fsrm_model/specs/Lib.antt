@@ -1,10 +1,14 @@
 pub mod Limits
 pub mod Name
+pub mod Capacities
 pub mod Space
 pub mod Tree
 pub mod Fresh
 pub mod FileOps
+pub mod Texts
 pub mod Valid
+pub mod Entry
+pub mod ValidScans
 pub mod Valued
 pub mod Check
 pub mod Quota
@@ -16,7 +20,9 @@ pub mod Leads
 pub mod FileWork
 pub mod QuotaWork
 pub mod ScanWork
+pub mod Due
 pub mod Step
+pub mod Exceptions
 pub mod Named
 pub mod Cost
 pub mod Date
@@ -24,9 +30,11 @@ pub mod Text
 pub mod Reading
 pub mod Words
 pub mod Options
+pub mod Tools
 pub mod Line
 pub mod Spelling
 pub mod Script
 pub mod WorkedRows
+pub mod ValidRows
 pub mod Patterns
 pub mod Lasting

@@ -17,6 +17,10 @@ last_owner = 2 ^ 32 - 1
 abbrev pub longest_line : ℕ
 longest_line = 65536
 
+-- the bytes of the longest entry of a journal
+abbrev pub longest_entry : ℕ
+longest_entry = 131072
+
 -- the bytes of a script that are read
 abbrev pub longest_script : ℕ
 longest_script = 2 ^ 32
@@ -46,3 +50,11 @@ most_quotas = 4096
 -- how many visits one step of a scan may make
 abbrev pub most_visits : ℕ
 most_visits = 1000000
+
+-- the bytes of all texts of objects: names of templates, groups and jobs, patterns, texts of actions, and the like
+abbrev pub most_text_bytes : ℕ
+most_text_bytes = 4194304
+
+-- the greatest run limit of actions, in minutes
+abbrev pub most_minutes : ℕ
+most_minutes = 525600

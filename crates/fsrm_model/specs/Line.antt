@@ -1,17 +1,18 @@
 -- The lines of a script: which are skipped, which spell a command, and the refusal of each other.
-use Rattle.std.specs.Prelude.{ℕ, ◌+◌, ◌==◌, ◌&&◌, ◌||◌, not, Bool, true, false, nat_lt, List, [], ◌∷◌, length, codes, Ok, Err, Option, Some, None, unwrap_or, if◌then◌else◌}
-use Rattle.std.specs.Str.{str_eq_ignore_ascii_case, is_utf8}
+use Rattle.std.specs.Prelude.{ℕ, ◌+◌, ◌==◌, ◌&&◌, ◌||◌, not, Bool, true, false, nat_lt, List, [], ◌∷◌, ◌++◌, map, length, codes, Ok, Err, Option, Some, None, if◌then◌else◌}
+use Rattle.std.specs.Str.{is_utf8}
 use Rattle.std.specs.Str.Lossy.{utf8_valid_len}
 use Rattle.fsrm_model.specs.declared.command.Command.{Command}
 use Rattle.fsrm_model.specs.declared.command.Deed.{Deed}
-use Rattle.fsrm_model.specs.declared.command.Deed.TheVariants.{File, Usage, Step, QuotaAdd, QuotaModify, QuotaDelete, QuotaScan, QuotaResetpeak, QuotaList}
+use Rattle.fsrm_model.specs.declared.command.Deed.TheVariants.{File, Usage, Step}
 use Rattle.fsrm_model.specs.declared.command.FileOp.TheVariants.{Mkdir, Create, Resize, Touch, Move, Remove}
 use Rattle.fsrm_model.specs.declared.command.Refusal.{Refusal}
 use Rattle.fsrm_model.specs.declared.command.Refusal.TheVariants.{BadLine, LineTooLong, InvalidPath, InvalidName, OutOfRange, InvalidLimit}
 use Rattle.fsrm_model.specs.Limits.{latest_moment, longest_line, longest_file, last_owner, most_visits}
-use Rattle.fsrm_model.specs.Reading.{Read, ◌>>=◌, number_from, path_from}
+use Rattle.fsrm_model.specs.Reading.{Read, ◌>>=◌, known, number_from, path_from}
 use Rattle.fsrm_model.specs.Words.{Word, words, is_blank}
-use Rattle.fsrm_model.specs.Options.{ThePath, TheLimit, TheType, TheStatus, nothing, options, required}
+use Rattle.fsrm_model.specs.Options.{options}
+use Rattle.fsrm_model.specs.Tools.{Names, named, ToolCommand, tools}
 
 -- the next word and those behind it. One that is missing is refused behind the line's end
 abbrev pub next_word : ℕ → List Word → Read (Word × List Word)
@@ -88,78 +89,49 @@ step_words end given = do
   visits ← number_word 1 most_visits end given
   no_more visits.1 (Step visits.0)
 
--- the options behind the names of each command on quotas. A quota is hard and enabled where nothing else is given
-abbrev pub quota_add_words : ℕ → List Word → Read Deed
-quota_add_words end words = do
-  given ← options (ThePath ∷ TheLimit ∷ TheType ∷ TheStatus ∷ []) words nothing
-  path ← required end given.path
-  limit ← required end given.limit
-  Ok (QuotaAdd path limit (unwrap_or given.enforce true) (unwrap_or given.enabled true))
+-- what reads the words behind a name
+abbrev pub Reader : Type 0
+Reader = ℕ → List Word → Read Deed
 
-abbrev pub quota_modify_words : ℕ → List Word → Read Deed
-quota_modify_words end words = do
-  given ← options (ThePath ∷ TheLimit ∷ TheType ∷ TheStatus ∷ []) words nothing
-  path ← required end given.path
-  Ok (QuotaModify path given.limit given.enforce given.enabled)
-
-abbrev pub quota_delete_words : ℕ → List Word → Read Deed
-quota_delete_words end words = do
-  given ← options (ThePath ∷ []) words nothing
-  path ← required end given.path
-  Ok (QuotaDelete path)
-
-abbrev pub quota_scan_words : ℕ → List Word → Read Deed
-quota_scan_words end words = do
-  given ← options (ThePath ∷ []) words nothing
-  path ← required end given.path
-  Ok (QuotaScan path)
-
-abbrev pub quota_resetpeak_words : ℕ → List Word → Read Deed
-quota_resetpeak_words end words = do
-  given ← options (ThePath ∷ []) words nothing
-  path ← required end given.path
-  Ok (QuotaResetpeak path)
-
-abbrev pub quota_list_words : ℕ → List Word → Read Deed
-quota_list_words end words = do
-  given ← options (ThePath ∷ []) words nothing
-  Ok (QuotaList given.path)
-
--- names, each with what reads the words behind it
-abbrev pub Table : Type 0
-Table = List (List ℕ × (ℕ → List Word → Read Deed))
-
--- names are read without regard to the case of ASCII letters
-abbrev pub by_name : Table → Word → ℕ → List Word → Read Deed
-by_name [] word end given = Err (BadLine word.column)
-by_name (row ∷ rows) word end given =
-    elim (str_eq_ignore_ascii_case row.0 word.text) [ true ↦ row.1 end given | false ↦ by_name rows word end given ]
-
--- the next word is a name of the table
-abbrev pub named_word : Table → ℕ → List Word → Read Deed
-named_word table end given = do
+-- what the next word's name stands for goes on with the words behind it
+abbrev pub named_word : {X : Type 0} → Names X → ℕ → List Word → (X → List Word → Read Deed) → Read Deed
+named_word names end given next = do
   name ← next_word end given
-  by_name table name.0 end name.1
+  own ← known (BadLine name.0.column) (named names name.0.text)
+  next own name.1
 
-abbrev pub quota_table : Table
-quota_table =
-    (codes "add", quota_add_words) ∷ (codes "modify", quota_modify_words) ∷ (codes "delete", quota_delete_words)
-    ∷ (codes "scan", quota_scan_words) ∷ (codes "resetpeak", quota_resetpeak_words) ∷ (codes "list", quota_list_words) ∷ []
+-- the options behind the names of a tool's command. One that is missing is refused behind the line's end
+abbrev pub option_words : ToolCommand → Reader
+option_words command end words = do
+  given ← options command.keys words []
+  known (BadLine end) (command.deed given)
 
-abbrev pub dirquota_table : Table
-dirquota_table = (codes "quota", named_word quota_table) ∷ []
+-- what a tool manages, what is to be done with it, and options
+abbrev pub tool_words : Names (Names ToolCommand) → Reader
+tool_words objects end given =
+    named_word objects end given (λ commands words. named_word commands end words (λ command words. option_words command end words))
 
-abbrev pub command_table : Table
-command_table =
+-- the commands whose words have their places
+abbrev pub placed : Names Reader
+placed =
     (codes "mkdir", mkdir_words) ∷ (codes "create", create_words) ∷ (codes "resize", resize_words) ∷ (codes "touch", touch_words)
-    ∷ (codes "move", move_words) ∷ (codes "remove", remove_words) ∷ (codes "usage", usage_words)
-    ∷ (codes "step", step_words) ∷ (codes "dirquota", named_word dirquota_table) ∷ []
+    ∷ (codes "move", move_words) ∷ (codes "remove", remove_words) ∷ (codes "usage", usage_words) ∷ (codes "step", step_words) ∷ []
+
+abbrev pub tool_reader : List ℕ × Names (Names ToolCommand) → List ℕ × Reader
+tool_reader tool = (tool.0, tool_words tool.1)
+
+abbrev pub readers : Names Reader
+readers = placed ++ map tool_reader tools
+
+-- a command's name, and its words
+abbrev pub deed_words : Reader
+deed_words end given = named_word readers end given (λ reader words. reader end words)
 
 -- the moment, the command's name, and its words
 abbrev pub command_of : ℕ → List Word → Read Command
 command_of end given = do
   moment ← number_word 0 latest_moment end given
-  deed ← named_word command_table end moment.1
+  deed ← deed_words end moment.1
   Ok (record { moment = moment.0; deed = deed })
 
 -- a line of blanks alone, or whose first byte that isn't blank is #

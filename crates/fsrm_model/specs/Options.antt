@@ -1,9 +1,11 @@
--- The options of the commands on quotas: words of the form /Name:value, in any order, each at most once.
-use Rattle.std.specs.Prelude.{ℕ, ◌==◌, Bool, List, [], ◌∷◌, find, codes, Ok, Err, Option, Some, None, if◌then◌else◌}
+-- The options of the tools' commands: words of the form /Name:value, in any order. Each may be given once, or any
+-- number of times where it may repeat.
+use Rattle.std.specs.Prelude.{ℕ, ◌==◌, ◌||◌, not, Bool, false, List, [], ◌∷◌, ◌++◌, find, codes, Ok, Option, Some, None, is_some, if◌then◌else◌}
 use Rattle.std.specs.List.{list_any, before_first, after_first}
+use Rattle.std.specs.Option.{option_or}
 use Rattle.std.specs.Str.{str_eq_ignore_ascii_case}
 use Rattle.fsrm_model.specs.declared.command.Refusal.TheVariants.{BadLine}
-use Rattle.fsrm_model.specs.Reading.{Read, ◌>>=◌, known, path_from, limit_from, choice_from}
+use Rattle.fsrm_model.specs.Reading.{Read, ◌>>=◌, guarded, known, path_from, limit_from, choice_from}
 use Rattle.fsrm_model.specs.Words.{Word}
 
 -- which option it is
@@ -20,52 +22,84 @@ key_name TheLimit = codes "/Limit"
 key_name TheType = codes "/Type"
 key_name TheStatus = codes "/Status"
 
--- what was given
-pub record Given : Type 0 where
-  pub path : Option (List (List ℕ))
-  pub limit : Option ℕ
-  pub enforce : Option Bool
-  pub enabled : Option Bool
+-- whether it may be given more than once
+abbrev pub may_repeat : Key → Bool
+may_repeat ThePath = false
+may_repeat TheLimit = false
+may_repeat TheType = false
+may_repeat TheStatus = false
 
-abbrev pub nothing : Given
-nothing = record { path = None; limit = None; enforce = None; enabled = None }
+-- an option that is given, with its value
+pub data Given : Type 0 where
+  PathIs : (path : List (List ℕ)) → Given
+  LimitIs : (limit : ℕ) → Given
+  TypeIs : (enforce : Bool) → Given
+  StatusIs : (enabled : Bool) → Given
 
--- a value, where none was given before
-abbrev pub once : {X : Type 0} → ℕ → Option X → Read X → Read (Option X)
-once column None value = value >>= λ x. Ok (Some x)
-once column (Some given) value = Err (BadLine column)
+abbrev pub key_of : Given → Key
+key_of (PathIs path) = ThePath
+key_of (LimitIs limit) = TheLimit
+key_of (TypeIs enforce) = TheType
+key_of (StatusIs enabled) = TheStatus
 
--- one more option, in a word at this column. That it is given twice is judged before its value
-abbrev pub with_value : Key → ℕ → List ℕ → Given → Read Given
-with_value ThePath column value given = do
-  path ← once column given.path (path_from value)
-  Ok (record given { path = path })
-with_value TheLimit column value given = do
-  limit ← once column given.limit (limit_from column value)
-  Ok (record given { limit = limit })
-with_value TheType column value given = do
-  enforce ← once column given.enforce (choice_from (codes "hard") (codes "soft") column value)
-  Ok (record given { enforce = enforce })
-with_value TheStatus column value given = do
-  enabled ← once column given.enabled (choice_from (codes "enabled") (codes "disabled") column value)
-  Ok (record given { enabled = enabled })
+-- the value that a text of a word at this column gives an option
+abbrev pub value_from : Key → ℕ → List ℕ → Read Given
+value_from ThePath column text = path_from text >>= λ path. Ok (PathIs path)
+value_from TheLimit column text = limit_from column text >>= λ limit. Ok (LimitIs limit)
+value_from TheType column text = choice_from (codes "hard") (codes "soft") column text >>= λ enforce. Ok (TypeIs enforce)
+value_from TheStatus column text = choice_from (codes "enabled") (codes "disabled") column text >>= λ enabled. Ok (StatusIs enabled)
+
+-- the value, where it is that of the option
+abbrev pub path_in : Given → Option (List (List ℕ))
+path_in (PathIs path) = Some path
+path_in other = None
+
+abbrev pub limit_in : Given → Option ℕ
+limit_in (LimitIs limit) = Some limit
+limit_in other = None
+
+abbrev pub type_in : Given → Option Bool
+type_in (TypeIs enforce) = Some enforce
+type_in other = None
+
+abbrev pub status_in : Given → Option Bool
+status_in (StatusIs enabled) = Some enabled
+status_in other = None
+
+-- whether it is the option of a key
+abbrev pub is_of : Key → Given → Bool
+is_of ThePath given = is_some (path_in given)
+is_of TheLimit given = is_some (limit_in given)
+is_of TheType given = is_some (type_in given)
+is_of TheStatus given = is_some (status_in given)
+
+-- the first value of an option among those that were given
+abbrev pub one : {X : Type 0} → (Given → Option X) → List Given → Option X
+one value [] = None
+one value (given ∷ more) = option_or (value given) (one value more)
 
 abbrev pub is_colon : ℕ → Bool
 is_colon b = b == 58
 
--- the option that a word names, among those that the command takes. A word without a colon names none
-abbrev pub key_of : List Key → List ℕ → Option Key
-key_of keys text =
-    if list_any is_colon text then find (λ key. str_eq_ignore_ascii_case (key_name key) (before_first is_colon text)) keys else None
+-- the option of a name, among those that a command takes
+abbrev pub key_named : List Key → List ℕ → Option Key
+key_named keys name = find (λ key. str_eq_ignore_ascii_case (key_name key) name) keys
 
--- the options that words spell, behind those that were given
-abbrev pub options : List Key → List Word → Given → Read Given
+-- the option that a word gives. A word without a colon gives none
+abbrev pub word_key : List Key → List ℕ → Option Key
+word_key keys text = if list_any is_colon text then key_named keys (before_first is_colon text) else None
+
+-- one more option behind those that were given. That it is given again is judged before its value
+abbrev pub with_option : Key → ℕ → List ℕ → List Given → Read (List Given)
+with_option key column text given = do
+  fresh ← guarded (may_repeat key || not (list_any (is_of key) given)) (BadLine column) key
+  value ← value_from fresh column text
+  Ok (given ++ value ∷ [])
+
+-- the options that words give, behind those that were given
+abbrev pub options : List Key → List Word → List Given → Read (List Given)
 options keys [] given = Ok given
 options keys (word ∷ words) given = do
-  key ← known (BadLine word.column) (key_of keys word.text)
-  more ← with_value key word.column (after_first is_colon word.text) given
+  key ← known (BadLine word.column) (word_key keys word.text)
+  more ← with_option key word.column (after_first is_colon word.text) given
   options keys words more
-
--- an option that is required. One that is missing is refused behind the line's end
-abbrev pub required : {X : Type 0} → ℕ → Option X → Read X
-required end option = known (BadLine end) option

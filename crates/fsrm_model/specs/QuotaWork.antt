@@ -36,16 +36,17 @@ new_quota folder limit enforce state moment =
       peak_at = moment;
     }
 
-abbrev pub add_work : Rows → ℕ → List (List ℕ) → ℕ → Bool → Bool → Work
+-- a valid command gives a limit. The quota is hard where no type is given
+abbrev pub add_work : Rows → ℕ → List (List ℕ) → Option ℕ → Option Bool → Bool → Work
 add_work R moment path limit enforce enabled =
     let folder = target R.nodes path in
     let state = if enabled then start R.nodes folder else Disabled in
-    let after = with_quota R (new_quota folder limit enforce state moment) in
+    let after = with_quota R (new_quota folder (unwrap_or limit 0) (unwrap_or enforce true) state moment) in
     asks
     ((PathNotFound when not (leads_to_folder R.nodes path)) ∷ (AlreadyExists when is_some (quota_of R folder)) ∷ table_full after ∷ [])
     after (Done None) true
 
--- a quota with another limit, or of another type, where these are given
+-- a quota with another limit, or of another type, where these are given. All else of it stays
 abbrev pub modified : Option ℕ → Option Bool → QuotaRow → QuotaRow
 modified limit enforce quota = record quota { limit = unwrap_or limit quota.limit; enforce = unwrap_or enforce quota.enforce }
 

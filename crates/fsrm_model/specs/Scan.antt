@@ -1,6 +1,7 @@
 -- The scan of a folder: which folders at and below it are still to be visited, and what is counted so far. Files
 -- and folders come, go and move while it runs, and each file is to be counted once.
 use Rattle.std.specs.Prelude.{◌≡◌, ℕ, zero, suc, ◌==◌, ◌&&◌, ◌||◌, not, Bool, true, false, List, map, filter, find, sum_by, Option, if◌then◌else◌}
+use Rattle.std.specs.List.{list_all}
 use Rattle.std.specs.Option.{option_map_or}
 use Rattle.fsrm_model.specs.declared.row.Capacity.{Capacity}
 use Rattle.fsrm_model.specs.declared.row.NodeRow.{NodeRow}
@@ -49,6 +50,12 @@ counted K nodes scanned unvisited =
     sum_by (space K) (filter (λ node. is_under nodes scanned node.parent && not (is_in unvisited node.parent)) nodes)
 
 -- What the unvisited folders of a scan are: folders at or below the scanned one, and with each all folders in it
+abbrev pub are_unvisited : List NodeRow → ℕ → List ℕ → Bool
+are_unvisited nodes scanned unvisited =
+    is_set unvisited
+    && (list_all (λ n. is_folder nodes n && is_under nodes scanned n) unvisited
+    && list_all (λ node. not ((node.folder && not (node.number == 0)) && is_in unvisited node.parent) || is_in unvisited node.number) nodes)
+
 pub record AreUnvisited (nodes : List NodeRow) (scanned : ℕ) (unvisited : List ℕ) : Type 0 where
   pub ascending : is_set unvisited ≡ true
   pub folders : (n : ℕ) → is_in unvisited n ≡ true → is_folder nodes n ≡ true

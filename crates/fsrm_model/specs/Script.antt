@@ -9,7 +9,7 @@ use Rattle.fsrm_model.specs.Reading.{Read}
 use Rattle.fsrm_model.specs.Line.{read_line}
 use Rattle.fsrm_model.specs.Step.{step}
 use Rattle.fsrm_model.specs.Cost.{cost, print_cost}
-use Rattle.fsrm_model.specs.Text.{reply}
+use Rattle.fsrm_model.specs.Text.{reply, act_lines}
 
 -- the byte that ends a line, LF
 abbrev pub is_end : ℕ → Bool
@@ -46,11 +46,11 @@ pub record Replied : Type 0 where
   pub rows : Rows
   pub text : List ℕ
 
--- a line that is refused as it is read has no moment
+-- a reply ends with the actions that ran. A line that is refused as it is read has no moment
 abbrev pub replied_to : Capacity → Rows → ℕ → Option (Read Command) → Replied
 replied_to K R line None = record { rows = R; text = [] }
 replied_to K R line (Some (Err refusal)) = record { rows = R; text = reply K R 0 line (Refused refusal) }
-replied_to K R line (Some (Ok c)) = let s = step K R c in record { rows = s.rows; text = reply K s.rows c.moment line s.outcome }
+replied_to K R line (Some (Ok c)) = let s = step K R c in record { rows = s.rows; text = reply K s.rows c.moment line s.outcome ++ act_lines s.rows s.acts }
 
 -- what a line of these bytes leaves, and its reply. A skipped line has none
 unfoldable pub replied : Capacity → Rows → ℕ → List ℕ → Replied

@@ -3,13 +3,13 @@ use Rattle.std.specs.Prelude.{ℕ, ◌+◌, ◌-◌, ◌*◌, ◌/◌, if◌then
 use Rattle.fsrm_model.specs.declared.row.Capacity.{Capacity}
 use Rattle.fsrm_model.specs.declared.row.NodeRow.{NodeRow}
 
--- the bytes of a cluster, so far the same in every store
-abbrev pub cluster : Capacity → ℕ
-cluster K = 4096
+-- a length, rounded up to whole clusters of so many bytes
+abbrev pub rounded : ℕ → ℕ → ℕ
+rounded cluster n = (n + (cluster - 1)) / cluster * cluster
 
--- a length, rounded up to whole clusters
+-- what a length takes in a store of this capacity
 abbrev pub alloc : Capacity → ℕ → ℕ
-alloc K n = (n + (cluster K - 1)) / cluster K * cluster K
+alloc K n = rounded K.cluster n
 
 -- what a node takes: a folder takes nothing
 abbrev pub space : Capacity → NodeRow → ℕ

@@ -1,18 +1,20 @@
 -- Which lines spell which commands, apart from any reader.
-use Rattle.std.specs.Prelude.{◌≡◌, ℕ, ◌*◌, ◌≤◌, ◌<◌, ◌⊎◌, List, [], ◌∷◌, ◌++◌, codes, length, Bool, true, false, Option, Some, None, unwrap_or}
+use Rattle.std.specs.Prelude.{◌≡◌, ℕ, ◌*◌, ◌≤◌, ◌<◌, ◌⊎◌, List, [], ◌∷◌, ◌++◌, codes, count_by, length, Bool, true, false, Some}
 use Rattle.std.specs.Char.{is_ascii_digit}
 use Rattle.std.specs.List.{list_all, list_any, join_with_byte}
 use Rattle.std.specs.Str.{is_utf8, str_eq_ignore_ascii_case}
 use Rattle.std.specs.Str.Parse.{digits_value}
 use Rattle.fsrm_model.specs.declared.command.Command.{Command}
 use Rattle.fsrm_model.specs.declared.command.Deed.{Deed}
-use Rattle.fsrm_model.specs.declared.command.Deed.TheVariants.{File, Usage, Step, QuotaAdd, QuotaModify, QuotaDelete, QuotaScan, QuotaResetpeak, QuotaList}
+use Rattle.fsrm_model.specs.declared.command.Deed.TheVariants.{File, Usage, Step}
 use Rattle.fsrm_model.specs.declared.command.FileOp.{FileOp}
 use Rattle.fsrm_model.specs.declared.command.FileOp.TheVariants.{Mkdir, Create, Resize, Touch, Move, Remove}
 use Rattle.fsrm_model.specs.Limits.{latest_moment, longest_file, longest_line, last_owner, most_visits}
 use Rattle.fsrm_model.specs.Name.{is_name}
+use Rattle.fsrm_model.specs.Options.{Key, Given, PathIs, LimitIs, TypeIs, StatusIs, key_of, may_repeat, is_of, is_colon, key_named}
 use Rattle.fsrm_model.specs.Quota.{is_limit}
 use Rattle.fsrm_model.specs.Reading.{is_number, bytes_of}
+use Rattle.fsrm_model.specs.Tools.{Names, named, ToolCommand, tools}
 use Rattle.fsrm_model.specs.Words.{is_blank, is_quote}
 
 -- a piece of a word: a byte that is neither blank nor quote, or whatever stands between two quotes
@@ -99,49 +101,49 @@ abbrev pub WritesStatus : List ℕ → Bool → Type 0
 WritesStatus text true = IsNamed (codes "enabled") text
 WritesStatus text false = IsNamed (codes "disabled") text
 
--- an option of a command on quotas
-pub data QuotaOption : Type 0 where
-  PathIs : (path : List (List ℕ)) → QuotaOption
-  LimitIs : (limit : ℕ) → QuotaOption
-  TypeIs : (enforce : Bool) → QuotaOption
-  StatusIs : (enabled : Bool) → QuotaOption
+-- a text writes an option's value
+abbrev pub WritesValue : List ℕ → Given → Type 0
+WritesValue text (PathIs path) = WritesPath text path
+WritesValue text (LimitIs limit) = WritesLimit text limit
+WritesValue text (TypeIs enforce) = WritesType text enforce
+WritesValue text (StatusIs enabled) = WritesStatus text enabled
 
--- a word is an option's name, a colon and its value
-abbrev pub SpellsOption : List ℕ → QuotaOption → Type 0
-SpellsOption word (PathIs path) = (name value : List ℕ) × (word ≡ name ++ 58 ∷ value) × IsNamed (codes "/Path") name × WritesPath value path
-SpellsOption word (LimitIs limit) = (name value : List ℕ) × (word ≡ name ++ 58 ∷ value) × IsNamed (codes "/Limit") name × WritesLimit value limit
-SpellsOption word (TypeIs enforce) = (name value : List ℕ) × (word ≡ name ++ 58 ∷ value) × IsNamed (codes "/Type") name × WritesType value enforce
-SpellsOption word (StatusIs enabled) = (name value : List ℕ) × (word ≡ name ++ 58 ∷ value) × IsNamed (codes "/Status") name × WritesStatus value enabled
+-- a word is the name of an option that a command takes, a colon, and the option's value
+abbrev pub SpellsOption : List Key → List ℕ → Given → Type 0
+SpellsOption keys word given =
+    (name value : List ℕ) × (list_any is_colon name ≡ false) × (word ≡ name ++ 58 ∷ value) × (key_named keys name ≡ Some (key_of given))
+    × WritesValue value given
 
--- words are these options, in whatever order: the first word is one of them, and the other words are the others
-abbrev pub SpellsOptions : List (List ℕ) → List QuotaOption → Type 0
-SpellsOptions [] wanted = wanted ≡ []
-SpellsOptions (word ∷ words) wanted =
-    (before after : List QuotaOption) × (option : QuotaOption) × (wanted ≡ before ++ option ∷ after) × SpellsOption word option
-    × SpellsOptions words (before ++ after)
+abbrev pub SpellsEach : List Key → List (List ℕ) → List Given → Type 0
+SpellsEach keys [] [] = Unit {0}
+SpellsEach keys (word ∷ words) (given ∷ more) = SpellsOption keys word given × SpellsEach keys words more
+SpellsEach keys [] (given ∷ more) = ⊥
+SpellsEach keys (word ∷ words) [] = ⊥
 
--- options that may be left out
-abbrev pub path_option : Option (List (List ℕ)) → List QuotaOption
-path_option None = []
-path_option (Some path) = PathIs path ∷ []
+-- no option is given more than once, unless it may repeat
+abbrev pub AreOnce : List Given → Type 0
+AreOnce given = (key : Key) → may_repeat key ≡ false → count_by (is_of key) given ≤ 1
 
-abbrev pub limit_option : Option ℕ → List QuotaOption
-limit_option None = []
-limit_option (Some limit) = LimitIs limit ∷ []
+pub record SpellsOptions (keys : List Key) (words : List (List ℕ)) (given : List Given) : Type 0 where
+  pub each : SpellsEach keys words given
+  pub once : AreOnce given
 
-abbrev pub type_option : Option Bool → List QuotaOption
-type_option None = []
-type_option (Some enforce) = TypeIs enforce ∷ []
-
-abbrev pub status_option : Option Bool → List QuotaOption
-status_option None = []
-status_option (Some enabled) = StatusIs enabled ∷ []
-
--- words are the three names of a command on quotas, and these options
-abbrev pub SpellsQuota : List (List ℕ) → List ℕ → List QuotaOption → Type 0
-SpellsQuota words name wanted =
-    (a b c : List ℕ) × (rest : List (List ℕ)) × (words ≡ a ∷ b ∷ c ∷ rest) × IsNamed (codes "dirquota") a × IsNamed (codes "quota") b
-    × IsNamed name c × SpellsOptions rest wanted
+-- words are the names of a tool, of what it manages and of a command, and the command's options, which ask for a deed
+pub record SpellsTool (words : List (List ℕ)) (deed : Deed) : Type 0 where
+  pub tool : List ℕ
+  pub object : List ℕ
+  pub command : List ℕ
+  pub rest : List (List ℕ)
+  pub words_are : words ≡ tool ∷ object ∷ command ∷ rest
+  pub objects : Names (Names ToolCommand)
+  pub commands : Names ToolCommand
+  pub own : ToolCommand
+  pub tool_is : named tools tool ≡ Some objects
+  pub object_is : named objects object ≡ Some commands
+  pub command_is : named commands command ≡ Some own
+  pub given : List Given
+  pub options_are : SpellsOptions own.keys rest given
+  pub deed_is : own.deed given ≡ Some deed
 
 -- these words are a name and so many values
 abbrev pub SpellsOp : List (List ℕ) → FileOp → Type 0
@@ -157,19 +159,15 @@ SpellsOp words (Move from to) =
     (name a b : List ℕ) × (words ≡ name ∷ a ∷ b ∷ []) × IsNamed (codes "move") name × WritesPath a from × WritesPath b to
 SpellsOp words (Remove path) = (name a : List ℕ) × (words ≡ name ∷ a ∷ []) × IsNamed (codes "remove") name × WritesPath a path
 
+abbrev pub SpellsPlaced : List (List ℕ) → Deed → Type 0
+SpellsPlaced words (File op) = SpellsOp words op
+SpellsPlaced words (Usage path) = (name a : List ℕ) × (words ≡ name ∷ a ∷ []) × IsNamed (codes "usage") name × WritesPath a path
+SpellsPlaced words (Step n) = (name a : List ℕ) × (words ≡ name ∷ a ∷ []) × IsNamed (codes "step") name × Writes 1 most_visits a n
+SpellsPlaced words other = ⊥
+
+-- words have their places, or are those of a tool
 abbrev pub SpellsDeed : List (List ℕ) → Deed → Type 0
-SpellsDeed words (File op) = SpellsOp words op
-SpellsDeed words (Usage path) = (name a : List ℕ) × (words ≡ name ∷ a ∷ []) × IsNamed (codes "usage") name × WritesPath a path
-SpellsDeed words (Step n) = (name a : List ℕ) × (words ≡ name ∷ a ∷ []) × IsNamed (codes "step") name × Writes 1 most_visits a n
-SpellsDeed words (QuotaAdd path limit enforce enabled) =
-    (type status : Option Bool) × (unwrap_or type true ≡ enforce) × (unwrap_or status true ≡ enabled)
-    × SpellsQuota words (codes "add") (PathIs path ∷ LimitIs limit ∷ (type_option type ++ status_option status))
-SpellsDeed words (QuotaModify path limit enforce enabled) =
-    SpellsQuota words (codes "modify") (PathIs path ∷ (limit_option limit ++ (type_option enforce ++ status_option enabled)))
-SpellsDeed words (QuotaDelete path) = SpellsQuota words (codes "delete") (PathIs path ∷ [])
-SpellsDeed words (QuotaScan path) = SpellsQuota words (codes "scan") (PathIs path ∷ [])
-SpellsDeed words (QuotaResetpeak path) = SpellsQuota words (codes "resetpeak") (PathIs path ∷ [])
-SpellsDeed words (QuotaList path) = SpellsQuota words (codes "list") (path_option path)
+SpellsDeed words deed = SpellsPlaced words deed ⊎ SpellsTool words deed
 
 -- what a line is before its words are looked at
 pub record IsLine (line : List ℕ) : Type 0 where

@@ -1,5 +1,5 @@
 -- One command: the machine's step.
-use Rattle.std.specs.Prelude.{ℕ, nat_lt, Bool, true, false, List, [], ◌∷◌, Option, Some, None, if◌then◌else◌}
+use Rattle.std.specs.Prelude.{ℕ, nat_lt, Bool, true, false, List, [], ◌∷◌, ◌++◌, Option, Some, None, if◌then◌else◌}
 use Rattle.fsrm_model.specs.declared.row.Capacity.{Capacity}
 use Rattle.fsrm_model.specs.declared.row.Rows.{Rows}
 use Rattle.fsrm_model.specs.declared.command.Act.{Act}
@@ -11,7 +11,8 @@ use Rattle.fsrm_model.specs.declared.command.Outcome.TheVariants.{Refused}
 use Rattle.fsrm_model.specs.declared.command.Refusal.{Refusal}
 use Rattle.fsrm_model.specs.declared.command.Refusal.TheVariants.{ClockBack}
 use Rattle.fsrm_model.specs.Check.{◌when◌, first}
-use Rattle.fsrm_model.specs.Work.{Work}
+use Rattle.fsrm_model.specs.Due.{due}
+use Rattle.fsrm_model.specs.Work.{Work, Judged}
 use Rattle.fsrm_model.specs.Quota.{peaks}
 use Rattle.fsrm_model.specs.FileWork.{file_work, usage_work}
 use Rattle.fsrm_model.specs.QuotaStates.{followed}
@@ -23,8 +24,8 @@ abbrev pub work : Capacity → Rows → ℕ → Deed → Work
 work K R moment (File op) = file_work K R op moment
 work K R moment (Usage path) = usage_work K R path
 work K R moment (Step n) = step_work K R n
-work K R moment (QuotaAdd path limit enforce enabled) = add_work R moment path limit enforce enabled
-work K R moment (QuotaModify path limit enforce enabled) = modify_work R path limit enforce enabled
+work K R moment (QuotaAdd path limit enforce enabled template percents notices) = add_work R moment path limit enforce enabled
+work K R moment (QuotaModify path limit enforce enabled removed percents notices) = modify_work R path limit enforce enabled
 work K R moment (QuotaDelete path) = delete_work R path
 work K R moment (QuotaScan path) = scan_work R path
 work K R moment (QuotaResetpeak path) = reset_work K R moment path
@@ -42,37 +43,51 @@ pub record Acted : Type 0 where
   pub rows : Rows
   pub acts : List Act
 
--- no command that is built runs an action
+-- no action ran
 abbrev pub unacted : Rows → Acted
 unacted R = record { rows = R; acts = [] }
 
--- the end of a command that lasts: peaks are raised, and its moment becomes the last one
-abbrev pub concluded : Capacity → Acted → ℕ → Acted
-concluded K after moment = record { rows = record (peaks K after.rows moment) { last_moment = moment }; acts = after.acts }
+-- what follows where a screen judged a name: its entry in the audit log, and the screen's actions. So far nothing
+abbrev pub screened : Rows → ℕ → Option Judged → Acted
+screened after moment judged = unacted after
+
+-- the end of a command that lasts: peaks are raised, then the actions run that are due, and its moment becomes the last one
+abbrev pub concluded : Capacity → Rows → Acted → ℕ → Acted
+concluded K before after moment =
+    let peaked = peaks K after.rows moment in
+    record { rows = record peaked { last_moment = moment }; acts = after.acts ++ due K before peaked moment }
 
 -- what a command leaves that lasts
-abbrev pub lasted : Capacity → Acted → ℕ → Outcome → Stepped
-lasted K after moment outcome =
-    let end = concluded K after moment in
+abbrev pub lasted : Capacity → Rows → Acted → ℕ → Outcome → Stepped
+lasted K before after moment outcome =
+    let end = concluded K before after moment in
     record { rows = end.rows; outcome = outcome; lasting = true; acts = end.acts }
 
 -- what a command leaves that doesn't
 abbrev pub unlasting : Rows → Outcome → Stepped
 unlasting R outcome = record { rows = R; outcome = outcome; lasting = false; acts = [] }
 
--- a refused command leaves everything as it was
-abbrev pub refused : Rows → Refusal → Stepped
-refused R refusal = unlasting R (Refused refusal)
+-- what a refusal leaves, where it leaves something. So far none does
+abbrev pub left_by : Capacity → Rows → ℕ → Work → Refusal → Option Acted
+left_by K R moment w refusal = None
+
+abbrev pub refused_leaving : Capacity → Rows → ℕ → Refusal → Option Acted → Stepped
+refused_leaving K R moment refusal None = unlasting R (Refused refusal)
+refused_leaving K R moment refusal (Some after) = lasted K R after moment (Refused refusal)
+
+-- a refused command leaves everything as it was, but for what the refusal leaves
+abbrev pub refused : Capacity → Rows → ℕ → Work → Refusal → Stepped
+refused K R moment w refusal = refused_leaving K R moment refusal (left_by K R moment w refusal)
 
 -- a command that no check refuses. Behind its effect a scan may begin
 abbrev pub accepted : Capacity → Rows → ℕ → Work → Stepped
 accepted K R moment w =
     let after = followed R w.effect in
-    if w.lasts then lasted K (unacted after) moment w.outcome else unlasting after w.outcome
+    if w.lasts then lasted K R (screened after moment w.judged) moment w.outcome else unlasting after w.outcome
 
 -- a command, by the check that refuses it
 abbrev pub decided : Capacity → Rows → ℕ → Work → Option Refusal → Stepped
-decided K R moment w (Some refusal) = refused R refusal
+decided K R moment w (Some refusal) = refused K R moment w refusal
 decided K R moment w None = accepted K R moment w
 
 -- a command is refused for its moment first, and then by the first of its own refusals that holds

@@ -7,6 +7,7 @@ use Rattle.fsrm_model.specs.declared.row.QuotaRow.{QuotaRow}
 use Rattle.fsrm_model.specs.declared.row.QuotaState.{QuotaState}
 use Rattle.fsrm_model.specs.declared.row.QuotaState.TheVariants.{Complete, Disabled, Rebuilding, Incomplete}
 use Rattle.fsrm_model.specs.declared.row.Rows.{Rows}
+use Rattle.fsrm_model.specs.declared.command.Act.{Act}
 use Rattle.fsrm_model.specs.declared.command.Ask.{Ask}
 use Rattle.fsrm_model.specs.declared.command.Ask.TheVariants.{Quotas}
 use Rattle.fsrm_model.specs.declared.command.Refusal.{Refusal}
@@ -112,6 +113,13 @@ body K R moment (Listing ask) = list_lines K R ask
 body K R moment (Scanned folder visited used) = []
 body K R moment (Refused refusal) = []
 
--- the reply to a line, in the rows after it
+-- the head and the body of the reply to a line, in the rows after it
 abbrev pub reply : Capacity → Rows → ℕ → ℕ → Outcome → List ℕ
 reply K R moment line outcome = head_line R.nodes line outcome ++ body K R moment outcome
+
+-- the lines of the actions that a command ran. So far none runs, and no line is written
+abbrev pub act_line : Rows → Act → List ℕ
+act_line R act = []
+
+abbrev pub act_lines : Rows → List Act → List ℕ
+act_lines R acts = flat_map (act_line R) acts

@@ -1,18 +1,19 @@
--- Which nodes, and which quotas, are those of a store. What the nodes must be is a test, so that a reader can refuse exactly the others.
-use Rattle.std.specs.Prelude.{◌≡◌, ℕ, ◌≤◌, ◌==◌, ◌&&◌, ◌||◌, nat_lt, nat_le, not, Bool, true, false, List, [], length, Option, Some, None, if◌then◌else◌}
+-- Which rows are those of a store. What they must be is a test, so that a reader can refuse exactly the others, and beside
+-- it a record of the same parts.
+use Rattle.std.specs.Prelude.{◌≡◌, ℕ, ◌≤◌, ◌==◌, ◌&&◌, ◌||◌, nat_lt, nat_le, not, Bool, true, false, List, [], ◌∷◌, length, is_none, Some, if◌then◌else◌}
 use Rattle.std.specs.List.{list_all}
 use Rattle.fsrm_model.specs.declared.row.Capacity.{Capacity}
 use Rattle.fsrm_model.specs.declared.row.NodeRow.{NodeRow}
 use Rattle.fsrm_model.specs.declared.row.QuotaRow.{QuotaRow}
 use Rattle.fsrm_model.specs.declared.row.Rows.{Rows}
 use Rattle.fsrm_base.specs.Keyed.{row_of, is_ascending, has_row}
-use Rattle.fsrm_model.specs.Limits.{latest_moment, longest_file, most_quotas}
+use Rattle.fsrm_model.specs.Limits.{latest_moment, longest_file, most_minutes, most_quotas, most_text_bytes}
 use Rattle.fsrm_model.specs.Name.{is_name, same_name}
-use Rattle.fsrm_base.specs.Numbers.{is_in, each_once}
 use Rattle.fsrm_model.specs.Quota.{folder_of, is_limit}
-use Rattle.fsrm_model.specs.QuotaStates.{is_rebuilding, head}
-use Rattle.fsrm_model.specs.Scan.{AreUnvisited}
+use Rattle.fsrm_model.specs.QuotaStates.{head}
+use Rattle.fsrm_model.specs.Texts.{object_texts}
 use Rattle.fsrm_model.specs.Tree.{number, node_of, is_folder, is_child, is_under, name_bytes}
+use Rattle.fsrm_model.specs.ValidScans.{is_queue, IsQueue, are_left, AreLeft}
 
 abbrev pub is_moment : ℕ → Bool
 is_moment m = nat_le m latest_moment
@@ -62,8 +63,17 @@ pub record IsVolume (K : Capacity) (nodes : List NodeRow) : Type 0 where
   pub alone : (n m : ℕ) (r s : NodeRow) → node_of nodes n ≡ Some r → node_of nodes m ≡ Some s → (n == 0) ≡ false → (m == 0) ≡ false → s.parent ≡ r.parent → same_name s.name r.name ≡ true → m ≡ n
   pub names : name_bytes nodes ≤ K.names
 
--- Quotas of a store with these nodes: each on another folder, in the order of the folders' numbers, with a limit
--- and a moment in their ranges
+-- a quota's folder is there, and its values are in their ranges
+abbrev pub is_sound_quota : List NodeRow → QuotaRow → Bool
+is_sound_quota nodes quota =
+    is_folder nodes quota.folder && (is_limit quota.limit && is_moment quota.peak_at)
+
+-- the quotas of a store with these nodes: in the order of their folders' numbers, each on another folder
+abbrev pub are_quotas : List NodeRow → List QuotaRow → Bool
+are_quotas nodes quotas =
+    (is_ascending folder_of quotas && nat_le (length quotas) most_quotas) && list_all (is_sound_quota nodes) quotas
+
+-- the same, part by part, of the quotas that are found by their folders
 pub record AreQuotas (nodes : List NodeRow) (quotas : List QuotaRow) : Type 0 where
   pub ascending : is_ascending folder_of quotas ≡ true
   pub few : length quotas ≤ most_quotas
@@ -71,20 +81,44 @@ pub record AreQuotas (nodes : List NodeRow) (quotas : List QuotaRow) : Type 0 wh
   pub limits : (folder : ℕ) (quota : QuotaRow) → row_of folder_of folder quotas ≡ Some quota → is_limit quota.limit ≡ true
   pub moments : (folder : ℕ) (quota : QuotaRow) → row_of folder_of folder quotas ≡ Some quota → is_moment quota.peak_at ≡ true
 
--- Whose scans wait: the folders of the rebuilding quotas, each once
-pub record IsQueue (quotas : List QuotaRow) (queue : List ℕ) : Type 0 where
-  pub once : each_once queue ≡ true
-  pub queued : (folder : ℕ) → is_in queue folder ≡ true → has_row folder_of folder quotas ≡ true
-  pub rebuilding : (folder : ℕ) (quota : QuotaRow) → row_of folder_of folder quotas ≡ Some quota → is_in queue folder ≡ is_rebuilding quota.state
+abbrev pub is_empty : {X : Type 0} → List X → Bool
+is_empty [] = true
+is_empty (x ∷ xs) = false
 
--- what the active scan has still to visit; nothing where there is none
-abbrev pub AreLeft : List NodeRow → Option ℕ → List ℕ → Type 0
-AreLeft nodes None unvisited = unvisited ≡ []
-AreLeft nodes (Some scanned) unvisited = AreUnvisited nodes scanned unvisited
+-- What no command fills so far is empty: a quota's thresholds and its template, the other tables, the logs
+abbrev pub is_plain : QuotaRow → Bool
+is_plain quota = is_empty quota.thresholds && is_none quota.template
+
+abbrev pub are_tables : Rows → Bool
+are_tables R =
+    list_all is_plain R.quotas
+    && ((is_empty R.templates && (is_empty R.autos && is_empty R.groups))
+    && ((is_empty R.screens && (is_empty R.excepts && is_empty R.jobs)) && (is_empty R.acts && is_empty R.audits)))
+
+pub record AreTables (R : Rows) : Type 0 where
+  pub plain : list_all is_plain R.quotas ≡ true
+  pub templates : R.templates ≡ []
+  pub autos : R.autos ≡ []
+  pub groups : R.groups ≡ []
+  pub screens : R.screens ≡ []
+  pub excepts : R.excepts ≡ []
+  pub jobs : R.jobs ≡ []
+  pub acts : R.acts ≡ []
+  pub audits : R.audits ≡ []
 
 -- the rows of a store of this size
+abbrev pub is_valid : Capacity → Rows → Bool
+is_valid K R =
+    (is_tree K R.nodes && (are_quotas R.nodes R.quotas && are_tables R))
+    && ((nat_le (object_texts R) most_text_bytes && (nat_le R.run_limit most_minutes && is_moment R.last_moment))
+    && (is_queue R.quotas R.queue && are_left R.nodes (head R.queue) R.unvisited))
+
 pub record IsStore (K : Capacity) (R : Rows) : Type 0 where
   pub volume : IsVolume K R.nodes
   pub quotas : AreQuotas R.nodes R.quotas
+  pub tables : AreTables R
+  pub texts : object_texts R ≤ most_text_bytes
+  pub run_limit : R.run_limit ≤ most_minutes
+  pub last_moment : R.last_moment ≤ latest_moment
   pub queue : IsQueue R.quotas R.queue
   pub unvisited : AreLeft R.nodes (head R.queue) R.unvisited

@@ -47,13 +47,13 @@ root_and_places =
 -- a name that is there is refused before a full volume is; a number that a removal gave back is used again
 abbrev pub few_nodes : Type 0
 few_nodes =
-    text (record { nodes = 2; names = 256 }) new_rows (codes "100 mkdir D:\\a 1\n100 mkdir D:\\A 1\n100 mkdir D:\\b 1\n100 remove D:\\a\n100 mkdir D:\\b 1\n")
+    text (record { nodes = 2; names = 256; cluster = 4096 }) new_rows (codes "100 mkdir D:\\a 1\n100 mkdir D:\\A 1\n100 mkdir D:\\b 1\n100 remove D:\\a\n100 mkdir D:\\b 1\n")
     ≡ codes "1 ok\n2 refused AlreadyExists\n3 refused VolumeFull\n4 ok\n5 ok\n"
 
 -- names that would have more bytes than the store holds; a move gives back the old name's
 abbrev pub few_name_bytes : Type 0
 few_name_bytes =
-    text (record { nodes = 9; names = 3 }) new_rows (codes "100 create D:\\nn 0 1\n100 mkdir D:\\b 1\n100 mkdir D:\\c 1\n100 move D:\\b D:\\c\n100 move D:\\c D:\\cc\n")
+    text (record { nodes = 9; names = 3; cluster = 4096 }) new_rows (codes "100 create D:\\nn 0 1\n100 mkdir D:\\b 1\n100 mkdir D:\\c 1\n100 move D:\\b D:\\c\n100 move D:\\c D:\\cc\n")
     ≡ codes "1 ok\n2 ok\n3 refused NamesFull\n4 ok\n5 refused NamesFull\n"
 
 -- names are compared after simple folding, each character by itself: sharp s is no ss, a final sigma is a sigma
@@ -67,6 +67,17 @@ abbrev pub rounded_usage : Type 0
 rounded_usage =
     text default_capacity new_rows (codes "100 dirquota quota add /Path:D:\\ /Limit:10kb\n101 create D:\\a 8192 7\n102 create D:\\b 1 7\n")
     ≡ codes "1 ok\n2 ok\n3 refused QuotaExceeded 12288 10240 D:\\\n"
+
+-- a byte takes a whole cluster, of whatever size the store has
+abbrev pub large_clusters : Type 0
+large_clusters =
+    text (record default_capacity { cluster = 65536 }) new_rows (codes "100 create D:\\a 1 1\n100 usage D:\\\n")
+    ≡ codes "1 ok\n2 ok\n  65536 D:\\\n"
+
+abbrev pub small_clusters : Type 0
+small_clusters =
+    text (record default_capacity { cluster = 512 }) new_rows (codes "100 dirquota quota add /Path:D:\\ /Limit:1kb\n100 create D:\\a 513 1\n100 create D:\\b 1 1\n")
+    ≡ codes "1 ok\n2 ok\n3 refused QuotaExceeded 1536 1024 D:\\\n"
 
 -- the quota of a folder above may be the one that refuses
 abbrev pub nested_quotas : Type 0

@@ -1,7 +1,8 @@
 //! Commands and what becomes of them.
 
 use crate::path::Path;
-use crate::row::ActionKind;
+use crate::row::{Action, ActionKind};
+use fsrm_base::{List, Text};
 
 /// Why a command is refused. A refused command changes nothing. Those up to `InvalidLimit` come from
 /// reading the line alone.
@@ -64,7 +65,16 @@ pub enum FileOp {
     Remove { path: Path },
 }
 
-/// What a command is to do.
+/// An action that a threshold gets, and the threshold itself where it isn't there. The action has no last run.
+#[derive(Drop)]
+pub struct Added {
+    /// 1 to 250.
+    pub percent: u16,
+    pub action: Action,
+}
+
+/// What a command is to do. It has a field for each of its options, in the order of the command's syntax. A field that
+/// is None was not given; what stands for it then is the command's to say.
 #[derive(Drop)]
 pub enum Deed {
     File(FileOp),
@@ -77,19 +87,27 @@ pub enum Deed {
         n: u32,
     },
     /// Limits what the files at and below a folder take, in bytes (MS-FSRM, IFsrmQuota). A hard quota is
-    /// enforced, a soft one only watches.
+    /// enforced, a soft one only watches. It is hard where its type isn't given. No line gives a template or
+    /// thresholds so far.
     QuotaAdd {
         path: Path,
-        limit: u64,
-        enforce: bool,
+        limit: Option<u64>,
+        enforce: Option<bool>,
         enabled: bool,
+        source_template: Option<Text>,
+        add_threshold: List<u16>,
+        add_notification: List<Added>,
     },
-    /// Gives a quota another limit, makes it hard or soft, enables or disables it.
+    /// Gives a quota another limit, makes it hard or soft, enables or disables it. Its thresholds and its template
+    /// stay. No line gives thresholds so far.
     QuotaModify {
         path: Path,
         limit: Option<u64>,
         enforce: Option<bool>,
         enabled: Option<bool>,
+        remove_threshold: List<u16>,
+        add_threshold: List<u16>,
+        add_notification: List<Added>,
     },
     /// Takes a folder's quota away.
     QuotaDelete {

@@ -8,10 +8,8 @@ pub mod laws;
 pub mod path;
 pub mod row;
 pub mod space;
-#[cfg(test)]
-mod tests;
 
-pub use command::{Act, Answer, Ask, Command, Deed, FileOp, Outcome, Refusal, Subject};
+pub use command::{Act, Added, Answer, Ask, Command, Deed, FileOp, Outcome, Refusal, Subject};
 pub use fsrm_base::{Duplicate, Ledger, List, NoMemory, Steps, Text, Weightless, WeightlessPage};
 pub use path::Path;
 pub use row::{

@@ -14,6 +14,9 @@ pub struct Capacity {
     pub nodes: u32,
     /// Bytes of all names of nodes together: 256 to 268,435,456.
     pub names: u32,
+    /// Bytes of a cluster, the unit in which a file takes space: 512, 1,024, 2,048, 4,096, 8,192,
+    /// 16,384, 32,768 or 65,536.
+    pub cluster: u32,
 }
 
 /// A folder or a file. The root is number 0, its own parent, and has an empty name.

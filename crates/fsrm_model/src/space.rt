@@ -1,17 +1,17 @@
 //! The space that a file takes on the disk.
 
-ghost use Rattle.std.specs.Prelude.{◌≡◌, ◌≤◌};
-ghost use Rattle.fsrm_model.specs.declared.row.Capacity.{Capacity};
+ghost use Rattle.std.specs.Prelude.{◌≡◌, ◌≤◌, true};
+ghost use Rattle.fsrm_model.specs.Capacities.{is_cluster};
 ghost use Rattle.fsrm_model.specs.Limits.{longest_file};
-ghost use Rattle.fsrm_model.specs.Space.{alloc};
+ghost use Rattle.fsrm_model.specs.Space.{rounded};
 
-const CLUSTER: u64 = 4_096;
-
-/// A file's length in bytes, up to 17,592,185,978,880, rounded up to whole clusters.
-pub fn allocated(bytes: u64) -> u64
-    requires { bytes ≤ longest_file }
-    ensures space { (K : Capacity) → result ≡ alloc K bytes }
+/// A file's length in bytes, up to 17,592,185,978,880, rounded up to whole clusters of so many bytes.
+pub fn allocated(bytes: u64, cluster: u32) -> u64
+    requires bytes { bytes ≤ longest_file }
+    requires cluster { is_cluster cluster ≡ true }
+    ensures space { result ≡ rounded cluster bytes }
     ensures small { result ≤ longest_file }
 {
-    bytes.div_ceil(CLUSTER) * CLUSTER
+    let cluster = cluster as u64;
+    bytes.div_ceil(cluster) * cluster
 }

@@ -3,8 +3,6 @@
 
 mod answer;
 mod objects;
-#[cfg(test)]
-mod tests;
 
 pub use answer::ObjectFault;
 pub use objects::Objects;

@@ -10,8 +10,6 @@
 
 mod memory;
 mod real;
-#[cfg(test)]
-mod tests;
 mod traits;
 mod writing;
 

@@ -30,7 +30,7 @@ use Rattle.fsrm_model.specs.Reading.{Read}
 use Rattle.fsrm_model.specs.ScanWork.{scan_work, step_work}
 use Rattle.fsrm_model.specs.Script.{Replied, without_cr, replied, replied_to, line_cost}
 use Rattle.fsrm_model.specs.Step.{step, work, decided, accepted, lasted, unacted, unlasting}
-use Rattle.fsrm_model.specs.Text.{is_bare, head_line, reply}
+use Rattle.fsrm_model.specs.Text.{is_bare, head_line, reply, act_lines}
 use Rattle.fsrm_model.specs.Tree.{number, resolve, usage}
 use Rattle.fsrm_model.specs.Valid.{IsVolume, AreQuotas, IsStore}
 use Rattle.fsrm_model.specs.Work.{Work}
@@ -58,7 +58,7 @@ shown_behind before last text h = cc
 accepted_acts : (K : Capacity) (R : Rows) (moment : ℕ) (w : Work) → (accepted K R moment w).acts ≡ []
 accepted_acts K R moment w = by w.lasts
   where
-    by : (lasts : Bool) → (if lasts then lasted K (unacted (followed R w.effect)) moment w.outcome else unlasting (followed R w.effect) w.outcome).acts ≡ []
+    by : (lasts : Bool) → (if lasts then lasted K R (unacted (followed R w.effect)) moment w.outcome else unlasting (followed R w.effect) w.outcome).acts ≡ []
     by true = refl
     by false = refl
 
@@ -95,7 +95,10 @@ rows_read K R rows n line text c cr e h = h ∙ sym (ap (λ (r : Replied). r.row
 
 pub text_read : (K : Capacity) (R : Rows) (n : ℕ) (line text before last : List ℕ) (c : Command) → text ≡ without_cr line → read_line text ≡ Some (Ok c) → last ≡ before ++ reply K (step K R c).rows c.moment n (step K R c).outcome → last ≡ before ++ (replied K R n line).text
 text_read K R n line text before last c cr e h =
-    h ∙ ap (λ (ts : List ℕ). before ++ ts) (sym (ap (λ (r : Replied). r.text) (replied-read K R n line (Some (Ok c)) (sym (ap read_line cr) ∙ e))))
+    let s = step K R c in
+    let shown = reply K s.rows c.moment n s.outcome in
+    let whole : shown ++ act_lines s.rows s.acts ≡ shown = ap (λ acts. shown ++ act_lines s.rows acts) (acts_none K R c) ∙ append-nil shown in
+    h ∙ ap (λ (ts : List ℕ). before ++ ts) (sym (ap (λ (r : Replied). r.text) (replied-read K R n line (Some (Ok c)) (sym (ap read_line cr) ∙ e)) ∙ whole))
 
 pub cost_read : (K : Capacity) (R : Rows) (line text : List ℕ) (c : Command) → text ≡ without_cr line → read_line text ≡ Some (Ok c) → line_cost K R line ≡ cost R c + print_cost (step K R c).rows (step K R c).outcome
 cost_read K R line text c cr e = line_cost-read K R line (Some (Ok c)) (sym (ap read_line cr) ∙ e)

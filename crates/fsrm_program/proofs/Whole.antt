@@ -4,16 +4,17 @@ use Rattle.std.specs.Prelude.{Option, Some}
 use Rattle.std.specs.Io.KnownBytes.{append_known}
 use Rattle.std.proofs.lemmas.List.{append-nil, nil_from_length}
 use Rattle.std.proofs.Math.Seq.{drop-append_seam}
+use Rattle.fsrm_model.specs.declared.row.Capacity.{Capacity}
+use Rattle.fsrm_model.specs.declared.row.Rows.{Rows}
 use Rattle.fsrm_model.specs.Limits.{longest_script}
-use Rattle.fsrm_model.specs.Fresh.{default_capacity, new_rows}
-use Rattle.fsrm_model.specs.Script.{lines, spelled_lines, AreLines, text_from, fold_from, cost_from, script_cost}
+use Rattle.fsrm_model.specs.Script.{lines, spelled_lines, AreLines, text, text_from, fold_from, cost_from, script_cost}
 use Rattle.fsrm_model.proofs.ScriptLaws.{lines_spelled, text_from-append, cost_from-append}
 use Rattle.fsrm_program.specs.declared.status.Status.{Status}
 use Rattle.fsrm_program.specs.declared.status.Status.TheVariants.{Done, Usage, ReadFault, WriteFault, TooLong, NoMemory}
 use Rattle.fsrm_outside.specs.Shown.{IsFront, ShowsFront}
 use Rattle.fsrm_program.specs.Progress.{State, Leads, Halts, Breaks, start}
 use Rattle.fsrm_program.specs.Stops.{StopsAt, Reads, Finishes, FinishesFront, IsGivenUp}
-use Rattle.fsrm_program.specs.Answers.{whole_text, ShowsEnded, IsRun}
+use Rattle.fsrm_program.specs.Answers.{ShowsEnded, IsRun}
 use Rattle.fsrm_program.proofs.Feeding.{held_nothing, after, joined_text, joined_looks}
 use Rattle.fsrm_outside.proofs.Shown.{shows_then, shows_then_front}
 
@@ -22,17 +23,17 @@ front_of : (whole front back : List ℕ) → whole ≡ front ++ back → IsFront
 front_of whole front back e = (back, e)
 
 -- the script, where so much of it was taken and answered
-record Divides (looks : ℕ) (script : List ℕ) (ended : List (List ℕ)) (rest : List ℕ) : Type 0 where
-  text_is : whole_text script ≡ text_from default_capacity new_rows 1 ended ++ text_from default_capacity (fold_from default_capacity new_rows 1 ended) (1 + length ended) (lines rest)
-  cost_is : script_cost default_capacity new_rows script ≡ cost_from default_capacity new_rows 1 ended + cost_from default_capacity (fold_from default_capacity new_rows 1 ended) (1 + length ended) (lines rest)
+record Divides (K : Capacity) (R : Rows) (looks : ℕ) (script : List ℕ) (ended : List (List ℕ)) (rest : List ℕ) : Type 0 where
+  text_is : text K R script ≡ text_from K R 1 ended ++ text_from K (fold_from K R 1 ended) (1 + length ended) (lines rest)
+  cost_is : script_cost K R script ≡ cost_from K R 1 ended + cost_from K (fold_from K R 1 ended) (1 + length ended) (lines rest)
   lines_are : lines script ≡ ended ++ lines rest
 
-divides : (looks : ℕ) (script : List ℕ) (ended : List (List ℕ)) (rest : List ℕ) → AreLines ended → script ≡ spelled_lines ended ++ rest → Divides looks script ended rest
-divides looks script ended rest each e =
+divides : (K : Capacity) (R : Rows) (looks : ℕ) (script : List ℕ) (ended : List (List ℕ)) (rest : List ℕ) → AreLines ended → script ≡ spelled_lines ended ++ rest → Divides K R looks script ended rest
+divides K R looks script ended rest each e =
     let lines_are : lines script ≡ ended ++ lines rest = ap lines e ∙ lines_spelled ended rest each in
     record {
-      text_is = ap (text_from default_capacity new_rows 1) lines_are ∙ text_from-append default_capacity new_rows 1 ended (lines rest);
-      cost_is = ap (cost_from default_capacity new_rows 1) lines_are ∙ cost_from-append default_capacity new_rows 1 ended (lines rest);
+      text_is = ap (text_from K R 1) lines_are ∙ text_from-append K R 1 ended (lines rest);
+      cost_is = ap (cost_from K R 1) lines_are ∙ cost_from-append K R 1 ended (lines rest);
       lines_are = lines_are;
     }
 
@@ -41,8 +42,8 @@ record AllTaken (script bytes : List ℕ) (left : Option (List ℕ)) : Type 0 wh
   script_is : script ≡ bytes
   at_end : left ≡ Some []
 
-all_taken : (n : ℕ) (b : State) (script : List ℕ) (left s0 s1 : Option (List ℕ)) (r : Reads (start n) b (Some script) left s0 s1) → AllTaken script r.takes.bytes left
-all_taken n b script left s0 s1 r =
+all_taken : (K : Capacity) (R : Rows) (n : ℕ) (b : State) (script : List ℕ) (left s0 s1 : Option (List ℕ)) (r : Reads (start K R n) b (Some script) left s0 s1) → AllTaken script r.takes.bytes left
+all_taken K R n b script left s0 s1 r =
     let t = r.takes.taken.rest script refl in
     let none : t.0 ≡ [] = r.at_end.ended t.0 t.2 in
     record {
@@ -51,88 +52,88 @@ all_taken n b script left s0 s1 r =
     }
 
 -- the text and the looks of a script that was taken whole
-whole_is : (n : ℕ) (b : State) (script bytes s : List ℕ) (l : Leads (start n) b bytes s) → script ≡ bytes → whole_text script ≡ s ++ text_from b.size b.rows b.line (lines l.next)
-whole_is n b script bytes s l e =
-    ap (text_from default_capacity new_rows 1) (divides n script l.ended l.next l.each (e ∙ l.stream_is)).lines_are
-    ∙ sym (joined_text (start n) b l.ended (lines l.next) (after (start n) b bytes s l))
+whole_is : (K : Capacity) (R : Rows) (n : ℕ) (b : State) (script bytes s : List ℕ) (l : Leads (start K R n) b bytes s) → script ≡ bytes → text K R script ≡ s ++ text_from b.size b.rows b.line (lines l.next)
+whole_is K R n b script bytes s l e =
+    ap (text_from K R 1) (divides K R n script l.ended l.next l.each (e ∙ l.stream_is)).lines_are
+    ∙ sym (joined_text (start K R n) b l.ended (lines l.next) (after (start K R n) b bytes s l))
     ∙ ap (λ (ts : List ℕ). ts ++ text_from b.size b.rows b.line (lines l.next)) (sym l.text_is)
 
-cost_whole : (n looks : ℕ) (b : State) (script bytes s : List ℕ) (l : Leads (start n) b bytes s) → script ≡ bytes → looks ≤ b.looks + cost_from b.size b.rows b.line (lines l.next) → looks ≤ n + script_cost default_capacity new_rows script
-cost_whole n looks b script bytes s l e few =
-    let all : looks ≤ n + cost_from default_capacity new_rows 1 (l.ended ++ lines l.next) = joined_looks (start n) b l.ended (lines l.next) looks (after (start n) b bytes s l) l.looks_are few in
-    let same : cost_from default_capacity new_rows 1 (lines script) ≡ cost_from default_capacity new_rows 1 (l.ended ++ lines l.next) = ap (cost_from default_capacity new_rows 1) (divides n script l.ended l.next l.each (e ∙ l.stream_is)).lines_are in
+cost_whole : (K : Capacity) (R : Rows) (n looks : ℕ) (b : State) (script bytes s : List ℕ) (l : Leads (start K R n) b bytes s) → script ≡ bytes → looks ≤ b.looks + cost_from b.size b.rows b.line (lines l.next) → looks ≤ n + script_cost K R script
+cost_whole K R n looks b script bytes s l e few =
+    let all : looks ≤ n + cost_from K R 1 (l.ended ++ lines l.next) = joined_looks (start K R n) b l.ended (lines l.next) looks (after (start K R n) b bytes s l) l.looks_are few in
+    let same : cost_from K R 1 (lines script) ≡ cost_from K R 1 (l.ended ++ lines l.next) = ap (cost_from K R 1) (divides K R n script l.ended l.next l.each (e ∙ l.stream_is)).lines_are in
     omega (arith, all, same)
 
 -- the run came to the end
-pub done_run : (n looks : ℕ) (b : State) (script : List ℕ) (l1 l2 s0 s1 s2 : Option (List ℕ)) → l2 ≡ l1 → Reads (start n) b (Some script) l1 s0 s1 → Finishes b looks s1 s2 → IsRun Done script n looks l2 s0 s2
-done_run n looks b script l1 l2 s0 s1 s2 left r f =
-    let all = all_taken n b script l1 s0 s1 r in
+pub done_run : (K : Capacity) (R : Rows) (n looks : ℕ) (b : State) (script : List ℕ) (l1 l2 s0 s1 s2 : Option (List ℕ)) → l2 ≡ l1 → Reads (start K R n) b (Some script) l1 s0 s1 → Finishes b looks s1 s2 → IsRun K R Done script n looks l2 s0 s2
+done_run K R n looks b script l1 l2 s0 s1 s2 left r f =
+    let all = all_taken K R n b script l1 s0 s1 r in
     let l = r.takes.fed.goes [] held_nothing in
-    let text_is : whole_text script ≡ r.takes.text ++ f.text = whole_is n b script r.takes.bytes r.takes.text l all.script_is ∙ ap (λ (ts : List ℕ). r.takes.text ++ ts) (sym (f.ends.text_is l.next l.held)) in
-    let shown : s2 ≡ append_known s0 (whole_text script) = shows_then s0 s1 s2 r.takes.text f.text r.takes.shown f.shown ∙ ap (append_known s0) (sym text_is) in
+    let text_is : text K R script ≡ r.takes.text ++ f.text = whole_is K R n b script r.takes.bytes r.takes.text l all.script_is ∙ ap (λ (ts : List ℕ). r.takes.text ++ ts) (sym (f.ends.text_is l.next l.held)) in
+    let shown : s2 ≡ append_known s0 (text K R script) = shows_then s0 s1 s2 r.takes.text f.text r.takes.shown f.shown ∙ ap (append_known s0) (sym text_is) in
     record {
       whole = λ e. record { at_end = left ∙ all.at_end; text_shown = shown; short = omega (arith, r.short, r.takes.count_is, ap length all.script_is) };
-      front = record { front = whole_text script; shown = shown; is_front = ([], sym (append-nil (whole_text script))) };
+      front = record { front = text K R script; shown = shown; is_front = ([], sym (append-nil (text K R script))) };
       too_long = λ e. cc;
       ended = tt;
-      looks = cost_whole n looks b script r.takes.bytes r.takes.text l all.script_is (f.ends.looks_are l.next l.held);
+      looks = cost_whole K R n looks b script r.takes.bytes r.takes.text l all.script_is (f.ends.looks_are l.next l.held);
     }
 
 -- a fact of a run that was given up, which no read ended
-record IsFrontRun (script : List ℕ) (n looks : ℕ) (s0 s2 : Option (List ℕ)) : Type 0 where
-  front : ShowsFront s0 s2 (whole_text script)
-  few : looks ≤ n + script_cost default_capacity new_rows script
+record IsFrontRun (K : Capacity) (R : Rows) (script : List ℕ) (n looks : ℕ) (s0 s2 : Option (List ℕ)) : Type 0 where
+  front : ShowsFront s0 s2 (text K R script)
+  few : looks ≤ n + script_cost K R script
 
-given_up : (status : Status) (script : List ℕ) (n looks : ℕ) (left s0 s2 : Option (List ℕ)) → IsGivenUp status → IsFrontRun script n looks s0 s2 → IsRun status script n looks left s0 s2
-given_up WriteFault script n looks left s0 s2 is f = record { whole = λ e. cc; front = f.front; too_long = λ e. cc; ended = tt; looks = f.few }
-given_up NoMemory script n looks left s0 s2 is f = record { whole = λ e. cc; front = f.front; too_long = λ e. cc; ended = tt; looks = f.few }
-given_up Done script n looks left s0 s2 is f = absurd is
-given_up Usage script n looks left s0 s2 is f = absurd is
-given_up ReadFault script n looks left s0 s2 is f = absurd is
-given_up TooLong script n looks left s0 s2 is f = absurd is
+given_up : (K : Capacity) (R : Rows) (status : Status) (script : List ℕ) (n looks : ℕ) (left s0 s2 : Option (List ℕ)) → IsGivenUp status → IsFrontRun K R script n looks s0 s2 → IsRun K R status script n looks left s0 s2
+given_up K R WriteFault script n looks left s0 s2 is f = record { whole = λ e. cc; front = f.front; too_long = λ e. cc; ended = tt; looks = f.few }
+given_up K R NoMemory script n looks left s0 s2 is f = record { whole = λ e. cc; front = f.front; too_long = λ e. cc; ended = tt; looks = f.few }
+given_up K R Done script n looks left s0 s2 is f = absurd is
+given_up K R Usage script n looks left s0 s2 is f = absurd is
+given_up K R ReadFault script n looks left s0 s2 is f = absurd is
+given_up K R TooLong script n looks left s0 s2 is f = absurd is
 
 -- the run was given up at its last line
-pub last_run : (status : Status) (n looks : ℕ) (b : State) (script : List ℕ) (l1 l2 s0 s1 s2 : Option (List ℕ)) → IsGivenUp status → Reads (start n) b (Some script) l1 s0 s1 → FinishesFront b looks s1 s2 → IsRun status script n looks l2 s0 s2
-last_run status n looks b script l1 l2 s0 s1 s2 is r f =
-    let all = all_taken n b script l1 s0 s1 r in
+pub last_run : (K : Capacity) (R : Rows) (status : Status) (n looks : ℕ) (b : State) (script : List ℕ) (l1 l2 s0 s1 s2 : Option (List ℕ)) → IsGivenUp status → Reads (start K R n) b (Some script) l1 s0 s1 → FinishesFront b looks s1 s2 → IsRun K R status script n looks l2 s0 s2
+last_run K R status n looks b script l1 l2 s0 s1 s2 is r f =
+    let all = all_taken K R n b script l1 s0 s1 r in
     let l = r.takes.fed.goes [] held_nothing in
-    let text_is = whole_is n b script r.takes.bytes r.takes.text l all.script_is in
+    let text_is = whole_is K R n b script r.takes.bytes r.takes.text l all.script_is in
     let last : ShowsFront s1 s2 (text_from b.size b.rows b.line (lines l.next)) = record { front = f.written; shown = f.shown; is_front = f.front l.next l.held } in
-    given_up status script n looks l2 s0 s2 is (record {
+    given_up K R status script n looks l2 s0 s2 is (record {
       front = subst (ShowsFront s0 s2) (sym text_is) (shows_then_front s0 s1 s2 r.takes.text (text_from b.size b.rows b.line (lines l.next)) r.takes.shown last);
-      few = cost_whole n looks b script r.takes.bytes r.takes.text l all.script_is (f.looks_are.looks_are l.next l.held);
+      few = cost_whole K R n looks b script r.takes.bytes r.takes.text l all.script_is (f.looks_are.looks_are l.next l.held);
     })
 
--- a front of the text of whole lines that the script begins with
-begins : (n : ℕ) (script rest written : List ℕ) (ended : List (List ℕ)) (s0 s2 : Option (List ℕ)) → AreLines ended → script ≡ spelled_lines ended ++ rest → s2 ≡ append_known s0 written → IsFront written (text_from default_capacity new_rows 1 ended) → ShowsFront s0 s2 (whole_text script)
-begins n script rest written ended s0 s2 each e shown front =
-    let back = text_from default_capacity (fold_from default_capacity new_rows 1 ended) (1 + length ended) (lines rest) in
+-- a front of the text of whole lines that the script begins K R with
+begins : (K : Capacity) (R : Rows) (n : ℕ) (script rest written : List ℕ) (ended : List (List ℕ)) (s0 s2 : Option (List ℕ)) → AreLines ended → script ≡ spelled_lines ended ++ rest → s2 ≡ append_known s0 written → IsFront written (text_from K R 1 ended) → ShowsFront s0 s2 (text K R script)
+begins K R n script rest written ended s0 s2 each e shown front =
+    let back = text_from K (fold_from K R 1 ended) (1 + length ended) (lines rest) in
     record {
       front = written;
       shown = shown;
       is_front = (
         front.0 ++ back,
-        (divides n script ended rest each e).text_is ∙ ap (λ (ts : List ℕ). ts ++ back) front.1 ∙ append_assoc written front.0 back,
+        (divides K R n script ended rest each e).text_is ∙ ap (λ (ts : List ℕ). ts ++ back) front.1 ∙ append_assoc written front.0 back,
       );
     }
 
-few_looks : (n looks : ℕ) (script rest : List ℕ) (ended : List (List ℕ)) → AreLines ended → script ≡ spelled_lines ended ++ rest → looks ≤ n + cost_from default_capacity new_rows 1 ended → looks ≤ n + script_cost default_capacity new_rows script
-few_looks n looks script rest ended each e few = omega (arith, (divides n script ended rest each e).cost_is)
+few_looks : (K : Capacity) (R : Rows) (n looks : ℕ) (script rest : List ℕ) (ended : List (List ℕ)) → AreLines ended → script ≡ spelled_lines ended ++ rest → looks ≤ n + cost_from K R 1 ended → looks ≤ n + script_cost K R script
+few_looks K R n looks script rest ended each e few = omega (arith, (divides K R n script ended rest each e).cost_is)
 
-breaks_run : (status : Status) (n looks : ℕ) (script : List ℕ) (l2 s0 s2 : Option (List ℕ)) → IsGivenUp status → Breaks (start n) looks (Some script) l2 s0 s2 → IsRun status script n looks l2 s0 s2
-breaks_run status n looks script l2 s0 s2 is p =
+breaks_run : (K : Capacity) (R : Rows) (status : Status) (n looks : ℕ) (script : List ℕ) (l2 s0 s2 : Option (List ℕ)) → IsGivenUp status → Breaks (start K R n) looks (Some script) l2 s0 s2 → IsRun K R status script n looks l2 s0 s2
+breaks_run K R status n looks script l2 s0 s2 is p =
     let t = p.taken.rest script refl in
     let b = p.broken.breaks [] held_nothing in
     let e : script ≡ spelled_lines b.ended ++ (b.rest ++ t.0) = t.1 ∙ ap (λ (bs : List ℕ). bs ++ t.0) b.stream_is ∙ append_assoc (spelled_lines b.ended) b.rest t.0 in
-    given_up status script n looks l2 s0 s2 is (record {
-      front = begins n script (b.rest ++ t.0) p.written b.ended s0 s2 b.each e p.shown b.front;
-      few = few_looks n looks script (b.rest ++ t.0) b.ended b.each e b.looks_are;
+    given_up K R status script n looks l2 s0 s2 is (record {
+      front = begins K R n script (b.rest ++ t.0) p.written b.ended s0 s2 b.each e p.shown b.front;
+      few = few_looks K R n looks script (b.rest ++ t.0) b.ended b.each e b.looks_are;
     })
 
 -- a read ended the run
-record IsHalted (script : List ℕ) (n looks count lost : ℕ) (left s0 s2 : Option (List ℕ)) : Type 0 where
-  front : ShowsFront s0 s2 (whole_text script)
-  few : looks ≤ n + script_cost default_capacity new_rows script
+record IsHalted (K : Capacity) (R : Rows) (script : List ℕ) (n looks count lost : ℕ) (left s0 s2 : Option (List ℕ)) : Type 0 where
+  front : ShowsFront s0 s2 (text K R script)
+  few : looks ≤ n + script_cost K R script
   taken : List ℕ
   more : List ℕ
   rest : List ℕ
@@ -140,17 +141,17 @@ record IsHalted (script : List ℕ) (n looks count lost : ℕ) (left s0 s2 : Opt
   count_is : length taken ≡ count
   lost_are : length more ≡ lost
   left_is : left ≡ Some rest
-  shows : ShowsEnded script taken s0 s2
+  shows : ShowsEnded K R taken s0 s2
 
-halted : (n count lost : ℕ) (c : State) (script : List ℕ) (l2 s0 s2 : Option (List ℕ)) → Halts (start n) c (Some script) l2 s0 s2 count lost → IsHalted script n c.looks count lost l2 s0 s2
-halted n count lost c script l2 s0 s2 p =
+halted : (K : Capacity) (R : Rows) (n count lost : ℕ) (c : State) (script : List ℕ) (l2 s0 s2 : Option (List ℕ)) → Halts (start K R n) c (Some script) l2 s0 s2 count lost → IsHalted K R script n c.looks count lost l2 s0 s2
+halted K R n count lost c script l2 s0 s2 p =
     let t = p.taken.rest script refl in
     let l = p.fed.goes [] held_nothing in
     let is : script ≡ p.bytes ++ (p.more ++ t.0) = t.1 ∙ append_assoc p.bytes p.more t.0 in
     let e : script ≡ spelled_lines l.ended ++ (l.next ++ (p.more ++ t.0)) = is ∙ ap (λ (bs : List ℕ). bs ++ (p.more ++ t.0)) l.stream_is ∙ append_assoc (spelled_lines l.ended) l.next (p.more ++ t.0) in
     record {
-      front = begins n script (l.next ++ (p.more ++ t.0)) p.text l.ended s0 s2 l.each e p.shown ([], sym l.text_is ∙ sym (append-nil p.text));
-      few = few_looks n c.looks script (l.next ++ (p.more ++ t.0)) l.ended l.each e l.looks_are;
+      front = begins K R n script (l.next ++ (p.more ++ t.0)) p.text l.ended s0 s2 l.each e p.shown ([], sym l.text_is ∙ sym (append-nil p.text));
+      few = few_looks K R n c.looks script (l.next ++ (p.more ++ t.0)) l.ended l.each e l.looks_are;
       taken = p.bytes;
       more = p.more;
       rest = t.0;
@@ -168,8 +169,8 @@ halted n count lost c script l2 s0 s2 p =
       };
     }
 
-read_fault_run : (n count : ℕ) (c : State) (script : List ℕ) (l2 s0 s2 : Option (List ℕ)) → IsHalted script n c.looks count 0 l2 s0 s2 → IsRun ReadFault script n c.looks l2 s0 s2
-read_fault_run n count c script l2 s0 s2 h =
+read_fault_run : (K : Capacity) (R : Rows) (n count : ℕ) (c : State) (script : List ℕ) (l2 s0 s2 : Option (List ℕ)) → IsHalted K R script n c.looks count 0 l2 s0 s2 → IsRun K R ReadFault script n c.looks l2 s0 s2
+read_fault_run K R n count c script l2 s0 s2 h =
     let none : h.more ≡ [] = nil_from_length h.more h.lost_are in
     let same : h.rest ≡ h.more ++ h.rest = ap (λ (bs : List ℕ). bs ++ h.rest) (sym none) in
     record {
@@ -180,8 +181,8 @@ read_fault_run n count c script l2 s0 s2 h =
       looks = h.few;
     }
 
-too_long_run : (n count : ℕ) (c : State) (script : List ℕ) (l2 s0 s2 : Option (List ℕ)) → count ≡ longest_script → IsHalted script n c.looks count 1 l2 s0 s2 → IsRun TooLong script n c.looks l2 s0 s2
-too_long_run n count c script l2 s0 s2 full h =
+too_long_run : (K : Capacity) (R : Rows) (n count : ℕ) (c : State) (script : List ℕ) (l2 s0 s2 : Option (List ℕ)) → count ≡ longest_script → IsHalted K R script n c.looks count 1 l2 s0 s2 → IsRun K R TooLong script n c.looks l2 s0 s2
+too_long_run K R n count c script l2 s0 s2 full h =
     let whole = h.taken ++ h.more in
     let is : script ≡ whole ++ h.rest = h.script_is ∙ sym (append_assoc h.taken h.more h.rest) in
     let long : length whole ≡ longest_script + 1 = omega (arith, length-append h.taken h.more, h.count_is, h.lost_are) in
@@ -195,10 +196,10 @@ too_long_run n count c script l2 s0 s2 full h =
     }
 
 -- a status ended the run
-pub stopped_run : (status : Status) (n : ℕ) (c : State) (script : List ℕ) (l2 s0 s2 : Option (List ℕ)) → StopsAt status (start n) c (Some script) l2 s0 s2 → IsRun status script n c.looks l2 s0 s2
-stopped_run ReadFault n c script l2 s0 s2 p = read_fault_run n p.count c script l2 s0 s2 (halted n p.count 0 c script l2 s0 s2 p.stops)
-stopped_run TooLong n c script l2 s0 s2 p = too_long_run n p.count c script l2 s0 s2 (p.full refl) (halted n p.count 1 c script l2 s0 s2 p.stops)
-stopped_run WriteFault n c script l2 s0 s2 p = breaks_run WriteFault n c.looks script l2 s0 s2 tt p.stops
-stopped_run NoMemory n c script l2 s0 s2 p = breaks_run NoMemory n c.looks script l2 s0 s2 tt p.stops
-stopped_run Done n c script l2 s0 s2 p = absurd p.stops
-stopped_run Usage n c script l2 s0 s2 p = absurd p.stops
+pub stopped_run : (K : Capacity) (R : Rows) (status : Status) (n : ℕ) (c : State) (script : List ℕ) (l2 s0 s2 : Option (List ℕ)) → StopsAt status (start K R n) c (Some script) l2 s0 s2 → IsRun K R status script n c.looks l2 s0 s2
+stopped_run K R ReadFault n c script l2 s0 s2 p = read_fault_run K R n p.count c script l2 s0 s2 (halted K R n p.count 0 c script l2 s0 s2 p.stops)
+stopped_run K R TooLong n c script l2 s0 s2 p = too_long_run K R n p.count c script l2 s0 s2 (p.full refl) (halted K R n p.count 1 c script l2 s0 s2 p.stops)
+stopped_run K R WriteFault n c script l2 s0 s2 p = breaks_run K R WriteFault n c.looks script l2 s0 s2 tt p.stops
+stopped_run K R NoMemory n c script l2 s0 s2 p = breaks_run K R NoMemory n c.looks script l2 s0 s2 tt p.stops
+stopped_run K R Done n c script l2 s0 s2 p = absurd p.stops
+stopped_run K R Usage n c script l2 s0 s2 p = absurd p.stops

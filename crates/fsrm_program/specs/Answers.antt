@@ -3,24 +3,21 @@ use Rattle.std.specs.Prelude.{◌≡◌, ℕ, ◌+◌, ◌≤◌, ◌<◌, List,
 use Rattle.std.specs.List.{list_any}
 use Rattle.std.specs.Io.KnownBytes.{append_known}
 use Rattle.fsrm_model.specs.Limits.{longest_script}
-use Rattle.fsrm_model.specs.Fresh.{default_capacity, new_rows}
+use Rattle.fsrm_model.specs.declared.row.Capacity.{Capacity}
+use Rattle.fsrm_model.specs.declared.row.Rows.{Rows}
 use Rattle.fsrm_model.specs.Script.{text, text_from, script_cost, is_end, spelled_lines, AreLines}
 use Rattle.fsrm_program.specs.declared.status.Status.{Status}
-use Rattle.fsrm_program.specs.declared.status.Status.TheVariants.{Done, ReadFault, TooLong, NoMemory}
+use Rattle.fsrm_program.specs.declared.status.Status.TheVariants.{Done, ReadFault, WriteFault, TooLong, NoMemory}
 use Rattle.fsrm_outside.specs.Shown.{ShowsFront}
 
 -- the words that the program takes
 abbrev pub AreWords : List (List ℕ) → Type 0
 AreWords words = words ≡ codes "replay" ∷ []
 
--- the text of a script over a new volume
-abbrev pub whole_text : List ℕ → List ℕ
-whole_text script = text default_capacity new_rows script
-
--- the script was read to its end, and its whole text was shown
-pub record IsWhole (script : List ℕ) (left shown_before shown_after : Option (List ℕ)) : Type 0 where
+-- the script was read to its end, and its whole text over these rows was shown
+pub record IsWhole (K : Capacity) (R : Rows) (script : List ℕ) (left shown_before shown_after : Option (List ℕ)) : Type 0 where
   pub at_end : left ≡ Some []
-  pub text_shown : shown_after ≡ append_known shown_before (whole_text script)
+  pub text_shown : shown_after ≡ append_known shown_before (text K R script)
   pub short : length script ≤ longest_script
 
 -- the script has more bytes than are read, and one of them was taken
@@ -34,22 +31,22 @@ most_taken TooLong = longest_script + 1
 most_taken other = longest_script
 
 -- the text of the lines that an LF ended in what was taken was shown, and nothing else
-pub record ShowsEnded (script : List ℕ) (taken : List ℕ) (shown_before shown_after : Option (List ℕ)) : Type 0 where
+pub record ShowsEnded (K : Capacity) (R : Rows) (taken : List ℕ) (shown_before shown_after : Option (List ℕ)) : Type 0 where
   pub ended : List (List ℕ)
   pub next : List ℕ
   pub each : AreLines ended
   pub no_end : list_any is_end next ≡ false
   pub taken_is : taken ≡ spelled_lines ended ++ next
-  pub shown : shown_after ≡ append_known shown_before (text_from default_capacity new_rows 1 ended)
+  pub shown : shown_after ≡ append_known shown_before (text_from K R 1 ended)
 
 -- what was taken where a read ended the run; of a script that is too long, as much of it as is read
-pub record IsEnded (status : Status) (script : List ℕ) (left shown_before shown_after : Option (List ℕ)) : Type 0 where
+pub record IsEnded (K : Capacity) (R : Rows) (status : Status) (script : List ℕ) (left shown_before shown_after : Option (List ℕ)) : Type 0 where
   pub taken : List ℕ
   pub rest : List ℕ
   pub script_is : script ≡ taken ++ rest
   pub full : status ≡ TooLong → length taken ≡ longest_script
   pub left_is : status ≡ ReadFault → left ≡ Some rest
-  pub shows : ShowsEnded script taken shown_before shown_after
+  pub shows : ShowsEnded K R taken shown_before shown_after
 
 -- a fact for a run that a read ended
 abbrev pub OnReadStop : Status → Type 0 → Type 0
@@ -57,16 +54,28 @@ OnReadStop ReadFault P = P
 OnReadStop TooLong P = P
 OnReadStop other P = Unit {0}
 
+-- no read failed, unless the status says so
+abbrev pub KeepsReads : Status → ℕ → ℕ → Type 0
+KeepsReads ReadFault before now = Unit {0}
+KeepsReads other before now = now ≡ before
+
+-- no write failed, unless the status says so. After a read that ended the run replies are still written, and a write may fail
+abbrev pub KeepsWrites : Status → ℕ → ℕ → Type 0
+KeepsWrites WriteFault before now = Unit {0}
+KeepsWrites ReadFault before now = Unit {0}
+KeepsWrites TooLong before now = Unit {0}
+KeepsWrites other before now = now ≡ before
+
 -- the answers of a run over which no device failed
 abbrev pub IsDoneOrNoMemory : Status → Type 0
 IsDoneOrNoMemory Done = Unit {0}
 IsDoneOrNoMemory NoMemory = Unit {0}
 IsDoneOrNoMemory other = ⊥
 
--- what a run over a script that is told comes to
-pub record IsRun (status : Status) (script : List ℕ) (looks_before looks_after : ℕ) (left shown_before shown_after : Option (List ℕ)) : Type 0 where
-  pub whole : status ≡ Done → IsWhole script left shown_before shown_after
-  pub front : ShowsFront shown_before shown_after (whole_text script)
+-- what a run over these rows, and a script that is told, comes to
+pub record IsRun (K : Capacity) (R : Rows) (status : Status) (script : List ℕ) (looks_before looks_after : ℕ) (left shown_before shown_after : Option (List ℕ)) : Type 0 where
+  pub whole : status ≡ Done → IsWhole K R script left shown_before shown_after
+  pub front : ShowsFront shown_before shown_after (text K R script)
   pub too_long : status ≡ TooLong → IsTooLong script left
-  pub ended : OnReadStop status (IsEnded status script left shown_before shown_after)
-  pub looks : looks_after ≤ looks_before + script_cost default_capacity new_rows script
+  pub ended : OnReadStop status (IsEnded K R status script left shown_before shown_after)
+  pub looks : looks_after ≤ looks_before + script_cost K R script

@@ -4,7 +4,6 @@ use Rattle.std.specs.List.{list_any}
 use Rattle.std.specs.Io.KnownBytes.{append_known}
 use Rattle.fsrm_model.specs.declared.row.Capacity.{Capacity}
 use Rattle.fsrm_model.specs.declared.row.Rows.{Rows}
-use Rattle.fsrm_model.specs.Fresh.{default_capacity, new_rows}
 use Rattle.fsrm_model.specs.Limits.{longest_line}
 use Rattle.fsrm_model.specs.Script.{is_end, lines, spelled_lines, AreLines, text_from, fold_from, cost_from}
 use Rattle.fsrm_outside.specs.Shown.{IsFront}
@@ -20,9 +19,9 @@ pub record State : Type 0 where
   -- how many looks at nodes were taken
   pub looks : ℕ
 
--- before the first byte
-abbrev pub start : ℕ → State
-start looks = record { size = default_capacity; line = 1; rows = new_rows; held = []; looks = looks }
+-- before the first byte, over these rows
+abbrev pub start : Capacity → Rows → ℕ → State
+start K R looks = record { size = K; line = 1; rows = R; held = []; looks = looks }
 
 -- What is kept of the beginning of a line: all of one that may be read, and of a longer one two bytes more
 -- than that, of which one may be a CR.

@@ -6,12 +6,8 @@ mod batch;
 mod pieces;
 mod program;
 mod replay;
-#[cfg(test)]
-mod scan_tests;
 mod session;
 mod status;
-#[cfg(test)]
-mod tests;
 mod writing;
 
 pub use program::run;

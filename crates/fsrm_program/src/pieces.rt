@@ -1,8 +1,9 @@
 //! Reads a script in pieces, up to the longest script.
 
-ghost use Rattle.std.specs.Prelude.{◌≡◌, ◌≤◌, ◌<◌, ◌+◌, length, take, IfOk, IfErr, OnErr, IsErrOf};
+ghost use Rattle.std.specs.Prelude.{◌≡◌, ◌≤◌, ◌<◌, ◌+◌, length, take, IfOk, IfErr, OnErr, IsErrOf, MatchResult};
 ghost use Rattle.fsrm_model.specs.Limits.{longest_script};
 ghost use Rattle.fsrm_outside.specs.Causes.{HasCause, Rose};
+ghost use Rattle.fsrm_program.specs.Answers.{KeepsReads};
 ghost use Rattle.fsrm_program.specs.Bytes.{Taken, IsAtEnd};
 ghost use Rattle.fsrm_program.specs.Stops.{Loses};
 
@@ -59,6 +60,7 @@ pub fn next_piece<O: Outside>(
     ensures full { IsErrOf result Status.TooLong → taken ≡ longest_script }
     ensures later { O.read_faults outside.old ≤ O.read_faults outside.new }
     ensures cause { IsErrOf result Status.ReadFault → Rose (O.read_faults outside.old) (O.read_faults outside.new) }
+    ensures kept { MatchResult result (λ _. O.read_faults outside.new ≡ O.read_faults outside.old) (λ status. KeepsReads status (O.read_faults outside.old) (O.read_faults outside.new)) }
     ensures by { O.by_read outside.old outside.new }
 {
     let room = room_for(taken, buffer.len());

@@ -5,11 +5,11 @@ ghost use Rattle.std.specs.Option.{ForSome};
 ghost use Rattle.std.specs.String.{string_bytes};
 ghost use Rattle.fsrm_model.specs.Fresh.{default_capacity, new_rows};
 ghost use Rattle.fsrm_model.specs.Limits.{longest_script};
-ghost use Rattle.fsrm_model.specs.Script.{script_cost};
+ghost use Rattle.fsrm_model.specs.Script.{text, script_cost};
 ghost use Rattle.fsrm_outside.specs.Causes.{Rose};
 ghost use Rattle.fsrm_outside.specs.Shown.{ShowsFront};
 ghost use Rattle.fsrm_program.specs.Bytes.{TakenMost};
-ghost use Rattle.fsrm_program.specs.Answers.{AreWords, whole_text, IsWhole, IsTooLong, most_taken, IsEnded, OnReadStop, IsDoneOrNoMemory};
+ghost use Rattle.fsrm_program.specs.Answers.{AreWords, IsWhole, IsTooLong, most_taken, IsEnded, OnReadStop, IsDoneOrNoMemory, KeepsReads, KeepsWrites};
 
 use crate::replay::replay;
 use crate::status::Status;
@@ -27,8 +27,8 @@ fn are_words(words: &[String]) -> bool
 }
 
 /// Does what the words ask for. The one word `replay` reads a script from the source to its end, and writes
-/// the plain machine's reply to each line, over a new volume of 65,536 nodes and 4,194,304 bytes of names.
-/// The script may be any bytes, in any pieces.
+/// the plain machine's reply to each line, over a new volume of 65,536 nodes, 4,194,304 bytes of names,
+/// and clusters of 4,096 bytes. The script may be any bytes, in any pieces.
 ///
 /// Clauses on what is read and written hold where the source tells what is left.
 pub fn run<O: Outside, L: Ledger>(
@@ -38,12 +38,12 @@ pub fn run<O: Outside, L: Ledger>(
     steps: &mut Steps<L>,
 ) -> Status
     // At Done the source is at its end, and what was added to what is shown is the script's whole text.
-    ensures text { ForSome (O.left outside.old) (λ script. result ≡ Status.Done → IsWhole script (O.left outside.new) (O.shown outside.old) (O.shown outside.new)) }
+    ensures text { ForSome (O.left outside.old) (λ script. result ≡ Status.Done → IsWhole default_capacity new_rows script (O.left outside.new) (O.shown outside.old) (O.shown outside.new)) }
     // At every status what was added is a prefix of it.
-    ensures prefix { ForSome (O.left outside.old) (λ script. ShowsFront (O.shown outside.old) (O.shown outside.new) (whole_text script)) }
+    ensures prefix { ForSome (O.left outside.old) (λ script. ShowsFront (O.shown outside.old) (O.shown outside.new) (text default_capacity new_rows script)) }
     // Where a read ended the run, it is the whole text of the lines that an LF ended in what was taken: at TooLong,
     // in the first 2^32 bytes.
-    ensures ended { ForSome (O.left outside.old) (λ script. OnReadStop result (IsEnded result script (O.left outside.new) (O.shown outside.old) (O.shown outside.new))) }
+    ensures ended { ForSome (O.left outside.old) (λ script. OnReadStop result (IsEnded default_capacity new_rows result script (O.left outside.new) (O.shown outside.old) (O.shown outside.new))) }
 
     // The answer is Usage exactly where the words aren't the one word; then nothing was read or written.
     ensures usage { (result ≡ Status.Usage) ↔ (AreWords (map string_bytes words.now) → ⊥) }
@@ -57,6 +57,9 @@ pub fn run<O: Outside, L: Ledger>(
     // Over devices that don't fail, a script of at most 2^32 bytes is done, but for want of memory.
     ensures complete { AreWords (map string_bytes words.now) → ForSome (O.left outside.old) (λ script. length script ≤ longest_script → (Rose (O.read_faults outside.old) (O.read_faults outside.new) → ⊥) → (Rose (O.write_faults outside.old) (O.write_faults outside.new) → ⊥) → IsDoneOrNoMemory result) }
 
+    // A failed read is told as ReadFault and a failed write as WriteFault, unless a read had ended the run before it.
+    ensures reads_kept { KeepsReads result (O.read_faults outside.old) (O.read_faults outside.new) }
+    ensures writes_kept { KeepsWrites result (O.write_faults outside.old) (O.write_faults outside.new) }
     // No count of faults falls.
     ensures read_later { O.read_faults outside.old ≤ O.read_faults outside.new }
     ensures write_later { O.write_faults outside.old ≤ O.write_faults outside.new }

@@ -1,14 +1,15 @@
 //! Runs a script over a new volume.
 
-ghost use Rattle.std.specs.Prelude.{◌≡◌, ℕ, ◌≤◌, ◌<◌, ◌+◌, ◌-◌, [], length, IfOk, IfErr, OnOk, OnErr, IsErrOf};
+ghost use Rattle.std.specs.Prelude.{◌≡◌, ℕ, ◌≤◌, ◌<◌, ◌+◌, ◌-◌, [], length, IfOk, IfErr, OnOk, OnErr, IsErrOf, MatchResult};
 ghost use Rattle.std.specs.Option.{ForSome};
+ghost use Rattle.fsrm_model.specs.Fresh.{default_capacity, new_rows};
 ghost use Rattle.fsrm_model.specs.Limits.{longest_script};
 ghost use Rattle.fsrm_outside.specs.Causes.{Rose};
 ghost use Rattle.fsrm_program.specs.Bytes.{IsAtEnd, TakenMost};
 ghost use Rattle.fsrm_program.specs.Progress.{State, Takes, start};
 ghost use Rattle.fsrm_program.specs.Held.{state_of};
 ghost use Rattle.fsrm_program.specs.Stops.{Stops, StopsAt, Reads, Finishes, FinishesFront, IsGivenUp};
-ghost use Rattle.fsrm_program.specs.Answers.{IsRun, most_taken};
+ghost use Rattle.fsrm_program.specs.Answers.{IsRun, KeepsReads, KeepsWrites, most_taken};
 
 use crate::batch::Batch;
 use crate::pieces::next_piece;
@@ -49,6 +50,8 @@ fn pass<O: Outside, L: Ledger>(
     ensures write_later { O.write_faults outside.old ≤ O.write_faults outside.new }
     ensures read_cause { IsErrOf result Status.ReadFault → Rose (O.read_faults outside.old) (O.read_faults outside.new) }
     ensures write_cause { IsErrOf result Status.WriteFault → Rose (O.write_faults outside.old) (O.write_faults outside.new) }
+    ensures reads_kept { MatchResult result (λ _. O.read_faults outside.new ≡ O.read_faults outside.old) (λ status. KeepsReads status (O.read_faults outside.old) (O.read_faults outside.new)) }
+    ensures writes_kept { MatchResult result (λ _. O.write_faults outside.new ≡ O.write_faults outside.old) (λ status. KeepsWrites status (O.write_faults outside.old) (O.write_faults outside.new)) }
 {
     let count = match next_piece(outside, buffer, taken) {
         Ok(count) => count,
@@ -82,6 +85,8 @@ fn read_all<O: Outside, L: Ledger>(
     ensures write_later { O.write_faults outside.old ≤ O.write_faults outside.new }
     ensures read_cause { IsErrOf result Status.ReadFault → Rose (O.read_faults outside.old) (O.read_faults outside.new) }
     ensures write_cause { IsErrOf result Status.WriteFault → Rose (O.write_faults outside.old) (O.write_faults outside.new) }
+    ensures reads_kept { MatchResult result (λ _. O.read_faults outside.new ≡ O.read_faults outside.old) (λ status. KeepsReads status (O.read_faults outside.old) (O.read_faults outside.new)) }
+    ensures writes_kept { MatchResult result (λ _. O.write_faults outside.new ≡ O.write_faults outside.old) (λ status. KeepsWrites status (O.write_faults outside.old) (O.write_faults outside.new)) }
 {
     let mut buffer = [0u8; PIECE];
     let mut taken = 0u64;
@@ -106,6 +111,7 @@ fn finish<S: Sink, L: Ledger>(
     ensures err { OnErr result (FinishesFront (state_of session.old steps.old) steps.new (S.shown sink.old) (S.shown sink.new)) }
     ensures later { S.write_faults sink.old ≤ S.write_faults sink.new }
     ensures cause { IsErrOf result Status.WriteFault → Rose (S.write_faults sink.old) (S.write_faults sink.new) }
+    ensures kept { MatchResult result (λ _. S.write_faults sink.new ≡ S.write_faults sink.old) (λ status. KeepsWrites status (S.write_faults sink.old) (S.write_faults sink.new)) }
     ensures only { IfErr result IsGivenUp }
     ensures by { S.by_write sink.old sink.new }
 {
@@ -121,13 +127,14 @@ fn finish<S: Sink, L: Ledger>(
 
 // Before the first byte: a volume with the root alone, of the default size.
 fn new_session(alloc: Global) -> Result<Session, NoMemory>
-    ensures state { IfOk result (λ session. (looks : ℕ) → state_of session looks ≡ start looks) }
+    ensures state { IfOk result (λ session. (looks : ℕ) → state_of session looks ≡ start default_capacity new_rows looks) }
     ensures written { IfOk result (λ session. session.replies.bytes.items ≡ []) }
     ensures idle { IfOk result (λ session. session.engine.waiting ≡ []) }
 {
     let size = Capacity {
         nodes: 65_536,
         names: 4_194_304,
+        cluster: 4_096,
     };
     Ok(Session {
         engine: Engine::new(alloc, size)?,
@@ -138,21 +145,23 @@ fn new_session(alloc: Global) -> Result<Session, NoMemory>
     })
 }
 
-// Runs the script over this volume.
+// Runs the script over this engine's rows.
 fn run_session<O: Outside, L: Ledger>(
     outside: &mut O,
     session: &mut Session,
     steps: &mut Steps<L>,
 ) -> Status
-    requires state { state_of session.old steps.old ≡ start steps.old }
+    requires state { state_of session.old steps.old ≡ start session.old.engine.size session.old.engine.rows steps.old }
     requires written { session.old.replies.bytes.items ≡ [] }
     requires idle { session.old.engine.waiting ≡ [] }
-    ensures run { ForSome (O.left outside.old) (λ script. IsRun result script steps.old steps.new (O.left outside.new) (O.shown outside.old) (O.shown outside.new)) }
+    ensures run { ForSome (O.left outside.old) (λ script. IsRun session.old.engine.size session.old.engine.rows result script steps.old steps.new (O.left outside.new) (O.shown outside.old) (O.shown outside.new)) }
     ensures taken { TakenMost (O.left outside.old) (O.left outside.new) (most_taken result) }
     ensures read_later { O.read_faults outside.old ≤ O.read_faults outside.new }
     ensures write_later { O.write_faults outside.old ≤ O.write_faults outside.new }
     ensures read_cause { result ≡ Status.ReadFault → Rose (O.read_faults outside.old) (O.read_faults outside.new) }
     ensures write_cause { result ≡ Status.WriteFault → Rose (O.write_faults outside.old) (O.write_faults outside.new) }
+    ensures reads_kept { KeepsReads result (O.read_faults outside.old) (O.read_faults outside.new) }
+    ensures writes_kept { KeepsWrites result (O.write_faults outside.old) (O.write_faults outside.new) }
     ensures no_usage { result ≡ Status.Usage → ⊥ }
 {
     match read_all(outside, session, steps) {
@@ -167,12 +176,14 @@ fn run_session<O: Outside, L: Ledger>(
 
 /// Runs the script over a new volume.
 pub fn replay<O: Outside, L: Ledger>(alloc: Global, outside: &mut O, steps: &mut Steps<L>) -> Status
-    ensures run { ForSome (O.left outside.old) (λ script. IsRun result script steps.old steps.new (O.left outside.new) (O.shown outside.old) (O.shown outside.new)) }
+    ensures run { ForSome (O.left outside.old) (λ script. IsRun default_capacity new_rows result script steps.old steps.new (O.left outside.new) (O.shown outside.old) (O.shown outside.new)) }
     ensures taken { TakenMost (O.left outside.old) (O.left outside.new) (most_taken result) }
     ensures read_later { O.read_faults outside.old ≤ O.read_faults outside.new }
     ensures write_later { O.write_faults outside.old ≤ O.write_faults outside.new }
     ensures read_cause { result ≡ Status.ReadFault → Rose (O.read_faults outside.old) (O.read_faults outside.new) }
     ensures write_cause { result ≡ Status.WriteFault → Rose (O.write_faults outside.old) (O.write_faults outside.new) }
+    ensures reads_kept { KeepsReads result (O.read_faults outside.old) (O.read_faults outside.new) }
+    ensures writes_kept { KeepsWrites result (O.write_faults outside.old) (O.write_faults outside.new) }
     ensures no_usage { result ≡ Status.Usage → ⊥ }
 {
     match new_session(alloc) {

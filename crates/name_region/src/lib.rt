@@ -8,7 +8,5 @@ mod numbers;
 mod region;
 mod rings;
 mod slot;
-#[cfg(test)]
-mod tests;
 
 pub use region::{Region, RegionFault};

@@ -4,8 +4,6 @@
 mod name;
 mod order;
 mod path;
-#[cfg(test)]
-mod tests;
 
 pub use name::{Name, NameFault, is_name};
 pub use order::{fold_cmp, same_name};

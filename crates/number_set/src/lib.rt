@@ -2,8 +2,6 @@
 #![tactic(auto)]
 
 mod set;
-#[cfg(test)]
-mod tests;
 mod words;
 
 pub use set::NumberSet;

@@ -5,8 +5,6 @@ mod change;
 mod climb;
 mod counters;
 mod refusal;
-#[cfg(test)]
-mod tests;
 mod usage;
 
 pub use change::{Change, Counter, Exceeded};

@@ -7,8 +7,6 @@ mod heads;
 mod lists;
 mod replies;
 mod sending;
-#[cfg(test)]
-mod tests;
 
 pub use fault::TextFault;
 pub use lists::write_list;

@@ -14,7 +14,7 @@ ghost use Rattle.fsrm_model.specs.Text.{list_lines};
 ghost use Rattle.fsrm_model.specs.Valid.{IsStore};
 ghost use Rattle.fsrm_outside.specs.Causes.{Rose};
 ghost use Rattle.reply_text.specs.Lines.{mode_word, used_word, quota_text, line_text};
-ghost use Rattle.reply_text.specs.Writes.{Sends};
+ghost use Rattle.reply_text.specs.Writes.{KeepsCount, Sends};
 
 use crate::dates::append_moment;
 use crate::fault::TextFault;
@@ -85,6 +85,7 @@ fn write_quota<S: Sink, L: Ledger>(
     ensures text { Sends result (S.shown sink.old) (S.shown sink.new) (line_text engine.now.size engine.now.rows.nodes quota.now) }
     ensures fault { IsErrOf result TextFault.WriteFault → Rose (S.write_faults sink.old) (S.write_faults sink.new) }
     ensures later { S.write_faults sink.old ≤ S.write_faults sink.new }
+    ensures same { KeepsCount result (S.write_faults sink.old) (S.write_faults sink.new) }
     ensures by { S.by_write sink.old sink.new }
     ensures looks { steps.new ≤ steps.old + path_cost engine.now.rows.nodes quota.now.folder }
 {
@@ -105,6 +106,7 @@ fn write_quotas<S: Sink, L: Ledger>(
     ensures text { Sends result (S.shown sink.old) (S.shown sink.new) (flat_map (line_text engine.now.size engine.now.rows.nodes) engine.now.rows.quotas) }
     ensures fault { IsErrOf result TextFault.WriteFault → Rose (S.write_faults sink.old) (S.write_faults sink.new) }
     ensures later { S.write_faults sink.old ≤ S.write_faults sink.new }
+    ensures same { KeepsCount result (S.write_faults sink.old) (S.write_faults sink.new) }
     ensures by { S.by_write sink.old sink.new }
     ensures looks { steps.new ≤ steps.old + sum_by (λ quota. path_cost engine.now.rows.nodes quota.folder) engine.now.rows.quotas }
 {
@@ -127,6 +129,7 @@ fn write_asked<S: Sink, L: Ledger>(
     ensures text { Sends result (S.shown sink.old) (S.shown sink.new) (list_lines engine.now.size engine.now.rows (Quotas folder)) }
     ensures fault { IsErrOf result TextFault.WriteFault → Rose (S.write_faults sink.old) (S.write_faults sink.new) }
     ensures later { S.write_faults sink.old ≤ S.write_faults sink.new }
+    ensures same { KeepsCount result (S.write_faults sink.old) (S.write_faults sink.new) }
     ensures by { S.by_write sink.old sink.new }
     ensures looks { steps.new ≤ steps.old + list_cost engine.now.rows (Quotas folder) }
 {
@@ -151,6 +154,7 @@ pub fn write_list<S: Sink, L: Ledger>(
     ensures text { Sends result (S.shown sink.old) (S.shown sink.new) (list_lines engine.now.size engine.now.rows ask.now) }
     ensures fault { IsErrOf result TextFault.WriteFault → Rose (S.write_faults sink.old) (S.write_faults sink.new) }
     ensures later { S.write_faults sink.old ≤ S.write_faults sink.new }
+    ensures same { KeepsCount result (S.write_faults sink.old) (S.write_faults sink.new) }
     ensures by { S.by_write sink.old sink.new }
     ensures looks { steps.new ≤ steps.old + list_cost engine.now.rows ask.now }
 {

@@ -9,7 +9,7 @@ ghost use Rattle.fsrm_model.specs.Named.{IsNamed};
 ghost use Rattle.fsrm_model.specs.Text.{is_bare, head_line, reply};
 ghost use Rattle.fsrm_outside.specs.Causes.{Rose};
 ghost use Rattle.reply_text.specs.Lines.{is_listing};
-ghost use Rattle.reply_text.specs.Writes.{Sends};
+ghost use Rattle.reply_text.specs.Writes.{KeepsCount, Sends};
 
 use crate::fault::TextFault;
 use crate::heads::{
@@ -34,6 +34,7 @@ pub fn write_head<S: Sink>(
     ensures text { (nodes : Items NodeRow) → Sends result (S.shown sink.old) (S.shown sink.new) (head_line nodes line (Refused refusal.now)) }
     ensures fault { IsErrOf result TextFault.WriteFault → Rose (S.write_faults sink.old) (S.write_faults sink.new) }
     ensures later { S.write_faults sink.old ≤ S.write_faults sink.new }
+    ensures same { KeepsCount result (S.write_faults sink.old) (S.write_faults sink.new) }
     ensures by { S.by_write sink.old sink.new }
 {
     let mut text = String::new(alloc);
@@ -106,6 +107,7 @@ pub fn write_answer<S: Sink, L: Ledger>(
     ensures text { (moment : ℕ) → Sends result (S.shown sink.old) (S.shown sink.new) (reply engine.now.size engine.now.rows moment line answer.now.outcome) }
     ensures fault { IsErrOf result TextFault.WriteFault → Rose (S.write_faults sink.old) (S.write_faults sink.new) }
     ensures later { S.write_faults sink.old ≤ S.write_faults sink.new }
+    ensures same { KeepsCount result (S.write_faults sink.old) (S.write_faults sink.new) }
     ensures by { S.by_write sink.old sink.new }
     ensures looks { steps.new ≤ steps.old + print_cost engine.now.rows answer.now.outcome }
 {

@@ -15,6 +15,7 @@ use Rattle.fsrm_model.specs.Scan.{counted, unvisited_with}
 use Rattle.fsrm_model.specs.Space.{alloc}
 use Rattle.fsrm_model.specs.Tree.{number, node_of}
 use Rattle.fsrm_model.specs.Valid.{IsVolume, is_moment, is_own, is_root_node}
+use Rattle.fsrm_model.proofs.CapacityLaws.{rounded_none}
 use Rattle.fsrm_base.proofs.TestLaws.{is_or_not, both, both_true, clash, eq_is, eq_same, neither, not_true}
 use Rattle.fsrm_model.proofs.Keeps.{volume-change}
 use Rattle.fsrm_base.proofs.Look.{found_key, row_of-change}
@@ -139,13 +140,6 @@ own_stands v f n bytes row s found is =
 pub sized_twice : (nodes : List NodeRow) (n a b : ℕ) → with_change number n (of_length b) (with_change number n (of_length a) nodes) ≡ with_change number n (of_length b) nodes
 sized_twice nodes n a b = change_twice number n (of_length a) (of_length b) (λ r. refl) nodes
 
--- the nodes after a resize with the old length are the nodes but for a moment
-pub sized_resized : (nodes : List NodeRow) (n bytes moment : ℕ) (row : NodeRow) → is_ascending number nodes ≡ true → node_of nodes n ≡ Some row → with_change number n (of_length row.length) (with_change number n (resized bytes moment) nodes) ≡ with_change number n (stamped moment) nodes
-sized_resized nodes n bytes moment row asc found =
-    change_twice number n (resized bytes moment) (of_length row.length) (λ r. refl) nodes
-    ∙ change_same number n (λ r. of_length row.length (resized bytes moment r)) (stamped moment) nodes asc (λ r e.
-    subst (λ (j : ℕ). of_length j (resized bytes moment r) ≡ stamped moment r) (ap (λ (y : NodeRow). y.length) (same_Some r row (sym e ∙ found))) refl)
-
 -- files and folders
 
 pub file_inner : (K : Capacity) (nodes : List NodeRow) (n : ℕ) (row : NodeRow) → IsVolume K nodes → node_of nodes n ≡ Some row → row.folder ≡ false → (n == 0) ≡ false
@@ -191,7 +185,7 @@ empty_part K nodes f row = at (is_counted nodes f row.parent) row.folder
   where
     at : (b d : Bool) → cond b (cond d 0 (alloc K 0)) 0 ≡ 0
     at true true = refl
-    at true false = refl
+    at true false = rounded_none K.cluster
     at false d = refl
 
 -- a scan goes on over a new node that is still empty

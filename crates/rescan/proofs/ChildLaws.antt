@@ -25,7 +25,7 @@ use Rattle.volume_tree.proofs.Children.{children_many}
 use Rattle.volume_tree.proofs.Items.{in_order_moves}
 use Rattle.number_set.specs.Numbers.{Numbers}
 use Rattle.rescan.specs.Visits.{folders_in}
-use Rattle.rescan.proofs.Numbered.{has_row-filter}
+use Rattle.fsrm_model.proofs.Numbered.{has_row-filter}
 use Rattle.fsrm_model.proofs.ValidLaws.{found_parent}
 
 abbrev before : NodeRow → NodeRow → Bool

@@ -15,7 +15,7 @@ use Rattle.fsrm_base.proofs.Sums.{sum_by-map, sum_by-add, sum_by-ones, sum_by_ea
 use Rattle.number_set.specs.Numbers.{Numbers}
 use Rattle.number_set.proofs.NumberLaws.{in_with, in_without, set_with, same_set}
 use Rattle.volume_tree.specs.Volume.{Volume}
-use Rattle.rescan.specs.Frontiers.{Front, Stands, has_above, unvisited}
+use Rattle.rescan.specs.Frontiers.{Front, Stands, Suits, has_above, unvisited}
 use Rattle.rescan.specs.Tops.{AreTops}
 use Rattle.rescan.specs.Visits.{folders_in, tops_after, looks_left}
 use Rattle.rescan.proofs.ChildLaws.{filter_least}
@@ -31,25 +31,25 @@ topped f tops = record f { tops = tops }
 -- what is found and what waits: each unvisited folder is found, or at or below one that waits
 pub record Finding (v : Volume) (f : Front) (waiting found : Numbers) : Type 0 where
   pub tops : AreTops v.nodes (topped f waiting.members)
-  pub waiting_room : waiting.bound ≡ f.room
-  pub found_room : found.bound ≡ f.room
+  pub waiting_room : waiting.bound ≡ f.room.nodes
+  pub found_room : found.bound ≡ f.room.nodes
   pub ascending : is_set found.members ≡ true
   pub members : (n : ℕ) → is_in (unvisited v.nodes f) n ≡ (is_in found.members n || is_in (unvisited v.nodes (topped f waiting.members)) n)
 
-pub finding_begins : (v : Volume) (f : Front) (waiting found : Numbers) → Stands v f → waiting ≡ record { bound = f.room; members = f.tops } → found ≡ record { bound = f.room; members = [] } → Finding v f waiting found
+pub finding_begins : (v : Volume) (f : Front) (waiting found : Numbers) → Stands v f → waiting ≡ record { bound = f.room.nodes; members = f.tops } → found ≡ record { bound = f.room.nodes; members = [] } → Finding v f waiting found
 finding_begins v f waiting found s w e =
     subst (λ (ns : Numbers). Finding v f ns found) (sym w)
-    (subst (λ (ns : Numbers). Finding v f (record { bound = f.room; members = f.tops }) ns) (sym e)
+    (subst (λ (ns : Numbers). Finding v f (record { bound = f.room.nodes; members = f.tops }) ns) (sym e)
     (record { tops = tops_of v f s; waiting_room = refl; found_room = refl; ascending = refl; members = λ n. refl }))
 
 -- a member of the volume is below its bound
-pub folder_low : (v : Volume) (f : Front) (n : ℕ) → IsVolume v.size v.nodes → v.size.nodes ≤ f.room → is_folder v.nodes n ≡ true → n < f.room
+pub folder_low : (v : Volume) (f : Front) (n : ℕ) → IsVolume v.size v.nodes → Suits v.size f.room → is_folder v.nodes n ≡ true → n < f.room.nodes
 folder_low v f n volume fits h =
     let r = folder_found v.nodes n h in
     let low : n < v.size.nodes = lt_is n v.size.nodes (volume.below n r.row r.found) in
-    omega arith
+    omega (arith, fits.nodes)
 
-pub waits_low : (v : Volume) (f : Front) (waiting found : Numbers) (n : ℕ) → Stands v f → Finding v f waiting found → slice_get waiting.members 0 ≡ Some n → n < f.room
+pub waits_low : (v : Volume) (f : Front) (waiting found : Numbers) (n : ℕ) → Stands v f → Finding v f waiting found → slice_get waiting.members 0 ≡ Some n → n < f.room.nodes
 waits_low v f waiting found n s d h = folder_low v f n s.volume s.fits (d.tops.folders n (first_in waiting.members n h))
 
 -- the next that waits is unvisited

@@ -7,15 +7,16 @@ use Rattle.std.specs.Prelude.{sum_by, nat_le}
 use Rattle.std.specs.List.{AllByRecursion}
 use Rattle.fsrm_model.specs.declared.row.Capacity.{Capacity}
 use Rattle.fsrm_model.specs.declared.row.NodeRow.{NodeRow}
+use Rattle.fsrm_model.specs.Capacities.{is_capacity}
 use Rattle.fsrm_base.specs.Keyed.{is_ascending}
 use Rattle.fsrm_model.specs.Limits.{longest_file}
 use Rattle.fsrm_model.specs.Scan.{counted}
 use Rattle.fsrm_model.specs.Space.{alloc, space}
 use Rattle.fsrm_model.specs.Tree.{number, node_of}
 use Rattle.fsrm_model.specs.Valid.{IsVolume}
+use Rattle.fsrm_model.proofs.CapacityLaws.{nodes_most, alloc_most}
 use Rattle.fsrm_base.proofs.Order.{parts}
 use Rattle.fsrm_base.proofs.TestLaws.{is_or_not, both, eq_is, lt_is, le_is}
-use Rattle.volume_tree.specs.Volume.{IsCapacity}
 use Rattle.rescan.specs.Frontiers.{Front, scanned, unvisited}
 use Rattle.rescan.proofs.CountLaws.{is_counted, part, counted_is}
 use Rattle.volume_tree.proofs.FreshLaws.{few_nodes}
@@ -42,14 +43,14 @@ root_empty K nodes r v found =
     let folder : r.folder ≡ true = (both r.folder _ (both _ _ (both _ _ (v.root r found)).0).0).0 in
     ap (λ b. cond b 0 (alloc K r.length)) folder
 
-space_at : (K : Capacity) (b : Bool) (n : ℕ) → nat_le n (cond b 0 longest_file) ≡ true → cond b 0 (alloc K n) ≤ longest_file
-space_at K true n h = omega arith
-space_at K false n h = let le : n ≤ longest_file = le_is n longest_file h in omega arith
+space_at : (K : Capacity) (b : Bool) (n : ℕ) → is_capacity K ≡ true → nat_le n (cond b 0 longest_file) ≡ true → cond b 0 (alloc K n) ≤ longest_file
+space_at K true n legal h = omega arith
+space_at K false n legal h = alloc_most K n legal (le_is n longest_file h)
 
-pub space_most : (K : Capacity) (nodes : List NodeRow) → IsVolume K nodes → (r : NodeRow) → node_of nodes (number r) ≡ Some r → space K r ≤ longest_file
-space_most K nodes v r f = elim (is_or_not (number r == 0)) [
+space_most : (K : Capacity) (nodes : List NodeRow) → IsVolume K nodes → is_capacity K ≡ true → (r : NodeRow) → node_of nodes (number r) ≡ Some r → space K r ≤ longest_file
+space_most K nodes v legal r f = elim (is_or_not (number r == 0)) [
   | inl top ↦ let none = root_empty K nodes r v (ap (node_of nodes) (sym (eq_is (number r) 0 top)) ∙ f) in omega (arith, none)
-  | inr inner ↦ space_at K r.folder r.length (both _ _ (both _ _ (v.own (number r) r f inner)).1).0
+  | inr inner ↦ space_at K r.folder r.length legal (both _ _ (both _ _ (v.own (number r) r f inner)).1).0
 ]
 
 -- the space of all files, and of one more, is less than 2^64
@@ -57,11 +58,11 @@ pub sum_most : (f : NodeRow → ℕ) (most : ℕ) (rows : List NodeRow) → AllB
 sum_most f most [] h = omega arith
 sum_most f most (r ∷ rows) h = omega (arith, sum_by-cons f r rows, h.0, sum_most f most rows h.1)
 
-pub total_small : (K : Capacity) (nodes : List NodeRow) → IsVolume K nodes → IsCapacity K → sum_by (space K) nodes < 2 ^ 64
+pub total_small : (K : Capacity) (nodes : List NodeRow) → IsVolume K nodes → is_capacity K ≡ true → sum_by (space K) nodes < 2 ^ 64
 total_small K nodes v legal =
-    let small : AllByRecursion (λ r. space K r ≤ longest_file) nodes = each_found number (λ r. space K r ≤ longest_file) nodes v.ascending (space_most K nodes v) in
+    let small : AllByRecursion (λ r. space K r ≤ longest_file) nodes = each_found number (λ r. space K r ≤ longest_file) nodes v.ascending (space_most K nodes v legal) in
     let most : sum_by (space K) nodes ≤ length nodes * longest_file = sum_most (space K) longest_file nodes small in
-    bound (length nodes) (sum_by (space K) nodes) most (omega (arith, few_nodes K nodes v, legal.nodes_most))
+    bound (length nodes) (sum_by (space K) nodes) most (omega (arith, few_nodes K nodes v, nodes_most K legal))
   where
     bound : (n whole : ℕ) → whole ≤ n * longest_file → n ≤ 1048576 → whole < 2 ^ 64
     bound n whole h few = omega (arith, mul-le-mul_right longest_file few)

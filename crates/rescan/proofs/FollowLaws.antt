@@ -12,7 +12,7 @@ use Rattle.fsrm_base.proofs.EditedRows.{find-with_row_same}
 use Rattle.fsrm_base.proofs.Order.{ascending-with_row}
 use Rattle.volume_tree.specs.Volume.{Volume, with_node, with_length, without_node}
 use Rattle.rescan.specs.Frontiers.{Front, Stands, Follows, unvisited, of_length, sized}
-use Rattle.rescan.proofs.ChangeLaws.{alike, alike_follows, stamped, stamped_keeps, change_twice, changed_found, with_and_without, length_keeps, sized_own, sized_volume, own_stands, own_length, file_inner, sized_resized, folder_length}
+use Rattle.rescan.proofs.ChangeLaws.{changed_found, with_and_without, length_keeps, sized_own, own_stands, folder_length}
 use Rattle.rescan.proofs.KindLaws.{KeepsKind, kind_unvisited}
 
 -- one step and another
@@ -24,16 +24,7 @@ follows_both f g h v w left more a b =
 own_follows : (v : Volume) (f g : Front) (left : List ℕ) (n bytes : ℕ) → with_change number n (of_length bytes) v.nodes ≡ v.nodes → Follows f g (sized v n bytes) left → Follows f g v left
 own_follows v f g left n bytes same h = subst (λ ns. Follows f g (record v { nodes = ns }) left) same h
 
--- A file is resized in the tree and then in the scan: what `on_resize` requires, and what it makes of the scan
-pub resized_stands : (v : Volume) (f : Front) (n bytes moment : ℕ) (row : NodeRow) → Stands v f → node_of v.nodes n ≡ Some row → row.folder ≡ false → IsVolume v.size (with_length v n bytes moment).nodes → Stands (sized (with_length v n bytes moment) n row.length) f
-resized_stands v f n bytes moment row s found file w =
-    let new = with_change number n (resized bytes moment) v.nodes in
-    let same = sized_resized v.nodes n bytes moment row s.volume.ascending found in
-    let inner = file_inner v.size v.nodes n row s.volume found file in
-    let volume : IsVolume v.size (with_change number n (of_length row.length) new) =
-    sized_volume v.size new n row.length (resized bytes moment row) w (changed_found n (resized bytes moment) (λ r. refl) v.nodes row found) inner (own_length row (s.volume.own n row found inner)) in
-    subst (λ ns. Stands (record v { nodes = ns }) f) (sym same) (alike v f n (stamped moment) (stamped_keeps moment) s (subst (IsVolume v.size) same volume))
-
+-- A file is resized in the tree and then in the scan: what that makes of the scan
 resized_kind : (bytes moment : ℕ) → KeepsKind (resized bytes moment)
 resized_kind bytes moment = record { same_number = λ r. refl; same_parent = λ r. refl; same_folder = λ r. refl }
 
@@ -50,9 +41,6 @@ made_back v row free = ap (λ ns. record v { nodes = ns }) (with_and_without num
 
 pub made_found : (v : Volume) (row : NodeRow) → has_row number row.number v.nodes ≡ false → node_of (with_node v row).nodes row.number ≡ Some row
 made_found v row free = find-with_row_same number (λ r. number r == row.number) row v.nodes (eq_same row.number) free
-
-pub made_stands : (v : Volume) (f : Front) (row : NodeRow) → has_row number row.number v.nodes ≡ false → Stands v f → Stands (without_node (with_node v row) row.number) f
-made_stands v f row free s = subst (λ w. Stands w f) (sym (made_back v row free)) s
 
 made_own : (v : Volume) (row : NodeRow) (bytes : ℕ) → has_row number row.number v.nodes ≡ false → IsVolume v.size v.nodes → row.length ≡ bytes → with_change number row.number (of_length bytes) (with_node v row).nodes ≡ (with_node v row).nodes
 made_own v row bytes free w is =

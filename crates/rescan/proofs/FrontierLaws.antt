@@ -19,7 +19,7 @@ use Rattle.fsrm_base.proofs.Look.{found_has, has_found}
 use Rattle.fsrm_model.proofs.MoveLaws.{own_first}
 use Rattle.fsrm_base.proofs.Sums.{sum_by_each, sum_by_nothing}
 use Rattle.volume_tree.specs.Volume.{Volume}
-use Rattle.rescan.specs.Frontiers.{Front, Stands, Follows, has_above, scanned, unvisited}
+use Rattle.rescan.specs.Frontiers.{Room, Front, Stands, Suits, Follows, has_above, scanned, unvisited}
 use Rattle.rescan.specs.Tops.{AreTops}
 use Rattle.rescan.proofs.CountLaws.{part, counted_is}
 use Rattle.rescan.proofs.Tops.{in_unvisited, above_of, stands_by, tops_of}
@@ -44,7 +44,7 @@ pub none_left : (v : Volume) (f : Front) → Stands v f → (length f.tops == 0)
 none_left v f s = empty_at v.nodes (unvisited v.nodes f) f.tops (unvisited v.nodes f) refl s.tops (top_where v.size v.nodes s.volume f)
 
 -- at its beginning all folders at and below the scanned one are unvisited, and nothing is counted
-abbrev pub begun : ℕ → ℕ → Front
+abbrev pub begun : Room → ℕ → Front
 begun room folder = record { room = room; folder = Some folder; tops = folder ∷ []; sum = 0 }
 
 only_member : (k n : ℕ) → is_in (k ∷ []) n ≡ (k == n)
@@ -66,7 +66,7 @@ above_one folder (n ∷ ns) =
     turned : (n m : ℕ) → (n == m) ≡ (m == n)
     turned n m = grind (arith, nat_tests)
 
-begun_tops : (nodes : List NodeRow) (room folder : ℕ) → is_folder nodes folder ≡ true → AreTops nodes (begun room folder)
+begun_tops : (nodes : List NodeRow) (room : Room) (folder : ℕ) → is_folder nodes folder ≡ true → AreTops nodes (begun room folder)
 begun_tops nodes room folder h =
     record {
       active = refl;
@@ -97,10 +97,10 @@ folders_at nodes folder (r ∷ rows) =
         and_false true = refl
         and_false false = refl
 
-pub begun_unvisited : (nodes : List NodeRow) (room folder : ℕ) → unvisited nodes (begun room folder) ≡ folders_under nodes folder
+pub begun_unvisited : (nodes : List NodeRow) (room : Room) (folder : ℕ) → unvisited nodes (begun room folder) ≡ folders_under nodes folder
 begun_unvisited nodes room folder = ap (map number) (folders_at nodes folder nodes)
 
-begun_part : (K : Capacity) (nodes : List NodeRow) (room folder : ℕ) (r : NodeRow) → part K nodes (begun room folder) r ≡ 0
+begun_part : (K : Capacity) (nodes : List NodeRow) (room : Room) (folder : ℕ) (r : NodeRow) → part K nodes (begun room folder) r ≡ 0
 begun_part K nodes room folder r =
     ap (λ b. cond (is_under nodes folder r.parent && not b) (space K r) 0) (above_one folder (chain nodes r.parent)) ∙ at (is_under nodes folder r.parent)
   where
@@ -108,13 +108,13 @@ begun_part K nodes room folder r =
     at true = refl
     at false = refl
 
-begun_counted : (K : Capacity) (nodes : List NodeRow) → IsVolume K nodes → (room folder : ℕ) → counted K nodes folder (unvisited nodes (begun room folder)) ≡ 0
+begun_counted : (K : Capacity) (nodes : List NodeRow) → IsVolume K nodes → (room : Room) (folder : ℕ) → counted K nodes folder (unvisited nodes (begun room folder)) ≡ 0
 begun_counted K nodes v room folder =
     counted_is K nodes v (begun room folder)
     ∙ (sum_by_each (part K nodes (begun room folder)) (λ r. 0) (begun_part K nodes room folder) nodes
     ∙ sum_by_nothing nodes)
 
-pub begins : (v : Volume) (room folder : ℕ) → IsVolume v.size v.nodes → v.size.nodes ≤ room → is_folder v.nodes folder ≡ true → Follows (begun room folder) (begun room folder) v (folders_under v.nodes folder)
+pub begins : (v : Volume) (room : Room) (folder : ℕ) → IsVolume v.size v.nodes → Suits v.size room → is_folder v.nodes folder ≡ true → Follows (begun room folder) (begun room folder) v (folders_under v.nodes folder)
 begins v room folder volume fits h =
     record {
       stands = stands_by v (begun room folder) volume fits (begun_tops v.nodes room folder h) (sym (begun_counted v.size v.nodes volume room folder));

@@ -15,7 +15,7 @@ use Rattle.fsrm_model.proofs.Keeps.{found_folder}
 use Rattle.fsrm_base.proofs.Sums.{sum_by_each, sum_by_nothing}
 use Rattle.fsrm_model.proofs.ValidLaws.{folder_has}
 use Rattle.number_set.proofs.NumberLaws.{in_without, set_without}
-use Rattle.rescan.specs.Frontiers.{Front, has_above}
+use Rattle.rescan.specs.Frontiers.{Room, Front, has_above}
 use Rattle.rescan.specs.Leaves.{counted_below, Leaves}
 use Rattle.rescan.specs.Tops.{AreTops}
 use Rattle.rescan.proofs.CountLaws.{is_counted, part}
@@ -108,6 +108,10 @@ begin K nodes f x t =
     }
 
 -- the end
+pub same_room : (room : Room) (nodes cluster : ℕ) → nodes ≡ room.nodes → cluster ≡ room.cluster → record { nodes = nodes; cluster = cluster } ≡ room
+same_room room nodes cluster h g =
+    ap (λ (n : ℕ). record { nodes = n; cluster = cluster }) h ∙ ap (λ (k : ℕ). record { nodes = room.nodes; cluster = k }) g
+
 pub finish : (K : Capacity) (nodes : List NodeRow) (f f2 : Front) (x : ℕ) → Leaving K nodes f x f2.tops [] f2.sum → f2.room ≡ f.room → f2.folder ≡ f.folder → Leaves K nodes f f2 x
 finish K nodes f f2 x w room folder =
     let none : left K nodes f [] ≡ 0 =

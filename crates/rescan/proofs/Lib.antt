@@ -15,7 +15,6 @@ mod MovedScan
 mod MovedSums
 mod MovedTops
 mod MovedWhole
-pub mod Numbered
 mod Opening
 pub mod ResizeLaws
 pub mod SetLaws

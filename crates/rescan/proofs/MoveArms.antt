@@ -4,6 +4,7 @@ use Rattle.std.proofs.lemmas.List.Sums.{sum_by-cons}
 use Rattle.std.specs.Prelude.{sum_by, if◌then◌else◌}
 use Rattle.fsrm_model.specs.declared.row.Capacity.{Capacity}
 use Rattle.fsrm_model.specs.declared.row.NodeRow.{NodeRow}
+use Rattle.fsrm_model.specs.Capacities.{is_capacity}
 use Rattle.fsrm_model.specs.FileOps.{placed}
 use Rattle.fsrm_base.specs.Numbers.{is_in, is_set}
 use Rattle.fsrm_model.specs.Scan.{unvisited_moved}
@@ -29,7 +30,7 @@ use Rattle.rescan.proofs.MovedScan.{moved_follows}
 use Rattle.rescan.proofs.MovedSums.{part_below, below_is, file_sum}
 use Rattle.rescan.proofs.MovedTops.{TopsMoved}
 use Rattle.rescan.proofs.Tops.{tops_of}
-use Rattle.volume_tree.specs.Volume.{Volume, IsCapacity, with_place}
+use Rattle.volume_tree.specs.Volume.{Volume, with_place}
 
 -- a move that the tree allows
 pub record Goes (v : Volume) (f : Front) (x d : ℕ) : Type 0 where
@@ -53,10 +54,10 @@ moved_has v f x d g = found_has number x v.nodes g.row g.found
 stands_at : (above below : Bool) → Standing
 stands_at above below = cond above Unvisited (cond below Visited IsOutside)
 
-share_is : (K : Capacity) (nodes : List NodeRow) (f : Front) (n bytes : ℕ) → share_of K bytes (standing nodes f n) ≡ cond (is_counted nodes f n) (alloc K bytes) 0
+share_is : (K : Capacity) (nodes : List NodeRow) (f : Front) (n bytes : ℕ) → share_of K.cluster bytes (standing nodes f n) ≡ cond (is_counted nodes f n) (alloc K bytes) 0
 share_is K nodes f n bytes = at (has_above nodes f.tops n) (is_under nodes (scanned f) n)
   where
-    at : (a b : Bool) → share_of K bytes (cond a Unvisited (cond b Visited IsOutside)) ≡ cond (b && not a) (alloc K bytes) 0
+    at : (a b : Bool) → share_of K.cluster bytes (cond a Unvisited (cond b Visited IsOutside)) ≡ cond (b && not a) (alloc K bytes) 0
     at true true = refl
     at true false = refl
     at false true = refl
@@ -132,7 +133,7 @@ file_space : (K : Capacity) (r : NodeRow) → r.folder ≡ false → space K r �
 file_space K r e = ap (λ b. cond b 0 (alloc K r.length)) e
 
 file_shares : (v : Volume) (f f2 : Front) (x d : ℕ) (name : List ℕ) (g : Goes v f x d) → g.row.folder ≡ false → f2.folder ≡ f.folder → f2.tops ≡ f.tops
-    → sum_by (part v.size (with_place v x d name).nodes f2) (with_place v x d name).nodes + share_of v.size g.row.length (standing v.nodes f g.row.parent) ≡ f.sum + share_of v.size g.row.length (standing v.nodes f d)
+    → sum_by (part v.size (with_place v x d name).nodes f2) (with_place v x d name).nodes + share_of v.size.cluster g.row.length (standing v.nodes f g.row.parent) ≡ f.sum + share_of v.size.cluster g.row.length (standing v.nodes f d)
 file_shares v f f2 x d name g file same tops =
     let K = v.size in
     let nodes = v.nodes in
@@ -147,7 +148,7 @@ file_shares v f f2 x d name g file same tops =
       ap (λ s. cond (is_counted nodes f d) s 0) (file_space K g.row file),
     )
 
-pub file_follows : (v : Volume) (f f2 : Front) (x d : ℕ) (name : List ℕ) (g : Goes v f x d) → g.row.folder ≡ false → IsVolume v.size (with_place v x d name).nodes → f2 ≡ record f { sum = f2.sum } → f2.sum + share_of v.size g.row.length (standing v.nodes f g.row.parent) ≡ f.sum + share_of v.size g.row.length (standing v.nodes f d)
+pub file_follows : (v : Volume) (f f2 : Front) (x d : ℕ) (name : List ℕ) (g : Goes v f x d) → g.row.folder ≡ false → IsVolume v.size (with_place v x d name).nodes → f2 ≡ record f { sum = f2.sum } → f2.sum + share_of v.size.cluster g.row.length (standing v.nodes f g.row.parent) ≡ f.sum + share_of v.size.cluster g.row.length (standing v.nodes f d)
     → Follows f f2 (with_place v x d name) (unvisited_moved v.nodes (with_place v x d name).nodes (scanned f) x d (unvisited v.nodes f))
 file_follows v f f2 x d name g file w rest sum =
     let same : f2.folder ≡ f.folder = ap (λ h. h.folder) rest in
@@ -169,7 +170,7 @@ part_in v f x row s found =
     let one : sum_by only nodes ≡ part K nodes f row = sum_by_only number only x (λ r e. ap (λ b. cond b (part K nodes f r) 0) e) nodes row s.volume.ascending found ∙ ap (λ b. cond b (part K nodes f row) 0) here in
     omega (arith, one, sum_most only (part K nodes f) nodes (λ r. cond_most (r.number == x) (part K nodes f r)), counted_parts v f s)
 
-pub share_counted : (v : Volume) (f : Front) (x d : ℕ) (g : Goes v f x d) → g.row.folder ≡ false → share_of v.size g.row.length (standing v.nodes f g.row.parent) ≤ f.sum
+pub share_counted : (v : Volume) (f : Front) (x d : ℕ) (g : Goes v f x d) → g.row.folder ≡ false → share_of v.size.cluster g.row.length (standing v.nodes f g.row.parent) ≤ f.sum
 share_counted v f x d g file =
     omega (
       arith,
@@ -185,7 +186,7 @@ placed_space K x d name r = at (r.number == x)
     at true = refl
     at false = refl
 
-pub share_fits : (v : Volume) (f : Front) (x d : ℕ) (g : Goes v f x d) → IsCapacity v.size → g.row.folder ≡ false → f.sum + share_of v.size g.row.length (standing v.nodes f d) < 2 ^ 64 + share_of v.size g.row.length (standing v.nodes f g.row.parent)
+pub share_fits : (v : Volume) (f : Front) (x d : ℕ) (g : Goes v f x d) → is_capacity v.size ≡ true → g.row.folder ≡ false → f.sum + share_of v.size.cluster g.row.length (standing v.nodes f d) < 2 ^ 64 + share_of v.size.cluster g.row.length (standing v.nodes f g.row.parent)
 share_fits v f x d g legal file =
     let K = v.size in
     let new = (with_place v x d []).nodes in
@@ -198,15 +199,10 @@ share_fits v f x d g legal file =
       total_small K v.nodes g.stands.volume legal,
     )
 
--- the size of a cluster is the same in every store
-pub share_any : (K J : Capacity) (bytes : ℕ) (s : Standing) → share_of K bytes s ≡ share_of J bytes s
-share_any K J bytes IsOutside = refl
-share_any K J bytes Visited = refl
-share_any K J bytes Unvisited = refl
-
-pub share_same : (K J : Capacity) (nodes : List NodeRow) (f : Front) (bytes own n m : ℕ) (s : Standing) → s ≡ standing nodes f n → bytes ≡ own → n ≡ m → share_of K bytes s ≡ share_of J own (standing nodes f m)
-share_same K J nodes f bytes own n m s is b e =
-    ap (share_of K bytes) is
-    ∙ (share_any K J bytes (standing nodes f n)
-    ∙ (ap (λ k. share_of J k (standing nodes f n)) b
-    ∙ ap (λ k. share_of J own (standing nodes f k)) e))
+-- a share by what is lent, and by the cluster that a frontier has
+pub share_same : (cluster size : ℕ) (nodes : List NodeRow) (f : Front) (bytes own n m : ℕ) (s : Standing) → size ≡ cluster → s ≡ standing nodes f n → bytes ≡ own → n ≡ m → share_of cluster bytes s ≡ share_of size own (standing nodes f m)
+share_same cluster size nodes f bytes own n m s same is b e =
+    ap (share_of cluster bytes) is
+    ∙ (ap (λ c. share_of c bytes (standing nodes f n)) (sym same)
+    ∙ (ap (λ k. share_of size k (standing nodes f n)) b
+    ∙ ap (λ k. share_of size own (standing nodes f k)) e))

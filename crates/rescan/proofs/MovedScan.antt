@@ -17,39 +17,13 @@ use Rattle.fsrm_model.proofs.MoveLaws.{under_after}
 use Rattle.fsrm_model.proofs.Climbs.{under_own}
 use Rattle.fsrm_model.proofs.ValidLaws.{folder_has}
 use Rattle.number_set.proofs.NumberLaws.{in_withs, in_withouts, set_withs, set_withouts, same_set}
-use Rattle.rescan.specs.Frontiers.{Front, Stands, Follows, scanned, has_above, unvisited}
+use Rattle.rescan.specs.Frontiers.{Front, Stands, Suits, Follows, scanned, has_above, unvisited}
 use Rattle.rescan.specs.Tops.{AreTops}
 use Rattle.rescan.proofs.CountLaws.{is_counted, part, counted_is}
 use Rattle.rescan.proofs.MovedTops.{TopsMoved, moved_tops, above_other, above_kept, above_moved}
-use Rattle.rescan.proofs.Numbered.{in_numbers, set_numbers}
+use Rattle.fsrm_model.proofs.UnvisitedKept.{in_folders}
 use Rattle.rescan.proofs.Tops.{in_unvisited, set_unvisited, stands_by, above_of, under_under, above_below}
 use Rattle.volume_tree.specs.Volume.{Volume, with_place}
-
--- the folders at and below a node
-filter_twice : (p q : NodeRow → Bool) (rows : List NodeRow) → filter p (filter q rows) ≡ filter (λ r. q r && p r) rows
-filter_twice p q [] = refl
-filter_twice p q (r ∷ rows) = at (q r) (p r) refl (filter_twice p q rows)
-  where
-    at : (b c : Bool) → p r ≡ c → filter p (filter q rows) ≡ filter (λ r. q r && p r) rows → filter p (cond b (r ∷ filter q rows) (filter q rows)) ≡ cond (b && c) (r ∷ filter (λ r. q r && p r) rows) (filter (λ r. q r && p r) rows)
-    at true true e h = ap (λ b. cond b (r ∷ filter p (filter q rows)) (filter p (filter q rows))) e ∙ ap (λ rs. r ∷ rs) h
-    at true false e h = ap (λ b. cond b (r ∷ filter p (filter q rows)) (filter p (filter q rows))) e ∙ h
-    at false c e h = h
-
-folder_at : (nodes : List NodeRow) (x n : ℕ) (o : Option NodeRow) → node_of nodes n ≡ o → option_map_or (λ r. is_under nodes x r.number && r.folder) o false ≡ (option_map_or (λ r. r.folder) o false && is_under nodes x n)
-folder_at nodes x n None e = refl
-folder_at nodes x n (Some r) e = ap (λ k. is_under nodes x k && r.folder) (found_key number n nodes r e) ∙ turned (is_under nodes x n) r.folder
-  where
-    turned : (a b : Bool) → (a && b) ≡ (b && a)
-    turned true true = refl
-    turned true false = refl
-    turned false true = refl
-    turned false false = refl
-
-pub in_folders : (K : Capacity) (nodes : List NodeRow) (x n : ℕ) → IsVolume K nodes → is_in (folders_under nodes x) n ≡ (is_folder nodes n && is_under nodes x n)
-in_folders K nodes x n v =
-    ap (λ rows. is_in (map number rows) n) (filter_twice (λ r. r.folder) (λ r. is_under nodes x r.number) nodes)
-    ∙ (in_numbers (λ r. is_under nodes x r.number && r.folder) nodes v.ascending n
-    ∙ folder_at nodes x n (node_of nodes n) refl)
 
 -- which way each choice goes
 pub record Choice (nodes : List NodeRow) (f : Front) (x d : ℕ) (keeps enters : Bool) : Type 0 where
@@ -155,7 +129,7 @@ pub moved_follows : (v : Volume) (f f2 : Front) (x d : ℕ) (name : List ℕ) (k
 moved_follows v f f2 x d name keeps enters stands w folder s choice room sum =
     let new = (with_place v x d name).nodes in
     record {
-      stands = stands_by (with_place v x d name) f2 w (subst (λ (r : ℕ). v.size.nodes ≤ r) (sym room) stands.fits) (moved_tops v.nodes new f f2 x d keeps enters s) (sum ∙ sym (counted_is v.size new w f2));
+      stands = stands_by (with_place v x d name) f2 w (subst (Suits v.size) (sym room) stands.fits) (moved_tops v.nodes new f f2 x d keeps enters s) (sum ∙ sym (counted_is v.size new w f2));
       unvisited_are = moved_unvisited v.size v.nodes new f f2 x d keeps enters stands.volume w folder s choice;
       folder = s.folder;
       room = room;

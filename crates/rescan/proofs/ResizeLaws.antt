@@ -3,6 +3,7 @@ use Rattle.std.proofs.Common.{◌≡◌, ℕ, ◌+◌, ◌-◌, ◌^◌, ◌<◌
 use Rattle.std.specs.Prelude.{if◌then◌else◌}
 use Rattle.fsrm_model.specs.declared.row.Capacity.{Capacity}
 use Rattle.fsrm_model.specs.declared.row.NodeRow.{NodeRow}
+use Rattle.fsrm_model.specs.Capacities.{is_capacity}
 use Rattle.fsrm_base.specs.Keyed.{has_row, with_change}
 use Rattle.fsrm_model.specs.Limits.{longest_file}
 use Rattle.fsrm_model.specs.Scan.{counted}
@@ -17,7 +18,7 @@ use Rattle.fsrm_model.proofs.Keeps.{found_folder, tree_of}
 use Rattle.fsrm_base.proofs.Look.{found_has}
 use Rattle.fsrm_base.proofs.EditedRows.{sum_by-without_row}
 use Rattle.volume_tree.specs.declared.answer.NodeView.{NodeView}
-use Rattle.volume_tree.specs.Volume.{Volume, IsCapacity, Shows}
+use Rattle.volume_tree.specs.Volume.{Volume, Shows}
 use Rattle.rescan.specs.declared.standing.Standing.TheVariants.{Outside, Visited, Unvisited}
 use Rattle.rescan.specs.Frontiers.{Front, Stands, Follows, scanned, has_above, unvisited, of_length, sized}
 use Rattle.rescan.specs.Standings.{standing}
@@ -76,7 +77,7 @@ share_within v n row a f t =
     let was = with_change number n (of_length a) v.nodes in
     omega (arith, t.stands.sum, part_within v.size was t.stands.volume f n (of_length a row) (changed_found n (of_length a) (λ r. refl) v.nodes row t.found), file_part v.size v.nodes n a a f row t.file)
 
-resized_small : (v : Volume) (n : ℕ) (row : NodeRow) (a b sum : ℕ) (f : Front) → IsFile v n row a f → b ≤ longest_file → IsCapacity v.size → sum + share v.size v.nodes f row.parent a ≡ f.sum + share v.size v.nodes f row.parent b → sum < 2 ^ 64
+resized_small : (v : Volume) (n : ℕ) (row : NodeRow) (a b sum : ℕ) (f : Front) → IsFile v n row a f → b ≤ longest_file → is_capacity v.size ≡ true → sum + share v.size v.nodes f row.parent a ≡ f.sum + share v.size v.nodes f row.parent b → sum < 2 ^ 64
 resized_small v n row a b sum f t most legal e =
     let new = with_change number n (of_length b) v.nodes in
     let volume = resized_volume v n row a b f t most in
@@ -153,7 +154,7 @@ share_at v n a b f view r h =
 pub visited_within : (v : Volume) (n a : ℕ) (f : Front) (view : NodeView) → IsResized v n a f view → standing v.nodes f view.parent ≡ Visited → alloc v.size a ≤ f.sum
 visited_within v n a f view r h = omega (arith, share_at v n a a f view r h, share_within v n r.shows.row a f (as_file v n a f view r))
 
-pub visited_small : (v : Volume) (n a b : ℕ) (f : Front) (view : NodeView) → IsResized v n a f view → standing v.nodes f view.parent ≡ Visited → b ≤ longest_file → IsCapacity v.size → f.sum - alloc v.size a + alloc v.size b < 2 ^ 64
+pub visited_small : (v : Volume) (n a b : ℕ) (f : Front) (view : NodeView) → IsResized v n a f view → standing v.nodes f view.parent ≡ Visited → b ≤ longest_file → is_capacity v.size ≡ true → f.sum - alloc v.size a + alloc v.size b < 2 ^ 64
 visited_small v n a b f view r h most legal =
     let within = visited_within v n a f view r h in
     resized_small v n r.shows.row a b (f.sum - alloc v.size a + alloc v.size b) f (as_file v n a f view r) most legal (omega (arith, within, share_at v n a a f view r h, share_at v n a b f view r h))

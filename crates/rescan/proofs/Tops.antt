@@ -17,12 +17,13 @@ use Rattle.fsrm_model.proofs.Keeps.{tree_of}
 use Rattle.fsrm_model.proofs.MoveLaws.{own_first}
 use Rattle.fsrm_model.proofs.Below.{chain_root, above_all}
 use Rattle.fsrm_model.proofs.Climbs.{climb}
+pub use Rattle.fsrm_model.proofs.UnvisitedKept.{under_child, under_under}
 use Rattle.fsrm_model.proofs.UsageLaws.{parent_lacks}
 use Rattle.number_set.proofs.NumberLaws.{in_filter, set_filter, same_set}
 use Rattle.volume_tree.specs.Volume.{Volume}
-use Rattle.rescan.specs.Frontiers.{Front, Stands, scanned, has_above, unvisited}
+use Rattle.rescan.specs.Frontiers.{Front, Stands, Suits, scanned, has_above, unvisited}
 use Rattle.rescan.specs.Tops.{AreTops}
-use Rattle.rescan.proofs.Numbered.{in_numbers, set_numbers}
+use Rattle.fsrm_model.proofs.Numbered.{in_numbers, set_numbers}
 
 -- which folders are unvisited
 at_node : (nodes : List NodeRow) (tops : List ℕ) (n : ℕ) (o : Option NodeRow) → node_of nodes n ≡ o → option_map_or (λ node. node.folder && has_above nodes tops node.number) o false ≡ (option_map_or (λ node. node.folder) o false && has_above nodes tops n)
@@ -89,14 +90,6 @@ above_root (r ∷ rows) tops = plain (is_in tops 0)
 
 pub above_child : (nodes : List NodeRow) (tops : List ℕ) → IsTree nodes → (n : ℕ) → Has nodes n → (n ≡ 0 → ⊥) → has_above nodes tops n ≡ (is_in tops n || has_above nodes tops (parent_of nodes n))
 above_child nodes tops t n h i = ap (list_any (is_in tops)) (climb nodes t n h i)
-
-pub under_child : (nodes : List NodeRow) → IsTree nodes → (f n : ℕ) → Has nodes n → (n ≡ 0 → ⊥) → is_under nodes f n ≡ ((n == f) || is_under nodes f (parent_of nodes n))
-under_child nodes t f n h i = ap (λ ns. is_in ns f) (climb nodes t n h i)
-
--- what is above a node that is above another
-pub under_under : (nodes : List NodeRow) → IsTree nodes → (x f n : ℕ) → Has nodes f → Has nodes n → is_under nodes f n ≡ true → is_under nodes x f ≡ true → is_under nodes x n ≡ true
-under_under nodes t zero f n hf hn below above = t.rooted n hn
-under_under nodes t (suc x) f n hf hn below above = above_all nodes t (suc x) f n (suc_apart x) hf hn below above
 
 pub above_below : (nodes : List NodeRow) (tops : List ℕ) → IsTree nodes → (m n : ℕ) → Has nodes m → Has nodes n → is_under nodes m n ≡ true → has_above nodes tops m ≡ true → has_above nodes tops n ≡ true
 above_below nodes tops t m n hm hn below h =
@@ -210,7 +203,7 @@ tops_are K nodes v f t =
     let parts = both (is_folder nodes n) (has_above nodes f.tops n) (sym (in_unvisited K nodes v f n) ∙ is.1) in
     top_by K nodes v f n is.0 parts.0 parts.1))
 
-pub stands_by : (v : Volume) (f : Front) → IsVolume v.size v.nodes → v.size.nodes ≤ f.room → AreTops v.nodes f → f.sum ≡ counted v.size v.nodes (scanned f) (unvisited v.nodes f) → Stands v f
+pub stands_by : (v : Volume) (f : Front) → IsVolume v.size v.nodes → Suits v.size f.room → AreTops v.nodes f → f.sum ≡ counted v.size v.nodes (scanned f) (unvisited v.nodes f) → Stands v f
 stands_by v f volume fits t sum =
     record {
       volume = volume;

@@ -292,9 +292,9 @@ visited_sum v f n s h =
     omega (arith, s.sum, counted_after v.size v.nodes s.volume f (tops_of v f s) n top, counted_small v.size v.nodes (after v.nodes n f) s.volume)
 
 -- the same by the frontier's fields
-pub visited_fields : (v : Volume) (f : Front) (n : ℕ) (folder : Option ℕ) (tops mid new : Numbers) (sum more : ℕ) → record { room = tops.bound; folder = folder; tops = tops.members; sum = sum } ≡ f → mid ≡ record tops { members = without_number n tops.members } → new ≡ record mid { members = with_numbers (folders_in v.nodes n) mid.members } → more ≡ sum_by (space v.size) (children v.nodes n) → record { room = new.bound; folder = folder; tops = new.members; sum = sum + more } ≡ visited_front v n f
-visited_fields v f n folder tops mid new sum more is out put bytes =
-    let shown : Numbers → ℕ → Front = λ t b. record { room = t.bound; folder = folder; tops = t.members; sum = sum + b } in
+pub visited_fields : (v : Volume) (f : Front) (n : ℕ) (folder : Option ℕ) (tops mid new : Numbers) (sum more cluster : ℕ) → record { room = record { nodes = tops.bound; cluster = cluster }; folder = folder; tops = tops.members; sum = sum } ≡ f → mid ≡ record tops { members = without_number n tops.members } → new ≡ record mid { members = with_numbers (folders_in v.nodes n) mid.members } → more ≡ sum_by (space v.size) (children v.nodes n) → record { room = record { nodes = new.bound; cluster = cluster }; folder = folder; tops = new.members; sum = sum + more } ≡ visited_front v n f
+visited_fields v f n folder tops mid new sum more cluster is out put bytes =
+    let shown : Numbers → ℕ → Front = λ t b. record { room = record { nodes = t.bound; cluster = cluster }; folder = folder; tops = t.members; sum = sum + b } in
     ap (λ (t : Numbers). shown t more) (put ∙ ap (λ (t : Numbers). record t { members = with_numbers (folders_in v.nodes n) t.members }) out)
     ∙ (ap (shown (record tops { members = tops_after v.nodes n tops.members })) bytes
     ∙ ap (visited_front v n) is)

@@ -2,6 +2,7 @@
 use Rattle.std.specs.Prelude.{◌≡◌, ℕ, ◌+◌, ◌*◌, ◌≤◌, ◌&&◌, Bool, true, List, [], map, filter, length, Option, None, is_some, unwrap_or}
 use Rattle.std.specs.Option.{option_map_or}
 use Rattle.std.specs.List.{list_any}
+use Rattle.fsrm_model.specs.declared.row.Capacity.{Capacity}
 use Rattle.fsrm_model.specs.declared.row.NodeRow.{NodeRow}
 use Rattle.fsrm_base.specs.Keyed.{with_change}
 use Rattle.fsrm_base.specs.Numbers.{is_in}
@@ -10,17 +11,27 @@ use Rattle.fsrm_model.specs.Tree.{number, is_folder, chain, children}
 use Rattle.fsrm_model.specs.Valid.{IsVolume}
 use Rattle.volume_tree.specs.Volume.{Volume}
 
--- A frontier: how many nodes it has room for, the folder of its scan, where one is active, the topmost unvisited
--- folders, and the bytes that are counted
+-- for which volumes a frontier is: how many nodes they have at most, and the bytes of their clusters
+pub record Room : Type 0 where
+  pub nodes : ℕ
+  pub cluster : ℕ
+
+-- A frontier: for which volumes it is, the folder of its scan, where one is active, the topmost unvisited folders, and
+-- the bytes that are counted
 pub record Front : Type 0 where
-  pub room : ℕ
+  pub room : Room
   pub folder : Option ℕ
   pub tops : List ℕ
   pub sum : ℕ
 
 -- no scan is active
-abbrev pub idle : ℕ → Front
+abbrev pub idle : Room → Front
 idle room = record { room = room; folder = None; tops = []; sum = 0 }
+
+-- whether a volume of this size is one of these
+pub record Suits (size : Capacity) (room : Room) : Type 0 where
+  pub nodes : size.nodes ≤ room.nodes
+  pub cluster : size.cluster ≡ room.cluster
 
 abbrev pub scanned : Front → ℕ
 scanned front = unwrap_or front.folder 0
@@ -37,7 +48,7 @@ unvisited nodes front = map number (filter (λ node. node.folder && has_above no
 -- whose parent isn't, and what is counted so far
 pub record Stands (v : Volume) (front : Front) : Type 0 where
   pub volume : IsVolume v.size v.nodes
-  pub fits : v.size.nodes ≤ front.room
+  pub fits : Suits v.size front.room
   pub active : is_some front.folder ≡ true
   pub folder : is_folder v.nodes (scanned front) ≡ true
   pub are : AreUnvisited v.nodes (scanned front) (unvisited v.nodes front)

@@ -3,7 +3,7 @@ use Rattle.std.specs.Prelude.{◌≡◌, ℕ, List, if◌then◌else◌}
 use Rattle.fsrm_model.specs.declared.row.Capacity.{Capacity}
 use Rattle.fsrm_model.specs.declared.row.NodeRow.{NodeRow}
 use Rattle.fsrm_base.specs.Numbers.{with_number, without_number}
-use Rattle.fsrm_model.specs.Space.{alloc}
+use Rattle.fsrm_model.specs.Space.{rounded}
 use Rattle.fsrm_model.specs.Tree.{is_under}
 use Rattle.rescan.specs.declared.standing.Standing.{Standing}
 use Rattle.rescan.specs.declared.standing.Standing.TheVariants.{Outside, Visited, Unvisited}
@@ -17,11 +17,11 @@ standing nodes front n =
     else if is_under nodes (scanned front) n then Visited
     else Outside
 
--- what a file of this length, in a folder that stands so, adds to what is counted
-abbrev pub share_of : Capacity → ℕ → Standing → ℕ
-share_of K bytes Outside = 0
-share_of K bytes Visited = alloc K bytes
-share_of K bytes Unvisited = 0
+-- what a file of this length, in a folder that stands so, adds to what is counted, by whole clusters of so many bytes
+abbrev pub share_of : ℕ → ℕ → Standing → ℕ
+share_of cluster bytes Outside = 0
+share_of cluster bytes Visited = rounded cluster bytes
+share_of cluster bytes Unvisited = 0
 
 -- A folder goes from a place that stands so to another. Where both are visited, nothing changes; one that was
 -- visited leaves; one that comes to a visited folder is to be visited, and else it is no topmost folder.

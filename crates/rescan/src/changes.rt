@@ -66,7 +66,7 @@ impl Frontier {
         let _size = tree.capacity();
         let parent = tree.node(node, steps).parent;
         if self.standing(tree, parent, steps) == Standing::Visited {
-            self.sum = self.sum - allocated(old) + allocated(new);
+            self.sum = self.sum - allocated(old, self.cluster) + allocated(new, self.cluster);
         }
     }
 }

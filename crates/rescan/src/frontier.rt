@@ -1,10 +1,11 @@
 //! The frontier of a scan.
 
 ghost use Rattle.std.specs.Prelude.{◌≡◌, ◌<◌, ◌≤◌, ◌==◌, IfOk, None, Some, true, length, [], ◌∷◌};
+ghost use Rattle.fsrm_model.specs.Capacities.{is_cluster};
 ghost use Rattle.fsrm_model.specs.Scan.{folders_under};
 ghost use Rattle.fsrm_model.specs.Tree.{is_folder, usage};
 ghost use Rattle.fsrm_model.specs.Valid.{IsVolume};
-ghost use Rattle.rescan.specs.Frontiers.{Stands, Follows, idle, scanned, unvisited as unvisited_of};
+ghost use Rattle.rescan.specs.Frontiers.{Stands, Follows, Suits, idle, scanned, unvisited as unvisited_of};
 ghost use Rattle.volume_tree.specs.Volume.{Volume};
 
 use fsrm_model::NoMemory;
@@ -16,7 +17,8 @@ use volume_tree::Finger;
 /// The folders that the active scan has still to visit, and the bytes that it has counted. Of the
 /// unvisited folders it holds those whose parent is visited; what is below them is unvisited too.
 ///
-/// Contracts see the room for nodes, the folder that is scanned, these topmost folders, and the sum.
+/// Contracts see for which volumes it is, the folder that is scanned, these topmost folders, and the
+/// sum.
 #[derive(Drop)]
 pub struct Frontier {
     pub(crate) folder: Option<u32>,
@@ -26,6 +28,8 @@ pub struct Frontier {
     pub(crate) waiting: NumberSet,
     // Folders are visited in the order of their numbers, so the next one's children are near.
     pub(crate) finger: Finger,
+    // The bytes of a cluster.
+    pub(crate) cluster: u32,
 }
 
 impl Model for Frontier {
@@ -34,15 +38,17 @@ impl Model for Frontier {
 
     ghost Value = { Front };
 
-    ghost view = { λ f. record { room = f.tops.bound; folder = f.folder; tops = f.tops.members; sum = f.sum } };
+    ghost view = { λ f. record { room = record { nodes = f.tops.bound; cluster = f.cluster }; folder = f.folder; tops = f.tops.members; sum = f.sum } };
 
-    ghost invariant = { λ f. IsKept f.folder f.tops f.sum f.waiting };
+    ghost invariant = { λ f. IsKept f.folder f.tops f.sum f.waiting f.cluster };
 }
 
 impl Frontier {
-    /// A frontier with room for scans of volumes of so many nodes, and no scan.
-    pub fn reserve(alloc: Global, nodes: u32) -> Result<Frontier, NoMemory>
-        ensures { IfOk result (λ frontier. frontier ≡ idle nodes) }
+    /// A frontier for scans of volumes of so many nodes at most, with clusters of so many bytes, and no
+    /// scan.
+    pub fn reserve(alloc: Global, nodes: u32, cluster: u32) -> Result<Frontier, NoMemory>
+        requires { is_cluster cluster ≡ true }
+        ensures { IfOk result (λ frontier. frontier ≡ idle (record { nodes = nodes; cluster = cluster })) }
     {
         let tops = NumberSet::reserve(alloc, nodes)?;
         let waiting = NumberSet::reserve(alloc, nodes)?;
@@ -52,15 +58,16 @@ impl Frontier {
             sum: 0,
             waiting,
             finger: Finger::default(),
+            cluster,
         })
     }
 
     /// Begins the scan of a folder, with all folders at and below it unvisited. None may be active.
     pub fn start(&mut self, folder: u32)
         requires idle { self.old.folder ≡ None }
-        requires room { folder < self.old.room }
+        requires room { folder < self.old.room.nodes }
         ensures begun { self.new ≡ record { room = self.old.room; folder = Some folder; tops = folder ∷ []; sum = 0 } }
-        ensures follows { (v : Volume) → IsVolume v.size v.nodes → v.size.nodes ≤ self.old.room → is_folder v.nodes folder ≡ true → Follows self.new self.new v (folders_under v.nodes folder) }
+        ensures follows { (v : Volume) → IsVolume v.size v.nodes → Suits v.size self.old.room → is_folder v.nodes folder ≡ true → Follows self.new self.new v (folders_under v.nodes folder) }
     {
         // Nothing is counted where no scan was active.
         self.tops.insert(folder);

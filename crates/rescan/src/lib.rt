@@ -5,12 +5,6 @@ mod changes;
 mod frontier;
 mod moves;
 mod standing;
-#[cfg(test)]
-mod tests;
-#[cfg(test)]
-mod tests_of_changes;
-#[cfg(test)]
-mod tests_of_moves;
 mod visits;
 
 pub use frontier::Frontier;

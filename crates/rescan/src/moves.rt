@@ -1,13 +1,13 @@
 //! A scan's way through moves.
 
 ghost use Rattle.std.specs.Prelude.{◌≡◌, ℕ, ◌+◌, ◌*◌, ◌^◌, ◌<◌, ◌≤◌, ◌==◌, List, true, false, is_some, length};
-ghost use Rattle.fsrm_model.specs.declared.row.Capacity.{Capacity};
+ghost use Rattle.fsrm_model.specs.Capacities.{is_cluster};
 ghost use Rattle.fsrm_base.specs.Keyed.{has_row};
 ghost use Rattle.fsrm_model.specs.Limits.{longest_file};
 ghost use Rattle.fsrm_model.specs.Scan.{unvisited_moved};
 ghost use Rattle.fsrm_model.specs.Tree.{number as key, is_folder, is_under, under, chain};
 ghost use Rattle.fsrm_model.specs.Valid.{IsVolume};
-ghost use Rattle.rescan.specs.Frontiers.{Stands, Follows, scanned, unvisited as unvisited_of};
+ghost use Rattle.rescan.specs.Frontiers.{Stands, Follows, Suits, scanned, unvisited as unvisited_of};
 ghost use Rattle.rescan.specs.Leaves.{counted_below, is_visited, Leaves};
 ghost use Rattle.rescan.specs.Standings.{standing, share_of, FolderGoes};
 ghost use Rattle.rescan.specs.Tops.{AreTops};
@@ -53,12 +53,13 @@ impl Frontier {
     fn move_file(&mut self, length: u64, before: Standing, after: Standing)
         requires active { is_some self.old.folder ≡ true }
         requires length { length ≤ longest_file }
-        requires counted { (K : Capacity) → share_of K length before ≤ self.old.sum }
-        requires fits { (K : Capacity) → self.old.sum + share_of K length after < 2 ^ 64 + share_of K length before }
+        requires counted { share_of self.old.room.cluster length before ≤ self.old.sum }
+        requires fits { self.old.sum + share_of self.old.room.cluster length after < 2 ^ 64 + share_of self.old.room.cluster length before }
         ensures rest { self.new ≡ record self.old { sum = self.new.sum } }
-        ensures sum { (K : Capacity) → self.new.sum + share_of K length before ≡ self.old.sum + share_of K length after }
+        ensures sum { self.new.sum + share_of self.old.room.cluster length before ≡ self.old.sum + share_of self.old.room.cluster length after }
     {
-        self.sum = self.sum - share(length, before) + share(length, after);
+        self.sum = self.sum - share(length, before, self.cluster)
+            + share(length, after, self.cluster);
     }
 
     // Follows the move of a folder, from a place that stands so to another. It takes no more than 3 looks for
@@ -72,7 +73,7 @@ impl Frontier {
         steps: &mut Steps<L>,
     )
         requires volume { IsVolume tree.now.size tree.now.nodes }
-        requires room { tree.now.size.nodes ≤ self.old.room }
+        requires room { Suits tree.now.size self.old.room }
         requires tops { AreTops tree.now.nodes self.old }
         requires folder { is_folder tree.now.nodes node ≡ true }
         requires before { before ≡ standing tree.now.nodes self.old node }
@@ -92,7 +93,7 @@ impl Frontier {
     // more than 3 looks for each node at and below it.
     fn leave<L: Ledger>(&mut self, tree: &Tree, node: u32, steps: &mut Steps<L>)
         requires volume { IsVolume tree.now.size tree.now.nodes }
-        requires room { tree.now.size.nodes ≤ self.old.room }
+        requires room { Suits tree.now.size self.old.room }
         requires tops { AreTops tree.now.nodes self.old }
         requires folder { is_folder tree.now.nodes node ≡ true }
         requires visited { is_visited tree.now.nodes self.old node ≡ true }
@@ -112,13 +113,14 @@ impl Frontier {
     }
 }
 
-// What a file of this length, in a folder that stands so, adds to what is counted.
-fn share(length: u64, standing: Standing) -> u64
-    requires { length ≤ longest_file }
-    ensures { (K : Capacity) → result ≡ share_of K length standing }
+// What a file of this length, in a folder that stands so, adds to what is counted, by whole clusters.
+fn share(length: u64, standing: Standing, cluster: u32) -> u64
+    requires length { length ≤ longest_file }
+    requires cluster { is_cluster cluster ≡ true }
+    ensures { result ≡ share_of cluster length standing }
 {
     match standing {
-        Standing::Visited => allocated(length),
+        Standing::Visited => allocated(length, cluster),
         Standing::Outside | Standing::Unvisited => 0,
     }
 }

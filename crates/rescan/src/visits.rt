@@ -10,7 +10,7 @@ ghost use Rattle.rescan.specs.Frontiers.{Stands, Follows, visit_looks, unvisited
 ghost use Rattle.rescan.specs.Visits.{folders_in};
 
 use crate::frontier::Frontier;
-use fsrm_model::{Ledger, List, NoMemory, Steps, allocated};
+use fsrm_model::{Ledger, List, NoMemory, Steps};
 use number_set::NumberSet;
 use std::alloc::Global;
 use volume_tree::{Finger, Tree};
@@ -85,13 +85,15 @@ pub(crate) fn enter_children<L: Ledger>(
     ensures small { sum_by (space tree.now.size) tree.now.nodes < 2 ^ 64 }
     ensures looks { steps.new ≤ steps.old + (1 + 2 * length (children tree.now.nodes folder)) }
 {
+    // The files of a volume of this size take fewer than 2^64 bytes.
+    let _size = tree.capacity();
     let mut bytes = 0u64;
     for &child in tree.children(folder, finger, steps) {
         let node = tree.node(child, steps);
         if node.folder {
             set.insert(child);
         } else {
-            bytes += allocated(node.length);
+            bytes += tree.allocated(node.length);
         }
     }
     bytes

@@ -10,7 +10,7 @@ use Rattle.fsrm_model.specs.Tree.{node_of, is_folder}
 use Rattle.fsrm_model.specs.Valid.{IsVolume}
 use Rattle.fsrm_base.proofs.Look.{none_row, some_row}
 use Rattle.volume_tree.specs.Volume.{Volume}
-use Rattle.rescan.specs.Frontiers.{Front, Stands, Follows, scanned, unvisited, sized}
+use Rattle.rescan.specs.Frontiers.{Room, Front, Stands, Suits, Follows, scanned, unvisited, sized}
 use Rattle.scan_queue.specs.Courses.{Course, Scanning, Goes}
 use Rattle.scan_queue.specs.Kept.{IsKept}
 use Rattle.fsrm_base.proofs.TestLaws.{clash, not_true, eq_is}
@@ -25,7 +25,7 @@ kept_going queue old new some folder room k =
       once = k.once;
       active = folder ∙ k.active;
       idle = λ h. let none : head queue ≡ None = sym (folder ∙ k.active) ∙ h in let no : is_some (head queue) ≡ false = ap is_some none in cc;
-      within = λ n h. subst (λ (r : ℕ). n < r) (sym room) (k.within n h);
+      within = λ n h. subst (λ (r : Room). n < r.nodes) (sym room) (k.within n h);
     }
 
 -- the active scan stands
@@ -33,7 +33,7 @@ pub stands_active : (v : Volume) (course : Course) → Scanning v course → is_
 stands_active v course s some = s.stands (ap is_some s.active ∙ some)
 
 -- without an active scan there is nothing to do
-pub goes_idle : (v : Volume) (course : Course) (next : ℕ → List ℕ) → course.front.folder ≡ head course.queue → is_some (head course.queue) ≡ false → course.front.tops ≡ [] → IsVolume v.size v.nodes → v.size.nodes ≤ course.front.room → ((n : ℕ) → is_in course.queue n ≡ true → is_folder v.nodes n ≡ true) → Goes course course v next
+pub goes_idle : (v : Volume) (course : Course) (next : ℕ → List ℕ) → course.front.folder ≡ head course.queue → is_some (head course.queue) ≡ false → course.front.tops ≡ [] → IsVolume v.size v.nodes → Suits v.size course.front.room → ((n : ℕ) → is_in course.queue n ≡ true → is_folder v.nodes n ≡ true) → Goes course course v next
 goes_idle v course next active none tops volume fits folders =
     record {
       scanning = record {

@@ -1,9 +1,7 @@
 pub mod Following
 pub mod Leaving
 pub mod Lengths
-pub mod Made
 pub mod Queues
-pub mod Ready
 pub mod Touching
 pub mod Turning
 pub mod Visiting

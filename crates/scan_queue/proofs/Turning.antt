@@ -10,7 +10,7 @@ use Rattle.fsrm_model.specs.Scan.{folders_under}
 use Rattle.fsrm_model.specs.Tree.{number, is_folder, chain}
 use Rattle.fsrm_base.proofs.Look.{some_row}
 use Rattle.volume_tree.specs.Volume.{Volume}
-use Rattle.rescan.specs.Frontiers.{Front, Follows, idle, has_above, unvisited}
+use Rattle.rescan.specs.Frontiers.{Front, Room, Suits, Follows, idle, has_above, unvisited}
 use Rattle.scan_queue.specs.Beginnings.{Begins}
 use Rattle.scan_queue.specs.Courses.{Course, Scanning, Turns}
 use Rattle.scan_queue.specs.Kept.{IsKept}
@@ -34,16 +34,16 @@ none_left nodes front h =
     ∙ ap (map number) (filter_none (λ node. node.folder && has_above nodes [] node.number) (λ node. fails_later node.folder (has_above nodes [] node.number) (no_above (chain nodes node.number))) nodes)
 
 -- the queue is kept
-pub kept_begun : (room : ℕ) (queue : List ℕ) (front : Front) → each_once queue ≡ true → ((folder : ℕ) → is_in queue folder ≡ true → folder < room) → Begins room (head queue) front → IsKept queue front
+pub kept_begun : (room : Room) (queue : List ℕ) (front : Front) → each_once queue ≡ true → ((folder : ℕ) → is_in queue folder ≡ true → folder < room.nodes) → Begins room (head queue) front → IsKept queue front
 kept_begun room queue front once within b =
     record {
       once = once;
       active = b.folder;
       idle = λ h. b.idle (sym b.folder ∙ h);
-      within = λ folder h. subst (λ (k : ℕ). folder < k) (sym b.room_is) (within folder h);
+      within = λ folder h. subst (λ (r : Room). folder < r.nodes) (sym b.room_is) (within folder h);
     }
 
-pub kept_same : (old queue : List ℕ) (front : Front) → IsKept old front → each_once queue ≡ true → SameHead old queue → ((folder : ℕ) → is_in queue folder ≡ true → folder < front.room) → IsKept queue front
+pub kept_same : (old queue : List ℕ) (front : Front) → IsKept old front → each_once queue ≡ true → SameHead old queue → ((folder : ℕ) → is_in queue folder ≡ true → folder < front.room.nodes) → IsKept queue front
 kept_same old queue front k once same within =
     record { once = once; active = k.active ∙ sym same.head_is; idle = k.idle; within = within }
 
@@ -59,7 +59,7 @@ turned v old queue front s other folders b =
     record {
       scanning = record {
         volume = s.volume;
-        fits = subst (λ (k : ℕ). v.size.nodes ≤ k) (sym b.room_is) s.fits;
+        fits = subst (Suits v.size) (sym b.room_is) s.fits;
         folders = folders;
         active = b.folder;
         stands = λ h. let f = some_row (head queue) (ap is_some (sym b.folder) ∙ h) in (follows f.row f.is).stands;
@@ -82,16 +82,16 @@ unturned v old queue s same folders =
 pushed_all : (P : ℕ → Type 0) (queue : List ℕ) (folder : ℕ) → ((n : ℕ) → is_in queue n ≡ true → P n) → P folder → (n : ℕ) → is_in (queue ++ folder ∷ []) n ≡ true → P n
 pushed_all P queue folder f h n m = elim (in_pushed queue folder n m) [ inl e ↦ f n e | inr e ↦ subst P e h ]
 
-pub kept_pushed : (old queue : List ℕ) (front : Front) (folder : ℕ) → queue ≡ old ++ folder ∷ [] → is_some (head old) ≡ true → is_in old folder ≡ false → folder < front.room → IsKept old front → IsKept queue front
+pub kept_pushed : (old queue : List ℕ) (front : Front) (folder : ℕ) → queue ≡ old ++ folder ∷ [] → is_some (head old) ≡ true → is_in old folder ≡ false → folder < front.room.nodes → IsKept old front → IsKept queue front
 kept_pushed old queue front folder e h absent within k =
     subst (λ ns. IsKept ns front) (sym e)
-    (kept_same old (old ++ folder ∷ []) front k (once_pushed old folder k.once absent) (later_pushed folder old (somebody old h)) (pushed_all (λ n. n < front.room) old folder k.within within))
+    (kept_same old (old ++ folder ∷ []) front k (once_pushed old folder k.once absent) (later_pushed folder old (somebody old h)) (pushed_all (λ n. n < front.room.nodes) old folder k.within within))
 
-pub kept_alone : (old queue : List ℕ) (front new : Front) (folder : ℕ) → queue ≡ old ++ folder ∷ [] → is_some (head old) ≡ false → folder < front.room → Begins front.room (Some folder) new → IsKept queue new
+pub kept_alone : (old queue : List ℕ) (front new : Front) (folder : ℕ) → queue ≡ old ++ folder ∷ [] → is_some (head old) ≡ false → folder < front.room.nodes → Begins front.room (Some folder) new → IsKept queue new
 kept_alone old queue front new folder e h within b =
     let is : queue ≡ folder ∷ [] = e ∙ ap (λ ns. ns ++ folder ∷ []) (nobody old h) in
     subst (λ ns. IsKept ns new) (sym is)
-    (kept_begun front.room (folder ∷ []) new refl (λ n m. subst (λ (k : ℕ). k < front.room) (alone folder n m) within) b)
+    (kept_begun front.room (folder ∷ []) new refl (λ n m. subst (λ (k : ℕ). k < front.room.nodes) (alone folder n m) within) b)
   where
     alone : (folder n : ℕ) → is_in (folder ∷ []) n ≡ true → folder ≡ n
     alone folder n h = eq_is folder n (or_false (folder == n) h)

@@ -1,12 +1,12 @@
 -- The queue of scans, and how far the active one has come.
-use Rattle.std.specs.Prelude.{◌≡◌, ℕ, ◌≤◌, true, List, None, is_some, if◌then◌else◌, []}
+use Rattle.std.specs.Prelude.{◌≡◌, ℕ, true, List, None, is_some, if◌then◌else◌, []}
 use Rattle.std.specs.Option.{option_map_or}
 use Rattle.fsrm_model.specs.declared.row.NodeRow.{NodeRow}
 use Rattle.fsrm_base.specs.Numbers.{is_in}
 use Rattle.fsrm_model.specs.QuotaStates.{head, same_head, scan_begun}
 use Rattle.fsrm_model.specs.Tree.{is_folder}
 use Rattle.fsrm_model.specs.Valid.{IsVolume}
-use Rattle.rescan.specs.Frontiers.{Front, Stands, unvisited}
+use Rattle.rescan.specs.Frontiers.{Front, Stands, Suits, unvisited}
 use Rattle.volume_tree.specs.Volume.{Volume}
 
 -- the folders whose scans wait, the active one's first, and the frontier of the active one
@@ -22,7 +22,7 @@ left nodes course = unvisited nodes course.front
 -- empty there is none
 pub record Scanning (v : Volume) (course : Course) : Type 0 where
   pub volume : IsVolume v.size v.nodes
-  pub fits : v.size.nodes ≤ course.front.room
+  pub fits : Suits v.size course.front.room
   pub folders : (folder : ℕ) → is_in course.queue folder ≡ true → is_folder v.nodes folder ≡ true
   pub active : course.front.folder ≡ head course.queue
   pub stands : is_some course.front.folder ≡ true → Stands v course.front

@@ -10,4 +10,4 @@ pub record IsKept (queue : List ℕ) (front : Front) : Type 0 where
   pub once : each_once queue ≡ true
   pub active : front.folder ≡ head queue
   pub idle : front.folder ≡ None → front.tops ≡ []
-  pub within : (folder : ℕ) → is_in queue folder ≡ true → folder < front.room
+  pub within : (folder : ℕ) → is_in queue folder ≡ true → folder < front.room.nodes

@@ -3,8 +3,6 @@
 
 mod follow;
 mod queue;
-#[cfg(test)]
-mod tests;
 mod visits;
 
 pub use queue::Scans;

@@ -1,6 +1,7 @@
 //! The queue of scans.
 
 ghost use Rattle.std.specs.Prelude.{◌≡◌, ◌<◌, ◌++◌, ◌==◌, ℕ, IfOk, OnOk, OnErr, Some, None, true, false, is_some, length, [], ◌∷◌};
+ghost use Rattle.fsrm_model.specs.Capacities.{is_cluster};
 ghost use Rattle.fsrm_base.specs.Numbers.{is_in, each_once, without_number};
 ghost use Rattle.fsrm_model.specs.QuotaStates.{head as first};
 ghost use Rattle.fsrm_model.specs.Tree.{is_folder};
@@ -34,11 +35,12 @@ impl Model for Scans {
 }
 
 impl Scans {
-    /// An empty queue, with room for scans of volumes of so many nodes.
-    pub fn reserve(alloc: Global, nodes: u32) -> Result<Scans, NoMemory>
-        ensures { IfOk result (λ scans. scans ≡ record { queue = []; front = idle nodes }) }
+    /// An empty queue, for scans of volumes of so many nodes at most, with clusters of so many bytes.
+    pub fn reserve(alloc: Global, nodes: u32, cluster: u32) -> Result<Scans, NoMemory>
+        requires { is_cluster cluster ≡ true }
+        ensures { IfOk result (λ scans. scans ≡ record { queue = []; front = idle (record { nodes = nodes; cluster = cluster }) }) }
     {
-        let frontier = Frontier::reserve(alloc, nodes)?;
+        let frontier = Frontier::reserve(alloc, nodes, cluster)?;
         Ok(Scans {
             queue: Vec::new(alloc),
             frontier,
@@ -69,7 +71,7 @@ impl Scans {
     /// Puts a folder to the end of the queue. Where it is the only one its scan begins. An `Err` changes
     /// nothing.
     pub fn push(&mut self, folder: u32) -> Result<(), NoMemory>
-        requires room { folder < self.old.front.room }
+        requires room { folder < self.old.front.room.nodes }
         requires absent { is_in self.old.queue folder ≡ false }
         ensures queue { OnOk result (self.new.queue ≡ self.old.queue ++ folder ∷ []) }
         ensures turns { OnOk result ((v : Volume) → Scanning v self.old → is_folder v.nodes folder ≡ true → Turns self.old self.new v) }
@@ -110,7 +112,7 @@ impl Scans {
 pub(crate) fn begin(head: Option<u32>, frontier: &mut Frontier)
     requires idle { frontier.old.folder ≡ None }
     requires empty { frontier.old.tops ≡ [] }
-    requires room { (folder : ℕ) → head ≡ Some folder → folder < frontier.old.room }
+    requires room { (folder : ℕ) → head ≡ Some folder → folder < frontier.old.room.nodes }
     ensures { Begins frontier.old.room head frontier.new }
 {
     if let Some(folder) = head {

@@ -7,4 +7,4 @@ pub mod QuoteCounts
 pub mod Lines
 pub mod LimitWords
 pub mod OptionLaws
-pub mod Validity
+pub mod NamedWords

@@ -1,16 +1,16 @@
 -- Which option a word names, and what one option more comes to.
-use Rattle.std.proofs.Common.{◌≡◌, ℕ, suc, ◌+◌, ◌<◌, Bool, true, false, cond, List, [], ◌∷◌, length, Some, None, refl, ap, arith}
-use Rattle.std.specs.Prelude.{◌||◌, not, Option, Result, Ok, Err, map, find, option_map, is_some, codes}
-use Rattle.std.specs.List.{list_any, position_or_len, before_first}
-use Rattle.std.specs.Str.{str_eq_ignore_ascii_case}
-use Rattle.std.specs.Result.{IsErr, IsErrAnd}
-use Rattle.fsrm_model.specs.declared.command.Refusal.{Refusal}
+use Rattle.std.proofs.Common.{◌≡◌, ℕ, suc, ◌+◌, ◌<◌, Bool, true, false, cond, List, [], ◌∷◌, ◌++◌, length, Some, None, refl, sym, ◌∙◌, ap, subst, arith}
+use Rattle.std.specs.Prelude.{◌||◌, not, Option, Result, Ok, Err, map, find, option_map, is_some}
+use Rattle.std.specs.List.{list_any, position_or_len, before_first, after_first}
+use Rattle.std.specs.Option.{option_or}
 use Rattle.fsrm_model.specs.declared.command.Refusal.TheVariants.{BadLine}
-use Rattle.fsrm_model.specs.Options.{Key, ThePath, TheLimit, TheType, TheStatus, key_name, Given, key_of, is_colon, once, with_value}
-use Rattle.fsrm_model.specs.Reading.{Read, ◌>>=◌, path_from, limit_from, choice_from}
-use Rattle.tool_commands.specs.OptionWords.{has_key, Adds}
+use Rattle.fsrm_model.specs.Options.{Key, ThePath, TheLimit, TheType, TheStatus, may_repeat, Given, key_of, value_from, path_in, limit_in, type_in, status_in, is_of, one, key_named, word_key, is_colon, with_option, options}
+use Rattle.fsrm_model.specs.Reading.{Read, ◌>>=◌, guarded, known}
+use Rattle.fsrm_model.specs.Words.{Word}
+use Rattle.fsrm_model.proofs.OptionLaws.{own_key}
+use Rattle.tool_commands.specs.OptionWords.{Holds, KeepsOnce, option_word, Adds}
 use Rattle.tool_commands.specs.LineFaults.{Reads}
-use Rattle.tool_commands.specs.declared.options.Given.{Given as NewGiven}
+use Rattle.tool_commands.specs.declared.options.Given.{Given as Held}
 use Rattle.tool_commands.specs.declared.reading.LineFault.{LineFault}
 use Rattle.tool_commands.specs.declared.reading.LineFault.TheVariants.{Refused, NoMemory}
 
@@ -32,7 +32,7 @@ none_passes {X} p (x ∷ xs) e = at (p x) e (none_passes p xs)
     at false e others = others (omega arith)
 
 -- a word without a colon names no option
-pub no_key : (keys : List Key) (text : List ℕ) → position_or_len is_colon text ≡ length text → key_of keys text ≡ None
+pub no_key : (keys : List Key) (text : List ℕ) → position_or_len is_colon text ≡ length text → word_key keys text ≡ None
 no_key keys text none = rw (none_passes is_colon text none) refl
 
 one_passes : {X : Type 0} (p : X → Bool) (xs : List X) → position_or_len p xs < length xs → list_any p xs ≡ true
@@ -44,59 +44,107 @@ one_passes {X} p (x ∷ xs) short = at (p x) short (one_passes p xs)
     at false less others = others (omega arith)
 
 -- a word with a colon names the option that has the name before it
-pub key_before : (keys : List Key) (text name : List ℕ) → position_or_len is_colon text < length text → name ≡ before_first is_colon text → key_of keys text ≡ find (λ key. str_eq_ignore_ascii_case (key_name key) name) keys
+pub key_before : (keys : List Key) (text name : List ℕ) → position_or_len is_colon text < length text → name ≡ before_first is_colon text → word_key keys text ≡ key_named keys name
 key_before keys text name some same = rw (one_passes is_colon text some, same) refl
 
--- an option that was given
-once_again : {X : Type 0} (column : ℕ) (option : Option X) (value : Read X) → is_some option ≡ true → once column option value ≡ Err (BadLine column)
-once_again column None value h = absurd cc
-once_again column (Some x) value h = refl
+or_none : {X : Type 0} (o : Option X) → option_or o None ≡ o
+or_none None = refl
+or_none (Some x) = refl
 
--- and one that was not
-once_first : {X : Type 0} (column : ℕ) (option : Option X) (value : Read X) → is_some option ≡ false → once column option value ≡ (value >>= λ x. Ok (Some x))
-once_first column None value h = refl
-once_first column (Some x) value h = absurd cc
-
-pub given_twice : (key : Key) (column : ℕ) (value : List ℕ) (given : Given) → has_key key given ≡ true → with_value key column value given ≡ Err (BadLine column)
-given_twice ThePath column value given h = rw (once_again column given.path (path_from value) h) refl
-given_twice TheLimit column value given h = rw (once_again column given.limit (limit_from column value) h) refl
-given_twice TheType column value given h = rw (once_again column given.enforce (choice_from (codes "hard") (codes "soft") column value) h) refl
-given_twice TheStatus column value given h = rw (once_again column given.enabled (choice_from (codes "enabled") (codes "disabled") column value) h) refl
-
--- a value that is read
-pub path_given : (column : ℕ) (value : List ℕ) (given : Given) (path : List (List ℕ)) → is_some given.path ≡ false → path_from value ≡ Ok path → with_value ThePath column value given ≡ Ok (record given { path = Some path })
-path_given column value given path h is = rw (once_first column given.path (path_from value) h, is) refl
-
-pub limit_given : (column : ℕ) (value : List ℕ) (given : Given) (limit : ℕ) → is_some given.limit ≡ false → limit_from column value ≡ Ok limit → with_value TheLimit column value given ≡ Ok (record given { limit = Some limit })
-limit_given column value given limit h is = rw (once_first column given.limit (limit_from column value) h, is) refl
-
-pub type_given : (column : ℕ) (value : List ℕ) (given : Given) (enforce : Bool) → is_some given.enforce ≡ false → choice_from (codes "hard") (codes "soft") column value ≡ Ok enforce
-    → with_value TheType column value given ≡ Ok (record given { enforce = Some enforce })
-type_given column value given enforce h is = rw (once_first column given.enforce (choice_from (codes "hard") (codes "soft") column value) h, is) refl
-
-pub status_given : (column : ℕ) (value : List ℕ) (given : Given) (enabled : Bool) → is_some given.enabled ≡ false → choice_from (codes "enabled") (codes "disabled") column value ≡ Ok enabled
-    → with_value TheStatus column value given ≡ Ok (record given { enabled = Some enabled })
-status_given column value given enabled h is = rw (once_first column given.enabled (choice_from (codes "enabled") (codes "disabled") column value) h, is) refl
-
-passed_on : (r : Result (Unit {0}) LineFault) (fault : LineFault) → IsErr r × IsErrAnd r (λ e. e ≡ fault) → r ≡ Err fault
-passed_on (Ok done) fault h = absurd h.1
-passed_on (Err e) fault h = ap Err h.1
-
--- a value that isn't read
-fault_given : {X : Type 0} (fault : LineFault) (r : Result (Unit {0}) LineFault) (new : NewGiven) (value : Read X) (more : Read Given) → IsErr r × IsErrAnd r (λ e. e ≡ fault) → Reads {X = X} (Err fault) value
-    → ((refusal : Refusal) → value ≡ Err refusal → more ≡ Err refusal) → Adds r new more
-fault_given {X} fault r new value more is reads refused = rw (passed_on r fault is) (at fault reads)
+-- the first value behind one more option
+one_more : {X : Type 0} (value : Given → Option X) (given : List Given) (next : Given) → one value (given ++ next ∷ []) ≡ option_or (one value given) (value next)
+one_more value [] next = or_none (value next)
+one_more value (first ∷ given) next = at (value first) (one value (given ++ next ∷ [])) (one value given) (value next) (one_more value given next)
   where
-    at : (fault : LineFault) → Reads {X = X} (Err fault) value → Reads {X = Given} (Err fault) more
-    at (Refused refusal) reads = refused refusal reads
-    at NoMemory reads = tt
+    at : {X : Type 0} (o a b c : Option X) → a ≡ option_or b c → option_or o a ≡ option_or (option_or o b) c
+    at None a b c h = h
+    at (Some x) a b c h = refl
 
-pub path_fault : (fault : LineFault) (r : Result (Unit {0}) LineFault) (new : NewGiven) (column : ℕ) (value : List ℕ) (given : Given) → IsErr r × IsErrAnd r (λ e. e ≡ fault) → is_some given.path ≡ false
-    → Reads {X = List (List ℕ)} (Err fault) (path_from value) → Adds r new (with_value ThePath column value given)
-path_fault fault r new column value given is h reads =
-    fault_given fault r new (path_from value) (with_value ThePath column value given) is reads (λ refusal no. rw (once_first column given.path (path_from value) h, no) refl)
+-- whether an option is among those that were given
+pub any_one : {X : Type 0} (value : Given → Option X) (given : List Given) → list_any (λ g. is_some (value g)) given ≡ is_some (one value given)
+any_one value [] = refl
+any_one value (first ∷ given) = at (value first) (one value given) (any_one value given)
+  where
+    at : {X : Type 0} (o p : Option X) → list_any (λ g. is_some (value g)) given ≡ is_some p → (is_some o || list_any (λ g. is_some (value g)) given) ≡ is_some (option_or o p)
+    at None p h = h
+    at (Some x) p h = refl
 
-pub limit_fault : (fault : LineFault) (r : Result (Unit {0}) LineFault) (new : NewGiven) (column : ℕ) (value : List ℕ) (given : Given) → IsErr r × IsErrAnd r (λ e. e ≡ fault) → is_some given.limit ≡ false
-    → Reads {X = ℕ} (Err fault) (limit_from column value) → Adds r new (with_value TheLimit column value given)
-limit_fault fault r new column value given is h reads =
-    fault_given fault r new (limit_from column value) (with_value TheLimit column value given) is reads (λ refusal no. rw (once_first column given.limit (limit_from column value) h, no) refl)
+-- an option that may be given once
+pub add_once : {X : Type 0} (key : Key) (column : ℕ) (text : List ℕ) (make : X → Given) (value : Given → Option X) (read : Read X) → may_repeat key ≡ false → ((given : List Given) → list_any (is_of key) given ≡ is_some (one value given)) → value_from key column text ≡ (read >>= λ x. Ok (make x)) → (place : Option X → Held) (given : List Given) (result : Result (Unit {0}) LineFault) (old slot : Option X) (code : Result X LineFault) → KeepsOnce result old slot column code → Reads code read → old ≡ one value given → ((x : X) → list_any (is_of key) given ≡ false → Holds (place (Some x)) (given ++ make x ∷ [])) → Adds result (place slot) (with_option key column text given)
+add_once {X} key column text make value read single has is place given result old slot code keeps reads held next = at old code keeps reads (has given ∙ ap is_some (sym held))
+  where
+    with_is : (b : Bool) → list_any (is_of key) given ≡ b → with_option key column text given ≡ (guarded (not b) (BadLine column) key >>= λ fresh. value_from fresh column text >>= λ x. Ok (given ++ x ∷ []))
+    with_is b e = ap (λ (a : Bool). guarded (a || not (list_any (is_of key) given)) (BadLine column) key >>= λ fresh. value_from fresh column text >>= λ x. Ok (given ++ x ∷ [])) single ∙ ap (λ (b : Bool). guarded (not b) (BadLine column) key >>= λ fresh. value_from fresh column text >>= λ x. Ok (given ++ x ∷ [])) e
+
+    value_is : list_any (is_of key) given ≡ false → with_option key column text given ≡ ((read >>= λ x. Ok (make x)) >>= λ x. Ok (given ++ x ∷ []))
+    value_is e = with_is false e ∙ ap (λ (r : Read Given). r >>= λ x. Ok (given ++ x ∷ [])) is
+
+    at : (old : Option X) (code : Result X LineFault) → KeepsOnce result old slot column code → Reads code read → list_any (is_of key) given ≡ is_some old → Adds result (place slot) (with_option key column text given)
+    at (Some o) code k r e = subst (λ (done : Result (Unit {0}) LineFault). Adds done (place slot) (with_option key column text given)) (sym k) (with_is true e)
+    at None (Ok x) k r e =
+        let made = value_is e ∙ ap (λ (r : Read X). (r >>= λ x. Ok (make x)) >>= λ x. Ok (given ++ x ∷ [])) r in
+        subst (λ (done : Result (Unit {0}) LineFault). Adds done (place slot) (with_option key column text given)) (sym k.0)
+        (given ++ make x ∷ [], made, subst (λ (o : Option X). Holds (place o) (given ++ make x ∷ [])) (sym k.1) (next x e))
+    at None (Err (Refused refusal)) k r e =
+        let made = value_is e ∙ ap (λ (r : Read X). (r >>= λ x. Ok (make x)) >>= λ x. Ok (given ++ x ∷ [])) r in
+        subst (λ (done : Result (Unit {0}) LineFault). Adds done (place slot) (with_option key column text given)) (sym k) made
+    at None (Err NoMemory) k r e = subst (λ (done : Result (Unit {0}) LineFault). Adds done (place slot) (with_option key column text given)) (sym k) tt
+
+-- What is held with one option more, which wasn't given before
+abbrev newer : {X : Type 0} → Option X → Option X → Option X
+newer old None = old
+newer old (Some x) = Some x
+
+abbrev with_more : Held → Given → Held
+with_more held next =
+    record {
+      path = newer held.path (path_in next);
+      limit = newer held.limit (limit_in next);
+      enforce = newer held.enforce (type_in next);
+      enabled = newer held.enabled (status_in next);
+    }
+
+one_newer : {X : Type 0} (value : Given → Option X) (key : Key) (held : Option X) (given : List Given) (next : Given) → ((g : Given) → is_of key g ≡ is_some (value g)) → held ≡ one value given → list_any (is_of (key_of next)) given ≡ false → newer held (value next) ≡ one value (given ++ next ∷ [])
+one_newer {X} value key held given next of h free = at (value next) refl
+  where
+    any_of : (xs : List Given) → list_any (is_of key) xs ≡ is_some (one value xs)
+    any_of xs = any_same xs ∙ any_one value xs
+      where
+        any_same : (xs : List Given) → list_any (is_of key) xs ≡ list_any (λ g. is_some (value g)) xs
+        any_same [] = refl
+        any_same (x ∷ xs) = ap (λ (b : Bool). b || list_any (is_of key) xs) (of x) ∙ ap (λ (b : Bool). is_some (value x) || b) (any_same xs)
+
+    none_there : (o : Option X) → is_some o ≡ false → o ≡ None
+    none_there None e = refl
+    none_there (Some x) e = absurd (cc e)
+
+    at : (o : Option X) → value next ≡ o → newer held o ≡ one value (given ++ next ∷ [])
+    at None e = h ∙ sym (one_more value given next ∙ ap (option_or (one value given)) e ∙ or_none (one value given))
+    at (Some x) e =
+        let own : key ≡ key_of next = own_key key next (of next ∙ ap is_some e) in
+        let none : one value given ≡ None = none_there (one value given) (sym (any_of given) ∙ ap (λ (k : Key). list_any (is_of k) given) own ∙ free) in
+        sym (one_more value given next ∙ ap (λ (o : Option X). option_or o (value next)) none ∙ e)
+
+pub held_more : (held : Held) (given : List Given) (next : Given) → Holds held given → list_any (is_of (key_of next)) given ≡ false → Holds (with_more held next) (given ++ next ∷ [])
+held_more held given next h free =
+    record {
+      path = one_newer path_in ThePath held.path given next (λ g. refl) h.path free;
+      limit = one_newer limit_in TheLimit held.limit given next (λ g. refl) h.limit free;
+      enforce = one_newer type_in TheType held.enforce given next (λ g. refl) h.enforce free;
+      enabled = one_newer status_in TheStatus held.enabled given next (λ g. refl) h.enabled free;
+    }
+
+-- one more word
+pub word_more : (keys : List Key) (word : Word) (words : List Word) (given more : List Given) → option_word keys word given ≡ Ok more → options keys (word ∷ words) given ≡ options keys words more
+word_more keys word words given more h = at (word_key keys word.text) h
+  where
+    value : List ℕ
+    value = after_first is_colon word.text
+
+    at : (o : Option Key) → (known (BadLine word.column) o >>= λ key. with_option key word.column value given) ≡ Ok more → (known (BadLine word.column) o >>= λ key. with_option key word.column value given >>= λ more. options keys words more) ≡ options keys words more
+    at None e = absurd (cc e)
+    at (Some key) e = ap (λ (r : Read (List Given)). r >>= λ more. options keys words more) e
+
+pub words_more : (keys : List Key) (before after : List Word) (word : Word) (given more : List Given) (whole : Read (List Given)) → before ≡ word ∷ after → options keys before given ≡ whole → option_word keys word given ≡ Ok more → options keys after more ≡ whole
+words_more keys before after word given more whole e is h =
+    sym (word_more keys word after given more h) ∙ ap (λ (words : List Word). options keys words given) (sym e) ∙ is

@@ -1,14 +1,15 @@
 -- What options come to, as lines have them.
-use Rattle.std.specs.Prelude.{◌≡◌, Bool, List, Result, Ok, Err, is_some}
+use Rattle.std.specs.Prelude.{◌≡◌, ℕ, List, Option, Some, None, Result, Ok, Err}
 use Rattle.std.specs.List.{after_first}
 use Rattle.fsrm_model.specs.declared.command.Refusal.TheVariants.{BadLine}
-use Rattle.fsrm_model.specs.Options.{Key as LineKey, ThePath, TheLimit, TheType, TheStatus, Given as LineGiven, key_of, is_colon, with_value}
+use Rattle.fsrm_model.specs.Options.{Key as LineKey, ThePath, TheLimit, TheType, TheStatus, Given as LineGiven, path_in, limit_in, type_in, status_in, one, word_key, is_colon, with_option}
 use Rattle.fsrm_model.specs.Reading.{Read, ◌>>=◌, known}
 use Rattle.fsrm_model.specs.Words.{Word as LineWord}
 use Rattle.tool_commands.specs.declared.options.Given.{Given}
 use Rattle.tool_commands.specs.declared.options.Key.{Key}
 use Rattle.tool_commands.specs.declared.options.Key.TheVariants.{Path, Limit, Enforce, Enabled}
 use Rattle.tool_commands.specs.declared.reading.LineFault.{LineFault}
+use Rattle.tool_commands.specs.declared.reading.LineFault.TheVariants.{Refused}
 use Rattle.tool_commands.specs.LineFaults.{Reads}
 
 -- an option as lines have it
@@ -18,29 +19,31 @@ line_key Limit = TheLimit
 line_key Enforce = TheType
 line_key Enabled = TheStatus
 
--- what was given, as lines have it
-abbrev pub line_given : Given → LineGiven
-line_given given = record { path = given.path; limit = given.limit; enforce = given.enforce; enabled = given.enabled }
+-- the values of options that were given
+pub record Holds (held : Given) (given : List LineGiven) : Type 0 where
+  pub path : held.path ≡ one path_in given
+  pub limit : held.limit ≡ one limit_in given
+  pub enforce : held.enforce ≡ one type_in given
+  pub enabled : held.enabled ≡ one status_in given
 
--- whether an option was given
-abbrev pub has_key : LineKey → LineGiven → Bool
-has_key ThePath given = is_some given.path
-has_key TheLimit given = is_some given.limit
-has_key TheType given = is_some given.enforce
-has_key TheStatus given = is_some given.enabled
+-- a value is kept where none was kept before, and else refused before it is judged
+abbrev pub KeepsOnce : {X : Type 0} → Result (Unit {0}) LineFault → Option X → Option X → ℕ → Result X LineFault → Type 0
+KeepsOnce result (Some old) new column value = result ≡ Err (Refused (BadLine column))
+KeepsOnce result None new column (Ok x) = (result ≡ Ok tt) × (new ≡ Some x)
+KeepsOnce result None new column (Err fault) = result ≡ Err fault
 
 -- one more option, of those that a command takes
-abbrev pub option_word : List LineKey → LineWord → LineGiven → Read LineGiven
+abbrev pub option_word : List LineKey → LineWord → List LineGiven → Read (List LineGiven)
 option_word keys word given = do
-  key ← known (BadLine word.column) (key_of keys word.text)
-  with_value key word.column (after_first is_colon word.text) given
+  key ← known (BadLine word.column) (word_key keys word.text)
+  with_option key word.column (after_first is_colon word.text) given
 
 -- what is given then, unless memory is wanting
-abbrev pub Adds : Result (Unit {0}) LineFault → Given → Read LineGiven → Type 0
-Adds (Ok done) new read = read ≡ Ok (line_given new)
-Adds (Err fault) new read = Reads {X = LineGiven} (Err fault) read
+abbrev pub Adds : Result (Unit {0}) LineFault → Given → Read (List LineGiven) → Type 0
+Adds (Ok done) new read = (given : List LineGiven) × (read ≡ Ok given) × Holds new given
+Adds (Err fault) new read = Reads {X = List LineGiven} (Err fault) read
 
 -- what is given in all, unless memory is wanting
-abbrev pub ReadsGiven : Result Given LineFault → Read LineGiven → Type 0
-ReadsGiven (Ok given) read = read ≡ Ok (line_given given)
-ReadsGiven (Err fault) read = Reads {X = LineGiven} (Err fault) read
+abbrev pub ReadsGiven : Result Given LineFault → Read (List LineGiven) → Type 0
+ReadsGiven (Ok held) read = (given : List LineGiven) × (read ≡ Ok given) × Holds held given
+ReadsGiven (Err fault) read = Reads {X = List LineGiven} (Err fault) read

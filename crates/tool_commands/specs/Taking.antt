@@ -2,7 +2,9 @@
 use Rattle.std.specs.Prelude.{◌≡◌, ℕ, ◌+◌, false, List, [], ◌∷◌, length, Result, Ok, Err, Option, Some, None}
 use Rattle.std.specs.Cow.{cow_str_bytes}
 use Rattle.fsrm_model.specs.Line.{next_word}
-use Rattle.fsrm_model.specs.Reading.{Read}
+use Rattle.fsrm_model.specs.declared.command.Refusal.TheVariants.{BadLine}
+use Rattle.fsrm_model.specs.Reading.{Read, ◌>>=◌, known}
+use Rattle.fsrm_model.specs.Tools.{Names, named}
 use Rattle.fsrm_model.specs.Words.{Word as LineWord, words_at, parts_from, without_quotes}
 use Rattle.tool_commands.specs.declared.reading.LineFault.{LineFault}
 use Rattle.tool_commands.specs.declared.reading.LineFault.TheVariants.{NoMemory}
@@ -52,3 +54,7 @@ TakesWord (Err fault) old new = Reads {X = LineWord × List LineWord} (Err fault
 abbrev pub Takes : {X : Type 0} → Result X LineFault → Words → Words → (ℕ → List LineWord → Read (X × List LineWord)) → Type 0
 Takes (Ok x) old new read = (read (end old) (left old) ≡ Ok (x, left new)) × (end new ≡ end old)
 Takes {X} (Err fault) old new read = Reads {X = X × List LineWord} (Err fault) (read (end old) (left old))
+
+-- what the name that a word is stands for goes on
+abbrev pub named_by : {X Y : Type 0} → Names X → LineWord → (X → Read Y) → Read Y
+named_by names word next = known (BadLine word.column) (named names word.text) >>= next

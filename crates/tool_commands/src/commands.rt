@@ -1,9 +1,9 @@
 //! The commands, each read from the words behind its name.
 
 ghost use Rattle.std.specs.Prelude.{◌≡◌};
-ghost use Rattle.fsrm_model.specs.Line.{no_more, mkdir_words, create_words, resize_words, touch_words, move_words, remove_words, usage_words, step_words, by_name, named_word, command_table, command_of};
+ghost use Rattle.fsrm_model.specs.Line.{no_more, mkdir_words, create_words, resize_words, touch_words, move_words, remove_words, usage_words, step_words, readers, deed_words, command_of};
 ghost use Rattle.tool_commands.specs.LineFaults.{Reads};
-ghost use Rattle.tool_commands.specs.Taking.{left, end, line_word};
+ghost use Rattle.tool_commands.specs.Taking.{left, end, line_word, named_by};
 
 use crate::quotas::dirquota;
 use crate::reading::LineFault;
@@ -89,7 +89,7 @@ fn step(alloc: Global, words: &mut Words<'_>) -> Result<Deed, LineFault>
 }
 
 fn deed(alloc: Global, name: &Word<'_>, words: &mut Words<'_>) -> Result<Deed, LineFault>
-    ensures { Reads result (by_name command_table (line_word name.now) (end words.old) (left words.old)) }
+    ensures { Reads result (named_by readers (line_word name.now) (λ reader. reader (end words.old) (left words.old))) }
 {
     let word = name.text.as_str();
     if is_named("mkdir", word) {
@@ -123,7 +123,7 @@ fn deed(alloc: Global, name: &Word<'_>, words: &mut Words<'_>) -> Result<Deed, L
 }
 
 fn named_deed(alloc: Global, words: &mut Words<'_>) -> Result<Deed, LineFault>
-    ensures { Reads result (named_word command_table (end words.old) (left words.old)) }
+    ensures { Reads result (deed_words (end words.old) (left words.old)) }
 {
     let name = words.next(alloc)?;
     deed(alloc, &name, words)

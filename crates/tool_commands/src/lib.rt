@@ -6,8 +6,6 @@ mod limits;
 mod options;
 mod quotas;
 mod reading;
-#[cfg(test)]
-mod tests;
 mod values;
 mod words;
 

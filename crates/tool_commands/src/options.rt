@@ -1,10 +1,9 @@
-//! The options of the commands on quotas: words of the form /Name:value, in any order.
+//! The options of the tools' commands: words of the form /Name:value, in any order.
 
-ghost use Rattle.std.specs.Prelude.{◌≡◌, ◌≤◌, map, find, option_map, IfSome};
+ghost use Rattle.std.specs.Prelude.{◌≡◌, ◌≤◌, List, [], map, option_map, IfSome};
 ghost use Rattle.std.specs.List.{after_first};
-ghost use Rattle.std.specs.Str.{str_eq_ignore_ascii_case};
-ghost use Rattle.fsrm_model.specs.Options.{key_name, key_of, is_colon, with_value, options, nothing};
-ghost use Rattle.tool_commands.specs.OptionWords.{line_key, line_given, has_key, option_word, Adds, ReadsGiven};
+ghost use Rattle.fsrm_model.specs.Options.{Given as LineGiven, key_name, key_named, word_key, is_colon, with_option, options};
+ghost use Rattle.tool_commands.specs.OptionWords.{line_key, option_word, KeepsOnce, Holds, Adds, ReadsGiven};
 ghost use Rattle.tool_commands.specs.Taking.{left, end, line_word};
 
 use crate::limits::read_limit;
@@ -38,14 +37,14 @@ impl Key {
 
 // The option of this name, among those that a command takes.
 fn named_key(keys: &[Key], name: &str) -> Option<Key>
-    ensures { option_map line_key result ≡ find (λ key. str_eq_ignore_ascii_case (key_name key) name.now) (map line_key keys.now) }
+    ensures { option_map line_key result ≡ key_named (map line_key keys.now) name.now }
 {
     keys.iter().find(|key| is_named(key.name(), name)).copied()
 }
 
 // The option that a text gives, among those that a command takes, and its value's text.
 fn option_of<'t>(keys: &[Key], text: &'t str) -> Option<(Key, &'t str)>
-    ensures key { option_map (λ option. line_key option.0) result ≡ key_of (map line_key keys.now) text.now }
+    ensures key { option_map (λ option. line_key option.0) result ≡ word_key (map line_key keys.now) text.now }
     ensures value { IfSome result (λ option. option.1.now ≡ after_first is_colon text.now) }
 {
     let (name, value) = text.split_once(':')?;
@@ -64,9 +63,25 @@ pub struct Given {
     pub enabled: Option<bool>,
 }
 
+// Keeps the value of an option that may be given once. That it is given again is judged before its value.
+fn once<T: Drop>(
+    slot: &mut Option<T>,
+    column: usize,
+    value: Result<T, LineFault>,
+) -> Result<(), LineFault>
+    requires { column ≤ 65537 }
+    ensures { KeepsOnce result slot.old slot.new column value }
+{
+    if slot.is_some() {
+        return Err(LineFault::bad_line(column));
+    }
+    *slot = Some(value?);
+    Ok(())
+}
+
 impl Given {
     fn nothing() -> Given
-        ensures { line_given result ≡ nothing }
+        ensures { Holds result [] }
     {
         Given {
             path: None,
@@ -76,39 +91,28 @@ impl Given {
         }
     }
 
-    // Whether an option was given.
-    fn has(&self, key: Key) -> bool
-        ensures { result ≡ has_key (line_key key) (line_given self.now) }
-    {
-        match key {
-            Key::Path => self.path.is_some(),
-            Key::Limit => self.limit.is_some(),
-            Key::Enforce => self.enforce.is_some(),
-            Key::Enabled => self.enabled.is_some(),
-        }
-    }
-
     // Adds the value that a text of a word at this column gives.
     fn add(&mut self, alloc: Global, key: Key, column: usize, value: &str) -> Result<(), LineFault>
         requires { column ≤ 65537 }
-        ensures { Adds result self.new (with_value (line_key key) column value.now (line_given self.old)) }
+        ensures { (given : List LineGiven) → Holds self.old given → Adds result self.new (with_option (line_key key) column value.now given) }
     {
-        // That an option is given twice is judged before its value.
-        if self.has(key) {
-            return Err(LineFault::bad_line(column));
-        }
         match key {
-            Key::Path => self.path = Some(read_path_word(alloc, value)?),
-            Key::Limit => self.limit = Some(read_limit(value, column)?),
-            Key::Enforce => self.enforce = Some(read_choice("hard", "soft", value, column)?),
-            Key::Enabled => self.enabled = Some(read_choice("enabled", "disabled", value, column)?),
+            Key::Path => once(&mut self.path, column, read_path_word(alloc, value)),
+            Key::Limit => once(&mut self.limit, column, read_limit(value, column)),
+            Key::Enforce => {
+                let enforce = read_choice("hard", "soft", value, column);
+                once(&mut self.enforce, column, enforce)
+            }
+            Key::Enabled => {
+                let enabled = read_choice("enabled", "disabled", value, column);
+                once(&mut self.enabled, column, enabled)
+            }
         }
-        Ok(())
     }
 
     // Adds the option that a word is.
     fn add_word(&mut self, alloc: Global, keys: &[Key], word: &Word<'_>) -> Result<(), LineFault>
-        ensures { Adds result self.new (option_word (map line_key keys.now) (line_word word.now) (line_given self.old)) }
+        ensures { (given : List LineGiven) → Holds self.old given → Adds result self.new (option_word (map line_key keys.now) (line_word word.now) given) }
     {
         match option_of(keys, word.text.as_str()) {
             Some((key, value)) => self.add(alloc, key, word.column, value),
@@ -119,7 +123,7 @@ impl Given {
 
 /// What all words that are left give, each of which is one of the options that a command takes.
 pub fn read_options(alloc: Global, keys: &[Key], words: &mut Words<'_>) -> Result<Given, LineFault>
-    ensures read { ReadsGiven result (options (map line_key keys.now) (left words.old) nothing) }
+    ensures read { ReadsGiven result (options (map line_key keys.now) (left words.old) []) }
     ensures end { end words.new ≡ end words.old }
 {
     let mut given = Given::nothing();

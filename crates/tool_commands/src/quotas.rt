@@ -1,40 +1,42 @@
 //! The commands on quotas, each read from the options behind its name.
 
 ghost use Rattle.std.specs.Prelude.{◌≡◌};
-ghost use Rattle.fsrm_model.specs.Line.{quota_add_words, quota_modify_words, quota_delete_words, quota_scan_words, quota_resetpeak_words, quota_list_words, named_word, by_name, quota_table, dirquota_table};
+ghost use Rattle.fsrm_model.specs.declared.command.Deed.TheVariants.{QuotaDelete, QuotaScan, QuotaResetpeak};
+ghost use Rattle.fsrm_model.specs.Line.{option_words, named_word, tool_words};
+ghost use Rattle.fsrm_model.specs.Tools.{of_path, quota_add, quota_modify, quota_list, quota_commands, dirquota};
 ghost use Rattle.tool_commands.specs.LineFaults.{Reads};
-ghost use Rattle.tool_commands.specs.Taking.{left, end, line_word};
+ghost use Rattle.tool_commands.specs.Taking.{left, end, line_word, named_by};
 
 use crate::options::{Key, read_options};
 use crate::reading::LineFault;
 use crate::values::is_named;
 use crate::words::{Word, Words};
-use fsrm_model::Deed;
+use fsrm_model::{Deed, List};
 use std::alloc::Global;
 
 /// What may be given of a quota.
 const ALL_KEYS: [Key; 4] = [Key::Path, Key::Limit, Key::Enforce, Key::Enabled];
 
 fn add(alloc: Global, words: &mut Words<'_>) -> Result<Deed, LineFault>
-    ensures { Reads result (quota_add_words (end words.old) (left words.old)) }
+    ensures { Reads result (option_words quota_add (end words.old) (left words.old)) }
 {
     let given = read_options(alloc, &ALL_KEYS, words)?;
     let missing = LineFault::bad_line(words.end());
     let path = given.path.ok_or(missing)?;
     let limit = given.limit.ok_or(missing)?;
-    // A quota is hard where its type isn't given, and enabled where its status isn't.
-    let enforce = given.enforce.unwrap_or(true);
-    let enabled = given.enabled.unwrap_or(true);
     Ok(Deed::QuotaAdd {
         path,
-        limit,
-        enforce,
-        enabled,
+        limit: Some(limit),
+        enforce: given.enforce,
+        enabled: given.enabled.unwrap_or(true),
+        source_template: None,
+        add_threshold: List::new(alloc),
+        add_notification: List::new(alloc),
     })
 }
 
 fn modify(alloc: Global, words: &mut Words<'_>) -> Result<Deed, LineFault>
-    ensures { Reads result (quota_modify_words (end words.old) (left words.old)) }
+    ensures { Reads result (option_words quota_modify (end words.old) (left words.old)) }
 {
     let given = read_options(alloc, &ALL_KEYS, words)?;
     let path = given.path.ok_or(LineFault::bad_line(words.end()))?;
@@ -43,11 +45,14 @@ fn modify(alloc: Global, words: &mut Words<'_>) -> Result<Deed, LineFault>
         limit: given.limit,
         enforce: given.enforce,
         enabled: given.enabled,
+        remove_threshold: List::new(alloc),
+        add_threshold: List::new(alloc),
+        add_notification: List::new(alloc),
     })
 }
 
 fn delete(alloc: Global, words: &mut Words<'_>) -> Result<Deed, LineFault>
-    ensures { Reads result (quota_delete_words (end words.old) (left words.old)) }
+    ensures { Reads result (option_words (of_path QuotaDelete) (end words.old) (left words.old)) }
 {
     let given = read_options(alloc, &[Key::Path], words)?;
     let path = given.path.ok_or(LineFault::bad_line(words.end()))?;
@@ -55,7 +60,7 @@ fn delete(alloc: Global, words: &mut Words<'_>) -> Result<Deed, LineFault>
 }
 
 fn scan(alloc: Global, words: &mut Words<'_>) -> Result<Deed, LineFault>
-    ensures { Reads result (quota_scan_words (end words.old) (left words.old)) }
+    ensures { Reads result (option_words (of_path QuotaScan) (end words.old) (left words.old)) }
 {
     let given = read_options(alloc, &[Key::Path], words)?;
     let path = given.path.ok_or(LineFault::bad_line(words.end()))?;
@@ -63,7 +68,7 @@ fn scan(alloc: Global, words: &mut Words<'_>) -> Result<Deed, LineFault>
 }
 
 fn resetpeak(alloc: Global, words: &mut Words<'_>) -> Result<Deed, LineFault>
-    ensures { Reads result (quota_resetpeak_words (end words.old) (left words.old)) }
+    ensures { Reads result (option_words (of_path QuotaResetpeak) (end words.old) (left words.old)) }
 {
     let given = read_options(alloc, &[Key::Path], words)?;
     let path = given.path.ok_or(LineFault::bad_line(words.end()))?;
@@ -71,14 +76,14 @@ fn resetpeak(alloc: Global, words: &mut Words<'_>) -> Result<Deed, LineFault>
 }
 
 fn list(alloc: Global, words: &mut Words<'_>) -> Result<Deed, LineFault>
-    ensures { Reads result (quota_list_words (end words.old) (left words.old)) }
+    ensures { Reads result (option_words quota_list (end words.old) (left words.old)) }
 {
     let given = read_options(alloc, &[Key::Path], words)?;
     Ok(Deed::QuotaList { path: given.path })
 }
 
 fn deed(alloc: Global, name: &Word<'_>, words: &mut Words<'_>) -> Result<Deed, LineFault>
-    ensures { Reads result (by_name quota_table (line_word name.now) (end words.old) (left words.old)) }
+    ensures { Reads result (named_by quota_commands (line_word name.now) (λ command. option_words command (end words.old) (left words.old))) }
 {
     let word = name.text.as_str();
     if is_named("add", word) {
@@ -103,7 +108,7 @@ fn deed(alloc: Global, name: &Word<'_>, words: &mut Words<'_>) -> Result<Deed, L
 }
 
 fn quota(alloc: Global, words: &mut Words<'_>) -> Result<Deed, LineFault>
-    ensures { Reads result (named_word quota_table (end words.old) (left words.old)) }
+    ensures { Reads result (named_word quota_commands (end words.old) (left words.old) (λ command more. option_words command (end words.old) more)) }
 {
     let name = words.next(alloc)?;
     deed(alloc, &name, words)
@@ -111,7 +116,7 @@ fn quota(alloc: Global, words: &mut Words<'_>) -> Result<Deed, LineFault>
 
 /// What the words behind `dirquota` spell.
 pub fn dirquota(alloc: Global, words: &mut Words<'_>) -> Result<Deed, LineFault>
-    ensures { Reads result (named_word dirquota_table (end words.old) (left words.old)) }
+    ensures { Reads result (tool_words dirquota (end words.old) (left words.old)) }
 {
     let name = words.next(alloc)?;
     if is_named("quota", name.text.as_str()) {

@@ -13,9 +13,11 @@ use Rattle.fsrm_model.specs.Limits.{latest_moment, longest_file, most_nodes}
 use Rattle.fsrm_model.specs.Name.{folded, is_name, same_name}
 use Rattle.fsrm_model.specs.Tree.{number, node_of, parent_of, name_of, fresh, is_folder, is_child, is_under, child_of, child_number, children, name_bytes}
 use Rattle.fsrm_model.specs.Valid.{IsVolume, is_own, is_root_node}
+use Rattle.fsrm_model.proofs.CapacityLaws.{nodes_most}
 use Rattle.fsrm_base.proofs.EditedRows.{length-with_row, length-change}
 use Rattle.fsrm_model.proofs.Keeps.{volume-new, volume-change, volume-moved, volume-removed, KeepsNode, name_bytes-change, found_folder}
 use Rattle.fsrm_base.proofs.Look.{has_found, none_filtered}
+use Rattle.fsrm_model.proofs.OwnLaws.{own_parts, own_joined, own_named, file_short, file_inner}
 use Rattle.fsrm_model.proofs.Sizes.{length-removed, name_bytes-new, name_bytes-placed, name_bytes-removed}
 use Rattle.fsrm_base.proofs.TestLaws.{lt_is, lt_test, eq_is, clash, both, le_test, is_inner}
 use Rattle.fsrm_model.proofs.Walks.{found_name, child_is, child_found}
@@ -32,7 +34,7 @@ use Rattle.fsrm_model.proofs.ValidLaws.{found_parent}
 pub few_rows : (K : Capacity) (count used : ℕ) (holes : Numbers) (slots : List (Option NodeRow)) (order : List ℕ) → IsKept K count used holes slots order → length (rows_of slots) ≤ most_nodes
 few_rows K count used holes slots order k =
     let few = few_nodes K (rows_of slots) k.volume in
-    let most = k.size.nodes_most in
+    let most = nodes_most K k.size in
     omega (arith, few, most)
 
 pub few_order : (K : Capacity) (count used : ℕ) (holes : Numbers) (slots : List (Option NodeRow)) (order : List ℕ) → IsKept K count used holes slots order → length order < most_nodes
@@ -92,40 +94,6 @@ kept_changed K count used holes slots made order n c k keeps inner own are rows 
       order_is = subst (λ ns. IsOrder ns order) (sym rows) (order_kept nodes order n c k.order_is keeps.same_number keeps.same_parent keeps.same_name);
     }
 
--- a file is no root
-pub file_inner : (K : Capacity) (nodes : List NodeRow) (n : ℕ) → IsVolume K nodes → is_folder nodes n ≡ false → (n == 0) ≡ false
-file_inner K nodes n v h = is_inner n (λ is.
-    let f = has_found number 0 nodes v.has_root in
-    let folder : f.row.folder ≡ true = (both _ _ (both _ _ (both _ _ (v.root f.row f.is)).0).0).0 in
-    let at : is_folder nodes 0 ≡ true = found_folder nodes 0 f.row f.is ∙ folder in
-    clash (is_folder nodes 0) at (sym (ap (is_folder nodes) is) ∙ h))
-
--- the parts of what a node has
-pub record OwnParts (r : NodeRow) : Type 0 where
-  pub named : (is_name r.name && nat_lt 0 r.owner) ≡ true
-  pub short : nat_le r.length (if r.folder then 0 else longest_file) ≡ true
-  pub made : nat_le r.created latest_moment ≡ true
-  pub changed : nat_le r.modified latest_moment ≡ true
-  pub seen : nat_le r.accessed latest_moment ≡ true
-
-pub own_parts : (r : NodeRow) → is_own r ≡ true → OwnParts r
-own_parts r h =
-    let first : ((is_name r.name && nat_lt 0 r.owner) ≡ true) × ((nat_le r.length (if r.folder then 0 else longest_file) && (nat_le r.created latest_moment && (nat_le r.modified latest_moment && nat_le r.accessed latest_moment))) ≡ true) = both _ _ h in
-    let second : (nat_le r.length (if r.folder then 0 else longest_file) ≡ true) × ((nat_le r.created latest_moment && (nat_le r.modified latest_moment && nat_le r.accessed latest_moment)) ≡ true) = both _ _ first.1 in
-    let third : (nat_le r.created latest_moment ≡ true) × ((nat_le r.modified latest_moment && nat_le r.accessed latest_moment) ≡ true) = both _ _ second.1 in
-    let last : (nat_le r.modified latest_moment ≡ true) × (nat_le r.accessed latest_moment ≡ true) = both _ _ third.1 in
-    record { named = first.0; short = second.0; made = third.0; changed = last.0; seen = last.1 }
-
-own_again : (a short made changed seen : Bool) → a ≡ true → short ≡ true → made ≡ true → changed ≡ true → seen ≡ true → (a && (short && (made && (changed && seen)))) ≡ true
-own_again a short made changed seen h i j k l = rw (h, i, j, k, l) refl
-
-pub own_joined : (r : NodeRow) → OwnParts r → is_own r ≡ true
-own_joined r p = own_again _ _ _ _ _ p.named p.short p.made p.changed p.seen
-
-file_short : (f : Bool) (bytes : ℕ) → f ≡ false → bytes ≤ longest_file → nat_le bytes (if f then 0 else longest_file) ≡ true
-file_short true bytes h l = cc
-file_short false bytes h l = le_test bytes longest_file l
-
 -- a file of another length is kept
 pub resized_kept : (K : Capacity) (count used : ℕ) (holes : Numbers) (slots made : List (Option NodeRow)) (order : List ℕ) (n bytes moment : ℕ) → IsKept K count used holes slots order → is_folder (rows_of slots) n ≡ false → bytes ≤ longest_file → moment ≤ latest_moment → AreSlots 0 made → rows_of made ≡ with_change number n (resized bytes moment) (rows_of slots) → length made ≡ length slots → IsKept K count used holes made order
 resized_kept K count used holes slots made order n bytes moment k file b m are rows len =
@@ -154,13 +122,6 @@ touched_kept K count used holes slots made order n moment k file m are rows len 
     own_joined (touched moment r) (record { named = p.named; short = p.short; made = p.made; changed = p.changed; seen = le_test moment latest_moment m }))
     are rows len
 
--- what a new node has
-pub own_new : (n parent : ℕ) (name : List ℕ) (f : Bool) (bytes owner moment : ℕ) → is_name name ≡ true → bytes ≤ (if f then 0 else longest_file) → 1 ≤ owner → moment ≤ latest_moment → is_own (record { number = n; parent = parent; name = name; folder = f; length = bytes; owner = owner; created = moment; modified = moment; accessed = moment }) ≡ true
-own_new n parent name f bytes owner moment named short owns m =
-    let first : (is_name name && nat_lt 0 owner) ≡ true = rw (named, lt_test 0 owner (omega (arith, owns))) refl in
-    let moments = le_test moment latest_moment m in
-    own_again _ _ _ _ _ first (le_test bytes (if f then 0 else longest_file) short) moments moments moments
-
 -- the bytes of a node's name
 pub name_fits : (K : Capacity) (nodes : List NodeRow) (n : ℕ) → IsVolume K nodes → has_row number n nodes ≡ true → length (name_of nodes n) ≤ name_bytes nodes
 name_fits K nodes n v h = omega (arith, name_bytes-removed nodes n v.ascending h)
@@ -176,11 +137,6 @@ not_other (Some k) s n h e = let same : k ≡ s = same_Some k s e in let is : k 
     not_not : (b : Bool) → not b ≡ false → b ≡ true
     not_not true h = refl
     not_not false h = cc
-
-own_named : (name old : List ℕ) (owner : ℕ) → is_name name ≡ true → (is_name old && nat_lt 0 owner) ≡ true → (is_name name && nat_lt 0 owner) ≡ true
-own_named name old owner h g =
-    let owned : nat_lt 0 owner ≡ true = (both (is_name old) (nat_lt 0 owner) g).1 in
-    rw (h, owned) refl
 
 -- where nothing is against a move, the nodes are those of a volume afterwards
 pub volume_placed : (K : Capacity) (nodes : List NodeRow) (x d : ℕ) (name : List ℕ) → IsVolume K nodes → has_row number x nodes ≡ true → (x == 0) ≡ false → is_folder nodes d ≡ true → is_name name ≡ true → is_under nodes x d ≡ false → is_other (child_number nodes d name) x ≡ false → name_bytes nodes + length name ≤ K.names + length (name_of nodes x) → IsVolume K (with_change number x (placed d name) nodes)

@@ -4,13 +4,13 @@ use Rattle.std.specs.List.{AllPairs, between}
 use Rattle.std.specs.List.Sorted.{IsPermutation}
 use Rattle.fsrm_model.specs.declared.row.Capacity.{Capacity}
 use Rattle.fsrm_model.specs.declared.row.NodeRow.{NodeRow}
+use Rattle.fsrm_model.specs.Capacities.{is_capacity}
 use Rattle.fsrm_model.specs.Name.{name_before}
 use Rattle.fsrm_base.specs.Keyed.{has_row}
 use Rattle.fsrm_base.specs.Numbers.{is_in, is_set}
 use Rattle.fsrm_model.specs.Tree.{number, node_of, children_in_order, name_bytes}
 use Rattle.fsrm_model.specs.Valid.{IsVolume}
 use Rattle.number_set.specs.Numbers.{Numbers}
-use Rattle.volume_tree.specs.Volume.{IsCapacity}
 
 -- the rows that stand in slots
 abbrev pub rows_of : List (Option NodeRow) → List NodeRow
@@ -55,7 +55,7 @@ pub record AreHoles (slots : List (Option NodeRow)) (holes : List ℕ) : Type 0 
 -- how many nodes and bytes of names there are, the empty slots, the slots and the order
 pub record IsKept (K : Capacity) (count used : ℕ) (holes : Numbers) (slots : List (Option NodeRow)) (order : List ℕ) : Type 0 where
   pub volume : IsVolume K (rows_of slots)
-  pub size : IsCapacity K
+  pub size : is_capacity K ≡ true
   pub slots_are : AreSlots 0 slots
   pub count_is : count ≡ length (rows_of slots)
   pub used_is : used ≡ name_bytes (rows_of slots)

@@ -5,7 +5,6 @@ use Rattle.fsrm_model.specs.declared.row.Capacity.{Capacity}
 use Rattle.fsrm_model.specs.declared.row.NodeRow.{NodeRow}
 use Rattle.fsrm_model.specs.FileOps.{resized, touched, placed}
 use Rattle.fsrm_base.specs.Keyed.{with_row, with_change, without_row}
-use Rattle.fsrm_model.specs.Limits.{most_nodes, most_names}
 use Rattle.fsrm_model.specs.Tree.{number, node_of, name_of, is_under, children, child_number, children_in_order, name_bytes}
 use Rattle.volume_tree.specs.declared.answer.TreeFault.{TreeFault}
 use Rattle.volume_tree.specs.declared.answer.TreeFault.TheVariants.{AlreadyExists, InvalidMove, NotEmpty, VolumeFull, NamesFull, NoMemory}
@@ -21,13 +20,6 @@ pub record Move : Type 0 where
   pub node : ℕ
   pub folder : ℕ
   pub name : List ℕ
-
--- how large a volume may be
-pub record IsCapacity (size : Capacity) : Type 0 where
-  pub nodes_least : 2 ≤ size.nodes
-  pub nodes_most : size.nodes ≤ most_nodes
-  pub names_least : 256 ≤ size.names
-  pub names_most : size.names ≤ most_names
 
 -- a fault is for want of memory, or the one that is due
 abbrev pub IsFault : TreeFault → Option TreeFault → Type 0

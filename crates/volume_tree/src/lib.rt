@@ -12,8 +12,6 @@ mod reads;
 mod rows;
 mod segment;
 mod slots;
-#[cfg(test)]
-mod tests;
 mod tree;
 
 pub use answer::{NodeView, RowsFault, TreeFault};

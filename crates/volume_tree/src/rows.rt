@@ -9,7 +9,7 @@ ghost use Rattle.fsrm_model.specs.Tree.{number as key, parent_of, is_folder, is_
 ghost use Rattle.fsrm_model.specs.Valid.{is_tree, is_moment, is_own, is_root_node};
 ghost use Rattle.volume_tree.specs.Kept.{AreSlots, IsKept, IsOrder, inner, is_before, rows_of};
 ghost use Rattle.volume_tree.specs.Sound.{AreMarks, HasTwins, Reaches, are_from, are_sound, is_placed};
-ghost use Rattle.volume_tree.specs.Volume.{IsCapacity};
+ghost use Rattle.fsrm_model.specs.Capacities.{is_capacity};
 
 use crate::answer::RowsFault;
 use crate::slots::{holes_in, row};
@@ -56,7 +56,7 @@ pub struct Parts {
 /// The parts of the tree of these rows. They are bad exactly where they aren't the nodes of a
 /// volume of this size.
 pub fn read(alloc: Global, rows: &[NodeRow], size: Capacity) -> Result<Parts, RowsFault>
-    requires { IsCapacity size }
+    requires { is_capacity size ≡ true }
     ensures kept { IfOk result (λ made. IsKept size made.count made.used made.holes made.slots.items made.order.items) }
     ensures nodes { IfOk result (λ made. rows_of made.slots.items ≡ rows.now) }
     ensures may { OnOk result (is_tree size rows.now ≡ true) }
@@ -384,82 +384,4 @@ fn numbers(alloc: Global, entries: &[&NodeRow]) -> Result<Vec<u32>, NoMemory>
 {
     let order = entries.iter().map(|row| row.number).collect(alloc)?;
     Ok(order)
-}
-
-// What no clause says: that with ample memory rows of a volume are read, and others refused as bad.
-#[cfg(test)]
-mod tests {
-    use super::read;
-    use crate::answer::RowsFault;
-    use fsrm_model::{Capacity, List, NoMemory, NodeRow, Text};
-    use std::alloc::Global;
-    use std::test::Fail;
-
-    const SIZE: Capacity = Capacity {
-        nodes: 1000,
-        names: 2000,
-    };
-
-    fn folder(alloc: Global, number: u32, parent: u32, name: &str) -> Result<NodeRow, NoMemory> {
-        Ok(NodeRow {
-            number,
-            parent,
-            name: Text::from_str(alloc, name)?,
-            folder: true,
-            length: 0,
-            owner: 1,
-            created: 0,
-            modified: 0,
-            accessed: 0,
-        })
-    }
-
-    // The root, and folders of these parents and names, numbered from 1 on.
-    fn folders(alloc: Global, others: &[(u32, &str)]) -> Result<List<NodeRow>, NoMemory> {
-        let mut rows = List::new(alloc);
-        rows.push(folder(alloc, 0, 0, "")?)?;
-        for (number, (parent, name)) in (1..1000).zip(others) {
-            rows.push(folder(alloc, number, *parent, name)?)?;
-        }
-        Ok(rows)
-    }
-
-    fn fault(alloc: Global, rows: &List<NodeRow>) -> Option<RowsFault> {
-        read(alloc, rows.as_slice(), SIZE).err()
-    }
-
-    #[test]
-    fn folders_are_put_in_order(rt: HostRuntime) -> Result<(), Fail> {
-        let rows = folders(rt.alloc(), &[(0, "b"), (1, "c"), (0, "A"), (1, "B")])?;
-        let parts = read(rt.alloc(), rows.as_slice(), SIZE).map_err(|_| NoMemory)?;
-        assert_eq!(&rt; parts.count, 5);
-        assert_eq!(&rt; parts.used, 4);
-        assert!(&rt; parts.holes.is_empty());
-        assert_eq!(&rt; parts.order.as_slice(), [3, 1, 4, 2].as_slice());
-        Ok(())
-    }
-
-    #[test]
-    fn folders_in_folders_are_read(rt: HostRuntime) -> Result<(), Fail> {
-        let mut rows = folders(rt.alloc(), &[])?;
-        for number in 1..1000 {
-            rows.push(folder(rt.alloc(), number, number - 1, "a")?)?;
-        }
-        assert_eq!(&rt; fault(rt.alloc(), &rows), None);
-        Ok(())
-    }
-
-    #[test]
-    fn two_folders_of_one_name_are_bad(rt: HostRuntime) -> Result<(), Fail> {
-        let rows = folders(rt.alloc(), &[(0, "a"), (0, "b"), (0, "A")])?;
-        assert_eq!(&rt; fault(rt.alloc(), &rows), Some(RowsFault::BadRows));
-        Ok(())
-    }
-
-    #[test]
-    fn folders_in_a_ring_are_bad(rt: HostRuntime) -> Result<(), Fail> {
-        let rows = folders(rt.alloc(), &[(0, "a"), (3, "b"), (2, "c")])?;
-        assert_eq!(&rt; fault(rt.alloc(), &rows), Some(RowsFault::BadRows));
-        Ok(())
-    }
 }

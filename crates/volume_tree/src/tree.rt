@@ -1,22 +1,24 @@
 //! A volume's nodes.
 
 ghost use Rattle.std.specs.Prelude.{◌≡◌, ◌+◌, ◌*◌, ◌<◌, ◌≤◌, ◌==◌, if◌then◌else◌, IfOk, IfErr, OnOk, OnErr, OnSome, IsErrOf, true, false, length, take, map, None, Some, ◌∷◌, []};
+ghost use Rattle.fsrm_model.specs.Capacities.{is_capacity};
 ghost use Rattle.fsrm_model.specs.FileOps.{made_node};
 ghost use Rattle.fsrm_model.specs.Fresh.{root_node};
 ghost use Rattle.fsrm_base.specs.Keyed.{has_row};
 ghost use Rattle.fsrm_model.specs.Limits.{longest_file, latest_moment};
 ghost use Rattle.fsrm_model.specs.Name.{is_name};
+ghost use Rattle.fsrm_model.specs.Space.{alloc};
 ghost use Rattle.fsrm_model.specs.Tree.{number as key, fresh, is_folder, is_under, children, children_in_order, child_number, chain, resolve, name_bytes};
 ghost use Rattle.fsrm_model.specs.Valid.{is_tree, IsVolume};
 ghost use Rattle.volume_tree.specs.Looks.{passed};
-ghost use Rattle.volume_tree.specs.Volume.{IsCapacity, IsFault, IsChildAt, Shows, new_fault, remove_fault, with_node, with_length, with_touch, without_node};
+ghost use Rattle.volume_tree.specs.Volume.{IsFault, IsChildAt, Shows, new_fault, remove_fault, with_node, with_length, with_touch, without_node};
 
 use crate::answer::{NodeView, RowsFault, TreeFault};
 use crate::climb::is_at_or_below;
 use crate::entry::own_place;
 use crate::finger::Finger;
 use crate::{order, rows, segment, slots};
-use fsrm_model::{Capacity, Ledger, List, NoMemory, NodeRow, Path, Steps, Text};
+use fsrm_model::{Capacity, Ledger, List, NoMemory, NodeRow, Path, Steps, allocated};
 use number_set::NumberSet;
 use std::alloc::Global;
 use std::marker::Model;
@@ -52,10 +54,10 @@ impl Model for Tree {
 }
 
 impl Tree {
-    /// A volume of this size, with the root alone: 2 to 1,048,576 nodes, and 256 to 268,435,456
-    /// bytes of names.
+    /// A volume of this size, with the root alone: 2 to 1,048,576 nodes, 256 to 268,435,456 bytes of
+    /// names, and clusters of 512 to 65,536 bytes, a power of 2.
     pub fn reserve(alloc: Global, size: Capacity) -> Result<Tree, NoMemory>
-        requires { IsCapacity size }
+        requires { is_capacity size ≡ true }
         ensures ok { IfOk result (λ tree. tree ≡ record { size = size; nodes = root_node ∷ [] }) }
         ensures kept { IfOk result (λ tree. IsVolume tree.size tree.nodes) }
     {
@@ -89,9 +91,18 @@ impl Tree {
     /// How much the volume may hold.
     pub fn capacity(&self) -> Capacity
         ensures size { result ≡ self.now.size }
-        ensures legal { IsCapacity result }
+        ensures legal { is_capacity result ≡ true }
     {
         self.size
+    }
+
+    /// What a file of so many bytes takes: whole clusters.
+    pub fn allocated(&self, bytes: u64) -> u64
+        requires { bytes ≤ longest_file }
+        ensures space { result ≡ alloc self.now.size bytes }
+        ensures small { result ≤ longest_file }
+    {
+        allocated(bytes, self.size.cluster)
     }
 
     /// Whether there is a node of this number.
@@ -205,7 +216,6 @@ impl Tree {
         steps: &mut Steps<L>,
     ) -> &[u32]
         ensures numbers { result.now ≡ map key (children_in_order self.now.nodes folder) }
-        ensures legal { IsCapacity self.now.size }
         ensures count { steps.new ≡ steps.old + (1 + length (children self.now.nodes folder)) }
     {
         let (first, end) = segment::segment(&self.slots, &self.order, folder, finger.place);
@@ -285,7 +295,7 @@ impl Tree {
     /// folder of one folded name, lengths, owners and moments in their ranges, parents that are
     /// folders and lead up to the root, and no more bytes of names than the size has.
     pub fn from_rows(alloc: Global, rows: &List<NodeRow>, size: Capacity) -> Result<Tree, RowsFault>
-        requires { IsCapacity size }
+        requires { is_capacity size ≡ true }
         ensures ok { IfOk result (λ tree. tree ≡ record { size = size; nodes = rows.now }) }
         ensures kept { IfOk result (λ tree. IsVolume tree.size tree.nodes) }
         ensures may { OnOk result (is_tree size rows.now ≡ true) }

@@ -26,7 +26,7 @@ pub returns-else-view-clause-sum : goal.returns-else-view-clause-sum
 returns-else-view-clause-sum g c =
     omega (
       arith,
-      c.allocated.ensures.space c.args.tree.now.size,
+      c.allocated.ensures.space,
       file_sum c.args.tree.now.size c.args.tree.now.nodes c.args.node c.node-view.result c.requires.volume c.node-view.ensures.view c.if-view.false,
     )
 

@@ -1,7 +1,7 @@
 use Rattle.std.proofs.Common.{ap, Some, None}
 use Rattle.std.specs.Prelude.{Err, Ok}
 use Rattle.fsrm_model.specs.Script.{Replied, without_cr}
-use Rattle.fsrm_model.proofs.EachCommand.{refused_same, sum_fresh}
+use Rattle.fsrm_model.proofs.EachCommand.{refused_or_exception, no_exception, sum_fresh}
 use Rattle.fsrm_model.proofs.PlainMachine.{replied-read}
 use Rattle.fsrm_model.proofs.SpellingLaws.{spelled_reads, skips_read}
 use Rattle.fsrm_model.proofs.laws.plain_machine.Goals as goal
@@ -13,7 +13,10 @@ pub returns-clause-unread_text : goal.returns-clause-unread_text
 returns-clause-unread_text c = λ K R n line refusal e. ap (λ (r : Replied). r.text) (replied-read K R n line (Some (Err refusal)) e)
 
 pub returns-clause-refused : goal.returns-clause-refused
-returns-clause-refused c = refused_same
+returns-clause-refused c = refused_or_exception
+
+pub returns-clause-no_exception : goal.returns-clause-no_exception
+returns-clause-no_exception c = no_exception
 
 pub returns-clause-sum : goal.returns-clause-sum
 returns-clause-sum c = sum_fresh

@@ -1,9 +1,13 @@
 use Rattle.fsrm_model.proofs.SpellingLaws.{read_spells, spelled_reads, read_skips, skips_read}
 use Rattle.fsrm_model.proofs.LineRefusals.{line_refusal}
+use Rattle.fsrm_model.proofs.SpelledValues.{spelled_valid}
 use Rattle.fsrm_model.proofs.laws.spelling.Goals as goal
 
 pub returns-clause-commands : goal.returns-clause-commands
 returns-clause-commands c = λ line command. (read_spells line command, spelled_reads line command)
+
+pub returns-clause-valid : goal.returns-clause-valid
+returns-clause-valid c = spelled_valid
 
 pub returns-clause-skipped : goal.returns-clause-skipped
 returns-clause-skipped c = λ line. (read_skips line, skips_read line)

@@ -50,6 +50,14 @@ pub returns-clause-rounded_usage : goal.returns-clause-rounded_usage
 unfolding replied read_line simple_folding simple_folding_rows value_in chars digits is_utf8 utf8_valid_len lib.Utf8.encode
 returns-clause-rounded_usage c = refl
 
+pub returns-clause-large_clusters : goal.returns-clause-large_clusters
+unfolding replied read_line simple_folding simple_folding_rows value_in chars digits is_utf8 utf8_valid_len lib.Utf8.encode
+returns-clause-large_clusters c = refl
+
+pub returns-clause-small_clusters : goal.returns-clause-small_clusters
+unfolding replied read_line simple_folding simple_folding_rows value_in chars digits is_utf8 utf8_valid_len lib.Utf8.encode
+returns-clause-small_clusters c = refl
+
 pub returns-clause-nested_quotas : goal.returns-clause-nested_quotas
 unfolding replied read_line simple_folding simple_folding_rows value_in chars digits is_utf8 utf8_valid_len lib.Utf8.encode
 returns-clause-nested_quotas c = refl

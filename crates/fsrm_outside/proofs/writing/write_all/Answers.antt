@@ -1,4 +1,4 @@
-use Rattle.std.proofs.Common.{arith}
+use Rattle.std.proofs.Common.{◌∙◌}
 use Rattle.fsrm_outside.proofs.Shown.{shows_more, shows_no_more, taken_within}
 use Rattle.fsrm_outside.proofs.writing.write_all.Goals as goal
 
@@ -8,7 +8,7 @@ loop-done-preserved g c =
     record {
       within = taken_within c.args.bytes.now c.loop-done.done c.in-Ok.count c.loop-done.invariant.within c.in-Ok.ensures.count;
       shown = shows_more (sink.shown c.args.sink.now) (sink.shown c.loop-done.sink) (sink.shown c.write.new.self) c.args.bytes.now c.loop-done.done c.in-Ok.count c.loop-done.invariant.shown c.in-Ok.ensures.shown;
-      later = omega (arith, c.in-Ok.ensures.cause.later, c.loop-done.invariant.later);
+      kept = c.in-Ok.ensures.cause.kept ∙ c.loop-done.invariant.kept;
       by = g.met.S.Sink.write_then c.args.sink.now c.loop-done.sink c.write.new.self c.loop-done.invariant.by c.in-Ok.ensures.by;
     }
 

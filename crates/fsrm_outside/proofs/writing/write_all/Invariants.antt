@@ -9,7 +9,7 @@ invariant-loop-done g l =
     record {
       within : l.done ≤ length l.bytes;
       shown : sink.shown l.sink ≡ append_known (sink.shown l.fn.sink) (take l.done l.bytes);
-      later : sink.write_faults l.fn.sink ≤ sink.write_faults l.sink;
+      kept : sink.write_faults l.sink ≡ sink.write_faults l.fn.sink;
       by : sink.by_write l.fn.sink l.sink;
     }
 

@@ -1,4 +1,5 @@
 use Rattle.std.proofs.Common.{subst, Option, List, ℕ}
+use Rattle.fsrm_model.specs.Fresh.{default_capacity, new_rows}
 use Rattle.fsrm_program.specs.declared.status.Status.TheVariants.{Usage}
 use Rattle.fsrm_program.specs.Bytes.{TakenMost}
 use Rattle.fsrm_program.specs.Answers.{most_taken}
@@ -23,4 +24,4 @@ returns-else-are_words-clause-too_long g c = λ script told. (
 
 pub returns-then-are_words-clause-complete : goal.returns-then-are_words-clause-complete
 returns-then-are_words-clause-complete g c = λ words script told short reads writes.
-    completes c.replay.result script _ _ _ _ _ c.replay.ensures.no_usage (c.replay.ensures.run script told) short (λ is. reads (c.replay.ensures.read_cause is)) (λ is. writes (c.replay.ensures.write_cause is))
+    completes default_capacity new_rows c.replay.result script _ _ _ _ _ c.replay.ensures.no_usage (c.replay.ensures.run script told) short (λ is. reads (c.replay.ensures.read_cause is)) (λ is. writes (c.replay.ensures.write_cause is))

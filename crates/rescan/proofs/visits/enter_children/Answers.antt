@@ -1,4 +1,5 @@
-use Rattle.std.proofs.Common.{ℕ, ◌+◌, arith, refl, ◌∙◌, ap, get_or}
+use Rattle.std.proofs.Common.{ℕ, ◌+◌, arith, refl, sym, ◌∙◌, ap, get_or}
+use Rattle.fsrm_model.specs.Capacities.{is_capacity}
 use Rattle.fsrm_model.specs.Space.{alloc}
 use Rattle.fsrm_model.specs.Tree.{number}
 use Rattle.fsrm_base.proofs.Look.{found_has}
@@ -41,8 +42,8 @@ overflow_add-bytes g c =
     let sum : ℕ = c.loop-child.bytes + alloc K c.node-node.result.length in
     let next = file_taken K nodes c.args.folder place (get_or numbers place 0) c.node-node.result c.args.set.now c.loop-child.set c.loop-child.set c.loop-child.bytes at c.node-node.ensures.view c.if-node.false c.loop-child.invariant.taken refl sum refl in
     let most = taken_least K nodes c.args.folder (place + 1) c.args.set.now c.loop-child.set sum next in
-    let small = total_small K nodes c.requires.volume c.children-child-items.ensures.legal in
-    omega (arith, most, small, c.allocated-bytes.ensures.space K)
+    let small = total_small K nodes c.requires.volume (ap is_capacity (sym c.capacity-size.ensures.size) ∙ c.capacity-size.ensures.legal) in
+    omega (arith, most, small, c.allocated-bytes.ensures.space)
 
 pub loop-child-preserved : goal.loop-child-preserved
 loop-child-preserved g c =
@@ -54,7 +55,7 @@ loop-child-preserved g c =
     record {
       taken = elim c.if-node.branch [
         | then-node w ↦ folder_taken K nodes c.args.folder place (get_or numbers place 0) c.node-node.result c.args.set.now c.loop-child.set c.if-node.set c.loop-child.bytes at c.node-node.ensures.view w.if-node.true c.loop-child.invariant.taken (w.set-is ∙ w.insert.ensures) c.if-node.bytes w.bytes-is
-        | else-node w ↦ file_taken K nodes c.args.folder place (get_or numbers place 0) c.node-node.result c.args.set.now c.loop-child.set c.if-node.set c.loop-child.bytes at c.node-node.ensures.view w.if-node.false c.loop-child.invariant.taken w.set-is c.if-node.bytes (w.bytes-is ∙ ap (λ (k : ℕ). c.loop-child.bytes + k) (w.allocated-bytes.ensures.space K))
+        | else-node w ↦ file_taken K nodes c.args.folder place (get_or numbers place 0) c.node-node.result c.args.set.now c.loop-child.set c.if-node.set c.loop-child.bytes at c.node-node.ensures.view w.if-node.false c.loop-child.invariant.taken w.set-is c.if-node.bytes (w.bytes-is ∙ ap (λ (k : ℕ). c.loop-child.bytes + k) w.allocated-bytes.ensures.space)
       ];
       looks = omega (arith, c.loop-child.invariant.looks, c.node-node.ensures.count);
     }
@@ -70,7 +71,7 @@ returns-clause-bytes g c =
     (all_taken c.args.tree.now.size c.args.tree.now.nodes c.args.folder c.loop-child.child-index c.args.set.now c.loop-child.set c.loop-child.bytes (omega (arith, many)) c.loop-child.invariant.taken).1
 
 pub returns-clause-small : goal.returns-clause-small
-returns-clause-small g c = total_small c.args.tree.now.size c.args.tree.now.nodes c.requires.volume c.children-child-items.ensures.legal
+returns-clause-small g c = total_small c.args.tree.now.size c.args.tree.now.nodes c.requires.volume (ap is_capacity (sym c.capacity-size.ensures.size) ∙ c.capacity-size.ensures.legal)
 
 pub returns-clause-looks : goal.returns-clause-looks
 returns-clause-looks g c =

@@ -1,13 +1,15 @@
 use Rattle.std.proofs.Common.{◌≡◌, length}
-use Rattle.std.specs.Prelude.{map}
-use Rattle.fsrm_model.specs.Options.{options, nothing}
-use Rattle.tool_commands.specs.OptionWords.{line_key, line_given}
+use Rattle.std.specs.Prelude.{List, [], map}
+use Rattle.fsrm_model.specs.Options.{Given, options}
+use Rattle.tool_commands.specs.OptionWords.{line_key, Holds}
 use Rattle.tool_commands.specs.Taking.{left, end}
 use Rattle.tool_commands.proofs.options.read_options.Given as goal
 
 abbrev pub invariant-loop-given : goal.invariant-loop-given
 invariant-loop-given l = record {
-  read : options (map line_key l.keys) (left l.words) (line_given l.given) ≡ options (map line_key l.keys) (left l.initial.words) nothing;
+  given : List Given;
+  holds : Holds l.given given;
+  read : options (map line_key l.keys) (left l.words) given ≡ options (map line_key l.keys) (left l.initial.words) [];
   end : end l.words ≡ end l.initial.words;
 }
 

@@ -3,8 +3,9 @@ use Rattle.std.specs.Str.Lossy.{utf8_valid_len}
 use Rattle.fsrm_model.specs.Line.{read_words}
 use Rattle.fsrm_model.specs.Valued.{is_command}
 use Rattle.tool_commands.proofs.Lines.{not_text, passed_over, by_words, fault_of}
-use Rattle.tool_commands.proofs.Validity.{read_words_valid}
 use Rattle.fsrm_model.proofs.ScriptLaws.{too_long}
+use Rattle.fsrm_model.proofs.SpelledValues.{spelled_valid}
+use Rattle.fsrm_model.proofs.SpellingLaws.{read_spells}
 use Rattle.tool_commands.proofs.reading.read_line.Goals as goal
 
 pub returns-then-line-gt-LONGEST_LINE-clause-fault : goal.returns-then-line-gt-LONGEST_LINE-clause-fault
@@ -26,8 +27,10 @@ returns-in-Ok-read_words-clause-read c =
 
 pub returns-in-Ok-read_words-clause-valid : goal.returns-in-Ok-read_words-clause-valid
 returns-in-Ok-read_words-clause-valid c = λ command is.
-    let same : c.in-Ok-read_words.command ≡ command = cc in
-    ap is_command (sym same) ∙ read_words_valid c.in-Ok.text.now c.in-Ok-read_words.command c.in-Ok-read_words.ensures
+    let own = c.in-Ok-read_words.command in
+    let same : own ≡ command = cc in
+    let read = by_words c.args.line.now c.if-line-gt-LONGEST_LINE.false c.in-Ok.ensures.cases.1 (sym c.is_skipped.ensures ∙ c.if-is_skipped.false) ∙ ap Some (ap read_words (sym c.in-Ok.ensures.cases.0) ∙ c.in-Ok-read_words.ensures) in
+    ap is_command (sym same) ∙ spelled_valid c.args.line.now own (read_spells c.args.line.now own read)
 
 pub returns-in-Err-read_words-clause-fault : goal.returns-in-Err-read_words-clause-fault
 returns-in-Err-read_words-clause-fault c =

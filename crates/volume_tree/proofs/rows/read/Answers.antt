@@ -3,6 +3,7 @@ use Rattle.std.proofs.lemmas.Result.{err_from_is_err_and}
 use Rattle.fsrm_model.specs.declared.row.NodeRow.{NodeRow}
 use Rattle.fsrm_model.specs.Tree.{name_bytes}
 use Rattle.fsrm_model.specs.Valid.{IsVolume}
+use Rattle.fsrm_model.proofs.CapacityLaws.{nodes_most}
 use Rattle.fsrm_model.proofs.ValidVolume.{tree_of_volume}
 use Rattle.volume_tree.specs.declared.answer.RowsFault.TheVariants.{BadRows}
 use Rattle.volume_tree.specs.Kept.{AreHoles, IsOrder}
@@ -30,7 +31,7 @@ pub overflow_cast-result : goal.overflow_cast-result
 overflow_cast-result c =
     let volume = volume_of_parts c.args.size c.args.rows.now c.in_ok-order.order.items c.in-Some.used c.in_ok-slots.ensures.may c.in-Some.ensures.sum c.in-Some.ensures.within c.in_ok-order.ensures.order in
     let few = few_nodes c.args.size c.args.rows.now volume in
-    let most = c.requires.nodes_most in
+    let most = nodes_most c.args.size c.requires in
     let small : length c.args.rows.now < 2 ^ 32 = omega (arith, few, most) in
     search rules
 

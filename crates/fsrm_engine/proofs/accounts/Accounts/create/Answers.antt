@@ -32,7 +32,7 @@ returns-in-Err-admit-clause-ok g c =
     let quotas = c.self.inside.objects.quotas in
     let last = c.self.inside.last_moment in
     let p = place_within v _ _ _ _ _ _ c.self.view_is c.in-Ok.ensures.ok in
-    let changes = make_changes v.size v.nodes quotas c.in-Ok.place.folder c.in-Ok.place.name.now c.args.length c.args.owner c.args.moment c.allocated.result c.self.invariant.volume c.self.invariant.are_quotas p.folder_is (c.allocated.ensures.space v.size) in
+    let changes = make_changes v.size v.nodes quotas c.in-Ok.place.folder c.in-Ok.place.name.now c.args.length c.args.owner c.args.moment c.allocated.result c.self.invariant.volume c.self.invariant.are_quotas p.folder_is c.allocated.ensures.space in
     refused_at v quotas last c.args.moment (File (Create c.args.path.now c.args.length c.args.owner)) _ _ _ c.self.view_is c.requires.late
     (create_due v quotas last c.args.moment c.args.path.now c.args.length c.args.owner c.in-Ok.place.folder c.in-Ok.place.name.now c.self.invariant.volume p
     ∙ due_some (new_fault v c.in-Ok.place.folder c.in-Ok.place.name.now) _ c.in-Err-admit.exceeded c.new_refusal.result
@@ -59,7 +59,7 @@ invariant_of-self g c =
     let v = c.self.inside.tree in
     let p = place_within v _ _ _ _ _ _ c.self.view_is c.in-Ok.ensures.ok in
     (make_done v c.create.new.self c.self.inside.objects.quotas c.charge.new.objects c.self.inside.usage c.charge.new.usage c.in-Ok.place.folder c.in-Ok.place.name.now c.args.length c.args.owner c.args.moment c.allocated.result
-    c.self.invariant p.folder_is (c.allocated.ensures.space v.size) c.in-Ok-create.ensures.made c.in-Ok-create.ensures.kept c.requires.moment c.charge.ensures.counters c.charge.ensures.quotas).engine
+    c.self.invariant p.folder_is c.allocated.ensures.space c.in-Ok-create.ensures.made c.in-Ok-create.ensures.kept c.requires.moment c.charge.ensures.counters c.charge.ensures.quotas).engine
 
 pub returns-in-Ok-create-clause-ok : goal.returns-in-Ok-create-clause-ok
 returns-in-Ok-create-clause-ok g c =
@@ -67,9 +67,9 @@ returns-in-Ok-create-clause-ok g c =
     let quotas = c.self.inside.objects.quotas in
     let last = c.self.inside.last_moment in
     let p = place_within v _ _ _ _ _ _ c.self.view_is c.in-Ok.ensures.ok in
-    let changes = make_changes v.size v.nodes quotas c.in-Ok.place.folder c.in-Ok.place.name.now c.args.length c.args.owner c.args.moment c.allocated.result c.self.invariant.volume c.self.invariant.are_quotas p.folder_is (c.allocated.ensures.space v.size) in
+    let changes = make_changes v.size v.nodes quotas c.in-Ok.place.folder c.in-Ok.place.name.now c.args.length c.args.owner c.args.moment c.allocated.result c.self.invariant.volume c.self.invariant.are_quotas p.folder_is c.allocated.ensures.space in
     let d = make_done v c.create.new.self quotas c.charge.new.objects c.self.inside.usage c.charge.new.usage c.in-Ok.place.folder c.in-Ok.place.name.now c.args.length c.args.owner c.args.moment c.allocated.result
-    c.self.invariant p.folder_is (c.allocated.ensures.space v.size) c.in-Ok-create.ensures.made c.in-Ok-create.ensures.kept c.requires.moment c.charge.ensures.counters c.charge.ensures.quotas in
+    c.self.invariant p.folder_is c.allocated.ensures.space c.in-Ok-create.ensures.made c.in-Ok-create.ensures.kept c.requires.moment c.charge.ensures.counters c.charge.ensures.quotas in
     done_at v c.create.new.self quotas quotas c.charge.new.objects.quotas last c.args.moment (File (Create c.args.path.now c.args.length c.args.owner)) _ _ _ c.self.view_is c.requires.late
     (create_due v quotas last c.args.moment c.args.path.now c.args.length c.args.owner c.in-Ok.place.folder c.in-Ok.place.name.now c.self.invariant.volume p
     ∙ due_none (new_fault v c.in-Ok.place.folder c.in-Ok.place.name.now) _ c.in-Ok-create.ensures.may (admitted v quotas last c.self.inside.usage _ _ c.self.invariant changes c.in_default.ensures.admitted))
@@ -82,7 +82,7 @@ returns-in-Ok-create-clause-kept g c =
     let p = place_within v _ _ _ _ _ _ c.self.view_is c.in-Ok.ensures.ok in
     stored c.create.new.self c.charge.new.objects.quotas c.charge.new.usage c.args.moment c.done.new.self
     (make_done v c.create.new.self c.self.inside.objects.quotas c.charge.new.objects c.self.inside.usage c.charge.new.usage c.in-Ok.place.folder c.in-Ok.place.name.now c.args.length c.args.owner c.args.moment c.allocated.result
-    c.self.invariant p.folder_is (c.allocated.ensures.space v.size) c.in-Ok-create.ensures.made c.in-Ok-create.ensures.kept c.requires.moment c.charge.ensures.counters c.charge.ensures.quotas).engine c.done.ensures.rows
+    c.self.invariant p.folder_is c.allocated.ensures.space c.in-Ok-create.ensures.made c.in-Ok-create.ensures.kept c.requires.moment c.charge.ensures.counters c.charge.ensures.quotas).engine c.done.ensures.rows
 
 pub returns-in-Ok-create-clause-looks : goal.returns-in-Ok-create-clause-looks
 returns-in-Ok-create-clause-looks g c =

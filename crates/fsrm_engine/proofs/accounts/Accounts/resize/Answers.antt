@@ -33,7 +33,7 @@ pub returns-in-Err-clause-ok : goal.returns-in-Err-clause-ok
 returns-in-Err-clause-ok g c =
     let v = c.self.inside.tree in
     let f = file_within v _ _ _ _ _ c.self.view_is c.in-Some.ensures.file in
-    let changes = resize_changes v.size v.nodes c.self.inside.objects.quotas c.args.path.now c.in-Some.file c.args.length c.args.moment c.allocated.result c.allocated-2.result c.self.invariant.volume c.self.invariant.are_quotas f (c.allocated.ensures.space v.size) (c.allocated-2.ensures.space v.size) in
+    let changes = resize_changes v.size v.nodes c.self.inside.objects.quotas c.args.path.now c.in-Some.file c.args.length c.args.moment c.allocated.result c.allocated-2.result c.self.invariant.volume c.self.invariant.are_quotas f c.allocated.ensures.space c.allocated-2.ensures.space in
     refused_at v c.self.inside.objects.quotas c.self.inside.last_moment c.args.moment (File (Resize c.args.path.now c.args.length)) _ _ _ c.self.view_is c.requires.late
     (resize_due v c.self.inside.objects.quotas c.self.inside.last_moment c.args.moment c.args.path.now c.in-Some.file c.args.length c.self.invariant.volume f
     ∙ refused_by_quota v c.self.inside.objects.quotas c.self.inside.last_moment c.self.inside.usage _ _ c.in-Err.exceeded c.self.invariant changes c.in-Err.ensures.refused)
@@ -60,7 +60,7 @@ invariant_of-self g c =
     let v = c.self.inside.tree in
     let f = file_within v _ _ _ _ _ c.self.view_is c.in-Some.ensures.file in
     (resize_done v c.resize.new.self c.self.inside.objects.quotas c.charge.new.objects c.self.inside.usage c.charge.new.usage c.args.path.now c.in-Some.file c.args.length c.args.moment c.allocated.result c.allocated-2.result
-    c.self.invariant f (c.allocated.ensures.space v.size) (c.allocated-2.ensures.space v.size) c.resize.ensures.made c.resize.ensures.kept c.requires.moment c.charge.ensures.counters c.charge.ensures.quotas).engine
+    c.self.invariant f c.allocated.ensures.space c.allocated-2.ensures.space c.resize.ensures.made c.resize.ensures.kept c.requires.moment c.charge.ensures.counters c.charge.ensures.quotas).engine
 
 pub returns-clause-ok : goal.returns-clause-ok
 returns-clause-ok g c =
@@ -68,9 +68,9 @@ returns-clause-ok g c =
     let quotas = c.self.inside.objects.quotas in
     let last = c.self.inside.last_moment in
     let f = file_within v _ _ _ _ _ c.self.view_is c.in-Some.ensures.file in
-    let changes = resize_changes v.size v.nodes quotas c.args.path.now c.in-Some.file c.args.length c.args.moment c.allocated.result c.allocated-2.result c.self.invariant.volume c.self.invariant.are_quotas f (c.allocated.ensures.space v.size) (c.allocated-2.ensures.space v.size) in
+    let changes = resize_changes v.size v.nodes quotas c.args.path.now c.in-Some.file c.args.length c.args.moment c.allocated.result c.allocated-2.result c.self.invariant.volume c.self.invariant.are_quotas f c.allocated.ensures.space c.allocated-2.ensures.space in
     let d = resize_done v c.resize.new.self quotas c.charge.new.objects c.self.inside.usage c.charge.new.usage c.args.path.now c.in-Some.file c.args.length c.args.moment c.allocated.result c.allocated-2.result
-    c.self.invariant f (c.allocated.ensures.space v.size) (c.allocated-2.ensures.space v.size) c.resize.ensures.made c.resize.ensures.kept c.requires.moment c.charge.ensures.counters c.charge.ensures.quotas in
+    c.self.invariant f c.allocated.ensures.space c.allocated-2.ensures.space c.resize.ensures.made c.resize.ensures.kept c.requires.moment c.charge.ensures.counters c.charge.ensures.quotas in
     done_at v c.resize.new.self quotas quotas c.charge.new.objects.quotas last c.args.moment (File (Resize c.args.path.now c.args.length)) _ _ _ c.self.view_is c.requires.late
     (resize_due v quotas last c.args.moment c.args.path.now c.in-Some.file c.args.length c.self.invariant.volume f ∙ admitted v quotas last c.self.inside.usage _ _ c.self.invariant changes c.in_default-admit.ensures.admitted)
     (resize_effect v c.resize.new.self quotas last c.args.moment c.args.path.now c.in-Some.file c.args.length f c.resize.ensures.made) refl refl (ap (λ (u : Volume). u.size) c.resize.ensures.made)
@@ -82,7 +82,7 @@ returns-clause-kept g c =
     let f = file_within v _ _ _ _ _ c.self.view_is c.in-Some.ensures.file in
     stored c.resize.new.self c.charge.new.objects.quotas c.charge.new.usage c.args.moment c.done.new.self
     (resize_done v c.resize.new.self c.self.inside.objects.quotas c.charge.new.objects c.self.inside.usage c.charge.new.usage c.args.path.now c.in-Some.file c.args.length c.args.moment c.allocated.result c.allocated-2.result
-    c.self.invariant f (c.allocated.ensures.space v.size) (c.allocated-2.ensures.space v.size) c.resize.ensures.made c.resize.ensures.kept c.requires.moment c.charge.ensures.counters c.charge.ensures.quotas).engine c.done.ensures.rows
+    c.self.invariant f c.allocated.ensures.space c.allocated-2.ensures.space c.resize.ensures.made c.resize.ensures.kept c.requires.moment c.charge.ensures.counters c.charge.ensures.quotas).engine c.done.ensures.rows
 
 pub returns-clause-looks : goal.returns-clause-looks
 returns-clause-looks g c =

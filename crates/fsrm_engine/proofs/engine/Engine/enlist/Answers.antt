@@ -8,8 +8,10 @@ use Rattle.fsrm_base.proofs.EditedRows.{find-with_row_same}
 use Rattle.fsrm_base.proofs.Look.{found_has}
 use Rattle.fsrm_base.proofs.TestLaws.{eq_same}
 use Rattle.scan_queue.specs.Courses.{Course}
-use Rattle.fsrm_engine.specs.Machine.{Machine, AreScans, volume_of, with_quotas, with_rows}
-use Rattle.fsrm_engine.proofs.TurnLaws.{engine_of, turned_by, engine_turned, queue_added, store_of, with_and_without}
+use Rattle.fsrm_engine.specs.Machine.{Machine, IsWhole, volume_of, with_quotas, with_rows}
+use Rattle.fsrm_engine.proofs.TurnLaws.{engine_of, turned_by, engine_turned, with_and_without}
+use Rattle.fsrm_model.proofs.QueueKept.{queue_added}
+use Rattle.fsrm_model.proofs.RowsKept.{plain-new}
 use Rattle.fsrm_engine.proofs.engine.Engine.enlist.Goals as goal
 
 pub invariant_of-self-in-Ok : goal.invariant_of-self-in-Ok
@@ -20,8 +22,9 @@ invariant_of-self-in-Ok c =
     let absent = subst (λ (o : Machine). has_row folder_of row.folder o.rows.quotas ≡ false) (sym c.self.view_is) c.requires.absent in
     let folder = subst (λ (o : Machine). is_folder o.rows.nodes row.folder ≡ true) (sym c.self.view_is) c.requires.folder in
     turned_by a c.add.new.self s c.requeue.new.scans (with_row folder_of row a.rows.quotas) (queued s.queue row.folder row.state) c.self.invariant
-    (c.in-Ok.ensures.turns (volume_of a) c.self.invariant.scanning folder) c.in-Ok.ensures.queue c.in_ok-add.ensures.added
-    (queue_added a.rows.quotas s.queue row c.self.invariant.queue absent)
+    (c.in-Ok.ensures.turns (volume_of a) c.self.invariant.scanning folder) c.in-Ok.ensures.queue c.in_ok-add.ensures.added c.in_ok-add.ensures.kept
+    (plain-new row a.rows.quotas c.requires.plain c.self.invariant.valid.tables.plain)
+    (queue_added a.rows.quotas s.queue row c.self.invariant.valid.queue absent)
 
 pub take_away-requires : goal.take_away-requires
 take_away-requires c =
@@ -43,8 +46,8 @@ as_before c =
 
 pub invariant_of-self-in_default : goal.invariant_of-self-in_default
 invariant_of-self-in_default c =
-    subst (λ (a : Machine). AreScans a c.requeue.new.scans) (sym (as_before c))
-    (subst (λ (s : Course). AreScans c.self.inside.accounts s) (sym c.in_default.ensures.err) c.self.invariant)
+    subst (λ (a : Machine). IsWhole a c.requeue.new.scans) (sym (as_before c))
+    (subst (λ (s : Course). IsWhole c.self.inside.accounts s) (sym c.in_default.ensures.err) c.self.invariant)
 
 pub returns-in_default-clause-err : goal.returns-in_default-clause-err
 returns-in_default-clause-err c =
@@ -62,4 +65,4 @@ returns-clause-listed c =
     ∙ ap (λ (o : Machine). with_rows o (followed o.rows (with_quota o.rows row))) c.self.view_is
 
 pub returns-clause-kept : goal.returns-clause-kept
-returns-clause-kept c = store_of c.add.new.self c.requeue.new.scans c.in_ok-add.ensures.kept (invariant_of-self-in-Ok c)
+returns-clause-kept c = (invariant_of-self-in-Ok c).valid

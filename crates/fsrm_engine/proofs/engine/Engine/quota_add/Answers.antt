@@ -1,5 +1,5 @@
-use Rattle.std.proofs.Common.{◌≡◌, true, false, refl, ap, sym, ◌∙◌, subst}
-use Rattle.std.specs.Prelude.{if◌then◌else◌}
+use Rattle.std.proofs.Common.{◌≡◌, ℕ, Bool, Option, true, false, refl, ap, sym, ◌∙◌, subst, None, []}
+use Rattle.std.specs.Prelude.{unwrap_or, if◌then◌else◌}
 use Rattle.fsrm_model.specs.declared.command.Deed.TheVariants.{QuotaAdd}
 use Rattle.fsrm_model.specs.declared.command.Refusal.TheVariants.{TableFull}
 use Rattle.fsrm_model.specs.declared.row.QuotaRow.{QuotaRow}
@@ -20,8 +20,8 @@ returns-then-quota_count-ge-MOST_QUOTAS-clause-ok g c =
     let R = c.args.self.now.rows in
     let n = c.in-Some.folder in
     let absent = lacks_of (λ q. q.state) R.quotas n c.state.result c.state.ensures (sym c.is_some.ensures ∙ c.if-is_some.false) in
-    refused_whole c.args.self.now c.args.moment (QuotaAdd c.args.path.now c.args.limit c.args.enforce c.args.enabled) c.refused-then-quota_count-ge-MOST_QUOTAS.result TableFull c.in-Some.ensures.idle c.requires.late
-    (add_checks R c.args.path.now n true (λ k. new_quota k c.args.limit c.args.enforce (if c.args.enabled then start R.nodes k else Disabled) c.args.moment) c.in-Some.ensures.folder absent
+    refused_whole c.args.self.now c.args.moment (QuotaAdd c.args.path.now c.args.limit c.args.enforce c.args.enabled None [] []) c.refused-then-quota_count-ge-MOST_QUOTAS.result TableFull c.in-Some.ensures.idle c.requires.late
+    (add_checks R c.args.path.now n true (λ k. new_quota k (unwrap_or c.args.limit 0) (unwrap_or c.args.enforce true) (if c.args.enabled then start R.nodes k else Disabled) c.args.moment) c.in-Some.ensures.folder absent
     (table_is R.quotas _ c.quota_count.result c.quota_count.ensures c.if-quota_count-ge-MOST_QUOTAS.true))
     c.refused-then-quota_count-ge-MOST_QUOTAS.ensures
 
@@ -46,10 +46,12 @@ returns-clause-ok g c =
     let n = c.in-Some.folder in
     let at = c.in-Some.ensures.folder in
     let absent = lacks_of (λ q. q.state) R.quotas n c.state.result c.state.ensures (sym c.is_some.ensures ∙ c.if-is_some.false) in
-    settled c.args.self.now c.enlist.new.self c.done.new.self c.args.moment (QuotaAdd c.args.path.now c.args.limit c.args.enforce c.args.enabled) c.done.result (with_quota R c.new_quota-row.result) c.in-Some.ensures.idle c.requires.late
-    (add_checks R c.args.path.now n false (λ k. new_quota k c.args.limit c.args.enforce (if c.args.enabled then start R.nodes k else Disabled) c.args.moment) at absent
+    settled c.args.self.now c.enlist.new.self c.done.new.self c.args.moment (QuotaAdd c.args.path.now c.args.limit c.args.enforce c.args.enabled None [] []) c.done.result (with_quota R c.new_quota-row.result) c.in-Some.ensures.idle c.requires.late
+    (add_checks R c.args.path.now n false (λ k. new_quota k (unwrap_or c.args.limit 0) (unwrap_or c.args.enforce true) (if c.args.enabled then start R.nodes k else Disabled) c.args.moment) at absent
     (table_has R.quotas _ c.quota_count.result c.quota_count.ensures c.if-quota_count-ge-MOST_QUOTAS.false))
-    (ap (λ k. with_quota R (new_quota k c.args.limit c.args.enforce (if c.args.enabled then start R.nodes k else Disabled) c.args.moment)) (target_is R.nodes c.args.path.now n at.resolved)
-    ∙ (ap (λ s. with_quota R (new_quota n c.args.limit c.args.enforce s c.args.moment)) (sym c.first_state-state.ensures.state)
-    ∙ ap (with_quota R) (sym c.new_quota-row.ensures)))
+    (ap (λ k. with_quota R (new_quota k (unwrap_or c.args.limit 0) (unwrap_or c.args.enforce true) (if c.args.enabled then start R.nodes k else Disabled) c.args.moment)) (target_is R.nodes c.args.path.now n at.resolved)
+    ∙ (ap (λ s. with_quota R (new_quota n (unwrap_or c.args.limit 0) (unwrap_or c.args.enforce true) s c.args.moment)) (sym c.first_state-state.ensures.state)
+    ∙ (ap (λ (l : ℕ). with_quota R (new_quota n l (unwrap_or c.args.enforce true) c.first_state-state.result c.args.moment)) (ap (λ (l : Option ℕ). unwrap_or l 0) c.unwrap-limit.ensures)
+    ∙ (ap (λ (e : Bool). with_quota R (new_quota n c.unwrap-limit.result e c.first_state-state.result c.args.moment)) (sym c.unwrap_or-enforce.ensures)
+    ∙ ap (with_quota R) (sym c.new_quota-row.ensures)))))
     refl refl c.in_ok-enlist.ensures.listed c.in_ok-enlist.ensures.level c.done.ensures.rows c.done.ensures.answer

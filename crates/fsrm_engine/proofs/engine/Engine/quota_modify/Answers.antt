@@ -1,4 +1,4 @@
-use Rattle.std.proofs.Common.{◌≡◌, true, false, refl, ap, sym, ◌∙◌, [], Option, List}
+use Rattle.std.proofs.Common.{◌≡◌, ◌==◌, true, false, refl, ap, sym, ◌∙◌, [], Option, List}
 use Rattle.std.proofs.lemmas.Option.{same_Some}
 use Rattle.std.specs.Prelude.{is_none}
 use Rattle.std.specs.Option.{option_map_or}
@@ -11,6 +11,8 @@ use Rattle.fsrm_model.specs.Quota.{folder_of, quota_of, is_complete}
 use Rattle.fsrm_model.specs.QuotaStates.{in_state, queued, state_after, with_state}
 use Rattle.fsrm_model.specs.QuotaWork.{modified}
 use Rattle.fsrm_model.specs.Tree.{is_folder, usage}
+use Rattle.fsrm_model.specs.Valid.{is_plain}
+use Rattle.fsrm_base.proofs.Members.{all_found}
 use Rattle.fsrm_base.proofs.Look.{found_has, found_key}
 use Rattle.fsrm_engine.specs.Machine.{with_other}
 use Rattle.fsrm_engine.proofs.PlaceLaws.{target_is}
@@ -21,13 +23,13 @@ use Rattle.fsrm_engine.proofs.engine.Engine.quota_modify.Goals as goal
 pub returns-in_default-clause-ok : goal.returns-in_default-clause-ok
 returns-in_default-clause-ok g c =
     let R = c.args.self.now.rows in
-    refused_whole c.args.self.now c.args.moment (QuotaModify c.args.path.now c.args.limit c.args.enforce c.args.enabled) c.refused.result PathNotFound c.in_default.ensures.idle c.requires.late
+    refused_whole c.args.self.now c.args.moment (QuotaModify c.args.path.now c.args.limit c.args.enforce c.args.enabled [] [] []) c.refused.result PathNotFound c.in_default.ensures.idle c.requires.late
     (missing R.nodes c.args.path.now _ c.in_default.ensures.folder) c.refused.ensures
 
 pub returns-in_default-2-clause-ok : goal.returns-in_default-2-clause-ok
 returns-in_default-2-clause-ok g c =
     let R = c.args.self.now.rows in
-    refused_whole c.args.self.now c.args.moment (QuotaModify c.args.path.now c.args.limit c.args.enforce c.args.enabled) c.refused-in_default-2.result NotFound c.in-Some.ensures.idle c.requires.late
+    refused_whole c.args.self.now c.args.moment (QuotaModify c.args.path.now c.args.limit c.args.enforce c.args.enabled [] [] []) c.refused-in_default-2.result NotFound c.in-Some.ensures.idle c.requires.late
     (checked R c.args.path.now c.in-Some.folder true (λ k. []) c.in-Some.ensures.folder
     (none_of (modified c.args.limit c.args.enforce) (quota_of R c.in-Some.folder) (sym c.in_ok-row.ensures ∙ c.in_default-2.is)))
     c.refused-in_default-2.ensures
@@ -47,6 +49,13 @@ replace-requires-clause-folder g c =
     let q = some_of (modified c.args.limit c.args.enforce) (quota_of R n) c.in-Some-2.row (sym c.in_ok-row.ensures ∙ c.in-Some-2.is) in
     let is : c.in-Some-2.row.folder ≡ n = sym (ap (λ (r : QuotaRow). r.folder) q.is) ∙ found_key folder_of n R.quotas q.quota q.found in
     ap (λ k. is_folder R.nodes k) is ∙ c.in-Some.ensures.folder.folder
+
+pub replace-requires-clause-plain : goal.replace-requires-clause-plain
+replace-requires-clause-plain g c =
+    let R = c.args.self.now.rows in
+    let n = c.in-Some.folder in
+    let q = some_of (modified c.args.limit c.args.enforce) (quota_of R n) c.in-Some-2.row (sym c.in_ok-row.ensures ∙ c.in-Some-2.is) in
+    ap is_plain (sym q.is) ∙ all_found is_plain (λ r. folder_of r == n) R.quotas q.quota c.in-Some.ensures.store.tables.plain q.found
 
 pub replace-requires-clause-peak : goal.replace-requires-clause-peak
 replace-requires-clause-peak g c quota found =
@@ -78,7 +87,7 @@ returns-clause-ok g c =
     let q = some_of (modified c.args.limit c.args.enforce) (quota_of R n) c.in-Some-2.row (sym c.in_ok-row.ensures ∙ c.in-Some-2.is) in
     let is : c.in-Some-2.row.folder ≡ n = sym (ap (λ (r : QuotaRow). r.folder) q.is) ∙ found_key folder_of n R.quotas q.quota q.found in
     let state = c.state_after-row.result in
-    settled c.args.self.now c.replace.new.self c.done.new.self c.args.moment (QuotaModify c.args.path.now c.args.limit c.args.enforce c.args.enabled) c.done.result (with_other R (in_state state c.in-Some-2.row)) c.in-Some.ensures.idle c.requires.late
+    settled c.args.self.now c.replace.new.self c.done.new.self c.args.moment (QuotaModify c.args.path.now c.args.limit c.args.enforce c.args.enabled [] [] []) c.done.result (with_other R (in_state state c.in-Some-2.row)) c.in-Some.ensures.idle c.requires.late
     (checked R c.args.path.now n false (λ k. []) at (ap is_none q.found))
     (ap (λ k. with_state (record R { quotas = with_change folder_of k (modified c.args.limit c.args.enforce) R.quotas }) k (state_after R k c.args.enabled)) (target_is R.nodes c.args.path.now n at.resolved)
     ∙ (ap (λ s. with_state (record R { quotas = with_change folder_of n (modified c.args.limit c.args.enforce) R.quotas }) n s) (sym c.state_after-row.ensures.state)

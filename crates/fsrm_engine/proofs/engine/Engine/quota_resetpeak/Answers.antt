@@ -1,9 +1,10 @@
 use Rattle.std.proofs.Common.{ap, sym, ◌∙◌}
 use Rattle.fsrm_model.specs.declared.command.Deed.TheVariants.{QuotaResetpeak}
 use Rattle.fsrm_model.specs.declared.row.Rows.{Rows}
+use Rattle.fsrm_model.proofs.EachCommand.{kept_valid}
+use Rattle.fsrm_model.proofs.QuotaKept.{reset_kept}
 use Rattle.fsrm_engine.specs.Machine.{rows_with}
-use Rattle.fsrm_engine.proofs.BesideLaws.{reset_beside, reset_leaves, queue_reset, whole_ok, scans_kept, scans_stay, follow_same}
-use Rattle.fsrm_engine.proofs.TurnLaws.{store_of}
+use Rattle.fsrm_engine.proofs.BesideLaws.{reset_beside, reset_leaves, whole_ok, scans_kept, scans_stay, follow_same}
 use Rattle.fsrm_engine.proofs.engine.Engine.quota_resetpeak.Goals as goal
 
 pub invariant_of-self : goal.invariant_of-self
@@ -15,7 +16,7 @@ invariant_of-self g c =
     let same = reset_beside a s c.args.path.now c.args.moment in
     scans_kept a c.quota_resetpeak.new.self s s (record { moment = c.args.moment; deed = QuotaResetpeak c.args.path.now }) c.quota_resetpeak.result same e.ok (follow_same a s _ leaves)
     (scans_stay a c.quota_resetpeak.new.self s _ c.self.invariant.scanning e.ok.size_is e.ok.rows_are (sym (ap (λ (R : Rows). R.nodes) same.rows) ∙ leaves.nodes))
-    (queue_reset a.size (rows_with a s) c.args.path.now c.args.moment c.self.invariant.queue)
+    (kept_valid a.size (rows_with a s) c.args.moment (QuotaResetpeak c.args.path.now) c.self.invariant.valid c.requires.moment (reset_kept a.size (rows_with a s) c.args.moment c.args.path.now c.requires.moment))
 
 pub returns-clause-ok : goal.returns-clause-ok
 returns-clause-ok g c =
@@ -25,4 +26,4 @@ returns-clause-ok g c =
     (follow_same a s _ (reset_leaves a.size (rows_with a s) c.args.path.now c.args.moment))
 
 pub returns-clause-kept : goal.returns-clause-kept
-returns-clause-kept g c = store_of c.quota_resetpeak.new.self c.self.inside.scans c.quota_resetpeak.ensures.kept (invariant_of-self g c)
+returns-clause-kept g c = (invariant_of-self g c).valid

@@ -5,7 +5,9 @@ use Rattle.fsrm_model.specs.Quota.{folder_of}
 use Rattle.fsrm_model.specs.QuotaStates.{in_state, followed, queued, with_state}
 use Rattle.fsrm_model.specs.Tree.{is_folder}
 use Rattle.fsrm_engine.specs.Machine.{Machine, volume_of, with_rows}
-use Rattle.fsrm_engine.proofs.TurnLaws.{turned_by, engine_turned, queue_changed, store_of}
+use Rattle.fsrm_engine.proofs.TurnLaws.{turned_by, engine_turned}
+use Rattle.fsrm_model.proofs.QueueKept.{queue_changed}
+use Rattle.fsrm_model.proofs.RowsKept.{plain-change}
 use Rattle.fsrm_engine.proofs.engine.Engine.rebuild.Goals as goal
 
 pub invariant_of-self-2 : goal.invariant_of-self-2
@@ -16,8 +18,9 @@ invariant_of-self-2 c =
     let there = subst (λ (o : Machine). has_row folder_of n o.rows.quotas ≡ true) (sym c.self.view_is) c.requires.there in
     let folder = subst (λ (o : Machine). is_folder o.rows.nodes n ≡ true) (sym c.self.view_is) c.requires.folder in
     turned_by a c.rebuild.new.self s c.requeue.new.scans (with_change folder_of n (in_state Rebuilding) a.rows.quotas) (queued s.queue n Rebuilding) c.self.invariant
-    (c.in_ok-requeue.ensures.turns (volume_of a) c.self.invariant.scanning folder) c.in_ok-requeue.ensures.queue c.rebuild.ensures.rebuilt
-    (queue_changed a.rows.quotas s.queue n Rebuilding (in_state Rebuilding) c.self.invariant.queue there (λ r. refl) (λ r. refl))
+    (c.in_ok-requeue.ensures.turns (volume_of a) c.self.invariant.scanning folder) c.in_ok-requeue.ensures.queue c.rebuild.ensures.rebuilt c.rebuild.ensures.kept
+    (plain-change n (in_state Rebuilding) a.rows.quotas (λ q is. is) c.self.invariant.valid.tables.plain)
+    (queue_changed a.rows.quotas s.queue n Rebuilding (in_state Rebuilding) c.self.invariant.valid.queue there (λ r. refl) (λ r. refl))
 
 pub returns-clause-rebuilt : goal.returns-clause-rebuilt
 returns-clause-rebuilt c =
@@ -30,4 +33,4 @@ returns-clause-rebuilt c =
     ∙ ap (λ (o : Machine). with_rows o (followed o.rows (with_state o.rows n Rebuilding))) c.self.view_is
 
 pub returns-clause-kept : goal.returns-clause-kept
-returns-clause-kept c = store_of c.rebuild.new.self c.requeue.new.scans c.rebuild.ensures.kept (invariant_of-self-2 c)
+returns-clause-kept c = (invariant_of-self-2 c).valid

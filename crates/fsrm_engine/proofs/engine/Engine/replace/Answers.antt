@@ -4,7 +4,8 @@ use Rattle.fsrm_model.specs.Quota.{folder_of}
 use Rattle.fsrm_model.specs.QuotaStates.{followed, queued}
 use Rattle.fsrm_model.specs.Tree.{is_folder}
 use Rattle.fsrm_engine.specs.Machine.{Machine, volume_of, with_rows, with_other}
-use Rattle.fsrm_engine.proofs.TurnLaws.{turned_by, engine_turned, queue_put, store_of}
+use Rattle.fsrm_engine.proofs.TurnLaws.{turned_by, engine_turned, queue_put}
+use Rattle.fsrm_model.proofs.RowsKept.{plain-change}
 use Rattle.fsrm_engine.proofs.engine.Engine.replace.Goals as goal
 
 pub invariant_of-self-2 : goal.invariant_of-self-2
@@ -15,8 +16,9 @@ invariant_of-self-2 c =
     let there = subst (λ (o : Machine). has_row folder_of row.folder o.rows.quotas ≡ true) (sym c.self.view_is) c.requires.there in
     let folder = subst (λ (o : Machine). is_folder o.rows.nodes row.folder ≡ true) (sym c.self.view_is) c.requires.folder in
     turned_by a c.put.new.self s c.requeue.new.scans (with_change folder_of row.folder (λ old. row) a.rows.quotas) (queued s.queue row.folder row.state) c.self.invariant
-    (c.in_ok-requeue.ensures.turns (volume_of a) c.self.invariant.scanning folder) c.in_ok-requeue.ensures.queue c.put.ensures.put
-    (queue_put a.rows.quotas s.queue row c.self.invariant.queue there)
+    (c.in_ok-requeue.ensures.turns (volume_of a) c.self.invariant.scanning folder) c.in_ok-requeue.ensures.queue c.put.ensures.put c.put.ensures.kept
+    (plain-change row.folder (λ old. row) a.rows.quotas (λ q is. c.requires.plain) c.self.invariant.valid.tables.plain)
+    (queue_put a.rows.quotas s.queue row c.self.invariant.valid.queue there)
 
 pub returns-clause-replaced : goal.returns-clause-replaced
 returns-clause-replaced c =
@@ -29,4 +31,4 @@ returns-clause-replaced c =
     ∙ ap (λ (o : Machine). with_rows o (followed o.rows (with_other o.rows row))) c.self.view_is
 
 pub returns-clause-kept : goal.returns-clause-kept
-returns-clause-kept c = store_of c.put.new.self c.requeue.new.scans c.put.ensures.kept (invariant_of-self-2 c)
+returns-clause-kept c = (invariant_of-self-2 c).valid

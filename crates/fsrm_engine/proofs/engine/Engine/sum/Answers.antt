@@ -12,4 +12,4 @@ returns-clause-ok g c =
     (follow_all a s _ c.sum.result (sum_leaves a.size (rows_with a s) c.args.path.now c.args.moment)))
 
 pub returns-clause-kept : goal.returns-clause-kept
-returns-clause-kept g c = same_store c.self.inside.accounts c.self.inside.scans c.args.self.now c.self.view_is c.sum.ensures.kept c.self.invariant
+returns-clause-kept g c = same_store c.self.inside.accounts c.self.inside.scans c.args.self.now c.self.view_is c.self.invariant

@@ -15,13 +15,13 @@ copied-requires-clause-below g c = λ n h.
     let v = c.args.tree.now in
     let s = c.requires.stands in
     let low = folder_low v c.args.self.now n s.volume s.fits ((tops_of v c.args.self.now s).folders n (ap (λ (f : Front). is_in f.tops n) (sym c.self.view_is) ∙ h)) in
-    let room = ap (λ (f : Front). f.room) c.self.view_is in
+    let room = ap (λ (f : Front). f.room.nodes) c.self.view_is in
     omega (arith, low, room)
 
 pub loop-next-init : goal.loop-next-init
 loop-next-init g c =
-    let whole = c.in_ok-waiting.ensures ∙ ap (λ (f : Front). record { bound = f.room; members = f.tops }) c.self.view_is in
-    let empty = c.in_ok-found.ensures ∙ ap no_numbers (c.bound.ensures ∙ ap (λ (f : Front). f.room) c.self.view_is) in
+    let whole = c.in_ok-waiting.ensures ∙ ap (λ (f : Front). record { bound = f.room.nodes; members = f.tops }) c.self.view_is in
+    let empty = c.in_ok-found.ensures ∙ ap no_numbers (c.bound.ensures ∙ ap (λ (f : Front). f.room.nodes) c.self.view_is) in
     let same = ap (λ (m : Numbers). looks_left c.args.tree.now.nodes (topped c.args.self.now m.members)) whole in
     record {
       finding = finding_begins c.args.tree.now c.args.self.now c.in_ok-waiting.waiting c.in_ok-found.found c.requires.stands whole empty;
@@ -36,7 +36,7 @@ insert-requires g c =
 pub enter_children-requires-clause-room : goal.enter_children-requires-clause-room
 enter_children-requires-clause-room g c =
     let same = ap (λ (m : Numbers). m.bound) c.remove.ensures in
-    omega (arith, same, c.loop-next.invariant.finding.waiting_room, c.requires.stands.fits)
+    omega (arith, same, c.loop-next.invariant.finding.waiting_room, c.requires.stands.fits.nodes)
 
 pub loop-next-smaller : goal.loop-next-smaller
 loop-next-smaller g c =

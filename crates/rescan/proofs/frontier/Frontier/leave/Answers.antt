@@ -2,12 +2,13 @@ use Rattle.std.proofs.Common.{◌≡◌, ◌+◌, ◌<◌, ◌-◌, List, ℕ, [
 use Rattle.std.specs.Prelude.{is_some, sum_by}
 use Rattle.fsrm_base.proofs.TestLaws.{clash}
 use Rattle.rescan.specs.Frontiers.{Front}
+use Rattle.fsrm_model.specs.Capacities.{is_cluster}
 use Rattle.fsrm_base.specs.Numbers.{with_number, without_number, with_numbers}
 use Rattle.fsrm_model.specs.Space.{space}
 use Rattle.fsrm_model.specs.Tree.{children}
 use Rattle.rescan.specs.Visits.{folders_in}
 use Rattle.rescan.proofs.Ahead.{ahead, top_ahead, open_ahead, whole_ahead, next_in, none_next}
-use Rattle.rescan.proofs.Leaving.{Leaving, Tracked, begin, finish, pass_top}
+use Rattle.rescan.proofs.Leaving.{Leaving, Tracked, begin, finish, pass_top, same_room}
 use Rattle.rescan.proofs.Opening.{opened, pass_open, enough_left}
 use Rattle.rescan.proofs.frontier.Frontier.leave.Goals as goal
 
@@ -21,13 +22,14 @@ loop-next-init g c =
     let waiting : c.insert.new.self.members ≡ x ∷ [] = ap (λ s. s.members) c.insert.ensures ∙ ap (with_number x) c.self.invariant.still in
     let tops : c.self.inside.tops.members ≡ f.tops = ap (λ v. v.tops) c.self.view_is in
     let sum : c.self.inside.sum ≡ f.sum = ap (λ v. v.sum) c.self.view_is in
-    let room : c.self.inside.tops.bound ≡ f.room = ap (λ v. v.room) c.self.view_is in
+    let room : c.self.inside.tops.bound ≡ f.room.nodes = ap (λ v. v.room.nodes) c.self.view_is in
     record {
       walk = subst (λ (ns : List ℕ). Leaving K nodes f x ns c.insert.new.self.members c.self.inside.sum) (sym tops)
           (subst (λ (ns : List ℕ). Leaving K nodes f x f.tops ns c.self.inside.sum) (sym waiting)
           (subst (λ (s : ℕ). Leaving K nodes f x f.tops (x ∷ []) s) (sym sum) (begin K nodes f x t)));
       folder = ap (λ v. v.folder) c.self.view_is;
       bound = room;
+      cluster = ap (λ v. v.room.cluster) c.self.view_is;
       room = ap (λ s. s.bound) c.insert.ensures ∙ (c.self.invariant.bounds ∙ room);
       looks = omega (arith, ap (ahead nodes) waiting, whole_ahead K nodes x c.requires.volume);
     }
@@ -62,6 +64,7 @@ loop-next-preserved-then-contains g c =
           (subst (λ (ns : List ℕ). Leaving K nodes f x (without_number n tops) ns sum) (sym now) walk);
       folder = c.loop-next.invariant.folder;
       bound = ap (λ s. s.bound) c.remove-then-contains.ensures ∙ c.loop-next.invariant.bound;
+      cluster = c.loop-next.invariant.cluster;
       room = ap (λ s. s.bound) c.remove.ensures ∙ c.loop-next.invariant.room;
       looks = omega (arith, ap (ahead nodes) now, less, c.loop-next.invariant.looks);
     }
@@ -110,6 +113,7 @@ loop-next-preserved g c =
       walk = subst (λ (ns : List ℕ). Leaving K nodes f x tops ns sum2) (sym now) (pass_open K nodes f x tops waiting sum sum2 n t c.loop-next.invariant.walk here lacks rest);
       folder = c.loop-next.invariant.folder;
       bound = c.loop-next.invariant.bound;
+      cluster = c.loop-next.invariant.cluster;
       room = ap (λ s. s.bound) c.enter_children.ensures.set ∙ (ap (λ s. s.bound) c.remove.ensures ∙ c.loop-next.invariant.room);
       looks = omega (arith, ap (ahead nodes) now, step, c.loop-next.invariant.looks, c.enter_children.ensures.looks);
     }
@@ -122,6 +126,7 @@ invariant_of-self g c =
       still = none_next c.loop-next.self-inside.waiting.members c.in_default.ensures;
       no_tops = λ h. absurd (active h);
       no_sum = λ h. absurd (active h);
+      legal = ap is_cluster (c.loop-next.invariant.cluster ∙ sym (ap (λ (f : Front). f.room.cluster) c.self.view_is)) ∙ c.self.invariant.legal;
     }
 
 pub returns-clause-leaves : goal.returns-clause-leaves
@@ -129,8 +134,8 @@ returns-clause-leaves g c =
     let K = c.args.tree.now.size in
     let nodes = c.args.tree.now.nodes in
     let inside = c.loop-next.self-inside in
-    let new : Front = record { room = inside.tops.bound; folder = inside.folder; tops = inside.tops.members; sum = inside.sum } in
+    let new : Front = record { room = record { nodes = inside.tops.bound; cluster = inside.cluster }; folder = inside.folder; tops = inside.tops.members; sum = inside.sum } in
     let none = none_next inside.waiting.members c.in_default.ensures in
     finish K nodes c.args.self.now new c.args.node
     (subst (λ (ns : List ℕ). Leaving K nodes c.args.self.now c.args.node inside.tops.members ns inside.sum) none c.loop-next.invariant.walk)
-    c.loop-next.invariant.bound c.loop-next.invariant.folder
+    (same_room c.args.self.now.room inside.tops.bound inside.cluster c.loop-next.invariant.bound c.loop-next.invariant.cluster) c.loop-next.invariant.folder

@@ -8,8 +8,9 @@ abbrev pub invariant-loop-next : goal.invariant-loop-next
 invariant-loop-next g l = record {
   walk : Leaving l.tree.size l.tree.nodes l.fn.self l.node l.self-inside.tops.members l.self-inside.waiting.members l.self-inside.sum;
   folder : l.self-inside.folder ≡ l.fn.self.folder;
-  bound : l.self-inside.tops.bound ≡ l.fn.self.room;
-  room : l.self-inside.waiting.bound ≡ l.fn.self.room;
+  bound : l.self-inside.tops.bound ≡ l.fn.self.room.nodes;
+  cluster : l.self-inside.cluster ≡ l.fn.self.room.cluster;
+  room : l.self-inside.waiting.bound ≡ l.fn.self.room.nodes;
   looks : l.steps + ahead l.tree.nodes l.self-inside.waiting.members ≤ l.fn.steps + 3 * length (under l.tree.nodes l.node);
 }
 

@@ -1,4 +1,5 @@
 use Rattle.std.proofs.Common.{◌≡◌, ◌==◌, ℕ, true, false, length, refl, sym, ◌∙◌, ap, subst, arith}
+use Rattle.fsrm_model.specs.Capacities.{is_capacity}
 use Rattle.fsrm_base.specs.Keyed.{has_row}
 use Rattle.fsrm_model.specs.Tree.{number, parent_of, chain}
 use Rattle.fsrm_model.proofs.Climbs.{shorter}
@@ -6,7 +7,6 @@ use Rattle.fsrm_model.proofs.Keeps.{tree_of}
 use Rattle.fsrm_base.proofs.Look.{has_found}
 use Rattle.fsrm_base.proofs.TestLaws.{clash, eq_same}
 use Rattle.fsrm_model.proofs.ValidLaws.{folder_has, found_parent}
-use Rattle.volume_tree.specs.Volume.{IsCapacity}
 use Rattle.rescan.proofs.FolderArms.{scanned_follows, folder_follows}
 use Rattle.rescan.proofs.MoveArms.{Goes, below_counted, file_follows, share_same, share_counted, share_fits}
 use Rattle.rescan.proofs.StandingLaws.{same_folder, other_folder}
@@ -55,25 +55,25 @@ standing-before-requires-else-view-clause-there g c =
     subst (λ (n : ℕ). has_row number n nodes ≡ true) (sym shows.is.parent) (folder_has nodes shows.row.parent (c.requires.stands.volume.up c.args.node shows.row shows.found))
 
 pub move_file-requires-clause-counted : goal.move_file-requires-clause-counted
-move_file-requires-clause-counted g c = λ K.
+move_file-requires-clause-counted g c =
     let v = c.args.tree.now in
     let f = c.args.self.now in
     let shows = c.node-view.ensures.view in
     let goes : Goes v f c.args.node c.args.folder = record { stands = c.requires.stands; row = shows.row; found = shows.found; inner = c.requires.inner; folder = c.requires.folder; apart = c.requires.apart } in
     let file : shows.row.folder ≡ false = sym shows.is.folder ∙ c.if-view.false in
-    let before = share_same K v.size v.nodes f c.node-view.result.length shows.row.length c.node-view.result.parent shows.row.parent c.standing-before-else-view.result c.standing-before-else-view.ensures.value shows.is.bytes shows.is.parent in
+    let before = share_same f.room.cluster v.size.cluster v.nodes f c.node-view.result.length shows.row.length c.node-view.result.parent shows.row.parent c.standing-before-else-view.result c.requires.stands.fits.cluster c.standing-before-else-view.ensures.value shows.is.bytes shows.is.parent in
     omega (arith, before, share_counted v f c.args.node c.args.folder goes file)
 
 pub move_file-requires-clause-fits : goal.move_file-requires-clause-fits
-move_file-requires-clause-fits g c = λ K.
+move_file-requires-clause-fits g c =
     let v = c.args.tree.now in
     let f = c.args.self.now in
     let shows = c.node-view.ensures.view in
     let goes : Goes v f c.args.node c.args.folder = record { stands = c.requires.stands; row = shows.row; found = shows.found; inner = c.requires.inner; folder = c.requires.folder; apart = c.requires.apart } in
     let file : shows.row.folder ≡ false = sym shows.is.folder ∙ c.if-view.false in
-    let before = share_same K v.size v.nodes f c.node-view.result.length shows.row.length c.node-view.result.parent shows.row.parent c.standing-before-else-view.result c.standing-before-else-view.ensures.value shows.is.bytes shows.is.parent in
-    let after = share_same K v.size v.nodes f c.node-view.result.length shows.row.length c.args.folder c.args.folder c.standing-after.result c.standing-after.ensures.value shows.is.bytes refl in
-    let legal : IsCapacity v.size = subst IsCapacity c.capacity-size.ensures.size c.capacity-size.ensures.legal in
+    let before = share_same f.room.cluster v.size.cluster v.nodes f c.node-view.result.length shows.row.length c.node-view.result.parent shows.row.parent c.standing-before-else-view.result c.requires.stands.fits.cluster c.standing-before-else-view.ensures.value shows.is.bytes shows.is.parent in
+    let after = share_same f.room.cluster v.size.cluster v.nodes f c.node-view.result.length shows.row.length c.args.folder c.args.folder c.standing-after.result c.requires.stands.fits.cluster c.standing-after.ensures.value shows.is.bytes refl in
+    let legal : is_capacity v.size ≡ true = ap is_capacity (sym c.capacity-size.ensures.size) ∙ c.capacity-size.ensures.legal in
     omega (arith, before, after, share_fits v f c.args.node c.args.folder goes legal file)
 
 pub returns-then-view-clause-follows : goal.returns-then-view-clause-follows
@@ -94,10 +94,10 @@ returns-else-view-clause-follows g c =
     let shows = c.node-view.ensures.view in
     let goes : Goes v f c.args.node c.args.folder = record { stands = c.requires.stands; row = shows.row; found = shows.found; inner = c.requires.inner; folder = c.requires.folder; apart = c.requires.apart } in
     let file : shows.row.folder ≡ false = sym shows.is.folder ∙ c.if-view.false in
-    let before = share_same v.size v.size v.nodes f c.node-view.result.length shows.row.length c.node-view.result.parent shows.row.parent c.standing-before-else-view.result c.standing-before-else-view.ensures.value shows.is.bytes shows.is.parent in
-    let after = share_same v.size v.size v.nodes f c.node-view.result.length shows.row.length c.args.folder c.args.folder c.standing-after.result c.standing-after.ensures.value shows.is.bytes refl in
+    let before = share_same f.room.cluster v.size.cluster v.nodes f c.node-view.result.length shows.row.length c.node-view.result.parent shows.row.parent c.standing-before-else-view.result c.requires.stands.fits.cluster c.standing-before-else-view.ensures.value shows.is.bytes shows.is.parent in
+    let after = share_same f.room.cluster v.size.cluster v.nodes f c.node-view.result.length shows.row.length c.args.folder c.args.folder c.standing-after.result c.requires.stands.fits.cluster c.standing-after.ensures.value shows.is.bytes refl in
     λ name w. file_follows v f c.move_file.new.self c.args.node c.args.folder name goes file w c.move_file.ensures.rest
-    (omega (arith, before, after, c.move_file.ensures.sum v.size))
+    (omega (arith, before, after, c.move_file.ensures.sum))
 
 pub returns-else-view-clause-looks : goal.returns-else-view-clause-looks
 returns-else-view-clause-looks g c =

@@ -33,4 +33,4 @@ returns-clause-follows g c =
     let n = c.in_ok-folder.folder in
     let first : slice_get c.args.self.now.tops 0 ≡ Some n = ap (λ (f : Front). slice_get f.tops 0) (sym c.self.view_is) ∙ (sym c.least.ensures ∙ c.in_ok-folder.was) in
     visited_some c.args.tree.now c.args.self.now _ n c.requires.stands first
-    (visited_fields c.args.tree.now c.args.self.now n c.self.inside.folder c.self.inside.tops c.remove.new.self c.enter_children.new.set c.self.inside.sum c.enter_children.result c.self.view_is c.remove.ensures c.enter_children.ensures.set c.enter_children.ensures.bytes)
+    (visited_fields c.args.tree.now c.args.self.now n c.self.inside.folder c.self.inside.tops c.remove.new.self c.enter_children.new.set c.self.inside.sum c.enter_children.result c.self.inside.cluster c.self.view_is c.remove.ensures c.enter_children.ensures.set c.enter_children.ensures.bytes)

@@ -16,7 +16,7 @@ begin-requires-clause-room c folder e =
     let gone : ℕ = unwrap_or (head c.self.inside.queue.items) 0 in
     let less : c.remove.new.self.items ≡ without_number gone c.self.inside.queue.items = c.remove.ensures.items ∙ head_removed c.self.inside.queue.items c.self.invariant.once some in
     let first : head c.remove.new.self.items ≡ Some folder = ap head (sym c.deref.ensures.value) ∙ (sym c.first.ensures.value ∙ (sym c.copied.ensures ∙ e)) in
-    subst (λ (f : Front). folder < f.room) (sym c.finish-used.ensures.idle)
+    subst (λ (f : Front). folder < f.room.nodes) (sym c.finish-used.ensures.idle)
     (c.self.invariant.within folder (in_left gone folder c.self.inside.queue.items (ap (λ ns. is_in ns folder) (sym less) ∙ first_in folder c.remove.new.self.items first)))
 
 pub invariant_of-self : goal.invariant_of-self

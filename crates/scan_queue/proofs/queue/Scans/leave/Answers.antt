@@ -13,7 +13,7 @@ pub begin-requires-clause-room : goal.begin-requires-clause-room
 begin-requires-clause-room c folder e =
     let less : c.retain.new.self.items ≡ without_number c.args.folder c.self.inside.queue.items = filter_same _ _ _ (λ x b f' k. search rules) _ _ c.retain.ensures.filtered in
     let first : head c.retain.new.self.items ≡ Some folder = ap head (sym c.deref.ensures.value) ∙ (sym c.first.ensures.value ∙ (sym c.copied.ensures ∙ e)) in
-    subst (λ (f : Front). folder < f.room) (sym c.drop_scan.ensures)
+    subst (λ (f : Front). folder < f.room.nodes) (sym c.drop_scan.ensures)
     (c.self.invariant.within folder (in_left c.args.folder folder c.self.inside.queue.items (ap (λ ns. is_in ns folder) (sym less) ∙ first_in folder c.retain.new.self.items first)))
 
 pub invariant_of-self : goal.invariant_of-self

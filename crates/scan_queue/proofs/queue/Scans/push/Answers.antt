@@ -16,7 +16,7 @@ begin-requires c =
     record {
       idle = idle;
       empty = c.self.invariant.idle idle;
-      room = λ folder e. subst (λ k. k < c.self.inside.frontier.room) (same_Some c.args.folder folder e) (subst (λ (k : Course). c.args.folder < k.front.room) (sym c.self.view_is) c.requires.room);
+      room = λ folder e. subst (λ k. k < c.self.inside.frontier.room.nodes) (same_Some c.args.folder folder e) (subst (λ (k : Course). c.args.folder < k.front.room.nodes) (sym c.self.view_is) c.requires.room);
     }
 
 pub invariant_of-self : goal.invariant_of-self
@@ -24,11 +24,11 @@ invariant_of-self c = subst (λ ns. IsKept ns c.self.inside.frontier) (sym c.in_
 
 pub invariant_of-self-else-not-scanning : goal.invariant_of-self-else-not-scanning
 invariant_of-self-else-not-scanning c =
-    kept_pushed c.self.inside.queue.items c.push.new.self.items c.self.inside.frontier c.args.folder c.in_ok-push.ensures.items (ap (λ (k : Course). is_some (head k.queue)) c.self.view_is ∙ sym c.if-not-scanning.ensures.active) (ap (λ (k : Course). is_in k.queue c.args.folder) c.self.view_is ∙ c.requires.absent) (subst (λ (k : Course). c.args.folder < k.front.room) (sym c.self.view_is) c.requires.room) c.self.invariant
+    kept_pushed c.self.inside.queue.items c.push.new.self.items c.self.inside.frontier c.args.folder c.in_ok-push.ensures.items (ap (λ (k : Course). is_some (head k.queue)) c.self.view_is ∙ sym c.if-not-scanning.ensures.active) (ap (λ (k : Course). is_in k.queue c.args.folder) c.self.view_is ∙ c.requires.absent) (subst (λ (k : Course). c.args.folder < k.front.room.nodes) (sym c.self.view_is) c.requires.room) c.self.invariant
 
 pub invariant_of-self-then-not-scanning : goal.invariant_of-self-then-not-scanning
 invariant_of-self-then-not-scanning c =
-    kept_alone c.self.inside.queue.items c.push.new.self.items c.self.inside.frontier c.begin.new.frontier c.args.folder c.in_ok-push.ensures.items (ap (λ (k : Course). is_some (head k.queue)) c.self.view_is ∙ sym c.if-not-scanning.ensures.active) (subst (λ (k : Course). c.args.folder < k.front.room) (sym c.self.view_is) c.requires.room) c.begin.ensures
+    kept_alone c.self.inside.queue.items c.push.new.self.items c.self.inside.frontier c.begin.new.frontier c.args.folder c.in_ok-push.ensures.items (ap (λ (k : Course). is_some (head k.queue)) c.self.view_is ∙ sym c.if-not-scanning.ensures.active) (subst (λ (k : Course). c.args.folder < k.front.room.nodes) (sym c.self.view_is) c.requires.room) c.begin.ensures
 
 pub returns-then-not-scanning-clause-turns : goal.returns-then-not-scanning-clause-turns
 returns-then-not-scanning-clause-turns c v s h =

@@ -1,47 +1,26 @@
-use Rattle.std.proofs.Common.{◌≡◌, ◌∙◌, sym, true, false}
-use Rattle.std.specs.Prelude.{is_some}
-use Rattle.tool_commands.specs.OptionWords.{line_key, line_given, has_key}
-use Rattle.tool_commands.proofs.OptionLaws.{given_twice, path_given, limit_given, type_given, status_given, path_fault, limit_fault}
+use Rattle.std.proofs.Common.{refl}
+use Rattle.std.specs.Prelude.{codes}
+use Rattle.fsrm_model.specs.Options.{ThePath, TheLimit, TheType, TheStatus, PathIs, LimitIs, TypeIs, StatusIs, path_in, limit_in, type_in, status_in}
+use Rattle.fsrm_model.specs.Reading.{path_from, limit_from, choice_from}
+use Rattle.tool_commands.proofs.OptionLaws.{any_one, add_once, held_more}
 use Rattle.tool_commands.proofs.options.Given.add.Goals as goal
 
-pub returns-then-has : goal.returns-then-has
-returns-then-has c =
-    let again : has_key (line_key c.args.key) (line_given c.args.self.now) ≡ true = sym c.has.ensures ∙ c.if-has.true in
-    rw c.bad_line.ensures (given_twice (line_key c.args.key) c.args.column c.args.value.now (line_given c.args.self.now) again)
+pub returns-in-Path : goal.returns-in-Path
+returns-in-Path c given holds =
+    rw c.in-Path.is (add_once ThePath c.args.column c.args.value.now PathIs path_in (path_from c.args.value.now) refl (any_one path_in) refl (λ slot. record c.args.self.now { path = slot })
+    given c.once.result c.args.self.now.path c.once.new.slot c.read_path_word.result c.once.ensures c.read_path_word.ensures holds.path (λ x free. held_more c.args.self.now given (PathIs x) holds free))
 
-pub returns-in_ok-read_path_word-in-Path : goal.returns-in_ok-read_path_word-in-Path
-returns-in_ok-read_path_word-in-Path c =
-    let first : has_key (line_key c.args.key) (line_given c.args.self.now) ≡ false = sym c.has.ensures ∙ c.if-has.false in
-    let free : is_some c.args.self.now.path ≡ false = rw c.in-Path.is at first in
-    rw c.in-Path.is (path_given c.args.column c.args.value.now (line_given c.args.self.now) c.in_ok-read_path_word-in-Path.field-0 free c.in_ok-read_path_word-in-Path.ensures)
+pub returns-in-Limit : goal.returns-in-Limit
+returns-in-Limit c given holds =
+    rw c.in-Limit.is (add_once TheLimit c.args.column c.args.value.now LimitIs limit_in (limit_from c.args.column c.args.value.now) refl (any_one limit_in) refl (λ slot. record c.args.self.now { limit = slot })
+    given c.once-in-Limit.result c.args.self.now.limit c.once-in-Limit.new.slot c.read_limit.result c.once-in-Limit.ensures c.read_limit.ensures holds.limit (λ x free. held_more c.args.self.now given (LimitIs x) holds free))
 
-pub returns-in_ok-read_limit-in-Limit : goal.returns-in_ok-read_limit-in-Limit
-returns-in_ok-read_limit-in-Limit c =
-    let first : has_key (line_key c.args.key) (line_given c.args.self.now) ≡ false = sym c.has.ensures ∙ c.if-has.false in
-    let free : is_some c.args.self.now.limit ≡ false = rw c.in-Limit.is at first in
-    rw c.in-Limit.is (limit_given c.args.column c.args.value.now (line_given c.args.self.now) c.in_ok-read_limit-in-Limit.field-0 free c.in_ok-read_limit-in-Limit.ensures)
+pub returns-in-Enforce : goal.returns-in-Enforce
+returns-in-Enforce c given holds =
+    rw c.in-Enforce.is (add_once TheType c.args.column c.args.value.now TypeIs type_in (choice_from (codes "hard") (codes "soft") c.args.column c.args.value.now) refl (any_one type_in) refl (λ slot. record c.args.self.now { enforce = slot })
+    given c.once-in-Enforce.result c.args.self.now.enforce c.once-in-Enforce.new.slot c.read_choice-enforce.result c.once-in-Enforce.ensures c.read_choice-enforce.ensures holds.enforce (λ x free. held_more c.args.self.now given (TypeIs x) holds free))
 
-pub returns-in_ok-read_choice-in-Enforce : goal.returns-in_ok-read_choice-in-Enforce
-returns-in_ok-read_choice-in-Enforce c =
-    let first : has_key (line_key c.args.key) (line_given c.args.self.now) ≡ false = sym c.has.ensures ∙ c.if-has.false in
-    let free : is_some c.args.self.now.enforce ≡ false = rw c.in-Enforce.is at first in
-    rw c.in-Enforce.is (type_given c.args.column c.args.value.now (line_given c.args.self.now) c.in_ok-read_choice-in-Enforce.field-0 free c.in_ok-read_choice-in-Enforce.ensures)
-
-pub returns-in_ok-read_choice-in-Enabled : goal.returns-in_ok-read_choice-in-Enabled
-returns-in_ok-read_choice-in-Enabled c =
-    let first : has_key (line_key c.args.key) (line_given c.args.self.now) ≡ false = sym c.has.ensures ∙ c.if-has.false in
-    let free : is_some c.args.self.now.enabled ≡ false = rw c.in-Enabled.is at first in
-    rw c.in-Enabled.is (status_given c.args.column c.args.value.now (line_given c.args.self.now) c.in_ok-read_choice-in-Enabled.field-0 free c.in_ok-read_choice-in-Enabled.ensures)
-
-pub returns-in_err-read_path_word-in-Path : goal.returns-in_err-read_path_word-in-Path
-returns-in_err-read_path_word-in-Path c =
-    let first : has_key (line_key c.args.key) (line_given c.args.self.now) ≡ false = sym c.has.ensures ∙ c.if-has.false in
-    let free : is_some c.args.self.now.path ≡ false = rw c.in-Path.is at first in
-    rw c.in-Path.is (path_fault _ c.from_residual.result c.args.self.now c.args.column c.args.value.now (line_given c.args.self.now) c.from_residual.ensures free c.in_err-read_path_word-in-Path.ensures)
-
-pub returns-in_err-read_limit-in-Limit : goal.returns-in_err-read_limit-in-Limit
-returns-in_err-read_limit-in-Limit c =
-    let first : has_key (line_key c.args.key) (line_given c.args.self.now) ≡ false = sym c.has.ensures ∙ c.if-has.false in
-    let free : is_some c.args.self.now.limit ≡ false = rw c.in-Limit.is at first in
-    let f = c.from_residual-in_err-read_limit-in-Limit in
-    rw c.in-Limit.is (limit_fault _ f.result c.args.self.now c.args.column c.args.value.now (line_given c.args.self.now) f.ensures free c.in_err-read_limit-in-Limit.ensures)
+pub returns-in-Enabled : goal.returns-in-Enabled
+returns-in-Enabled c given holds =
+    rw c.in-Enabled.is (add_once TheStatus c.args.column c.args.value.now StatusIs status_in (choice_from (codes "enabled") (codes "disabled") c.args.column c.args.value.now) refl (any_one status_in) refl (λ slot. record c.args.self.now { enabled = slot })
+    given c.once-in-Enabled.result c.args.self.now.enabled c.once-in-Enabled.new.slot c.read_choice-enabled.result c.once-in-Enabled.ensures c.read_choice-enabled.ensures holds.enabled (λ x free. held_more c.args.self.now given (StatusIs x) holds free))

@@ -11,9 +11,10 @@ use Rattle.volume_tree.specs.Kept.{AreHoles, IsPlace}
 use Rattle.number_set.specs.Numbers.{Numbers}
 use Rattle.fsrm_base.specs.Numbers.{without_number}
 use Rattle.volume_tree.proofs.FreshLaws.{fresh_near, fresh_free}
-use Rattle.volume_tree.proofs.KeptLaws.{few_order, few_rows, own_new, kept_made, inserted_is}
+use Rattle.volume_tree.proofs.KeptLaws.{few_order, few_rows, kept_made, inserted_is}
 use Rattle.volume_tree.specs.Volume.{new_fault}
 use Rattle.volume_tree.proofs.MakeLaws.{may_make}
+use Rattle.fsrm_model.proofs.OwnLaws.{own_new}
 use Rattle.volume_tree.proofs.tree.Tree.make.Goals as goal
 
 pub next_number-number-requires-clause-few : goal.next_number-number-requires-clause-few

@@ -5,6 +5,7 @@ use Rattle.fsrm_base.specs.Keyed.{has_row}
 use Rattle.fsrm_model.specs.Limits.{most_nodes}
 use Rattle.fsrm_model.specs.Name.{is_name}
 use Rattle.fsrm_model.specs.Tree.{number, name_of, parent_of, is_folder, child_number}
+use Rattle.fsrm_model.proofs.CapacityLaws.{names_most}
 use Rattle.volume_tree.specs.Kept.{rows_of}
 use Rattle.volume_tree.specs.Volume.{Volume, Move, move_fault}
 use Rattle.volume_tree.proofs.KeptLaws.{few_order, own_child, name_fits, sought_in, placed_order, kept_moved}
@@ -33,7 +34,7 @@ set_place-old_bytes-requires-clause-short g c =
     let has : has_row number m.node (rows_of slots) ≡ true = ap (λ (move : Move). has_row number move.node (rows_of slots)) c.ready.view_is ∙ (ap (λ (v : Volume). has_row number c.args.ready.node v.nodes) c.self.view_is ∙ c.requires.there) in
     let fit = name_fits c.self.inside.size _ m.node c.self.invariant.volume has in
     let names = c.self.invariant.volume.names in
-    let most = c.self.invariant.size.names_most in
+    let most = names_most c.self.inside.size c.self.invariant.size in
     omega (arith, fit, names, most)
 
 pub overflow_sub-self : goal.overflow_sub-self
@@ -57,7 +58,7 @@ overflow_add-self g c =
     let room = (may_move held m.node m.folder m.name may).room in
     let bytes : c.set_place-old_bytes.result ≡ length (name_of (rows_of slots) m.node) = c.set_place-old_bytes.ensures.bytes in
     let used = c.self.invariant.used_is in
-    let most = c.self.invariant.size.names_most in
+    let most = names_most c.self.inside.size c.self.invariant.size in
     let text : length c.as_str-2.result.now ≡ length m.name = ap length c.as_str-2.ensures in
     omega (arith, fit, room, bytes, used, most, text)
 

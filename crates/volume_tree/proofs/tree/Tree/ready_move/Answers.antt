@@ -5,6 +5,7 @@ use Rattle.fsrm_base.specs.Keyed.{has_row, with_change}
 use Rattle.fsrm_model.specs.Limits.{most_nodes}
 use Rattle.fsrm_model.specs.Tree.{number, name_of, is_folder, is_under, name_bytes}
 use Rattle.fsrm_model.specs.Valid.{IsVolume}
+use Rattle.fsrm_model.proofs.CapacityLaws.{names_most}
 use Rattle.fsrm_model.proofs.ChainLaws.{IsTree}
 use Rattle.fsrm_model.proofs.Keeps.{tree_of}
 use Rattle.fsrm_model.proofs.ValidLaws.{folder_has}
@@ -32,7 +33,7 @@ name_length-old_bytes-requires-clause-short g c =
     let fit = name_fits c.self.inside.size _ c.args.node c.self.invariant.volume has in
     let same : length (name_of (rows_of c.deref-5.result.now) c.args.node) ≡ length (name_of (rows_of c.self.inside.slots.items) c.args.node) = ap (λ (slots : List (Option NodeRow)). length (name_of (rows_of slots) c.args.node)) c.deref-5.ensures.value in
     let names = c.self.invariant.volume.names in
-    let most = c.self.invariant.size.names_most in
+    let most = names_most c.self.inside.size c.self.invariant.size in
     omega (arith, fit, same, names, most)
 
 pub returns-clause-volume : goal.returns-clause-volume

@@ -2,6 +2,7 @@ use Rattle.std.proofs.Common.{◌≡◌, ℕ, ◌-◌, ◌<◌, true, false, len
 use Rattle.fsrm_model.specs.declared.row.NodeRow.{NodeRow}
 use Rattle.fsrm_base.specs.Keyed.{has_row}
 use Rattle.fsrm_model.specs.Tree.{number, name_of, parent_of, child_number}
+use Rattle.fsrm_model.proofs.CapacityLaws.{names_most}
 use Rattle.volume_tree.specs.Kept.{IsKept, rows_of}
 use Rattle.volume_tree.specs.Volume.{Volume}
 use Rattle.fsrm_model.specs.Limits.{most_nodes}
@@ -29,7 +30,7 @@ take_away-bytes-requires-clause-short g c =
     let has : has_row number c.args.node (rows_of c.self.inside.slots.items) ≡ true = ap (λ (v : Volume). has_row number c.args.node v.nodes) c.self.view_is ∙ c.requires.there in
     let fit = name_fits c.self.inside.size _ c.args.node c.self.invariant.volume has in
     let names = c.self.invariant.volume.names in
-    let most = c.self.invariant.size.names_most in
+    let most = names_most c.self.inside.size c.self.invariant.size in
     omega (arith, fit, names, most)
 
 pub remove-requires : goal.remove-requires

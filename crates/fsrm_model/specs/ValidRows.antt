@@ -1,0 +1,110 @@
+-- Worked examples of which rows are those of a store.
+use Rattle.std.specs.Prelude.{◌≡◌, ℕ, ◌+◌, ◌∷◌, [], true, false, List, map, Some, Bool, codes}
+use Rattle.fsrm_model.specs.declared.row.ActionKind.TheVariants.{Event}
+use Rattle.fsrm_model.specs.declared.row.NodeRow.{NodeRow}
+use Rattle.fsrm_model.specs.declared.row.QuotaRow.{QuotaRow}
+use Rattle.fsrm_model.specs.declared.row.QuotaState.{QuotaState}
+use Rattle.fsrm_model.specs.declared.row.QuotaState.TheVariants.{Complete, Rebuilding}
+use Rattle.fsrm_model.specs.declared.row.Rows.{Rows}
+use Rattle.fsrm_model.specs.Fresh.{default_capacity, new_rows, root_node, rows_of_nodes}
+use Rattle.fsrm_model.specs.Limits.{latest_moment, most_minutes}
+use Rattle.fsrm_model.specs.QuotaWork.{new_quota}
+use Rattle.fsrm_model.specs.Valid.{is_valid}
+
+-- in the root a folder, in it a file and a folder, and in that another folder
+abbrev pub node : ℕ → ℕ → List ℕ → Bool → ℕ → NodeRow
+node number parent name folder length =
+    record { number = number; parent = parent; name = name; folder = folder; length = length; owner = 7; created = 1; modified = 2; accessed = latest_moment }
+
+abbrev pub some_nodes : List NodeRow
+some_nodes =
+    root_node ∷ node 1 0 (codes "a") true 0 ∷ node 2 1 (codes "f") false 5000 ∷ node 3 1 (codes "b") true 0 ∷ node 4 3 (codes "F") true 0 ∷ []
+
+-- the root has a quota that counts, the folder one whose scan has visited the folder itself
+abbrev pub on : ℕ → QuotaState → QuotaRow
+on folder state = new_quota folder 1024 true state latest_moment
+
+abbrev pub two : List QuotaRow
+two = on 0 Complete ∷ on 1 Rebuilding ∷ []
+
+abbrev pub scanning : Rows
+scanning = record (rows_of_nodes some_nodes) { quotas = two; queue = 1 ∷ []; unvisited = 3 ∷ 4 ∷ []; run_limit = most_minutes; last_moment = latest_moment }
+
+abbrev pub are_valid : List Rows → List Bool
+are_valid rows = map (is_valid default_capacity) rows
+
+-- these are valid: the last ones have everything to visit, and nothing
+abbrev pub valid_rows : Type 0
+valid_rows =
+    are_valid (new_rows ∷ scanning ∷ record scanning { unvisited = 1 ∷ 3 ∷ 4 ∷ [] } ∷ record scanning { unvisited = [] } ∷ [])
+    ≡ true ∷ true ∷ true ∷ true ∷ []
+
+-- in each of these one thing is wrong with a node: its parent is a file, its name is another's, it lies outside the tree,
+-- a folder has a length, no root stands first
+abbrev pub wrong_nodes : Type 0
+wrong_nodes =
+    map (λ nodes. is_valid default_capacity (rows_of_nodes nodes))
+    ((root_node ∷ node 1 0 (codes "a") false 0 ∷ node 2 1 (codes "f") false 5000 ∷ [])
+    ∷ (root_node ∷ node 1 0 (codes "a") true 0 ∷ node 2 0 (codes "A") false 5000 ∷ [])
+    ∷ (root_node ∷ node 1 2 (codes "a") true 0 ∷ node 2 1 (codes "f") true 0 ∷ [])
+    ∷ (root_node ∷ node 1 0 (codes "a") true 1 ∷ [])
+    ∷ (node 1 0 (codes "a") true 0 ∷ [])
+    ∷ [])
+    ≡ false ∷ false ∷ false ∷ false ∷ false ∷ []
+
+-- with a quota: it is on a file, it stands behind one of a greater number, it is there twice, its limit is too small or
+-- too great, its peak is of a later moment, it has a threshold, it has a template
+abbrev pub wrong_quotas : Type 0
+wrong_quotas =
+    are_valid (map (λ quotas. record scanning { quotas = quotas }) (
+    (on 0 Complete ∷ on 1 Rebuilding ∷ on 2 Complete ∷ [])
+    ∷ (on 1 Rebuilding ∷ on 0 Complete ∷ [])
+    ∷ (on 0 Complete ∷ on 1 Rebuilding ∷ on 1 Rebuilding ∷ [])
+    ∷ (record (on 0 Complete) { limit = 1023 } ∷ on 1 Rebuilding ∷ [])
+    ∷ (record (on 0 Complete) { limit = 1152921504606846977 } ∷ on 1 Rebuilding ∷ [])
+    ∷ (record (on 0 Complete) { peak_at = latest_moment + 1 } ∷ on 1 Rebuilding ∷ [])
+    ∷ (record (on 0 Complete) { thresholds = record { percent = 85; actions = [] } ∷ [] } ∷ on 1 Rebuilding ∷ [])
+    ∷ (record (on 0 Complete) { template = Some 0 } ∷ on 1 Rebuilding ∷ [])
+    ∷ []))
+    ≡ false ∷ false ∷ false ∷ false ∷ false ∷ false ∷ false ∷ false ∷ []
+
+-- with a table, a log, the run limit or the last moment
+abbrev pub wrong_tables : Type 0
+wrong_tables =
+    are_valid (
+    record scanning { templates = record { number = 0; name = codes "t"; limit = 1024; enforce = true; thresholds = [] } ∷ [] }
+    ∷ record scanning { autos = record { folder = 1; template = 0; excluded = [] } ∷ [] }
+    ∷ record scanning { groups = record { number = 0; name = codes "g"; members = codes "*" ∷ []; non_members = [] } ∷ [] }
+    ∷ record scanning { screens = record { folder = 1; active = true; groups = 0 ∷ []; actions = [] } ∷ [] }
+    ∷ record scanning { excepts = record { folder = 1; groups = 0 ∷ [] } ∷ [] }
+    ∷ record scanning { acts = record { moment = 0; folder = 1; percent = 85; kind = Event } ∷ [] }
+    ∷ record scanning { audits = record { moment = 0; active = true; owner = 1; folder = 1; screen = 1; name = codes "n" } ∷ [] }
+    ∷ record scanning { run_limit = most_minutes + 1 }
+    ∷ record scanning { last_moment = latest_moment + 1 }
+    ∷ [])
+    ≡ false ∷ false ∷ false ∷ false ∷ false ∷ false ∷ false ∷ false ∷ false ∷ []
+
+-- with the queue: it has a folder twice, lacks that of the rebuilding quota, has that of another quota, or one without
+abbrev pub wrong_queues : Type 0
+wrong_queues =
+    are_valid (
+    record scanning { queue = 1 ∷ 1 ∷ [] }
+    ∷ record scanning { queue = []; unvisited = [] }
+    ∷ record scanning { queue = 1 ∷ 0 ∷ [] }
+    ∷ record scanning { queue = 1 ∷ 3 ∷ [] }
+    ∷ [])
+    ≡ false ∷ false ∷ false ∷ false ∷ []
+
+-- with what is unvisited: a folder lacks one that stands in it, a folder isn't below the scanned one, there is a file,
+-- a number of no node, numbers don't ascend, or no scan is active
+abbrev pub wrong_unvisited : Type 0
+wrong_unvisited =
+    are_valid (
+    record scanning { unvisited = 3 ∷ [] }
+    ∷ record scanning { unvisited = 0 ∷ 1 ∷ 3 ∷ 4 ∷ [] }
+    ∷ record scanning { unvisited = 2 ∷ 3 ∷ 4 ∷ [] }
+    ∷ record scanning { unvisited = 3 ∷ 4 ∷ 5 ∷ [] }
+    ∷ record scanning { unvisited = 4 ∷ 3 ∷ [] }
+    ∷ record scanning { quotas = on 0 Complete ∷ []; queue = [] }
+    ∷ [])
+    ≡ false ∷ false ∷ false ∷ false ∷ false ∷ false ∷ []

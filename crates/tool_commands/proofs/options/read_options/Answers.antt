@@ -1,0 +1,34 @@
+use Rattle.std.proofs.Common.{Ok, Option, [], ◌∙◌, subst}
+use Rattle.std.specs.Prelude.{map}
+use Rattle.fsrm_model.specs.Options.{options}
+use Rattle.tool_commands.specs.declared.words.Word.{Word}
+use Rattle.tool_commands.specs.OptionWords.{line_key}
+use Rattle.tool_commands.specs.Taking.{left, line_word, TakesLeft}
+use Rattle.tool_commands.proofs.OptionLaws.{words_more}
+use Rattle.tool_commands.proofs.options.read_options.Goals as goal
+
+pub loop-given-preserved-in_ok-add_word : goal.loop-given-preserved-in_ok-add_word
+loop-given-preserved-in_ok-add_word c =
+    let keys = map line_key c.args.keys.now in
+    let before = c.loop-given.invariant in
+    let took = subst (λ (next : Option Word). TakesLeft (Ok next) c.loop-given.words c.next_left.new.self) c.in-Some.is c.in_ok-word.ensures in
+    let added = c.in_ok-add_word.ensures before.given before.holds in
+    record {
+      given = added.0;
+      holds = added.2;
+      read = words_more keys (left c.loop-given.words) (left c.next_left.new.self) (line_word c.in-Some.word) before.given added.0 (options keys (left c.args.words.now) []) took.0 before.read added.1;
+      end = took.1 ∙ before.end;
+    }
+
+pub loop-given-preserved : goal.loop-given-preserved
+loop-given-preserved c =
+    let keys = map line_key c.args.keys.now in
+    let before = c.loop-given.invariant in
+    let took = subst (λ (next : Option Word). TakesLeft (Ok next) c.loop-given.words c.next_left.new.self) c.in-Some.is c.in_ok-word.ensures in
+    let added = c.in_ok-add_word.ensures before.given before.holds in
+    record {
+      given = added.0;
+      holds = added.2;
+      read = words_more keys (left c.loop-given.words) (left c.next_left.new.self) (line_word c.in-Some.word) before.given added.0 (options keys (left c.args.words.now) []) took.0 before.read added.1;
+      end = took.1 ∙ before.end;
+    }

@@ -1,0 +1,30 @@
+//! What no clause says of the public calls of all crates: that each succeeds with ample memory, and that the
+//! definitions say what was meant where no script can show it. A crate with tests is proved twice, and each statement
+//! of a test is proved too: so the tests of all crates stand here, and are short. Tables of cases that a script can
+//! state are scripts (`.ci/scripts`).
+#![tactic(auto)]
+
+#[cfg(test)]
+mod commands;
+#[cfg(test)]
+mod devices;
+#[cfg(test)]
+mod engines;
+#[cfg(test)]
+mod groups;
+#[cfg(test)]
+mod names;
+#[cfg(test)]
+mod quotas;
+#[cfg(test)]
+mod regions;
+#[cfg(test)]
+mod rows;
+#[cfg(test)]
+mod runs;
+#[cfg(test)]
+mod scans;
+#[cfg(test)]
+mod trees;
+#[cfg(test)]
+mod values;

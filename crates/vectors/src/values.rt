@@ -1,0 +1,93 @@
+//! Values that the tests are made of: the one place to mend where a public type gets a field.
+
+ghost use Rattle.std.specs.Prelude.{◌≡◌, ◌≤◌, [], ◌∷◌, true, IfOk, codes};
+ghost use Rattle.fsrm_model.specs.Limits.{latest_moment};
+ghost use Rattle.fsrm_model.specs.Valued.{is_command};
+
+use fsrm_model::{Capacity, Command, Deed, List, NodeRow, Path, QuotaRow, QuotaState, Text};
+use std::alloc::Global;
+use std::test::Fail;
+
+/// A small volume.
+pub const SMALL: Capacity = Capacity {
+    nodes: 9,
+    names: 256,
+    cluster: 4_096,
+};
+
+/// A volume with room for three nodes.
+pub const TINY: Capacity = Capacity {
+    nodes: 3,
+    names: 256,
+    cluster: 4_096,
+};
+
+/// The path of the root.
+pub fn root(alloc: Global) -> Path
+    ensures { result ≡ [] }
+{
+    Path::from_parts(List::new(alloc))
+}
+
+/// The command that puts a hard quota of 1,024 bytes on the root.
+pub fn root_quota(alloc: Global, moment: u64) -> Command
+    requires { moment ≤ latest_moment }
+    ensures { is_command result ≡ true }
+{
+    Command {
+        moment,
+        deed: Deed::QuotaAdd {
+            path: root(alloc),
+            limit: 1_024,
+            enforce: true,
+            enabled: true,
+        },
+    }
+}
+
+/// A folder's complete quota of this limit.
+pub fn quota(alloc: Global, folder: u32, limit: u64) -> QuotaRow
+    ensures { result.folder ≡ folder }
+{
+    QuotaRow {
+        folder,
+        limit,
+        enforce: true,
+        state: QuotaState::Complete,
+        thresholds: List::new(alloc),
+        template: None,
+        peak: 0,
+        peak_at: 0,
+    }
+}
+
+/// A folder.
+pub fn folder(alloc: Global, number: u32, parent: u32, name: &str) -> Result<NodeRow, Fail> {
+    Ok(NodeRow {
+        number,
+        parent,
+        name: Text::from_str(alloc, name)?,
+        folder: true,
+        length: 0,
+        owner: 1,
+        created: 0,
+        modified: 0,
+        accessed: 0,
+    })
+}
+
+/// A list of one item.
+pub fn one<T: Drop>(alloc: Global, item: T) -> Result<List<T>, Fail>
+    ensures { IfOk result (λ list. list ≡ item ∷ []) }
+{
+    let mut list = List::new(alloc);
+    list.push(item)?;
+    Ok(list)
+}
+
+/// The text `text`.
+pub fn text(alloc: Global) -> Result<Text, Fail>
+    ensures { IfOk result (λ text. text ≡ codes "text") }
+{
+    Ok(Text::from_str(alloc, "text")?)
+}
