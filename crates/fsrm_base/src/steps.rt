@@ -17,9 +17,9 @@ pub trait Ledger {
     fn begin(self) -> Self::Page
         ensures { count result ≡ 0 };
 
-    /// Counts one.
-    fn raise(page: &mut Self::Page)
-        ensures { count page.new ≡ count page.old + 1 };
+    /// Counts so many.
+    fn raise(page: &mut Self::Page, by: u64)
+        ensures { count page.new ≡ count page.old + by };
 }
 
 /// How many looks at nodes were taken, over any ledger. Contracts see it as that number.
@@ -55,7 +55,14 @@ impl<L: Ledger> Steps<L> {
     pub fn tick(&mut self)
         ensures { self.new ≡ self.old + 1 }
     {
-        L::raise(&mut self.page)
+        L::raise(&mut self.page, 1)
+    }
+
+    /// Counts so many looks.
+    pub fn count(&mut self, looks: usize)
+        ensures { self.new ≡ self.old + looks }
+    {
+        L::raise(&mut self.page, looks as u64)
     }
 }
 
@@ -118,7 +125,7 @@ impl<N: Named> Ledger for Weightless<N> {
         WeightlessPage { book, share }
     }
 
-    fn raise(page: &mut WeightlessPage<N>) {
-        page.book.add(&mut page.share, 1);
+    fn raise(page: &mut WeightlessPage<N>, by: u64) {
+        page.book.add(&mut page.share, by);
     }
 }

@@ -28,7 +28,7 @@ use Rattle.volume_tree.specs.declared.answer.NodeView.{NodeView}
 use Rattle.volume_tree.specs.Volume.{Shows}
 use Rattle.fsrm_engine.specs.Walk.{usage_of_all, under_all, AreThere}
 use Rattle.volume_tree.proofs.FreshLaws.{few_nodes}
-use Rattle.rescan.proofs.ChildLaws.{length-children}
+use Rattle.volume_tree.proofs.Children.{children_many}
 
 -- a sum stays where items are put in order
 put_sum : {X : Type 0} (before : X → X → Bool) (f : X → ℕ) (x : X) (ys : List X) → sum_by f (put before x ys) ≡ f x + sum_by f ys
@@ -124,7 +124,7 @@ count_of_children K nodes n r v h =
 -- the children that are put behind, one by one
 
 pushed_all : (nodes : List NodeRow) (folder count : ℕ) → length (children nodes folder) ≤ count → take count (children_in_order nodes folder) ≡ children_in_order nodes folder
-pushed_all nodes folder count h = take_all count (children_in_order nodes folder) (omega (arith, length-children nodes folder, h))
+pushed_all nodes folder count h = take_all count (children_in_order nodes folder) (omega (arith, children_many nodes folder, h))
 
 -- each node is one of those below it
 count_least : (K : Capacity) (nodes : List NodeRow) (n : ℕ) → IsVolume K nodes → has_row number n nodes ≡ true → 1 ≤ length (under nodes n)

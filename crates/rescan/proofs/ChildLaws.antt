@@ -1,8 +1,8 @@
 -- The children of a folder, taken up one by one.
 use Rattle.std.proofs.Common.{◌≡◌, ℕ, ◌+◌, ◌<◌, ◌≤◌, ◌==◌, Bool, true, false, cond, not, ◌||◌, ◌&&◌, List, [], ◌∷◌, ◌++◌, length, take, Option, Some, None, refl, sym, ◌∙◌, ap, arith}
-use Rattle.std.proofs.lemmas.List.{take_more, take_all, length-map, map-append}
+use Rattle.std.proofs.lemmas.List.{take_more, take_all, map-append}
 use Rattle.std.proofs.lemmas.List.Elements.{filter-append}
-use Rattle.std.proofs.lemmas.List.Sorted.{sum_by-IsPermutation, list_any-IsPermutation, length_permutation}
+use Rattle.std.proofs.lemmas.List.Sorted.{sum_by-IsPermutation, list_any-IsPermutation}
 use Rattle.std.proofs.lemmas.List.Sums.{sum_by-cons, sum_by_push, sum_by-take-le}
 use Rattle.std.proofs.lemmas.Option.{slice_get_within, get_or_from_slice_get, same_Some}
 use Rattle.std.specs.Prelude.{map, filter, sum_by}
@@ -21,6 +21,7 @@ use Rattle.fsrm_model.proofs.Keeps.{folder_found, found_folder, is_child_test}
 use Rattle.fsrm_base.proofs.Look.{found_key}
 use Rattle.volume_tree.specs.declared.answer.NodeView.{NodeView}
 use Rattle.volume_tree.specs.Volume.{IsChildAt, Shows}
+use Rattle.volume_tree.proofs.Children.{children_many}
 use Rattle.volume_tree.proofs.Items.{in_order_moves}
 use Rattle.number_set.specs.Numbers.{Numbers}
 use Rattle.rescan.specs.Visits.{folders_in}
@@ -31,12 +32,6 @@ abbrev before : NodeRow → NodeRow → Bool
 before a b = name_before a.name b.name
 
 -- the children in order are the children
-pub length-children : (nodes : List NodeRow) (folder : ℕ) → length (children_in_order nodes folder) ≡ length (children nodes folder)
-length-children nodes folder = length_permutation (children nodes folder) (children_in_order nodes folder) (in_order_moves before (children nodes folder))
-
-pub numbers_many : (nodes : List NodeRow) (folder : ℕ) (numbers : List ℕ) → numbers ≡ map number (children_in_order nodes folder) → length numbers ≡ length (children nodes folder)
-numbers_many nodes folder numbers e = ap length e ∙ (length-map (children_in_order nodes folder) number ∙ length-children nodes folder)
-
 pub sum-children : (f : NodeRow → ℕ) (nodes : List NodeRow) (folder : ℕ) → sum_by f (children_in_order nodes folder) ≡ sum_by f (children nodes folder)
 sum-children f nodes folder = sum_by-IsPermutation f (children nodes folder) (children_in_order nodes folder) (in_order_moves before (children nodes folder))
 
@@ -110,7 +105,7 @@ none_taken K nodes folder old = record { set = refl; bytes = refl }
 pub all_taken : (K : Capacity) (nodes : List NodeRow) (folder count : ℕ) (old new : Numbers) (bytes : ℕ) → length (children nodes folder) ≤ count → TakenUp K nodes folder count old new bytes → (new ≡ record old { members = with_numbers (folders_in nodes folder) old.members }) × (bytes ≡ sum_by (space K) (children nodes folder))
 all_taken K nodes folder count old new bytes h t =
     let rows = children_in_order nodes folder in
-    let all : take count rows ≡ rows = take_all count rows (omega (arith, length-children nodes folder)) in (
+    let all : take count rows ≡ rows = take_all count rows (omega (arith, children_many nodes folder)) in (
       t.set ∙ ap (λ rs. record old { members = with_numbers (folders_of rs) old.members }) all,
       t.bytes ∙ (ap (sum_by (space K)) all ∙ sum-children (space K) nodes folder),
     )

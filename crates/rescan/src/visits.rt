@@ -70,6 +70,7 @@ impl Frontier {
 }
 
 // Puts the folders among a folder's children into a set. It gives the bytes that the files among them take.
+// It takes a look, and 2 for each child.
 pub(crate) fn enter_children<L: Ledger>(
     tree: &Tree,
     folder: u32,
@@ -82,7 +83,7 @@ pub(crate) fn enter_children<L: Ledger>(
     ensures set { set.new ≡ record set.old { members = with_numbers (folders_in tree.now.nodes folder) set.old.members } }
     ensures bytes { result ≡ sum_by (space tree.now.size) (children tree.now.nodes folder) }
     ensures small { sum_by (space tree.now.size) tree.now.nodes < 2 ^ 64 }
-    ensures looks { steps.new ≤ steps.old + (1 + length (children tree.now.nodes folder)) }
+    ensures looks { steps.new ≤ steps.old + (1 + 2 * length (children tree.now.nodes folder)) }
 {
     // The files of a volume of this size take fewer than 2^64 bytes.
     let _size = tree.capacity();

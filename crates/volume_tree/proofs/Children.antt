@@ -6,7 +6,7 @@ use Rattle.std.proofs.lemmas.Bool.Decides.{nat_tests}
 use Rattle.std.proofs.lemmas.List.{get_or-map, length-map}
 use Rattle.std.proofs.lemmas.List.Edits.{length-between, get_or-between}
 use Rattle.std.proofs.lemmas.List.Elements.{All-filter}
-use Rattle.std.proofs.lemmas.List.Sorted.{All-permutation}
+use Rattle.std.proofs.lemmas.List.Sorted.{All-permutation, length_permutation}
 use Rattle.std.proofs.lemmas.Option.{same_Some, slice_get-get_or}
 use Rattle.fsrm_model.specs.declared.row.NodeRow.{NodeRow}
 use Rattle.fsrm_model.specs.Fresh.{root_node}
@@ -143,3 +143,10 @@ has_there nodes order folder place row h a p l f =
     let size = length-order_entries nodes order h in
     let is : row ≡ at h.entries place = same_Some _ _ (sym f ∙ node_there nodes order place h a l) in
     ap (λ (r : NodeRow). r.parent == folder) is ∙ has_at nodes order folder place h a s (omega arith) ((at h.entries place).parent == folder) refl
+
+-- a folder has as many children in order as without
+pub children_many : (nodes : List NodeRow) (folder : ℕ) → length (children_in_order nodes folder) ≡ length (children nodes folder)
+children_many nodes folder = length_permutation (children nodes folder) (children_in_order nodes folder) (in_order_moves (λ a b. name_before a.name b.name) (children nodes folder))
+
+pub numbers_many : (nodes : List NodeRow) (folder : ℕ) (numbers : List ℕ) → numbers ≡ map number (children_in_order nodes folder) → length numbers ≡ length (children nodes folder)
+numbers_many nodes folder numbers e = ap length e ∙ (length-map (children_in_order nodes folder) number ∙ children_many nodes folder)

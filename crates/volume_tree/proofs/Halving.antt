@@ -92,6 +92,7 @@ halves_end nodes order folder name low high h a halves l =
 
 -- one look more halves what is left
 pub record IsFew (size begun looks : ℕ) : Type 0 where
+  pub least : begun ≤ looks
   pub few : looks ≤ begun + 20
   pub left : size < 2 ^ (begun + 20 - looks)
 
@@ -107,7 +108,8 @@ few_more size more begun looks h s m =
     let less = less_left size more (begun + 20 - looks) s m h.left in
     let few = h.few in
     let e : begun + 20 - looks - 1 ≡ begun + 20 - (looks + 1) = omega arith in
-    record { few = omega (arith, less.0); left = subst (λ n. more < 2 ^ n) e less.1 }
+    let least = h.least in
+    record { least = omega (arith, least); few = omega (arith, less.0); left = subst (λ n. more < 2 ^ n) e less.1 }
 
 pub few_above : (low high begun looks now : ℕ) → IsFew (high - low) begun looks → low < high → now ≡ looks + 1 → IsFew (high - (low + (high - low) / 2 + 1)) begun now
 few_above low high begun looks now h l e =

@@ -1,15 +1,14 @@
 -- What the calls of a tree keep.
-use Rattle.std.proofs.Common.{◌≡◌, ℕ, zero, suc, ◌+◌, ◌-◌, ◌<◌, ◌≤◌, ◌==◌, Bool, true, false, cond, not, ◌&&◌, ◌⊎◌, inl, inr, List, [], ◌∷◌, length, refl, sym, ◌∙◌, ap, subst, arith, nat_lt, nat_le, Some, None, Option, Ok, Err, Result}
-use Rattle.std.proofs.Math.Nat.{min-eq_left, min-eq_right}
-use Rattle.std.proofs.lemmas.Bool.{cases_order}
+use Rattle.std.proofs.Common.{◌≡◌, ℕ, zero, suc, ◌+◌, ◌-◌, ◌<◌, ◌≤◌, ◌==◌, Bool, true, false, cond, not, ◌&&◌, List, [], ◌∷◌, length, refl, sym, ◌∙◌, ap, subst, arith, nat_lt, nat_le, Some, None, Option, Ok, Err, Result}
 use Rattle.std.proofs.lemmas.Bool.Decides.{nat_tests}
 use Rattle.std.proofs.lemmas.Option.{same_Some}
 use Rattle.std.proofs.lemmas.Slice.Eq.{bytes_eq-Decides}
-use Rattle.std.specs.Prelude.{filter, insert, remove, min, slice_get, slice_index, slice_index_or, is_some, option_map, if◌then◌else◌, IfOk, IfErr, OnOk, is_ok}
+use Rattle.std.specs.Prelude.{filter, insert, remove, max, slice_get, slice_index, slice_index_or, is_some, option_map, if◌then◌else◌, IfOk, IfErr, OnOk, is_ok}
 use Rattle.fsrm_model.specs.declared.row.Capacity.{Capacity}
 use Rattle.fsrm_model.specs.declared.row.NodeRow.{NodeRow}
 use Rattle.fsrm_model.specs.FileOps.{resized, touched, placed}
-use Rattle.fsrm_base.specs.Keyed.{is_ascending, has_row, with_row, with_change, without_row}
+use Rattle.fsrm_base.specs.Numbers.{with_number, without_number}
+use Rattle.fsrm_base.specs.Keyed.{has_row, with_row, with_change, without_row}
 use Rattle.fsrm_model.specs.Limits.{latest_moment, longest_file, most_nodes}
 use Rattle.fsrm_model.specs.Name.{folded, is_name, same_name}
 use Rattle.fsrm_model.specs.Tree.{number, node_of, parent_of, name_of, fresh, is_folder, is_child, is_under, child_of, child_number, children, name_bytes}
@@ -20,25 +19,27 @@ use Rattle.fsrm_model.proofs.Keeps.{volume-new, volume-change, volume-moved, vol
 use Rattle.fsrm_base.proofs.Look.{has_found, none_filtered}
 use Rattle.fsrm_model.proofs.OwnLaws.{own_parts, own_joined, own_named, file_short, file_inner}
 use Rattle.fsrm_model.proofs.Sizes.{length-removed, name_bytes-new, name_bytes-placed, name_bytes-removed}
-use Rattle.fsrm_base.proofs.TestLaws.{lt_is, lt_test, eq_is, clash, both, le_test, ge_is, is_inner}
+use Rattle.fsrm_base.proofs.TestLaws.{lt_is, lt_test, eq_is, clash, both, le_test, is_inner}
 use Rattle.fsrm_model.proofs.Walks.{found_name, child_is, child_found}
 use Rattle.volume_tree.specs.Kept.{rows_of, AreSlots, IsOrder, IsPlace, IsKept}
 use Rattle.volume_tree.specs.Shift.{IsShifted}
 use Rattle.volume_tree.specs.Volume.{is_other}
-use Rattle.volume_tree.proofs.FreshLaws.{fresh_near, fresh_free, fresh_most, fresh_apart, fresh_changed, fresh_made, fresh_lower, fresh_stays, few_nodes}
+use Rattle.number_set.specs.Numbers.{Numbers}
+use Rattle.volume_tree.proofs.HoleLaws.{holes_made, holes_gone, holes_changed}
+use Rattle.volume_tree.proofs.FreshLaws.{fresh_near, fresh_free, fresh_most, fresh_apart, few_nodes}
 use Rattle.volume_tree.proofs.OrderLaws.{order_made, order_gone, order_kept, order_respelled, order_moved, length-order}
 use Rattle.fsrm_model.proofs.ValidLaws.{found_parent}
 
 -- the order and the rows of slots have few members
-pub few_rows : (K : Capacity) (count used free : ℕ) (slots : List (Option NodeRow)) (order : List ℕ) → IsKept K count used free slots order → length (rows_of slots) ≤ most_nodes
-few_rows K count used free slots order k =
+pub few_rows : (K : Capacity) (count used : ℕ) (holes : Numbers) (slots : List (Option NodeRow)) (order : List ℕ) → IsKept K count used holes slots order → length (rows_of slots) ≤ most_nodes
+few_rows K count used holes slots order k =
     let few = few_nodes K (rows_of slots) k.volume in
     let most = nodes_most K k.size in
     omega (arith, few, most)
 
-pub few_order : (K : Capacity) (count used free : ℕ) (slots : List (Option NodeRow)) (order : List ℕ) → IsKept K count used free slots order → length order < most_nodes
-few_order K count used free slots order k =
-    let few = few_rows K count used free slots order k in
+pub few_order : (K : Capacity) (count used : ℕ) (holes : Numbers) (slots : List (Option NodeRow)) (order : List ℕ) → IsKept K count used holes slots order → length order < most_nodes
+few_order K count used holes slots order k =
+    let few = few_rows K count used holes slots order k in
     let e = length-order (rows_of slots) order k.volume.ascending k.order_is k.volume.has_root in
     omega (arith, few, e)
 
@@ -47,10 +48,10 @@ no_child_of None h = refl
 no_child_of (Some row) h = cc
 
 -- one more node is kept
-pub kept_made : (K : Capacity) (count used free next : ℕ) (slots made : List (Option NodeRow)) (order : List ℕ) (row : NodeRow) (place : ℕ) → IsKept K count used free slots order → row.number ≡ free → is_own row ≡ true → is_folder (rows_of slots) row.parent ≡ true → child_number (rows_of slots) row.parent row.name ≡ None → count < K.nodes → used + length row.name ≤ K.names → IsPlace (rows_of slots) order row.parent row.name place → AreSlots 0 made → rows_of made ≡ with_row number row (rows_of slots) → next ≡ fresh (rows_of made) → IsKept K (count + 1) (used + length row.name) next made (insert order place row.number)
-kept_made K count used free next slots made order row place k e own folder alone room names at are rows is =
+pub kept_made : (K : Capacity) (count used : ℕ) (holes : Numbers) (slots made : List (Option NodeRow)) (order : List ℕ) (row : NodeRow) (place : ℕ) → IsKept K count used holes slots order → row.number ≡ fresh (rows_of slots) → is_own row ≡ true → is_folder (rows_of slots) row.parent ≡ true → child_number (rows_of slots) row.parent row.name ≡ None → count < K.nodes → used + length row.name ≤ K.names → IsPlace (rows_of slots) order row.parent row.name place → AreSlots 0 made → rows_of made ≡ with_row number row (rows_of slots) → length made ≡ max (length slots) (row.number + 1) → IsKept K (count + 1) (used + length row.name) (record holes { members = without_number row.number holes.members }) made (insert order place row.number)
+kept_made K count used holes slots made order row place k fr own folder alone room names at are rows len =
     let nodes = rows_of slots in
-    let fr : row.number ≡ fresh nodes = e ∙ k.free_is in
+    let near = fresh_near slots k.slots_are in
     let lacks : has_row number row.number nodes ≡ false = ap (λ n. has_row number n nodes) fr ∙ fresh_free nodes k.volume.ascending in
     let inner : (row.number == 0) ≡ false = is_inner row.number (λ z. fresh_apart 0 nodes k.volume.ascending k.volume.has_root (sym z ∙ fr)) in
     let most = fresh_most nodes k.volume.ascending in
@@ -73,13 +74,14 @@ kept_made K count used free next slots made order row place k e own folder alone
       slots_are = are;
       count_is = here ∙ ap length (sym rows);
       used_is = used_here ∙ ap name_bytes (sym rows);
-      free_is = is;
+      bound_is = k.bound_is;
+      holes_are = holes_made slots made holes.members row k.holes_are lacks (omega (arith, fr, near)) rows len;
       order_is = subst (λ ns. IsOrder ns (insert order place row.number)) (sym rows) (order_made nodes order row place k.volume.ascending k.order_is inner at alone);
     }
 
 -- a change that keeps places and names is kept
-pub kept_changed : (K : Capacity) (count used free : ℕ) (slots made : List (Option NodeRow)) (order : List ℕ) (n : ℕ) (c : NodeRow → NodeRow) → IsKept K count used free slots order → KeepsNode c → (n == 0) ≡ false → ((r : NodeRow) → node_of (rows_of slots) n ≡ Some r → is_own (c r) ≡ true) → AreSlots 0 made → rows_of made ≡ with_change number n c (rows_of slots) → IsKept K count used free made order
-kept_changed K count used free slots made order n c k keeps inner own are rows =
+pub kept_changed : (K : Capacity) (count used : ℕ) (holes : Numbers) (slots made : List (Option NodeRow)) (order : List ℕ) (n : ℕ) (c : NodeRow → NodeRow) → IsKept K count used holes slots order → KeepsNode c → (n == 0) ≡ false → ((r : NodeRow) → node_of (rows_of slots) n ≡ Some r → is_own (c r) ≡ true) → AreSlots 0 made → rows_of made ≡ with_change number n c (rows_of slots) → length made ≡ length slots → IsKept K count used holes made order
+kept_changed K count used holes slots made order n c k keeps inner own are rows len =
     let nodes = rows_of slots in
     record {
       volume = subst (IsVolume K) (sym rows) (volume-change K nodes n c k.volume keeps inner own);
@@ -87,15 +89,16 @@ kept_changed K count used free slots made order n c k keeps inner own are rows =
       slots_are = are;
       count_is = k.count_is ∙ (sym (length-change number n c nodes) ∙ ap length (sym rows));
       used_is = k.used_is ∙ (sym (name_bytes-change n c keeps.same_name nodes) ∙ ap name_bytes (sym rows));
-      free_is = k.free_is ∙ (sym (fresh_changed n c keeps.same_number nodes) ∙ ap fresh (sym rows));
+      bound_is = k.bound_is;
+      holes_are = holes_changed slots made holes.members n c keeps.same_number k.holes_are rows len;
       order_is = subst (λ ns. IsOrder ns order) (sym rows) (order_kept nodes order n c k.order_is keeps.same_number keeps.same_parent keeps.same_name);
     }
 
 -- a file of another length is kept
-pub resized_kept : (K : Capacity) (count used free : ℕ) (slots made : List (Option NodeRow)) (order : List ℕ) (n bytes moment : ℕ) → IsKept K count used free slots order → is_folder (rows_of slots) n ≡ false → bytes ≤ longest_file → moment ≤ latest_moment → AreSlots 0 made → rows_of made ≡ with_change number n (resized bytes moment) (rows_of slots) → IsKept K count used free made order
-resized_kept K count used free slots made order n bytes moment k file b m are rows =
+pub resized_kept : (K : Capacity) (count used : ℕ) (holes : Numbers) (slots made : List (Option NodeRow)) (order : List ℕ) (n bytes moment : ℕ) → IsKept K count used holes slots order → is_folder (rows_of slots) n ≡ false → bytes ≤ longest_file → moment ≤ latest_moment → AreSlots 0 made → rows_of made ≡ with_change number n (resized bytes moment) (rows_of slots) → length made ≡ length slots → IsKept K count used holes made order
+resized_kept K count used holes slots made order n bytes moment k file b m are rows len =
     let inner = file_inner K (rows_of slots) n k.volume file in
-    kept_changed K count used free slots made order n (resized bytes moment) k
+    kept_changed K count used holes slots made order n (resized bytes moment) k
     (record { same_number = λ r. refl; same_parent = λ r. refl; same_name = λ r. refl; same_folder = λ r. refl }) inner
     (λ r h.
     let p = own_parts r (k.volume.own n r h inner) in
@@ -106,22 +109,26 @@ resized_kept K count used free slots made order n bytes moment k file b m are ro
       changed = le_test moment latest_moment m;
       seen = p.seen;
     }))
-    are rows
+    are rows len
 
 -- a file that was read is kept
-pub touched_kept : (K : Capacity) (count used free : ℕ) (slots made : List (Option NodeRow)) (order : List ℕ) (n moment : ℕ) → IsKept K count used free slots order → is_folder (rows_of slots) n ≡ false → moment ≤ latest_moment → AreSlots 0 made → rows_of made ≡ with_change number n (touched moment) (rows_of slots) → IsKept K count used free made order
-touched_kept K count used free slots made order n moment k file m are rows =
+pub touched_kept : (K : Capacity) (count used : ℕ) (holes : Numbers) (slots made : List (Option NodeRow)) (order : List ℕ) (n moment : ℕ) → IsKept K count used holes slots order → is_folder (rows_of slots) n ≡ false → moment ≤ latest_moment → AreSlots 0 made → rows_of made ≡ with_change number n (touched moment) (rows_of slots) → length made ≡ length slots → IsKept K count used holes made order
+touched_kept K count used holes slots made order n moment k file m are rows len =
     let inner = file_inner K (rows_of slots) n k.volume file in
-    kept_changed K count used free slots made order n (touched moment) k
+    kept_changed K count used holes slots made order n (touched moment) k
     (record { same_number = λ r. refl; same_parent = λ r. refl; same_name = λ r. refl; same_folder = λ r. refl }) inner
     (λ r h.
     let p = own_parts r (k.volume.own n r h inner) in
     own_joined (touched moment r) (record { named = p.named; short = p.short; made = p.made; changed = p.changed; seen = le_test moment latest_moment m }))
-    are rows
+    are rows len
 
 -- the bytes of a node's name
 pub name_fits : (K : Capacity) (nodes : List NodeRow) (n : ℕ) → IsVolume K nodes → has_row number n nodes ≡ true → length (name_of nodes n) ≤ name_bytes nodes
 name_fits K nodes n v h = omega (arith, name_bytes-removed nodes n v.ascending h)
+
+-- and its number is below the bound
+pub node_below : (K : Capacity) (nodes : List NodeRow) (n : ℕ) → IsVolume K nodes → has_row number n nodes ≡ true → n < K.nodes
+node_below K nodes n v h = let f = has_found number n nodes h in lt_is n K.nodes (v.below n f.row f.is)
 
 not_other : (o : Option ℕ) (s n : ℕ) → is_other o n ≡ false → o ≡ Some s → s ≡ n
 not_other None s n h e = cc
@@ -150,8 +157,8 @@ volume_placed K nodes x d name v has inner folder named apart alone room =
     })
 
 -- a node at another place is kept
-pub kept_moved : (K : Capacity) (count used free now : ℕ) (slots made : List (Option NodeRow)) (order moved : List ℕ) (x d : ℕ) (name : List ℕ) → IsKept K count used free slots order → has_row number x (rows_of slots) ≡ true → IsVolume K (with_change number x (placed d name) (rows_of slots)) → now + length (name_of (rows_of slots) x) ≡ used + length name → AreSlots 0 made → rows_of made ≡ with_change number x (placed d name) (rows_of slots) → IsOrder (with_change number x (placed d name) (rows_of slots)) moved → IsKept K count now free made moved
-kept_moved K count used free now slots made order moved x d name k has volume bytes are rows ordered =
+pub kept_moved : (K : Capacity) (count used now : ℕ) (holes : Numbers) (slots made : List (Option NodeRow)) (order moved : List ℕ) (x d : ℕ) (name : List ℕ) → IsKept K count used holes slots order → has_row number x (rows_of slots) ≡ true → IsVolume K (with_change number x (placed d name) (rows_of slots)) → now + length (name_of (rows_of slots) x) ≡ used + length name → AreSlots 0 made → rows_of made ≡ with_change number x (placed d name) (rows_of slots) → length made ≡ length slots → IsOrder (with_change number x (placed d name) (rows_of slots)) moved → IsKept K count now holes made moved
+kept_moved K count used now holes slots made order moved x d name k has volume bytes are rows len ordered =
     let nodes = rows_of slots in
     let u = k.used_is in
     let sum = name_bytes-placed nodes x d name k.volume.ascending has in
@@ -162,7 +169,8 @@ kept_moved K count used free now slots made order moved x d name k has volume by
       slots_are = are;
       count_is = k.count_is ∙ (sym (length-change number x (placed d name) nodes) ∙ ap length (sym rows));
       used_is = used_here ∙ ap name_bytes (sym rows);
-      free_is = k.free_is ∙ (sym (fresh_changed x (placed d name) (λ r. refl) nodes) ∙ ap fresh (sym rows));
+      bound_is = k.bound_is;
+      holes_are = holes_changed slots made holes.members x (placed d name) (λ r. refl) k.holes_are rows len;
       order_is = subst (λ ns. IsOrder ns moved) (sym rows) ordered;
     }
 
@@ -170,8 +178,8 @@ no_children : (n : ℕ) → not (n == 0) ≡ false → n ≡ 0
 no_children n h = grind (arith, nat_tests)
 
 -- a node that went is kept away
-pub kept_gone : (K : Capacity) (count used free next : ℕ) (slots made : List (Option NodeRow)) (order : List ℕ) (n place : ℕ) → IsKept K count used free slots order → has_row number n (rows_of slots) ≡ true → (n == 0) ≡ false → not (length (children (rows_of slots) n) == 0) ≡ false → slice_get order place ≡ Some n → AreSlots 0 made → rows_of made ≡ without_row number n (rows_of slots) → next ≡ fresh (rows_of made) → IsKept K (count - 1) (used - length (name_of (rows_of slots) n)) next made (remove order place)
-kept_gone K count used free next slots made order n place k has inner leaf at are rows is =
+pub kept_gone : (K : Capacity) (count used : ℕ) (holes : Numbers) (slots made : List (Option NodeRow)) (order : List ℕ) (n place : ℕ) → IsKept K count used holes slots order → has_row number n (rows_of slots) ≡ true → (n == 0) ≡ false → not (length (children (rows_of slots) n) == 0) ≡ false → slice_get order place ≡ Some n → AreSlots 0 made → rows_of made ≡ without_row number n (rows_of slots) → length made ≡ length slots → IsKept K (count - 1) (used - length (name_of (rows_of slots) n)) (record holes { members = with_number n holes.members }) made (remove order place)
+kept_gone K count used holes slots made order n place k has inner leaf at are rows len =
     let nodes = rows_of slots in
     let f = has_found number n nodes has in
     let s = name_bytes-removed nodes n k.volume.ascending has in
@@ -191,39 +199,10 @@ kept_gone K count used free next slots made order n place k has inner leaf at ar
       slots_are = are;
       count_is = count_here ∙ ap length (sym rows);
       used_is = used_here ∙ ap name_bytes (sym rows);
-      free_is = is;
+      bound_is = k.bound_is;
+      holes_are = holes_gone slots made holes.members n k.slots_are k.holes_are has rows len;
       order_is = subst (λ ns. IsOrder ns (remove order place)) (sym rows) (order_gone nodes order place n k.volume.ascending k.order_is at);
     }
-
--- after a node was made the next number is greater, and nodes are still few
-pub record Next (count free : ℕ) (made : List (Option NodeRow)) : Type 0 where
-  pub greater : free + 1 ≤ fresh (rows_of made)
-  pub few : length (rows_of made) ≤ most_nodes + 1
-  pub count_is : count + 1 ≡ length (rows_of made)
-
-pub next_of : (K : Capacity) (count used free : ℕ) (slots made : List (Option NodeRow)) (order : List ℕ) (row : NodeRow) → IsKept K count used free slots order → row.number ≡ free → rows_of made ≡ with_row number row (rows_of slots) → Next count free made
-next_of K count used free slots made order row k e rows =
-    let g = fresh_made row (rows_of slots) k.volume.ascending (e ∙ k.free_is) in
-    let f : fresh (rows_of made) ≡ fresh (with_row number row (rows_of slots)) = ap fresh rows in
-    let l : length (rows_of made) ≡ length (with_row number row (rows_of slots)) = ap length rows in
-    let longer = length-with_row number row (rows_of slots) in
-    let few = few_rows K count used free slots order k in
-    let c = k.count_is in
-    record { greater = omega (arith, g, f, e); few = omega (arith, l, longer, few); count_is = omega (arith, l, longer, c) }
-
--- the least free number is at most the next slot's
-pub free_near : (K : Capacity) (count used free : ℕ) (slots : List (Option NodeRow)) (order : List ℕ) → IsKept K count used free slots order → free ≤ length slots
-free_near K count used free slots order k = let near = fresh_near slots k.slots_are in let e = k.free_is in omega (arith, near, e)
-
-pub free_lacks : (K : Capacity) (count used free : ℕ) (slots : List (Option NodeRow)) (order : List ℕ) → IsKept K count used free slots order → has_row number free (rows_of slots) ≡ false
-free_lacks K count used free slots order k = ap (λ n. has_row number n (rows_of slots)) k.free_is ∙ fresh_free (rows_of slots) k.volume.ascending
-
-pub free_few : (K : Capacity) (count used free : ℕ) (slots : List (Option NodeRow)) (order : List ℕ) → IsKept K count used free slots order → free ≤ most_nodes
-free_few K count used free slots order k =
-    let most = fresh_most (rows_of slots) k.volume.ascending in
-    let few = few_rows K count used free slots order k in
-    let e = k.free_is in
-    omega (arith, most, few, e)
 
 same_own : (name : List ℕ) → same_name name name ≡ true
 same_own name = let d = bytes_eq-Decides (folded name) (folded name) in grind arith
@@ -328,30 +307,8 @@ own_place_is nodes order n k row name h e own l found =
     ap (λ p. child_number nodes p name) (sym up) ∙ ap (child_number nodes (parent_of nodes n)) (e ∙ sym named) in
     get_index order k l ∙ (sym found ∙ (same ∙ own))
 
-lesser_at : (n free : ℕ) (nodes : List NodeRow) (b : Bool) → nat_lt n free ≡ b → is_ascending number nodes ≡ true → has_row number n nodes ≡ true → free ≡ fresh nodes → (cond b n free) ≡ fresh (without_row number n nodes)
-lesser_at n free nodes true e a h f = fresh_lower n nodes a (subst (λ k. n < k) f (lt_is n free e))
-lesser_at n free nodes false e a h f = f ∙ fresh_stays n nodes a (above (cases_order n (fresh nodes)))
-  where
-    above : (n ≡ fresh nodes) ⊎ ((n < fresh nodes) ⊎ (fresh nodes < n)) → fresh nodes < n
-    above (inl s) = absurd (fresh_apart n nodes a h s)
-    above (inr (inl l)) = absurd (clash (nat_lt n free) (lt_test n free (subst (λ k. n < k) (sym f) l)) e)
-    above (inr (inr l)) = l
-
--- once a node went the lesser of its number and the free one is free
-pub fresh_gone : (K : Capacity) (count used free : ℕ) (slots made : List (Option NodeRow)) (order : List ℕ) (n next : ℕ) → IsKept K count used free slots order → has_row number n (rows_of slots) ≡ true → next ≡ (if nat_lt n free then n else free) → rows_of made ≡ without_row number n (rows_of slots) → next ≡ fresh (rows_of made)
-fresh_gone K count used free slots made order n next k h e rows =
-    e ∙ (lesser_at n free (rows_of slots) (nat_lt n free) refl k.volume.ascending h k.free_is ∙ ap fresh (sym rows))
-
 -- a number that was read from the order
 pub read_index : (order : List ℕ) (k n : ℕ) → k < length order → n ≡ slice_index_or order k n → slice_index order k ≡ n
 read_index [] k n l e = absurd (omega arith)
 read_index (m ∷ order) zero n l e = sym e
 read_index (m ∷ order) (suc k) n l e = read_index order k n (omega arith) e
-
-lesser_by : (n free : ℕ) (b : Bool) → nat_lt n free ≡ b → min free n ≡ cond b n free
-lesser_by n free true h = let l = lt_is n free h in min-eq_right (omega (arith, l))
-lesser_by n free false h = let l = ge_is n free h in min-eq_left (omega (arith, l))
-
--- the lesser of two numbers
-pub lesser_is : (n free least : ℕ) → least ≡ min free n → least ≡ (if nat_lt n free then n else free)
-lesser_is n free least e = e ∙ lesser_by n free (nat_lt n free) refl

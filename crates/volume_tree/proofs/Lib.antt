@@ -1,11 +1,13 @@
 pub mod SlotLaws
 pub mod FreshLaws
 pub mod FromRows
+pub mod HoleLaws
 pub mod EntryRows
 pub mod Sound
 pub mod Reaches
 pub mod OrderLaws
 pub mod KeptLaws
+pub mod LookLaws
 pub mod MakeLaws
 pub mod MoveLaws
 pub mod WalkLaws

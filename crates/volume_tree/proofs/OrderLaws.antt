@@ -29,7 +29,11 @@ use Rattle.volume_tree.proofs.Entries.{at, There, there, Divides, place_divides,
 use Rattle.volume_tree.proofs.Items.{contains_cases, contains_kept, passes_kept, same_items}
 use Rattle.volume_tree.proofs.Names.{comes, comes_itself, comes_or_after, comes_as, as_comes}
 use Rattle.fsrm_model.proofs.Resolves.{same_itself}
-use Rattle.volume_tree.proofs.FreshLaws.{same_at}
+
+-- a change of one row that keeps its number
+same_at : (c : NodeRow → NodeRow) (r : NodeRow) (b : Bool) → (c r).number ≡ r.number → (cond b (c r) r).number ≡ r.number
+same_at c r true h = h
+same_at c r false h = refl
 
 abbrev Before : NodeRow → NodeRow → Type 0
 Before a b = is_before a b.parent b.name ≡ true

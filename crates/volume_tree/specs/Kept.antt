@@ -6,8 +6,11 @@ use Rattle.fsrm_model.specs.declared.row.Capacity.{Capacity}
 use Rattle.fsrm_model.specs.declared.row.NodeRow.{NodeRow}
 use Rattle.fsrm_model.specs.Capacities.{is_capacity}
 use Rattle.fsrm_model.specs.Name.{name_before}
-use Rattle.fsrm_model.specs.Tree.{number, node_of, children_in_order, fresh, name_bytes}
+use Rattle.fsrm_base.specs.Keyed.{has_row}
+use Rattle.fsrm_base.specs.Numbers.{is_in, is_set}
+use Rattle.fsrm_model.specs.Tree.{number, node_of, children_in_order, name_bytes}
 use Rattle.fsrm_model.specs.Valid.{IsVolume}
+use Rattle.number_set.specs.Numbers.{Numbers}
 
 -- the rows that stand in slots
 abbrev pub rows_of : List (Option NodeRow) → List NodeRow
@@ -40,15 +43,31 @@ pub record IsOrder (nodes : List NodeRow) (order : List ℕ) : Type 0 where
   pub members : IsPermutation (inner nodes) entries
   pub ascending : AllPairs (λ a b. is_before a b.parent b.name ≡ true) entries
 
--- how many nodes and bytes of names there are, the least free number, the slots and the order
-pub record IsKept (K : Capacity) (count used free : ℕ) (slots : List (Option NodeRow)) (order : List ℕ) : Type 0 where
+-- whether a slot is empty
+abbrev pub is_hole : List (Option NodeRow) → ℕ → Bool
+is_hole slots n = nat_lt n (length slots) && not (has_row number n (rows_of slots))
+
+-- the numbers of all empty slots, ascending
+pub record AreHoles (slots : List (Option NodeRow)) (holes : List ℕ) : Type 0 where
+  pub set : is_set holes ≡ true
+  pub members : (n : ℕ) → is_in holes n ≡ is_hole slots n
+
+-- how many nodes and bytes of names there are, the empty slots, the slots and the order
+pub record IsKept (K : Capacity) (count used : ℕ) (holes : Numbers) (slots : List (Option NodeRow)) (order : List ℕ) : Type 0 where
   pub volume : IsVolume K (rows_of slots)
   pub size : is_capacity K ≡ true
   pub slots_are : AreSlots 0 slots
   pub count_is : count ≡ length (rows_of slots)
   pub used_is : used ≡ name_bytes (rows_of slots)
-  pub free_is : free ≡ fresh (rows_of slots)
+  pub bound_is : holes.bound ≡ K.nodes
+  pub holes_are : AreHoles slots holes.members
   pub order_is : IsOrder (rows_of slots) order
+
+-- a node is there, and stands in a folder
+pub record IsIn (nodes : List NodeRow) (n folder : ℕ) : Type 0 where
+  pub row : NodeRow
+  pub found : node_of nodes n ≡ Some row
+  pub parent_is : folder ≡ row.parent
 
 -- where in the order a name of a folder stands, or is to stand
 pub record IsPlace (nodes : List NodeRow) (order : List ℕ) (folder : ℕ) (name : List ℕ) (place : ℕ) : Type 0 where

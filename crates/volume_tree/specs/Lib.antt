@@ -1,4 +1,5 @@
 pub mod Kept
+pub mod Looks
 pub mod Sound
 pub mod Volume
 pub mod Shift

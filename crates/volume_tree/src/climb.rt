@@ -5,15 +5,18 @@ ghost use Rattle.fsrm_model.proofs.ChainLaws.{IsTree};
 ghost use Rattle.fsrm_base.specs.Keyed.{has_row};
 ghost use Rattle.fsrm_model.specs.Tree.{number as key, chain, parent_of, is_under};
 ghost use Rattle.volume_tree.specs.Kept.{AreSlots, rows_of};
+ghost use Rattle.volume_tree.specs.Looks.{passed};
 
 use crate::slots::row;
 use fsrm_model::{Ledger, NodeRow, Steps};
 
-/// The parent of a node, 0 where there is no such node.
-pub fn parent(slots: &[Option<NodeRow>], number: u32) -> u32
-    requires { AreSlots 0 slots.now }
-    ensures { result ≡ parent_of (rows_of slots.now) number }
+// The parent of a node, on a way up. It takes one look, at the parent.
+fn parent<L: Ledger>(slots: &[Option<NodeRow>], number: u32, steps: &mut Steps<L>) -> u32
+    requires slots { AreSlots 0 slots.now }
+    ensures parent { result ≡ parent_of (rows_of slots.now) number }
+    ensures count { steps.new ≡ steps.old + 1 }
 {
+    steps.tick();
     match row(slots, number) {
         Some(row) => row.parent,
         None => 0,
@@ -32,17 +35,17 @@ pub fn is_at_or_below<L: Ledger>(
     requires tree { IsTree (rows_of slots.now) }
     requires there { has_row key folder (rows_of slots.now) ≡ true }
     ensures value { result ≡ is_under (rows_of slots.now) node folder }
+    ensures count { steps.new ≡ steps.old + passed node (chain (rows_of slots.now) folder) }
     ensures looks { steps.new ≤ steps.old + length (chain (rows_of slots.now) folder) }
 {
+    // A look at the folder, and then one at each node that the way comes to.
+    steps.tick();
     let mut at = folder;
-    loop {
-        steps.tick();
-        if at == node {
-            return true;
-        }
+    while at != node {
         if at == 0 {
             return false;
         }
-        at = parent(slots, at);
+        at = parent(slots, at, steps);
     }
+    true
 }

@@ -113,6 +113,7 @@ impl Tree {
         ensures may { OnOk result (new_fault self.now folder name.now ≡ None) }
         ensures fault { IfErr result (λ fault. new_fault self.now folder name.now ≡ Some fault) }
         ensures kept { IsVolume self.now.size self.now.nodes }
+        ensures some { steps.old + 1 ≤ steps.new }
         ensures looks { steps.new ≤ steps.old + 22 }
     {
         let size = self.size;
@@ -214,12 +215,12 @@ impl Tree {
         self.order.reserve(1)?;
         let text = Text::from_str(self.alloc, name)?;
         let place = order::new_place(&self.slots, &self.order, folder, name, steps);
-        let number = self.free;
+        let number = slots::next_number(&self.slots, &self.holes);
         slots::put(&mut self.slots, new.row(number, folder, text))?;
+        self.holes.remove(number);
         self.order.insert(place, number).unwrap();
         self.count += 1;
         self.used += name.len() as u32;
-        self.free = slots::free_among(&self.slots, self.count, number + 1);
         Ok(number)
     }
 }

@@ -7,7 +7,7 @@ ghost use Rattle.fsrm_model.specs.Tree.{number as key, parent_of, name_of, child
 ghost use Rattle.volume_tree.specs.Kept.{AreSlots, IsOrder, rows_of};
 ghost use Rattle.volume_tree.specs.Shift.{IsShifted};
 
-use crate::{order, slots};
+use crate::{order, reads};
 use fsrm_model::{Ledger, NodeRow, Steps};
 
 /// Whether the node that was found is another one.
@@ -22,7 +22,7 @@ pub fn is_other(order: &[u32], found: Result<usize, usize>, node: u32) -> bool
     }
 }
 
-/// The place of a node in the order. It looks at no more than 21 nodes.
+/// The place of a node in the order. It looks at no more than 22 nodes.
 pub fn own_place<L: Ledger>(
     slots: &[Option<NodeRow>],
     order: &[u32],
@@ -35,14 +35,14 @@ pub fn own_place<L: Ledger>(
     requires there { has_row key node (rows_of slots.now) ≡ true }
     requires found { child_number (rows_of slots.now) (parent_of (rows_of slots.now) node) (name_of (rows_of slots.now) node) ≡ Some node }
     ensures place { slice_get order.now result ≡ Some node }
-    ensures looks { steps.new ≤ steps.old + 21 }
+    ensures looks { steps.new ≤ steps.old + 22 }
 {
-    let row = slots::row(slots, node).unwrap();
+    let row = reads::node(slots, node, steps);
     order::search(slots, order, row.parent, row.name.as_str(), steps).unwrap()
 }
 
 /// Moves a node's entry to where a name was searched and not found. Where one was found, it stays.
-/// It looks at no more than 21 nodes.
+/// It looks at no more than 22 nodes.
 pub fn reorder<L: Ledger>(
     slots: &[Option<NodeRow>],
     order: &mut Vec<u32>,
@@ -58,7 +58,7 @@ pub fn reorder<L: Ledger>(
     requires within { IfErr found (λ place. place ≤ length order.old.items) }
     ensures ok { OnOk found (order.new.items ≡ order.old.items) }
     ensures err { IfErr found (λ place. IsShifted order.old.items order.new.items node place) }
-    ensures looks { steps.new ≤ steps.old + 21 }
+    ensures looks { steps.new ≤ steps.old + 22 }
 {
     if let Err(place) = found {
         let own = own_place(slots, order, node, steps);

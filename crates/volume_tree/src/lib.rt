@@ -8,7 +8,9 @@ mod entry;
 mod finger;
 mod moves;
 mod order;
+mod reads;
 mod rows;
+mod segment;
 mod slots;
 mod tree;
 

@@ -94,7 +94,7 @@ impl Tree {
         if is_other(&self.order, found, node) {
             return Err(TreeFault::AlreadyExists);
         }
-        let old_bytes = slots::name_length(&self.slots, node);
+        let old_bytes = slots::name_length(&self.slots, node, steps);
         let bytes = self.used as u64 + name.len() as u64;
         if bytes > self.size.names as u64 + old_bytes as u64 {
             return Err(TreeFault::NamesFull);
@@ -121,9 +121,8 @@ impl Tree {
         // The place isn't kept from the first half, since other places may have moved since.
         let found = order::search(&self.slots, &self.order, folder, name.as_str(), steps);
         reorder(&self.slots, &mut self.order, node, found, steps);
-        let old_bytes = slots::name_length(&self.slots, node);
         let bytes = name.as_str().len() as u32;
-        slots::set_place(&mut self.slots, node, folder, name);
+        let old_bytes = slots::set_place(&mut self.slots, node, folder, name, steps);
         self.used = self.used - old_bytes + bytes;
     }
 }

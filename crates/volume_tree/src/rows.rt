@@ -5,17 +5,17 @@ ghost use Rattle.std.specs.List.{IsAllAdjacentAnswer, list_all};
 ghost use Rattle.std.specs.List.Sorted.{IsPermutation, IsSortedBy};
 ghost use Rattle.std.specs.Ordering.{is_lt};
 ghost use Rattle.fsrm_base.specs.Keyed.{has_row, is_ascending};
-ghost use Rattle.fsrm_model.specs.Tree.{number as key, is_folder, is_under, name_bytes};
+ghost use Rattle.fsrm_model.specs.Tree.{number as key, parent_of, is_folder, is_under, name_bytes};
 ghost use Rattle.fsrm_model.specs.Valid.{is_tree, is_moment, is_own, is_root_node};
 ghost use Rattle.volume_tree.specs.Kept.{AreSlots, IsKept, IsOrder, inner, is_before, rows_of};
 ghost use Rattle.volume_tree.specs.Sound.{AreMarks, HasTwins, Reaches, are_from, are_sound, is_placed};
 ghost use Rattle.fsrm_model.specs.Capacities.{is_capacity};
 
 use crate::answer::RowsFault;
-use crate::climb::parent;
-use crate::slots::{next_free, row};
+use crate::slots::{holes_in, row};
 use fsrm_model::{Capacity, Duplicate, Ledger, List, NoMemory, NodeRow, Steps};
 use name_rules::{fold_cmp, is_name};
+use number_set::NumberSet;
 use std::alloc::Global;
 use std::cmp::Ordering;
 
@@ -46,17 +46,18 @@ pub struct Parts {
     pub slots: Vec<Option<NodeRow>>,
     /// The numbers of all rows but the root, by folders and in each by folded names.
     pub order: Vec<u32>,
-    /// How many rows there are, the bytes of all their names, and the least number that is free.
+    /// How many rows there are, and the bytes of all their names.
     pub count: u32,
     pub used: u32,
-    pub free: u32,
+    /// The numbers of the slots that are empty.
+    pub holes: NumberSet,
 }
 
 /// The parts of the tree of these rows. They are bad exactly where they aren't the nodes of a
 /// volume of this size.
 pub fn read(alloc: Global, rows: &[NodeRow], size: Capacity) -> Result<Parts, RowsFault>
     requires { is_capacity size ≡ true }
-    ensures kept { IfOk result (λ made. IsKept size made.count made.used made.free made.slots.items made.order.items) }
+    ensures kept { IfOk result (λ made. IsKept size made.count made.used made.holes made.slots.items made.order.items) }
     ensures nodes { IfOk result (λ made. rows_of made.slots.items ≡ rows.now) }
     ensures may { OnOk result (is_tree size rows.now ≡ true) }
     ensures bad { IsErrOf result RowsFault.BadRows → is_tree size rows.now ≡ false }
@@ -66,13 +67,16 @@ pub fn read(alloc: Global, rows: &[NodeRow], size: Capacity) -> Result<Parts, Ro
         return Err(RowsFault::BadRows);
     };
     let order = order_of(alloc, rows)?;
-    let free = next_free(&slots, 0);
+    let holes = match holes_in(alloc, &slots, size.nodes) {
+        Ok(holes) => holes,
+        Err(NoMemory) => return Err(RowsFault::NoMemory),
+    };
     Ok(Parts {
         slots,
         order,
         count: rows.len() as u32,
         used,
-        free,
+        holes,
     })
 }
 
@@ -85,6 +89,7 @@ fn sound_slots(
 ) -> Result<Vec<Option<NodeRow>>, RowsFault>
     ensures slots { IfOk result (λ slots. AreSlots 0 slots.items) }
     ensures rows { IfOk result (λ slots. rows_of slots.items ≡ rows.now) }
+    ensures fit { IfOk result (λ slots. length slots.items ≤ bound) }
     ensures may { OnOk result (are_sound bound rows.now ≡ true) }
     ensures bad { IsErrOf result RowsFault.BadRows → are_sound bound rows.now ≡ false }
 {
@@ -104,6 +109,7 @@ fn sound_slots(
 fn slots_of(alloc: Global, rows: &[NodeRow], bound: u32) -> Result<Vec<Option<NodeRow>>, RowsFault>
     ensures slots { IfOk result (λ slots. AreSlots 0 slots.items) }
     ensures rows { IfOk result (λ slots. rows_of slots.items ≡ rows.now) }
+    ensures fit { IfOk result (λ slots. length slots.items ≤ bound) }
     ensures may { OnOk result (are_from 0 bound rows.now ≡ true) }
     ensures bad { IsErrOf result RowsFault.BadRows → are_from 0 bound rows.now ≡ false }
 {
@@ -255,6 +261,17 @@ fn mark(marks: &mut [bool], number: u32)
     let place = number as usize;
     if place < marks.len() {
         marks[place] = true;
+    }
+}
+
+// The parent of a node, 0 where there is no such node.
+fn parent(slots: &[Option<NodeRow>], number: u32) -> u32
+    requires { AreSlots 0 slots.now }
+    ensures { result ≡ parent_of (rows_of slots.now) number }
+{
+    match row(slots, number) {
+        Some(row) => row.parent,
+        None => 0,
     }
 }
 

@@ -1,16 +1,18 @@
 //! Nodes in slots, each in the slot of its number.
 
-ghost use Rattle.std.specs.Prelude.{◌≡◌, ◌^◌, ◌<◌, ◌≤◌, IfOk, OnOk, OnErr, true, false, length, Some, [], ◌∷◌};
+ghost use Rattle.std.specs.Prelude.{◌≡◌, ◌+◌, ◌^◌, max, ◌<◌, ◌≤◌, IfOk, OnOk, OnErr, true, false, length, Some, [], ◌∷◌};
 ghost use Rattle.std.specs.Option.{option_copied};
 ghost use Rattle.fsrm_model.specs.FileOps.{resized, touched, placed};
 ghost use Rattle.fsrm_model.specs.Fresh.{root_node};
 ghost use Rattle.fsrm_base.specs.Keyed.{has_row, with_row, with_change, without_row};
 ghost use Rattle.fsrm_model.specs.Tree.{number as key, node_of, name_of, fresh};
-ghost use Rattle.volume_tree.specs.Kept.{AreSlots, rows_of};
+ghost use Rattle.volume_tree.specs.Kept.{AreHoles, AreSlots, rows_of};
 ghost use Rattle.volume_tree.specs.Volume.{Shows};
 
 use crate::answer::NodeView;
-use fsrm_model::{NoMemory, NodeRow, Text};
+use crate::reads;
+use fsrm_model::{Ledger, NoMemory, NodeRow, Steps, Text};
+use number_set::NumberSet;
 use std::alloc::Global;
 
 /// The slots of a volume with the root alone.
@@ -52,6 +54,7 @@ pub fn put(slots: &mut Vec<Option<NodeRow>>, row: NodeRow) -> Result<(), NoMemor
     requires free { has_row key row.number (rows_of slots.old.items) ≡ false }
     ensures slots { AreSlots 0 slots.new.items }
     ensures ok { OnOk result (rows_of slots.new.items ≡ with_row key row (rows_of slots.old.items)) }
+    ensures len { OnOk result (length slots.new.items ≡ max (length slots.old.items) (row.number + 1)) }
     ensures err { OnErr result (slots.new.items ≡ slots.old.items) }
 {
     let place = row.number as usize;
@@ -63,47 +66,96 @@ pub fn put(slots: &mut Vec<Option<NodeRow>>, row: NodeRow) -> Result<(), NoMemor
     Ok(())
 }
 
-/// Takes a row away.
-pub fn take_away(slots: &mut Vec<Option<NodeRow>>, number: u32)
+/// Takes a row away, and gives the bytes of its name. It takes one look.
+pub fn take_away<L: Ledger>(
+    slots: &mut Vec<Option<NodeRow>>,
+    number: u32,
+    steps: &mut Steps<L>,
+) -> u32
     requires slots { AreSlots 0 slots.old.items }
     requires there { has_row key number (rows_of slots.old.items) ≡ true }
+    requires short { length (name_of (rows_of slots.old.items) number) < 2 ^ 32 }
     ensures slots { AreSlots 0 slots.new.items }
     ensures gone { rows_of slots.new.items ≡ without_row key number (rows_of slots.old.items) }
+    ensures len { length slots.new.items ≡ length slots.old.items }
+    ensures bytes { result ≡ length (name_of (rows_of slots.old.items) number) }
+    ensures count { steps.new ≡ steps.old + 1 }
 {
+    let bytes = name_length(slots, number, steps);
     slots[number as usize] = None;
+    bytes
 }
 
-/// Sets a file's length, and the moment that it was modified.
-pub fn set_length(slots: &mut Vec<Option<NodeRow>>, number: u32, length: u64, moment: u64)
+/// Sets a file's length, and the moment that it was modified. It takes one look.
+pub fn set_length<L: Ledger>(
+    slots: &mut Vec<Option<NodeRow>>,
+    number: u32,
+    bytes: u64,
+    moment: u64,
+    steps: &mut Steps<L>,
+)
     requires slots { AreSlots 0 slots.old.items }
     requires there { has_row key number (rows_of slots.old.items) ≡ true }
     ensures slots { AreSlots 0 slots.new.items }
-    ensures set { rows_of slots.new.items ≡ with_change key number (resized length moment) (rows_of slots.old.items) }
+    ensures set { rows_of slots.new.items ≡ with_change key number (resized bytes moment) (rows_of slots.old.items) }
+    ensures len { length slots.new.items ≡ length slots.old.items }
+    ensures count { steps.new ≡ steps.old + 1 }
 {
+    steps.tick();
     if let Some(row) = &mut slots[number as usize] {
-        row.length = length;
+        row.length = bytes;
         row.modified = moment;
     }
 }
 
-/// Sets the moment that a file was accessed.
-pub fn set_accessed(slots: &mut Vec<Option<NodeRow>>, number: u32, moment: u64)
+/// Sets the moment that a file was accessed. It takes one look.
+pub fn set_accessed<L: Ledger>(
+    slots: &mut Vec<Option<NodeRow>>,
+    number: u32,
+    moment: u64,
+    steps: &mut Steps<L>,
+)
     requires slots { AreSlots 0 slots.old.items }
     requires there { has_row key number (rows_of slots.old.items) ≡ true }
     ensures slots { AreSlots 0 slots.new.items }
     ensures set { rows_of slots.new.items ≡ with_change key number (touched moment) (rows_of slots.old.items) }
+    ensures len { length slots.new.items ≡ length slots.old.items }
+    ensures count { steps.new ≡ steps.old + 1 }
 {
+    steps.tick();
     if let Some(row) = &mut slots[number as usize] {
         row.accessed = moment;
     }
 }
 
-/// Puts a node into a folder under a name.
-pub fn set_place(slots: &mut Vec<Option<NodeRow>>, number: u32, folder: u32, name: Text)
+/// Puts a node into a folder under a name, and gives the bytes of its old name. It takes one look.
+pub fn set_place<L: Ledger>(
+    slots: &mut Vec<Option<NodeRow>>,
+    number: u32,
+    folder: u32,
+    name: Text,
+    steps: &mut Steps<L>,
+) -> u32
+    requires slots { AreSlots 0 slots.old.items }
+    requires there { has_row key number (rows_of slots.old.items) ≡ true }
+    requires short { length (name_of (rows_of slots.old.items) number) < 2 ^ 32 }
+    ensures slots { AreSlots 0 slots.new.items }
+    ensures set { rows_of slots.new.items ≡ with_change key number (placed folder name) (rows_of slots.old.items) }
+    ensures len { length slots.new.items ≡ length slots.old.items }
+    ensures bytes { result ≡ length (name_of (rows_of slots.old.items) number) }
+    ensures count { steps.new ≡ steps.old + 1 }
+{
+    let bytes = name_length(slots, number, steps);
+    write_place(slots, number, folder, name);
+    bytes
+}
+
+fn write_place(slots: &mut Vec<Option<NodeRow>>, number: u32, folder: u32, name: Text)
     requires slots { AreSlots 0 slots.old.items }
     requires there { has_row key number (rows_of slots.old.items) ≡ true }
     ensures slots { AreSlots 0 slots.new.items }
     ensures set { rows_of slots.new.items ≡ with_change key number (placed folder name) (rows_of slots.old.items) }
+    ensures len { length slots.new.items ≡ length slots.old.items }
 {
     if let Some(row) = &mut slots[number as usize] {
         row.parent = folder;
@@ -111,55 +163,58 @@ pub fn set_place(slots: &mut Vec<Option<NodeRow>>, number: u32, folder: u32, nam
     }
 }
 
-/// The least number that no row has. It's `from` at least.
-pub fn next_free(slots: &[Option<NodeRow>], from: u32) -> u32
+/// The least number that no row has: that of the first empty slot, or else of the slot that is to come.
+pub fn next_number(slots: &[Option<NodeRow>], holes: &NumberSet) -> u32
     requires slots { AreSlots 0 slots.now }
+    requires holes { AreHoles slots.now holes.now.members }
     requires few { length (rows_of slots.now) < 2 ^ 32 }
-    requires taken { from ≤ fresh (rows_of slots.now) }
     ensures { result ≡ fresh (rows_of slots.now) }
 {
-    let mut next = from;
-    while row(slots, next).is_some() {
-        next += 1;
+    match holes.least() {
+        Some(number) => number,
+        None => slots.len() as u32,
     }
-    next
 }
 
-/// The least number that no row has, among so many rows. It's `from` at least.
-pub fn free_among(slots: &[Option<NodeRow>], count: u32, from: u32) -> u32
+/// The numbers of the empty slots, with room for all numbers below a bound.
+pub fn holes_in(alloc: Global, slots: &[Option<NodeRow>], bound: u32) -> Result<NumberSet, NoMemory>
     requires slots { AreSlots 0 slots.now }
-    requires few { length (rows_of slots.now) < 2 ^ 32 }
-    requires count { count ≡ length (rows_of slots.now) }
-    requires taken { from ≤ fresh (rows_of slots.now) }
-    ensures { result ≡ fresh (rows_of slots.now) }
+    requires fit { length slots.now ≤ bound }
+    ensures holes { IfOk result (λ holes. AreHoles slots.now holes.members) }
+    ensures bound { IfOk result (λ holes. holes.bound ≡ bound) }
 {
-    // Where no slot is empty none need be passed: so the oldest node may make way for a new one
-    // again and again.
-    if count as usize == slots.len() {
-        return count;
+    let mut holes = NumberSet::reserve(alloc, bound)?;
+    for number in 0..slots.len() as u32 {
+        if row(slots, number).is_none() {
+            holes.insert(number);
+        }
     }
-    next_free(slots, from)
+    Ok(holes)
 }
 
-/// The bytes of a node's name.
-pub fn name_length(slots: &[Option<NodeRow>], number: u32) -> u32
-    requires slots { AreSlots 0 slots.now }
-    requires short { length (name_of (rows_of slots.now) number) < 2 ^ 32 }
-    ensures { result ≡ length (name_of (rows_of slots.now) number) }
-{
-    match row(slots, number) {
-        Some(row) => row.name.as_str().len() as u32,
-        None => 0,
-    }
-}
-
-/// A node that is there, lent.
-pub fn view(slots: &[Option<NodeRow>], number: u32) -> NodeView<'_>
+/// The bytes of a node's name. It takes one look.
+pub fn name_length<L: Ledger>(slots: &[Option<NodeRow>], number: u32, steps: &mut Steps<L>) -> u32
     requires slots { AreSlots 0 slots.now }
     requires there { has_row key number (rows_of slots.now) ≡ true }
-    ensures { Shows result (rows_of slots.now) number }
+    requires short { length (name_of (rows_of slots.now) number) < 2 ^ 32 }
+    ensures bytes { result ≡ length (name_of (rows_of slots.now) number) }
+    ensures count { steps.new ≡ steps.old + 1 }
 {
-    let row = row(slots, number).unwrap();
+    reads::node(slots, number, steps).name.as_str().len() as u32
+}
+
+/// A node that is there, lent. It takes one look.
+pub fn view<'a, L: Ledger>(
+    slots: &'a [Option<NodeRow>],
+    number: u32,
+    steps: &mut Steps<L>,
+) -> NodeView<'a>
+    requires slots { AreSlots 0 slots.now }
+    requires there { has_row key number (rows_of slots.now) ≡ true }
+    ensures view { Shows result (rows_of slots.now) number }
+    ensures count { steps.new ≡ steps.old + 1 }
+{
+    let row = reads::node(slots, number, steps);
     NodeView {
         number: row.number,
         parent: row.parent,

@@ -1,6 +1,6 @@
 //! A volume's nodes.
 
-ghost use Rattle.std.specs.Prelude.{◌≡◌, ◌+◌, ◌*◌, ◌<◌, ◌≤◌, ◌==◌, if◌then◌else◌, IfOk, IfErr, OnOk, OnErr, IsErrOf, true, false, length, take, map, None, Some, ◌∷◌, []};
+ghost use Rattle.std.specs.Prelude.{◌≡◌, ◌+◌, ◌*◌, ◌<◌, ◌≤◌, ◌==◌, if◌then◌else◌, IfOk, IfErr, OnOk, OnErr, OnSome, IsErrOf, true, false, length, take, map, None, Some, ◌∷◌, []};
 ghost use Rattle.fsrm_model.specs.Capacities.{is_capacity};
 ghost use Rattle.fsrm_model.specs.FileOps.{made_node};
 ghost use Rattle.fsrm_model.specs.Fresh.{root_node};
@@ -10,14 +10,16 @@ ghost use Rattle.fsrm_model.specs.Name.{is_name};
 ghost use Rattle.fsrm_model.specs.Space.{alloc};
 ghost use Rattle.fsrm_model.specs.Tree.{number as key, fresh, is_folder, is_under, children, children_in_order, child_number, chain, resolve, name_bytes};
 ghost use Rattle.fsrm_model.specs.Valid.{is_tree, IsVolume};
+ghost use Rattle.volume_tree.specs.Looks.{passed};
 ghost use Rattle.volume_tree.specs.Volume.{IsFault, IsChildAt, Shows, new_fault, remove_fault, with_node, with_length, with_touch, without_node};
 
 use crate::answer::{NodeView, RowsFault, TreeFault};
 use crate::climb::is_at_or_below;
 use crate::entry::own_place;
 use crate::finger::Finger;
-use crate::{order, rows, slots};
-use fsrm_model::{Capacity, Ledger, List, NoMemory, NodeRow, Path, Steps, Text, allocated};
+use crate::{order, rows, segment, slots};
+use fsrm_model::{Capacity, Ledger, List, NoMemory, NodeRow, Path, Steps, allocated};
+use number_set::NumberSet;
 use std::alloc::Global;
 use std::marker::Model;
 
@@ -28,12 +30,13 @@ use std::marker::Model;
 #[derive(Drop)]
 pub struct Tree {
     pub(crate) size: Capacity,
-    // How many nodes there are, the bytes of all their names, and the least number that is free.
+    // How many nodes there are, and the bytes of all their names.
     pub(crate) count: u32,
     pub(crate) used: u32,
-    pub(crate) free: u32,
     // Each row stands in the slot of its number.
     pub(crate) slots: Vec<Option<NodeRow>>,
+    // The numbers of the slots that are empty.
+    pub(crate) holes: NumberSet,
     // The numbers of all nodes but the root, by folders and in each by folded names.
     pub(crate) order: Vec<u32>,
     pub(crate) alloc: Global,
@@ -47,7 +50,7 @@ impl Model for Tree {
 
     ghost view = { λ t. record { size = t.size; nodes = rows_of t.slots.items } };
 
-    ghost invariant = { λ t. IsKept t.size t.count t.used t.free t.slots.items t.order.items };
+    ghost invariant = { λ t. IsKept t.size t.count t.used t.holes t.slots.items t.order.items };
 }
 
 impl Tree {
@@ -59,12 +62,13 @@ impl Tree {
         ensures kept { IfOk result (λ tree. IsVolume tree.size tree.nodes) }
     {
         let slots = slots::root_alone(alloc)?;
+        let holes = NumberSet::reserve(alloc, size.nodes)?;
         Ok(Tree {
             size,
             count: 1,
             used: 0,
-            free: 1,
             slots,
+            holes,
             order: Vec::new(alloc),
             alloc,
         })
@@ -108,11 +112,14 @@ impl Tree {
         slots::row(&self.slots, node).is_some()
     }
 
-    /// The number of a folder's child of this name. It takes no more than 22 looks.
+    /// The number of a folder's child of this name. It takes a look, and no more than 22.
     pub fn child<L: Ledger>(&self, folder: u32, name: &str, steps: &mut Steps<L>) -> Option<u32>
         ensures value { result ≡ child_number self.now.nodes folder name.now }
+        ensures some { steps.old + 1 ≤ steps.new }
         ensures looks { steps.new ≤ steps.old + 22 }
     {
+        // A look at the folder.
+        steps.tick();
         match order::search(&self.slots, &self.order, folder, name, steps) {
             Ok(place) => Some(self.order[place]),
             Err(_) => None,
@@ -120,7 +127,7 @@ impl Tree {
     }
 
     /// The node that the first names of a path lead to, so many of them. It takes no more than 22
-    /// looks for each, and one more.
+    /// looks for each, and one more: that one at least, and one for each where it finds the node.
     pub fn resolve_first<L: Ledger>(
         &self,
         path: &Path,
@@ -129,8 +136,12 @@ impl Tree {
     ) -> Option<u32>
         requires names { names ≤ length path.now }
         ensures value { result ≡ resolve self.now.nodes (take names path.now) }
+        ensures some { steps.old + 1 ≤ steps.new }
+        ensures each { OnSome result (steps.old + (names + 1) ≤ steps.new) }
         ensures looks { steps.new ≤ steps.old + (22 * names + 1) }
     {
+        // A look at the root.
+        steps.tick();
         let mut at = 0;
         for place in 0..names {
             match order::search(&self.slots, &self.order, at, path.part(place), steps) {
@@ -141,9 +152,12 @@ impl Tree {
         Some(at)
     }
 
-    /// The node that a path leads to. It takes no more than 22 looks for each name, and one more.
+    /// The node that a path leads to. It takes no more than 22 looks for each name, and one more: that one
+    /// at least, and one for each name where it finds the node.
     pub fn resolve<L: Ledger>(&self, path: &Path, steps: &mut Steps<L>) -> Option<u32>
         ensures value { result ≡ resolve self.now.nodes path.now }
+        ensures some { steps.old + 1 ≤ steps.new }
+        ensures each { OnSome result (steps.old + (length path.now + 1) ≤ steps.new) }
         ensures looks { steps.new ≤ steps.old + (22 * length path.now + 1) }
     {
         self.resolve_first(path, path.depth(), steps)
@@ -156,15 +170,15 @@ impl Tree {
         ensures short { result.length ≤ longest_file }
         ensures count { steps.new ≡ steps.old + 1 }
     {
-        steps.tick();
-        slots::view(&self.slots, node)
+        slots::view(&self.slots, node, steps)
     }
 
-    /// Whether a node is another one or stands below it. It takes no more than a look for each node from
-    /// it up to the root.
+    /// Whether a node is another one or stands below it. It takes a look for each node from it up to that
+    /// other one, or else to the root.
     pub fn is_at_or_below<L: Ledger>(&self, top: u32, node: u32, steps: &mut Steps<L>) -> bool
         requires { has_row key node self.now.nodes ≡ true }
         ensures below { result ≡ is_under self.now.nodes top node }
+        ensures count { steps.new ≡ steps.old + passed top (chain self.now.nodes node) }
         ensures looks { steps.new ≤ steps.old + length (chain self.now.nodes node) }
     {
         is_at_or_below(&self.slots, top, node, steps)
@@ -176,7 +190,7 @@ impl Tree {
         ensures count { steps.new ≡ steps.old + 1 }
     {
         steps.tick();
-        order::child_count(&self.slots, &self.order, folder) as u32
+        segment::child_count(&self.slots, &self.order, folder) as u32
     }
 
     /// The number of the child that stands at a place, from 0 on, among a folder's children in the
@@ -187,10 +201,11 @@ impl Tree {
         ensures count { steps.new ≡ steps.old + 1 }
     {
         steps.tick();
-        order::child_at(&self.slots, &self.order, folder, place)
+        segment::child_at(&self.slots, &self.order, folder, place)
     }
 
-    /// The numbers of a folder's children, in the order of their folded names. It takes one look.
+    /// The numbers of a folder's children, in the order of their folded names. It takes a look, and one for
+    /// each child.
     ///
     /// The search begins at the finger and leaves it behind these children, so that those of the next folder
     /// are found at once.
@@ -201,16 +216,17 @@ impl Tree {
         steps: &mut Steps<L>,
     ) -> &[u32]
         ensures numbers { result.now ≡ map key (children_in_order self.now.nodes folder) }
-        ensures count { steps.new ≡ steps.old + 1 }
+        ensures count { steps.new ≡ steps.old + (1 + length (children self.now.nodes folder)) }
     {
-        steps.tick();
-        let (first, end) = order::segment(&self.slots, &self.order, folder, finger.place);
+        let (first, end) = segment::segment(&self.slots, &self.order, folder, finger.place);
         finger.place = end;
-        &self.order[first..end]
+        let numbers = &self.order[first..end];
+        steps.tick();
+        steps.count(numbers.len());
+        numbers
     }
 
-    /// Sets a file's length, in bytes, and the moment that it was modified. It takes no more than 2
-    /// looks.
+    /// Sets a file's length, in bytes, and the moment that it was modified. It takes one look.
     pub fn resize<L: Ledger>(&mut self, node: u32, length: u64, moment: u64, steps: &mut Steps<L>)
         requires there { has_row key node self.old.nodes ≡ true }
         requires file { is_folder self.old.nodes node ≡ false }
@@ -218,23 +234,21 @@ impl Tree {
         requires moment { moment ≤ latest_moment }
         ensures made { self.new ≡ with_length self.old node length moment }
         ensures kept { IsVolume self.new.size self.new.nodes }
-        ensures looks { steps.new ≤ steps.old + 2 }
+        ensures count { steps.new ≡ steps.old + 1 }
     {
-        steps.tick();
-        slots::set_length(&mut self.slots, node, length, moment);
+        slots::set_length(&mut self.slots, node, length, moment, steps);
     }
 
-    /// Sets the moment that a file was accessed. It takes no more than 2 looks.
+    /// Sets the moment that a file was accessed. It takes one look.
     pub fn touch<L: Ledger>(&mut self, node: u32, moment: u64, steps: &mut Steps<L>)
         requires there { has_row key node self.old.nodes ≡ true }
         requires file { is_folder self.old.nodes node ≡ false }
         requires moment { moment ≤ latest_moment }
         ensures made { self.new ≡ with_touch self.old node moment }
         ensures kept { IsVolume self.new.size self.new.nodes }
-        ensures looks { steps.new ≤ steps.old + 2 }
+        ensures count { steps.new ≡ steps.old + 1 }
     {
-        steps.tick();
-        slots::set_accessed(&mut self.slots, node, moment);
+        slots::set_accessed(&mut self.slots, node, moment, steps);
     }
 
     /// Takes away a node other than the root. It takes no more than 44 looks.
@@ -255,12 +269,11 @@ impl Tree {
             return Err(TreeFault::NotEmpty);
         }
         let place = own_place(&self.slots, &self.order, node, steps);
-        let bytes = slots::name_length(&self.slots, node);
-        slots::take_away(&mut self.slots, node);
+        let bytes = slots::take_away(&mut self.slots, node, steps);
         self.order.remove(place);
         self.count -= 1;
         self.used -= bytes;
-        self.free = self.free.min(node);
+        self.holes.insert(node);
         Ok(())
     }
 
@@ -296,8 +309,8 @@ impl Tree {
             size,
             count: parts.count,
             used: parts.used,
-            free: parts.free,
             slots: parts.slots,
+            holes: parts.holes,
             order: parts.order,
             alloc,
         })

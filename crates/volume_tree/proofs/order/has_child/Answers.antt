@@ -13,4 +13,4 @@ pub returns-clause-value : goal.returns-clause-value
 returns-clause-value g c =
     let slots = c.args.slots.now in
     let within = c.place_of-place.ensures.place.within in
-    has_there (rows_of slots) c.args.order.now c.args.folder c.place_of-place.result c.entry.result.now c.requires.order (slots_ascend slots c.requires.slots) c.place_of-place.ensures.place (omega arith) c.entry.ensures
+    has_there (rows_of slots) c.args.order.now c.args.folder c.place_of-place.result c.entry.result.now c.requires.order (slots_ascend slots c.requires.slots) c.place_of-place.ensures.place (omega arith) c.entry.ensures.node

@@ -10,8 +10,8 @@ loop-low-preserved-then-is_before g c =
     let high = c.loop-low.high in
     record {
       halves = halves_above (rows_of slots) c.args.order.now c.args.folder c.args.name.now low high c.entry.result.now (slots_ascend slots c.requires.slots)
-          c.loop-low.invariant.halves c.loop-low-test.true c.entry.ensures c.if-is_before.ensures;
-      few = few_above low high c.args.steps.now c.loop-low.steps c.tick.new.self c.loop-low.invariant.few c.loop-low-test.true c.tick.ensures;
+          c.loop-low.invariant.halves c.loop-low-test.true c.entry.ensures.node c.if-is_before.ensures;
+      few = few_above low high c.args.steps.now c.loop-low.steps c.entry.new.steps c.loop-low.invariant.few c.loop-low-test.true c.entry.ensures.count;
     }
 
 pub loop-low-preserved : goal.loop-low-preserved
@@ -21,8 +21,8 @@ loop-low-preserved g c =
     let high = c.loop-low.high in
     record {
       halves = halves_below (rows_of slots) c.args.order.now c.args.folder c.args.name.now low high c.entry.result.now (slots_ascend slots c.requires.slots)
-          c.loop-low.invariant.halves c.loop-low-test.true c.entry.ensures c.if-is_before.ensures;
-      few = few_below low high c.args.steps.now c.loop-low.steps c.tick.new.self c.loop-low.invariant.few c.loop-low-test.true c.tick.ensures;
+          c.loop-low.invariant.halves c.loop-low-test.true c.entry.ensures.node c.if-is_before.ensures;
+      few = few_below low high c.args.steps.now c.loop-low.steps c.entry.new.steps c.loop-low.invariant.few c.loop-low-test.true c.entry.ensures.count;
     }
 
 pub returns-clause-place : goal.returns-clause-place

@@ -15,10 +15,10 @@ returns-then-is_named-clause-found g c =
     let slots = c.args.slots.now in
     let within = c.place_of-place.ensures.place.within in
     one_named (rows_of slots) c.args.order.now c.args.folder c.args.name.now c.place_of-place.result c.entry.result.now c.requires.order (slots_ascend slots c.requires.slots) c.place_of-place.ensures.place
-    (omega arith) c.entry.ensures c.if-is_named.ensures
+    (omega arith) c.entry.ensures.node c.if-is_named.ensures
 
 pub returns-else-is_named-clause-none : goal.returns-else-is_named-clause-none
 returns-else-is_named-clause-none g c =
     let slots = c.args.slots.now in
     other_named (rows_of slots) c.args.order.now c.args.folder c.args.name.now c.place_of-place.result c.entry.result.now c.requires.order (slots_ascend slots c.requires.slots) c.place_of-place.ensures.place
-    c.entry.ensures c.if-is_named.ensures
+    c.entry.ensures.node c.if-is_named.ensures

@@ -1,12 +1,12 @@
 use Rattle.std.proofs.Common.{◌<◌, ◌^◌, List, length, Option, sym, ◌∙◌, ap, subst, arith, rules}
 use Rattle.std.proofs.lemmas.Result.{err_from_is_err_and}
 use Rattle.fsrm_model.specs.declared.row.NodeRow.{NodeRow}
-use Rattle.fsrm_model.specs.Tree.{fresh, name_bytes}
+use Rattle.fsrm_model.specs.Tree.{name_bytes}
 use Rattle.fsrm_model.specs.Valid.{IsVolume}
 use Rattle.fsrm_model.proofs.CapacityLaws.{nodes_most}
 use Rattle.fsrm_model.proofs.ValidVolume.{tree_of_volume}
 use Rattle.volume_tree.specs.declared.answer.RowsFault.TheVariants.{BadRows}
-use Rattle.volume_tree.specs.Kept.{IsOrder, rows_of}
+use Rattle.volume_tree.specs.Kept.{AreHoles, IsOrder}
 use Rattle.volume_tree.proofs.FreshLaws.{few_nodes}
 use Rattle.volume_tree.proofs.FromRows.{passed_on}
 use Rattle.volume_tree.proofs.Sound.{bad_sound, bad_twins, sound_ascending, volume_of_parts}
@@ -27,14 +27,6 @@ returns-in_err-order-clause-bad c =
     let p = err_from_is_err_and c.from_residual-in_err-order.result c.from_residual-in_err-order.ensures.1 in
     bad_twins c.args.size c.args.rows.now (c.in_err-order.ensures.bad (passed_on c.from_residual-in_err-order.result p.0 c.in_err-order.field-0.0 BadRows e p.1 p.2))
 
-pub next_free-free-requires-clause-few : goal.next_free-free-requires-clause-few
-next_free-free-requires-clause-few c =
-    let volume = volume_of_parts c.args.size c.args.rows.now c.in_ok-order.order.items c.in-Some.used c.in_ok-slots.ensures.may c.in-Some.ensures.sum c.in-Some.ensures.within c.in_ok-order.ensures.order in
-    let few = few_nodes c.args.size c.args.rows.now volume in
-    let same = ap (λ (slots : List (Option NodeRow)). length (rows_of slots)) c.deref.ensures.value ∙ ap length c.in_ok-slots.ensures.rows in
-    let most = nodes_most c.args.size c.requires in
-    omega (arith, few, same, most)
-
 pub overflow_cast-result : goal.overflow_cast-result
 overflow_cast-result c =
     let volume = volume_of_parts c.args.size c.args.rows.now c.in_ok-order.order.items c.in-Some.used c.in_ok-slots.ensures.may c.in-Some.ensures.sum c.in-Some.ensures.within c.in_ok-order.ensures.order in
@@ -53,7 +45,8 @@ returns-clause-kept c =
       slots_are = c.in_ok-slots.ensures.slots;
       count_is = ap length same;
       used_is = c.in-Some.ensures.sum ∙ ap name_bytes same;
-      free_is = c.next_free-free.ensures ∙ ap (λ (slots : List (Option NodeRow)). fresh (rows_of slots)) c.deref.ensures.value;
+      bound_is = c.in-Ok.ensures.bound;
+      holes_are = subst (λ (slots : List (Option NodeRow)). AreHoles slots c.in-Ok.holes.members) c.deref.ensures.value c.in-Ok.ensures.holes;
       order_is = subst (λ (rows : List NodeRow). IsOrder rows c.in_ok-order.order.items) same c.in_ok-order.ensures.order;
     }
 

@@ -5,26 +5,26 @@ use Rattle.volume_tree.proofs.SlotLaws.{filled, set_slots, changed_rows, same_ro
 use Rattle.volume_tree.proofs.slots.set_length.Goals as goal
 
 pub index_mut-requires : goal.index_mut-requires
-index_mut-requires c =
+index_mut-requires g c =
     let l = (filled c.args.slots.now.items c.args.number c.requires.slots c.requires.there).within in
     omega (arith, l)
 
 pub returns-in-Some-clause-slots : goal.returns-in-Some-clause-slots
-returns-in-Some-clause-slots c =
+returns-in-Some-clause-slots g c =
     let slots = c.args.slots.now.items in
     let f = filled slots c.args.number c.requires.slots c.requires.there in
     let same = same_row slots c.args.number f.row c.in-Some.row c.index_mut.result.now f.at c.index_mut.ensures.value c.in-Some.is in
-    set_slots c.args.number slots (Some (resized c.args.length c.args.moment c.in-Some.row)) c.requires.slots (ap (λ (r : NodeRow). r.number) same ∙ f.number_is)
+    set_slots c.args.number slots (Some (resized c.args.bytes c.args.moment c.in-Some.row)) c.requires.slots (ap (λ (r : NodeRow). r.number) same ∙ f.number_is)
 
 pub returns-in-Some-clause-set : goal.returns-in-Some-clause-set
-returns-in-Some-clause-set c =
+returns-in-Some-clause-set g c =
     let slots = c.args.slots.now.items in
     let f = filled slots c.args.number c.requires.slots c.requires.there in
     let same = same_row slots c.args.number f.row c.in-Some.row c.index_mut.result.now f.at c.index_mut.ensures.value c.in-Some.is in
-    changed_rows c.args.number slots (resized c.args.length c.args.moment) f.row (resized c.args.length c.args.moment c.in-Some.row) c.requires.slots f.at (ap (resized c.args.length c.args.moment) same)
+    changed_rows c.args.number slots (resized c.args.bytes c.args.moment) f.row (resized c.args.bytes c.args.moment c.in-Some.row) c.requires.slots f.at (ap (resized c.args.bytes c.args.moment) same)
 
 pub returns-in_default-clause-set : goal.returns-in_default-clause-set
-returns-in_default-clause-set c =
+returns-in_default-clause-set g c =
     let slots = c.args.slots.now.items in
     let f = filled slots c.args.number c.requires.slots c.requires.there in
     absurd (c.in_default.not-Some f.row (not_empty slots c.args.number f.row c.index_mut.result.now f.at c.index_mut.ensures.value))

@@ -1,50 +1,44 @@
-use Rattle.std.proofs.Common.{◌≡◌, ℕ, ◌+◌, ◌<◌, ◌≤◌, ◌^◌, false, length, List, Option, refl, sym, ◌∙◌, ap, subst, arith, rules}
+use Rattle.std.proofs.Common.{◌≡◌, ℕ, ◌+◌, ◌<◌, length, List, Option, sym, ◌∙◌, ap, subst, arith}
 use Rattle.fsrm_model.specs.declared.row.NodeRow.{NodeRow}
 use Rattle.fsrm_base.specs.Keyed.{has_row, with_row}
 use Rattle.fsrm_model.specs.Tree.{number, fresh, is_folder, child_number}
 use Rattle.volume_tree.specs.Kept.{IsKept, rows_of}
 use Rattle.volume_tree.specs.Volume.{Volume}
 use Rattle.fsrm_model.specs.Limits.{most_nodes}
-use Rattle.std.specs.Prelude.{insert}
+use Rattle.std.specs.Prelude.{insert, max}
 use Rattle.fsrm_model.specs.Name.{is_name}
-use Rattle.volume_tree.specs.Kept.{IsPlace}
-use Rattle.volume_tree.proofs.KeptLaws.{few_order, free_near, free_lacks, free_few, next_of, kept_made, inserted_is}
-use Rattle.fsrm_model.proofs.OwnLaws.{own_new}
+use Rattle.volume_tree.specs.Kept.{AreHoles, IsPlace}
+use Rattle.number_set.specs.Numbers.{Numbers}
+use Rattle.fsrm_base.specs.Numbers.{without_number}
+use Rattle.volume_tree.proofs.FreshLaws.{fresh_near, fresh_free}
+use Rattle.volume_tree.proofs.KeptLaws.{few_order, few_rows, kept_made, inserted_is}
 use Rattle.volume_tree.specs.Volume.{new_fault}
 use Rattle.volume_tree.proofs.MakeLaws.{may_make}
+use Rattle.fsrm_model.proofs.OwnLaws.{own_new}
 use Rattle.volume_tree.proofs.tree.Tree.make.Goals as goal
+
+pub next_number-number-requires-clause-few : goal.next_number-number-requires-clause-few
+next_number-number-requires-clause-few g c =
+    let few = few_rows _ _ _ _ _ _ c.self.invariant in
+    let same : length (rows_of c.deref-3.result.now) ≡ length (rows_of c.self.inside.slots.items) = ap (λ (slots : List (Option NodeRow)). length (rows_of slots)) c.deref-3.ensures.value in
+    omega (arith, few, same)
+
+pub next_number-number-requires-clause-holes : goal.next_number-number-requires-clause-holes
+next_number-number-requires-clause-holes g c = subst (λ (slots : List (Option NodeRow)). AreHoles slots c.self.inside.holes.members) (sym c.deref-3.ensures.value) c.self.invariant.holes_are
 
 pub put-requires-clause-near : goal.put-requires-clause-near
 put-requires-clause-near g c =
-    let near = free_near _ _ _ _ _ _ c.self.invariant in
-    subst (λ (n : ℕ). n ≤ length c.self.inside.slots.items) (sym (ap (λ (r : NodeRow). r.number) c.row.ensures)) near
+    let i = c.self.inside in
+    let next : c.next_number-number.result ≡ fresh (rows_of i.slots.items) = c.next_number-number.ensures ∙ ap (λ (read : List (Option NodeRow)). fresh (rows_of read)) c.deref-3.ensures.value in
+    let near = fresh_near i.slots.items c.self.invariant.slots_are in
+    let own = ap (λ (r : NodeRow). r.number) c.row.ensures in
+    omega (arith, next, near, own)
 
 pub put-requires-clause-free : goal.put-requires-clause-free
 put-requires-clause-free g c =
-    subst (λ (n : ℕ). has_row number n (rows_of c.self.inside.slots.items) ≡ false) (sym (ap (λ (r : NodeRow). r.number) c.row.ensures)) (free_lacks _ _ _ _ _ _ c.self.invariant)
-
-pub overflow_add-number : goal.overflow_add-number
-overflow_add-number g c =
-    let few = free_few _ _ _ _ _ _ c.self.invariant in
-    let small : c.self.inside.free + 1 < 2 ^ 32 = omega (arith, few) in
-    search rules
-
-pub free_among-self-inside-requires-clause-few : goal.free_among-self-inside-requires-clause-few
-free_among-self-inside-requires-clause-few g c =
-    let next = next_of _ c.self.inside.count _ c.self.inside.free _ c.put.new.slots.items _ c.row.result c.self.invariant (ap (λ (r : NodeRow). r.number) c.row.ensures) c.in_ok-put.ensures.ok in
-    let few = next.few in
-    let same : length (rows_of c.deref-3.result.now) ≡ length (rows_of c.put.new.slots.items) = ap (λ (slots : List (Option NodeRow)). length (rows_of slots)) c.deref-3.ensures.value in
-    omega (arith, few, same)
-
-pub free_among-self-inside-requires-clause-count : goal.free_among-self-inside-requires-clause-count
-free_among-self-inside-requires-clause-count g c =
-    let next = next_of _ c.self.inside.count _ c.self.inside.free _ c.put.new.slots.items _ c.row.result c.self.invariant (ap (λ (r : NodeRow). r.number) c.row.ensures) c.in_ok-put.ensures.ok in
-    next.count_is ∙ ap (λ (slots : List (Option NodeRow)). length (rows_of slots)) (sym c.deref-3.ensures.value)
-
-pub free_among-self-inside-requires-clause-taken : goal.free_among-self-inside-requires-clause-taken
-free_among-self-inside-requires-clause-taken g c =
-    let next = next_of _ c.self.inside.count _ c.self.inside.free _ c.put.new.slots.items _ c.row.result c.self.invariant (ap (λ (r : NodeRow). r.number) c.row.ensures) c.in_ok-put.ensures.ok in
-    subst (λ (slots : List (Option NodeRow)). c.self.inside.free + 1 ≤ fresh (rows_of slots)) (sym c.deref-3.ensures.value) next.greater
+    let i = c.self.inside in
+    let next : c.next_number-number.result ≡ fresh (rows_of i.slots.items) = c.next_number-number.ensures ∙ ap (λ (read : List (Option NodeRow)). fresh (rows_of read)) c.deref-3.ensures.value in
+    ap (λ (n : ℕ). has_row number n (rows_of i.slots.items)) (ap (λ (r : NodeRow). r.number) c.row.ensures ∙ next) ∙ fresh_free (rows_of i.slots.items) c.self.invariant.volume.ascending
 
 pub new_place-place-requires-clause-few : goal.new_place-place-requires-clause-few
 new_place-place-requires-clause-few g c = subst (λ (order : List ℕ). length order < most_nodes) (sym (c.deref-2.ensures.value ∙ c.reserve.ensures.items)) (few_order _ _ _ _ _ _ c.self.invariant)
@@ -65,7 +59,8 @@ invariant_of-self-2 g c =
     let new = c.args.new in
     let name = c.args.name.now in
     let at = c.new_place-place.result in
-    let row : NodeRow = record { number = i.free; parent = c.args.folder; name = text; folder = new.folder; length = new.length; owner = new.owner; created = new.moment; modified = new.moment; accessed = new.moment } in
+    let n = c.next_number-number.result in
+    let row : NodeRow = record { number = n; parent = c.args.folder; name = text; folder = new.folder; length = new.length; owner = new.owner; created = new.moment; modified = new.moment; accessed = new.moment } in
     let same : text ≡ name = c.in_ok-text.ensures in
     let bytes : length text ≡ length name = ap length same in
     let held : Volume = record { size = i.size; nodes = rows_of slots } in
@@ -78,15 +73,18 @@ invariant_of-self-2 g c =
     subst (λ (name : List ℕ). IsPlace (rows_of slots) order c.args.folder name at) (sym same)
     (subst (λ (read : List ℕ). IsPlace (rows_of slots) read c.args.folder name at) (c.deref-2.ensures.value ∙ c.reserve.ensures.items)
     (subst (λ (read : List (Option NodeRow)). IsPlace (rows_of read) c.deref-2.result.now c.args.folder name at) c.deref.ensures.value c.new_place-place.ensures.place)) in
-    let kept = kept_made i.size i.count i.used i.free c.free_among-self-inside.result slots c.put.new.slots.items order row at c.self.invariant refl
-    (own_new i.free c.args.folder text new.folder new.length new.owner new.moment (ap is_name same ∙ c.requires.name) c.requires.length c.requires.owner c.requires.moment)
+    let next : n ≡ fresh (rows_of slots) = c.next_number-number.ensures ∙ ap (λ (read : List (Option NodeRow)). fresh (rows_of read)) c.deref-3.ensures.value in
+    let kept = kept_made i.size i.count i.used i.holes slots c.put.new.slots.items order row at c.self.invariant next
+    (own_new n c.args.folder text new.folder new.length new.owner new.moment (ap is_name same ∙ c.requires.name) c.requires.length c.requires.owner c.requires.moment)
     (ap (λ (v : Volume). is_folder v.nodes c.args.folder) c.self.view_is ∙ c.requires.folder)
     (ap (child_number (rows_of slots) c.args.folder) same ∙ may.alone) (omega (arith, most, count)) (omega (arith, bytes, fits, used)) place c.in_ok-put.ensures.slots
     (c.in_ok-put.ensures.ok ∙ ap (λ (r : NodeRow). with_row number r (rows_of slots)) c.row.ensures)
-    (c.free_among-self-inside.ensures ∙ ap (λ (read : List (Option NodeRow)). fresh (rows_of read)) c.deref-3.ensures.value) in
-    let inserted : c.insert.new.self.items ≡ insert order at i.free = inserted_is _ _ _ _ _ c.unwrap.ensures c.insert.ensures.items ∙ ap (λ (items : List ℕ). insert items at i.free) c.reserve.ensures.items in
-    subst (λ (items : List ℕ). IsKept i.size (i.count + 1) (i.used + length name) c.free_among-self-inside.result c.put.new.slots.items items) (sym inserted)
-    (subst (λ (bytes : List ℕ). IsKept i.size (i.count + 1) (i.used + length bytes) c.free_among-self-inside.result c.put.new.slots.items (insert order at i.free)) same kept)
+    (c.in_ok-put.ensures.len ∙ ap (λ (r : NodeRow). max (length slots) (r.number + 1)) c.row.ensures) in
+    let inserted : c.insert.new.self.items ≡ insert order at n = inserted_is _ _ _ _ _ c.unwrap.ensures c.insert.ensures.items ∙ ap (λ (items : List ℕ). insert items at n) c.reserve.ensures.items in
+    let holes : Numbers = record i.holes { members = without_number n i.holes.members } in
+    subst (λ (set : Numbers). IsKept i.size (i.count + 1) (i.used + length name) set c.put.new.slots.items c.insert.new.self.items) (sym c.remove.ensures)
+    (subst (λ (items : List ℕ). IsKept i.size (i.count + 1) (i.used + length name) holes c.put.new.slots.items items) (sym inserted)
+    (subst (λ (bytes : List ℕ). IsKept i.size (i.count + 1) (i.used + length bytes) holes c.put.new.slots.items (insert order at n)) same kept))
 
 pub returns-clause-kept : goal.returns-clause-kept
 returns-clause-kept g c = (invariant_of-self-2 g c).volume

@@ -27,16 +27,15 @@ reorder-requires-clause-own g c =
     subst (λ (read : List (Option NodeRow)). child_number (rows_of read) (parent_of (rows_of read) m.node) (name_of (rows_of read) m.node) ≡ Some m.node) (sym c.deref-3.ensures.value)
     (own_child c.self.inside.size _ m.node c.self.invariant.volume has inner)
 
-pub name_length-old_bytes-requires-clause-short : goal.name_length-old_bytes-requires-clause-short
-name_length-old_bytes-requires-clause-short g c =
+pub set_place-old_bytes-requires-clause-short : goal.set_place-old_bytes-requires-clause-short
+set_place-old_bytes-requires-clause-short g c =
     let slots = c.self.inside.slots.items in
     let m = c.ready.inside in
     let has : has_row number m.node (rows_of slots) ≡ true = ap (λ (move : Move). has_row number move.node (rows_of slots)) c.ready.view_is ∙ (ap (λ (v : Volume). has_row number c.args.ready.node v.nodes) c.self.view_is ∙ c.requires.there) in
     let fit = name_fits c.self.inside.size _ m.node c.self.invariant.volume has in
-    let same : length (name_of (rows_of c.deref-4.result.now) m.node) ≡ length (name_of (rows_of slots) m.node) = ap (λ (read : List (Option NodeRow)). length (name_of (rows_of read) m.node)) c.deref-4.ensures.value in
     let names = c.self.invariant.volume.names in
     let most = names_most c.self.inside.size c.self.invariant.size in
-    omega (arith, fit, same, names, most)
+    omega (arith, fit, names, most)
 
 pub overflow_sub-self : goal.overflow_sub-self
 overflow_sub-self g c =
@@ -44,7 +43,7 @@ overflow_sub-self g c =
     let m = c.ready.inside in
     let has : has_row number m.node (rows_of slots) ≡ true = ap (λ (move : Move). has_row number move.node (rows_of slots)) c.ready.view_is ∙ (ap (λ (v : Volume). has_row number c.args.ready.node v.nodes) c.self.view_is ∙ c.requires.there) in
     let fit = name_fits c.self.inside.size _ m.node c.self.invariant.volume has in
-    let bytes : c.name_length-old_bytes.result ≡ length (name_of (rows_of slots) m.node) = c.name_length-old_bytes.ensures ∙ ap (λ (read : List (Option NodeRow)). length (name_of (rows_of read) m.node)) c.deref-4.ensures.value in
+    let bytes : c.set_place-old_bytes.result ≡ length (name_of (rows_of slots) m.node) = c.set_place-old_bytes.ensures.bytes in
     let used = c.self.invariant.used_is in
     omega (arith, fit, bytes, used)
 
@@ -57,7 +56,7 @@ overflow_add-self g c =
     let has : has_row number m.node (rows_of slots) ≡ true = ap (λ (move : Move). has_row number move.node (rows_of slots)) c.ready.view_is ∙ (ap (λ (v : Volume). has_row number c.args.ready.node v.nodes) c.self.view_is ∙ c.requires.there) in
     let fit = name_fits c.self.inside.size _ m.node c.self.invariant.volume has in
     let room = (may_move held m.node m.folder m.name may).room in
-    let bytes : c.name_length-old_bytes.result ≡ length (name_of (rows_of slots) m.node) = c.name_length-old_bytes.ensures ∙ ap (λ (read : List (Option NodeRow)). length (name_of (rows_of read) m.node)) c.deref-4.ensures.value in
+    let bytes : c.set_place-old_bytes.result ≡ length (name_of (rows_of slots) m.node) = c.set_place-old_bytes.ensures.bytes in
     let used = c.self.invariant.used_is in
     let most = names_most c.self.inside.size c.self.invariant.size in
     let text : length c.as_str-2.result.now ≡ length m.name = ap length c.as_str-2.ensures in
@@ -80,12 +79,12 @@ invariant_of-self g c =
     (record { free = search.free; taken = search.found; none = search.none }) in
     let placed_at = placed_order i.size (rows_of slots) order c.reorder.new.order.items m.node m.folder m.name c.search-found.result c.self.invariant.volume c.self.invariant.order_is sought (may_move held m.node m.folder m.name may).alone c.reorder.ensures.ok c.reorder.ensures.err in
     let volume = volume_moved held m.node m.folder m.name c.self.invariant.volume has inner folder named may in
-    let bytes : c.name_length-old_bytes.result ≡ length (name_of (rows_of slots) m.node) = c.name_length-old_bytes.ensures ∙ ap (λ (read : List (Option NodeRow)). length (name_of (rows_of read) m.node)) c.deref-4.ensures.value in
+    let bytes : c.set_place-old_bytes.result ≡ length (name_of (rows_of slots) m.node) = c.set_place-old_bytes.ensures.bytes in
     let fit = name_fits i.size _ m.node c.self.invariant.volume has in
     let same = c.self.invariant.used_is in
     let text : length c.as_str-2.result.now ≡ length m.name = ap length c.as_str-2.ensures in
-    kept_moved i.size i.count i.used i.free (i.used - c.name_length-old_bytes.result + length c.as_str-2.result.now) slots c.set_place.new.slots.items order c.reorder.new.order.items m.node m.folder m.name c.self.invariant has volume
-    (omega (arith, bytes, fit, same, text)) c.set_place.ensures.slots c.set_place.ensures.set placed_at
+    kept_moved i.size i.count i.used (i.used - c.set_place-old_bytes.result + length c.as_str-2.result.now) i.holes slots c.set_place-old_bytes.new.slots.items order c.reorder.new.order.items m.node m.folder m.name c.self.invariant has volume
+    (omega (arith, bytes, fit, same, text)) c.set_place-old_bytes.ensures.slots c.set_place-old_bytes.ensures.set c.set_place-old_bytes.ensures.len placed_at
 
 pub returns-clause-kept : goal.returns-clause-kept
 returns-clause-kept g c = (invariant_of-self g c).volume

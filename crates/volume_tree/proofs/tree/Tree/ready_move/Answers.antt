@@ -51,7 +51,7 @@ returns-clause-volume g c =
     (record { free = search.free; taken = search.found; none = search.none }) in
     let own = subst (λ (read : List ℕ). IfOk c.search-found.result (λ (place : ℕ). c.is_other.result ≡ not (slice_index read place == node))) c.deref-4.ensures.value c.is_other.ensures.ok in
     let alone = sought_alone (rows_of slots) order node folder name c.search-found.result c.is_other.result sought own c.if-is_other.false in
-    let bytes : c.name_length-old_bytes.result ≡ length (name_of (rows_of slots) node) = c.name_length-old_bytes.ensures ∙ ap (λ (read : List (Option NodeRow)). length (name_of (rows_of read) node)) c.deref-5.ensures.value in
+    let bytes : c.name_length-old_bytes.result ≡ length (name_of (rows_of slots) node) = c.name_length-old_bytes.ensures.bytes ∙ ap (λ (read : List (Option NodeRow)). length (name_of (rows_of read) node)) c.deref-5.ensures.value in
     let used = c.self.invariant.used_is in
     let room : name_bytes (rows_of slots) + length name ≤ i.size.names + length (name_of (rows_of slots) node) = omega (arith, bytes, used) in
     subst (λ (v : Volume). IsVolume v.size (with_change number node (placed folder name) v.nodes)) c.self.view_is

@@ -33,9 +33,11 @@ loop-place-preserved g c =
     let child : child_number nodes c.loop-place.at c.part.result.now ≡ Some c.index-at.result.now = ap (λ (ns : List NodeRow). child_number ns c.loop-place.at c.part.result.now) (sym rows) ∙ (c.in-Ok.ensures.found ∙ ap Some read) in
     let name : slice_get path c.loop-place.place ≡ Some c.part.result.now = get_take c.args.path.now c.args.names c.loop-place.place c.part.result.now c.loop-place-test.true c.part.ensures.part in
     let looks = c.in-Ok.ensures.looks in
+    let some = c.in-Ok.ensures.some in
     record {
       way = sym (walk_next nodes c.loop-place.at c.loop-place.place path c.part.result.now (Some c.index-at.result.now) name child) ∙ c.loop-place.invariant.way;
       looks = omega (arith, looks);
+      each = omega (arith, some, c.loop-place.invariant.each);
     }
 
 pub returns-clause-value : goal.returns-clause-value

@@ -5,5 +5,6 @@ use Rattle.volume_tree.proofs.tree.Tree.resolve_first.Given as goal
 abbrev pub invariant-loop-place : goal.invariant-loop-place
 invariant-loop-place g l = record {
   way : walk l.self.nodes l.at (drop l.place (take l.names l.path)) ≡ walk l.self.nodes 0 (take l.names l.path);
-  looks : l.steps ≤ l.fn.steps + 22 * l.place;
+  looks : l.steps ≤ l.fn.steps + (22 * l.place + 1);
+  each : l.fn.steps + (l.place + 1) ≤ l.steps;
 }
