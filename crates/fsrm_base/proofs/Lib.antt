@@ -6,3 +6,4 @@ pub mod Members
 pub mod Sums
 pub mod RowLaws
 pub mod SortedRows
+pub mod NumberLaws

@@ -22,7 +22,7 @@ use Rattle.fsrm_model.specs.Valid.{IsVolume}
 use Rattle.std.proofs.lemmas.Bool.Decides.{nat_tests}
 use Rattle.fsrm_base.proofs.Look.{eq_turned}
 use Rattle.fsrm_base.proofs.TestLaws.{eq_same, eq_is}
-use Rattle.number_set.proofs.NumberLaws.{in_without}
+use Rattle.fsrm_base.proofs.NumberLaws.{in_without}
 use Rattle.rescan.specs.Frontiers.{Room, unvisited}
 use Rattle.rescan.proofs.ChangeLaws.{removed}
 use Rattle.rescan.proofs.FollowLaws.{folder_stands}

@@ -26,7 +26,8 @@ use Rattle.fsrm_model.specs.Space.{space}
 use Rattle.fsrm_model.specs.Step.{step, work}
 use Rattle.fsrm_model.specs.Tree.{usage, under}
 use Rattle.fsrm_model.specs.Valid.{is_moment, IsStore}
-use Rattle.fsrm_model.specs.Valued.{is_path, is_empty, is_deed, is_short, is_command}
+use Rattle.fsrm_model.specs.Valid.{is_empty}
+use Rattle.fsrm_model.specs.Valued.{is_path, is_deed, is_short, is_command}
 use Rattle.fsrm_model.specs.Work.{Work}
 use Rattle.fsrm_model.proofs.Ends.{effect_nodes}
 use Rattle.fsrm_model.proofs.FileOrderly.{file_orderly, file_limits, usage_still}

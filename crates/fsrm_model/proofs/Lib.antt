@@ -46,7 +46,6 @@ pub mod FileKept
 pub mod EachCommand
 pub mod ClimbRows
 pub mod DateLaws
-pub mod NumberLaws
 pub mod Numbered
 pub mod UnvisitedKept
 pub mod RowsKept

@@ -17,7 +17,7 @@ use Rattle.fsrm_model.proofs.Climbs.{climb, under_own}
 use Rattle.fsrm_model.proofs.Keeps.{KeepsNode, place_of, tree_of, zero_apart, as_suc, found_folder, folder-new, folder-change, MayGo, removes_of}
 use Rattle.fsrm_base.proofs.Look.{found_key, found_passes, row_of-new_other, row_of-without, has_row-without}
 use Rattle.fsrm_model.proofs.MoveLaws.{Moves, moved_tree, under_other}
-use Rattle.fsrm_model.proofs.NumberLaws.{in_with, in_withs, in_without, in_withouts, set_with, set_withs, set_without, set_withouts}
+use Rattle.fsrm_base.proofs.NumberLaws.{in_with, in_withs, in_without, in_withouts, set_with, set_withs, set_without, set_withouts}
 use Rattle.fsrm_model.proofs.Numbered.{in_numbers, set_numbers}
 use Rattle.fsrm_model.proofs.RemoveLaws.{removed_chain}
 use Rattle.fsrm_base.proofs.TestLaws.{is_or_not, clash, not_true, is_false, both, both_true, is_or, or_later, eq_is, eq_same, eq_turned, not_zero, suc_apart}

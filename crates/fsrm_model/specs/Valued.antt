@@ -12,7 +12,7 @@ use Rattle.fsrm_model.specs.Entry.{paths_of_op, paths, entry_bytes}
 use Rattle.fsrm_model.specs.Limits.{longest_file, longest_entry, last_owner, most_visits}
 use Rattle.fsrm_model.specs.Name.{is_name}
 use Rattle.fsrm_model.specs.Quota.{is_limit}
-use Rattle.fsrm_model.specs.Valid.{is_moment}
+use Rattle.fsrm_model.specs.Valid.{is_moment, is_empty}
 
 abbrev pub is_path : List (List ℕ) → Bool
 is_path path = list_all is_name path
@@ -22,10 +22,6 @@ is_owner owner = nat_le 1 owner && nat_le owner last_owner
 
 abbrev pub is_length : ℕ → Bool
 is_length length = nat_le length longest_file
-
-abbrev pub is_empty : {X : Type 0} → List X → Bool
-is_empty [] = true
-is_empty (x ∷ xs) = false
 
 -- all values but paths
 abbrev pub has_values_of_op : FileOp → Bool

@@ -13,7 +13,7 @@ use Rattle.fsrm_model.proofs.Keeps.{folder_found}
 use Rattle.fsrm_base.proofs.Look.{has_found, found_key}
 use Rattle.fsrm_base.proofs.Sums.{sum_by-map, sum_by-add, sum_by-ones, sum_by_each, sum_by_turned, sum_by_absent, sum_by_only}
 use Rattle.number_set.specs.Numbers.{Numbers}
-use Rattle.number_set.proofs.NumberLaws.{in_with, in_without, set_with, same_set}
+use Rattle.fsrm_base.proofs.NumberLaws.{in_with, in_without, set_with, same_set}
 use Rattle.volume_tree.specs.Volume.{Volume}
 use Rattle.rescan.specs.Frontiers.{Front, Stands, Suits, has_above, unvisited}
 use Rattle.rescan.specs.Tops.{AreTops}

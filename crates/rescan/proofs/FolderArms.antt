@@ -13,7 +13,7 @@ use Rattle.fsrm_model.proofs.Climbs.{under_own}
 use Rattle.fsrm_model.proofs.Keeps.{found_folder, tree_of}
 use Rattle.fsrm_model.proofs.MoveLaws.{Outside, under_before}
 use Rattle.fsrm_model.proofs.ValidLaws.{folder_has}
-use Rattle.number_set.proofs.NumberLaws.{in_with, in_without, set_with, set_without, same_set}
+use Rattle.fsrm_base.proofs.NumberLaws.{in_with, in_without, set_with, set_without, same_set}
 use Rattle.rescan.specs.declared.standing.Standing.{Standing}
 use Rattle.rescan.specs.declared.standing.Standing.TheVariants.{Outside as IsOutside, Visited, Unvisited}
 use Rattle.rescan.specs.Frontiers.{Front, Stands, Follows, scanned, has_above, unvisited}

@@ -20,7 +20,7 @@ use Rattle.fsrm_base.proofs.Look.{found_has, found_key, row_of-without, has_row-
 use Rattle.fsrm_base.proofs.Members.{none_passes}
 use Rattle.fsrm_model.proofs.RemoveLaws.{removed_chain}
 use Rattle.fsrm_model.proofs.UsageLaws.{parent_lacks}
-use Rattle.number_set.proofs.NumberLaws.{in_with, in_without, set_with, set_without, same_set}
+use Rattle.fsrm_base.proofs.NumberLaws.{in_with, in_without, set_with, set_without, same_set}
 use Rattle.rescan.specs.Frontiers.{Front, scanned, has_above, unvisited}
 use Rattle.rescan.specs.Tops.{AreTops}
 use Rattle.rescan.proofs.CountLaws.{is_counted, part, counted_is}

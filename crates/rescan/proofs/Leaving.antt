@@ -14,7 +14,7 @@ use Rattle.fsrm_model.proofs.Climbs.{under_own}
 use Rattle.fsrm_model.proofs.Keeps.{found_folder}
 use Rattle.fsrm_base.proofs.Sums.{sum_by_each, sum_by_nothing}
 use Rattle.fsrm_model.proofs.ValidLaws.{folder_has}
-use Rattle.number_set.proofs.NumberLaws.{in_without, set_without}
+use Rattle.fsrm_base.proofs.NumberLaws.{in_without, set_without}
 use Rattle.rescan.specs.Frontiers.{Room, Front, has_above}
 use Rattle.rescan.specs.Leaves.{counted_below, Leaves}
 use Rattle.rescan.specs.Tops.{AreTops}

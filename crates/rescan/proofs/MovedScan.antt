@@ -16,7 +16,7 @@ use Rattle.fsrm_base.proofs.Look.{found_key}
 use Rattle.fsrm_model.proofs.MoveLaws.{under_after}
 use Rattle.fsrm_model.proofs.Climbs.{under_own}
 use Rattle.fsrm_model.proofs.ValidLaws.{folder_has}
-use Rattle.number_set.proofs.NumberLaws.{in_withs, in_withouts, set_withs, set_withouts, same_set}
+use Rattle.fsrm_base.proofs.NumberLaws.{in_withs, in_withouts, set_withs, set_withouts, same_set}
 use Rattle.rescan.specs.Frontiers.{Front, Stands, Suits, Follows, scanned, has_above, unvisited}
 use Rattle.rescan.specs.Tops.{AreTops}
 use Rattle.rescan.proofs.CountLaws.{is_counted, part, counted_is}

@@ -19,7 +19,7 @@ use Rattle.fsrm_model.proofs.Keeps.{found_folder}
 use Rattle.fsrm_model.proofs.MoveLaws.{Moves}
 use Rattle.fsrm_base.proofs.Sums.{sum_by-map}
 use Rattle.fsrm_model.proofs.ValidLaws.{folder_has}
-use Rattle.number_set.proofs.NumberLaws.{same_set}
+use Rattle.fsrm_base.proofs.NumberLaws.{same_set}
 use Rattle.rescan.specs.Frontiers.{Front, Stands, Follows, scanned, has_above, unvisited}
 use Rattle.rescan.specs.Tops.{AreTops}
 use Rattle.rescan.proofs.CountLaws.{is_counted, part, counted_is}

@@ -17,7 +17,7 @@ use Rattle.fsrm_model.proofs.Keeps.{as_suc, tree_of}
 use Rattle.fsrm_base.proofs.Sums.{sum_by-add}
 use Rattle.fsrm_model.proofs.UsageLaws.{parent_lacks}
 use Rattle.fsrm_model.proofs.ValidLaws.{folder_has}
-use Rattle.number_set.proofs.NumberLaws.{in_withs, set_without, set_withs}
+use Rattle.fsrm_base.proofs.NumberLaws.{in_withs, set_without, set_withs}
 use Rattle.rescan.specs.Frontiers.{Front, scanned, has_above}
 use Rattle.rescan.specs.Visits.{folders_in}
 use Rattle.rescan.proofs.ChildLaws.{ChildFolder, child_folder_of, child_folder_by}

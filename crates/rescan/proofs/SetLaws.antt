@@ -6,7 +6,7 @@ use Rattle.std.specs.Prelude.{slice_get}
 use Rattle.fsrm_base.specs.Numbers.{is_in, is_set, with_number, without_number}
 use Rattle.fsrm_base.proofs.TestLaws.{neither, eq_is, eq_same, lt_test}
 use Rattle.number_set.specs.Numbers.{Numbers}
-use Rattle.number_set.proofs.NumberLaws.{in_with, set_with, same_set, first_once}
+use Rattle.fsrm_base.proofs.NumberLaws.{in_with, set_with, same_set, first_once}
 
 -- the least member is taken out
 without_absent : (n : ℕ) (ns : List ℕ) → is_in ns n ≡ false → without_number n ns ≡ ns

@@ -19,7 +19,7 @@ use Rattle.fsrm_model.proofs.Below.{chain_root, above_all}
 use Rattle.fsrm_model.proofs.Climbs.{climb}
 pub use Rattle.fsrm_model.proofs.UnvisitedKept.{under_child, under_under}
 use Rattle.fsrm_model.proofs.UsageLaws.{parent_lacks}
-use Rattle.number_set.proofs.NumberLaws.{in_filter, set_filter, same_set}
+use Rattle.fsrm_base.proofs.NumberLaws.{in_filter, set_filter, same_set}
 use Rattle.volume_tree.specs.Volume.{Volume}
 use Rattle.rescan.specs.Frontiers.{Front, Stands, Suits, scanned, has_above, unvisited}
 use Rattle.rescan.specs.Tops.{AreTops}

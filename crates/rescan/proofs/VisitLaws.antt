@@ -22,7 +22,7 @@ use Rattle.fsrm_model.proofs.MoveLaws.{own_first}
 use Rattle.fsrm_base.proofs.Sums.{sum_by-add}
 use Rattle.fsrm_model.proofs.UsageLaws.{parent_lacks}
 use Rattle.number_set.specs.Numbers.{Numbers}
-use Rattle.number_set.proofs.NumberLaws.{in_withs, in_without, set_withs, set_without, same_set}
+use Rattle.fsrm_base.proofs.NumberLaws.{in_withs, in_without, set_withs, set_without, same_set}
 use Rattle.volume_tree.specs.Volume.{Volume}
 use Rattle.rescan.specs.Frontiers.{Front, Stands, Follows, has_above, scanned, unvisited}
 use Rattle.rescan.specs.Tops.{AreTops}

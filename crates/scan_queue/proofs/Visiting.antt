@@ -14,7 +14,7 @@ use Rattle.fsrm_base.proofs.EditedRows.{sum_by-without_row}
 use Rattle.fsrm_base.proofs.Sums.{sum_by-ones}
 use Rattle.volume_tree.specs.Volume.{Volume}
 use Rattle.rescan.specs.Frontiers.{Front, Stands, Follows, unvisited, visit_looks}
-use Rattle.number_set.proofs.NumberLaws.{in_filter}
+use Rattle.fsrm_base.proofs.NumberLaws.{in_filter}
 
 -- one visit more, and visits where nothing is left
 pub visits_more : (k : ℕ) (nodes : List NodeRow) (left : List ℕ) → visits (suc k) nodes left ≡ visit nodes (visits k nodes left)
