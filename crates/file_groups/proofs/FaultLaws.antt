@@ -5,10 +5,10 @@ use Rattle.std.specs.Option.{ok_or}
 use Rattle.std.specs.Prelude.{is_some, is_none, nat_le, find}
 use Rattle.std.specs.List.{list_any}
 use Rattle.fsrm_model.specs.declared.row.GroupRow.{GroupRow}
-use Rattle.fsrm_model.specs.Keyed.{row_of}
+use Rattle.fsrm_base.specs.Keyed.{row_of}
 use Rattle.fsrm_model.specs.Patterns.{group_number, has_name, most_groups, number_named, regrouped, texts_of}
-use Rattle.fsrm_model.proofs.Look.{is_some-find, is_some-mapped}
-use Rattle.fsrm_model.proofs.TestLaws.{lt_test, not_lt, le_test}
+use Rattle.fsrm_base.proofs.Look.{is_some-find, is_some-mapped}
+use Rattle.fsrm_base.proofs.TestLaws.{lt_test, not_lt, le_test}
 use Rattle.file_groups.specs.declared.answer.GroupFault.{GroupFault}
 use Rattle.file_groups.specs.declared.answer.GroupFault.TheVariants.{DuplicateName, TableFull, TextsFull}
 use Rattle.file_groups.specs.Faults.{new_fault, patterns_fault, first_fault, fault_if}

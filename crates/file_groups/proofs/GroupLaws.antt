@@ -8,19 +8,17 @@ use Rattle.std.specs.Borrow.{Bor}
 use Rattle.std.specs.Option.{option_copied}
 use Rattle.std.specs.Prelude.{slice_set, filter, find}
 use Rattle.fsrm_model.specs.declared.row.GroupRow.{GroupRow}
-use Rattle.fsrm_model.specs.Keyed.{row_of, has_row, with_row, with_change, least_free}
+use Rattle.fsrm_base.specs.Keyed.{row_of, has_row, with_row, with_change, least_free}
 use Rattle.fsrm_model.specs.Name.{same_name}
 use Rattle.fsrm_model.specs.Patterns.{all_texts, are_apart, group_number, has_name, is_group, is_object_name, is_pattern, most_groups, regrouped, texts_of, with_group, with_patterns, without_group}
-use Rattle.fsrm_model.proofs.ChainLaws.{sum_by-with_row}
-use Rattle.fsrm_model.proofs.ChangeLaws.{sum_by-with_change}
+use Rattle.fsrm_base.proofs.EditedRows.{sum_by-with_row, sum_by-with_change, sum_by-without_row}
 use Rattle.fsrm_model.proofs.Keeps.{same_turned}
-use Rattle.fsrm_model.proofs.Look.{found_key, is_some-find, none_row}
-use Rattle.fsrm_model.proofs.Order.{least_free_is}
-use Rattle.fsrm_model.proofs.RemoveLaws.{sum_by-without_row}
-use Rattle.fsrm_model.proofs.TestLaws.{both, both_true, neither, clash, is_false, lt_test, not_true}
+use Rattle.fsrm_base.proofs.Look.{found_key, is_some-find, none_row}
+use Rattle.fsrm_base.proofs.Order.{least_free_is}
+use Rattle.fsrm_base.proofs.TestLaws.{both, both_true, neither, clash, is_false, lt_test, not_true}
 use Rattle.file_groups.specs.Kept.{AreGroups}
-use Rattle.fsrm_model.specs.Places.{IsAt, IsGap}
-use Rattle.fsrm_model.proofs.SortedRows.{row_found, ascending-set, ascending-insert, ascending-remove, insert_row, remove_found, set_found}
+use Rattle.fsrm_base.specs.Places.{IsAt, IsGap}
+use Rattle.fsrm_base.proofs.SortedRows.{row_found, ascending-set, ascending-insert, ascending-remove, insert_row, remove_found, set_found}
 
 -- ---- tests of all rows, and of some row, after an edit
 all_placed : {X : Type 0} (p : X → Bool) (row x : X) (xs more : List X) (b : Bool) → p row ≡ true → list_all p (x ∷ xs) ≡ true → list_all p more ≡ true → list_all p (cond b (row ∷ x ∷ xs) (x ∷ more)) ≡ true

@@ -1,7 +1,7 @@
 -- Why of all stars only the last one has to be tried again.
 use Rattle.std.proofs.Common.{◌≡◌, ℕ, ◌==◌, ◌≤◌, Bool, true, false, cond, ◌&&◌, ◌||◌, inl, inr, List, [], ◌∷◌, length, refl, sym, ◌∙◌, ap, subst, arith}
 use Rattle.fsrm_model.specs.Patterns.{matches, some_end, one_then, stands_for}
-use Rattle.fsrm_model.proofs.TestLaws.{is_or, or_later, clash, not_true, both}
+use Rattle.fsrm_base.proofs.TestLaws.{is_or, or_later, clash, not_true, both}
 use Rattle.file_groups.specs.Heads.{StandsFirst}
 
 -- a name is an end of itself

@@ -3,7 +3,7 @@ use Rattle.std.specs.Prelude.{◌≡◌, ℕ, ◌+◌, nat_lt, nat_le, Bool, Lis
 use Rattle.std.specs.List.{list_any}
 use Rattle.std.specs.Option.{option_map_or}
 use Rattle.fsrm_model.specs.declared.row.GroupRow.{GroupRow}
-use Rattle.fsrm_model.specs.Keyed.{row_of}
+use Rattle.fsrm_base.specs.Keyed.{row_of}
 use Rattle.fsrm_model.specs.Patterns.{group_number, has_name, most_groups, regrouped, texts_of}
 use Rattle.file_groups.specs.declared.answer.GroupFault.{GroupFault}
 use Rattle.file_groups.specs.declared.answer.GroupFault.TheVariants.{DuplicateName, TableFull, TextsFull, NoMemory}

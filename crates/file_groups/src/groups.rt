@@ -2,7 +2,7 @@
 
 ghost use Rattle.std.specs.Prelude.{◌≡◌, ◌+◌, ◌<◌, ◌^◌, IfOk, IfErr, OnOk, OnErr, [], None, Some, true, false, is_none, length, slice_get};
 ghost use Rattle.std.specs.Option.{option_copied};
-ghost use Rattle.fsrm_model.specs.Keyed.{row_of, has_row};
+ghost use Rattle.fsrm_base.specs.Keyed.{row_of, has_row};
 ghost use Rattle.fsrm_model.specs.Patterns.{all_texts, group_number, in_group_of, is_group, is_object_name, new_group, number_named, texts_of, with_group, with_patterns, without_group};
 ghost use Rattle.file_groups.specs.Faults.{IsFault, group_fault, new_fault, patterns_fault};
 ghost use Rattle.file_groups.specs.Kept.{AreGroups};

@@ -3,9 +3,9 @@
 ghost use Rattle.std.specs.Prelude.{◌≡◌, ◌+◌, ◌<◌, ◌≤◌, ◌^◌, true, false, length, IfOk, IfErr, MatchOption, unwrap_or};
 ghost use Rattle.std.specs.List.{list_all, list_any};
 ghost use Rattle.std.specs.Option.{option_copied};
-ghost use Rattle.fsrm_model.specs.Keyed.{has_row, is_ascending, least_free};
+ghost use Rattle.fsrm_base.specs.Keyed.{has_row, is_ascending, least_free};
 ghost use Rattle.fsrm_model.specs.Patterns.{group_number, in_group, is_group, is_pattern, most_groups, number_named, pattern_matches, regrouped, texts_bytes, texts_of};
-ghost use Rattle.fsrm_model.specs.Places.{IsAt, IsGap};
+ghost use Rattle.fsrm_base.specs.Places.{IsAt, IsGap};
 
 use crate::matching::matches;
 use crate::pattern::Pattern;

@@ -7,22 +7,22 @@ use Rattle.fsrm_model.specs.declared.command.Deed.TheVariants.{File, Usage, Quot
 use Rattle.fsrm_model.specs.declared.command.FileOp.{FileOp}
 use Rattle.fsrm_model.specs.declared.command.FileOp.TheVariants.{Mkdir, Create, Resize, Touch, Move, Remove}
 use Rattle.fsrm_model.specs.declared.command.Refusal.{Refusal}
-use Rattle.fsrm_model.specs.declared.memory.NoMemory.{NoMemory as Wanting}
+use Rattle.fsrm_base.specs.declared.memory.NoMemory.{NoMemory as Wanting}
 use Rattle.fsrm_model.specs.declared.row.Capacity.{Capacity}
 use Rattle.fsrm_model.specs.declared.row.NodeRow.{NodeRow}
 use Rattle.fsrm_model.specs.declared.row.QuotaRow.{QuotaRow}
 use Rattle.fsrm_model.specs.declared.row.Rows.{Rows}
 use Rattle.fsrm_model.specs.FileOps.{target}
-use Rattle.fsrm_model.specs.Keyed.{has_row, row_of, with_change, without_row}
-use Rattle.fsrm_model.specs.Numbers.{is_in, without_number}
+use Rattle.fsrm_base.specs.Keyed.{has_row, row_of, with_change, without_row}
+use Rattle.fsrm_base.specs.Numbers.{is_in, without_number}
 use Rattle.fsrm_model.specs.Quota.{folder_of}
 use Rattle.fsrm_model.specs.QuotaStates.{is_rebuilding, same_head, scan_begun, followed}
 use Rattle.fsrm_model.specs.QuotaWork.{reset}
 use Rattle.fsrm_model.specs.Step.{Stepped, step, work, decided, lasted, unlasting, unacted}
 use Rattle.fsrm_model.specs.Work.{Work}
 use Rattle.fsrm_model.specs.Valid.{IsQueue, IsStore}
-use Rattle.fsrm_model.proofs.Look.{changed_found, found_has, has_row-change, has_row-without, has_row-without_other, row_of-without, eq_turned}
-use Rattle.fsrm_model.proofs.TestLaws.{clash, is_or_not, eq_is}
+use Rattle.fsrm_base.proofs.Look.{changed_found, found_has, has_row-change, has_row-without, has_row-without_other, row_of-without, eq_turned}
+use Rattle.fsrm_base.proofs.TestLaws.{clash, is_or_not, eq_is}
 use Rattle.number_set.proofs.NumberLaws.{in_without}
 use Rattle.scan_queue.specs.Courses.{Course, Scanning, left}
 use Rattle.scan_queue.proofs.Queues.{once_left}

@@ -8,24 +8,23 @@ use Rattle.fsrm_model.specs.declared.row.NodeRow.{NodeRow}
 use Rattle.fsrm_model.specs.declared.row.QuotaRow.{QuotaRow}
 use Rattle.fsrm_model.specs.declared.row.QuotaState.{QuotaState}
 use Rattle.fsrm_model.specs.declared.row.QuotaState.TheVariants.{Complete, Disabled, Rebuilding, Incomplete}
-use Rattle.fsrm_model.specs.Keyed.{row_of, has_row, is_ascending, with_row, with_change, without_row}
+use Rattle.fsrm_base.specs.Keyed.{row_of, has_row, is_ascending, with_row, with_change, without_row}
 use Rattle.fsrm_model.specs.Limits.{latest_moment, most_quotas}
 use Rattle.fsrm_model.specs.Quota.{folder_of, counts, is_complete, is_limit, peaked}
 use Rattle.fsrm_model.specs.QuotaStates.{in_state}
 use Rattle.fsrm_model.specs.Tree.{is_folder, usage}
 use Rattle.fsrm_model.specs.Valid.{AreQuotas, is_moment}
-use Rattle.fsrm_model.proofs.ChangeLaws.{absent_later, ascending_tail, change_absent}
-use Rattle.fsrm_model.proofs.Look.{FoundRow, found_key, found_has, has_found, changed_found, row_of-without, has_row-without, new_found, is_some-find}
-use Rattle.fsrm_model.proofs.Order.{ascending-with_row, ascending-change, ascending-filter, length-with_row, length-change}
-use Rattle.fsrm_model.proofs.TestLaws.{is_or_not, not_true, clash, eq_is, eq_same, lt_is}
+use Rattle.fsrm_base.proofs.EditedRows.{absent_later, ascending_tail, change_absent, without_absent}
+use Rattle.fsrm_base.proofs.Look.{FoundRow, found_key, found_has, has_found, changed_found, row_of-without, has_row-without, new_found, is_some-find}
+use Rattle.fsrm_base.proofs.Order.{ascending-with_row, ascending-change, ascending-filter, length-with_row, length-change}
+use Rattle.fsrm_base.proofs.TestLaws.{is_or_not, not_true, clash, eq_is, eq_same, lt_is}
 use Rattle.quota_usage.specs.declared.change.Counter.{Counter}
 use Rattle.quota_usage.specs.Counters.{counted, used_in, with_counter, without_counter}
 use Rattle.fsrm_engine.specs.Machine.{counter_of, sums_of, IsEngine}
 use Rattle.fsrm_engine.specs.Peaks.{raised}
 use Rattle.fsrm_engine.proofs.PeakLaws.{engine_peaked, peak_stays, peaks_stay, raised_is}
-use Rattle.fsrm_model.proofs.RowLaws.{change_same, each_found, map_same}
+use Rattle.fsrm_base.proofs.RowLaws.{change_same, each_found, map_same}
 use Rattle.fsrm_engine.proofs.SumLaws.{used_found, sums_few, sums_has, sums_with, sums_without, sums_kept}
-use Rattle.fsrm_model.proofs.RemoveLaws.{without_absent}
 
 -- a row that stands for the one before it in ascending rows
 to_front : {X : Type 0} (key : X → ℕ) (row r : X) (rows : List X) → key r ≡ key row → is_ascending key (r ∷ rows) ≡ true → with_row key row rows ≡ row ∷ rows

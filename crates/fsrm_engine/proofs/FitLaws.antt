@@ -10,24 +10,24 @@ use Rattle.fsrm_model.specs.declared.row.Capacity.{Capacity}
 use Rattle.fsrm_model.specs.declared.row.NodeRow.{NodeRow}
 use Rattle.fsrm_model.specs.declared.row.QuotaRow.{QuotaRow}
 use Rattle.fsrm_model.specs.FileOps.{placed}
-use Rattle.fsrm_model.specs.Keyed.{row_of, with_change, without_row}
+use Rattle.fsrm_base.specs.Keyed.{row_of, with_change, without_row}
 use Rattle.fsrm_model.specs.Limits.{longest_file}
 use Rattle.fsrm_model.specs.Quota.{folder_of, counts}
 use Rattle.fsrm_model.specs.Space.{space}
 use Rattle.fsrm_model.specs.Tree.{number, is_under, usage}
 use Rattle.fsrm_model.specs.Valid.{IsVolume, AreQuotas}
 use Rattle.fsrm_model.proofs.ChainLaws.{share, usage_is}
-use Rattle.fsrm_model.proofs.Look.{found_key, has_found}
-use Rattle.fsrm_model.proofs.RemoveLaws.{sum_by-without_row}
+use Rattle.fsrm_base.proofs.Look.{found_key, has_found}
+use Rattle.fsrm_base.proofs.EditedRows.{sum_by-without_row}
 use Rattle.fsrm_model.proofs.Sizes.{length-removed}
-use Rattle.fsrm_model.proofs.TestLaws.{cond_most}
+use Rattle.fsrm_base.proofs.TestLaws.{cond_most}
 use Rattle.quota_usage.specs.declared.change.Change.{Change}
 use Rattle.quota_usage.specs.declared.change.Counter.{Counter}
 use Rattle.quota_usage.specs.Charge.{is_above, charged, Fits}
 use Rattle.quota_usage.specs.Counters.{used_in}
 use Rattle.volume_tree.specs.Volume.{IsCapacity}
 use Rattle.fsrm_engine.specs.Machine.{sums_of}
-use Rattle.fsrm_model.proofs.RowLaws.{each, each_found, all_filter}
+use Rattle.fsrm_base.proofs.RowLaws.{each, each_found, all_filter}
 use Rattle.fsrm_engine.proofs.SumLaws.{shown_of, used_sums}
 use Rattle.fsrm_engine.proofs.ChangeLaws.{Changes}
 use Rattle.fsrm_engine.proofs.WalkLaws.{row_space, nodes_few}

@@ -8,16 +8,16 @@ use Rattle.fsrm_model.specs.declared.row.NodeRow.{NodeRow}
 use Rattle.fsrm_model.specs.declared.row.QuotaRow.{QuotaRow}
 use Rattle.fsrm_model.specs.FileOps.{made_node, target, target_folder, placed, plain}
 use Rattle.fsrm_model.specs.FileWork.{unvisited_in, file_effect}
-use Rattle.fsrm_model.specs.Keyed.{has_row, with_row, with_change}
-use Rattle.fsrm_model.specs.Numbers.{is_in, without_number}
+use Rattle.fsrm_base.specs.Keyed.{has_row, with_row, with_change}
+use Rattle.fsrm_base.specs.Numbers.{is_in, without_number}
 use Rattle.fsrm_model.specs.Scan.{unvisited_with, unvisited_moved}
 use Rattle.fsrm_model.specs.Tree.{number, node_of, fresh, is_folder, folder_part, last_name, resolve, chain}
 use Rattle.fsrm_model.specs.Valid.{IsVolume}
-use Rattle.fsrm_model.proofs.Look.{found_has}
+use Rattle.fsrm_base.proofs.Look.{found_has}
 use Rattle.fsrm_model.proofs.ChainLaws.{Has, chain-new}
 use Rattle.fsrm_model.proofs.Keeps.{found_folder, tree_of, as_suc}
-use Rattle.fsrm_model.proofs.Order.{least_free_is}
-use Rattle.fsrm_model.proofs.TestLaws.{clash, not_true, eq_is}
+use Rattle.fsrm_base.proofs.Order.{least_free_is}
+use Rattle.fsrm_base.proofs.TestLaws.{clash, not_true, eq_is}
 use Rattle.fsrm_model.proofs.ValidLaws.{folder_has}
 use Rattle.rescan.proofs.FollowLaws.{made_back, made_found}
 use Rattle.scan_queue.specs.Courses.{Course, Scanning, Goes, left}

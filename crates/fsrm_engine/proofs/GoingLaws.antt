@@ -13,15 +13,15 @@ use Rattle.fsrm_model.specs.declared.row.QuotaRow.{QuotaRow}
 use Rattle.fsrm_model.specs.declared.row.Rows.{Rows}
 use Rattle.fsrm_model.specs.FileOps.{target}
 use Rattle.fsrm_model.specs.FileWork.{file_effect}
-use Rattle.fsrm_model.specs.Numbers.{is_in, without_number}
+use Rattle.fsrm_base.specs.Numbers.{is_in, without_number}
 use Rattle.fsrm_model.specs.QuotaStates.{head, same_head, scan_begun}
 use Rattle.fsrm_model.specs.Scan.{folders_under}
 use Rattle.fsrm_model.specs.Step.{Stepped, step}
 use Rattle.fsrm_model.specs.Tree.{node_of, is_folder, children, resolve}
 use Rattle.fsrm_model.specs.Valid.{IsVolume}
 use Rattle.std.proofs.lemmas.Bool.Decides.{nat_tests}
-use Rattle.fsrm_model.proofs.Look.{eq_turned}
-use Rattle.fsrm_model.proofs.TestLaws.{eq_same, eq_is}
+use Rattle.fsrm_base.proofs.Look.{eq_turned}
+use Rattle.fsrm_base.proofs.TestLaws.{eq_same, eq_is}
 use Rattle.number_set.proofs.NumberLaws.{in_without}
 use Rattle.rescan.specs.Frontiers.{unvisited}
 use Rattle.rescan.proofs.ChangeLaws.{removed}

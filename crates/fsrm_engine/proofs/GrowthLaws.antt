@@ -12,7 +12,7 @@ use Rattle.fsrm_model.specs.declared.row.NodeRow.{NodeRow}
 use Rattle.fsrm_model.specs.declared.row.QuotaRow.{QuotaRow}
 use Rattle.fsrm_model.specs.Check.{Check, ◌when◌, first}
 use Rattle.fsrm_model.specs.FileOps.{target, resized, made_node, placed}
-use Rattle.fsrm_model.specs.Keyed.{row_of, has_row, with_row, with_change}
+use Rattle.fsrm_base.specs.Keyed.{row_of, has_row, with_row, with_change}
 use Rattle.fsrm_model.specs.Leads.{leads_to_file}
 use Rattle.fsrm_model.specs.Quota.{folder_of, exceeded, peaked}
 use Rattle.fsrm_model.specs.Space.{alloc, space}
@@ -21,10 +21,10 @@ use Rattle.fsrm_model.specs.Valid.{IsVolume, AreQuotas, is_moment}
 use Rattle.fsrm_model.proofs.ChangeLaws.{KeepsPlace, chain-change}
 use Rattle.fsrm_model.proofs.Climbs.{shorter}
 use Rattle.fsrm_model.proofs.Resolves.{resolved}
-use Rattle.fsrm_model.proofs.Look.{has_row-change}
+use Rattle.fsrm_base.proofs.Look.{has_row-change}
 use Rattle.fsrm_model.proofs.Keeps.{tree_of, found_folder, folder-new, folder-change}
-use Rattle.fsrm_model.proofs.Order.{least_free_is}
-use Rattle.fsrm_model.proofs.TestLaws.{clash, both}
+use Rattle.fsrm_base.proofs.Order.{least_free_is}
+use Rattle.fsrm_base.proofs.TestLaws.{clash, both}
 use Rattle.fsrm_objects.specs.Tables.{Tables}
 use Rattle.quota_usage.specs.declared.change.Change.{Change}
 use Rattle.quota_usage.specs.declared.change.Counter.{Counter}

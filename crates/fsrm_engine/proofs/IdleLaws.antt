@@ -15,7 +15,7 @@ use Rattle.fsrm_model.specs.declared.row.NodeRow.{NodeRow}
 use Rattle.fsrm_model.specs.declared.row.QuotaRow.{QuotaRow}
 use Rattle.fsrm_model.specs.Check.{◌when◌, first}
 use Rattle.fsrm_model.specs.FileOps.{made_node, touched, target}
-use Rattle.fsrm_model.specs.Keyed.{row_of, has_row, is_ascending, with_row, with_change, without_row}
+use Rattle.fsrm_base.specs.Keyed.{row_of, has_row, is_ascending, with_row, with_change, without_row}
 use Rattle.fsrm_model.specs.Limits.{longest_file}
 use Rattle.fsrm_model.specs.Quota.{folder_of, counts, peaked, used_of}
 use Rattle.fsrm_model.specs.Space.{alloc, space}
@@ -26,11 +26,12 @@ use Rattle.fsrm_model.proofs.ChainLaws.{Has, usage-new}
 use Rattle.fsrm_model.proofs.ChangeLaws.{KeepsPlace, usage-change}
 use Rattle.fsrm_model.proofs.Climbs.{shorter}
 use Rattle.fsrm_model.proofs.Keeps.{tree_of, folder-new, folder-change, found_folder, MayGo, removes_of, as_suc}
-use Rattle.fsrm_model.proofs.Look.{is_some-find, found_key, found_has, has_found, row_of-without, has_row-without, none_filtered, is_some-mapped}
-use Rattle.fsrm_model.proofs.Order.{ascending-filter, least_free_is}
-use Rattle.fsrm_model.proofs.RemoveLaws.{usage-removed, removed_chain, without_absent}
+use Rattle.fsrm_base.proofs.Look.{is_some-find, found_key, found_has, has_found, row_of-without, has_row-without, none_filtered, is_some-mapped}
+use Rattle.fsrm_base.proofs.Order.{ascending-filter, least_free_is}
+use Rattle.fsrm_model.proofs.RemoveLaws.{usage-removed, removed_chain}
+use Rattle.fsrm_base.proofs.EditedRows.{without_absent}
 use Rattle.fsrm_model.proofs.Resolves.{resolved}
-use Rattle.fsrm_model.proofs.TestLaws.{eq_is, clash, not_true}
+use Rattle.fsrm_base.proofs.TestLaws.{eq_is, clash, not_true}
 use Rattle.fsrm_model.proofs.ValidLaws.{folder_has, found_parent}
 use Rattle.fsrm_objects.specs.Tables.{Tables, without_quota}
 use Rattle.quota_usage.specs.declared.change.Change.{Change}
@@ -45,7 +46,7 @@ use Rattle.fsrm_engine.specs.Places.{IsFile}
 use Rattle.fsrm_engine.proofs.ChangeLaws.{Changes, changes_removed, not_zero}
 use Rattle.fsrm_engine.proofs.PeakLaws.{peaks_stay, quotas_kept, counters_charged}
 use Rattle.fsrm_engine.proofs.PlaceLaws.{shown_folder, target_is}
-use Rattle.fsrm_model.proofs.RowLaws.{each_found, all_filter, map_same}
+use Rattle.fsrm_base.proofs.RowLaws.{each_found, all_filter, map_same}
 use Rattle.fsrm_engine.proofs.StepLaws.{machine, due, asked_of, done_at}
 use Rattle.fsrm_engine.proofs.SumLaws.{shown_of, used_sums, sums_without}
 use Rattle.fsrm_engine.proofs.WalkLaws.{usage_small}

@@ -9,14 +9,14 @@ use Rattle.fsrm_model.specs.declared.row.NodeRow.{NodeRow}
 use Rattle.fsrm_model.specs.declared.row.QuotaRow.{QuotaRow}
 use Rattle.fsrm_model.specs.Cost.{op_cost}
 use Rattle.fsrm_model.specs.FileOps.{placed}
-use Rattle.fsrm_model.specs.Keyed.{has_row, with_change}
+use Rattle.fsrm_base.specs.Keyed.{has_row, with_change}
 use Rattle.fsrm_model.specs.Leads.{leads_to_folder}
 use Rattle.fsrm_model.specs.Quota.{exceeded}
 use Rattle.fsrm_model.specs.Tree.{number, name_of, parent_of, is_folder, is_under, under, chain, resolve, child_number, name_bytes}
 use Rattle.fsrm_model.specs.Valid.{IsVolume, AreQuotas}
 use Rattle.fsrm_model.proofs.Climbs.{shorter}
 use Rattle.fsrm_model.proofs.Keeps.{tree_of}
-use Rattle.fsrm_model.proofs.Look.{has_row-change, found_has, has_found}
+use Rattle.fsrm_base.proofs.Look.{has_row-change, found_has, has_found}
 use Rattle.fsrm_model.proofs.Resolves.{resolved}
 use Rattle.fsrm_model.proofs.UsageLaws.{count_of_file}
 use Rattle.fsrm_objects.specs.Tables.{Tables}

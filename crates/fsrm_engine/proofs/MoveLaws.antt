@@ -12,11 +12,11 @@ use Rattle.fsrm_model.specs.declared.row.QuotaRow.{QuotaRow}
 use Rattle.fsrm_model.specs.Check.{Check, ◌when◌, first}
 use Rattle.fsrm_model.specs.Quota.{exceeded}
 use Rattle.fsrm_model.specs.FileOps.{target, target_folder, placed}
-use Rattle.fsrm_model.specs.Keyed.{has_row, with_change}
+use Rattle.fsrm_base.specs.Keyed.{has_row, with_change}
 use Rattle.fsrm_model.specs.Leads.{is_root, leads, leads_to_folder, leads_to_other}
 use Rattle.fsrm_model.specs.Tree.{number, name_of, is_folder, is_under, resolve, folder_part, last_name, child_number, name_bytes}
 use Rattle.fsrm_model.specs.Valid.{IsVolume}
-use Rattle.fsrm_model.proofs.TestLaws.{clash}
+use Rattle.fsrm_base.proofs.TestLaws.{clash}
 use Rattle.fsrm_model.proofs.Files.{below_file}
 use Rattle.fsrm_model.proofs.Sizes.{name_bytes-placed}
 use Rattle.volume_tree.specs.declared.answer.TreeFault.TheVariants as fault

@@ -11,11 +11,11 @@ use Rattle.fsrm_model.specs.declared.row.QuotaRow.{QuotaRow}
 use Rattle.fsrm_model.specs.Check.{Check, ◌when◌, first}
 use Rattle.fsrm_model.specs.Quota.{exceeded}
 use Rattle.fsrm_model.specs.FileOps.{made_node, new_node}
-use Rattle.fsrm_model.specs.Keyed.{with_row}
+use Rattle.fsrm_base.specs.Keyed.{with_row}
 use Rattle.fsrm_model.specs.Leads.{is_root, leads, leads_to_folder}
 use Rattle.fsrm_model.specs.Tree.{number, folder_part, last_name, child_number, name_bytes}
 use Rattle.fsrm_model.specs.Valid.{IsVolume}
-use Rattle.fsrm_model.proofs.Order.{length-with_row}
+use Rattle.fsrm_base.proofs.Order.{length-with_row}
 use Rattle.fsrm_model.proofs.Sizes.{name_bytes-new}
 use Rattle.volume_tree.specs.declared.answer.TreeFault.TheVariants as fault
 use Rattle.volume_tree.specs.Volume.{Volume, fault_if, first_fault, new_fault, with_node}

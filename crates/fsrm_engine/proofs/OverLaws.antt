@@ -8,11 +8,11 @@ use Rattle.fsrm_model.specs.declared.row.Capacity.{Capacity}
 use Rattle.fsrm_model.specs.declared.row.NodeRow.{NodeRow}
 use Rattle.fsrm_model.specs.declared.row.QuotaRow.{QuotaRow}
 use Rattle.fsrm_model.specs.declared.row.Rows.{Rows}
-use Rattle.fsrm_model.specs.Keyed.{row_of, is_ascending}
+use Rattle.fsrm_base.specs.Keyed.{row_of, is_ascending}
 use Rattle.fsrm_model.specs.Quota.{folder_of, counts, refuses, over, deepest, exceeded}
 use Rattle.fsrm_model.specs.Tree.{is_under, usage}
 use Rattle.fsrm_model.specs.Valid.{AreQuotas}
-use Rattle.fsrm_model.proofs.TestLaws.{both}
+use Rattle.fsrm_base.proofs.TestLaws.{both}
 use Rattle.fsrm_model.proofs.ValidLaws.{folder_has}
 use Rattle.quota_usage.specs.declared.change.Change.{Change}
 use Rattle.quota_usage.specs.declared.change.Counter.{Counter}
@@ -21,7 +21,7 @@ use Rattle.quota_usage.specs.Charge.{is_above, charged, refuses_change, over_by,
 use Rattle.quota_usage.specs.Counters.{used_in}
 use Rattle.fsrm_engine.specs.Faults.{exceeded_refusal}
 use Rattle.fsrm_engine.specs.Machine.{sums_of}
-use Rattle.fsrm_model.proofs.RowLaws.{each, each_found, filter_same, find_same, all_same, all_filter, find_has}
+use Rattle.fsrm_base.proofs.RowLaws.{each, each_found, filter_same, find_same, all_same, all_filter, find_has}
 use Rattle.fsrm_engine.proofs.SumLaws.{used_found}
 use Rattle.fsrm_engine.proofs.ChangeLaws.{Changes}
 use Rattle.quota_usage.proofs.Deepest.{rises_at}

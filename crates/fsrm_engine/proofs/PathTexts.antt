@@ -6,10 +6,10 @@ use Rattle.std.specs.Prelude.{map, reverse, codes}
 use Rattle.std.specs.List.{join_with_byte}
 use Rattle.fsrm_model.specs.declared.row.Capacity.{Capacity}
 use Rattle.fsrm_model.specs.declared.row.NodeRow.{NodeRow}
-use Rattle.fsrm_model.specs.Keyed.{has_row}
+use Rattle.fsrm_base.specs.Keyed.{has_row}
 use Rattle.fsrm_model.specs.Tree.{number, name_of, chain, path_of}
 use Rattle.fsrm_model.specs.Valid.{IsVolume}
-use Rattle.fsrm_model.proofs.TestLaws.{eq_is}
+use Rattle.fsrm_base.proofs.TestLaws.{eq_is}
 use Rattle.fsrm_model.proofs.DepthLaws.{some_member}
 use Rattle.fsrm_model.proofs.Keeps.{tree_of}
 use Rattle.fsrm_model.proofs.Walks.{found_name}

@@ -8,12 +8,12 @@ use Rattle.std.specs.Option.{option_map_or}
 use Rattle.fsrm_model.specs.declared.row.Capacity.{Capacity}
 use Rattle.fsrm_model.specs.declared.row.NodeRow.{NodeRow}
 use Rattle.fsrm_model.specs.declared.row.QuotaRow.{QuotaRow}
-use Rattle.fsrm_model.specs.Keyed.{row_of, is_ascending}
+use Rattle.fsrm_base.specs.Keyed.{row_of, is_ascending}
 use Rattle.fsrm_model.specs.Quota.{folder_of, counts, is_limit, peaked}
 use Rattle.fsrm_model.specs.Tree.{is_folder, usage}
 use Rattle.fsrm_model.specs.Valid.{IsVolume, AreQuotas, is_moment}
-use Rattle.fsrm_model.proofs.Look.{find-map, found_key}
-use Rattle.fsrm_model.proofs.Order.{ascending-map}
+use Rattle.fsrm_base.proofs.Look.{find-map, found_key}
+use Rattle.fsrm_base.proofs.Order.{ascending-map}
 use Rattle.quota_usage.specs.declared.change.Change.{Change}
 use Rattle.quota_usage.specs.declared.change.Counter.{Counter}
 use Rattle.quota_usage.specs.Charge.{is_above, charged_counter}
@@ -21,7 +21,7 @@ use Rattle.quota_usage.specs.Counters.{used_in}
 use Rattle.volume_tree.specs.Volume.{IsCapacity}
 use Rattle.fsrm_engine.specs.Machine.{sums_of, IsEngine}
 use Rattle.fsrm_engine.specs.Peaks.{raised, raised_above}
-use Rattle.fsrm_model.proofs.RowLaws.{each_found, map_same, map_id}
+use Rattle.fsrm_base.proofs.RowLaws.{each_found, map_same, map_id}
 use Rattle.fsrm_engine.proofs.SumLaws.{used_found, sums_kept, sums_follow}
 use Rattle.fsrm_engine.proofs.ChangeLaws.{Changes}
 

@@ -10,12 +10,12 @@ use Rattle.fsrm_model.specs.declared.row.NodeRow.{NodeRow}
 use Rattle.fsrm_model.specs.declared.row.QuotaRow.{QuotaRow}
 use Rattle.fsrm_model.specs.Limits.{longest_file}
 use Rattle.fsrm_model.specs.FileOps.{target}
-use Rattle.fsrm_model.specs.Keyed.{has_row}
+use Rattle.fsrm_base.specs.Keyed.{has_row}
 use Rattle.fsrm_model.specs.Leads.{is_root, leads, leads_to_folder}
 use Rattle.fsrm_model.specs.Tree.{number, is_folder, child_number, chain, path_of, resolve, folder_part, last_name}
 use Rattle.fsrm_model.specs.Valid.{IsVolume}
-use Rattle.fsrm_model.proofs.Look.{found_key}
-use Rattle.fsrm_model.proofs.TestLaws.{not_true, eq_is, suc_apart}
+use Rattle.fsrm_base.proofs.Look.{found_key}
+use Rattle.fsrm_base.proofs.TestLaws.{not_true, eq_is, suc_apart}
 use Rattle.fsrm_model.proofs.Walks.{path_root}
 use Rattle.fsrm_model.proofs.Resolves.{resolve_root, resolve_child, resolved, some_name}
 use Rattle.fsrm_model.proofs.Keeps.{found_folder}

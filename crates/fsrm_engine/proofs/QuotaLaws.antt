@@ -11,7 +11,7 @@ use Rattle.fsrm_model.specs.declared.row.NodeRow.{NodeRow}
 use Rattle.fsrm_model.specs.declared.row.QuotaRow.{QuotaRow}
 use Rattle.fsrm_model.specs.Check.{◌when◌, first}
 use Rattle.fsrm_model.specs.FileOps.{target}
-use Rattle.fsrm_model.specs.Keyed.{row_of, has_row, with_change, without_row}
+use Rattle.fsrm_base.specs.Keyed.{row_of, has_row, with_change, without_row}
 use Rattle.fsrm_model.specs.Leads.{leads_to_folder}
 use Rattle.fsrm_model.specs.Limits.{latest_moment}
 use Rattle.fsrm_model.specs.Quota.{folder_of, counts, is_limit, peaked}
@@ -19,10 +19,10 @@ use Rattle.fsrm_model.specs.QuotaWork.{quota_checks, reset}
 use Rattle.fsrm_model.specs.Step.{step}
 use Rattle.fsrm_model.specs.Tree.{usage}
 use Rattle.fsrm_model.specs.Valid.{IsVolume, AreQuotas, is_moment}
-use Rattle.fsrm_model.proofs.Look.{found_key, found_has, has_found, changed_key, changed_found}
-use Rattle.fsrm_model.proofs.Order.{ascending-change, ascending-filter, length-change}
+use Rattle.fsrm_base.proofs.Look.{found_key, found_has, has_found, changed_key, changed_found}
+use Rattle.fsrm_base.proofs.Order.{ascending-change, ascending-filter, length-change}
 use Rattle.fsrm_objects.specs.Tables.{peaked_at}
-use Rattle.fsrm_model.proofs.SortedRows.{has_lent}
+use Rattle.fsrm_base.proofs.SortedRows.{has_lent}
 use Rattle.quota_usage.specs.declared.change.Counter.{Counter}
 use Rattle.quota_usage.specs.Counters.{counted, used_in, without_counter}
 use Rattle.volume_tree.specs.Volume.{Volume}
@@ -30,7 +30,7 @@ use Rattle.fsrm_engine.specs.Machine.{IsSound, Machine, Takes, rows_at, sums_of,
 use Rattle.fsrm_engine.specs.Places.{IsFolder}
 use Rattle.fsrm_engine.proofs.PeakLaws.{engine_peaked, peaks_stay}
 use Rattle.fsrm_engine.proofs.PlaceLaws.{target_is, leads_to_folder_is}
-use Rattle.fsrm_model.proofs.RowLaws.{change_same}
+use Rattle.fsrm_base.proofs.RowLaws.{change_same}
 use Rattle.fsrm_engine.proofs.StepLaws.{machine, asked_of, due, done_at}
 use Rattle.fsrm_engine.proofs.SumLaws.{used_found, sums_without, sums_kept}
 use Rattle.fsrm_engine.proofs.CountingLaws.{is_moment_of, without_found, filter_few}

@@ -5,23 +5,24 @@ use Rattle.std.proofs.lemmas.Option.{same_Some}
 use Rattle.std.specs.Prelude.{map, is_some, if◌then◌else◌}
 use Rattle.std.specs.Option.{option_map_or}
 use Rattle.fsrm_model.specs.declared.row.QuotaRow.{QuotaRow}
-use Rattle.fsrm_model.specs.Keyed.{row_of, is_ascending, with_change}
+use Rattle.fsrm_base.specs.Keyed.{row_of, is_ascending, with_change}
 use Rattle.fsrm_model.specs.Quota.{folder_of}
 use Rattle.fsrm_model.specs.declared.row.NodeRow.{NodeRow}
 use Rattle.fsrm_model.specs.Tree.{parent_of, is_under}
 use Rattle.fsrm_model.proofs.Below.{above_all}
-use Rattle.fsrm_model.proofs.ChainLaws.{IsTree, Has, is_in}
-use Rattle.fsrm_model.proofs.ChangeLaws.{change_absent}
+use Rattle.fsrm_model.proofs.ChainLaws.{IsTree, Has}
+use Rattle.fsrm_base.specs.Numbers.{is_in}
+use Rattle.fsrm_base.proofs.EditedRows.{change_absent}
 use Rattle.fsrm_model.proofs.Climbs.{climb, under_own}
-use Rattle.fsrm_model.proofs.TestLaws.{eq_is, is_or_not, or_later}
+use Rattle.fsrm_base.proofs.TestLaws.{eq_is, is_or_not, or_later}
 use Rattle.volume_tree.specs.declared.answer.NodeView.{NodeView}
 use Rattle.volume_tree.specs.Volume.{Shows}
-use Rattle.fsrm_model.proofs.Look.{found_key, is_some-find}
+use Rattle.fsrm_base.proofs.Look.{found_key, is_some-find}
 use Rattle.fsrm_objects.specs.Tables.{peaked_at}
 use Rattle.quota_usage.specs.declared.change.Counter.{Counter}
 use Rattle.quota_usage.specs.Counters.{used_in}
 use Rattle.fsrm_engine.specs.Peaks.{raised, raised_above}
-use Rattle.fsrm_model.proofs.RowLaws.{change_same, change_none}
+use Rattle.fsrm_base.proofs.RowLaws.{change_same, change_none}
 use Rattle.fsrm_model.proofs.ValidLaws.{found_parent}
 
 raised_by : (counters : List Counter) (m : ℕ) (q : QuotaRow) (o : Option ℕ) → used_in counters q.folder ≡ o → raised counters m q ≡ option_map_or (λ used. if nat_lt q.peak used then record q { peak = used; peak_at = m } else q) o q

@@ -10,7 +10,7 @@ use Rattle.fsrm_model.specs.declared.command.FileOp.TheVariants.{Mkdir, Create, 
 use Rattle.fsrm_model.specs.declared.command.Outcome.TheVariants.{Refused, Done}
 use Rattle.fsrm_model.specs.declared.command.Refusal.{Refusal}
 use Rattle.fsrm_model.specs.declared.command.Refusal.TheVariants.{ClockBack}
-use Rattle.fsrm_model.specs.declared.memory.NoMemory.{NoMemory as Wanting}
+use Rattle.fsrm_base.specs.declared.memory.NoMemory.{NoMemory as Wanting}
 use Rattle.fsrm_model.specs.declared.row.Capacity.{Capacity}
 use Rattle.fsrm_model.specs.declared.row.NodeRow.{NodeRow}
 use Rattle.fsrm_model.specs.declared.row.Rows.{Rows}
@@ -20,7 +20,7 @@ use Rattle.fsrm_model.specs.FileWork.{file_effect, unvisited_in}
 use Rattle.fsrm_model.specs.QuotaStates.{head, same_head, scan_begun, followed}
 use Rattle.fsrm_model.specs.Step.{Stepped, step, work, decided}
 use Rattle.fsrm_model.proofs.EachCommand.{refused_same}
-use Rattle.fsrm_model.proofs.TestLaws.{eq_same}
+use Rattle.fsrm_base.proofs.TestLaws.{eq_same}
 use Rattle.scan_queue.specs.Courses.{Course, Goes, left}
 use Rattle.volume_tree.specs.Volume.{Volume}
 use Rattle.volume_tree.specs.declared.answer.TreeFault.{TreeFault}

@@ -11,8 +11,8 @@ use Rattle.fsrm_model.specs.declared.row.QuotaState.{QuotaState}
 use Rattle.fsrm_model.specs.declared.row.QuotaState.TheVariants.{Complete, Disabled, Rebuilding, Incomplete}
 use Rattle.fsrm_model.specs.declared.row.Rows.{Rows}
 use Rattle.fsrm_model.specs.Check.{◌when◌, first}
-use Rattle.fsrm_model.specs.Keyed.{has_row, row_of, with_change}
-use Rattle.fsrm_model.specs.Numbers.{is_in, without_number}
+use Rattle.fsrm_base.specs.Keyed.{has_row, row_of, with_change}
+use Rattle.fsrm_base.specs.Numbers.{is_in, without_number}
 use Rattle.fsrm_model.specs.Quota.{folder_of, counts, is_complete, peaked}
 use Rattle.fsrm_model.specs.QuotaStates.{is_rebuilding, in_state, queued, head, scan_begun, with_state}
 use Rattle.fsrm_model.specs.Scan.{visits}
@@ -20,7 +20,7 @@ use Rattle.fsrm_model.specs.ScanWork.{step_work}
 use Rattle.fsrm_model.specs.Step.{step}
 use Rattle.fsrm_model.specs.Tree.{usage}
 use Rattle.fsrm_model.specs.Valid.{IsQueue}
-use Rattle.fsrm_model.proofs.TestLaws.{eq_same, suc_apart}
+use Rattle.fsrm_base.proofs.TestLaws.{eq_same, suc_apart}
 use Rattle.scan_queue.specs.Courses.{Course, Turns}
 use Rattle.fsrm_engine.specs.Machine.{Machine, Takes, AreScans, volume_of, lasting_rows, rows_with, with_rows}
 use Rattle.fsrm_engine.proofs.WholeLaws.{done_whole, passing_whole}

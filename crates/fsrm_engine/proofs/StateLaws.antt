@@ -16,7 +16,7 @@ use Rattle.fsrm_model.specs.declared.row.QuotaState.TheVariants.{Complete, Disab
 use Rattle.fsrm_model.specs.declared.row.Rows.{Rows}
 use Rattle.fsrm_model.specs.Check.{Check, ◌when◌, first}
 use Rattle.fsrm_model.specs.FileOps.{target}
-use Rattle.fsrm_model.specs.Keyed.{row_of, has_row, is_ascending, with_row, with_change}
+use Rattle.fsrm_base.specs.Keyed.{row_of, has_row, is_ascending, with_row, with_change}
 use Rattle.fsrm_model.specs.Leads.{leads_to_folder}
 use Rattle.fsrm_model.specs.Limits.{most_quotas}
 use Rattle.fsrm_model.specs.Quota.{folder_of, quota_of, is_complete, peaks}
@@ -26,14 +26,14 @@ use Rattle.fsrm_model.specs.Space.{space}
 use Rattle.fsrm_model.specs.Step.{step}
 use Rattle.fsrm_model.specs.Tree.{node_of, is_folder, children, usage}
 use Rattle.fsrm_model.specs.Valid.{IsVolume}
-use Rattle.fsrm_model.proofs.Look.{is_some-find}
-use Rattle.fsrm_model.proofs.Order.{length-with_row}
-use Rattle.fsrm_model.proofs.TestLaws.{clash, eq_is}
+use Rattle.fsrm_base.proofs.Look.{is_some-find}
+use Rattle.fsrm_base.proofs.Order.{length-with_row}
+use Rattle.fsrm_base.proofs.TestLaws.{clash, eq_is}
 use Rattle.fsrm_model.proofs.UsageLaws.{usage_children}
 use Rattle.fsrm_engine.specs.Machine.{Machine, Takes, IsLevel, with_rows}
 use Rattle.fsrm_engine.specs.Places.{IsFolder}
 use Rattle.fsrm_engine.proofs.PlaceLaws.{target_is, leads_to_folder_is}
-use Rattle.fsrm_model.proofs.RowLaws.{change_same}
+use Rattle.fsrm_base.proofs.RowLaws.{change_same}
 use Rattle.fsrm_engine.proofs.WholeLaws.{asks_of, done_whole}
 use Rattle.rescan.proofs.ChangeLaws.{change_twice}
 

@@ -6,12 +6,12 @@ use Rattle.std.specs.List.{AllByRecursion}
 use Rattle.fsrm_model.specs.declared.row.Capacity.{Capacity}
 use Rattle.fsrm_model.specs.declared.row.NodeRow.{NodeRow}
 use Rattle.fsrm_model.specs.declared.row.QuotaRow.{QuotaRow}
-use Rattle.fsrm_model.specs.Keyed.{row_of, has_row, is_ascending, with_row, without_row}
+use Rattle.fsrm_base.specs.Keyed.{row_of, has_row, is_ascending, with_row, without_row}
 use Rattle.fsrm_model.specs.Quota.{folder_of, counts}
 use Rattle.fsrm_model.specs.Tree.{usage}
-use Rattle.fsrm_model.proofs.ChangeLaws.{absent_later, ascending_tail}
-use Rattle.fsrm_model.proofs.Look.{none_row, is_some-find}
-use Rattle.fsrm_model.proofs.TestLaws.{eq_is, both, lt_is, lt_test}
+use Rattle.fsrm_base.proofs.EditedRows.{absent_later, ascending_tail}
+use Rattle.fsrm_base.proofs.Look.{none_row, is_some-find}
+use Rattle.fsrm_base.proofs.TestLaws.{eq_is, both, lt_is, lt_test}
 use Rattle.quota_usage.specs.declared.change.Counter.{Counter}
 use Rattle.quota_usage.specs.Counters.{counted, used_in}
 use Rattle.fsrm_engine.specs.Machine.{counter_of, sums_of}

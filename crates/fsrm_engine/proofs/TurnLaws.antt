@@ -7,21 +7,20 @@ use Rattle.fsrm_model.specs.declared.row.NodeRow.{NodeRow}
 use Rattle.fsrm_model.specs.declared.row.QuotaRow.{QuotaRow}
 use Rattle.fsrm_model.specs.declared.row.QuotaState.{QuotaState}
 use Rattle.fsrm_model.specs.declared.row.Rows.{Rows}
-use Rattle.fsrm_model.specs.Keyed.{row_of, has_row, with_row, with_change, without_row}
-use Rattle.fsrm_model.specs.Numbers.{itself, is_in, each_once, without_number}
+use Rattle.fsrm_base.specs.Keyed.{row_of, has_row, with_row, with_change, without_row}
+use Rattle.fsrm_base.specs.Numbers.{itself, is_in, each_once, without_number}
 use Rattle.fsrm_model.specs.Quota.{folder_of, counts, peaked}
 use Rattle.fsrm_model.specs.QuotaStates.{is_rebuilding, queued, head, same_head, scan_begun, followed}
 use Rattle.fsrm_model.specs.Scan.{AreUnvisited}
 use Rattle.fsrm_model.specs.Tree.{usage}
 use Rattle.fsrm_model.specs.Valid.{IsStore, IsQueue, AreLeft}
-use Rattle.fsrm_model.proofs.ChainLaws.{find-with_row_same}
-use Rattle.fsrm_model.proofs.Look.{is_some-find, found_key, found_has, find-map, row_of-change, has_row-change, changed_found, row_of-new_other, has_row-without, has_row-without_other}
-use Rattle.fsrm_model.proofs.TestLaws.{is_or_not, both, both_true, neither, eq_is, eq_same, eq_turned}
+use Rattle.fsrm_base.proofs.EditedRows.{find-with_row_same, without_absent}
+use Rattle.fsrm_base.proofs.Look.{is_some-find, found_key, found_has, find-map, row_of-change, has_row-change, changed_found, row_of-new_other, has_row-without, has_row-without_other}
+use Rattle.fsrm_base.proofs.TestLaws.{is_or_not, both, both_true, neither, eq_is, eq_same, eq_turned}
 use Rattle.scan_queue.specs.Courses.{Course, Turns, left}
 use Rattle.fsrm_engine.specs.Machine.{Machine, IsSound, AreScans, rows_with, volume_of, with_quotas, with_rows}
 use Rattle.fsrm_engine.proofs.CountingLaws.{put_in}
 use Rattle.fsrm_engine.proofs.PeakLaws.{peaked_folder}
-use Rattle.fsrm_model.proofs.RemoveLaws.{without_absent}
 
 -- what is in a queue with one more
 in_more : (queue : List ℕ) (n f : ℕ) → is_in (queue ++ n ∷ []) f ≡ (is_in queue f || (n == f))

@@ -7,20 +7,20 @@ use Rattle.std.specs.Prelude.{map, filter, sum_by, nat_le}
 use Rattle.std.specs.List.{AllByRecursion, list_all}
 use Rattle.fsrm_model.specs.declared.row.Capacity.{Capacity}
 use Rattle.fsrm_model.specs.declared.row.NodeRow.{NodeRow}
-use Rattle.fsrm_model.specs.Keyed.{has_row, is_ascending}
+use Rattle.fsrm_base.specs.Keyed.{has_row, is_ascending}
 use Rattle.fsrm_model.specs.Limits.{longest_file}
 use Rattle.fsrm_model.specs.Name.{name_before}
-use Rattle.fsrm_model.specs.Order.{put, in_order}
+use Rattle.fsrm_base.specs.Order.{put, in_order}
 use Rattle.fsrm_model.specs.Space.{alloc, space}
 use Rattle.fsrm_model.specs.Tree.{number, node_of, is_child, children, children_in_order, is_under, under, usage}
 use Rattle.fsrm_model.specs.Valid.{IsVolume}
-use Rattle.fsrm_model.proofs.TestLaws.{is_or_not, both, eq_is, lt_is, le_is}
-use Rattle.fsrm_model.proofs.ChainLaws.{all_rows}
-use Rattle.fsrm_model.proofs.Order.{parts}
-use Rattle.fsrm_model.proofs.Members.{all_pass}
-use Rattle.fsrm_model.proofs.Sums.{sum_by-map}
+use Rattle.fsrm_base.proofs.TestLaws.{is_or_not, both, eq_is, lt_is, le_is}
+use Rattle.fsrm_base.proofs.EditedRows.{all_rows}
+use Rattle.fsrm_base.proofs.Order.{parts}
+use Rattle.fsrm_base.proofs.Members.{all_pass}
+use Rattle.fsrm_base.proofs.Sums.{sum_by-map}
 use Rattle.fsrm_model.proofs.Keeps.{found_folder}
-use Rattle.fsrm_model.proofs.Look.{has_found}
+use Rattle.fsrm_base.proofs.Look.{has_found}
 use Rattle.fsrm_model.proofs.UsageLaws.{usage_children, count_children, usage_of_file, count_of_file}
 use Rattle.volume_tree.specs.declared.answer.NodeView.{NodeView}
 use Rattle.volume_tree.specs.Volume.{IsCapacity, Shows}

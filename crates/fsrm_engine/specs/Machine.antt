@@ -8,7 +8,7 @@ use Rattle.fsrm_model.specs.declared.row.NodeRow.{NodeRow}
 use Rattle.fsrm_model.specs.declared.row.QuotaRow.{QuotaRow}
 use Rattle.fsrm_model.specs.declared.row.Rows.{Rows}
 use Rattle.fsrm_model.specs.Fresh.{rows_of_nodes}
-use Rattle.fsrm_model.specs.Keyed.{row_of, with_change}
+use Rattle.fsrm_base.specs.Keyed.{row_of, with_change}
 use Rattle.fsrm_model.specs.Quota.{folder_of, counts, peaked, peaks}
 use Rattle.fsrm_model.specs.QuotaStates.{followed, head, queued}
 use Rattle.fsrm_model.specs.Step.{Stepped, step}

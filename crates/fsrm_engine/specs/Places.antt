@@ -5,7 +5,7 @@ use Rattle.fsrm_model.specs.declared.command.Refusal.TheVariants.{AlreadyExists,
 use Rattle.fsrm_model.specs.declared.row.Capacity.{Capacity}
 use Rattle.fsrm_model.specs.declared.row.NodeRow.{NodeRow}
 use Rattle.fsrm_model.specs.declared.row.QuotaRow.{QuotaRow}
-use Rattle.fsrm_model.specs.Keyed.{row_of, has_row}
+use Rattle.fsrm_base.specs.Keyed.{row_of, has_row}
 use Rattle.fsrm_model.specs.Limits.{longest_file}
 use Rattle.fsrm_model.specs.Quota.{folder_of}
 use Rattle.fsrm_model.specs.Leads.{is_root, leads_to_folder, leads_to_file}

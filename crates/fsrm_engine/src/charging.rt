@@ -1,7 +1,7 @@
 //! What file operations do to counters and peaks.
 
 ghost use Rattle.std.specs.Prelude.{◌≡◌, ◌+◌, ◌*◌, ◌≤◌, true, map, length, if◌then◌else◌};
-ghost use Rattle.fsrm_model.specs.Keyed.{has_row, is_ascending, with_change};
+ghost use Rattle.fsrm_base.specs.Keyed.{has_row, is_ascending, with_change};
 ghost use Rattle.fsrm_model.specs.Quota.{folder_of};
 ghost use Rattle.fsrm_model.specs.Tree.{number as key, chain, is_under};
 ghost use Rattle.fsrm_model.specs.Valid.{IsVolume};

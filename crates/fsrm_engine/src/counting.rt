@@ -3,7 +3,7 @@
 ghost use Rattle.std.specs.Prelude.{◌≡◌, ◌≤◌, ◌<◌, OnOk, OnErr, true, false, length, map};
 ghost use Rattle.fsrm_model.specs.declared.row.QuotaRow.{QuotaRow};
 ghost use Rattle.fsrm_model.specs.declared.row.QuotaState.TheVariants.{Complete, Rebuilding};
-ghost use Rattle.fsrm_model.specs.Keyed.{has_row, row_of, with_row, with_change, without_row};
+ghost use Rattle.fsrm_base.specs.Keyed.{has_row, row_of, with_row, with_change, without_row};
 ghost use Rattle.fsrm_model.specs.Limits.{latest_moment, most_quotas};
 ghost use Rattle.fsrm_model.specs.Quota.{folder_of, counts, is_complete, is_limit, peaked};
 ghost use Rattle.fsrm_model.specs.QuotaStates.{in_state};

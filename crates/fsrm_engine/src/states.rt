@@ -7,7 +7,7 @@ ghost use Rattle.fsrm_model.specs.Cost.{deed_cost};
 ghost use Rattle.fsrm_model.specs.declared.command.Outcome.TheVariants.{Done};
 ghost use Rattle.fsrm_model.specs.declared.row.QuotaRow.{QuotaRow};
 ghost use Rattle.fsrm_model.specs.declared.row.QuotaState.TheVariants.{Disabled, Rebuilding};
-ghost use Rattle.fsrm_model.specs.Keyed.{has_row, row_of};
+ghost use Rattle.fsrm_base.specs.Keyed.{has_row, row_of};
 ghost use Rattle.fsrm_model.specs.Limits.{latest_moment, most_quotas};
 ghost use Rattle.fsrm_model.specs.Quota.{folder_of, quota_of, counts, is_limit};
 ghost use Rattle.fsrm_model.specs.QuotaStates.{start, is_disabled, queued, state_of, state_after, followed, with_quota, with_state};

@@ -2,12 +2,14 @@
 use Rattle.std.proofs.Common.{◌≡◌, ℕ, zero, suc, ◌+◌, ◌<◌, ◌==◌, Bool, true, false, cond, ◌||◌, inl, inr, List, [], ◌∷◌, ◌++◌, length, length-append, refl, sym, ◌∙◌, ap, subst, arith}
 use Rattle.fsrm_model.specs.declared.row.Capacity.{Capacity}
 use Rattle.fsrm_model.specs.declared.row.NodeRow.{NodeRow}
-use Rattle.fsrm_model.specs.Keyed.{with_change}
+use Rattle.fsrm_base.specs.Keyed.{with_change}
 use Rattle.fsrm_model.specs.Space.{space}
 use Rattle.fsrm_model.specs.Tree.{number, parent_of, chain, is_under, usage}
-use Rattle.fsrm_model.proofs.TestLaws.{is_or_not, clash, not_true, eq_is, eq_turned, suc_apart, same_tests}
-use Rattle.fsrm_model.proofs.ChainLaws.{is_in, IsTree, Has, share, usage_is, sum_by_same, all_rows, chain_step}
-use Rattle.fsrm_model.proofs.Sums.{sum_by-map}
+use Rattle.fsrm_base.proofs.TestLaws.{is_or_not, clash, not_true, eq_is, eq_turned, suc_apart, same_tests}
+use Rattle.fsrm_base.specs.Numbers.{is_in}
+use Rattle.fsrm_model.proofs.ChainLaws.{IsTree, Has, share, usage_is, chain_step}
+use Rattle.fsrm_base.proofs.EditedRows.{sum_by_same, all_rows}
+use Rattle.fsrm_base.proofs.Sums.{sum_by-map}
 use Rattle.fsrm_model.proofs.MoveLaws.{Moves, moved_tree, moved_chain, moved_rooted, before, split_chain, same_any, under_other, own_first, KeepsSpace, in_joined, placed_share}
 
 in_left : (xs ys : List ℕ) (y : ℕ) → is_in xs y ≡ true → is_in (xs ++ ys) y ≡ true

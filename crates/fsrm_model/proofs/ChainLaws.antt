@@ -6,10 +6,10 @@ use Rattle.std.specs.Prelude.{find, filter, sum_by, if◌then◌else◌}
 use Rattle.std.specs.List.{AllByRecursion, list_any}
 use Rattle.fsrm_model.specs.declared.row.Capacity.{Capacity}
 use Rattle.fsrm_model.specs.declared.row.NodeRow.{NodeRow}
-use Rattle.fsrm_model.specs.Keyed.{with_row, has_row}
+use Rattle.fsrm_base.specs.Keyed.{with_row, has_row}
 use Rattle.fsrm_model.specs.Space.{space}
 use Rattle.fsrm_model.specs.Tree.{number, chain_in, chain, parent_of, is_under, usage}
-use Rattle.fsrm_model.proofs.TestLaws.{not_true, is_or, neither, or_later, eq_is, eq_same, not_root}
+use Rattle.fsrm_base.proofs.TestLaws.{not_true, is_or, neither, or_later, eq_is, eq_same, not_root}
 
 -- whether a number is one of a list
 abbrev pub is_in : List ℕ → ℕ → Bool

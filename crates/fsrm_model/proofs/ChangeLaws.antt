@@ -7,11 +7,13 @@ use Rattle.std.specs.Option.{option_map_or}
 use Rattle.std.specs.List.{AllByRecursion}
 use Rattle.fsrm_model.specs.declared.row.Capacity.{Capacity}
 use Rattle.fsrm_model.specs.declared.row.NodeRow.{NodeRow}
-use Rattle.fsrm_model.specs.Keyed.{has_row, row_of, with_change, is_ascending}
+use Rattle.fsrm_base.specs.Keyed.{has_row, row_of, with_change, is_ascending}
 use Rattle.fsrm_model.specs.Space.{space}
 use Rattle.fsrm_model.specs.Tree.{number, node_of, parent_of, chain, chain_in, is_under, usage}
-use Rattle.fsrm_model.proofs.TestLaws.{both, lt_is}
-use Rattle.fsrm_model.proofs.ChainLaws.{is_in, share, usage_is, sum_by_same, all_rows}
+use Rattle.fsrm_base.proofs.TestLaws.{both, lt_is}
+use Rattle.fsrm_base.specs.Numbers.{is_in}
+use Rattle.fsrm_model.proofs.ChainLaws.{share, usage_is}
+use Rattle.fsrm_base.proofs.EditedRows.{sum_by_same, all_rows}
 
 apart_of : (m n : ℕ) → m < n → (n == m) ≡ false
 apart_of m n h = grind (arith, nat_tests)

@@ -2,10 +2,11 @@
 use Rattle.std.proofs.Common.{◌≡◌, ℕ, zero, suc, ◌==◌, Bool, true, false, cond, not, ◌&&◌, ◌||◌, inl, inr, List, [], ◌∷◌, refl, sym, ◌∙◌, ap, subst}
 use Rattle.std.specs.Prelude.{map, if◌then◌else◌}
 use Rattle.fsrm_model.specs.declared.row.NodeRow.{NodeRow}
-use Rattle.fsrm_model.specs.Keyed.{with_change}
+use Rattle.fsrm_base.specs.Keyed.{with_change}
 use Rattle.fsrm_model.specs.Tree.{parent_of, is_under}
-use Rattle.fsrm_model.proofs.TestLaws.{is_or_not, eq_is, eq_same, eq_turned}
-use Rattle.fsrm_model.proofs.ChainLaws.{is_in, IsTree, Has}
+use Rattle.fsrm_base.proofs.TestLaws.{is_or_not, eq_is, eq_same, eq_turned}
+use Rattle.fsrm_base.specs.Numbers.{is_in}
+use Rattle.fsrm_model.proofs.ChainLaws.{IsTree, Has}
 use Rattle.fsrm_model.proofs.UsageLaws.{parent_lacks}
 use Rattle.fsrm_model.proofs.Below.{chain_root}
 use Rattle.fsrm_model.proofs.Climbs.{climb}

@@ -2,10 +2,11 @@
 use Rattle.std.proofs.Common.{◌≡◌, ℕ, zero, suc, ◌<◌, true, false, ◌||◌, List, ◌∷◌, length, refl, ◌∙◌, ap, arith}
 use Rattle.fsrm_model.specs.declared.row.NodeRow.{NodeRow}
 use Rattle.fsrm_model.specs.Tree.{parent_of, chain, is_under}
-use Rattle.fsrm_model.proofs.ChainLaws.{is_in, IsTree, Has, chain_step}
+use Rattle.fsrm_base.specs.Numbers.{is_in}
+use Rattle.fsrm_model.proofs.ChainLaws.{IsTree, Has, chain_step}
 use Rattle.fsrm_model.proofs.MoveLaws.{own_first}
 use Rattle.fsrm_model.proofs.Below.{chain_root}
-use Rattle.fsrm_model.proofs.TestLaws.{is_apart}
+use Rattle.fsrm_base.proofs.TestLaws.{is_apart}
 
 pub climb : (nodes : List NodeRow) → IsTree nodes → (n : ℕ) → Has nodes n → (n ≡ 0 → ⊥) → chain nodes n ≡ n ∷ chain nodes (parent_of nodes n)
 climb nodes t zero h i = absurd (i refl)

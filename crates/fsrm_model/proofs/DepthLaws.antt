@@ -5,10 +5,11 @@ use Rattle.std.proofs.lemmas.Map.Made.{length-le_from_is_member}
 use Rattle.std.specs.Cmp.{nat_eq_equiv}
 use Rattle.std.specs.List.{list_any, AllByRecursion, IsDistinct}
 use Rattle.fsrm_model.specs.declared.row.NodeRow.{NodeRow}
-use Rattle.fsrm_model.specs.Keyed.{has_row}
+use Rattle.fsrm_base.specs.Keyed.{has_row}
 use Rattle.fsrm_model.specs.Tree.{number, parent_of, chain, chain_in}
-use Rattle.fsrm_model.proofs.TestLaws.{not_true, is_or, eq_is, not_root}
-use Rattle.fsrm_model.proofs.ChainLaws.{is_in, IsTree, Has, stable}
+use Rattle.fsrm_base.proofs.TestLaws.{not_true, is_or, eq_is, not_root}
+use Rattle.fsrm_base.specs.Numbers.{is_in}
+use Rattle.fsrm_model.proofs.ChainLaws.{IsTree, Has, stable}
 
 -- every node comes to the root in so many steps
 pub record IsRooted (j : ℕ) (nodes : List NodeRow) : Type 0 where

@@ -9,7 +9,7 @@ use Rattle.fsrm_model.specs.declared.row.NodeRow.{NodeRow}
 use Rattle.fsrm_model.specs.declared.row.Rows.{Rows}
 use Rattle.fsrm_model.specs.Check.{first, ◌when◌}
 use Rattle.fsrm_model.specs.FileWork.{file_checks, file_effect, file_work, usage_work}
-use Rattle.fsrm_model.specs.Keyed.{has_row}
+use Rattle.fsrm_base.specs.Keyed.{has_row}
 use Rattle.fsrm_model.specs.Leads.{leads}
 use Rattle.fsrm_model.specs.Tree.{number, resolve}
 use Rattle.fsrm_model.specs.Valid.{IsVolume}

@@ -4,9 +4,10 @@ use Rattle.fsrm_model.specs.declared.row.Capacity.{Capacity}
 use Rattle.fsrm_model.specs.declared.row.NodeRow.{NodeRow}
 use Rattle.fsrm_model.specs.Tree.{number, parent_of, is_folder, chain, is_under}
 use Rattle.fsrm_model.specs.Valid.{IsVolume}
-use Rattle.fsrm_model.proofs.TestLaws.{is_or_not, clash, is_or, eq_is}
-use Rattle.fsrm_model.proofs.ChainLaws.{Has, is_in, chain_step}
-use Rattle.fsrm_model.proofs.Look.{has_found}
+use Rattle.fsrm_base.proofs.TestLaws.{is_or_not, clash, is_or, eq_is}
+use Rattle.fsrm_model.proofs.ChainLaws.{Has, chain_step}
+use Rattle.fsrm_base.specs.Numbers.{is_in}
+use Rattle.fsrm_base.proofs.Look.{has_found}
 use Rattle.fsrm_model.proofs.Keeps.{tree_of}
 use Rattle.fsrm_model.proofs.Below.{chain_root}
 use Rattle.fsrm_model.proofs.ValidLaws.{found_parent}

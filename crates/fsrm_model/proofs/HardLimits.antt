@@ -15,14 +15,16 @@ use Rattle.fsrm_model.specs.Check.{Check, ◌when◌, first, volume_full, names_
 use Rattle.fsrm_model.specs.Exceeds.{IsOver}
 use Rattle.fsrm_model.specs.FileOps.{target, target_folder, new_node, resized, touched, placed, plain}
 use Rattle.fsrm_model.specs.FileWork.{move_checks, remove_checks, file_checks, file_effect}
-use Rattle.fsrm_model.specs.Keyed.{has_row, with_row}
+use Rattle.fsrm_base.specs.Keyed.{has_row, with_row}
 use Rattle.fsrm_model.specs.Leads.{is_root, leads, leads_to_folder, leads_to_file, leads_to_other}
 use Rattle.fsrm_model.specs.Quota.{folder_of, quota_of, counts, refuses, over, deepest, exceeded}
 use Rattle.fsrm_model.specs.Space.{space}
 use Rattle.fsrm_model.specs.Tree.{number, parent_of, is_folder, is_child, children, chain, is_under, usage, resolve, folder_part, last_name, fresh, path_of}
 use Rattle.fsrm_model.specs.Valid.{IsVolume, IsStore}
-use Rattle.fsrm_model.proofs.TestLaws.{is_or_not, lt_is, clash, not_true, or_later, eq_is}
-use Rattle.fsrm_model.proofs.ChainLaws.{IsTree, Has, is_in, all_rows, chain_step, chain-new_other, usage-new}
+use Rattle.fsrm_base.proofs.TestLaws.{is_or_not, lt_is, clash, not_true, or_later, eq_is}
+use Rattle.fsrm_model.proofs.ChainLaws.{IsTree, Has, chain_step, chain-new_other, usage-new}
+use Rattle.fsrm_base.specs.Numbers.{is_in}
+use Rattle.fsrm_base.proofs.EditedRows.{all_rows}
 use Rattle.fsrm_model.proofs.ChangeLaws.{KeepsPlace, chain-change, usage-change}
 use Rattle.fsrm_model.proofs.DepthLaws.{some_member}
 use Rattle.fsrm_model.proofs.MoveLaws.{KeepsSpace, usage-moved, under_other}
@@ -31,8 +33,8 @@ use Rattle.fsrm_model.proofs.Below.{chain_root, above_all, usage-moved_below}
 use Rattle.fsrm_model.proofs.Climbs.{under_own}
 use Rattle.fsrm_model.proofs.Files.{below_file}
 use Rattle.fsrm_model.proofs.Keeps.{tree_of, zero_apart, as_suc, moves_at, removes_of}
-use Rattle.fsrm_model.proofs.Look.{found_key, has_found, found_any, is_some-find, none_filtered, unwrapped}
-use Rattle.fsrm_model.proofs.Order.{least_free_is}
+use Rattle.fsrm_base.proofs.Look.{found_key, has_found, found_any, is_some-find, none_filtered, unwrapped}
+use Rattle.fsrm_base.proofs.Order.{least_free_is}
 use Rattle.fsrm_model.proofs.Orderly.{Rising, IsWithin, first_none, when_none, not_false}
 use Rattle.fsrm_model.proofs.QuotaLaws.{over_test}
 use Rattle.fsrm_model.proofs.Resolves.{resolved}

@@ -9,20 +9,22 @@ use Rattle.std.specs.Str.{bytes_eq}
 use Rattle.std.specs.List.{list_any}
 use Rattle.fsrm_model.specs.declared.row.Capacity.{Capacity}
 use Rattle.fsrm_model.specs.declared.row.NodeRow.{NodeRow}
-use Rattle.fsrm_model.specs.Keyed.{is_ascending, has_row, with_row, with_change, without_row}
+use Rattle.fsrm_base.specs.Keyed.{is_ascending, has_row, with_row, with_change, without_row}
 use Rattle.fsrm_model.specs.Name.{same_name, folded}
 use Rattle.fsrm_model.specs.Tree.{number, node_of, parent_of, is_folder, is_child, child_of, chain, name_bytes}
 use Rattle.fsrm_model.specs.FileOps.{placed}
 use Rattle.fsrm_model.specs.Valid.{is_root_node, is_own, IsVolume}
-use Rattle.fsrm_model.proofs.TestLaws.{is_or_not, clash, not_true, is_false, both, both_true, eq_is, eq_same, eq_turned}
+use Rattle.fsrm_base.proofs.TestLaws.{is_or_not, clash, not_true, is_false, both, both_true, eq_is, eq_same, eq_turned}
 use Rattle.fsrm_model.proofs.ValidLaws.{folder_has, found_parent}
-use Rattle.fsrm_model.proofs.ChainLaws.{is_in, IsTree, Has, chain-new, chain-new_other, sum_by-with_row}
-use Rattle.fsrm_model.proofs.ChangeLaws.{KeepsPlace, chain-change, sum_by-with_change}
+use Rattle.fsrm_base.specs.Numbers.{is_in}
+use Rattle.fsrm_model.proofs.ChainLaws.{IsTree, Has, chain-new, chain-new_other}
+use Rattle.fsrm_base.proofs.EditedRows.{sum_by-with_row, sum_by-with_change, sum_by-without_row}
+use Rattle.fsrm_model.proofs.ChangeLaws.{KeepsPlace, chain-change}
 use Rattle.fsrm_model.proofs.MoveLaws.{Moves, moved_tree}
-use Rattle.fsrm_model.proofs.RemoveLaws.{Removes, removed_tree, sum_by-without_row}
-use Rattle.fsrm_model.proofs.Look.{has_found, found_has, found_key, found_lacks, found_any, is_some-find, new_found, row_of-new_other, has_row-new_other, Changed, changed_found, row_of-change, has_row-change, row_of-without, has_row-without, has_row-without_other}
-use Rattle.fsrm_model.proofs.Order.{ascending-with_row, ascending-change, ascending-filter, length-change}
-use Rattle.fsrm_model.proofs.Members.{member}
+use Rattle.fsrm_model.proofs.RemoveLaws.{Removes, removed_tree}
+use Rattle.fsrm_base.proofs.Look.{has_found, found_has, found_key, found_lacks, found_any, is_some-find, new_found, row_of-new_other, has_row-new_other, Changed, changed_found, row_of-change, has_row-change, row_of-without, has_row-without, has_row-without_other}
+use Rattle.fsrm_base.proofs.Order.{ascending-with_row, ascending-change, ascending-filter, length-change}
+use Rattle.fsrm_base.proofs.Members.{member}
 
 -- folders
 pub record FoundFolder (nodes : List NodeRow) (n : ℕ) : Type 0 where

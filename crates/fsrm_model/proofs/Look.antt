@@ -4,10 +4,9 @@ use Rattle.std.proofs.lemmas.Bool.{cases_Bool}
 use Rattle.std.proofs.lemmas.Option.{same_Some}
 use Rattle.std.specs.Prelude.{find, map, filter, length, unwrap_or, is_some, option_map, if◌then◌else◌}
 use Rattle.std.specs.List.{list_any}
-use Rattle.fsrm_model.specs.Keyed.{has_row, row_of, with_row, with_change, without_row, is_ascending}
-use Rattle.fsrm_model.proofs.ChainLaws.{find-with_row, find-with_row_same}
-use Rattle.fsrm_model.proofs.ChangeLaws.{absent_later, ascending_tail}
-pub use Rattle.fsrm_model.proofs.TestLaws.{eq_is, eq_same, eq_turned, is_or_not, clash, not_true, suc_apart}
+use Rattle.fsrm_base.specs.Keyed.{has_row, row_of, with_row, with_change, without_row, is_ascending}
+use Rattle.fsrm_base.proofs.EditedRows.{find-with_row, find-with_row_same, absent_later, ascending_tail}
+pub use Rattle.fsrm_base.proofs.TestLaws.{eq_is, eq_same, eq_turned, is_or_not, clash, not_true, suc_apart}
 
 some_at : {X : Type 0} (b : Bool) (x : X) (o : Option X) (c : Bool) → is_some o ≡ c → is_some (cond b (Some x) o) ≡ (b || c)
 some_at true x o c e = refl

@@ -3,9 +3,9 @@ use Rattle.std.proofs.Common.{◌≡◌, ℕ, Bool, true, false, cond, not, ◌|
 use Rattle.std.proofs.lemmas.Option.{same_Some}
 use Rattle.std.specs.Prelude.{filter, find}
 use Rattle.std.specs.List.{list_any, list_all}
-use Rattle.fsrm_model.specs.Keyed.{is_ascending, row_of}
-use Rattle.fsrm_model.proofs.TestLaws.{is_or_not, both}
-use Rattle.fsrm_model.proofs.Look.{is_some-find, some_row, found_own, found_passes}
+use Rattle.fsrm_base.specs.Keyed.{is_ascending, row_of}
+use Rattle.fsrm_base.proofs.TestLaws.{is_or_not, both}
+use Rattle.fsrm_base.proofs.Look.{is_some-find, some_row, found_own, found_passes}
 
 -- the first row that passes
 pub record Member {X : Type 0} (key : X → ℕ) (p : X → Bool) (rows : List X) : Type 0 where

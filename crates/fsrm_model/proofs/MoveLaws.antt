@@ -6,13 +6,15 @@ use Rattle.std.specs.Prelude.{sum_by, if◌then◌else◌}
 use Rattle.std.specs.List.{AllByRecursion}
 use Rattle.fsrm_model.specs.declared.row.Capacity.{Capacity}
 use Rattle.fsrm_model.specs.declared.row.NodeRow.{NodeRow}
-use Rattle.fsrm_model.specs.Keyed.{has_row, with_change}
+use Rattle.fsrm_base.specs.Keyed.{has_row, with_change}
 use Rattle.fsrm_model.specs.Space.{space}
 use Rattle.fsrm_model.specs.Tree.{number, parent_of, chain, chain_in, is_under, usage}
-use Rattle.fsrm_model.proofs.TestLaws.{is_or_not, clash, not_true, is_or, neither, or_later, or_false, eq_is, eq_same, not_root}
-use Rattle.fsrm_model.proofs.ChainLaws.{is_in, IsTree, Has, stable, same_chain, share, usage_is, sum_by_same, all_rows}
+use Rattle.fsrm_base.proofs.TestLaws.{is_or_not, clash, not_true, is_or, neither, or_later, or_false, eq_is, eq_same, not_root}
+use Rattle.fsrm_base.specs.Numbers.{is_in}
+use Rattle.fsrm_model.proofs.ChainLaws.{IsTree, Has, stable, same_chain, share, usage_is}
+use Rattle.fsrm_base.proofs.EditedRows.{sum_by_same, all_rows}
 use Rattle.fsrm_model.proofs.DepthLaws.{soon}
-use Rattle.fsrm_model.proofs.Sums.{sum_by-add, sum_by-map}
+use Rattle.fsrm_base.proofs.Sums.{sum_by-add, sum_by-map}
 
 -- more steps, any number
 pub stable_by : (j k : ℕ) (nodes : List NodeRow) (n : ℕ) → is_in (chain_in k nodes n) 0 ≡ true → chain_in (j + k) nodes n ≡ chain_in k nodes n

@@ -3,12 +3,11 @@ use Rattle.std.proofs.Common.{◌≡◌, ℕ, ◌+◌, ◌<◌, ◌≤◌, ◌==
 use Rattle.std.proofs.lemmas.Bool.Decides.{nat_tests}
 use Rattle.std.specs.Prelude.{map, filter, if◌then◌else◌}
 use Rattle.std.specs.List.{list_all}
-use Rattle.fsrm_model.specs.Keyed.{has_row, with_row, with_change, least_free_from, least_free, is_ascending}
-use Rattle.fsrm_model.proofs.TestLaws.{not_true, both, neither, eq_is, lt_is, lt_test}
-use Rattle.fsrm_model.proofs.ChangeLaws.{absent_later}
-use Rattle.fsrm_model.proofs.Look.{changed_key}
-pub use Rattle.fsrm_model.proofs.ChainLaws.{length-with_row}
-pub use Rattle.fsrm_model.proofs.ChangeLaws.{length-change}
+use Rattle.fsrm_base.specs.Keyed.{has_row, with_row, with_change, least_free_from, least_free, is_ascending}
+use Rattle.fsrm_base.proofs.TestLaws.{not_true, both, neither, eq_is, lt_is, lt_test}
+use Rattle.fsrm_base.proofs.EditedRows.{absent_later}
+use Rattle.fsrm_base.proofs.Look.{changed_key}
+pub use Rattle.fsrm_base.proofs.EditedRows.{length-with_row, length-change}
 
 abbrev pub is_above : {X : Type 0} → (X → ℕ) → X → List X → Bool
 is_above key x [] = true

@@ -12,15 +12,15 @@ use Rattle.fsrm_model.specs.declared.row.QuotaRow.{QuotaRow}
 use Rattle.fsrm_model.specs.declared.row.Rows.{Rows}
 use Rattle.fsrm_model.specs.Check.{◌when◌, first}
 use Rattle.fsrm_model.specs.Exceeds.{IsOver, Exceeds}
-use Rattle.fsrm_model.specs.Keyed.{is_ascending, has_row}
+use Rattle.fsrm_base.specs.Keyed.{is_ascending, has_row}
 use Rattle.fsrm_model.specs.Quota.{folder_of, quota_of, counts, refuses, over, deepest, exceeded, peaked, peaks}
 use Rattle.fsrm_model.specs.QuotaStates.{followed}
 use Rattle.fsrm_model.specs.Step.{step, work, decided, lasted, unlasting, unacted}
 use Rattle.fsrm_model.specs.Tree.{usage, is_under}
 use Rattle.fsrm_model.specs.Work.{Work}
-use Rattle.fsrm_model.proofs.Look.{clash, found_passes, found_own, found_key, find-map}
-use Rattle.fsrm_model.proofs.Members.{all_found}
-use Rattle.fsrm_model.proofs.TestLaws.{implied}
+use Rattle.fsrm_base.proofs.Look.{clash, found_passes, found_own, found_key, find-map}
+use Rattle.fsrm_base.proofs.Members.{all_found}
+use Rattle.fsrm_base.proofs.TestLaws.{implied}
 
 -- what is found among the rows that pass a test
 find_both : {X : Type 0} (p q : X → Bool) (xs : List X) → find p (filter q xs) ≡ find (λ x. q x && p x) xs

@@ -7,11 +7,11 @@ use Rattle.fsrm_model.specs.declared.row.QuotaRow.{QuotaRow}
 use Rattle.fsrm_model.specs.declared.row.Rows.{Rows}
 use Rattle.fsrm_model.specs.Check.{first, ◌when◌}
 use Rattle.fsrm_model.specs.FileOps.{target}
-use Rattle.fsrm_model.specs.Keyed.{has_row}
+use Rattle.fsrm_base.specs.Keyed.{has_row}
 use Rattle.fsrm_model.specs.Leads.{leads_to_folder}
 use Rattle.fsrm_model.specs.Quota.{folder_of, quota_of}
 use Rattle.fsrm_model.specs.QuotaWork.{quota_checks, add_work, modify_work, delete_work, reset_work, list_work}
-use Rattle.fsrm_model.proofs.Look.{is_some-find}
+use Rattle.fsrm_base.proofs.Look.{is_some-find}
 use Rattle.fsrm_model.proofs.Orderly.{IsStill, change_still, show_still, bare, first_none, when_none}
 
 pub add_still : (K : Capacity) (R : Rows) (moment : ℕ) (path : List (List ℕ)) (limit : Option ℕ) (enforce : Option Bool) (enabled : Bool) → IsStill K R (add_work R moment path limit enforce enabled)

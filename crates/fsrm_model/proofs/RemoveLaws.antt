@@ -6,12 +6,13 @@ use Rattle.std.specs.Prelude.{sum_by}
 use Rattle.std.specs.List.{AllByRecursion}
 use Rattle.fsrm_model.specs.declared.row.Capacity.{Capacity}
 use Rattle.fsrm_model.specs.declared.row.NodeRow.{NodeRow}
-use Rattle.fsrm_model.specs.Keyed.{has_row, row_of, without_row, is_ascending}
+use Rattle.fsrm_base.specs.Keyed.{has_row, row_of, without_row, is_ascending}
 use Rattle.fsrm_model.specs.Tree.{number, node_of, parent_of, chain, chain_in, usage}
 use Rattle.fsrm_model.specs.Space.{space}
-use Rattle.fsrm_model.proofs.TestLaws.{clash, not_true, eq_is, nor}
-use Rattle.fsrm_model.proofs.ChainLaws.{is_in, IsTree, Has, same_chain, share, usage_is, sum_by_same, all_rows}
-use Rattle.fsrm_model.proofs.ChangeLaws.{absent_later, ascending_tail}
+use Rattle.fsrm_base.proofs.TestLaws.{clash, not_true, eq_is, nor}
+use Rattle.fsrm_base.specs.Numbers.{is_in}
+use Rattle.fsrm_model.proofs.ChainLaws.{IsTree, Has, same_chain, share, usage_is}
+use Rattle.fsrm_base.proofs.EditedRows.{sum_by_same, all_rows, absent_later, ascending_tail}
 use Rattle.fsrm_model.proofs.DepthLaws.{soon}
 use Rattle.fsrm_model.proofs.MoveLaws.{same_any, members_has}
 

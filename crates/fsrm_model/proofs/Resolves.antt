@@ -8,14 +8,14 @@ use Rattle.std.specs.Prelude.{map, reverse, option_map}
 use Rattle.std.specs.Option.{option_and_then}
 use Rattle.fsrm_model.specs.declared.row.Capacity.{Capacity}
 use Rattle.fsrm_model.specs.declared.row.NodeRow.{NodeRow}
-use Rattle.fsrm_model.specs.Keyed.{has_row}
+use Rattle.fsrm_base.specs.Keyed.{has_row}
 use Rattle.fsrm_model.specs.Name.{same_name, same_names, folded}
 use Rattle.fsrm_model.specs.Tree.{number, node_of, name_of, is_folder, child_of, child_number, chain, path_of, resolve, folder_part, last_name}
 use Rattle.fsrm_model.specs.Leads.{is_root}
 use Rattle.fsrm_model.specs.Valid.{IsVolume}
-use Rattle.fsrm_model.proofs.TestLaws.{both}
+use Rattle.fsrm_base.proofs.TestLaws.{both}
 use Rattle.fsrm_model.proofs.DepthLaws.{some_member}
-use Rattle.fsrm_model.proofs.Look.{found_has}
+use Rattle.fsrm_base.proofs.Look.{found_has}
 use Rattle.fsrm_model.proofs.Walks.{walk, walk-append, then_then, walk_sound, resolve_is, child_found, path_root}
 
 -- the empty path leads to the root

@@ -3,10 +3,10 @@ use Rattle.std.proofs.Common.{◌≡◌, ℕ, ◌≤◌, ◌==◌, Bool, true, f
 use Rattle.std.proofs.lemmas.Option.{same_Some}
 use Rattle.std.specs.Prelude.{find, filter, map, if◌then◌else◌}
 use Rattle.std.specs.List.{AllByRecursion, list_all}
-use Rattle.fsrm_model.specs.Keyed.{row_of, has_row, is_ascending, with_change}
-use Rattle.fsrm_model.proofs.ChangeLaws.{absent_later, ascending_tail}
-use Rattle.fsrm_model.proofs.Look.{found_has}
-use Rattle.fsrm_model.proofs.TestLaws.{clash, eq_is, eq_same}
+use Rattle.fsrm_base.specs.Keyed.{row_of, has_row, is_ascending, with_change}
+use Rattle.fsrm_base.proofs.EditedRows.{absent_later, ascending_tail}
+use Rattle.fsrm_base.proofs.Look.{found_has}
+use Rattle.fsrm_base.proofs.TestLaws.{clash, eq_is, eq_same}
 
 -- facts of each item, taken to others
 pub each : {X : Type 0} {P Q : X → Type 0} (rows : List X) → ((r : X) → P r → Q r) → AllByRecursion P rows → AllByRecursion Q rows

@@ -11,10 +11,10 @@ use Rattle.fsrm_model.specs.declared.row.QuotaState.TheVariants.{Complete, Disab
 use Rattle.fsrm_model.specs.declared.row.Rows.{Rows}
 use Rattle.fsrm_model.specs.Check.{◌when◌, first}
 use Rattle.fsrm_model.specs.FileOps.{target}
-use Rattle.fsrm_model.specs.Keyed.{has_row, is_ascending, with_change}
+use Rattle.fsrm_base.specs.Keyed.{has_row, is_ascending, with_change}
 use Rattle.fsrm_model.specs.Lasting.{flagged, flagged_quota, lasting}
 use Rattle.fsrm_model.specs.Leads.{leads_to_folder}
-use Rattle.fsrm_model.specs.Numbers.{is_in}
+use Rattle.fsrm_base.specs.Numbers.{is_in}
 use Rattle.fsrm_model.specs.Quota.{folder_of, quota_of, counts, is_complete}
 use Rattle.fsrm_model.specs.QuotaStates.{head, in_state, is_disabled, state_of, with_state}
 use Rattle.fsrm_model.specs.Scan.{visits}
@@ -22,9 +22,9 @@ use Rattle.fsrm_model.specs.ScanWork.{scan_work, step_work}
 use Rattle.fsrm_model.specs.Tree.{number}
 use Rattle.fsrm_model.specs.Valid.{AreQuotas, IsStore}
 use Rattle.fsrm_model.proofs.Ends.{step_nodes}
-use Rattle.fsrm_model.proofs.Look.{eq_same, is_some-find}
+use Rattle.fsrm_base.proofs.Look.{eq_same, is_some-find}
 use Rattle.fsrm_model.proofs.Orderly.{IsStill, bare, first_none, when_none}
-use Rattle.fsrm_model.proofs.RowLaws.{change_same, change_none}
+use Rattle.fsrm_base.proofs.RowLaws.{change_same, change_none}
 use Rattle.fsrm_model.proofs.ValidLaws.{folder_has}
 
 -- what is kept of quotas, where the state of one became another that is kept as the same

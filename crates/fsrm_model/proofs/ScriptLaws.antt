@@ -9,7 +9,7 @@ use Rattle.fsrm_model.specs.declared.row.Rows.{Rows}
 use Rattle.fsrm_model.specs.declared.command.Refusal.TheVariants.{LineTooLong}
 use Rattle.fsrm_model.specs.Line.{read_line}
 use Rattle.fsrm_model.specs.Script.{is_end, lines, onto_first, spelled_lines, AreLines, without_cr, replied, replied_to, text_from, fold_from, line_cost, read_cost, cost_from}
-use Rattle.fsrm_model.proofs.TestLaws.{neither}
+use Rattle.fsrm_base.proofs.TestLaws.{neither}
 
 -- a line that has ended
 pub lines_ended : (line rest : List ℕ) → list_any is_end line ≡ false → lines (line ++ 10 ∷ rest) ≡ line ∷ lines rest

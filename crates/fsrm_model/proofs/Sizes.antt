@@ -2,13 +2,11 @@
 use Rattle.std.proofs.Common.{◌≡◌, ℕ, ◌+◌, true, List, length, ap, arith}
 use Rattle.fsrm_model.specs.declared.row.NodeRow.{NodeRow}
 use Rattle.fsrm_model.specs.FileOps.{placed}
-use Rattle.fsrm_model.specs.Keyed.{is_ascending, has_row, with_row, with_change, without_row}
+use Rattle.fsrm_base.specs.Keyed.{is_ascending, has_row, with_row, with_change, without_row}
 use Rattle.fsrm_model.specs.Tree.{number, name_of, name_bytes}
-use Rattle.fsrm_model.proofs.ChainLaws.{sum_by-with_row}
-use Rattle.fsrm_model.proofs.ChangeLaws.{sum_by-with_change}
-use Rattle.fsrm_model.proofs.Sums.{sum_by-ones}
-use Rattle.fsrm_model.proofs.RemoveLaws.{sum_by-without_row}
-use Rattle.fsrm_model.proofs.Look.{has_found}
+use Rattle.fsrm_base.proofs.EditedRows.{sum_by-with_row, sum_by-with_change, sum_by-without_row}
+use Rattle.fsrm_base.proofs.Sums.{sum_by-ones}
+use Rattle.fsrm_base.proofs.Look.{has_found}
 use Rattle.fsrm_model.proofs.Walks.{found_name}
 
 abbrev pub name_length : NodeRow → ℕ

@@ -7,13 +7,12 @@ use Rattle.std.specs.Ordering.{nat_cmp, ordering_index}
 use Rattle.std.specs.Borrow.{Bor}
 use Rattle.std.specs.Option.{option_copied}
 use Rattle.std.specs.Prelude.{slice_get, slice_set, is_some}
-use Rattle.fsrm_model.specs.Keyed.{row_of, has_row, with_row, with_change, without_row, is_ascending}
-use Rattle.fsrm_model.proofs.ChangeLaws.{absent_later, ascending_tail, change_absent}
-use Rattle.fsrm_model.proofs.Look.{FoundRow, found_key, found_has, is_some-find}
-use Rattle.fsrm_model.proofs.Order.{parts, ascending-map, ascending-with_row, ascending-filter}
-use Rattle.fsrm_model.proofs.TestLaws.{eq_is, lt_is, lt_test, eq_test, eq_below, eq_above, not_lt}
-use Rattle.fsrm_model.specs.Places.{IsAt, IsGap}
-use Rattle.fsrm_model.proofs.RemoveLaws.{without_absent}
+use Rattle.fsrm_base.specs.Keyed.{row_of, has_row, with_row, with_change, without_row, is_ascending}
+use Rattle.fsrm_base.proofs.EditedRows.{absent_later, ascending_tail, change_absent, without_absent}
+use Rattle.fsrm_base.proofs.Look.{FoundRow, found_key, found_has, is_some-find}
+use Rattle.fsrm_base.proofs.Order.{parts, ascending-map, ascending-with_row, ascending-filter}
+use Rattle.fsrm_base.proofs.TestLaws.{eq_is, lt_is, lt_test, eq_test, eq_below, eq_above, not_lt}
+use Rattle.fsrm_base.specs.Places.{IsAt, IsGap}
 
 -- a later row's number is greater
 pub later_above : {X : Type 0} (key : X → ℕ) (x : X) (rows : List X) (p : ℕ) (r : X) → is_ascending key (x ∷ rows) ≡ true → slice_get rows p ≡ Some r → key x < key r

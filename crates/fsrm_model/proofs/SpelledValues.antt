@@ -19,7 +19,7 @@ use Rattle.fsrm_model.specs.Tools.{Names, ToolCommand, needs, of_path, quota_add
 use Rattle.fsrm_model.specs.Valued.{is_path, is_owner, is_length, has_values, is_deed, is_short, is_command}
 use Rattle.fsrm_model.specs.Valid.{is_moment}
 use Rattle.fsrm_model.proofs.CommandLaws.{named_each}
-use Rattle.fsrm_model.proofs.TestLaws.{both_true}
+use Rattle.fsrm_base.proofs.TestLaws.{both_true}
 
 abbrev Path : Type 0
 Path = List (List ℕ)

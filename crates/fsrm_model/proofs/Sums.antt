@@ -5,8 +5,8 @@ use Rattle.std.proofs.lemmas.List.Sums.{sum_by-cons}
 use Rattle.std.proofs.lemmas.Option.{same_Some}
 use Rattle.std.specs.Prelude.{map, sum_by}
 use Rattle.std.specs.List.{AllByRecursion}
-use Rattle.fsrm_model.specs.Keyed.{is_ascending, has_row, row_of}
-use Rattle.fsrm_model.proofs.ChangeLaws.{absent_later, ascending_tail}
+use Rattle.fsrm_base.specs.Keyed.{is_ascending, has_row, row_of}
+use Rattle.fsrm_base.proofs.EditedRows.{absent_later, ascending_tail}
 
 pub sum_by-map : {X Y : Type 0} (f : Y → ℕ) (g : X → Y) (xs : List X) → sum_by f (map g xs) ≡ sum_by (λ x. f (g x)) xs
 sum_by-map f g [] = refl

@@ -4,16 +4,18 @@ use Rattle.std.specs.Prelude.{sum_by, if◌then◌else◌}
 use Rattle.std.specs.List.{AllByRecursion}
 use Rattle.fsrm_model.specs.declared.row.Capacity.{Capacity}
 use Rattle.fsrm_model.specs.declared.row.NodeRow.{NodeRow}
-use Rattle.fsrm_model.specs.Keyed.{is_ascending}
+use Rattle.fsrm_base.specs.Keyed.{is_ascending}
 use Rattle.fsrm_model.specs.Space.{space}
 use Rattle.fsrm_model.specs.Tree.{number, node_of, parent_of, is_folder, is_child, children, chain, is_under, under, usage}
 use Rattle.fsrm_model.specs.Valid.{IsVolume}
-use Rattle.fsrm_model.proofs.TestLaws.{clash, not_true, eq_is, eq_same, eq_turned, suc_apart}
-use Rattle.fsrm_model.proofs.ChainLaws.{IsTree, Has, is_in, chain_step, sum_by-filter, sum_by_same, all_rows}
+use Rattle.fsrm_base.proofs.TestLaws.{clash, not_true, eq_is, eq_same, eq_turned, suc_apart}
+use Rattle.fsrm_model.proofs.ChainLaws.{IsTree, Has, chain_step}
+use Rattle.fsrm_base.specs.Numbers.{is_in}
+use Rattle.fsrm_base.proofs.EditedRows.{sum_by-filter, sum_by_same, all_rows}
 use Rattle.fsrm_model.proofs.DepthLaws.{not_above}
-use Rattle.fsrm_model.proofs.Sums.{sum_by-add, sum_by_each, sum_by_nothing, sum_by-ones, sum_by_turned, sum_by_only}
-use Rattle.fsrm_model.proofs.Look.{has_found, found_key}
-use Rattle.fsrm_model.proofs.Members.{none_passes, filter_none}
+use Rattle.fsrm_base.proofs.Sums.{sum_by-add, sum_by_each, sum_by_nothing, sum_by-ones, sum_by_turned, sum_by_only}
+use Rattle.fsrm_base.proofs.Look.{has_found, found_key}
+use Rattle.fsrm_base.proofs.Members.{none_passes, filter_none}
 use Rattle.fsrm_model.proofs.Keeps.{tree_of}
 use Rattle.fsrm_model.proofs.Below.{chain_root}
 use Rattle.fsrm_model.proofs.ValidLaws.{found_parent}

@@ -5,12 +5,13 @@ use Rattle.std.specs.Option.{option_map_or}
 use Rattle.std.specs.List.{list_any, list_all}
 use Rattle.fsrm_model.specs.declared.row.Capacity.{Capacity}
 use Rattle.fsrm_model.specs.declared.row.NodeRow.{NodeRow}
-use Rattle.fsrm_model.specs.Keyed.{is_ascending, has_row, row_of}
+use Rattle.fsrm_base.specs.Keyed.{is_ascending, has_row, row_of}
 use Rattle.fsrm_model.specs.Tree.{number, node_of, parent_of, is_folder, chain}
 use Rattle.fsrm_model.specs.Valid.{is_tree, is_sound_node, is_root_node, is_inner_node, is_only_one}
-use Rattle.fsrm_model.proofs.TestLaws.{eq_is}
-use Rattle.fsrm_model.proofs.ChainLaws.{is_in, IsTree, Has}
-pub use Rattle.fsrm_model.proofs.TestLaws.{both}
+use Rattle.fsrm_base.proofs.TestLaws.{eq_is}
+use Rattle.fsrm_base.specs.Numbers.{is_in}
+use Rattle.fsrm_model.proofs.ChainLaws.{IsTree, Has}
+pub use Rattle.fsrm_base.proofs.TestLaws.{both}
 
 -- a row that is there
 pub record Found {X : Type 0} (key : X → ℕ) (n : ℕ) (rows : List X) (test : X → Bool) : Type 0 where

@@ -3,14 +3,14 @@ use Rattle.std.proofs.Common.{◌≡◌, ℕ, ◌==◌, Bool, true, false, cond,
 use Rattle.std.specs.List.{list_all}
 use Rattle.fsrm_model.specs.declared.row.Capacity.{Capacity}
 use Rattle.fsrm_model.specs.declared.row.NodeRow.{NodeRow}
-use Rattle.fsrm_model.specs.Keyed.{is_ascending, has_row}
+use Rattle.fsrm_base.specs.Keyed.{is_ascending, has_row}
 use Rattle.fsrm_model.specs.Name.{same_name}
 use Rattle.fsrm_model.specs.Tree.{number, node_of, is_folder, is_child, is_under, name_bytes}
 use Rattle.fsrm_model.specs.Valid.{is_tree, is_sound_node, is_root_node, is_inner_node, is_only_one, is_own, IsVolume}
-use Rattle.fsrm_model.proofs.TestLaws.{is_or_not, is_false, both, both_true, eq_is, eq_same, le_is, le_test}
+use Rattle.fsrm_base.proofs.TestLaws.{is_or_not, is_false, both, both_true, eq_is, eq_same, le_is, le_test}
 use Rattle.fsrm_model.proofs.ValidLaws.{valid_tree}
-use Rattle.fsrm_model.proofs.Look.{has_found, found_has, found_key}
-use Rattle.fsrm_model.proofs.Members.{all_pass, all_found}
+use Rattle.fsrm_base.proofs.Look.{has_found, found_has, found_key}
+use Rattle.fsrm_base.proofs.Members.{all_pass, all_found}
 use Rattle.fsrm_model.proofs.Keeps.{found_folder, is_child_test}
 
 -- what the test says of the root and of another node

@@ -10,10 +10,10 @@ use Rattle.fsrm_model.specs.declared.row.NodeRow.{NodeRow}
 use Rattle.fsrm_model.specs.Name.{same_name, same_names}
 use Rattle.fsrm_model.specs.Tree.{number, node_of, name_of, parent_of, is_child, child_of, child_number, chain, path_of, resolve}
 use Rattle.fsrm_model.specs.Valid.{IsVolume}
-use Rattle.fsrm_model.proofs.TestLaws.{clash, is_false, both, both_true, eq_is, suc_apart}
+use Rattle.fsrm_base.proofs.TestLaws.{clash, is_false, both, both_true, eq_is, suc_apart}
 use Rattle.fsrm_model.proofs.ChainLaws.{Has, chain_step}
 use Rattle.fsrm_model.proofs.DepthLaws.{some_member}
-use Rattle.fsrm_model.proofs.Look.{has_found, found_has, found_key, found_any, found_own, found_passes, is_some-find, some_row}
+use Rattle.fsrm_base.proofs.Look.{has_found, found_has, found_key, found_any, found_own, found_passes, is_some-find, some_row}
 use Rattle.fsrm_model.proofs.Keeps.{tree_of, is_child_test, same_joined}
 use Rattle.fsrm_model.proofs.ValidLaws.{found_parent}
 

@@ -14,7 +14,7 @@ use Rattle.fsrm_model.specs.declared.command.Ask.TheVariants.{Quotas}
 use Rattle.fsrm_model.specs.declared.command.Outcome.TheVariants.{Done, Sum, Listing, Scanned, Refused}
 use Rattle.fsrm_model.specs.declared.command.Refusal.TheVariants.{QuotaExceeded}
 use Rattle.fsrm_model.specs.Entry.{paths}
-use Rattle.fsrm_model.specs.Numbers.{without_numbers}
+use Rattle.fsrm_base.specs.Numbers.{without_numbers}
 use Rattle.fsrm_model.specs.Scan.{visits}
 use Rattle.fsrm_model.specs.Tree.{under, children, path_of}
 use Rattle.fsrm_model.specs.FileOps.{target}

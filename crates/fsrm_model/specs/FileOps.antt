@@ -3,7 +3,7 @@ use Rattle.std.specs.Prelude.{ℕ, Bool, true, false, List, unwrap_or}
 use Rattle.fsrm_model.specs.declared.row.NodeRow.{NodeRow}
 use Rattle.fsrm_model.specs.declared.command.FileOp.{FileOp}
 use Rattle.fsrm_model.specs.declared.command.FileOp.TheVariants.{Mkdir, Create, Resize, Touch, Move, Remove}
-use Rattle.fsrm_model.specs.Keyed.{with_row, with_change, without_row}
+use Rattle.fsrm_base.specs.Keyed.{with_row, with_change, without_row}
 use Rattle.fsrm_model.specs.Tree.{number, fresh, resolve, folder_part, last_name}
 
 -- the node that a path leads to; 0 where it leads to none

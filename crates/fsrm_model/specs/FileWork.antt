@@ -11,7 +11,7 @@ use Rattle.fsrm_model.specs.declared.command.Outcome.TheVariants.{Done, Sum}
 use Rattle.fsrm_model.specs.Tree.{folder_part, usage, children, is_under}
 use Rattle.fsrm_model.specs.FileOps.{plain, new_node, target, target_folder}
 use Rattle.fsrm_model.specs.Check.{Check, ◌when◌, volume_full, names_full}
-use Rattle.fsrm_model.specs.Numbers.{without_number}
+use Rattle.fsrm_base.specs.Numbers.{without_number}
 use Rattle.fsrm_model.specs.Quota.{exceeded}
 use Rattle.fsrm_model.specs.QuotaStates.{head, without_quota}
 use Rattle.fsrm_model.specs.Scan.{unvisited_with, unvisited_moved}

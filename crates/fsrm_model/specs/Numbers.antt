@@ -1,7 +1,7 @@
 -- Sets of numbers, as lists that ascend.
 use Rattle.std.specs.Prelude.{ℕ, ◌==◌, ◌&&◌, Bool, true, not, List, [], ◌∷◌, filter, if◌then◌else◌}
 use Rattle.std.specs.List.{list_any}
-use Rattle.fsrm_model.specs.Keyed.{is_ascending, with_row, without_row}
+use Rattle.fsrm_base.specs.Keyed.{is_ascending, with_row, without_row}
 
 abbrev pub itself : ℕ → ℕ
 itself n = n

@@ -4,7 +4,7 @@ use Rattle.std.specs.List.{list_any, list_all}
 use Rattle.std.specs.Option.{option_map_or}
 use Rattle.ucd_case.specs.CaseFolding.{simple_fold}
 use Rattle.fsrm_model.specs.declared.row.GroupRow.{GroupRow}
-use Rattle.fsrm_model.specs.Keyed.{row_of, with_row, with_change, without_row, least_free}
+use Rattle.fsrm_base.specs.Keyed.{row_of, with_row, with_change, without_row, least_free}
 use Rattle.fsrm_model.specs.Limits.{longest_name}
 use Rattle.fsrm_model.specs.Name.{is_name_byte, same_name}
 

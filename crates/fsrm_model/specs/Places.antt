@@ -1,6 +1,6 @@
 -- Where in ascending rows a number stands, or is to stand.
 use Rattle.std.specs.Prelude.{◌≡◌, ℕ, ◌<◌, ◌≤◌, false, List, length, slice_get, Some}
-use Rattle.fsrm_model.specs.Keyed.{row_of, has_row}
+use Rattle.fsrm_base.specs.Keyed.{row_of, has_row}
 
 -- the row of a number stands at a place
 pub record IsAt {X : Type 0} (key : X → ℕ) (n : ℕ) (rows : List X) (place : ℕ) : Type 0 where

@@ -10,7 +10,7 @@ use Rattle.fsrm_model.specs.declared.row.QuotaState.{QuotaState}
 use Rattle.fsrm_model.specs.declared.row.QuotaState.TheVariants.{Complete, Disabled, Rebuilding, Incomplete}
 use Rattle.fsrm_model.specs.declared.row.Rows.{Rows}
 use Rattle.fsrm_model.specs.Check.{Check}
-use Rattle.fsrm_model.specs.Keyed.{row_of}
+use Rattle.fsrm_base.specs.Keyed.{row_of}
 use Rattle.fsrm_model.specs.Limits.{least_limit, greatest_limit}
 use Rattle.fsrm_model.specs.Tree.{usage, is_under}
 

@@ -6,8 +6,8 @@ use Rattle.fsrm_model.specs.declared.row.QuotaRow.{QuotaRow}
 use Rattle.fsrm_model.specs.declared.row.QuotaState.{QuotaState}
 use Rattle.fsrm_model.specs.declared.row.QuotaState.TheVariants.{Complete, Disabled, Rebuilding, Incomplete}
 use Rattle.fsrm_model.specs.declared.row.Rows.{Rows}
-use Rattle.fsrm_model.specs.Keyed.{with_row, with_change, without_row}
-use Rattle.fsrm_model.specs.Numbers.{is_in, without_number}
+use Rattle.fsrm_base.specs.Keyed.{with_row, with_change, without_row}
+use Rattle.fsrm_base.specs.Numbers.{is_in, without_number}
 use Rattle.fsrm_model.specs.Quota.{folder_of, quota_of}
 use Rattle.fsrm_model.specs.Scan.{folders_under}
 use Rattle.fsrm_model.specs.Tree.{children}

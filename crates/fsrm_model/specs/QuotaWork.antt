@@ -10,7 +10,7 @@ use Rattle.fsrm_model.specs.declared.row.QuotaState.TheVariants.{Disabled}
 use Rattle.fsrm_model.specs.declared.row.Rows.{Rows}
 use Rattle.fsrm_model.specs.Check.{Check, ◌when◌, table_full}
 use Rattle.fsrm_model.specs.FileOps.{target}
-use Rattle.fsrm_model.specs.Keyed.{with_change}
+use Rattle.fsrm_base.specs.Keyed.{with_change}
 use Rattle.fsrm_model.specs.Leads.{leads_to_folder}
 use Rattle.fsrm_model.specs.Quota.{folder_of, quota_of, counts}
 use Rattle.fsrm_model.specs.QuotaStates.{start, state_after, with_quota, with_state, without_quota}

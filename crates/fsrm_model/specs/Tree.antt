@@ -5,8 +5,8 @@ use Rattle.std.specs.Option.{option_map_or}
 use Rattle.std.specs.List.{list_any}
 use Rattle.fsrm_model.specs.declared.row.Capacity.{Capacity}
 use Rattle.fsrm_model.specs.declared.row.NodeRow.{NodeRow}
-use Rattle.fsrm_model.specs.Keyed.{row_of, least_free}
-use Rattle.fsrm_model.specs.Order.{in_order}
+use Rattle.fsrm_base.specs.Keyed.{row_of, least_free}
+use Rattle.fsrm_base.specs.Order.{in_order}
 use Rattle.fsrm_model.specs.Name.{same_name, same_names, name_before}
 use Rattle.fsrm_model.specs.Space.{space}
 

@@ -5,10 +5,10 @@ use Rattle.fsrm_model.specs.declared.row.Capacity.{Capacity}
 use Rattle.fsrm_model.specs.declared.row.NodeRow.{NodeRow}
 use Rattle.fsrm_model.specs.declared.row.QuotaRow.{QuotaRow}
 use Rattle.fsrm_model.specs.declared.row.Rows.{Rows}
-use Rattle.fsrm_model.specs.Keyed.{row_of, is_ascending, has_row}
+use Rattle.fsrm_base.specs.Keyed.{row_of, is_ascending, has_row}
 use Rattle.fsrm_model.specs.Limits.{latest_moment, longest_file, most_quotas}
 use Rattle.fsrm_model.specs.Name.{is_name, same_name}
-use Rattle.fsrm_model.specs.Numbers.{is_in, each_once}
+use Rattle.fsrm_base.specs.Numbers.{is_in, each_once}
 use Rattle.fsrm_model.specs.Quota.{folder_of, is_limit}
 use Rattle.fsrm_model.specs.QuotaStates.{is_rebuilding, head}
 use Rattle.fsrm_model.specs.Scan.{AreUnvisited}

@@ -4,15 +4,15 @@ use Rattle.std.proofs.lemmas.List.{length-set}
 use Rattle.std.proofs.lemmas.List.Edits.{length-insert, length-remove}
 use Rattle.std.specs.Prelude.{slice_set}
 use Rattle.fsrm_model.specs.declared.row.QuotaRow.{QuotaRow}
-use Rattle.fsrm_model.specs.Keyed.{row_of}
+use Rattle.fsrm_base.specs.Keyed.{row_of}
 use Rattle.fsrm_model.specs.Limits.{most_quotas}
 use Rattle.fsrm_model.specs.Quota.{folder_of}
-use Rattle.fsrm_model.proofs.Look.{none_row, is_some-find}
+use Rattle.fsrm_base.proofs.Look.{none_row, is_some-find}
 use Rattle.fsrm_objects.specs.declared.answer.ObjectFault.TheVariants.{AlreadyExists}
 use Rattle.fsrm_objects.specs.Kept.{AreQuotas}
-use Rattle.fsrm_model.specs.Places.{IsAt, IsGap}
+use Rattle.fsrm_base.specs.Places.{IsAt, IsGap}
 use Rattle.fsrm_objects.specs.Tables.{Tables, quota_fault}
-use Rattle.fsrm_model.proofs.SortedRows.{row_found, ascending-set, ascending-insert, ascending-remove}
+use Rattle.fsrm_base.proofs.SortedRows.{row_found, ascending-set, ascending-insert, ascending-remove}
 
 -- one more
 pub more_kept : (quotas : List QuotaRow) (row : QuotaRow) (p : ℕ) → AreQuotas quotas → IsGap folder_of row.folder quotas p → length quotas < most_quotas → AreQuotas (insert quotas p row)

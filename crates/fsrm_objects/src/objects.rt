@@ -2,9 +2,9 @@
 
 ghost use Rattle.std.specs.Prelude.{◌≡◌, ◌<◌, IfOk, IfErr, OnOk, OnErr, [], None, Some, true, length, slice_get};
 ghost use Rattle.std.specs.Option.{option_copied};
-ghost use Rattle.fsrm_model.specs.Keyed.{row_of, has_row, is_ascending};
+ghost use Rattle.fsrm_base.specs.Keyed.{row_of, has_row, is_ascending};
 ghost use Rattle.fsrm_model.specs.Quota.{folder_of};
-ghost use Rattle.fsrm_model.specs.Places.{IsAt, IsGap};
+ghost use Rattle.fsrm_base.specs.Places.{IsAt, IsGap};
 ghost use Rattle.fsrm_objects.specs.Tables.{IsFault, quota_fault, with_quota, with_other, with_peak, with_state, without_quota};
 
 use crate::answer::ObjectFault;

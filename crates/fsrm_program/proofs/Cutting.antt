@@ -8,7 +8,7 @@ use Rattle.std.proofs.lemmas.Bool.{eqb-true, eq-eqb, both_ways}
 use Rattle.memchr.specs.Find.{IsFirstByte, is_byte}
 use Rattle.fsrm_model.specs.Script.{is_end}
 use Rattle.fsrm_program.specs.Bytes.{CutsLine}
-use Rattle.fsrm_model.proofs.TestLaws.{nor, not_true}
+use Rattle.fsrm_base.proofs.TestLaws.{nor, not_true}
 
 -- no LF at any place
 none_ends : (bytes : List ℕ) → ((k : ℕ) → k < length bytes → is_end (slice_index bytes k) ≡ true → ⊥) → list_any is_end bytes ≡ false

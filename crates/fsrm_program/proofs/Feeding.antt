@@ -10,7 +10,7 @@ use Rattle.fsrm_model.specs.Script.{is_end, lines, spelled_lines, Replied, repli
 use Rattle.fsrm_model.proofs.ScriptLaws.{lines_last, spelled_lines-append, AreLines-append, replied-held, line_cost-held, text_from-append, fold_from-append, cost_from-append}
 use Rattle.fsrm_outside.specs.Shown.{IsFront}
 use Rattle.fsrm_program.specs.Progress.{State, IsHeld, Leads, Fed, Feeds, Broken, EndsBehind, EndsBroken}
-use Rattle.fsrm_model.proofs.TestLaws.{nor}
+use Rattle.fsrm_base.proofs.TestLaws.{nor}
 
 pub held_nothing : IsHeld [] []
 held_nothing = record { kept = refl; one_line = refl }

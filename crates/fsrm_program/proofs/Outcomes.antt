@@ -19,11 +19,11 @@ use Rattle.fsrm_model.specs.Check.{Check, ◌when◌, first}
 use Rattle.fsrm_model.specs.Cost.{cost, print_cost}
 use Rattle.fsrm_model.specs.FileOps.{target}
 use Rattle.fsrm_model.specs.FileWork.{new_checks, file_checks, file_effect}
-use Rattle.fsrm_model.specs.Keyed.{has_row}
+use Rattle.fsrm_base.specs.Keyed.{has_row}
 use Rattle.fsrm_model.specs.Leads.{leads, leads_to_folder}
 use Rattle.fsrm_model.specs.Line.{read_line, is_line_refusal}
 use Rattle.fsrm_model.specs.Named.{IsNamed}
-use Rattle.fsrm_model.specs.Numbers.{is_in}
+use Rattle.fsrm_base.specs.Numbers.{is_in}
 use Rattle.fsrm_model.specs.Quota.{folder_of, quota_of, deepest, over, exceeded}
 use Rattle.fsrm_model.specs.QuotaStates.{followed, head}
 use Rattle.fsrm_model.specs.Reading.{Read}
@@ -36,7 +36,7 @@ use Rattle.fsrm_model.specs.Valid.{IsVolume, AreQuotas, IsStore}
 use Rattle.fsrm_model.specs.Work.{Work}
 use Rattle.fsrm_model.proofs.Ends.{outcome_kept, nodes_kept, step_nodes}
 use Rattle.fsrm_model.proofs.LineRefusals.{line_refusal}
-use Rattle.fsrm_model.proofs.Look.{eq_same, is_some-find}
+use Rattle.fsrm_base.proofs.Look.{eq_same, is_some-find}
 use Rattle.fsrm_model.proofs.PlainMachine.{replied-read, line_cost-read}
 use Rattle.fsrm_model.proofs.QuotaLaws.{exceeded_is}
 use Rattle.fsrm_model.proofs.Resolves.{resolved}

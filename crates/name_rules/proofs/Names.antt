@@ -5,7 +5,7 @@ use Rattle.std.proofs.lemmas.Bool.{false≢true, lt-ltb}
 use Rattle.fsrm_model.specs.Name.{is_name}
 use Rattle.fsrm_model.specs.Reading.{path_from, path_parts, is_on_volume, has_path_form}
 use Rattle.name_rules.specs.Parts.{parts_of}
-use Rattle.fsrm_model.proofs.TestLaws.{and_false, both}
+use Rattle.fsrm_base.proofs.TestLaws.{and_false, both}
 
 -- one more name
 pub names_more : (names : List (List ℕ)) (name : List ℕ) → list_all is_name names ≡ true → is_name name ≡ true → list_all is_name (names ++ name ∷ []) ≡ true

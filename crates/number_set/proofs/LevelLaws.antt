@@ -6,8 +6,8 @@ use Rattle.std.proofs.lemmas.Nat.Bits.{bit_at-zero}
 use Rattle.std.specs.Int.{bit_at}
 use Rattle.std.specs.List.{range_with_len}
 use Rattle.std.specs.Prelude.{slice_get, filter, MatchOption}
-use Rattle.fsrm_model.specs.Numbers.{is_in, is_set, with_number, without_number}
-use Rattle.fsrm_model.proofs.TestLaws.{is_or_not, eq_is, lt_test, not_true, eq_test}
+use Rattle.fsrm_base.specs.Numbers.{is_in, is_set, with_number, without_number}
+use Rattle.fsrm_base.proofs.TestLaws.{is_or_not, eq_is, lt_test, not_true, eq_test}
 use Rattle.number_set.specs.Numbers.{Numbers, no_numbers}
 use Rattle.number_set.specs.Words.{has_bit, is_occupied, numbers_of, Marks, IsLeastIn}
 use Rattle.number_set.proofs.NumberLaws.{in_with, in_without, in_filter, set_with, set_without, set_filter, same_set, first_least}

@@ -2,11 +2,11 @@
 use Rattle.std.proofs.Common.{◌≡◌, ℕ, ◌<◌, ◌==◌, Bool, true, false, cond, not, ◌||◌, ◌&&◌, List, [], ◌∷◌, refl, sym, ◌∙◌, ap, subst, inl, inr, arith, nat_lt}
 use Rattle.std.proofs.lemmas.Bool.Decides.{nat_tests}
 use Rattle.std.specs.Prelude.{filter}
-use Rattle.fsrm_model.specs.Keyed.{with_row}
-use Rattle.fsrm_model.specs.Numbers.{itself, is_in, is_set, with_number, without_number, with_numbers, without_numbers}
-use Rattle.fsrm_model.proofs.ChangeLaws.{ascending_tail}
-use Rattle.fsrm_model.proofs.Order.{parts, ascending-with_row, ascending-filter}
-use Rattle.fsrm_model.proofs.TestLaws.{is_or_not, clash, eq_is, eq_same, lt_is, not_true}
+use Rattle.fsrm_base.specs.Keyed.{with_row}
+use Rattle.fsrm_base.specs.Numbers.{itself, is_in, is_set, with_number, without_number, with_numbers, without_numbers}
+use Rattle.fsrm_base.proofs.EditedRows.{ascending_tail}
+use Rattle.fsrm_base.proofs.Order.{parts, ascending-with_row, ascending-filter}
+use Rattle.fsrm_base.proofs.TestLaws.{is_or_not, clash, eq_is, eq_same, lt_is, not_true}
 
 -- of tests
 swapped : (a b c : Bool) → (b || (a || c)) ≡ (a || (b || c))

@@ -5,7 +5,7 @@ use Rattle.std.proofs.lemmas.Nat.{and_le_l, le_or_r, one_shl, pow_pos}
 use Rattle.std.proofs.lemmas.Nat.Bits.{bit_at_set_same, bit_at_set_other, bit_at_clear_same, bit_at_clear_other, bit_at-trailing_zeros}
 use Rattle.std.specs.Int.{bit_at, bit_not, trailing_zeros, w64}
 use Rattle.std.specs.Prelude.{bit_and, bit_or}
-use Rattle.fsrm_model.proofs.TestLaws.{is_or_not, eq_is, eq_same, eq_test}
+use Rattle.fsrm_base.proofs.TestLaws.{is_or_not, eq_is, eq_same, eq_test}
 use Rattle.number_set.specs.Words.{has_bit, is_occupied, IsLeastIn}
 
 -- of tests of numbers

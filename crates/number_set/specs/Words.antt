@@ -2,7 +2,7 @@
 use Rattle.std.specs.Prelude.{◌≡◌, ℕ, ◌*◌, ◌<◌, ◌/◌, ◌%◌, ◌==◌, Bool, true, false, not, List, filter, length, slice_index}
 use Rattle.std.specs.Int.{bit_at}
 use Rattle.std.specs.List.{range_with_len}
-use Rattle.fsrm_model.specs.Numbers.{is_in, is_set}
+use Rattle.fsrm_base.specs.Numbers.{is_in, is_set}
 use Rattle.number_set.specs.Numbers.{Numbers}
 
 -- whether the bit of a number is set

@@ -2,7 +2,7 @@
 
 ghost use Rattle.std.specs.Prelude.{◌≡◌, ◌<◌, ◌==◌, IfOk, length};
 ghost use Rattle.std.specs.Prelude.{slice_get};
-ghost use Rattle.fsrm_model.specs.Numbers.{is_in, with_number, without_number};
+ghost use Rattle.fsrm_base.specs.Numbers.{is_in, with_number, without_number};
 ghost use Rattle.number_set.specs.Numbers.{no_numbers};
 
 use crate::words::{WORD, clear_bit, empty_words, has_bit, least_in, set_bit};

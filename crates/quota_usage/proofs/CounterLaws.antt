@@ -6,19 +6,19 @@ use Rattle.std.specs.Global.{Vec}
 use Rattle.std.specs.List.{insert, remove}
 use Rattle.std.specs.Prelude.{map, option_map}
 use Rattle.std.specs.Vec.{vec_capacity, with_items}
-use Rattle.fsrm_model.specs.Keyed.{row_of, has_row, with_change, is_ascending}
+use Rattle.fsrm_base.specs.Keyed.{row_of, has_row, with_change, is_ascending}
 use Rattle.fsrm_model.specs.Limits.{most_quotas}
-use Rattle.fsrm_model.proofs.ChangeLaws.{change_absent}
-use Rattle.fsrm_model.proofs.Look.{none_row, is_some-find, found_has}
+use Rattle.fsrm_base.proofs.EditedRows.{change_absent}
+use Rattle.fsrm_base.proofs.Look.{none_row, is_some-find, found_has}
 use Rattle.fsrm_model.proofs.Sizes.{length-removed}
-use Rattle.fsrm_model.proofs.TestLaws.{clash, eq_is}
-use Rattle.fsrm_model.proofs.Order.{ascending-with_row, ascending-filter, ascending-map, length-with_row}
+use Rattle.fsrm_base.proofs.TestLaws.{clash, eq_is}
+use Rattle.fsrm_base.proofs.Order.{ascending-with_row, ascending-filter, ascending-map, length-with_row}
 use Rattle.quota_usage.specs.Climb.{amended_counter}
 use Rattle.quota_usage.specs.Counters.{counted, used_in, with_counter, without_counter}
 use Rattle.quota_usage.specs.Kept.{IsKept}
-use Rattle.fsrm_model.specs.Places.{IsAt, IsGap}
+use Rattle.fsrm_base.specs.Places.{IsAt, IsGap}
 use Rattle.quota_usage.specs.declared.change.Counter.{Counter}
-use Rattle.fsrm_model.proofs.SortedRows.{set_found, remove_found, insert_row}
+use Rattle.fsrm_base.proofs.SortedRows.{set_found, remove_found, insert_row}
 
 abbrev pub blank : Counter
 blank = record { folder = 0; bytes = 0 }

@@ -6,12 +6,12 @@ use Rattle.fsrm_model.specs.declared.row.NodeRow.{NodeRow}
 use Rattle.quota_usage.specs.Charge.{is_above}
 use Rattle.quota_usage.specs.declared.change.Change.{Change}
 use Rattle.fsrm_model.specs.declared.row.QuotaRow.{QuotaRow}
-use Rattle.fsrm_model.specs.Keyed.{row_of, is_ascending}
+use Rattle.fsrm_base.specs.Keyed.{row_of, is_ascending}
 use Rattle.fsrm_model.specs.Quota.{folder_of, refuses}
-use Rattle.fsrm_model.proofs.Look.{found_key}
+use Rattle.fsrm_base.proofs.Look.{found_key}
 use Rattle.quota_usage.specs.Climb.{judged, refusal_of, refusal_at, IsNearestTo}
 use Rattle.quota_usage.specs.Counters.{counted, used_in}
-use Rattle.fsrm_model.specs.Places.{IsAt}
+use Rattle.fsrm_base.specs.Places.{IsAt}
 use Rattle.quota_usage.specs.declared.change.Counter.{Counter}
 use Rattle.quota_usage.proofs.CounterLaws.{blank, used_at}
 

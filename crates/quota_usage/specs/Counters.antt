@@ -1,6 +1,6 @@
 -- Counters of folders, ascending by folder.
 use Rattle.std.specs.Prelude.{ℕ, List, Option, option_map}
-use Rattle.fsrm_model.specs.Keyed.{row_of, with_row, without_row}
+use Rattle.fsrm_base.specs.Keyed.{row_of, with_row, without_row}
 use Rattle.quota_usage.specs.declared.change.Counter.{Counter}
 
 abbrev pub counted : Counter → ℕ

@@ -2,7 +2,7 @@
 use Rattle.std.specs.Prelude.{◌≡◌, ◌≤◌, true, length}
 use Rattle.std.specs.Global.{Vec}
 use Rattle.std.specs.Vec.{vec_capacity}
-use Rattle.fsrm_model.specs.Keyed.{is_ascending}
+use Rattle.fsrm_base.specs.Keyed.{is_ascending}
 use Rattle.fsrm_model.specs.Limits.{most_quotas}
 use Rattle.quota_usage.specs.Counters.{counted}
 use Rattle.quota_usage.specs.declared.change.Counter.{Counter}

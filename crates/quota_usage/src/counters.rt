@@ -1,10 +1,10 @@
 //! Counters that ascend by folder.
 
 ghost use Rattle.std.specs.Prelude.{◌≡◌, ℕ, ◌<◌, ◌^◌, IfOk, IfErr, Some, true};
-ghost use Rattle.fsrm_model.specs.Keyed.{is_ascending, with_change};
+ghost use Rattle.fsrm_base.specs.Keyed.{is_ascending, with_change};
 ghost use Rattle.quota_usage.specs.Climb.{amended, amended_counter};
 ghost use Rattle.quota_usage.specs.Counters.{counted, used_in};
-ghost use Rattle.fsrm_model.specs.Places.{IsAt, IsGap};
+ghost use Rattle.fsrm_base.specs.Places.{IsAt, IsGap};
 
 use crate::change::Counter;
 

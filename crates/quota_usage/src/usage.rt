@@ -1,7 +1,7 @@
 //! The counters of the counting quotas.
 
 ghost use Rattle.std.specs.Prelude.{◌≡◌, ℕ, ◌+◌, ◌*◌, ◌<◌, ◌≤◌, IfOk, IfErr, OnOk, [], Some, true, false, length, map};
-ghost use Rattle.fsrm_model.specs.Keyed.{has_row, is_ascending};
+ghost use Rattle.fsrm_base.specs.Keyed.{has_row, is_ascending};
 ghost use Rattle.fsrm_model.specs.Limits.{most_quotas};
 ghost use Rattle.fsrm_model.specs.Quota.{folder_of};
 ghost use Rattle.fsrm_model.specs.Valid.{IsVolume};

@@ -13,7 +13,7 @@ use Rattle.fsrm_model.specs.declared.row.Capacity.{Capacity}
 use Rattle.fsrm_model.specs.declared.row.QuotaRow.{QuotaRow}
 use Rattle.fsrm_model.specs.declared.row.Rows.{Rows}
 use Rattle.fsrm_model.specs.Date.{date_text}
-use Rattle.fsrm_model.specs.Keyed.{row_of, has_row, is_ascending}
+use Rattle.fsrm_base.specs.Keyed.{row_of, has_row, is_ascending}
 use Rattle.fsrm_model.specs.Limits.{latest_moment}
 use Rattle.fsrm_model.specs.Quota.{folder_of, counts, used_of}
 use Rattle.fsrm_model.specs.Cost.{path_cost, list_cost}
@@ -22,10 +22,10 @@ use Rattle.fsrm_model.specs.Text.{body_line, list_lines, path_text, quota_line, 
 use Rattle.fsrm_model.specs.Tree.{number, usage}
 use Rattle.fsrm_model.specs.Valid.{IsStore}
 use Rattle.fsrm_model.proofs.Keeps.{folder_found}
-use Rattle.fsrm_model.proofs.Look.{found_has, found_key, is_some-find}
-use Rattle.fsrm_model.proofs.Members.{filter_none}
-use Rattle.fsrm_model.proofs.Order.{parts}
-use Rattle.fsrm_model.proofs.TestLaws.{lt_is, eq_is, eq_same, eq_below, le_is}
+use Rattle.fsrm_base.proofs.Look.{found_has, found_key, is_some-find}
+use Rattle.fsrm_base.proofs.Members.{filter_none}
+use Rattle.fsrm_base.proofs.Order.{parts}
+use Rattle.fsrm_base.proofs.TestLaws.{lt_is, eq_is, eq_same, eq_below, le_is}
 use Rattle.fsrm_outside.specs.Shown.{ShowsFront}
 use Rattle.fsrm_outside.proofs.Shown.{shows_then, shows_then_front}
 use Rattle.reply_text.proofs.Sent.{front_more}

@@ -5,7 +5,7 @@ ghost use Rattle.std.specs.String.{string_bytes};
 ghost use Rattle.fsrm_model.specs.declared.command.Ask.TheVariants.{Quotas};
 ghost use Rattle.fsrm_model.specs.declared.command.Outcome.TheVariants.{Listing};
 ghost use Rattle.fsrm_model.specs.Cost.{list_cost, path_cost};
-ghost use Rattle.fsrm_model.specs.Keyed.{has_row, row_of};
+ghost use Rattle.fsrm_base.specs.Keyed.{has_row, row_of};
 ghost use Rattle.fsrm_model.specs.Limits.{latest_moment};
 ghost use Rattle.fsrm_model.specs.Named.{IsNamed};
 ghost use Rattle.fsrm_model.specs.Quota.{folder_of};

@@ -6,20 +6,21 @@ use Rattle.std.specs.Prelude.{slice_get, sum_by, if◌then◌else◌}
 use Rattle.std.specs.List.{AllByRecursion}
 use Rattle.fsrm_model.specs.declared.row.Capacity.{Capacity}
 use Rattle.fsrm_model.specs.declared.row.NodeRow.{NodeRow}
-use Rattle.fsrm_model.specs.Numbers.{is_in, without_number}
+use Rattle.fsrm_base.specs.Numbers.{is_in, without_number}
 use Rattle.fsrm_model.specs.Tree.{number, node_of, is_child, children, is_under, under}
 use Rattle.fsrm_model.specs.Valid.{IsVolume}
-use Rattle.fsrm_model.proofs.TestLaws.{clash, or_later, eq_is, eq_same}
-use Rattle.fsrm_model.proofs.ChainLaws.{Has, sum_by-filter}
+use Rattle.fsrm_base.proofs.TestLaws.{clash, or_later, eq_is, eq_same}
+use Rattle.fsrm_model.proofs.ChainLaws.{Has}
+use Rattle.fsrm_base.proofs.EditedRows.{sum_by-filter}
 use Rattle.fsrm_model.proofs.Keeps.{tree_of}
-use Rattle.fsrm_model.proofs.Look.{found_has, has_found, found_key}
-use Rattle.fsrm_model.proofs.Sums.{sum_by-add, sum_by_only, sum_by_most}
+use Rattle.fsrm_base.proofs.Look.{found_has, has_found, found_key}
+use Rattle.fsrm_base.proofs.Sums.{sum_by-add, sum_by_only, sum_by_most}
 use Rattle.fsrm_model.proofs.ValidLaws.{folder_has, found_parent}
 use Rattle.rescan.specs.Frontiers.{Front, has_above}
 use Rattle.rescan.proofs.Leaving.{Leaving, above_one, without_in, waiting_has, without_gone}
 use Rattle.rescan.proofs.Opening.{opened, opened_gone, opened_less}
 use Rattle.rescan.proofs.Tops.{above_of, above_by, above_own, under_child}
-use Rattle.fsrm_model.proofs.RowLaws.{each_found}
+use Rattle.fsrm_base.proofs.RowLaws.{each_found}
 
 -- the looks that are ahead: one for each node at or below a waiting one, and two for each whose parent is that
 abbrev pub ahead : List NodeRow → List ℕ → ℕ

@@ -7,25 +7,25 @@ use Rattle.std.specs.List.{AllByRecursion}
 use Rattle.fsrm_model.specs.declared.row.Capacity.{Capacity}
 use Rattle.fsrm_model.specs.declared.row.NodeRow.{NodeRow}
 use Rattle.fsrm_model.specs.FileOps.{resized, touched}
-use Rattle.fsrm_model.specs.Keyed.{row_of, has_row, is_ascending, with_row, with_change, without_row}
+use Rattle.fsrm_base.specs.Keyed.{row_of, has_row, is_ascending, with_row, with_change, without_row}
 use Rattle.fsrm_model.specs.Limits.{longest_file}
 use Rattle.fsrm_model.specs.Name.{is_name}
-use Rattle.fsrm_model.specs.Numbers.{without_number}
+use Rattle.fsrm_base.specs.Numbers.{without_number}
 use Rattle.fsrm_model.specs.Scan.{counted, unvisited_with}
 use Rattle.fsrm_model.specs.Space.{alloc}
 use Rattle.fsrm_model.specs.Tree.{number, node_of}
 use Rattle.fsrm_model.specs.Valid.{IsVolume, is_moment, is_own, is_root_node}
-use Rattle.fsrm_model.proofs.TestLaws.{is_or_not, both, both_true, clash, eq_is, eq_same, neither, not_true}
+use Rattle.fsrm_base.proofs.TestLaws.{is_or_not, both, both_true, clash, eq_is, eq_same, neither, not_true}
 use Rattle.fsrm_model.proofs.Keeps.{volume-change}
-use Rattle.fsrm_model.proofs.Look.{found_key, row_of-change}
+use Rattle.fsrm_base.proofs.Look.{found_key, row_of-change}
 use Rattle.volume_tree.specs.Volume.{Volume, with_touch, without_node}
 use Rattle.rescan.specs.Frontiers.{Front, Stands, Follows, scanned, unvisited, of_length, sized}
 use Rattle.rescan.proofs.CountLaws.{is_counted, part}
 use Rattle.rescan.proofs.KindLaws.{KeepsKind, kind_tops, kind_unvisited, kind_counted, kind_counted_same}
 use Rattle.rescan.proofs.LeafLaws.{IsLeaf, leaf_inner, tops_with, tops_without, counted_with, counted_without, unvisited_new, unvisited_gone}
 use Rattle.rescan.proofs.Tops.{tops_of, stands_by}
-use Rattle.fsrm_model.proofs.RemoveLaws.{without_absent}
-use Rattle.fsrm_model.proofs.RowLaws.{each_found, change_same, change_none}
+use Rattle.fsrm_base.proofs.EditedRows.{without_absent}
+use Rattle.fsrm_base.proofs.RowLaws.{each_found, change_same, change_none}
 use Rattle.fsrm_model.proofs.ValidVolume.{root_folder}
 
 -- a change of a node that keeps number, parent, kind and length

@@ -10,15 +10,15 @@ use Rattle.std.specs.Option.{option_map_or}
 use Rattle.std.specs.List.{list_any}
 use Rattle.fsrm_model.specs.declared.row.Capacity.{Capacity}
 use Rattle.fsrm_model.specs.declared.row.NodeRow.{NodeRow}
-use Rattle.fsrm_model.specs.Keyed.{is_ascending}
+use Rattle.fsrm_base.specs.Keyed.{is_ascending}
 use Rattle.fsrm_model.specs.Name.{name_before}
-use Rattle.fsrm_model.specs.Numbers.{is_in, with_number, with_numbers}
+use Rattle.fsrm_base.specs.Numbers.{is_in, with_number, with_numbers}
 use Rattle.fsrm_model.specs.Space.{alloc, space}
 use Rattle.fsrm_model.specs.Tree.{number, node_of, parent_of, is_folder, is_child, children, children_in_order}
 use Rattle.fsrm_model.specs.Valid.{IsVolume}
-use Rattle.fsrm_model.proofs.TestLaws.{both, eq_is, is_false, lt_is}
+use Rattle.fsrm_base.proofs.TestLaws.{both, eq_is, is_false, lt_is}
 use Rattle.fsrm_model.proofs.Keeps.{folder_found, found_folder, is_child_test}
-use Rattle.fsrm_model.proofs.Look.{found_key}
+use Rattle.fsrm_base.proofs.Look.{found_key}
 use Rattle.volume_tree.specs.declared.answer.NodeView.{NodeView}
 use Rattle.volume_tree.specs.Volume.{IsChildAt, Shows}
 use Rattle.volume_tree.proofs.Items.{in_order_moves}

@@ -3,16 +3,15 @@ use Rattle.std.proofs.Common.{◌≡◌, ℕ, ◌+◌, ◌*◌, ◌<◌, ◌≤�
 use Rattle.std.specs.Prelude.{filter, sum_by, slice_get, if◌then◌else◌}
 use Rattle.std.specs.List.{list_any}
 use Rattle.fsrm_model.specs.declared.row.NodeRow.{NodeRow}
-use Rattle.fsrm_model.specs.Keyed.{row_of, has_row, is_ascending}
-use Rattle.fsrm_model.specs.Numbers.{itself, is_in, is_set, with_number, without_number, with_numbers}
+use Rattle.fsrm_base.specs.Keyed.{row_of, has_row, is_ascending}
+use Rattle.fsrm_base.specs.Numbers.{itself, is_in, is_set, with_number, without_number, with_numbers}
 use Rattle.fsrm_model.specs.Tree.{number, is_folder, is_child, children, chain}
 use Rattle.fsrm_model.specs.Valid.{IsVolume}
-use Rattle.fsrm_model.proofs.TestLaws.{is_or_not, both_true, eq_is, eq_turned, lt_is}
-use Rattle.fsrm_model.proofs.ChainLaws.{sum_by-filter}
+use Rattle.fsrm_base.proofs.TestLaws.{is_or_not, both_true, eq_is, eq_turned, lt_is}
+use Rattle.fsrm_base.proofs.EditedRows.{sum_by-filter, sum_by-without_row}
 use Rattle.fsrm_model.proofs.Keeps.{folder_found}
-use Rattle.fsrm_model.proofs.Look.{has_found, found_key}
-use Rattle.fsrm_model.proofs.RemoveLaws.{sum_by-without_row}
-use Rattle.fsrm_model.proofs.Sums.{sum_by-map, sum_by-add, sum_by-ones, sum_by_each, sum_by_turned, sum_by_absent, sum_by_only}
+use Rattle.fsrm_base.proofs.Look.{has_found, found_key}
+use Rattle.fsrm_base.proofs.Sums.{sum_by-map, sum_by-add, sum_by-ones, sum_by_each, sum_by_turned, sum_by_absent, sum_by_only}
 use Rattle.number_set.specs.Numbers.{Numbers}
 use Rattle.number_set.proofs.NumberLaws.{in_with, in_without, set_with, same_set}
 use Rattle.volume_tree.specs.Volume.{Volume}

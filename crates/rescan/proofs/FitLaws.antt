@@ -7,19 +7,19 @@ use Rattle.std.specs.Prelude.{sum_by, nat_le}
 use Rattle.std.specs.List.{AllByRecursion}
 use Rattle.fsrm_model.specs.declared.row.Capacity.{Capacity}
 use Rattle.fsrm_model.specs.declared.row.NodeRow.{NodeRow}
-use Rattle.fsrm_model.specs.Keyed.{is_ascending}
+use Rattle.fsrm_base.specs.Keyed.{is_ascending}
 use Rattle.fsrm_model.specs.Limits.{longest_file}
 use Rattle.fsrm_model.specs.Scan.{counted}
 use Rattle.fsrm_model.specs.Space.{alloc, space}
 use Rattle.fsrm_model.specs.Tree.{number, node_of}
 use Rattle.fsrm_model.specs.Valid.{IsVolume}
-use Rattle.fsrm_model.proofs.Order.{parts}
-use Rattle.fsrm_model.proofs.TestLaws.{is_or_not, both, eq_is, lt_is, le_is}
+use Rattle.fsrm_base.proofs.Order.{parts}
+use Rattle.fsrm_base.proofs.TestLaws.{is_or_not, both, eq_is, lt_is, le_is}
 use Rattle.volume_tree.specs.Volume.{IsCapacity}
 use Rattle.rescan.specs.Frontiers.{Front, scanned, unvisited}
 use Rattle.rescan.proofs.CountLaws.{is_counted, part, counted_is}
 use Rattle.volume_tree.proofs.FreshLaws.{few_nodes}
-use Rattle.fsrm_model.proofs.RowLaws.{each_found}
+use Rattle.fsrm_base.proofs.RowLaws.{each_found}
 
 -- so many nodes at most
 abbrev From : ℕ → ℕ → List NodeRow → Type 0

@@ -2,11 +2,11 @@
 use Rattle.std.proofs.Common.{◌≡◌, ℕ, ◌==◌, Bool, true, false, cond, not, ◌||◌, ◌&&◌, List, refl, sym, ◌∙◌, ap, subst, inl, inr, arith, Some}
 use Rattle.std.specs.Prelude.{unwrap_or}
 use Rattle.fsrm_model.specs.declared.row.NodeRow.{NodeRow}
-use Rattle.fsrm_model.specs.Numbers.{is_in, with_number, without_number}
+use Rattle.fsrm_base.specs.Numbers.{is_in, with_number, without_number}
 use Rattle.fsrm_model.specs.Scan.{unvisited_moved}
 use Rattle.fsrm_model.specs.Tree.{is_folder, is_under}
 use Rattle.fsrm_model.specs.Valid.{IsVolume}
-use Rattle.fsrm_model.proofs.TestLaws.{is_or_not, clash, not_true, both_true, eq_is, eq_same}
+use Rattle.fsrm_base.proofs.TestLaws.{is_or_not, clash, not_true, both_true, eq_is, eq_same}
 use Rattle.fsrm_model.proofs.Below.{each_above}
 use Rattle.fsrm_model.proofs.ChainLaws.{IsTree, Has}
 use Rattle.fsrm_model.proofs.Climbs.{under_own}
@@ -28,7 +28,7 @@ use Rattle.rescan.proofs.MovedWhole.{WholeMoved, whole_follows}
 use Rattle.rescan.proofs.MoveArms.{Goes, moves, kinds, moved_has, visited_is, outside_is, unvisited_is, counted_parts}
 use Rattle.rescan.proofs.Tops.{tops_of, above_of, under_under}
 use Rattle.volume_tree.specs.Volume.{Volume, with_place}
-use Rattle.fsrm_model.proofs.Look.{unwrapped}
+use Rattle.fsrm_base.proofs.Look.{unwrapped}
 
 -- below a folder that isn't visited there is no topmost folder but itself
 lone_top : (nodes : List NodeRow) (f : Front) → IsTree nodes → AreTops nodes f → (x : ℕ) → (x == 0) ≡ false → Has nodes x → is_under nodes x (scanned f) ≡ false → is_counted nodes f x ≡ false → (n : ℕ) → is_in f.tops n ≡ true → is_under nodes x n ≡ true → x ≡ n

@@ -2,14 +2,14 @@
 use Rattle.std.proofs.Common.{◌≡◌, ℕ, true, false, List, sym, ◌∙◌, ap, subst, refl, Some, ◌==◌}
 use Rattle.fsrm_model.specs.declared.row.NodeRow.{NodeRow}
 use Rattle.fsrm_model.specs.FileOps.{resized}
-use Rattle.fsrm_model.specs.Keyed.{has_row, with_change}
-use Rattle.fsrm_model.specs.Numbers.{without_number}
+use Rattle.fsrm_base.specs.Keyed.{has_row, with_change}
+use Rattle.fsrm_base.specs.Numbers.{without_number}
 use Rattle.fsrm_model.specs.Scan.{unvisited_with}
 use Rattle.fsrm_model.specs.Tree.{number, node_of}
 use Rattle.fsrm_model.specs.Valid.{IsVolume}
-use Rattle.fsrm_model.proofs.TestLaws.{eq_same}
-use Rattle.fsrm_model.proofs.ChainLaws.{find-with_row_same}
-use Rattle.fsrm_model.proofs.Order.{ascending-with_row}
+use Rattle.fsrm_base.proofs.TestLaws.{eq_same}
+use Rattle.fsrm_base.proofs.EditedRows.{find-with_row_same}
+use Rattle.fsrm_base.proofs.Order.{ascending-with_row}
 use Rattle.volume_tree.specs.Volume.{Volume, with_node, with_length, without_node}
 use Rattle.rescan.specs.Frontiers.{Front, Stands, Follows, unvisited, of_length, sized}
 use Rattle.rescan.proofs.ChangeLaws.{alike, alike_follows, stamped, stamped_keeps, change_twice, changed_found, with_and_without, length_keeps, sized_own, sized_volume, own_stands, own_length, file_inner, sized_resized, folder_length}

@@ -5,24 +5,25 @@ use Rattle.std.specs.Prelude.{map, filter}
 use Rattle.std.specs.List.{list_any}
 use Rattle.fsrm_model.specs.declared.row.Capacity.{Capacity}
 use Rattle.fsrm_model.specs.declared.row.NodeRow.{NodeRow}
-use Rattle.fsrm_model.specs.Numbers.{is_in}
+use Rattle.fsrm_base.specs.Numbers.{is_in}
 use Rattle.fsrm_model.specs.Scan.{is_topmost, folders_under, counted}
 use Rattle.fsrm_model.specs.Space.{alloc, space}
 use Rattle.fsrm_model.specs.Tree.{number, node_of, parent_of, is_folder, chain, is_under, usage}
 use Rattle.fsrm_model.specs.Valid.{IsVolume}
-use Rattle.fsrm_model.proofs.TestLaws.{both, clash, eq_is, eq_same, suc_apart}
-use Rattle.fsrm_model.proofs.ChainLaws.{share, usage_is, sum_by_same}
+use Rattle.fsrm_base.proofs.TestLaws.{both, clash, eq_is, eq_same, suc_apart}
+use Rattle.fsrm_model.proofs.ChainLaws.{share, usage_is}
+use Rattle.fsrm_base.proofs.EditedRows.{sum_by_same}
 use Rattle.fsrm_model.proofs.Climbs.{under_up}
 use Rattle.fsrm_model.proofs.Keeps.{tree_of, found_folder}
-use Rattle.fsrm_model.proofs.Look.{found_has, has_found}
+use Rattle.fsrm_base.proofs.Look.{found_has, has_found}
 use Rattle.fsrm_model.proofs.MoveLaws.{own_first}
-use Rattle.fsrm_model.proofs.Sums.{sum_by_each, sum_by_nothing}
+use Rattle.fsrm_base.proofs.Sums.{sum_by_each, sum_by_nothing}
 use Rattle.volume_tree.specs.Volume.{Volume}
 use Rattle.rescan.specs.Frontiers.{Front, Stands, Follows, has_above, scanned, unvisited}
 use Rattle.rescan.specs.Tops.{AreTops}
 use Rattle.rescan.proofs.CountLaws.{part, counted_is}
 use Rattle.rescan.proofs.Tops.{in_unvisited, above_of, stands_by, tops_of}
-use Rattle.fsrm_model.proofs.RowLaws.{each_found}
+use Rattle.fsrm_base.proofs.RowLaws.{each_found}
 use Rattle.fsrm_model.proofs.ValidLaws.{found_parent}
 
 -- no folder is unvisited exactly where there is no topmost one

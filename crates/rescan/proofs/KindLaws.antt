@@ -4,17 +4,18 @@ use Rattle.std.specs.Prelude.{map, filter, sum_by, if◌then◌else◌}
 use Rattle.std.specs.List.{list_any}
 use Rattle.fsrm_model.specs.declared.row.Capacity.{Capacity}
 use Rattle.fsrm_model.specs.declared.row.NodeRow.{NodeRow}
-use Rattle.fsrm_model.specs.Keyed.{has_row, with_change}
-use Rattle.fsrm_model.specs.Numbers.{is_in}
+use Rattle.fsrm_base.specs.Keyed.{has_row, with_change}
+use Rattle.fsrm_base.specs.Numbers.{is_in}
 use Rattle.fsrm_model.specs.Scan.{counted}
 use Rattle.fsrm_model.specs.Space.{alloc, space}
 use Rattle.fsrm_model.specs.Tree.{number, node_of, parent_of, is_folder, is_under}
 use Rattle.fsrm_model.specs.Valid.{IsVolume}
-use Rattle.fsrm_model.proofs.ChangeLaws.{KeepsPlace, parent_of-change, chain-change, sum_by-with_change}
+use Rattle.fsrm_model.proofs.ChangeLaws.{KeepsPlace, parent_of-change, chain-change}
+use Rattle.fsrm_base.proofs.EditedRows.{sum_by-with_change}
 use Rattle.fsrm_model.proofs.ChainLaws.{IsTree}
 use Rattle.fsrm_model.proofs.Keeps.{folder-change, cond_same}
-use Rattle.fsrm_model.proofs.Look.{has_row-change}
-use Rattle.fsrm_model.proofs.Sums.{sum_by-map, sum_by_each}
+use Rattle.fsrm_base.proofs.Look.{has_row-change}
+use Rattle.fsrm_base.proofs.Sums.{sum_by-map, sum_by_each}
 use Rattle.rescan.specs.Frontiers.{Front, scanned, has_above, unvisited}
 use Rattle.rescan.specs.Tops.{AreTops}
 use Rattle.rescan.proofs.CountLaws.{is_counted, part, counted_is}

@@ -4,27 +4,28 @@ use Rattle.std.specs.Option.{option_map_or}
 use Rattle.std.specs.List.{AllByRecursion, list_any}
 use Rattle.fsrm_model.specs.declared.row.Capacity.{Capacity}
 use Rattle.fsrm_model.specs.declared.row.NodeRow.{NodeRow}
-use Rattle.fsrm_model.specs.Keyed.{without_row}
-use Rattle.fsrm_model.specs.Numbers.{is_in, is_set, with_number, without_number}
+use Rattle.fsrm_base.specs.Keyed.{without_row}
+use Rattle.fsrm_base.specs.Numbers.{is_in, is_set, with_number, without_number}
 use Rattle.fsrm_model.specs.Scan.{counted, unvisited_with}
 use Rattle.fsrm_model.specs.Space.{space}
 use Rattle.fsrm_model.specs.Tree.{number, node_of, parent_of, is_folder, is_child, chain, is_under}
 use Rattle.fsrm_model.specs.Valid.{IsVolume}
-use Rattle.fsrm_model.proofs.TestLaws.{is_or_not, clash, not_true, neither, eq_is, eq_same, eq_turned, not_zero}
+use Rattle.fsrm_base.proofs.TestLaws.{is_or_not, clash, not_true, neither, eq_is, eq_same, eq_turned, not_zero}
 use Rattle.fsrm_model.proofs.ValidLaws.{folder_has, found_parent}
-use Rattle.fsrm_model.proofs.ChainLaws.{Has, chain_lacks, sum_by_same}
+use Rattle.fsrm_model.proofs.ChainLaws.{Has, chain_lacks}
+use Rattle.fsrm_base.proofs.EditedRows.{sum_by_same, sum_by-without_row}
 use Rattle.fsrm_model.proofs.Climbs.{climb, under_own}
 use Rattle.fsrm_model.proofs.Keeps.{MayGo, removes_of, tree_of, zero_apart, found_folder, as_suc}
-use Rattle.fsrm_model.proofs.Look.{found_has, found_key, row_of-without, has_row-without}
-use Rattle.fsrm_model.proofs.Members.{none_passes}
-use Rattle.fsrm_model.proofs.RemoveLaws.{removed_chain, sum_by-without_row}
+use Rattle.fsrm_base.proofs.Look.{found_has, found_key, row_of-without, has_row-without}
+use Rattle.fsrm_base.proofs.Members.{none_passes}
+use Rattle.fsrm_model.proofs.RemoveLaws.{removed_chain}
 use Rattle.fsrm_model.proofs.UsageLaws.{parent_lacks}
 use Rattle.number_set.proofs.NumberLaws.{in_with, in_without, set_with, set_without, same_set}
 use Rattle.rescan.specs.Frontiers.{Front, scanned, has_above, unvisited}
 use Rattle.rescan.specs.Tops.{AreTops}
 use Rattle.rescan.proofs.CountLaws.{is_counted, part, counted_is}
 use Rattle.rescan.proofs.Tops.{in_unvisited, set_unvisited}
-use Rattle.fsrm_model.proofs.RowLaws.{each_found}
+use Rattle.fsrm_base.proofs.RowLaws.{each_found}
 
 -- a node that is there, and without which the others are a volume too
 pub record IsLeaf (K : Capacity) (nodes : List NodeRow) (n : ℕ) (row : NodeRow) : Type 0 where

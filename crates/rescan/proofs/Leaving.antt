@@ -3,15 +3,16 @@ use Rattle.std.proofs.Common.{◌≡◌, ℕ, ◌+◌, ◌≤◌, ◌==◌, Bool
 use Rattle.std.specs.Prelude.{sum_by, if◌then◌else◌}
 use Rattle.fsrm_model.specs.declared.row.Capacity.{Capacity}
 use Rattle.fsrm_model.specs.declared.row.NodeRow.{NodeRow}
-use Rattle.fsrm_model.specs.Numbers.{is_in, is_set, without_number}
+use Rattle.fsrm_base.specs.Numbers.{is_in, is_set, without_number}
 use Rattle.fsrm_model.specs.Space.{alloc, space}
 use Rattle.fsrm_model.specs.Tree.{number, node_of, is_folder, is_under}
 use Rattle.fsrm_model.specs.Valid.{IsVolume}
-use Rattle.fsrm_model.proofs.TestLaws.{is_or_not, clash, not_true, both, eq_is, eq_same, same_tests}
-use Rattle.fsrm_model.proofs.ChainLaws.{Has, sum_by_same}
+use Rattle.fsrm_base.proofs.TestLaws.{is_or_not, clash, not_true, both, eq_is, eq_same, same_tests}
+use Rattle.fsrm_model.proofs.ChainLaws.{Has}
+use Rattle.fsrm_base.proofs.EditedRows.{sum_by_same}
 use Rattle.fsrm_model.proofs.Climbs.{under_own}
 use Rattle.fsrm_model.proofs.Keeps.{found_folder}
-use Rattle.fsrm_model.proofs.Sums.{sum_by_each, sum_by_nothing}
+use Rattle.fsrm_base.proofs.Sums.{sum_by_each, sum_by_nothing}
 use Rattle.fsrm_model.proofs.ValidLaws.{folder_has}
 use Rattle.number_set.proofs.NumberLaws.{in_without, set_without}
 use Rattle.rescan.specs.Frontiers.{Front, has_above}
@@ -21,7 +22,7 @@ use Rattle.rescan.proofs.CountLaws.{is_counted, part}
 use Rattle.rescan.proofs.MovedSums.{in_folder, part_below, below_is, folder_part}
 use Rattle.rescan.proofs.MovedTops.{not_above}
 use Rattle.rescan.proofs.Tops.{above_of, above_by}
-use Rattle.fsrm_model.proofs.RowLaws.{each_found}
+use Rattle.fsrm_base.proofs.RowLaws.{each_found}
 
 -- what is still to be taken back, with these folders waiting
 abbrev pub left : Capacity → List NodeRow → Front → List ℕ → ℕ

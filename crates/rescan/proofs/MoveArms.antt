@@ -5,18 +5,18 @@ use Rattle.std.specs.Prelude.{sum_by, if◌then◌else◌}
 use Rattle.fsrm_model.specs.declared.row.Capacity.{Capacity}
 use Rattle.fsrm_model.specs.declared.row.NodeRow.{NodeRow}
 use Rattle.fsrm_model.specs.FileOps.{placed}
-use Rattle.fsrm_model.specs.Numbers.{is_in, is_set}
+use Rattle.fsrm_base.specs.Numbers.{is_in, is_set}
 use Rattle.fsrm_model.specs.Scan.{unvisited_moved}
 use Rattle.fsrm_model.specs.Space.{alloc, space}
 use Rattle.fsrm_model.specs.Tree.{number, node_of, is_folder, is_under}
 use Rattle.fsrm_model.specs.Valid.{IsVolume}
-use Rattle.fsrm_model.proofs.TestLaws.{clash, not_true, eq_same, cond_most}
+use Rattle.fsrm_base.proofs.TestLaws.{clash, not_true, eq_same, cond_most}
 use Rattle.fsrm_model.proofs.ChainLaws.{Has}
 use Rattle.fsrm_model.proofs.Files.{below_file}
 use Rattle.fsrm_model.proofs.Keeps.{found_folder, tree_of, moves_at, folder-change}
-use Rattle.fsrm_model.proofs.Look.{found_has, found_key}
+use Rattle.fsrm_base.proofs.Look.{found_has, found_key}
 use Rattle.fsrm_model.proofs.MoveLaws.{Moves}
-use Rattle.fsrm_model.proofs.Sums.{sum_by-map, sum_by_each, sum_by_only}
+use Rattle.fsrm_base.proofs.Sums.{sum_by-map, sum_by_each, sum_by_only}
 use Rattle.fsrm_model.proofs.ValidLaws.{folder_has}
 use Rattle.rescan.specs.declared.standing.Standing.{Standing}
 use Rattle.rescan.specs.declared.standing.Standing.TheVariants.{Outside as IsOutside, Visited, Unvisited}

@@ -5,17 +5,18 @@ use Rattle.std.specs.List.{AllByRecursion}
 use Rattle.fsrm_model.specs.declared.row.Capacity.{Capacity}
 use Rattle.fsrm_model.specs.declared.row.NodeRow.{NodeRow}
 use Rattle.fsrm_model.specs.FileOps.{placed}
-use Rattle.fsrm_model.specs.Keyed.{with_change}
+use Rattle.fsrm_base.specs.Keyed.{with_change}
 use Rattle.fsrm_model.specs.Space.{alloc, space}
 use Rattle.fsrm_model.specs.Tree.{number, node_of, is_folder, is_under}
 use Rattle.fsrm_model.specs.Valid.{IsVolume, is_root_node}
-use Rattle.fsrm_model.proofs.TestLaws.{is_or_not, clash, not_true, both, both_true, eq_is, eq_same}
-use Rattle.fsrm_model.proofs.ChainLaws.{IsTree, Has, sum_by-filter, sum_by_same}
+use Rattle.fsrm_base.proofs.TestLaws.{is_or_not, clash, not_true, both, both_true, eq_is, eq_same}
+use Rattle.fsrm_model.proofs.ChainLaws.{IsTree, Has}
+use Rattle.fsrm_base.proofs.EditedRows.{sum_by-filter, sum_by_same}
 use Rattle.fsrm_model.proofs.Files.{below_file}
 use Rattle.fsrm_model.proofs.Keeps.{found_folder, tree_of}
-use Rattle.fsrm_model.proofs.Look.{found_has, found_key}
+use Rattle.fsrm_base.proofs.Look.{found_has, found_key}
 use Rattle.fsrm_model.proofs.MoveLaws.{Outside, under_before}
-use Rattle.fsrm_model.proofs.Sums.{sum_by-map, sum_by-add, sum_by_each, sum_by_nothing, sum_by_only}
+use Rattle.fsrm_base.proofs.Sums.{sum_by-map, sum_by-add, sum_by_each, sum_by_nothing, sum_by_only}
 use Rattle.fsrm_model.proofs.ValidLaws.{folder_has, found_parent}
 use Rattle.rescan.specs.Frontiers.{Front, scanned, has_above}
 use Rattle.rescan.specs.Leaves.{counted_below}
@@ -23,7 +24,7 @@ use Rattle.rescan.specs.Tops.{AreTops}
 use Rattle.rescan.proofs.CountLaws.{is_counted, part}
 use Rattle.rescan.proofs.MovedTops.{TopsMoved, in_scan, not_above, counted_other, counted_kept, counted_moved}
 use Rattle.rescan.proofs.Tops.{above_below, under_child}
-use Rattle.fsrm_model.proofs.RowLaws.{each_found}
+use Rattle.fsrm_base.proofs.RowLaws.{each_found}
 
 -- what a node adds to what is counted at and below another
 abbrev pub part_below : Capacity → List NodeRow → Front → ℕ → NodeRow → ℕ

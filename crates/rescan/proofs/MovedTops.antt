@@ -2,9 +2,9 @@
 use Rattle.std.proofs.Common.{◌≡◌, ℕ, ◌==◌, Bool, true, false, cond, not, ◌||◌, ◌&&◌, List, refl, sym, ◌∙◌, ap, subst, ◌⊎◌, inl, inr}
 use Rattle.std.specs.Prelude.{is_some, unwrap_or, if◌then◌else◌}
 use Rattle.fsrm_model.specs.declared.row.NodeRow.{NodeRow}
-use Rattle.fsrm_model.specs.Numbers.{is_in, is_set}
+use Rattle.fsrm_base.specs.Numbers.{is_in, is_set}
 use Rattle.fsrm_model.specs.Tree.{is_folder, is_under, chain}
-use Rattle.fsrm_model.proofs.TestLaws.{is_or_not, clash, not_true, both, both_true, is_or, or_later, eq_is, eq_same, same_tests}
+use Rattle.fsrm_base.proofs.TestLaws.{is_or_not, clash, not_true, both, both_true, is_or, or_later, eq_is, eq_same, same_tests}
 use Rattle.fsrm_model.proofs.ChainLaws.{IsTree, Has}
 use Rattle.fsrm_model.proofs.Below.{below_moved}
 use Rattle.fsrm_model.proofs.Climbs.{under_own}

@@ -4,19 +4,20 @@ use Rattle.std.specs.Prelude.{sum_by, if◌then◌else◌}
 use Rattle.fsrm_model.specs.declared.row.Capacity.{Capacity}
 use Rattle.fsrm_model.specs.declared.row.NodeRow.{NodeRow}
 use Rattle.fsrm_model.specs.FileOps.{placed}
-use Rattle.fsrm_model.specs.Keyed.{with_change}
-use Rattle.fsrm_model.specs.Numbers.{is_in}
+use Rattle.fsrm_base.specs.Keyed.{with_change}
+use Rattle.fsrm_base.specs.Numbers.{is_in}
 use Rattle.fsrm_model.specs.Scan.{unvisited_moved}
 use Rattle.fsrm_model.specs.Space.{space}
 use Rattle.fsrm_model.specs.Tree.{number, node_of, is_folder, is_under}
 use Rattle.fsrm_model.specs.Valid.{IsVolume}
-use Rattle.fsrm_model.proofs.TestLaws.{is_or_not, clash, not_true, eq_is, eq_same, same_tests}
+use Rattle.fsrm_base.proofs.TestLaws.{is_or_not, clash, not_true, eq_is, eq_same, same_tests}
 use Rattle.fsrm_model.proofs.Below.{below_moved}
-use Rattle.fsrm_model.proofs.ChainLaws.{Has, sum_by_same}
+use Rattle.fsrm_model.proofs.ChainLaws.{Has}
+use Rattle.fsrm_base.proofs.EditedRows.{sum_by_same}
 use Rattle.fsrm_model.proofs.Files.{above_folder}
 use Rattle.fsrm_model.proofs.Keeps.{found_folder}
 use Rattle.fsrm_model.proofs.MoveLaws.{Moves}
-use Rattle.fsrm_model.proofs.Sums.{sum_by-map}
+use Rattle.fsrm_base.proofs.Sums.{sum_by-map}
 use Rattle.fsrm_model.proofs.ValidLaws.{folder_has}
 use Rattle.number_set.proofs.NumberLaws.{same_set}
 use Rattle.rescan.specs.Frontiers.{Front, Stands, Follows, scanned, has_above, unvisited}
@@ -25,7 +26,7 @@ use Rattle.rescan.proofs.CountLaws.{is_counted, part, counted_is}
 use Rattle.rescan.proofs.MovedSums.{in_folder, folder_part, placed_folder}
 use Rattle.rescan.proofs.Tops.{in_unvisited, set_unvisited, stands_by, above_of, above_by, under_under}
 use Rattle.volume_tree.specs.Volume.{Volume, with_place}
-use Rattle.fsrm_model.proofs.RowLaws.{each_found}
+use Rattle.fsrm_base.proofs.RowLaws.{each_found}
 
 -- the scanned folder is at or below the moved node
 pub record WholeMoved (nodes new : List NodeRow) (f : Front) (x d : ℕ) : Type 0 where

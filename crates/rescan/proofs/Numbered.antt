@@ -3,13 +3,13 @@ use Rattle.std.proofs.Common.{◌≡◌, ℕ, ◌==◌, Bool, true, false, cond,
 use Rattle.std.specs.Option.{option_map_or}
 use Rattle.std.specs.Prelude.{map, filter}
 use Rattle.fsrm_model.specs.declared.row.NodeRow.{NodeRow}
-use Rattle.fsrm_model.specs.Keyed.{is_ascending, has_row, row_of}
-use Rattle.fsrm_model.specs.Numbers.{is_in, is_set}
+use Rattle.fsrm_base.specs.Keyed.{is_ascending, has_row, row_of}
+use Rattle.fsrm_base.specs.Numbers.{is_in, is_set}
 use Rattle.fsrm_model.specs.Tree.{number, node_of}
-use Rattle.fsrm_model.proofs.ChangeLaws.{absent_later, ascending_tail}
-use Rattle.fsrm_model.proofs.Look.{none_row, is_some-find}
-use Rattle.fsrm_model.proofs.Order.{ascending-filter}
-use Rattle.fsrm_model.proofs.TestLaws.{eq_is}
+use Rattle.fsrm_base.proofs.EditedRows.{absent_later, ascending_tail}
+use Rattle.fsrm_base.proofs.Look.{none_row, is_some-find}
+use Rattle.fsrm_base.proofs.Order.{ascending-filter}
+use Rattle.fsrm_base.proofs.TestLaws.{eq_is}
 
 -- of rows of any kind
 in_keys : {X : Type 0} (key : X → ℕ) (rows : List X) (n : ℕ) → is_in (map key rows) n ≡ has_row key n rows

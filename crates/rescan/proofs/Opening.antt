@@ -4,16 +4,17 @@ use Rattle.std.specs.Prelude.{sum_by, if◌then◌else◌}
 use Rattle.std.specs.List.{AllByRecursion}
 use Rattle.fsrm_model.specs.declared.row.Capacity.{Capacity}
 use Rattle.fsrm_model.specs.declared.row.NodeRow.{NodeRow}
-use Rattle.fsrm_model.specs.Numbers.{is_in, without_number, with_numbers}
+use Rattle.fsrm_base.specs.Numbers.{is_in, without_number, with_numbers}
 use Rattle.fsrm_model.specs.Space.{alloc, space}
 use Rattle.fsrm_model.specs.Tree.{number, node_of, parent_of, is_folder, is_child, children, is_under, chain}
 use Rattle.fsrm_model.specs.Valid.{IsVolume}
-use Rattle.fsrm_model.proofs.TestLaws.{is_or_not, clash, not_true, both_true, is_or, or_later, eq_is, eq_same, suc_apart, not_zero, same_tests}
+use Rattle.fsrm_base.proofs.TestLaws.{is_or_not, clash, not_true, both_true, is_or, or_later, eq_is, eq_same, suc_apart, not_zero, same_tests}
 use Rattle.fsrm_model.proofs.Below.{chain_root}
-use Rattle.fsrm_model.proofs.ChainLaws.{IsTree, Has, sum_by-filter, sum_by_same}
+use Rattle.fsrm_model.proofs.ChainLaws.{IsTree, Has}
+use Rattle.fsrm_base.proofs.EditedRows.{sum_by-filter, sum_by_same}
 use Rattle.fsrm_model.proofs.Climbs.{shorter, under_own}
 use Rattle.fsrm_model.proofs.Keeps.{as_suc, tree_of}
-use Rattle.fsrm_model.proofs.Sums.{sum_by-add}
+use Rattle.fsrm_base.proofs.Sums.{sum_by-add}
 use Rattle.fsrm_model.proofs.UsageLaws.{parent_lacks}
 use Rattle.fsrm_model.proofs.ValidLaws.{folder_has}
 use Rattle.number_set.proofs.NumberLaws.{in_withs, set_without, set_withs}
@@ -25,7 +26,7 @@ use Rattle.rescan.proofs.Leaving.{Leaving, Tracked, left, without_in, in_other, 
 use Rattle.rescan.proofs.MovedSums.{in_folder, folder_part}
 use Rattle.rescan.proofs.MovedTops.{in_scan, not_above}
 use Rattle.rescan.proofs.Tops.{above_of, above_by, above_own, above_child, under_child, under_under, parent_folder}
-use Rattle.fsrm_model.proofs.RowLaws.{each_found}
+use Rattle.fsrm_base.proofs.RowLaws.{each_found}
 
 -- the waiting folders after one of them was passed: the folders in it take its place
 abbrev pub opened : List NodeRow → ℕ → List ℕ → List ℕ

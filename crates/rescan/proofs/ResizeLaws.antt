@@ -3,19 +3,19 @@ use Rattle.std.proofs.Common.{◌≡◌, ℕ, ◌+◌, ◌-◌, ◌^◌, ◌<◌
 use Rattle.std.specs.Prelude.{if◌then◌else◌}
 use Rattle.fsrm_model.specs.declared.row.Capacity.{Capacity}
 use Rattle.fsrm_model.specs.declared.row.NodeRow.{NodeRow}
-use Rattle.fsrm_model.specs.Keyed.{has_row, with_change}
+use Rattle.fsrm_base.specs.Keyed.{has_row, with_change}
 use Rattle.fsrm_model.specs.Limits.{longest_file}
 use Rattle.fsrm_model.specs.Scan.{counted}
 use Rattle.fsrm_model.specs.Space.{alloc}
 use Rattle.fsrm_model.specs.Tree.{number, node_of, is_folder, chain, is_under}
 use Rattle.fsrm_model.specs.Valid.{IsVolume}
-use Rattle.fsrm_model.proofs.TestLaws.{clash, eq_same, not_true}
+use Rattle.fsrm_base.proofs.TestLaws.{clash, eq_same, not_true}
 use Rattle.fsrm_model.proofs.ValidLaws.{folder_has, found_parent}
 use Rattle.fsrm_model.proofs.ChainLaws.{IsTree}
 use Rattle.fsrm_model.proofs.Climbs.{climb}
 use Rattle.fsrm_model.proofs.Keeps.{found_folder, tree_of}
-use Rattle.fsrm_model.proofs.Look.{found_has}
-use Rattle.fsrm_model.proofs.RemoveLaws.{sum_by-without_row}
+use Rattle.fsrm_base.proofs.Look.{found_has}
+use Rattle.fsrm_base.proofs.EditedRows.{sum_by-without_row}
 use Rattle.volume_tree.specs.declared.answer.NodeView.{NodeView}
 use Rattle.volume_tree.specs.Volume.{Volume, IsCapacity, Shows}
 use Rattle.rescan.specs.declared.standing.Standing.TheVariants.{Outside, Visited, Unvisited}

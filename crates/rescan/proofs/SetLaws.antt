@@ -3,8 +3,8 @@ use Rattle.std.proofs.Common.{◌≡◌, ℕ, ◌+◌, ◌<◌, ◌≤◌, ◌==
 use Rattle.std.proofs.lemmas.Bool.Decides.{nat_tests}
 use Rattle.std.proofs.lemmas.Option.{same_Some}
 use Rattle.std.specs.Prelude.{slice_get}
-use Rattle.fsrm_model.specs.Numbers.{is_in, is_set, with_number, without_number}
-use Rattle.fsrm_model.proofs.TestLaws.{neither, eq_is, eq_same, lt_test}
+use Rattle.fsrm_base.specs.Numbers.{is_in, is_set, with_number, without_number}
+use Rattle.fsrm_base.proofs.TestLaws.{neither, eq_is, eq_same, lt_test}
 use Rattle.number_set.specs.Numbers.{Numbers}
 use Rattle.number_set.proofs.NumberLaws.{in_with, set_with, same_set, first_once}
 

@@ -1,9 +1,9 @@
 -- Where a node stands in a scan, from the way up to the root.
 use Rattle.std.proofs.Common.{◌≡◌, ℕ, ◌==◌, Bool, true, false, cond, ◌||◌, List, Option, Some, None, refl, sym, ◌∙◌, ap, subst, inl, inr, eqb}
 use Rattle.fsrm_model.specs.declared.row.NodeRow.{NodeRow}
-use Rattle.fsrm_model.specs.Numbers.{is_in}
+use Rattle.fsrm_base.specs.Numbers.{is_in}
 use Rattle.fsrm_model.specs.Tree.{parent_of, is_under}
-use Rattle.fsrm_model.proofs.TestLaws.{is_or_not, clash, not_true, eq_is, eq_same}
+use Rattle.fsrm_base.proofs.TestLaws.{is_or_not, clash, not_true, eq_is, eq_same}
 use Rattle.fsrm_model.proofs.ChainLaws.{IsTree, Has}
 use Rattle.fsrm_model.proofs.Below.{chain_root, each_above}
 use Rattle.std.specs.Prelude.{is_some, unwrap_or}
@@ -16,7 +16,7 @@ use Rattle.rescan.specs.Frontiers.{Front, scanned, has_above}
 use Rattle.rescan.specs.Standings.{standing}
 use Rattle.rescan.specs.Tops.{AreTops}
 use Rattle.rescan.proofs.Tops.{above_own, above_of, above_root, above_child}
-use Rattle.fsrm_model.proofs.Look.{unwrapped}
+use Rattle.fsrm_base.proofs.Look.{unwrapped}
 
 -- the standing, from its two tests
 abbrev stands_at : Bool → Bool → Standing

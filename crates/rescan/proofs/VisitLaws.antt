@@ -5,20 +5,21 @@ use Rattle.std.specs.Prelude.{filter, find, sum_by, slice_get, if◌then◌else�
 use Rattle.std.specs.Option.{option_map_or}
 use Rattle.fsrm_model.specs.declared.row.Capacity.{Capacity}
 use Rattle.fsrm_model.specs.declared.row.NodeRow.{NodeRow}
-use Rattle.fsrm_model.specs.Keyed.{is_ascending}
-use Rattle.fsrm_model.specs.Numbers.{is_in, without_number, with_numbers}
+use Rattle.fsrm_base.specs.Keyed.{is_ascending}
+use Rattle.fsrm_base.specs.Numbers.{is_in, without_number, with_numbers}
 use Rattle.fsrm_model.specs.Scan.{is_topmost, next_visit, visit, counted}
 use Rattle.fsrm_model.specs.Space.{space}
 use Rattle.fsrm_model.specs.Tree.{number, node_of, parent_of, is_folder, is_child, children, chain, is_under}
 use Rattle.fsrm_model.specs.Valid.{IsVolume}
-use Rattle.fsrm_model.proofs.TestLaws.{is_or_not, clash, not_true, both, both_true, is_or, or_later, eq_is, eq_same, eq_turned, is_false, suc_apart, not_zero, same_tests}
+use Rattle.fsrm_base.proofs.TestLaws.{is_or_not, clash, not_true, both, both_true, is_or, or_later, eq_is, eq_same, eq_turned, is_false, suc_apart, not_zero, same_tests}
 use Rattle.fsrm_model.proofs.ValidLaws.{folder_has}
-use Rattle.fsrm_model.proofs.ChainLaws.{IsTree, Has, sum_by-filter, sum_by_same}
+use Rattle.fsrm_model.proofs.ChainLaws.{IsTree, Has}
+use Rattle.fsrm_base.proofs.EditedRows.{sum_by-filter, sum_by_same}
 use Rattle.fsrm_model.proofs.Below.{chain_root}
 use Rattle.fsrm_model.proofs.Climbs.{shorter, under_own}
 use Rattle.fsrm_model.proofs.Keeps.{tree_of, as_suc}
 use Rattle.fsrm_model.proofs.MoveLaws.{own_first}
-use Rattle.fsrm_model.proofs.Sums.{sum_by-add}
+use Rattle.fsrm_base.proofs.Sums.{sum_by-add}
 use Rattle.fsrm_model.proofs.UsageLaws.{parent_lacks}
 use Rattle.number_set.specs.Numbers.{Numbers}
 use Rattle.number_set.proofs.NumberLaws.{in_withs, in_without, set_withs, set_without, same_set}
@@ -30,7 +31,7 @@ use Rattle.rescan.proofs.ChildLaws.{ChildFolder, child_folder_of, child_folder_b
 use Rattle.rescan.proofs.CountLaws.{part, counted_is}
 use Rattle.rescan.proofs.FitLaws.{root_empty, counted_small}
 use Rattle.rescan.proofs.Tops.{in_unvisited, set_unvisited, above_of, above_by, above_own, under_child, under_under, parent_folder, stands_by, tops_of}
-use Rattle.fsrm_model.proofs.RowLaws.{each_found}
+use Rattle.fsrm_base.proofs.RowLaws.{each_found}
 
 -- the frontier after a visit, but for the sum
 abbrev pub after : List NodeRow → ℕ → Front → Front

@@ -2,7 +2,7 @@
 use Rattle.std.specs.Prelude.{◌≡◌, ℕ, ◌+◌, ◌&&◌, not, Bool, true, List, filter, sum_by}
 use Rattle.fsrm_model.specs.declared.row.Capacity.{Capacity}
 use Rattle.fsrm_model.specs.declared.row.NodeRow.{NodeRow}
-use Rattle.fsrm_model.specs.Numbers.{is_in, is_set}
+use Rattle.fsrm_base.specs.Numbers.{is_in, is_set}
 use Rattle.fsrm_model.specs.Space.{space}
 use Rattle.fsrm_model.specs.Tree.{is_under}
 use Rattle.rescan.specs.Frontiers.{Front, has_above, scanned}

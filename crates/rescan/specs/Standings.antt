@@ -2,7 +2,7 @@
 use Rattle.std.specs.Prelude.{◌≡◌, ℕ, List, if◌then◌else◌}
 use Rattle.fsrm_model.specs.declared.row.Capacity.{Capacity}
 use Rattle.fsrm_model.specs.declared.row.NodeRow.{NodeRow}
-use Rattle.fsrm_model.specs.Numbers.{with_number, without_number}
+use Rattle.fsrm_base.specs.Numbers.{with_number, without_number}
 use Rattle.fsrm_model.specs.Space.{alloc}
 use Rattle.fsrm_model.specs.Tree.{is_under}
 use Rattle.rescan.specs.declared.standing.Standing.{Standing}

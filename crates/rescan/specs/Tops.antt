@@ -1,7 +1,7 @@
 -- What the topmost unvisited folders of a scan are, each by itself.
 use Rattle.std.specs.Prelude.{◌≡◌, ℕ, true, List, is_some}
 use Rattle.fsrm_model.specs.declared.row.NodeRow.{NodeRow}
-use Rattle.fsrm_model.specs.Numbers.{is_in, is_set}
+use Rattle.fsrm_base.specs.Numbers.{is_in, is_set}
 use Rattle.fsrm_model.specs.Tree.{is_folder, is_under}
 use Rattle.rescan.specs.Frontiers.{Front, scanned}
 

@@ -1,7 +1,7 @@
 -- What a visit of a folder takes up.
 use Rattle.std.specs.Prelude.{ℕ, ◌+◌, ◌*◌, List, map, filter, length, sum_by}
 use Rattle.fsrm_model.specs.declared.row.NodeRow.{NodeRow}
-use Rattle.fsrm_model.specs.Numbers.{without_number, with_numbers}
+use Rattle.fsrm_base.specs.Numbers.{without_number, with_numbers}
 use Rattle.fsrm_model.specs.Tree.{number, children, children_in_order}
 use Rattle.rescan.specs.Frontiers.{Front, unvisited}
 

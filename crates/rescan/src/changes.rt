@@ -2,9 +2,9 @@
 
 ghost use Rattle.std.specs.Prelude.{◌≡◌, ◌+◌, ◌*◌, ◌≤◌, ◌==◌, true, false, length, Some, []};
 ghost use Rattle.fsrm_model.specs.declared.row.NodeRow.{NodeRow};
-ghost use Rattle.fsrm_model.specs.Keyed.{has_row};
+ghost use Rattle.fsrm_base.specs.Keyed.{has_row};
 ghost use Rattle.fsrm_model.specs.Limits.{longest_file};
-ghost use Rattle.fsrm_model.specs.Numbers.{without_number};
+ghost use Rattle.fsrm_base.specs.Numbers.{without_number};
 ghost use Rattle.fsrm_model.specs.Scan.{unvisited_with};
 ghost use Rattle.fsrm_model.specs.Tree.{number as key, node_of, is_folder, children, chain};
 ghost use Rattle.fsrm_model.specs.Valid.{IsVolume};

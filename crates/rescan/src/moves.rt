@@ -2,7 +2,7 @@
 
 ghost use Rattle.std.specs.Prelude.{◌≡◌, ℕ, ◌+◌, ◌*◌, ◌^◌, ◌<◌, ◌≤◌, ◌==◌, List, true, false, is_some, length};
 ghost use Rattle.fsrm_model.specs.declared.row.Capacity.{Capacity};
-ghost use Rattle.fsrm_model.specs.Keyed.{has_row};
+ghost use Rattle.fsrm_base.specs.Keyed.{has_row};
 ghost use Rattle.fsrm_model.specs.Limits.{longest_file};
 ghost use Rattle.fsrm_model.specs.Scan.{unvisited_moved};
 ghost use Rattle.fsrm_model.specs.Tree.{number as key, is_folder, is_under, under, chain};

@@ -1,7 +1,7 @@
 //! Where a folder stands in a scan.
 
 ghost use Rattle.std.specs.Prelude.{◌≡◌, ◌+◌, ◌≤◌, length, true};
-ghost use Rattle.fsrm_model.specs.Keyed.{has_row};
+ghost use Rattle.fsrm_base.specs.Keyed.{has_row};
 ghost use Rattle.fsrm_model.specs.Tree.{number as key, chain};
 ghost use Rattle.fsrm_model.proofs.ChainLaws.{IsTree};
 ghost use Rattle.rescan.specs.Tops.{AreTops};

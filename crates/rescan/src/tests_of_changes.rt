@@ -2,7 +2,7 @@
 //! by hand.
 
 ghost use Rattle.std.specs.Prelude.{◌≡◌, ◌≤◌, true, false, IfOk, OnOk};
-ghost use Rattle.fsrm_model.specs.Keyed.{has_row};
+ghost use Rattle.fsrm_base.specs.Keyed.{has_row};
 ghost use Rattle.fsrm_model.specs.Limits.{longest_file};
 ghost use Rattle.fsrm_model.specs.Name.{is_name};
 ghost use Rattle.fsrm_model.specs.Tree.{number as key, is_folder};

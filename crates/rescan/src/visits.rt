@@ -1,7 +1,7 @@
 //! Visits of a scan.
 
 ghost use Rattle.std.specs.Prelude.{◌≡◌, ◌+◌, ◌*◌, ◌^◌, ◌≤◌, ◌<◌, IfOk, length, true, sum_by, ℕ};
-ghost use Rattle.fsrm_model.specs.Numbers.{is_in, is_set, with_numbers};
+ghost use Rattle.fsrm_base.specs.Numbers.{is_in, is_set, with_numbers};
 ghost use Rattle.fsrm_model.specs.Scan.{next_visit, visit as visited};
 ghost use Rattle.fsrm_model.specs.Space.{space};
 ghost use Rattle.fsrm_model.specs.Tree.{children};

@@ -3,17 +3,17 @@ use Rattle.std.proofs.Common.{◌≡◌, ℕ, ◌<◌, ◌≤◌, ◌==◌, ◌&
 use Rattle.std.specs.Prelude.{is_some, unwrap_or}
 use Rattle.std.specs.Option.{option_map_or}
 use Rattle.fsrm_model.specs.declared.row.NodeRow.{NodeRow}
-use Rattle.fsrm_model.specs.Numbers.{is_in, with_number, without_number}
+use Rattle.fsrm_base.specs.Numbers.{is_in, with_number, without_number}
 use Rattle.fsrm_model.specs.QuotaStates.{head}
 use Rattle.fsrm_model.specs.Scan.{unvisited_with}
 use Rattle.fsrm_model.specs.Tree.{node_of, is_folder}
 use Rattle.fsrm_model.specs.Valid.{IsVolume}
-use Rattle.fsrm_model.proofs.Look.{none_row, some_row}
+use Rattle.fsrm_base.proofs.Look.{none_row, some_row}
 use Rattle.volume_tree.specs.Volume.{Volume}
 use Rattle.rescan.specs.Frontiers.{Front, Stands, Follows, scanned, unvisited, sized}
 use Rattle.scan_queue.specs.Courses.{Course, Scanning, Goes}
 use Rattle.scan_queue.specs.Kept.{IsKept}
-use Rattle.fsrm_model.proofs.TestLaws.{clash, not_true, eq_is}
+use Rattle.fsrm_base.proofs.TestLaws.{clash, not_true, eq_is}
 use Rattle.scan_queue.proofs.Lengths.{own_follows, sized_unvisited}
 use Rattle.scan_queue.proofs.Queues.{first_in}
 use Rattle.scan_queue.proofs.Turning.{none_left}

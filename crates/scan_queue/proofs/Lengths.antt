@@ -7,18 +7,19 @@ use Rattle.std.specs.List.{list_any}
 use Rattle.fsrm_model.specs.declared.row.Capacity.{Capacity}
 use Rattle.fsrm_model.specs.declared.row.NodeRow.{NodeRow}
 use Rattle.fsrm_model.specs.FileOps.{resized}
-use Rattle.fsrm_model.specs.Keyed.{has_row, is_ascending, with_change}
+use Rattle.fsrm_base.specs.Keyed.{has_row, is_ascending, with_change}
 use Rattle.fsrm_model.specs.Limits.{longest_file}
 use Rattle.fsrm_model.specs.Name.{is_name}
-use Rattle.fsrm_model.specs.Numbers.{is_in}
+use Rattle.fsrm_base.specs.Numbers.{is_in}
 use Rattle.fsrm_model.specs.Scan.{AreUnvisited, is_topmost, counted}
 use Rattle.fsrm_model.specs.Space.{alloc, space}
 use Rattle.fsrm_model.specs.Tree.{number, node_of, parent_of, is_folder, is_under}
 use Rattle.fsrm_model.specs.Valid.{IsVolume, is_moment, is_own, is_root_node}
-use Rattle.fsrm_model.proofs.ChangeLaws.{KeepsPlace, parent_of-change, chain-change, absent_later, ascending_tail}
+use Rattle.fsrm_model.proofs.ChangeLaws.{KeepsPlace, parent_of-change, chain-change}
+use Rattle.fsrm_base.proofs.EditedRows.{absent_later, ascending_tail}
 use Rattle.fsrm_model.proofs.Keeps.{folder-change, cond_same}
-use Rattle.fsrm_model.proofs.Look.{found_has}
-use Rattle.fsrm_model.proofs.TestLaws.{is_or_not, both, clash, eq_is}
+use Rattle.fsrm_base.proofs.Look.{found_has}
+use Rattle.fsrm_base.proofs.TestLaws.{is_or_not, both, clash, eq_is}
 use Rattle.volume_tree.specs.Volume.{Volume, with_length}
 use Rattle.rescan.specs.Frontiers.{Front, Stands, Follows, scanned, has_above, unvisited, of_length, sized}
 use Rattle.rescan.proofs.KindLaws.{place_of, kind_folder, kind_under, kind_above, kept_at, numbers_kept, kind_unvisited}

@@ -3,17 +3,16 @@ use Rattle.std.proofs.Common.{◌≡◌, ℕ, ◌==◌, Bool, true, false, cond,
 use Rattle.std.proofs.lemmas.Option.{same_Some}
 use Rattle.fsrm_model.specs.declared.row.NodeRow.{NodeRow}
 use Rattle.fsrm_model.specs.FileOps.{made_node}
-use Rattle.fsrm_model.specs.Keyed.{has_row, with_row, without_row}
+use Rattle.fsrm_base.specs.Keyed.{has_row, with_row, without_row}
 use Rattle.fsrm_model.specs.Tree.{number, node_of, is_folder, fresh}
 use Rattle.fsrm_model.specs.Valid.{IsVolume}
-use Rattle.fsrm_model.proofs.ChainLaws.{find-with_row_same}
+use Rattle.fsrm_base.proofs.EditedRows.{find-with_row_same, without_absent}
 use Rattle.fsrm_model.proofs.Keeps.{found_folder}
-use Rattle.fsrm_model.proofs.Look.{found_has}
-use Rattle.fsrm_model.proofs.Order.{least_free_is}
-use Rattle.fsrm_model.proofs.TestLaws.{eq_same, neither}
+use Rattle.fsrm_base.proofs.Look.{found_has}
+use Rattle.fsrm_base.proofs.Order.{least_free_is}
+use Rattle.fsrm_base.proofs.TestLaws.{eq_same, neither}
 use Rattle.volume_tree.specs.Volume.{Volume, with_node, without_node}
 use Rattle.scan_queue.specs.Courses.{Course, Scanning}
-use Rattle.fsrm_model.proofs.RemoveLaws.{without_absent}
 use Rattle.rescan.proofs.ChangeLaws.{made_at, with_and_without}
 
 -- a volume with a new node

@@ -7,8 +7,8 @@ use Rattle.fsrm_model.specs.QuotaStates.{head}
 use Rattle.fsrm_model.specs.Scan.{is_topmost}
 use Rattle.fsrm_model.specs.Tree.{number, node_of, is_folder}
 use Rattle.fsrm_model.specs.Valid.{IsVolume}
-use Rattle.fsrm_model.proofs.Look.{has_found}
-use Rattle.fsrm_model.proofs.TestLaws.{lt_is}
+use Rattle.fsrm_base.proofs.Look.{has_found}
+use Rattle.fsrm_base.proofs.TestLaws.{lt_is}
 use Rattle.fsrm_model.proofs.ValidLaws.{folder_has}
 use Rattle.volume_tree.specs.declared.answer.NodeView.{NodeView}
 use Rattle.volume_tree.specs.Volume.{Volume, Shows}

@@ -5,8 +5,8 @@ use Rattle.fsrm_model.specs.FileOps.{touched}
 use Rattle.fsrm_model.specs.QuotaStates.{head}
 use Rattle.fsrm_model.specs.Valid.{IsVolume}
 use Rattle.fsrm_model.proofs.Keeps.{folder-change}
-use Rattle.fsrm_model.proofs.Look.{none_row}
-use Rattle.fsrm_model.proofs.TestLaws.{is_or_not}
+use Rattle.fsrm_base.proofs.Look.{none_row}
+use Rattle.fsrm_base.proofs.TestLaws.{is_or_not}
 use Rattle.rescan.proofs.ChangeLaws.{touch_stands, touched_keeps, alike_unvisited}
 use Rattle.volume_tree.specs.Volume.{Volume, with_touch}
 use Rattle.scan_queue.specs.Courses.{Course, Scanning, Goes, left}

@@ -4,17 +4,17 @@ use Rattle.std.specs.Prelude.{filter, map, is_some, unwrap_or}
 use Rattle.std.specs.Option.{option_map_or}
 use Rattle.std.specs.List.{list_any, remove}
 use Rattle.fsrm_model.specs.declared.row.NodeRow.{NodeRow}
-use Rattle.fsrm_model.specs.Numbers.{is_in, each_once, without_number}
+use Rattle.fsrm_base.specs.Numbers.{is_in, each_once, without_number}
 use Rattle.fsrm_model.specs.QuotaStates.{head, same_head, scan_begun}
 use Rattle.fsrm_model.specs.Scan.{folders_under}
 use Rattle.fsrm_model.specs.Tree.{number, is_folder, chain}
-use Rattle.fsrm_model.proofs.Look.{some_row}
+use Rattle.fsrm_base.proofs.Look.{some_row}
 use Rattle.volume_tree.specs.Volume.{Volume}
 use Rattle.rescan.specs.Frontiers.{Front, Follows, idle, has_above, unvisited}
 use Rattle.scan_queue.specs.Beginnings.{Begins}
 use Rattle.scan_queue.specs.Courses.{Course, Scanning, Turns}
 use Rattle.scan_queue.specs.Kept.{IsKept}
-use Rattle.fsrm_model.proofs.TestLaws.{eq_is, or_false}
+use Rattle.fsrm_base.proofs.TestLaws.{eq_is, or_false}
 use Rattle.scan_queue.proofs.Queues.{SameHead, in_pushed, once_pushed, later_pushed, in_left, once_left, first_in, first_leaves, other_leaves, first_removed, nobody, somebody}
 use Rattle.rescan.proofs.FindLaws.{no_above}
 

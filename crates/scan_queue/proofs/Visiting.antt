@@ -5,13 +5,13 @@ use Rattle.std.specs.Prelude.{filter, sum_by}
 use Rattle.std.specs.Option.{option_map_or}
 use Rattle.fsrm_model.specs.declared.row.NodeRow.{NodeRow}
 use Rattle.fsrm_model.specs.Cost.{visit_cost}
-use Rattle.fsrm_model.specs.Numbers.{itself, is_in, is_set, without_number, without_numbers}
+use Rattle.fsrm_base.specs.Numbers.{itself, is_in, is_set, without_number, without_numbers}
 use Rattle.fsrm_model.specs.Scan.{is_topmost, next_visit, visit, visits}
 use Rattle.fsrm_model.specs.Tree.{children}
-use Rattle.fsrm_model.proofs.TestLaws.{eq_is, eq_same, or_later}
-use Rattle.fsrm_model.proofs.Look.{found_own}
-use Rattle.fsrm_model.proofs.RemoveLaws.{sum_by-without_row}
-use Rattle.fsrm_model.proofs.Sums.{sum_by-ones}
+use Rattle.fsrm_base.proofs.TestLaws.{eq_is, eq_same, or_later}
+use Rattle.fsrm_base.proofs.Look.{found_own}
+use Rattle.fsrm_base.proofs.EditedRows.{sum_by-without_row}
+use Rattle.fsrm_base.proofs.Sums.{sum_by-ones}
 use Rattle.volume_tree.specs.Volume.{Volume}
 use Rattle.rescan.specs.Frontiers.{Front, Stands, Follows, unvisited, visit_looks}
 use Rattle.number_set.proofs.NumberLaws.{in_filter}

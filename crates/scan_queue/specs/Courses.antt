@@ -2,7 +2,7 @@
 use Rattle.std.specs.Prelude.{◌≡◌, ℕ, ◌≤◌, true, List, None, is_some, if◌then◌else◌, []}
 use Rattle.std.specs.Option.{option_map_or}
 use Rattle.fsrm_model.specs.declared.row.NodeRow.{NodeRow}
-use Rattle.fsrm_model.specs.Numbers.{is_in}
+use Rattle.fsrm_base.specs.Numbers.{is_in}
 use Rattle.fsrm_model.specs.QuotaStates.{head, same_head, scan_begun}
 use Rattle.fsrm_model.specs.Tree.{is_folder}
 use Rattle.fsrm_model.specs.Valid.{IsVolume}

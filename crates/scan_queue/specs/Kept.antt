@@ -1,6 +1,6 @@
 -- What a queue of scans keeps by itself.
 use Rattle.std.specs.Prelude.{◌≡◌, ℕ, ◌<◌, true, List, [], None}
-use Rattle.fsrm_model.specs.Numbers.{is_in, each_once}
+use Rattle.fsrm_base.specs.Numbers.{is_in, each_once}
 use Rattle.fsrm_model.specs.QuotaStates.{head}
 use Rattle.rescan.specs.Frontiers.{Front}
 

@@ -2,9 +2,9 @@
 
 ghost use Rattle.std.specs.Prelude.{◌≡◌, ℕ, ◌+◌, ◌*◌, ◌≤◌, ◌==◌, List, true, false, length, Some};
 ghost use Rattle.fsrm_model.specs.declared.row.NodeRow.{NodeRow};
-ghost use Rattle.fsrm_model.specs.Keyed.{has_row};
+ghost use Rattle.fsrm_base.specs.Keyed.{has_row};
 ghost use Rattle.fsrm_model.specs.Limits.{longest_file};
-ghost use Rattle.fsrm_model.specs.Numbers.{is_in, without_number};
+ghost use Rattle.fsrm_base.specs.Numbers.{is_in, without_number};
 ghost use Rattle.fsrm_model.specs.Scan.{unvisited_with, unvisited_moved};
 ghost use Rattle.fsrm_model.specs.Tree.{number as key, node_of, is_folder, is_under, children, chain, under};
 ghost use Rattle.fsrm_model.specs.Valid.{IsVolume};

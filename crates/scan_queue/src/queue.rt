@@ -1,7 +1,7 @@
 //! The queue of scans.
 
 ghost use Rattle.std.specs.Prelude.{◌≡◌, ◌<◌, ◌++◌, ◌==◌, ℕ, IfOk, OnOk, OnErr, Some, None, true, false, is_some, length, [], ◌∷◌};
-ghost use Rattle.fsrm_model.specs.Numbers.{is_in, each_once, without_number};
+ghost use Rattle.fsrm_base.specs.Numbers.{is_in, each_once, without_number};
 ghost use Rattle.fsrm_model.specs.QuotaStates.{head as first};
 ghost use Rattle.fsrm_model.specs.Tree.{is_folder};
 ghost use Rattle.rescan.specs.Frontiers.{idle};

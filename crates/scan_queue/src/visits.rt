@@ -2,7 +2,7 @@
 
 ghost use Rattle.std.specs.Prelude.{◌≡◌, ◌+◌, ◌-◌, ◌*◌, ◌≤◌, ◌==◌, true, length, is_some, sum_by, unwrap_or};
 ghost use Rattle.fsrm_model.specs.Cost.{visit_cost};
-ghost use Rattle.fsrm_model.specs.Numbers.{without_number, without_numbers};
+ghost use Rattle.fsrm_base.specs.Numbers.{without_number, without_numbers};
 ghost use Rattle.fsrm_model.specs.QuotaStates.{head as first};
 ghost use Rattle.fsrm_model.specs.Scan.{visits};
 ghost use Rattle.fsrm_model.specs.Tree.{usage};

@@ -4,7 +4,7 @@ use Rattle.std.specs.Prelude.{Option, Some, None, not, unwrap_or}
 use Rattle.std.specs.List.{prefix_len}
 use Rattle.std.proofs.lemmas.List.Sums.{prefix_len_is}
 use Rattle.memchr.specs.Find.{IsFirstByte}
-use Rattle.fsrm_model.proofs.TestLaws.{fails}
+use Rattle.fsrm_base.proofs.TestLaws.{fails}
 
 pub first_mark : (test : ℕ → Bool) (text : List ℕ) (found : Option ℕ) → IsFirstByte test text found → prefix_len (λ b. not (test b)) text ≡ unwrap_or found (length text)
 first_mark test text None h =

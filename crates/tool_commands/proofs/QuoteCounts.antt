@@ -8,7 +8,7 @@ use Rattle.fsrm_model.specs.Words.{is_quote, is_closed, last_quote}
 use Rattle.memchr.specs.Find.{IsLastByte, is_byte, places}
 use Rattle.memchr.proofs.lemmas.CallerLemmas.{length-places}
 use Rattle.memchr.proofs.lemmas.PlaceLemmas.{places_between-none}
-use Rattle.fsrm_model.proofs.TestLaws.{fails}
+use Rattle.fsrm_base.proofs.TestLaws.{fails}
 
 -- the quote that isn't ended, if any
 abbrev pub unclosed : List ℕ → Option ℕ

@@ -7,7 +7,7 @@ use Rattle.std.specs.Prelude.{not, ◌&&◌, ◌||◌}
 use Rattle.std.specs.List.{prefix_len}
 use Rattle.fsrm_model.specs.Words.{is_blank, is_quote}
 use Rattle.tool_commands.specs.Lengths.{is_plain, word_length, quoted_length}
-use Rattle.fsrm_model.proofs.TestLaws.{and_false}
+use Rattle.fsrm_base.proofs.TestLaws.{and_false}
 
 -- neither passes
 pub neither : (a b : Bool) → not (a || b) ≡ true → (a ≡ false) × (b ≡ false)

@@ -9,11 +9,11 @@ use Rattle.std.proofs.lemmas.List.Sorted.{All-permutation, Contains-permutation}
 use Rattle.std.proofs.lemmas.Option.{same_Some, slice_get-get_or, slice_get_within, get_or_from_slice_get}
 use Rattle.fsrm_model.specs.declared.row.NodeRow.{NodeRow}
 use Rattle.fsrm_model.specs.Fresh.{root_node}
-use Rattle.fsrm_model.specs.Keyed.{is_ascending, row_of}
+use Rattle.fsrm_base.specs.Keyed.{is_ascending, row_of}
 use Rattle.fsrm_model.specs.Tree.{number, node_of}
-use Rattle.fsrm_model.proofs.Look.{found_key}
-use Rattle.fsrm_model.proofs.Order.{parts}
-use Rattle.fsrm_model.proofs.TestLaws.{eq_same, is_false}
+use Rattle.fsrm_base.proofs.Look.{found_key}
+use Rattle.fsrm_base.proofs.Order.{parts}
+use Rattle.fsrm_base.proofs.TestLaws.{eq_same, is_false}
 use Rattle.volume_tree.specs.Kept.{IsOrder, IsPlace, inner, is_before}
 use Rattle.volume_tree.proofs.Items.{contains_passing, contains_found}
 

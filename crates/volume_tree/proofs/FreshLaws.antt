@@ -6,13 +6,13 @@ use Rattle.std.specs.Prelude.{map, is_some}
 use Rattle.std.specs.List.{AllByRecursion}
 use Rattle.fsrm_model.specs.declared.row.Capacity.{Capacity}
 use Rattle.fsrm_model.specs.declared.row.NodeRow.{NodeRow}
-use Rattle.fsrm_model.specs.Keyed.{is_ascending, has_row, with_row, with_change, without_row, least_free, least_free_from}
+use Rattle.fsrm_base.specs.Keyed.{is_ascending, has_row, with_row, with_change, without_row, least_free, least_free_from}
 use Rattle.fsrm_model.specs.Tree.{number, node_of, fresh}
 use Rattle.fsrm_model.specs.Valid.{IsVolume}
-use Rattle.fsrm_model.proofs.ChainLaws.{all_rows, find-with_row_same}
-use Rattle.fsrm_model.proofs.Look.{FoundRow, is_some-find, has_found, has_row-without, has_row-without_other, has_row-new_other}
-use Rattle.fsrm_model.proofs.Order.{parts, is_above, join, least_free_is, ascending-with_row, ascending-filter}
-use Rattle.fsrm_model.proofs.TestLaws.{clash, eq_same, lt_is, lt_test, eq_test, eq_below}
+use Rattle.fsrm_base.proofs.EditedRows.{all_rows, find-with_row_same}
+use Rattle.fsrm_base.proofs.Look.{FoundRow, is_some-find, has_found, has_row-without, has_row-without_other, has_row-new_other}
+use Rattle.fsrm_base.proofs.Order.{parts, is_above, join, least_free_is, ascending-with_row, ascending-filter}
+use Rattle.fsrm_base.proofs.TestLaws.{clash, eq_same, lt_is, lt_test, eq_test, eq_below}
 use Rattle.volume_tree.specs.Kept.{rows_of, AreSlots}
 use Rattle.volume_tree.proofs.SlotRows.{slots_ascend}
 

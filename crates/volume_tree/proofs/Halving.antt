@@ -5,9 +5,9 @@ use Rattle.std.proofs.lemmas.Bool.Decides.{nat_tests}
 use Rattle.std.proofs.lemmas.Option.{same_Some}
 use Rattle.fsrm_model.specs.declared.row.NodeRow.{NodeRow}
 use Rattle.fsrm_model.specs.Fresh.{root_node}
-use Rattle.fsrm_model.specs.Keyed.{is_ascending}
+use Rattle.fsrm_base.specs.Keyed.{is_ascending}
 use Rattle.fsrm_model.specs.Tree.{number, node_of}
-use Rattle.fsrm_model.proofs.TestLaws.{not_true, clash}
+use Rattle.fsrm_base.proofs.TestLaws.{not_true, clash}
 use Rattle.volume_tree.specs.Kept.{IsOrder, IsPlace, is_before}
 use Rattle.volume_tree.proofs.Entries.{at, divides_place, length-order_entries, node_there}
 use Rattle.volume_tree.proofs.Names.{comes_then, name_before_empty}

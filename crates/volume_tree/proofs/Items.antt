@@ -7,7 +7,7 @@ use Rattle.std.proofs.lemmas.List.Elements.{All-cons, All-head, All-tail, All-fi
 use Rattle.std.proofs.lemmas.List.Kept.{AllPairs-cons}
 use Rattle.std.proofs.lemmas.List.Sorted.{IsPermutation-refl, IsPermutation-cons, IsPermutation-trans, IsPermutation-middle, IsPermutation-sym, IsPermutation-append_right, IsPermutation-remove, All-permutation, Contains-permutation}
 use Rattle.std.proofs.lemmas.Option.{same_Some}
-use Rattle.fsrm_model.specs.Order.{put, in_order}
+use Rattle.fsrm_base.specs.Order.{put, in_order}
 
 -- items of a list with one more in front
 pub contains_head : {X : Type 0} (x : X) (xs : List X) → Contains (x ∷ xs) x

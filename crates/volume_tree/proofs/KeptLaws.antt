@@ -10,17 +10,16 @@ use Rattle.std.specs.List.{list_any}
 use Rattle.fsrm_model.specs.declared.row.Capacity.{Capacity}
 use Rattle.fsrm_model.specs.declared.row.NodeRow.{NodeRow}
 use Rattle.fsrm_model.specs.FileOps.{resized, touched, placed}
-use Rattle.fsrm_model.specs.Keyed.{is_ascending, has_row, with_row, with_change, without_row}
+use Rattle.fsrm_base.specs.Keyed.{is_ascending, has_row, with_row, with_change, without_row}
 use Rattle.fsrm_model.specs.Limits.{latest_moment, longest_file, most_nodes}
 use Rattle.fsrm_model.specs.Name.{folded, is_name, same_name}
 use Rattle.fsrm_model.specs.Tree.{number, node_of, parent_of, name_of, fresh, is_folder, is_child, is_under, child_of, child_number, children, name_bytes}
 use Rattle.fsrm_model.specs.Valid.{IsVolume, is_own, is_root_node}
-use Rattle.fsrm_model.proofs.ChainLaws.{length-with_row}
-use Rattle.fsrm_model.proofs.ChangeLaws.{length-change}
+use Rattle.fsrm_base.proofs.EditedRows.{length-with_row, length-change}
 use Rattle.fsrm_model.proofs.Keeps.{volume-new, volume-change, volume-moved, volume-removed, KeepsNode, name_bytes-change, found_folder}
-use Rattle.fsrm_model.proofs.Look.{has_found, none_filtered}
+use Rattle.fsrm_base.proofs.Look.{has_found, none_filtered}
 use Rattle.fsrm_model.proofs.Sizes.{length-removed, name_bytes-new, name_bytes-placed, name_bytes-removed}
-use Rattle.fsrm_model.proofs.TestLaws.{lt_is, lt_test, eq_is, not_true, clash, both, le_test, ge_is, is_inner}
+use Rattle.fsrm_base.proofs.TestLaws.{lt_is, lt_test, eq_is, not_true, clash, both, le_test, ge_is, is_inner}
 use Rattle.fsrm_model.proofs.Walks.{found_name, child_is, child_found}
 use Rattle.volume_tree.specs.Kept.{rows_of, AreSlots, IsOrder, IsPlace, IsKept}
 use Rattle.volume_tree.specs.Shift.{IsShifted}

@@ -3,14 +3,14 @@ use Rattle.std.proofs.Common.{◌≡◌, ℕ, ◌+◌, ◌≤◌, ◌==◌, Bool
 use Rattle.std.proofs.lemmas.Bool.Decides.{nat_tests}
 use Rattle.std.specs.Prelude.{[], ◌∷◌}
 use Rattle.fsrm_model.specs.FileOps.{placed}
-use Rattle.fsrm_model.specs.Keyed.{has_row, with_change}
+use Rattle.fsrm_base.specs.Keyed.{has_row, with_change}
 use Rattle.fsrm_model.specs.Name.{is_name}
 use Rattle.fsrm_model.specs.Tree.{number, name_of, is_folder, is_under, child_number, name_bytes}
 use Rattle.fsrm_model.specs.Valid.{IsVolume}
 use Rattle.volume_tree.specs.declared.answer.TreeFault.TheVariants.{AlreadyExists, InvalidMove, NamesFull}
 use Rattle.volume_tree.specs.Volume.{Volume, first_fault, fault_if, is_other, move_fault}
 use Rattle.volume_tree.proofs.KeptLaws.{volume_placed}
-use Rattle.fsrm_model.proofs.TestLaws.{ge_is}
+use Rattle.fsrm_base.proofs.TestLaws.{ge_is}
 
 -- the folder isn't the node or below it, no other child has the name, and there is room for it
 pub record MayMove (v : Volume) (x d : ℕ) (name : List ℕ) : Type 0 where

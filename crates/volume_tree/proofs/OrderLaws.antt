@@ -15,14 +15,14 @@ use Rattle.std.proofs.lemmas.Option.{same_Some, slice_get-get_or}
 use Rattle.fsrm_model.specs.declared.row.NodeRow.{NodeRow}
 use Rattle.fsrm_model.specs.FileOps.{placed}
 use Rattle.fsrm_model.specs.Fresh.{root_node}
-use Rattle.fsrm_model.specs.Keyed.{is_ascending, has_row, with_row, with_change, without_row}
+use Rattle.fsrm_base.specs.Keyed.{is_ascending, has_row, with_row, with_change, without_row}
 use Rattle.fsrm_model.specs.Name.{same_name}
 use Rattle.fsrm_model.specs.Tree.{number, node_of, is_child, child_of, child_number}
-use Rattle.fsrm_model.proofs.Look.{found_lacks, found_key, has_found, is_some-find, row_of-without}
-use Rattle.fsrm_model.proofs.Order.{ascending-filter}
-use Rattle.fsrm_model.proofs.RemoveLaws.{sum_by-without_row}
-use Rattle.fsrm_model.proofs.Sums.{sum_by-ones}
-use Rattle.fsrm_model.proofs.TestLaws.{eq_is, eq_same, clash, not_true, is_false}
+use Rattle.fsrm_base.proofs.Look.{found_lacks, found_key, has_found, is_some-find, row_of-without}
+use Rattle.fsrm_base.proofs.Order.{ascending-filter}
+use Rattle.fsrm_base.proofs.EditedRows.{sum_by-without_row}
+use Rattle.fsrm_base.proofs.Sums.{sum_by-ones}
+use Rattle.fsrm_base.proofs.TestLaws.{eq_is, eq_same, clash, not_true, is_false}
 use Rattle.volume_tree.specs.Kept.{IsOrder, IsPlace, inner, is_before}
 use Rattle.volume_tree.proofs.Edits.{map-insert, map-remove, pairs_insert, removed, with_row_moves, filter-map, map-map_same, filters_turned}
 use Rattle.volume_tree.proofs.Entries.{at, There, there, Divides, place_divides, ascending_pairs, rows_found, entry_of, entry_there, same_entry, number_there, length-order_entries}

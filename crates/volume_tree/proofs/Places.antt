@@ -7,11 +7,11 @@ use Rattle.std.proofs.lemmas.Option.{same_Some}
 use Rattle.std.specs.Prelude.{is_some}
 use Rattle.fsrm_model.specs.declared.row.NodeRow.{NodeRow}
 use Rattle.fsrm_model.specs.Fresh.{root_node}
-use Rattle.fsrm_model.specs.Keyed.{is_ascending}
+use Rattle.fsrm_base.specs.Keyed.{is_ascending}
 use Rattle.fsrm_model.specs.Name.{same_name}
 use Rattle.fsrm_model.specs.Tree.{number, node_of, is_child, child_of, child_number}
-use Rattle.fsrm_model.proofs.Look.{found_any, found_key, found_own, found_passes, is_some-find}
-use Rattle.fsrm_model.proofs.TestLaws.{eq_is, clash, both, is_false}
+use Rattle.fsrm_base.proofs.Look.{found_any, found_key, found_own, found_passes, is_some-find}
+use Rattle.fsrm_base.proofs.TestLaws.{eq_is, clash, both, is_false}
 use Rattle.volume_tree.specs.Kept.{IsOrder, IsPlace, is_before}
 use Rattle.volume_tree.proofs.Entries.{at, Divides, place_divides, entry_of, entry_there, number_there, node_there, length-order_entries}
 use Rattle.volume_tree.proofs.Names.{comes_apart, comes_as, comes_turned, comes_itself}

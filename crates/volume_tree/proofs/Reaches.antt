@@ -5,15 +5,17 @@ use Rattle.std.specs.List.{AllByRecursion, list_all}
 use Rattle.std.proofs.lemmas.Bool.Decides.{nat_tests}
 use Rattle.std.proofs.lemmas.Option.{same_Some}
 use Rattle.fsrm_model.specs.declared.row.NodeRow.{NodeRow}
-use Rattle.fsrm_model.specs.Keyed.{has_row}
+use Rattle.fsrm_base.specs.Keyed.{has_row}
 use Rattle.fsrm_model.specs.Tree.{number, node_of, parent_of, is_folder, is_under, chain_in}
 use Rattle.fsrm_model.specs.Valid.{is_root_node, is_own}
-use Rattle.fsrm_model.proofs.ChainLaws.{Has, IsTree, all_rows, is_in, stable}
+use Rattle.fsrm_model.proofs.ChainLaws.{Has, IsTree, stable}
+use Rattle.fsrm_base.proofs.EditedRows.{all_rows}
+use Rattle.fsrm_base.specs.Numbers.{is_in}
 use Rattle.fsrm_model.proofs.DepthLaws.{soon}
-use Rattle.fsrm_model.proofs.Look.{found_key, has_found}
-use Rattle.fsrm_model.proofs.Members.{all_found}
+use Rattle.fsrm_base.proofs.Look.{found_key, has_found}
+use Rattle.fsrm_base.proofs.Members.{all_found}
 use Rattle.fsrm_model.proofs.MoveLaws.{members_has, stable_by}
-use Rattle.fsrm_model.proofs.TestLaws.{both, both_true, clash, eq_is, is_or_not, not_root}
+use Rattle.fsrm_base.proofs.TestLaws.{both, both_true, clash, eq_is, is_or_not, not_root}
 use Rattle.fsrm_model.proofs.ValidLaws.{folder_has, found_parent}
 use Rattle.volume_tree.specs.Sound.{AreMarks, Reaches, is_placed}
 

@@ -10,11 +10,11 @@ use Rattle.std.proofs.lemmas.List.Kept.{AllPairs-filter}
 use Rattle.std.proofs.lemmas.List.Sorted.{All-permutation, Contains-permutation, length_permutation}
 use Rattle.fsrm_model.specs.declared.row.NodeRow.{NodeRow}
 use Rattle.fsrm_model.specs.Fresh.{root_node}
-use Rattle.fsrm_model.specs.Keyed.{is_ascending}
+use Rattle.fsrm_base.specs.Keyed.{is_ascending}
 use Rattle.fsrm_model.specs.Name.{name_before}
-use Rattle.fsrm_model.specs.Order.{in_order}
+use Rattle.fsrm_base.specs.Order.{in_order}
 use Rattle.fsrm_model.specs.Tree.{number, node_of, is_child, children, children_in_order}
-use Rattle.fsrm_model.proofs.TestLaws.{eq_is, clash, both, is_false}
+use Rattle.fsrm_base.proofs.TestLaws.{eq_is, clash, both, is_false}
 use Rattle.volume_tree.specs.Kept.{IsOrder, IsPlace}
 use Rattle.volume_tree.proofs.Entries.{at, place_divides, ascending_pairs, rows_found, entry_of, entry_there}
 use Rattle.volume_tree.proofs.Halving.{before_empty}

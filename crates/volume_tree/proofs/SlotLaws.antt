@@ -6,13 +6,12 @@ use Rattle.std.specs.Prelude.{slice_get, slice_set, slice_index_or, is_some}
 use Rattle.std.specs.Borrow.{Bor}
 use Rattle.std.specs.Option.{option_copied}
 use Rattle.fsrm_model.specs.declared.row.NodeRow.{NodeRow}
-use Rattle.fsrm_model.specs.Keyed.{has_row, with_row, with_change, without_row}
+use Rattle.fsrm_base.specs.Keyed.{has_row, with_row, with_change, without_row}
 use Rattle.fsrm_model.specs.Tree.{number, node_of}
-use Rattle.fsrm_model.proofs.ChangeLaws.{change_absent}
-use Rattle.fsrm_model.proofs.Look.{is_some-find, found_key, has_found}
-use Rattle.fsrm_model.proofs.TestLaws.{lt_test, eq_test, eq_below, eq_above, not_lt}
+use Rattle.fsrm_base.proofs.EditedRows.{change_absent, without_absent}
+use Rattle.fsrm_base.proofs.Look.{is_some-find, found_key, has_found}
+use Rattle.fsrm_base.proofs.TestLaws.{lt_test, eq_test, eq_below, eq_above, not_lt}
 use Rattle.volume_tree.specs.Kept.{rows_of, IsSlot, AreSlots}
-use Rattle.fsrm_model.proofs.RemoveLaws.{without_absent}
 
 -- what stands at a place of slots
 abbrev pub row_in : Option (Option NodeRow) → Option NodeRow

@@ -3,10 +3,10 @@ use Rattle.std.proofs.Common.{◌≡◌, ℕ, suc, ◌+◌, ◌<◌, ◌==◌, B
 use Rattle.std.proofs.lemmas.Bool.Decides.{nat_tests}
 use Rattle.std.proofs.lemmas.Option.{slice_get_within, get_or_from_slice_get}
 use Rattle.fsrm_model.specs.declared.row.NodeRow.{NodeRow}
-use Rattle.fsrm_model.specs.Keyed.{is_ascending}
+use Rattle.fsrm_base.specs.Keyed.{is_ascending}
 use Rattle.fsrm_model.specs.Tree.{number, node_of}
-use Rattle.fsrm_model.proofs.Order.{is_above, join}
-use Rattle.fsrm_model.proofs.TestLaws.{eq_is}
+use Rattle.fsrm_base.proofs.Order.{is_above, join}
+use Rattle.fsrm_base.proofs.TestLaws.{eq_is}
 use Rattle.volume_tree.specs.Kept.{AreSlots, rows_of}
 
 -- rows of slots ascend, from the number of the first slot on

@@ -6,9 +6,9 @@ use Rattle.std.proofs.lemmas.Bool.Decides.{nat_tests}
 use Rattle.std.proofs.lemmas.List.{drop-map, take-map}
 use Rattle.std.proofs.lemmas.Option.{same_Some, slice_get-get_or, slice_get_within}
 use Rattle.fsrm_model.specs.declared.row.NodeRow.{NodeRow}
-use Rattle.fsrm_model.specs.Keyed.{is_ascending}
+use Rattle.fsrm_base.specs.Keyed.{is_ascending}
 use Rattle.fsrm_model.specs.Tree.{number, node_of, children, children_in_order}
-use Rattle.fsrm_model.proofs.TestLaws.{not_true, clash}
+use Rattle.fsrm_base.proofs.TestLaws.{not_true, clash}
 use Rattle.volume_tree.specs.Kept.{IsOrder, IsPlace, IsFloor, IsCeiling, IsSegment, is_before}
 use Rattle.volume_tree.proofs.Entries.{at, there, node_there, length-order_entries}
 use Rattle.volume_tree.proofs.Halving.{Halves, Narrows, earlier, row_is, before_empty, lower_before, upper_stays}

@@ -2,7 +2,7 @@
 
 ghost use Rattle.std.specs.Prelude.{◌≡◌, ◌+◌, ◌≤◌, true, length};
 ghost use Rattle.fsrm_model.proofs.ChainLaws.{IsTree};
-ghost use Rattle.fsrm_model.specs.Keyed.{has_row};
+ghost use Rattle.fsrm_base.specs.Keyed.{has_row};
 ghost use Rattle.fsrm_model.specs.Tree.{number as key, chain, parent_of, is_under};
 ghost use Rattle.volume_tree.specs.Kept.{AreSlots, rows_of};
 

@@ -1,7 +1,7 @@
 //! Moves, in two halves: what can refuse or fail, and then the change, which can't.
 
 ghost use Rattle.std.specs.Prelude.{◌≡◌, ◌+◌, ◌≤◌, ◌==◌, IfOk, IfErr, OnOk, OnErr, true, false, length, None};
-ghost use Rattle.fsrm_model.specs.Keyed.{has_row};
+ghost use Rattle.fsrm_base.specs.Keyed.{has_row};
 ghost use Rattle.fsrm_model.specs.Name.{is_name};
 ghost use Rattle.fsrm_model.specs.Tree.{number as key, is_folder, chain};
 ghost use Rattle.fsrm_model.specs.Valid.{IsVolume};

@@ -4,7 +4,7 @@ ghost use Rattle.std.specs.Prelude.{◌≡◌, ◌+◌, ◌≤◌, ◌&&◌, ◌
 ghost use Rattle.std.specs.List.{IsAllAdjacentAnswer, list_all};
 ghost use Rattle.std.specs.List.Sorted.{IsPermutation, IsSortedBy};
 ghost use Rattle.std.specs.Ordering.{is_lt};
-ghost use Rattle.fsrm_model.specs.Keyed.{has_row, is_ascending};
+ghost use Rattle.fsrm_base.specs.Keyed.{has_row, is_ascending};
 ghost use Rattle.fsrm_model.specs.Tree.{number as key, is_folder, is_under, name_bytes};
 ghost use Rattle.fsrm_model.specs.Valid.{is_tree, is_moment, is_own, is_root_node};
 ghost use Rattle.volume_tree.specs.Kept.{AreSlots, IsKept, IsOrder, inner, is_before, rows_of};

@@ -4,7 +4,7 @@ ghost use Rattle.std.specs.Prelude.{◌≡◌, ◌^◌, ◌<◌, ◌≤◌, IfOk
 ghost use Rattle.std.specs.Option.{option_copied};
 ghost use Rattle.fsrm_model.specs.FileOps.{resized, touched, placed};
 ghost use Rattle.fsrm_model.specs.Fresh.{root_node};
-ghost use Rattle.fsrm_model.specs.Keyed.{has_row, with_row, with_change, without_row};
+ghost use Rattle.fsrm_base.specs.Keyed.{has_row, with_row, with_change, without_row};
 ghost use Rattle.fsrm_model.specs.Tree.{number as key, node_of, name_of, fresh};
 ghost use Rattle.volume_tree.specs.Kept.{AreSlots, rows_of};
 ghost use Rattle.volume_tree.specs.Volume.{Shows};

@@ -1,5 +1,5 @@
 use Rattle.std.proofs.Common.{◌≡◌, drop}
-use Rattle.fsrm_model.specs.Keyed.{least_free, least_free_from}
+use Rattle.fsrm_base.specs.Keyed.{least_free, least_free_from}
 use Rattle.fsrm_model.specs.Patterns.{group_number}
 use Rattle.file_groups.proofs.rows.free_number.Given as goal
 

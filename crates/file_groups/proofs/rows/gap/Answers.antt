@@ -1,8 +1,8 @@
 use Rattle.std.proofs.Common.{inl, inr, subst, IfOk, IfErr, Result, ℕ}
 use Rattle.fsrm_model.specs.Patterns.{group_number}
-use Rattle.fsrm_model.proofs.TestLaws.{clash}
-use Rattle.fsrm_model.specs.Places.{IsAt, IsGap}
-use Rattle.fsrm_model.proofs.SortedRows.{row_found}
+use Rattle.fsrm_base.proofs.TestLaws.{clash}
+use Rattle.fsrm_base.specs.Places.{IsAt, IsGap}
+use Rattle.fsrm_base.proofs.SortedRows.{row_found}
 use Rattle.file_groups.proofs.rows.gap.Goals as goal
 
 pub returns-in-Ok : goal.returns-in-Ok

@@ -1,6 +1,6 @@
 use Rattle.std.proofs.Common.{◌∙◌}
 use Rattle.fsrm_model.specs.Patterns.{group_number}
-use Rattle.fsrm_model.proofs.SortedRows.{has_lent}
+use Rattle.fsrm_base.proofs.SortedRows.{has_lent}
 use Rattle.file_groups.proofs.tests.is_there.Goals as goal
 
 pub returns : goal.returns

@@ -2,7 +2,7 @@ use Rattle.std.proofs.Common.{sym, ap, ◌∙◌, List}
 use Rattle.std.specs.Option.{option_copied}
 use Rattle.fsrm_model.specs.declared.row.QuotaRow.{QuotaRow}
 use Rattle.fsrm_model.specs.Quota.{folder_of}
-use Rattle.fsrm_model.proofs.Look.{found_has}
+use Rattle.fsrm_base.proofs.Look.{found_has}
 use Rattle.fsrm_engine.proofs.RaiseLaws.{raise_none, raise_absent, raise_low, raise_high}
 use Rattle.fsrm_engine.proofs.charging.raise_peak.Goals as goal
 

@@ -1,5 +1,5 @@
 use Rattle.std.proofs.Common.{◌≡◌, ◌+◌, ◌≤◌, true, length}
-use Rattle.fsrm_model.specs.Keyed.{has_row, is_ascending}
+use Rattle.fsrm_base.specs.Keyed.{has_row, is_ascending}
 use Rattle.fsrm_model.specs.Quota.{folder_of}
 use Rattle.fsrm_model.specs.Tree.{number, chain, is_under}
 use Rattle.fsrm_engine.specs.Peaks.{raised}

@@ -1,5 +1,5 @@
 use Rattle.std.proofs.Common.{true, false}
-use Rattle.fsrm_model.proofs.TestLaws.{clash}
+use Rattle.fsrm_base.proofs.TestLaws.{clash}
 use Rattle.fsrm_engine.proofs.CountingLaws.{counter_found}
 use Rattle.fsrm_engine.proofs.counting.recount.Goals as goal
 

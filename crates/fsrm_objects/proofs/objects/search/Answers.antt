@@ -1,7 +1,7 @@
 use Rattle.std.proofs.Common.{rules}
 use Rattle.std.proofs.lemmas.List.Sorted.{answers_always}
 use Rattle.fsrm_model.specs.Quota.{folder_of}
-use Rattle.fsrm_model.proofs.SortedRows.{searched_ok, searched_err}
+use Rattle.fsrm_base.proofs.SortedRows.{searched_ok, searched_err}
 use Rattle.fsrm_objects.proofs.objects.search.Goals as goal
 
 pub returns-clause-found : goal.returns-clause-found

@@ -1,6 +1,6 @@
 use Rattle.std.proofs.Common.{◌∙◌}
 use Rattle.fsrm_model.specs.Quota.{folder_of}
-use Rattle.fsrm_model.proofs.SortedRows.{has_lent}
+use Rattle.fsrm_base.proofs.SortedRows.{has_lent}
 use Rattle.fsrm_objects.proofs.tests.has_quota.Goals as goal
 
 pub returns : goal.returns

@@ -1,5 +1,5 @@
 use Rattle.std.proofs.Common.{◌≡◌, ◌<◌, true, length, sym, subst, arith}
-use Rattle.fsrm_model.specs.Keyed.{has_row}
+use Rattle.fsrm_base.specs.Keyed.{has_row}
 use Rattle.fsrm_model.specs.Tree.{number, chain, is_under}
 use Rattle.fsrm_model.proofs.ClimbRows.{passed_none}
 use Rattle.fsrm_model.proofs.Climbs.{shorter, under_own}

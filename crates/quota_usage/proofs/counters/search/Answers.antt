@@ -1,7 +1,7 @@
 use Rattle.std.proofs.Common.{rules}
 use Rattle.std.proofs.lemmas.List.Sorted.{answers_always}
 use Rattle.quota_usage.specs.Counters.{counted}
-use Rattle.fsrm_model.proofs.SortedRows.{searched_ok, searched_err}
+use Rattle.fsrm_base.proofs.SortedRows.{searched_ok, searched_err}
 use Rattle.quota_usage.proofs.counters.search.Goals as goal
 
 pub returns-clause-found : goal.returns-clause-found

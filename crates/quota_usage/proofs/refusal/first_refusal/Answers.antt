@@ -1,10 +1,10 @@
 use Rattle.std.proofs.Common.{◌≡◌, ◌<◌, true, length, inl, inr, sym, ◌∙◌, ap, subst, arith}
 use Rattle.std.specs.Prelude.{is_some}
-use Rattle.fsrm_model.specs.Keyed.{has_row}
+use Rattle.fsrm_base.specs.Keyed.{has_row}
 use Rattle.fsrm_model.specs.Tree.{number, chain, is_under}
 use Rattle.fsrm_model.proofs.Climbs.{shorter, under_own}
-use Rattle.fsrm_model.proofs.Look.{none_row}
-use Rattle.fsrm_model.proofs.TestLaws.{clash}
+use Rattle.fsrm_base.proofs.Look.{none_row}
+use Rattle.fsrm_base.proofs.TestLaws.{clash}
 use Rattle.quota_usage.specs.Climb.{refusal_of}
 use Rattle.quota_usage.proofs.ClimbLaws.{on_up, passes_up, nearest_here}
 use Rattle.quota_usage.proofs.refusal.first_refusal.Goals as goal

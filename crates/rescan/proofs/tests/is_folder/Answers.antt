@@ -1,7 +1,7 @@
 use Rattle.std.proofs.Common.{sym, ◌∙◌}
-use Rattle.fsrm_model.specs.Keyed.{has_row}
+use Rattle.fsrm_base.specs.Keyed.{has_row}
 use Rattle.fsrm_model.specs.Tree.{number, is_folder}
-use Rattle.fsrm_model.proofs.TestLaws.{clash, not_true}
+use Rattle.fsrm_base.proofs.TestLaws.{clash, not_true}
 use Rattle.fsrm_model.proofs.ValidLaws.{folder_has}
 use Rattle.rescan.proofs.tests.is_folder.Goals as goal
 

@@ -1,12 +1,12 @@
 use Rattle.std.proofs.Common.{◌≡◌, ℕ, List, true, false, Some, sym, ◌∙◌, ap, subst, refl}
 use Rattle.fsrm_model.specs.declared.row.NodeRow.{NodeRow}
 use Rattle.fsrm_model.specs.FileOps.{made_node}
-use Rattle.fsrm_model.specs.Keyed.{has_row}
+use Rattle.fsrm_base.specs.Keyed.{has_row}
 use Rattle.fsrm_model.specs.Tree.{number, node_of, is_folder, fresh}
 use Rattle.fsrm_model.specs.Valid.{IsVolume}
 use Rattle.fsrm_model.proofs.Keeps.{found_folder}
-use Rattle.fsrm_model.proofs.Look.{found_has}
-use Rattle.fsrm_model.proofs.Order.{least_free_is}
+use Rattle.fsrm_base.proofs.Look.{found_has}
+use Rattle.fsrm_base.proofs.Order.{least_free_is}
 use Rattle.volume_tree.specs.Volume.{Volume, with_node, without_node}
 use Rattle.rescan.specs.Frontiers.{Front, Stands, sized}
 use Rattle.rescan.proofs.ChangeLaws.{sized_own}

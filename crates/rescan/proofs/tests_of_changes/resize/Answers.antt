@@ -1,10 +1,10 @@
 use Rattle.std.proofs.Common.{◌≡◌, ℕ, true, false, sym, ◌∙◌, ap, subst, refl}
 use Rattle.fsrm_model.specs.FileOps.{resized}
-use Rattle.fsrm_model.specs.Keyed.{has_row}
+use Rattle.fsrm_base.specs.Keyed.{has_row}
 use Rattle.fsrm_model.specs.Tree.{number, is_folder}
 use Rattle.fsrm_model.specs.Valid.{IsVolume}
 use Rattle.fsrm_model.proofs.Keeps.{folder-change, found_folder}
-use Rattle.fsrm_model.proofs.Look.{has_row-change}
+use Rattle.fsrm_base.proofs.Look.{has_row-change}
 use Rattle.volume_tree.specs.declared.answer.NodeView.{NodeView}
 use Rattle.volume_tree.specs.Volume.{Volume, Shows, with_length}
 use Rattle.rescan.specs.Frontiers.{Front, Stands, Follows, sized, unvisited}

@@ -1,6 +1,6 @@
 use Rattle.std.proofs.Common.{ℕ, ◌<◌, ◌++◌, List, length, ap, sym, ◌∙◌, arith}
 use Rattle.std.proofs.lemmas.List.{append-nil}
-use Rattle.fsrm_model.specs.Numbers.{is_set}
+use Rattle.fsrm_base.specs.Numbers.{is_set}
 use Rattle.number_set.specs.Numbers.{Numbers}
 use Rattle.number_set.proofs.NumberLaws.{set_without}
 use Rattle.rescan.proofs.SetLaws.{first_taken, listed_more, none_first}

@@ -1,5 +1,5 @@
 use Rattle.std.proofs.Common.{◌≡◌, true, ◌++◌, length}
-use Rattle.fsrm_model.specs.Numbers.{is_set}
+use Rattle.fsrm_base.specs.Numbers.{is_set}
 use Rattle.rescan.proofs.visits.drained.Given as goal
 
 abbrev pub invariant-loop-least : goal.invariant-loop-least

@@ -1,7 +1,7 @@
 use Rattle.std.proofs.Common.{ℕ, ◌+◌, arith, refl, ◌∙◌, ap, get_or}
 use Rattle.fsrm_model.specs.Space.{alloc}
 use Rattle.fsrm_model.specs.Tree.{number}
-use Rattle.fsrm_model.proofs.Look.{found_has}
+use Rattle.fsrm_base.proofs.Look.{found_has}
 use Rattle.volume_tree.proofs.Children.{child_numbered}
 use Rattle.number_set.specs.Numbers.{Numbers}
 use Rattle.rescan.proofs.ChildLaws.{none_taken, folder_taken, file_taken, all_taken, taken_least, child_low, numbers_many}

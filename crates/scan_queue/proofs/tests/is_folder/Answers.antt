@@ -1,7 +1,7 @@
 use Rattle.std.proofs.Common.{sym, ◌∙◌, ap}
-use Rattle.fsrm_model.specs.Keyed.{has_row}
+use Rattle.fsrm_base.specs.Keyed.{has_row}
 use Rattle.fsrm_model.specs.Tree.{number, is_folder}
-use Rattle.fsrm_model.proofs.TestLaws.{clash, not_true}
+use Rattle.fsrm_base.proofs.TestLaws.{clash, not_true}
 use Rattle.fsrm_model.proofs.ValidLaws.{folder_has}
 use Rattle.scan_queue.proofs.tests.is_folder.Goals as goal
 

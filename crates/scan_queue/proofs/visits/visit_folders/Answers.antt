@@ -1,5 +1,5 @@
 use Rattle.std.proofs.Common.{◌≡◌, ℕ, ◌+◌, ◌≤◌, None, Option, sym, ◌∙◌, subst, arith}
-use Rattle.fsrm_model.proofs.Look.{none_row, some_row}
+use Rattle.fsrm_base.proofs.Look.{none_row, some_row}
 use Rattle.rescan.specs.Frontiers.{visit_looks}
 use Rattle.scan_queue.proofs.Visiting.{made_last, made_looks, made_more}
 use Rattle.scan_queue.proofs.visits.visit_folders.Goals as goal

@@ -1,6 +1,6 @@
 use Rattle.std.proofs.Common.{◌≡◌, ℕ, ◌<◌, List, true, false, length, sym, ◌∙◌, ap, subst, arith}
 use Rattle.fsrm_model.specs.declared.row.NodeRow.{NodeRow}
-use Rattle.fsrm_model.specs.Keyed.{has_row}
+use Rattle.fsrm_base.specs.Keyed.{has_row}
 use Rattle.fsrm_model.specs.Tree.{number, chain, is_under}
 use Rattle.fsrm_model.proofs.Climbs.{under_up, under_own, under_root, shorter}
 use Rattle.volume_tree.specs.Kept.{rows_of}

@@ -1,5 +1,5 @@
 use Rattle.std.proofs.Common.{◌≡◌, ◌+◌, ◌≤◌, length, true}
-use Rattle.fsrm_model.specs.Keyed.{has_row}
+use Rattle.fsrm_base.specs.Keyed.{has_row}
 use Rattle.fsrm_model.specs.Tree.{number, chain, is_under}
 use Rattle.volume_tree.specs.Kept.{rows_of}
 use Rattle.volume_tree.proofs.climb.is_at_or_below.Given as goal

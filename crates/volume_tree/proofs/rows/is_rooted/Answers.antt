@@ -1,5 +1,5 @@
 use Rattle.std.proofs.Common.{◌-◌, ◌∙◌, sym, ap, subst, arith}
-use Rattle.fsrm_model.proofs.ChainLaws.{is_in}
+use Rattle.fsrm_base.specs.Numbers.{is_in}
 use Rattle.fsrm_model.specs.Tree.{chain_in}
 use Rattle.volume_tree.specs.Kept.{rows_of}
 use Rattle.volume_tree.specs.Sound.{Reaches}

@@ -1,5 +1,5 @@
 use Rattle.fsrm_model.specs.Tree.{number}
-use Rattle.fsrm_model.proofs.Look.{found_has}
+use Rattle.fsrm_base.proofs.Look.{found_has}
 use Rattle.volume_tree.proofs.tests.child_name.Goals as goal
 
 pub node-requires : goal.node-requires

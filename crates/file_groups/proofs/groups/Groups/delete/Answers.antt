@@ -3,7 +3,7 @@ use Rattle.fsrm_model.specs.declared.row.GroupRow.{GroupRow}
 use Rattle.fsrm_model.specs.Patterns.{all_texts, group_number, texts_of, without_group}
 use Rattle.file_groups.specs.Kept.{IsTable}
 use Rattle.file_groups.proofs.GroupLaws.{at_place, less_are, less_texts}
-use Rattle.fsrm_model.proofs.SortedRows.{remove_found}
+use Rattle.fsrm_base.proofs.SortedRows.{remove_found}
 use Rattle.file_groups.proofs.groups.Groups.delete.Goals as goal
 
 pub invariant_of-self : goal.invariant_of-self

@@ -1,6 +1,6 @@
 use Rattle.std.proofs.Common.{List, sym, ◌∙◌, ap}
 use Rattle.fsrm_model.specs.declared.row.GroupRow.{GroupRow}
-use Rattle.fsrm_model.specs.Keyed.{row_of}
+use Rattle.fsrm_base.specs.Keyed.{row_of}
 use Rattle.fsrm_model.specs.Patterns.{group_number}
 use Rattle.file_groups.proofs.GroupLaws.{none_found}
 use Rattle.file_groups.proofs.groups.Groups.group.Goals as goal

@@ -2,10 +2,10 @@ use Rattle.std.proofs.Common.{List, false, ◌+◌, sym, ◌∙◌, ap, subst}
 use Rattle.fsrm_model.specs.declared.row.GroupRow.{GroupRow}
 use Rattle.fsrm_model.specs.Patterns.{group_number, with_group}
 use Rattle.file_groups.specs.Kept.{IsTable}
-use Rattle.fsrm_model.specs.Places.{IsGap}
+use Rattle.fsrm_base.specs.Places.{IsGap}
 use Rattle.file_groups.proofs.FaultLaws.{Admitted, admitted}
 use Rattle.file_groups.proofs.GroupLaws.{more_are, more_texts}
-use Rattle.fsrm_model.proofs.SortedRows.{insert_row}
+use Rattle.fsrm_base.proofs.SortedRows.{insert_row}
 use Rattle.file_groups.proofs.groups.Groups.insert.Goals as goal
 
 pub invariant_of-self-2 : goal.invariant_of-self-2

@@ -1,5 +1,5 @@
 use Rattle.std.proofs.Common.{◌≡◌, ◌<◌, true, false, ap, sym, subst, length}
-use Rattle.fsrm_model.specs.Keyed.{has_row}
+use Rattle.fsrm_base.specs.Keyed.{has_row}
 use Rattle.fsrm_model.specs.Limits.{most_quotas}
 use Rattle.fsrm_model.specs.Quota.{folder_of}
 use Rattle.fsrm_model.specs.Tree.{is_folder, usage}

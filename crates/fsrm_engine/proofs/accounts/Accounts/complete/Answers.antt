@@ -2,11 +2,11 @@ use Rattle.std.proofs.Common.{◌≡◌, true, ap, sym, ◌∙◌, subst, List, 
 use Rattle.std.specs.Prelude.{map}
 use Rattle.fsrm_model.specs.declared.row.QuotaRow.{QuotaRow}
 use Rattle.fsrm_model.specs.declared.row.QuotaState.TheVariants.{Complete}
-use Rattle.fsrm_model.specs.Keyed.{has_row, is_ascending, row_of, with_change}
+use Rattle.fsrm_base.specs.Keyed.{has_row, is_ascending, row_of, with_change}
 use Rattle.fsrm_model.specs.Quota.{folder_of, peaked}
 use Rattle.fsrm_model.specs.QuotaStates.{in_state}
 use Rattle.fsrm_model.specs.Tree.{usage}
-use Rattle.fsrm_model.proofs.Look.{has_found}
+use Rattle.fsrm_base.proofs.Look.{has_found}
 use Rattle.fsrm_objects.specs.Tables.{Tables}
 use Rattle.fsrm_engine.specs.Machine.{Machine, rows_at}
 use Rattle.fsrm_engine.proofs.CountingLaws.{Completes, has_counter, room_for, completed_are, completes}

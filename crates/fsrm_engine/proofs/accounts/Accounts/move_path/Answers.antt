@@ -11,14 +11,14 @@ use Rattle.fsrm_engine.proofs.MoveKept.{moves_to, move_changes, move_done, move_
 use Rattle.std.proofs.Common.{◌≡◌, ◌==◌, true, false, None, subst}
 use Rattle.fsrm_model.specs.declared.command.Answer.{Answer}
 use Rattle.fsrm_model.specs.FileOps.{plain}
-use Rattle.fsrm_model.specs.Keyed.{has_row}
+use Rattle.fsrm_base.specs.Keyed.{has_row}
 use Rattle.fsrm_model.specs.Name.{is_name}
 use Rattle.fsrm_model.specs.Tree.{number, is_folder}
 use Rattle.fsrm_model.proofs.Resolves.{resolved}
 use Rattle.volume_tree.specs.Volume.{Move as Moving}
 use Rattle.fsrm_engine.proofs.FollowLaws.{within_scans, scans_at, nodes_at, goes_to, volume_is, made_ready, move_next, move_nodes}
 use Rattle.fsrm_engine.proofs.ScanLaws.{follow_op, op_refused, op_refused_by}
-use Rattle.fsrm_model.proofs.TestLaws.{is_inner}
+use Rattle.fsrm_base.proofs.TestLaws.{is_inner}
 use Rattle.fsrm_engine.proofs.accounts.Accounts.move_path.Goals as goal
 
 pub returns-then-node-eq0-clause-ok : goal.returns-then-node-eq0-clause-ok

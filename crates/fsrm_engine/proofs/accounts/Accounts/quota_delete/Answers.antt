@@ -1,7 +1,7 @@
 use Rattle.std.proofs.Common.{refl, ap, sym, ◌∙◌, List}
 use Rattle.fsrm_model.specs.declared.command.Deed.TheVariants.{QuotaDelete}
 use Rattle.fsrm_model.specs.declared.row.QuotaRow.{QuotaRow}
-use Rattle.fsrm_model.specs.Keyed.{without_row}
+use Rattle.fsrm_base.specs.Keyed.{without_row}
 use Rattle.fsrm_model.specs.Quota.{folder_of}
 use Rattle.fsrm_objects.specs.Tables.{Tables}
 use Rattle.fsrm_engine.specs.Machine.{rows_at}

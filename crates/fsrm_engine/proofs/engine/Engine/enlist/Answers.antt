@@ -1,12 +1,12 @@
 use Rattle.std.proofs.Common.{◌≡◌, ◌==◌, true, false, ap, sym, ◌∙◌, subst, List}
 use Rattle.fsrm_model.specs.declared.row.QuotaRow.{QuotaRow}
-use Rattle.fsrm_model.specs.Keyed.{has_row, with_row, without_row}
+use Rattle.fsrm_base.specs.Keyed.{has_row, with_row, without_row}
 use Rattle.fsrm_model.specs.Quota.{folder_of}
 use Rattle.fsrm_model.specs.QuotaStates.{followed, queued, with_quota}
 use Rattle.fsrm_model.specs.Tree.{is_folder}
-use Rattle.fsrm_model.proofs.ChainLaws.{find-with_row_same}
-use Rattle.fsrm_model.proofs.Look.{found_has}
-use Rattle.fsrm_model.proofs.TestLaws.{eq_same}
+use Rattle.fsrm_base.proofs.EditedRows.{find-with_row_same}
+use Rattle.fsrm_base.proofs.Look.{found_has}
+use Rattle.fsrm_base.proofs.TestLaws.{eq_same}
 use Rattle.scan_queue.specs.Courses.{Course}
 use Rattle.fsrm_engine.specs.Machine.{Machine, AreScans, volume_of, with_quotas, with_rows}
 use Rattle.fsrm_engine.proofs.TurnLaws.{engine_of, turned_by, engine_turned, queue_added, store_of, with_and_without}

@@ -4,7 +4,7 @@ use Rattle.fsrm_model.specs.declared.command.Deed.TheVariants.{QuotaAdd}
 use Rattle.fsrm_model.specs.declared.command.Refusal.TheVariants.{TableFull}
 use Rattle.fsrm_model.specs.declared.row.QuotaRow.{QuotaRow}
 use Rattle.fsrm_model.specs.declared.row.QuotaState.TheVariants.{Disabled}
-use Rattle.fsrm_model.specs.Keyed.{has_row}
+use Rattle.fsrm_base.specs.Keyed.{has_row}
 use Rattle.fsrm_model.specs.Quota.{folder_of, counts, is_complete}
 use Rattle.fsrm_model.specs.QuotaStates.{start, with_quota}
 use Rattle.fsrm_model.specs.QuotaWork.{new_quota}

@@ -6,12 +6,12 @@ use Rattle.fsrm_model.specs.declared.command.Deed.TheVariants.{QuotaModify}
 use Rattle.fsrm_model.specs.declared.command.Refusal.TheVariants.{PathNotFound, NotFound}
 use Rattle.fsrm_model.specs.declared.row.QuotaRow.{QuotaRow}
 use Rattle.fsrm_model.specs.declared.row.QuotaState.TheVariants.{Disabled}
-use Rattle.fsrm_model.specs.Keyed.{has_row, row_of, with_change}
+use Rattle.fsrm_base.specs.Keyed.{has_row, row_of, with_change}
 use Rattle.fsrm_model.specs.Quota.{folder_of, quota_of, is_complete}
 use Rattle.fsrm_model.specs.QuotaStates.{in_state, queued, state_after, with_state}
 use Rattle.fsrm_model.specs.QuotaWork.{modified}
 use Rattle.fsrm_model.specs.Tree.{is_folder, usage}
-use Rattle.fsrm_model.proofs.Look.{found_has, found_key}
+use Rattle.fsrm_base.proofs.Look.{found_has, found_key}
 use Rattle.fsrm_engine.specs.Machine.{with_other}
 use Rattle.fsrm_engine.proofs.PlaceLaws.{target_is}
 use Rattle.fsrm_engine.proofs.StateLaws.{settled, missing, checked, some_of, none_of, after_empty, empty_folder, modified_to}

@@ -8,7 +8,7 @@ use Rattle.fsrm_model.specs.declared.row.QuotaState.TheVariants.{Disabled, Rebui
 use Rattle.fsrm_model.specs.Check.{◌when◌, first}
 use Rattle.fsrm_model.specs.Quota.{folder_of, quota_of, counts, is_complete}
 use Rattle.fsrm_model.specs.QuotaStates.{is_disabled, state_of, with_state}
-use Rattle.fsrm_model.proofs.Look.{found_has}
+use Rattle.fsrm_base.proofs.Look.{found_has}
 use Rattle.fsrm_engine.specs.Machine.{Machine}
 use Rattle.fsrm_engine.proofs.PlaceLaws.{target_is}
 use Rattle.fsrm_engine.proofs.StateLaws.{settled, missing, checked, some_of, none_of}

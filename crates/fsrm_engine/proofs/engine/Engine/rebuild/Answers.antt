@@ -1,6 +1,6 @@
 use Rattle.std.proofs.Common.{◌≡◌, true, ap, sym, ◌∙◌, subst, refl}
 use Rattle.fsrm_model.specs.declared.row.QuotaState.TheVariants.{Rebuilding}
-use Rattle.fsrm_model.specs.Keyed.{has_row, with_change}
+use Rattle.fsrm_base.specs.Keyed.{has_row, with_change}
 use Rattle.fsrm_model.specs.Quota.{folder_of}
 use Rattle.fsrm_model.specs.QuotaStates.{in_state, followed, queued, with_state}
 use Rattle.fsrm_model.specs.Tree.{is_folder}

@@ -1,5 +1,5 @@
 use Rattle.std.proofs.Common.{◌≡◌, true, ap, sym, ◌∙◌, subst}
-use Rattle.fsrm_model.specs.Keyed.{has_row, with_change}
+use Rattle.fsrm_base.specs.Keyed.{has_row, with_change}
 use Rattle.fsrm_model.specs.Quota.{folder_of}
 use Rattle.fsrm_model.specs.QuotaStates.{followed, queued}
 use Rattle.fsrm_model.specs.Tree.{is_folder}

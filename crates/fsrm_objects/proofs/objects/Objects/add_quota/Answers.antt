@@ -2,10 +2,10 @@ use Rattle.std.proofs.Common.{List, sym, ◌∙◌, ap, subst, rules}
 use Rattle.fsrm_model.specs.declared.row.QuotaRow.{QuotaRow}
 use Rattle.fsrm_model.specs.Quota.{folder_of}
 use Rattle.fsrm_objects.specs.Kept.{AreQuotas}
-use Rattle.fsrm_model.specs.Places.{IsAt, IsGap}
+use Rattle.fsrm_base.specs.Places.{IsAt, IsGap}
 use Rattle.fsrm_objects.specs.Tables.{Tables, quota_fault, with_quota}
 use Rattle.fsrm_objects.proofs.QuotaRows.{more_kept, taken_fault, tables_of}
-use Rattle.fsrm_model.proofs.SortedRows.{insert_row}
+use Rattle.fsrm_base.proofs.SortedRows.{insert_row}
 use Rattle.fsrm_objects.proofs.objects.Objects.add_quota.Goals as goal
 
 pub returns-in_default-clause-refused : goal.returns-in_default-clause-refused

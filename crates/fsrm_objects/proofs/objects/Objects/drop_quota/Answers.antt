@@ -3,7 +3,7 @@ use Rattle.fsrm_model.specs.Quota.{folder_of}
 use Rattle.fsrm_objects.specs.Kept.{AreQuotas}
 use Rattle.fsrm_objects.specs.Tables.{Tables, without_quota}
 use Rattle.fsrm_objects.proofs.QuotaRows.{less_kept, at_place, tables_of}
-use Rattle.fsrm_model.proofs.SortedRows.{remove_found}
+use Rattle.fsrm_base.proofs.SortedRows.{remove_found}
 use Rattle.fsrm_objects.proofs.objects.Objects.drop_quota.Goals as goal
 
 pub invariant_of-self : goal.invariant_of-self

@@ -1,6 +1,6 @@
 use Rattle.std.proofs.Common.{List, sym, ◌∙◌, ap}
 use Rattle.fsrm_model.specs.declared.row.QuotaRow.{QuotaRow}
-use Rattle.fsrm_model.specs.Keyed.{row_of}
+use Rattle.fsrm_base.specs.Keyed.{row_of}
 use Rattle.fsrm_model.specs.Quota.{folder_of}
 use Rattle.fsrm_objects.specs.Tables.{Tables}
 use Rattle.fsrm_objects.proofs.QuotaRows.{none_found}

@@ -2,7 +2,7 @@ use Rattle.std.proofs.Common.{◌∙◌, ap}
 use Rattle.fsrm_model.specs.Quota.{folder_of}
 use Rattle.fsrm_objects.specs.Tables.{Tables, peaked_at, with_peak}
 use Rattle.fsrm_objects.proofs.QuotaRows.{change_kept, at_place, tables_of}
-use Rattle.fsrm_model.proofs.SortedRows.{set_found}
+use Rattle.fsrm_base.proofs.SortedRows.{set_found}
 use Rattle.fsrm_objects.proofs.objects.Objects.set_peak.Goals as goal
 
 pub invariant_of-self : goal.invariant_of-self

@@ -2,7 +2,7 @@ use Rattle.std.proofs.Common.{refl, ◌∙◌, ap}
 use Rattle.fsrm_model.specs.Quota.{folder_of}
 use Rattle.fsrm_objects.specs.Tables.{Tables, with_other}
 use Rattle.fsrm_objects.proofs.QuotaRows.{change_kept, at_place, tables_of}
-use Rattle.fsrm_model.proofs.SortedRows.{set_found}
+use Rattle.fsrm_base.proofs.SortedRows.{set_found}
 use Rattle.fsrm_objects.proofs.objects.Objects.set_quota.Goals as goal
 
 pub invariant_of-self : goal.invariant_of-self

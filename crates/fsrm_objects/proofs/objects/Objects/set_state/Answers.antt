@@ -3,7 +3,7 @@ use Rattle.fsrm_model.specs.Quota.{folder_of}
 use Rattle.fsrm_model.specs.QuotaStates.{in_state}
 use Rattle.fsrm_objects.specs.Tables.{Tables, with_state}
 use Rattle.fsrm_objects.proofs.QuotaRows.{change_kept, at_place, tables_of}
-use Rattle.fsrm_model.proofs.SortedRows.{set_found}
+use Rattle.fsrm_base.proofs.SortedRows.{set_found}
 use Rattle.fsrm_objects.proofs.objects.Objects.set_state.Goals as goal
 
 pub invariant_of-self : goal.invariant_of-self

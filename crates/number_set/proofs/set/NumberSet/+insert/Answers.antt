@@ -1,7 +1,7 @@
 -- One word has a bit more, and its place is above.
 use Rattle.std.proofs.Common.{◌≡◌, ℕ, ◌==◌, ◌||◌, not, ◌∙◌, ap, subst, sym, ◌/◌, List, length}
 use Rattle.std.proofs.lemmas.List.{with_items_is}
-use Rattle.fsrm_model.specs.Numbers.{with_number}
+use Rattle.fsrm_base.specs.Numbers.{with_number}
 use Rattle.number_set.specs.Numbers.{Numbers}
 use Rattle.number_set.specs.declared.set.Above.{Above}
 use Rattle.number_set.specs.declared.set.NumberSet.TheInside.{Inside}

@@ -1,5 +1,5 @@
 use Rattle.std.proofs.Common.{◌<◌, ℕ, ap, length, arith}
-use Rattle.fsrm_model.specs.Numbers.{without_number}
+use Rattle.fsrm_base.specs.Numbers.{without_number}
 use Rattle.number_set.specs.Numbers.{Numbers}
 use Rattle.number_set.proofs.LevelLaws.{without_first, emptied}
 use Rattle.number_set.proofs.set.NumberSet.clear.Goals as goal

@@ -1,5 +1,5 @@
 use Rattle.std.proofs.Common.{sym, ap, ◌∙◌}
-use Rattle.fsrm_model.specs.Numbers.{is_in}
+use Rattle.fsrm_base.specs.Numbers.{is_in}
 use Rattle.number_set.specs.Numbers.{Numbers}
 use Rattle.number_set.specs.Words.{has_bit}
 use Rattle.number_set.proofs.LevelLaws.{in_numbers_of}

@@ -1,11 +1,11 @@
 use Rattle.std.proofs.Common.{◌≡◌, ◌<◌, false, List, length, sym, ◌∙◌, ap, subst}
-use Rattle.fsrm_model.specs.Keyed.{has_row}
+use Rattle.fsrm_base.specs.Keyed.{has_row}
 use Rattle.fsrm_model.specs.Limits.{most_quotas}
 use Rattle.quota_usage.specs.Counters.{counted, with_counter}
-use Rattle.fsrm_model.specs.Places.{IsAt, IsGap}
+use Rattle.fsrm_base.specs.Places.{IsAt, IsGap}
 use Rattle.quota_usage.specs.declared.change.Counter.{Counter}
 use Rattle.quota_usage.proofs.CounterLaws.{kept_begun, not_at}
-use Rattle.fsrm_model.proofs.SortedRows.{insert_row}
+use Rattle.fsrm_base.proofs.SortedRows.{insert_row}
 use Rattle.quota_usage.proofs.usage.Usage.begin.Goals as goal
 
 pub invariant_of-self : goal.invariant_of-self

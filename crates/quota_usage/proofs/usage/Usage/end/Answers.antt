@@ -1,10 +1,10 @@
 use Rattle.std.proofs.Common.{◌≡◌, true, List, sym, ◌∙◌, ap, subst}
-use Rattle.fsrm_model.specs.Keyed.{has_row}
+use Rattle.fsrm_base.specs.Keyed.{has_row}
 use Rattle.quota_usage.specs.Counters.{counted, without_counter}
-use Rattle.fsrm_model.specs.Places.{IsAt, IsGap}
+use Rattle.fsrm_base.specs.Places.{IsAt, IsGap}
 use Rattle.quota_usage.specs.declared.change.Counter.{Counter}
 use Rattle.quota_usage.proofs.CounterLaws.{kept_ended, not_gap}
-use Rattle.fsrm_model.proofs.SortedRows.{remove_found}
+use Rattle.fsrm_base.proofs.SortedRows.{remove_found}
 use Rattle.quota_usage.proofs.usage.Usage.end.Goals as goal
 
 pub invariant_of-self : goal.invariant_of-self

@@ -1,7 +1,7 @@
 use Rattle.std.proofs.Common.{◌≡◌, List, get_or, Some, sym, ◌∙◌, ap, subst}
 use Rattle.std.proofs.lemmas.List.{get_or_default}
 use Rattle.quota_usage.specs.Counters.{counted, used_in}
-use Rattle.fsrm_model.specs.Places.{IsAt, IsGap}
+use Rattle.fsrm_base.specs.Places.{IsAt, IsGap}
 use Rattle.quota_usage.specs.declared.change.Counter.{Counter}
 use Rattle.quota_usage.proofs.CounterLaws.{blank, used_at, used_gap}
 use Rattle.quota_usage.proofs.usage.Usage.used.Goals as goal

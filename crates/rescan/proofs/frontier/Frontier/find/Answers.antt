@@ -1,5 +1,5 @@
 use Rattle.std.proofs.Common.{◌<◌, ◌∙◌, ap, sym, arith}
-use Rattle.fsrm_model.specs.Numbers.{is_in, is_set}
+use Rattle.fsrm_base.specs.Numbers.{is_in, is_set}
 use Rattle.number_set.specs.Numbers.{Numbers, no_numbers}
 use Rattle.rescan.specs.Frontiers.{Front}
 use Rattle.rescan.specs.Visits.{looks_left}

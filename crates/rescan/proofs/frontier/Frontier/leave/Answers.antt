@@ -1,8 +1,8 @@
 use Rattle.std.proofs.Common.{◌≡◌, ◌+◌, ◌<◌, ◌-◌, List, ℕ, [], ◌∷◌, sym, ◌∙◌, ap, subst, arith, None}
 use Rattle.std.specs.Prelude.{is_some, sum_by}
-use Rattle.fsrm_model.proofs.TestLaws.{clash}
+use Rattle.fsrm_base.proofs.TestLaws.{clash}
 use Rattle.rescan.specs.Frontiers.{Front}
-use Rattle.fsrm_model.specs.Numbers.{with_number, without_number, with_numbers}
+use Rattle.fsrm_base.specs.Numbers.{with_number, without_number, with_numbers}
 use Rattle.fsrm_model.specs.Space.{space}
 use Rattle.fsrm_model.specs.Tree.{children}
 use Rattle.rescan.specs.Visits.{folders_in}

@@ -1,10 +1,10 @@
 use Rattle.std.proofs.Common.{◌≡◌, ◌==◌, ℕ, true, false, length, refl, sym, ◌∙◌, ap, subst, arith}
-use Rattle.fsrm_model.specs.Keyed.{has_row}
+use Rattle.fsrm_base.specs.Keyed.{has_row}
 use Rattle.fsrm_model.specs.Tree.{number, parent_of, chain}
 use Rattle.fsrm_model.proofs.Climbs.{shorter}
 use Rattle.fsrm_model.proofs.Keeps.{tree_of}
-use Rattle.fsrm_model.proofs.Look.{has_found}
-use Rattle.fsrm_model.proofs.TestLaws.{clash, eq_same}
+use Rattle.fsrm_base.proofs.Look.{has_found}
+use Rattle.fsrm_base.proofs.TestLaws.{clash, eq_same}
 use Rattle.fsrm_model.proofs.ValidLaws.{folder_has, found_parent}
 use Rattle.volume_tree.specs.Volume.{IsCapacity}
 use Rattle.rescan.proofs.FolderArms.{scanned_follows, folder_follows}

@@ -1,7 +1,7 @@
 use Rattle.std.proofs.Common.{◌≡◌, sym, ◌∙◌, ap, subst}
-use Rattle.fsrm_model.specs.Numbers.{without_number}
+use Rattle.fsrm_base.specs.Numbers.{without_number}
 use Rattle.fsrm_model.specs.Tree.{number}
-use Rattle.fsrm_model.proofs.Look.{has_found}
+use Rattle.fsrm_base.proofs.Look.{has_found}
 use Rattle.number_set.specs.Numbers.{Numbers}
 use Rattle.volume_tree.specs.Volume.{without_node}
 use Rattle.rescan.specs.contracts.frontier.Frontier.{the_view}

@@ -1,7 +1,7 @@
 use Rattle.std.proofs.Common.{◌≡◌, ◌+◌, ◌-◌, sym, ◌∙◌, ap, subst, arith, rules}
 use denote.Enum.Bare.{same_true}
 use Rattle.fsrm_model.specs.Space.{alloc}
-use Rattle.fsrm_model.proofs.TestLaws.{clash}
+use Rattle.fsrm_base.proofs.TestLaws.{clash}
 use Rattle.volume_tree.specs.Volume.{IsCapacity}
 use Rattle.rescan.specs.contracts.frontier.Frontier.{the_view}
 use Rattle.rescan.specs.contracts.standing.Standing.{the_type as standing_type}

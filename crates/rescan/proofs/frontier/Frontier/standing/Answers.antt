@@ -1,6 +1,6 @@
 use Rattle.std.proofs.Common.{◌≡◌, ◌<◌, length, true, false, sym, ◌∙◌, ap, subst, arith}
-use Rattle.fsrm_model.specs.Keyed.{has_row}
-use Rattle.fsrm_model.specs.Numbers.{is_in}
+use Rattle.fsrm_base.specs.Keyed.{has_row}
+use Rattle.fsrm_base.specs.Numbers.{is_in}
 use Rattle.fsrm_model.specs.Tree.{number, parent_of, chain, is_under}
 use Rattle.fsrm_model.proofs.Climbs.{shorter}
 use Rattle.rescan.specs.Frontiers.{scanned, has_above}

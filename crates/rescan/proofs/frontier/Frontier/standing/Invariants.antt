@@ -1,5 +1,5 @@
 use Rattle.std.proofs.Common.{◌≡◌, ◌+◌, ◌≤◌, length, true}
-use Rattle.fsrm_model.specs.Keyed.{has_row}
+use Rattle.fsrm_base.specs.Keyed.{has_row}
 use Rattle.fsrm_model.specs.Tree.{number, chain, is_under}
 use Rattle.rescan.specs.Frontiers.{scanned, has_above}
 use Rattle.rescan.proofs.frontier.Frontier.standing.Given as goal

@@ -1,5 +1,5 @@
 use Rattle.std.proofs.Common.{◌∙◌, ap}
-use Rattle.fsrm_model.specs.Numbers.{is_set}
+use Rattle.fsrm_base.specs.Numbers.{is_set}
 use Rattle.rescan.proofs.Tops.{set_unvisited}
 use Rattle.rescan.proofs.frontier.Frontier.unvisited.Goals as goal
 

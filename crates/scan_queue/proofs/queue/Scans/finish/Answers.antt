@@ -1,6 +1,6 @@
 use Rattle.std.proofs.Common.{◌≡◌, ℕ, ◌<◌, true, Option, Some, sym, ◌∙◌, ap, subst}
 use Rattle.std.specs.Prelude.{is_some, unwrap_or}
-use Rattle.fsrm_model.specs.Numbers.{is_in, without_number}
+use Rattle.fsrm_base.specs.Numbers.{is_in, without_number}
 use Rattle.fsrm_model.specs.QuotaStates.{head}
 use Rattle.fsrm_model.specs.Tree.{usage}
 use Rattle.rescan.specs.Frontiers.{Front}

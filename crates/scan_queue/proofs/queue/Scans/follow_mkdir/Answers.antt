@@ -4,7 +4,7 @@ use Rattle.fsrm_model.specs.QuotaStates.{head}
 use Rattle.fsrm_model.specs.Scan.{unvisited_with}
 use Rattle.fsrm_model.specs.Tree.{number}
 use Rattle.fsrm_model.proofs.Keeps.{found_folder}
-use Rattle.fsrm_model.proofs.Look.{has_found}
+use Rattle.fsrm_base.proofs.Look.{has_found}
 use Rattle.rescan.specs.Frontiers.{unvisited}
 use Rattle.volume_tree.specs.Volume.{without_node}
 use Rattle.scan_queue.specs.Courses.{Course, Scanning, Goes, left}

@@ -1,9 +1,9 @@
 use Rattle.std.proofs.Common.{◌≡◌, ◌<◌, false, None, sym, ◌∙◌, ap, subst}
 use Rattle.std.proofs.lemmas.Option.{same_Some}
 use Rattle.std.specs.Prelude.{is_some}
-use Rattle.fsrm_model.specs.Numbers.{is_in}
+use Rattle.fsrm_base.specs.Numbers.{is_in}
 use Rattle.fsrm_model.specs.QuotaStates.{head}
-use Rattle.fsrm_model.proofs.Look.{none_row}
+use Rattle.fsrm_base.proofs.Look.{none_row}
 use Rattle.scan_queue.specs.Courses.{Course, Scanning, Turns}
 use Rattle.scan_queue.specs.Kept.{IsKept}
 use Rattle.scan_queue.proofs.Turning.{kept_pushed, kept_alone, turned_alone, unturned_pushed}

@@ -1,6 +1,6 @@
 use Rattle.std.proofs.Common.{List, Option, ◌∙◌, ap}
 use Rattle.fsrm_model.specs.declared.row.NodeRow.{NodeRow}
-use Rattle.fsrm_model.specs.Keyed.{has_row}
+use Rattle.fsrm_base.specs.Keyed.{has_row}
 use Rattle.fsrm_model.specs.Tree.{number}
 use Rattle.volume_tree.specs.Kept.{rows_of}
 use Rattle.volume_tree.specs.Volume.{Volume}

@@ -1,7 +1,7 @@
 use Rattle.std.proofs.Common.{◌≡◌, ℕ, ◌+◌, ◌<◌, ◌≤◌, true, false, length, List, Option, refl, sym, ◌∙◌, ap, subst, arith}
 use Rattle.fsrm_model.specs.declared.row.NodeRow.{NodeRow}
 use Rattle.fsrm_model.specs.FileOps.{placed}
-use Rattle.fsrm_model.specs.Keyed.{has_row, with_change}
+use Rattle.fsrm_base.specs.Keyed.{has_row, with_change}
 use Rattle.fsrm_model.specs.Limits.{most_nodes}
 use Rattle.fsrm_model.specs.Tree.{number, name_of, is_folder, is_under, name_bytes}
 use Rattle.fsrm_model.specs.Valid.{IsVolume}

@@ -1,6 +1,6 @@
 use Rattle.std.proofs.Common.{◌≡◌, ℕ, ◌-◌, ◌<◌, true, false, length, List, Option, Some, sym, ◌∙◌, ap, subst, arith}
 use Rattle.fsrm_model.specs.declared.row.NodeRow.{NodeRow}
-use Rattle.fsrm_model.specs.Keyed.{has_row}
+use Rattle.fsrm_base.specs.Keyed.{has_row}
 use Rattle.fsrm_model.specs.Tree.{number, name_of, parent_of, fresh, child_number}
 use Rattle.volume_tree.specs.Kept.{IsKept, rows_of}
 use Rattle.volume_tree.specs.Volume.{Volume}
