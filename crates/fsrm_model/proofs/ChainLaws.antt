@@ -1,19 +1,16 @@
 -- Laws of the chain of a node.
-use Rattle.std.proofs.Common.{◌≡◌, ℕ, zero, suc, ◌+◌, ◌==◌, Bool, true, false, cond, ◌||◌, List, [], ◌∷◌, length, refl, sym, ◌∙◌, ap, subst, arith, nat_lt, inl, inr, Some, None}
+use Rattle.std.proofs.Common.{◌≡◌, ℕ, zero, suc, ◌+◌, ◌==◌, true, false, cond, ◌||◌, List, [], ◌∷◌, length, refl, sym, ◌∙◌, ap, subst, arith, inl, inr}
 use Rattle.std.proofs.lemmas.Bool.Decides.{nat_tests}
-use Rattle.std.proofs.lemmas.List.Sums.{sum_by-cons}
-use Rattle.std.specs.Prelude.{find, filter, sum_by, if◌then◌else◌}
-use Rattle.std.specs.List.{AllByRecursion, list_any}
+use Rattle.std.specs.Prelude.{sum_by, if◌then◌else◌}
+use Rattle.std.specs.List.{AllByRecursion}
 use Rattle.fsrm_model.specs.declared.row.Capacity.{Capacity}
 use Rattle.fsrm_model.specs.declared.row.NodeRow.{NodeRow}
 use Rattle.fsrm_base.specs.Keyed.{with_row, has_row}
 use Rattle.fsrm_model.specs.Space.{space}
 use Rattle.fsrm_model.specs.Tree.{number, chain_in, chain, parent_of, is_under, usage}
-use Rattle.fsrm_base.proofs.TestLaws.{not_true, is_or, neither, or_later, eq_is, eq_same, not_root}
-
--- whether a number is one of a list
-abbrev pub is_in : List ℕ → ℕ → Bool
-is_in ns n = list_any (λ k. k == n) ns
+use Rattle.fsrm_base.proofs.TestLaws.{not_true, is_or, neither, eq_is, eq_same, not_root}
+use Rattle.fsrm_base.specs.Numbers.{is_in}
+use Rattle.fsrm_base.proofs.EditedRows.{sum_by-filter, sum_by-with_row, sum_by_same, find-with_row, all_rows, length-with_row, find-with_row_same}
 
 -- a chain that comes to the root stays as it is with more steps
 pub stable : (k : ℕ) (nodes : List NodeRow) (n : ℕ) → is_in (chain_in k nodes n) 0 ≡ true → chain_in (suc k) nodes n ≡ chain_in k nodes n
@@ -26,43 +23,6 @@ stable (suc k) nodes (suc n) h = ap (λ ns. suc n ∷ ns) (stable k nodes (paren
 pub chain_step : (nodes : List NodeRow) (n : ℕ) → is_in (chain nodes (suc n)) 0 ≡ true → chain nodes (suc n) ≡ suc n ∷ chain nodes (parent_of nodes (suc n))
 chain_step [] n h = cc (not_root n false h)
 chain_step (x ∷ xs) n h = ap (λ ns. suc n ∷ ns) (sym (stable (length xs) (x ∷ xs) (parent_of (x ∷ xs) (suc n)) (not_root n _ h)))
-
--- sums and searches over rows
-sum_by_kept : {X : Type 0} (f : X → ℕ) (x : X) (xs : List X) (b : Bool) → sum_by f (cond b (x ∷ xs) xs) ≡ cond b (f x) 0 + sum_by f xs
-sum_by_kept f x xs true = sum_by-cons f x xs
-sum_by_kept f x xs false = omega arith
-
-pub sum_by-filter : {X : Type 0} (p : X → Bool) (f : X → ℕ) (xs : List X) → sum_by f (filter p xs) ≡ sum_by (λ x. if p x then f x else 0) xs
-sum_by-filter p f [] = refl
-sum_by-filter {X} p f (x ∷ xs) =
-    let g : X → ℕ = λ y. if p y then f y else 0 in
-    sum_by_kept f x (filter p xs) (p x) ∙ (ap (λ n. g x + n) (sum_by-filter p f xs) ∙ sym (sum_by-cons g x xs))
-
-sum_by_placed : {X : Type 0} (f : X → ℕ) (row x : X) (xs more : List X) (b : Bool) → sum_by f more ≡ f row + sum_by f xs → sum_by f (cond b (row ∷ x ∷ xs) (x ∷ more)) ≡ f row + sum_by f (x ∷ xs)
-sum_by_placed f row x xs more true h = sum_by-cons f row (x ∷ xs)
-sum_by_placed f row x xs more false h = omega (arith, sum_by-cons f x more, sum_by-cons f x xs, h)
-
-pub sum_by-with_row : {X : Type 0} (key : X → ℕ) (f : X → ℕ) (row : X) (xs : List X) → sum_by f (with_row key row xs) ≡ f row + sum_by f xs
-sum_by-with_row key f row [] = omega arith
-sum_by-with_row key f row (x ∷ xs) = sum_by_placed f row x xs (with_row key row xs) (nat_lt (key row) (key x)) (sum_by-with_row key f row xs)
-
-pub sum_by_same : {X : Type 0} (f g : X → ℕ) (xs : List X) → AllByRecursion (λ x. f x ≡ g x) xs → sum_by f xs ≡ sum_by g xs
-sum_by_same f g [] h = refl
-sum_by_same f g (x ∷ xs) h = omega (arith, sum_by-cons f x xs, sum_by-cons g x xs, h.0, sum_by_same f g xs h.1)
-
-find_placed : {X : Type 0} (p : X → Bool) (row x : X) (xs more : List X) (b : Bool) → p row ≡ false → find p more ≡ find p xs → find p (cond b (row ∷ x ∷ xs) (x ∷ more)) ≡ find p (x ∷ xs)
-find_placed p row x xs more true h e = rw h refl
-find_placed p row x xs more false h e = rw e refl
-
-pub find-with_row : {X : Type 0} (key : X → ℕ) (p : X → Bool) (row : X) (xs : List X) → p row ≡ false → find p (with_row key row xs) ≡ find p xs
-find-with_row key p row [] h = rw h refl
-find-with_row key p row (x ∷ xs) h = find_placed p row x xs (with_row key row xs) (nat_lt (key row) (key x)) h (find-with_row key p row xs h)
-
--- trees
--- what holds of each row that has its number holds of all rows
-pub all_rows : {X : Type 0} (key : X → ℕ) (P : X → Type 0) (rows : List X) → ((r : X) → has_row key (key r) rows ≡ true → P r) → AllByRecursion P rows
-all_rows key P [] h = tt
-all_rows key P (x ∷ xs) h = (h x (rw (eq_same (key x)) refl), all_rows key P xs (λ r m. h r (or_later _ _ m)))
 
 abbrev pub Has : List NodeRow → ℕ → Type 0
 Has nodes n = has_row number n nodes ≡ true
@@ -93,15 +53,6 @@ same_chain (suc k) old new f same (suc n) h =
     let e : parent_of new (suc n) ≡ parent_of old (suc n) = same (suc n) apart.0 in
     ap (λ ns. suc n ∷ ns) (ap (chain_in k new) e ∙ same_chain k old new f same (parent_of old (suc n)) apart.1)
 
--- one more node
-pub length-with_row : {X : Type 0} (key : X → ℕ) (row : X) (xs : List X) → length (with_row key row xs) ≡ suc (length xs)
-length-with_row key row [] = refl
-length-with_row key row (x ∷ xs) = placed (nat_lt (key row) (key x)) (length-with_row key row xs)
-  where
-    placed : (b : Bool) → length (with_row key row xs) ≡ suc (length xs) → length (cond b (row ∷ x ∷ xs) (x ∷ with_row key row xs)) ≡ suc (suc (length xs))
-    placed true e = refl
-    placed false e = ap suc e
-
 parent_of-new : (nodes : List NodeRow) (node : NodeRow) (m : ℕ) → (m == node.number) ≡ false → parent_of (with_row number node nodes) m ≡ parent_of nodes m
 parent_of-new nodes node m h =
     let other : (node.number == m) ≡ false = grind (arith, nat_tests) in
@@ -114,20 +65,6 @@ chain-new_other nodes t node absent n h =
     ap (λ k. chain_in k new n) (length-with_row number node nodes)
     ∙ (same_chain (suc (length nodes)) nodes new node.number (parent_of-new nodes node) n lacks
     ∙ stable (length nodes) nodes n (t.rooted n h))
-
-find_absent : {X : Type 0} (p : X → Bool) (xs : List X) → list_any p xs ≡ false → find p xs ≡ None
-find_absent p [] h = refl
-find_absent p (x ∷ xs) h = let apart : (p x ≡ false) × (list_any p xs ≡ false) = neither _ _ h in rw (apart.0, find_absent p xs apart.1) refl
-
-find_placed_same : {X : Type 0} (p : X → Bool) (row x : X) (more : List X) (xs : List X) (b : Bool) → p row ≡ true → p x ≡ false → find p more ≡ Some row → find p (cond b (row ∷ x ∷ xs) (x ∷ more)) ≡ Some row
-find_placed_same p row x more xs true h o e = rw h refl
-find_placed_same p row x more xs false h o e = rw (o, e) refl
-
-pub find-with_row_same : {X : Type 0} (key : X → ℕ) (p : X → Bool) (row : X) (xs : List X) → p row ≡ true → list_any p xs ≡ false → find p (with_row key row xs) ≡ Some row
-find-with_row_same key p row [] h absent = rw h refl
-find-with_row_same key p row (x ∷ xs) h absent =
-    let apart : (p x ≡ false) × (list_any p xs ≡ false) = neither _ _ absent in
-    find_placed_same p row x (with_row key row xs) xs (nat_lt (key row) (key x)) h apart.0 (find-with_row_same key p row xs h apart.1)
 
 pub parent_of-new_same : (nodes : List NodeRow) (node : NodeRow) → has_row number node.number nodes ≡ false → parent_of (with_row number node nodes) node.number ≡ node.parent
 parent_of-new_same nodes node absent =

@@ -1,21 +1,16 @@
 pub mod PlainMachine
 pub mod ScriptLaws
 pub mod Parts
-pub mod TestLaws
 pub mod ChainLaws
 pub mod ValidLaws
 pub mod ChangeLaws
 pub mod DepthLaws
 pub mod MoveLaws
 pub mod RemoveLaws
-pub mod Look
-pub mod Order
 pub mod Keeps
 pub mod Walks
 pub mod Below
 pub mod Climbs
-pub mod Sums
-pub mod Members
 pub mod UsageLaws
 pub mod Resolves
 pub mod ValidVolume
@@ -42,5 +37,3 @@ pub mod ScanOrderly
 pub mod EachCommand
 pub mod ClimbRows
 pub mod DateLaws
-pub mod RowLaws
-pub mod SortedRows

@@ -1,18 +1,16 @@
--- What a removal does to chains and sums.
-use Rattle.std.proofs.Common.{◌≡◌, ℕ, zero, suc, ◌+◌, ◌==◌, Bool, true, false, cond, not, ◌||◌, List, [], ◌∷◌, length, refl, sym, ◌∙◌, ap, subst, arith, Some}
+-- What a removal does to chains and usages.
+use Rattle.std.proofs.Common.{◌≡◌, ℕ, zero, suc, ◌+◌, ◌==◌, Bool, true, false, cond, ◌||◌, List, [], ◌∷◌, length, refl, sym, ◌∙◌, ap, subst, arith, Some}
 use Rattle.std.proofs.lemmas.Bool.Decides.{nat_tests}
-use Rattle.std.proofs.lemmas.List.Sums.{sum_by-cons}
-use Rattle.std.specs.Prelude.{sum_by}
 use Rattle.std.specs.List.{AllByRecursion}
 use Rattle.fsrm_model.specs.declared.row.Capacity.{Capacity}
 use Rattle.fsrm_model.specs.declared.row.NodeRow.{NodeRow}
-use Rattle.fsrm_base.specs.Keyed.{has_row, row_of, without_row, is_ascending}
+use Rattle.fsrm_base.specs.Keyed.{has_row, without_row, is_ascending}
 use Rattle.fsrm_model.specs.Tree.{number, node_of, parent_of, chain, chain_in, usage}
 use Rattle.fsrm_model.specs.Space.{space}
 use Rattle.fsrm_base.proofs.TestLaws.{clash, not_true, eq_is, nor}
 use Rattle.fsrm_base.specs.Numbers.{is_in}
 use Rattle.fsrm_model.proofs.ChainLaws.{IsTree, Has, same_chain, share, usage_is}
-use Rattle.fsrm_base.proofs.EditedRows.{sum_by_same, all_rows, absent_later, ascending_tail}
+use Rattle.fsrm_base.proofs.EditedRows.{sum_by_same, all_rows, sum_by-without_row}
 use Rattle.fsrm_model.proofs.DepthLaws.{soon}
 use Rattle.fsrm_model.proofs.MoveLaws.{same_any, members_has}
 
@@ -74,28 +72,6 @@ removed_chain old new x m n h =
     let e = removed_chain_in old new x m n h in
     let at : is_in (chain_in (length old) new n) 0 ≡ true = subst (λ (ns : List ℕ). is_in ns 0 ≡ true) (sym e) (m.tree.rooted n (old_has old new x n m h)) in
     same_any (length new) (length old) new n ((removed_tree old new x m).rooted n h) at ∙ e
-
--- the sum without a row
-kept_row : {X : Type 0} (b : Bool) (r : X) (rows rows' : List X) (m : Bool) → (b || m) ≡ false → (m ≡ false → rows' ≡ rows) → cond (not b) (r ∷ rows') rows' ≡ r ∷ rows
-kept_row true r rows rows' m h f = cc
-kept_row false r rows rows' m h f = ap (λ xs. r ∷ xs) (f h)
-
-pub without_absent : {X : Type 0} (key : X → ℕ) (n : ℕ) (rows : List X) → has_row key n rows ≡ false → without_row key n rows ≡ rows
-without_absent key n [] h = refl
-without_absent key n (r ∷ rows) h = kept_row (key r == n) r rows (without_row key n rows) (has_row key n rows) h (without_absent key n rows)
-
-without_sum_at : {X : Type 0} (key : X → ℕ) (f : X → ℕ) (n : ℕ) (x r : X) (rows : List X) (b : Bool) → (key x == n) ≡ b → is_ascending key (x ∷ rows) ≡ true → cond b (Some x) (row_of key n rows) ≡ Some r → (row_of key n rows ≡ Some r → sum_by f (without_row key n rows) + f r ≡ sum_by f rows) → sum_by f (cond (not b) (x ∷ without_row key n rows) (without_row key n rows)) + f r ≡ sum_by f (x ∷ rows)
-without_sum_at key f n x r rows true e a h g =
-    let is : x ≡ r = cc in
-    let same : without_row key n rows ≡ rows = without_absent key n rows (absent_later key n x rows (grind (arith, nat_tests)) a) in
-    let fx : f x ≡ f r = ap f is in
-    omega (arith, sum_by-cons f x rows, ap (sum_by f) same, fx)
-without_sum_at key f n x r rows false e a h g = omega (arith, sum_by-cons f x (without_row key n rows), sum_by-cons f x rows, g h)
-
-pub sum_by-without_row : {X : Type 0} (key : X → ℕ) (f : X → ℕ) (n : ℕ) (r : X) (rows : List X) → is_ascending key rows ≡ true → row_of key n rows ≡ Some r → sum_by f (without_row key n rows) + f r ≡ sum_by f rows
-sum_by-without_row key f n r [] a h = cc
-sum_by-without_row key f n r (x ∷ rows) a h =
-    without_sum_at key f n x r rows (key x == n) refl a h (sum_by-without_row key f n r rows (ascending_tail key x rows a))
 
 -- a removed node's space leaves each folder on its chain
 pub usage-removed : (K : Capacity) (old : List NodeRow) (x : ℕ) → Removes old (without_row number x old) x → is_ascending number old ≡ true → (node : NodeRow) → node_of old x ≡ Some node → (folder : ℕ) → usage K (without_row number x old) folder + share K old folder node ≡ usage K old folder

@@ -1,7 +1,4 @@
 pub mod Limits
-pub mod Keyed
-pub mod Numbers
-pub mod Order
 pub mod Name
 pub mod Space
 pub mod Tree
@@ -34,5 +31,4 @@ pub mod Spelling
 pub mod Script
 pub mod WorkedRows
 pub mod Patterns
-pub mod Places
 pub mod Lasting

@@ -1,9 +1,8 @@
 //! Commands and what becomes of them.
 
-use crate::list::List;
+use fsrm_base::{List, Text};
 use crate::path::Path;
 use crate::row::{Action, ActionKind};
-use crate::text::Text;
 
 /// Why a command is refused. A refused command changes nothing. Those up to `InvalidLimit` come from
 /// reading the line alone.

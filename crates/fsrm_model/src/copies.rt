@@ -1,21 +1,11 @@
 //! Copies of rows, each into memory of its own.
 
-use crate::memory::{Duplicate, NoMemory};
 use crate::row::{
     ActRow, Action, AuditRow, AutoRow, ExceptRow, Filter, GroupRow, JobRow, NodeRow, QuotaRow,
     ScreenRow, TemplateRow, Threshold,
 };
-use crate::text::Text;
+use fsrm_base::{Duplicate, NoMemory, Text};
 use std::alloc::Global;
-
-impl Duplicate for Option<Text> {
-    fn copy(&self, alloc: Global) -> Result<Self, NoMemory> {
-        match self {
-            Some(text) => Ok(Some(text.copy(alloc)?)),
-            None => Ok(None),
-        }
-    }
-}
 
 impl Duplicate for NodeRow {
     fn copy(&self, alloc: Global) -> Result<Self, NoMemory> {

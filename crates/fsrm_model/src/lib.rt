@@ -5,24 +5,17 @@
 pub mod command;
 pub mod copies;
 pub mod laws;
-pub mod list;
-pub mod memory;
 pub mod path;
 pub mod row;
 pub mod space;
-pub mod steps;
 #[cfg(test)]
 mod tests;
-pub mod text;
 
 pub use command::{Act, Added, Answer, Ask, Command, Deed, FileOp, Outcome, Refusal, Subject};
-pub use list::List;
-pub use memory::{Duplicate, NoMemory};
+pub use fsrm_base::{Duplicate, Ledger, List, NoMemory, Steps, Text, Weightless, WeightlessPage};
 pub use path::Path;
 pub use row::{
     ActRow, Action, ActionKind, AuditRow, AutoRow, Capacity, ExceptRow, Filter, GroupRow, JobRow,
     NodeRow, QuotaRow, QuotaState, ReportKind, Rows, ScreenRow, TemplateRow, Threshold,
 };
 pub use space::allocated;
-pub use steps::{Ledger, Steps, Weightless, WeightlessPage};
-pub use text::Text;

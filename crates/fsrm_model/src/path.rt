@@ -4,9 +4,7 @@ ghost use Rattle.std.specs.Prelude.{◌≡◌, ◌<◌, length, slice_get, Some,
 ghost use Rattle.std.specs.List.{list_all};
 ghost use Rattle.fsrm_model.specs.Name.{is_name};
 
-use crate::list::List;
-use crate::memory::{Duplicate, NoMemory};
-use crate::text::Text;
+use fsrm_base::{Duplicate, List, NoMemory, Text};
 use std::alloc::Global;
 use std::marker::Model;
 

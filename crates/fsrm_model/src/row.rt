@@ -5,8 +5,7 @@
 //! Moments are seconds since 1970-01-01 00:00:00 UTC, up to 4,102,444,799. Lists of rows ascend
 //! by their number or folder, each at most once; logs stand oldest first.
 
-use crate::list::List;
-use crate::text::Text;
+use fsrm_base::{List, Text};
 
 /// How much a store holds.
 #[derive(Clone, Copy, Debug, PartialEq, Eq)]

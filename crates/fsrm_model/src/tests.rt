@@ -2,15 +2,12 @@
 
 ghost use Rattle.std.specs.Prelude.{◌≡◌, IfOk, [], ◌∷◌, codes};
 
-use crate::list::List;
-use crate::memory::Duplicate;
 use crate::path::Path;
 use crate::row::{
     ActRow, Action, ActionKind, AuditRow, AutoRow, ExceptRow, Filter, GroupRow, JobRow, NodeRow,
     QuotaRow, QuotaState, ReportKind, ScreenRow, TemplateRow, Threshold,
 };
-use crate::steps::{Steps, Weightless};
-use crate::text::Text;
+use fsrm_base::{Duplicate, List, Steps, Text, Weightless};
 use std::alloc::Global;
 use std::marker::Brand;
 use std::sync::ledger::{Blank, Ledger as Named};

@@ -7,7 +7,7 @@ ghost use Rattle.fsrm_outside.specs.Plan.{FailsNext, after_call, most_of};
 ghost use Rattle.fsrm_outside.specs.Told.{GivesFront};
 
 use crate::{Failed, Outside, Sink, Source};
-use fsrm_model::NoMemory;
+use fsrm_base::NoMemory;
 use std::alloc::Global;
 
 /// A script to read, and a record of what was shown.

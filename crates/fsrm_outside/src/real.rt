@@ -5,7 +5,7 @@ ghost use Rattle.std.proofs.Common.{◌∙◌};
 ghost use Rattle.fsrm_outside.specs.Causes.{HasCause, count_after};
 
 use crate::{Failed, Outside, Sink, Source};
-use fsrm_model::NoMemory;
+use fsrm_base::NoMemory;
 use std::alloc::Global;
 use std::io::{ErrorKind, Read, Stdin, Stdout, Write};
 

@@ -4,7 +4,7 @@ ghost use Rattle.std.specs.Prelude.{◌≡◌, ◌+◌, ◌<◌, ◌≤◌, IfOk
 ghost use Rattle.name_region.specs.Contents.{fresh, is_live, text_of, used, with_text};
 
 use crate::layout::Layout;
-use fsrm_model::NoMemory;
+use fsrm_base::NoMemory;
 use std::alloc::Global;
 use std::marker::Model;
 

@@ -5,7 +5,7 @@ ghost use Rattle.name_region.specs.Layout.{HasNoRoom, HasRoom, IsWithin};
 
 use crate::rings::Rings;
 use crate::slot::Slot;
-use fsrm_model::NoMemory;
+use fsrm_base::NoMemory;
 use std::alloc::Global;
 use std::marker::Model;
 

@@ -10,7 +10,7 @@ ghost use Rattle.name_region.specs.Written.{IsWritten};
 use crate::holes::Holes;
 use crate::rings::Rings;
 use crate::slot::Slot;
-use fsrm_model::NoMemory;
+use fsrm_base::NoMemory;
 use std::alloc::Global;
 use std::str::from_utf8_unchecked;
 

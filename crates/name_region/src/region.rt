@@ -5,7 +5,7 @@ ghost use Rattle.name_region.specs.Contents.{fresh, is_live, live_count, text_of
 
 use crate::block::Block;
 use crate::numbers::numbers;
-use fsrm_model::NoMemory;
+use fsrm_base::NoMemory;
 use std::alloc::Global;
 use std::marker::Model;
 

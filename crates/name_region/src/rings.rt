@@ -5,7 +5,7 @@ ghost use Rattle.std.specs.List.{swap};
 ghost use Rattle.name_region.specs.Rings.{IsOneToOne};
 
 use crate::numbers::numbers;
-use fsrm_model::NoMemory;
+use fsrm_base::NoMemory;
 use std::alloc::Global;
 use std::marker::Model;
 

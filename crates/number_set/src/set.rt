@@ -6,7 +6,7 @@ ghost use Rattle.fsrm_base.specs.Numbers.{is_in, with_number, without_number};
 ghost use Rattle.number_set.specs.Numbers.{no_numbers};
 
 use crate::words::{WORD, clear_bit, empty_words, has_bit, least_in, set_bit};
-use fsrm_model::NoMemory;
+use fsrm_base::NoMemory;
 use std::alloc::Global;
 use std::marker::Model;
 

@@ -3,7 +3,7 @@
 ghost use Rattle.std.specs.Prelude.{◌≡◌, ℕ, ◌*◌, ◌/◌, ◌<◌, ◌==◌, ◌||◌, ◌&&◌, not, false, IfOk, MatchOption, length, slice_index, replicate};
 ghost use Rattle.number_set.specs.Words.{has_bit, is_occupied, IsLeastIn};
 
-use fsrm_model::NoMemory;
+use fsrm_base::NoMemory;
 use std::alloc::Global;
 
 /// How many numbers a word holds.

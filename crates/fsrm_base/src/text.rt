@@ -51,3 +51,12 @@ impl Duplicate for Text {
         Text::from_str(alloc, self.as_str())
     }
 }
+
+impl Duplicate for Option<Text> {
+    fn copy(&self, alloc: Global) -> Result<Self, NoMemory> {
+        match self {
+            Some(text) => Ok(Some(text.copy(alloc)?)),
+            None => Ok(None),
+        }
+    }
+}

@@ -1,0 +1,4 @@
+pub mod Keyed
+pub mod Order
+pub mod Places
+pub mod Numbers
