@@ -1,8 +1,8 @@
 //! Commands and what becomes of them.
 
-use fsrm_base::{List, Text};
 use crate::path::Path;
 use crate::row::{Action, ActionKind};
+use fsrm_base::{List, Text};
 
 /// Why a command is refused. A refused command changes nothing. Those up to `InvalidLimit` come from
 /// reading the line alone.
