@@ -10,7 +10,7 @@ use Rattle.fsrm_model.specs.Tree.{number, fresh}
 use Rattle.fsrm_base.proofs.EditedRows.{find-with_row_same}
 use Rattle.fsrm_base.proofs.Look.{is_some-find, has_row-change, has_row-without, has_row-without_other, has_row-new_other}
 use Rattle.fsrm_base.proofs.TestLaws.{both, clash, eq_is, eq_same, eq_test, eq_turned, same_tests, lt_is, lt_test, not_true, is_false}
-use Rattle.number_set.proofs.NumberLaws.{in_with, in_without, set_with, set_without, first_least}
+use Rattle.fsrm_base.proofs.NumberLaws.{in_with, in_without, set_with, set_without, first_least}
 use Rattle.volume_tree.specs.Kept.{AreHoles, AreSlots, is_hole, rows_of}
 use Rattle.volume_tree.proofs.FreshLaws.{fresh_is}
 use Rattle.volume_tree.proofs.SlotLaws.{filled, row_past}
