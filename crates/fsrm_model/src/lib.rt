@@ -1,5 +1,8 @@
-//! What every part of the file server resource manager speaks of: the rows that
-//! a store holds, commands and their outcomes, and, in `specs/`, the plain machine.
+//! What every part of the file server resource manager speaks of: the rows that a store holds, commands and their
+//! outcomes, and, in `specs/`, the plain machine.
+//!
+//! The definitions compute: worked scripts are theorems. `laws` has functions whose contracts are the laws of the
+//! definitions, so that the gate owes them.
 #![tactic(auto)]
 
 pub mod command;

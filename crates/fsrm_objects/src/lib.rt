@@ -1,4 +1,7 @@
-//! The objects of a store: so far its quotas.
+//! The tables of a store's objects: so far its quotas (MS-FSRM, IFsrmQuota), ascending by their folders.
+//!
+//! Each call leaves exactly the rows that the definitions give. It refuses exactly for the first cause that holds,
+//! in the order of `ObjectFault`, and then the tables are as they were.
 #![tactic(auto)]
 
 mod answer;

@@ -1,4 +1,8 @@
-//! The rules of names and paths, and the comparison of names after case folding.
+//! The rules of names and paths, and the comparison of names after simple case folding (The Unicode Standard, section
+//! 3.13).
+//!
+//! `Name::read` and `read_path` refuse exactly what isn't a name or a path, InvalidPath before InvalidName; `same_name`
+//! and `fold_cmp` compare the folded characters.
 #![tactic(auto)]
 
 mod name;

@@ -1,4 +1,8 @@
-//! What is used below the folders of quotas: one counter for each, kept with every change.
+//! What is used below the folders of quotas: one counter for each quota that counts, kept with every change.
+//!
+//! `admit` passes a change exactly if no quota refuses it, and else answers the deepest that does, with what would be
+//! used and its limit. `charge` makes the change of every counter that it touches. Both take at most two looks for each
+//! node on the two ways up.
 #![tactic(auto)]
 
 mod change;

@@ -1,4 +1,8 @@
 //! The tree of a volume's folders and files.
+//!
+//! The numbers of all nodes are kept in the order of their places, by folder and folded name, and searched by halves. A
+//! node's row stands in the slot of its number. Every node that is read, compared or passed is counted as a look.
+//! Contracts see a tree as its capacity and its nodes in the order of their numbers.
 #![tactic(auto)]
 
 mod answer;
