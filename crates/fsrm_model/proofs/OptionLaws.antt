@@ -8,11 +8,11 @@ use Rattle.std.proofs.lemmas.List.Sums.{sum_by-append, sum_by-cons}
 use Rattle.fsrm_model.specs.declared.command.Refusal.TheVariants.{BadLine}
 use Rattle.fsrm_model.specs.Options.{Key, ThePath, TheLimit, TheType, TheStatus, may_repeat, Given, PathIs, LimitIs, TypeIs, StatusIs, key_of, value_from, is_of, is_colon, key_named, word_key, with_option, options}
 use Rattle.fsrm_model.specs.Reading.{Read, ◌>>=◌, guarded, known, path_from, limit_from, choice_from}
-use Rattle.fsrm_model.specs.Spelling.{WritesValue, SpellsOption, SpellsEach, AreOnce, SpellsOptions}
+use Rattle.fsrm_model.specs.Spelling.{WritesValue, SpellsEach, AreOnce, SpellsOptions}
 use Rattle.fsrm_model.specs.Words.{Word}
 use Rattle.fsrm_model.proofs.LineValues.{AsLine, then_line, guarded_line, known_line, path_line, limit_line, choice_line}
 use Rattle.fsrm_model.proofs.PathLaws.{path_writes, path_reads}
-use Rattle.fsrm_model.proofs.ReadLaws.{then_ok, both_ok, guarded_then, guarded_from}
+use Rattle.fsrm_model.proofs.ReadLaws.{then_ok, both_ok, guarded_then}
 use Rattle.fsrm_model.proofs.ValueLaws.{colon_parts, colon_before, colon_after, colon_there, before_plain, known_ok, limit_writes, limit_reads, type_writes, type_reads, status_writes, status_reads}
 use Rattle.fsrm_model.proofs.WordLaws.{texts}
 

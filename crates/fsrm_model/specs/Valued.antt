@@ -7,7 +7,7 @@ use Rattle.fsrm_model.specs.declared.command.Command.{Command}
 use Rattle.fsrm_model.specs.declared.command.Deed.{Deed}
 use Rattle.fsrm_model.specs.declared.command.Deed.TheVariants.{File, Step, QuotaAdd, QuotaModify}
 use Rattle.fsrm_model.specs.declared.command.FileOp.{FileOp}
-use Rattle.fsrm_model.specs.declared.command.FileOp.TheVariants.{Mkdir, Create, Resize, Touch, Move, Remove}
+use Rattle.fsrm_model.specs.declared.command.FileOp.TheVariants.{Mkdir, Create, Resize}
 use Rattle.fsrm_model.specs.Entry.{paths_of_op, paths, entry_bytes}
 use Rattle.fsrm_model.specs.Limits.{longest_file, longest_entry, last_owner, most_visits}
 use Rattle.fsrm_model.specs.Name.{is_name}
