@@ -6,7 +6,8 @@ use Rattle.fsrm_base.proofs.Look.{has_row-without_other}
 use Rattle.fsrm_base.proofs.TestLaws.{both, clash, eq_is, eq_same, is_false, not_true, or_later}
 use Rattle.fsrm_model.specs.Limits.{most_quotas}
 use Rattle.fsrm_model.specs.Quota.{folder_of}
-use Rattle.fsrm_model.specs.Valid.{AreQuotas, IsQueue}
+use Rattle.fsrm_model.specs.Valid.{AreQuotas}
+use Rattle.fsrm_model.specs.ValidScans.{IsQueue}
 use Rattle.fsrm_model.specs.declared.row.NodeRow.{NodeRow}
 use Rattle.fsrm_model.specs.declared.row.QuotaRow.{QuotaRow}
 use Rattle.fsrm_engine.proofs.CountingLaws.{fewer}

@@ -143,10 +143,12 @@ kept_valid K R moment deed store legal kept =
     let late = nat_lt moment R.last_moment in
     valid_kept K R moment late w kept store legal (verdict late w) refl
 
--- and where its values are in their ranges
+-- and if its values are in their ranges
+pub deed_valid : (K : Capacity) (R : Rows) (moment : ℕ) (deed : Deed) → IsStore K R → moment ≤ latest_moment → is_deed deed ≡ true → IsStore K (step K R (record { moment = moment; deed = deed })).rows
+deed_valid K R moment deed store late legal = kept_valid K R moment deed store late ((certified K R moment deed).kept late legal)
+
 pub step_valid : (K : Capacity) (R : Rows) (c : Command) → IsStore K R → is_command c ≡ true → IsStore K (step K R c).rows
 step_valid K R c store legal =
     let values : (is_moment c.moment ≡ true) × ((is_deed c.deed && is_short c.deed) ≡ true) = both _ _ legal in
-    let moment = le_is c.moment latest_moment values.0 in
     let deed : (is_deed c.deed ≡ true) × (is_short c.deed ≡ true) = both _ _ values.1 in
-    kept_valid K R c.moment c.deed store moment ((certified K R c.moment c.deed).kept moment deed.0)
+    deed_valid K R c.moment c.deed store (le_is c.moment latest_moment values.0) deed.0

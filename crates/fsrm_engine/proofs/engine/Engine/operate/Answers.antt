@@ -1,8 +1,5 @@
-use Rattle.fsrm_model.specs.Limits.{latest_moment}
-use Rattle.fsrm_model.specs.Valid.{is_moment}
-use Rattle.fsrm_model.specs.Valued.{is_op}
-use Rattle.fsrm_model.proofs.EachCommand.{step_valid}
-use Rattle.fsrm_base.proofs.TestLaws.{both_true, le_test}
+use Rattle.fsrm_model.specs.declared.command.Deed.TheVariants.{File}
+use Rattle.fsrm_model.proofs.EachCommand.{deed_valid}
 use Rattle.fsrm_engine.proofs.BesideLaws.{op_beside, result_ok, result_scans}
 use Rattle.fsrm_engine.proofs.ScanLaws.{at_moment}
 use Rattle.fsrm_engine.specs.Machine.{rows_with}
@@ -14,7 +11,7 @@ invariant_of-self g c =
     let s = c.self.inside.scans in
     let e = c.file_op.ensures in
     result_scans a c.file_op.new.self s c.file_op.new.scans (at_moment c.args.moment c.args.op.now) c.file_op.result c.self.invariant (op_beside a s c.args.op.now c.args.moment) e.ok e.scans e.scanning e.err e.left
-    (step_valid a.size (rows_with a s) (at_moment c.args.moment c.args.op.now) c.self.invariant.valid (both_true (is_moment c.args.moment) (is_op c.args.op.now) (le_test c.args.moment latest_moment c.requires.moment) c.requires.valid))
+    (deed_valid a.size (rows_with a s) c.args.moment (File c.args.op.now) c.self.invariant.valid c.requires.moment c.requires.valid)
 
 pub returns-clause-ok : goal.returns-clause-ok
 returns-clause-ok g c =
