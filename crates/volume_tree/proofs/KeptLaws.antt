@@ -1,5 +1,5 @@
 -- What the calls of a tree keep.
-use Rattle.std.proofs.Common.{◌≡◌, ℕ, zero, suc, ◌+◌, ◌-◌, ◌<◌, ◌≤◌, ◌==◌, Bool, true, false, cond, not, ◌&&◌, List, [], ◌∷◌, length, refl, sym, ◌∙◌, ap, subst, arith, nat_lt, nat_le, Some, None, Option, Ok, Err, Result}
+use Rattle.std.proofs.Common.{◌≡◌, ℕ, zero, suc, ◌+◌, ◌-◌, ◌<◌, ◌≤◌, ◌==◌, Bool, true, false, cond, not, List, [], ◌∷◌, length, refl, sym, ◌∙◌, ap, subst, arith, nat_le, Some, None, Option, Ok, Err, Result}
 use Rattle.std.proofs.lemmas.Bool.Decides.{nat_tests}
 use Rattle.std.proofs.lemmas.Option.{same_Some}
 use Rattle.std.proofs.lemmas.Slice.Eq.{bytes_eq-Decides}
@@ -19,7 +19,7 @@ use Rattle.fsrm_model.proofs.Keeps.{volume-new, volume-change, volume-moved, vol
 use Rattle.fsrm_base.proofs.Look.{has_found, none_filtered}
 use Rattle.fsrm_model.proofs.OwnLaws.{own_parts, own_joined, own_named, file_short, file_inner}
 use Rattle.fsrm_model.proofs.Sizes.{length-removed, name_bytes-new, name_bytes-placed, name_bytes-removed}
-use Rattle.fsrm_base.proofs.TestLaws.{lt_is, lt_test, eq_is, clash, both, le_test, is_inner}
+use Rattle.fsrm_base.proofs.TestLaws.{lt_is, lt_test, eq_is, both, le_test, is_inner}
 use Rattle.fsrm_model.proofs.Walks.{found_name, child_is, child_found}
 use Rattle.volume_tree.specs.Kept.{rows_of, AreSlots, IsOrder, IsPlace, IsKept}
 use Rattle.volume_tree.specs.Shift.{IsShifted}

@@ -1,4 +1,5 @@
-use Rattle.std.proofs.Common.{ℕ, List, ◌++◌, ◌∙◌, ap, arith}
+use Rattle.std.proofs.Common.{ℕ, List, ◌++◌, ◌∙◌, length, length-append, ap, arith}
+use Rattle.volume_tree.proofs.Children.{children_many, numbers_many}
 use Rattle.fsrm_engine.proofs.WalkLaws.{folder_sum, visited_count, visited_there, children_few, file_sum, file_count}
 use Rattle.fsrm_engine.proofs.usage.visit.Goals as goal
 
@@ -14,13 +15,18 @@ pub returns-in_ok-extend_from_slice-clause-pending : goal.returns-in_ok-extend_f
 returns-in_ok-extend_from_slice-clause-pending g c =
     visited_there c.args.tree.now.nodes c.args.node c.args.pending.now.items c.extend_from_slice.new.self.items c.requires.pending (c.in_ok-extend_from_slice.ensures.items ∙ ap (λ (ns : List ℕ). c.args.pending.now.items ++ ns) c.children.ensures.numbers)
 
+pub returns-in_ok-extend_from_slice-clause-count : goal.returns-in_ok-extend_from_slice-clause-count
+returns-in_ok-extend_from_slice-clause-count g c =
+    let longer = ap length c.in_ok-extend_from_slice.ensures.items ∙ length-append c.args.pending.now.items c.children.result.now in
+    omega (arith, longer, c.node-view.ensures.count, c.children.ensures.count, numbers_many c.args.tree.now.nodes c.args.node c.children.result.now c.children.ensures.numbers)
+
 pub returns-in_ok-extend_from_slice-clause-looks : goal.returns-in_ok-extend_from_slice-clause-looks
 returns-in_ok-extend_from_slice-clause-looks g c =
-    omega (arith, c.node-view.ensures.count, c.children.ensures.count, children_few c.args.tree.now.size c.args.tree.now.nodes c.args.node c.requires.volume c.requires.there)
+    omega (arith, c.node-view.ensures.count, c.children.ensures.count, children_few c.args.tree.now.size c.args.tree.now.nodes c.args.node c.requires.volume c.requires.there, children_many c.args.tree.now.nodes c.args.node)
 
 pub returns-in_err-extend_from_slice-clause-looks : goal.returns-in_err-extend_from_slice-clause-looks
 returns-in_err-extend_from_slice-clause-looks g c =
-    omega (arith, c.node-view.ensures.count, c.children.ensures.count, children_few c.args.tree.now.size c.args.tree.now.nodes c.args.node c.requires.volume c.requires.there)
+    omega (arith, c.node-view.ensures.count, c.children.ensures.count, children_few c.args.tree.now.size c.args.tree.now.nodes c.args.node c.requires.volume c.requires.there, children_many c.args.tree.now.nodes c.args.node)
 
 pub returns-else-view-clause-sum : goal.returns-else-view-clause-sum
 returns-else-view-clause-sum g c =

@@ -85,7 +85,7 @@ returns-clause-looks g c =
       c.in-Some.ensures.looks,
       c.in_default-admit.ensures.looks,
       c.follow_resize.ensures.looks,
-      c.resize.ensures.looks,
+      c.resize.ensures.count,
       c.charge.ensures.looks,
       (resolved v.size v.nodes c.args.path.now c.in-Some.file.number c.self.invariant.volume f.resolved).deep,
       file_height v.size v.nodes c.args.path.now c.in-Some.file c.self.invariant.volume f,
