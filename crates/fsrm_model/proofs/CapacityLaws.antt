@@ -1,5 +1,5 @@
 -- How large a store may be, part by part, and what its files may take.
-use Rattle.std.proofs.Common.{◌≡◌, ℕ, zero, suc, ◌+◌, ◌-◌, ◌*◌, ◌/◌, ◌<◌, ◌≤◌, true, List, [], ◌∷◌, inl, inr, refl, ap, ◌∙◌, subst, arith}
+use Rattle.std.proofs.Common.{◌≡◌, ℕ, zero, suc, ◌+◌, ◌-◌, ◌*◌, ◌/◌, ◌≤◌, true, List, [], ◌∷◌, inl, inr, refl, ap, ◌∙◌, subst, arith}
 use Rattle.std.proofs.Math.Nat.{div-eq_of_lt}
 use Rattle.std.specs.List.{AllByRecursion}
 use Rattle.fsrm_model.specs.declared.row.Capacity.{Capacity}
@@ -9,14 +9,8 @@ use Rattle.fsrm_base.specs.Numbers.{is_in}
 use Rattle.fsrm_model.specs.Space.{rounded, alloc}
 use Rattle.fsrm_base.proofs.TestLaws.{both, le_is, eq_is, is_or}
 
-pub nodes_least : (K : Capacity) → is_capacity K ≡ true → 2 ≤ K.nodes
-nodes_least K h = le_is 2 K.nodes (both _ _ (both _ _ h).0).0
-
 pub nodes_most : (K : Capacity) → is_capacity K ≡ true → K.nodes ≤ most_nodes
 nodes_most K h = le_is K.nodes most_nodes (both _ _ (both _ _ h).0).1
-
-pub names_least : (K : Capacity) → is_capacity K ≡ true → 256 ≤ K.names
-names_least K h = le_is 256 K.names (both _ _ (both _ _ (both _ _ h).1).0).0
 
 pub names_most : (K : Capacity) → is_capacity K ≡ true → K.names ≤ most_names
 names_most K h = le_is K.names most_names (both _ _ (both _ _ (both _ _ h).1).0).1
@@ -33,40 +27,17 @@ member P (k ∷ ks) all n h = elim (is_or _ _ h) [
 ]
 
 abbrev IsFit : ℕ → Type 0
-IsFit cluster = (0 < cluster) × ((n : ℕ) → n ≤ longest_file → rounded cluster n ≤ longest_file)
+IsFit cluster = (n : ℕ) → n ≤ longest_file → rounded cluster n ≤ longest_file
 
 fits : (cluster : ℕ) → is_cluster cluster ≡ true → IsFit cluster
 fits cluster h =
-    member IsFit cluster_sizes (
-      (omega arith, λ n h. omega arith),
-      (
-        (omega arith, λ n h. omega arith),
-        (
-          (omega arith, λ n h. omega arith),
-          (
-            (omega arith, λ n h. omega arith),
-            (
-              (omega arith, λ n h. omega arith),
-              (
-                (omega arith, λ n h. omega arith),
-                (
-                  (omega arith, λ n h. omega arith),
-                  ((omega arith, λ n h. omega arith), tt),
-                ),
-              ),
-            ),
-          ),
-        ),
-      ),
-    )
-    cluster h
-
-pub cluster_some : (cluster : ℕ) → is_cluster cluster ≡ true → 0 < cluster
-cluster_some cluster h = (fits cluster h).0
+    let at : AllByRecursion IsFit cluster_sizes =
+    (λ n h. omega arith, (λ n h. omega arith, (λ n h. omega arith, (λ n h. omega arith, (λ n h. omega arith, (λ n h. omega arith, (λ n h. omega arith, (λ n h. omega arith, tt)))))))) in
+    member IsFit cluster_sizes at cluster h
 
 -- the longest file ends with a cluster, of whatever size
 pub rounded_most : (cluster n : ℕ) → is_cluster cluster ≡ true → n ≤ longest_file → rounded cluster n ≤ longest_file
-rounded_most cluster n h most = (fits cluster h).1 n most
+rounded_most cluster n h most = fits cluster h n most
 
 -- nothing takes nothing
 pub rounded_none : (cluster : ℕ) → rounded cluster 0 ≡ 0
