@@ -1,4 +1,5 @@
-use Rattle.std.proofs.Common.{◌+◌, arith}
+use Rattle.std.proofs.Common.{◌+◌, sym, ◌∙◌, arith}
+use Rattle.std.proofs.lemmas.Result.{err_from_is_err_and}
 use Rattle.std.proofs.lemmas.List.Sums.{sum_by-take-le}
 use Rattle.fsrm_model.specs.declared.row.QuotaRow.{QuotaRow}
 use Rattle.fsrm_model.specs.Cost.{path_cost}
@@ -34,7 +35,15 @@ loop-place-preserved g c =
     let quotas = c.args.engine.now.rows.quotas in
     record {
       shown = shows_line (line_text engine.size nodes) quotas c.loop-place.place c.quota_at.result.now (sink.shown c.args.sink.now) (sink.shown c.loop-place.sink) (sink.shown c.write_quota.new.sink) (rw c.objects-objects.ensures.quotas at c.quota_at.ensures) c.loop-place.invariant.shown c.in_ok-write_quota.ensures.text;
-      later = omega (arith, c.loop-place.invariant.later, c.in_ok-write_quota.ensures.later);
+      same = c.in_ok-write_quota.ensures.same ∙ c.loop-place.invariant.same;
       by = g.met.S.Sink.write_then c.args.sink.now c.loop-place.sink c.write_quota.new.sink c.loop-place.invariant.by c.in_ok-write_quota.ensures.by;
       looks = omega (arith, c.loop-place.invariant.looks, c.in_ok-write_quota.ensures.looks, sum_more (λ quota. path_cost nodes quota.folder) quotas c.loop-place.place c.quota_at.result.now (rw c.objects-objects.ensures.quotas at c.quota_at.ensures));
     }
+
+pub returns-clause-same : goal.returns-clause-same
+returns-clause-same g c = c.loop-place.invariant.same
+
+pub returns-in_err-write_quota-clause-same : goal.returns-in_err-write_quota-clause-same
+returns-in_err-write_quota-clause-same g c =
+    let p = err_from_is_err_and c.from_residual.result c.from_residual.ensures.1 in
+    rw (p.1, p.2, sym c.loop-place.invariant.same) c.in_err-write_quota.ensures.same

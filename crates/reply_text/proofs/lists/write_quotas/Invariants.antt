@@ -12,7 +12,7 @@ invariant-loop-place g l =
     let engine = l.engine in
     record {
       shown : sink.shown l.sink ≡ append_known (sink.shown l.fn.sink) (flat_map (line_text engine.size engine.rows.nodes) (take l.place engine.rows.quotas));
-      later : sink.write_faults l.fn.sink ≤ sink.write_faults l.sink;
+      same : sink.write_faults l.sink ≡ sink.write_faults l.fn.sink;
       by : sink.by_write l.fn.sink l.sink;
       looks : l.steps ≤ l.fn.steps + sum_by (λ quota. path_cost engine.rows.nodes quota.folder) (take l.place engine.rows.quotas);
     }

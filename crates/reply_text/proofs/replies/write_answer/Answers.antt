@@ -30,6 +30,7 @@ returns-in_err-append_answer-in_default g c = record {
   text = λ moment. sends_front c.from_residual-in_err-append_answer-in_default.result _ _ _ c.from_residual-in_err-append_answer-in_default.ensures.0 (shows_nothing _ _);
   fault = search rules;
   later = omega arith;
+  same = search rules;
   by = g.met.S.Sink.write_same c.args.sink.now;
   looks = omega (arith, c.append_answer.ensures.looks);
 }
@@ -43,6 +44,7 @@ returns g c =
           (composed c.as_str-in_default.result.now (string_bytes c.append_answer.new.text) (string_bytes c.new-text.result) (reply e.size e.rows moment c.args.line c.args.answer.now.outcome) c.as_str-in_default.ensures.value (c.in_ok-append_answer-in_default.ensures.text moment) c.new-text.ensures.bytes) c.send-in_default.ensures.text;
       fault = c.send-in_default.ensures.fault;
       later = c.send-in_default.ensures.later;
+      same = c.send-in_default.ensures.same;
       by = c.send-in_default.ensures.by;
       looks = c.append_answer.ensures.looks;
     }
