@@ -1,4 +1,4 @@
-use Rattle.std.proofs.Common.{arith, ap, ◌+◌, ◌≤◌, Err}
+use Rattle.std.proofs.Common.{arith, ap, refl, sym, ◌∙◌, ◌+◌, ◌≤◌, Err}
 use Rattle.fsrm_program.specs.Answers.{most_taken}
 use Rattle.fsrm_program.specs.Held.{state_of}
 use Rattle.fsrm_program.proofs.MostTaken.{most_then, whole_script}
@@ -13,8 +13,8 @@ pieces-init g c =
       number = omega arith;
       written = c.requires.written;
       idle = c.requires.idle;
-      read_later = omega arith;
-      write_later = omega arith;
+      reads_kept = refl;
+      writes_kept = refl;
     }
 
 pub pieces-preserved : goal.pieces-preserved
@@ -31,8 +31,8 @@ pieces-preserved g c =
       number = omega (arith, kept.number, c.in-Ok.ensures.number);
       written = c.in-Ok.ensures.written;
       idle = c.pass.ensures.idle;
-      read_later = omega (arith, kept.read_later, c.pass.ensures.read_later);
-      write_later = omega (arith, kept.write_later, c.pass.ensures.write_later);
+      reads_kept = c.in-Ok.ensures.reads_kept ∙ kept.reads_kept;
+      writes_kept = c.in-Ok.ensures.writes_kept ∙ kept.writes_kept;
     }
 
 pub returns-in-Ok-eq0-clause-reads : goal.returns-in-Ok-eq0-clause-reads
@@ -68,3 +68,15 @@ returns-in-Err-clause-taken g c =
     let last = c.pass.new.outside in
     let short : c.pieces.taken ≤ most_taken c.in-Err.status = omega (arith, c.pieces.invariant.within, whole_script c.in-Err.status) in
     most_then (state_of c.args.session.now c.args.steps.now) (state_of c.pieces.session c.pieces.steps) (source.left first) (source.left mid) (source.left last) (sink.shown first) (sink.shown mid) c.pieces.taken (most_taken c.in-Err.status) short c.pieces.invariant.takes c.in-Err.ensures.taken
+
+pub returns-in-Ok-eq0-clause-reads_kept : goal.returns-in-Ok-eq0-clause-reads_kept
+returns-in-Ok-eq0-clause-reads_kept g c = c.in-Ok-eq0.ensures.reads_kept ∙ c.pieces.invariant.reads_kept
+
+pub returns-in-Ok-eq0-clause-writes_kept : goal.returns-in-Ok-eq0-clause-writes_kept
+returns-in-Ok-eq0-clause-writes_kept g c = c.in-Ok-eq0.ensures.writes_kept ∙ c.pieces.invariant.writes_kept
+
+pub returns-in-Err-clause-reads_kept : goal.returns-in-Err-clause-reads_kept
+returns-in-Err-clause-reads_kept g c = rw (sym c.pieces.invariant.reads_kept) c.in-Err.ensures.reads_kept
+
+pub returns-in-Err-clause-writes_kept : goal.returns-in-Err-clause-writes_kept
+returns-in-Err-clause-writes_kept g c = rw (sym c.pieces.invariant.writes_kept) c.in-Err.ensures.writes_kept

@@ -15,8 +15,8 @@ invariant-pieces g l =
       number : l.session.line ≤ l.fn.session.line + l.taken;
       written : l.session.replies.bytes.items ≡ [];
       idle : l.session.engine.waiting ≡ [];
-      read_later : source.read_faults l.fn.outside ≤ source.read_faults l.outside;
-      write_later : sink.write_faults l.fn.outside ≤ sink.write_faults l.outside;
+      reads_kept : source.read_faults l.outside ≡ source.read_faults l.fn.outside;
+      writes_kept : sink.write_faults l.outside ≡ sink.write_faults l.fn.outside;
     }
 
 abbrev pub decreases-pieces : goal.decreases-pieces
