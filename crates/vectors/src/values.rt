@@ -38,9 +38,12 @@ pub fn root_quota(alloc: Global, moment: u64) -> Command
         moment,
         deed: Deed::QuotaAdd {
             path: root(alloc),
-            limit: 1_024,
-            enforce: true,
+            limit: Some(1_024),
+            enforce: None,
             enabled: true,
+            source_template: None,
+            add_threshold: List::new(alloc),
+            add_notification: List::new(alloc),
         },
     }
 }
