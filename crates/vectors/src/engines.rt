@@ -32,29 +32,46 @@ fn operations_are_taken<L: Ledger>(
     Ok(())
 }
 
-const REPLIES: &[u8] =
-    b"3 refused NotFound\n4 ok\n  1024 hard complete 0 0 2000-02-29 00:00:00 D:\\\n  1024 hard complete 0 0 2000-02-29 00:00:00 D:\\\n";
+// A machine with a quota on the root.
+fn quota_is_added<L: Ledger>(alloc: Global, steps: &mut Steps<L>) -> Result<Engine, Fail> {
+    let mut engine = Engine::new(alloc, SMALL)?;
+    engine.apply(alloc, &root_quota(alloc, 951_782_400), steps)?;
+    Ok(engine)
+}
 
-fn replies_are_written<L: Ledger>(
+fn head_is_written(alloc: Global, end: &impl Abort) -> Result<(), Fail> {
+    let mut outside = MemoryOutside::new(alloc, [].as_slice(), [].as_slice())?;
+    write_head(alloc, &mut outside, 3, &Refusal::NotFound)?;
+    assert_eq!(end; outside.shown(), b"3 refused NotFound\n".as_slice());
+    Ok(())
+}
+
+fn answer_is_written<L: Ledger>(
     alloc: Global,
     end: &impl Abort,
     steps: &mut Steps<L>,
 ) -> Result<(), Fail> {
-    let mut engine = Engine::new(alloc, SMALL)?;
-    engine.apply(alloc, &root_quota(alloc, 951_782_400), steps)?;
-    assert_eq!(end;
-        (engine.objects().quota_count(), engine.used(0)),
-        (1, Some(0))
-    );
+    let engine = quota_is_added(alloc, steps)?;
     let mut outside = MemoryOutside::new(alloc, [].as_slice(), [].as_slice())?;
-    write_head(alloc, &mut outside, 3, &Refusal::NotFound)?;
-    let list = Answer {
+    let answer = Answer {
         outcome: Outcome::Listing(Ask::Quotas(None)),
         lasting: false,
     };
-    write_answer(alloc, &mut outside, 4, &list, &engine, steps)?;
+    write_answer(alloc, &mut outside, 4, &answer, &engine, steps)?;
+    assert!(end; outside.shown().starts_with(b"4 ok\n"));
+    Ok(())
+}
+
+fn list_is_written<L: Ledger>(
+    alloc: Global,
+    end: &impl Abort,
+    steps: &mut Steps<L>,
+) -> Result<(), Fail> {
+    let engine = quota_is_added(alloc, steps)?;
+    let mut outside = MemoryOutside::new(alloc, [].as_slice(), [].as_slice())?;
     write_list(alloc, &mut outside, &Ask::Quotas(None), &engine, steps)?;
-    assert_eq!(end; outside.shown(), REPLIES);
+    let line = b"  1024 hard complete 0 0 2000-02-29 00:00:00 D:\\\n";
+    assert_eq!(end; outside.shown(), line.as_slice());
     Ok(())
 }
 
@@ -65,7 +82,9 @@ fn engines<N: Named>(rt: &HostRuntime, end: &impl Abort, blank: Blank) -> Result
 {
     let mut steps = Steps::new(rt, Weightless::<N>::of(blank));
     operations_are_taken(rt.alloc(), end, &mut steps)?;
-    replies_are_written(rt.alloc(), end, &mut steps)
+    head_is_written(rt.alloc(), end)?;
+    answer_is_written(rt.alloc(), end, &mut steps)?;
+    list_is_written(rt.alloc(), end, &mut steps)
 }
 
 #[test]
