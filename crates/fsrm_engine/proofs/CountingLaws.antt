@@ -20,7 +20,9 @@ use Rattle.fsrm_base.proofs.Order.{ascending-with_row, ascending-change, ascendi
 use Rattle.fsrm_base.proofs.TestLaws.{is_or_not, not_true, clash, eq_is, eq_same, lt_is}
 use Rattle.quota_usage.specs.declared.change.Counter.{Counter}
 use Rattle.quota_usage.specs.Counters.{counted, used_in, with_counter, without_counter}
-use Rattle.fsrm_engine.specs.Machine.{counter_of, sums_of, IsEngine}
+use Rattle.fsrm_objects.specs.Tables.{Tables}
+use Rattle.fsrm_engine.specs.declared.parts.Parts.{Parts}
+use Rattle.fsrm_engine.specs.Machine.{counter_of, sums_of, IsCounted, recounted, ended}
 use Rattle.fsrm_engine.specs.Peaks.{raised}
 use Rattle.fsrm_engine.proofs.PeakLaws.{peak_stays, raised_is, some_settled, engine_raised}
 use Rattle.fsrm_base.proofs.RowLaws.{change_same, each_found, map_same}
@@ -107,7 +109,7 @@ of_new quota P f quotas r absent new old h =
       | inr later ↦ old r later.1
     ]
 
-pub engine_with : {level : Bool} (K : Capacity) (nodes : List NodeRow) (quotas : List QuotaRow) (counters made : List Counter) (quota : QuotaRow) → IsEngine K nodes quotas counters level → has_row folder_of quota.folder quotas ≡ false → length quotas < most_quotas → is_folder nodes quota.folder ≡ true → is_limit quota.limit ≡ true → is_moment quota.peak_at ≡ true → (counts quota ≡ true → usage K nodes quota.folder ≤ quota.peak) → made ≡ sums_of K nodes (with_row folder_of quota quotas) → IsEngine K nodes (with_row folder_of quota quotas) made level
+pub engine_with : {level : Bool} (K : Capacity) (nodes : List NodeRow) (quotas : List QuotaRow) (counters made : List Counter) (quota : QuotaRow) → IsCounted K nodes quotas counters level → has_row folder_of quota.folder quotas ≡ false → length quotas < most_quotas → is_folder nodes quota.folder ≡ true → is_limit quota.limit ≡ true → is_moment quota.peak_at ≡ true → (counts quota ≡ true → usage K nodes quota.folder ≤ quota.peak) → made ≡ sums_of K nodes (with_row folder_of quota quotas) → IsCounted K nodes (with_row folder_of quota quotas) made level
 engine_with K nodes quotas counters made quota e absent room folder limit moment peak sums =
     let q = e.are_quotas in
     record {
@@ -141,7 +143,7 @@ filter_few p (x ∷ xs) = at (p x) (filter_few p xs)
     at true h = omega arith
     at false h = omega arith
 
-pub engine_without : {level : Bool} (K : Capacity) (nodes : List NodeRow) (quotas : List QuotaRow) (counters made : List Counter) (n : ℕ) → IsEngine K nodes quotas counters level → made ≡ without_counter counters n → IsEngine K nodes (without_row folder_of n quotas) made level
+pub engine_without : {level : Bool} (K : Capacity) (nodes : List NodeRow) (quotas : List QuotaRow) (counters made : List Counter) (n : ℕ) → IsCounted K nodes quotas counters level → made ≡ without_counter counters n → IsCounted K nodes (without_row folder_of n quotas) made level
 engine_without K nodes quotas counters made n e is =
     let q = e.are_quotas in
     record {
@@ -178,7 +180,7 @@ are_changed nodes quotas n c q k limit moment =
       moments = λ f r h. of_changed n c (λ r. is_moment r.peak_at ≡ true) k f quotas r (λ r found. (λ same. moment r (subst (λ m. row_of folder_of m quotas ≡ Some r) same found), q.moments f r found)) h;
     }
 
-pub engine_changed : {level : Bool} (K : Capacity) (nodes : List NodeRow) (quotas : List QuotaRow) (counters made : List Counter) (n : ℕ) (c : QuotaRow → QuotaRow) → IsEngine K nodes quotas counters level → ((r : QuotaRow) → (c r).folder ≡ r.folder) → ((r : QuotaRow) → row_of folder_of n quotas ≡ Some r → is_limit (c r).limit ≡ true) → ((r : QuotaRow) → row_of folder_of n quotas ≡ Some r → is_moment (c r).peak_at ≡ true) → (level ≡ true → (r : QuotaRow) → row_of folder_of n quotas ≡ Some r → counts (c r) ≡ true → usage K nodes n ≤ (c r).peak) → made ≡ sums_of K nodes (with_change folder_of n c quotas) → IsEngine K nodes (with_change folder_of n c quotas) made level
+pub engine_changed : {level : Bool} (K : Capacity) (nodes : List NodeRow) (quotas : List QuotaRow) (counters made : List Counter) (n : ℕ) (c : QuotaRow → QuotaRow) → IsCounted K nodes quotas counters level → ((r : QuotaRow) → (c r).folder ≡ r.folder) → ((r : QuotaRow) → row_of folder_of n quotas ≡ Some r → is_limit (c r).limit ≡ true) → ((r : QuotaRow) → row_of folder_of n quotas ≡ Some r → is_moment (c r).peak_at ≡ true) → (level ≡ true → (r : QuotaRow) → row_of folder_of n quotas ≡ Some r → counts (c r) ≡ true → usage K nodes n ≤ (c r).peak) → made ≡ sums_of K nodes (with_change folder_of n c quotas) → IsCounted K nodes (with_change folder_of n c quotas) made level
 engine_changed K nodes quotas counters made n c e k limit moment peak sums =
     record {
       volume = e.volume;
@@ -199,10 +201,10 @@ pub put_is : (quota : QuotaRow) (quotas : List QuotaRow) → is_ascending folder
 put_is quota quotas asc =
     change_same folder_of quota.folder (λ old. quota) (put_in quota) quotas asc (λ r found. ap (λ n. record quota { folder = n }) (sym (found_key folder_of quota.folder quotas r found)))
 
-pub engine_put : {level : Bool} (K : Capacity) (nodes : List NodeRow) (quotas : List QuotaRow) (counters made : List Counter) (quota : QuotaRow) → IsEngine K nodes quotas counters level → is_limit quota.limit ≡ true → is_moment quota.peak_at ≡ true → (level ≡ true → counts quota ≡ true → usage K nodes quota.folder ≤ quota.peak) → made ≡ sums_of K nodes (with_change folder_of quota.folder (λ old. quota) quotas) → IsEngine K nodes (with_change folder_of quota.folder (λ old. quota) quotas) made level
+pub engine_put : {level : Bool} (K : Capacity) (nodes : List NodeRow) (quotas : List QuotaRow) (counters made : List Counter) (quota : QuotaRow) → IsCounted K nodes quotas counters level → is_limit quota.limit ≡ true → is_moment quota.peak_at ≡ true → (level ≡ true → counts quota ≡ true → usage K nodes quota.folder ≤ quota.peak) → made ≡ sums_of K nodes (with_change folder_of quota.folder (λ old. quota) quotas) → IsCounted K nodes (with_change folder_of quota.folder (λ old. quota) quotas) made level
 engine_put {level} K nodes quotas counters made quota e limit moment peak sums =
     let is = put_is quota quotas e.are_quotas.ascending in
-    subst (λ (qs : List QuotaRow). IsEngine K nodes qs made level) (sym is)
+    subst (λ (qs : List QuotaRow). IsCounted K nodes qs made level) (sym is)
     (engine_changed K nodes quotas counters made quota.folder (put_in quota) e (λ r. refl) (λ r found. limit) (λ r found. moment) (λ l r found. peak l)
     (sums ∙ ap (sums_of K nodes) is))
 
@@ -239,21 +241,21 @@ fewer key n (x ∷ rows) h = at (key x == n) h (filter_few (λ r. not (key r == 
     at true h few f = omega arith
     at false h few f = omega (arith, f h)
 
-pub room_for : {level : Bool} (K : Capacity) (nodes : List NodeRow) (quotas : List QuotaRow) (counters : List Counter) (n : ℕ) → IsEngine K nodes quotas counters level → has_row folder_of n quotas ≡ true → has_row counted n counters ≡ false → length counters < most_quotas
+pub room_for : {level : Bool} (K : Capacity) (nodes : List NodeRow) (quotas : List QuotaRow) (counters : List Counter) (n : ℕ) → IsCounted K nodes quotas counters level → has_row folder_of n quotas ≡ true → has_row counted n counters ≡ false → length counters < most_quotas
 room_for K nodes quotas counters n e there free =
     let lacks : has_row counted n (sums_of K nodes quotas) ≡ false = sym (ap (has_row counted n) e.sums) ∙ free in
     let same : sums_of K nodes (without_row folder_of n quotas) ≡ counters = sums_without K nodes n quotas ∙ (without_absent counted n (sums_of K nodes quotas) lacks ∙ sym e.sums) in
     omega (arith, ap length same, sums_few K nodes (without_row folder_of n quotas), fewer folder_of n quotas there, e.are_quotas.few)
 
 -- and for that of a new one
-pub room_more : {level : Bool} (K : Capacity) (nodes : List NodeRow) (quotas : List QuotaRow) (counters : List Counter) → IsEngine K nodes quotas counters level → length quotas < most_quotas → length counters < most_quotas
+pub room_more : {level : Bool} (K : Capacity) (nodes : List NodeRow) (quotas : List QuotaRow) (counters : List Counter) → IsCounted K nodes quotas counters level → length quotas < most_quotas → length counters < most_quotas
 room_more K nodes quotas counters e h = omega (arith, ap length e.sums, sums_few K nodes quotas)
 
-pub free_of : {level : Bool} (K : Capacity) (nodes : List NodeRow) (quotas : List QuotaRow) (counters : List Counter) (n : ℕ) → IsEngine K nodes quotas counters level → has_row folder_of n quotas ≡ false → has_row counted n counters ≡ false
+pub free_of : {level : Bool} (K : Capacity) (nodes : List NodeRow) (quotas : List QuotaRow) (counters : List Counter) (n : ℕ) → IsCounted K nodes quotas counters level → has_row folder_of n quotas ≡ false → has_row counted n counters ≡ false
 free_of K nodes quotas counters n e absent =
     not_true _ (λ t. clash _ (sums_has K nodes n quotas (ap (has_row counted n) (sym e.sums) ∙ t)) absent)
 
-pub has_counter : {level : Bool} (K : Capacity) (nodes : List NodeRow) (quotas : List QuotaRow) (counters : List Counter) (n : ℕ) (q : QuotaRow) → IsEngine K nodes quotas counters level → row_of folder_of n quotas ≡ Some q → has_row counted n counters ≡ counts q
+pub has_counter : {level : Bool} (K : Capacity) (nodes : List NodeRow) (quotas : List QuotaRow) (counters : List Counter) (n : ℕ) (q : QuotaRow) → IsCounted K nodes quotas counters level → row_of folder_of n quotas ≡ Some q → has_row counted n counters ≡ counts q
 has_counter K nodes quotas counters n q e found = ap (has_row counted n) e.sums ∙ counter_is K nodes n q quotas e.are_quotas.ascending found
 
 -- what a count becomes
@@ -263,9 +265,9 @@ pub record Recounted (counters made : List Counter) (n : ℕ) (counting : Bool) 
   pub held : counting ≡ true → has_row counted n counters ≡ true → made ≡ counters
 
 -- A quota was put on a folder
-pub added : {level : Bool} (K : Capacity) (nodes : List NodeRow) (quotas set : List QuotaRow) (counters made : List Counter) (quota : QuotaRow) (counting : Bool) → IsEngine K nodes quotas counters level → has_row folder_of quota.folder quotas ≡ false → length quotas < most_quotas → is_folder nodes quota.folder ≡ true → is_limit quota.limit ≡ true → is_moment quota.peak_at ≡ true → (counts quota ≡ true → usage K nodes quota.folder ≡ 0) → counting ≡ counts quota → Recounted counters made quota.folder counting → set ≡ with_row folder_of quota quotas → IsEngine K nodes set made level
+pub added : {level : Bool} (K : Capacity) (nodes : List NodeRow) (quotas set : List QuotaRow) (counters made : List Counter) (quota : QuotaRow) (counting : Bool) → IsCounted K nodes quotas counters level → has_row folder_of quota.folder quotas ≡ false → length quotas < most_quotas → is_folder nodes quota.folder ≡ true → is_limit quota.limit ≡ true → is_moment quota.peak_at ≡ true → (counts quota ≡ true → usage K nodes quota.folder ≡ 0) → counting ≡ counts quota → Recounted counters made quota.folder counting → set ≡ with_row folder_of quota quotas → IsCounted K nodes set made level
 added {level} K nodes quotas set counters made quota counting e absent room folder limit moment nothing c m s =
-    subst (λ (qs : List QuotaRow). IsEngine K nodes qs made level) (sym s)
+    subst (λ (qs : List QuotaRow). IsCounted K nodes qs made level) (sym s)
     (engine_with K nodes quotas counters made quota e absent room folder limit moment (λ t. small (usage K nodes quota.folder) quota.peak (nothing t)) (sums counting c m))
   where
     small : (u p : ℕ) → u ≡ 0 → u ≤ p
@@ -283,7 +285,7 @@ added {level} K nodes quotas set counters made quota counting e absent room fold
     sums false h m = m.ended refl ∙ (without_absent counted quota.folder counters free ∙ (e.sums ∙ sym (sums_more K nodes quota quotas (sym h))))
 
 -- Another one was put in its place: its counter ends, begins, or stays
-pub put_ended : {level : Bool} (K : Capacity) (nodes : List NodeRow) (quotas : List QuotaRow) (counters made : List Counter) (quota : QuotaRow) → IsEngine K nodes quotas counters level → has_row folder_of quota.folder quotas ≡ true → counts quota ≡ false → made ≡ without_counter counters quota.folder → made ≡ sums_of K nodes (with_change folder_of quota.folder (λ old. quota) quotas)
+pub put_ended : {level : Bool} (K : Capacity) (nodes : List NodeRow) (quotas : List QuotaRow) (counters made : List Counter) (quota : QuotaRow) → IsCounted K nodes quotas counters level → has_row folder_of quota.folder quotas ≡ true → counts quota ≡ false → made ≡ without_counter counters quota.folder → made ≡ sums_of K nodes (with_change folder_of quota.folder (λ old. quota) quotas)
 put_ended K nodes quotas counters made quota e there c m =
     m ∙ (ap (without_row counted quota.folder) e.sums ∙ sym (sums_ended K nodes quota.folder quota quotas e.are_quotas.ascending refl there c))
 
@@ -293,7 +295,7 @@ complete_is Disabled h = cc
 complete_is Rebuilding h = cc
 complete_is Incomplete h = cc
 
-pub put_sums : {level : Bool} (K : Capacity) (nodes : List NodeRow) (quotas : List QuotaRow) (counters made : List Counter) (quota old : QuotaRow) → IsEngine K nodes quotas counters level → row_of folder_of quota.folder quotas ≡ Some old → (counts old ≡ false → counts quota ≡ true → usage K nodes quota.folder ≡ 0) → Recounted counters made quota.folder (counts quota) → made ≡ sums_of K nodes (with_change folder_of quota.folder (λ old. quota) quotas)
+pub put_sums : {level : Bool} (K : Capacity) (nodes : List NodeRow) (quotas : List QuotaRow) (counters made : List Counter) (quota old : QuotaRow) → IsCounted K nodes quotas counters level → row_of folder_of quota.folder quotas ≡ Some old → (counts old ≡ false → counts quota ≡ true → usage K nodes quota.folder ≡ 0) → Recounted counters made quota.folder (counts quota) → made ≡ sums_of K nodes (with_change folder_of quota.folder (λ old. quota) quotas)
 put_sums K nodes quotas counters made quota old e found nothing m =
     at (counts quota) (counts old) refl refl
   where
@@ -317,9 +319,9 @@ put_sums K nodes quotas counters made quota old e found nothing m =
         m.held c (counter ∙ was)
         ∙ (e.sums ∙ sums_held K nodes quotas quota old asc found (complete_is quota.state c ∙ sym (complete_is old.state was)))
 
-pub put_engine : {level : Bool} (K : Capacity) (nodes : List NodeRow) (quotas set : List QuotaRow) (counters made : List Counter) (quota : QuotaRow) (counting : Bool) → IsEngine K nodes quotas counters level → has_row folder_of quota.folder quotas ≡ true → is_limit quota.limit ≡ true → is_moment quota.peak_at ≡ true → ((old : QuotaRow) → row_of folder_of quota.folder quotas ≡ Some old → quota.peak ≡ old.peak) → ((old : QuotaRow) → row_of folder_of quota.folder quotas ≡ Some old → counts old ≡ false → counts quota ≡ true → usage K nodes quota.folder ≡ 0) → counting ≡ counts quota → Recounted counters made quota.folder counting → set ≡ with_change folder_of quota.folder (λ old. quota) quotas → IsEngine K nodes set made level
+pub put_engine : {level : Bool} (K : Capacity) (nodes : List NodeRow) (quotas set : List QuotaRow) (counters made : List Counter) (quota : QuotaRow) (counting : Bool) → IsCounted K nodes quotas counters level → has_row folder_of quota.folder quotas ≡ true → is_limit quota.limit ≡ true → is_moment quota.peak_at ≡ true → ((old : QuotaRow) → row_of folder_of quota.folder quotas ≡ Some old → quota.peak ≡ old.peak) → ((old : QuotaRow) → row_of folder_of quota.folder quotas ≡ Some old → counts old ≡ false → counts quota ≡ true → usage K nodes quota.folder ≡ 0) → counting ≡ counts quota → Recounted counters made quota.folder counting → set ≡ with_change folder_of quota.folder (λ old. quota) quotas → IsCounted K nodes set made level
 put_engine {level} K nodes quotas set counters made quota counting e there limit moment peak nothing c m s =
-    subst (λ (qs : List QuotaRow). IsEngine K nodes qs made level) (sym s)
+    subst (λ (qs : List QuotaRow). IsCounted K nodes qs made level) (sym s)
     (engine_put K nodes quotas counters made quota e limit moment (λ l t. enough l (counts f.row) t refl)
     (put_sums K nodes quotas counters made quota f.row e f.is (nothing f.row f.is) (subst (λ b. Recounted counters made quota.folder b) c m)))
   where
@@ -334,12 +336,12 @@ put_engine {level} K nodes quotas set counters made quota counting e there limit
     enough l false t was = small (usage K nodes quota.folder) quota.peak (nothing f.row f.is was t)
 
 -- A quota that counts no longer
-pub rebuilt : {level : Bool} (K : Capacity) (nodes : List NodeRow) (quotas set : List QuotaRow) (counters made : List Counter) (n : ℕ) → IsEngine K nodes quotas counters level → has_row folder_of n quotas ≡ true → made ≡ without_counter counters n → set ≡ with_change folder_of n (in_state Rebuilding) quotas → IsEngine K nodes set made level
+pub rebuilt : {level : Bool} (K : Capacity) (nodes : List NodeRow) (quotas set : List QuotaRow) (counters made : List Counter) (n : ℕ) → IsCounted K nodes quotas counters level → has_row folder_of n quotas ≡ true → made ≡ without_counter counters n → set ≡ with_change folder_of n (in_state Rebuilding) quotas → IsCounted K nodes set made level
 rebuilt {level} K nodes quotas set counters made n e there m s =
     let f = has_found folder_of n quotas there in
     let quota = in_state Rebuilding f.row in
     let k : f.row.folder ≡ n = found_key folder_of n quotas f.row f.is in
-    subst (λ (qs : List QuotaRow). IsEngine K nodes qs made level) (sym s)
+    subst (λ (qs : List QuotaRow). IsCounted K nodes qs made level) (sym s)
     (engine_changed K nodes quotas counters made n (in_state Rebuilding) e (λ r. refl) (λ r found. e.are_quotas.limits n r found) (λ r found. e.are_quotas.moments n r found) (λ l r found c. cc)
     (m ∙ (ap (without_row counted n) e.sums
     ∙ sym (ap (sums_of K nodes) (state_is Rebuilding n quotas f.row e.are_quotas.ascending f.is) ∙ sums_ended K nodes n quota quotas e.are_quotas.ascending k there refl))))
@@ -349,7 +351,7 @@ pub completed_are : (K : Capacity) (nodes : List NodeRow) (quotas : List QuotaRo
 completed_are K nodes quotas n q =
     are_changed nodes quotas n (in_state Complete) q (λ r. refl) (λ r found. q.limits n r found) (λ r found. q.moments n r found)
 
-completed_sums : {level : Bool} (K : Capacity) (nodes : List NodeRow) (quotas : List QuotaRow) (counters made : List Counter) (n used : ℕ) (q : QuotaRow) → IsEngine K nodes quotas counters level → row_of folder_of n quotas ≡ Some q → counts q ≡ false → used ≡ usage K nodes n → made ≡ with_counter counters n used → made ≡ sums_of K nodes (with_change folder_of n (in_state Complete) quotas)
+completed_sums : {level : Bool} (K : Capacity) (nodes : List NodeRow) (quotas : List QuotaRow) (counters made : List Counter) (n used : ℕ) (q : QuotaRow) → IsCounted K nodes quotas counters level → row_of folder_of n quotas ≡ Some q → counts q ≡ false → used ≡ usage K nodes n → made ≡ with_counter counters n used → made ≡ sums_of K nodes (with_change folder_of n (in_state Complete) quotas)
 completed_sums K nodes quotas counters made n used q e found c u m =
     let asc = e.are_quotas.ascending in
     m ∙ (ap (λ cs. with_counter cs n used) e.sums
@@ -365,7 +367,7 @@ abbrev pub is_on : ℕ → QuotaRow → Bool
 is_on n q = folder_of q == n
 
 -- of all quotas of an engine that is level its peak alone may rise
-completed_peaks : (K : Capacity) (nodes : List NodeRow) (quotas : List QuotaRow) (counters made : List Counter) (m n : ℕ) → IsEngine K nodes quotas counters true → made ≡ sums_of K nodes (with_change folder_of n (in_state Complete) quotas) → with_change folder_of n (raised made m) (with_change folder_of n (in_state Complete) quotas) ≡ map (peaked K nodes m) (with_change folder_of n (in_state Complete) quotas)
+completed_peaks : (K : Capacity) (nodes : List NodeRow) (quotas : List QuotaRow) (counters made : List Counter) (m n : ℕ) → IsCounted K nodes quotas counters true → made ≡ sums_of K nodes (with_change folder_of n (in_state Complete) quotas) → with_change folder_of n (raised made m) (with_change folder_of n (in_state Complete) quotas) ≡ map (peaked K nodes m) (with_change folder_of n (in_state Complete) quotas)
 completed_peaks K nodes quotas counters made m n e sums =
     map_same (λ r. if folder_of r == n then raised made m r else r) (peaked K nodes m) after (each_found folder_of _ after asc (λ r found. at r found (folder_of r == n) refl))
   where
@@ -382,9 +384,10 @@ completed_peaks K nodes quotas counters made m n e sums =
 -- what is kept when it counts
 pub record Completes (K : Capacity) (nodes : List NodeRow) (quotas set : List QuotaRow) (made : List Counter) (m n : ℕ) (level : Bool) : Type 0 where
   pub quotas_are : map (peaked K nodes m) set ≡ map (peaked K nodes m) (with_change folder_of n (in_state Complete) quotas)
-  pub engine : IsEngine K nodes set made level
+  pub sums : made ≡ sums_of K nodes (with_change folder_of n (in_state Complete) quotas)
+  pub engine : IsCounted K nodes set made level
 
-pub completes : {level : Bool} (K : Capacity) (nodes : List NodeRow) (quotas in_it set : List QuotaRow) (counters made : List Counter) (m n used : ℕ) → IsEngine K nodes quotas counters level → m ≤ latest_moment → has_row folder_of n quotas ≡ true → ((q : QuotaRow) → row_of folder_of n quotas ≡ Some q → counts q ≡ false) → used ≡ usage K nodes n → made ≡ with_counter counters n used → in_it ≡ with_change folder_of n (in_state Complete) quotas → set ≡ with_change folder_of n (raised made m) in_it → Completes K nodes quotas set made m n level
+pub completes : {level : Bool} (K : Capacity) (nodes : List NodeRow) (quotas in_it set : List QuotaRow) (counters made : List Counter) (m n used : ℕ) → IsCounted K nodes quotas counters level → m ≤ latest_moment → has_row folder_of n quotas ≡ true → ((q : QuotaRow) → row_of folder_of n quotas ≡ Some q → counts q ≡ false) → used ≡ usage K nodes n → made ≡ with_counter counters n used → in_it ≡ with_change folder_of n (in_state Complete) quotas → set ≡ with_change folder_of n (raised made m) in_it → Completes K nodes quotas set made m n level
 completes {level} K nodes quotas in_it set counters made m n used e late there uncounted u begun state raises =
     let f = has_found folder_of n quotas there in
     let after = with_change folder_of n (in_state Complete) quotas in
@@ -393,7 +396,20 @@ completes {level} K nodes quotas in_it set counters made m n used e late there u
     let is : set ≡ with_change folder_of n (raised made m) after = raises ∙ ap (with_change folder_of n (raised made m)) state in
     record {
       quotas_are = ap (map (peaked K nodes m)) is ∙ some_settled K nodes (is_on n) after made m are.ascending sums;
-      engine = subst (λ (qs : List QuotaRow). IsEngine K nodes qs made level) (sym is)
+      sums = sums;
+      engine = subst (λ (qs : List QuotaRow). IsCounted K nodes qs made level) (sym is)
           (engine_raised K nodes (is_on n) after made m e.volume e.legal are (is_moment_of m late) sums
-          (λ l. completed_peaks K nodes quotas counters made m n (subst (IsEngine K nodes quotas counters) l e) sums));
+          (λ l. completed_peaks K nodes quotas counters made m n (subst (IsCounted K nodes quotas counters) l e) sums));
     }
+
+-- parts whose quotas and counters have changed so
+pub recounted_as : (p : Parts) (tables : Tables) (counters : List Counter) (quotas : List QuotaRow) → tables ≡ record { quotas = quotas } → IsCounted p.tree.size p.tree.nodes tables.quotas counters p.level → record p { objects = tables; usage = counters } ≡ recounted p quotas
+recounted_as p tables counters quotas is e =
+    ap (λ (cs : List Counter). record p { objects = tables; usage = cs }) e.sums
+    ∙ ap (λ (t : Tables). record p { objects = t; usage = sums_of p.tree.size p.tree.nodes t.quotas }) is
+
+pub completed_as : (p : Parts) (tables : Tables) (counters : List Counter) (n m : ℕ) → Completes p.tree.size p.tree.nodes p.objects.quotas tables.quotas counters m n p.level → ended (record p { objects = tables; usage = counters }) m ≡ ended (recounted p (with_change folder_of n (in_state Complete) p.objects.quotas)) m
+completed_as p tables counters n m done =
+    let after = with_change folder_of n (in_state Complete) p.objects.quotas in
+    ap (λ (cs : List Counter). record p { objects = record p.objects { quotas = map (peaked p.tree.size p.tree.nodes m) tables.quotas }; usage = cs; level = true; last_moment = m }) done.sums
+    ∙ ap (λ (qs : List QuotaRow). record p { objects = record p.objects { quotas = qs }; usage = sums_of p.tree.size p.tree.nodes after; level = true; last_moment = m }) done.quotas_are

@@ -1,15 +1,23 @@
 -- What each file operation leaves to the active scan.
-use Rattle.std.proofs.Common.{◌≡◌, ℕ, suc, length, ◌==◌, Bool, true, false, List, Some, ap, subst, sym, ◌∙◌}
+use Rattle.std.proofs.Common.{◌≡◌, ℕ, suc, length, ◌==◌, ◌≤◌, Bool, true, false, List, [], Option, Some, None, refl, ap, subst, sym, ◌∙◌}
 use Rattle.std.proofs.lemmas.Option.{same_Some}
-use Rattle.std.specs.Prelude.{Result, Ok, Err, OnOk}
+use Rattle.std.specs.Prelude.{Result, Ok, Err, OnOk, map, if◌then◌else◌}
+use Rattle.std.specs.Option.{option_map_or}
+use Rattle.fsrm_model.specs.declared.command.Answer.{Answer}
+use Rattle.fsrm_model.specs.declared.command.Deed.TheVariants.{File}
+use Rattle.fsrm_model.specs.declared.command.FileOp.{FileOp}
 use Rattle.fsrm_model.specs.declared.command.FileOp.TheVariants as op
-use Rattle.fsrm_model.specs.declared.command.FileOp.TheVariants.{Mkdir, Remove}
+use Rattle.fsrm_model.specs.declared.command.FileOp.TheVariants.{Mkdir, Create, Resize, Touch, Remove}
+use Rattle.fsrm_model.specs.declared.command.Outcome.TheVariants.{Done}
 use Rattle.fsrm_model.specs.declared.row.NodeRow.{NodeRow}
 use Rattle.fsrm_model.specs.declared.row.QuotaRow.{QuotaRow}
+use Rattle.fsrm_model.specs.declared.row.Rows.{Rows}
 use Rattle.fsrm_model.specs.FileOps.{made_node, target, target_folder, placed, plain}
 use Rattle.fsrm_model.specs.FileWork.{unvisited_in, file_effect}
 use Rattle.fsrm_base.specs.Keyed.{has_row, with_row, with_change}
 use Rattle.fsrm_base.specs.Numbers.{is_in, without_number}
+use Rattle.fsrm_model.specs.Quota.{peaked}
+use Rattle.fsrm_model.specs.QuotaStates.{head, scan_begun}
 use Rattle.fsrm_model.specs.Scan.{unvisited_with, unvisited_moved}
 use Rattle.fsrm_model.specs.Tree.{number, node_of, fresh, is_folder, folder_part, last_name, resolve, chain}
 use Rattle.fsrm_model.specs.Valid.{IsVolume}
@@ -24,20 +32,45 @@ use Rattle.scan_queue.specs.Courses.{Course, Scanning, Goes, left}
 use Rattle.scan_queue.proofs.Queues.{left_absent}
 use Rattle.volume_tree.specs.declared.answer.NodeView.{NodeView}
 use Rattle.volume_tree.specs.Volume.{Volume, Move, Shows, with_node, without_node, with_place}
-use Rattle.fsrm_engine.specs.Machine.{Machine, ScansOf, rows_with}
+use Rattle.fsrm_engine.specs.declared.parts.Parts.{Parts}
+use Rattle.fsrm_engine.specs.Machine.{Does, rows_of, ended}
 use Rattle.fsrm_engine.specs.Places.{IsPlace}
 use Rattle.fsrm_engine.proofs.PlaceLaws.{target_is}
-use Rattle.fsrm_engine.proofs.StepLaws.{machine}
+use Rattle.fsrm_engine.proofs.StepLaws.{due, done_as, same_own}
 
--- scans of the machine, seen from inside, and scans of the nodes, seen from outside
-pub within_scans : (v : Volume) (quotas : List QuotaRow) (last : ℕ) (old : Machine) (s : Course) → machine v quotas last ≡ old → ScansOf old s → Scanning v s
-within_scans v quotas last old s view h = subst (λ (o : Machine). ScansOf o s) (sym view) h
+-- the rows that a file operation leaves, table by table
+effect_is : (R : Rows) (op : FileOp) (m : ℕ) → file_effect R op m ≡ record R { nodes = plain R.nodes op m; quotas = (file_effect R op m).quotas; queue = (file_effect R op m).queue; unvisited = option_map_or (unvisited_in R (plain R.nodes op m) op) (head R.queue) [] }
+effect_is R (Mkdir path owner) m = refl
+effect_is R (Create path length owner) m = refl
+effect_is R (Resize path length) m = refl
+effect_is R (Touch path) m = refl
+effect_is R (op.Move from to) m = refl
+effect_is R (Remove path) m = refl
 
-pub scans_at : (w : Volume) (quotas : List QuotaRow) (m : ℕ) (new : Machine) (t : Course) → new ≡ machine w quotas m → Scanning w t → ScansOf new t
-scans_at w quotas m new t is h = subst (λ (n : Machine). ScansOf n t) (sym is) h
+pub effect_as : (R : Rows) (op : FileOp) (m : ℕ) (nodes : List NodeRow) (quotas : List QuotaRow) (queue : List ℕ) → plain R.nodes op m ≡ nodes → (file_effect R op m).quotas ≡ quotas → (file_effect R op m).queue ≡ queue → file_effect R op m ≡ record R { nodes = nodes; quotas = quotas; queue = queue; unvisited = option_map_or (unvisited_in R (plain R.nodes op m) op) (head R.queue) [] }
+effect_as R op m nodes quotas queue nodes_are quotas_are queue_is =
+    let u = option_map_or (unvisited_in R (plain R.nodes op m) op) (head R.queue) [] in
+    effect_is R op m
+    ∙ (ap (λ (ns : List NodeRow). record R { nodes = ns; quotas = (file_effect R op m).quotas; queue = (file_effect R op m).queue; unvisited = u }) nodes_are
+    ∙ (ap (λ (qs : List QuotaRow). record R { nodes = nodes; quotas = qs; queue = (file_effect R op m).queue; unvisited = u }) quotas_are
+    ∙ ap (λ (q : List ℕ). record R { nodes = nodes; quotas = quotas; queue = q; unvisited = u }) queue_is))
 
-pub nodes_at : (w : Volume) (quotas : List QuotaRow) (m : ℕ) (new : Machine) → new ≡ machine w quotas m → w.nodes ≡ new.rows.nodes
-nodes_at w quotas m new is = sym (ap (λ (n : Machine). n.rows.nodes) is)
+option_each : (f g : ℕ → List ℕ) (o : Option ℕ) → ((n : ℕ) → f n ≡ g n) → option_map_or f o [] ≡ option_map_or g o []
+option_each f g None h = refl
+option_each f g (Some n) h = h n
+
+-- the answer to an operation that was done, and left the queue as it was
+pub op_done : (p mid new : Parts) (m : ℕ) (op : FileOp) (answer : Answer) (quotas : List QuotaRow) (next : ℕ → List ℕ) → p.last_moment ≤ m → due p m (File op) ≡ None → plain p.tree.nodes op m ≡ mid.tree.nodes → (file_effect (rows_of p) op m).quotas ≡ quotas → (file_effect (rows_of p) op m).queue ≡ p.scans.queue → ((k : ℕ) → unvisited_in (rows_of p) (plain p.tree.nodes op m) op k ≡ next k) → Goes p.scans mid.scans mid.tree next → mid.tree.size ≡ p.tree.size → map (peaked p.tree.size mid.tree.nodes m) mid.objects.quotas ≡ map (peaked p.tree.size mid.tree.nodes m) quotas → new ≡ ended mid m → answer ≡ record { outcome = Done None; lasting = true } → Does p new m (File op) answer
+op_done p mid new m op answer quotas next late none nodes quotas_are queue each goes size raised ends e =
+    let R = rows_of p in
+    let u = option_map_or (unvisited_in R (plain R.nodes op m) op) (head R.queue) [] in
+    done_as p mid new m (File op) answer quotas p.scans.queue u late none
+    (effect_as R op m mid.tree.nodes quotas p.scans.queue nodes quotas_are queue)
+    refl refl size raised goes.queue
+    (goes.left_is
+    ∙ (sym (option_each (unvisited_in R (plain R.nodes op m) op) next (head R.queue) each)
+    ∙ sym (ap (λ b. if b then u else scan_begun mid.tree.nodes p.scans.queue) (same_own p.scans.queue))))
+    ends e
 
 -- a node that was made
 pub record IsMade (v w : Volume) (n : ℕ) (row : NodeRow) : Type 0 where
@@ -62,25 +95,24 @@ is_made v w n d name folder bytes owner m k made is =
 pub back_scans : (v w : Volume) (n : ℕ) (s : Course) → without_node w n ≡ v → Scanning v s → Scanning (without_node w n) s
 back_scans v w n s back h = subst (λ (u : Volume). Scanning u s) (sym back) h
 
-pub left_back : (v w : Volume) (quotas : List QuotaRow) (last n : ℕ) (old : Machine) (s : Course) → machine v quotas last ≡ old → without_node w n ≡ v → left old.rows.nodes s ≡ left (without_node w n).nodes s
-left_back v w quotas last n old s view back =
-    ap (λ (o : Machine). left o.rows.nodes s) (sym view) ∙ ap (λ (u : Volume). left u.nodes s) (sym back)
+-- what a new file and a new folder leave
+pub left_back : (p : Parts) (w : Volume) (n : ℕ) → without_node w n ≡ p.tree → left p.tree.nodes p.scans ≡ left (without_node w n).nodes p.scans
+left_back p w n back = ap (λ (u : Volume). left u.nodes p.scans) (sym back)
 
--- what a new folder leaves
-pub mkdir_next : (v w : Volume) (quotas : List QuotaRow) (last : ℕ) (old : Machine) (s : Course) (path : List (List ℕ)) (d : ℕ) (name : List ℕ) (owner m n : ℕ) (nodes : List NodeRow) → machine v quotas last ≡ old → IsPlace v.nodes path d name → without_node w n ≡ v → (k : ℕ) → unvisited_in (rows_with old s) nodes (Mkdir path owner) k ≡ unvisited_with (made_node v.nodes d name true 0 owner m) (left (without_node w n).nodes s)
-mkdir_next v w quotas last old s path d name owner m n nodes view p back k =
-    let row = λ (f : ℕ). made_node v.nodes f name true 0 owner m in
-    ap (λ (o : Machine). unvisited_in (rows_with o s) nodes (Mkdir path owner) k) (sym view)
-    ∙ (ap (λ f. unvisited_with (row f) (left v.nodes s)) (target_is v.nodes (folder_part path) d p.resolved)
-    ∙ ap (λ (u : Volume). unvisited_with (row d) (left u.nodes s)) (sym back))
+pub mkdir_next : (p : Parts) (w : Volume) (path : List (List ℕ)) (d : ℕ) (name : List ℕ) (owner m n : ℕ) (nodes : List NodeRow) → IsPlace p.tree.nodes path d name → without_node w n ≡ p.tree → (k : ℕ) → unvisited_in (rows_of p) nodes (Mkdir path owner) k ≡ unvisited_with (made_node p.tree.nodes d name true 0 owner m) (left (without_node w n).nodes p.scans)
+mkdir_next p w path d name owner m n nodes at back k =
+    let row = λ (f : ℕ). made_node p.tree.nodes f name true 0 owner m in
+    ap (λ f. unvisited_with (row f) (left p.tree.nodes p.scans)) (target_is p.tree.nodes (folder_part path) d at.resolved)
+    ∙ ap (λ (u : Volume). unvisited_with (row d) (left u.nodes p.scans)) (sym back)
 
 -- what a move leaves
-pub move_next : (v w : Volume) (quotas : List QuotaRow) (last : ℕ) (old : Machine) (s : Course) (from to : List (List ℕ)) (x d : ℕ) (name : List ℕ) (nodes : List NodeRow) → machine v quotas last ≡ old → resolve v.nodes from ≡ Some x → IsPlace v.nodes to d name → nodes ≡ (with_place v x d name).nodes → (k : ℕ) → unvisited_in (rows_with old s) nodes (op.Move from to) k ≡ unvisited_moved v.nodes (with_place v x d name).nodes k x d (left v.nodes s)
-move_next v w quotas last old s from to x d name nodes view at p is k =
-    ap (λ (o : Machine). unvisited_in (rows_with o s) nodes (op.Move from to) k) (sym view)
-    ∙ (ap (λ (ns : List NodeRow). unvisited_moved v.nodes ns k (target v.nodes from) (target_folder v.nodes to) (left v.nodes s)) is
+pub move_next : (p : Parts) (from to : List (List ℕ)) (x d : ℕ) (name : List ℕ) (nodes : List NodeRow) → resolve p.tree.nodes from ≡ Some x → IsPlace p.tree.nodes to d name → nodes ≡ (with_place p.tree x d name).nodes → (k : ℕ) → unvisited_in (rows_of p) nodes (op.Move from to) k ≡ unvisited_moved p.tree.nodes (with_place p.tree x d name).nodes k x d (left p.tree.nodes p.scans)
+move_next p from to x d name nodes at place is k =
+    let v = p.tree in
+    let s = p.scans in
+    ap (λ (ns : List NodeRow). unvisited_moved v.nodes ns k (target v.nodes from) (target_folder v.nodes to) (left v.nodes s)) is
     ∙ (ap (λ y. unvisited_moved v.nodes (with_place v x d name).nodes k y (target_folder v.nodes to) (left v.nodes s)) (target_is v.nodes from x at)
-    ∙ ap (λ f. unvisited_moved v.nodes (with_place v x d name).nodes k x f (left v.nodes s)) (target_is v.nodes (folder_part to) d p.resolved)))
+    ∙ ap (λ f. unvisited_moved v.nodes (with_place v x d name).nodes k x f (left v.nodes s)) (target_is v.nodes (folder_part to) d place.resolved))
 
 -- a file is in no queue
 pub file_absent : (v : Volume) (s : Course) (x : ℕ) → Scanning v s → is_folder v.nodes x ≡ false → without_number x s.queue ≡ s.queue
@@ -92,9 +124,6 @@ goes_to s t w u next is h = subst (λ (x : Volume). Goes s t x next) (sym is) h
 
 pub volume_is : (w u : Volume) → w ≡ u → IsVolume w.size w.nodes → IsVolume u.size u.nodes
 volume_is w u is h = subst (λ (x : Volume). IsVolume x.size x.nodes) is h
-
-pub left_within : (v : Volume) (quotas : List QuotaRow) (last : ℕ) (old : Machine) (s : Course) → machine v quotas last ≡ old → left old.rows.nodes s ≡ left v.nodes s
-left_within v quotas last old s view = ap (λ (o : Machine). left o.rows.nodes s) (sym view)
 
 -- the length of the file that is shown, and of the one that was made
 pub shown_length : (nodes : List NodeRow) (n : ℕ) (view : NodeView) (row : NodeRow) → Shows view nodes n → node_of nodes n ≡ Some row → row.length ≡ view.length
@@ -116,15 +145,11 @@ made_chain v w n d name folder bytes owner m k is made at =
     ∙ ap length (chain-new v.nodes (tree_of v.size v.nodes k) row s.0 s.1 free (folder_has v.nodes d is)))
 
 -- a removal leaves the queue but for the node, and to the active scan all but it
-pub remove_queue : (v : Volume) (quotas : List QuotaRow) (last m : ℕ) (old : Machine) (s : Course) (path : List (List ℕ)) (n : ℕ) → machine v quotas last ≡ old → resolve v.nodes path ≡ Some n → (file_effect (rows_with old s) (Remove path) m).queue ≡ without_number n s.queue
-remove_queue v quotas last m old s path n view at =
-    ap (λ (o : Machine). (file_effect (rows_with o s) (Remove path) m).queue) (sym view)
-    ∙ ap (λ x. without_number x s.queue) (target_is v.nodes path n at)
+pub remove_queue : (p : Parts) (m : ℕ) (path : List (List ℕ)) (n : ℕ) → resolve p.tree.nodes path ≡ Some n → (file_effect (rows_of p) (Remove path) m).queue ≡ without_number n p.scans.queue
+remove_queue p m path n at = ap (λ x. without_number x p.scans.queue) (target_is p.tree.nodes path n at)
 
-pub remove_next : (v : Volume) (quotas : List QuotaRow) (last : ℕ) (old : Machine) (s : Course) (path : List (List ℕ)) (n : ℕ) (nodes : List NodeRow) → machine v quotas last ≡ old → resolve v.nodes path ≡ Some n → (k : ℕ) → unvisited_in (rows_with old s) nodes (Remove path) k ≡ without_number n (left v.nodes s)
-remove_next v quotas last old s path n nodes view at k =
-    ap (λ (o : Machine). unvisited_in (rows_with o s) nodes (Remove path) k) (sym view)
-    ∙ ap (λ x. without_number x (left v.nodes s)) (target_is v.nodes path n at)
+pub remove_next : (p : Parts) (path : List (List ℕ)) (n : ℕ) (nodes : List NodeRow) → resolve p.tree.nodes path ≡ Some n → (k : ℕ) → unvisited_in (rows_of p) nodes (Remove path) k ≡ without_number n (left p.tree.nodes p.scans)
+remove_next p path n nodes at k = ap (λ x. without_number x (left p.tree.nodes p.scans)) (target_is p.tree.nodes path n at)
 
 -- what is known of a call that succeeded
 pub when_ok : {A E : Type 0} {P : Type 0} (r : Result A E) (u : A) → r ≡ Ok u → OnOk r P → P
@@ -136,9 +161,8 @@ pub made_ready : (v w : Volume) (ready : Move) (n d : ℕ) (name : List ℕ) →
 made_ready v w ready n d name is made = made ∙ ap (λ (m : Move). with_place v m.node m.folder m.name) is
 
 -- its nodes are those of the definition
-pub move_nodes : (v : Volume) (x d : ℕ) (name : List ℕ) (quotas : List QuotaRow) (last : ℕ) (old : Machine) (from to : List (List ℕ)) (m : ℕ) → machine v quotas last ≡ old → resolve v.nodes from ≡ Some x → IsPlace v.nodes to d name → plain old.rows.nodes (op.Move from to) m ≡ (with_place v x d name).nodes
-move_nodes v x d name quotas last old from to m view at p =
-    ap (λ (o : Machine). plain o.rows.nodes (op.Move from to) m) (sym view)
-    ∙ (ap (λ y. with_change number y (placed (target_folder v.nodes to) (last_name to)) v.nodes) (target_is v.nodes from x at)
+pub move_nodes : (v : Volume) (from to : List (List ℕ)) (x d : ℕ) (name : List ℕ) (m : ℕ) → resolve v.nodes from ≡ Some x → IsPlace v.nodes to d name → plain v.nodes (op.Move from to) m ≡ (with_place v x d name).nodes
+move_nodes v from to x d name m at p =
+    ap (λ y. with_change number y (placed (target_folder v.nodes to) (last_name to)) v.nodes) (target_is v.nodes from x at)
     ∙ (ap (λ f. with_change number x (placed f (last_name to)) v.nodes) (target_is v.nodes (folder_part to) d p.resolved)
-    ∙ ap (λ k. with_change number x (placed d k) v.nodes) p.name_is))
+    ∙ ap (λ k. with_change number x (placed d k) v.nodes) p.name_is)

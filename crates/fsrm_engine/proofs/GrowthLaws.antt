@@ -35,10 +35,11 @@ use Rattle.volume_tree.specs.declared.answer.NodeView.{NodeView}
 use Rattle.volume_tree.specs.declared.answer.TreeFault.{TreeFault}
 use Rattle.volume_tree.specs.Volume.{Volume, with_length}
 use Rattle.fsrm_engine.specs.Faults.{exceeded_refusal}
-use Rattle.fsrm_engine.specs.Machine.{rows_at, sums_of, IsEngine}
+use Rattle.fsrm_engine.specs.declared.parts.Parts.{Parts}
+use Rattle.fsrm_engine.specs.Machine.{rows_of, sums_of, IsCounted, AreCounted}
 use Rattle.fsrm_engine.specs.Peaks.{raised_above}
 use Rattle.fsrm_engine.specs.Places.{IsFile}
-use Rattle.fsrm_engine.proofs.StepLaws.{asked_of, due, tree_first, last_check}
+use Rattle.fsrm_engine.proofs.StepLaws.{due, tree_first, last_check}
 use Rattle.fsrm_engine.proofs.PlaceLaws.{target_is}
 use Rattle.fsrm_engine.proofs.SumLaws.{sums_has}
 use Rattle.fsrm_engine.proofs.ChangeLaws.{Changes, changes_resized}
@@ -52,16 +53,16 @@ owned K nodes quotas counters sums folder h = sums_has K nodes folder quotas (su
 
 -- what is kept where counters were charged and peaks raised
 pub record Charged (K : Capacity) (new : List NodeRow) (quotas raised : List QuotaRow) (counters : List Counter) (m : ℕ) (level : Bool) : Type 0 where
-  pub engine : IsEngine K new raised counters level
+  pub engine : IsCounted K new raised counters level
   pub raised_are : map (peaked K new m) raised ≡ map (peaked K new m) quotas
 
-pub charged_done : {level : Bool} (K : Capacity) (nodes new : List NodeRow) (quotas raised : List QuotaRow) (counters charged_are : List Counter) (change : Change) (m : ℕ) → IsEngine K nodes quotas counters level → IsVolume K new → ((f : ℕ) (q : QuotaRow) → row_of folder_of f quotas ≡ Some q → is_folder nodes f ≡ true → is_folder new f ≡ true) → Changes K nodes new quotas change → is_moment m ≡ true → charged_are ≡ map (charged_counter new change) counters → raised ≡ map (raised_above new change.to charged_are m) quotas → Charged K new quotas raised charged_are m level
+pub charged_done : {level : Bool} (K : Capacity) (nodes new : List NodeRow) (quotas raised : List QuotaRow) (counters charged_are : List Counter) (change : Change) (m : ℕ) → IsCounted K nodes quotas counters level → IsVolume K new → ((f : ℕ) (q : QuotaRow) → row_of folder_of f quotas ≡ Some q → is_folder nodes f ≡ true → is_folder new f ≡ true) → Changes K nodes new quotas change → is_moment m ≡ true → charged_are ≡ map (charged_counter new change) counters → raised ≡ map (raised_above new change.to charged_are m) quotas → Charged K new quotas raised charged_are m level
 charged_done {level} K nodes new quotas raised counters charged_are change m e v folders c moment charging raising =
     let sums : charged_are ≡ sums_of K new quotas = charging ∙ counters_charged K nodes new quotas counters change e.are_quotas c e.sums in
     let qs = quotas_kept nodes new quotas e.are_quotas folders in
     let above : QuotaRow → Bool = λ q. is_above new change.to q.folder in
     record {
-      engine = subst (λ (rows : List QuotaRow). IsEngine K new rows charged_are level) (sym raising)
+      engine = subst (λ (rows : List QuotaRow). IsCounted K new rows charged_are level) (sym raising)
           (engine_raised K new above quotas charged_are m v e.legal qs moment sums (λ l. peaks_raised K nodes new quotas charged_are change m e.are_quotas c sums (e.peaks l)));
       raised_are = ap (map (peaked K new m)) raising ∙ some_settled K new above quotas charged_are m qs.ascending sums;
     }
@@ -117,19 +118,20 @@ resize_changes K nodes quotas path view bytes m minus plus v qs f less more =
 listed : (file : Bool) (o : Check) → file ≡ true → first ((PathNotFound when not file) ∷ o ∷ []) ≡ o
 listed file o h = ap (λ b. first ((PathNotFound when not b) ∷ o ∷ [])) h ∙ last_check o
 
-pub resize_due : (v : Volume) (quotas : List QuotaRow) (last m : ℕ) (path : List (List ℕ)) (view : NodeView) (bytes : ℕ) → IsVolume v.size v.nodes → IsFile v.nodes path view → due v quotas last m (File (Resize path bytes)) ≡ exceeded v.size (rows_at v.nodes quotas last) (with_change number view.number (resized bytes m) v.nodes)
-resize_due v quotas last m path view bytes k f =
-    let r = file_row v.size v.nodes path view k f in
-    let leads : leads_to_file v.nodes path ≡ true = ap (λ o. option_map_or (λ n. not (is_folder v.nodes n)) o false) f.resolved ∙ ap not r.is_file in
-    listed (leads_to_file v.nodes path) (exceeded v.size (rows_at v.nodes quotas last) (with_change number (target v.nodes path) (resized bytes m) v.nodes)) leads
-    ∙ ap (λ n. exceeded v.size (rows_at v.nodes quotas last) (with_change number n (resized bytes m) v.nodes)) (target_is v.nodes path view.number f.resolved)
+pub resize_due : (p : Parts) (m : ℕ) (path : List (List ℕ)) (view : NodeView) (bytes : ℕ) → IsVolume p.tree.size p.tree.nodes → IsFile p.tree.nodes path view → due p m (File (Resize path bytes)) ≡ exceeded p.tree.size (rows_of p) (with_change number view.number (resized bytes m) p.tree.nodes)
+resize_due p m path view bytes k f =
+    let nodes = p.tree.nodes in
+    let r = file_row p.tree.size nodes path view k f in
+    let leads : leads_to_file nodes path ≡ true = ap (λ o. option_map_or (λ n. not (is_folder nodes n)) o false) f.resolved ∙ ap not r.is_file in
+    listed (leads_to_file nodes path) (exceeded p.tree.size (rows_of p) (with_change number (target nodes path) (resized bytes m) nodes)) leads
+    ∙ ap (λ n. exceeded p.tree.size (rows_of p) (with_change number n (resized bytes m) nodes)) (target_is nodes path view.number f.resolved)
 
 -- by the counters
-pub admitted : {level : Bool} (v : Volume) (quotas : List QuotaRow) (last : ℕ) (counters : List Counter) (new : List NodeRow) (change : Change) → IsEngine v.size v.nodes quotas counters level → Changes v.size v.nodes new quotas change → over_by v.nodes quotas counters change ≡ [] → exceeded v.size (rows_at v.nodes quotas last) new ≡ None
-admitted v quotas last counters new change e c h = none_exceeded v.size (rows_at v.nodes quotas last) new change counters e.sums e.are_quotas c h
+pub admitted : (p : Parts) (new : List NodeRow) (change : Change) → AreCounted p → Changes p.tree.size p.tree.nodes new p.objects.quotas change → over_by p.tree.nodes p.objects.quotas p.usage change ≡ [] → exceeded p.tree.size (rows_of p) new ≡ None
+admitted p new change e c h = none_exceeded p.tree.size (rows_of p) new change p.usage e.sums e.are_quotas c h
 
-pub refused_by_quota : {level : Bool} (v : Volume) (quotas : List QuotaRow) (last : ℕ) (counters : List Counter) (new : List NodeRow) (change : Change) (x : Exceeded) → IsEngine v.size v.nodes quotas counters level → Changes v.size v.nodes new quotas change → exceeded_by v.nodes quotas counters change ≡ Some x → exceeded v.size (rows_at v.nodes quotas last) new ≡ Some (exceeded_refusal x)
-refused_by_quota v quotas last counters new change x e c h = one_exceeded v.size (rows_at v.nodes quotas last) new change counters x e.sums e.are_quotas c h
+pub refused_by_quota : (p : Parts) (new : List NodeRow) (change : Change) (x : Exceeded) → AreCounted p → Changes p.tree.size p.tree.nodes new p.objects.quotas change → exceeded_by p.tree.nodes p.objects.quotas p.usage change ≡ Some x → exceeded p.tree.size (rows_of p) new ≡ Some (exceeded_refusal x)
+refused_by_quota p new change x e c h = one_exceeded p.tree.size (rows_of p) new change p.usage x e.sums e.are_quotas c h
 
 -- where the tree has nothing against it, the quota decides
 pub due_none : (o : Option TreeFault) (more : Option Refusal) → o ≡ None → more ≡ None → tree_first o more ≡ None
@@ -156,22 +158,16 @@ file_parent K nodes path view v f =
 
 -- the same of a tree that was changed
 pub record ChargedTo (v w : Volume) (quotas raised : List QuotaRow) (counters : List Counter) (m : ℕ) (level : Bool) : Type 0 where
-  pub engine : IsEngine w.size w.nodes raised counters level
+  pub engine : IsCounted w.size w.nodes raised counters level
   pub raised_are : map (peaked v.size w.nodes m) raised ≡ map (peaked v.size w.nodes m) quotas
 
-pub charged_at : {level : Bool} (v w : Volume) (new : List NodeRow) (quotas : List QuotaRow) (tables : Tables) (counters charged_are : List Counter) (change : Change) (m : ℕ) → w ≡ record { size = v.size; nodes = new } → IsEngine v.size v.nodes quotas counters level → IsVolume w.size w.nodes → ((f : ℕ) (q : QuotaRow) → row_of folder_of f quotas ≡ Some q → is_folder v.nodes f ≡ true → is_folder new f ≡ true) → Changes v.size v.nodes new quotas change → m ≤ 4102444799 → charged_are ≡ map (charged_counter w.nodes change) counters → tables ≡ record { quotas = map (raised_above w.nodes change.to charged_are m) quotas } → ChargedTo v w quotas tables.quotas charged_are m level
+pub charged_at : {level : Bool} (v w : Volume) (new : List NodeRow) (quotas : List QuotaRow) (tables : Tables) (counters charged_are : List Counter) (change : Change) (m : ℕ) → w ≡ record { size = v.size; nodes = new } → IsCounted v.size v.nodes quotas counters level → IsVolume w.size w.nodes → ((f : ℕ) (q : QuotaRow) → row_of folder_of f quotas ≡ Some q → is_folder v.nodes f ≡ true → is_folder new f ≡ true) → Changes v.size v.nodes new quotas change → m ≤ 4102444799 → charged_are ≡ map (charged_counter w.nodes change) counters → tables ≡ record { quotas = map (raised_above w.nodes change.to charged_are m) quotas } → ChargedTo v w quotas tables.quotas charged_are m level
 charged_at {level} v w new quotas tables counters charged_are change m is e kept folders c late charging raising =
     subst (λ (u : Volume). IsVolume u.size u.nodes → charged_are ≡ map (charged_counter u.nodes change) counters → tables ≡ record { quotas = map (raised_above u.nodes change.to charged_are m) quotas } → ChargedTo v u quotas tables.quotas charged_are m level) (sym is)
     (λ volume charging raising.
     let d = charged_done v.size v.nodes new quotas tables.quotas counters charged_are change m e volume folders c (moment_is m late) charging (ap (λ (t : Tables). t.quotas) raising) in
     record { engine = d.engine; raised_are = d.raised_are })
     kept charging raising
-
--- the rows that another length leaves
-pub resize_effect : (v w : Volume) (quotas : List QuotaRow) (last m : ℕ) (path : List (List ℕ)) (view : NodeView) (bytes : ℕ) → IsFile v.nodes path view → w ≡ with_length v view.number bytes m → (asked_of v quotas last m (File (Resize path bytes))).effect ≡ rows_at w.nodes quotas last
-resize_effect v w quotas last m path view bytes f made =
-    ap (λ n. rows_at (with_change number n (resized bytes m) v.nodes) quotas last) (target_is v.nodes path view.number f.resolved)
-    ∙ ap (λ (u : Volume). rows_at u.nodes quotas last) (sym made)
 
 -- how high a file's folder is, before and after it got another length
 pub file_height : (K : Capacity) (nodes : List NodeRow) (path : List (List ℕ)) (view : NodeView) → IsVolume K nodes → IsFile nodes path view → length (chain nodes view.parent) ≤ length path
@@ -193,7 +189,7 @@ there_resized v w n bytes m p made h =
     ap (λ (u : Volume). has_row number p u.nodes) made ∙ (has_row-change number n (resized bytes m) (λ r. refl) p v.nodes ∙ h)
 
 -- what is kept where a file got another length
-pub resize_done : {level : Bool} (v w : Volume) (quotas : List QuotaRow) (tables : Tables) (counters charged_are : List Counter) (path : List (List ℕ)) (view : NodeView) (bytes m minus plus : ℕ) → IsEngine v.size v.nodes quotas counters level → IsFile v.nodes path view → minus ≡ alloc v.size view.length → plus ≡ alloc v.size bytes → w ≡ with_length v view.number bytes m → IsVolume w.size w.nodes → m ≤ 4102444799 →
+pub resize_done : {level : Bool} (v w : Volume) (quotas : List QuotaRow) (tables : Tables) (counters charged_are : List Counter) (path : List (List ℕ)) (view : NodeView) (bytes m minus plus : ℕ) → IsCounted v.size v.nodes quotas counters level → IsFile v.nodes path view → minus ≡ alloc v.size view.length → plus ≡ alloc v.size bytes → w ≡ with_length v view.number bytes m → IsVolume w.size w.nodes → m ≤ 4102444799 →
     charged_are ≡ map (charged_counter w.nodes (record { from = Some view.parent; to = Some view.parent; minus = minus; plus = plus })) counters → tables ≡ record { quotas = map (raised_above w.nodes (Some view.parent) charged_are m) quotas } → ChargedTo v w quotas tables.quotas charged_are m level
 resize_done v w quotas tables counters charged_are path view bytes m minus plus e f less more made kept late charging raising =
     charged_at v w (with_change number view.number (resized bytes m) v.nodes) quotas tables counters charged_are (record { from = Some view.parent; to = Some view.parent; minus = minus; plus = plus }) m made e kept

@@ -4,23 +4,19 @@ use Rattle.std.proofs.lemmas.Option.{same_Some}
 use Rattle.std.specs.Borrow.{Bor}
 use Rattle.std.specs.Prelude.{map, filter, is_some, if◌then◌else◌}
 use Rattle.std.specs.Option.{option_and_then, option_copied, option_map_or}
-use Rattle.fsrm_model.specs.declared.command.Answer.{Answer}
-use Rattle.fsrm_model.specs.declared.command.Deed.{Deed}
 use Rattle.fsrm_model.specs.declared.command.Deed.TheVariants.{File}
 use Rattle.fsrm_model.specs.declared.command.FileOp.TheVariants.{Touch}
-use Rattle.fsrm_model.specs.declared.command.Outcome.TheVariants.{Done}
 use Rattle.fsrm_model.specs.declared.command.Refusal.TheVariants.{PathNotFound}
 use Rattle.fsrm_model.specs.declared.row.Capacity.{Capacity}
 use Rattle.fsrm_model.specs.declared.row.NodeRow.{NodeRow}
 use Rattle.fsrm_model.specs.declared.row.QuotaRow.{QuotaRow}
 use Rattle.fsrm_model.specs.Capacities.{is_capacity}
 use Rattle.fsrm_model.specs.Check.{◌when◌, first}
-use Rattle.fsrm_model.specs.FileOps.{made_node, touched, target}
+use Rattle.fsrm_model.specs.FileOps.{made_node, touched}
 use Rattle.fsrm_base.specs.Keyed.{row_of, has_row, is_ascending, with_row, with_change, without_row}
 use Rattle.fsrm_model.specs.Limits.{longest_file}
-use Rattle.fsrm_model.specs.Quota.{folder_of, counts, peaked, used_of}
+use Rattle.fsrm_model.specs.Quota.{folder_of, counts, used_of}
 use Rattle.fsrm_model.specs.Space.{alloc, space}
-use Rattle.fsrm_model.specs.Step.{step}
 use Rattle.fsrm_model.specs.Tree.{number, parent_of, fresh, is_folder, is_under, is_child, children, resolve, chain, usage}
 use Rattle.fsrm_model.specs.Valid.{IsVolume}
 use Rattle.fsrm_model.proofs.ChainLaws.{Has, usage-new}
@@ -42,14 +38,15 @@ use Rattle.quota_usage.specs.Counters.{counted, used_in, without_counter}
 use Rattle.volume_tree.specs.declared.answer.NodeView.{NodeView}
 use Rattle.volume_tree.specs.declared.answer.TreeFault.TheVariants.{NotEmpty}
 use Rattle.volume_tree.specs.Volume.{Volume, Shows, with_node, with_touch, without_node, remove_fault}
-use Rattle.fsrm_engine.specs.Machine.{Machine, Takes, rows_at, counter_of, sums_of, IsEngine}
+use Rattle.fsrm_engine.specs.declared.parts.Parts.{Parts}
+use Rattle.fsrm_engine.specs.Machine.{rows_of, counter_of, sums_of, IsCounted, AreCounted}
 use Rattle.fsrm_engine.specs.Places.{IsFile}
 use Rattle.fsrm_engine.proofs.ChangeLaws.{Changes, changes_removed, not_zero}
 use Rattle.fsrm_engine.proofs.CountingLaws.{engine_without}
 use Rattle.fsrm_engine.proofs.PeakLaws.{quotas_kept, counters_charged}
-use Rattle.fsrm_engine.proofs.PlaceLaws.{shown_folder, target_is}
+use Rattle.fsrm_engine.proofs.PlaceLaws.{shown_folder}
 use Rattle.fsrm_base.proofs.RowLaws.{each_found, all_filter, map_same}
-use Rattle.fsrm_engine.proofs.StepLaws.{machine, due, asked_of, done_at}
+use Rattle.fsrm_engine.proofs.StepLaws.{due}
 use Rattle.fsrm_engine.proofs.SumLaws.{shown_of, used_sums}
 use Rattle.fsrm_engine.proofs.WalkLaws.{usage_small}
 
@@ -108,7 +105,7 @@ sums_same K nodes new quotas asc same =
     (λ q found counting. ap (λ n. record { folder = q.folder; bytes = n }) (sym (same q.folder q found)))))
 
 -- usage stays
-idle_same : {level : Bool} (K : Capacity) (nodes new : List NodeRow) (quotas : List QuotaRow) (counters : List Counter) → IsEngine K nodes quotas counters level → IsVolume K new → ((f : ℕ) (q : QuotaRow) → row_of folder_of f quotas ≡ Some q → usage K new f ≡ usage K nodes f) → ((f : ℕ) (q : QuotaRow) → row_of folder_of f quotas ≡ Some q → is_folder nodes f ≡ true → is_folder new f ≡ true) → IsEngine K new quotas counters level
+idle_same : {level : Bool} (K : Capacity) (nodes new : List NodeRow) (quotas : List QuotaRow) (counters : List Counter) → IsCounted K nodes quotas counters level → IsVolume K new → ((f : ℕ) (q : QuotaRow) → row_of folder_of f quotas ≡ Some q → usage K new f ≡ usage K nodes f) → ((f : ℕ) (q : QuotaRow) → row_of folder_of f quotas ≡ Some q → is_folder nodes f ≡ true → is_folder new f ≡ true) → IsCounted K new quotas counters level
 idle_same K nodes new quotas counters e v same folders =
     record {
       volume = v;
@@ -123,7 +120,7 @@ no_more n new true h = omega arith
 no_more n new false h = omega arith
 
 -- a folder is made
-pub idle_made : {level : Bool} (v w : Volume) (quotas : List QuotaRow) (counters : List Counter) (d : ℕ) (name : List ℕ) (owner m : ℕ) → IsEngine v.size v.nodes quotas counters level → is_folder v.nodes d ≡ true → w ≡ with_node v (made_node v.nodes d name true 0 owner m) → IsVolume w.size w.nodes → IsEngine w.size w.nodes quotas counters level
+pub idle_made : {level : Bool} (v w : Volume) (quotas : List QuotaRow) (counters : List Counter) (d : ℕ) (name : List ℕ) (owner m : ℕ) → IsCounted v.size v.nodes quotas counters level → is_folder v.nodes d ≡ true → w ≡ with_node v (made_node v.nodes d name true 0 owner m) → IsVolume w.size w.nodes → IsCounted w.size w.nodes quotas counters level
 idle_made {level} v w quotas counters d name owner m e folder made kept =
     let K = v.size in
     let nodes = v.nodes in
@@ -133,7 +130,7 @@ idle_made {level} v w quotas counters d name owner m e folder made kept =
     let inner : (fresh nodes == 0) ≡ false = not_true _ (λ z. clash _ (subst (Has nodes) (sym (eq_is _ _ z)) e.volume.has_root) free) in
     let s = as_suc (fresh nodes) inner in
     let hd : Has nodes d = folder_has nodes d folder in
-    subst (λ (w : Volume). IsEngine w.size w.nodes quotas counters level) (sym made)
+    subst (λ (w : Volume). IsCounted w.size w.nodes quotas counters level) (sym made)
     (idle_same K nodes (with_row number node nodes) quotas counters e (subst (λ (w : Volume). IsVolume w.size w.nodes) made kept)
     (λ f q found. no_more (usage K nodes f) (usage K (with_row number node nodes) f) (is_under nodes f d) (usage-new K nodes t node s.0 s.1 free hd f (folder_has nodes f (e.are_quotas.folders f q found))))
     (λ f q found h. folder-new nodes node f free h))
@@ -143,14 +140,14 @@ same_space n new s true h = omega arith
 same_space n new s false h = omega arith
 
 -- a file is read
-pub idle_touched : {level : Bool} (v w : Volume) (quotas : List QuotaRow) (counters : List Counter) (x m : ℕ) → IsEngine v.size v.nodes quotas counters level → has_row number x v.nodes ≡ true → w ≡ with_touch v x m → IsVolume w.size w.nodes → IsEngine w.size w.nodes quotas counters level
+pub idle_touched : {level : Bool} (v w : Volume) (quotas : List QuotaRow) (counters : List Counter) (x m : ℕ) → IsCounted v.size v.nodes quotas counters level → has_row number x v.nodes ≡ true → w ≡ with_touch v x m → IsVolume w.size w.nodes → IsCounted w.size w.nodes quotas counters level
 idle_touched {level} v w quotas counters x m e has made kept =
     let K = v.size in
     let nodes = v.nodes in
     let new = with_change number x (touched m) nodes in
     let found = has_found number x nodes has in
     let place : KeepsPlace (touched m) = record { same_number = λ r. refl; same_parent = λ r. refl } in
-    subst (λ (w : Volume). IsEngine w.size w.nodes quotas counters level) (sym made)
+    subst (λ (w : Volume). IsCounted w.size w.nodes quotas counters level) (sym made)
     (idle_same K nodes new quotas counters e (subst (λ (w : Volume). IsVolume w.size w.nodes) made kept)
     (λ f q h. same_space (usage K nodes f) (usage K new f) (space K found.row) (is_under nodes f found.row.number) (usage-change K nodes x (touched m) place e.volume.ascending found.row found.is f))
     (λ f q h g. folder-change nodes x f (touched m) (λ r. refl) (λ r. refl) ∙ g))
@@ -158,24 +155,8 @@ idle_touched {level} v w quotas counters x m e has made kept =
 touch_at : (n : ℕ) (nodes : List NodeRow) (o : Option ℕ) → o ≡ Some n → is_folder nodes n ≡ false → first ((PathNotFound when not (option_map_or (λ n. not (is_folder nodes n)) o false)) ∷ []) ≡ None
 touch_at n nodes o e file = rw (e, file) refl
 
-pub touch_due : (v : Volume) (quotas : List QuotaRow) (last m : ℕ) (path : List (List ℕ)) (view : NodeView) → IsFile v.nodes path view → due v quotas last m (File (Touch path)) ≡ None
-touch_due v quotas last m path view p = touch_at view.number v.nodes (resolve v.nodes path) p.resolved (shown_folder v.nodes view.number view p.shows ∙ p.file)
-
-pub touched_is : (v : Volume) (path : List (List ℕ)) (n m : ℕ) → resolve v.nodes path ≡ Some n → with_touch v n m ≡ with_touch v (target v.nodes path) m
-touched_is v path n m h = sym (ap (λ k. with_touch v k m) (target_is v.nodes path n h))
-
--- what a path leads to, and of which kind it is, seen from inside
-pub resolved_within : (v : Volume) (quotas : List QuotaRow) (last : ℕ) (old : Machine) (path : List (List ℕ)) (n : ℕ) → machine v quotas last ≡ old → resolve old.rows.nodes path ≡ Some n → resolve v.nodes path ≡ Some n
-resolved_within v quotas last old path n is h = ap (λ (o : Machine). resolve o.rows.nodes path) is ∙ h
-
-pub folder_within_is : (v : Volume) (quotas : List QuotaRow) (last : ℕ) (old : Machine) (n : ℕ) (b : Bool) → machine v quotas last ≡ old → is_folder old.rows.nodes n ≡ b → is_folder v.nodes n ≡ b
-folder_within_is v quotas last old n b is h = ap (λ (o : Machine). is_folder o.rows.nodes n) is ∙ h
-
--- the rows that a removal leaves
-pub gone_is : (v w : Volume) (quotas after : List QuotaRow) (last : ℕ) (path : List (List ℕ)) (n : ℕ) → resolve v.nodes path ≡ Some n → w ≡ without_node v n → after ≡ without_row folder_of n quotas → rows_at (without_row number (target v.nodes path) v.nodes) (without_row folder_of (target v.nodes path) quotas) last ≡ rows_at w.nodes after last
-gone_is v w quotas after last path n h made left =
-    ap (λ k. rows_at (without_row number k v.nodes) (without_row folder_of k quotas) last) (target_is v.nodes path n h)
-    ∙ sym (ap (λ (w : Volume). rows_at w.nodes after last) made ∙ ap (λ qs. rows_at (without_row number n v.nodes) qs last) left)
+pub touch_due : (p : Parts) (m : ℕ) (path : List (List ℕ)) (view : NodeView) → IsFile p.tree.nodes path view → due p m (File (Touch path)) ≡ None
+touch_due p m path view f = touch_at view.number p.tree.nodes (resolve p.tree.nodes path) f.resolved (shown_folder p.tree.nodes view.number view f.shows ∙ f.file)
 
 -- a node without children may go
 
@@ -201,20 +182,20 @@ no_less n new s true z h = omega arith
 no_less n new s false z h = omega arith
 
 -- a folder goes, and with it its quota
-pub idle_gone : {level : Bool} (v w : Volume) (quotas after : List QuotaRow) (counters left : List Counter) (x : ℕ) → IsEngine v.size v.nodes quotas counters level → MayGo v.nodes x → is_folder v.nodes x ≡ true → w ≡ without_node v x → IsVolume w.size w.nodes → after ≡ without_row folder_of x quotas → left ≡ without_counter counters x → IsEngine w.size w.nodes after left level
+pub idle_gone : {level : Bool} (v w : Volume) (quotas after : List QuotaRow) (counters left : List Counter) (x : ℕ) → IsCounted v.size v.nodes quotas counters level → MayGo v.nodes x → is_folder v.nodes x ≡ true → w ≡ without_node v x → IsVolume w.size w.nodes → after ≡ without_row folder_of x quotas → left ≡ without_counter counters x → IsCounted w.size w.nodes after left level
 idle_gone {level} v w quotas after counters left x e may folder made kept quotas_are counters_are =
     let K = v.size in
     let nodes = v.nodes in
     let new = without_row number x nodes in
     let r = removes_of K nodes x e.volume may in
     let none : space K may.row ≡ 0 = ap (λ b. cond b 0 (alloc K may.row.length)) (sym (found_folder nodes x may.row may.found) ∙ folder) in
-    let e' : IsEngine K nodes (without_row folder_of x quotas) (without_counter counters x) level = engine_without K nodes quotas counters (without_counter counters x) x e refl in
-    let i : IsEngine K new (without_row folder_of x quotas) (without_counter counters x) level =
+    let e' : IsCounted K nodes (without_row folder_of x quotas) (without_counter counters x) level = engine_without K nodes quotas counters (without_counter counters x) x e refl in
+    let i : IsCounted K new (without_row folder_of x quotas) (without_counter counters x) level =
     idle_same K nodes new (without_row folder_of x quotas) (without_counter counters x) e' (subst (λ (w : Volume). IsVolume w.size w.nodes) made kept)
     (λ f q h. no_less (usage K nodes f) (usage K new f) (space K may.row) (is_under nodes f may.row.number) none (usage-removed K nodes x r e.volume.ascending may.row may.found f))
     (λ f q h g. folder_left nodes x f (left_found folder_of x f quotas q h).other g) in
-    subst (λ (w : Volume). IsEngine w.size w.nodes after left level) (sym made)
-    (subst (λ qs. IsEngine K new qs left level) (sym quotas_are) (subst (λ cs. IsEngine K new (without_row folder_of x quotas) cs level) (sym counters_are) i))
+    subst (λ (w : Volume). IsCounted w.size w.nodes after left level) (sym made)
+    (subst (λ qs. IsCounted K new qs left level) (sym quotas_are) (subst (λ cs. IsCounted K new (without_row folder_of x quotas) cs level) (sym counters_are) i))
 
 -- the counters of an engine are small
 small_at : (K : Capacity) (nodes : List NodeRow) (q : QuotaRow) (bytes : ℕ) (b : Bool) → usage K nodes q.folder ≤ 1048576 * longest_file → cond b (Some (usage K nodes q.folder)) None ≡ Some bytes → bytes ≤ 1048576 * longest_file
@@ -225,7 +206,7 @@ small_of : (K : Capacity) (nodes : List NodeRow) (o : Option QuotaRow) (bytes : 
 small_of K nodes None bytes v legal h = cc
 small_of K nodes (Some q) bytes v legal h = small_at K nodes q bytes (counts q) (usage_small K nodes q.folder v legal) h
 
-pub counters_small : {level : Bool} (K : Capacity) (nodes : List NodeRow) (quotas : List QuotaRow) (counters : List Counter) (f bytes : ℕ) → IsEngine K nodes quotas counters level → used_in counters f ≡ Some bytes → bytes ≤ 1048576 * longest_file
+pub counters_small : {level : Bool} (K : Capacity) (nodes : List NodeRow) (quotas : List QuotaRow) (counters : List Counter) (f bytes : ℕ) → IsCounted K nodes quotas counters level → used_in counters f ≡ Some bytes → bytes ≤ 1048576 * longest_file
 counters_small K nodes quotas counters f bytes e h =
     small_of K nodes (row_of folder_of f quotas) bytes e.volume e.legal (sym (ap (λ cs. used_in cs f) e.sums ∙ used_sums K nodes f quotas e.are_quotas.ascending) ∙ h)
 
@@ -234,7 +215,7 @@ pub record FileGoes (w : Volume) (quotas : List QuotaRow) (counters : List Count
   pub is_change : IsChange w.nodes change
   pub fits : Fits w.nodes counters change
   pub no_quota : without_row folder_of x quotas ≡ quotas
-  pub engine : IsEngine w.size w.nodes quotas (map (charged_counter w.nodes change) counters) level
+  pub engine : IsCounted w.size w.nodes quotas (map (charged_counter w.nodes change) counters) level
 
 no_room : (bytes less most : ℕ) → bytes ≤ 1048576 * longest_file → bytes - less + 0 < 2 ^ 64
 no_room bytes less most h = omega arith
@@ -243,7 +224,7 @@ no_room bytes less most h = omega arith
 abbrev pub gone_change : ℕ → ℕ → Change
 gone_change parent minus = record { from = Some parent; to = None; minus = minus; plus = 0 }
 
-pub file_goes : {level : Bool} (v w : Volume) (quotas : List QuotaRow) (counters : List Counter) (x minus : ℕ) (view : NodeView) → IsEngine v.size v.nodes quotas counters level → MayGo v.nodes x → is_folder v.nodes x ≡ false → w ≡ without_node v x → IsVolume w.size w.nodes → Shows view v.nodes x → minus ≡ alloc v.size view.length → FileGoes w quotas counters x (gone_change view.parent minus) level
+pub file_goes : {level : Bool} (v w : Volume) (quotas : List QuotaRow) (counters : List Counter) (x minus : ℕ) (view : NodeView) → IsCounted v.size v.nodes quotas counters level → MayGo v.nodes x → is_folder v.nodes x ≡ false → w ≡ without_node v x → IsVolume w.size w.nodes → Shows view v.nodes x → minus ≡ alloc v.size view.length → FileGoes w quotas counters x (gone_change view.parent minus) level
 file_goes {level} v w quotas counters x minus view e may file made kept shows minus_is =
     let K = v.size in
     let nodes = v.nodes in
@@ -281,9 +262,9 @@ file_goes {level} v w quotas counters x minus view e may file made kept shows mi
       };
     })
 
-pub idle_charged : {level : Bool} (w : Volume) (quotas : List QuotaRow) (counters charged : List Counter) (x : ℕ) (change : Change) → FileGoes w quotas counters x change level → charged ≡ map (charged_counter w.nodes change) counters → IsEngine w.size w.nodes quotas charged level
+pub idle_charged : {level : Bool} (w : Volume) (quotas : List QuotaRow) (counters charged : List Counter) (x : ℕ) (change : Change) → FileGoes w quotas counters x change level → charged ≡ map (charged_counter w.nodes change) counters → IsCounted w.size w.nodes quotas charged level
 idle_charged {level} w quotas counters charged x change g is =
-    subst (λ (cs : List Counter). IsEngine w.size w.nodes quotas cs level) (sym is) g.engine
+    subst (λ (cs : List Counter). IsCounted w.size w.nodes quotas cs level) (sym is) g.engine
 
 -- how many looks the removal of a file takes
 pub looks_at_file : (v w : Volume) (path : List (List ℕ)) (x start seen followed gone last : ℕ) (view : NodeView) → IsVolume v.size v.nodes → resolve v.nodes path ≡ Some x → MayGo v.nodes x → w ≡ without_node v x → Shows view v.nodes x → seen ≡ start + 1 → followed ≤ seen + 2 * length (chain v.nodes x) → gone ≤ followed + 44 → last ≤ gone + 2 * (height w.nodes (Some view.parent) + 0) → last ≤ start + (4 * length path + 60)
@@ -302,18 +283,15 @@ looks_at_file v w path x start seen followed gone last view k h may made shows a
     ∙ (ap (λ n. length (chain new n)) (sym parent_is) ∙ ap length (removed_chain nodes new x r p hp)) in
     omega (arith, a, f, b, c, same, shorter nodes t x hx (not_zero x may.inner), (resolved K nodes path x k h).deep)
 
--- the answer to a command that was done, before whose end no peak was raised
-pub done_idle : (v w : Volume) (quotas after : List QuotaRow) (last m : ℕ) (deed : Deed) (old new : Machine) (answer : Answer) → machine v quotas last ≡ old → old.rows.last_moment ≤ m → due v quotas last m deed ≡ None → (asked_of v quotas last m deed).effect ≡ rows_at w.nodes after last → (asked_of v quotas last m deed).outcome ≡ Done None → (asked_of v quotas last m deed).lasts ≡ true → w.size ≡ v.size → new ≡ machine w (map (peaked w.size w.nodes m) after) m → answer ≡ record { outcome = Done None; lasting = true } → Takes old new (step old.size old.rows (record { moment = m; deed = deed })) answer
-done_idle v w quotas after last m deed old new answer view late none effect outcome lasts size n e =
-    done_at v w quotas after after last m deed old new answer view late none effect outcome lasts size refl n e
-
 -- the counter of a folder is what its quota shows
 shown_at : (K : Capacity) (nodes : List NodeRow) (f : ℕ) (o : Option QuotaRow) → ((q : QuotaRow) → o ≡ Some q → q.folder ≡ f) → option_and_then (shown_of K nodes) o ≡ option_and_then (λ q. if counts q then Some (usage K nodes f) else None) o
 shown_at K nodes f None h = refl
 shown_at K nodes f (Some q) h = ap (λ n. cond (counts q) (Some (usage K nodes n)) None) (h q refl)
 
-pub used_at : {level : Bool} (v : Volume) (quotas : List QuotaRow) (counters : List Counter) (last f : ℕ) (old : Machine) (o : Option ℕ) → machine v quotas last ≡ old → IsEngine v.size v.nodes quotas counters level → o ≡ used_in counters f → o ≡ used_of old.size old.rows f
-used_at v quotas counters last f old o view e is =
-    subst (λ (m : Machine). o ≡ used_of m.size m.rows f) view
-    (is ∙ (ap (λ cs. used_in cs f) e.sums ∙ (used_sums v.size v.nodes f quotas e.are_quotas.ascending
-    ∙ shown_at v.size v.nodes f (row_of folder_of f quotas) (λ q h. found_key folder_of f quotas q h))))
+pub used_at : (p : Parts) (f : ℕ) (o : Option ℕ) → AreCounted p → o ≡ used_in p.usage f → o ≡ used_of p.tree.size (rows_of p) f
+used_at p f o e is =
+    let K = p.tree.size in
+    let nodes = p.tree.nodes in
+    let quotas = p.objects.quotas in
+    is ∙ (ap (λ cs. used_in cs f) e.sums ∙ (used_sums K nodes f quotas e.are_quotas.ascending
+    ∙ shown_at K nodes f (row_of folder_of f quotas) (λ q h. found_key folder_of f quotas q h)))

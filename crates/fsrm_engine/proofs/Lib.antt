@@ -16,8 +16,6 @@ pub mod MakeLaws
 pub mod MoveKept
 pub mod IdleLaws
 pub mod QuotaLaws
-pub mod PlainLaws
-pub mod ScanLaws
 pub mod FollowLaws
 pub mod GoingLaws
 pub mod WholeLaws
@@ -25,6 +23,4 @@ pub mod CountingLaws
 pub mod TurnLaws
 pub mod StateLaws
 pub mod ScanSteps
-pub mod BesideLaws
-pub mod NamedLaws
 pub mod QueueLaws

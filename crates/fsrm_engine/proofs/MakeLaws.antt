@@ -1,8 +1,6 @@
 -- A file that is made: what quotas refuse, and what is kept.
 use Rattle.std.proofs.Common.{◌≡◌, ℕ, ◌≤◌, Bool, true, false, List, length, Some, None, ap, sym, ◌∙◌, subst}
 use Rattle.std.specs.Prelude.{map}
-use Rattle.fsrm_model.specs.declared.command.Deed.TheVariants.{File}
-use Rattle.fsrm_model.specs.declared.command.FileOp.TheVariants.{Create}
 use Rattle.fsrm_model.specs.declared.row.Capacity.{Capacity}
 use Rattle.fsrm_model.specs.declared.row.NodeRow.{NodeRow}
 use Rattle.fsrm_model.specs.declared.row.QuotaRow.{QuotaRow}
@@ -19,11 +17,8 @@ use Rattle.fsrm_objects.specs.Tables.{Tables}
 use Rattle.quota_usage.specs.declared.change.Counter.{Counter}
 use Rattle.quota_usage.specs.Charge.{charged_counter}
 use Rattle.volume_tree.specs.Volume.{Volume, with_node}
-use Rattle.fsrm_engine.specs.Machine.{rows_at, IsEngine}
+use Rattle.fsrm_engine.specs.Machine.{IsCounted}
 use Rattle.fsrm_engine.specs.Peaks.{raised_above}
-use Rattle.fsrm_engine.specs.Places.{IsPlace}
-use Rattle.fsrm_engine.proofs.StepLaws.{asked_of}
-use Rattle.fsrm_engine.proofs.NewLaws.{made_is}
 use Rattle.fsrm_engine.proofs.ChangeLaws.{Changes, changes_made}
 use Rattle.fsrm_engine.proofs.GrowthLaws.{ChargedTo, charged_at, made_folder}
 
@@ -36,17 +31,12 @@ make_changes K nodes quotas d name bytes owner m plus v qs folder is =
     subst (λ (s : ℕ). Changes K nodes (made_nodes nodes d name bytes owner m) quotas (record { from = None; to = Some d; minus = 0; plus = s })) (sym is)
     (changes_made K nodes quotas d name bytes owner m v qs folder)
 
-pub make_done : {level : Bool} (v w : Volume) (quotas : List QuotaRow) (tables : Tables) (counters charged_are : List Counter) (d : ℕ) (name : List ℕ) (bytes owner m plus : ℕ) → IsEngine v.size v.nodes quotas counters level → is_folder v.nodes d ≡ true → plus ≡ alloc v.size bytes → w ≡ with_node v (made_node v.nodes d name false bytes owner m) → IsVolume w.size w.nodes → m ≤ 4102444799 →
+pub make_done : {level : Bool} (v w : Volume) (quotas : List QuotaRow) (tables : Tables) (counters charged_are : List Counter) (d : ℕ) (name : List ℕ) (bytes owner m plus : ℕ) → IsCounted v.size v.nodes quotas counters level → is_folder v.nodes d ≡ true → plus ≡ alloc v.size bytes → w ≡ with_node v (made_node v.nodes d name false bytes owner m) → IsVolume w.size w.nodes → m ≤ 4102444799 →
     charged_are ≡ map (charged_counter w.nodes (record { from = None; to = Some d; minus = 0; plus = plus })) counters → tables ≡ record { quotas = map (raised_above w.nodes (Some d) charged_are m) quotas } → ChargedTo v w quotas tables.quotas charged_are m level
 make_done v w quotas tables counters charged_are d name bytes owner m plus e folder is made kept late charging raising =
     charged_at v w (made_nodes v.nodes d name bytes owner m) quotas tables counters charged_are (record { from = None; to = Some d; minus = 0; plus = plus }) m made e kept
     (λ f q found was. made_folder v.size v.nodes d name false bytes owner m f e.volume was)
     (make_changes v.size v.nodes quotas d name bytes owner m plus e.volume e.are_quotas folder is) late charging raising
-
--- the rows that a new file leaves
-pub make_effect : (v w : Volume) (quotas : List QuotaRow) (last m : ℕ) (path : List (List ℕ)) (bytes owner d : ℕ) (name : List ℕ) → IsPlace v.nodes path d name → w ≡ with_node v (made_node v.nodes d name false bytes owner m) → (asked_of v quotas last m (File (Create path bytes owner))).effect ≡ rows_at w.nodes quotas last
-make_effect v w quotas last m path bytes owner d name p made =
-    ap (λ (u : Volume). rows_at u.nodes quotas last) (sym (made ∙ made_is v path d name false bytes owner m p))
 
 pub made_height : (v w : Volume) (d : ℕ) (name : List ℕ) (bytes owner m : ℕ) → IsVolume v.size v.nodes → is_folder v.nodes d ≡ true → w ≡ with_node v (made_node v.nodes d name false bytes owner m) → length (chain w.nodes d) ≡ length (chain v.nodes d)
 made_height v w d name bytes owner m k folder made =

@@ -1,7 +1,6 @@
 -- A node that moves: what quotas refuse, and what is kept.
 use Rattle.std.proofs.Common.{◌≡◌, ℕ, ◌+◌, ◌*◌, ◌≤◌, ◌==◌, Bool, true, false, List, [], ◌∷◌, length, Option, Some, None, refl, ap, sym, ◌∙◌, subst, arith}
 use Rattle.std.specs.Prelude.{map, nat_lt, if◌then◌else◌}
-use Rattle.fsrm_model.specs.declared.command.Deed.TheVariants.{File}
 use Rattle.fsrm_model.specs.declared.command.FileOp.TheVariants.{Move}
 use Rattle.fsrm_model.specs.declared.row.Capacity.{Capacity}
 use Rattle.fsrm_model.specs.declared.row.NodeRow.{NodeRow}
@@ -25,13 +24,10 @@ use Rattle.volume_tree.specs.declared.answer.NodeView.{NodeView}
 use Rattle.volume_tree.specs.Volume.{Volume, Shows, with_place, fault_if, first_fault, is_other, move_fault}
 use Rattle.volume_tree.specs.declared.answer.TreeFault.{TreeFault}
 use Rattle.volume_tree.specs.declared.answer.TreeFault.TheVariants as fault
-use Rattle.fsrm_engine.specs.Machine.{rows_at, IsEngine}
+use Rattle.fsrm_engine.specs.Machine.{IsCounted}
 use Rattle.fsrm_engine.specs.Peaks.{raised_above}
-use Rattle.fsrm_engine.specs.Places.{IsPlace, IsMoved}
-use Rattle.fsrm_engine.specs.Machine.{Machine}
-use Rattle.fsrm_engine.proofs.StepLaws.{asked_of, machine}
+use Rattle.fsrm_engine.specs.Places.{IsMoved}
 use Rattle.fsrm_engine.proofs.PlaceLaws.{leads_to_folder_is, target_is}
-use Rattle.fsrm_engine.proofs.MoveLaws.{moved_is}
 use Rattle.fsrm_engine.proofs.ChangeLaws.{Changes, MovesTo, changes_moved, moved_chain_to, moved_chain_from, not_zero}
 use Rattle.fsrm_engine.proofs.FitLaws.{fits_moved, fits_new}
 use Rattle.fsrm_engine.proofs.GrowthLaws.{ChargedTo, charged_at, placed_folder}
@@ -54,17 +50,12 @@ move_changes K nodes quotas x d name view bytes v qs s m moved =
     subst (λ (p : ℕ). Changes K nodes (moved_nodes nodes x d name) quotas (move_change p d bytes)) (found_parent nodes x s.row s.found ∙ sym s.is.parent)
     (changes_moved K nodes quotas x d name bytes v qs m moved)
 
-pub move_done : {level : Bool} (v w : Volume) (quotas : List QuotaRow) (tables : Tables) (counters charged_are : List Counter) (x d : ℕ) (name : List ℕ) (view : NodeView) (bytes m : ℕ) → IsEngine v.size v.nodes quotas counters level → Shows view v.nodes x → MovesTo v.nodes x d → IsMoved v.size v.nodes quotas x bytes → w ≡ with_place v x d name → IsVolume w.size w.nodes → m ≤ 4102444799 →
+pub move_done : {level : Bool} (v w : Volume) (quotas : List QuotaRow) (tables : Tables) (counters charged_are : List Counter) (x d : ℕ) (name : List ℕ) (view : NodeView) (bytes m : ℕ) → IsCounted v.size v.nodes quotas counters level → Shows view v.nodes x → MovesTo v.nodes x d → IsMoved v.size v.nodes quotas x bytes → w ≡ with_place v x d name → IsVolume w.size w.nodes → m ≤ 4102444799 →
     charged_are ≡ map (charged_counter w.nodes (move_change view.parent d bytes)) counters → tables ≡ record { quotas = map (raised_above w.nodes (Some d) charged_are m) quotas } → ChargedTo v w quotas tables.quotas charged_are m level
 move_done v w quotas tables counters charged_are x d name view bytes m e s to moved made kept late charging raising =
     charged_at v w (moved_nodes v.nodes x d name) quotas tables counters charged_are (move_change view.parent d bytes) m made e kept
     (λ f q found was. placed_folder v.nodes x d name f was)
     (move_changes v.size v.nodes quotas x d name view bytes e.volume e.are_quotas s to moved) late charging raising
-
--- the rows that a move leaves
-pub move_effect : (v w : Volume) (quotas : List QuotaRow) (last m : ℕ) (from to : List (List ℕ)) (n d : ℕ) (name : List ℕ) → resolve v.nodes from ≡ Some n → IsPlace v.nodes to d name → w ≡ with_place v n d name → (asked_of v quotas last m (File (Move from to))).effect ≡ rows_at w.nodes quotas last
-move_effect v w quotas last m from to n d name h p made =
-    ap (λ (u : Volume). rows_at u.nodes quotas last) (sym (made ∙ moved_is v from to n d name h p))
 
 -- where a move is ready its folder isn't at or below what moves
 pub ready_apart : (v : Volume) (n d : ℕ) (name : List ℕ) → move_fault v n d name ≡ None → is_under v.nodes n d ≡ false
@@ -100,7 +91,7 @@ there_moved v w x d name p made h =
     ap (λ (u : Volume). has_row number p u.nodes) made ∙ (has_row-change number x (placed d name) (λ r. refl) p v.nodes ∙ h)
 
 -- looking through what moves takes no more than is allowed
-move_room : (K : Capacity) (nodes : List NodeRow) (from to : List (List ℕ)) (n : ℕ) → IsVolume K nodes → resolve nodes from ≡ Some n → 7 * length (under nodes n) ≤ 7 + op_cost nodes (Move from to)
+pub move_room : (K : Capacity) (nodes : List NodeRow) (from to : List (List ℕ)) (n : ℕ) → IsVolume K nodes → resolve nodes from ≡ Some n → 7 * length (under nodes n) ≤ 7 + op_cost nodes (Move from to)
 move_room K nodes from to n v h = at (is_folder nodes n) refl
   where
     cost : (b : Bool) → is_folder nodes n ≡ b → op_cost nodes (Move from to) ≡ (if b then 8 * length (under nodes n) else 0)
@@ -114,17 +105,12 @@ move_room K nodes from to n v h = at (is_folder nodes n) refl
         let r = has_found number n nodes (resolved K nodes from n v h).has in
         omega (arith, cost false e, count_of_file K nodes n r.row v r.is e)
 
--- the same of the machine seen from outside
-pub room_seen : (v : Volume) (quotas : List QuotaRow) (last : ℕ) (old : Machine) (from to : List (List ℕ)) (n : ℕ) → machine v quotas last ≡ old → IsVolume v.size v.nodes → resolve v.nodes from ≡ Some n → 7 * length (under v.nodes n) ≤ 7 + op_cost old.rows.nodes (Move from to)
-room_seen v quotas last old from to n view k h =
-    subst (λ (o : Machine). 7 * length (under v.nodes n) ≤ 7 + op_cost o.rows.nodes (Move from to)) view (move_room v.size v.nodes from to n k h)
-
 -- what moves fits, on the old ways up and on the new
-pub move_fits : {level : Bool} (v : Volume) (quotas : List QuotaRow) (counters : List Counter) (x d : ℕ) (name : List ℕ) (view : NodeView) (bytes : ℕ) → IsEngine v.size v.nodes quotas counters level → Shows view v.nodes x → MovesTo v.nodes x d → IsMoved v.size v.nodes quotas x bytes → Fits v.nodes counters (move_change view.parent d bytes)
+pub move_fits : {level : Bool} (v : Volume) (quotas : List QuotaRow) (counters : List Counter) (x d : ℕ) (name : List ℕ) (view : NodeView) (bytes : ℕ) → IsCounted v.size v.nodes quotas counters level → Shows view v.nodes x → MovesTo v.nodes x d → IsMoved v.size v.nodes quotas x bytes → Fits v.nodes counters (move_change view.parent d bytes)
 move_fits v quotas counters x d name view bytes e s to moved =
     fits_moved v.size v.nodes quotas counters x d name (move_change view.parent d bytes) e.volume e.legal e.are_quotas e.sums (move_changes v.size v.nodes quotas x d name view bytes e.volume e.are_quotas s to moved)
 
-pub moved_fits : {level : Bool} (v w : Volume) (quotas : List QuotaRow) (counters : List Counter) (x d : ℕ) (name : List ℕ) (view : NodeView) (bytes : ℕ) → IsEngine v.size v.nodes quotas counters level → Shows view v.nodes x → MovesTo v.nodes x d → IsMoved v.size v.nodes quotas x bytes → w ≡ with_place v x d name → Fits w.nodes counters (move_change view.parent d bytes)
+pub moved_fits : {level : Bool} (v w : Volume) (quotas : List QuotaRow) (counters : List Counter) (x d : ℕ) (name : List ℕ) (view : NodeView) (bytes : ℕ) → IsCounted v.size v.nodes quotas counters level → Shows view v.nodes x → MovesTo v.nodes x d → IsMoved v.size v.nodes quotas x bytes → w ≡ with_place v x d name → Fits w.nodes counters (move_change view.parent d bytes)
 moved_fits v w quotas counters x d name view bytes e s to moved made =
     subst (λ (u : Volume). Fits u.nodes counters (move_change view.parent d bytes)) (sym made)
     (fits_new v.size v.nodes (moved_nodes v.nodes x d name) quotas counters (move_change view.parent d bytes) (move_changes v.size v.nodes quotas x d name view bytes e.volume e.are_quotas s to moved)

@@ -8,7 +8,6 @@ use Rattle.fsrm_model.specs.declared.command.Refusal.{Refusal}
 use Rattle.fsrm_model.specs.declared.command.Refusal.TheVariants.{AlreadyExists, PathNotFound, InvalidMove, NamesFull}
 use Rattle.fsrm_model.specs.declared.row.Capacity.{Capacity}
 use Rattle.fsrm_model.specs.declared.row.NodeRow.{NodeRow}
-use Rattle.fsrm_model.specs.declared.row.QuotaRow.{QuotaRow}
 use Rattle.fsrm_model.specs.Check.{Check, ◌when◌, first}
 use Rattle.fsrm_model.specs.Quota.{exceeded}
 use Rattle.fsrm_model.specs.FileOps.{target, target_folder, placed}
@@ -21,9 +20,10 @@ use Rattle.fsrm_model.proofs.Files.{below_file}
 use Rattle.fsrm_model.proofs.Sizes.{name_bytes-placed}
 use Rattle.volume_tree.specs.declared.answer.TreeFault.TheVariants as fault
 use Rattle.volume_tree.specs.Volume.{Volume, fault_if, first_fault, is_other, move_fault, with_place}
-use Rattle.fsrm_engine.specs.Machine.{Machine, rows_at}
+use Rattle.fsrm_engine.specs.declared.parts.Parts.{Parts}
+use Rattle.fsrm_engine.specs.Machine.{rows_of}
 use Rattle.fsrm_engine.specs.Places.{IsPlace, IsRefusedPlace}
-use Rattle.fsrm_engine.proofs.StepLaws.{machine, due, tree_first, last_check}
+use Rattle.fsrm_engine.proofs.StepLaws.{due, tree_first, last_check}
 use Rattle.fsrm_engine.proofs.PlaceLaws.{root_is, has_resolved, leads_is, target_is, leads_to_folder_is, place_leads, place_folder}
 
 -- the checks that the tree makes too
@@ -64,33 +64,34 @@ bytes_moved v from to n d name k h p =
     ∙ name_bytes-placed v.nodes n d name k.ascending (has_resolved v.size v.nodes from n k h)
 
 -- the refusal that is due to a move to a place
-pub move_due : (v : Volume) (quotas : List QuotaRow) (last m : ℕ) (from to : List (List ℕ)) (n d : ℕ) (name : List ℕ) → IsVolume v.size v.nodes → resolve v.nodes from ≡ Some n → (n == 0) ≡ false → IsPlace v.nodes to d name → due v quotas last m (File (Move from to)) ≡ tree_first (move_fault v n d name) (exceeded v.size (rows_at v.nodes quotas last) (with_place v n d name).nodes)
-move_due v quotas last m from to n d name k h inner p =
+pub move_due : (p : Parts) (m : ℕ) (from to : List (List ℕ)) (n d : ℕ) (name : List ℕ) → IsVolume p.tree.size p.tree.nodes → resolve p.tree.nodes from ≡ Some n → (n == 0) ≡ false → IsPlace p.tree.nodes to d name → due p m (File (Move from to)) ≡ tree_first (move_fault p.tree n d name) (exceeded p.tree.size (rows_of p) (with_place p.tree n d name).nodes)
+move_due p m from to n d name k h inner place =
+    let v = p.tree in
     let nodes = v.nodes in
     let new = with_change number (target nodes from) (placed (target_folder nodes to) (last_name to)) nodes in
     let on = target_is nodes from n h in
-    let at = target_is nodes (folder_part to) d p.resolved in
+    let at = target_is nodes (folder_part to) d place.resolved in
     let dir = leads_to_folder_is nodes from n h in
-    let over = exceeded v.size (rows_at nodes quotas last) new in
+    let over = exceeded v.size (rows_of p) new in
     listed_at (leads nodes from) (is_root from) (is_root to) (leads_to_folder nodes (folder_part to)) (leads_to_folder nodes from && is_under nodes (target nodes from) (target_folder nodes to)) (leads_to_other nodes to (target nodes from)) (nat_lt v.size.names (name_bytes new))
     (is_under nodes n d) (is_other (child_number nodes d name) n) (nat_lt (v.size.names + length (name_of nodes n)) (name_bytes nodes + length name)) (over ∷ [])
-    (leads_is nodes from n h) (root_is v.size nodes from n k h ∙ inner) p.inner (place_folder nodes to d name p)
+    (leads_is nodes from n h) (root_is v.size nodes from n k h ∙ inner) place.inner (place_folder nodes to d name place)
     (ap (λ b. b && is_under nodes (target nodes from) (target_folder nodes to)) dir
     ∙ (ap (λ x. is_folder nodes n && is_under nodes x (target_folder nodes to)) on
     ∙ (ap (λ x. is_folder nodes n && is_under nodes n x) at
-    ∙ under_is v.size nodes n d k (has_resolved v.size nodes (folder_part to) d k p.resolved) p.folder_is)))
-    (ap (leads_to_other nodes to) on ∙ ap (λ o. is_other o n) (place_leads v.size nodes to d name k p))
-    (bytes_test v.size.names (name_bytes nodes) (name_bytes new) (length (name_of nodes n)) (length name) (bytes_moved v from to n d name k h p))
+    ∙ under_is v.size nodes n d k (has_resolved v.size nodes (folder_part to) d k place.resolved) place.folder_is)))
+    (ap (leads_to_other nodes to) on ∙ ap (λ o. is_other o n) (place_leads v.size nodes to d name k place))
+    (bytes_test v.size.names (name_bytes nodes) (name_bytes new) (length (name_of nodes n)) (length name) (bytes_moved v from to n d name k h place))
     ∙ ap (tree_first (move_fault v n d name)) (last_check over
-    ∙ ap (λ (w : Volume). exceeded v.size (rows_at nodes quotas last) w.nodes) (sym (moved_is v from to n d name h p)))
+    ∙ ap (λ (w : Volume). exceeded v.size (rows_of p) w.nodes) (sym (moved_is v from to n d name h place)))
 
 -- the root isn't moved
 first_move : (there root : Bool) (more : List Check) → there ≡ true → root ≡ true → first ((PathNotFound when not there) ∷ (InvalidMove when root) ∷ more) ≡ Some InvalidMove
 first_move there root more t r = rw (t, r) refl
 
-pub move_root : (v : Volume) (quotas : List QuotaRow) (last m : ℕ) (from to : List (List ℕ)) (n : ℕ) → IsVolume v.size v.nodes → resolve v.nodes from ≡ Some n → n ≡ 0 → due v quotas last m (File (Move from to)) ≡ Some InvalidMove
-move_root v quotas last m from to n k h z =
-    first_move (leads v.nodes from) (is_root from) _ (leads_is v.nodes from n h) (root_is v.size v.nodes from n k h ∙ ap (λ i. i == 0) z)
+pub move_root : (p : Parts) (m : ℕ) (from to : List (List ℕ)) (n : ℕ) → IsVolume p.tree.size p.tree.nodes → resolve p.tree.nodes from ≡ Some n → n ≡ 0 → due p m (File (Move from to)) ≡ Some InvalidMove
+move_root p m from to n k h z =
+    first_move (leads p.tree.nodes from) (is_root from) _ (leads_is p.tree.nodes from n h) (root_is p.tree.size p.tree.nodes from n k h ∙ ap (λ i. i == 0) z)
 
 -- a place that isn't one
 second_move : (there root to_root folder : Bool) (more : List Check) → there ≡ true → root ≡ false → to_root ≡ true → first ((PathNotFound when not there) ∷ (InvalidMove when root) ∷ (AlreadyExists when to_root) ∷ (PathNotFound when not folder) ∷ more) ≡ Some AlreadyExists
@@ -99,14 +100,9 @@ second_move there root to_root folder more t r s = rw (t, r, s) refl
 third_move : (there root to_root folder : Bool) (more : List Check) → there ≡ true → root ≡ false → to_root ≡ false → folder ≡ false → first ((PathNotFound when not there) ∷ (InvalidMove when root) ∷ (AlreadyExists when to_root) ∷ (PathNotFound when not folder) ∷ more) ≡ Some PathNotFound
 third_move there root to_root folder more t r s f = rw (t, r, s, f) refl
 
-stray_move : (v : Volume) (quotas : List QuotaRow) (last m : ℕ) (from to : List (List ℕ)) (n : ℕ) (refusal : Refusal) → IsVolume v.size v.nodes → resolve v.nodes from ≡ Some n → (n == 0) ≡ false → IsRefusedPlace v.nodes to refusal → due v quotas last m (File (Move from to)) ≡ Some refusal
-stray_move v quotas last m from to n AlreadyExists k h inner p =
-    second_move (leads v.nodes from) (is_root from) (is_root to) (leads_to_folder v.nodes (folder_part to)) _ (leads_is v.nodes from n h) (root_is v.size v.nodes from n k h ∙ inner) p
-stray_move v quotas last m from to n PathNotFound k h inner p =
-    third_move (leads v.nodes from) (is_root from) (is_root to) (leads_to_folder v.nodes (folder_part to)) _ (leads_is v.nodes from n h) (root_is v.size v.nodes from n k h ∙ inner) p.0 p.1
-stray_move v quotas last m from to n other k h inner p = absurd p
-
--- the refusal that is due to a move to no place
-pub stray_due : (v : Volume) (quotas : List QuotaRow) (last m : ℕ) (old : Machine) (from to : List (List ℕ)) (n : ℕ) (refusal : Refusal) → machine v quotas last ≡ old → IsVolume v.size v.nodes → resolve v.nodes from ≡ Some n → (n == 0) ≡ false → IsRefusedPlace old.rows.nodes to refusal → due v quotas last m (File (Move from to)) ≡ Some refusal
-stray_due v quotas last m old from to n refusal is k h inner p =
-    stray_move v quotas last m from to n refusal k h inner (subst (λ (o : Machine). IsRefusedPlace o.rows.nodes to refusal) (sym is) p)
+pub stray_due : (p : Parts) (m : ℕ) (from to : List (List ℕ)) (n : ℕ) (refusal : Refusal) → IsVolume p.tree.size p.tree.nodes → resolve p.tree.nodes from ≡ Some n → (n == 0) ≡ false → IsRefusedPlace p.tree.nodes to refusal → due p m (File (Move from to)) ≡ Some refusal
+stray_due p m from to n AlreadyExists k h inner at =
+    second_move (leads p.tree.nodes from) (is_root from) (is_root to) (leads_to_folder p.tree.nodes (folder_part to)) _ (leads_is p.tree.nodes from n h) (root_is p.tree.size p.tree.nodes from n k h ∙ inner) at
+stray_due p m from to n PathNotFound k h inner at =
+    third_move (leads p.tree.nodes from) (is_root from) (is_root to) (leads_to_folder p.tree.nodes (folder_part to)) _ (leads_is p.tree.nodes from n h) (root_is p.tree.size p.tree.nodes from n k h ∙ inner) at.0 at.1
+stray_due p m from to n other k h inner at = absurd at

@@ -7,7 +7,6 @@ use Rattle.fsrm_model.specs.declared.command.FileOp.TheVariants.{Mkdir, Create}
 use Rattle.fsrm_model.specs.declared.command.Refusal.TheVariants.{AlreadyExists, PathNotFound, VolumeFull, NamesFull}
 use Rattle.fsrm_model.specs.declared.row.Capacity.{Capacity}
 use Rattle.fsrm_model.specs.declared.row.NodeRow.{NodeRow}
-use Rattle.fsrm_model.specs.declared.row.QuotaRow.{QuotaRow}
 use Rattle.fsrm_model.specs.Check.{Check, ◌when◌, first}
 use Rattle.fsrm_model.specs.Quota.{exceeded}
 use Rattle.fsrm_model.specs.FileOps.{made_node, new_node}
@@ -20,7 +19,8 @@ use Rattle.fsrm_model.proofs.Sizes.{name_bytes-new}
 use Rattle.volume_tree.specs.declared.answer.TreeFault.TheVariants as fault
 use Rattle.volume_tree.specs.Volume.{Volume, fault_if, first_fault, new_fault, with_node}
 use Rattle.fsrm_engine.specs.Places.{IsPlace}
-use Rattle.fsrm_engine.specs.Machine.{rows_at}
+use Rattle.fsrm_engine.specs.declared.parts.Parts.{Parts}
+use Rattle.fsrm_engine.specs.Machine.{rows_of}
 use Rattle.fsrm_engine.proofs.StepLaws.{due, tree_first, last_check}
 use Rattle.fsrm_engine.proofs.PlaceLaws.{place_leads, place_folder}
 
@@ -56,15 +56,17 @@ made_is v path d name folder bytes owner m p =
     ∙ ap (λ t. with_node v (made_node v.nodes d t folder bytes owner m)) p.name_is)
 
 -- the refusal that is due to a new folder, and to a new file
-pub mkdir_due : (v : Volume) (quotas : List QuotaRow) (last m : ℕ) (path : List (List ℕ)) (owner d : ℕ) (name : List ℕ) → IsVolume v.size v.nodes → IsPlace v.nodes path d name → due v quotas last m (File (Mkdir path owner)) ≡ tree_first (new_fault v d name) None
-mkdir_due v quotas last m path owner d name k p =
-    let node = new_node v.nodes path true 0 owner m in
-    checks_are v.size v.nodes (with_row number node v.nodes) path d name [] k p (length-with_row number node v.nodes) (bytes_made v.nodes path d name node p refl)
+pub mkdir_due : (p : Parts) (m : ℕ) (path : List (List ℕ)) (owner d : ℕ) (name : List ℕ) → IsVolume p.tree.size p.tree.nodes → IsPlace p.tree.nodes path d name → due p m (File (Mkdir path owner)) ≡ tree_first (new_fault p.tree d name) None
+mkdir_due p m path owner d name k at =
+    let nodes = p.tree.nodes in
+    let node = new_node nodes path true 0 owner m in
+    checks_are p.tree.size nodes (with_row number node nodes) path d name [] k at (length-with_row number node nodes) (bytes_made nodes path d name node at refl)
 
-pub create_due : (v : Volume) (quotas : List QuotaRow) (last m : ℕ) (path : List (List ℕ)) (bytes owner d : ℕ) (name : List ℕ) → IsVolume v.size v.nodes → IsPlace v.nodes path d name → due v quotas last m (File (Create path bytes owner)) ≡ tree_first (new_fault v d name) (exceeded v.size (rows_at v.nodes quotas last) (with_node v (made_node v.nodes d name false bytes owner m)).nodes)
-create_due v quotas last m path bytes owner d name k p =
-    let node = new_node v.nodes path false bytes owner m in
-    let over = exceeded v.size (rows_at v.nodes quotas last) (with_row number node v.nodes) in
-    checks_are v.size v.nodes (with_row number node v.nodes) path d name (over ∷ []) k p (length-with_row number node v.nodes) (bytes_made v.nodes path d name node p refl)
-    ∙ ap (tree_first (new_fault v d name)) (last_check over
-    ∙ ap (λ (w : Volume). exceeded v.size (rows_at v.nodes quotas last) w.nodes) (sym (made_is v path d name false bytes owner m p)))
+pub create_due : (p : Parts) (m : ℕ) (path : List (List ℕ)) (bytes owner d : ℕ) (name : List ℕ) → IsVolume p.tree.size p.tree.nodes → IsPlace p.tree.nodes path d name → due p m (File (Create path bytes owner)) ≡ tree_first (new_fault p.tree d name) (exceeded p.tree.size (rows_of p) (with_node p.tree (made_node p.tree.nodes d name false bytes owner m)).nodes)
+create_due p m path bytes owner d name k at =
+    let nodes = p.tree.nodes in
+    let node = new_node nodes path false bytes owner m in
+    let over = exceeded p.tree.size (rows_of p) (with_row number node nodes) in
+    checks_are p.tree.size nodes (with_row number node nodes) path d name (over ∷ []) k at (length-with_row number node nodes) (bytes_made nodes path d name node at refl)
+    ∙ ap (tree_first (new_fault p.tree d name)) (last_check over
+    ∙ ap (λ (w : Volume). exceeded p.tree.size (rows_of p) w.nodes) (sym (made_is p.tree path d name false bytes owner m at)))

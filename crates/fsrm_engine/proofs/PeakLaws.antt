@@ -19,7 +19,7 @@ use Rattle.quota_usage.specs.declared.change.Change.{Change}
 use Rattle.quota_usage.specs.declared.change.Counter.{Counter}
 use Rattle.quota_usage.specs.Charge.{is_above, charged_counter}
 use Rattle.quota_usage.specs.Counters.{used_in}
-use Rattle.fsrm_engine.specs.Machine.{sums_of, IsEngine}
+use Rattle.fsrm_engine.specs.Machine.{sums_of, IsCounted}
 use Rattle.fsrm_engine.specs.Peaks.{raised, raised_above}
 use Rattle.fsrm_base.proofs.RowLaws.{each_found, map_same, map_id}
 use Rattle.fsrm_engine.proofs.SumLaws.{used_found, sums_kept, sums_follow}
@@ -114,7 +114,7 @@ quotas_mapped nodes g quotas folder limit moment qs =
     }
 
 -- what an engine keeps, once peaks are raised
-pub engine_peaked : {level : Bool} (K : Capacity) (nodes : List NodeRow) (quotas : List QuotaRow) (counters : List Counter) (m : ℕ) → IsVolume K nodes → is_capacity K ≡ true → AreQuotas nodes quotas → is_moment m ≡ true → counters ≡ sums_of K nodes quotas → IsEngine K nodes (map (peaked K nodes m) quotas) counters level
+pub engine_peaked : {level : Bool} (K : Capacity) (nodes : List NodeRow) (quotas : List QuotaRow) (counters : List Counter) (m : ℕ) → IsVolume K nodes → is_capacity K ≡ true → AreQuotas nodes quotas → is_moment m ≡ true → counters ≡ sums_of K nodes quotas → IsCounted K nodes (map (peaked K nodes m) quotas) counters level
 engine_peaked K nodes quotas counters m v legal qs moment sums =
     record {
       volume = v;
@@ -201,7 +201,7 @@ some_settled K nodes p quotas counters m asc sums =
     at q found false = refl
 
 -- what is kept where peaks of some quotas were raised: of an engine that is level, of all that must be
-pub engine_raised : {level : Bool} (K : Capacity) (nodes : List NodeRow) (p : QuotaRow → Bool) (quotas : List QuotaRow) (counters : List Counter) (m : ℕ) → IsVolume K nodes → is_capacity K ≡ true → AreQuotas nodes quotas → is_moment m ≡ true → counters ≡ sums_of K nodes quotas → (level ≡ true → map (raised_some p counters m) quotas ≡ map (peaked K nodes m) quotas) → IsEngine K nodes (map (raised_some p counters m) quotas) counters level
+pub engine_raised : {level : Bool} (K : Capacity) (nodes : List NodeRow) (p : QuotaRow → Bool) (quotas : List QuotaRow) (counters : List Counter) (m : ℕ) → IsVolume K nodes → is_capacity K ≡ true → AreQuotas nodes quotas → is_moment m ≡ true → counters ≡ sums_of K nodes quotas → (level ≡ true → map (raised_some p counters m) quotas ≡ map (peaked K nodes m) quotas) → IsCounted K nodes (map (raised_some p counters m) quotas) counters level
 engine_raised {level} K nodes p quotas counters m v legal qs moment sums all =
     record {
       volume = v;
@@ -210,7 +210,7 @@ engine_raised {level} K nodes p quotas counters m v legal qs moment sums all =
           (λ q old. raised_case (λ r. is_moment r.peak_at ≡ true) counters m q old (λ used. moment) (p q)) qs;
       sums = sums ∙ sym (sums_kept K nodes (raised_some p counters m) (some_folder p counters m) (some_counts p counters m) quotas);
       peaks = λ l f q h c.
-          let whole : IsEngine K nodes (map (peaked K nodes m) quotas) counters true = engine_peaked K nodes quotas counters m v legal qs moment sums in
+          let whole : IsCounted K nodes (map (peaked K nodes m) quotas) counters true = engine_peaked K nodes quotas counters m v legal qs moment sums in
           whole.peaks refl f q (subst (λ rows. row_of folder_of f rows ≡ Some q) (all l) h) c;
     }
 

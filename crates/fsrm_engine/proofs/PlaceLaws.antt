@@ -1,4 +1,4 @@
--- What a path leads to, by what the engine found.
+-- What a path leads to, by what was found.
 use Rattle.std.proofs.Common.{◌≡◌, ℕ, suc, ◌+◌, ◌-◌, ◌≤◌, ◌==◌, true, false, List, [], ◌∷◌, length, take, Some, ap, sym, ◌∙◌, subst, arith}
 use Rattle.std.proofs.lemmas.Option.{same_Some, get_or_from_slice_get}
 use Rattle.std.proofs.lemmas.Bool.Decides.{nat_tests}
@@ -7,7 +7,6 @@ use Rattle.std.specs.Prelude.{is_some, slice_get, unwrap_or, slice_index_or}
 use Rattle.std.specs.Option.{option_map_or}
 use Rattle.fsrm_model.specs.declared.row.Capacity.{Capacity}
 use Rattle.fsrm_model.specs.declared.row.NodeRow.{NodeRow}
-use Rattle.fsrm_model.specs.declared.row.QuotaRow.{QuotaRow}
 use Rattle.fsrm_model.specs.Limits.{longest_file}
 use Rattle.fsrm_model.specs.FileOps.{target}
 use Rattle.fsrm_base.specs.Keyed.{has_row}
@@ -21,10 +20,8 @@ use Rattle.fsrm_model.proofs.Resolves.{resolve_root, resolve_child, resolved, so
 use Rattle.fsrm_model.proofs.Keeps.{found_folder}
 use Rattle.fsrm_model.specs.Name.{is_name}
 use Rattle.volume_tree.specs.declared.answer.NodeView.{NodeView}
-use Rattle.volume_tree.specs.Volume.{Volume, Shows}
-use Rattle.fsrm_engine.specs.Machine.{Machine}
+use Rattle.volume_tree.specs.Volume.{Shows}
 use Rattle.fsrm_engine.specs.Places.{IsPlace, IsFile, IsFolder}
-use Rattle.fsrm_engine.proofs.StepLaws.{machine}
 
 -- a path's last name is its part at the last place
 pub last_name_is : (path : List (List ℕ)) (last depth : ℕ) (name : List ℕ) → depth ≡ length path → last + 1 ≡ depth → slice_get path last ≡ Some name → last_name path ≡ name
@@ -84,46 +81,33 @@ place_depth K nodes path d name v p =
 pub shown_folder : (nodes : List NodeRow) (n : ℕ) (view : NodeView) → Shows view nodes n → is_folder nodes n ≡ view.folder
 shown_folder nodes n view s = found_folder nodes n s.row s.found ∙ sym s.is.folder
 
--- what the engine found, seen from outside
+-- what was found
 shown_number : (nodes : List NodeRow) (n : ℕ) (view : NodeView) → Shows view nodes n → view.number ≡ n
 shown_number nodes n view s = s.is.number ∙ found_key number n nodes s.row s.found
 
-pub file_at : (v : Volume) (quotas : List QuotaRow) (last : ℕ) (old : Machine) (path : List (List ℕ)) (n : ℕ) (view : NodeView) → machine v quotas last ≡ old → IsVolume v.size v.nodes → Some n ≡ resolve v.nodes path → Shows view v.nodes n → view.length ≤ longest_file → view.folder ≡ false → IsFile old.rows.nodes path view
-file_at v quotas last old path n view is k h s short f =
-    let same = shown_number v.nodes n view s in
-    subst (λ (o : Machine). IsFile o.rows.nodes path view) is
-    (record {
+pub file_found : (K : Capacity) (nodes : List NodeRow) (path : List (List ℕ)) (n : ℕ) (view : NodeView) → IsVolume K nodes → Some n ≡ resolve nodes path → Shows view nodes n → view.length ≤ longest_file → view.folder ≡ false → IsFile nodes path view
+file_found K nodes path n view k h s short f =
+    let same = shown_number nodes n view s in
+    record {
       resolved = sym h ∙ ap Some (sym same);
-      there = subst (λ k. has_row number k v.nodes ≡ true) (sym same) (has_resolved v.size v.nodes path n k (sym h));
-      shows = subst (λ k. Shows view v.nodes k) (sym same) s;
+      there = subst (λ k. has_row number k nodes ≡ true) (sym same) (has_resolved K nodes path n k (sym h));
+      shows = subst (λ k. Shows view nodes k) (sym same) s;
       file = f;
       short = short;
-    })
+    }
 
-pub file_within : (v : Volume) (quotas : List QuotaRow) (last : ℕ) (old : Machine) (path : List (List ℕ)) (view : NodeView) → machine v quotas last ≡ old → IsFile old.rows.nodes path view → IsFile v.nodes path view
-file_within v quotas last old path view is p = subst (λ (o : Machine). IsFile o.rows.nodes path view) (sym is) p
+pub folder_found : (nodes : List NodeRow) (path : List (List ℕ)) (n : ℕ) (view : NodeView) → Some n ≡ resolve nodes path → Shows view nodes n → view.folder ≡ true → IsFolder nodes path n
+folder_found nodes path n view h s f = record { resolved = sym h; folder = shown_folder nodes n view s ∙ f }
 
-pub folder_at : (v : Volume) (quotas : List QuotaRow) (last : ℕ) (old : Machine) (path : List (List ℕ)) (n : ℕ) (view : NodeView) → machine v quotas last ≡ old → Some n ≡ resolve v.nodes path → Shows view v.nodes n → view.folder ≡ true → IsFolder old.rows.nodes path n
-folder_at v quotas last old path n view is h s f =
-    subst (λ (o : Machine). IsFolder o.rows.nodes path n) is (record { resolved = sym h; folder = shown_folder v.nodes n view s ∙ f })
-
-pub folder_within : (v : Volume) (quotas : List QuotaRow) (last : ℕ) (old : Machine) (path : List (List ℕ)) (n : ℕ) → machine v quotas last ≡ old → IsFolder old.rows.nodes path n → IsFolder v.nodes path n
-folder_within v quotas last old path n is p = subst (λ (o : Machine). IsFolder o.rows.nodes path n) (sym is) p
-
-pub place_at : (v : Volume) (quotas : List QuotaRow) (last : ℕ) (old : Machine) (path : List (List ℕ)) (depth at d : ℕ) (name : List ℕ) (view : NodeView) → machine v quotas last ≡ old → depth ≡ length path → (1 ≤ depth) × (at ≡ depth - 1) → Some d ≡ resolve v.nodes (take at path) → Shows view v.nodes d → view.folder ≡ true → slice_get path at ≡ Some name → is_name name ≡ true → IsPlace old.rows.nodes path d name
-place_at v quotas last old path depth at d name view is deep at_is h s f part valid =
+pub place_found : (nodes : List NodeRow) (path : List (List ℕ)) (depth at d : ℕ) (name : List ℕ) (view : NodeView) → depth ≡ length path → (1 ≤ depth) × (at ≡ depth - 1) → Some d ≡ resolve nodes (take at path) → Shows view nodes d → view.folder ≡ true → slice_get path at ≡ Some name → is_name name ≡ true → IsPlace nodes path d name
+place_found nodes path depth at d name view deep at_is h s f part valid =
     let a = at_is.0 in
     let b = at_is.1 in
     let next : at + 1 ≡ depth = omega arith in
-    subst (λ (o : Machine). IsPlace o.rows.nodes path d name) is
-    (record {
+    record {
       inner = not_root path at depth deep next;
-      resolved = sym (ap (resolve v.nodes) (first_names path at depth deep next)) ∙ sym h;
-      folder_is = shown_folder v.nodes d view s ∙ f;
+      resolved = sym (ap (resolve nodes) (first_names path at depth deep next)) ∙ sym h;
+      folder_is = shown_folder nodes d view s ∙ f;
       name_is = last_name_is path at depth name deep next part;
       valid = valid;
-    })
-
--- and seen from inside
-pub place_within : (v : Volume) (quotas : List QuotaRow) (last : ℕ) (old : Machine) (path : List (List ℕ)) (d : ℕ) (name : List ℕ) → machine v quotas last ≡ old → IsPlace old.rows.nodes path d name → IsPlace v.nodes path d name
-place_within v quotas last old path d name is p = subst (λ (o : Machine). IsPlace o.rows.nodes path d name) (sym is) p
+    }

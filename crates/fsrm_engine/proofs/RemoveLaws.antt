@@ -3,14 +3,14 @@ use Rattle.std.proofs.Common.{◌≡◌, ℕ, ◌==◌, Bool, true, false, not, 
 use Rattle.fsrm_model.specs.declared.command.Deed.TheVariants.{File}
 use Rattle.fsrm_model.specs.declared.command.FileOp.TheVariants.{Remove}
 use Rattle.fsrm_model.specs.declared.command.Refusal.TheVariants.{PathNotFound, InvalidMove, NotEmpty}
-use Rattle.fsrm_model.specs.declared.row.QuotaRow.{QuotaRow}
 use Rattle.fsrm_model.specs.Check.{Check, ◌when◌, first}
 use Rattle.fsrm_model.specs.FileOps.{target}
 use Rattle.fsrm_model.specs.Leads.{is_root, leads}
 use Rattle.fsrm_model.specs.Tree.{children, resolve}
 use Rattle.fsrm_model.specs.Valid.{IsVolume}
 use Rattle.volume_tree.specs.declared.answer.TreeFault.TheVariants as fault
-use Rattle.volume_tree.specs.Volume.{Volume, fault_if, remove_fault}
+use Rattle.volume_tree.specs.Volume.{fault_if, remove_fault}
+use Rattle.fsrm_engine.specs.declared.parts.Parts.{Parts}
 use Rattle.fsrm_engine.proofs.StepLaws.{due, tree_first}
 use Rattle.fsrm_engine.proofs.PlaceLaws.{root_is, leads_is, target_is}
 
@@ -25,12 +25,13 @@ first_remove : (there root : Bool) (more : List Check) → there ≡ true → ro
 first_remove there root more t r = rw (t, r) refl
 
 -- the refusal that is due to a removal
-pub remove_due : (v : Volume) (quotas : List QuotaRow) (last m : ℕ) (path : List (List ℕ)) (n : ℕ) → IsVolume v.size v.nodes → resolve v.nodes path ≡ Some n → (n == 0) ≡ false → due v quotas last m (File (Remove path)) ≡ tree_first (remove_fault v n) None
-remove_due v quotas last m path n k h inner =
-    listed_at (leads v.nodes path) (is_root path) (not (length (children v.nodes (target v.nodes path)) == 0)) (not (length (children v.nodes n) == 0))
-    (leads_is v.nodes path n h) (root_is v.size v.nodes path n k h ∙ inner) (ap (λ x. not (length (children v.nodes x) == 0)) (target_is v.nodes path n h))
+pub remove_due : (p : Parts) (m : ℕ) (path : List (List ℕ)) (n : ℕ) → IsVolume p.tree.size p.tree.nodes → resolve p.tree.nodes path ≡ Some n → (n == 0) ≡ false → due p m (File (Remove path)) ≡ tree_first (remove_fault p.tree n) None
+remove_due p m path n k h inner =
+    let nodes = p.tree.nodes in
+    listed_at (leads nodes path) (is_root path) (not (length (children nodes (target nodes path)) == 0)) (not (length (children nodes n) == 0))
+    (leads_is nodes path n h) (root_is p.tree.size nodes path n k h ∙ inner) (ap (λ x. not (length (children nodes x) == 0)) (target_is nodes path n h))
 
 -- the root isn't removed
-pub remove_root : (v : Volume) (quotas : List QuotaRow) (last m : ℕ) (path : List (List ℕ)) (n : ℕ) → IsVolume v.size v.nodes → resolve v.nodes path ≡ Some n → n ≡ 0 → due v quotas last m (File (Remove path)) ≡ Some InvalidMove
-remove_root v quotas last m path n k h z =
-    first_remove (leads v.nodes path) (is_root path) _ (leads_is v.nodes path n h) (root_is v.size v.nodes path n k h ∙ ap (λ i. i == 0) z)
+pub remove_root : (p : Parts) (m : ℕ) (path : List (List ℕ)) (n : ℕ) → IsVolume p.tree.size p.tree.nodes → resolve p.tree.nodes path ≡ Some n → n ≡ 0 → due p m (File (Remove path)) ≡ Some InvalidMove
+remove_root p m path n k h z =
+    first_remove (leads p.tree.nodes path) (is_root path) _ (leads_is p.tree.nodes path n h) (root_is p.tree.size p.tree.nodes path n k h ∙ ap (λ i. i == 0) z)

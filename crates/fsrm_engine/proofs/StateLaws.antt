@@ -4,9 +4,6 @@ use Rattle.std.proofs.lemmas.Bool.Decides.{nat_tests}
 use Rattle.std.proofs.lemmas.Option.{same_Some}
 use Rattle.std.specs.Prelude.{sum_by, is_some, is_none, option_map, if◌then◌else◌}
 use Rattle.std.specs.Option.{option_map_or}
-use Rattle.fsrm_model.specs.declared.command.Answer.{Answer}
-use Rattle.fsrm_model.specs.declared.command.Deed.{Deed}
-use Rattle.fsrm_model.specs.declared.command.Outcome.TheVariants.{Done}
 use Rattle.fsrm_model.specs.declared.command.Refusal.TheVariants.{PathNotFound, NotFound, AlreadyExists, TableFull}
 use Rattle.fsrm_model.specs.declared.row.Capacity.{Capacity}
 use Rattle.fsrm_model.specs.declared.row.NodeRow.{NodeRow}
@@ -19,33 +16,20 @@ use Rattle.fsrm_model.specs.FileOps.{target}
 use Rattle.fsrm_base.specs.Keyed.{row_of, has_row, is_ascending, with_row, with_change}
 use Rattle.fsrm_model.specs.Leads.{leads_to_folder}
 use Rattle.fsrm_model.specs.Limits.{most_quotas}
-use Rattle.fsrm_model.specs.Quota.{folder_of, quota_of, is_complete, peaks}
-use Rattle.fsrm_model.specs.QuotaStates.{start, state_of, state_after, is_disabled, in_state, followed}
+use Rattle.fsrm_model.specs.Quota.{folder_of, quota_of, is_complete}
+use Rattle.fsrm_model.specs.QuotaStates.{start, state_of, state_after, is_disabled, in_state}
 use Rattle.fsrm_model.specs.QuotaWork.{modified}
 use Rattle.fsrm_model.specs.Space.{space}
-use Rattle.fsrm_model.specs.Step.{step}
 use Rattle.fsrm_model.specs.Tree.{node_of, is_folder, children, usage}
 use Rattle.fsrm_model.specs.Valid.{IsVolume}
 use Rattle.fsrm_base.proofs.Look.{is_some-find}
 use Rattle.fsrm_base.proofs.Order.{length-with_row}
 use Rattle.fsrm_base.proofs.TestLaws.{clash, eq_is}
 use Rattle.fsrm_model.proofs.UsageLaws.{usage_children}
-use Rattle.fsrm_engine.specs.Machine.{Machine, Takes, settled, with_rows}
 use Rattle.fsrm_engine.specs.Places.{IsFolder}
 use Rattle.fsrm_engine.proofs.PlaceLaws.{target_is, leads_to_folder_is}
 use Rattle.fsrm_base.proofs.RowLaws.{change_same}
-use Rattle.fsrm_engine.proofs.WholeLaws.{asks_of, done_whole}
 use Rattle.rescan.proofs.ChangeLaws.{change_twice}
-
--- the answer to a command that was done: its effect, and then its end
-pub done_settled : (old mid new : Machine) (m : ℕ) (deed : Deed) (answer : Answer) (effect : Rows) → old.waiting ≡ [] → old.rows.last_moment ≤ m → first (asks_of old m deed).checks ≡ None → (asks_of old m deed).effect ≡ effect → (asks_of old m deed).outcome ≡ Done None → (asks_of old m deed).lasts ≡ true → mid ≡ with_rows old (followed old.rows effect) → new ≡ settled mid m → answer ≡ record { outcome = Done None; lasting = true } → Takes old new (step old.size old.rows (record { moment = m; deed = deed })) answer
-done_settled old mid new m deed answer effect idle late none made is lasts settles ends e =
-    done_whole old new m deed answer effect (Done None) late none made is lasts
-    (ap (λ (o : Machine). o.size) ends ∙ ap (λ (o : Machine). o.size) settles)
-    (ap (λ (o : Machine). o.waiting) ends ∙ (ap (λ (o : Machine). o.waiting) settles ∙ idle))
-    (ap (λ (o : Machine). o.rows) ends
-    ∙ ap (λ (o : Machine). record (peaks o.size o.rows m) { last_moment = m }) settles)
-    e
 
 -- Refusals: the path leads to no folder, or that folder has no quota
 pub missing : (nodes : List NodeRow) (path : List (List ℕ)) (more : List Check) → leads_to_folder nodes path ≡ false → first ((PathNotFound when not (leads_to_folder nodes path)) ∷ more) ≡ Some PathNotFound

@@ -1,5 +1,5 @@
--- How a command's step is seen from outside the engine.
-use Rattle.std.proofs.Common.{◌≡◌, ℕ, ◌≤◌, true, false, List, [], ◌∷◌, Option, Some, None, Result, Ok, Err, nat_lt, refl, ap, sym, ◌∙◌, subst, arith}
+-- What an engine's parts do is the plain machine's step.
+use Rattle.std.proofs.Common.{◌≡◌, ℕ, ◌≤◌, Bool, true, false, List, [], ◌∷◌, Option, Some, None, Result, Ok, Err, nat_lt, refl, ap, sym, ◌∙◌, arith}
 use Rattle.std.proofs.lemmas.Bool.Decides.{nat_tests}
 use Rattle.std.proofs.lemmas.Option.{same_Some}
 use Rattle.std.specs.Prelude.{option_map, map, IfOk, if◌then◌else◌}
@@ -7,7 +7,6 @@ use Rattle.std.specs.Option.{option_and_then}
 use Rattle.fsrm_model.specs.declared.command.Answer.{Answer}
 use Rattle.fsrm_model.specs.declared.command.Command.{Command}
 use Rattle.fsrm_model.specs.declared.command.Deed.{Deed}
-use Rattle.fsrm_model.specs.declared.command.Outcome.{Outcome}
 use Rattle.fsrm_model.specs.declared.command.Outcome.TheVariants.{Refused, Done}
 use Rattle.fsrm_model.specs.declared.command.Refusal.{Refusal}
 use Rattle.fsrm_model.specs.declared.command.Refusal.TheVariants.{ClockBack}
@@ -19,28 +18,26 @@ use Rattle.fsrm_model.specs.declared.row.Rows.{Rows}
 use Rattle.fsrm_model.specs.Check.{◌when◌, first}
 use Rattle.fsrm_model.specs.Cost.{cost, deed_cost}
 use Rattle.fsrm_model.specs.Quota.{peaked}
-use Rattle.fsrm_model.specs.QuotaStates.{followed, same_head}
+use Rattle.fsrm_model.specs.QuotaStates.{followed, same_head, scan_begun}
 use Rattle.fsrm_model.specs.Step.{Stepped, step, work, decided, accepted, lasted, unacted, unlasting}
 use Rattle.fsrm_model.specs.Work.{Work}
+use Rattle.fsrm_base.proofs.TestLaws.{eq_same}
+use Rattle.scan_queue.specs.Courses.{left}
 use Rattle.volume_tree.specs.declared.answer.TreeFault.{TreeFault}
 use Rattle.volume_tree.specs.declared.answer.TreeFault.TheVariants.{AlreadyExists, InvalidMove, NotEmpty, VolumeFull, NamesFull, NoMemory}
-use Rattle.volume_tree.specs.Volume.{Volume, IsFault}
+use Rattle.volume_tree.specs.Volume.{IsFault}
+use Rattle.fsrm_engine.specs.declared.parts.Parts.{Parts}
 use Rattle.fsrm_engine.specs.Faults.{refusal_of, refused_answer, answer_of}
-use Rattle.fsrm_engine.specs.Machine.{Machine, Takes, rows_at}
+use Rattle.fsrm_engine.specs.Machine.{Machine, Takes, Does, rows_of, machine_of, ended, lasting_rows, settled, with_rows}
 
--- the machine of an engine that has this tree and these quotas, and whose last moment is this
-abbrev pub machine : Volume → List QuotaRow → ℕ → Machine
-machine v quotas last = record { size = v.size; rows = rows_at v.nodes quotas last; waiting = [] }
+-- what a command asks of these parts, and the refusal that is due to it if it isn't late
+abbrev pub asked : Parts → ℕ → Deed → Work
+asked p m deed = work p.tree.size (rows_of p) m deed
 
--- what a command asks of it
-abbrev pub asked_of : Volume → List QuotaRow → ℕ → ℕ → Deed → Work
-asked_of v quotas last m deed = work v.size (rows_at v.nodes quotas last) m deed
+abbrev pub due : Parts → ℕ → Deed → Option Refusal
+due p m deed = first (asked p m deed).checks
 
--- the refusal that is due to a command that isn't late
-abbrev pub due : Volume → List QuotaRow → ℕ → ℕ → Deed → Option Refusal
-due v quotas last m deed = first (asked_of v quotas last m deed).checks
-
-pub late_test : (last m : ℕ) → last ≤ m → nat_lt m last ≡ false
+late_test : (last m : ℕ) → last ≤ m → nat_lt m last ≡ false
 late_test last m h = grind (arith, nat_tests)
 
 -- a command that isn't late may take the looks of its deed
@@ -48,45 +45,95 @@ pub cost_in_time : (R : Rows) (c : Command) → R.last_moment ≤ c.moment → d
 cost_in_time R c late = rw (late_test R.last_moment c.moment late) refl
 
 -- a command that isn't late is decided by its own checks
-pub step_by : (K : Capacity) (R : Rows) (m : ℕ) (deed : Deed) (o : Option Refusal) → R.last_moment ≤ m → first (work K R m deed).checks ≡ o → step K R (record { moment = m; deed = deed }) ≡ decided K R m (work K R m deed) o
+step_by : (K : Capacity) (R : Rows) (m : ℕ) (deed : Deed) (o : Option Refusal) → R.last_moment ≤ m → first (work K R m deed).checks ≡ o → step K R (record { moment = m; deed = deed }) ≡ decided K R m (work K R m deed) o
 step_by K R m deed o late h =
     ap (decided K R m (work K R m deed)) (ap (λ b. first ((ClockBack when b) ∷ (work K R m deed).checks)) (late_test R.last_moment m late) ∙ h)
 
--- what is known of a step is known of the machine from outside
-from_outside : (v : Volume) (quotas : List QuotaRow) (last m : ℕ) (deed : Deed) (old new : Machine) (answer : Answer) (s : Stepped) → machine v quotas last ≡ old → step v.size (rows_at v.nodes quotas last) (record { moment = m; deed = deed }) ≡ s → new.size ≡ v.size → new.rows ≡ s.rows → new.waiting ≡ s.acts → answer.outcome ≡ s.outcome → answer.lasting ≡ s.lasting → Takes old new (step old.size old.rows (record { moment = m; deed = deed })) answer
-from_outside v quotas last m deed old new answer s view h size rows acts outcome lasting =
-    subst (λ (o : Machine). Takes o new (step o.size o.rows (record { moment = m; deed = deed })) answer) view
-    (record {
+-- what is known of the step is known of the machine
+by_step : (old new : Machine) (m : ℕ) (deed : Deed) (answer : Answer) (s : Stepped) → step old.size old.rows (record { moment = m; deed = deed }) ≡ s → new.size ≡ old.size → new.rows ≡ s.rows → new.waiting ≡ s.acts → answer ≡ record { outcome = s.outcome; lasting = s.lasting } → Takes old new (step old.size old.rows (record { moment = m; deed = deed })) answer
+by_step old new m deed answer s h size rows acts e =
+    record {
       size_is = size;
       rows_are = rows ∙ sym (ap (λ (s : Stepped). s.rows) h);
       acts_are = acts ∙ sym (ap (λ (s : Stepped). s.acts) h);
-      outcome_is = outcome ∙ sym (ap (λ (s : Stepped). s.outcome) h);
-      lasting_is = lasting ∙ sym (ap (λ (s : Stepped). s.lasting) h);
-    })
+      outcome_is = ap (λ (a : Answer). a.outcome) e ∙ sym (ap (λ (s : Stepped). s.outcome) h);
+      lasting_is = ap (λ (a : Answer). a.lasting) e ∙ sym (ap (λ (s : Stepped). s.lasting) h);
+    }
 
--- a refused command, where the tree is as it was
-takes_refused : (v v' : Volume) (quotas : List QuotaRow) (last m : ℕ) (deed : Deed) (old : Machine) (answer : Answer) (refusal : Refusal) → machine v quotas last ≡ old → v' ≡ v → step v.size (rows_at v.nodes quotas last) (record { moment = m; deed = deed }) ≡ unlasting (rows_at v.nodes quotas last) (Refused refusal) → answer ≡ refused_answer refusal → Takes old (machine v' quotas last) (step old.size old.rows (record { moment = m; deed = deed })) answer
-takes_refused v v' quotas last m deed old answer refusal view same h e =
-    from_outside v quotas last m deed old (machine v' quotas last) answer (unlasting (rows_at v.nodes quotas last) (Refused refusal)) view h
-    (ap (λ (w : Volume). w.size) same) (ap (λ (w : Volume). rows_at w.nodes quotas last) same) refl
-    (ap (λ (a : Answer). a.outcome) e) (ap (λ (a : Answer). a.lasting) e)
+-- the answer to a command that is refused
+pub refused_as : (p : Parts) (m : ℕ) (deed : Deed) (answer : Answer) (refusal : Refusal) → p.last_moment ≤ m → due p m deed ≡ Some refusal → answer ≡ refused_answer refusal → Does p p m deed answer
+refused_as p m deed answer refusal late h e =
+    by_step (machine_of p) (machine_of p) m deed answer (unlasting (rows_of p) (Refused refusal)) (step_by p.tree.size (rows_of p) m deed (Some refusal) late h) refl refl refl e
 
-was_late : (v : Volume) (quotas : List QuotaRow) (last m : ℕ) (old : Machine) → machine v quotas last ≡ old → old.rows.last_moment ≤ m → last ≤ m
-was_late v quotas last m old view late = subst (λ (o : Machine). o.rows.last_moment ≤ m) (sym view) late
+accepted_by : (K : Capacity) (R : Rows) (m : ℕ) (w : Work) (b : Bool) → w.lasts ≡ b → accepted K R m w ≡ (if b then lasted K R (unacted (followed R w.effect)) m w.outcome else unlasting (followed R w.effect) w.outcome)
+accepted_by K R m w b h = ap (λ b. if b then lasted K R (unacted (followed R w.effect)) m w.outcome else unlasting (followed R w.effect) w.outcome) h
 
--- the answer to a command whose refusal is due
-pub refused_at : (v : Volume) (quotas : List QuotaRow) (last m : ℕ) (deed : Deed) (old : Machine) (answer : Answer) (refusal : Refusal) → machine v quotas last ≡ old → old.rows.last_moment ≤ m → due v quotas last m deed ≡ Some refusal → answer ≡ refused_answer refusal → Takes old old (step old.size old.rows (record { moment = m; deed = deed })) answer
-refused_at v quotas last m deed old answer refusal view late h e =
-    subst (λ (o : Machine). Takes old o (step old.size old.rows (record { moment = m; deed = deed })) answer) view
-    (takes_refused v v quotas last m deed old answer refusal view refl (step_by v.size (rows_at v.nodes quotas last) m deed (Some refusal) (was_late v quotas last m old view late) h) e)
+-- the answer to a command that was done, and lasts
+pub lasting_as : (p new : Parts) (m : ℕ) (deed : Deed) (answer : Answer) (effect : Rows) → p.last_moment ≤ m → due p m deed ≡ None → (asked p m deed).effect ≡ effect → (asked p m deed).lasts ≡ true → machine_of new ≡ record { size = p.tree.size; rows = lasting_rows (machine_of p) effect m; waiting = [] } → answer ≡ record { outcome = (asked p m deed).outcome; lasting = true } → Does p new m deed answer
+lasting_as p new m deed answer effect late none made lasts is e =
+    let R = rows_of p in
+    let w = asked p m deed in
+    by_step (machine_of p) (machine_of new) m deed answer (lasted p.tree.size R (unacted (followed R w.effect)) m w.outcome)
+    (step_by p.tree.size R m deed None late none ∙ accepted_by p.tree.size R m w true lasts)
+    (ap (λ (o : Machine). o.size) is) (ap (λ (o : Machine). o.rows) is ∙ sym (ap (λ (E : Rows). lasting_rows (machine_of p) E m) made)) (ap (λ (o : Machine). o.waiting) is) e
+
+-- and to one that was done, and doesn't last
+pub passing_as : (p new : Parts) (m : ℕ) (deed : Deed) (answer : Answer) (effect : Rows) → p.last_moment ≤ m → due p m deed ≡ None → (asked p m deed).effect ≡ effect → (asked p m deed).lasts ≡ false → machine_of new ≡ with_rows (machine_of p) (followed (rows_of p) effect) → answer ≡ record { outcome = (asked p m deed).outcome; lasting = false } → Does p new m deed answer
+passing_as p new m deed answer effect late none made lasts is e =
+    let R = rows_of p in
+    let w = asked p m deed in
+    by_step (machine_of p) (machine_of new) m deed answer (unlasting (followed R w.effect) w.outcome)
+    (step_by p.tree.size R m deed None late none ∙ accepted_by p.tree.size R m w false lasts)
+    (ap (λ (o : Machine). o.size) is) (ap (λ (o : Machine). o.rows) is ∙ sym (ap (followed R) made)) (ap (λ (o : Machine). o.waiting) is) e
+
+-- the same head is its own
+pub same_own : (queue : List ℕ) → same_head queue queue ≡ true
+same_own [] = refl
+same_own (n ∷ queue) = eq_same n
+
+-- the answer to a command that changes nothing and isn't refused
+pub told_as : (p : Parts) (m : ℕ) (deed : Deed) (answer : Answer) → p.last_moment ≤ m → due p m deed ≡ None → (asked p m deed).effect ≡ rows_of p → (asked p m deed).lasts ≡ false → answer ≡ record { outcome = (asked p m deed).outcome; lasting = false } → Does p p m deed answer
+told_as p m deed answer late none made lasts e =
+    let R = rows_of p in
+    passing_as p p m deed answer R late none made lasts
+    (sym (ap (λ b. with_rows (machine_of p) (record R { unvisited = if b then R.unvisited else scan_begun R.nodes R.queue })) (same_own R.queue))) e
+
+-- The rows that a command makes of these parts before its end, by what may change in them
+abbrev pub made_rows : Parts → List NodeRow → List QuotaRow → List ℕ → List ℕ → Rows
+made_rows p nodes quotas queue unvisited =
+    record (rows_of p) { nodes = nodes; quotas = quotas; queue = queue; unvisited = unvisited }
+
+-- the rows of parts that were changed so and then ended. Some peaks may have been raised already
+pub ended_rows : (p mid : Parts) (m : ℕ) (quotas : List QuotaRow) (queue unvisited : List ℕ) → mid.tree.size ≡ p.tree.size → map (peaked p.tree.size mid.tree.nodes m) mid.objects.quotas ≡ map (peaked p.tree.size mid.tree.nodes m) quotas → mid.scans.queue ≡ queue → left mid.tree.nodes mid.scans ≡ (if same_head p.scans.queue queue then unvisited else scan_begun mid.tree.nodes queue) → machine_of (ended mid m) ≡ record { size = p.tree.size; rows = lasting_rows (machine_of p) (made_rows p mid.tree.nodes quotas queue unvisited) m; waiting = [] }
+ended_rows p mid m quotas queue unvisited size raised queue_is left_is =
+    let nodes = mid.tree.nodes in
+    let of : Capacity → List QuotaRow → List ℕ → List ℕ → Machine = λ K qs q u. record { size = K; rows = record (made_rows p nodes qs q u) { last_moment = m }; waiting = [] } in
+    ap (λ (K : Capacity). of K (map (peaked K nodes m) mid.objects.quotas) mid.scans.queue (left nodes mid.scans)) size
+    ∙ (ap (λ (qs : List QuotaRow). of p.tree.size qs mid.scans.queue (left nodes mid.scans)) raised
+    ∙ (ap (λ q. of p.tree.size (map (peaked p.tree.size nodes m) quotas) q (left nodes mid.scans)) queue_is
+    ∙ ap (λ u. of p.tree.size (map (peaked p.tree.size nodes m) quotas) queue u) left_is))
+
+-- the answer to a command that was done, by the parts before its end
+pub done_as : (p mid new : Parts) (m : ℕ) (deed : Deed) (answer : Answer) (quotas : List QuotaRow) (queue unvisited : List ℕ) → p.last_moment ≤ m → due p m deed ≡ None → (asked p m deed).effect ≡ made_rows p mid.tree.nodes quotas queue unvisited → (asked p m deed).outcome ≡ Done None → (asked p m deed).lasts ≡ true → mid.tree.size ≡ p.tree.size → map (peaked p.tree.size mid.tree.nodes m) mid.objects.quotas ≡ map (peaked p.tree.size mid.tree.nodes m) quotas → mid.scans.queue ≡ queue → left mid.tree.nodes mid.scans ≡ (if same_head p.scans.queue queue then unvisited else scan_begun mid.tree.nodes queue) → new ≡ ended mid m → answer ≡ record { outcome = Done None; lasting = true } → Does p new m deed answer
+done_as p mid new m deed answer quotas queue unvisited late none made is lasts size raised queue_is left_is ends e =
+    lasting_as p new m deed answer (made_rows p mid.tree.nodes quotas queue unvisited) late none made lasts
+    (ap machine_of ends ∙ ended_rows p mid m quotas queue unvisited size raised queue_is left_is)
+    (e ∙ ap (λ o. record { outcome = o; lasting = true }) (sym is))
+
+-- the same by the machine that they are
+pub done_settled : (p mid new : Parts) (m : ℕ) (deed : Deed) (answer : Answer) (effect : Rows) → p.last_moment ≤ m → due p m deed ≡ None → (asked p m deed).effect ≡ effect → (asked p m deed).outcome ≡ Done None → (asked p m deed).lasts ≡ true → machine_of mid ≡ with_rows (machine_of p) (followed (rows_of p) effect) → new ≡ ended mid m → answer ≡ record { outcome = Done None; lasting = true } → Does p new m deed answer
+done_settled p mid new m deed answer effect late none made is lasts settles ends e =
+    lasting_as p new m deed answer effect late none made lasts
+    (ap machine_of ends ∙ ap (λ (o : Machine). settled o m) settles)
+    (e ∙ ap (λ o. record { outcome = o; lasting = true }) (sym is))
 
 -- the refusal that an answer tells
-pub record Told (o : Option Refusal) (answer : Answer) : Type 0 where
-  pub refusal : Refusal
-  pub is : o ≡ Some refusal
-  pub answer_is : answer ≡ refused_answer refusal
+record Told (o : Option Refusal) (answer : Answer) : Type 0 where
+  refusal : Refusal
+  is : o ≡ Some refusal
+  answer_is : answer ≡ refused_answer refusal
 
-pub told : (o : Option Refusal) (answer : Answer) → option_map refused_answer o ≡ Some answer → Told o answer
+told : (o : Option Refusal) (answer : Answer) → option_map refused_answer o ≡ Some answer → Told o answer
 told None answer h = cc
 told (Some refusal) answer h = record { refusal = refusal; is = refl; answer_is = sym (same_Some (refused_answer refusal) answer h) }
 
@@ -111,14 +158,6 @@ fault_due VolumeFull o more refusal h r = ap (λ o. tree_first o more) h ∙ r
 fault_due NamesFull o more refusal h r = ap (λ o. tree_first o more) h ∙ r
 fault_due NoMemory o more refusal h r = cc
 
--- the answer to a command that the tree refused, which then is as it was
-refused_by_at : (v v' : Volume) (quotas : List QuotaRow) (last m : ℕ) (deed : Deed) (old : Machine) (fault : TreeFault) (fault_is : Option TreeFault) (more : Option Refusal) (result : Result Answer Wanting) → machine v quotas last ≡ old → old.rows.last_moment ≤ m → v' ≡ v → due v quotas last m deed ≡ tree_first fault_is more → IsFault fault fault_is → IfOk result (λ answer. answer_of fault ≡ Some answer) → IfOk result (λ answer. Takes old (machine v' quotas last) (step old.size old.rows (record { moment = m; deed = deed })) answer)
-refused_by_at v v' quotas last m deed old fault fault_is more (Err e) view late same h is given = tt
-refused_by_at v v' quotas last m deed old fault fault_is more (Ok answer) view late same h is given =
-    let t = told (refusal_of fault) answer given in
-    takes_refused v v' quotas last m deed old answer t.refusal view same
-    (step_by v.size (rows_at v.nodes quotas last) m deed (Some t.refusal) (was_late v quotas last m old view late) (h ∙ fault_due fault fault_is more t.refusal is t.is)) t.answer_is
-
 -- a fault that is due, and isn't for want of memory
 pub is_fault : (fault : TreeFault) (o : Option TreeFault) → o ≡ Some fault → IsFault fault o
 is_fault AlreadyExists o h = h
@@ -128,39 +167,9 @@ is_fault VolumeFull o h = h
 is_fault NamesFull o h = h
 is_fault NoMemory o h = tt
 
--- the answer to a command that was done, and leaves these nodes and quotas before peaks are raised. Some may have been
-pub done_at : (v w : Volume) (quotas after some : List QuotaRow) (last m : ℕ) (deed : Deed) (old new : Machine) (answer : Answer) → machine v quotas last ≡ old → old.rows.last_moment ≤ m → due v quotas last m deed ≡ None → (asked_of v quotas last m deed).effect ≡ rows_at w.nodes after last → (asked_of v quotas last m deed).outcome ≡ Done None → (asked_of v quotas last m deed).lasts ≡ true → w.size ≡ v.size → map (peaked v.size w.nodes m) some ≡ map (peaked v.size w.nodes m) after → new ≡ machine w (map (peaked w.size w.nodes m) some) m → answer ≡ record { outcome = Done None; lasting = true } → Takes old new (step old.size old.rows (record { moment = m; deed = deed })) answer
-done_at v w quotas after some last m deed old new answer view late none effect outcome lasts size same n e =
-    let R = rows_at v.nodes quotas last in
-    let asked = work v.size R m deed in
-    let s : step v.size R (record { moment = m; deed = deed }) ≡ record { rows = rows_at w.nodes (map (peaked v.size w.nodes m) after) m; outcome = Done None; lasting = true; acts = [] } =
-    step_by v.size R m deed None (was_late v quotas last m old view late) none
-    ∙ accepted_is v.size R m asked w.nodes after last refl effect outcome lasts in
-    from_outside v quotas last m deed old new answer _ view s
-    (ap (λ (o : Machine). o.size) n ∙ size) (ap (λ (o : Machine). o.rows) n ∙ ap (λ (qs : List QuotaRow). rows_at w.nodes qs m) (ap (λ (K : Capacity). map (peaked K w.nodes m) some) size ∙ same)) (ap (λ (o : Machine). o.waiting) n)
-    (ap (λ (a : Answer). a.outcome) e) (ap (λ (a : Answer). a.lasting) e)
-  where
-    accepted_is : (K : Capacity) (R : Rows) (m : ℕ) (asked : Work) (nodes : List NodeRow) (after : List QuotaRow) (last : ℕ) → R.queue ≡ [] → asked.effect ≡ rows_at nodes after last → asked.outcome ≡ Done None → asked.lasts ≡ true → accepted K R m asked ≡ record { rows = rows_at nodes (map (peaked K nodes m) after) m; outcome = Done None; lasting = true; acts = [] }
-    accepted_is K R m asked nodes after last none effect outcome lasts =
-        ap (λ b. if b then lasted K R (unacted (followed R asked.effect)) m asked.outcome else unlasting (followed R asked.effect) asked.outcome) lasts
-        ∙ (ap (λ (E : Rows). lasted K R (unacted (followed R E)) m asked.outcome) effect
-        ∙ (ap (λ o. lasted K R (unacted (followed R (rows_at nodes after last))) m o) outcome
-        ∙ ap (λ q. lasted K R (unacted (record (rows_at nodes after last) { unvisited = if same_head q [] then [] else [] })) m (Done None)) none))
-
--- the answer to a command that changes nothing and isn't refused
-pub told_at : (v : Volume) (quotas : List QuotaRow) (last m : ℕ) (deed : Deed) (old : Machine) (answer : Answer) (outcome : Outcome) → machine v quotas last ≡ old → old.rows.last_moment ≤ m → due v quotas last m deed ≡ None → (asked_of v quotas last m deed).effect ≡ rows_at v.nodes quotas last → (asked_of v quotas last m deed).outcome ≡ outcome → (asked_of v quotas last m deed).lasts ≡ false → answer ≡ record { outcome = outcome; lasting = false } → Takes old old (step old.size old.rows (record { moment = m; deed = deed })) answer
-told_at v quotas last m deed old answer outcome view late none effect is lasts e =
-    let R = rows_at v.nodes quotas last in
-    let asked = work v.size R m deed in
-    let s : step v.size R (record { moment = m; deed = deed }) ≡ unlasting R outcome =
-    step_by v.size R m deed None (was_late v quotas last m old view late) none
-    ∙ (ap (λ b. if b then lasted v.size R (unacted (followed R asked.effect)) m asked.outcome else unlasting (followed R asked.effect) asked.outcome) lasts
-    ∙ (ap (λ (S : Rows). unlasting (followed R S) asked.outcome) effect ∙ ap (unlasting R) is)) in
-    subst (λ (o : Machine). Takes old o (step old.size old.rows (record { moment = m; deed = deed })) answer) view
-    (from_outside v quotas last m deed old (machine v quotas last) answer (unlasting R outcome) view s refl refl refl (ap (λ (a : Answer). a.outcome) e) (ap (λ (a : Answer). a.lasting) e))
-
--- the same where nothing was tried
-pub refused_by_same : (v : Volume) (quotas : List QuotaRow) (last m : ℕ) (deed : Deed) (old : Machine) (fault : TreeFault) (fault_is : Option TreeFault) (more : Option Refusal) (result : Result Answer Wanting) → machine v quotas last ≡ old → old.rows.last_moment ≤ m → due v quotas last m deed ≡ tree_first fault_is more → IsFault fault fault_is → IfOk result (λ answer. answer_of fault ≡ Some answer) → IfOk result (λ answer. Takes old old (step old.size old.rows (record { moment = m; deed = deed })) answer)
-refused_by_same v quotas last m deed old fault fault_is more result view late h is given =
-    subst (λ (o : Machine). IfOk result (λ answer. Takes old o (step old.size old.rows (record { moment = m; deed = deed })) answer)) view
-    (refused_by_at v v quotas last m deed old fault fault_is more result view late refl h is given)
+-- the answer to a command that the tree refused, if it wasn't for want of memory
+pub refused_by_as : (p : Parts) (m : ℕ) (deed : Deed) (fault : TreeFault) (fault_is : Option TreeFault) (more : Option Refusal) (result : Result Answer Wanting) → p.last_moment ≤ m → due p m deed ≡ tree_first fault_is more → IsFault fault fault_is → IfOk result (λ answer. answer_of fault ≡ Some answer) → IfOk result (λ answer. Does p p m deed answer)
+refused_by_as p m deed fault fault_is more (Err e) late h is given = tt
+refused_by_as p m deed fault fault_is more (Ok answer) late h is given =
+    let t = told (refusal_of fault) answer given in
+    refused_as p m deed answer t.refusal late (h ∙ fault_due fault fault_is more t.refusal is t.is) t.answer_is

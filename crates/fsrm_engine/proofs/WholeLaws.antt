@@ -1,59 +1,58 @@
--- How a command's step is seen of a whole machine, with its scans.
-use Rattle.std.proofs.Common.{◌≡◌, ℕ, ◌≤◌, Bool, true, false, [], Some, None, refl, ap, sym, ◌∙◌}
-use Rattle.std.specs.Prelude.{if◌then◌else◌}
+-- After a command an engine's parts are whole.
+use Rattle.std.proofs.Common.{◌≡◌, ℕ, ◌≤◌, ap, sym, ◌∙◌, subst}
+use Rattle.std.specs.Prelude.{Result, Ok, Err, IfOk, OnErr}
+use Rattle.fsrm_base.specs.declared.memory.NoMemory.{NoMemory as Wanting}
 use Rattle.fsrm_model.specs.declared.command.Answer.{Answer}
+use Rattle.fsrm_model.specs.declared.command.Command.{Command}
 use Rattle.fsrm_model.specs.declared.command.Deed.{Deed}
-use Rattle.fsrm_model.specs.declared.command.Outcome.{Outcome}
-use Rattle.fsrm_model.specs.declared.command.Outcome.TheVariants.{Refused}
-use Rattle.fsrm_model.specs.declared.command.Refusal.{Refusal}
 use Rattle.fsrm_model.specs.declared.row.Capacity.{Capacity}
 use Rattle.fsrm_model.specs.declared.row.Rows.{Rows}
-use Rattle.fsrm_model.specs.Check.{first}
-use Rattle.fsrm_model.specs.QuotaStates.{followed}
-use Rattle.fsrm_model.specs.Step.{Stepped, step, work, accepted, lasted, unacted, unlasting}
-use Rattle.fsrm_model.specs.Work.{Work}
-use Rattle.fsrm_engine.specs.Faults.{refused_answer}
-use Rattle.fsrm_engine.specs.Machine.{Machine, Takes, lasting_rows}
-use Rattle.fsrm_engine.proofs.StepLaws.{step_by}
+use Rattle.fsrm_model.specs.Cost.{cost, deed_cost}
+use Rattle.fsrm_model.specs.Named.{IsNamed}
+use Rattle.fsrm_model.specs.Step.{step}
+use Rattle.fsrm_model.specs.Valid.{IsStore}
+use Rattle.fsrm_model.proofs.EachCommand.{named}
+use Rattle.scan_queue.specs.Courses.{Scanning}
+use Rattle.fsrm_engine.specs.declared.parts.Parts.{Parts}
+use Rattle.fsrm_engine.specs.Machine.{Machine, Takes, Does, IsSound, IsWhole, AreCounted, machine_of, rows_of, ended}
+use Rattle.fsrm_engine.proofs.StepLaws.{cost_in_time}
 
--- what a command asks of a machine
-abbrev pub asks_of : Machine → ℕ → Deed → Work
-asks_of machine m deed = work machine.size machine.rows m deed
+-- parts after their end are sound
+pub sound_ended : (mid new : Parts) (m : ℕ) → new ≡ ended mid m → AreCounted new → Scanning mid.tree mid.scans → IsSound new
+sound_ended mid new m is counted scanning =
+    record { counted = counted; scanning = subst (λ (p : Parts). Scanning p.tree p.scans) (sym is) scanning }
 
--- what is known of the step is known of the machine
-by_step : (old new : Machine) (m : ℕ) (deed : Deed) (answer : Answer) (s : Stepped) → step old.size old.rows (record { moment = m; deed = deed }) ≡ s → new.size ≡ old.size → new.rows ≡ s.rows → new.waiting ≡ s.acts → answer.outcome ≡ s.outcome → answer.lasting ≡ s.lasting → Takes old new (step old.size old.rows (record { moment = m; deed = deed })) answer
-by_step old new m deed answer s h size rows acts outcome lasting =
+-- the rows of a step are valid, and so are those of the parts that did it
+pub whole_after : (old new : Parts) (m : ℕ) (deed : Deed) (answer : Answer) → Does old new m deed answer → IsSound new → IsStore old.tree.size (step old.tree.size (rows_of old) (record { moment = m; deed = deed })).rows → IsWhole new
+whole_after old new m deed answer does sound valid =
     record {
-      size_is = size;
-      rows_are = rows ∙ sym (ap (λ (s : Stepped). s.rows) h);
-      acts_are = acts ∙ sym (ap (λ (s : Stepped). s.acts) h);
-      outcome_is = outcome ∙ sym (ap (λ (s : Stepped). s.outcome) h);
-      lasting_is = lasting ∙ sym (ap (λ (s : Stepped). s.lasting) h);
+      sound = sound;
+      valid = subst (IsStore new.tree.size) (sym does.rows_are) (subst (λ (K : Capacity). IsStore K (step old.tree.size (rows_of old) (record { moment = m; deed = deed })).rows) (sym does.size_is) valid);
     }
 
--- the answer to a command that is refused
-pub refused_whole : (old : Machine) (m : ℕ) (deed : Deed) (answer : Answer) (refusal : Refusal) → old.waiting ≡ [] → old.rows.last_moment ≤ m → first (asks_of old m deed).checks ≡ Some refusal → answer ≡ refused_answer refusal → Takes old old (step old.size old.rows (record { moment = m; deed = deed })) answer
-refused_whole old m deed answer refusal idle late h e =
-    by_step old old m deed answer (unlasting old.rows (Refused refusal)) (step_by old.size old.rows m deed (Some refusal) late h)
-    refl refl idle (ap (λ (a : Answer). a.outcome) e) (ap (λ (a : Answer). a.lasting) e)
+-- also if memory ran out
+pub result_whole : (old new : Parts) (m : ℕ) (deed : Deed) (result : Result Answer Wanting) → IsWhole old → IfOk result (λ answer. Does old new m deed answer) → OnErr result (new ≡ old) → IsSound new → IsStore old.tree.size (step old.tree.size (rows_of old) (record { moment = m; deed = deed })).rows → IsWhole new
+result_whole old new m deed (Ok answer) whole does same sound valid = whole_after old new m deed answer does sound valid
+result_whole old new m deed (Err e) whole does same sound valid = subst IsWhole (sym same) whole
 
-accepted_by : (K : Capacity) (R : Rows) (m : ℕ) (w : Work) (b : Bool) → w.lasts ≡ b → accepted K R m w ≡ (if b then lasted K R (unacted (followed R w.effect)) m w.outcome else unlasting (followed R w.effect) w.outcome)
-accepted_by K R m w b h = ap (λ b. if b then lasted K R (unacted (followed R w.effect)) m w.outcome else unlasting (followed R w.effect) w.outcome) h
+-- What an answer names is there
+pub takes_named : (old new : Machine) (c : Command) (answer : Answer) → Takes old new (step old.size old.rows c) answer → IsStore old.size old.rows → IsNamed new.rows answer.outcome
+takes_named old new c answer t store =
+    subst (λ (S : Rows). IsNamed S answer.outcome) (sym t.rows_are)
+    (subst (IsNamed (step old.size old.rows c).rows) (sym t.outcome_is) (named old.size old.rows c store))
 
--- the answer to a command that was done, and lasts
-pub done_whole : (old new : Machine) (m : ℕ) (deed : Deed) (answer : Answer) (effect : Rows) (outcome : Outcome) → old.rows.last_moment ≤ m → first (asks_of old m deed).checks ≡ None → (asks_of old m deed).effect ≡ effect → (asks_of old m deed).outcome ≡ outcome → (asks_of old m deed).lasts ≡ true → new.size ≡ old.size → new.waiting ≡ [] → new.rows ≡ lasting_rows old effect m → answer ≡ record { outcome = outcome; lasting = true } → Takes old new (step old.size old.rows (record { moment = m; deed = deed })) answer
-done_whole old new m deed answer effect outcome late none made is lasts size idle rows e =
-    let w = work old.size old.rows m deed in
-    by_step old new m deed answer (lasted old.size old.rows (unacted (followed old.rows w.effect)) m w.outcome)
-    (step_by old.size old.rows m deed None late none ∙ accepted_by old.size old.rows m w true lasts)
-    size (rows ∙ sym (ap (λ (R : Rows). lasting_rows old R m) made)) idle
-    (ap (λ (a : Answer). a.outcome) e ∙ sym is) (ap (λ (a : Answer). a.lasting) e)
+pub result_named : (old new : Machine) (c : Command) (result : Result Answer Wanting) → IfOk result (λ answer. Takes old new (step old.size old.rows c) answer) → IsStore old.size old.rows → IfOk result (λ answer. IsNamed new.rows answer.outcome)
+result_named old new c (Ok answer) t store = takes_named old new c answer t store
+result_named old new c (Err e) t store = tt
 
--- and to one that was done, and doesn't last
-pub passing_whole : (old new : Machine) (m : ℕ) (deed : Deed) (answer : Answer) (effect : Rows) (outcome : Outcome) → old.rows.last_moment ≤ m → first (asks_of old m deed).checks ≡ None → (asks_of old m deed).effect ≡ effect → (asks_of old m deed).outcome ≡ outcome → (asks_of old m deed).lasts ≡ false → new.size ≡ old.size → new.waiting ≡ [] → new.rows ≡ followed old.rows effect → answer ≡ record { outcome = outcome; lasting = false } → Takes old new (step old.size old.rows (record { moment = m; deed = deed })) answer
-passing_whole old new m deed answer effect outcome late none made is lasts size idle rows e =
-    let w = work old.size old.rows m deed in
-    by_step old new m deed answer (unlasting (followed old.rows w.effect) w.outcome)
-    (step_by old.size old.rows m deed None late none ∙ accepted_by old.size old.rows m w false lasts)
-    size (rows ∙ sym (ap (λ (R : Rows). followed old.rows R) made)) idle
-    (ap (λ (a : Answer). a.outcome) e ∙ sym is) (ap (λ (a : Answer). a.lasting) e)
+-- What is known of the parts is known of the machine that is seen
+pub seen_ok : (old new : Parts) (seen : Machine) (c : Command) (result : Result Answer Wanting) → machine_of old ≡ seen → IfOk result (λ answer. Does old new c.moment c.deed answer) → IfOk result (λ answer. Takes seen (machine_of new) (step seen.size seen.rows c) answer)
+seen_ok old new seen c (Ok answer) view does = subst (λ (o : Machine). Takes o (machine_of new) (step o.size o.rows c) answer) view does
+seen_ok old new seen c (Err e) view does = tt
+
+pub seen_err : (old new : Parts) (seen : Machine) (result : Result Answer Wanting) → machine_of old ≡ seen → OnErr result (new ≡ old) → OnErr result (machine_of new ≡ seen)
+seen_err old new seen (Ok answer) view same = tt
+seen_err old new seen (Err e) view same = ap machine_of same ∙ view
+
+pub seen_cost : (old : Parts) (seen : Machine) (c : Command) → machine_of old ≡ seen → old.last_moment ≤ c.moment → deed_cost (rows_of old) c.deed ≡ cost seen.rows c
+seen_cost old seen c view late = cost_in_time (rows_of old) c late ∙ ap (λ (o : Machine). cost o.rows c) view

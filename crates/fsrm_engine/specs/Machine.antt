@@ -1,8 +1,8 @@
--- An engine, and what it keeps of accounts, as the plain machine sees them.
-use Rattle.std.specs.Prelude.{◌≡◌, ℕ, ◌≤◌, Bool, true, List, map, filter, Some}
+-- An engine's parts, and how the plain machine sees them.
+use Rattle.std.specs.Prelude.{◌≡◌, ℕ, ◌≤◌, Bool, true, List, [], map, filter, Some}
 use Rattle.fsrm_model.specs.declared.command.Act.{Act}
 use Rattle.fsrm_model.specs.declared.command.Answer.{Answer}
-use Rattle.fsrm_model.specs.declared.command.Command.{Command}
+use Rattle.fsrm_model.specs.declared.command.Deed.{Deed}
 use Rattle.fsrm_model.specs.declared.row.Capacity.{Capacity}
 use Rattle.fsrm_model.specs.declared.row.NodeRow.{NodeRow}
 use Rattle.fsrm_model.specs.declared.row.QuotaRow.{QuotaRow}
@@ -10,24 +10,20 @@ use Rattle.fsrm_model.specs.declared.row.Rows.{Rows}
 use Rattle.fsrm_model.specs.Capacities.{is_capacity}
 use Rattle.fsrm_model.specs.Fresh.{rows_of_nodes}
 use Rattle.fsrm_base.specs.Keyed.{row_of, with_change}
-use Rattle.fsrm_model.specs.Quota.{folder_of, counts, peaks}
+use Rattle.fsrm_model.specs.Quota.{folder_of, counts, peaked, peaks}
 use Rattle.fsrm_model.specs.QuotaStates.{followed, queued}
 use Rattle.fsrm_model.specs.Step.{Stepped, step}
 use Rattle.fsrm_model.specs.Tree.{usage}
 use Rattle.fsrm_model.specs.Valid.{IsVolume, AreQuotas, IsStore}
 use Rattle.quota_usage.specs.declared.change.Counter.{Counter}
-use Rattle.scan_queue.specs.Courses.{Course, Scanning, left}
-use Rattle.volume_tree.specs.Volume.{Volume}
+use Rattle.scan_queue.specs.Courses.{Scanning, left}
+use Rattle.fsrm_engine.specs.declared.parts.Parts.{Parts}
 
 -- how much it may hold, its rows, and the acts that wait to be handed out
 pub record Machine : Type 0 where
   pub size : Capacity
   pub rows : Rows
   pub waiting : List Act
-
--- the rows of these nodes and quotas, where the last moment is this
-abbrev pub rows_at : List NodeRow → List QuotaRow → ℕ → Rows
-rows_at nodes quotas last = record (rows_of_nodes nodes) { quotas = quotas; last_moment = last }
 
 -- the machine took this step: it has the step's rows, hands out the step's acts, and answers its outcome
 pub record Takes (old new : Machine) (stepped : Stepped) (answer : Answer) : Type 0 where
@@ -37,55 +33,24 @@ pub record Takes (old new : Machine) (stepped : Stepped) (answer : Answer) : Typ
   pub outcome_is : answer.outcome ≡ stepped.outcome
   pub lasting_is : answer.lasting ≡ stepped.lasting
 
--- rows in which these scans wait, and the active one has these folders to visit
-abbrev pub with_scans : Rows → List ℕ → List ℕ → Rows
-with_scans rows queue unvisited = record rows { queue = queue; unvisited = unvisited }
+-- the rows of an engine's parts
+abbrev pub rows_of : Parts → Rows
+rows_of parts =
+    record (rows_of_nodes parts.tree.nodes) {
+      quotas = parts.objects.quotas;
+      queue = parts.scans.queue;
+      unvisited = left parts.tree.nodes parts.scans;
+      last_moment = parts.last_moment;
+    }
 
--- the rows of a machine, with its scans
-abbrev pub rows_with : Machine → Course → Rows
-rows_with machine course = with_scans machine.rows course.queue (left machine.rows.nodes course)
+-- the machine that an engine's parts make up. No act waits
+abbrev pub machine_of : Parts → Machine
+machine_of parts = record { size = parts.tree.size; rows = rows_of parts; waiting = [] }
 
--- the nodes of a machine, as a volume, and scans of them
-abbrev pub volume_of : Machine → Volume
-volume_of machine = record { size = machine.size; nodes = machine.rows.nodes }
-
-abbrev pub ScansOf : Machine → Course → Type 0
-ScansOf machine course = Scanning (volume_of machine) course
-
--- the scans of a machine are as a command's step leaves them
-pub record ScansFollow (machine : Machine) (old new : Course) (command : Command) : Type 0 where
-  pub queue_is : new.queue ≡ (step machine.size (rows_with machine old) command).rows.queue
-  pub left_is : left (step machine.size (rows_with machine old) command).rows.nodes new ≡ (step machine.size (rows_with machine old) command).rows.unvisited
-
--- the rows behind a command of this moment that makes such rows of a machine's, and lasts
-abbrev pub lasting_rows : Machine → Rows → ℕ → Rows
-lasting_rows machine effect moment = record (peaks machine.size (followed machine.rows effect) moment) { last_moment = moment }
-
--- a machine after a command of this moment that lasts: peaks are raised, and its moment is the last one
-abbrev pub settled : Machine → ℕ → Machine
-settled machine moment = record machine { rows = record (peaks machine.size machine.rows moment) { last_moment = moment } }
-
--- rows with another quota in the place of its folder's
-abbrev pub with_other : Rows → QuotaRow → Rows
-with_other rows quota =
-    record rows { quotas = with_change folder_of quota.folder (λ old. quota) rows.quotas; queue = queued rows.queue quota.folder quota.state }
-
--- a machine with other rows, and with other quotas
-abbrev pub with_rows : Machine → Rows → Machine
-with_rows machine rows = record machine { rows = rows }
-
-abbrev pub with_quotas : Machine → List QuotaRow → Machine
-with_quotas machine quotas = record machine { rows = record machine.rows { quotas = quotas } }
-
--- nodes and quotas are those of a store
-pub record IsSound (K : Capacity) (R : Rows) : Type 0 where
-  pub volume : IsVolume K R.nodes
-  pub quotas : AreQuotas R.nodes R.quotas
-
--- An engine of these accounts and scans: the active scan goes on over the machine's nodes, and the rows are valid
-pub record IsWhole (machine : Machine) (course : Course) : Type 0 where
-  pub scanning : ScansOf machine course
-  pub valid : IsStore machine.size (rows_with machine course)
+-- the parts did what the plain machine does at this deed of this moment
+abbrev pub Does : Parts → Parts → ℕ → Deed → Answer → Type 0
+Does old new moment deed answer =
+    Takes (machine_of old) (machine_of new) (step old.tree.size (rows_of old) (record { moment = moment; deed = deed })) answer
 
 -- what the files at and below a quota's folder take
 abbrev pub counter_of : Capacity → List NodeRow → QuotaRow → Counter
@@ -95,10 +60,54 @@ counter_of K nodes quota = record { folder = quota.folder; bytes = usage K nodes
 abbrev pub sums_of : Capacity → List NodeRow → List QuotaRow → List Counter
 sums_of K nodes quotas = map (counter_of K nodes) (filter counts quotas)
 
--- what an engine keeps: its counters are the sums over the tree, and where it is level no peak is below what is used
-pub record IsEngine (size : Capacity) (nodes : List NodeRow) (quotas : List QuotaRow) (counters : List Counter) (level : Bool) : Type 0 where
+-- the counters of these quotas are the sums over the tree, and if it is level no peak is below what is used
+pub record IsCounted (size : Capacity) (nodes : List NodeRow) (quotas : List QuotaRow) (counters : List Counter) (level : Bool) : Type 0 where
   pub volume : IsVolume size nodes
   pub legal : is_capacity size ≡ true
   pub are_quotas : AreQuotas nodes quotas
   pub sums : counters ≡ sums_of size nodes quotas
   pub peaks : level ≡ true → (folder : ℕ) (quota : QuotaRow) → row_of folder_of folder quotas ≡ Some quota → counts quota ≡ true → usage size nodes folder ≤ quota.peak
+
+abbrev pub AreCounted : Parts → Type 0
+AreCounted parts = IsCounted parts.tree.size parts.tree.nodes parts.objects.quotas parts.usage parts.level
+
+-- the counters are the sums, and the active scan goes on over the tree
+pub record IsSound (parts : Parts) : Type 0 where
+  pub counted : AreCounted parts
+  pub scanning : Scanning parts.tree parts.scans
+
+-- beside, the rows are those of a store
+pub record IsWhole (parts : Parts) : Type 0 where
+  pub sound : IsSound parts
+  pub valid : IsStore parts.tree.size (rows_of parts)
+
+-- parts with these quotas, and with their counters
+abbrev pub recounted : Parts → List QuotaRow → Parts
+recounted parts quotas =
+    record parts { objects = record parts.objects { quotas = quotas }; usage = sums_of parts.tree.size parts.tree.nodes quotas }
+
+-- parts after a command of this moment that lasts: peaks are raised, and its moment is the last one
+abbrev pub ended : Parts → ℕ → Parts
+ended parts moment =
+    record parts {
+      objects = record parts.objects { quotas = map (peaked parts.tree.size parts.tree.nodes moment) parts.objects.quotas };
+      level = true;
+      last_moment = moment;
+    }
+
+-- the rows after a command of this moment that makes such rows of a machine's, and lasts
+abbrev pub lasting_rows : Machine → Rows → ℕ → Rows
+lasting_rows machine effect moment = record (peaks machine.size (followed machine.rows effect) moment) { last_moment = moment }
+
+-- a machine after such a command
+abbrev pub settled : Machine → ℕ → Machine
+settled machine moment = record machine { rows = record (peaks machine.size machine.rows moment) { last_moment = moment } }
+
+-- a machine with other rows
+abbrev pub with_rows : Machine → Rows → Machine
+with_rows machine rows = record machine { rows = rows }
+
+-- rows with another quota in the place of its folder's
+abbrev pub with_other : Rows → QuotaRow → Rows
+with_other rows quota =
+    record rows { quotas = with_change folder_of quota.folder (λ old. quota) rows.quotas; queue = queued rows.queue quota.folder quota.state }

@@ -1,44 +1,37 @@
 //! Files that get another length, or are read.
 
-ghost use Rattle.std.specs.Prelude.{◌≡◌, ◌+◌, ◌≤◌, IfOk, OnErr};
+ghost use Rattle.std.specs.Prelude.{◌≡◌, ◌+◌, ◌≤◌};
 ghost use Rattle.fsrm_model.specs.declared.command.Deed.TheVariants.{File};
 ghost use Rattle.fsrm_model.specs.declared.command.FileOp.TheVariants.{Resize, Touch};
 ghost use Rattle.fsrm_model.specs.Cost.{deed_cost};
 ghost use Rattle.fsrm_model.specs.Limits.{latest_moment, longest_file};
-ghost use Rattle.fsrm_model.specs.Step.{step};
-ghost use Rattle.fsrm_engine.specs.Machine.{IsSound, Takes, ScansOf, ScansFollow};
-ghost use Rattle.scan_queue.specs.Courses.{Course};
+ghost use Rattle.fsrm_engine.specs.Machine.{Does, IsSound, IsWhole, rows_of};
 
-use crate::accounts::Accounts;
 use crate::charging::charge;
 use crate::exits::{exceeded_by, refused};
-use fsrm_model::{Answer, Ledger, NoMemory, Path, Refusal, Steps};
+use crate::parts::Parts;
+use crate::places::file_at;
+use fsrm_model::{Answer, Ledger, Path, Refusal, Steps};
 use quota_usage::Change;
-use scan_queue::Scans;
 
-impl Accounts {
+impl Parts {
     pub(crate) fn resize<L: Ledger>(
         &mut self,
-        scans: &mut Scans,
         path: &Path,
         length: u64,
         moment: u64,
         steps: &mut Steps<L>,
-    ) -> Result<Answer, NoMemory>
+    ) -> Answer
+        requires whole { IsWhole self.old }
         requires length { length ≤ longest_file }
         requires moment { moment ≤ latest_moment }
-        requires late { self.old.rows.last_moment ≤ moment }
-        requires scanning { ScansOf self.old scans.old }
-        ensures ok { IfOk result (λ answer. Takes self.old self.new (step self.old.size self.old.rows (record { moment = moment; deed = File (Resize path.now length) })) answer) }
-        ensures scans { IfOk result (λ answer. ScansFollow self.old scans.old scans.new (record { moment = moment; deed = File (Resize path.now length) })) }
-        ensures scanning { ScansOf self.new scans.new }
-        ensures err { OnErr result (self.new ≡ self.old) }
-        ensures left { OnErr result (scans.new ≡ scans.old) }
-        ensures kept { IsSound self.new.size self.new.rows }
-        ensures looks { steps.new ≤ steps.old + deed_cost self.old.rows (File (Resize path.now length)) }
+        requires late { self.old.last_moment ≤ moment }
+        ensures ok { Does self.old self.new moment (File (Resize path.now length)) result }
+        ensures sound { IsSound self.new }
+        ensures looks { steps.new ≤ steps.old + deed_cost (rows_of self.old) (File (Resize path.now length)) }
     {
-        let Some(file) = self.file(path, steps) else {
-            return Ok(refused(Refusal::PathNotFound));
+        let Some(file) = file_at(&self.tree, path, steps) else {
+            return refused(Refusal::PathNotFound);
         };
         let node = file.number;
         let old = file.length;
@@ -49,9 +42,10 @@ impl Accounts {
             plus: self.tree.allocated(length),
         };
         if let Err(exceeded) = self.usage.admit(&self.tree, &self.objects, &change, steps) {
-            return Ok(refused(exceeded_by(exceeded)));
+            return refused(exceeded_by(exceeded));
         }
-        scans.follow_resize(&self.tree, node, old, length, steps);
+        self.scans
+            .follow_resize(&self.tree, node, old, length, steps);
         self.tree.resize(node, length, moment, steps);
         charge(
             &self.tree,
@@ -61,7 +55,7 @@ impl Accounts {
             moment,
             steps,
         );
-        Ok(self.done(moment))
+        self.done(moment)
     }
 
     // Which folders are unvisited, and what of them is counted, doesn't hang on when a file was read.
@@ -70,21 +64,19 @@ impl Accounts {
         path: &Path,
         moment: u64,
         steps: &mut Steps<L>,
-    ) -> Result<Answer, NoMemory>
+    ) -> Answer
+        requires whole { IsWhole self.old }
         requires moment { moment ≤ latest_moment }
-        requires late { self.old.rows.last_moment ≤ moment }
-        ensures ok { IfOk result (λ answer. Takes self.old self.new (step self.old.size self.old.rows (record { moment = moment; deed = File (Touch path.now) })) answer) }
-        ensures scans { (course : Course) → ScansOf self.old course → IfOk result (λ answer. ScansFollow self.old course course (record { moment = moment; deed = File (Touch path.now) })) }
-        ensures scanning { (course : Course) → ScansOf self.old course → ScansOf self.new course }
-        ensures err { OnErr result (self.new ≡ self.old) }
-        ensures kept { IsSound self.new.size self.new.rows }
-        ensures looks { steps.new ≤ steps.old + deed_cost self.old.rows (File (Touch path.now)) }
+        requires late { self.old.last_moment ≤ moment }
+        ensures ok { Does self.old self.new moment (File (Touch path.now)) result }
+        ensures sound { IsSound self.new }
+        ensures looks { steps.new ≤ steps.old + deed_cost (rows_of self.old) (File (Touch path.now)) }
     {
-        let Some(file) = self.file(path, steps) else {
-            return Ok(refused(Refusal::PathNotFound));
+        let Some(file) = file_at(&self.tree, path, steps) else {
+            return refused(Refusal::PathNotFound);
         };
         let node = file.number;
         self.tree.touch(node, moment, steps);
-        Ok(self.done(moment))
+        self.done(moment)
     }
 }

@@ -10,10 +10,10 @@ ghost use Rattle.fsrm_model.specs.QuotaStates.{in_state};
 ghost use Rattle.fsrm_model.specs.Tree.{is_folder, usage};
 ghost use Rattle.fsrm_model.specs.Valid.{is_moment};
 ghost use Rattle.quota_usage.specs.Counters.{counted, with_counter, without_counter};
-ghost use Rattle.fsrm_engine.specs.Machine.{IsSound, with_quotas, settled};
+ghost use Rattle.fsrm_engine.specs.Machine.{AreCounted, ended, recounted};
 
-use crate::accounts::Accounts;
 use crate::charging::{drop_quota, end_count, raise_peak};
+use crate::parts::Parts;
 use fsrm_model::{NoMemory, QuotaRow, QuotaState};
 use quota_usage::Usage;
 
@@ -24,7 +24,7 @@ pub fn is_counting(state: QuotaState) -> bool
     state == QuotaState::Complete
 }
 
-// Has a folder counted, from nothing where it wasn't, or counted no longer.
+// Has a folder counted, from nothing if it wasn't, or counted no longer.
 fn recount(usage: &mut Usage, folder: u32, counting: bool)
     requires room { counting ≡ true → has_row counted folder usage.old ≡ false → length usage.old < most_quotas }
     ensures ended { counting ≡ false → usage.new ≡ without_counter usage.old folder }
@@ -38,18 +38,19 @@ fn recount(usage: &mut Usage, folder: u32, counting: bool)
     }
 }
 
-impl Accounts {
-    /// Puts a quota on a folder that has none. One that counts needs nothing used. An `Err` changes nothing.
+impl Parts {
+    /// Puts a quota on a folder that has none. For one that counts nothing may be used. An `Err` changes nothing.
     pub(crate) fn add(&mut self, row: QuotaRow) -> Result<(), NoMemory>
-        requires absent { has_row folder_of row.folder self.old.rows.quotas ≡ false }
-        requires room { length self.old.rows.quotas < most_quotas }
-        requires folder { is_folder self.old.rows.nodes row.folder ≡ true }
+        requires counted { AreCounted self.old }
+        requires absent { has_row folder_of row.folder self.old.objects.quotas ≡ false }
+        requires room { length self.old.objects.quotas < most_quotas }
+        requires folder { is_folder self.old.tree.nodes row.folder ≡ true }
         requires limit { is_limit row.limit ≡ true }
         requires moment { is_moment row.peak_at ≡ true }
-        requires nothing { counts row ≡ true → usage self.old.size self.old.rows.nodes row.folder ≡ 0 }
-        ensures added { OnOk result (self.new ≡ with_quotas self.old (with_row folder_of row self.old.rows.quotas)) }
+        requires nothing { counts row ≡ true → usage self.old.tree.size self.old.tree.nodes row.folder ≡ 0 }
+        ensures added { OnOk result (self.new ≡ recounted self.old (with_row folder_of row self.old.objects.quotas)) }
         ensures err { OnErr result (self.new ≡ self.old) }
-        ensures kept { IsSound self.new.size self.new.rows }
+        ensures counted { AreCounted self.new }
     {
         let folder = row.folder;
         let counting = is_counting(row.state);
@@ -62,47 +63,50 @@ impl Accounts {
 
     /// Takes a folder's quota away.
     pub(crate) fn take_away(&mut self, folder: u32)
-        requires { has_row folder_of folder self.old.rows.quotas ≡ true }
-        ensures taken { self.new ≡ with_quotas self.old (without_row folder_of folder self.old.rows.quotas) }
-        ensures kept { IsSound self.new.size self.new.rows }
+        requires counted { AreCounted self.old }
+        ensures taken { self.new ≡ recounted self.old (without_row folder_of folder self.old.objects.quotas) }
+        ensures counted { AreCounted self.new }
     {
         drop_quota(&mut self.usage, &mut self.objects, folder);
     }
 
-    /// Gives a folder this quota in place of the one that it has, with its peak. Where it comes to count nothing
-    /// may be used.
+    /// Gives a folder this quota in place of the one that it has, with its peak. If it comes to count nothing may be
+    /// used.
     pub(crate) fn put(&mut self, row: QuotaRow)
-        requires there { has_row folder_of row.folder self.old.rows.quotas ≡ true }
+        requires counted { AreCounted self.old }
+        requires there { has_row folder_of row.folder self.old.objects.quotas ≡ true }
         requires limit { is_limit row.limit ≡ true }
         requires moment { is_moment row.peak_at ≡ true }
-        requires peak { (quota : QuotaRow) → row_of folder_of row.folder self.old.rows.quotas ≡ Some quota → row.peak ≡ quota.peak }
-        requires nothing { (quota : QuotaRow) → row_of folder_of row.folder self.old.rows.quotas ≡ Some quota → counts quota ≡ false → counts row ≡ true → usage self.old.size self.old.rows.nodes row.folder ≡ 0 }
-        ensures put { self.new ≡ with_quotas self.old (with_change folder_of row.folder (λ quota. row) self.old.rows.quotas) }
-        ensures kept { IsSound self.new.size self.new.rows }
+        requires peak { (quota : QuotaRow) → row_of folder_of row.folder self.old.objects.quotas ≡ Some quota → row.peak ≡ quota.peak }
+        requires nothing { (quota : QuotaRow) → row_of folder_of row.folder self.old.objects.quotas ≡ Some quota → counts quota ≡ false → counts row ≡ true → usage self.old.tree.size self.old.tree.nodes row.folder ≡ 0 }
+        ensures put { self.new ≡ recounted self.old (with_change folder_of row.folder (λ quota. row) self.old.objects.quotas) }
+        ensures counted { AreCounted self.new }
     {
         recount(&mut self.usage, row.folder, is_counting(row.state));
         self.objects.set_quota(row);
     }
 
     /// Has a folder's quota count no longer until it is scanned.
-    pub(crate) fn rebuild(&mut self, folder: u32)
-        requires { has_row folder_of folder self.old.rows.quotas ≡ true }
-        ensures rebuilt { self.new ≡ with_quotas self.old (with_change folder_of folder (in_state Rebuilding) self.old.rows.quotas) }
-        ensures kept { IsSound self.new.size self.new.rows }
+    pub(crate) fn uncount(&mut self, folder: u32)
+        requires counted { AreCounted self.old }
+        requires there { has_row folder_of folder self.old.objects.quotas ≡ true }
+        ensures rebuilt { self.new ≡ recounted self.old (with_change folder_of folder (in_state Rebuilding) self.old.objects.quotas) }
+        ensures counted { AreCounted self.new }
     {
         end_count(&mut self.usage, folder);
         self.objects.set_state(folder, QuotaState::Rebuilding);
     }
 
-    /// Has a folder's quota, which doesn't, count from now on, from what is used. Its peak may rise. The
-    /// moment is now the last.
+    /// Has a folder's quota, which doesn't, count from now on, from what is used. That ends the command: the quota's
+    /// peak may rise, and the moment is the last one.
     pub(crate) fn complete(&mut self, folder: u32, used: u64, moment: u64)
-        requires there { has_row folder_of folder self.old.rows.quotas ≡ true }
-        requires uncounted { (quota : QuotaRow) → row_of folder_of folder self.old.rows.quotas ≡ Some quota → counts quota ≡ false }
-        requires used { used ≡ usage self.old.size self.old.rows.nodes folder }
+        requires counted { AreCounted self.old }
+        requires there { has_row folder_of folder self.old.objects.quotas ≡ true }
+        requires uncounted { (quota : QuotaRow) → row_of folder_of folder self.old.objects.quotas ≡ Some quota → counts quota ≡ false }
+        requires used { used ≡ usage self.old.tree.size self.old.tree.nodes folder }
         requires moment { moment ≤ latest_moment }
-        ensures completed { self.new ≡ settled (with_quotas self.old (with_change folder_of folder (in_state Complete) self.old.rows.quotas)) moment }
-        ensures kept { IsSound self.new.size self.new.rows }
+        ensures completed { self.new ≡ ended (recounted self.old (with_change folder_of folder (in_state Complete) self.old.objects.quotas)) moment }
+        ensures counted { AreCounted self.new }
     {
         self.objects.set_state(folder, QuotaState::Complete);
         self.usage.begin(folder, used);

@@ -1,42 +1,37 @@
-//! New folders and files: the tree and the quotas are asked first, and then nothing refuses.
+//! Folders and files that are made.
 
 ghost use Rattle.std.specs.Prelude.{◌≡◌, ◌+◌, ◌≤◌, IfOk, OnErr};
 ghost use Rattle.fsrm_model.specs.declared.command.Deed.TheVariants.{File};
 ghost use Rattle.fsrm_model.specs.declared.command.FileOp.TheVariants.{Mkdir, Create};
 ghost use Rattle.fsrm_model.specs.Cost.{deed_cost};
 ghost use Rattle.fsrm_model.specs.Limits.{latest_moment, longest_file};
-ghost use Rattle.fsrm_model.specs.Step.{step};
-ghost use Rattle.fsrm_engine.specs.Machine.{IsSound, Takes, ScansOf, ScansFollow};
+ghost use Rattle.fsrm_engine.specs.Machine.{Does, IsSound, IsWhole, rows_of};
 
-use crate::accounts::Accounts;
 use crate::charging::charge;
 use crate::exits::{exceeded_by, refused, refused_by};
+use crate::parts::Parts;
+use crate::places::place_at;
 use fsrm_model::{Answer, Ledger, NoMemory, Path, Steps};
 use quota_usage::Change;
-use scan_queue::Scans;
 
-impl Accounts {
+impl Parts {
     pub(crate) fn mkdir<L: Ledger>(
         &mut self,
-        scans: &mut Scans,
         path: &Path,
         owner: u32,
         moment: u64,
         steps: &mut Steps<L>,
     ) -> Result<Answer, NoMemory>
+        requires whole { IsWhole self.old }
         requires owner { 1 ≤ owner }
         requires moment { moment ≤ latest_moment }
-        requires late { self.old.rows.last_moment ≤ moment }
-        requires scanning { ScansOf self.old scans.old }
-        ensures ok { IfOk result (λ answer. Takes self.old self.new (step self.old.size self.old.rows (record { moment = moment; deed = File (Mkdir path.now owner) })) answer) }
-        ensures scans { IfOk result (λ answer. ScansFollow self.old scans.old scans.new (record { moment = moment; deed = File (Mkdir path.now owner) })) }
-        ensures scanning { ScansOf self.new scans.new }
+        requires late { self.old.last_moment ≤ moment }
+        ensures ok { IfOk result (λ answer. Does self.old self.new moment (File (Mkdir path.now owner)) answer) }
         ensures err { OnErr result (self.new ≡ self.old) }
-        ensures left { OnErr result (scans.new ≡ scans.old) }
-        ensures kept { IsSound self.new.size self.new.rows }
-        ensures looks { steps.new ≤ steps.old + deed_cost self.old.rows (File (Mkdir path.now owner)) }
+        ensures sound { IsSound self.new }
+        ensures looks { steps.new ≤ steps.old + deed_cost (rows_of self.old) (File (Mkdir path.now owner)) }
     {
-        let place = match self.place(path, steps) {
+        let place = match place_at(&self.tree, path, steps) {
             Ok(place) => place,
             Err(refusal) => return Ok(refused(refusal)),
         };
@@ -46,33 +41,29 @@ impl Accounts {
         let node = self
             .tree
             .make_folder(place.folder, place.name, owner, moment, steps)?;
-        scans.follow_mkdir(&self.tree, node);
+        self.scans.follow_mkdir(&self.tree, node);
         Ok(self.done(moment))
     }
 
     pub(crate) fn create<L: Ledger>(
         &mut self,
-        scans: &mut Scans,
         path: &Path,
         length: u64,
         owner: u32,
         moment: u64,
         steps: &mut Steps<L>,
     ) -> Result<Answer, NoMemory>
+        requires whole { IsWhole self.old }
         requires length { length ≤ longest_file }
         requires owner { 1 ≤ owner }
         requires moment { moment ≤ latest_moment }
-        requires late { self.old.rows.last_moment ≤ moment }
-        requires scanning { ScansOf self.old scans.old }
-        ensures ok { IfOk result (λ answer. Takes self.old self.new (step self.old.size self.old.rows (record { moment = moment; deed = File (Create path.now length owner) })) answer) }
-        ensures scans { IfOk result (λ answer. ScansFollow self.old scans.old scans.new (record { moment = moment; deed = File (Create path.now length owner) })) }
-        ensures scanning { ScansOf self.new scans.new }
+        requires late { self.old.last_moment ≤ moment }
+        ensures ok { IfOk result (λ answer. Does self.old self.new moment (File (Create path.now length owner)) answer) }
         ensures err { OnErr result (self.new ≡ self.old) }
-        ensures left { OnErr result (scans.new ≡ scans.old) }
-        ensures kept { IsSound self.new.size self.new.rows }
-        ensures looks { steps.new ≤ steps.old + deed_cost self.old.rows (File (Create path.now length owner)) }
+        ensures sound { IsSound self.new }
+        ensures looks { steps.new ≤ steps.old + deed_cost (rows_of self.old) (File (Create path.now length owner)) }
     {
-        let place = match self.place(path, steps) {
+        let place = match place_at(&self.tree, path, steps) {
             Ok(place) => place,
             Err(refusal) => return Ok(refused(refusal)),
         };
@@ -91,7 +82,7 @@ impl Accounts {
         let node = self
             .tree
             .make_file(place.folder, place.name, length, owner, moment, steps)?;
-        scans.follow_create(&self.tree, node, length, steps);
+        self.scans.follow_create(&self.tree, node, length, steps);
         charge(
             &self.tree,
             &mut self.usage,

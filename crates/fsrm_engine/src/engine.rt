@@ -1,9 +1,9 @@
 //! The machine that takes commands.
 
 ghost use Rattle.std.specs.Prelude.{◌≡◌, ◌+◌, ◌≤◌, [], true, length, IfOk, OnErr};
-ghost use Rattle.fsrm_model.specs.declared.command.Deed.TheVariants.{File};
+ghost use Rattle.fsrm_model.specs.declared.command.Deed.TheVariants.{File, Step};
 ghost use Rattle.fsrm_model.specs.Capacities.{is_capacity};
-ghost use Rattle.fsrm_model.specs.Cost.{cost, deed_cost};
+ghost use Rattle.fsrm_model.specs.Cost.{cost};
 ghost use Rattle.fsrm_model.specs.Fresh.{new_rows};
 ghost use Rattle.fsrm_model.specs.Limits.{latest_moment};
 ghost use Rattle.fsrm_model.specs.Named.{IsNamed};
@@ -13,11 +13,10 @@ ghost use Rattle.fsrm_model.specs.Valid.{IsVolume, IsStore};
 ghost use Rattle.fsrm_model.specs.Valued.{is_op, is_command};
 ghost use Rattle.fsrm_engine.specs.Machine.{Takes};
 
-use crate::accounts::Accounts;
 use crate::exits::refused;
-use fsrm_model::{Answer, Capacity, Command, Deed, FileOp, Ledger, NoMemory, Refusal, Steps};
+use crate::parts::Parts;
+use fsrm_model::{Answer, Capacity, Command, FileOp, Ledger, NoMemory, Refusal, Steps};
 use fsrm_objects::Objects;
-use scan_queue::Scans;
 use std::alloc::Global;
 use std::marker::Model;
 use volume_tree::Tree;
@@ -41,19 +40,17 @@ const RUN_LIMIT: u32 = 60;
 /// and the acts that wait to be handed out.
 #[derive(Drop)]
 pub struct Engine {
-    pub(crate) accounts: Accounts,
-    pub(crate) scans: Scans,
+    pub(crate) parts: Parts,
 }
 
 impl Model for Engine {
-    ghost use Rattle.std.specs.Prelude.{[]};
-    ghost use Rattle.fsrm_engine.specs.Machine.{Machine, rows_with, IsWhole};
+    ghost use Rattle.fsrm_engine.specs.Machine.{Machine, machine_of, IsWhole};
 
     ghost Value = { Machine };
 
-    ghost view = { λ e. record { size = e.accounts.size; rows = rows_with e.accounts e.scans; waiting = e.accounts.waiting } };
+    ghost view = { λ e. machine_of e.parts };
 
-    ghost invariant = { λ e. IsWhole e.accounts e.scans };
+    ghost invariant = { λ e. IsWhole e.parts };
 }
 
 impl Engine {
@@ -63,9 +60,8 @@ impl Engine {
         requires { is_capacity size ≡ true }
         ensures { IfOk result (λ engine. engine ≡ record { size = size; rows = new_rows; waiting = [] }) }
     {
-        let accounts = Accounts::new(alloc, size)?;
-        let scans = Scans::reserve(alloc, size.nodes, size.cluster)?;
-        Ok(Engine { accounts, scans })
+        let parts = Parts::new(alloc, size)?;
+        Ok(Engine { parts })
     }
 
     /// The volume's folders and files, lent.
@@ -74,7 +70,7 @@ impl Engine {
         ensures nodes { result.now.nodes ≡ self.now.rows.nodes }
         ensures volume { IsVolume self.now.size self.now.rows.nodes }
     {
-        &self.accounts.tree
+        &self.parts.tree
     }
 
     /// The quotas, lent.
@@ -82,7 +78,7 @@ impl Engine {
         ensures quotas { result.now.quotas ≡ self.now.rows.quotas }
         ensures store { IsStore self.now.size self.now.rows }
     {
-        &self.accounts.objects
+        &self.parts.objects
     }
 
     /// What the files at and below a folder with a counting quota take, in bytes. None for every other
@@ -90,7 +86,7 @@ impl Engine {
     pub fn used(&self, folder: u32) -> Option<u64>
         ensures { result ≡ used_of self.now.size self.now.rows folder }
     {
-        self.accounts.used(folder)
+        self.parts.usage.used(folder)
     }
 
     /// What the engine is set to, and how far it has come.
@@ -102,9 +98,9 @@ impl Engine {
     {
         Settings {
             run_limit: RUN_LIMIT,
-            scans: self.scans.count() as u32,
-            last_moment: self.accounts.last_moment,
-            cluster: self.accounts.tree.capacity().cluster,
+            scans: self.parts.scans.count() as u32,
+            last_moment: self.parts.last_moment,
+            cluster: self.parts.tree.capacity().cluster,
         }
     }
 
@@ -124,52 +120,10 @@ impl Engine {
         ensures kept { IsStore self.new.size self.new.rows }
         ensures looks { steps.new ≤ steps.old + cost self.old.rows command.now }
     {
-        if command.moment < self.last_moment() {
+        if command.moment < self.parts.last_moment {
             return Ok(refused(Refusal::ClockBack));
         }
-        self.take(alloc, command, steps)
-    }
-
-    // Takes a command that doesn't come too late.
-    fn take<L: Ledger>(
-        &mut self,
-        alloc: Global,
-        command: &Command,
-        steps: &mut Steps<L>,
-    ) -> Result<Answer, NoMemory>
-        requires valid { is_command command.now ≡ true }
-        requires idle { self.old.waiting ≡ [] }
-        requires store { IsStore self.old.size self.old.rows }
-        requires late { self.old.rows.last_moment ≤ command.now.moment }
-        ensures ok { IfOk result (λ answer. Takes self.old self.new (step self.old.size self.old.rows command.now) answer) }
-        ensures err { OnErr result (self.new ≡ self.old) }
-        ensures kept { IsStore self.new.size self.new.rows }
-        ensures looks { steps.new ≤ steps.old + deed_cost self.old.rows command.now.deed }
-    {
-        let moment = command.moment;
-        match &command.deed {
-            Deed::File(op) => self.operate(alloc, op, moment, steps),
-            Deed::Usage { path } => self.sum(alloc, path, moment, steps),
-            Deed::Step { n } => Ok(self.go_on(*n, moment, steps)),
-            Deed::QuotaAdd {
-                path,
-                limit,
-                enforce,
-                enabled,
-                ..
-            } => self.quota_add(alloc, path, *limit, *enforce, *enabled, moment, steps),
-            Deed::QuotaModify {
-                path,
-                limit,
-                enforce,
-                enabled,
-                ..
-            } => self.quota_modify(alloc, path, *limit, *enforce, *enabled, moment, steps),
-            Deed::QuotaDelete { path } => Ok(self.quota_delete(path, moment, steps)),
-            Deed::QuotaScan { path } => self.quota_scan(path, moment, steps),
-            Deed::QuotaResetpeak { path } => Ok(self.quota_resetpeak(path, moment, steps)),
-            Deed::QuotaList { path } => Ok(self.quota_list(path, moment, steps)),
-        }
+        self.parts.take(alloc, command, steps)
     }
 
     /// Takes a file operation of this moment, in seconds since 1970-01-01 00:00:00 UTC. What its answer
@@ -190,17 +144,27 @@ impl Engine {
         ensures kept { IsStore self.new.size self.new.rows }
         ensures looks { steps.new ≤ steps.old + cost self.old.rows (record { moment = moment; deed = File op.now }) }
     {
-        if moment < self.last_moment() {
+        if moment < self.parts.last_moment {
             return Ok(refused(Refusal::ClockBack));
         }
-        self.operate(alloc, op, moment, steps)
+        self.parts.file_op(alloc, op, moment, steps)
     }
 
-    // The moment of the last command that lasts.
-    pub(crate) fn last_moment(&self) -> u64
-        ensures moment { result ≡ self.now.rows.last_moment }
-        ensures store { IsStore self.now.size self.now.rows }
+    /// Goes on with the active scan, of a moment in seconds since 1970-01-01 00:00:00 UTC: visits as many
+    /// folders, or as are left. If none is left then the scan is finished: its quota is complete, and the
+    /// next scan begins. It is refused if the moment is before that of the last command that lasts
+    /// (ClockBack), else if no scan is active (NothingToScan). It takes no memory.
+    pub fn scan_step<L: Ledger>(&mut self, n: u32, moment: u64, steps: &mut Steps<L>) -> Answer
+        requires moment { moment ≤ latest_moment }
+        requires idle { self.old.waiting ≡ [] }
+        ensures ok { Takes self.old self.new (step self.old.size self.old.rows (record { moment = moment; deed = Step n })) result }
+        ensures named { IsNamed self.new.rows result.outcome }
+        ensures kept { IsStore self.new.size self.new.rows }
+        ensures looks { steps.new ≤ steps.old + cost self.old.rows (record { moment = moment; deed = Step n }) }
     {
-        self.accounts.last_moment
+        if moment < self.parts.last_moment {
+            return refused(Refusal::ClockBack);
+        }
+        self.parts.go_on(n, moment, steps)
     }
 }

@@ -9,15 +9,15 @@
 //! In every command what can refuse or take memory comes first, and then what can't fail.
 #![tactic(auto)]
 
-mod accounts;
-mod beside;
 mod changes;
 mod charging;
+mod commands;
 mod counting;
 mod creations;
 mod engine;
 mod exits;
 mod moves;
+mod parts;
 mod path_text;
 mod places;
 mod quotas;

@@ -6,25 +6,24 @@ ghost use Rattle.fsrm_model.specs.declared.command.FileOp.TheVariants.{Move};
 ghost use Rattle.fsrm_model.specs.Capacities.{is_capacity};
 ghost use Rattle.fsrm_model.specs.Cost.{deed_cost};
 ghost use Rattle.fsrm_model.specs.Limits.{latest_moment, longest_file};
-ghost use Rattle.fsrm_model.specs.Step.{step};
-ghost use Rattle.fsrm_engine.specs.Machine.{IsSound, Takes, ScansOf, ScansFollow};
+ghost use Rattle.fsrm_engine.specs.Machine.{Does, IsSound, IsWhole, rows_of};
 ghost use Rattle.fsrm_base.specs.Keyed.{has_row};
 ghost use Rattle.fsrm_model.specs.Tree.{number as key, under};
 ghost use Rattle.fsrm_model.specs.Valid.{IsVolume};
 ghost use Rattle.fsrm_engine.specs.Places.{IsMoved};
 
-use crate::accounts::Accounts;
 use crate::charging::charge;
 use crate::exits::{exceeded_by, refused, refused_by};
+use crate::parts::Parts;
+use crate::places::place_at;
 use crate::usage::usage_of;
 use fsrm_model::{Answer, Ledger, NoMemory, Path, Refusal, Steps};
 use fsrm_objects::Objects;
 use quota_usage::Change;
-use scan_queue::Scans;
 use std::alloc::Global;
 use volume_tree::Tree;
 
-// What moves with a node. Where there is no quota, nobody asks.
+// What moves with a node. If there is no quota, nobody asks.
 fn moved_bytes<L: Ledger>(
     tree: &Tree,
     objects: &Objects,
@@ -44,26 +43,22 @@ fn moved_bytes<L: Ledger>(
     usage_of(tree, alloc, node, steps)
 }
 
-impl Accounts {
+impl Parts {
     pub(crate) fn move_path<L: Ledger>(
         &mut self,
         alloc: Global,
-        scans: &mut Scans,
         from: &Path,
         to: &Path,
         moment: u64,
         steps: &mut Steps<L>,
     ) -> Result<Answer, NoMemory>
+        requires whole { IsWhole self.old }
         requires moment { moment ≤ latest_moment }
-        requires late { self.old.rows.last_moment ≤ moment }
-        requires scanning { ScansOf self.old scans.old }
-        ensures ok { IfOk result (λ answer. Takes self.old self.new (step self.old.size self.old.rows (record { moment = moment; deed = File (Move from.now to.now) })) answer) }
-        ensures scans { IfOk result (λ answer. ScansFollow self.old scans.old scans.new (record { moment = moment; deed = File (Move from.now to.now) })) }
-        ensures scanning { ScansOf self.new scans.new }
+        requires late { self.old.last_moment ≤ moment }
+        ensures ok { IfOk result (λ answer. Does self.old self.new moment (File (Move from.now to.now)) answer) }
         ensures err { OnErr result (self.new ≡ self.old) }
-        ensures left { OnErr result (scans.new ≡ scans.old) }
-        ensures kept { IsSound self.new.size self.new.rows }
-        ensures looks { steps.new ≤ steps.old + deed_cost self.old.rows (File (Move from.now to.now)) }
+        ensures sound { IsSound self.new }
+        ensures looks { steps.new ≤ steps.old + deed_cost (rows_of self.old) (File (Move from.now to.now)) }
     {
         let Some(node) = self.tree.resolve(from, steps) else {
             return Ok(refused(Refusal::PathNotFound));
@@ -71,7 +66,7 @@ impl Accounts {
         if node == 0 {
             return Ok(refused(Refusal::InvalidMove));
         }
-        let place = match self.place(to, steps) {
+        let place = match place_at(&self.tree, to, steps) {
             Ok(place) => place,
             Err(refusal) => return Ok(refused(refusal)),
         };
@@ -89,7 +84,8 @@ impl Accounts {
         if let Err(exceeded) = self.usage.admit(&self.tree, &self.objects, &change, steps) {
             return Ok(refused(exceeded_by(exceeded)));
         }
-        scans.follow_move(&self.tree, node, place.folder, steps);
+        self.scans
+            .follow_move(&self.tree, node, place.folder, steps);
         self.tree.make_move(ready, steps);
         charge(
             &self.tree,

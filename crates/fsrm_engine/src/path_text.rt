@@ -48,7 +48,7 @@ fn joined<L: Ledger>(
     ensures text { IfOk result (λ text. string_bytes text ≡ codes "D:\\" ++ join_with_byte 92 (map (name_of tree.now.nodes) (reverse way.now))) }
     ensures looks { steps.new ≤ steps.old + length way.now }
 {
-    // Each name stands behind a `\`, and the root has the `\` alone.
+    // Each name stands after a `\`, and the root has the `\` alone.
     let mut text = String::from_str(alloc, if way.is_empty() { "D:\\" } else { "D:" })?;
     for node in way.iter().rev() {
         text.push('\\')?;
@@ -70,8 +70,8 @@ impl Engine {
         ensures text { IfOk result (λ text. text ≡ path_text self.now.rows.nodes node) }
         ensures looks { steps.new ≤ steps.old + 4 * (length (path_of self.now.rows.nodes node) + 1) }
     {
-        let way = way_up(&self.accounts.tree, alloc, node, steps)?;
-        let text = joined(&self.accounts.tree, alloc, &way, steps)?;
+        let way = way_up(&self.parts.tree, alloc, node, steps)?;
+        let text = joined(&self.parts.tree, alloc, &way, steps)?;
         Ok(Text::from_string(text))
     }
 }

@@ -1,59 +1,212 @@
-//! The commands on quotas that change no state of one.
+//! The commands on quotas.
 
-ghost use Rattle.std.specs.Prelude.{◌≡◌, ◌+◌, ◌*◌, ◌≤◌, ◌<◌, ◌==◌, [], true, false, length, IfOk, IfErr, OnOk, OnErr, Some, None, option_map};
+ghost use Rattle.std.specs.Prelude.{◌≡◌, ◌+◌, ◌*◌, ◌≤◌, [], true, false, length, IfOk, OnErr, Some, None, option_map};
 ghost use Rattle.std.specs.Option.{option_map_or};
-ghost use Rattle.fsrm_model.specs.declared.command.Deed.TheVariants.{QuotaAdd, QuotaModify, QuotaDelete, QuotaResetpeak, QuotaList};
 ghost use Rattle.fsrm_model.specs.declared.command.Ask.TheVariants.{Quotas};
+ghost use Rattle.fsrm_model.specs.declared.command.Deed.TheVariants.{QuotaAdd, QuotaModify, QuotaDelete, QuotaScan, QuotaResetpeak, QuotaList};
 ghost use Rattle.fsrm_model.specs.declared.command.Outcome.TheVariants.{Listing};
 ghost use Rattle.fsrm_model.specs.Cost.{deed_cost};
 ghost use Rattle.fsrm_model.specs.Limits.{latest_moment};
-ghost use Rattle.fsrm_model.specs.Quota.{is_limit};
-ghost use Rattle.fsrm_model.specs.QuotaWork.{new_quota};
-ghost use Rattle.fsrm_model.specs.Step.{step};
-ghost use Rattle.fsrm_engine.specs.Machine.{IsSound, Takes, ScansOf, ScansFollow};
+ghost use Rattle.fsrm_model.specs.Quota.{quota_of, is_limit};
+ghost use Rattle.fsrm_model.specs.QuotaStates.{is_disabled};
+ghost use Rattle.fsrm_model.specs.QuotaWork.{new_quota, modified};
+ghost use Rattle.fsrm_engine.specs.Machine.{Does, IsSound, IsWhole, rows_of};
 
-use crate::accounts::Accounts;
-use crate::charging::drop_quota;
+use crate::counting::is_counting;
 use crate::exits::refused;
-use fsrm_model::{Answer, Ask, Ledger, Outcome, Path, Refusal, Steps};
-use scan_queue::Scans;
+use crate::parts::Parts;
+use crate::places::folder_at;
+use crate::states::first_state;
+use fsrm_model::{
+    Answer, Ask, Duplicate, Ledger, List, NoMemory, Outcome, Path, QuotaRow, QuotaState, Refusal,
+    Steps,
+};
+use std::alloc::Global;
 
-impl Accounts {
-    // The answer to a list.
-    fn listing(folder: Option<u32>) -> Answer
-        ensures { result ≡ record { outcome = Listing (Quotas folder); lasting = false } }
+const MOST_QUOTAS: u32 = 4_096;
+
+// A new quota.
+fn new_quota(
+    alloc: Global,
+    folder: u32,
+    limit: u64,
+    enforce: bool,
+    state: QuotaState,
+    moment: u64,
+) -> QuotaRow
+    ensures { result ≡ new_quota folder limit enforce state moment }
+{
+    QuotaRow {
+        folder,
+        limit,
+        enforce,
+        state,
+        thresholds: List::new(alloc),
+        template: None,
+        peak: 0,
+        peak_at: moment,
+    }
+}
+
+// Whether a quota of this state is disabled.
+fn is_disabled(state: QuotaState) -> bool
+    ensures { result ≡ is_disabled state }
+{
+    state == QuotaState::Disabled
+}
+
+// The answer to a list.
+fn listing(folder: Option<u32>) -> Answer
+    ensures { result ≡ record { outcome = Listing (Quotas folder); lasting = false } }
+{
+    Answer {
+        outcome: Outcome::Listing(Ask::Quotas(folder)),
+        lasting: false,
+    }
+}
+
+impl Parts {
+    // A folder's quota with another limit, or of another type, if these are given.
+    fn modified(
+        &self,
+        alloc: Global,
+        folder: u32,
+        limit: Option<u64>,
+        enforce: Option<bool>,
+    ) -> Result<Option<QuotaRow>, NoMemory>
+        ensures { IfOk result (λ row. row ≡ option_map (modified limit enforce) (quota_of (rows_of self.now) folder)) }
     {
-        Answer {
-            outcome: Outcome::Listing(Ask::Quotas(folder)),
-            lasting: false,
+        let Some(quota) = self.objects.quota(folder) else {
+            return Ok(None);
+        };
+        let mut row = quota.copy(alloc)?;
+        row.limit = limit.unwrap_or(row.limit);
+        row.enforce = enforce.unwrap_or(row.enforce);
+        Ok(Some(row))
+    }
+
+    pub(crate) fn quota_add<L: Ledger>(
+        &mut self,
+        alloc: Global,
+        path: &Path,
+        limit: Option<u64>,
+        enforce: Option<bool>,
+        enabled: bool,
+        moment: u64,
+        steps: &mut Steps<L>,
+    ) -> Result<Answer, NoMemory>
+        requires whole { IsWhole self.old }
+        requires limit { option_map_or is_limit limit false ≡ true }
+        requires moment { moment ≤ latest_moment }
+        requires late { self.old.last_moment ≤ moment }
+        ensures ok { IfOk result (λ answer. Does self.old self.new moment (QuotaAdd path.now limit enforce enabled None [] []) answer) }
+        ensures err { OnErr result (self.new ≡ self.old) }
+        ensures sound { IsSound self.new }
+        ensures looks { steps.new ≤ steps.old + deed_cost (rows_of self.old) (QuotaAdd path.now limit enforce enabled None [] []) }
+    {
+        let Some(folder) = folder_at(&self.tree, path, steps) else {
+            return Ok(refused(Refusal::PathNotFound));
+        };
+        if self.state(folder).is_some() {
+            return Ok(refused(Refusal::AlreadyExists));
         }
+        if self.objects.quota_count() >= MOST_QUOTAS {
+            return Ok(refused(Refusal::TableFull));
+        }
+        let state = first_state(&self.tree, folder, enabled, steps);
+        // A command gives a limit, and a quota is hard if its type isn't given.
+        let limit = limit.unwrap();
+        let enforce = enforce.unwrap_or(true);
+        let row = new_quota(alloc, folder, limit, enforce, state, moment);
+        self.enlist(row)?;
+        Ok(self.done(moment))
+    }
+
+    pub(crate) fn quota_modify<L: Ledger>(
+        &mut self,
+        alloc: Global,
+        path: &Path,
+        limit: Option<u64>,
+        enforce: Option<bool>,
+        enabled: Option<bool>,
+        moment: u64,
+        steps: &mut Steps<L>,
+    ) -> Result<Answer, NoMemory>
+        requires whole { IsWhole self.old }
+        requires limit { option_map_or is_limit limit true ≡ true }
+        requires moment { moment ≤ latest_moment }
+        requires late { self.old.last_moment ≤ moment }
+        ensures ok { IfOk result (λ answer. Does self.old self.new moment (QuotaModify path.now limit enforce enabled [] [] []) answer) }
+        ensures err { OnErr result (self.new ≡ self.old) }
+        ensures sound { IsSound self.new }
+        ensures looks { steps.new ≤ steps.old + deed_cost (rows_of self.old) (QuotaModify path.now limit enforce enabled [] [] []) }
+    {
+        let Some(folder) = folder_at(&self.tree, path, steps) else {
+            return Ok(refused(Refusal::PathNotFound));
+        };
+        let Some(mut row) = self.modified(alloc, folder, limit, enforce)? else {
+            return Ok(refused(Refusal::NotFound));
+        };
+        row.state = self.state_after(folder, row.state, enabled, steps);
+        self.replace(row)?;
+        Ok(self.done(moment))
     }
 
     pub(crate) fn quota_delete<L: Ledger>(
         &mut self,
-        scans: &mut Scans,
         path: &Path,
         moment: u64,
         steps: &mut Steps<L>,
     ) -> Answer
+        requires whole { IsWhole self.old }
         requires moment { moment ≤ latest_moment }
-        requires late { self.old.rows.last_moment ≤ moment }
-        requires scanning { ScansOf self.old scans.old }
-        ensures ok { Takes self.old self.new (step self.old.size self.old.rows (record { moment = moment; deed = QuotaDelete path.now })) result }
-        ensures scans { ScansFollow self.old scans.old scans.new (record { moment = moment; deed = QuotaDelete path.now }) }
-        ensures scanning { ScansOf self.new scans.new }
-        ensures kept { IsSound self.new.size self.new.rows }
-        ensures looks { steps.new ≤ steps.old + deed_cost self.old.rows (QuotaDelete path.now) }
+        requires late { self.old.last_moment ≤ moment }
+        ensures ok { Does self.old self.new moment (QuotaDelete path.now) result }
+        ensures sound { IsSound self.new }
+        ensures looks { steps.new ≤ steps.old + deed_cost (rows_of self.old) (QuotaDelete path.now) }
     {
-        let Some(folder) = self.folder(path, steps) else {
+        let Some(folder) = folder_at(&self.tree, path, steps) else {
             return refused(Refusal::PathNotFound);
         };
         if self.objects.quota(folder).is_none() {
             return refused(Refusal::NotFound);
         }
-        drop_quota(&mut self.usage, &mut self.objects, folder);
-        scans.leave(folder);
+        self.scans.leave(folder);
+        self.take_away(folder);
         self.done(moment)
+    }
+
+    pub(crate) fn quota_scan<L: Ledger>(
+        &mut self,
+        path: &Path,
+        moment: u64,
+        steps: &mut Steps<L>,
+    ) -> Result<Answer, NoMemory>
+        requires whole { IsWhole self.old }
+        requires moment { moment ≤ latest_moment }
+        requires late { self.old.last_moment ≤ moment }
+        ensures ok { IfOk result (λ answer. Does self.old self.new moment (QuotaScan path.now) answer) }
+        ensures err { OnErr result (self.new ≡ self.old) }
+        ensures sound { IsSound self.new }
+        ensures looks { steps.new ≤ steps.old + deed_cost (rows_of self.old) (QuotaScan path.now) }
+    {
+        let Some(folder) = folder_at(&self.tree, path, steps) else {
+            return Ok(refused(Refusal::PathNotFound));
+        };
+        let Some(state) = self.state(folder) else {
+            return Ok(refused(Refusal::NotFound));
+        };
+        if is_disabled(state) {
+            return Ok(refused(Refusal::InvalidCombination));
+        }
+        self.rebuild(folder)?;
+        if is_counting(state) {
+            return Ok(self.done(moment));
+        }
+        Ok(Answer {
+            outcome: Outcome::Done { passive: None },
+            lasting: false,
+        })
     }
 
     pub(crate) fn quota_resetpeak<L: Ledger>(
@@ -62,13 +215,14 @@ impl Accounts {
         moment: u64,
         steps: &mut Steps<L>,
     ) -> Answer
+        requires whole { IsWhole self.old }
         requires moment { moment ≤ latest_moment }
-        requires late { self.old.rows.last_moment ≤ moment }
-        ensures ok { Takes self.old self.new (step self.old.size self.old.rows (record { moment = moment; deed = QuotaResetpeak path.now })) result }
-        ensures kept { IsSound self.new.size self.new.rows }
-        ensures looks { steps.new ≤ steps.old + deed_cost self.old.rows (QuotaResetpeak path.now) }
+        requires late { self.old.last_moment ≤ moment }
+        ensures ok { Does self.old self.new moment (QuotaResetpeak path.now) result }
+        ensures sound { IsSound self.new }
+        ensures looks { steps.new ≤ steps.old + deed_cost (rows_of self.old) (QuotaResetpeak path.now) }
     {
-        let Some(folder) = self.folder(path, steps) else {
+        let Some(folder) = folder_at(&self.tree, path, steps) else {
             return refused(Refusal::PathNotFound);
         };
         if self.objects.quota(folder).is_none() {
@@ -81,17 +235,18 @@ impl Accounts {
 
     // Lists a folder's quota.
     fn list_one<L: Ledger>(&self, path: &Path, moment: u64, steps: &mut Steps<L>) -> Answer
-        requires late { self.now.rows.last_moment ≤ moment }
-        ensures ok { Takes self.now self.now (step self.now.size self.now.rows (record { moment = moment; deed = QuotaList (Some path.now) })) result }
+        requires whole { IsWhole self.now }
+        requires late { self.now.last_moment ≤ moment }
+        ensures ok { Does self.now self.now moment (QuotaList (Some path.now)) result }
         ensures looks { steps.new ≤ steps.old + (22 * length path.now + 2) }
     {
-        let Some(folder) = self.folder(path, steps) else {
+        let Some(folder) = folder_at(&self.tree, path, steps) else {
             return refused(Refusal::PathNotFound);
         };
         if self.objects.quota(folder).is_none() {
             return refused(Refusal::NotFound);
         }
-        Accounts::listing(Some(folder))
+        listing(Some(folder))
     }
 
     pub(crate) fn quota_list<L: Ledger>(
@@ -100,15 +255,14 @@ impl Accounts {
         moment: u64,
         steps: &mut Steps<L>,
     ) -> Answer
-        requires late { self.now.rows.last_moment ≤ moment }
-        ensures ok { Takes self.now self.now (step self.now.size self.now.rows (record { moment = moment; deed = QuotaList path.now })) result }
-        ensures kept { IsSound self.now.size self.now.rows }
-        ensures looks { steps.new ≤ steps.old + deed_cost self.now.rows (QuotaList path.now) }
+        requires whole { IsWhole self.now }
+        requires late { self.now.last_moment ≤ moment }
+        ensures ok { Does self.now self.now moment (QuotaList path.now) result }
+        ensures looks { steps.new ≤ steps.old + deed_cost (rows_of self.now) (QuotaList path.now) }
     {
-        let _tree = &self.tree;
         match path {
             Some(path) => self.list_one(path, moment, steps),
-            None => Accounts::listing(None),
+            None => listing(None),
         }
     }
 }

@@ -1,79 +1,69 @@
 //! Files and folders that are removed.
 
-ghost use Rattle.std.specs.Prelude.{◌≡◌, ◌+◌, ◌*◌, ◌≤◌, ◌<◌, ◌==◌, [], true, false, length, IfOk, IfErr, OnOk, OnErr, Some, None};
+ghost use Rattle.std.specs.Prelude.{◌≡◌, ◌+◌, ◌*◌, ◌≤◌, ◌==◌, true, false, length, Some};
 ghost use Rattle.fsrm_model.specs.declared.command.Deed.TheVariants.{File};
 ghost use Rattle.fsrm_model.specs.declared.command.FileOp.TheVariants.{Remove};
 ghost use Rattle.fsrm_model.specs.Cost.{deed_cost};
 ghost use Rattle.fsrm_model.specs.Limits.{latest_moment};
-ghost use Rattle.fsrm_model.specs.Step.{step};
-ghost use Rattle.fsrm_engine.specs.Machine.{IsSound, Takes, ScansOf, ScansFollow};
 ghost use Rattle.fsrm_model.specs.Tree.{resolve, is_folder};
+ghost use Rattle.fsrm_engine.specs.Machine.{Does, IsSound, IsWhole, rows_of};
 
-use crate::accounts::Accounts;
 use crate::charging::drop_quota;
 use crate::exits::refused;
-use fsrm_model::{Answer, Ledger, NoMemory, Path, Refusal, Steps};
+use crate::parts::Parts;
+use fsrm_model::{Answer, Ledger, Path, Refusal, Steps};
 use quota_usage::Change;
-use scan_queue::Scans;
 
-impl Accounts {
+impl Parts {
     pub(crate) fn remove<L: Ledger>(
         &mut self,
-        scans: &mut Scans,
         path: &Path,
         moment: u64,
         steps: &mut Steps<L>,
-    ) -> Result<Answer, NoMemory>
+    ) -> Answer
+        requires whole { IsWhole self.old }
         requires moment { moment ≤ latest_moment }
-        requires late { self.old.rows.last_moment ≤ moment }
-        requires scanning { ScansOf self.old scans.old }
-        ensures ok { IfOk result (λ answer. Takes self.old self.new (step self.old.size self.old.rows (record { moment = moment; deed = File (Remove path.now) })) answer) }
-        ensures scans { IfOk result (λ answer. ScansFollow self.old scans.old scans.new (record { moment = moment; deed = File (Remove path.now) })) }
-        ensures scanning { ScansOf self.new scans.new }
-        ensures err { OnErr result (self.new ≡ self.old) }
-        ensures left { OnErr result (scans.new ≡ scans.old) }
-        ensures kept { IsSound self.new.size self.new.rows }
-        ensures looks { steps.new ≤ steps.old + deed_cost self.old.rows (File (Remove path.now)) }
+        requires late { self.old.last_moment ≤ moment }
+        ensures ok { Does self.old self.new moment (File (Remove path.now)) result }
+        ensures sound { IsSound self.new }
+        ensures looks { steps.new ≤ steps.old + deed_cost (rows_of self.old) (File (Remove path.now)) }
     {
         let Some(node) = self.tree.resolve(path, steps) else {
-            return Ok(refused(Refusal::PathNotFound));
+            return refused(Refusal::PathNotFound);
         };
         if node == 0 {
-            return Ok(refused(Refusal::InvalidMove));
+            return refused(Refusal::InvalidMove);
         }
         if self.tree.node(node, steps).folder {
-            Ok(self.remove_folder(scans, path, node, moment, steps))
+            self.remove_folder(path, node, moment, steps)
         } else {
-            Ok(self.remove_file(scans, path, node, moment, steps))
+            self.remove_file(path, node, moment, steps)
         }
     }
 
     // Removes a folder, and with it its quota, and its scan.
     fn remove_folder<L: Ledger>(
         &mut self,
-        scans: &mut Scans,
         path: &Path,
         node: u32,
         moment: u64,
         steps: &mut Steps<L>,
     ) -> Answer
+        requires whole { IsWhole self.old }
         requires moment { moment ≤ latest_moment }
-        requires late { self.old.rows.last_moment ≤ moment }
-        requires scanning { ScansOf self.old scans.old }
-        requires resolved { resolve self.old.rows.nodes path.now ≡ Some node }
+        requires late { self.old.last_moment ≤ moment }
+        requires resolved { resolve self.old.tree.nodes path.now ≡ Some node }
         requires inner { (node == 0) ≡ false }
-        requires kind { is_folder self.old.rows.nodes node ≡ true }
-        ensures ok { Takes self.old self.new (step self.old.size self.old.rows (record { moment = moment; deed = File (Remove path.now) })) result }
-        ensures scans { ScansFollow self.old scans.old scans.new (record { moment = moment; deed = File (Remove path.now) }) }
-        ensures scanning { ScansOf self.new scans.new }
-        ensures kept { IsSound self.new.size self.new.rows }
+        requires kind { is_folder self.old.tree.nodes node ≡ true }
+        ensures ok { Does self.old self.new moment (File (Remove path.now)) result }
+        ensures sound { IsSound self.new }
         ensures looks { steps.new ≤ steps.old + (2 * length path.now + 50) }
     {
         if self.tree.child_count(node, steps) > 0 {
             return refused(Refusal::NotEmpty);
         }
-        scans.leave(node);
-        scans.follow_rmdir(&self.tree, node);
+        self.scans.leave(node);
+        self.scans.follow_rmdir(&self.tree, node);
         self.tree.remove(node, steps).unwrap();
         drop_quota(&mut self.usage, &mut self.objects, node);
         self.done(moment)
@@ -82,22 +72,19 @@ impl Accounts {
     // Removes a file, whose space the folders above it no longer use.
     fn remove_file<L: Ledger>(
         &mut self,
-        scans: &mut Scans,
         path: &Path,
         node: u32,
         moment: u64,
         steps: &mut Steps<L>,
     ) -> Answer
+        requires whole { IsWhole self.old }
         requires moment { moment ≤ latest_moment }
-        requires late { self.old.rows.last_moment ≤ moment }
-        requires scanning { ScansOf self.old scans.old }
-        requires resolved { resolve self.old.rows.nodes path.now ≡ Some node }
+        requires late { self.old.last_moment ≤ moment }
+        requires resolved { resolve self.old.tree.nodes path.now ≡ Some node }
         requires inner { (node == 0) ≡ false }
-        requires kind { is_folder self.old.rows.nodes node ≡ false }
-        ensures ok { Takes self.old self.new (step self.old.size self.old.rows (record { moment = moment; deed = File (Remove path.now) })) result }
-        ensures scans { ScansFollow self.old scans.old scans.new (record { moment = moment; deed = File (Remove path.now) }) }
-        ensures scanning { ScansOf self.new scans.new }
-        ensures kept { IsSound self.new.size self.new.rows }
+        requires kind { is_folder self.old.tree.nodes node ≡ false }
+        ensures ok { Does self.old self.new moment (File (Remove path.now)) result }
+        ensures sound { IsSound self.new }
         ensures looks { steps.new ≤ steps.old + (4 * length path.now + 60) }
     {
         let view = self.tree.node(node, steps);
@@ -108,7 +95,7 @@ impl Accounts {
             plus: 0,
         };
         let bytes = view.length;
-        scans.follow_remove(&self.tree, node, bytes, steps);
+        self.scans.follow_remove(&self.tree, node, bytes, steps);
         self.tree.remove(node, steps).unwrap();
         self.usage.charge(&self.tree, &change, steps);
         self.done(moment)

@@ -1,67 +1,24 @@
-//! The commands that give a quota its state.
+//! The states of quotas, and the queue of those that wait for a scan.
 
-ghost use Rattle.std.specs.Prelude.{◌≡◌, ◌+◌, ◌*◌, ◌≤◌, ◌<◌, [], if◌then◌else◌, true, false, length, IfOk, OnOk, OnErr, Option, Some, None, option_map};
-ghost use Rattle.std.specs.Option.{option_map_or};
-ghost use Rattle.fsrm_model.specs.declared.command.Deed.TheVariants.{QuotaAdd, QuotaModify, QuotaScan};
-ghost use Rattle.fsrm_model.specs.Cost.{deed_cost};
-ghost use Rattle.fsrm_model.specs.declared.command.Outcome.TheVariants.{Done};
+ghost use Rattle.std.specs.Prelude.{◌≡◌, ◌+◌, ◌≤◌, ◌<◌, if◌then◌else◌, true, false, length, OnOk, OnErr, Some, option_map};
 ghost use Rattle.fsrm_model.specs.declared.row.QuotaRow.{QuotaRow};
 ghost use Rattle.fsrm_model.specs.declared.row.QuotaState.TheVariants.{Disabled, Rebuilding};
 ghost use Rattle.fsrm_base.specs.Keyed.{has_row, row_of};
-ghost use Rattle.fsrm_model.specs.Limits.{latest_moment, most_quotas};
+ghost use Rattle.fsrm_model.specs.Limits.{most_quotas};
 ghost use Rattle.fsrm_model.specs.Quota.{folder_of, quota_of, counts, is_limit};
-ghost use Rattle.fsrm_model.specs.QuotaStates.{start, is_disabled, queued, state_of, state_after, followed, with_quota, with_state};
+ghost use Rattle.fsrm_model.specs.QuotaStates.{start, queued, state_of, state_after, followed, with_quota, with_state};
 ghost use Rattle.fsrm_model.specs.Tree.{is_folder, usage};
+ghost use Rattle.fsrm_model.specs.Valid.{IsVolume, is_moment};
 ghost use Rattle.scan_queue.specs.Courses.{Scanning, Turns};
 ghost use Rattle.volume_tree.specs.Volume.{Volume};
-ghost use Rattle.fsrm_model.specs.QuotaWork.{new_quota, modified};
-ghost use Rattle.fsrm_model.specs.Step.{step};
-ghost use Rattle.fsrm_model.specs.Valid.{IsStore, is_moment, is_plain};
-ghost use Rattle.fsrm_engine.specs.Machine.{Takes, with_rows, with_other, settled};
-ghost use Rattle.fsrm_engine.specs.Places.{IsFolderAt};
+ghost use Rattle.fsrm_engine.specs.Machine.{IsSound, IsWhole, machine_of, rows_of, with_rows, with_other};
 
-use crate::counting::is_counting;
-use crate::engine::Engine;
-use crate::exits::refused;
-use fsrm_model::{
-    Answer, Duplicate, Ledger, List, NoMemory, Outcome, Path, QuotaRow, QuotaState, Refusal, Steps,
-};
+use crate::parts::Parts;
+use fsrm_model::{Ledger, NoMemory, QuotaRow, QuotaState, Steps};
 use scan_queue::Scans;
-use std::alloc::Global;
+use volume_tree::Tree;
 
-const MOST_QUOTAS: u32 = 4_096;
-
-// A new quota.
-fn new_quota(
-    alloc: Global,
-    folder: u32,
-    limit: u64,
-    enforce: bool,
-    state: QuotaState,
-    moment: u64,
-) -> QuotaRow
-    ensures { result ≡ new_quota folder limit enforce state moment }
-{
-    QuotaRow {
-        folder,
-        limit,
-        enforce,
-        state,
-        thresholds: List::new(alloc),
-        template: None,
-        peak: 0,
-        peak_at: moment,
-    }
-}
-
-// Whether a quota of this state is disabled.
-fn is_disabled(state: QuotaState) -> bool
-    ensures { result ≡ is_disabled state }
-{
-    state == QuotaState::Disabled
-}
-
-// Has a folder's scan wait where its quota is rebuilding, and else not. An `Err` changes nothing.
+// Has a folder's scan wait if its quota is rebuilding, and else not. An `Err` changes nothing.
 fn requeue(scans: &mut Scans, folder: u32, state: QuotaState) -> Result<(), NoMemory>
     requires room { folder < scans.old.front.room.nodes }
     ensures queue { OnOk result (scans.new.queue ≡ queued scans.old.queue folder state) }
@@ -78,256 +35,126 @@ fn requeue(scans: &mut Scans, folder: u32, state: QuotaState) -> Result<(), NoMe
     scans.push(folder)
 }
 
-impl Engine {
-    // The folder that a path leads to.
-    fn folder<L: Ledger>(&self, path: &Path, steps: &mut Steps<L>) -> Option<u32>
-        ensures folder { IsFolderAt self.now.rows.nodes path.now result }
-        ensures store { IsStore self.now.size self.now.rows }
-        ensures idle { self.now.waiting ≡ [] }
-        ensures looks { steps.new ≤ steps.old + (22 * length path.now + 2) }
-    {
-        self.accounts.folder(path, steps)
+// What a quota of a folder is that is made or enabled.
+fn start<L: Ledger>(tree: &Tree, folder: u32, steps: &mut Steps<L>) -> QuotaState
+    requires volume { IsVolume tree.now.size tree.now.nodes }
+    requires folder { is_folder tree.now.nodes folder ≡ true }
+    ensures state { result ≡ start tree.now.nodes folder }
+    ensures looks { steps.new ≤ steps.old + 1 }
+{
+    if tree.child_count(folder, steps) == 0 {
+        QuotaState::Complete
+    } else {
+        QuotaState::Rebuilding
     }
+}
 
-    // How many quotas there are.
-    fn quota_count(&self) -> u32
-        ensures { result ≡ length self.now.rows.quotas }
-    {
-        self.accounts.objects.quota_count()
+/// What a new quota of a folder is.
+pub fn first_state<L: Ledger>(
+    tree: &Tree,
+    folder: u32,
+    enabled: bool,
+    steps: &mut Steps<L>,
+) -> QuotaState
+    requires volume { IsVolume tree.now.size tree.now.nodes }
+    requires folder { is_folder tree.now.nodes folder ≡ true }
+    ensures state { result ≡ (if enabled then start tree.now.nodes folder else Disabled) }
+    ensures looks { steps.new ≤ steps.old + 1 }
+{
+    if enabled {
+        start(tree, folder, steps)
+    } else {
+        QuotaState::Disabled
     }
+}
 
-    // The state of a folder's quota, where it has one.
-    fn state(&self, folder: u32) -> Option<QuotaState>
-        ensures { result ≡ option_map (λ quota. quota.state) (quota_of self.now.rows folder) }
+impl Parts {
+    /// The state of a folder's quota, if it has one.
+    pub(crate) fn state(&self, folder: u32) -> Option<QuotaState>
+        ensures { result ≡ option_map (λ quota. quota.state) (quota_of (rows_of self.now) folder) }
     {
-        match self.accounts.objects.quota(folder) {
+        match self.objects.quota(folder) {
             Some(quota) => Some(quota.state),
             None => None,
         }
     }
 
-    // A folder's quota with another limit, or of another type, where these are given.
-    fn modified(
-        &self,
-        alloc: Global,
-        folder: u32,
-        limit: Option<u64>,
-        enforce: Option<bool>,
-    ) -> Result<Option<QuotaRow>, NoMemory>
-        ensures { IfOk result (λ row. row ≡ option_map (modified limit enforce) (quota_of self.now.rows folder)) }
-    {
-        let Some(quota) = self.accounts.objects.quota(folder) else {
-            return Ok(None);
-        };
-        let mut row = quota.copy(alloc)?;
-        row.limit = limit.unwrap_or(row.limit);
-        row.enforce = enforce.unwrap_or(row.enforce);
-        Ok(Some(row))
-    }
-
-    // Puts a quota on a folder that has none. One that counts needs nothing used. An `Err` changes nothing.
-    fn enlist(&mut self, row: QuotaRow) -> Result<(), NoMemory>
-        requires absent { has_row folder_of row.folder self.old.rows.quotas ≡ false }
-        requires room { length self.old.rows.quotas < most_quotas }
-        requires folder { is_folder self.old.rows.nodes row.folder ≡ true }
-        requires limit { is_limit row.limit ≡ true }
-        requires moment { is_moment row.peak_at ≡ true }
-        requires plain { is_plain row ≡ true }
-        requires nothing { counts row ≡ true → usage self.old.size self.old.rows.nodes row.folder ≡ 0 }
-        ensures listed { OnOk result (self.new ≡ with_rows self.old (followed self.old.rows (with_quota self.old.rows row))) }
-        ensures err { OnErr result (self.new ≡ self.old) }
-        ensures kept { OnOk result (IsStore self.new.size self.new.rows) }
-    {
-        let folder = row.folder;
-        let state = row.state;
-        self.accounts.add(row)?;
-        let Ok(()) = requeue(&mut self.scans, folder, state) else {
-            self.accounts.take_away(folder);
-            return Err(NoMemory);
-        };
-        Ok(())
-    }
-
-    // Gives a folder this quota in place of the one that it has, with its peak. Where it comes to count
-    // nothing may be used. An `Err` changes nothing.
-    fn replace(&mut self, row: QuotaRow) -> Result<(), NoMemory>
-        requires there { has_row folder_of row.folder self.old.rows.quotas ≡ true }
-        requires folder { is_folder self.old.rows.nodes row.folder ≡ true }
-        requires limit { is_limit row.limit ≡ true }
-        requires moment { is_moment row.peak_at ≡ true }
-        requires plain { is_plain row ≡ true }
-        requires peak { (quota : QuotaRow) → row_of folder_of row.folder self.old.rows.quotas ≡ Some quota → row.peak ≡ quota.peak }
-        requires nothing { (quota : QuotaRow) → row_of folder_of row.folder self.old.rows.quotas ≡ Some quota → counts quota ≡ false → counts row ≡ true → usage self.old.size self.old.rows.nodes row.folder ≡ 0 }
-        ensures replaced { OnOk result (self.new ≡ with_rows self.old (followed self.old.rows (with_other self.old.rows row))) }
-        ensures err { OnErr result (self.new ≡ self.old) }
-        ensures kept { OnOk result (IsStore self.new.size self.new.rows) }
-    {
-        requeue(&mut self.scans, row.folder, row.state)?;
-        self.accounts.put(row);
-        Ok(())
-    }
-
-    // Has a folder's quota wait for its scan. An `Err` changes nothing.
-    fn rebuild(&mut self, folder: u32) -> Result<(), NoMemory>
-        requires there { has_row folder_of folder self.old.rows.quotas ≡ true }
-        requires folder { is_folder self.old.rows.nodes folder ≡ true }
-        ensures rebuilt { OnOk result (self.new ≡ with_rows self.old (followed self.old.rows (with_state self.old.rows folder Rebuilding))) }
-        ensures err { OnErr result (self.new ≡ self.old) }
-        ensures kept { OnOk result (IsStore self.new.size self.new.rows) }
-    {
-        requeue(&mut self.scans, folder, QuotaState::Rebuilding)?;
-        self.accounts.rebuild(folder);
-        Ok(())
-    }
-
-    // The answer to a command of this moment that was done.
-    fn done(&mut self, moment: u64) -> Answer
-        requires { moment ≤ latest_moment }
-        ensures rows { self.new ≡ settled self.old moment }
-        ensures answer { result ≡ record { outcome = Done None; lasting = true } }
-        ensures kept { IsStore self.new.size self.new.rows }
-    {
-        self.accounts.done(moment)
-    }
-
-    // What a quota of a folder is that is made or enabled.
-    fn start<L: Ledger>(&self, folder: u32, steps: &mut Steps<L>) -> QuotaState
-        ensures state { result ≡ start self.now.rows.nodes folder }
-        ensures looks { steps.new ≤ steps.old + 1 }
-    {
-        if self.accounts.tree.child_count(folder, steps) == 0 {
-            QuotaState::Complete
-        } else {
-            QuotaState::Rebuilding
-        }
-    }
-
-    // What a new quota of a folder is.
-    fn first_state<L: Ledger>(&self, folder: u32, enabled: bool, steps: &mut Steps<L>) -> QuotaState
-        ensures state { result ≡ (if enabled then start self.now.rows.nodes folder else Disabled) }
-        ensures looks { steps.new ≤ steps.old + 1 }
-    {
-        if enabled {
-            self.start(folder, steps)
-        } else {
-            QuotaState::Disabled
-        }
-    }
-
-    // The state that a status asks for, where one is given, of a quota in this state.
-    fn state_after<L: Ledger>(
+    /// The state that a status asks for, if one is given, of a quota in this state.
+    pub(crate) fn state_after<L: Ledger>(
         &self,
         folder: u32,
         state: QuotaState,
         enabled: Option<bool>,
         steps: &mut Steps<L>,
     ) -> QuotaState
-        requires { state_of self.now.rows folder ≡ state }
-        ensures state { result ≡ state_after self.now.rows folder enabled }
+        requires whole { IsWhole self.now }
+        requires folder { is_folder self.now.tree.nodes folder ≡ true }
+        requires state { state_of (rows_of self.now) folder ≡ state }
+        ensures state { result ≡ state_after (rows_of self.now) folder enabled }
         ensures looks { steps.new ≤ steps.old + 1 }
     {
         match (enabled, state) {
             (None, _) => state,
             (Some(false), _) => QuotaState::Disabled,
-            (Some(true), QuotaState::Disabled) => self.start(folder, steps),
+            (Some(true), QuotaState::Disabled) => start(&self.tree, folder, steps),
             (Some(true), _) => state,
         }
     }
 
-    pub(crate) fn quota_add<L: Ledger>(
-        &mut self,
-        alloc: Global,
-        path: &Path,
-        limit: Option<u64>,
-        enforce: Option<bool>,
-        enabled: bool,
-        moment: u64,
-        steps: &mut Steps<L>,
-    ) -> Result<Answer, NoMemory>
-        requires limit { option_map_or is_limit limit false ≡ true }
-        requires moment { moment ≤ latest_moment }
-        requires late { self.old.rows.last_moment ≤ moment }
-        ensures ok { IfOk result (λ answer. Takes self.old self.new (step self.old.size self.old.rows (record { moment = moment; deed = QuotaAdd path.now limit enforce enabled None [] [] })) answer) }
+    /// Puts a quota on a folder that has none, and its scan into the queue if it is rebuilding. For one that counts
+    /// nothing may be used. An `Err` changes nothing.
+    pub(crate) fn enlist(&mut self, row: QuotaRow) -> Result<(), NoMemory>
+        requires sound { IsSound self.old }
+        requires absent { has_row folder_of row.folder self.old.objects.quotas ≡ false }
+        requires room { length self.old.objects.quotas < most_quotas }
+        requires folder { is_folder self.old.tree.nodes row.folder ≡ true }
+        requires limit { is_limit row.limit ≡ true }
+        requires moment { is_moment row.peak_at ≡ true }
+        requires nothing { counts row ≡ true → usage self.old.tree.size self.old.tree.nodes row.folder ≡ 0 }
+        ensures listed { OnOk result (machine_of self.new ≡ with_rows (machine_of self.old) (followed (rows_of self.old) (with_quota (rows_of self.old) row))) }
         ensures err { OnErr result (self.new ≡ self.old) }
-        ensures kept { IsStore self.new.size self.new.rows }
-        ensures looks { steps.new ≤ steps.old + deed_cost self.old.rows (QuotaAdd path.now limit enforce enabled None [] []) }
+        ensures sound { IsSound self.new }
     {
-        let Some(folder) = self.folder(path, steps) else {
-            return Ok(refused(Refusal::PathNotFound));
+        let folder = row.folder;
+        let state = row.state;
+        self.add(row)?;
+        let Ok(()) = requeue(&mut self.scans, folder, state) else {
+            self.take_away(folder);
+            return Err(NoMemory);
         };
-        if self.state(folder).is_some() {
-            return Ok(refused(Refusal::AlreadyExists));
-        }
-        if self.quota_count() >= MOST_QUOTAS {
-            return Ok(refused(Refusal::TableFull));
-        }
-        let state = self.first_state(folder, enabled, steps);
-        // A command gives a limit, and a quota is hard where its type isn't given.
-        let limit = limit.unwrap();
-        let enforce = enforce.unwrap_or(true);
-        let row = new_quota(alloc, folder, limit, enforce, state, moment);
-        self.enlist(row)?;
-        Ok(self.done(moment))
+        Ok(())
     }
 
-    pub(crate) fn quota_modify<L: Ledger>(
-        &mut self,
-        alloc: Global,
-        path: &Path,
-        limit: Option<u64>,
-        enforce: Option<bool>,
-        enabled: Option<bool>,
-        moment: u64,
-        steps: &mut Steps<L>,
-    ) -> Result<Answer, NoMemory>
-        requires limit { option_map_or is_limit limit true ≡ true }
-        requires moment { moment ≤ latest_moment }
-        requires late { self.old.rows.last_moment ≤ moment }
-        ensures ok { IfOk result (λ answer. Takes self.old self.new (step self.old.size self.old.rows (record { moment = moment; deed = QuotaModify path.now limit enforce enabled [] [] [] })) answer) }
+    /// Gives a folder this quota in place of the one that it has, with its peak. If it comes to count nothing may be
+    /// used. An `Err` changes nothing.
+    pub(crate) fn replace(&mut self, row: QuotaRow) -> Result<(), NoMemory>
+        requires sound { IsSound self.old }
+        requires there { has_row folder_of row.folder self.old.objects.quotas ≡ true }
+        requires folder { is_folder self.old.tree.nodes row.folder ≡ true }
+        requires limit { is_limit row.limit ≡ true }
+        requires moment { is_moment row.peak_at ≡ true }
+        requires peak { (quota : QuotaRow) → row_of folder_of row.folder self.old.objects.quotas ≡ Some quota → row.peak ≡ quota.peak }
+        requires nothing { (quota : QuotaRow) → row_of folder_of row.folder self.old.objects.quotas ≡ Some quota → counts quota ≡ false → counts row ≡ true → usage self.old.tree.size self.old.tree.nodes row.folder ≡ 0 }
+        ensures replaced { OnOk result (machine_of self.new ≡ with_rows (machine_of self.old) (followed (rows_of self.old) (with_other (rows_of self.old) row))) }
         ensures err { OnErr result (self.new ≡ self.old) }
-        ensures kept { IsStore self.new.size self.new.rows }
-        ensures looks { steps.new ≤ steps.old + deed_cost self.old.rows (QuotaModify path.now limit enforce enabled [] [] []) }
+        ensures sound { IsSound self.new }
     {
-        let Some(folder) = self.folder(path, steps) else {
-            return Ok(refused(Refusal::PathNotFound));
-        };
-        let Some(mut row) = self.modified(alloc, folder, limit, enforce)? else {
-            return Ok(refused(Refusal::NotFound));
-        };
-        row.state = self.state_after(folder, row.state, enabled, steps);
-        self.replace(row)?;
-        Ok(self.done(moment))
+        requeue(&mut self.scans, row.folder, row.state)?;
+        self.put(row);
+        Ok(())
     }
 
-    pub(crate) fn quota_scan<L: Ledger>(
-        &mut self,
-        path: &Path,
-        moment: u64,
-        steps: &mut Steps<L>,
-    ) -> Result<Answer, NoMemory>
-        requires moment { moment ≤ latest_moment }
-        requires late { self.old.rows.last_moment ≤ moment }
-        ensures ok { IfOk result (λ answer. Takes self.old self.new (step self.old.size self.old.rows (record { moment = moment; deed = QuotaScan path.now })) answer) }
+    /// Has a folder's quota wait for its scan. An `Err` changes nothing.
+    pub(crate) fn rebuild(&mut self, folder: u32) -> Result<(), NoMemory>
+        requires sound { IsSound self.old }
+        requires there { has_row folder_of folder self.old.objects.quotas ≡ true }
+        requires folder { is_folder self.old.tree.nodes folder ≡ true }
+        ensures rebuilt { OnOk result (machine_of self.new ≡ with_rows (machine_of self.old) (followed (rows_of self.old) (with_state (rows_of self.old) folder Rebuilding))) }
         ensures err { OnErr result (self.new ≡ self.old) }
-        ensures kept { IsStore self.new.size self.new.rows }
-        ensures looks { steps.new ≤ steps.old + deed_cost self.old.rows (QuotaScan path.now) }
+        ensures sound { IsSound self.new }
     {
-        let Some(folder) = self.folder(path, steps) else {
-            return Ok(refused(Refusal::PathNotFound));
-        };
-        let Some(state) = self.state(folder) else {
-            return Ok(refused(Refusal::NotFound));
-        };
-        if is_disabled(state) {
-            return Ok(refused(Refusal::InvalidCombination));
-        }
-        self.rebuild(folder)?;
-        if is_counting(state) {
-            return Ok(self.done(moment));
-        }
-        Ok(Answer {
-            outcome: Outcome::Done { passive: None },
-            lasting: false,
-        })
+        requeue(&mut self.scans, folder, QuotaState::Rebuilding)?;
+        self.uncount(folder);
+        Ok(())
     }
 }

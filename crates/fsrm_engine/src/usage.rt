@@ -5,19 +5,18 @@ ghost use Rattle.fsrm_model.specs.declared.command.Deed.TheVariants.{Usage};
 ghost use Rattle.fsrm_model.specs.Capacities.{is_capacity};
 ghost use Rattle.fsrm_model.specs.Cost.{deed_cost};
 ghost use Rattle.fsrm_base.specs.Keyed.{has_row};
-ghost use Rattle.fsrm_model.specs.Step.{step};
 ghost use Rattle.fsrm_model.specs.Tree.{number as key, children_in_order, usage, under};
 ghost use Rattle.fsrm_model.specs.Valid.{IsVolume};
-ghost use Rattle.fsrm_engine.specs.Machine.{IsSound, Takes};
+ghost use Rattle.fsrm_engine.specs.Machine.{Does, IsWhole, rows_of};
 ghost use Rattle.fsrm_engine.specs.Walk.{usage_of_all, under_all, AreThere};
 
-use crate::accounts::Accounts;
 use crate::exits::refused;
+use crate::parts::Parts;
 use fsrm_model::{Answer, Ledger, NoMemory, Outcome, Path, Refusal, Steps};
 use std::alloc::Global;
 use volume_tree::{Finger, Tree};
 
-// Visits a node: what it takes itself, with its children put behind the nodes that are still to be
+// Visits a node: what it takes itself, with its children put after the nodes that are still to be
 // visited.
 fn visit<L: Ledger>(
     tree: &Tree,
@@ -67,7 +66,7 @@ pub fn usage_of<L: Ledger>(
     Ok(total)
 }
 
-impl Accounts {
+impl Parts {
     /// Sums up what the files at and below a node take.
     pub(crate) fn sum<L: Ledger>(
         &self,
@@ -76,10 +75,10 @@ impl Accounts {
         moment: u64,
         steps: &mut Steps<L>,
     ) -> Result<Answer, NoMemory>
-        requires late { self.now.rows.last_moment ≤ moment }
-        ensures ok { IfOk result (λ answer. Takes self.now self.now (step self.now.size self.now.rows (record { moment = moment; deed = Usage path.now })) answer) }
-        ensures kept { IsSound self.now.size self.now.rows }
-        ensures looks { steps.new ≤ steps.old + deed_cost self.now.rows (Usage path.now) }
+        requires whole { IsWhole self.now }
+        requires late { self.now.last_moment ≤ moment }
+        ensures ok { IfOk result (λ answer. Does self.now self.now moment (Usage path.now) answer) }
+        ensures looks { steps.new ≤ steps.old + deed_cost (rows_of self.now) (Usage path.now) }
     {
         let Some(node) = self.tree.resolve(path, steps) else {
             return Ok(refused(Refusal::PathNotFound));

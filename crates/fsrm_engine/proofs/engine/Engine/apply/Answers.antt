@@ -1,15 +1,21 @@
-use Rattle.std.proofs.Common.{◌≤◌, subst, arith}
-use Rattle.fsrm_engine.proofs.NamedLaws.{result_named}
-use Rattle.fsrm_engine.proofs.StepLaws.{cost_in_time}
+use Rattle.std.proofs.Common.{arith}
+use Rattle.fsrm_engine.specs.Machine.{machine_of}
+use Rattle.fsrm_engine.proofs.WholeLaws.{result_named, seen_ok, seen_err, seen_cost}
 use Rattle.fsrm_engine.proofs.engine.Engine.apply.Goals as goal
 
-pub take-requires-clause-late : goal.take-requires-clause-late
-take-requires-clause-late g c = subst (λ k. k ≤ c.args.command.now.moment) c.last_moment.ensures.moment c.if-command-last_moment.false
+pub returns-clause-ok : goal.returns-clause-ok
+returns-clause-ok g c = seen_ok c.self.inside.parts c.take.new.self c.args.self.now c.args.command.now c.take.result c.self.view_is c.take.ensures.ok
+
+pub returns-clause-named : goal.returns-clause-named
+returns-clause-named g c =
+    result_named (machine_of c.self.inside.parts) (machine_of c.take.new.self) c.args.command.now c.take.result c.take.ensures.ok c.self.invariant.valid
+
+pub returns-clause-err : goal.returns-clause-err
+returns-clause-err g c = seen_err c.self.inside.parts c.take.new.self c.args.self.now c.take.result c.self.view_is c.take.ensures.err
+
+pub returns-clause-kept : goal.returns-clause-kept
+returns-clause-kept g c = c.take.ensures.whole.valid
 
 pub returns-clause-looks : goal.returns-clause-looks
 returns-clause-looks g c =
-    let late = subst (λ k. k ≤ c.args.command.now.moment) c.last_moment.ensures.moment c.if-command-last_moment.false in
-    omega (arith, c.take.ensures.looks, cost_in_time c.args.self.now.rows c.args.command.now late)
-
-pub returns-clause-named : goal.returns-clause-named
-returns-clause-named g c = result_named c.args.self.now c.take.new.self c.args.command.now c.take.result c.take.ensures.ok c.last_moment.ensures.store
+    omega (arith, c.take.ensures.looks, seen_cost c.self.inside.parts c.args.self.now c.args.command.now c.self.view_is c.if-command-self.false)

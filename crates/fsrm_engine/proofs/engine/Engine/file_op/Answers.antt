@@ -1,16 +1,22 @@
-use Rattle.std.proofs.Common.{◌≤◌, subst, arith}
+use Rattle.std.proofs.Common.{arith}
 use Rattle.fsrm_model.specs.declared.command.Deed.TheVariants.{File}
-use Rattle.fsrm_engine.proofs.NamedLaws.{result_named}
-use Rattle.fsrm_engine.proofs.StepLaws.{cost_in_time}
+use Rattle.fsrm_engine.specs.Machine.{machine_of}
+use Rattle.fsrm_engine.proofs.WholeLaws.{result_named, seen_ok, seen_err, seen_cost}
 use Rattle.fsrm_engine.proofs.engine.Engine.file_op.Goals as goal
 
-pub operate-requires-clause-late : goal.operate-requires-clause-late
-operate-requires-clause-late g c = subst (λ k. k ≤ c.args.moment) c.last_moment.ensures.moment c.if-moment-last_moment.false
+pub returns-clause-ok : goal.returns-clause-ok
+returns-clause-ok g c = seen_ok c.self.inside.parts c.file_op.new.self c.args.self.now (record { moment = c.args.moment; deed = File c.args.op.now }) c.file_op.result c.self.view_is c.file_op.ensures.ok
+
+pub returns-clause-named : goal.returns-clause-named
+returns-clause-named g c =
+    result_named (machine_of c.self.inside.parts) (machine_of c.file_op.new.self) (record { moment = c.args.moment; deed = File c.args.op.now }) c.file_op.result c.file_op.ensures.ok c.self.invariant.valid
+
+pub returns-clause-err : goal.returns-clause-err
+returns-clause-err g c = seen_err c.self.inside.parts c.file_op.new.self c.args.self.now c.file_op.result c.self.view_is c.file_op.ensures.err
+
+pub returns-clause-kept : goal.returns-clause-kept
+returns-clause-kept g c = c.file_op.ensures.whole.valid
 
 pub returns-clause-looks : goal.returns-clause-looks
 returns-clause-looks g c =
-    let late = subst (λ k. k ≤ c.args.moment) c.last_moment.ensures.moment c.if-moment-last_moment.false in
-    omega (arith, c.operate.ensures.looks, cost_in_time c.args.self.now.rows (record { moment = c.args.moment; deed = File c.args.op.now }) late)
-
-pub returns-clause-named : goal.returns-clause-named
-returns-clause-named g c = result_named c.args.self.now c.operate.new.self (record { moment = c.args.moment; deed = File c.args.op.now }) c.operate.result c.operate.ensures.ok c.last_moment.ensures.store
+    omega (arith, c.file_op.ensures.looks, seen_cost c.self.inside.parts c.args.self.now (record { moment = c.args.moment; deed = File c.args.op.now }) c.self.view_is c.if-moment-self.false)

@@ -1,6 +1,0 @@
-use Rattle.std.proofs.Common.{sym}
-use Rattle.fsrm_engine.proofs.PlaceLaws.{has_resolved}
-use Rattle.fsrm_engine.proofs.accounts.Accounts.folder.Goals as goal
-
-pub node-requires : goal.node-requires
-node-requires g c = has_resolved _ _ _ _ c.self.invariant.volume (sym c.in_ok-node.ensures.value)

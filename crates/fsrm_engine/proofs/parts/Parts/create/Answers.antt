@@ -1,0 +1,132 @@
+use Rattle.std.proofs.Common.{false, refl, ap, sym, ◌∙◌, arith, subst}
+use Rattle.fsrm_model.specs.declared.command.Deed.TheVariants.{File}
+use Rattle.fsrm_model.specs.declared.command.FileOp.TheVariants.{Create}
+use Rattle.fsrm_model.proofs.ValidLaws.{folder_has}
+use Rattle.volume_tree.specs.Volume.{Volume, new_fault}
+use Rattle.fsrm_engine.specs.Faults.{refused_answer}
+use Rattle.fsrm_engine.specs.Machine.{IsSound}
+use Rattle.fsrm_engine.proofs.StepLaws.{is_fault, refused_as, refused_by_as}
+use Rattle.fsrm_engine.proofs.PlaceLaws.{place_depth}
+use Rattle.fsrm_engine.proofs.NewLaws.{create_due, made_is}
+use Rattle.fsrm_engine.proofs.FitLaws.{fits_plus}
+use Rattle.fsrm_engine.proofs.GrowthLaws.{owned, admitted, refused_by_quota, due_none, due_quota}
+use Rattle.fsrm_engine.proofs.MakeLaws.{make_changes, make_done, made_height, there_made}
+use Rattle.fsrm_engine.proofs.FollowLaws.{is_made, back_scans, left_back, made_length, made_chain, op_done}
+use Rattle.fsrm_engine.proofs.WholeLaws.{sound_ended}
+use Rattle.fsrm_engine.proofs.parts.Parts.create.Goals as goal
+
+pub admit-requires-clause-owned : goal.admit-requires-clause-owned
+admit-requires-clause-owned g c = owned c.args.self.now.tree.size c.args.self.now.tree.nodes c.args.self.now.objects.quotas c.args.self.now.usage c.requires.whole.sound.counted.sums
+
+pub admit-requires-clause-change : goal.admit-requires-clause-change
+admit-requires-clause-change g c = record { from = tt; to = folder_has c.args.self.now.tree.nodes c.in-Ok.place.folder c.in-Ok.ensures.ok.folder_is }
+
+pub admit-requires-clause-fits : goal.admit-requires-clause-fits
+admit-requires-clause-fits g c =
+    let p = c.args.self.now in
+    let e = c.requires.whole.sound.counted in
+    fits_plus p.tree.size p.tree.nodes p.tree.nodes p.objects.quotas p.usage _ e.volume e.legal e.are_quotas e.sums c.allocated.ensures.small
+
+pub returns-in-Err-admit-clause-ok : goal.returns-in-Err-admit-clause-ok
+returns-in-Err-admit-clause-ok g c =
+    let p = c.args.self.now in
+    let e = c.requires.whole.sound.counted in
+    let at = c.in-Ok.ensures.ok in
+    let changes = make_changes p.tree.size p.tree.nodes p.objects.quotas c.in-Ok.place.folder c.in-Ok.place.name.now c.args.length c.args.owner c.args.moment c.allocated.result e.volume e.are_quotas at.folder_is c.allocated.ensures.space in
+    refused_as p c.args.moment (File (Create c.args.path.now c.args.length c.args.owner)) _ _ c.requires.late
+    (create_due p c.args.moment c.args.path.now c.args.length c.args.owner c.in-Ok.place.folder c.in-Ok.place.name.now e.volume at
+    ∙ due_quota (new_fault p.tree c.in-Ok.place.folder c.in-Ok.place.name.now) _ c.in-Err-admit.exceeded c.in_default.ensures.may
+    (refused_by_quota p _ _ c.in-Err-admit.exceeded e changes c.in-Err-admit.ensures.refused))
+    (c.refused-in-Err-admit.ensures ∙ ap refused_answer c.exceeded_by.ensures)
+
+pub returns-in-Err-admit-clause-looks : goal.returns-in-Err-admit-clause-looks
+returns-in-Err-admit-clause-looks g c =
+    omega (arith, c.in-Ok.ensures.looks, c.in-Err-admit.ensures.looks, c.in_default.ensures.looks, place_depth _ _ _ _ _ c.requires.whole.sound.counted.volume c.in-Ok.ensures.ok)
+
+pub charge-requires-clause-change : goal.charge-requires-clause-change
+charge-requires-clause-change g c =
+    record { from = tt; to = there_made c.args.self.now.tree c.make_file.new.self c.in-Ok.place.folder c.in-Ok.place.name.now c.args.length c.args.owner c.args.moment c.requires.whole.sound.counted.volume c.in-Ok.ensures.ok.folder_is c.in_ok-node.ensures.made }
+
+pub charge-requires-clause-fits : goal.charge-requires-clause-fits
+charge-requires-clause-fits g c =
+    let p = c.args.self.now in
+    let e = c.requires.whole.sound.counted in
+    fits_plus p.tree.size p.tree.nodes c.make_file.new.self.nodes p.objects.quotas p.usage _ e.volume e.legal e.are_quotas e.sums c.allocated.ensures.small
+
+pub done-requires-clause-counted : goal.done-requires-clause-counted
+done-requires-clause-counted g c =
+    let p = c.args.self.now in
+    (make_done p.tree c.make_file.new.self p.objects.quotas c.charge.new.objects p.usage c.charge.new.usage c.in-Ok.place.folder c.in-Ok.place.name.now c.args.length c.args.owner c.args.moment c.allocated.result
+    c.requires.whole.sound.counted c.in-Ok.ensures.ok.folder_is c.allocated.ensures.space c.in_ok-node.ensures.made c.in_ok-node.ensures.kept c.requires.moment c.charge.ensures.counters c.charge.ensures.quotas).engine
+
+pub returns-clause-ok : goal.returns-clause-ok
+returns-clause-ok g c =
+    let p = c.args.self.now in
+    let e = c.requires.whole.sound.counted in
+    let at = c.in-Ok.ensures.ok in
+    let w = c.make_file.new.self in
+    let changes = make_changes p.tree.size p.tree.nodes p.objects.quotas c.in-Ok.place.folder c.in-Ok.place.name.now c.args.length c.args.owner c.args.moment c.allocated.result e.volume e.are_quotas at.folder_is c.allocated.ensures.space in
+    let made = is_made p.tree w c.in_ok-node.node c.in-Ok.place.folder c.in-Ok.place.name.now false c.args.length c.args.owner c.args.moment e.volume c.in_ok-node.ensures.made c.in_ok-node.ensures.number in
+    let d = make_done p.tree w p.objects.quotas c.charge.new.objects p.usage c.charge.new.usage c.in-Ok.place.folder c.in-Ok.place.name.now c.args.length c.args.owner c.args.moment c.allocated.result
+    e at.folder_is c.allocated.ensures.space c.in_ok-node.ensures.made c.in_ok-node.ensures.kept c.requires.moment c.charge.ensures.counters c.charge.ensures.quotas in
+    op_done p (record p { tree = w; scans = c.follow_create.new.self; usage = c.charge.new.usage; objects = c.charge.new.objects }) c.done.new.self c.args.moment (Create c.args.path.now c.args.length c.args.owner) c.done.result p.objects.quotas _ c.requires.late
+    (create_due p c.args.moment c.args.path.now c.args.length c.args.owner c.in-Ok.place.folder c.in-Ok.place.name.now e.volume at
+    ∙ due_none (new_fault p.tree c.in-Ok.place.folder c.in-Ok.place.name.now) _ c.in_default.ensures.may (admitted p _ _ e changes c.in_default-admit.ensures.admitted))
+    (ap (λ (w : Volume). w.nodes) (sym (c.in_ok-node.ensures.made ∙ made_is p.tree _ _ _ false c.args.length c.args.owner c.args.moment at)))
+    refl refl (λ k. left_back p w c.in_ok-node.node made.back)
+    c.follow_create.ensures.follows (ap (λ (w : Volume). w.size) c.in_ok-node.ensures.made) d.raised_are c.done.ensures.ended c.done.ensures.answer
+
+pub returns-clause-sound : goal.returns-clause-sound
+returns-clause-sound g c =
+    sound_ended (record c.args.self.now { tree = c.make_file.new.self; scans = c.follow_create.new.self; usage = c.charge.new.usage; objects = c.charge.new.objects }) c.done.new.self c.args.moment c.done.ensures.ended c.done.ensures.counted c.follow_create.ensures.follows.scanning
+
+pub returns-clause-looks : goal.returns-clause-looks
+returns-clause-looks g c =
+    let v = c.args.self.now.tree in
+    let k = c.requires.whole.sound.counted.volume in
+    let at = c.in-Ok.ensures.ok in
+    omega (
+      arith,
+      c.in-Ok.ensures.looks,
+      c.in_default.ensures.looks,
+      c.in_default-admit.ensures.looks,
+      c.in_ok-node.ensures.looks,
+      c.follow_create.ensures.looks,
+      c.charge.ensures.looks,
+      made_chain v c.make_file.new.self c.in_ok-node.node c.in-Ok.place.folder c.in-Ok.place.name.now false c.args.length c.args.owner c.args.moment k at.folder_is c.in_ok-node.ensures.made c.in_ok-node.ensures.number,
+      place_depth _ _ _ _ _ k at,
+      made_height v c.make_file.new.self c.in-Ok.place.folder c.in-Ok.place.name.now c.args.length c.args.owner c.args.moment k at.folder_is c.in_ok-node.ensures.made,
+    )
+
+pub returns-in-Err-may_create-clause-ok : goal.returns-in-Err-may_create-clause-ok
+returns-in-Err-may_create-clause-ok g c =
+    refused_by_as c.args.self.now c.args.moment (File (Create c.args.path.now c.args.length c.args.owner)) _ _ _ _ c.requires.late
+    (create_due c.args.self.now c.args.moment c.args.path.now c.args.length c.args.owner _ _ c.requires.whole.sound.counted.volume c.in-Ok.ensures.ok) (is_fault c.in-Err-may_create.fault _ c.in-Err-may_create.ensures.fault) c.refused_by.ensures.ok
+
+pub returns-in-Err-may_create-clause-looks : goal.returns-in-Err-may_create-clause-looks
+returns-in-Err-may_create-clause-looks g c = omega (arith, c.in-Ok.ensures.looks, c.in-Err-may_create.ensures.looks)
+
+pub follow_create-requires-clause-there : goal.follow_create-requires-clause-there
+follow_create-requires-clause-there g c =
+    (is_made c.args.self.now.tree c.make_file.new.self c.in_ok-node.node c.in-Ok.place.folder c.in-Ok.place.name.now false c.args.length c.args.owner c.args.moment c.requires.whole.sound.counted.volume c.in_ok-node.ensures.made c.in_ok-node.ensures.number).there
+
+pub follow_create-requires-clause-file : goal.follow_create-requires-clause-file
+follow_create-requires-clause-file g c =
+    (is_made c.args.self.now.tree c.make_file.new.self c.in_ok-node.node c.in-Ok.place.folder c.in-Ok.place.name.now false c.args.length c.args.owner c.args.moment c.requires.whole.sound.counted.volume c.in_ok-node.ensures.made c.in_ok-node.ensures.number).kind
+
+pub follow_create-requires-clause-own : goal.follow_create-requires-clause-own
+follow_create-requires-clause-own g c = λ row found.
+    let v = c.args.self.now.tree in
+    made_length v c.make_file.new.self c.in_ok-node.node _ row (is_made v c.make_file.new.self c.in_ok-node.node c.in-Ok.place.folder c.in-Ok.place.name.now false c.args.length c.args.owner c.args.moment c.requires.whole.sound.counted.volume c.in_ok-node.ensures.made c.in_ok-node.ensures.number) found
+
+pub follow_create-requires-clause-scanning : goal.follow_create-requires-clause-scanning
+follow_create-requires-clause-scanning g c =
+    let v = c.args.self.now.tree in
+    back_scans v c.make_file.new.self c.in_ok-node.node _ (is_made v c.make_file.new.self c.in_ok-node.node c.in-Ok.place.folder c.in-Ok.place.name.now false c.args.length c.args.owner c.args.moment c.requires.whole.sound.counted.volume c.in_ok-node.ensures.made c.in_ok-node.ensures.number).back c.requires.whole.sound.scanning
+
+pub returns-in_err-node-clause-sound : goal.returns-in_err-node-clause-sound
+returns-in_err-node-clause-sound g c = subst (λ (w : Volume). IsSound (record c.args.self.now { tree = w })) (sym c.in_err-node.ensures.err) c.requires.whole.sound
+
+pub returns-in_err-node-clause-looks : goal.returns-in_err-node-clause-looks
+returns-in_err-node-clause-looks g c =
+    omega (arith, c.in-Ok.ensures.looks, c.in_default.ensures.looks, c.in_default-admit.ensures.looks, c.make_file.ensures.looks, place_depth _ _ _ _ _ c.requires.whole.sound.counted.volume c.in-Ok.ensures.ok)

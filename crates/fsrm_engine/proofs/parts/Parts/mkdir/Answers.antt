@@ -1,0 +1,63 @@
+use Rattle.std.proofs.Common.{true, None, refl, ap, sym, ◌∙◌, subst}
+use Rattle.fsrm_model.specs.declared.command.Deed.TheVariants.{File}
+use Rattle.fsrm_model.specs.declared.command.FileOp.TheVariants.{Mkdir}
+use Rattle.fsrm_model.specs.FileOps.{made_node, plain}
+use Rattle.volume_tree.specs.Volume.{Volume}
+use Rattle.fsrm_engine.specs.Machine.{IsSound}
+use Rattle.fsrm_engine.proofs.IdleLaws.{idle_made}
+use Rattle.fsrm_engine.proofs.StepLaws.{is_fault, refused_by_as, tree_first}
+use Rattle.fsrm_engine.proofs.NewLaws.{mkdir_due, made_is}
+use Rattle.fsrm_engine.proofs.FollowLaws.{is_made, back_scans, mkdir_next, op_done}
+use Rattle.fsrm_engine.proofs.WholeLaws.{sound_ended}
+use Rattle.fsrm_engine.proofs.parts.Parts.mkdir.Goals as goal
+
+pub returns-in-Err-may_create-clause-ok : goal.returns-in-Err-may_create-clause-ok
+returns-in-Err-may_create-clause-ok g c =
+    refused_by_as c.args.self.now c.args.moment (File (Mkdir c.args.path.now c.args.owner)) _ _ None _ c.requires.late
+    (mkdir_due c.args.self.now c.args.moment _ c.args.owner _ _ c.requires.whole.sound.counted.volume c.in-Ok.ensures.ok) (is_fault c.in-Err-may_create.fault _ c.in-Err-may_create.ensures.fault) c.refused_by.ensures.ok
+
+pub follow_mkdir-requires-clause-there : goal.follow_mkdir-requires-clause-there
+follow_mkdir-requires-clause-there g c =
+    let p = c.args.self.now in
+    (is_made p.tree c.make_folder.new.self c.in_ok-node.node _ _ true 0 c.args.owner c.args.moment c.requires.whole.sound.counted.volume c.in_ok-node.ensures.made c.in_ok-node.ensures.number).there
+
+pub follow_mkdir-requires-clause-folder : goal.follow_mkdir-requires-clause-folder
+follow_mkdir-requires-clause-folder g c =
+    let p = c.args.self.now in
+    (is_made p.tree c.make_folder.new.self c.in_ok-node.node _ _ true 0 c.args.owner c.args.moment c.requires.whole.sound.counted.volume c.in_ok-node.ensures.made c.in_ok-node.ensures.number).kind
+
+pub follow_mkdir-requires-clause-scanning : goal.follow_mkdir-requires-clause-scanning
+follow_mkdir-requires-clause-scanning g c =
+    let p = c.args.self.now in
+    let made = is_made p.tree c.make_folder.new.self c.in_ok-node.node _ _ true 0 c.args.owner c.args.moment c.requires.whole.sound.counted.volume c.in_ok-node.ensures.made c.in_ok-node.ensures.number in
+    back_scans p.tree c.make_folder.new.self c.in_ok-node.node _ made.back c.requires.whole.sound.scanning
+
+pub done-requires-clause-counted : goal.done-requires-clause-counted
+done-requires-clause-counted g c =
+    let p = c.args.self.now in
+    idle_made p.tree c.make_folder.new.self p.objects.quotas p.usage _ _ c.args.owner c.args.moment c.requires.whole.sound.counted c.in-Ok.ensures.ok.folder_is c.in_ok-node.ensures.made c.in_ok-node.ensures.kept
+
+pub returns-clause-ok : goal.returns-clause-ok
+returns-clause-ok g c =
+    let p = c.args.self.now in
+    let at = c.in-Ok.ensures.ok in
+    let w = c.make_folder.new.self in
+    let row = made_node p.tree.nodes c.in-Ok.place.folder c.in-Ok.place.name.now true 0 c.args.owner c.args.moment in
+    let made = is_made p.tree w c.in_ok-node.node c.in-Ok.place.folder c.in-Ok.place.name.now true 0 c.args.owner c.args.moment c.requires.whole.sound.counted.volume c.in_ok-node.ensures.made c.in_ok-node.ensures.number in
+    op_done p (record p { tree = w; scans = c.follow_mkdir.new.self }) c.done.new.self c.args.moment (Mkdir c.args.path.now c.args.owner) c.done.result p.objects.quotas _ c.requires.late
+    (mkdir_due p c.args.moment _ c.args.owner _ _ c.requires.whole.sound.counted.volume at ∙ ap (λ o. tree_first o None) c.in_default.ensures.may)
+    (ap (λ (w : Volume). w.nodes) (sym (c.in_ok-node.ensures.made ∙ made_is p.tree _ _ _ true 0 c.args.owner c.args.moment at)))
+    refl refl
+    (mkdir_next p w c.args.path.now c.in-Ok.place.folder c.in-Ok.place.name.now c.args.owner c.args.moment c.in_ok-node.node (plain p.tree.nodes (Mkdir c.args.path.now c.args.owner) c.args.moment) at made.back)
+    (c.follow_mkdir.ensures.follows row made.found) (ap (λ (w : Volume). w.size) c.in_ok-node.ensures.made) refl c.done.ensures.ended c.done.ensures.answer
+
+pub returns-clause-sound : goal.returns-clause-sound
+returns-clause-sound g c =
+    let p = c.args.self.now in
+    let w = c.make_folder.new.self in
+    let row = made_node p.tree.nodes c.in-Ok.place.folder c.in-Ok.place.name.now true 0 c.args.owner c.args.moment in
+    let made = is_made p.tree w c.in_ok-node.node c.in-Ok.place.folder c.in-Ok.place.name.now true 0 c.args.owner c.args.moment c.requires.whole.sound.counted.volume c.in_ok-node.ensures.made c.in_ok-node.ensures.number in
+    sound_ended (record p { tree = w; scans = c.follow_mkdir.new.self }) c.done.new.self c.args.moment c.done.ensures.ended c.done.ensures.counted (c.follow_mkdir.ensures.follows row made.found).scanning
+
+pub returns-in_err-node-clause-sound : goal.returns-in_err-node-clause-sound
+returns-in_err-node-clause-sound g c = subst (λ (w : Volume). IsSound (record c.args.self.now { tree = w })) (sym c.in_err-node.ensures.err) c.requires.whole.sound

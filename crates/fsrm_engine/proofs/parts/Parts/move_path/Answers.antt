@@ -1,0 +1,209 @@
+use Rattle.std.proofs.Common.{◌≡◌, ◌==◌, true, false, None, refl, sym, ap, ◌∙◌, subst, arith}
+use Rattle.fsrm_model.specs.declared.command.Deed.TheVariants.{File}
+use Rattle.fsrm_model.specs.declared.command.FileOp.TheVariants.{Move}
+use Rattle.fsrm_base.specs.Keyed.{has_row}
+use Rattle.fsrm_model.specs.Name.{is_name}
+use Rattle.fsrm_model.specs.Tree.{number, is_folder, is_under}
+use Rattle.fsrm_base.proofs.TestLaws.{is_inner}
+use Rattle.fsrm_model.proofs.Resolves.{resolved}
+use Rattle.fsrm_model.proofs.ValidLaws.{folder_has}
+use Rattle.volume_tree.specs.Volume.{Volume, Move as Moving, move_fault}
+use Rattle.fsrm_engine.specs.Faults.{refused_answer}
+use Rattle.fsrm_engine.proofs.StepLaws.{refused_as, refused_by_as}
+use Rattle.fsrm_engine.proofs.PlaceLaws.{place_depth, has_resolved}
+use Rattle.fsrm_engine.proofs.MoveLaws.{move_due, move_root, stray_due}
+use Rattle.fsrm_engine.proofs.GrowthLaws.{owned, admitted, refused_by_quota, due_none, due_quota}
+use Rattle.fsrm_engine.proofs.MoveKept.{moves_to, move_changes, move_done, ready_apart, from_height, to_height, left_height, parent_there, there_moved, move_room, move_fits, moved_fits}
+use Rattle.fsrm_engine.proofs.FollowLaws.{goes_to, volume_is, made_ready, move_next, move_nodes, op_done}
+use Rattle.fsrm_engine.proofs.WholeLaws.{sound_ended}
+use Rattle.fsrm_engine.proofs.parts.Parts.move_path.Goals as goal
+
+pub moved_bytes-requires-clause-there : goal.moved_bytes-requires-clause-there
+moved_bytes-requires-clause-there g c = has_resolved _ _ _ _ c.requires.whole.sound.counted.volume (sym c.in-Some.ensures.value)
+
+pub returns-in_err-bytes-clause-looks : goal.returns-in_err-bytes-clause-looks
+returns-in_err-bytes-clause-looks g c =
+    let v = c.args.self.now.tree in
+    omega (
+      arith,
+      c.in-Some.ensures.looks,
+      c.in-Ok.ensures.looks,
+      c.in-Ok-ready_move.ensures.looks,
+      c.moved_bytes.ensures.looks,
+      place_depth _ _ _ _ _ c.requires.whole.sound.counted.volume c.in-Ok.ensures.ok,
+      move_room v.size v.nodes c.args.from.now c.args.to.now c.in-Some.node c.requires.whole.sound.counted.volume (sym c.in-Some.ensures.value),
+    )
+
+pub node-requires : goal.node-requires
+node-requires g c = has_resolved _ _ _ _ c.requires.whole.sound.counted.volume (sym c.in-Some.ensures.value)
+
+pub admit-requires-clause-owned : goal.admit-requires-clause-owned
+admit-requires-clause-owned g c = owned c.args.self.now.tree.size c.args.self.now.tree.nodes c.args.self.now.objects.quotas c.args.self.now.usage c.requires.whole.sound.counted.sums
+
+pub admit-requires-clause-change : goal.admit-requires-clause-change
+admit-requires-clause-change g c =
+    let v = c.args.self.now.tree in
+    record { from = parent_there v.size v.nodes c.in-Some.node c.node.result c.requires.whole.sound.counted.volume c.node.ensures.view; to = folder_has v.nodes c.in-Ok.place.folder c.in-Ok.ensures.ok.folder_is }
+
+pub admit-requires-clause-fits : goal.admit-requires-clause-fits
+admit-requires-clause-fits g c =
+    let v = c.args.self.now.tree in
+    let to = moves_to v.nodes c.in-Some.node c.in-Ok.place.folder c.node.result (is_under v.nodes c.in-Some.node c.in-Ok.place.folder) c.node.ensures.view (is_inner _ c.if-node-eq0.false) c.in-Ok.ensures.ok.folder_is refl (ready_apart v c.in-Some.node c.in-Ok.place.folder c.in-Ok.place.name.now c.in-Ok-ready_move.ensures.may) in
+    move_fits v c.args.self.now.objects.quotas c.args.self.now.usage c.in-Some.node c.in-Ok.place.folder c.in-Ok.place.name.now c.node.result c.in_ok-bytes.bytes c.requires.whole.sound.counted c.node.ensures.view to c.in_ok-bytes.ensures.bytes
+
+pub returns-in-Err-admit-clause-looks : goal.returns-in-Err-admit-clause-looks
+returns-in-Err-admit-clause-looks g c =
+    let v = c.args.self.now.tree in
+    omega (
+      arith,
+      c.in-Some.ensures.looks,
+      c.in-Ok.ensures.looks,
+      c.in-Ok-ready_move.ensures.looks,
+      c.in_ok-bytes.ensures.looks,
+      c.node.ensures.count,
+      c.in-Err-admit.ensures.looks,
+      place_depth _ _ _ _ _ c.requires.whole.sound.counted.volume c.in-Ok.ensures.ok,
+      from_height v.size v.nodes c.args.from.now c.in-Some.node c.node.result c.requires.whole.sound.counted.volume (sym c.in-Some.ensures.value) (is_inner _ c.if-node-eq0.false) c.node.ensures.view,
+      move_room v.size v.nodes c.args.from.now c.args.to.now c.in-Some.node c.requires.whole.sound.counted.volume (sym c.in-Some.ensures.value),
+    )
+
+pub ready_move-requires-clause-there : goal.ready_move-requires-clause-there
+ready_move-requires-clause-there g c = has_resolved _ _ _ _ c.requires.whole.sound.counted.volume (sym c.in-Some.ensures.value)
+
+pub charge-requires-clause-change : goal.charge-requires-clause-change
+charge-requires-clause-change g c =
+    let v = c.args.self.now.tree in
+    let w = c.make_move.new.self in
+    record {
+      from = there_moved v w c.in-Some.node c.in-Ok.place.folder c.in-Ok.place.name.now c.node.result.parent (made_ready _ _ _ _ _ _ c.in-Ok-ready_move.ensures.ready c.make_move.ensures.made) (parent_there v.size v.nodes c.in-Some.node c.node.result c.requires.whole.sound.counted.volume c.node.ensures.view);
+      to = there_moved v w c.in-Some.node c.in-Ok.place.folder c.in-Ok.place.name.now c.in-Ok.place.folder (made_ready _ _ _ _ _ _ c.in-Ok-ready_move.ensures.ready c.make_move.ensures.made) (folder_has v.nodes c.in-Ok.place.folder c.in-Ok.ensures.ok.folder_is);
+    }
+
+pub charge-requires-clause-fits : goal.charge-requires-clause-fits
+charge-requires-clause-fits g c =
+    let v = c.args.self.now.tree in
+    let to = moves_to v.nodes c.in-Some.node c.in-Ok.place.folder c.node.result (is_under v.nodes c.in-Some.node c.in-Ok.place.folder) c.node.ensures.view (is_inner _ c.if-node-eq0.false) c.in-Ok.ensures.ok.folder_is refl (ready_apart v c.in-Some.node c.in-Ok.place.folder c.in-Ok.place.name.now c.in-Ok-ready_move.ensures.may) in
+    moved_fits v c.make_move.new.self c.args.self.now.objects.quotas c.args.self.now.usage c.in-Some.node c.in-Ok.place.folder c.in-Ok.place.name.now c.node.result c.in_ok-bytes.bytes c.requires.whole.sound.counted c.node.ensures.view to c.in_ok-bytes.ensures.bytes (made_ready _ _ _ _ _ _ c.in-Ok-ready_move.ensures.ready c.make_move.ensures.made)
+
+pub returns-clause-looks : goal.returns-clause-looks
+returns-clause-looks g c =
+    let v = c.args.self.now.tree in
+    let w = c.make_move.new.self in
+    let to = moves_to v.nodes c.in-Some.node c.in-Ok.place.folder c.node.result (is_under v.nodes c.in-Some.node c.in-Ok.place.folder) c.node.ensures.view (is_inner _ c.if-node-eq0.false) c.in-Ok.ensures.ok.folder_is refl (ready_apart v c.in-Some.node c.in-Ok.place.folder c.in-Ok.place.name.now c.in-Ok-ready_move.ensures.may) in
+    omega (
+      arith,
+      c.in-Some.ensures.looks,
+      c.in-Ok.ensures.looks,
+      c.in-Ok-ready_move.ensures.looks,
+      c.in_ok-bytes.ensures.looks,
+      c.node.ensures.count,
+      c.in_default-admit.ensures.looks,
+      c.follow_move.ensures.looks,
+      c.make_move.ensures.looks,
+      c.charge.ensures.looks,
+      (resolved v.size v.nodes c.args.from.now c.in-Some.node c.requires.whole.sound.counted.volume (sym c.in-Some.ensures.value)).deep,
+      place_depth _ _ _ _ _ c.requires.whole.sound.counted.volume c.in-Ok.ensures.ok,
+      from_height v.size v.nodes c.args.from.now c.in-Some.node c.node.result c.requires.whole.sound.counted.volume (sym c.in-Some.ensures.value) (is_inner _ c.if-node-eq0.false) c.node.ensures.view,
+      move_room v.size v.nodes c.args.from.now c.args.to.now c.in-Some.node c.requires.whole.sound.counted.volume (sym c.in-Some.ensures.value),
+      to_height v w c.in-Some.node c.in-Ok.place.folder c.in-Ok.place.name.now c.requires.whole.sound.counted.volume to (made_ready _ _ _ _ _ _ c.in-Ok-ready_move.ensures.ready c.make_move.ensures.made),
+      left_height v w c.in-Some.node c.in-Ok.place.folder c.in-Ok.place.name.now c.node.result c.requires.whole.sound.counted.volume to c.node.ensures.view (made_ready _ _ _ _ _ _ c.in-Ok-ready_move.ensures.ready c.make_move.ensures.made),
+    )
+
+pub returns-in-Err-ready_move-clause-looks : goal.returns-in-Err-ready_move-clause-looks
+returns-in-Err-ready_move-clause-looks g c =
+    omega (arith, c.in-Some.ensures.looks, c.in-Ok.ensures.looks, c.in-Err-ready_move.ensures.looks, place_depth _ _ _ _ _ c.requires.whole.sound.counted.volume c.in-Ok.ensures.ok)
+
+pub make_move-requires-clause-there : goal.make_move-requires-clause-there
+make_move-requires-clause-there g c =
+    subst (λ (m : Moving). has_row number m.node c.args.self.now.tree.nodes ≡ true) (sym c.in-Ok-ready_move.ensures.ready) (has_resolved _ _ _ _ c.requires.whole.sound.counted.volume (sym c.in-Some.ensures.value))
+
+pub make_move-requires-clause-inner : goal.make_move-requires-clause-inner
+make_move-requires-clause-inner g c = subst (λ (m : Moving). (m.node == 0) ≡ false) (sym c.in-Ok-ready_move.ensures.ready) (is_inner _ c.if-node-eq0.false)
+
+pub make_move-requires-clause-folder : goal.make_move-requires-clause-folder
+make_move-requires-clause-folder g c =
+    subst (λ (m : Moving). is_folder c.args.self.now.tree.nodes m.folder ≡ true) (sym c.in-Ok-ready_move.ensures.ready) c.in-Ok.ensures.ok.folder_is
+
+pub make_move-requires-clause-name : goal.make_move-requires-clause-name
+make_move-requires-clause-name g c =
+    subst (λ (m : Moving). is_name m.name ≡ true) (sym c.in-Ok-ready_move.ensures.ready) c.in-Ok.ensures.ok.valid
+
+pub make_move-requires-clause-may : goal.make_move-requires-clause-may
+make_move-requires-clause-may g c =
+    subst (λ (m : Moving). move_fault c.args.self.now.tree m.node m.folder m.name ≡ None) (sym c.in-Ok-ready_move.ensures.ready) c.in-Ok-ready_move.ensures.may
+
+pub follow_move-requires-clause-there : goal.follow_move-requires-clause-there
+follow_move-requires-clause-there g c = has_resolved _ _ _ _ c.requires.whole.sound.counted.volume (sym c.in-Some.ensures.value)
+
+pub follow_move-requires-clause-apart : goal.follow_move-requires-clause-apart
+follow_move-requires-clause-apart g c = ready_apart c.args.self.now.tree c.in-Some.node c.in-Ok.place.folder c.in-Ok.place.name.now c.in-Ok-ready_move.ensures.may
+
+pub returns-then-node-eq0-clause-ok : goal.returns-then-node-eq0-clause-ok
+returns-then-node-eq0-clause-ok g c =
+    refused_as c.args.self.now c.args.moment (File (Move c.args.from.now c.args.to.now)) _ _ c.requires.late
+    (move_root c.args.self.now c.args.moment _ _ _ c.requires.whole.sound.counted.volume (sym c.in-Some.ensures.value) c.if-node-eq0.true)
+    c.refused-then-node-eq0.ensures
+
+pub returns-in-Err-clause-ok : goal.returns-in-Err-clause-ok
+returns-in-Err-clause-ok g c =
+    refused_as c.args.self.now c.args.moment (File (Move c.args.from.now c.args.to.now)) _ _ c.requires.late
+    (stray_due c.args.self.now c.args.moment _ _ _ _ c.requires.whole.sound.counted.volume (sym c.in-Some.ensures.value) (is_inner _ c.if-node-eq0.false) c.in-Err.ensures.err)
+    c.refused-in-Err.ensures
+
+pub returns-in-Err-ready_move-clause-ok : goal.returns-in-Err-ready_move-clause-ok
+returns-in-Err-ready_move-clause-ok g c =
+    refused_by_as c.args.self.now c.args.moment (File (Move c.args.from.now c.args.to.now)) _ _ _ _ c.requires.late
+    (move_due c.args.self.now c.args.moment c.args.from.now c.args.to.now c.in-Some.node c.in-Ok.place.folder c.in-Ok.place.name.now c.requires.whole.sound.counted.volume (sym c.in-Some.ensures.value) (is_inner _ c.if-node-eq0.false) c.in-Ok.ensures.ok)
+    c.in-Err-ready_move.ensures.refused c.refused_by.ensures.ok
+
+pub returns-in-Err-admit-clause-ok : goal.returns-in-Err-admit-clause-ok
+returns-in-Err-admit-clause-ok g c =
+    let p = c.args.self.now in
+    let v = p.tree in
+    let e = c.requires.whole.sound.counted in
+    let at = c.in-Ok.ensures.ok in
+    let inner = is_inner _ c.if-node-eq0.false in
+    let to = moves_to v.nodes c.in-Some.node c.in-Ok.place.folder c.node.result (is_under v.nodes c.in-Some.node c.in-Ok.place.folder) c.node.ensures.view inner at.folder_is refl (ready_apart v c.in-Some.node c.in-Ok.place.folder c.in-Ok.place.name.now c.in-Ok-ready_move.ensures.may) in
+    let changes = move_changes v.size v.nodes p.objects.quotas c.in-Some.node c.in-Ok.place.folder c.in-Ok.place.name.now c.node.result c.in_ok-bytes.bytes e.volume e.are_quotas c.node.ensures.view to c.in_ok-bytes.ensures.bytes in
+    refused_as p c.args.moment (File (Move c.args.from.now c.args.to.now)) _ _ c.requires.late
+    (move_due p c.args.moment c.args.from.now c.args.to.now c.in-Some.node c.in-Ok.place.folder c.in-Ok.place.name.now e.volume (sym c.in-Some.ensures.value) inner at
+    ∙ due_quota (move_fault v c.in-Some.node c.in-Ok.place.folder c.in-Ok.place.name.now) _ c.in-Err-admit.exceeded c.in-Ok-ready_move.ensures.may
+    (refused_by_quota p _ _ c.in-Err-admit.exceeded e changes c.in-Err-admit.ensures.refused))
+    (c.refused-in-Err-admit.ensures ∙ ap refused_answer c.exceeded_by.ensures)
+
+pub done-requires-clause-counted : goal.done-requires-clause-counted
+done-requires-clause-counted g c =
+    let p = c.args.self.now in
+    let v = p.tree in
+    let to = moves_to v.nodes c.in-Some.node c.in-Ok.place.folder c.node.result (is_under v.nodes c.in-Some.node c.in-Ok.place.folder) c.node.ensures.view (is_inner _ c.if-node-eq0.false) c.in-Ok.ensures.ok.folder_is refl (ready_apart v c.in-Some.node c.in-Ok.place.folder c.in-Ok.place.name.now c.in-Ok-ready_move.ensures.may) in
+    (move_done v c.make_move.new.self p.objects.quotas c.charge.new.objects p.usage c.charge.new.usage c.in-Some.node c.in-Ok.place.folder c.in-Ok.place.name.now c.node.result c.in_ok-bytes.bytes c.args.moment
+    c.requires.whole.sound.counted c.node.ensures.view to c.in_ok-bytes.ensures.bytes (made_ready _ _ _ _ _ _ c.in-Ok-ready_move.ensures.ready c.make_move.ensures.made) c.make_move.ensures.kept c.requires.moment c.charge.ensures.counters c.charge.ensures.quotas).engine
+
+pub returns-clause-ok : goal.returns-clause-ok
+returns-clause-ok g c =
+    let p = c.args.self.now in
+    let v = p.tree in
+    let w = c.make_move.new.self in
+    let e = c.requires.whole.sound.counted in
+    let at = c.in-Ok.ensures.ok in
+    let from = sym c.in-Some.ensures.value in
+    let inner = is_inner _ c.if-node-eq0.false in
+    let made = made_ready _ _ _ _ _ _ c.in-Ok-ready_move.ensures.ready c.make_move.ensures.made in
+    let to = moves_to v.nodes c.in-Some.node c.in-Ok.place.folder c.node.result (is_under v.nodes c.in-Some.node c.in-Ok.place.folder) c.node.ensures.view inner at.folder_is refl (ready_apart v c.in-Some.node c.in-Ok.place.folder c.in-Ok.place.name.now c.in-Ok-ready_move.ensures.may) in
+    let changes = move_changes v.size v.nodes p.objects.quotas c.in-Some.node c.in-Ok.place.folder c.in-Ok.place.name.now c.node.result c.in_ok-bytes.bytes e.volume e.are_quotas c.node.ensures.view to c.in_ok-bytes.ensures.bytes in
+    let d = move_done v w p.objects.quotas c.charge.new.objects p.usage c.charge.new.usage c.in-Some.node c.in-Ok.place.folder c.in-Ok.place.name.now c.node.result c.in_ok-bytes.bytes c.args.moment
+    e c.node.ensures.view to c.in_ok-bytes.ensures.bytes made c.make_move.ensures.kept c.requires.moment c.charge.ensures.counters c.charge.ensures.quotas in
+    let nodes = move_nodes v c.args.from.now c.args.to.now c.in-Some.node c.in-Ok.place.folder c.in-Ok.place.name.now c.args.moment from at in
+    op_done p (record p { tree = w; scans = c.follow_move.new.self; usage = c.charge.new.usage; objects = c.charge.new.objects }) c.done.new.self c.args.moment (Move c.args.from.now c.args.to.now) c.done.result p.objects.quotas _ c.requires.late
+    (move_due p c.args.moment c.args.from.now c.args.to.now c.in-Some.node c.in-Ok.place.folder c.in-Ok.place.name.now e.volume from inner at
+    ∙ due_none (move_fault v c.in-Some.node c.in-Ok.place.folder c.in-Ok.place.name.now) _ c.in-Ok-ready_move.ensures.may (admitted p _ _ e changes c.in_default-admit.ensures.admitted))
+    (nodes ∙ sym (ap (λ (u : Volume). u.nodes) made)) refl refl
+    (move_next p c.args.from.now c.args.to.now c.in-Some.node c.in-Ok.place.folder c.in-Ok.place.name.now _ from at nodes)
+    (goes_to _ _ w _ _ made (c.follow_move.ensures.follows c.in-Ok.place.name.now (volume_is _ _ made c.make_move.ensures.kept)))
+    (ap (λ (u : Volume). u.size) made) d.raised_are c.done.ensures.ended c.done.ensures.answer
+
+pub returns-clause-sound : goal.returns-clause-sound
+returns-clause-sound g c =
+    let made = made_ready _ _ _ _ _ _ c.in-Ok-ready_move.ensures.ready c.make_move.ensures.made in
+    let goes = goes_to _ _ c.make_move.new.self _ _ made (c.follow_move.ensures.follows c.in-Ok.place.name.now (volume_is _ _ made c.make_move.ensures.kept)) in
+    sound_ended (record c.args.self.now { tree = c.make_move.new.self; scans = c.follow_move.new.self; usage = c.charge.new.usage; objects = c.charge.new.objects }) c.done.new.self c.args.moment c.done.ensures.ended c.done.ensures.counted goes.scanning

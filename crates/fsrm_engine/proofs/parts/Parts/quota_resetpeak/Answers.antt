@@ -1,0 +1,47 @@
+use Rattle.std.proofs.Common.{refl, ap, sym, ◌∙◌, List}
+use Rattle.std.specs.Prelude.{unwrap_or, if◌then◌else◌}
+use Rattle.fsrm_model.specs.declared.command.Deed.TheVariants.{QuotaResetpeak}
+use Rattle.fsrm_model.specs.declared.row.QuotaRow.{QuotaRow}
+use Rattle.fsrm_base.specs.Keyed.{with_change}
+use Rattle.fsrm_model.specs.Quota.{folder_of}
+use Rattle.fsrm_model.specs.QuotaStates.{scan_begun}
+use Rattle.fsrm_model.specs.QuotaWork.{reset}
+use Rattle.fsrm_objects.specs.Tables.{Tables}
+use Rattle.scan_queue.specs.Courses.{left}
+use Rattle.fsrm_engine.specs.Machine.{rows_of}
+use Rattle.fsrm_engine.proofs.PlaceLaws.{target_is}
+use Rattle.fsrm_engine.proofs.QuotaLaws.{counted_same, counted_reset, reset_is, has_quota, on_folder, quota_due}
+use Rattle.fsrm_engine.proofs.StepLaws.{done_as, same_own}
+use Rattle.fsrm_engine.proofs.WholeLaws.{sound_ended}
+use Rattle.fsrm_engine.proofs.parts.Parts.quota_resetpeak.Goals as goal
+
+pub set_peak-requires : goal.set_peak-requires
+set_peak-requires g c =
+    has_quota c.args.self.now.tree.nodes _ c.args.path.now _ (on_folder _ _ _ _ c.quota.result c.in-Some.ensures.folder c.quota.ensures c.if-is_none.ensures)
+
+pub done-requires-clause-counted : goal.done-requires-clause-counted
+done-requires-clause-counted g c =
+    let p = c.args.self.now in
+    let e = c.requires.whole.sound.counted in
+    let is = ap (λ (t : Tables). t.quotas) c.set_peak.ensures
+    ∙ reset_is p c.args.moment c.in-Some.folder _ e (c.unwrap_or-used.ensures ∙ ap (λ o. unwrap_or o 0) c.used.ensures) in
+    counted_same p.tree.size p.tree.nodes p.usage _ c.set_peak.new.self.quotas is (counted_reset p c.args.moment c.in-Some.folder e c.requires.moment)
+
+pub returns-clause-ok : goal.returns-clause-ok
+returns-clause-ok g c =
+    let p = c.args.self.now in
+    let R = rows_of p in
+    let at = c.in-Some.ensures.folder in
+    let is = ap (λ (t : Tables). t.quotas) c.set_peak.ensures
+    ∙ reset_is p c.args.moment c.in-Some.folder _ c.requires.whole.sound.counted (c.unwrap_or-used.ensures ∙ ap (λ o. unwrap_or o 0) c.used.ensures) in
+    done_as p (record p { objects = c.set_peak.new.self }) c.done.new.self c.args.moment (QuotaResetpeak c.args.path.now) _ c.set_peak.new.self.quotas p.scans.queue R.unvisited c.requires.late
+    (quota_due R _ _ (on_folder _ _ _ _ c.quota.result at c.quota.ensures c.if-is_none.ensures))
+    (ap (λ (qs : List QuotaRow). record R { quotas = qs })
+    (ap (λ n. with_change folder_of n (reset p.tree.size R c.args.moment) p.objects.quotas) (target_is R.nodes c.args.path.now _ at.resolved) ∙ sym is))
+    refl refl refl refl refl
+    (sym (ap (λ b. if b then left p.tree.nodes p.scans else scan_begun p.tree.nodes p.scans.queue) (same_own p.scans.queue)))
+    c.done.ensures.ended c.done.ensures.answer
+
+pub returns-clause-sound : goal.returns-clause-sound
+returns-clause-sound g c =
+    sound_ended (record c.args.self.now { objects = c.set_peak.new.self }) c.done.new.self c.args.moment c.done.ensures.ended c.done.ensures.counted c.requires.whole.sound.scanning

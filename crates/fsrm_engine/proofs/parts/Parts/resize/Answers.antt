@@ -1,0 +1,119 @@
+use Rattle.std.proofs.Common.{refl, ap, sym, ◌∙◌, arith}
+use Rattle.fsrm_model.specs.declared.command.Deed.TheVariants.{File}
+use Rattle.fsrm_model.specs.declared.command.FileOp.TheVariants.{Resize}
+use Rattle.fsrm_model.specs.FileOps.{resized}
+use Rattle.fsrm_base.specs.Keyed.{with_change}
+use Rattle.fsrm_model.specs.Tree.{number}
+use Rattle.fsrm_model.proofs.Resolves.{resolved}
+use Rattle.volume_tree.specs.Volume.{Volume}
+use Rattle.fsrm_engine.specs.Faults.{refused_answer}
+use Rattle.fsrm_engine.proofs.StepLaws.{refused_as}
+use Rattle.fsrm_engine.proofs.PlaceLaws.{shown_folder, target_is}
+use Rattle.fsrm_engine.proofs.FitLaws.{fits_plus}
+use Rattle.fsrm_engine.proofs.GrowthLaws.{owned, resize_changes, resize_due, admitted, refused_by_quota, file_parent, file_height, there_resized, resized_height, resize_done}
+use Rattle.fsrm_engine.proofs.FollowLaws.{goes_to, volume_is, shown_length, op_done}
+use Rattle.fsrm_engine.proofs.WholeLaws.{sound_ended}
+use Rattle.fsrm_engine.proofs.parts.Parts.resize.Goals as goal
+
+pub resize-requires-clause-there : goal.resize-requires-clause-there
+resize-requires-clause-there g c = c.in-Some.ensures.file.there
+
+pub admit-requires-clause-owned : goal.admit-requires-clause-owned
+admit-requires-clause-owned g c = owned c.args.self.now.tree.size c.args.self.now.tree.nodes c.args.self.now.objects.quotas c.args.self.now.usage c.requires.whole.sound.counted.sums
+
+pub admit-requires-clause-change : goal.admit-requires-clause-change
+admit-requires-clause-change g c =
+    let v = c.args.self.now.tree in
+    let p = file_parent v.size v.nodes c.args.path.now c.in-Some.file c.requires.whole.sound.counted.volume c.in-Some.ensures.file in
+    record { from = p; to = p }
+
+pub admit-requires-clause-fits : goal.admit-requires-clause-fits
+admit-requires-clause-fits g c =
+    let p = c.args.self.now in
+    let e = c.requires.whole.sound.counted in
+    fits_plus p.tree.size p.tree.nodes p.tree.nodes p.objects.quotas p.usage _ e.volume e.legal e.are_quotas e.sums c.allocated-2.ensures.small
+
+pub returns-in-Err-clause-ok : goal.returns-in-Err-clause-ok
+returns-in-Err-clause-ok g c =
+    let p = c.args.self.now in
+    let e = c.requires.whole.sound.counted in
+    let f = c.in-Some.ensures.file in
+    let changes = resize_changes p.tree.size p.tree.nodes p.objects.quotas c.args.path.now c.in-Some.file c.args.length c.args.moment c.allocated.result c.allocated-2.result e.volume e.are_quotas f c.allocated.ensures.space c.allocated-2.ensures.space in
+    refused_as p c.args.moment (File (Resize c.args.path.now c.args.length)) _ _ c.requires.late
+    (resize_due p c.args.moment c.args.path.now c.in-Some.file c.args.length e.volume f
+    ∙ refused_by_quota p _ _ c.in-Err.exceeded e changes c.in-Err.ensures.refused)
+    (c.refused-in-Err.ensures ∙ ap refused_answer c.exceeded_by.ensures)
+
+pub returns-in-Err-clause-looks : goal.returns-in-Err-clause-looks
+returns-in-Err-clause-looks g c =
+    let v = c.args.self.now.tree in
+    omega (arith, c.in-Some.ensures.looks, c.in-Err.ensures.looks, file_height v.size v.nodes c.args.path.now c.in-Some.file c.requires.whole.sound.counted.volume c.in-Some.ensures.file)
+
+pub charge-requires-clause-change : goal.charge-requires-clause-change
+charge-requires-clause-change g c =
+    let v = c.args.self.now.tree in
+    let p = there_resized v c.resize.new.self c.in-Some.file.number c.args.length c.args.moment c.in-Some.file.parent c.resize.ensures.made (file_parent v.size v.nodes c.args.path.now c.in-Some.file c.requires.whole.sound.counted.volume c.in-Some.ensures.file) in
+    record { from = p; to = p }
+
+pub charge-requires-clause-fits : goal.charge-requires-clause-fits
+charge-requires-clause-fits g c =
+    let p = c.args.self.now in
+    let e = c.requires.whole.sound.counted in
+    fits_plus p.tree.size p.tree.nodes c.resize.new.self.nodes p.objects.quotas p.usage _ e.volume e.legal e.are_quotas e.sums c.allocated-2.ensures.small
+
+pub done-requires-clause-counted : goal.done-requires-clause-counted
+done-requires-clause-counted g c =
+    let p = c.args.self.now in
+    (resize_done p.tree c.resize.new.self p.objects.quotas c.charge.new.objects p.usage c.charge.new.usage c.args.path.now c.in-Some.file c.args.length c.args.moment c.allocated.result c.allocated-2.result
+    c.requires.whole.sound.counted c.in-Some.ensures.file c.allocated.ensures.space c.allocated-2.ensures.space c.resize.ensures.made c.resize.ensures.kept c.requires.moment c.charge.ensures.counters c.charge.ensures.quotas).engine
+
+pub returns-clause-ok : goal.returns-clause-ok
+returns-clause-ok g c =
+    let p = c.args.self.now in
+    let e = c.requires.whole.sound.counted in
+    let f = c.in-Some.ensures.file in
+    let w = c.resize.new.self in
+    let made = c.resize.ensures.made in
+    let changes = resize_changes p.tree.size p.tree.nodes p.objects.quotas c.args.path.now c.in-Some.file c.args.length c.args.moment c.allocated.result c.allocated-2.result e.volume e.are_quotas f c.allocated.ensures.space c.allocated-2.ensures.space in
+    let d = resize_done p.tree w p.objects.quotas c.charge.new.objects p.usage c.charge.new.usage c.args.path.now c.in-Some.file c.args.length c.args.moment c.allocated.result c.allocated-2.result
+    e f c.allocated.ensures.space c.allocated-2.ensures.space made c.resize.ensures.kept c.requires.moment c.charge.ensures.counters c.charge.ensures.quotas in
+    op_done p (record p { tree = w; scans = c.follow_resize.new.self; usage = c.charge.new.usage; objects = c.charge.new.objects }) c.done.new.self c.args.moment (Resize c.args.path.now c.args.length) c.done.result p.objects.quotas _ c.requires.late
+    (resize_due p c.args.moment c.args.path.now c.in-Some.file c.args.length e.volume f ∙ admitted p _ _ e changes c.in_default-admit.ensures.admitted)
+    (ap (λ n. with_change number n (resized c.args.length c.args.moment) p.tree.nodes) (target_is p.tree.nodes c.args.path.now _ f.resolved) ∙ sym (ap (λ (u : Volume). u.nodes) made))
+    refl refl (λ k. refl)
+    (goes_to _ _ w _ _ made (c.follow_resize.ensures.follows c.args.moment (volume_is _ _ made c.resize.ensures.kept)))
+    (ap (λ (u : Volume). u.size) made) d.raised_are c.done.ensures.ended c.done.ensures.answer
+
+pub returns-clause-sound : goal.returns-clause-sound
+returns-clause-sound g c =
+    let made = c.resize.ensures.made in
+    sound_ended (record c.args.self.now { tree = c.resize.new.self; scans = c.follow_resize.new.self; usage = c.charge.new.usage; objects = c.charge.new.objects }) c.done.new.self c.args.moment c.done.ensures.ended c.done.ensures.counted
+    (goes_to _ _ c.resize.new.self _ _ made (c.follow_resize.ensures.follows c.args.moment (volume_is _ _ made c.resize.ensures.kept))).scanning
+
+pub returns-clause-looks : goal.returns-clause-looks
+returns-clause-looks g c =
+    let v = c.args.self.now.tree in
+    let k = c.requires.whole.sound.counted.volume in
+    let f = c.in-Some.ensures.file in
+    omega (
+      arith,
+      c.in-Some.ensures.looks,
+      c.in_default-admit.ensures.looks,
+      c.follow_resize.ensures.looks,
+      c.resize.ensures.count,
+      c.charge.ensures.looks,
+      (resolved v.size v.nodes c.args.path.now c.in-Some.file.number k f.resolved).deep,
+      file_height v.size v.nodes c.args.path.now c.in-Some.file k f,
+      resized_height v c.resize.new.self c.in-Some.file.number c.args.length c.args.moment c.in-Some.file.parent c.resize.ensures.made,
+    )
+
+pub follow_resize-requires-clause-there : goal.follow_resize-requires-clause-there
+follow_resize-requires-clause-there g c = c.in-Some.ensures.file.there
+
+pub follow_resize-requires-clause-file : goal.follow_resize-requires-clause-file
+follow_resize-requires-clause-file g c =
+    let f = c.in-Some.ensures.file in
+    shown_folder c.args.self.now.tree.nodes c.in-Some.file.number c.in-Some.file f.shows ∙ f.file
+
+pub follow_resize-requires-clause-own : goal.follow_resize-requires-clause-own
+follow_resize-requires-clause-own g c = λ row found. shown_length c.args.self.now.tree.nodes c.in-Some.file.number c.in-Some.file row c.in-Some.ensures.file.shows found

@@ -1,0 +1,124 @@
+//! What a command does, of a moment that isn't too late.
+
+ghost use Rattle.std.specs.Prelude.{◌≡◌, ◌+◌, ◌≤◌, true, IfOk, OnErr};
+ghost use Rattle.fsrm_model.specs.declared.command.Deed.TheVariants.{File};
+ghost use Rattle.fsrm_model.specs.Cost.{deed_cost};
+ghost use Rattle.fsrm_model.specs.Limits.{latest_moment};
+ghost use Rattle.fsrm_model.specs.Valued.{is_op, is_command};
+ghost use Rattle.fsrm_engine.specs.Machine.{Does, IsSound, IsWhole, rows_of};
+
+use crate::parts::Parts;
+use fsrm_model::{Answer, Command, Deed, FileOp, Ledger, NoMemory, Steps};
+use std::alloc::Global;
+
+impl Parts {
+    // A file operation.
+    fn operate<L: Ledger>(
+        &mut self,
+        alloc: Global,
+        op: &FileOp,
+        moment: u64,
+        steps: &mut Steps<L>,
+    ) -> Result<Answer, NoMemory>
+        requires whole { IsWhole self.old }
+        requires valid { is_op op.now ≡ true }
+        requires moment { moment ≤ latest_moment }
+        requires late { self.old.last_moment ≤ moment }
+        ensures ok { IfOk result (λ answer. Does self.old self.new moment (File op.now) answer) }
+        ensures err { OnErr result (self.new ≡ self.old) }
+        ensures sound { IsSound self.new }
+        ensures looks { steps.new ≤ steps.old + deed_cost (rows_of self.old) (File op.now) }
+    {
+        match op {
+            FileOp::Mkdir { path, owner } => self.mkdir(path, *owner, moment, steps),
+            FileOp::Create {
+                path,
+                length,
+                owner,
+            } => self.create(path, *length, *owner, moment, steps),
+            FileOp::Resize { path, length } => Ok(self.resize(path, *length, moment, steps)),
+            FileOp::Touch { path } => Ok(self.touch(path, moment, steps)),
+            FileOp::Move { from, to } => self.move_path(alloc, from, to, moment, steps),
+            FileOp::Remove { path } => Ok(self.remove(path, moment, steps)),
+        }
+    }
+
+    /// Does a file operation, and keeps the rows valid.
+    pub(crate) fn file_op<L: Ledger>(
+        &mut self,
+        alloc: Global,
+        op: &FileOp,
+        moment: u64,
+        steps: &mut Steps<L>,
+    ) -> Result<Answer, NoMemory>
+        requires whole { IsWhole self.old }
+        requires valid { is_op op.now ≡ true }
+        requires moment { moment ≤ latest_moment }
+        requires late { self.old.last_moment ≤ moment }
+        ensures ok { IfOk result (λ answer. Does self.old self.new moment (File op.now) answer) }
+        ensures err { OnErr result (self.new ≡ self.old) }
+        ensures whole { IsWhole self.new }
+        ensures looks { steps.new ≤ steps.old + deed_cost (rows_of self.old) (File op.now) }
+    {
+        self.operate(alloc, op, moment, steps)
+    }
+
+    // A command.
+    fn carry_out<L: Ledger>(
+        &mut self,
+        alloc: Global,
+        command: &Command,
+        steps: &mut Steps<L>,
+    ) -> Result<Answer, NoMemory>
+        requires whole { IsWhole self.old }
+        requires valid { is_command command.now ≡ true }
+        requires late { self.old.last_moment ≤ command.now.moment }
+        ensures ok { IfOk result (λ answer. Does self.old self.new command.now.moment command.now.deed answer) }
+        ensures err { OnErr result (self.new ≡ self.old) }
+        ensures sound { IsSound self.new }
+        ensures looks { steps.new ≤ steps.old + deed_cost (rows_of self.old) command.now.deed }
+    {
+        let moment = command.moment;
+        match &command.deed {
+            Deed::File(op) => self.operate(alloc, op, moment, steps),
+            Deed::Usage { path } => self.sum(alloc, path, moment, steps),
+            Deed::Step { n } => Ok(self.go_on(*n, moment, steps)),
+            Deed::QuotaAdd {
+                path,
+                limit,
+                enforce,
+                enabled,
+                ..
+            } => self.quota_add(alloc, path, *limit, *enforce, *enabled, moment, steps),
+            Deed::QuotaModify {
+                path,
+                limit,
+                enforce,
+                enabled,
+                ..
+            } => self.quota_modify(alloc, path, *limit, *enforce, *enabled, moment, steps),
+            Deed::QuotaDelete { path } => Ok(self.quota_delete(path, moment, steps)),
+            Deed::QuotaScan { path } => self.quota_scan(path, moment, steps),
+            Deed::QuotaResetpeak { path } => Ok(self.quota_resetpeak(path, moment, steps)),
+            Deed::QuotaList { path } => Ok(self.quota_list(path, moment, steps)),
+        }
+    }
+
+    /// Does a command, and keeps the rows valid.
+    pub(crate) fn take<L: Ledger>(
+        &mut self,
+        alloc: Global,
+        command: &Command,
+        steps: &mut Steps<L>,
+    ) -> Result<Answer, NoMemory>
+        requires whole { IsWhole self.old }
+        requires valid { is_command command.now ≡ true }
+        requires late { self.old.last_moment ≤ command.now.moment }
+        ensures ok { IfOk result (λ answer. Does self.old self.new command.now.moment command.now.deed answer) }
+        ensures err { OnErr result (self.new ≡ self.old) }
+        ensures whole { IsWhole self.new }
+        ensures looks { steps.new ≤ steps.old + deed_cost (rows_of self.old) command.now.deed }
+    {
+        self.carry_out(alloc, command, steps)
+    }
+}
