@@ -1,6 +1,6 @@
 use Rattle.std.proofs.Common.{List, ap}
 use Rattle.fsrm_model.specs.declared.row.QuotaRow.{QuotaRow}
-use Rattle.fsrm_engine.proofs.RaiseLaws.{none_above}
+use Rattle.fsrm_engine.proofs.tables.RaiseLaws.{none_above}
 use Rattle.fsrm_engine.proofs.charging.charge.Goals as goal
 
 pub returns-in_default-clause-quotas : goal.returns-in_default-clause-quotas

@@ -1,5 +1,5 @@
 use Rattle.std.proofs.Common.{sym}
-use Rattle.fsrm_engine.proofs.IdleLaws.{quota_there, quota_absent}
+use Rattle.fsrm_engine.proofs.operations.IdleLaws.{quota_there, quota_absent}
 use Rattle.fsrm_engine.proofs.charging.drop_row.Goals as goal
 
 pub drop_quota-requires : goal.drop_quota-requires

@@ -1,5 +1,5 @@
 use Rattle.std.proofs.Common.{sym}
-use Rattle.fsrm_engine.proofs.IdleLaws.{counter_there, counter_absent}
+use Rattle.fsrm_engine.proofs.operations.IdleLaws.{counter_there, counter_absent}
 use Rattle.fsrm_engine.proofs.charging.end_count.Goals as goal
 
 pub end-requires : goal.end-requires

@@ -5,7 +5,7 @@ use Rattle.fsrm_model.specs.Quota.{folder_of}
 use Rattle.fsrm_base.proofs.Order.{ascending-change}
 use Rattle.fsrm_objects.specs.Tables.{Tables}
 use Rattle.fsrm_engine.specs.Peaks.{raised}
-use Rattle.fsrm_engine.proofs.RaiseLaws.{RaisedTo, raised_none, raised_next, raised_whole, raised_keeps}
+use Rattle.fsrm_engine.proofs.tables.RaiseLaws.{RaisedTo, raised_none, raised_next, raised_whole, raised_keeps}
 use Rattle.fsrm_engine.proofs.charging.raise_all.Goals as goal
 
 pub loop-place-init : goal.loop-place-init

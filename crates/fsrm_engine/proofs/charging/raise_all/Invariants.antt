@@ -2,7 +2,7 @@ use Rattle.std.proofs.Common.{◌≡◌, true}
 use Rattle.fsrm_base.specs.Keyed.{is_ascending}
 use Rattle.fsrm_model.specs.Quota.{folder_of}
 use Rattle.fsrm_engine.specs.Peaks.{raised}
-use Rattle.fsrm_engine.proofs.RaiseLaws.{RaisedTo}
+use Rattle.fsrm_engine.proofs.tables.RaiseLaws.{RaisedTo}
 use Rattle.fsrm_engine.proofs.charging.raise_all.Given as goal
 
 -- the peaks before this place were raised

@@ -3,7 +3,7 @@ use Rattle.std.specs.Option.{option_copied}
 use Rattle.fsrm_model.specs.declared.row.QuotaRow.{QuotaRow}
 use Rattle.fsrm_model.specs.Quota.{folder_of}
 use Rattle.fsrm_base.proofs.Look.{found_has}
-use Rattle.fsrm_engine.proofs.RaiseLaws.{raise_none, raise_absent, raise_low, raise_high}
+use Rattle.fsrm_engine.proofs.tables.RaiseLaws.{raise_none, raise_absent, raise_low, raise_high}
 use Rattle.fsrm_engine.proofs.charging.raise_peak.Goals as goal
 
 pub returns-in_default : goal.returns-in_default

@@ -9,7 +9,7 @@ use Rattle.fsrm_base.proofs.Order.{ascending-change}
 use Rattle.fsrm_objects.specs.Tables.{Tables}
 use Rattle.fsrm_engine.specs.Peaks.{raised}
 use Rattle.fsrm_model.proofs.ClimbRows.{passed_rows, passed_none, climbed_step, climbed_root}
-use Rattle.fsrm_engine.proofs.RaiseLaws.{raised_keeps, up_is, up_on}
+use Rattle.fsrm_engine.proofs.tables.RaiseLaws.{raised_keeps, up_is, up_on}
 use Rattle.fsrm_engine.proofs.charging.raise_peaks.Goals as goal
 
 pub loop-at-init : goal.loop-at-init

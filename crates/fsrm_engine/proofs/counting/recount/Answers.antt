@@ -1,6 +1,6 @@
 use Rattle.std.proofs.Common.{true, false}
 use Rattle.fsrm_base.proofs.TestLaws.{clash}
-use Rattle.fsrm_engine.proofs.CountingLaws.{counter_found}
+use Rattle.fsrm_engine.proofs.tables.CountingLaws.{counter_found}
 use Rattle.fsrm_engine.proofs.counting.recount.Goals as goal
 
 pub begin-requires-clause-free : goal.begin-requires-clause-free

@@ -4,7 +4,7 @@ use Rattle.std.proofs.lemmas.Iterator.Adapters.{YieldsList-from_rev_slice}
 use Rattle.std.proofs.lemmas.List.{map-append, length_push}
 use Rattle.std.specs.Prelude.{reverse}
 use Rattle.std.specs.String.{string_bytes}
-use Rattle.fsrm_engine.proofs.PathTexts.{turned_there, there_at, name_pushed, joined_text}
+use Rattle.fsrm_engine.proofs.walks.PathTexts.{turned_there, there_at, name_pushed, joined_text}
 use Rattle.fsrm_engine.proofs.path_text.joined.Goals as goal
 use Rattle.fsrm_engine.proofs.path_text.joined.Goals.{then-is_empty, else-is_empty}
 

@@ -1,5 +1,5 @@
 use Rattle.std.proofs.Common.{arith}
-use Rattle.fsrm_engine.proofs.PathTexts.{up_there, up_there_more, up_way, up_smaller, up_length, way_short}
+use Rattle.fsrm_engine.proofs.walks.PathTexts.{up_there, up_there_more, up_way, up_smaller, up_length, way_short}
 use Rattle.fsrm_engine.proofs.path_text.way_up.Goals as goal
 
 pub returns-in_err-push-clause-looks : goal.returns-in_err-push-clause-looks

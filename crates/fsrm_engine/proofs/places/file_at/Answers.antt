@@ -1,5 +1,5 @@
 use Rattle.std.proofs.Common.{sym}
-use Rattle.fsrm_engine.proofs.PlaceLaws.{file_found, has_resolved}
+use Rattle.fsrm_engine.proofs.steps.PlaceLaws.{file_found, has_resolved}
 use Rattle.fsrm_engine.proofs.places.file_at.Goals as goal
 
 pub node-view-requires : goal.node-view-requires

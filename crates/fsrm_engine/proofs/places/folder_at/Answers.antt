@@ -1,5 +1,5 @@
 use Rattle.std.proofs.Common.{sym}
-use Rattle.fsrm_engine.proofs.PlaceLaws.{has_resolved}
+use Rattle.fsrm_engine.proofs.steps.PlaceLaws.{has_resolved}
 use Rattle.fsrm_engine.proofs.places.folder_at.Goals as goal
 
 pub node-requires : goal.node-requires

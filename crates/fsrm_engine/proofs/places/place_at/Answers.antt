@@ -1,5 +1,5 @@
 use Rattle.std.proofs.Common.{sym}
-use Rattle.fsrm_engine.proofs.PlaceLaws.{place_found, has_resolved}
+use Rattle.fsrm_engine.proofs.steps.PlaceLaws.{place_found, has_resolved}
 use Rattle.fsrm_engine.proofs.places.place_at.Goals as goal
 
 pub node-requires : goal.node-requires

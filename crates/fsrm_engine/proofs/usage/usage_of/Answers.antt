@@ -1,6 +1,6 @@
 use Rattle.std.proofs.Common.{◌+◌, ◌≤◌, ◌*◌, arith}
 use Rattle.fsrm_model.specs.Limits.{longest_file}
-use Rattle.fsrm_engine.proofs.WalkLaws.{last_there, rest_there, looks_at_visit, sum_at_visit}
+use Rattle.fsrm_engine.proofs.walks.WalkLaws.{last_there, rest_there, looks_at_visit, sum_at_visit}
 use Rattle.fsrm_engine.proofs.usage.usage_of.Goals as goal
 
 pub visit-requires-clause-there : goal.visit-requires-clause-there

@@ -3,7 +3,7 @@ use Rattle.fsrm_model.specs.Tree.{under, usage}
 use Rattle.fsrm_engine.specs.Walk.{usage_of_all, under_all, AreThere}
 use Rattle.fsrm_engine.proofs.usage.usage_of.Given as goal
 
--- each visit takes 2 looks, and one for each child that it puts behind
+-- each visit takes 2 looks, and one for each child that it puts after the others
 abbrev pub invariant-loop-next : goal.invariant-loop-next
 invariant-loop-next g l = record {
   there : AreThere l.tree.nodes l.pending.items;

@@ -1,6 +1,6 @@
 use Rattle.std.proofs.Common.{ℕ, List, ◌++◌, ◌∙◌, length, length-append, ap, arith}
 use Rattle.volume_tree.proofs.Children.{children_many, numbers_many}
-use Rattle.fsrm_engine.proofs.WalkLaws.{folder_sum, visited_count, visited_there, children_few, file_sum, file_count}
+use Rattle.fsrm_engine.proofs.walks.WalkLaws.{folder_sum, visited_count, visited_there, children_few, file_sum, file_count}
 use Rattle.fsrm_engine.proofs.usage.visit.Goals as goal
 
 pub returns-in_ok-extend_from_slice-clause-sum : goal.returns-in_ok-extend_from_slice-clause-sum

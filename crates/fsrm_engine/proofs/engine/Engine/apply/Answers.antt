@@ -1,6 +1,6 @@
 use Rattle.std.proofs.Common.{arith}
 use Rattle.fsrm_engine.specs.Machine.{machine_of}
-use Rattle.fsrm_engine.proofs.WholeLaws.{result_named, seen_ok, seen_err, seen_cost}
+use Rattle.fsrm_engine.proofs.steps.WholeLaws.{result_named, seen_ok, seen_err, seen_cost}
 use Rattle.fsrm_engine.proofs.engine.Engine.apply.Goals as goal
 
 pub returns-clause-ok : goal.returns-clause-ok

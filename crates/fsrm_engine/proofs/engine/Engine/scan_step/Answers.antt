@@ -4,7 +4,7 @@ use Rattle.fsrm_model.specs.Step.{step}
 use Rattle.fsrm_model.proofs.EachCommand.{kept_valid}
 use Rattle.fsrm_model.proofs.ScanKept.{step_kept}
 use Rattle.fsrm_engine.specs.Machine.{Machine, Takes, machine_of, rows_of}
-use Rattle.fsrm_engine.proofs.WholeLaws.{takes_named, whole_after, seen_cost}
+use Rattle.fsrm_engine.proofs.steps.WholeLaws.{takes_named, whole_after, seen_cost}
 use Rattle.fsrm_engine.proofs.engine.Engine.scan_step.Goals as goal
 
 pub invariant_of-self : goal.invariant_of-self

@@ -1,5 +1,5 @@
 use Rattle.std.proofs.Common.{◌<◌, ◌^◌, arith, rules}
-use Rattle.fsrm_engine.proofs.QueueLaws.{few_queued}
+use Rattle.fsrm_engine.proofs.tables.QueueLaws.{few_queued}
 use Rattle.fsrm_engine.proofs.engine.Engine.settings.Goals as goal
 
 pub overflow_cast-result : goal.overflow_cast-result

@@ -3,7 +3,7 @@ use Rattle.fsrm_base.specs.Keyed.{is_ascending}
 use Rattle.fsrm_base.proofs.Look.{has_found}
 use Rattle.fsrm_model.specs.Quota.{folder_of}
 use Rattle.fsrm_objects.specs.Tables.{Tables}
-use Rattle.fsrm_engine.proofs.CountingLaws.{has_counter, room_for, completed_are, completes, completed_as}
+use Rattle.fsrm_engine.proofs.tables.CountingLaws.{has_counter, room_for, completed_are, completes, completed_as}
 use Rattle.fsrm_engine.proofs.parts.Parts.complete.Goals as goal
 
 pub begin-requires-clause-free : goal.begin-requires-clause-free

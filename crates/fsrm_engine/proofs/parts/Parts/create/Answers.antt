@@ -5,14 +5,14 @@ use Rattle.fsrm_model.proofs.ValidLaws.{folder_has}
 use Rattle.volume_tree.specs.Volume.{Volume, new_fault}
 use Rattle.fsrm_engine.specs.Faults.{refused_answer}
 use Rattle.fsrm_engine.specs.Machine.{IsSound}
-use Rattle.fsrm_engine.proofs.StepLaws.{is_fault, refused_as, refused_by_as}
-use Rattle.fsrm_engine.proofs.PlaceLaws.{place_depth}
-use Rattle.fsrm_engine.proofs.NewLaws.{create_due, made_is}
-use Rattle.fsrm_engine.proofs.FitLaws.{fits_plus}
-use Rattle.fsrm_engine.proofs.GrowthLaws.{owned, admitted, refused_by_quota, due_none, due_quota}
-use Rattle.fsrm_engine.proofs.MakeLaws.{make_changes, make_done, made_height, there_made}
-use Rattle.fsrm_engine.proofs.FollowLaws.{is_made, back_scans, left_back, made_length, made_chain, op_done}
-use Rattle.fsrm_engine.proofs.WholeLaws.{sound_ended}
+use Rattle.fsrm_engine.proofs.steps.StepLaws.{is_fault, refused_as, refused_by_as}
+use Rattle.fsrm_engine.proofs.steps.PlaceLaws.{place_depth}
+use Rattle.fsrm_engine.proofs.operations.NewLaws.{create_due, made_is}
+use Rattle.fsrm_engine.proofs.operations.FitLaws.{fits_plus}
+use Rattle.fsrm_engine.proofs.operations.GrowthLaws.{owned, admitted, refused_by_quota, due_none, due_quota}
+use Rattle.fsrm_engine.proofs.operations.MakeLaws.{make_changes, make_done, made_height, there_made}
+use Rattle.fsrm_engine.proofs.operations.FollowLaws.{is_made, back_scans, left_back, made_length, made_chain, op_done}
+use Rattle.fsrm_engine.proofs.steps.WholeLaws.{sound_ended}
 use Rattle.fsrm_engine.proofs.parts.Parts.create.Goals as goal
 
 pub admit-requires-clause-owned : goal.admit-requires-clause-owned

@@ -5,7 +5,7 @@ use Rattle.fsrm_model.specs.QuotaStates.{queued}
 use Rattle.scan_queue.specs.Courses.{Course}
 use Rattle.fsrm_engine.specs.declared.parts.Parts.{Parts}
 use Rattle.fsrm_engine.specs.Machine.{IsSound, recounted}
-use Rattle.fsrm_engine.proofs.TurnLaws.{turned, turned_sound, turned_from, taken_back}
+use Rattle.fsrm_engine.proofs.tables.TurnLaws.{turned, turned_sound, turned_from, taken_back}
 use Rattle.fsrm_engine.proofs.parts.Parts.enlist.Goals as goal
 
 pub returns-clause-listed : goal.returns-clause-listed

@@ -1,7 +1,7 @@
 use Rattle.fsrm_model.specs.declared.command.Deed.TheVariants.{File}
 use Rattle.fsrm_model.proofs.EachCommand.{deed_valid}
 use Rattle.fsrm_engine.specs.Machine.{rows_of}
-use Rattle.fsrm_engine.proofs.WholeLaws.{result_whole}
+use Rattle.fsrm_engine.proofs.steps.WholeLaws.{result_whole}
 use Rattle.fsrm_engine.proofs.parts.Parts.file_op.Goals as goal
 
 pub returns-clause-whole : goal.returns-clause-whole

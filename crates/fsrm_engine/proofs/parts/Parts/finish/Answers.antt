@@ -1,7 +1,7 @@
 use Rattle.std.proofs.Common.{ap, ◌∙◌}
 use Rattle.std.specs.Prelude.{unwrap_or}
 use Rattle.fsrm_model.specs.Tree.{usage}
-use Rattle.fsrm_engine.proofs.ScanSteps.{head_quota, head_uncounted, finished, finished_sound}
+use Rattle.fsrm_engine.proofs.steps.ScanSteps.{head_quota, head_uncounted, finished, finished_sound}
 use Rattle.fsrm_engine.proofs.parts.Parts.finish.Goals as goal
 
 pub complete-requires-clause-there : goal.complete-requires-clause-there

@@ -1,5 +1,5 @@
 use Rattle.std.proofs.Common.{sym, ◌∙◌}
-use Rattle.fsrm_engine.proofs.ScanSteps.{step_passing, step_ending, tested}
+use Rattle.fsrm_engine.proofs.steps.ScanSteps.{step_passing, step_ending, tested}
 use Rattle.fsrm_engine.proofs.parts.Parts.go_on.Goals as goal
 
 pub returns-then-not-done-clause-ok : goal.returns-then-not-done-clause-ok

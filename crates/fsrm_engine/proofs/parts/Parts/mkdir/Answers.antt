@@ -4,11 +4,11 @@ use Rattle.fsrm_model.specs.declared.command.FileOp.TheVariants.{Mkdir}
 use Rattle.fsrm_model.specs.FileOps.{made_node, plain}
 use Rattle.volume_tree.specs.Volume.{Volume}
 use Rattle.fsrm_engine.specs.Machine.{IsSound}
-use Rattle.fsrm_engine.proofs.IdleLaws.{idle_made}
-use Rattle.fsrm_engine.proofs.StepLaws.{is_fault, refused_by_as, tree_first}
-use Rattle.fsrm_engine.proofs.NewLaws.{mkdir_due, made_is}
-use Rattle.fsrm_engine.proofs.FollowLaws.{is_made, back_scans, mkdir_next, op_done}
-use Rattle.fsrm_engine.proofs.WholeLaws.{sound_ended}
+use Rattle.fsrm_engine.proofs.operations.IdleLaws.{idle_made}
+use Rattle.fsrm_engine.proofs.steps.StepLaws.{is_fault, refused_by_as, tree_first}
+use Rattle.fsrm_engine.proofs.operations.NewLaws.{mkdir_due, made_is}
+use Rattle.fsrm_engine.proofs.operations.FollowLaws.{is_made, back_scans, mkdir_next, op_done}
+use Rattle.fsrm_engine.proofs.steps.WholeLaws.{sound_ended}
 use Rattle.fsrm_engine.proofs.parts.Parts.mkdir.Goals as goal
 
 pub returns-in-Err-may_create-clause-ok : goal.returns-in-Err-may_create-clause-ok

@@ -9,13 +9,13 @@ use Rattle.fsrm_model.proofs.Resolves.{resolved}
 use Rattle.fsrm_model.proofs.ValidLaws.{folder_has}
 use Rattle.volume_tree.specs.Volume.{Volume, Move as Moving, move_fault}
 use Rattle.fsrm_engine.specs.Faults.{refused_answer}
-use Rattle.fsrm_engine.proofs.StepLaws.{refused_as, refused_by_as}
-use Rattle.fsrm_engine.proofs.PlaceLaws.{place_depth, has_resolved}
-use Rattle.fsrm_engine.proofs.MoveLaws.{move_due, move_root, stray_due}
-use Rattle.fsrm_engine.proofs.GrowthLaws.{owned, admitted, refused_by_quota, due_none, due_quota}
-use Rattle.fsrm_engine.proofs.MoveKept.{moves_to, move_changes, move_done, ready_apart, from_height, to_height, left_height, parent_there, there_moved, move_room, move_fits, moved_fits}
-use Rattle.fsrm_engine.proofs.FollowLaws.{goes_to, volume_is, made_ready, move_next, move_nodes, op_done}
-use Rattle.fsrm_engine.proofs.WholeLaws.{sound_ended}
+use Rattle.fsrm_engine.proofs.steps.StepLaws.{refused_as, refused_by_as}
+use Rattle.fsrm_engine.proofs.steps.PlaceLaws.{place_depth, has_resolved}
+use Rattle.fsrm_engine.proofs.operations.MoveLaws.{move_due, move_root, stray_due}
+use Rattle.fsrm_engine.proofs.operations.GrowthLaws.{owned, admitted, refused_by_quota, due_none, due_quota}
+use Rattle.fsrm_engine.proofs.operations.MoveKept.{moves_to, move_changes, move_done, ready_apart, from_height, to_height, left_height, parent_there, there_moved, move_room, move_fits, moved_fits}
+use Rattle.fsrm_engine.proofs.operations.FollowLaws.{goes_to, volume_is, made_ready, move_next, move_nodes, op_done}
+use Rattle.fsrm_engine.proofs.steps.WholeLaws.{sound_ended}
 use Rattle.fsrm_engine.proofs.parts.Parts.move_path.Goals as goal
 
 pub moved_bytes-requires-clause-there : goal.moved_bytes-requires-clause-there

@@ -1,6 +1,6 @@
 use Rattle.std.proofs.Common.{ap}
 use Rattle.fsrm_objects.specs.Tables.{Tables}
-use Rattle.fsrm_engine.proofs.CountingLaws.{put_engine, room_for, recounted_as}
+use Rattle.fsrm_engine.proofs.tables.CountingLaws.{put_engine, room_for, recounted_as}
 use Rattle.fsrm_engine.proofs.parts.Parts.put.Goals as goal
 
 pub recount-requires : goal.recount-requires

@@ -10,10 +10,10 @@ use Rattle.fsrm_model.specs.QuotaStates.{start, with_quota}
 use Rattle.fsrm_model.specs.QuotaWork.{new_quota}
 use Rattle.fsrm_model.specs.Tree.{usage}
 use Rattle.fsrm_engine.specs.Machine.{rows_of}
-use Rattle.fsrm_engine.proofs.PlaceLaws.{target_is}
-use Rattle.fsrm_engine.proofs.StateLaws.{add_checks, table_is, table_has, lacks_of, first_empty, empty_folder}
-use Rattle.fsrm_engine.proofs.StepLaws.{refused_as, done_settled}
-use Rattle.fsrm_engine.proofs.WholeLaws.{sound_ended}
+use Rattle.fsrm_engine.proofs.steps.PlaceLaws.{target_is}
+use Rattle.fsrm_engine.proofs.tables.StateLaws.{add_checks, table_is, table_has, lacks_of, first_empty, empty_folder}
+use Rattle.fsrm_engine.proofs.steps.StepLaws.{refused_as, done_settled}
+use Rattle.fsrm_engine.proofs.steps.WholeLaws.{sound_ended}
 use Rattle.fsrm_engine.proofs.parts.Parts.quota_add.Goals as goal
 
 pub returns-then-quota_count-ge-MOST_QUOTAS-clause-ok :

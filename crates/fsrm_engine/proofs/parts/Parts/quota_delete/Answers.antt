@@ -4,11 +4,11 @@ use Rattle.fsrm_base.specs.Keyed.{without_row}
 use Rattle.fsrm_base.specs.Numbers.{without_number}
 use Rattle.fsrm_model.specs.Quota.{folder_of}
 use Rattle.fsrm_engine.specs.Machine.{rows_of}
-use Rattle.fsrm_engine.proofs.PlaceLaws.{target_is}
-use Rattle.fsrm_engine.proofs.QuotaLaws.{on_folder, quota_due}
-use Rattle.fsrm_engine.proofs.StepLaws.{done_settled}
-use Rattle.fsrm_engine.proofs.TurnLaws.{turned, turned_sound}
-use Rattle.fsrm_engine.proofs.WholeLaws.{sound_ended}
+use Rattle.fsrm_engine.proofs.steps.PlaceLaws.{target_is}
+use Rattle.fsrm_engine.proofs.tables.QuotaLaws.{on_folder, quota_due}
+use Rattle.fsrm_engine.proofs.steps.StepLaws.{done_settled}
+use Rattle.fsrm_engine.proofs.tables.TurnLaws.{turned, turned_sound}
+use Rattle.fsrm_engine.proofs.steps.WholeLaws.{sound_ended}
 use Rattle.fsrm_engine.proofs.parts.Parts.quota_delete.Goals as goal
 
 pub returns-clause-ok : goal.returns-clause-ok

@@ -1,7 +1,7 @@
 use Rattle.std.proofs.Common.{None, refl, subst, sym}
 use Rattle.fsrm_model.specs.declared.command.Deed.TheVariants.{QuotaList}
 use Rattle.fsrm_engine.specs.Machine.{Does}
-use Rattle.fsrm_engine.proofs.StepLaws.{told_as}
+use Rattle.fsrm_engine.proofs.steps.StepLaws.{told_as}
 use Rattle.fsrm_engine.proofs.parts.Parts.quota_list.Goals as goal
 
 pub returns-in-None-clause-ok : goal.returns-in-None-clause-ok

@@ -13,10 +13,10 @@ use Rattle.fsrm_model.specs.QuotaWork.{modified}
 use Rattle.fsrm_model.specs.Tree.{is_folder, usage}
 use Rattle.fsrm_base.proofs.Look.{found_has, found_key}
 use Rattle.fsrm_engine.specs.Machine.{rows_of, with_other}
-use Rattle.fsrm_engine.proofs.PlaceLaws.{target_is}
-use Rattle.fsrm_engine.proofs.StateLaws.{missing, checked, some_of, none_of, after_empty, empty_folder, modified_to}
-use Rattle.fsrm_engine.proofs.StepLaws.{refused_as, done_settled}
-use Rattle.fsrm_engine.proofs.WholeLaws.{sound_ended}
+use Rattle.fsrm_engine.proofs.steps.PlaceLaws.{target_is}
+use Rattle.fsrm_engine.proofs.tables.StateLaws.{missing, checked, some_of, none_of, after_empty, empty_folder, modified_to}
+use Rattle.fsrm_engine.proofs.steps.StepLaws.{refused_as, done_settled}
+use Rattle.fsrm_engine.proofs.steps.WholeLaws.{sound_ended}
 use Rattle.fsrm_engine.proofs.parts.Parts.quota_modify.Goals as goal
 
 pub returns-in_default-clause-ok : goal.returns-in_default-clause-ok

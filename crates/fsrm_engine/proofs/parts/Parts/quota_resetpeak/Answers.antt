@@ -9,10 +9,10 @@ use Rattle.fsrm_model.specs.QuotaWork.{reset}
 use Rattle.fsrm_objects.specs.Tables.{Tables}
 use Rattle.scan_queue.specs.Courses.{left}
 use Rattle.fsrm_engine.specs.Machine.{rows_of}
-use Rattle.fsrm_engine.proofs.PlaceLaws.{target_is}
-use Rattle.fsrm_engine.proofs.QuotaLaws.{counted_same, counted_reset, reset_is, has_quota, on_folder, quota_due}
-use Rattle.fsrm_engine.proofs.StepLaws.{done_as, same_own}
-use Rattle.fsrm_engine.proofs.WholeLaws.{sound_ended}
+use Rattle.fsrm_engine.proofs.steps.PlaceLaws.{target_is}
+use Rattle.fsrm_engine.proofs.tables.QuotaLaws.{counted_same, counted_reset, reset_is, has_quota, on_folder, quota_due}
+use Rattle.fsrm_engine.proofs.steps.StepLaws.{done_as, same_own}
+use Rattle.fsrm_engine.proofs.steps.WholeLaws.{sound_ended}
 use Rattle.fsrm_engine.proofs.parts.Parts.quota_resetpeak.Goals as goal
 
 pub set_peak-requires : goal.set_peak-requires

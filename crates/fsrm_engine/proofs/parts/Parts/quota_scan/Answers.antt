@@ -9,10 +9,10 @@ use Rattle.fsrm_model.specs.Quota.{folder_of, quota_of, counts, is_complete}
 use Rattle.fsrm_model.specs.QuotaStates.{is_disabled, state_of, with_state}
 use Rattle.fsrm_base.proofs.Look.{found_has}
 use Rattle.fsrm_engine.specs.Machine.{rows_of}
-use Rattle.fsrm_engine.proofs.PlaceLaws.{target_is}
-use Rattle.fsrm_engine.proofs.StateLaws.{missing, checked, some_of, none_of}
-use Rattle.fsrm_engine.proofs.StepLaws.{refused_as, done_settled, passing_as}
-use Rattle.fsrm_engine.proofs.WholeLaws.{sound_ended}
+use Rattle.fsrm_engine.proofs.steps.PlaceLaws.{target_is}
+use Rattle.fsrm_engine.proofs.tables.StateLaws.{missing, checked, some_of, none_of}
+use Rattle.fsrm_engine.proofs.steps.StepLaws.{refused_as, done_settled, passing_as}
+use Rattle.fsrm_engine.proofs.steps.WholeLaws.{sound_ended}
 use Rattle.fsrm_engine.proofs.parts.Parts.quota_scan.Goals as goal
 
 pub returns-in_default-clause-ok : goal.returns-in_default-clause-ok

@@ -1,9 +1,9 @@
 use Rattle.std.proofs.Common.{sym}
 use Rattle.fsrm_model.specs.declared.command.Deed.TheVariants.{File}
 use Rattle.fsrm_model.specs.declared.command.FileOp.TheVariants.{Remove}
-use Rattle.fsrm_engine.proofs.StepLaws.{refused_as}
-use Rattle.fsrm_engine.proofs.PlaceLaws.{has_resolved}
-use Rattle.fsrm_engine.proofs.RemoveLaws.{remove_root}
+use Rattle.fsrm_engine.proofs.steps.StepLaws.{refused_as}
+use Rattle.fsrm_engine.proofs.steps.PlaceLaws.{has_resolved}
+use Rattle.fsrm_engine.proofs.operations.RemoveLaws.{remove_root}
 use Rattle.fsrm_engine.proofs.parts.Parts.remove.Goals as goal
 
 pub returns-then-node-eq0-clause-ok : goal.returns-then-node-eq0-clause-ok

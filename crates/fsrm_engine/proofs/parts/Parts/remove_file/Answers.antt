@@ -6,13 +6,13 @@ use Rattle.fsrm_model.specs.Quota.{folder_of}
 use Rattle.fsrm_model.specs.Tree.{number}
 use Rattle.volume_tree.specs.Volume.{Volume}
 use Rattle.scan_queue.proofs.Leaving.{file_children}
-use Rattle.fsrm_engine.proofs.IdleLaws.{may_go, file_goes, idle_charged, looks_at_file}
-use Rattle.fsrm_engine.proofs.PlaceLaws.{has_resolved, target_is}
-use Rattle.fsrm_engine.proofs.RemoveLaws.{remove_due}
-use Rattle.fsrm_engine.proofs.GoingLaws.{no_fault, goes_well}
-use Rattle.fsrm_engine.proofs.StepLaws.{tree_first}
-use Rattle.fsrm_engine.proofs.FollowLaws.{goes_to, volume_is, shown_length, when_ok, file_absent, remove_queue, remove_next, op_done}
-use Rattle.fsrm_engine.proofs.WholeLaws.{sound_ended}
+use Rattle.fsrm_engine.proofs.operations.IdleLaws.{may_go, file_goes, idle_charged, looks_at_file}
+use Rattle.fsrm_engine.proofs.steps.PlaceLaws.{has_resolved, target_is}
+use Rattle.fsrm_engine.proofs.operations.RemoveLaws.{remove_due}
+use Rattle.fsrm_engine.proofs.operations.GoingLaws.{no_fault, goes_well}
+use Rattle.fsrm_engine.proofs.steps.StepLaws.{tree_first}
+use Rattle.fsrm_engine.proofs.operations.FollowLaws.{goes_to, volume_is, shown_length, when_ok, file_absent, remove_queue, remove_next, op_done}
+use Rattle.fsrm_engine.proofs.steps.WholeLaws.{sound_ended}
 use Rattle.fsrm_engine.proofs.parts.Parts.remove_file.Goals as goal
 
 pub node-view-requires : goal.node-view-requires

@@ -3,13 +3,13 @@ use Rattle.fsrm_model.specs.declared.command.Deed.TheVariants.{File}
 use Rattle.fsrm_model.specs.declared.command.FileOp.TheVariants.{Remove}
 use Rattle.fsrm_model.proofs.Keeps.{folder_found}
 use Rattle.fsrm_objects.specs.Tables.{Tables}
-use Rattle.fsrm_engine.proofs.IdleLaws.{may_go, idle_gone}
-use Rattle.fsrm_engine.proofs.PlaceLaws.{has_resolved}
-use Rattle.fsrm_engine.proofs.RemoveLaws.{remove_due}
-use Rattle.fsrm_engine.proofs.GoingLaws.{no_fault, full_fault, goes_well, left_queue, rmdir_done, next_without}
-use Rattle.fsrm_engine.proofs.StepLaws.{refused_as, tree_first}
-use Rattle.fsrm_engine.proofs.FollowLaws.{goes_to, volume_is, when_ok}
-use Rattle.fsrm_engine.proofs.WholeLaws.{sound_ended}
+use Rattle.fsrm_engine.proofs.operations.IdleLaws.{may_go, idle_gone}
+use Rattle.fsrm_engine.proofs.steps.PlaceLaws.{has_resolved}
+use Rattle.fsrm_engine.proofs.operations.RemoveLaws.{remove_due}
+use Rattle.fsrm_engine.proofs.operations.GoingLaws.{no_fault, full_fault, goes_well, left_queue, rmdir_done, next_without}
+use Rattle.fsrm_engine.proofs.steps.StepLaws.{refused_as, tree_first}
+use Rattle.fsrm_engine.proofs.operations.FollowLaws.{goes_to, volume_is, when_ok}
+use Rattle.fsrm_engine.proofs.steps.WholeLaws.{sound_ended}
 use Rattle.fsrm_engine.proofs.parts.Parts.remove_folder.Goals as goal
 
 pub remove-requires-clause-there : goal.remove-requires-clause-there

@@ -7,12 +7,12 @@ use Rattle.fsrm_model.specs.Tree.{number}
 use Rattle.fsrm_model.proofs.Resolves.{resolved}
 use Rattle.volume_tree.specs.Volume.{Volume}
 use Rattle.fsrm_engine.specs.Faults.{refused_answer}
-use Rattle.fsrm_engine.proofs.StepLaws.{refused_as}
-use Rattle.fsrm_engine.proofs.PlaceLaws.{shown_folder, target_is}
-use Rattle.fsrm_engine.proofs.FitLaws.{fits_plus}
-use Rattle.fsrm_engine.proofs.GrowthLaws.{owned, resize_changes, resize_due, admitted, refused_by_quota, file_parent, file_height, there_resized, resized_height, resize_done}
-use Rattle.fsrm_engine.proofs.FollowLaws.{goes_to, volume_is, shown_length, op_done}
-use Rattle.fsrm_engine.proofs.WholeLaws.{sound_ended}
+use Rattle.fsrm_engine.proofs.steps.StepLaws.{refused_as}
+use Rattle.fsrm_engine.proofs.steps.PlaceLaws.{shown_folder, target_is}
+use Rattle.fsrm_engine.proofs.operations.FitLaws.{fits_plus}
+use Rattle.fsrm_engine.proofs.operations.GrowthLaws.{owned, resize_changes, resize_due, admitted, refused_by_quota, file_parent, file_height, there_resized, resized_height, resize_done}
+use Rattle.fsrm_engine.proofs.operations.FollowLaws.{goes_to, volume_is, shown_length, op_done}
+use Rattle.fsrm_engine.proofs.steps.WholeLaws.{sound_ended}
 use Rattle.fsrm_engine.proofs.parts.Parts.resize.Goals as goal
 
 pub resize-requires-clause-there : goal.resize-requires-clause-there

@@ -1,8 +1,8 @@
 use Rattle.std.proofs.Common.{ap, sym, subst}
 use Rattle.fsrm_engine.specs.declared.parts.Parts.{Parts}
 use Rattle.fsrm_engine.specs.Machine.{AreCounted}
-use Rattle.fsrm_engine.proofs.CountingLaws.{is_moment_of}
-use Rattle.fsrm_engine.proofs.PeakLaws.{engine_peaked}
+use Rattle.fsrm_engine.proofs.tables.CountingLaws.{is_moment_of}
+use Rattle.fsrm_engine.proofs.tables.PeakLaws.{engine_peaked}
 use Rattle.fsrm_engine.proofs.parts.Parts.settle.Goals as goal
 
 pub returns-clause-ended : goal.returns-clause-ended

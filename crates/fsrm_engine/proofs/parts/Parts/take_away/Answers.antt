@@ -2,7 +2,7 @@ use Rattle.std.proofs.Common.{ap, sym, List, subst}
 use Rattle.fsrm_model.specs.declared.row.QuotaRow.{QuotaRow}
 use Rattle.fsrm_objects.specs.Tables.{Tables}
 use Rattle.fsrm_engine.specs.Machine.{IsCounted}
-use Rattle.fsrm_engine.proofs.CountingLaws.{engine_without, recounted_as}
+use Rattle.fsrm_engine.proofs.tables.CountingLaws.{engine_without, recounted_as}
 use Rattle.fsrm_engine.proofs.parts.Parts.take_away.Goals as goal
 
 pub returns-clause-counted : goal.returns-clause-counted

@@ -5,10 +5,10 @@ use Rattle.fsrm_base.specs.Keyed.{with_change}
 use Rattle.fsrm_model.specs.Tree.{number}
 use Rattle.volume_tree.specs.Volume.{Volume}
 use Rattle.scan_queue.proofs.Touching.{touch_goes}
-use Rattle.fsrm_engine.proofs.IdleLaws.{idle_touched, touch_due}
-use Rattle.fsrm_engine.proofs.PlaceLaws.{target_is}
-use Rattle.fsrm_engine.proofs.FollowLaws.{goes_to, volume_is, op_done}
-use Rattle.fsrm_engine.proofs.WholeLaws.{sound_ended}
+use Rattle.fsrm_engine.proofs.operations.IdleLaws.{idle_touched, touch_due}
+use Rattle.fsrm_engine.proofs.steps.PlaceLaws.{target_is}
+use Rattle.fsrm_engine.proofs.operations.FollowLaws.{goes_to, volume_is, op_done}
+use Rattle.fsrm_engine.proofs.steps.WholeLaws.{sound_ended}
 use Rattle.fsrm_engine.proofs.parts.Parts.touch.Goals as goal
 
 pub done-requires-clause-counted : goal.done-requires-clause-counted

@@ -1,6 +1,6 @@
 use Rattle.std.proofs.Common.{ap}
 use Rattle.fsrm_objects.specs.Tables.{Tables}
-use Rattle.fsrm_engine.proofs.CountingLaws.{rebuilt, recounted_as}
+use Rattle.fsrm_engine.proofs.tables.CountingLaws.{rebuilt, recounted_as}
 use Rattle.fsrm_engine.proofs.parts.Parts.uncount.Goals as goal
 
 pub returns-clause-counted : goal.returns-clause-counted

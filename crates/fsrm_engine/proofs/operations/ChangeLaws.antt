@@ -214,10 +214,6 @@ after_removal : (n new s : ℕ) (on : Bool) → new + cond on s 0 ≡ n → new 
 after_removal n new s true e = omega arith
 after_removal n new s false e = omega arith
 
-no_rise : (n s : ℕ) (b : Bool) → n - s + cond b 0 0 ≡ n - s + 0
-no_rise n s true = refl
-no_rise n s false = refl
-
 pub changes_removed : (K : Capacity) (nodes : List NodeRow) (quotas : List QuotaRow) (x : ℕ) (row : NodeRow) → IsVolume K nodes → AreQuotas nodes quotas → MayGo nodes x → node_of nodes x ≡ Some row → is_folder nodes x ≡ false →
     Changes K nodes (without_row number x nodes) quotas (record { from = Some (parent_of nodes x); to = None; minus = space K row; plus = 0 })
 changes_removed K nodes quotas x row v qs m found file =

@@ -22,8 +22,8 @@ use Rattle.quota_usage.specs.Counters.{used_in}
 use Rattle.fsrm_engine.specs.Faults.{exceeded_refusal}
 use Rattle.fsrm_engine.specs.Machine.{sums_of}
 use Rattle.fsrm_base.proofs.RowLaws.{each, each_found, filter_same, find_same, all_same, all_filter, find_has}
-use Rattle.fsrm_engine.proofs.SumLaws.{used_found}
-use Rattle.fsrm_engine.proofs.ChangeLaws.{Changes}
+use Rattle.fsrm_engine.proofs.tables.SumLaws.{used_found}
+use Rattle.fsrm_engine.proofs.operations.ChangeLaws.{Changes}
 use Rattle.quota_usage.proofs.Deepest.{rises_at}
 
 -- whether the sums refuse by a quota

@@ -24,9 +24,9 @@ use Rattle.fsrm_objects.specs.Tables.{Tables}
 use Rattle.fsrm_engine.specs.declared.parts.Parts.{Parts}
 use Rattle.fsrm_engine.specs.Machine.{counter_of, sums_of, IsCounted, recounted, ended}
 use Rattle.fsrm_engine.specs.Peaks.{raised}
-use Rattle.fsrm_engine.proofs.PeakLaws.{peak_stays, raised_is, some_settled, engine_raised}
+use Rattle.fsrm_engine.proofs.tables.PeakLaws.{peak_stays, raised_is, some_settled, engine_raised}
 use Rattle.fsrm_base.proofs.RowLaws.{change_same, each_found, map_same}
-use Rattle.fsrm_engine.proofs.SumLaws.{used_found, sums_few, sums_has, sums_with, sums_without, sums_kept}
+use Rattle.fsrm_engine.proofs.tables.SumLaws.{used_found, sums_few, sums_has, sums_with, sums_without, sums_kept}
 
 -- a row that stands for the one before it in ascending rows
 to_front : {X : Type 0} (key : X → ℕ) (row r : X) (rows : List X) → key r ≡ key row → is_ascending key (r ∷ rows) ≡ true → with_row key row rows ≡ row ∷ rows

@@ -39,12 +39,12 @@ use Rattle.fsrm_engine.specs.declared.parts.Parts.{Parts}
 use Rattle.fsrm_engine.specs.Machine.{rows_of, sums_of, IsCounted, AreCounted}
 use Rattle.fsrm_engine.specs.Peaks.{raised_above}
 use Rattle.fsrm_engine.specs.Places.{IsFile}
-use Rattle.fsrm_engine.proofs.StepLaws.{due, tree_first, last_check}
-use Rattle.fsrm_engine.proofs.PlaceLaws.{target_is}
-use Rattle.fsrm_engine.proofs.SumLaws.{sums_has}
-use Rattle.fsrm_engine.proofs.ChangeLaws.{Changes, changes_resized}
-use Rattle.fsrm_engine.proofs.OverLaws.{none_exceeded, one_exceeded}
-use Rattle.fsrm_engine.proofs.PeakLaws.{quotas_kept, counters_charged, peaks_raised, some_settled, engine_raised}
+use Rattle.fsrm_engine.proofs.steps.StepLaws.{due, tree_first, last_check}
+use Rattle.fsrm_engine.proofs.steps.PlaceLaws.{target_is}
+use Rattle.fsrm_engine.proofs.tables.SumLaws.{sums_has}
+use Rattle.fsrm_engine.proofs.operations.ChangeLaws.{Changes, changes_resized}
+use Rattle.fsrm_engine.proofs.operations.OverLaws.{none_exceeded, one_exceeded}
+use Rattle.fsrm_engine.proofs.tables.PeakLaws.{quotas_kept, counters_charged, peaks_raised, some_settled, engine_raised}
 use Rattle.fsrm_model.proofs.ValidLaws.{found_parent}
 
 -- a counter's folder has a quota

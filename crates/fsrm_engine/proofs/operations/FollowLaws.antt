@@ -35,8 +35,8 @@ use Rattle.volume_tree.specs.Volume.{Volume, Move, Shows, with_node, without_nod
 use Rattle.fsrm_engine.specs.declared.parts.Parts.{Parts}
 use Rattle.fsrm_engine.specs.Machine.{Does, rows_of, ended}
 use Rattle.fsrm_engine.specs.Places.{IsPlace}
-use Rattle.fsrm_engine.proofs.PlaceLaws.{target_is}
-use Rattle.fsrm_engine.proofs.StepLaws.{due, done_as, same_own}
+use Rattle.fsrm_engine.proofs.steps.PlaceLaws.{target_is}
+use Rattle.fsrm_engine.proofs.steps.StepLaws.{due, done_as, same_own}
 
 -- the rows that a file operation leaves, table by table
 effect_is : (R : Rows) (op : FileOp) (m : ℕ) → file_effect R op m ≡ record R { nodes = plain R.nodes op m; quotas = (file_effect R op m).quotas; queue = (file_effect R op m).queue; unvisited = option_map_or (unvisited_in R (plain R.nodes op m) op) (head R.queue) [] }

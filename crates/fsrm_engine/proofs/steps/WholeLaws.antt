@@ -15,7 +15,7 @@ use Rattle.fsrm_model.proofs.EachCommand.{named}
 use Rattle.scan_queue.specs.Courses.{Scanning}
 use Rattle.fsrm_engine.specs.declared.parts.Parts.{Parts}
 use Rattle.fsrm_engine.specs.Machine.{Machine, Takes, Does, IsSound, IsWhole, AreCounted, machine_of, rows_of, ended}
-use Rattle.fsrm_engine.proofs.StepLaws.{cost_in_time}
+use Rattle.fsrm_engine.proofs.steps.StepLaws.{cost_in_time}
 
 -- parts after their end are sound
 pub sound_ended : (mid new : Parts) (m : ℕ) → new ≡ ended mid m → AreCounted new → Scanning mid.tree mid.scans → IsSound new

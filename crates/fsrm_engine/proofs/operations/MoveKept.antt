@@ -27,10 +27,10 @@ use Rattle.volume_tree.specs.declared.answer.TreeFault.TheVariants as fault
 use Rattle.fsrm_engine.specs.Machine.{IsCounted}
 use Rattle.fsrm_engine.specs.Peaks.{raised_above}
 use Rattle.fsrm_engine.specs.Places.{IsMoved}
-use Rattle.fsrm_engine.proofs.PlaceLaws.{leads_to_folder_is, target_is}
-use Rattle.fsrm_engine.proofs.ChangeLaws.{Changes, MovesTo, changes_moved, moved_chain_to, moved_chain_from, not_zero}
-use Rattle.fsrm_engine.proofs.FitLaws.{fits_moved, fits_new}
-use Rattle.fsrm_engine.proofs.GrowthLaws.{ChargedTo, charged_at, placed_folder}
+use Rattle.fsrm_engine.proofs.steps.PlaceLaws.{leads_to_folder_is, target_is}
+use Rattle.fsrm_engine.proofs.operations.ChangeLaws.{Changes, MovesTo, changes_moved, moved_chain_to, moved_chain_from, not_zero}
+use Rattle.fsrm_engine.proofs.operations.FitLaws.{fits_moved, fits_new}
+use Rattle.fsrm_engine.proofs.operations.GrowthLaws.{ChargedTo, charged_at, placed_folder}
 use Rattle.fsrm_model.proofs.ValidLaws.{found_parent}
 
 -- the change of a move

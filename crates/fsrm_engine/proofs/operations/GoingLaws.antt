@@ -33,9 +33,9 @@ use Rattle.volume_tree.specs.declared.answer.TreeFault.TheVariants.{AlreadyExist
 use Rattle.volume_tree.specs.Volume.{Volume, IsFault, fault_if, remove_fault, without_node}
 use Rattle.fsrm_engine.specs.declared.parts.Parts.{Parts}
 use Rattle.fsrm_engine.specs.Machine.{Does, rows_of, ended}
-use Rattle.fsrm_engine.proofs.FollowLaws.{remove_queue, volume_is, effect_as}
-use Rattle.fsrm_engine.proofs.PlaceLaws.{target_is}
-use Rattle.fsrm_engine.proofs.StepLaws.{due, done_as}
+use Rattle.fsrm_engine.proofs.operations.FollowLaws.{remove_queue, volume_is, effect_as}
+use Rattle.fsrm_engine.proofs.steps.PlaceLaws.{target_is}
+use Rattle.fsrm_engine.proofs.steps.StepLaws.{due, done_as}
 
 -- a node without children can be removed
 pub no_fault : (v : Volume) (n : ℕ) → length (children v.nodes n) ≡ 0 → remove_fault v n ≡ None

@@ -23,8 +23,8 @@ use Rattle.volume_tree.specs.Volume.{Volume, fault_if, first_fault, is_other, mo
 use Rattle.fsrm_engine.specs.declared.parts.Parts.{Parts}
 use Rattle.fsrm_engine.specs.Machine.{rows_of}
 use Rattle.fsrm_engine.specs.Places.{IsPlace, IsRefusedPlace}
-use Rattle.fsrm_engine.proofs.StepLaws.{due, tree_first, last_check}
-use Rattle.fsrm_engine.proofs.PlaceLaws.{root_is, has_resolved, leads_is, target_is, leads_to_folder_is, place_leads, place_folder}
+use Rattle.fsrm_engine.proofs.steps.StepLaws.{due, tree_first, last_check}
+use Rattle.fsrm_engine.proofs.steps.PlaceLaws.{root_is, has_resolved, leads_is, target_is, leads_to_folder_is, place_leads, place_folder}
 
 -- the checks that the tree makes too
 listed : (under taken long : Bool) (more : List Check) → first (None ∷ None ∷ None ∷ None ∷ (InvalidMove when under) ∷ (AlreadyExists when taken) ∷ (NamesFull when long) ∷ more) ≡ tree_first (first_fault (fault_if fault.InvalidMove under ∷ fault_if fault.AlreadyExists taken ∷ fault_if fault.NamesFull long ∷ [])) (first more)

@@ -11,8 +11,8 @@ use Rattle.fsrm_model.specs.Valid.{IsVolume}
 use Rattle.volume_tree.specs.declared.answer.TreeFault.TheVariants as fault
 use Rattle.volume_tree.specs.Volume.{fault_if, remove_fault}
 use Rattle.fsrm_engine.specs.declared.parts.Parts.{Parts}
-use Rattle.fsrm_engine.proofs.StepLaws.{due, tree_first}
-use Rattle.fsrm_engine.proofs.PlaceLaws.{root_is, leads_is, target_is}
+use Rattle.fsrm_engine.proofs.steps.StepLaws.{due, tree_first}
+use Rattle.fsrm_engine.proofs.steps.PlaceLaws.{root_is, leads_is, target_is}
 
 listed : (full : Bool) → first (None ∷ None ∷ (NotEmpty when full) ∷ []) ≡ tree_first (fault_if fault.NotEmpty full) None
 listed true = refl

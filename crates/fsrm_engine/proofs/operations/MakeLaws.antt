@@ -19,8 +19,8 @@ use Rattle.quota_usage.specs.Charge.{charged_counter}
 use Rattle.volume_tree.specs.Volume.{Volume, with_node}
 use Rattle.fsrm_engine.specs.Machine.{IsCounted}
 use Rattle.fsrm_engine.specs.Peaks.{raised_above}
-use Rattle.fsrm_engine.proofs.ChangeLaws.{Changes, changes_made}
-use Rattle.fsrm_engine.proofs.GrowthLaws.{ChargedTo, charged_at, made_folder}
+use Rattle.fsrm_engine.proofs.operations.ChangeLaws.{Changes, changes_made}
+use Rattle.fsrm_engine.proofs.operations.GrowthLaws.{ChargedTo, charged_at, made_folder}
 
 -- what is made of nodes
 abbrev pub made_nodes : List NodeRow → ℕ → List ℕ → ℕ → ℕ → ℕ → List NodeRow

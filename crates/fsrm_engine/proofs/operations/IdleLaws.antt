@@ -41,19 +41,14 @@ use Rattle.volume_tree.specs.Volume.{Volume, Shows, with_node, with_touch, witho
 use Rattle.fsrm_engine.specs.declared.parts.Parts.{Parts}
 use Rattle.fsrm_engine.specs.Machine.{rows_of, counter_of, sums_of, IsCounted, AreCounted}
 use Rattle.fsrm_engine.specs.Places.{IsFile}
-use Rattle.fsrm_engine.proofs.ChangeLaws.{Changes, changes_removed, not_zero}
-use Rattle.fsrm_engine.proofs.CountingLaws.{engine_without}
-use Rattle.fsrm_engine.proofs.PeakLaws.{quotas_kept, counters_charged}
-use Rattle.fsrm_engine.proofs.PlaceLaws.{shown_folder}
+use Rattle.fsrm_engine.proofs.operations.ChangeLaws.{Changes, changes_removed, not_zero}
+use Rattle.fsrm_engine.proofs.tables.CountingLaws.{engine_without}
+use Rattle.fsrm_engine.proofs.tables.PeakLaws.{quotas_kept, counters_charged}
+use Rattle.fsrm_engine.proofs.steps.PlaceLaws.{shown_folder}
 use Rattle.fsrm_base.proofs.RowLaws.{each_found, all_filter, map_same}
-use Rattle.fsrm_engine.proofs.StepLaws.{due}
-use Rattle.fsrm_engine.proofs.SumLaws.{shown_of, used_sums}
-use Rattle.fsrm_engine.proofs.WalkLaws.{usage_small}
-
--- rows stay without a number that none has
-kept_head : {X : Type 0} (x : X) (xs ys : List X) (b c : Bool) → (b || c) ≡ false → (c ≡ false → ys ≡ xs) → cond (not b) (x ∷ ys) ys ≡ x ∷ xs
-kept_head x xs ys true c h f = cc
-kept_head x xs ys false c h f = ap (λ zs. x ∷ zs) (f h)
+use Rattle.fsrm_engine.proofs.steps.StepLaws.{due}
+use Rattle.fsrm_engine.proofs.tables.SumLaws.{shown_of, used_sums}
+use Rattle.fsrm_engine.proofs.walks.WalkLaws.{usage_small}
 
 -- a row that is left has another number, and was there
 pub record Left {X : Type 0} (key : X → ℕ) (n m : ℕ) (rows : List X) (r : X) : Type 0 where

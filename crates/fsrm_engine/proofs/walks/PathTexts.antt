@@ -18,8 +18,8 @@ use Rattle.fsrm_model.proofs.Resolves.{path_length}
 use Rattle.volume_tree.specs.declared.answer.NodeView.{NodeView}
 use Rattle.volume_tree.specs.Volume.{Shows}
 use Rattle.fsrm_engine.specs.Walk.{AreThere}
-use Rattle.fsrm_engine.proofs.WalkLaws.{there-append}
-use Rattle.fsrm_engine.proofs.RaiseLaws.{up_is}
+use Rattle.fsrm_engine.proofs.walks.WalkLaws.{there-append}
+use Rattle.fsrm_engine.proofs.tables.RaiseLaws.{up_is}
 
 -- a node's parent, as it is lent
 
@@ -54,17 +54,17 @@ pub turned_there : (nodes : List NodeRow) (way : List ℕ) → AreThere nodes wa
 turned_there nodes [] h = tt
 turned_there nodes (n ∷ way) h = subst (AreThere nodes) (sym (reverse-append (n ∷ []) way)) (there-append nodes (reverse way) (n ∷ []) (turned_there nodes way h.1) (h.0, tt))
 
--- each name behind a `\`
-abbrev pub behind : List (List ℕ) → List ℕ
-behind [] = []
-behind (name ∷ names) = 92 ∷ name ++ behind names
+-- each name after a `\`
+abbrev pub slashed : List (List ℕ) → List ℕ
+slashed [] = []
+slashed (name ∷ names) = 92 ∷ name ++ slashed names
 
-behind_push : (names : List (List ℕ)) (name : List ℕ) → behind (names ++ name ∷ []) ≡ behind names ++ 92 ∷ name
-behind_push [] name = ap (λ (bytes : List ℕ). 92 ∷ bytes) (append-nil name)
-behind_push (first ∷ names) name =
-    ap (λ (bytes : List ℕ). 92 ∷ bytes) (ap (λ (bytes : List ℕ). first ++ bytes) (behind_push names name) ∙ sym (append_assoc first (behind names) (92 ∷ name)))
+slashed_push : (names : List (List ℕ)) (name : List ℕ) → slashed (names ++ name ∷ []) ≡ slashed names ++ 92 ∷ name
+slashed_push [] name = ap (λ (bytes : List ℕ). 92 ∷ bytes) (append-nil name)
+slashed_push (first ∷ names) name =
+    ap (λ (bytes : List ℕ). 92 ∷ bytes) (ap (λ (bytes : List ℕ). first ++ bytes) (slashed_push names name) ∙ sym (append_assoc first (slashed names) (92 ∷ name)))
 
-pub name_pushed : (nodes : List NodeRow) (way more : List ℕ) (n : ℕ) (view : NodeView) (start old middle new : List ℕ) → Shows view nodes n → more ≡ way ++ n ∷ [] → middle ≡ old ++ 92 ∷ [] → new ≡ middle ++ view.name.now → old ≡ start ++ behind (map (name_of nodes) way) → new ≡ start ++ behind (map (name_of nodes) more)
+pub name_pushed : (nodes : List NodeRow) (way more : List ℕ) (n : ℕ) (view : NodeView) (start old middle new : List ℕ) → Shows view nodes n → more ≡ way ++ n ∷ [] → middle ≡ old ++ 92 ∷ [] → new ≡ middle ++ view.name.now → old ≡ start ++ slashed (map (name_of nodes) way) → new ≡ start ++ slashed (map (name_of nodes) more)
 name_pushed nodes way more n view start old middle new shows on first second so_far =
     let names = map (name_of nodes) way in
     let name = view.name.now in
@@ -73,33 +73,33 @@ name_pushed nodes way more n view start old middle new shows on first second so_
     ap (map (name_of nodes)) on ∙ (map-append (name_of nodes) way (n ∷ []) ∙ ap (λ (bytes : List ℕ). names ++ bytes ∷ []) is) in
     second
     ∙ (ap (λ (bytes : List ℕ). bytes ++ name) (first ∙ ap (λ (bytes : List ℕ). bytes ++ 92 ∷ []) so_far)
-    ∙ (append_assoc (start ++ behind names) (92 ∷ []) name
-    ∙ (append_assoc start (behind names) (92 ∷ name)
-    ∙ (ap (λ (bytes : List ℕ). start ++ bytes) (sym (behind_push names name))
-    ∙ ap (λ (all : List (List ℕ)). start ++ behind all) (sym all)))))
+    ∙ (append_assoc (start ++ slashed names) (92 ∷ []) name
+    ∙ (append_assoc start (slashed names) (92 ∷ name)
+    ∙ (ap (λ (bytes : List ℕ). start ++ bytes) (sym (slashed_push names name))
+    ∙ ap (λ (all : List (List ℕ)). start ++ slashed all) (sym all)))))
 
 -- so the names are joined
-joined_from : (name : List ℕ) (names : List (List ℕ)) → name ++ behind names ≡ join_with_byte 92 (name ∷ names)
+joined_from : (name : List ℕ) (names : List (List ℕ)) → name ++ slashed names ≡ join_with_byte 92 (name ∷ names)
 joined_from name [] = append-nil name
 joined_from name (next ∷ names) = ap (λ (bytes : List ℕ). name ++ 92 ∷ bytes) (joined_from next names)
 
-pub joined_names : (names : List (List ℕ)) (start : List ℕ) → ((length names ≡ 0) × (start ≡ codes "D:\\")) ⊎ ((0 < length names) × (start ≡ codes "D:")) → start ++ behind names ≡ codes "D:\\" ++ join_with_byte 92 names
+pub joined_names : (names : List (List ℕ)) (start : List ℕ) → ((length names ≡ 0) × (start ≡ codes "D:\\")) ⊎ ((0 < length names) × (start ≡ codes "D:")) → start ++ slashed names ≡ codes "D:\\" ++ join_with_byte 92 names
 joined_names [] start (inl e) = ap (λ (bytes : List ℕ). bytes ++ []) e.1
 joined_names [] start (inr e) = absurd (omega (arith, e.0))
 joined_names (name ∷ names) start (inl e) = absurd (omega (arith, e.0))
 joined_names (name ∷ names) start (inr e) =
-    ap (λ (bytes : List ℕ). bytes ++ behind (name ∷ names)) e.1
+    ap (λ (bytes : List ℕ). bytes ++ slashed (name ∷ names)) e.1
     ∙ ap (λ (bytes : List ℕ). codes "D:\\" ++ bytes) (joined_from name names)
 
 some_more : (n : ℕ) → (n == 0) ≡ false → 0 < n
 some_more n h = grind (arith, nat_tests)
 
-pub joined_text : (nodes : List NodeRow) (way turned start text : List ℕ) → turned ≡ reverse way → (((length way == 0) ≡ true) × (start ≡ codes "D:\\")) ⊎ (((length way == 0) ≡ false) × (start ≡ codes "D:")) → text ≡ start ++ behind (map (name_of nodes) turned) → text ≡ codes "D:\\" ++ join_with_byte 92 (map (name_of nodes) (reverse way))
+pub joined_text : (nodes : List NodeRow) (way turned start text : List ℕ) → turned ≡ reverse way → (((length way == 0) ≡ true) × (start ≡ codes "D:\\")) ⊎ (((length way == 0) ≡ false) × (start ≡ codes "D:")) → text ≡ start ++ slashed (map (name_of nodes) turned) → text ≡ codes "D:\\" ++ join_with_byte 92 (map (name_of nodes) (reverse way))
 joined_text nodes way turned start text e first is =
     let names = map (name_of nodes) (reverse way) in
     let long : length names ≡ length way = omega (arith, length-map (reverse way) (name_of nodes), length-reverse way) in
     is
-    ∙ (ap (λ (ns : List ℕ). start ++ behind (map (name_of nodes) ns)) e
+    ∙ (ap (λ (ns : List ℕ). start ++ slashed (map (name_of nodes) ns)) e
     ∙ joined_names names start (elim first [
       | inl f ↦ inl (long ∙ eq_is (length way) 0 f.0, f.1)
       | inr f ↦ inr (omega (arith, long, some_more (length way) f.0), f.1)

@@ -23,8 +23,8 @@ use Rattle.scan_queue.specs.Courses.{Course, Scanning, Turns, left}
 use Rattle.fsrm_model.proofs.RowsKept.{head_in}
 use Rattle.fsrm_engine.specs.declared.parts.Parts.{Parts}
 use Rattle.fsrm_engine.specs.Machine.{Machine, Does, IsSound, AreCounted, machine_of, rows_of, recounted, ended, settled, lasting_rows, with_rows}
-use Rattle.fsrm_engine.proofs.StepLaws.{lasting_as, passing_as, same_own}
-use Rattle.fsrm_engine.proofs.TurnLaws.{turned}
+use Rattle.fsrm_engine.proofs.steps.StepLaws.{lasting_as, passing_as, same_own}
+use Rattle.fsrm_engine.proofs.tables.TurnLaws.{turned}
 
 -- a quota that is rebuilding doesn't count
 rebuilding_counts : (state : QuotaState) → is_rebuilding state ≡ true → is_complete state ≡ false

@@ -121,11 +121,6 @@ count_of_children K nodes n r v h =
     let order = sum_in_order before (λ c. length (under nodes c.number)) (children nodes n) in
     omega (arith, count_children K nodes n r v h, each, order)
 
--- the children that are put behind, one by one
-
-pushed_all : (nodes : List NodeRow) (folder count : ℕ) → length (children nodes folder) ≤ count → take count (children_in_order nodes folder) ≡ children_in_order nodes folder
-pushed_all nodes folder count h = take_all count (children_in_order nodes folder) (omega (arith, children_many nodes folder, h))
-
 -- each node is one of those below it
 count_least : (K : Capacity) (nodes : List NodeRow) (n : ℕ) → IsVolume K nodes → has_row number n nodes ≡ true → 1 ≤ length (under nodes n)
 count_least K nodes n v h =

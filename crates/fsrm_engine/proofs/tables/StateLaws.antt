@@ -27,7 +27,7 @@ use Rattle.fsrm_base.proofs.Order.{length-with_row}
 use Rattle.fsrm_base.proofs.TestLaws.{clash, eq_is}
 use Rattle.fsrm_model.proofs.UsageLaws.{usage_children}
 use Rattle.fsrm_engine.specs.Places.{IsFolder}
-use Rattle.fsrm_engine.proofs.PlaceLaws.{target_is, leads_to_folder_is}
+use Rattle.fsrm_engine.proofs.steps.PlaceLaws.{target_is, leads_to_folder_is}
 use Rattle.fsrm_base.proofs.RowLaws.{change_same}
 use Rattle.rescan.proofs.ChangeLaws.{change_twice}
 

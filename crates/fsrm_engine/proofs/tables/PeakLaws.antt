@@ -22,8 +22,8 @@ use Rattle.quota_usage.specs.Counters.{used_in}
 use Rattle.fsrm_engine.specs.Machine.{sums_of, IsCounted}
 use Rattle.fsrm_engine.specs.Peaks.{raised, raised_above}
 use Rattle.fsrm_base.proofs.RowLaws.{each_found, map_same, map_id}
-use Rattle.fsrm_engine.proofs.SumLaws.{used_found, sums_kept, sums_follow}
-use Rattle.fsrm_engine.proofs.ChangeLaws.{Changes}
+use Rattle.fsrm_engine.proofs.tables.SumLaws.{used_found, sums_kept, sums_follow}
+use Rattle.fsrm_engine.proofs.operations.ChangeLaws.{Changes}
 
 -- what a raised peak keeps
 peak_case : {A : Type 0} (g : QuotaRow → A) (K : Capacity) (nodes : List NodeRow) (m : ℕ) → ((q : QuotaRow) (b : Bool) → g (cond b (record q { peak = usage K nodes q.folder; peak_at = m }) q) ≡ g q) → (q : QuotaRow) → g (peaked K nodes m q) ≡ g q

@@ -21,8 +21,8 @@ use Rattle.volume_tree.specs.Volume.{Volume, fault_if, first_fault, new_fault, w
 use Rattle.fsrm_engine.specs.Places.{IsPlace}
 use Rattle.fsrm_engine.specs.declared.parts.Parts.{Parts}
 use Rattle.fsrm_engine.specs.Machine.{rows_of}
-use Rattle.fsrm_engine.proofs.StepLaws.{due, tree_first, last_check}
-use Rattle.fsrm_engine.proofs.PlaceLaws.{place_leads, place_folder}
+use Rattle.fsrm_engine.proofs.steps.StepLaws.{due, tree_first, last_check}
+use Rattle.fsrm_engine.proofs.steps.PlaceLaws.{place_leads, place_folder}
 
 -- the checks that the tree makes too
 listed : (taken full long : Bool) (more : List Check) → first (None ∷ None ∷ (AlreadyExists when taken) ∷ (VolumeFull when full) ∷ (NamesFull when long) ∷ more) ≡ tree_first (first_fault (fault_if fault.AlreadyExists taken ∷ fault_if fault.VolumeFull full ∷ fault_if fault.NamesFull long ∷ [])) (first more)

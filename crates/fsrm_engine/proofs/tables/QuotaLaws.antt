@@ -23,10 +23,10 @@ use Rattle.quota_usage.specs.Counters.{used_in}
 use Rattle.fsrm_engine.specs.declared.parts.Parts.{Parts}
 use Rattle.fsrm_engine.specs.Machine.{rows_of, IsCounted, AreCounted}
 use Rattle.fsrm_engine.specs.Places.{IsFolder}
-use Rattle.fsrm_engine.proofs.PlaceLaws.{target_is, leads_to_folder_is}
+use Rattle.fsrm_engine.proofs.steps.PlaceLaws.{target_is, leads_to_folder_is}
 use Rattle.fsrm_base.proofs.RowLaws.{change_same}
-use Rattle.fsrm_engine.proofs.SumLaws.{used_found, sums_kept}
-use Rattle.fsrm_engine.proofs.CountingLaws.{is_moment_of, engine_changed}
+use Rattle.fsrm_engine.proofs.tables.SumLaws.{used_found, sums_kept}
+use Rattle.fsrm_engine.proofs.tables.CountingLaws.{is_moment_of, engine_changed}
 
 -- of quotas that are made so
 pub counted_same : {level : Bool} (K : Capacity) (nodes : List NodeRow) (counters : List Counter) (after set : List QuotaRow) → set ≡ after → IsCounted K nodes after counters level → IsCounted K nodes set counters level

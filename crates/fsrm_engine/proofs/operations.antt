@@ -1,0 +1,12 @@
+pub mod NewLaws
+pub mod MakeLaws
+pub mod MoveLaws
+pub mod MoveKept
+pub mod RemoveLaws
+pub mod GoingLaws
+pub mod GrowthLaws
+pub mod ChangeLaws
+pub mod FollowLaws
+pub mod IdleLaws
+pub mod FitLaws
+pub mod OverLaws

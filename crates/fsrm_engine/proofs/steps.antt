@@ -1,0 +1,4 @@
+pub mod StepLaws
+pub mod WholeLaws
+pub mod PlaceLaws
+pub mod ScanSteps
