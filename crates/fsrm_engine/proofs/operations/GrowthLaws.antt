@@ -44,7 +44,8 @@ use Rattle.fsrm_engine.proofs.steps.PlaceLaws.{target_is}
 use Rattle.fsrm_engine.proofs.tables.SumLaws.{sums_has}
 use Rattle.fsrm_engine.proofs.operations.ChangeLaws.{Changes, changes_resized}
 use Rattle.fsrm_engine.proofs.operations.OverLaws.{none_exceeded, one_exceeded}
-use Rattle.fsrm_engine.proofs.tables.PeakLaws.{quotas_kept, counters_charged, peaks_raised, some_settled, engine_raised}
+use Rattle.fsrm_model.proofs.QuotasKept.{quotas_stay}
+use Rattle.fsrm_engine.proofs.tables.PeakLaws.{counters_charged, peaks_raised, some_settled, counted_raised}
 use Rattle.fsrm_model.proofs.ValidLaws.{found_parent}
 
 -- a counter's folder has a quota
@@ -59,11 +60,11 @@ pub record Charged (K : Capacity) (new : List NodeRow) (quotas raised : List Quo
 pub charged_done : {level : Bool} (K : Capacity) (nodes new : List NodeRow) (quotas raised : List QuotaRow) (counters charged_are : List Counter) (change : Change) (m : ℕ) → IsCounted K nodes quotas counters level → IsVolume K new → ((f : ℕ) (q : QuotaRow) → row_of folder_of f quotas ≡ Some q → is_folder nodes f ≡ true → is_folder new f ≡ true) → Changes K nodes new quotas change → is_moment m ≡ true → charged_are ≡ map (charged_counter new change) counters → raised ≡ map (raised_above new change.to charged_are m) quotas → Charged K new quotas raised charged_are m level
 charged_done {level} K nodes new quotas raised counters charged_are change m e v folders c moment charging raising =
     let sums : charged_are ≡ sums_of K new quotas = charging ∙ counters_charged K nodes new quotas counters change e.are_quotas c e.sums in
-    let qs = quotas_kept nodes new quotas e.are_quotas folders in
+    let qs = quotas_stay nodes new quotas e.are_quotas folders in
     let above : QuotaRow → Bool = λ q. is_above new change.to q.folder in
     record {
       engine = subst (λ (rows : List QuotaRow). IsCounted K new rows charged_are level) (sym raising)
-          (engine_raised K new above quotas charged_are m v e.legal qs moment sums (λ l. peaks_raised K nodes new quotas charged_are change m e.are_quotas c sums (e.peaks l)));
+          (counted_raised K new above quotas charged_are m v e.legal qs moment sums (λ l. peaks_raised K nodes new quotas charged_are change m e.are_quotas c sums (e.peaks l)));
       raised_are = ap (map (peaked K new m)) raising ∙ some_settled K new above quotas charged_are m qs.ascending sums;
     }
 

@@ -1,4 +1,4 @@
--- What an engine keeps where a command raises no usage: no peak rises.
+-- What is kept of counters if a command raises no usage: no peak rises.
 use Rattle.std.proofs.Common.{◌≡◌, ℕ, ◌+◌, ◌-◌, ◌*◌, ◌^◌, ◌<◌, ◌≤◌, ◌==◌, Bool, true, false, cond, not, ◌||◌, List, [], ◌∷◌, length, Option, Some, None, refl, ap, sym, ◌∙◌, subst, arith}
 use Rattle.std.proofs.lemmas.Option.{same_Some}
 use Rattle.std.specs.Borrow.{Bor}
@@ -42,8 +42,9 @@ use Rattle.fsrm_engine.specs.declared.parts.Parts.{Parts}
 use Rattle.fsrm_engine.specs.Machine.{rows_of, counter_of, sums_of, IsCounted, AreCounted}
 use Rattle.fsrm_engine.specs.Places.{IsFile}
 use Rattle.fsrm_engine.proofs.operations.ChangeLaws.{Changes, changes_removed, not_zero}
-use Rattle.fsrm_engine.proofs.tables.CountingLaws.{engine_without}
-use Rattle.fsrm_engine.proofs.tables.PeakLaws.{quotas_kept, counters_charged}
+use Rattle.fsrm_engine.proofs.tables.CountingLaws.{counted_without}
+use Rattle.fsrm_model.proofs.QuotasKept.{quotas_stay}
+use Rattle.fsrm_engine.proofs.tables.PeakLaws.{counters_charged}
 use Rattle.fsrm_engine.proofs.steps.PlaceLaws.{shown_folder}
 use Rattle.fsrm_base.proofs.RowLaws.{each_found, all_filter, map_same}
 use Rattle.fsrm_engine.proofs.steps.StepLaws.{due}
@@ -105,7 +106,7 @@ idle_same K nodes new quotas counters e v same folders =
     record {
       volume = v;
       legal = e.legal;
-      are_quotas = quotas_kept nodes new quotas e.are_quotas folders;
+      are_quotas = quotas_stay nodes new quotas e.are_quotas folders;
       sums = e.sums ∙ sums_same K nodes new quotas e.are_quotas.ascending same;
       peaks = λ l f q found counting. subst (λ n. n ≤ q.peak) (sym (same f q found)) (e.peaks l f q found counting);
     }
@@ -184,7 +185,7 @@ idle_gone {level} v w quotas after counters left x e may folder made kept quotas
     let new = without_row number x nodes in
     let r = removes_of K nodes x e.volume may in
     let none : space K may.row ≡ 0 = ap (λ b. cond b 0 (alloc K may.row.length)) (sym (found_folder nodes x may.row may.found) ∙ folder) in
-    let e' : IsCounted K nodes (without_row folder_of x quotas) (without_counter counters x) level = engine_without K nodes quotas counters (without_counter counters x) x e refl in
+    let e' : IsCounted K nodes (without_row folder_of x quotas) (without_counter counters x) level = counted_without K nodes quotas counters (without_counter counters x) x e refl in
     let i : IsCounted K new (without_row folder_of x quotas) (without_counter counters x) level =
     idle_same K nodes new (without_row folder_of x quotas) (without_counter counters x) e' (subst (λ (w : Volume). IsVolume w.size w.nodes) made kept)
     (λ f q h. no_less (usage K nodes f) (usage K new f) (space K may.row) (is_under nodes f may.row.number) none (usage-removed K nodes x r e.volume.ascending may.row may.found f))
@@ -192,7 +193,7 @@ idle_gone {level} v w quotas after counters left x e may folder made kept quotas
     subst (λ (w : Volume). IsCounted w.size w.nodes after left level) (sym made)
     (subst (λ qs. IsCounted K new qs left level) (sym quotas_are) (subst (λ cs. IsCounted K new (without_row folder_of x quotas) cs level) (sym counters_are) i))
 
--- the counters of an engine are small
+-- counters are small
 small_at : (K : Capacity) (nodes : List NodeRow) (q : QuotaRow) (bytes : ℕ) (b : Bool) → usage K nodes q.folder ≤ 1048576 * longest_file → cond b (Some (usage K nodes q.folder)) None ≡ Some bytes → bytes ≤ 1048576 * longest_file
 small_at K nodes q bytes true l h = subst (λ n. n ≤ 1048576 * longest_file) (same_Some _ _ h) l
 small_at K nodes q bytes false l h = cc
@@ -248,7 +249,7 @@ file_goes {level} v w quotas counters x minus view e may file made kept shows mi
       engine = record {
         volume = subst (λ (w : Volume). IsVolume w.size w.nodes) made kept;
         legal = e.legal;
-        are_quotas = quotas_kept nodes new quotas e.are_quotas out;
+        are_quotas = quotas_stay nodes new quotas e.are_quotas out;
         sums = counters_charged K nodes new quotas counters (gone_change view.parent minus) e.are_quotas changes e.sums;
         peaks = λ l f q found counting.
             let a = changes.after f q found in

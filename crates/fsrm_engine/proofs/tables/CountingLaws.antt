@@ -22,9 +22,10 @@ use Rattle.quota_usage.specs.declared.change.Counter.{Counter}
 use Rattle.quota_usage.specs.Counters.{counted, used_in, with_counter, without_counter}
 use Rattle.fsrm_objects.specs.Tables.{Tables}
 use Rattle.fsrm_engine.specs.declared.parts.Parts.{Parts}
+use Rattle.fsrm_model.proofs.QuotasKept.{without_found, filter_few, quotas-new, quotas-change, quotas-without}
 use Rattle.fsrm_engine.specs.Machine.{counter_of, sums_of, IsCounted, recounted, ended}
 use Rattle.fsrm_engine.specs.Peaks.{raised}
-use Rattle.fsrm_engine.proofs.tables.PeakLaws.{peak_stays, raised_is, some_settled, engine_raised}
+use Rattle.fsrm_engine.proofs.tables.PeakLaws.{peak_stays, raised_is, some_settled, counted_raised}
 use Rattle.fsrm_base.proofs.RowLaws.{change_same, each_found, map_same}
 use Rattle.fsrm_engine.proofs.tables.SumLaws.{used_found, sums_few, sums_has, sums_with, sums_without, sums_kept}
 
@@ -101,7 +102,7 @@ sums_begun K nodes n q quotas asc k h c lacks =
     ∙ (ap (with_row counted (counter_of K nodes q)) (sums_without K nodes n quotas ∙ without_absent counted n (sums_of K nodes quotas) lacks)
     ∙ ap (λ k. with_counter (sums_of K nodes quotas) k (usage K nodes k)) k))
 
--- what an engine keeps when a quota comes
+-- what is kept when a quota comes
 of_new : (quota : QuotaRow) (P : ℕ → QuotaRow → Type 0) (f : ℕ) (quotas : List QuotaRow) (r : QuotaRow) → has_row folder_of quota.folder quotas ≡ false → P quota.folder quota → ((r : QuotaRow) → row_of folder_of f quotas ≡ Some r → P f r) → row_of folder_of f (with_row folder_of quota quotas) ≡ Some r → P f r
 of_new quota P f quotas r absent new old h =
     elim (new_found folder_of quota f quotas r absent h).other [
@@ -109,53 +110,23 @@ of_new quota P f quotas r absent new old h =
       | inr later ↦ old r later.1
     ]
 
-pub engine_with : {level : Bool} (K : Capacity) (nodes : List NodeRow) (quotas : List QuotaRow) (counters made : List Counter) (quota : QuotaRow) → IsCounted K nodes quotas counters level → has_row folder_of quota.folder quotas ≡ false → length quotas < most_quotas → is_folder nodes quota.folder ≡ true → is_limit quota.limit ≡ true → is_moment quota.peak_at ≡ true → (counts quota ≡ true → usage K nodes quota.folder ≤ quota.peak) → made ≡ sums_of K nodes (with_row folder_of quota quotas) → IsCounted K nodes (with_row folder_of quota quotas) made level
-engine_with K nodes quotas counters made quota e absent room folder limit moment peak sums =
-    let q = e.are_quotas in
+pub counted_with : {level : Bool} (K : Capacity) (nodes : List NodeRow) (quotas : List QuotaRow) (counters made : List Counter) (quota : QuotaRow) → IsCounted K nodes quotas counters level → has_row folder_of quota.folder quotas ≡ false → length quotas < most_quotas → is_folder nodes quota.folder ≡ true → is_limit quota.limit ≡ true → is_moment quota.peak_at ≡ true → (counts quota ≡ true → usage K nodes quota.folder ≤ quota.peak) → made ≡ sums_of K nodes (with_row folder_of quota quotas) → IsCounted K nodes (with_row folder_of quota quotas) made level
+counted_with K nodes quotas counters made quota e absent room folder limit moment peak sums =
     record {
       volume = e.volume;
       legal = e.legal;
-      are_quotas = record {
-        ascending = ascending-with_row folder_of quota quotas absent q.ascending;
-        few = omega (arith, length-with_row folder_of quota quotas);
-        folders = λ f r h. of_new quota (λ f r. is_folder nodes f ≡ true) f quotas r absent folder (q.folders f) h;
-        limits = λ f r h. of_new quota (λ f r. is_limit r.limit ≡ true) f quotas r absent limit (q.limits f) h;
-        moments = λ f r h. of_new quota (λ f r. is_moment r.peak_at ≡ true) f quotas r absent moment (q.moments f) h;
-      };
+      are_quotas = quotas-new nodes quotas quota e.are_quotas absent room folder (record { limit = limit; moment = moment });
       sums = sums;
       peaks = λ l f r h. of_new quota (λ f r. counts r ≡ true → usage K nodes f ≤ r.peak) f quotas r absent peak (e.peaks l f) h;
     }
 
 -- when one goes
-pub without_found : (n f : ℕ) (quotas : List QuotaRow) (q : QuotaRow) → row_of folder_of f (without_row folder_of n quotas) ≡ Some q → row_of folder_of f quotas ≡ Some q
-without_found n f quotas q h =
-    elim (is_or_not (f == n)) [
-      | inl t ↦ absurd (clash (has_row folder_of f (without_row folder_of n quotas)) (found_has folder_of f (without_row folder_of n quotas) q h)
-          (ap (λ k. has_row folder_of k (without_row folder_of n quotas)) (eq_is f n t) ∙ has_row-without folder_of n quotas))
-      | inr t ↦ sym (row_of-without folder_of n f quotas t) ∙ h
-    ]
-
-pub filter_few : {X : Type 0} (p : X → Bool) (xs : List X) → length (filter p xs) ≤ length xs
-filter_few p [] = omega arith
-filter_few p (x ∷ xs) = at (p x) (filter_few p xs)
-  where
-    at : (b : Bool) → length (filter p xs) ≤ length xs → length (cond b (x ∷ filter p xs) (filter p xs)) ≤ length (x ∷ xs)
-    at true h = omega arith
-    at false h = omega arith
-
-pub engine_without : {level : Bool} (K : Capacity) (nodes : List NodeRow) (quotas : List QuotaRow) (counters made : List Counter) (n : ℕ) → IsCounted K nodes quotas counters level → made ≡ without_counter counters n → IsCounted K nodes (without_row folder_of n quotas) made level
-engine_without K nodes quotas counters made n e is =
-    let q = e.are_quotas in
+pub counted_without : {level : Bool} (K : Capacity) (nodes : List NodeRow) (quotas : List QuotaRow) (counters made : List Counter) (n : ℕ) → IsCounted K nodes quotas counters level → made ≡ without_counter counters n → IsCounted K nodes (without_row folder_of n quotas) made level
+counted_without K nodes quotas counters made n e is =
     record {
       volume = e.volume;
       legal = e.legal;
-      are_quotas = record {
-        ascending = ascending-filter folder_of (λ r. not (folder_of r == n)) quotas q.ascending;
-        few = omega (arith, filter_few (λ r. not (folder_of r == n)) quotas, q.few);
-        folders = λ f r h. q.folders f r (without_found n f quotas r h);
-        limits = λ f r h. q.limits f r (without_found n f quotas r h);
-        moments = λ f r h. q.moments f r (without_found n f quotas r h);
-      };
+      are_quotas = quotas-without nodes quotas n e.are_quotas;
       sums = is ∙ (ap (without_row counted n) e.sums ∙ sym (sums_without K nodes n quotas));
       peaks = λ l f r h. e.peaks l f r (without_found n f quotas r h);
     }
@@ -170,22 +141,12 @@ of_changed n c P k f quotas r old h =
     at true e r p = p.0 (eq_is f n e)
     at false e r p = p.1
 
-pub are_changed : (nodes : List NodeRow) (quotas : List QuotaRow) (n : ℕ) (c : QuotaRow → QuotaRow) → AreQuotas nodes quotas → ((r : QuotaRow) → (c r).folder ≡ r.folder) → ((r : QuotaRow) → row_of folder_of n quotas ≡ Some r → is_limit (c r).limit ≡ true) → ((r : QuotaRow) → row_of folder_of n quotas ≡ Some r → is_moment (c r).peak_at ≡ true) → AreQuotas nodes (with_change folder_of n c quotas)
-are_changed nodes quotas n c q k limit moment =
-    record {
-      ascending = ascending-change folder_of n c k quotas q.ascending;
-      few = omega (arith, length-change folder_of n c quotas, q.few);
-      folders = λ f r h. q.folders f _ (changed_found folder_of n c k f quotas r h).found;
-      limits = λ f r h. of_changed n c (λ r. is_limit r.limit ≡ true) k f quotas r (λ r found. (λ same. limit r (subst (λ m. row_of folder_of m quotas ≡ Some r) same found), q.limits f r found)) h;
-      moments = λ f r h. of_changed n c (λ r. is_moment r.peak_at ≡ true) k f quotas r (λ r found. (λ same. moment r (subst (λ m. row_of folder_of m quotas ≡ Some r) same found), q.moments f r found)) h;
-    }
-
-pub engine_changed : {level : Bool} (K : Capacity) (nodes : List NodeRow) (quotas : List QuotaRow) (counters made : List Counter) (n : ℕ) (c : QuotaRow → QuotaRow) → IsCounted K nodes quotas counters level → ((r : QuotaRow) → (c r).folder ≡ r.folder) → ((r : QuotaRow) → row_of folder_of n quotas ≡ Some r → is_limit (c r).limit ≡ true) → ((r : QuotaRow) → row_of folder_of n quotas ≡ Some r → is_moment (c r).peak_at ≡ true) → (level ≡ true → (r : QuotaRow) → row_of folder_of n quotas ≡ Some r → counts (c r) ≡ true → usage K nodes n ≤ (c r).peak) → made ≡ sums_of K nodes (with_change folder_of n c quotas) → IsCounted K nodes (with_change folder_of n c quotas) made level
-engine_changed K nodes quotas counters made n c e k limit moment peak sums =
+pub counted_changed : {level : Bool} (K : Capacity) (nodes : List NodeRow) (quotas : List QuotaRow) (counters made : List Counter) (n : ℕ) (c : QuotaRow → QuotaRow) → IsCounted K nodes quotas counters level → ((r : QuotaRow) → (c r).folder ≡ r.folder) → ((r : QuotaRow) → row_of folder_of n quotas ≡ Some r → is_limit (c r).limit ≡ true) → ((r : QuotaRow) → row_of folder_of n quotas ≡ Some r → is_moment (c r).peak_at ≡ true) → (level ≡ true → (r : QuotaRow) → row_of folder_of n quotas ≡ Some r → counts (c r) ≡ true → usage K nodes n ≤ (c r).peak) → made ≡ sums_of K nodes (with_change folder_of n c quotas) → IsCounted K nodes (with_change folder_of n c quotas) made level
+counted_changed K nodes quotas counters made n c e k limit moment peak sums =
     record {
       volume = e.volume;
       legal = e.legal;
-      are_quotas = are_changed nodes quotas n c e.are_quotas k limit moment;
+      are_quotas = quotas-change nodes quotas n c e.are_quotas k (λ r found. record { limit = limit r found; moment = moment r found });
       sums = sums;
       peaks = λ l f r h. of_changed n c (λ r. counts r ≡ true → usage K nodes f ≤ r.peak) k f quotas r (λ r found. (
         λ same t. subst (λ m. usage K nodes m ≤ (c r).peak) (sym same) (peak l r (subst (λ m. row_of folder_of m quotas ≡ Some r) same found) t),
@@ -201,11 +162,11 @@ pub put_is : (quota : QuotaRow) (quotas : List QuotaRow) → is_ascending folder
 put_is quota quotas asc =
     change_same folder_of quota.folder (λ old. quota) (put_in quota) quotas asc (λ r found. ap (λ n. record quota { folder = n }) (sym (found_key folder_of quota.folder quotas r found)))
 
-pub engine_put : {level : Bool} (K : Capacity) (nodes : List NodeRow) (quotas : List QuotaRow) (counters made : List Counter) (quota : QuotaRow) → IsCounted K nodes quotas counters level → is_limit quota.limit ≡ true → is_moment quota.peak_at ≡ true → (level ≡ true → counts quota ≡ true → usage K nodes quota.folder ≤ quota.peak) → made ≡ sums_of K nodes (with_change folder_of quota.folder (λ old. quota) quotas) → IsCounted K nodes (with_change folder_of quota.folder (λ old. quota) quotas) made level
-engine_put {level} K nodes quotas counters made quota e limit moment peak sums =
+pub counted_put : {level : Bool} (K : Capacity) (nodes : List NodeRow) (quotas : List QuotaRow) (counters made : List Counter) (quota : QuotaRow) → IsCounted K nodes quotas counters level → is_limit quota.limit ≡ true → is_moment quota.peak_at ≡ true → (level ≡ true → counts quota ≡ true → usage K nodes quota.folder ≤ quota.peak) → made ≡ sums_of K nodes (with_change folder_of quota.folder (λ old. quota) quotas) → IsCounted K nodes (with_change folder_of quota.folder (λ old. quota) quotas) made level
+counted_put {level} K nodes quotas counters made quota e limit moment peak sums =
     let is = put_is quota quotas e.are_quotas.ascending in
     subst (λ (qs : List QuotaRow). IsCounted K nodes qs made level) (sym is)
-    (engine_changed K nodes quotas counters made quota.folder (put_in quota) e (λ r. refl) (λ r found. limit) (λ r found. moment) (λ l r found. peak l)
+    (counted_changed K nodes quotas counters made quota.folder (put_in quota) e (λ r. refl) (λ r found. limit) (λ r found. moment) (λ l r found. peak l)
     (sums ∙ ap (sums_of K nodes) is))
 
 -- and counts as the old one did
@@ -268,7 +229,7 @@ pub record Recounted (counters made : List Counter) (n : ℕ) (counting : Bool) 
 pub added : {level : Bool} (K : Capacity) (nodes : List NodeRow) (quotas set : List QuotaRow) (counters made : List Counter) (quota : QuotaRow) (counting : Bool) → IsCounted K nodes quotas counters level → has_row folder_of quota.folder quotas ≡ false → length quotas < most_quotas → is_folder nodes quota.folder ≡ true → is_limit quota.limit ≡ true → is_moment quota.peak_at ≡ true → (counts quota ≡ true → usage K nodes quota.folder ≡ 0) → counting ≡ counts quota → Recounted counters made quota.folder counting → set ≡ with_row folder_of quota quotas → IsCounted K nodes set made level
 added {level} K nodes quotas set counters made quota counting e absent room folder limit moment nothing c m s =
     subst (λ (qs : List QuotaRow). IsCounted K nodes qs made level) (sym s)
-    (engine_with K nodes quotas counters made quota e absent room folder limit moment (λ t. small (usage K nodes quota.folder) quota.peak (nothing t)) (sums counting c m))
+    (counted_with K nodes quotas counters made quota e absent room folder limit moment (λ t. small (usage K nodes quota.folder) quota.peak (nothing t)) (sums counting c m))
   where
     small : (u p : ℕ) → u ≡ 0 → u ≤ p
     small u p h = omega arith
@@ -319,10 +280,10 @@ put_sums K nodes quotas counters made quota old e found nothing m =
         m.held c (counter ∙ was)
         ∙ (e.sums ∙ sums_held K nodes quotas quota old asc found (complete_is quota.state c ∙ sym (complete_is old.state was)))
 
-pub put_engine : {level : Bool} (K : Capacity) (nodes : List NodeRow) (quotas set : List QuotaRow) (counters made : List Counter) (quota : QuotaRow) (counting : Bool) → IsCounted K nodes quotas counters level → has_row folder_of quota.folder quotas ≡ true → is_limit quota.limit ≡ true → is_moment quota.peak_at ≡ true → ((old : QuotaRow) → row_of folder_of quota.folder quotas ≡ Some old → quota.peak ≡ old.peak) → ((old : QuotaRow) → row_of folder_of quota.folder quotas ≡ Some old → counts old ≡ false → counts quota ≡ true → usage K nodes quota.folder ≡ 0) → counting ≡ counts quota → Recounted counters made quota.folder counting → set ≡ with_change folder_of quota.folder (λ old. quota) quotas → IsCounted K nodes set made level
-put_engine {level} K nodes quotas set counters made quota counting e there limit moment peak nothing c m s =
+pub quota_put : {level : Bool} (K : Capacity) (nodes : List NodeRow) (quotas set : List QuotaRow) (counters made : List Counter) (quota : QuotaRow) (counting : Bool) → IsCounted K nodes quotas counters level → has_row folder_of quota.folder quotas ≡ true → is_limit quota.limit ≡ true → is_moment quota.peak_at ≡ true → ((old : QuotaRow) → row_of folder_of quota.folder quotas ≡ Some old → quota.peak ≡ old.peak) → ((old : QuotaRow) → row_of folder_of quota.folder quotas ≡ Some old → counts old ≡ false → counts quota ≡ true → usage K nodes quota.folder ≡ 0) → counting ≡ counts quota → Recounted counters made quota.folder counting → set ≡ with_change folder_of quota.folder (λ old. quota) quotas → IsCounted K nodes set made level
+quota_put {level} K nodes quotas set counters made quota counting e there limit moment peak nothing c m s =
     subst (λ (qs : List QuotaRow). IsCounted K nodes qs made level) (sym s)
-    (engine_put K nodes quotas counters made quota e limit moment (λ l t. enough l (counts f.row) t refl)
+    (counted_put K nodes quotas counters made quota e limit moment (λ l t. enough l (counts f.row) t refl)
     (put_sums K nodes quotas counters made quota f.row e f.is (nothing f.row f.is) (subst (λ b. Recounted counters made quota.folder b) c m)))
   where
     f : FoundRow (row_of folder_of quota.folder quotas)
@@ -342,14 +303,14 @@ rebuilt {level} K nodes quotas set counters made n e there m s =
     let quota = in_state Rebuilding f.row in
     let k : f.row.folder ≡ n = found_key folder_of n quotas f.row f.is in
     subst (λ (qs : List QuotaRow). IsCounted K nodes qs made level) (sym s)
-    (engine_changed K nodes quotas counters made n (in_state Rebuilding) e (λ r. refl) (λ r found. e.are_quotas.limits n r found) (λ r found. e.are_quotas.moments n r found) (λ l r found c. cc)
+    (counted_changed K nodes quotas counters made n (in_state Rebuilding) e (λ r. refl) (λ r found. e.are_quotas.limits n r found) (λ r found. e.are_quotas.moments n r found) (λ l r found c. cc)
     (m ∙ (ap (without_row counted n) e.sums
     ∙ sym (ap (sums_of K nodes) (state_is Rebuilding n quotas f.row e.are_quotas.ascending f.is) ∙ sums_ended K nodes n quota quotas e.are_quotas.ascending k there refl))))
 
 -- A quota that counts from now on
 pub completed_are : (K : Capacity) (nodes : List NodeRow) (quotas : List QuotaRow) (n : ℕ) → AreQuotas nodes quotas → AreQuotas nodes (with_change folder_of n (in_state Complete) quotas)
 completed_are K nodes quotas n q =
-    are_changed nodes quotas n (in_state Complete) q (λ r. refl) (λ r found. q.limits n r found) (λ r found. q.moments n r found)
+    quotas-change nodes quotas n (in_state Complete) q (λ r. refl) (λ r found. record { limit = q.limits n r found; moment = q.moments n r found })
 
 completed_sums : {level : Bool} (K : Capacity) (nodes : List NodeRow) (quotas : List QuotaRow) (counters made : List Counter) (n used : ℕ) (q : QuotaRow) → IsCounted K nodes quotas counters level → row_of folder_of n quotas ≡ Some q → counts q ≡ false → used ≡ usage K nodes n → made ≡ with_counter counters n used → made ≡ sums_of K nodes (with_change folder_of n (in_state Complete) quotas)
 completed_sums K nodes quotas counters made n used q e found c u m =
@@ -366,7 +327,7 @@ is_moment_of m h = grind (arith, nat_tests)
 abbrev pub is_on : ℕ → QuotaRow → Bool
 is_on n q = folder_of q == n
 
--- of all quotas of an engine that is level its peak alone may rise
+-- of all quotas, if they are level, its peak alone may rise
 completed_peaks : (K : Capacity) (nodes : List NodeRow) (quotas : List QuotaRow) (counters made : List Counter) (m n : ℕ) → IsCounted K nodes quotas counters true → made ≡ sums_of K nodes (with_change folder_of n (in_state Complete) quotas) → with_change folder_of n (raised made m) (with_change folder_of n (in_state Complete) quotas) ≡ map (peaked K nodes m) (with_change folder_of n (in_state Complete) quotas)
 completed_peaks K nodes quotas counters made m n e sums =
     map_same (λ r. if folder_of r == n then raised made m r else r) (peaked K nodes m) after (each_found folder_of _ after asc (λ r found. at r found (folder_of r == n) refl))
@@ -398,7 +359,7 @@ completes {level} K nodes quotas in_it set counters made m n used e late there u
       quotas_are = ap (map (peaked K nodes m)) is ∙ some_settled K nodes (is_on n) after made m are.ascending sums;
       sums = sums;
       engine = subst (λ (qs : List QuotaRow). IsCounted K nodes qs made level) (sym is)
-          (engine_raised K nodes (is_on n) after made m e.volume e.legal are (is_moment_of m late) sums
+          (counted_raised K nodes (is_on n) after made m e.volume e.legal are (is_moment_of m late) sums
           (λ l. completed_peaks K nodes quotas counters made m n (subst (IsCounted K nodes quotas counters) l e) sums));
     }
 

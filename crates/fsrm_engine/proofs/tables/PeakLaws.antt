@@ -1,4 +1,4 @@
--- Peaks after a command that lasts, and what an engine then keeps.
+-- Peaks after a command that lasts, and what is then kept of counters.
 use Rattle.std.proofs.Common.{◌≡◌, ℕ, ◌+◌, ◌-◌, ◌≤◌, ◌==◌, Bool, true, false, cond, ◌&&◌, List, [], ◌∷◌, Option, Some, None, nat_lt, refl, ap, sym, ◌∙◌, subst, arith}
 use Rattle.std.proofs.lemmas.Bool.Decides.{nat_tests}
 use Rattle.std.proofs.lemmas.List.{length-map}
@@ -113,9 +113,9 @@ quotas_mapped nodes g quotas folder limit moment qs =
       moments = λ f q h. let w = was g folder f quotas q h in ap (λ (q : QuotaRow). is_moment q.peak_at) w.is ∙ moment w.old (qs.moments f w.old w.found);
     }
 
--- what an engine keeps, once peaks are raised
-pub engine_peaked : {level : Bool} (K : Capacity) (nodes : List NodeRow) (quotas : List QuotaRow) (counters : List Counter) (m : ℕ) → IsVolume K nodes → is_capacity K ≡ true → AreQuotas nodes quotas → is_moment m ≡ true → counters ≡ sums_of K nodes quotas → IsCounted K nodes (map (peaked K nodes m) quotas) counters level
-engine_peaked K nodes quotas counters m v legal qs moment sums =
+-- what is kept, once peaks are raised
+pub counted_peaked : {level : Bool} (K : Capacity) (nodes : List NodeRow) (quotas : List QuotaRow) (counters : List Counter) (m : ℕ) → IsVolume K nodes → is_capacity K ≡ true → AreQuotas nodes quotas → is_moment m ≡ true → counters ≡ sums_of K nodes quotas → IsCounted K nodes (map (peaked K nodes m) quotas) counters level
+counted_peaked K nodes quotas counters m v legal qs moment sums =
     record {
       volume = v;
       legal = legal;
@@ -127,11 +127,6 @@ engine_peaked K nodes quotas counters m v legal qs moment sums =
           let most : usage K nodes w.old.folder ≤ q.peak = subst (λ (p : QuotaRow). usage K nodes w.old.folder ≤ p.peak) (sym w.is) (peaked_most K nodes m w.old counting) in
           subst (λ n. usage K nodes n ≤ q.peak) (found_folder_is f quotas w.old w.found) most;
     }
-
--- quotas on folders that are kept
-pub quotas_kept : (nodes new : List NodeRow) (quotas : List QuotaRow) → AreQuotas nodes quotas → ((f : ℕ) (q : QuotaRow) → row_of folder_of f quotas ≡ Some q → is_folder nodes f ≡ true → is_folder new f ≡ true) → AreQuotas new quotas
-quotas_kept nodes new quotas qs h =
-    record { ascending = qs.ascending; few = qs.few; folders = λ f q found. h f q found (qs.folders f q found); limits = qs.limits; moments = qs.moments }
 
 -- counters that were charged are the sums after the change
 pub counters_charged : (K : Capacity) (nodes new : List NodeRow) (quotas : List QuotaRow) (counters : List Counter) (change : Change) → AreQuotas nodes quotas → Changes K nodes new quotas change → counters ≡ sums_of K nodes quotas → map (charged_counter new change) counters ≡ sums_of K new quotas
@@ -200,9 +195,9 @@ some_settled K nodes p quotas counters m asc sums =
     at q found true = ap (peaked K nodes m) (raised_is K nodes quotas counters m q asc sums found) ∙ peaked_twice K nodes m q
     at q found false = refl
 
--- what is kept where peaks of some quotas were raised: of an engine that is level, of all that must be
-pub engine_raised : {level : Bool} (K : Capacity) (nodes : List NodeRow) (p : QuotaRow → Bool) (quotas : List QuotaRow) (counters : List Counter) (m : ℕ) → IsVolume K nodes → is_capacity K ≡ true → AreQuotas nodes quotas → is_moment m ≡ true → counters ≡ sums_of K nodes quotas → (level ≡ true → map (raised_some p counters m) quotas ≡ map (peaked K nodes m) quotas) → IsCounted K nodes (map (raised_some p counters m) quotas) counters level
-engine_raised {level} K nodes p quotas counters m v legal qs moment sums all =
+-- what is kept where peaks of some quotas were raised: if it is level, of all that must be
+pub counted_raised : {level : Bool} (K : Capacity) (nodes : List NodeRow) (p : QuotaRow → Bool) (quotas : List QuotaRow) (counters : List Counter) (m : ℕ) → IsVolume K nodes → is_capacity K ≡ true → AreQuotas nodes quotas → is_moment m ≡ true → counters ≡ sums_of K nodes quotas → (level ≡ true → map (raised_some p counters m) quotas ≡ map (peaked K nodes m) quotas) → IsCounted K nodes (map (raised_some p counters m) quotas) counters level
+counted_raised {level} K nodes p quotas counters m v legal qs moment sums all =
     record {
       volume = v;
       legal = legal;
@@ -210,7 +205,7 @@ engine_raised {level} K nodes p quotas counters m v legal qs moment sums all =
           (λ q old. raised_case (λ r. is_moment r.peak_at ≡ true) counters m q old (λ used. moment) (p q)) qs;
       sums = sums ∙ sym (sums_kept K nodes (raised_some p counters m) (some_folder p counters m) (some_counts p counters m) quotas);
       peaks = λ l f q h c.
-          let whole : IsCounted K nodes (map (peaked K nodes m) quotas) counters true = engine_peaked K nodes quotas counters m v legal qs moment sums in
+          let whole : IsCounted K nodes (map (peaked K nodes m) quotas) counters true = counted_peaked K nodes quotas counters m v legal qs moment sums in
           whole.peaks refl f q (subst (λ rows. row_of folder_of f rows ≡ Some q) (all l) h) c;
     }
 

@@ -26,7 +26,7 @@ use Rattle.fsrm_engine.specs.Places.{IsFolder}
 use Rattle.fsrm_engine.proofs.steps.PlaceLaws.{target_is, leads_to_folder_is}
 use Rattle.fsrm_base.proofs.RowLaws.{change_same}
 use Rattle.fsrm_engine.proofs.tables.SumLaws.{used_found, sums_kept}
-use Rattle.fsrm_engine.proofs.tables.CountingLaws.{is_moment_of, engine_changed}
+use Rattle.fsrm_engine.proofs.tables.CountingLaws.{is_moment_of, counted_changed}
 
 -- of quotas that are made so
 pub counted_same : {level : Bool} (K : Capacity) (nodes : List NodeRow) (counters : List Counter) (after set : List QuotaRow) → set ≡ after → IsCounted K nodes after counters level → IsCounted K nodes set counters level
@@ -61,7 +61,7 @@ quota_due R path n o =
 -- with the peak that is used now
 pub counted_reset : (p : Parts) (m n : ℕ) → AreCounted p → m ≤ latest_moment → IsCounted p.tree.size p.tree.nodes (with_change folder_of n (reset p.tree.size (rows_of p) m) p.objects.quotas) p.usage p.level
 counted_reset p m n e late =
-    engine_changed K nodes quotas p.usage p.usage n c e (λ r. refl) (λ r found. e.are_quotas.limits n r found) (λ r found. is_moment_of m late)
+    counted_changed K nodes quotas p.usage p.usage n c e (λ r. refl) (λ r found. e.are_quotas.limits n r found) (λ r found. is_moment_of m late)
     (λ l r found t. subst (λ k. usage K nodes k ≤ (c r).peak) (found_key folder_of n quotas r found) (at r (counts r) t))
     (e.sums ∙ sym (sums_kept K nodes (λ r. if folder_of r == n then c r else r) (λ r. same_folder (folder_of r == n) r) (λ r. same_counts (folder_of r == n) r) quotas))
   where

@@ -1,6 +1,6 @@
 use Rattle.std.proofs.Common.{ap}
 use Rattle.fsrm_objects.specs.Tables.{Tables}
-use Rattle.fsrm_engine.proofs.tables.CountingLaws.{put_engine, room_for, recounted_as}
+use Rattle.fsrm_engine.proofs.tables.CountingLaws.{quota_put, room_for, recounted_as}
 use Rattle.fsrm_engine.proofs.parts.Parts.put.Goals as goal
 
 pub recount-requires : goal.recount-requires
@@ -9,7 +9,7 @@ recount-requires c = let p = c.args.self.now in record { room = λ t free. room_
 pub returns-clause-counted : goal.returns-clause-counted
 returns-clause-counted c =
     let p = c.args.self.now in
-    put_engine p.tree.size p.tree.nodes p.objects.quotas c.set_quota.new.self.quotas p.usage c.recount.new.usage c.args.row c.is_counting.result c.requires.counted
+    quota_put p.tree.size p.tree.nodes p.objects.quotas c.set_quota.new.self.quotas p.usage c.recount.new.usage c.args.row c.is_counting.result c.requires.counted
     c.requires.there c.requires.limit c.requires.moment c.requires.peak c.requires.nothing c.is_counting.ensures
     (record { ended = c.recount.ensures.ended; begun = c.recount.ensures.begun; held = c.recount.ensures.held })
     (ap (λ (t : Tables). t.quotas) c.set_quota.ensures)

@@ -2,7 +2,7 @@ use Rattle.std.proofs.Common.{ap, sym, subst}
 use Rattle.fsrm_engine.specs.declared.parts.Parts.{Parts}
 use Rattle.fsrm_engine.specs.Machine.{AreCounted}
 use Rattle.fsrm_engine.proofs.tables.CountingLaws.{is_moment_of}
-use Rattle.fsrm_engine.proofs.tables.PeakLaws.{engine_peaked}
+use Rattle.fsrm_engine.proofs.tables.PeakLaws.{counted_peaked}
 use Rattle.fsrm_engine.proofs.parts.Parts.settle.Goals as goal
 
 pub returns-clause-ended : goal.returns-clause-ended
@@ -13,4 +13,4 @@ returns-clause-counted c =
     let p = c.args.self.now in
     let e = c.requires.counted in
     subst AreCounted (sym (returns-clause-ended c))
-    (engine_peaked p.tree.size p.tree.nodes p.objects.quotas p.usage c.args.moment e.volume e.legal e.are_quotas (is_moment_of c.args.moment c.requires.moment) e.sums)
+    (counted_peaked p.tree.size p.tree.nodes p.objects.quotas p.usage c.args.moment e.volume e.legal e.are_quotas (is_moment_of c.args.moment c.requires.moment) e.sums)
