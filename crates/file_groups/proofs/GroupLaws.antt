@@ -1,21 +1,21 @@
 -- Groups after an edit are as they are to be held.
-use Rattle.std.proofs.Common.{◌≡◌, ℕ, ◌+◌, ◌<◌, ◌==◌, nat_lt, Bool, true, false, cond, not, ◌&&◌, ◌||◌, List, [], ◌∷◌, length, get_or, insert, remove, Option, Some, Result, Ok, IfOk, refl, sym, ◌∙◌, ap, subst, arith}
+use Rattle.std.proofs.Common.{◌≡◌, ℕ, ◌+◌, ◌<◌, ◌==◌, nat_lt, Bool, true, false, cond, not, ◌&&◌, ◌||◌, List, [], ◌∷◌, length, get_or, insert, remove, Option, Some, None, Result, Ok, IfOk, refl, sym, ◌∙◌, ap, subst, arith}
 use Rattle.std.proofs.lemmas.List.{length-set}
 use Rattle.std.proofs.lemmas.List.Edits.{length-insert, length-remove}
 use Rattle.std.proofs.lemmas.Option.{get_or_from_slice_get}
 use Rattle.std.specs.List.{list_all, list_any}
 use Rattle.std.specs.Borrow.{Bor}
 use Rattle.std.specs.Option.{option_copied}
-use Rattle.std.specs.Prelude.{slice_set, filter}
+use Rattle.std.specs.Prelude.{IfSome, slice_set, filter, find, option_map}
 use Rattle.fsrm_model.specs.declared.row.GroupRow.{GroupRow}
-use Rattle.fsrm_base.specs.Keyed.{row_of, has_row, with_change, least_free}
+use Rattle.fsrm_base.specs.Keyed.{row_of, has_row, is_ascending, with_change, least_free}
 use Rattle.fsrm_model.specs.Name.{same_name}
 use Rattle.fsrm_model.specs.Limits.{most_groups}
 use Rattle.fsrm_model.specs.Patterns.{all_texts, are_apart, group_number, has_name, is_group, regrouped, texts_of, with_group, with_patterns, without_group}
 use Rattle.fsrm_base.proofs.EditedRows.{sum_by-with_row, sum_by-with_change, sum_by-without_row}
 use Rattle.fsrm_model.proofs.Keeps.{same_turned}
 use Rattle.fsrm_base.proofs.EditedTests.{list_all-filter, list_all-with_change, list_all-with_row, list_any-filter, list_any-with_row}
-use Rattle.fsrm_base.proofs.Look.{found_key}
+use Rattle.fsrm_base.proofs.Look.{found_has, found_key, found_own}
 use Rattle.fsrm_base.proofs.Order.{least_free_is}
 use Rattle.fsrm_base.proofs.TestLaws.{both, both_true, neither, clash, is_false, not_true}
 use Rattle.file_groups.specs.Kept.{AreGroups}
@@ -79,6 +79,12 @@ read_found groups n p r at read =
     let found = row_found group_number n groups p at in
     let is : r ≡ found.row = read ∙ get_or_from_slice_get groups p found.row r found.at in
     sym at.found ∙ (found.at ∙ ap Some (sym is))
+
+-- the group that is found by its name is there by its number
+pub found_there : (name : List ℕ) (groups : List GroupRow) (found : Option GroupRow) → is_ascending group_number groups ≡ true → find (has_name name) groups ≡ found → IfSome (option_map group_number found) (λ n. has_row group_number n groups ≡ true)
+found_there name groups None ascending is = tt
+found_there name groups (Some group) ascending is =
+    found_has group_number group.number groups group (found_own group_number (has_name name) groups group ascending is)
 
 -- one more
 pub more_are : (groups : List GroupRow) (row : GroupRow) (p : ℕ) → AreGroups groups → IsGap group_number row.number groups p → length groups < most_groups → is_group row ≡ true → list_any (has_name row.name) groups ≡ false → AreGroups (insert groups p row)

@@ -186,7 +186,8 @@ impl Groups {
 
     /// The number of the group of this name, in any spelling.
     pub fn find(&self, name: &str) -> Option<u32>
-        ensures { result ≡ number_named name.now self.now }
+        ensures found { result ≡ number_named name.now self.now }
+        ensures there { IfSome result (λ number. has_row group_number number self.now ≡ true) }
     {
         rows::find(&self.groups, name)
     }
