@@ -1,23 +1,22 @@
 -- Which fault is due.
-use Rattle.std.proofs.Common.{◌≡◌, ℕ, ◌+◌, ◌<◌, ◌≤◌, Bool, true, false, List, [], ◌∷◌, length, Option, Some, None, Result, OnOk, IfErr, refl, subst, sym, ◌∙◌, ap, arith}
+use Rattle.std.proofs.Common.{◌≡◌, ℕ, ◌+◌, ◌<◌, ◌≤◌, Bool, true, false, List, [], ◌∷◌, length, MatchOption, Option, Some, None, refl, sym, ◌∙◌, ap, arith}
 use Rattle.std.proofs.lemmas.Bool.Decides.{nat_tests}
-use Rattle.std.specs.Option.{ok_or}
-use Rattle.std.specs.Prelude.{is_some, is_none, nat_le, find}
+use Rattle.std.specs.Prelude.{is_some, nat_le, find}
 use Rattle.std.specs.List.{list_any}
 use Rattle.fsrm_model.specs.declared.row.GroupRow.{GroupRow}
+use Rattle.fsrm_base.specs.Causes.{◌when◌, first}
 use Rattle.fsrm_base.specs.Keyed.{row_of}
-use Rattle.fsrm_model.specs.Patterns.{group_number, has_name, most_groups, number_named, regrouped, texts_of}
+use Rattle.fsrm_model.specs.Limits.{most_groups}
+use Rattle.fsrm_model.specs.Patterns.{group_number, has_name, number_named, regrouped, texts_of}
 use Rattle.fsrm_base.proofs.Look.{is_some-find, is_some-mapped}
-use Rattle.fsrm_base.proofs.TestLaws.{lt_test, not_lt, le_test}
-use Rattle.file_groups.specs.declared.answer.GroupFault.{GroupFault}
+use Rattle.fsrm_base.proofs.TestLaws.{not_lt, le_test}
 use Rattle.file_groups.specs.declared.answer.GroupFault.TheVariants.{DuplicateName, TableFull, TextsFull}
-use Rattle.file_groups.specs.Faults.{new_fault, patterns_fault, first_fault, fault_if}
+use Rattle.file_groups.specs.Faults.{new_fault, patterns_fault}
 
 not_le : (m n : ℕ) → n < m → nat_le m n ≡ false
 not_le m n h = grind (arith, nat_tests)
 
--- a name is a group's exactly where a number is found for it
-
+-- a name is a group's exactly if a number is found for it
 pub named_is : (name : List ℕ) (groups : List GroupRow) → is_some (number_named name groups) ≡ list_any (has_name name) groups
 named_is name groups = is_some-mapped group_number (find (has_name name) groups) ∙ is_some-find (has_name name) groups
 
@@ -34,7 +33,7 @@ module _ (groups : List GroupRow) (name : List ℕ) (is_long : Bool) where
   pub none_due : list_any (has_name name) groups ≡ false → length groups < most_groups → is_long ≡ false → new_fault groups name is_long ≡ None
   none_due named few short = rw (named, not_le most_groups (length groups) few, short) refl
 
--- where none is due, the name is new, and a place is free
+-- if none is due, the name is new, and a place is free
 pub record Admitted (groups : List GroupRow) (name : List ℕ) : Type 0 where
   pub new : list_any (has_name name) groups ≡ false
   pub few : length groups < most_groups
@@ -42,7 +41,7 @@ pub record Admitted (groups : List GroupRow) (name : List ℕ) : Type 0 where
 le_is : (m n : ℕ) → nat_le m n ≡ false → n < m
 le_is m n h = grind (arith, nat_tests)
 
-two_pass : (named full is_long : Bool) → first_fault (fault_if DuplicateName named ∷ fault_if TableFull full ∷ fault_if TextsFull is_long ∷ []) ≡ None → (named ≡ false) × (full ≡ false)
+two_pass : (named full is_long : Bool) → first ((DuplicateName when named) ∷ (TableFull when full) ∷ (TextsFull when is_long) ∷ []) ≡ None → (named ≡ false) × (full ≡ false)
 two_pass false false is_long h = (refl, refl)
 two_pass false true is_long h = cc
 two_pass true full is_long h = cc
@@ -54,26 +53,15 @@ admitted groups name is_long h =
 
 -- other patterns, for the group that is found under a number
 module _ (groups : List GroupRow) (n room : ℕ) (old : GroupRow) (members non_members : Option (List (List ℕ))) (found : row_of group_number n groups ≡ Some old) where
-  pub patterns_due : room + texts_of old < texts_of (regrouped members non_members old) → patterns_fault groups n members non_members room ≡ Some TextsFull
-  patterns_due long = rw (found, lt_test (room + texts_of old) (texts_of (regrouped members non_members old)) long) refl
-
   pub patterns_fit : texts_of (regrouped members non_members old) ≤ room + texts_of old → patterns_fault groups n members non_members room ≡ None
   patterns_fit short = rw (found, not_lt (room + texts_of old) (texts_of (regrouped members non_members old)) short) refl
+
+-- texts that leave something of a room, or nothing, fit into it
+pub fitting : (left : Option ℕ) (bytes room : ℕ) → MatchOption left (room < bytes) (λ left. left + bytes ≡ room) → is_some left ≡ true → bytes ≤ room
+fitting None bytes room h some = cc
+fitting (Some left) bytes room h some = omega (arith, h)
 
 -- what a search for a name says of the groups that it was lent
 pub named_as : (name : List ℕ) (rows groups : List GroupRow) (number : Option ℕ) (is : Bool) → rows ≡ groups → number ≡ number_named name rows → is_some number ≡ is → list_any (has_name name) groups ≡ is
 named_as name rows groups number is same found some =
     ap (list_any (has_name name)) (sym same) ∙ (sym (named_is name rows) ∙ (ap is_some (sym found) ∙ some))
-
--- where the name is new and a place is free, what the texts leave of the room decides
-module _ (groups : List GroupRow) (name : List ℕ) (named : list_any (has_name name) groups ≡ false) (few : length groups < most_groups) where
-  pub answered_may : (left : Option ℕ) (r : Result ℕ GroupFault) → r ≡ ok_or left TextsFull → OnOk r (new_fault groups name (is_none left) ≡ None)
-  answered_may None r is = subst (λ (answer : Result ℕ GroupFault). OnOk answer (new_fault groups name true ≡ None)) (sym is) tt
-  answered_may (Some kept) r is =
-      subst (λ (answer : Result ℕ GroupFault). OnOk answer (new_fault groups name false ≡ None)) (sym is) (none_due groups name false named few refl)
-
-  pub answered_refused : (left : Option ℕ) (r : Result ℕ GroupFault) → r ≡ ok_or left TextsFull → IfErr r (λ fault. new_fault groups name (is_none left) ≡ Some fault)
-  answered_refused None r is =
-      subst (λ (answer : Result ℕ GroupFault). IfErr answer (λ fault. new_fault groups name true ≡ Some fault)) (sym is) (texts_due groups name true named few refl)
-  answered_refused (Some kept) r is =
-      subst (λ (answer : Result ℕ GroupFault). IfErr answer (λ fault. new_fault groups name false ≡ Some fault)) (sym is) tt

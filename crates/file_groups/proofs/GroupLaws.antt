@@ -2,76 +2,25 @@
 use Rattle.std.proofs.Common.{◌≡◌, ℕ, ◌+◌, ◌<◌, ◌==◌, nat_lt, Bool, true, false, cond, not, ◌&&◌, ◌||◌, List, [], ◌∷◌, length, get_or, insert, remove, Option, Some, None, Result, Ok, IfOk, refl, sym, ◌∙◌, ap, subst, arith}
 use Rattle.std.proofs.lemmas.List.{length-set}
 use Rattle.std.proofs.lemmas.List.Edits.{length-insert, length-remove}
-use Rattle.std.proofs.lemmas.Option.{same_Some, get_or_from_slice_get}
+use Rattle.std.proofs.lemmas.Option.{get_or_from_slice_get}
 use Rattle.std.specs.List.{list_all, list_any}
 use Rattle.std.specs.Borrow.{Bor}
 use Rattle.std.specs.Option.{option_copied}
-use Rattle.std.specs.Prelude.{slice_set, filter, find}
+use Rattle.std.specs.Prelude.{IfSome, slice_set, filter, find, option_map}
 use Rattle.fsrm_model.specs.declared.row.GroupRow.{GroupRow}
-use Rattle.fsrm_base.specs.Keyed.{row_of, has_row, with_row, with_change, least_free}
+use Rattle.fsrm_base.specs.Keyed.{row_of, has_row, is_ascending, with_change, least_free}
 use Rattle.fsrm_model.specs.Name.{same_name}
-use Rattle.fsrm_model.specs.Patterns.{all_texts, are_apart, group_number, has_name, is_group, is_object_name, is_pattern, most_groups, regrouped, texts_of, with_group, with_patterns, without_group}
+use Rattle.fsrm_model.specs.Limits.{most_groups}
+use Rattle.fsrm_model.specs.Patterns.{all_texts, are_apart, group_number, has_name, is_group, regrouped, texts_of, with_group, with_patterns, without_group}
 use Rattle.fsrm_base.proofs.EditedRows.{sum_by-with_row, sum_by-with_change, sum_by-without_row}
 use Rattle.fsrm_model.proofs.Keeps.{same_turned}
-use Rattle.fsrm_base.proofs.Look.{found_key, is_some-find, none_row}
+use Rattle.fsrm_base.proofs.EditedTests.{list_all-filter, list_all-with_change, list_all-with_row, list_any-filter, list_any-with_row}
+use Rattle.fsrm_base.proofs.Look.{found_has, found_key, found_own}
 use Rattle.fsrm_base.proofs.Order.{least_free_is}
-use Rattle.fsrm_base.proofs.TestLaws.{both, both_true, neither, clash, is_false, lt_test, not_true}
+use Rattle.fsrm_base.proofs.TestLaws.{both, both_true, neither, clash, is_false, not_true}
 use Rattle.file_groups.specs.Kept.{AreGroups}
 use Rattle.fsrm_base.specs.Places.{IsAt, IsGap}
 use Rattle.fsrm_base.proofs.SortedRows.{row_found, ascending-set, ascending-insert, ascending-remove, insert_row, remove_found, set_found}
-
--- ---- tests of all rows, and of some row, after an edit
-all_placed : {X : Type 0} (p : X → Bool) (row x : X) (xs more : List X) (b : Bool) → p row ≡ true → list_all p (x ∷ xs) ≡ true → list_all p more ≡ true → list_all p (cond b (row ∷ x ∷ xs) (x ∷ more)) ≡ true
-all_placed p row x xs more true is all rest = both_true _ _ is all
-all_placed p row x xs more false is all rest = both_true _ _ (both _ _ all).0 rest
-
-list_all-with_row : {X : Type 0} (key : X → ℕ) (p : X → Bool) (row : X) (xs : List X) → p row ≡ true → list_all p xs ≡ true → list_all p (with_row key row xs) ≡ true
-list_all-with_row key p row [] is all = both_true _ _ is refl
-list_all-with_row key p row (x ∷ xs) is all =
-    all_placed p row x xs (with_row key row xs) (nat_lt (key row) (key x)) is all (list_all-with_row key p row xs is (both _ _ all).1)
-
-all_kept : {X : Type 0} (p : X → Bool) (x : X) (xs : List X) (b : Bool) → p x ≡ true → list_all p xs ≡ true → list_all p (cond b (x ∷ xs) xs) ≡ true
-all_kept p x xs true is all = both_true _ _ is all
-all_kept p x xs false is all = all
-
-list_all-filter : {X : Type 0} (p q : X → Bool) (xs : List X) → list_all p xs ≡ true → list_all p (filter q xs) ≡ true
-list_all-filter p q [] all = refl
-list_all-filter p q (x ∷ xs) all = all_kept p x (filter q xs) (q x) (both _ _ all).0 (list_all-filter p q xs (both _ _ all).1)
-
-changed_passes : {X : Type 0} (p : X → Bool) (c : X → X) (x : X) (b : Bool) → p x ≡ true → (b ≡ true → p (c x) ≡ true) → p (cond b (c x) x) ≡ true
-changed_passes p c x true is changed = changed refl
-changed_passes p c x false is changed = is
-
-list_all-with_change : {X : Type 0} (key : X → ℕ) (p : X → Bool) (n : ℕ) (c : X → X) (xs : List X) → list_all p xs ≡ true → ((x : X) → p x ≡ true → p (c x) ≡ true) → list_all p (with_change key n c xs) ≡ true
-list_all-with_change key p n c [] all changed = refl
-list_all-with_change key p n c (x ∷ xs) all changed =
-    both_true _ _ (changed_passes p c x (key x == n) (both _ _ all).0 (λ _. changed x (both _ _ all).0)) (list_all-with_change key p n c xs (both _ _ all).1 changed)
-
-found_at : {X : Type 0} (p : X → Bool) (x r : X) (o : Option X) (b : Bool) → p x ≡ true → cond b (Some x) o ≡ Some r → (o ≡ Some r → p r ≡ true) → p r ≡ true
-found_at p x r o true is h later = subst (λ y. p y ≡ true) (same_Some x r h) is
-found_at p x r o false is h later = later h
-
--- a test that all rows pass is passed by each one that is found
-pub found_passes_all : {X : Type 0} (p q : X → Bool) (xs : List X) (r : X) → list_all p xs ≡ true → find q xs ≡ Some r → p r ≡ true
-found_passes_all p q [] r all h = cc
-found_passes_all p q (x ∷ xs) r all h = found_at p x r (find q xs) (q x) (both _ _ all).0 h (found_passes_all p q xs r (both _ _ all).1)
-
-none_placed : {X : Type 0} (p : X → Bool) (row x : X) (xs more : List X) (b : Bool) → p row ≡ false → list_any p (x ∷ xs) ≡ false → list_any p more ≡ false → list_any p (cond b (row ∷ x ∷ xs) (x ∷ more)) ≡ false
-none_placed p row x xs more true is none rest = ap (λ b. b || list_any p (x ∷ xs)) is ∙ none
-none_placed p row x xs more false is none rest = ap (λ b. b || list_any p more) (neither _ _ none).0 ∙ rest
-
-list_any-with_row : {X : Type 0} (key : X → ℕ) (p : X → Bool) (row : X) (xs : List X) → p row ≡ false → list_any p xs ≡ false → list_any p (with_row key row xs) ≡ false
-list_any-with_row key p row [] is none = ap (λ b. b || false) is
-list_any-with_row key p row (x ∷ xs) is none =
-    none_placed p row x xs (with_row key row xs) (nat_lt (key row) (key x)) is none (list_any-with_row key p row xs is (neither _ _ none).1)
-
-none_kept : {X : Type 0} (p : X → Bool) (x : X) (xs : List X) (b : Bool) → p x ≡ false → list_any p xs ≡ false → list_any p (cond b (x ∷ xs) xs) ≡ false
-none_kept p x xs true is none = ap (λ b. b || list_any p xs) is ∙ none
-none_kept p x xs false is none = none
-
-list_any-filter : {X : Type 0} (p q : X → Bool) (xs : List X) → list_any p xs ≡ false → list_any p (filter q xs) ≡ false
-list_any-filter p q [] none = refl
-list_any-filter p q (x ∷ xs) none = none_kept p x (filter q xs) (q x) (neither _ _ none).0 (list_any-filter p q xs (neither _ _ none).1)
 
 -- ---- names that stay apart
 turned_apart : (a b : List ℕ) → same_name a b ≡ false → same_name b a ≡ false
@@ -124,16 +73,18 @@ apart-with_change n c keeps (group ∷ groups) =
     ∙ ap (λ b. not (list_any (has_name group.name) groups) && b) (apart-with_change n c keeps groups))
 
 -- ---- tables
--- a number without a place is no group's
-pub none_found : (groups : List GroupRow) (n p : ℕ) → IsGap group_number n groups p → row_of group_number n groups ≡ None
-none_found groups n p gap = none_row _ (is_some-find _ groups ∙ gap.absent)
-
 -- what is read at the place of a number is its group
 pub read_found : (groups : List GroupRow) (n p : ℕ) (r : GroupRow) → IsAt group_number n groups p → r ≡ get_or groups p r → row_of group_number n groups ≡ Some r
 read_found groups n p r at read =
     let found = row_found group_number n groups p at in
     let is : r ≡ found.row = read ∙ get_or_from_slice_get groups p found.row r found.at in
     sym at.found ∙ (found.at ∙ ap Some (sym is))
+
+-- the group that is found by its name is there by its number
+pub found_there : (name : List ℕ) (groups : List GroupRow) (found : Option GroupRow) → is_ascending group_number groups ≡ true → find (has_name name) groups ≡ found → IfSome (option_map group_number found) (λ n. has_row group_number n groups ≡ true)
+found_there name groups None ascending is = tt
+found_there name groups (Some group) ascending is =
+    found_has group_number group.number groups group (found_own group_number (has_name name) groups group ascending is)
 
 -- one more
 pub more_are : (groups : List GroupRow) (row : GroupRow) (p : ℕ) → AreGroups groups → IsGap group_number row.number groups p → length groups < most_groups → is_group row ≡ true → list_any (has_name row.name) groups ≡ false → AreGroups (insert groups p row)
@@ -207,9 +158,6 @@ free_absent groups are = (least_free_is group_number groups are.ascending).free
 
 pub free_below : (groups : List GroupRow) → AreGroups groups → length groups < most_groups → least_free group_number groups < most_groups
 free_below groups are room = let most = (least_free_is group_number groups are.ascending).most in omega (arith, most)
-
-pub made_valid : (row : GroupRow) → row.number < most_groups → is_object_name row.name ≡ true → list_all is_pattern row.members ≡ true → list_all is_pattern row.non_members ≡ true → is_group row ≡ true
-made_valid row below name members non_members = both_true _ _ (both_true _ _ (lt_test row.number most_groups below) name) (both_true _ _ members non_members)
 
 -- the patterns that are lent are those that are given
 pub lent_patterns : (lent lent' : Option (Bor (List (List ℕ)))) (members non_members : Option (List (List ℕ))) (old : GroupRow) → option_copied lent ≡ members → option_copied lent' ≡ non_members → regrouped (option_copied lent) (option_copied lent') old ≡ regrouped members non_members old

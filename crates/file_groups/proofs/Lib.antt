@@ -1,3 +1,4 @@
 pub mod StarLaws
+pub mod PartLaws
 pub mod GroupLaws
 pub mod FaultLaws

@@ -18,7 +18,7 @@ end_of_end test (c ∷ cs) h =
       | inr later ↦ or_later (test (c ∷ cs)) (some_end test cs) (end_of_end test cs later)
     ]
 
--- where one character and then the test pass at some end, the test passes at some end behind the first character
+-- if one character and then the test pass at some end, the test passes at some end after the first character
 pub past_one : (p : ℕ) (test : List ℕ → Bool) (c : ℕ) (cs : List ℕ) → some_end (one_then p test) (c ∷ cs) ≡ true → some_end test cs ≡ true
 past_one p test c [] h =
     elim (is_or _ _ h) [
@@ -31,14 +31,14 @@ past_one p test c (d ∷ cs) h =
       | inr later ↦ or_later (test (d ∷ cs)) (some_end test cs) (past_one p test d cs later)
     ]
 
--- What holds while an end of a name is tried for a star: of the pattern behind the star so much has passed that
+-- What holds while an end of a name is tried for a star: of the pattern after the star so much has passed that
 -- `pattern` is left of it, and `name` of the end
 pub record IsTried (wanted given starred end pattern name : List ℕ) : Type 0 where
   -- no end before this one matches
   pub whole : some_end (matches starred) end ≡ some_end (matches wanted) given
-  -- this one matches where what is left does
+  -- this one matches if what is left does, and only then
   pub here : matches starred end ≡ matches pattern name
-  -- and where some end of it matches, what is left of the pattern matches some end of what is left
+  -- and if some end of it matches, what is left of the pattern matches some end of what is left
   pub later : some_end (matches starred) end ≡ true → some_end (matches pattern) name ≡ true
   pub starred_most : length starred ≤ length wanted
   pub pattern_most : length pattern ≤ length starred
@@ -46,18 +46,18 @@ pub record IsTried (wanted given starred end pattern name : List ℕ) : Type 0 w
 
 module _ (wanted given starred end : List ℕ) where
   -- another star is met: any end that the former one leads to is one that this one leads to
-  same_ends : (behind name : List ℕ) (b : Bool) → some_end (matches starred) end ≡ b → IsTried wanted given starred end (42 ∷ behind) name → some_end (matches behind) name ≡ b
-  same_ends behind name true is tried = end_of_end (matches behind) name (tried.later is)
-  same_ends behind name false is tried =
+  same_ends : (after name : List ℕ) (b : Bool) → some_end (matches starred) end ≡ b → IsTried wanted given starred end (42 ∷ after) name → some_end (matches after) name ≡ b
+  same_ends after name true is tried = end_of_end (matches after) name (tried.later is)
+  same_ends after name false is tried =
       not_true _ (λ found. clash _ (first_end (matches starred) end (tried.here ∙ found)) is)
 
-  pub star_taken : (behind name pattern : List ℕ) → pattern ≡ 42 ∷ behind → IsTried wanted given starred end pattern name → IsTried wanted given behind name behind name
-  star_taken behind name pattern star tried' =
-      let tried : IsTried wanted given starred end (42 ∷ behind) name = subst (λ ps. IsTried wanted given starred end ps name) star tried' in
-      let most : length (42 ∷ behind) ≤ length starred = tried.pattern_most in
+  pub star_taken : (after name pattern : List ℕ) → pattern ≡ 42 ∷ after → IsTried wanted given starred end pattern name → IsTried wanted given after name after name
+  star_taken after name pattern star tried' =
+      let tried : IsTried wanted given starred end (42 ∷ after) name = subst (λ ps. IsTried wanted given starred end ps name) star tried' in
+      let most : length (42 ∷ after) ≤ length starred = tried.pattern_most in
       let starred_most = tried.starred_most in
       record {
-        whole = same_ends behind name _ refl tried ∙ tried.whole;
+        whole = same_ends after name _ refl tried ∙ tried.whole;
         here = refl;
         later = λ h. h;
         starred_most = omega arith;
@@ -86,10 +86,10 @@ module _ (wanted given starred end : List ℕ) where
         name_most = omega arith;
       }
 
-  pub one_passed : (pattern name behind rest : List ℕ) → StandsFirst pattern name behind rest → IsTried wanted given starred end pattern name → IsTried wanted given starred end behind rest
-  one_passed pattern name behind rest first tried =
-      passed first.wanted first.character behind rest first.no_star first.stands
-      (subst (λ cs. IsTried wanted given starred end (first.wanted ∷ behind) cs) first.name_is (subst (λ ps. IsTried wanted given starred end ps name) first.pattern_is tried))
+  pub one_passed : (pattern name after rest : List ℕ) → StandsFirst pattern name after rest → IsTried wanted given starred end pattern name → IsTried wanted given starred end after rest
+  one_passed pattern name after rest first tried =
+      passed first.wanted first.character after rest first.no_star first.stands
+      (subst (λ cs. IsTried wanted given starred end (first.wanted ∷ after) cs) first.name_is (subst (λ ps. IsTried wanted given starred end ps name) first.pattern_is tried))
 
   -- this end doesn't match: the next one is tried
   pub tried_again : (pattern name next : List ℕ) (c : ℕ) → end ≡ c ∷ next → matches pattern name ≡ false → IsTried wanted given starred end pattern name → IsTried wanted given starred next starred next

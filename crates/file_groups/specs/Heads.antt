@@ -11,18 +11,18 @@ pub record BeginsWith (text : List ℕ) (character : ℕ) (rest : List ℕ) : Ty
   pub characters : chars text ≡ character ∷ chars rest
 
 -- a character of the pattern that is no star stands for the first one of the name
-pub record StandsFirst (pattern name behind rest : List ℕ) : Type 0 where
+pub record StandsFirst (pattern name after rest : List ℕ) : Type 0 where
   pub wanted : ℕ
   pub character : ℕ
   pub no_star : (wanted == 42) ≡ false
   pub stands : stands_for wanted character ≡ true
-  pub pattern_is : pattern ≡ wanted ∷ behind
+  pub pattern_is : pattern ≡ wanted ∷ after
   pub name_is : name ≡ character ∷ rest
 
 -- what was found at the front of two texts
 abbrev pub AreHeads : List ℕ → List ℕ → Heads → Type 0
-AreHeads pattern name (Star behind) = BeginsWith pattern 42 behind.now
-AreHeads pattern name (One behind rest) =
-    StandsFirst (chars pattern) (chars name) (chars behind.now) (chars rest.now) × IsUtf8 behind.now × IsUtf8 rest.now
+AreHeads pattern name (Star after) = BeginsWith pattern 42 after.now
+AreHeads pattern name (One after rest) =
+    StandsFirst (chars pattern) (chars name) (chars after.now) (chars rest.now) × IsUtf8 after.now × IsUtf8 rest.now
 AreHeads pattern name Ended = (chars pattern ≡ []) × (chars name ≡ [])
 AreHeads pattern name Apart = matches (chars pattern) (chars name) ≡ false

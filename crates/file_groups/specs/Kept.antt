@@ -1,11 +1,19 @@
 -- How a table of groups is held.
-use Rattle.std.specs.Prelude.{◌≡◌, ℕ, ◌≤◌, true, List, length}
+use Rattle.std.specs.Prelude.{◌≡◌, ℕ, ◌<◌, ◌≤◌, true, List, length}
 use Rattle.std.specs.List.{list_all}
 use Rattle.fsrm_model.specs.declared.row.GroupRow.{GroupRow}
 use Rattle.fsrm_base.specs.Keyed.{is_ascending}
-use Rattle.fsrm_model.specs.Patterns.{group_number, is_group, are_apart, most_groups, all_texts}
+use Rattle.fsrm_model.specs.Limits.{most_groups, most_patterns}
+use Rattle.fsrm_model.specs.Patterns.{group_number, is_group, are_apart, all_texts}
 
--- groups with numbers, names and patterns as they may be, in the order of their numbers, of which no two have one name
+-- a group has 1 to 64 members, and at most 64 non-members
+abbrev pub AreMembers : List (List ℕ) → Type 0
+AreMembers texts = (0 < length texts) × (length texts ≤ most_patterns)
+
+abbrev pub AreNonMembers : List (List ℕ) → Type 0
+AreNonMembers texts = length texts ≤ most_patterns
+
+-- groups whose numbers, names and patterns are as they may be, in the order of their numbers; no two have one name
 pub record AreGroups (groups : List GroupRow) : Type 0 where
   pub ascending : is_ascending group_number groups ≡ true
   pub few : length groups ≤ most_groups

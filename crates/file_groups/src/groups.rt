@@ -1,11 +1,10 @@
 //! The table of file groups.
 
-ghost use Rattle.std.specs.Prelude.{◌≡◌, ◌+◌, ◌<◌, ◌^◌, IfOk, IfErr, OnOk, OnErr, [], None, Some, true, false, is_none, length, slice_get};
-ghost use Rattle.std.specs.Option.{option_copied};
+ghost use Rattle.std.specs.Prelude.{◌≡◌, ◌<◌, ◌≤◌, IfOk, IfErr, IfSome, OnOk, OnErr, [], None, Some, true, false, is_none, length, slice_get};
 ghost use Rattle.fsrm_base.specs.Keyed.{row_of, has_row};
 ghost use Rattle.fsrm_model.specs.Patterns.{all_texts, group_number, in_group_of, is_group, is_object_name, new_group, number_named, texts_of, with_group, with_patterns, without_group};
 ghost use Rattle.file_groups.specs.Faults.{IsFault, group_fault, new_fault, patterns_fault};
-ghost use Rattle.file_groups.specs.Kept.{AreGroups};
+ghost use Rattle.file_groups.specs.Kept.{AreGroups, AreMembers, AreNonMembers};
 
 use crate::answer::GroupFault;
 use crate::pattern::Pattern;
@@ -51,12 +50,12 @@ impl Groups {
     }
 
     /// Adds a group of this name, the name of an object: 1 to 255 bytes without `|` and control
-    /// characters. It takes the least number that is free, which is the answer.
+    /// characters. It has 1 to 64 members and at most 64 non-members, and takes the least number that is
+    /// free, which is the answer.
     ///
-    /// `room` is how many bytes of texts may still come; together with those that are there they fit
-    /// a `u32`. The group is refused where its name is another one's, in any spelling, else where
-    /// there are 1,024 groups, else where its texts are longer than `room`. NoMemory comes only where
-    /// nothing else refuses it. An `Err` changes nothing.
+    /// `room` is how many bytes of texts may still come. The group is refused if its name is another one's,
+    /// in any spelling, else if there are 1,024 groups, else if its texts are longer than `room`. NoMemory
+    /// comes only if nothing else refuses it. An `Err` changes nothing.
     pub fn add(
         &mut self,
         name: &str,
@@ -65,7 +64,8 @@ impl Groups {
         room: u32,
     ) -> Result<u32, GroupFault>
         requires named { is_object_name name.now ≡ true }
-        requires fits { all_texts self.old + room < 2 ^ 32 }
+        requires members { AreMembers members }
+        requires non_members { AreNonMembers non_members }
         ensures ok { OnOk result (self.new ≡ with_group (new_group self.old name.now members non_members) self.old) }
         ensures number { IfOk result (λ number. number ≡ (new_group self.old name.now members non_members).number) }
         ensures may { OnOk result (group_fault self.old (new_group self.old name.now members non_members) room ≡ None) }
@@ -73,8 +73,8 @@ impl Groups {
         ensures err { OnErr result (self.new ≡ self.old) }
         ensures kept { AreGroups self.new }
     {
-        let left = rows::left_of_new(name, &members, &non_members, room);
-        let bytes = room - self.admit(name, left)?;
+        let left = rows::left_of_new(name, &members, &non_members, room.into());
+        self.admit(name, left)?;
         let row = GroupRow {
             number: rows::free_number(&self.groups),
             name: Text::from_str(self.alloc, name)?,
@@ -82,33 +82,31 @@ impl Groups {
             non_members: rows::texts_from(self.alloc, &non_members)?,
         };
         let number = row.number;
-        self.insert(row, bytes)?;
+        self.insert(row)?;
         Ok(number)
     }
 
     /// Puts a stored group under its own number, which is below 1,024 and free. Its name is the name of
-    /// an object, and its other texts are patterns. It is refused as `add` refuses it. An `Err` changes
-    /// nothing, and the row is dropped.
+    /// an object, and its other texts are patterns, 1 to 64 members and at most 64 non-members. It is
+    /// refused as `add` refuses it. An `Err` changes nothing, and the row is dropped.
     pub fn put(&mut self, row: GroupRow, room: u32) -> Result<(), GroupFault>
         requires valid { is_group row ≡ true }
         requires free { has_row group_number row.number self.old ≡ false }
-        requires fits { all_texts self.old + room < 2 ^ 32 }
         ensures ok { OnOk result (self.new ≡ with_group row self.old) }
         ensures may { OnOk result (group_fault self.old row room ≡ None) }
         ensures refused { IfErr result (λ fault. IsFault fault (group_fault self.old row room)) }
         ensures err { OnErr result (self.new ≡ self.old) }
         ensures kept { AreGroups self.new }
     {
-        let left = rows::left_of_group(&row, room);
-        let bytes = room - self.admit(row.name.as_str(), left)?;
-        self.insert(row, bytes)?;
+        let left = rows::left_of_group(&row, room.into());
+        self.admit(row.name.as_str(), left)?;
+        self.insert(row)?;
         Ok(())
     }
 
-    // What a new group of this name leaves of the room, where it may be added. None is given where its
-    // texts are longer.
-    fn admit(&self, name: &str, left: Option<u32>) -> Result<u32, GroupFault>
-        ensures left { IfOk result (λ kept. left ≡ Some kept) }
+    // Whether a new group of this name may be added, whose texts leave so much of the room, or None if they
+    // are longer.
+    fn admit(&self, name: &str, left: Option<u64>) -> Result<(), GroupFault>
         ensures may { OnOk result (new_fault self.now name.now (is_none left) ≡ None) }
         ensures refused { IfErr result (λ fault. new_fault self.now name.now (is_none left) ≡ Some fault) }
         ensures kept { AreGroups self.now }
@@ -119,30 +117,32 @@ impl Groups {
         if self.groups.len() >= MOST_GROUPS {
             return Err(GroupFault::TableFull);
         }
-        left.ok_or(GroupFault::TextsFull)
+        if left.is_none() {
+            return Err(GroupFault::TextsFull);
+        }
+        Ok(())
     }
 
-    // Puts a group of so many bytes in its place, where nothing refuses it.
-    fn insert(&mut self, row: GroupRow, bytes: u32) -> Result<(), NoMemory>
+    // Puts a group into its place that nothing refuses.
+    fn insert(&mut self, row: GroupRow) -> Result<(), NoMemory>
         requires valid { is_group row ≡ true }
         requires free { has_row group_number row.number self.old ≡ false }
         requires admitted { new_fault self.old row.name false ≡ None }
-        requires bytes { bytes ≡ texts_of row }
-        requires fits { all_texts self.old + bytes < 2 ^ 32 }
         ensures ok { OnOk result (self.new ≡ with_group row self.old) }
         ensures err { OnErr result (self.new ≡ self.old) }
         ensures kept { AreGroups self.new }
     {
         let place = rows::gap(&self.groups, row.number);
+        let bytes = rows::texts_of(&row);
         self.groups.insert(place, row)?;
         self.texts += bytes;
         Ok(())
     }
 
-    /// Gives a group that is there other members, other non-members, or both.
+    /// Gives a group that is there other members, 1 to 64, other non-members, at most 64, or both.
     ///
-    /// `room` is as at `add`. TextsFull comes exactly where the group's texts, less those that they
-    /// replace, are longer than `room`; no other refusal comes but NoMemory. An `Err` changes nothing.
+    /// `room` is as at `add`. TextsFull comes exactly if the group's texts, less those that they replace, are
+    /// longer than `room`; no other refusal comes but NoMemory. An `Err` changes nothing.
     pub fn modify(
         &mut self,
         group: u32,
@@ -151,7 +151,8 @@ impl Groups {
         room: u32,
     ) -> Result<(), GroupFault>
         requires there { has_row group_number group self.old ≡ true }
-        requires fits { all_texts self.old + room < 2 ^ 32 }
+        requires members { IfSome members AreMembers }
+        requires non_members { IfSome non_members AreNonMembers }
         ensures ok { OnOk result (self.new ≡ with_patterns group members non_members self.old) }
         ensures may { OnOk result (patterns_fault self.old group members non_members room ≡ None) }
         ensures refused { IfErr result (λ fault. IsFault fault (patterns_fault self.old group members non_members room)) }
@@ -162,11 +163,12 @@ impl Groups {
         let old = &self.groups[place];
         let (members, non_members) = (members.as_ref(), non_members.as_ref());
         let replaced = rows::texts_of(old);
-        let Some(left) = rows::left_of_regrouped(old, members, non_members, room + replaced) else {
+        let room = u64::from(room) + u64::from(replaced);
+        if rows::left_of_regrouped(old, members, non_members, room).is_none() {
             return Err(GroupFault::TextsFull);
-        };
+        }
         let row = rows::regrouped(self.alloc, old, members, non_members)?;
-        self.texts = self.texts + room - left;
+        self.texts = self.texts - replaced + rows::texts_of(&row);
         self.groups[place] = row;
         Ok(())
     }
@@ -184,7 +186,8 @@ impl Groups {
 
     /// The number of the group of this name, in any spelling.
     pub fn find(&self, name: &str) -> Option<u32>
-        ensures { result ≡ number_named name.now self.now }
+        ensures found { result ≡ number_named name.now self.now }
+        ensures there { IfSome result (λ number. has_row group_number number self.now ≡ true) }
     {
         rows::find(&self.groups, name)
     }
@@ -221,13 +224,12 @@ impl Groups {
         &self.groups[place as usize]
     }
 
-    /// The group of a number.
-    pub fn group(&self, number: u32) -> Option<&GroupRow>
-        ensures { option_copied result ≡ row_of group_number number self.now }
+    /// The group of a number that is there.
+    pub fn group(&self, number: u32) -> &GroupRow
+        requires { has_row group_number number self.now ≡ true }
+        ensures { row_of group_number number self.now ≡ Some result.now }
     {
-        match rows::search(&self.groups, number) {
-            Ok(place) => Some(&self.groups[place]),
-            Err(_) => None,
-        }
+        let place = rows::search(&self.groups, number).unwrap();
+        &self.groups[place]
     }
 }

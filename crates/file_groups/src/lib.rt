@@ -2,8 +2,8 @@
 //!
 //! In a pattern `*` stands for any characters, `?` for one, and each other character for those that fold as it does;
 //! the whole pattern `*.*` means `*`. A name is in a group if some member pattern and no non-member pattern matches it.
-//! `Groups` refuses exactly for the first cause that holds, DuplicateName before TableFull before TextsFull, before any
-//! memory is taken; then the table is as it was. Contracts see a pattern as its bytes, and the table as its rows.
+//! `Groups` refuses exactly for the first cause that holds, DuplicateName before TableFull before TextsFull, before it
+//! takes any memory; then the table is as it was. Contracts see a pattern as its bytes, and the table as its rows.
 #![tactic(auto)]
 
 mod answer;

@@ -20,9 +20,9 @@ pub fn matches(pattern: &str, name: &str) -> bool
 
 // What a pattern and a name begin with.
 enum Heads<'a> {
-    // A star, with what stands behind it.
+    // A star, with what stands after it.
     Star(&'a str),
-    // Another character of the pattern, which stands for the name's first one, with what is behind both.
+    // Another character of the pattern, which stands for the name's first one, with what is after both.
     One(&'a str, &'a str),
     // Both have ended.
     Ended,
@@ -34,16 +34,16 @@ fn heads_of<'a>(pattern: &'a str, name: &'a str) -> Heads<'a>
     ensures { AreHeads pattern.now name.now result }
 {
     match (first(pattern), first(name)) {
-        (Some(('*', behind)), _) => Heads::Star(behind),
-        (Some((wanted, behind)), Some((character, rest))) if stands_for(wanted, character) => {
-            Heads::One(behind, rest)
+        (Some(('*', after)), _) => Heads::Star(after),
+        (Some((wanted, after)), Some((character, rest))) if stands_for(wanted, character) => {
+            Heads::One(after, rest)
         }
         (None, None) => Heads::Ended,
         _ => Heads::Apart,
     }
 }
 
-// A text's first character, and what is behind it.
+// A text's first character, and what is after it.
 fn first(text: &str) -> Option<(char, &str)>
     ensures { MatchOption result (chars text.now ≡ []) (λ cut. BeginsWith text.now cut.0 cut.1.now) }
 {
@@ -66,9 +66,9 @@ fn is_match(pattern: &str, name: &str) -> bool
     let (mut pattern, mut name) = (pattern, name);
     loop {
         match heads_of(pattern, name) {
-            Heads::Star(behind) => return some_end_matches(behind, name),
-            Heads::One(behind, rest) => {
-                pattern = behind;
+            Heads::Star(after) => return some_end_matches(after, name),
+            Heads::One(after, rest) => {
+                pattern = after;
                 name = rest;
             }
             Heads::Ended => return true,
@@ -77,23 +77,23 @@ fn is_match(pattern: &str, name: &str) -> bool
     }
 }
 
-// Whether some end of the name matches, as behind a star. Where that comes to another star, any end that
+// Whether some end of the name matches, as after a star. If that comes to another star, any end that
 // the first one leads to is one that the other one leads to, so the first one is done with.
 fn some_end_matches(pattern: &str, name: &str) -> bool
     ensures { result ≡ some_end (matches (chars pattern.now)) (chars name.now) }
 {
-    // What stands behind the last star, and the end of the name that is tried for it.
+    // What stands after the last star, and the end of the name that is tried for it.
     let (mut starred, mut end) = (pattern, name);
     let (mut pattern, mut name) = (pattern, name);
     loop {
         match heads_of(pattern, name) {
-            Heads::Star(behind) => {
-                starred = behind;
+            Heads::Star(after) => {
+                starred = after;
                 end = name;
-                pattern = behind;
+                pattern = after;
             }
-            Heads::One(behind, rest) => {
-                pattern = behind;
+            Heads::One(after, rest) => {
+                pattern = after;
                 name = rest;
             }
             Heads::Ended => return true,

@@ -30,7 +30,7 @@ impl Model for Pattern {
 }
 
 impl Pattern {
-    /// The pattern that a text is. InvalidName exactly where it isn't one.
+    /// The pattern that a text is. InvalidName exactly if it isn't one.
     pub fn read(alloc: Global, text: &str) -> Result<Pattern, NameFault>
         ensures ok { IfOk result (λ pattern. pattern ≡ text.now) }
         ensures may { OnOk result (is_pattern text.now ≡ true) }

@@ -1,11 +1,13 @@
 //! Rows of groups: where they stand, what they take, and how they are made.
 
-ghost use Rattle.std.specs.Prelude.{◌≡◌, ◌+◌, ◌<◌, ◌≤◌, ◌^◌, true, false, length, IfOk, IfErr, MatchOption, unwrap_or};
+ghost use Rattle.std.specs.Prelude.{◌≡◌, ◌+◌, ◌<◌, ◌≤◌, ◌^◌, true, false, length, IfOk, IfErr, IfSome, MatchOption, unwrap_or};
 ghost use Rattle.std.specs.List.{list_all, list_any};
 ghost use Rattle.std.specs.Option.{option_copied};
 ghost use Rattle.fsrm_base.specs.Keyed.{has_row, is_ascending, least_free};
-ghost use Rattle.fsrm_model.specs.Patterns.{group_number, in_group, is_group, is_pattern, most_groups, number_named, pattern_matches, regrouped, texts_bytes, texts_of};
+ghost use Rattle.fsrm_model.specs.Limits.{most_groups};
+ghost use Rattle.fsrm_model.specs.Patterns.{group_number, in_group, is_group, is_pattern, number_named, pattern_matches, regrouped, texts_bytes, texts_of};
 ghost use Rattle.fsrm_base.specs.Places.{IsAt, IsGap};
+ghost use Rattle.file_groups.specs.Kept.{AreMembers, AreNonMembers};
 
 use crate::matching::matches;
 use crate::pattern::Pattern;
@@ -79,12 +81,13 @@ pub fn texts_of(group: &GroupRow) -> u32
     requires { texts_of group.now < 2 ^ 32 }
     ensures { result ≡ texts_of group.now }
 {
-    let left = left_of_group(group, u32::MAX).unwrap();
-    u32::MAX - left
+    let room = u64::from(u32::MAX);
+    let left = left_of_group(group, room).unwrap();
+    (room - left) as u32
 }
 
-/// How much room a group's texts leave; None where there isn't enough.
-pub fn left_of_group(group: &GroupRow, room: u32) -> Option<u32>
+/// How much of the room a group's texts leave; None if there isn't enough.
+pub fn left_of_group(group: &GroupRow, room: u64) -> Option<u64>
     ensures { MatchOption result (room < texts_of group.now) (λ left. left + texts_of group.now ≡ room) }
 {
     left_of_regrouped(group, None, None, room)
@@ -95,8 +98,8 @@ pub fn left_of_regrouped(
     group: &GroupRow,
     members: Option<&List<Pattern>>,
     non_members: Option<&List<Pattern>>,
-    room: u32,
-) -> Option<u32>
+    room: u64,
+) -> Option<u64>
     ensures { let row = regrouped (option_copied members.entry) (option_copied non_members.entry) group.now in
         MatchOption result (room < texts_of row) (λ left. left + texts_of row ≡ room) }
 {
@@ -110,8 +113,8 @@ pub fn left_of_new(
     name: &str,
     members: &List<Pattern>,
     non_members: &List<Pattern>,
-    room: u32,
-) -> Option<u32>
+    room: u64,
+) -> Option<u64>
     ensures { let bytes = length name.now + (texts_bytes members.now + texts_bytes non_members.now) in
         MatchOption result (room < bytes) (λ left. left + bytes ≡ room) }
 {
@@ -120,8 +123,8 @@ pub fn left_of_new(
     left_of_patterns(non_members, left)
 }
 
-// The room that the patterns leave, or the texts where none are given.
-fn left_of_either(patterns: Option<&List<Pattern>>, texts: &List<Text>, room: u32) -> Option<u32>
+// The room that the patterns leave, or the texts if no patterns are given.
+fn left_of_either(patterns: Option<&List<Pattern>>, texts: &List<Text>, room: u64) -> Option<u64>
     ensures { let bytes = texts_bytes (unwrap_or (option_copied patterns.entry) texts.now) in
         MatchOption result (room < bytes) (λ left. left + bytes ≡ room) }
 {
@@ -131,7 +134,7 @@ fn left_of_either(patterns: Option<&List<Pattern>>, texts: &List<Text>, room: u3
     }
 }
 
-fn left_of_patterns(patterns: &List<Pattern>, room: u32) -> Option<u32>
+fn left_of_patterns(patterns: &List<Pattern>, room: u64) -> Option<u64>
     ensures { MatchOption result (room < texts_bytes patterns.now) (λ left. left + texts_bytes patterns.now ≡ room) }
 {
     let mut left = room;
@@ -141,7 +144,7 @@ fn left_of_patterns(patterns: &List<Pattern>, room: u32) -> Option<u32>
     Some(left)
 }
 
-fn left_of_texts(texts: &List<Text>, room: u32) -> Option<u32>
+fn left_of_texts(texts: &List<Text>, room: u64) -> Option<u64>
     ensures { MatchOption result (room < texts_bytes texts.now) (λ left. left + texts_bytes texts.now ≡ room) }
 {
     let mut left = room;
@@ -151,14 +154,10 @@ fn left_of_texts(texts: &List<Text>, room: u32) -> Option<u32>
     Some(left)
 }
 
-fn left_of_text(text: &str, room: u32) -> Option<u32>
+fn left_of_text(text: &str, room: u64) -> Option<u64>
     ensures { MatchOption result (room < length text.now) (λ left. left + length text.now ≡ room) }
 {
-    let bytes = text.len();
-    if bytes > room as usize {
-        return None;
-    }
-    Some(room - bytes as u32)
+    room.checked_sub(text.len() as u64)
 }
 
 /// The texts of patterns, in memory of their own.
@@ -180,7 +179,9 @@ pub fn regrouped(
     members: Option<&List<Pattern>>,
     non_members: Option<&List<Pattern>>,
 ) -> Result<GroupRow, NoMemory>
-    requires { is_group group.now ≡ true }
+    requires valid { is_group group.now ≡ true }
+    requires members { IfSome (option_copied members) AreMembers }
+    requires non_members { IfSome (option_copied non_members) AreNonMembers }
     ensures row { IfOk result (λ row. row ≡ regrouped (option_copied members.entry) (option_copied non_members.entry) group.now) }
     ensures valid { IfOk result (λ row. is_group row ≡ true) }
 {

@@ -1,5 +1,6 @@
 pub mod TestLaws
 pub mod EditedRows
+pub mod EditedTests
 pub mod Look
 pub mod Order
 pub mod Members

@@ -6,6 +6,7 @@ use Rattle.std.specs.List.{list_all}
 use Rattle.fsrm_base.specs.Keyed.{has_row, with_row, with_change, least_free_from, least_free, is_ascending}
 use Rattle.fsrm_base.proofs.TestLaws.{not_true, both, neither, eq_is, lt_is, lt_test}
 use Rattle.fsrm_base.proofs.EditedRows.{absent_later}
+use Rattle.fsrm_base.proofs.EditedTests.{list_all-filter}
 use Rattle.fsrm_base.proofs.Look.{changed_key}
 pub use Rattle.fsrm_base.proofs.EditedRows.{length-with_row, length-change}
 
@@ -75,16 +76,6 @@ all_above key x (y ∷ ys) a =
         let m : key x < key y = lt_is _ _ h in
         let n : key y < key z = lt_is _ _ p.above in
         rw (lt_test (key x) (key z) (omega arith), p.rest) refl
-
-kept_all_at : {X : Type 0} (p : X → Bool) (y : X) (ys : List X) (b : Bool) → p y ≡ true → list_all p ys ≡ true → list_all p (cond b (y ∷ ys) ys) ≡ true
-kept_all_at p y ys true h g = rw (h, g) refl
-kept_all_at p y ys false h g = g
-
-list_all-filter : {X : Type 0} (p q : X → Bool) (ys : List X) → list_all p ys ≡ true → list_all p (filter q ys) ≡ true
-list_all-filter p q [] h = refl
-list_all-filter p q (y ∷ ys) h =
-    let g : (p y ≡ true) × (list_all p ys ≡ true) = both _ _ h in
-    kept_all_at p y (filter q ys) (q y) g.0 (list_all-filter p q ys g.1)
 
 above_all : {X : Type 0} (key : X → ℕ) (x : X) (ys : List X) → list_all (λ y. nat_lt (key x) (key y)) ys ≡ true → is_above key x ys ≡ true
 above_all key x [] h = refl

@@ -50,11 +50,6 @@ set_row key n c (x ∷ rows) (suc p) r a h e =
     let apart : (key x == n) ≡ false = eq_below (key x) n (omega arith) in
     ap (λ ys. x ∷ ys) (set_row key n c rows p r (ascending_tail key x rows a) h e) ∙ sym (ap (λ b. cond b (c x) x ∷ with_change key n c rows) apart)
 
--- rows stay without a number that none has
-kept_head : {X : Type 0} (b : Bool) (x : X) (rows kept : List X) (m : Bool) → (b || m) ≡ false → (m ≡ false → kept ≡ rows) → cond (not b) (x ∷ kept) kept ≡ x ∷ rows
-kept_head true x rows kept m h f = cc
-kept_head false x rows kept m h f = ap (λ ys. x ∷ ys) (f h)
-
 -- a removal at a place takes its row away
 pub remove_row : {X : Type 0} (key : X → ℕ) (n : ℕ) (rows : List X) (p : ℕ) (r : X) → is_ascending key rows ≡ true → slice_get rows p ≡ Some r → key r ≡ n → remove rows p ≡ without_row key n rows
 remove_row key n [] p r a h e = cc

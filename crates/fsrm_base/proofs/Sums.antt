@@ -1,12 +1,14 @@
 -- Sums over rows.
-use Rattle.std.proofs.Common.{◌≡◌, ℕ, ◌+◌, ◌≤◌, ◌==◌, Bool, true, false, cond, ◌||◌, List, [], ◌∷◌, length, refl, sym, ◌∙◌, ap, arith, Some}
+use Rattle.std.proofs.Common.{◌≡◌, ℕ, ◌+◌, ◌*◌, ◌≤◌, ◌==◌, nat_le, Bool, true, false, cond, ◌||◌, List, [], ◌∷◌, length, refl, sym, ◌∙◌, ap, arith, Some}
 use Rattle.std.proofs.lemmas.Bool.Decides.{nat_tests}
-use Rattle.std.proofs.lemmas.List.Sums.{sum_by-cons}
+use Rattle.std.proofs.lemmas.List.Elements.{All-weaker}
+use Rattle.std.proofs.lemmas.List.Sums.{AllPass-from_list_all, sum_by-cons, sum_by-le}
 use Rattle.std.proofs.lemmas.Option.{same_Some}
 use Rattle.std.specs.Prelude.{map, sum_by}
-use Rattle.std.specs.List.{AllByRecursion}
+use Rattle.std.specs.List.{AllByRecursion, list_all}
 use Rattle.fsrm_base.specs.Keyed.{is_ascending, has_row, row_of}
 use Rattle.fsrm_base.proofs.EditedRows.{absent_later, ascending_tail}
+use Rattle.fsrm_base.proofs.TestLaws.{le_is}
 
 pub sum_by-map : {X Y : Type 0} (f : Y → ℕ) (g : X → Y) (xs : List X) → sum_by f (map g xs) ≡ sum_by (λ x. f (g x)) xs
 sum_by-map f g [] = refl
@@ -64,3 +66,8 @@ sum_by_only key f n g (x ∷ rows) r a h =
 pub sum_by_most : {X : Type 0} (f g : X → ℕ) (xs : List X) → AllByRecursion (λ x. f x ≤ g x) xs → sum_by f xs ≤ sum_by g xs
 sum_by_most f g [] h = omega arith
 sum_by_most f g (x ∷ xs) h = omega (arith, sum_by-cons f x xs, sum_by-cons g x xs, h.0, sum_by_most f g xs h.1)
+
+-- a sum of rows that add at most so much each
+pub sum_by_within : {X : Type 0} (f : X → ℕ) (most : ℕ) (xs : List X) → list_all (λ x. nat_le (f x) most) xs ≡ true → sum_by f xs ≤ length xs * most
+sum_by_within {X} f most xs h =
+    sum_by-le f most xs (All-weaker (λ (x : X). nat_le (f x) most ≡ true) (λ (x : X). f x ≤ most) (λ x t. le_is (f x) most t) xs (AllPass-from_list_all (λ x. nat_le (f x) most) xs h))

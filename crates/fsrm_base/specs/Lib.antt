@@ -2,3 +2,4 @@ pub mod Keyed
 pub mod Order
 pub mod Places
 pub mod Numbers
+pub mod Causes

@@ -47,6 +47,23 @@ greatest_limit = 2 ^ 60
 abbrev pub most_quotas : ℕ
 most_quotas = 4096
 
+-- how many thresholds a quota may have, how many actions each of them, and the bytes of the longest text of an action
+abbrev pub most_thresholds : ℕ
+most_thresholds = 16
+
+abbrev pub most_actions : ℕ
+most_actions = 8
+
+abbrev pub longest_action_text : ℕ
+longest_action_text = 1024
+
+-- how many groups there may be, and how many members or non-members each of them
+abbrev pub most_groups : ℕ
+most_groups = 1024
+
+abbrev pub most_patterns : ℕ
+most_patterns = 64
+
 -- how many visits one step of a scan may make
 abbrev pub most_visits : ℕ
 most_visits = 1000000

@@ -5,7 +5,7 @@ use Rattle.std.specs.Option.{option_map_or}
 use Rattle.ucd_case.specs.CaseFolding.{simple_fold}
 use Rattle.fsrm_model.specs.declared.row.GroupRow.{GroupRow}
 use Rattle.fsrm_base.specs.Keyed.{row_of, with_row, with_change, without_row, least_free}
-use Rattle.fsrm_model.specs.Limits.{longest_name}
+use Rattle.fsrm_model.specs.Limits.{longest_name, most_groups, most_patterns}
 use Rattle.fsrm_model.specs.Name.{is_name_byte, same_name}
 
 -- ---- patterns, over the characters of a name
@@ -72,18 +72,21 @@ texts_of group = length group.name + (texts_bytes group.members + texts_bytes gr
 abbrev pub all_texts : List GroupRow → ℕ
 all_texts groups = sum_by texts_of groups
 
--- how many groups there may be, and their numbers: 0 to 1,023
-abbrev pub most_groups : ℕ
-most_groups = 1024
-
 abbrev pub group_number : GroupRow → ℕ
 group_number group = group.number
 
--- what a group has, whatever stands beside it
+-- the members of a group are 1 to 64 patterns, and its non-members at most 64
+abbrev pub are_members : List (List ℕ) → Bool
+are_members texts = (nat_lt 0 (length texts) && nat_le (length texts) most_patterns) && list_all is_pattern texts
+
+abbrev pub are_non_members : List (List ℕ) → Bool
+are_non_members texts = nat_le (length texts) most_patterns && list_all is_pattern texts
+
+-- what a group has, whatever stands beside it. Its number is 0 to 1,023
 abbrev pub is_group : GroupRow → Bool
 is_group group =
     (nat_lt group.number most_groups && is_object_name group.name)
-    && (list_all is_pattern group.members && list_all is_pattern group.non_members)
+    && (are_members group.members && are_non_members group.non_members)
 
 -- whether a group has a name, in any spelling, and the number of the one that has it
 abbrev pub has_name : List ℕ → GroupRow → Bool

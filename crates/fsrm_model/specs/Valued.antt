@@ -1,6 +1,6 @@
 -- Which commands are valid: those whose values have their forms and ranges, that have what is required, and whose entry in a
 -- journal isn't too long.
-use Rattle.std.specs.Prelude.{ℕ, ◌&&◌, nat_le, Bool, true, false, List, [], ◌∷◌, is_none}
+use Rattle.std.specs.Prelude.{ℕ, ◌&&◌, nat_le, Bool, true, false, List, is_none}
 use Rattle.std.specs.List.{list_all}
 use Rattle.std.specs.Option.{option_map_or}
 use Rattle.fsrm_model.specs.declared.command.Command.{Command}

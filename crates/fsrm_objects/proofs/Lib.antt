@@ -1,1 +1,2 @@
 pub mod QuotaRows
+pub mod FaultLaws

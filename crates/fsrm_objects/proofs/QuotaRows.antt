@@ -1,42 +1,59 @@
--- Quotas after an edit are as they are to be held.
-use Rattle.std.proofs.Common.{◌≡◌, ℕ, ◌+◌, ◌<◌, List, length, get_or, insert, remove, Some, None, Result, Ok, IfOk, refl, ◌∙◌, subst, arith}
+-- Quotas after an edit are as they are to be held, and the bytes of their texts.
+use Rattle.std.proofs.Common.{◌≡◌, ℕ, ◌+◌, ◌*◌, ◌<◌, ◌≤◌, ◌==◌, nat_le, true, false, List, [], ◌∷◌, length, get_or, insert, remove, Some, None, Result, Ok, IfOk, refl, sym, ◌∙◌, ap, subst, arith}
 use Rattle.std.proofs.lemmas.List.{length-set}
 use Rattle.std.proofs.lemmas.List.Edits.{length-insert, length-remove}
+use Rattle.std.proofs.lemmas.Option.{get_or_from_slice_get}
+use Rattle.std.specs.List.{list_all, list_any}
 use Rattle.std.specs.Prelude.{slice_set}
+use Rattle.fsrm_model.specs.declared.row.Action.{Action}
 use Rattle.fsrm_model.specs.declared.row.QuotaRow.{QuotaRow}
-use Rattle.fsrm_base.specs.Keyed.{row_of}
-use Rattle.fsrm_model.specs.Limits.{most_quotas}
-use Rattle.fsrm_model.specs.Quota.{folder_of}
-use Rattle.fsrm_base.proofs.Look.{none_row, is_some-find}
-use Rattle.fsrm_objects.specs.declared.answer.ObjectFault.TheVariants.{AlreadyExists}
-use Rattle.fsrm_objects.specs.Kept.{AreQuotas}
+use Rattle.fsrm_model.specs.declared.row.Threshold.{Threshold}
+use Rattle.fsrm_base.specs.Keyed.{row_of, with_row, with_change, without_row}
 use Rattle.fsrm_base.specs.Places.{IsAt, IsGap}
-use Rattle.fsrm_objects.specs.Tables.{Tables, quota_fault}
-use Rattle.fsrm_base.proofs.SortedRows.{row_found, ascending-set, ascending-insert, ascending-remove}
+use Rattle.fsrm_model.specs.Limits.{most_quotas, longest_action_text}
+use Rattle.fsrm_model.specs.Quota.{folder_of}
+use Rattle.fsrm_model.specs.Texts.{action_bytes, quota_bytes}
+use Rattle.fsrm_base.proofs.EditedRows.{sum_by-with_row, sum_by-with_change, sum_by-without_row}
+use Rattle.fsrm_base.proofs.EditedTests.{list_all-with_row, list_all-with_change, list_all-filter}
+use Rattle.fsrm_base.proofs.Look.{none_row, is_some-find}
+use Rattle.fsrm_base.proofs.Members.{all_found}
+use Rattle.fsrm_base.proofs.SortedRows.{row_found, set_found, remove_found, insert_row, ascending-set, ascending-insert, ascending-remove}
+use Rattle.fsrm_base.proofs.Sums.{sum_by_within}
+use Rattle.fsrm_base.proofs.TestLaws.{both, both_true, ge_is, le_is, le_test, neither}
+use Rattle.fsrm_objects.specs.Kept.{AreCounted, AreQuotas, is_small, most_quota_bytes}
+use Rattle.fsrm_objects.specs.Tables.{Tables, has_long_list, has_short_texts, is_crowded, is_short, quota_texts}
 
--- one more
-pub more_kept : (quotas : List QuotaRow) (row : QuotaRow) (p : ℕ) → AreQuotas quotas → IsGap folder_of row.folder quotas p → length quotas < most_quotas → AreQuotas (insert quotas p row)
-more_kept quotas row p kept gap room =
-    let size : length (insert quotas p row) ≡ length quotas + 1 = length-insert quotas p row gap.within in
-    record { ascending = ascending-insert folder_of row quotas p kept.ascending gap; few = omega arith }
+-- ---- a quota whose lists and texts aren't too long is small
+actions_small : (actions : List Action) → length actions ≤ 8 → list_all is_short actions ≡ true → action_bytes actions ≤ 8192
+actions_small actions few short = omega (arith, sum_by_within (λ action. length action.text) longest_action_text actions short)
 
--- one less
-pub less_kept : (quotas : List QuotaRow) (folder p : ℕ) → AreQuotas quotas → IsAt folder_of folder quotas p → AreQuotas (remove quotas p)
-less_kept quotas folder p kept at =
-    let size : length (remove quotas p) + 1 ≡ length quotas = length-remove quotas p at.within in
-    let few = kept.few in
-    record { ascending = ascending-remove folder_of folder quotas p kept.ascending at; few = omega arith }
+each_small : (thresholds : List Threshold) → list_any is_crowded thresholds ≡ false → list_all (λ threshold. list_all is_short threshold.actions) thresholds ≡ true → list_all (λ threshold. nat_le (action_bytes threshold.actions) 8192) thresholds ≡ true
+each_small [] few short = refl
+each_small (threshold ∷ thresholds) few short =
+    let its = neither (is_crowded threshold) (list_any is_crowded thresholds) few in
+    let texts = both (list_all is_short threshold.actions) _ short in
+    both_true _ _ (le_test _ 8192 (actions_small threshold.actions (ge_is 8 (length threshold.actions) its.0) texts.0)) (each_small thresholds its.1 texts.1)
 
--- one changed
-pub change_kept : (quotas : List QuotaRow) (folder p : ℕ) (c : QuotaRow → QuotaRow) (r : QuotaRow) → ((row : QuotaRow) → row.folder ≡ folder → (c row).folder ≡ folder) → AreQuotas quotas → IsAt folder_of folder quotas p → r ≡ get_or quotas p r → AreQuotas (slice_set quotas p (c r))
-change_kept quotas folder p c r keeps kept at read =
-    let size : length (slice_set quotas p (c r)) ≡ length quotas = length-set quotas p (c r) in
-    let few = kept.few in
-    record { ascending = ascending-set folder_of folder c quotas p r keeps kept.ascending at read; few = omega arith }
+pub quota_small : (row : QuotaRow) → has_long_list row ≡ false → has_short_texts row ≡ true → is_small row ≡ true
+quota_small row few short =
+    let its = neither _ (list_any is_crowded row.thresholds) few in
+    let least : length row.thresholds ≤ 16 = ge_is 16 (length row.thresholds) its.0 in
+    le_test (quota_bytes row) most_quota_bytes
+    (omega (arith, sum_by_within (λ (threshold : Threshold). action_bytes threshold.actions) 8192 row.thresholds (each_small row.thresholds its.1 short)))
 
--- a folder that has a quota gets no other
-pub taken_fault : (tables : Tables) (row : QuotaRow) (p : ℕ) → IsAt folder_of row.folder tables.quotas p → quota_fault tables row ≡ Some AlreadyExists
-taken_fault tables row p at = rw (row_found folder_of row.folder tables.quotas p at).has refl
+pub small_fits : (row : QuotaRow) → is_small row ≡ true → quota_bytes row ≤ 131072
+small_fits row small = le_is _ _ small
+
+-- ---- what is read at the place of a folder is its quota
+pub read_found : (quotas : List QuotaRow) (n p : ℕ) (r : QuotaRow) → IsAt folder_of n quotas p → r ≡ get_or quotas p r → row_of folder_of n quotas ≡ Some r
+read_found quotas n p r at read =
+    let found = row_found folder_of n quotas p at in
+    let is : r ≡ found.row = read ∙ get_or_from_slice_get quotas p found.row r found.at in
+    sym at.found ∙ (found.at ∙ ap Some (sym is))
+
+pub read_small : (quotas : List QuotaRow) (n p : ℕ) (r : QuotaRow) → AreQuotas quotas → IsAt folder_of n quotas p → r ≡ get_or quotas p r → quota_bytes r ≤ 131072
+read_small quotas n p r kept at read =
+    small_fits r (all_found is_small (λ q. folder_of q == n) quotas r kept.small (read_found quotas n p r at read))
 
 -- a folder without a place has no quota
 pub none_found : (quotas : List QuotaRow) (folder p : ℕ) → IsGap folder_of folder quotas p → row_of folder_of folder quotas ≡ None
@@ -47,6 +64,71 @@ pub at_place : (quotas rows : List QuotaRow) (folder p : ℕ) (r : Result ℕ �
 at_place quotas rows folder p r same is found =
     subst (λ (items : List QuotaRow). IsAt folder_of folder items p) same (subst (λ (answer : Result ℕ ℕ). IfOk answer (IsAt folder_of folder quotas)) is found)
 
+-- ---- tables
 -- tables of these quotas
 abbrev pub tables_of : List QuotaRow → Tables
 tables_of quotas = record { quotas = quotas }
+
+-- the texts of quotas fit
+pub texts_most : (quotas : List QuotaRow) → AreQuotas quotas → quota_texts quotas ≤ length quotas * 131072
+texts_most quotas kept = sum_by_within quota_bytes most_quota_bytes quotas kept.small
+
+-- one more
+module _ (quotas : List QuotaRow) (row : QuotaRow) (p : ℕ) (gap : IsGap folder_of row.folder quotas p) where
+  more_is : insert quotas p row ≡ with_row folder_of row quotas
+  more_is = insert_row folder_of row quotas p gap
+
+  pub more_kept : AreQuotas quotas → length quotas < most_quotas → is_small row ≡ true → AreQuotas (insert quotas p row)
+  more_kept kept room small =
+      let size : length (insert quotas p row) ≡ length quotas + 1 = length-insert quotas p row gap.within in
+      record {
+        ascending = ascending-insert folder_of row quotas p kept.ascending gap;
+        few = omega arith;
+        small = ap (list_all is_small) more_is ∙ list_all-with_row folder_of is_small row quotas small kept.small;
+      }
+
+  pub more_texts : quota_texts (insert quotas p row) ≡ quota_bytes row + quota_texts quotas
+  more_texts = ap quota_texts more_is ∙ sum_by-with_row folder_of quota_bytes row quotas
+
+-- one less
+module _ (quotas : List QuotaRow) (folder p : ℕ) (r : QuotaRow) (kept : AreQuotas quotas) (at : IsAt folder_of folder quotas p) (read : r ≡ get_or quotas p r) where
+  less_is : remove quotas p ≡ without_row folder_of folder quotas
+  less_is = remove_found folder_of folder quotas p kept.ascending at
+
+  pub less_kept : AreQuotas (remove quotas p)
+  less_kept =
+      let size : length (remove quotas p) + 1 ≡ length quotas = length-remove quotas p at.within in
+      let few = kept.few in
+      record {
+        ascending = ascending-remove folder_of folder quotas p kept.ascending at;
+        few = omega arith;
+        small = ap (list_all is_small) less_is ∙ list_all-filter is_small _ quotas kept.small;
+      }
+
+  pub less_texts : quota_texts (remove quotas p) + quota_bytes r ≡ quota_texts quotas
+  less_texts = ap (λ n. n + quota_bytes r) (ap quota_texts less_is) ∙ sum_by-without_row folder_of quota_bytes folder r quotas kept.ascending (read_found quotas folder p r at read)
+
+-- one changed
+module _ (quotas : List QuotaRow) (folder p : ℕ) (c : QuotaRow → QuotaRow) (r : QuotaRow) (keeps : (row : QuotaRow) → row.folder ≡ folder → (c row).folder ≡ folder) (kept : AreQuotas quotas) (at : IsAt folder_of folder quotas p) (read : r ≡ get_or quotas p r) where
+  change_is : slice_set quotas p (c r) ≡ with_change folder_of folder c quotas
+  change_is = set_found folder_of folder c quotas p r kept.ascending at read
+
+  pub change_kept : ((row : QuotaRow) → is_small row ≡ true → is_small (c row) ≡ true) → AreQuotas (slice_set quotas p (c r))
+  change_kept small =
+      let size : length (slice_set quotas p (c r)) ≡ length quotas = length-set quotas p (c r) in
+      let few = kept.few in
+      record {
+        ascending = ascending-set folder_of folder c quotas p r keeps kept.ascending at read;
+        few = omega arith;
+        small = ap (list_all is_small) change_is ∙ list_all-with_change folder_of is_small folder c quotas kept.small small;
+      }
+
+  pub change_texts : quota_texts (slice_set quotas p (c r)) + quota_bytes r ≡ quota_texts quotas + quota_bytes (c r)
+  change_texts = ap (λ n. n + quota_bytes r) (ap quota_texts change_is) ∙ sum_by-with_change folder_of quota_bytes folder c r quotas kept.ascending (read_found quotas folder p r at read)
+
+  -- one that keeps its texts
+  pub change_counted : ((row : QuotaRow) → quota_bytes (c row) ≡ quota_bytes row) → (texts : ℕ) → texts ≡ quota_texts quotas → AreCounted (slice_set quotas p (c r)) texts
+  change_counted same texts counted = record {
+    are = change_kept (λ row small. ap (λ n. nat_le n most_quota_bytes) (same row) ∙ small);
+    texts_are = omega (arith, change_texts, same r);
+  }

@@ -1,40 +1,73 @@
 -- The tables of objects, and why a row is refused.
-use Rattle.std.specs.Prelude.{◌≡◌, ℕ, nat_le, Bool, List, [], ◌∷◌, length, Option, Some, None, if◌then◌else◌}
+use Rattle.std.specs.Prelude.{◌≡◌, ℕ, ◌+◌, ◌||◌, nat_lt, nat_le, Bool, List, [], ◌∷◌, length, sum_by, Option, Some, None}
+use Rattle.std.specs.List.{list_all, list_any}
+use Rattle.std.specs.Option.{option_map_or}
+use Rattle.fsrm_base.specs.Causes.{◌when◌, first}
+use Rattle.fsrm_base.specs.Keyed.{has_row, row_of, with_row, with_change, without_row}
+use Rattle.fsrm_model.specs.declared.row.Action.{Action}
 use Rattle.fsrm_model.specs.declared.row.QuotaRow.{QuotaRow}
 use Rattle.fsrm_model.specs.declared.row.QuotaState.{QuotaState}
-use Rattle.fsrm_base.specs.Keyed.{has_row, with_row, with_change, without_row}
-use Rattle.fsrm_model.specs.Limits.{most_quotas}
+use Rattle.fsrm_model.specs.declared.row.Threshold.{Threshold}
+use Rattle.fsrm_model.specs.Limits.{most_quotas, most_thresholds, most_actions, longest_action_text}
 use Rattle.fsrm_model.specs.Quota.{folder_of}
 use Rattle.fsrm_model.specs.QuotaStates.{in_state}
+use Rattle.fsrm_model.specs.Texts.{quota_bytes}
 use Rattle.fsrm_objects.specs.declared.answer.ObjectFault.{ObjectFault}
-use Rattle.fsrm_objects.specs.declared.answer.ObjectFault.TheVariants.{AlreadyExists, TableFull, NoMemory}
+use Rattle.fsrm_objects.specs.declared.answer.ObjectFault.TheVariants.{AlreadyExists, OutOfRange, TableFull, TextsFull, NoMemory}
 
 -- the rows of each table
 pub record Tables : Type 0 where
   pub quotas : List QuotaRow
 
--- a fault is for want of memory, or the one that is due
+-- the bytes of the texts that quotas hold, and of those of all tables
+abbrev pub quota_texts : List QuotaRow → ℕ
+quota_texts quotas = sum_by quota_bytes quotas
+
+abbrev pub texts_in : Tables → ℕ
+texts_in tables = quota_texts tables.quotas
+
+-- ---- refusals
+-- a fault is the one that is due; it is for want of memory only if none is due
 abbrev pub IsFault : ObjectFault → Option ObjectFault → Type 0
-IsFault NoMemory due = Unit {0}
 IsFault AlreadyExists due = due ≡ Some AlreadyExists
+IsFault OutOfRange due = due ≡ Some OutOfRange
 IsFault TableFull due = due ≡ Some TableFull
+IsFault TextsFull due = due ≡ Some TextsFull
+IsFault NoMemory due = due ≡ None
 
--- the first fault of a list
-abbrev pub first_fault : List (Option ObjectFault) → Option ObjectFault
-first_fault [] = None
-first_fault (None ∷ faults) = first_fault faults
-first_fault (Some fault ∷ faults) = Some fault
+-- whether a list of a quota is longer than it may be
+abbrev pub is_crowded : Threshold → Bool
+is_crowded threshold = nat_lt most_actions (length threshold.actions)
 
--- the fault, where its condition holds
-abbrev pub fault_if : ObjectFault → Bool → Option ObjectFault
-fault_if fault b = if b then Some fault else None
+abbrev pub has_long_list : QuotaRow → Bool
+has_long_list row = nat_lt most_thresholds (length row.thresholds) || list_any is_crowded row.thresholds
 
--- why a quota can't be added
-abbrev pub quota_fault : Tables → QuotaRow → Option ObjectFault
-quota_fault tables row =
-    first_fault (fault_if AlreadyExists (has_row folder_of row.folder tables.quotas)
-    ∷ fault_if TableFull (nat_le most_quotas (length tables.quotas)) ∷ [])
+-- whether no text of a quota's actions is longer than it may be
+abbrev pub is_short : Action → Bool
+is_short action = nat_le (length action.text) longest_action_text
 
+abbrev pub has_short_texts : QuotaRow → Bool
+has_short_texts row = list_all (λ threshold. list_all is_short threshold.actions) row.thresholds
+
+-- why a quota can't be added, if so many bytes of texts may still come
+abbrev pub quota_fault : Tables → QuotaRow → ℕ → Option ObjectFault
+quota_fault tables row room =
+    first ((AlreadyExists when has_row folder_of row.folder tables.quotas)
+    ∷ (OutOfRange when has_long_list row)
+    ∷ (TableFull when nat_le most_quotas (length tables.quotas))
+    ∷ (TextsFull when nat_lt room (quota_bytes row)) ∷ [])
+
+-- the bytes of the texts of a folder's quota
+abbrev pub texts_at : Tables → ℕ → ℕ
+texts_at tables folder = option_map_or quota_bytes (row_of folder_of folder tables.quotas) 0
+
+-- why a quota can't take the place of its folder's, whose texts it replaces
+abbrev pub other_fault : Tables → QuotaRow → ℕ → Option ObjectFault
+other_fault tables row room =
+    first ((OutOfRange when has_long_list row)
+    ∷ (TextsFull when nat_lt (room + texts_at tables row.folder) (quota_bytes row)) ∷ [])
+
+-- ---- edits
 -- tables with one more quota, with another row for a folder, with another peak or state, without a folder's quota
 abbrev pub with_quota : Tables → QuotaRow → Tables
 with_quota tables row = record tables { quotas = with_row folder_of row tables.quotas }

@@ -1,12 +1,16 @@
 //! What the tables answer.
 
-/// Why a row is refused.
+/// Why a row is refused. Of several causes the first in this order decides.
 #[derive(Clone, Copy, Debug, PartialEq, Eq)]
 pub enum ObjectFault {
     /// The folder has such an object.
     AlreadyExists,
+    /// A list of the row is too long: a quota has at most 16 thresholds, and a threshold at most 8 actions.
+    OutOfRange,
     /// The table has as many rows as it may.
     TableFull,
+    /// The row's texts, less those that they replace, are longer than the room that is left.
+    TextsFull,
     /// There was no memory. Nothing in the tables is the cause.
     NoMemory,
 }

@@ -4,10 +4,12 @@ ghost use Rattle.std.specs.Prelude.{◌≡◌, ◌<◌, IfOk, IfErr, OnOk, OnErr
 ghost use Rattle.std.specs.Option.{option_copied};
 ghost use Rattle.fsrm_base.specs.Keyed.{row_of, has_row, is_ascending};
 ghost use Rattle.fsrm_model.specs.Quota.{folder_of};
+ghost use Rattle.fsrm_model.specs.Texts.{quota_bytes};
 ghost use Rattle.fsrm_base.specs.Places.{IsAt, IsGap};
-ghost use Rattle.fsrm_objects.specs.Tables.{IsFault, quota_fault, with_quota, with_other, with_peak, with_state, without_quota};
+ghost use Rattle.fsrm_objects.specs.Tables.{IsFault, has_short_texts, other_fault, quota_fault, texts_in, with_quota, with_other, with_peak, with_state, without_quota};
 
 use crate::answer::ObjectFault;
+use crate::texts::{has_long_list, left_of_quota, texts_of};
 use fsrm_model::{QuotaRow, QuotaState};
 use std::alloc::Global;
 use std::marker::Model;
@@ -28,17 +30,19 @@ fn search(quotas: &[QuotaRow], folder: u32) -> Result<usize, usize>
 #[derive(Drop)]
 pub struct Objects {
     quotas: Vec<QuotaRow>,
+    // The bytes of all texts.
+    texts: u32,
 }
 
 impl Model for Objects {
-    ghost use Rattle.fsrm_objects.specs.Kept.{AreQuotas};
+    ghost use Rattle.fsrm_objects.specs.Kept.{AreCounted};
     ghost use Rattle.fsrm_objects.specs.Tables.{Tables};
 
     ghost Value = { Tables };
 
     ghost view = { λ o. record { quotas = o.quotas.items } };
 
-    ghost invariant = { λ o. AreQuotas o.quotas.items };
+    ghost invariant = { λ o. AreCounted o.quotas.items o.texts };
 }
 
 impl Objects {
@@ -48,38 +52,78 @@ impl Objects {
     {
         Objects {
             quotas: Vec::new(alloc),
+            texts: 0,
         }
     }
 
-    /// Adds a quota.
+    /// Adds a quota, whose actions have texts of at most 1,024 bytes each.
     ///
-    /// It is refused where the folder has one, else where there are 4,096. An `Err` changes nothing, and
-    /// the row is dropped.
-    pub fn add_quota(&mut self, row: QuotaRow) -> Result<(), ObjectFault>
+    /// `room` is how many bytes of texts may still come. The quota is refused if its folder has one, else if
+    /// it has more than 16 thresholds or one of these more than 8 actions, else if there are 4,096 quotas,
+    /// else if its texts are longer than `room`. An `Err` changes nothing, and the row is dropped.
+    pub fn add_quota(&mut self, row: QuotaRow, room: u32) -> Result<(), ObjectFault>
+        requires { has_short_texts row ≡ true }
         ensures ok { OnOk result (self.new ≡ with_quota self.old row) }
-        ensures may { OnOk result (quota_fault self.old row ≡ None) }
-        ensures refused { IfErr result (λ fault. IsFault fault (quota_fault self.old row)) }
+        ensures may { OnOk result (quota_fault self.old row room ≡ None) }
+        ensures refused { IfErr result (λ fault. IsFault fault (quota_fault self.old row room)) }
         ensures err { OnErr result (self.new ≡ self.old) }
+    {
+        let (place, bytes) = self.admit(&row, room)?;
+        let Ok(()) = self.quotas.insert(place, row) else {
+            return Err(ObjectFault::NoMemory);
+        };
+        self.texts += bytes;
+        Ok(())
+    }
+
+    // The place of a new quota, and the bytes of its texts, if it may be added.
+    fn admit(&self, row: &QuotaRow, room: u32) -> Result<(usize, u32), ObjectFault>
+        ensures place { IfOk result (λ found. IsGap folder_of row.now.folder self.now.quotas found.0) }
+        ensures bytes { IfOk result (λ found. found.1 ≡ quota_bytes row.now) }
+        ensures may { OnOk result (quota_fault self.now row.now room ≡ None) }
+        ensures refused { IfErr result (λ fault. quota_fault self.now row.now room ≡ Some fault) }
     {
         let Err(place) = search(&self.quotas, row.folder) else {
             return Err(ObjectFault::AlreadyExists);
         };
+        if has_long_list(row) {
+            return Err(ObjectFault::OutOfRange);
+        }
         if self.quotas.len() >= MOST_QUOTAS {
             return Err(ObjectFault::TableFull);
         }
-        let Ok(()) = self.quotas.insert(place, row) else {
-            return Err(ObjectFault::NoMemory);
+        let Some(left) = left_of_quota(row, room) else {
+            return Err(ObjectFault::TextsFull);
         };
-        Ok(())
+        Ok((place, room - left))
     }
 
-    /// Gives a folder that has a quota this one in its place.
-    pub fn set_quota(&mut self, row: QuotaRow)
-        requires { has_row folder_of row.folder self.old.quotas ≡ true }
-        ensures { self.new ≡ with_other self.old row }
+    /// Gives a folder that has a quota this one in its place. The texts of its actions have at most 1,024
+    /// bytes each.
+    ///
+    /// It is refused if it has more than 16 thresholds or one of these more than 8 actions, else if its
+    /// texts, less those of the quota that it replaces, are longer than `room`. It takes no memory. An `Err`
+    /// changes nothing, and the row is dropped.
+    pub fn set_quota(&mut self, row: QuotaRow, room: u32) -> Result<(), ObjectFault>
+        requires there { has_row folder_of row.folder self.old.quotas ≡ true }
+        requires texts { has_short_texts row ≡ true }
+        ensures ok { OnOk result (self.new ≡ with_other self.old row) }
+        ensures may { OnOk result (other_fault self.old row room ≡ None) }
+        ensures refused { IfErr result (λ fault. other_fault self.old row room ≡ Some fault) }
+        ensures err { OnErr result (self.new ≡ self.old) }
     {
+        if has_long_list(&row) {
+            return Err(ObjectFault::OutOfRange);
+        }
         let place = search(&self.quotas, row.folder).unwrap();
+        let replaced = texts_of(&self.quotas[place]);
+        let bytes = texts_of(&row);
+        if bytes.saturating_sub(replaced) > room {
+            return Err(ObjectFault::TextsFull);
+        }
+        self.texts = self.texts - replaced + bytes;
         self.quotas[place] = row;
+        Ok(())
     }
 
     /// Takes a folder's quota away.
@@ -88,6 +132,7 @@ impl Objects {
         ensures { self.new ≡ without_quota self.old folder }
     {
         let place = search(&self.quotas, folder).unwrap();
+        self.texts -= texts_of(&self.quotas[place]);
         self.quotas.remove(place);
     }
 
@@ -119,6 +164,13 @@ impl Objects {
             Ok(place) => Some(&self.quotas[place]),
             Err(_) => None,
         }
+    }
+
+    /// The bytes of all texts that the rows hold.
+    pub fn texts(&self) -> u32
+        ensures { result ≡ texts_in self.now }
+    {
+        self.texts
     }
 
     /// How many quotas there are, at most 4,096.

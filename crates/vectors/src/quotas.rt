@@ -1,13 +1,15 @@
 //! The table of quotas, and the counters of those that count.
 
-ghost use Rattle.std.specs.Prelude.{◌≡◌};
+ghost use Rattle.std.specs.Prelude.{◌≡◌, IfOk, true};
 ghost use Rattle.fsrm_base.specs.Keyed.{has_row};
 ghost use Rattle.fsrm_model.specs.Quota.{folder_of};
+ghost use Rattle.fsrm_objects.specs.Tables.{has_short_texts};
 
-use crate::values::{SMALL, quota};
-use fsrm_model::{QuotaState, Steps, Weightless};
+use crate::values::{SMALL, one, quota, text};
+use fsrm_model::{Action, ActionKind, QuotaRow, QuotaState, Steps, Threshold, Weightless};
 use fsrm_objects::{ObjectFault, Objects};
 use quota_usage::{Change, Usage};
+use std::alloc::Global;
 use std::marker::Brand;
 use std::process::Abort;
 use std::sync::ledger::{Blank, Ledger};
@@ -23,9 +25,9 @@ fn has_quota(objects: &Objects, folder: u32) -> bool
 #[test]
 fn quotas_come_and_go(rt: HostRuntime) -> Result<(), Fail> {
     let mut objects = Objects::new(rt.alloc());
-    assert_eq!(rt; objects.add_quota(quota(rt.alloc(), 5, 5_000)), Ok(()));
-    assert_eq!(rt; objects.add_quota(quota(rt.alloc(), 2, 2_000)), Ok(()));
-    let again = objects.add_quota(quota(rt.alloc(), 5, 6_000));
+    assert_eq!(rt; objects.add_quota(quota(rt.alloc(), 5, 5_000), 0), Ok(()));
+    assert_eq!(rt; objects.add_quota(quota(rt.alloc(), 2, 2_000), 0), Ok(()));
+    let again = objects.add_quota(quota(rt.alloc(), 5, 6_000), 0);
     assert_eq!(rt; again, Err(ObjectFault::AlreadyExists));
     assert!(rt; objects.quota_count() == 2 && objects.quota_at(0).folder == 2);
     assert!(rt; has_quota(&objects, 5));
@@ -34,12 +36,34 @@ fn quotas_come_and_go(rt: HostRuntime) -> Result<(), Fail> {
     Ok(())
 }
 
+// A quota that has an action with the text `text`.
+fn with_action(alloc: Global, row: QuotaRow) -> Result<QuotaRow, Fail>
+    ensures folder { IfOk result (λ made. made.folder ≡ row.folder) }
+    ensures texts { IfOk result (λ made. has_short_texts made ≡ true) }
+{
+    let action = Action {
+        kind: ActionKind::Mail,
+        minutes: -1,
+        text: text(alloc)?,
+        last_run: None,
+    };
+    let threshold = Threshold {
+        percent: 85,
+        actions: one(alloc, action)?,
+    };
+    let thresholds = one(alloc, threshold)?;
+    Ok(QuotaRow { thresholds, ..row })
+}
+
 #[test]
 fn a_quota_changes(rt: HostRuntime) -> Result<(), Fail> {
     let mut objects = Objects::new(rt.alloc());
-    assert_eq!(rt; objects.add_quota(quota(rt.alloc(), 5, 5_000)), Ok(()));
+    let loud = with_action(rt.alloc(), quota(rt.alloc(), 5, 5_000))?;
+    assert_eq!(rt; objects.add_quota(loud, 4), Ok(()));
+    assert_eq!(rt; objects.texts(), 4);
     assert!(rt; has_quota(&objects, 5));
-    objects.set_quota(quota(rt.alloc(), 5, 6_000));
+    assert_eq!(rt; objects.set_quota(quota(rt.alloc(), 5, 6_000), 0), Ok(()));
+    assert_eq!(rt; objects.texts(), 0);
     assert!(rt; has_quota(&objects, 5));
     objects.set_peak(5, 77, 8);
     assert!(rt; has_quota(&objects, 5));
@@ -59,7 +83,7 @@ fn counts<N: Ledger>(rt: &HostRuntime, end: &impl Abort, blank: Blank) -> Result
     let mut steps = Steps::new(rt, Weightless::<N>::of(blank));
     let tree = Tree::reserve(rt.alloc(), SMALL)?;
     let mut objects = Objects::new(rt.alloc());
-    objects.add_quota(quota(rt.alloc(), 0, 1_024))?;
+    objects.add_quota(quota(rt.alloc(), 0, 1_024), 0)?;
     let mut usage = Usage::reserve(rt.alloc())?;
     usage.begin(0, 1_000);
     let change = Change {

@@ -3,6 +3,7 @@
 ghost use Rattle.std.specs.Prelude.{◌≡◌, ◌≤◌, [], ◌∷◌, true, IfOk, codes};
 ghost use Rattle.fsrm_model.specs.Limits.{latest_moment};
 ghost use Rattle.fsrm_model.specs.Valued.{is_command};
+ghost use Rattle.fsrm_objects.specs.Tables.{has_short_texts};
 
 use fsrm_model::{Capacity, Command, Deed, List, NodeRow, Path, QuotaRow, QuotaState, Text};
 use std::alloc::Global;
@@ -48,9 +49,10 @@ pub fn root_quota(alloc: Global, moment: u64) -> Command
     }
 }
 
-/// A folder's complete quota of this limit.
+/// A folder's complete quota of this limit, without thresholds.
 pub fn quota(alloc: Global, folder: u32, limit: u64) -> QuotaRow
-    ensures { result.folder ≡ folder }
+    ensures folder { result.folder ≡ folder }
+    ensures texts { has_short_texts result ≡ true }
 {
     QuotaRow {
         folder,

@@ -2,9 +2,9 @@ use Rattle.std.proofs.Common.{sym}
 use Rattle.file_groups.proofs.StarLaws.{star_taken, one_passed, tried_well}
 use Rattle.file_groups.proofs.matching.some_end_matches.Goals as goal
 
-pub loop-behind-preserved-in-Star : goal.loop-behind-preserved-in-Star
-loop-behind-preserved-in-Star c =
-    let kept = c.loop-behind.invariant in
+pub loop-after-preserved-in-Star : goal.loop-after-preserved-in-Star
+loop-after-preserved-in-Star c =
+    let kept = c.loop-after.invariant in
     let star = c.in-Star.ensures in
     record {
       starred_text = star.is_text;
@@ -14,9 +14,9 @@ loop-behind-preserved-in-Star c =
       tried = star_taken _ _ _ _ _ _ _ star.characters kept.tried;
     }
 
-pub loop-behind-preserved-in-One : goal.loop-behind-preserved-in-One
-loop-behind-preserved-in-One c =
-    let kept = c.loop-behind.invariant in
+pub loop-after-preserved-in-One : goal.loop-after-preserved-in-One
+loop-after-preserved-in-One c =
+    let kept = c.loop-after.invariant in
     let one = c.in-One.ensures in
     record {
       starred_text = kept.starred_text;
@@ -27,4 +27,4 @@ loop-behind-preserved-in-One c =
     }
 
 pub returns-in-Ended : goal.returns-in-Ended
-returns-in-Ended c = sym (tried_well _ _ _ _ _ _ c.in-Ended.ensures c.loop-behind.invariant.tried)
+returns-in-Ended c = sym (tried_well _ _ _ _ _ _ c.in-Ended.ensures c.loop-after.invariant.tried)

@@ -4,8 +4,8 @@ use denote.Shadow.{shadow}
 use Rattle.file_groups.proofs.StarLaws.{IsTried}
 use Rattle.file_groups.proofs.matching.some_end_matches.Given as goal
 
-abbrev pub invariant-loop-behind : goal.invariant-loop-behind
-invariant-loop-behind l = record {
+abbrev pub invariant-loop-after : goal.invariant-loop-after
+invariant-loop-after l = record {
   starred_text : shadow (Utf8 l.starred);
   end_text : shadow (Utf8 l.end);
   pattern_text : shadow (Utf8 l.pattern);
@@ -14,5 +14,5 @@ invariant-loop-behind l = record {
 }
 
 -- each end is tried with at most all characters of the pattern
-abbrev pub decreases-loop-behind : goal.decreases-loop-behind
-decreases-loop-behind l = length (chars l.end) * (length (chars l.fn.pattern) + 1) + length (chars l.pattern)
+abbrev pub decreases-loop-after : goal.decreases-loop-after
+decreases-loop-after l = length (chars l.end) * (length (chars l.fn.pattern) + 1) + length (chars l.pattern)

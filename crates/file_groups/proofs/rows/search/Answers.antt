@@ -7,9 +7,9 @@ use Rattle.file_groups.proofs.rows.search.Goals as goal
 pub returns-clause-found : goal.returns-clause-found
 returns-clause-found c =
     let facts = c.binary_search_by_key.ensures in
-    searched_ok group_number c.args.number c.args.groups.now _ c.requires facts.bound (facts.position group_number (answers_always _ _ _ (λ f a r g called. search rules)))
+    searched_ok group_number c.args.number c.args.groups.now c.binary_search_by_key.result c.requires facts.bound (facts.position group_number (answers_always _ _ _ (λ f a r g called. search rules)))
 
 pub returns-clause-free : goal.returns-clause-free
 returns-clause-free c =
     let facts = c.binary_search_by_key.ensures in
-    searched_err group_number c.args.number c.args.groups.now _ c.requires facts.bound (facts.position group_number (answers_always _ _ _ (λ f a r g called. search rules)))
+    searched_err group_number c.args.number c.args.groups.now c.binary_search_by_key.result c.requires facts.bound (facts.position group_number (answers_always _ _ _ (λ f a r g called. search rules)))

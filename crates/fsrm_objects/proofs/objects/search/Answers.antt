@@ -7,9 +7,9 @@ use Rattle.fsrm_objects.proofs.objects.search.Goals as goal
 pub returns-clause-found : goal.returns-clause-found
 returns-clause-found c =
     let facts = c.binary_search_by_key.ensures in
-    searched_ok folder_of c.args.folder c.args.quotas.now _ c.requires facts.bound (facts.position folder_of (answers_always _ _ _ (λ f a r g called. search rules)))
+    searched_ok folder_of c.args.folder c.args.quotas.now c.binary_search_by_key.result c.requires facts.bound (facts.position folder_of (answers_always _ _ _ (λ f a r g called. search rules)))
 
 pub returns-clause-free : goal.returns-clause-free
 returns-clause-free c =
     let facts = c.binary_search_by_key.ensures in
-    searched_err folder_of c.args.folder c.args.quotas.now _ c.requires facts.bound (facts.position folder_of (answers_always _ _ _ (λ f a r g called. search rules)))
+    searched_err folder_of c.args.folder c.args.quotas.now c.binary_search_by_key.result c.requires facts.bound (facts.position folder_of (answers_always _ _ _ (λ f a r g called. search rules)))

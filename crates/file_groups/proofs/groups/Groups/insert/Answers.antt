@@ -1,22 +1,33 @@
-use Rattle.std.proofs.Common.{List, false, ◌+◌, sym, ◌∙◌, ap, subst}
+use Rattle.std.proofs.Common.{List, false, ◌+◌, ◌≤◌, sym, ◌∙◌, ap, subst, arith}
 use Rattle.fsrm_model.specs.declared.row.GroupRow.{GroupRow}
-use Rattle.fsrm_model.specs.Patterns.{group_number, with_group}
+use Rattle.fsrm_model.specs.Patterns.{group_number, texts_of, with_group}
 use Rattle.file_groups.specs.Kept.{IsTable}
 use Rattle.fsrm_base.specs.Places.{IsGap}
 use Rattle.file_groups.proofs.FaultLaws.{Admitted, admitted}
 use Rattle.file_groups.proofs.GroupLaws.{more_are, more_texts}
+use Rattle.file_groups.proofs.PartLaws.{group_small, texts_most}
 use Rattle.fsrm_base.proofs.SortedRows.{insert_row}
 use Rattle.file_groups.proofs.groups.Groups.insert.Goals as goal
+
+pub texts_of-bytes-requires : goal.texts_of-bytes-requires
+texts_of-bytes-requires c = let its : texts_of c.args.row ≤ 32895 = group_small c.args.row c.requires.valid in omega arith
+
+pub overflow_add-self : goal.overflow_add-self
+overflow_add-self c =
+    let groups = c.self.inside.groups.items in
+    let may : Admitted groups c.args.row.name = subst (λ (rows : List GroupRow). Admitted rows c.args.row.name) (sym c.self.view_is) (admitted c.args.self.now c.args.row.name false c.requires.admitted) in
+    let its : texts_of c.args.row ≤ 32895 = group_small c.args.row c.requires.valid in
+    omega (arith, its, may.few, texts_most groups c.self.invariant.are, c.self.invariant.texts_are, c.texts_of-bytes.ensures)
 
 pub invariant_of-self-2 : goal.invariant_of-self-2
 invariant_of-self-2 c =
     let groups = c.self.inside.groups.items in
     let gap = subst (λ (rows : List GroupRow). IsGap group_number c.args.row.number rows c.gap-place.result) c.deref.ensures.value c.gap-place.ensures in
     let may : Admitted groups c.args.row.name = subst (λ (rows : List GroupRow). Admitted rows c.args.row.name) (sym c.self.view_is) (admitted c.args.self.now c.args.row.name false c.requires.admitted) in
-    subst (λ (rows : List GroupRow). IsTable rows (c.self.inside.texts + c.args.bytes)) (sym c.in_ok-insert.ensures.items)
+    subst (λ (rows : List GroupRow). IsTable rows (c.self.inside.texts + c.texts_of-bytes.result)) (sym c.in_ok-insert.ensures.items)
     (record {
       are = more_are groups c.args.row c.gap-place.result c.self.invariant.are gap may.few c.requires.valid may.new;
-      texts_are = more_texts groups c.args.row c.gap-place.result c.self.inside.texts c.args.bytes gap c.self.invariant.texts_are c.requires.bytes;
+      texts_are = more_texts groups c.args.row c.gap-place.result c.self.inside.texts c.texts_of-bytes.result gap c.self.invariant.texts_are c.texts_of-bytes.ensures;
     })
 
 pub returns-clause-ok : goal.returns-clause-ok

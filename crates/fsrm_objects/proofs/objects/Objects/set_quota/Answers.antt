@@ -1,21 +1,82 @@
-use Rattle.std.proofs.Common.{refl, ◌∙◌, ap}
+use Rattle.std.proofs.Common.{◌≡◌, ◌+◌, ◌<◌, ◌≤◌, true, refl, sym, ◌∙◌, ap, arith}
+use Rattle.std.specs.Prelude.{slice_set}
 use Rattle.fsrm_model.specs.Quota.{folder_of}
-use Rattle.fsrm_objects.specs.Tables.{Tables, with_other}
-use Rattle.fsrm_objects.proofs.QuotaRows.{change_kept, at_place, tables_of}
+use Rattle.fsrm_model.specs.Texts.{quota_bytes}
+use Rattle.fsrm_objects.specs.Kept.{AreQuotas, is_small}
+use Rattle.fsrm_objects.specs.Tables.{Tables, other_fault, with_other}
+use Rattle.fsrm_objects.proofs.FaultLaws.{replaced_due, replaced_fits}
+use Rattle.fsrm_objects.proofs.QuotaRows.{at_place, change_kept, change_texts, less_texts, quota_small, read_found, small_fits, tables_of, texts_most}
 use Rattle.fsrm_base.proofs.SortedRows.{set_found}
 use Rattle.fsrm_objects.proofs.objects.Objects.set_quota.Goals as goal
+
+pub texts_of-bytes-requires : goal.texts_of-bytes-requires
+texts_of-bytes-requires c =
+    let its : quota_bytes c.args.row ≤ 131072 = small_fits c.args.row (quota_small c.args.row (sym c.has_long_list.ensures ∙ c.if-has_long_list.false) c.requires.texts) in
+    omega arith
+
+pub returns-then-saturating_sub-room-clause-refused :
+    goal.returns-then-saturating_sub-room-clause-refused
+returns-then-saturating_sub-room-clause-refused c =
+    let quotas = c.self.inside.quotas.items in
+    let old = c.index.result.now in
+    let at = at_place c.deref.result.now quotas c.args.row.folder c.unwrap-place.result c.search.result c.deref.ensures.value c.unwrap-place.ensures c.search.ensures.found in
+    let long : c.args.room + quota_bytes old < quota_bytes c.args.row = omega arith in
+    ap (λ (tables : Tables). other_fault tables c.args.row c.args.room) (sym c.self.view_is)
+    ∙ replaced_due (tables_of quotas) c.args.row old c.args.room (read_found quotas c.args.row.folder c.unwrap-place.result old at c.index.ensures) (sym c.has_long_list.ensures ∙ c.if-has_long_list.false) long
+
+pub overflow_add-self : goal.overflow_add-self
+overflow_add-self c =
+    let quotas = c.self.inside.quotas.items in
+    let old = c.index.result.now in
+    let folder = c.args.row.folder in
+    let place = c.unwrap-place.result in
+    let at = at_place c.deref.result.now quotas folder place c.search.result c.deref.ensures.value c.unwrap-place.ensures c.search.ensures.found in
+    let small : is_small c.args.row ≡ true = quota_small c.args.row (sym c.has_long_list.ensures ∙ c.if-has_long_list.false) c.requires.texts in
+    let kept : AreQuotas (slice_set quotas place c.args.row) = change_kept quotas folder place (λ q. c.args.row) old (λ q is. refl) c.self.invariant.are at c.index.ensures (λ q is. small) in
+    omega (
+      arith,
+      kept.few,
+      texts_most (slice_set quotas place c.args.row) kept,
+      change_texts quotas folder place (λ q. c.args.row) old (λ q is. refl) c.self.invariant.are at c.index.ensures,
+      less_texts quotas folder place old c.self.invariant.are at c.index.ensures,
+      c.self.invariant.texts_are,
+      c.texts_of-replaced.ensures,
+      c.texts_of-bytes.ensures,
+    )
 
 pub invariant_of-self : goal.invariant_of-self
 invariant_of-self c =
     let quotas = c.self.inside.quotas.items in
+    let old = c.index.result.now in
+    let folder = c.args.row.folder in
     let place = c.unwrap-place.result in
-    let at = at_place c.deref.result.now quotas c.args.row.folder place c.search.result c.deref.ensures.value c.unwrap-place.ensures c.search.ensures.found in
-    change_kept quotas c.args.row.folder place (λ old. c.args.row) c.index_mut.result.now (λ row is. refl) c.self.invariant at c.index_mut.ensures.value
+    let at = at_place c.deref.result.now quotas folder place c.search.result c.deref.ensures.value c.unwrap-place.ensures c.search.ensures.found in
+    let small : is_small c.args.row ≡ true = quota_small c.args.row (sym c.has_long_list.ensures ∙ c.if-has_long_list.false) c.requires.texts in
+    record {
+      are = change_kept quotas folder place (λ q. c.args.row) old (λ q is. refl) c.self.invariant.are at c.index.ensures (λ q is. small);
+      texts_are = omega (
+        arith,
+        change_texts quotas folder place (λ q. c.args.row) old (λ q is. refl) c.self.invariant.are at c.index.ensures,
+        less_texts quotas folder place old c.self.invariant.are at c.index.ensures,
+        c.self.invariant.texts_are,
+        c.texts_of-replaced.ensures,
+        c.texts_of-bytes.ensures,
+      );
+    }
 
-pub returns : goal.returns
-returns c =
+pub returns-clause-ok : goal.returns-clause-ok
+returns-clause-ok c =
     let quotas = c.self.inside.quotas.items in
     let place = c.unwrap-place.result in
     let at = at_place c.deref.result.now quotas c.args.row.folder place c.search.result c.deref.ensures.value c.unwrap-place.ensures c.search.ensures.found in
-    ap tables_of (set_found folder_of c.args.row.folder (λ old. c.args.row) quotas place c.index_mut.result.now c.self.invariant.ascending at c.index_mut.ensures.value)
+    ap tables_of (set_found folder_of c.args.row.folder (λ q. c.args.row) quotas place c.index_mut.result.now c.self.invariant.are.ascending at c.index_mut.ensures.value)
     ∙ ap (λ (tables : Tables). with_other tables c.args.row) c.self.view_is
+
+pub returns-clause-may : goal.returns-clause-may
+returns-clause-may c =
+    let quotas = c.self.inside.quotas.items in
+    let old = c.index.result.now in
+    let at = at_place c.deref.result.now quotas c.args.row.folder c.unwrap-place.result c.search.result c.deref.ensures.value c.unwrap-place.ensures c.search.ensures.found in
+    let fits : quota_bytes c.args.row ≤ c.args.room + quota_bytes old = omega arith in
+    ap (λ (tables : Tables). other_fault tables c.args.row c.args.room) (sym c.self.view_is)
+    ∙ replaced_fits (tables_of quotas) c.args.row old c.args.room (read_found quotas c.args.row.folder c.unwrap-place.result old at c.index.ensures) (sym c.has_long_list.ensures ∙ c.if-has_long_list.false) fits

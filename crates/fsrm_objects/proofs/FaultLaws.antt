@@ -1,0 +1,45 @@
+-- Which fault is due.
+use Rattle.std.proofs.Common.{◌≡◌, ℕ, ◌+◌, ◌<◌, ◌≤◌, nat_lt, nat_le, Bool, true, false, [], ◌∷◌, length, Some, None, refl, arith}
+use Rattle.std.proofs.lemmas.Bool.Decides.{nat_tests}
+use Rattle.fsrm_model.specs.declared.row.QuotaRow.{QuotaRow}
+use Rattle.fsrm_base.specs.Causes.{◌when◌, first}
+use Rattle.fsrm_base.specs.Keyed.{has_row, row_of}
+use Rattle.fsrm_base.specs.Places.{IsAt}
+use Rattle.fsrm_model.specs.Limits.{most_quotas}
+use Rattle.fsrm_model.specs.Quota.{folder_of}
+use Rattle.fsrm_model.specs.Texts.{quota_bytes}
+use Rattle.fsrm_base.proofs.SortedRows.{row_found}
+use Rattle.fsrm_base.proofs.TestLaws.{lt_test, not_lt}
+use Rattle.fsrm_objects.specs.declared.answer.ObjectFault.TheVariants.{AlreadyExists, OutOfRange, TableFull, TextsFull}
+use Rattle.fsrm_objects.specs.Tables.{Tables, has_long_list, other_fault, quota_fault}
+
+lt_is : (m n : ℕ) → nat_le m n ≡ false → n < m
+lt_is m n h = grind (arith, nat_tests)
+
+-- a folder that has a quota gets no other
+pub taken_due : (tables : Tables) (row : QuotaRow) (room p : ℕ) → IsAt folder_of row.folder tables.quotas p → quota_fault tables row room ≡ Some AlreadyExists
+taken_due tables row room p at = rw (row_found folder_of row.folder tables.quotas p at).has refl
+
+-- if none is due, no list is too long, and there is a place for one more row
+pub record Admitted (tables : Tables) (row : QuotaRow) : Type 0 where
+  pub short : has_long_list row ≡ false
+  pub few : length tables.quotas < most_quotas
+
+two_pass : (taken long full more : Bool) → first ((AlreadyExists when taken) ∷ (OutOfRange when long) ∷ (TableFull when full) ∷ (TextsFull when more) ∷ []) ≡ None → (long ≡ false) × (full ≡ false)
+two_pass false false false more h = (refl, refl)
+two_pass false false true more h = cc
+two_pass false true full more h = cc
+two_pass true long full more h = cc
+
+pub admitted : (tables : Tables) (row : QuotaRow) (room : ℕ) → quota_fault tables row room ≡ None → Admitted tables row
+admitted tables row room h =
+    let pass = two_pass (has_row folder_of row.folder tables.quotas) (has_long_list row) (nat_le most_quotas (length tables.quotas)) (nat_lt room (quota_bytes row)) h in
+    record { short = pass.0; few = lt_is _ _ pass.1 }
+
+-- of one in the place of another
+module _ (tables : Tables) (row old : QuotaRow) (room : ℕ) (found : row_of folder_of row.folder tables.quotas ≡ Some old) (short : has_long_list row ≡ false) where
+  pub replaced_due : room + quota_bytes old < quota_bytes row → other_fault tables row room ≡ Some TextsFull
+  replaced_due long = rw (short, found, lt_test (room + quota_bytes old) (quota_bytes row) long) refl
+
+  pub replaced_fits : quota_bytes row ≤ room + quota_bytes old → other_fault tables row room ≡ None
+  replaced_fits fits = rw (short, found, not_lt (room + quota_bytes old) (quota_bytes row) fits) refl
