@@ -60,7 +60,7 @@ abbrev pub done_words : Option ℕ → List (List ℕ)
 done_words None = []
 done_words (Some used) = codes "done" ∷ decimal used ∷ []
 
--- the words behind the number of the line
+-- the words after the number of the line
 abbrev pub head_words : List NodeRow → Outcome → List (List ℕ)
 head_words nodes (Done passive) = codes "ok" ∷ []
 head_words nodes (Sum node bytes) = codes "ok" ∷ []
@@ -104,6 +104,14 @@ asked (Some folder) quotas = filter (λ quota. folder_of quota == folder) quotas
 -- the lines of a list
 abbrev pub list_lines : Capacity → Rows → Ask → List ℕ
 list_lines K R (Quotas folder) = flat_map (quota_line K R.nodes) (asked folder R.quotas)
+
+-- whether the reply shows the rows of a report, which are handed to its writer as a table. So far no command makes one
+abbrev pub is_report : Outcome → Bool
+is_report (Done passive) = false
+is_report (Sum node bytes) = false
+is_report (Listing ask) = false
+is_report (Scanned folder visited used) = false
+is_report (Refused refusal) = false
 
 -- the lines below the first, for a command of this moment. So far no line depends on the moment
 abbrev pub body : Capacity → Rows → ℕ → Outcome → List ℕ

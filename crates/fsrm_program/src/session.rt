@@ -11,13 +11,16 @@ ghost use Rattle.fsrm_program.specs.Held.{state_of};
 use crate::answering::answer;
 use crate::batch::Batch;
 use fsrm_engine::Engine;
+use fsrm_model::limits::LONGEST_LINE;
 use fsrm_model::{Ledger, NoMemory, Steps};
 use memchr::memchr;
 use std::alloc::Global;
 
 const LINE_FEED: u8 = b'\n';
-// Two bytes more than the longest line that is read, of which one may be a CR: so a longer one is known by its length.
-const MOST_HELD: usize = 65_538;
+
+// So many bytes of a line are held: those of the longest line, its CR, and one more. A line that has more than the
+// longest one is known by that.
+const MOST_HELD: usize = LONGEST_LINE + 2;
 
 /// A run between two pieces of its script.
 #[derive(Drop)]
@@ -32,7 +35,7 @@ pub struct Session {
     pub replies: Batch,
 }
 
-// The first line, and what is behind its LF.
+// The first line, and what comes after its LF.
 fn next_line(bytes: &[u8]) -> Option<(&[u8], &[u8])>
     ensures { MatchOption result (list_any is_end bytes.now ≡ false) (λ parts. CutsLine bytes.now parts.0.now parts.1.now) }
 {

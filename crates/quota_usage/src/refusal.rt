@@ -12,7 +12,7 @@ ghost use Rattle.quota_usage.specs.Counters.{counted, used_in};
 use crate::change::{Change, Counter, Exceeded};
 use crate::climb::{height, parent};
 use crate::counters::search;
-use fsrm_model::{Ledger, QuotaRow, QuotaState, Steps};
+use fsrm_model::{Ledger, QuotaRow, Steps};
 use fsrm_objects::Objects;
 use volume_tree::Tree;
 
@@ -20,8 +20,7 @@ use volume_tree::Tree;
 fn refuses(quota: &QuotaRow, before: u64, after: u64) -> bool
     ensures { result ≡ refuses quota.now before after }
 {
-    let counts = matches!(quota.state, QuotaState::Complete);
-    counts && quota.enforce && before < after && quota.limit < after
+    quota.state.counts() && quota.enforce && before < after && quota.limit < after
 }
 
 // What the quota of a folder tells where it refuses that bytes are taken and then given.

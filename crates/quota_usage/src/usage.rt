@@ -12,14 +12,12 @@ use crate::change::{Change, Counter, Exceeded};
 use crate::climb::charge;
 use crate::counters::search;
 use crate::refusal::refusal;
+use fsrm_model::limits::MOST_QUOTAS;
 use fsrm_model::{Ledger, NoMemory, Steps};
 use fsrm_objects::Objects;
 use std::alloc::Global;
 use std::marker::Model;
 use volume_tree::Tree;
-
-// No more quotas than this count.
-const MOST: usize = 4096;
 
 /// The counters of the counting quotas, in room for 4,096 that is reserved once. Contracts see them as
 /// a list that ascends by folder.
@@ -45,7 +43,7 @@ impl Usage {
     pub fn reserve(alloc: Global) -> Result<Usage, NoMemory>
         ensures { IfOk result (λ usage. usage ≡ []) }
     {
-        let counters = Vec::with_capacity(alloc, MOST)?;
+        let counters = Vec::with_capacity(alloc, MOST_QUOTAS)?;
         Ok(Usage { counters })
     }
 

@@ -13,12 +13,7 @@ use crate::reading::LineFault;
 use crate::values::is_named;
 use crate::words::{before, behind};
 use fsrm_model::Refusal;
-
-/// In bytes.
-const LEAST_LIMIT: u64 = 1_024;
-
-/// 2^60 bytes.
-const GREATEST_LIMIT: u64 = 1_152_921_504_606_846_976;
+use fsrm_model::limits::{GREATEST_LIMIT, LEAST_LIMIT};
 
 // How many digits a text begins with.
 fn digit_count(text: &[u8]) -> usize

@@ -11,13 +11,11 @@ ghost use Rattle.tool_commands.specs.declared.reading.LineFault.TheVariants.{Ref
 
 use crate::commands::command;
 use crate::words::{Words, blanks};
+use fsrm_model::limits::LONGEST_LINE;
 use fsrm_model::{Command, Refusal};
 use memchr::{memchr_iter, memrchr};
 use std::alloc::Global;
 use std::str;
-
-/// In bytes.
-const LONGEST_LINE: usize = 65_536;
 
 /// Why a line is read as no command.
 #[derive(Clone, Copy, Debug, PartialEq, Eq)]

@@ -13,6 +13,7 @@ ghost use Rattle.fsrm_model.specs.Capacities.{is_capacity};
 
 use crate::answer::RowsFault;
 use crate::slots::{holes_in, row};
+use fsrm_model::limits::{LATEST_MOMENT, LONGEST_FILE};
 use fsrm_model::{Capacity, Duplicate, Ledger, List, NoMemory, NodeRow, Steps};
 use name_rules::{fold_cmp, is_name};
 use number_set::NumberSet;
@@ -185,9 +186,6 @@ fn is_root(row: &NodeRow) -> bool
     is_folder && is_top && row.owner == 1 && is_new
 }
 
-// The bytes of the longest file.
-const LONGEST_FILE: u64 = 17_592_185_978_880;
-
 // Whether a node other than the root has what it must have, whatever stands beside it.
 fn is_own(row: &NodeRow) -> bool
     ensures { result ≡ is_own row.now }
@@ -196,9 +194,6 @@ fn is_own(row: &NodeRow) -> bool
     let are_moments = is_moment(row.created) && is_moment(row.modified) && is_moment(row.accessed);
     is_name(row.name.as_str()) && row.owner > 0 && row.length <= longest && are_moments
 }
-
-// The greatest moment, in seconds since 1970-01-01 00:00:00 UTC.
-const LATEST_MOMENT: u64 = 4_102_444_799;
 
 fn is_moment(moment: u64) -> bool
     ensures { result ≡ is_moment moment }
