@@ -1,4 +1,4 @@
--- File operations and sums: what is known of each one's work, and that it leaves the rows of a store where no check refuses.
+-- File operations and sums: each one's work is orderly, and leaves the rows of a store if no check refuses.
 use Rattle.std.proofs.Common.{◌≡◌, ℕ, true, not, List, [], ◌∷◌, refl, Some, None, Option, ◌≤◌, ◌==◌, Bool, false, ◌&&◌, length, sym, ◌∙◌, ap, subst, arith, nat_le}
 use Rattle.std.specs.Prelude.{is_some, unwrap_or, if◌then◌else◌}
 use Rattle.fsrm_model.specs.declared.command.FileOp.{FileOp}

@@ -30,7 +30,6 @@ pub mod SpellingLaws
 pub mod LineRefusals
 pub mod SpelledValues
 pub mod Ends
-pub mod EntryLaws
 pub mod QuotaLaws
 pub mod QuotasKept
 pub mod QueueKept

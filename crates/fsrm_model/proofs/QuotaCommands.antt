@@ -1,4 +1,4 @@
--- The commands on quotas: what is known of each one's work, and that it leaves the rows of a store where no check refuses.
+-- The commands on quotas: each one's work is orderly, and leaves the rows of a store if no check refuses.
 use Rattle.std.proofs.Common.{◌≡◌, ℕ, ◌==◌, Bool, true, false, not, List, [], ◌∷◌, refl, sym, ◌∙◌, Some, None, Option, ◌≤◌, length, arith, nat_lt}
 use Rattle.std.specs.Prelude.{is_some, is_none, unwrap_or, if◌then◌else◌}
 use Rattle.fsrm_model.specs.declared.command.Refusal.TheVariants.{PathNotFound, NotFound, AlreadyExists, TableFull}

@@ -1,4 +1,4 @@
--- The commands on scans: what is known of each one's work, and that it leaves the rows of a store where no check refuses.
+-- The commands on scans: each one's work is orderly, and leaves the rows of a store if no check refuses.
 use Rattle.std.proofs.Common.{◌≡◌, ℕ, ◌==◌, Bool, true, false, not, List, [], ◌∷◌, length, refl, sym, ap, ◌∙◌, Some, None, Option, subst}
 use Rattle.std.specs.Prelude.{◌||◌, is_some, is_none, map, unwrap_or, if◌then◌else◌}
 use Rattle.std.specs.Option.{option_map_or}
@@ -31,7 +31,7 @@ use Rattle.fsrm_model.proofs.QueueKept.{queue_changed}
 use Rattle.fsrm_model.proofs.QuotaCommands.{state_quotas, quota_there}
 use Rattle.fsrm_model.proofs.RowsKept.{plain-change, valid_with, same_heads, left_followed, left_visits, quotas_followed, head_in}
 
--- what is kept of quotas, where the state of one became another that is kept as the same
+-- what is kept of quotas, if the state of one became another that is kept as the same
 flag_change : (a b : QuotaState) → flagged a ≡ flagged b → (folder : ℕ) (quotas : List QuotaRow) → map flagged_quota (with_change folder_of folder (in_state a) quotas) ≡ map flagged_quota (with_change folder_of folder (in_state b) quotas)
 flag_change a b e folder [] = refl
 flag_change a b e folder (quota ∷ quotas) =
@@ -136,7 +136,7 @@ scan_kept K R path s h =
     (plain-change folder (in_state Rebuilding) R.quotas (λ q is. is) s.tables.plain)
     (queue_changed R.quotas R.queue folder Rebuilding (in_state Rebuilding) s.queue (scan_there R path h) (λ q. refl) (λ q. refl))
 
--- where scans wait, one is the first
+-- if scans wait, one is the first
 some_head : (queue : List ℕ) → (length queue == 0) ≡ false → head queue ≡ Some (unwrap_or (head queue) 0)
 some_head [] h = absurd (cc h)
 some_head (n ∷ queue) h = refl

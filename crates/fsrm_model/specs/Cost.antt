@@ -1,5 +1,4 @@
--- How many looks at nodes a command may take. A look is one call of the tree's `node`, `child_count`
--- or `child_at`, or one node that another call of the tree compares or passes.
+-- How many looks at nodes a command may take. A look is one node of the tree that is read, compared or lent.
 use Rattle.std.specs.Prelude.{ℕ, ◌+◌, ◌*◌, nat_lt, List, length, sum_by, Some, if◌then◌else◌}
 use Rattle.fsrm_model.specs.declared.row.NodeRow.{NodeRow}
 use Rattle.fsrm_model.specs.declared.row.Rows.{Rows}

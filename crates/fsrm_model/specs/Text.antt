@@ -77,7 +77,7 @@ head_line nodes line outcome = line_of (decimal line ∷ head_words nodes outcom
 abbrev pub body_line : List (List ℕ) → List ℕ
 body_line words = 32 ∷ 32 ∷ line_of words
 
--- the folder of a passive screen that reports the operation, where there is one
+-- the folder of a passive screen that reports the operation, if there is one
 abbrev pub passive_line : List NodeRow → Option ℕ → List ℕ
 passive_line nodes None = []
 passive_line nodes (Some screen) = body_line (codes "passive" ∷ path_text nodes screen ∷ [])
@@ -88,8 +88,8 @@ state_word Disabled = codes "disabled"
 state_word Rebuilding = codes "rebuilding"
 state_word Incomplete = codes "incomplete"
 
--- What a list shows of a quota: its limit, whether it is enforced, its state, what the files at and below its folder
--- take, where it counts, its peak and when that was, and its folder
+-- What a list shows of a quota: its limit, whether it is enforced, its state, what the files at and below its folder take
+-- (if it counts), its peak, the date of that, and its folder
 abbrev pub quota_line : Capacity → List NodeRow → QuotaRow → List ℕ
 quota_line K nodes quota =
     body_line (decimal quota.limit ∷ (if quota.enforce then codes "hard" else codes "soft") ∷ state_word quota.state

@@ -66,9 +66,9 @@ pub fn worked_rows()
     ensures quotas_gone { quotas_gone }
 {}
 
-/// What a line is read as is what it spells, and a line that spells a command is read as it. The command is valid. Exactly
-/// those lines are skipped that are empty, have blanks alone, or have a `#` as the first byte that is no blank. Each other
-/// line is refused, by a refusal that comes from reading alone.
+/// What a line is read as is what it spells, and a line that spells a command is read as it. The command is valid.
+/// Exactly those lines are skipped that have nothing but blanks, or whose first byte that is no blank is a `#`. Each
+/// other line is refused, by a refusal that comes from reading alone.
 pub fn spelling()
     ensures commands { (line : List ℕ) (c : Command) → (read_line line ≡ Some (Ok c)) ↔ Spells line c }
     ensures valid { (line : List ℕ) (c : Command) → Spells line c → is_command c ≡ true }

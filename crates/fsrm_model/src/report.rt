@@ -2,8 +2,8 @@
 
 use fsrm_base::{List, Text};
 
-/// A row of a report. Files are counted if the report's filter lets them through. Their lengths, and the space that they
-/// take (`alloc`), are in bytes.
+/// A row of a report. Files are counted if the report's filter lets them through. Their lengths, and the space that
+/// they take (`alloc`), are in bytes.
 #[derive(Drop)]
 pub enum ReportRow {
     /// One file.

@@ -62,7 +62,7 @@ pub struct Action {
     pub last_run: Option<u64>,
 }
 
-/// A percentage of a quota's limit, and what is done where the usage reaches it.
+/// A percentage of a quota's limit, and what is done when the usage reaches it.
 #[derive(Drop)]
 pub struct Threshold {
     /// 1 to 250.

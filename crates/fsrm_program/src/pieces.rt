@@ -28,7 +28,7 @@ fn read_piece<S: Source>(source: &mut S, buffer: &mut [u8], room: usize) -> Resu
     }
 }
 
-// How much may be read: never past the longest script, but one byte where that was read, to see whether more comes.
+// How much may be read: never past the longest script, but one byte once that was read, to see whether more comes.
 fn room_for(taken: u64, size: usize) -> usize
     requires taken { taken ≤ longest_script }
     requires some { 0 < size }

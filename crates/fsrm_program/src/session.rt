@@ -5,7 +5,7 @@ ghost use Rattle.std.specs.List.{list_any};
 ghost use Rattle.fsrm_model.specs.Limits.{longest_line};
 ghost use Rattle.fsrm_model.specs.Script.{is_end};
 ghost use Rattle.fsrm_program.specs.Bytes.{CutsLine};
-ghost use Rattle.fsrm_program.specs.Progress.{Feeds, Broken, EndsBehind, EndsBroken};
+ghost use Rattle.fsrm_program.specs.Progress.{Feeds, Broken, EndsAfter, EndsBroken};
 ghost use Rattle.fsrm_program.specs.Held.{state_of};
 
 use crate::answering::answer;
@@ -169,12 +169,12 @@ pub fn feed<L: Ledger>(
     ensures idle { session.new.engine.waiting ≡ [] }
 {
     let mut rest = piece;
-    'lines: while let Some((line, behind)) = next_line(rest) {
+    'lines: while let Some((line, after)) = next_line(rest) {
         match end_line(session, line, steps) {
             Ok(()) => {}
             Err(NoMemory) => return Err(NoMemory),
         }
-        rest = behind;
+        rest = after;
     }
     match hold_rest(session, rest) {
         Ok(()) => Ok(()),
@@ -182,10 +182,10 @@ pub fn feed<L: Ledger>(
     }
 }
 
-/// Answers the last line, where it has no LF.
+/// Answers the last line, if it has no LF.
 pub fn end<L: Ledger>(session: &mut Session, steps: &mut Steps<L>) -> Result<(), NoMemory>
     requires { session.old.engine.waiting ≡ [] }
-    ensures ok { OnOk result (EndsBehind (state_of session.old steps.old) steps.new session.old.replies.bytes.items session.new.replies.bytes.items) }
+    ensures ok { OnOk result (EndsAfter (state_of session.old steps.old) steps.new session.old.replies.bytes.items session.new.replies.bytes.items) }
     ensures err { OnErr result (EndsBroken (state_of session.old steps.old) steps.new) }
 {
     if session.held.is_empty() {

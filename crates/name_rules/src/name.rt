@@ -14,7 +14,7 @@ use std::marker::Model;
 pub enum NameFault {
     /// It isn't one.
     InvalidName,
-    /// There was no memory.
+    /// Memory ran out.
     NoMemory,
 }
 
@@ -37,7 +37,7 @@ impl Model for Name {
 }
 
 impl Name {
-    /// The name that a text is. InvalidName exactly where it isn't one.
+    /// The name that a text is. InvalidName exactly if it isn't one.
     pub fn read(alloc: Global, text: &str) -> Result<Name, NameFault>
         ensures ok { IfOk result (λ name. name ≡ text.now) }
         ensures may { OnOk result (is_name text.now ≡ true) }

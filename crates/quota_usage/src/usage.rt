@@ -70,7 +70,7 @@ impl Usage {
         }
     }
 
-    /// How many bytes a folder uses for which it counts.
+    /// How many bytes a folder uses, if it has a counter.
     pub fn used(&self, folder: u32) -> Option<u64>
         ensures { result ≡ used_in self.now folder }
     {
@@ -80,8 +80,8 @@ impl Usage {
         }
     }
 
-    /// Whether no quota refuses a change; else what the deepest one tells that does. A quota refuses
-    /// where it counts, is enforced, and its folder would use more bytes than before and than its limit.
+    /// Ok if no quota refuses a change, else the refusal by the deepest one that does. A quota refuses
+    /// if it counts, is enforced, and its folder would use more bytes than before and than its limit.
     /// It takes no more than 2 looks for each node on the two ways up.
     pub fn admit<L: Ledger>(
         &self,

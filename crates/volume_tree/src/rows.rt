@@ -54,7 +54,7 @@ pub struct Parts {
     pub holes: NumberSet,
 }
 
-/// The parts of the tree of these rows. They are bad exactly where they aren't the nodes of a
+/// The parts of the tree of these rows. They are bad exactly if they aren't the nodes of a
 /// volume of this size.
 pub fn read(alloc: Global, rows: &[NodeRow], size: Capacity) -> Result<Parts, RowsFault>
     requires { is_capacity size ≡ true }
@@ -81,7 +81,7 @@ pub fn read(alloc: Global, rows: &[NodeRow], size: Capacity) -> Result<Parts, Ro
     })
 }
 
-// Slots with copies of these rows. They are bad exactly where a number, a row by itself, a parent or
+// Slots with copies of these rows. They are bad exactly if a number, a row by itself, a parent or
 // a way up is.
 fn sound_slots(
     alloc: Global,
@@ -105,7 +105,7 @@ fn sound_slots(
     }
 }
 
-// Slots with copies of these rows. They are bad exactly where their numbers don't ascend below the
+// Slots with copies of these rows. They are bad exactly if their numbers don't ascend below the
 // bound.
 fn slots_of(alloc: Global, rows: &[NodeRow], bound: u32) -> Result<Vec<Option<NodeRow>>, RowsFault>
     ensures slots { IfOk result (λ slots. AreSlots 0 slots.items) }
@@ -259,7 +259,7 @@ fn mark(marks: &mut [bool], number: u32)
     }
 }
 
-// The parent of a node, 0 where there is no such node.
+// The parent of a node, 0 if there is no such node.
 fn parent(slots: &[Option<NodeRow>], number: u32) -> u32
     requires { AreSlots 0 slots.now }
     ensures { result ≡ parent_of (rows_of slots.now) number }
@@ -321,7 +321,7 @@ fn name_bytes(rows: &[NodeRow], most: u32) -> Option<u32>
     Some(most - left as u32)
 }
 
-// The numbers of all rows but the root in the order of their places. The rows are bad exactly where
+// The numbers of all rows but the root in the order of their places. The rows are bad exactly if
 // two children of a folder have one name.
 fn order_of(alloc: Global, rows: &[NodeRow]) -> Result<Vec<u32>, RowsFault>
     requires { is_ascending key rows.now ≡ true }
