@@ -18,7 +18,7 @@ use Rattle.fsrm_model.specs.declared.row.Capacity.{Capacity}
 use Rattle.fsrm_model.specs.declared.row.NodeRow.{NodeRow}
 use Rattle.fsrm_model.specs.declared.row.QuotaRow.{QuotaRow}
 use Rattle.fsrm_model.specs.declared.row.Rows.{Rows}
-use Rattle.fsrm_model.specs.Entry.{command_of, kind}
+use Rattle.fsrm_model.specs.Entry.{emptied, kind}
 use Rattle.fsrm_model.specs.Exceeds.{Exceeds}
 use Rattle.fsrm_model.specs.Exceptions.{MayLeave}
 use Rattle.fsrm_model.specs.FileOps.{plain}
@@ -165,7 +165,7 @@ kinds =
 abbrev of_kind : ℕ → Option Deed
 of_kind k = find (λ deed. option_map_or (λ own. own == k) (kind deed) false) kinds
 
-of_kind_is : (deed : Deed) (k : ℕ) → kind deed ≡ Some k → of_kind k ≡ Some (command_of deed)
+of_kind_is : (deed : Deed) (k : ℕ) → kind deed ≡ Some k → of_kind k ≡ Some (emptied deed)
 of_kind_is (File (Mkdir path owner)) k h = ap of_kind (sym (same_Some _ _ h))
 of_kind_is (File (Create path length owner)) k h = ap of_kind (sym (same_Some _ _ h))
 of_kind_is (File (Resize path length)) k h = ap of_kind (sym (same_Some _ _ h))
@@ -182,5 +182,5 @@ of_kind_is (QuotaResetpeak path) k h = ap of_kind (sym (same_Some _ _ h))
 of_kind_is (QuotaList path) k h = absurd (cc h)
 
 -- so the kind tells the command
-pub same_kind : (one other : Deed) (k : ℕ) → kind one ≡ Some k → kind other ≡ Some k → command_of one ≡ command_of other
+pub same_kind : (one other : Deed) (k : ℕ) → kind one ≡ Some k → kind other ≡ Some k → emptied one ≡ emptied other
 same_kind one other k h g = same_Some _ _ (sym (of_kind_is one k h) ∙ of_kind_is other k g)

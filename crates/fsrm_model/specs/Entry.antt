@@ -65,24 +65,24 @@ has_values (QuotaResetpeak path) = true
 has_values (QuotaList path) = true
 
 -- a command without its values: two deeds are of the same command if they are the same but for these
-abbrev pub command_of_op : FileOp → FileOp
-command_of_op (Mkdir path owner) = Mkdir [] 0
-command_of_op (Create path size owner) = Create [] 0 0
-command_of_op (Resize path size) = Resize [] 0
-command_of_op (Touch path) = Touch []
-command_of_op (Move from to) = Move [] []
-command_of_op (Remove path) = Remove []
+abbrev pub emptied_op : FileOp → FileOp
+emptied_op (Mkdir path owner) = Mkdir [] 0
+emptied_op (Create path size owner) = Create [] 0 0
+emptied_op (Resize path size) = Resize [] 0
+emptied_op (Touch path) = Touch []
+emptied_op (Move from to) = Move [] []
+emptied_op (Remove path) = Remove []
 
-abbrev pub command_of : Deed → Deed
-command_of (File op) = File (command_of_op op)
-command_of (Usage path) = Usage []
-command_of (Step n) = Step 0
-command_of (QuotaAdd path limit enforce enabled template percents notices) = QuotaAdd [] None None false None [] []
-command_of (QuotaModify path limit enforce enabled removed percents notices) = QuotaModify [] None None None [] [] []
-command_of (QuotaDelete path) = QuotaDelete []
-command_of (QuotaScan path) = QuotaScan []
-command_of (QuotaResetpeak path) = QuotaResetpeak []
-command_of (QuotaList path) = QuotaList None
+abbrev pub emptied : Deed → Deed
+emptied (File op) = File (emptied_op op)
+emptied (Usage path) = Usage []
+emptied (Step n) = Step 0
+emptied (QuotaAdd path limit enforce enabled template percents notices) = QuotaAdd [] None None false None [] []
+emptied (QuotaModify path limit enforce enabled removed percents notices) = QuotaModify [] None None None [] [] []
+emptied (QuotaDelete path) = QuotaDelete []
+emptied (QuotaScan path) = QuotaScan []
+emptied (QuotaResetpeak path) = QuotaResetpeak []
+emptied (QuotaList path) = QuotaList None
 
 -- The kind of a command's entry, by which a reader of the journal knows the command: no two commands have the same one. A
 -- command that never lasts has none

@@ -15,7 +15,7 @@ ghost use Rattle.fsrm_model.specs.declared.row.NodeRow.{NodeRow};
 ghost use Rattle.fsrm_model.specs.declared.row.QuotaRow.{QuotaRow};
 ghost use Rattle.fsrm_model.specs.declared.row.Rows.{Rows};
 ghost use Rattle.fsrm_model.specs.Date.{date_of};
-ghost use Rattle.fsrm_model.specs.Entry.{kind, command_of};
+ghost use Rattle.fsrm_model.specs.Entry.{kind, emptied};
 ghost use Rattle.fsrm_model.specs.Exceeds.{Exceeds};
 ghost use Rattle.fsrm_model.specs.Exceptions.{MayLeave};
 ghost use Rattle.fsrm_model.specs.FileOps.{plain};
@@ -135,7 +135,7 @@ pub fn valid()
 /// In a journal the kind of an entry tells the command. Two deeds whose entries have the same kind are of the same
 /// command: they are the same but for their values.
 pub fn entries()
-    ensures kinds { (one other : Deed) (k : ℕ) → kind one ≡ Some k → kind other ≡ Some k → command_of one ≡ command_of other }
+    ensures kinds { (one other : Deed) (k : ℕ) → kind one ≡ Some k → kind other ≡ Some k → emptied one ≡ emptied other }
 {}
 
 /// Rows that are those of a store, and rows in which one thing is wrong.
