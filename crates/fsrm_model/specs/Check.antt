@@ -8,7 +8,7 @@ use Rattle.fsrm_model.specs.Limits.{most_quotas}
 use Rattle.fsrm_model.specs.Tree.{name_bytes}
 pub use Rattle.fsrm_base.specs.Causes.{◌when◌, first}
 
--- a refusal, if its condition holds
+-- the refusal, if its condition holds
 abbrev pub Check : Type 0
 Check = Option Refusal
 

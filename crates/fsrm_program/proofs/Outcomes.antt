@@ -7,7 +7,7 @@ use Rattle.fsrm_model.specs.declared.command.Deed.{Deed}
 use Rattle.fsrm_model.specs.declared.command.FileOp.{FileOp}
 use Rattle.fsrm_model.specs.declared.command.FileOp.TheVariants.{Mkdir, Create, Resize, Touch, Move, Remove}
 use Rattle.fsrm_model.specs.declared.command.Outcome.{Outcome}
-use Rattle.fsrm_model.specs.declared.command.Outcome.TheVariants.{Done, Refused}
+use Rattle.fsrm_model.specs.declared.command.Outcome.TheVariants.{Done, Sum, Listing, Scanned, Refused}
 use Rattle.fsrm_model.specs.declared.command.Refusal.{Refusal}
 use Rattle.fsrm_model.specs.declared.command.Refusal.TheVariants.{BadLine, LineTooLong, InvalidPath, InvalidName, OutOfRange, InvalidLimit, ClockBack, PathNotFound, NotFound, AlreadyExists, InvalidCombination, NotEmpty, InvalidMove, NothingToScan, VolumeFull, NamesFull, TableFull, QuotaExceeded}
 use Rattle.fsrm_model.specs.declared.row.Capacity.{Capacity}
@@ -29,7 +29,7 @@ use Rattle.fsrm_model.specs.Reading.{Read}
 use Rattle.fsrm_model.specs.ScanWork.{scan_work, step_work}
 use Rattle.fsrm_model.specs.Script.{Replied, without_cr, replied, replied_to, line_cost}
 use Rattle.fsrm_model.specs.Step.{step, work, decided, accepted, lasted, unacted, unlasting}
-use Rattle.fsrm_model.specs.Text.{is_bare, head_line, reply, act_lines}
+use Rattle.fsrm_model.specs.Text.{is_bare, is_report, head_line, reply, act_lines}
 use Rattle.fsrm_model.specs.Tree.{number, resolve, usage}
 use Rattle.fsrm_model.specs.Valid.{IsVolume, AreQuotas, IsStore}
 use Rattle.fsrm_model.specs.Work.{Work}
@@ -49,9 +49,9 @@ pub on_ok : {T E : Type 0} {P Q : Type 0} (r : Result T E) → (P → Q) → OnO
 on_ok (Ok x) f p = f p
 on_ok (Err e) f p = tt
 
--- what is shown behind what was shown before
-pub shown_behind : (before last text : List ℕ) → Some last ≡ append_known (Some before) text → last ≡ before ++ text
-shown_behind before last text h = cc
+-- what is shown after what was shown before
+pub shown_more : (before last text : List ℕ) → Some last ≡ append_known (Some before) text → last ≡ before ++ text
+shown_more before last text h = cc
 
 -- no command that is built runs an action
 accepted_acts : (K : Capacity) (R : Rows) (moment : ℕ) (w : Work) → (accepted K R moment w).acts ≡ []
@@ -144,3 +144,11 @@ line_bare TableFull h = refl
 
 pub bare_refusal : (text : List ℕ) (refusal : Refusal) → read_line text ≡ Some (Err refusal) → is_bare refusal ≡ true
 bare_refusal text refusal e = line_bare refusal (line_refusal text refusal e)
+
+-- no command makes a report so far
+pub no_report : (outcome : Outcome) → is_report outcome ≡ false
+no_report (Done passive) = refl
+no_report (Sum node bytes) = refl
+no_report (Listing ask) = refl
+no_report (Scanned folder visited used) = refl
+no_report (Refused refusal) = refl

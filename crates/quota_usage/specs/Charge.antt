@@ -11,7 +11,7 @@ use Rattle.quota_usage.specs.declared.change.Counter.{Counter}
 use Rattle.quota_usage.specs.declared.change.Exceeded.{Exceeded}
 use Rattle.quota_usage.specs.Counters.{used_in}
 
--- whether a folder is the other one or above it, where there is another one
+-- whether a folder is the other one or above it, if there is another one
 abbrev pub is_above : List NodeRow → Option ℕ → ℕ → Bool
 is_above nodes None folder = false
 is_above nodes (Some below) folder = is_under nodes folder below

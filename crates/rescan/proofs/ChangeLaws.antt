@@ -81,7 +81,7 @@ change_twice key n c d k (r ∷ rows) =
     ap (λ x. x ∷ with_change key n d (with_change key n c rows)) (twice_at key n c d k r (key r == n) refl)
     ∙ ap (λ rs. (if key r == n then d (c r) else r) ∷ rs) (change_twice key n c d k rows)
 
--- what is changed is found changed, and is gone where its row goes
+-- what is changed is found changed, and is gone if its row goes
 pub changed_found : (n : ℕ) (c : NodeRow → NodeRow) → ((r : NodeRow) → (c r).number ≡ r.number) → (nodes : List NodeRow) (row : NodeRow) → node_of nodes n ≡ Some row → node_of (with_change number n c nodes) n ≡ Some (c row)
 changed_found n c k nodes row found =
     row_of-change number n c k n nodes

@@ -23,7 +23,7 @@ share_of cluster bytes Outside = 0
 share_of cluster bytes Visited = rounded cluster bytes
 share_of cluster bytes Unvisited = 0
 
--- A folder goes from a place that stands so to another. Where both are visited, nothing changes; one that was
+-- A folder goes from a place that stands so to another. If both are visited, nothing changes; one that was
 -- visited leaves; one that comes to a visited folder is to be visited, and else it is no topmost folder.
 abbrev pub FolderGoes : Standing → Standing → Capacity → List NodeRow → Front → Front → ℕ → Type 0
 FolderGoes Visited Visited K nodes old new node = new ≡ old
