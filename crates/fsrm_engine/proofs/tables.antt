@@ -6,3 +6,4 @@ pub mod SumLaws
 pub mod StateLaws
 pub mod TurnLaws
 pub mod QueueLaws
+pub mod RoomLaws

@@ -14,15 +14,10 @@ ghost use Rattle.fsrm_engine.specs.Machine.{AreCounted, ended, recounted};
 
 use crate::charging::{drop_quota, end_count, raise_peak};
 use crate::parts::Parts;
+use fsrm_model::limits::MOST_TEXT_BYTES;
 use fsrm_model::{NoMemory, QuotaRow, QuotaState};
+use fsrm_objects::ObjectFault;
 use quota_usage::Usage;
-
-/// Whether a quota of this state counts.
-pub fn is_counting(state: QuotaState) -> bool
-    ensures { result ≡ is_complete state }
-{
-    state == QuotaState::Complete
-}
 
 // Has a folder counted, from nothing if it wasn't, or counted no longer.
 fn recount(usage: &mut Usage, folder: u32, counting: bool)
@@ -39,6 +34,11 @@ fn recount(usage: &mut Usage, folder: u32, counting: bool)
 }
 
 impl Parts {
+    // The bytes of object texts that are left.
+    fn room(&self) -> u32 {
+        MOST_TEXT_BYTES.saturating_sub(self.objects.texts())
+    }
+
     /// Puts a quota on a folder that has none. For one that counts nothing may be used. An `Err` changes nothing.
     pub(crate) fn add(&mut self, row: QuotaRow) -> Result<(), NoMemory>
         requires counted { AreCounted self.old }
@@ -47,16 +47,20 @@ impl Parts {
         requires folder { is_folder self.old.tree.nodes row.folder ≡ true }
         requires limit { is_limit row.limit ≡ true }
         requires moment { is_moment row.peak_at ≡ true }
+        requires plain { row.thresholds ≡ [] }
         requires nothing { counts row ≡ true → usage self.old.tree.size self.old.tree.nodes row.folder ≡ 0 }
         ensures added { OnOk result (self.new ≡ recounted self.old (with_row folder_of row self.old.objects.quotas)) }
         ensures err { OnErr result (self.new ≡ self.old) }
         ensures counted { AreCounted self.new }
     {
         let folder = row.folder;
-        let counting = is_counting(row.state);
-        let Ok(()) = self.objects.add_quota(row) else {
-            return Err(NoMemory);
-        };
+        let counting = row.state.counts();
+        match self.objects.add_quota(row, self.room()) {
+            Ok(()) => {}
+            Err(ObjectFault::NoMemory) => return Err(NoMemory),
+            // Nothing else can refuse a row without texts that the folder and the table have a place for.
+            Err(_) => unreachable!(),
+        }
         recount(&mut self.usage, folder, counting);
         Ok(())
     }
@@ -78,12 +82,14 @@ impl Parts {
         requires limit { is_limit row.limit ≡ true }
         requires moment { is_moment row.peak_at ≡ true }
         requires peak { (quota : QuotaRow) → row_of folder_of row.folder self.old.objects.quotas ≡ Some quota → row.peak ≡ quota.peak }
+        requires plain { row.thresholds ≡ [] }
         requires nothing { (quota : QuotaRow) → row_of folder_of row.folder self.old.objects.quotas ≡ Some quota → counts quota ≡ false → counts row ≡ true → usage self.old.tree.size self.old.tree.nodes row.folder ≡ 0 }
         ensures put { self.new ≡ recounted self.old (with_change folder_of row.folder (λ quota. row) self.old.objects.quotas) }
         ensures counted { AreCounted self.new }
     {
-        recount(&mut self.usage, row.folder, is_counting(row.state));
-        self.objects.set_quota(row);
+        recount(&mut self.usage, row.folder, row.state.counts());
+        let room = self.room();
+        self.objects.set_quota(row, room).unwrap();
     }
 
     /// Has a folder's quota count no longer until it is scanned.

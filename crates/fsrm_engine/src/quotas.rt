@@ -12,18 +12,16 @@ ghost use Rattle.fsrm_model.specs.QuotaStates.{is_disabled};
 ghost use Rattle.fsrm_model.specs.QuotaWork.{new_quota, modified};
 ghost use Rattle.fsrm_engine.specs.Machine.{Does, IsSound, IsWhole, rows_of};
 
-use crate::counting::is_counting;
 use crate::exits::refused;
 use crate::parts::Parts;
 use crate::places::folder_at;
 use crate::states::first_state;
+use fsrm_model::limits::MOST_QUOTAS;
 use fsrm_model::{
     Answer, Ask, Duplicate, Ledger, List, NoMemory, Outcome, Path, QuotaRow, QuotaState, Refusal,
     Steps,
 };
 use std::alloc::Global;
-
-const MOST_QUOTAS: u32 = 4_096;
 
 // A new quota.
 fn new_quota(
@@ -110,7 +108,7 @@ impl Parts {
         if self.state(folder).is_some() {
             return Ok(refused(Refusal::AlreadyExists));
         }
-        if self.objects.quota_count() >= MOST_QUOTAS {
+        if self.objects.quota_count() as usize >= MOST_QUOTAS {
             return Ok(refused(Refusal::TableFull));
         }
         let state = first_state(&self.tree, folder, enabled, steps);
@@ -200,7 +198,7 @@ impl Parts {
             return Ok(refused(Refusal::InvalidCombination));
         }
         self.rebuild(folder)?;
-        if is_counting(state) {
+        if state.counts() {
             return Ok(self.done(moment));
         }
         Ok(Answer {

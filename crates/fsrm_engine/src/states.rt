@@ -1,6 +1,6 @@
 //! The states of quotas, and the queue of those that wait for a scan.
 
-ghost use Rattle.std.specs.Prelude.{◌≡◌, ◌+◌, ◌≤◌, ◌<◌, if◌then◌else◌, true, false, length, OnOk, OnErr, Some, option_map};
+ghost use Rattle.std.specs.Prelude.{◌≡◌, ◌+◌, ◌≤◌, ◌<◌, [], if◌then◌else◌, true, false, length, OnOk, OnErr, Some, option_map};
 ghost use Rattle.fsrm_model.specs.declared.row.QuotaRow.{QuotaRow};
 ghost use Rattle.fsrm_model.specs.declared.row.QuotaState.TheVariants.{Disabled, Rebuilding};
 ghost use Rattle.fsrm_base.specs.Keyed.{has_row, row_of};
@@ -110,6 +110,7 @@ impl Parts {
         requires folder { is_folder self.old.tree.nodes row.folder ≡ true }
         requires limit { is_limit row.limit ≡ true }
         requires moment { is_moment row.peak_at ≡ true }
+        requires plain { row.thresholds ≡ [] }
         requires nothing { counts row ≡ true → usage self.old.tree.size self.old.tree.nodes row.folder ≡ 0 }
         ensures listed { OnOk result (machine_of self.new ≡ with_rows (machine_of self.old) (followed (rows_of self.old) (with_quota (rows_of self.old) row))) }
         ensures err { OnErr result (self.new ≡ self.old) }
@@ -134,6 +135,7 @@ impl Parts {
         requires limit { is_limit row.limit ≡ true }
         requires moment { is_moment row.peak_at ≡ true }
         requires peak { (quota : QuotaRow) → row_of folder_of row.folder self.old.objects.quotas ≡ Some quota → row.peak ≡ quota.peak }
+        requires plain { row.thresholds ≡ [] }
         requires nothing { (quota : QuotaRow) → row_of folder_of row.folder self.old.objects.quotas ≡ Some quota → counts quota ≡ false → counts row ≡ true → usage self.old.tree.size self.old.tree.nodes row.folder ≡ 0 }
         ensures replaced { OnOk result (machine_of self.new ≡ with_rows (machine_of self.old) (followed (rows_of self.old) (with_other (rows_of self.old) row))) }
         ensures err { OnErr result (self.new ≡ self.old) }

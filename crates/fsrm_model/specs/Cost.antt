@@ -4,34 +4,22 @@ use Rattle.fsrm_model.specs.declared.row.NodeRow.{NodeRow}
 use Rattle.fsrm_model.specs.declared.row.Rows.{Rows}
 use Rattle.fsrm_model.specs.declared.command.Command.{Command}
 use Rattle.fsrm_model.specs.declared.command.Deed.{Deed}
-use Rattle.fsrm_model.specs.declared.command.Deed.TheVariants.{File, Usage, Step, QuotaAdd, QuotaModify, QuotaDelete, QuotaScan, QuotaResetpeak, QuotaList}
-use Rattle.fsrm_model.specs.declared.command.FileOp.{FileOp}
-use Rattle.fsrm_model.specs.declared.command.FileOp.TheVariants.{Mkdir, Create, Resize, Touch, Move, Remove}
+use Rattle.fsrm_model.specs.declared.command.Deed.TheVariants.{Step}
 use Rattle.fsrm_model.specs.declared.command.Outcome.{Outcome}
 use Rattle.fsrm_model.specs.declared.command.Ask.{Ask}
 use Rattle.fsrm_model.specs.declared.command.Ask.TheVariants.{Quotas}
 use Rattle.fsrm_model.specs.declared.command.Outcome.TheVariants.{Done, Sum, Listing, Scanned, Refused}
 use Rattle.fsrm_model.specs.declared.command.Refusal.TheVariants.{QuotaExceeded}
 use Rattle.fsrm_base.specs.Numbers.{without_numbers}
+pub use Rattle.fsrm_model.specs.Asked.{op_cost, more_cost}
 use Rattle.fsrm_model.specs.Entry.{paths}
 use Rattle.fsrm_model.specs.Scan.{visits}
-use Rattle.fsrm_model.specs.Tree.{under, children, path_of}
-use Rattle.fsrm_model.specs.FileOps.{target}
-use Rattle.fsrm_model.specs.Leads.{leads, leads_to_folder}
+use Rattle.fsrm_model.specs.Tree.{children, path_of}
 use Rattle.fsrm_model.specs.Text.{asked}
 
 -- the names of all paths of a command
 abbrev pub names_of : Deed → ℕ
 names_of deed = sum_by length (paths deed)
-
--- a folder that moves is looked through up to 8 times, a node that is summed up to 4 times
-abbrev pub op_cost : List NodeRow → FileOp → ℕ
-op_cost nodes (Mkdir path owner) = 0
-op_cost nodes (Create path length owner) = 0
-op_cost nodes (Resize path length) = 0
-op_cost nodes (Touch path) = 0
-op_cost nodes (Move from to) = if leads_to_folder nodes from then 8 * length (under nodes (target nodes from)) else 0
-op_cost nodes (Remove path) = 0
 
 -- a folder that is visited is looked at with each of its children up to 3 times
 abbrev pub visit_cost : List NodeRow → ℕ → ℕ
@@ -39,18 +27,6 @@ visit_cost nodes folder = 3 * (1 + length (children nodes folder))
 
 abbrev pub step_cost : Rows → ℕ → ℕ
 step_cost R n = sum_by (visit_cost R.nodes) (without_numbers (visits n R.nodes R.unvisited) R.unvisited)
-
--- the looks of a command beside those for the names of its paths
-abbrev pub more_cost : List NodeRow → Deed → ℕ
-more_cost nodes (File op) = op_cost nodes op
-more_cost nodes (Usage path) = if leads nodes path then 4 * length (under nodes (target nodes path)) else 0
-more_cost nodes (Step n) = 0
-more_cost nodes (QuotaAdd path limit enforce enabled template percents notices) = 0
-more_cost nodes (QuotaModify path limit enforce enabled removed percents notices) = 0
-more_cost nodes (QuotaDelete path) = 0
-more_cost nodes (QuotaScan path) = 0
-more_cost nodes (QuotaResetpeak path) = 0
-more_cost nodes (QuotaList path) = 0
 
 -- Up to 40 looks for each name of its paths, and 80 more. A step of a scan has no path: up to 40, and what its visits take
 abbrev pub deed_cost : Rows → Deed → ℕ

@@ -21,6 +21,7 @@ pub mod FileWork
 pub mod QuotaWork
 pub mod ScanWork
 pub mod Due
+pub mod Asked
 pub mod Step
 pub mod Exceptions
 pub mod Named

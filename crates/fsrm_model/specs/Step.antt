@@ -4,32 +4,16 @@ use Rattle.fsrm_model.specs.declared.row.Capacity.{Capacity}
 use Rattle.fsrm_model.specs.declared.row.Rows.{Rows}
 use Rattle.fsrm_model.specs.declared.command.Act.{Act}
 use Rattle.fsrm_model.specs.declared.command.Command.{Command}
-use Rattle.fsrm_model.specs.declared.command.Deed.{Deed}
-use Rattle.fsrm_model.specs.declared.command.Deed.TheVariants.{File, Usage, Step, QuotaAdd, QuotaModify, QuotaDelete, QuotaScan, QuotaResetpeak, QuotaList}
 use Rattle.fsrm_model.specs.declared.command.Outcome.{Outcome}
 use Rattle.fsrm_model.specs.declared.command.Outcome.TheVariants.{Refused}
 use Rattle.fsrm_model.specs.declared.command.Refusal.{Refusal}
 use Rattle.fsrm_model.specs.declared.command.Refusal.TheVariants.{ClockBack}
+pub use Rattle.fsrm_model.specs.Asked.{work}
 use Rattle.fsrm_model.specs.Check.{◌when◌, first}
 use Rattle.fsrm_model.specs.Due.{due}
 use Rattle.fsrm_model.specs.Work.{Work, Judged}
 use Rattle.fsrm_model.specs.Quota.{peaks}
-use Rattle.fsrm_model.specs.FileWork.{file_work, usage_work}
 use Rattle.fsrm_model.specs.QuotaStates.{followed}
-use Rattle.fsrm_model.specs.QuotaWork.{add_work, modify_work, delete_work, reset_work, list_work}
-use Rattle.fsrm_model.specs.ScanWork.{scan_work, step_work}
-
--- what a command asks for, family by family
-abbrev pub work : Capacity → Rows → ℕ → Deed → Work
-work K R moment (File op) = file_work K R op moment
-work K R moment (Usage path) = usage_work K R path
-work K R moment (Step n) = step_work K R n
-work K R moment (QuotaAdd path limit enforce enabled template percents notices) = add_work R moment path limit enforce enabled
-work K R moment (QuotaModify path limit enforce enabled removed percents notices) = modify_work R path limit enforce enabled
-work K R moment (QuotaDelete path) = delete_work R path
-work K R moment (QuotaScan path) = scan_work R path
-work K R moment (QuotaResetpeak path) = reset_work K R moment path
-work K R moment (QuotaList path) = list_work R path
 
 -- what a command leaves and answers, and the actions that it runs
 pub record Stepped : Type 0 where

@@ -2,7 +2,7 @@
 //! definitions.
 
 ghost use Rattle.std.specs.Prelude.{◌≡◌};
-ghost use Rattle.fsrm_model.specs.Limits.{latest_moment, longest_file, last_owner, longest_line, longest_script, longest_name, least_limit, greatest_limit, most_quotas, most_visits};
+ghost use Rattle.fsrm_model.specs.Limits.{latest_moment, longest_file, last_owner, longest_line, longest_script, longest_name, least_limit, greatest_limit, most_quotas, most_text_bytes, most_visits};
 
 /// The greatest moment: 2099-12-31 23:59:59 UTC, in seconds since 1970-01-01 00:00:00 UTC.
 pub const LATEST_MOMENT: u64 = 4_102_444_799;
@@ -31,6 +31,9 @@ pub const GREATEST_LIMIT: u64 = 1_152_921_504_606_846_976;
 /// How many quotas there may be.
 pub const MOST_QUOTAS: usize = 4_096;
 
+/// The bytes of all texts of objects.
+pub const MOST_TEXT_BYTES: u32 = 4_194_304;
+
 /// How many folders one step of a scan may visit.
 pub const MOST_VISITS: u32 = 1_000_000;
 
@@ -45,5 +48,6 @@ pub fn limits()
     ensures least_limit { LEAST_LIMIT ≡ least_limit }
     ensures greatest_limit { GREATEST_LIMIT ≡ greatest_limit }
     ensures most_quotas { MOST_QUOTAS ≡ most_quotas }
+    ensures most_text_bytes { MOST_TEXT_BYTES ≡ most_text_bytes }
     ensures most_visits { MOST_VISITS ≡ most_visits }
 {}

@@ -60,3 +60,6 @@ returns-clause-ok g c =
 
 pub returns-clause-sound : goal.returns-clause-sound
 returns-clause-sound g c = sound_ended c.enlist.new.self c.done.new.self c.args.moment c.done.ensures.ended c.done.ensures.counted c.enlist.ensures.sound.scanning
+
+pub enlist-requires-clause-plain : goal.enlist-requires-clause-plain
+enlist-requires-clause-plain g c = ap (λ (q : QuotaRow). q.thresholds) c.new_quota-row.ensures

@@ -12,6 +12,9 @@ use Rattle.fsrm_model.specs.QuotaStates.{in_state, queued, state_after, with_sta
 use Rattle.fsrm_model.specs.QuotaWork.{modified}
 use Rattle.fsrm_model.specs.Tree.{is_folder, usage}
 use Rattle.fsrm_base.proofs.Look.{found_has, found_key}
+use Rattle.fsrm_model.specs.Valid.{is_plain}
+use Rattle.fsrm_base.proofs.Members.{all_found}
+use Rattle.fsrm_engine.proofs.tables.RoomLaws.{no_thresholds}
 use Rattle.fsrm_engine.specs.Machine.{rows_of, with_other}
 use Rattle.fsrm_engine.proofs.steps.PlaceLaws.{target_is}
 use Rattle.fsrm_engine.proofs.tables.StateLaws.{missing, checked, some_of, none_of, after_empty, empty_folder, modified_to}
@@ -90,3 +93,11 @@ returns-clause-ok g c =
 
 pub returns-clause-sound : goal.returns-clause-sound
 returns-clause-sound g c = sound_ended c.replace.new.self c.done.new.self c.args.moment c.done.ensures.ended c.done.ensures.counted c.replace.ensures.sound.scanning
+
+pub replace-requires-clause-plain : goal.replace-requires-clause-plain
+replace-requires-clause-plain g c =
+    let R = rows_of c.args.self.now in
+    let n = c.in-Some.folder in
+    let q = some_of (modified c.args.limit c.args.enforce) (quota_of R n) c.in-Some-2.row (sym c.in_ok-row.ensures ∙ c.in-Some-2.is) in
+    ap (λ (r : QuotaRow). r.thresholds) (sym q.is)
+    ∙ no_thresholds q.quota (all_found is_plain (λ r. folder_of r == n) R.quotas q.quota c.requires.whole.valid.tables.plain q.found)

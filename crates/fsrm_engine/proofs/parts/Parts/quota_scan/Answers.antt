@@ -44,8 +44,8 @@ rebuild-requires-clause-there g c =
     let q = some_of (λ q. q.state) (quota_of R c.in-Some.folder) c.in-Some-state.state (sym c.state.ensures ∙ c.in-Some-state.is) in
     found_has folder_of c.in-Some.folder R.quotas q.quota q.found
 
-pub returns-then-is_counting-clause-ok : goal.returns-then-is_counting-clause-ok
-returns-then-is_counting-clause-ok g c =
+pub returns-then-counts-clause-ok : goal.returns-then-counts-clause-ok
+returns-then-counts-clause-ok g c =
     let R = rows_of c.args.self.now in
     let n = c.in-Some.folder in
     let at = c.in-Some.ensures.folder in
@@ -55,7 +55,7 @@ returns-then-is_counting-clause-ok g c =
     (checked R c.args.path.now n false (λ k. (InvalidCombination when is_disabled (state_of R k)) ∷ []) at (ap is_none q.found)
     ∙ ap (λ b. first ((InvalidCombination when b) ∷ [])) (ap (λ o. is_disabled (option_map_or (λ quota. quota.state) o Disabled)) q.found ∙ (ap is_disabled q.is ∙ (sym c.is_disabled.ensures ∙ c.if-is_disabled.false))))
     (ap (λ k. with_state R k Rebuilding) to) refl
-    (ap (λ k. option_map_or counts (quota_of R k) false) to ∙ (ap (λ o. option_map_or counts o false) q.found ∙ (ap is_complete q.is ∙ (sym c.is_counting.ensures ∙ c.if-is_counting.true))))
+    (ap (λ k. option_map_or counts (quota_of R k) false) to ∙ (ap (λ o. option_map_or counts o false) q.found ∙ (ap is_complete q.is ∙ (sym c.counts.ensures ∙ c.if-counts.true))))
     c.in_ok-rebuild.ensures.rebuilt c.done.ensures.ended c.done.ensures.answer
 
 pub returns-clause-ok : goal.returns-clause-ok
@@ -69,8 +69,8 @@ returns-clause-ok g c =
     (checked R c.args.path.now n false (λ k. (InvalidCombination when is_disabled (state_of R k)) ∷ []) at (ap is_none q.found)
     ∙ ap (λ b. first ((InvalidCombination when b) ∷ [])) (ap (λ o. is_disabled (option_map_or (λ quota. quota.state) o Disabled)) q.found ∙ (ap is_disabled q.is ∙ (sym c.is_disabled.ensures ∙ c.if-is_disabled.false))))
     (ap (λ k. with_state R k Rebuilding) to)
-    (ap (λ k. option_map_or counts (quota_of R k) false) to ∙ (ap (λ o. option_map_or counts o false) q.found ∙ (ap is_complete q.is ∙ (sym c.is_counting.ensures ∙ c.if-is_counting.false))))
+    (ap (λ k. option_map_or counts (quota_of R k) false) to ∙ (ap (λ o. option_map_or counts o false) q.found ∙ (ap is_complete q.is ∙ (sym c.counts.ensures ∙ c.if-counts.false))))
     c.in_ok-rebuild.ensures.rebuilt refl
 
-pub returns-then-is_counting-clause-sound : goal.returns-then-is_counting-clause-sound
-returns-then-is_counting-clause-sound g c = sound_ended c.rebuild.new.self c.done.new.self c.args.moment c.done.ensures.ended c.done.ensures.counted c.rebuild.ensures.sound.scanning
+pub returns-then-counts-clause-sound : goal.returns-then-counts-clause-sound
+returns-then-counts-clause-sound g c = sound_ended c.rebuild.new.self c.done.new.self c.args.moment c.done.ensures.ended c.done.ensures.counted c.rebuild.ensures.sound.scanning
