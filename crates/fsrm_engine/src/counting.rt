@@ -1,6 +1,6 @@
 //! Quotas that come, change and go, with their counters.
 
-ghost use Rattle.std.specs.Prelude.{◌≡◌, ◌≤◌, ◌<◌, OnOk, OnErr, true, false, length, map};
+ghost use Rattle.std.specs.Prelude.{◌≡◌, ◌≤◌, ◌<◌, [], OnOk, OnErr, true, false, length, map};
 ghost use Rattle.fsrm_model.specs.declared.row.QuotaRow.{QuotaRow};
 ghost use Rattle.fsrm_model.specs.declared.row.QuotaState.TheVariants.{Complete, Rebuilding};
 ghost use Rattle.fsrm_base.specs.Keyed.{has_row, row_of, with_row, with_change, without_row};
@@ -55,7 +55,8 @@ impl Parts {
     {
         let folder = row.folder;
         let counting = row.state.counts();
-        match self.objects.add_quota(row, self.room()) {
+        let room = self.room();
+        match self.objects.add_quota(row, room) {
             Ok(()) => {}
             Err(ObjectFault::NoMemory) => return Err(NoMemory),
             // Nothing else can refuse a row without texts that the folder and the table have a place for.

@@ -1,4 +1,4 @@
-use Rattle.std.proofs.Common.{◌≡◌, true, false, refl, ap, sym, ◌∙◌, [], Option, List}
+use Rattle.std.proofs.Common.{◌==◌, ◌≡◌, true, false, refl, ap, sym, ◌∙◌, [], Option, List}
 use Rattle.std.proofs.lemmas.Option.{same_Some}
 use Rattle.std.specs.Prelude.{is_none}
 use Rattle.std.specs.Option.{option_map_or}
