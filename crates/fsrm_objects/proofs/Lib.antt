@@ -1,3 +1,2 @@
 pub mod QuotaRows
 pub mod FaultLaws
-pub mod PlainRows
