@@ -1,6 +1,5 @@
 -- Which fault is due.
 use Rattle.std.proofs.Common.{◌≡◌, ℕ, ◌+◌, ◌<◌, ◌≤◌, Bool, true, false, List, [], ◌∷◌, length, MatchOption, Option, Some, None, refl, sym, ◌∙◌, ap, arith}
-use Rattle.std.proofs.lemmas.Bool.Decides.{nat_tests}
 use Rattle.std.specs.Prelude.{is_some, nat_le, find}
 use Rattle.std.specs.List.{list_any}
 use Rattle.fsrm_model.specs.declared.row.GroupRow.{GroupRow}
@@ -9,12 +8,9 @@ use Rattle.fsrm_base.specs.Keyed.{row_of}
 use Rattle.fsrm_model.specs.Limits.{most_groups}
 use Rattle.fsrm_model.specs.Patterns.{group_number, has_name, number_named, regrouped, texts_of}
 use Rattle.fsrm_base.proofs.Look.{is_some-find, is_some-mapped}
-use Rattle.fsrm_base.proofs.TestLaws.{not_lt, le_test}
+use Rattle.fsrm_base.proofs.TestLaws.{gt_is, not_le, not_lt, le_test}
 use Rattle.file_groups.specs.declared.answer.GroupFault.TheVariants.{DuplicateName, TableFull, TextsFull}
 use Rattle.file_groups.specs.Faults.{new_fault, patterns_fault}
-
-not_le : (m n : ℕ) → n < m → nat_le m n ≡ false
-not_le m n h = grind (arith, nat_tests)
 
 -- a name is a group's exactly if a number is found for it
 pub named_is : (name : List ℕ) (groups : List GroupRow) → is_some (number_named name groups) ≡ list_any (has_name name) groups
@@ -38,9 +34,6 @@ pub record Admitted (groups : List GroupRow) (name : List ℕ) : Type 0 where
   pub new : list_any (has_name name) groups ≡ false
   pub few : length groups < most_groups
 
-le_is : (m n : ℕ) → nat_le m n ≡ false → n < m
-le_is m n h = grind (arith, nat_tests)
-
 two_pass : (named full is_long : Bool) → first ((DuplicateName when named) ∷ (TableFull when full) ∷ (TextsFull when is_long) ∷ []) ≡ None → (named ≡ false) × (full ≡ false)
 two_pass false false is_long h = (refl, refl)
 two_pass false true is_long h = cc
@@ -49,7 +42,7 @@ two_pass true full is_long h = cc
 pub admitted : (groups : List GroupRow) (name : List ℕ) (is_long : Bool) → new_fault groups name is_long ≡ None → Admitted groups name
 admitted groups name is_long h =
     let pass = two_pass (list_any (has_name name) groups) (nat_le most_groups (length groups)) is_long h in
-    record { new = pass.0; few = le_is _ _ pass.1 }
+    record { new = pass.0; few = gt_is _ _ pass.1 }
 
 -- other patterns, for the group that is found under a number
 module _ (groups : List GroupRow) (n room : ℕ) (old : GroupRow) (members non_members : Option (List (List ℕ))) (found : row_of group_number n groups ≡ Some old) where

@@ -227,7 +227,8 @@ impl Groups {
     /// The group of a number that is there.
     pub fn group(&self, number: u32) -> &GroupRow
         requires { has_row group_number number self.now ≡ true }
-        ensures { row_of group_number number self.now ≡ Some result.now }
+        ensures group { row_of group_number number self.now ≡ Some result.now }
+        ensures valid { is_group result.now ≡ true }
     {
         let place = rows::search(&self.groups, number).unwrap();
         &self.groups[place]

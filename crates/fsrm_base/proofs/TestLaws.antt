@@ -114,6 +114,12 @@ le_is m n h = grind (arith, nat_tests)
 pub le_test : (m n : ℕ) → m ≤ n → nat_le m n ≡ true
 le_test m n h = grind (arith, nat_tests)
 
+pub not_le : (m n : ℕ) → n < m → nat_le m n ≡ false
+not_le m n h = grind (arith, nat_tests)
+
+pub gt_is : (m n : ℕ) → nat_le m n ≡ false → n < m
+gt_is m n h = grind (arith, nat_tests)
+
 -- what a test lets through
 pub cond_most : (b : Bool) (n : ℕ) → cond b n 0 ≤ n
 cond_most true n = omega arith

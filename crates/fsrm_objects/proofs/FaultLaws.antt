@@ -1,6 +1,5 @@
 -- Which fault is due.
-use Rattle.std.proofs.Common.{◌≡◌, ℕ, ◌+◌, ◌<◌, ◌≤◌, nat_lt, nat_le, Bool, true, false, [], ◌∷◌, length, Some, None, refl, arith}
-use Rattle.std.proofs.lemmas.Bool.Decides.{nat_tests}
+use Rattle.std.proofs.Common.{◌≡◌, ℕ, ◌+◌, ◌<◌, ◌≤◌, nat_lt, nat_le, Bool, true, false, [], ◌∷◌, length, Some, None, refl}
 use Rattle.fsrm_model.specs.declared.row.QuotaRow.{QuotaRow}
 use Rattle.fsrm_base.specs.Causes.{◌when◌, first}
 use Rattle.fsrm_base.specs.Keyed.{has_row, row_of}
@@ -9,12 +8,9 @@ use Rattle.fsrm_model.specs.Limits.{most_quotas}
 use Rattle.fsrm_model.specs.Quota.{folder_of}
 use Rattle.fsrm_model.specs.Texts.{quota_bytes}
 use Rattle.fsrm_base.proofs.SortedRows.{row_found}
-use Rattle.fsrm_base.proofs.TestLaws.{lt_test, not_lt}
+use Rattle.fsrm_base.proofs.TestLaws.{gt_is, lt_test, not_lt}
 use Rattle.fsrm_objects.specs.declared.answer.ObjectFault.TheVariants.{AlreadyExists, OutOfRange, TableFull, TextsFull}
 use Rattle.fsrm_objects.specs.Tables.{Tables, has_long_list, other_fault, quota_fault}
-
-lt_is : (m n : ℕ) → nat_le m n ≡ false → n < m
-lt_is m n h = grind (arith, nat_tests)
 
 -- a folder that has a quota gets no other
 pub taken_due : (tables : Tables) (row : QuotaRow) (room p : ℕ) → IsAt folder_of row.folder tables.quotas p → quota_fault tables row room ≡ Some AlreadyExists
@@ -34,7 +30,7 @@ two_pass true long full more h = cc
 pub admitted : (tables : Tables) (row : QuotaRow) (room : ℕ) → quota_fault tables row room ≡ None → Admitted tables row
 admitted tables row room h =
     let pass = two_pass (has_row folder_of row.folder tables.quotas) (has_long_list row) (nat_le most_quotas (length tables.quotas)) (nat_lt room (quota_bytes row)) h in
-    record { short = pass.0; few = lt_is _ _ pass.1 }
+    record { short = pass.0; few = gt_is _ _ pass.1 }
 
 -- of one in the place of another
 module _ (tables : Tables) (row old : QuotaRow) (room : ℕ) (found : row_of folder_of row.folder tables.quotas ≡ Some old) (short : has_long_list row ≡ false) where
