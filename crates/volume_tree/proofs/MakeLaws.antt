@@ -2,9 +2,10 @@
 use Rattle.std.proofs.Common.{◌≡◌, ℕ, ◌+◌, ◌<◌, ◌≤◌, Bool, true, false, length, List, refl, None, Option, arith, nat_le}
 use Rattle.std.proofs.lemmas.Bool.Decides.{nat_tests}
 use Rattle.std.specs.Prelude.{[], ◌∷◌, is_some, Some}
+use Rattle.fsrm_base.specs.Causes.{◌when◌, first}
 use Rattle.fsrm_model.specs.Tree.{child_number, name_bytes}
 use Rattle.volume_tree.specs.declared.answer.TreeFault.TheVariants.{AlreadyExists, VolumeFull, NamesFull}
-use Rattle.volume_tree.specs.Volume.{Volume, first_fault, fault_if, new_fault}
+use Rattle.volume_tree.specs.Volume.{Volume, new_fault}
 use Rattle.fsrm_base.proofs.TestLaws.{ge_is}
 
 -- no child has the name, and there is room for one more node and its name
@@ -18,7 +19,7 @@ record AreFalse (a b c : Bool) : Type 0 where
   pub second : b ≡ false
   pub third : c ≡ false
 
-none_due : (a b c : Bool) → first_fault (fault_if AlreadyExists a ∷ fault_if VolumeFull b ∷ fault_if NamesFull c ∷ []) ≡ None → AreFalse a b c
+none_due : (a b c : Bool) → first ((AlreadyExists when a) ∷ (VolumeFull when b) ∷ (NamesFull when c) ∷ []) ≡ None → AreFalse a b c
 none_due true b c h = cc
 none_due false true c h = cc
 none_due false false true h = cc

@@ -1,13 +1,14 @@
 -- What a move that a tree has nothing against says.
 use Rattle.std.proofs.Common.{◌≡◌, ℕ, ◌+◌, ◌≤◌, ◌==◌, Bool, true, false, length, List, refl, None}
 use Rattle.std.specs.Prelude.{[], ◌∷◌}
+use Rattle.fsrm_base.specs.Causes.{◌when◌, first}
 use Rattle.fsrm_model.specs.FileOps.{placed}
 use Rattle.fsrm_base.specs.Keyed.{has_row, with_change}
 use Rattle.fsrm_model.specs.Name.{is_name}
 use Rattle.fsrm_model.specs.Tree.{number, name_of, is_folder, is_under, child_number, name_bytes}
 use Rattle.fsrm_model.specs.Valid.{IsVolume}
 use Rattle.volume_tree.specs.declared.answer.TreeFault.TheVariants.{AlreadyExists, InvalidMove, NamesFull}
-use Rattle.volume_tree.specs.Volume.{Volume, first_fault, fault_if, is_other, move_fault}
+use Rattle.volume_tree.specs.Volume.{Volume, is_other, move_fault}
 use Rattle.volume_tree.proofs.KeptLaws.{volume_placed}
 use Rattle.fsrm_base.proofs.TestLaws.{ge_is}
 
@@ -22,7 +23,7 @@ record AreFalse (a b c : Bool) : Type 0 where
   pub second : b ≡ false
   pub third : c ≡ false
 
-none_due : (a b c : Bool) → first_fault (fault_if InvalidMove a ∷ fault_if AlreadyExists b ∷ fault_if NamesFull c ∷ []) ≡ None → AreFalse a b c
+none_due : (a b c : Bool) → first ((InvalidMove when a) ∷ (AlreadyExists when b) ∷ (NamesFull when c) ∷ []) ≡ None → AreFalse a b c
 none_due true b c h = cc
 none_due false true c h = cc
 none_due false false true h = cc

@@ -1,6 +1,7 @@
 -- The nodes of a volume, and what a tree of them answers.
 use Rattle.std.specs.Prelude.{◌≡◌, ℕ, ◌+◌, ◌==◌, nat_lt, nat_le, not, Bool, false, List, [], ◌∷◌, length, slice_get, Option, Some, None, is_some, if◌then◌else◌}
 use Rattle.std.specs.Option.{option_map_or}
+use Rattle.fsrm_base.specs.Causes.{◌when◌, first}
 use Rattle.fsrm_model.specs.declared.row.Capacity.{Capacity}
 use Rattle.fsrm_model.specs.declared.row.NodeRow.{NodeRow}
 use Rattle.fsrm_model.specs.FileOps.{resized, touched, placed}
@@ -30,22 +31,12 @@ IsFault NotEmpty due = due ≡ Some NotEmpty
 IsFault VolumeFull due = due ≡ Some VolumeFull
 IsFault NamesFull due = due ≡ Some NamesFull
 
--- the first fault of a list
-abbrev pub first_fault : List (Option TreeFault) → Option TreeFault
-first_fault [] = None
-first_fault (None ∷ faults) = first_fault faults
-first_fault (Some fault ∷ faults) = Some fault
-
--- the fault, if its condition holds
-abbrev pub fault_if : TreeFault → Bool → Option TreeFault
-fault_if fault b = if b then Some fault else None
-
 -- why a node can't be made
 abbrev pub new_fault : Volume → ℕ → List ℕ → Option TreeFault
 new_fault v folder name =
-    first_fault (fault_if AlreadyExists (is_some (child_number v.nodes folder name))
-    ∷ fault_if VolumeFull (nat_le v.size.nodes (length v.nodes))
-    ∷ fault_if NamesFull (nat_lt v.size.names (name_bytes v.nodes + length name)) ∷ [])
+    first ((AlreadyExists when is_some (child_number v.nodes folder name))
+    ∷ (VolumeFull when nat_le v.size.nodes (length v.nodes))
+    ∷ (NamesFull when nat_lt v.size.names (name_bytes v.nodes + length name)) ∷ [])
 
 -- whether it is a number other than this one
 abbrev pub is_other : Option ℕ → ℕ → Bool
@@ -54,13 +45,13 @@ is_other found n = option_map_or (λ k. not (k == n)) found false
 -- why a node can't be moved; its old name's bytes are given back
 abbrev pub move_fault : Volume → ℕ → ℕ → List ℕ → Option TreeFault
 move_fault v n folder name =
-    first_fault (fault_if InvalidMove (is_under v.nodes n folder)
-    ∷ fault_if AlreadyExists (is_other (child_number v.nodes folder name) n)
-    ∷ fault_if NamesFull (nat_lt (v.size.names + length (name_of v.nodes n)) (name_bytes v.nodes + length name)) ∷ [])
+    first ((InvalidMove when is_under v.nodes n folder)
+    ∷ (AlreadyExists when is_other (child_number v.nodes folder name) n)
+    ∷ (NamesFull when nat_lt (v.size.names + length (name_of v.nodes n)) (name_bytes v.nodes + length name)) ∷ [])
 
 -- why a node can't be removed
 abbrev pub remove_fault : Volume → ℕ → Option TreeFault
-remove_fault v n = fault_if NotEmpty (not (length (children v.nodes n) == 0))
+remove_fault v n = NotEmpty when not (length (children v.nodes n) == 0)
 
 -- a volume with one more node; with a file of another length, or that was read; with a node at another place; without a node
 abbrev pub with_node : Volume → NodeRow → Volume

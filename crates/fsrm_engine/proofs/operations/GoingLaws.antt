@@ -3,6 +3,7 @@ use Rattle.std.proofs.Common.{◌≡◌, ℕ, ◌==◌, ◌≤◌, Bool, true, f
 use Rattle.std.specs.Prelude.{Result, Ok, Err, IfErr, IsErrOf, if◌then◌else◌}
 use Rattle.std.specs.Result.{IsOk}
 use Rattle.std.specs.Option.{option_map_or}
+use Rattle.fsrm_base.specs.Causes.{◌when◌}
 use Rattle.fsrm_model.specs.declared.command.Answer.{Answer}
 use Rattle.fsrm_model.specs.declared.command.Deed.TheVariants.{File}
 use Rattle.fsrm_model.specs.declared.command.FileOp.TheVariants.{Remove}
@@ -30,7 +31,7 @@ use Rattle.scan_queue.proofs.Queues.{first_in}
 use Rattle.scan_queue.specs.Courses.{Course, Scanning, Goes, Turns, left}
 use Rattle.volume_tree.specs.declared.answer.TreeFault.{TreeFault}
 use Rattle.volume_tree.specs.declared.answer.TreeFault.TheVariants.{AlreadyExists, InvalidMove, NotEmpty, VolumeFull, NamesFull, NoMemory}
-use Rattle.volume_tree.specs.Volume.{Volume, IsFault, fault_if, remove_fault, without_node}
+use Rattle.volume_tree.specs.Volume.{Volume, IsFault, remove_fault, without_node}
 use Rattle.fsrm_engine.specs.declared.parts.Parts.{Parts}
 use Rattle.fsrm_engine.specs.Machine.{Does, rows_of, ended}
 use Rattle.fsrm_engine.proofs.operations.FollowLaws.{remove_queue, volume_is, effect_as}
@@ -39,7 +40,7 @@ use Rattle.fsrm_engine.proofs.steps.StepLaws.{due, done_as}
 
 -- a node without children can be removed
 pub no_fault : (v : Volume) (n : ℕ) → length (children v.nodes n) ≡ 0 → remove_fault v n ≡ None
-no_fault v n h = ap (λ k. fault_if NotEmpty (not (k == 0))) h
+no_fault v n h = ap (λ k. (NotEmpty when (not (k == 0)))) h
 
 pub goes_well : (v : Volume) (n : ℕ) (r : Result (Unit {0}) TreeFault) → remove_fault v n ≡ None → IfErr r (λ fault. IsFault fault (remove_fault v n)) → (IsErrOf r NoMemory → ⊥) → IsOk r
 goes_well v n (Ok u) none refused only = refl
@@ -121,7 +122,7 @@ next_without v w s1 n row scans absent made kept found folder f h =
 
 -- a folder with a child isn't removed
 pub full_fault : (v : Volume) (n count : ℕ) → count ≡ length (children v.nodes n) → 0 < count → remove_fault v n ≡ Some NotEmpty
-full_fault v n count is more = ap (λ k. fault_if NotEmpty (not (k == 0))) (sym is) ∙ ap (λ b. fault_if NotEmpty (not b)) (above count more)
+full_fault v n count is more = ap (λ k. (NotEmpty when (not (k == 0)))) (sym is) ∙ ap (λ b. (NotEmpty when (not b))) (above count more)
   where
     above : (k : ℕ) → 0 < k → (k == 0) ≡ false
     above k h = grind (arith, nat_tests)

@@ -1,6 +1,7 @@
 -- A node that moves: what quotas refuse, and what is kept.
 use Rattle.std.proofs.Common.{◌≡◌, ℕ, ◌+◌, ◌*◌, ◌≤◌, ◌==◌, Bool, true, false, List, [], ◌∷◌, length, Option, Some, None, refl, ap, sym, ◌∙◌, subst, arith}
 use Rattle.std.specs.Prelude.{map, nat_lt, if◌then◌else◌}
+use Rattle.fsrm_base.specs.Causes.{◌when◌, first}
 use Rattle.fsrm_model.specs.declared.command.FileOp.TheVariants.{Move}
 use Rattle.fsrm_model.specs.declared.row.Capacity.{Capacity}
 use Rattle.fsrm_model.specs.declared.row.NodeRow.{NodeRow}
@@ -21,7 +22,7 @@ use Rattle.quota_usage.specs.declared.change.Change.{Change}
 use Rattle.quota_usage.specs.declared.change.Counter.{Counter}
 use Rattle.quota_usage.specs.Charge.{charged_counter, Fits}
 use Rattle.volume_tree.specs.declared.answer.NodeView.{NodeView}
-use Rattle.volume_tree.specs.Volume.{Volume, Shows, with_place, fault_if, first_fault, is_other, move_fault}
+use Rattle.volume_tree.specs.Volume.{Volume, Shows, with_place, is_other, move_fault}
 use Rattle.volume_tree.specs.declared.answer.TreeFault.{TreeFault}
 use Rattle.volume_tree.specs.declared.answer.TreeFault.TheVariants as fault
 use Rattle.fsrm_engine.specs.Machine.{IsCounted}
@@ -59,9 +60,9 @@ move_done v w quotas tables counters charged_are x d name view bytes m e s to mo
 
 -- where a move is ready its folder isn't at or below what moves
 pub ready_apart : (v : Volume) (n d : ℕ) (name : List ℕ) → move_fault v n d name ≡ None → is_under v.nodes n d ≡ false
-ready_apart v n d name h = at (is_under v.nodes n d) (fault_if fault.AlreadyExists (is_other (child_number v.nodes d name) n) ∷ fault_if fault.NamesFull (nat_lt (v.size.names + length (name_of v.nodes n)) (name_bytes v.nodes + length name)) ∷ []) h
+ready_apart v n d name h = at (is_under v.nodes n d) ((fault.AlreadyExists when (is_other (child_number v.nodes d name) n)) ∷ (fault.NamesFull when (nat_lt (v.size.names + length (name_of v.nodes n)) (name_bytes v.nodes + length name))) ∷ []) h
   where
-    at : (b : Bool) (more : List (Option TreeFault)) → first_fault (fault_if fault.InvalidMove b ∷ more) ≡ None → b ≡ false
+    at : (b : Bool) (more : List (Option TreeFault)) → first ((fault.InvalidMove when b) ∷ more) ≡ None → b ≡ false
     at true more h = cc
     at false more h = refl
 

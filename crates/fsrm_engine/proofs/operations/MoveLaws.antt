@@ -19,7 +19,7 @@ use Rattle.fsrm_base.proofs.TestLaws.{clash}
 use Rattle.fsrm_model.proofs.Files.{below_file}
 use Rattle.fsrm_model.proofs.Sizes.{name_bytes-placed}
 use Rattle.volume_tree.specs.declared.answer.TreeFault.TheVariants as fault
-use Rattle.volume_tree.specs.Volume.{Volume, fault_if, first_fault, is_other, move_fault, with_place}
+use Rattle.volume_tree.specs.Volume.{Volume, is_other, move_fault, with_place}
 use Rattle.fsrm_engine.specs.declared.parts.Parts.{Parts}
 use Rattle.fsrm_engine.specs.Machine.{rows_of}
 use Rattle.fsrm_engine.specs.Places.{IsPlace, IsRefusedPlace}
@@ -27,14 +27,14 @@ use Rattle.fsrm_engine.proofs.steps.StepLaws.{due, tree_first, last_check}
 use Rattle.fsrm_engine.proofs.steps.PlaceLaws.{root_is, has_resolved, leads_is, target_is, leads_to_folder_is, place_leads, place_folder}
 
 -- the checks that the tree makes too
-listed : (under taken long : Bool) (more : List Check) → first (None ∷ None ∷ None ∷ None ∷ (InvalidMove when under) ∷ (AlreadyExists when taken) ∷ (NamesFull when long) ∷ more) ≡ tree_first (first_fault (fault_if fault.InvalidMove under ∷ fault_if fault.AlreadyExists taken ∷ fault_if fault.NamesFull long ∷ [])) (first more)
+listed : (under taken long : Bool) (more : List Check) → first (None ∷ None ∷ None ∷ None ∷ (InvalidMove when under) ∷ (AlreadyExists when taken) ∷ (NamesFull when long) ∷ more) ≡ tree_first (first ((fault.InvalidMove when under) ∷ (fault.AlreadyExists when taken) ∷ (fault.NamesFull when long) ∷ [])) (first more)
 listed true taken long more = refl
 listed false true long more = refl
 listed false false true more = refl
 listed false false false more = refl
 
 listed_at : (there root to_root folder under taken long under' taken' long' : Bool) (more : List Check) → there ≡ true → root ≡ false → to_root ≡ false → folder ≡ true → under ≡ under' → taken ≡ taken' → long ≡ long' →
-    first ((PathNotFound when not there) ∷ (InvalidMove when root) ∷ (AlreadyExists when to_root) ∷ (PathNotFound when not folder) ∷ (InvalidMove when under) ∷ (AlreadyExists when taken) ∷ (NamesFull when long) ∷ more) ≡ tree_first (first_fault (fault_if fault.InvalidMove under' ∷ fault_if fault.AlreadyExists taken' ∷ fault_if fault.NamesFull long' ∷ [])) (first more)
+    first ((PathNotFound when not there) ∷ (InvalidMove when root) ∷ (AlreadyExists when to_root) ∷ (PathNotFound when not folder) ∷ (InvalidMove when under) ∷ (AlreadyExists when taken) ∷ (NamesFull when long) ∷ more) ≡ tree_first (first ((fault.InvalidMove when under') ∷ (fault.AlreadyExists when taken') ∷ (fault.NamesFull when long') ∷ [])) (first more)
 listed_at there root to_root folder under taken long under' taken' long' more t r s f u k l = rw (t, r, s, f, u, k, l) (listed under' taken' long' more)
 
 -- no folder is at or below a file

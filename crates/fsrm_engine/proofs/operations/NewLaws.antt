@@ -17,7 +17,7 @@ use Rattle.fsrm_model.specs.Valid.{IsVolume}
 use Rattle.fsrm_base.proofs.Order.{length-with_row}
 use Rattle.fsrm_model.proofs.Sizes.{name_bytes-new}
 use Rattle.volume_tree.specs.declared.answer.TreeFault.TheVariants as fault
-use Rattle.volume_tree.specs.Volume.{Volume, fault_if, first_fault, new_fault, with_node}
+use Rattle.volume_tree.specs.Volume.{Volume, new_fault, with_node}
 use Rattle.fsrm_engine.specs.Places.{IsPlace}
 use Rattle.fsrm_engine.specs.declared.parts.Parts.{Parts}
 use Rattle.fsrm_engine.specs.Machine.{rows_of}
@@ -25,13 +25,13 @@ use Rattle.fsrm_engine.proofs.steps.StepLaws.{due, tree_first, last_check}
 use Rattle.fsrm_engine.proofs.steps.PlaceLaws.{place_leads, place_folder}
 
 -- the checks that the tree makes too
-listed : (taken full long : Bool) (more : List Check) → first (None ∷ None ∷ (AlreadyExists when taken) ∷ (VolumeFull when full) ∷ (NamesFull when long) ∷ more) ≡ tree_first (first_fault (fault_if fault.AlreadyExists taken ∷ fault_if fault.VolumeFull full ∷ fault_if fault.NamesFull long ∷ [])) (first more)
+listed : (taken full long : Bool) (more : List Check) → first (None ∷ None ∷ (AlreadyExists when taken) ∷ (VolumeFull when full) ∷ (NamesFull when long) ∷ more) ≡ tree_first (first ((fault.AlreadyExists when taken) ∷ (fault.VolumeFull when full) ∷ (fault.NamesFull when long) ∷ [])) (first more)
 listed true full long more = refl
 listed false true long more = refl
 listed false false true more = refl
 listed false false false more = refl
 
-listed_at : (root folder taken full long taken' full' long' : Bool) (more : List Check) → root ≡ false → folder ≡ true → taken ≡ taken' → full ≡ full' → long ≡ long' → first ((AlreadyExists when root) ∷ (PathNotFound when not folder) ∷ (AlreadyExists when taken) ∷ (VolumeFull when full) ∷ (NamesFull when long) ∷ more) ≡ tree_first (first_fault (fault_if fault.AlreadyExists taken' ∷ fault_if fault.VolumeFull full' ∷ fault_if fault.NamesFull long' ∷ [])) (first more)
+listed_at : (root folder taken full long taken' full' long' : Bool) (more : List Check) → root ≡ false → folder ≡ true → taken ≡ taken' → full ≡ full' → long ≡ long' → first ((AlreadyExists when root) ∷ (PathNotFound when not folder) ∷ (AlreadyExists when taken) ∷ (VolumeFull when full) ∷ (NamesFull when long) ∷ more) ≡ tree_first (first ((fault.AlreadyExists when taken') ∷ (fault.VolumeFull when full') ∷ (fault.NamesFull when long') ∷ [])) (first more)
 listed_at root folder taken full long taken' full' long' more r f t u l = rw (r, f, t, u, l) (listed taken' full' long' more)
 
 -- one node more than fits is one that finds no room

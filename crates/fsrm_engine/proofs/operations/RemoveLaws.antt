@@ -9,16 +9,16 @@ use Rattle.fsrm_model.specs.Leads.{is_root, leads}
 use Rattle.fsrm_model.specs.Tree.{children, resolve}
 use Rattle.fsrm_model.specs.Valid.{IsVolume}
 use Rattle.volume_tree.specs.declared.answer.TreeFault.TheVariants as fault
-use Rattle.volume_tree.specs.Volume.{fault_if, remove_fault}
+use Rattle.volume_tree.specs.Volume.{remove_fault}
 use Rattle.fsrm_engine.specs.declared.parts.Parts.{Parts}
 use Rattle.fsrm_engine.proofs.steps.StepLaws.{due, tree_first}
 use Rattle.fsrm_engine.proofs.steps.PlaceLaws.{root_is, leads_is, target_is}
 
-listed : (full : Bool) → first (None ∷ None ∷ (NotEmpty when full) ∷ []) ≡ tree_first (fault_if fault.NotEmpty full) None
+listed : (full : Bool) → first (None ∷ None ∷ (NotEmpty when full) ∷ []) ≡ tree_first (fault.NotEmpty when full) None
 listed true = refl
 listed false = refl
 
-listed_at : (there root full full' : Bool) → there ≡ true → root ≡ false → full ≡ full' → first ((PathNotFound when not there) ∷ (InvalidMove when root) ∷ (NotEmpty when full) ∷ []) ≡ tree_first (fault_if fault.NotEmpty full') None
+listed_at : (there root full full' : Bool) → there ≡ true → root ≡ false → full ≡ full' → first ((PathNotFound when not there) ∷ (InvalidMove when root) ∷ (NotEmpty when full) ∷ []) ≡ tree_first (fault.NotEmpty when full') None
 listed_at there root full full' t r f = rw (t, r, f) (listed full')
 
 first_remove : (there root : Bool) (more : List Check) → there ≡ true → root ≡ true → first ((PathNotFound when not there) ∷ (InvalidMove when root) ∷ more) ≡ Some InvalidMove
