@@ -60,7 +60,7 @@ abbrev pub done_words : Option ℕ → List (List ℕ)
 done_words None = []
 done_words (Some used) = codes "done" ∷ decimal used ∷ []
 
--- the words behind the number of the line
+-- the words after the number of the line
 abbrev pub head_words : List NodeRow → Outcome → List (List ℕ)
 head_words nodes (Done passive) = codes "ok" ∷ []
 head_words nodes (Sum node bytes) = codes "ok" ∷ []
@@ -77,7 +77,7 @@ head_line nodes line outcome = line_of (decimal line ∷ head_words nodes outcom
 abbrev pub body_line : List (List ℕ) → List ℕ
 body_line words = 32 ∷ 32 ∷ line_of words
 
--- the folder of a passive screen that reports the operation, where there is one
+-- the folder of a passive screen that reports the operation, if there is one
 abbrev pub passive_line : List NodeRow → Option ℕ → List ℕ
 passive_line nodes None = []
 passive_line nodes (Some screen) = body_line (codes "passive" ∷ path_text nodes screen ∷ [])
@@ -88,8 +88,8 @@ state_word Disabled = codes "disabled"
 state_word Rebuilding = codes "rebuilding"
 state_word Incomplete = codes "incomplete"
 
--- What a list shows of a quota: its limit, whether it is enforced, its state, what the files at and below its folder
--- take, where it counts, its peak and when that was, and its folder
+-- What a list shows of a quota: its limit, whether it is enforced, its state, what the files at and below its folder take
+-- (if it counts), its peak, the date of that, and its folder
 abbrev pub quota_line : Capacity → List NodeRow → QuotaRow → List ℕ
 quota_line K nodes quota =
     body_line (decimal quota.limit ∷ (if quota.enforce then codes "hard" else codes "soft") ∷ state_word quota.state
@@ -104,6 +104,14 @@ asked (Some folder) quotas = filter (λ quota. folder_of quota == folder) quotas
 -- the lines of a list
 abbrev pub list_lines : Capacity → Rows → Ask → List ℕ
 list_lines K R (Quotas folder) = flat_map (quota_line K R.nodes) (asked folder R.quotas)
+
+-- whether the reply shows the rows of a report, which are handed to its writer as a table. So far no command makes one
+abbrev pub is_report : Outcome → Bool
+is_report (Done passive) = false
+is_report (Sum node bytes) = false
+is_report (Listing ask) = false
+is_report (Scanned folder visited used) = false
+is_report (Refused refusal) = false
 
 -- the lines below the first, for a command of this moment. So far no line depends on the moment
 abbrev pub body : Capacity → Rows → ℕ → Outcome → List ℕ

@@ -1,5 +1,6 @@
 //! Copies of rows, each into memory of its own.
 
+use crate::report::ReportRow;
 use crate::row::{
     ActRow, Action, AuditRow, AutoRow, ExceptRow, Filter, GroupRow, JobRow, NodeRow, QuotaRow,
     ScreenRow, TemplateRow, Threshold,
@@ -155,5 +156,43 @@ impl Duplicate for AuditRow {
 impl Duplicate for ActRow {
     fn copy(&self, _alloc: Global) -> Result<Self, NoMemory> {
         Ok(*self)
+    }
+}
+
+impl Duplicate for ReportRow {
+    fn copy(&self, alloc: Global) -> Result<Self, NoMemory> {
+        Ok(match self {
+            ReportRow::File { node, alloc } => ReportRow::File {
+                node: *node,
+                alloc: *alloc,
+            },
+            ReportRow::Kind {
+                name,
+                files,
+                lengths,
+                alloc: space,
+            } => ReportRow::Kind {
+                name: name.copy(alloc)?,
+                files: *files,
+                lengths: *lengths,
+                alloc: *space,
+            },
+            ReportRow::Owner {
+                owner,
+                files,
+                lengths,
+                alloc,
+            } => ReportRow::Owner {
+                owner: *owner,
+                files: *files,
+                lengths: *lengths,
+                alloc: *alloc,
+            },
+            ReportRow::Quota { folder, percent } => ReportRow::Quota {
+                folder: *folder,
+                percent: *percent,
+            },
+            ReportRow::Audit { place } => ReportRow::Audit { place: *place },
+        })
     }
 }

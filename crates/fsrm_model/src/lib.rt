@@ -9,12 +9,14 @@ pub mod command;
 pub mod copies;
 pub mod laws;
 pub mod path;
+pub mod report;
 pub mod row;
 pub mod space;
 
 pub use command::{Act, Added, Answer, Ask, Command, Deed, FileOp, Outcome, Refusal, Subject};
 pub use fsrm_base::{Duplicate, Ledger, List, NoMemory, Steps, Text, Weightless, WeightlessPage};
 pub use path::Path;
+pub use report::{ReportRow, Table};
 pub use row::{
     ActRow, Action, ActionKind, AuditRow, AutoRow, Capacity, ExceptRow, Filter, GroupRow, JobRow,
     NodeRow, QuotaRow, QuotaState, ReportKind, Rows, ScreenRow, TemplateRow, Threshold,

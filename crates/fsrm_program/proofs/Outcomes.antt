@@ -49,9 +49,9 @@ pub on_ok : {T E : Type 0} {P Q : Type 0} (r : Result T E) → (P → Q) → OnO
 on_ok (Ok x) f p = f p
 on_ok (Err e) f p = tt
 
--- what is shown behind what was shown before
-pub shown_behind : (before last text : List ℕ) → Some last ≡ append_known (Some before) text → last ≡ before ++ text
-shown_behind before last text h = cc
+-- what is shown after what was shown before
+pub shown_more : (before last text : List ℕ) → Some last ≡ append_known (Some before) text → last ≡ before ++ text
+shown_more before last text h = cc
 
 -- no command that is built runs an action
 accepted_acts : (K : Capacity) (R : Rows) (moment : ℕ) (w : Work) → (accepted K R moment w).acts ≡ []

@@ -30,7 +30,7 @@ fn without_cr(line: &[u8]) -> &[u8]
     }
 }
 
-// Appends the reply to a line that is refused as it is read. A batch fails only for want of memory.
+// Appends the reply to a line that is refused as it is read. A batch fails only if memory runs out.
 fn append_refusal(
     alloc: Global,
     replies: &mut Batch,
@@ -46,7 +46,7 @@ fn append_refusal(
     }
 }
 
-// Appends the reply to a command of which this came. A batch fails only for want of memory.
+// Appends the reply to a command to which this is the answer. A batch fails only if memory runs out.
 fn append_answer<L: Ledger>(
     engine: &Engine,
     alloc: Global,
@@ -59,7 +59,7 @@ fn append_answer<L: Ledger>(
     ensures text { (moment : ℕ) → OnOk result (replies.new.bytes.items ≡ replies.old.bytes.items ++ reply engine.now.size engine.now.rows moment number answer.now.outcome) }
     ensures looks { steps.new ≤ steps.old + print_cost engine.now.rows answer.now.outcome }
 {
-    match write_answer(alloc, replies, number, answer, engine, steps) {
+    match write_answer(alloc, replies, number, answer, None, engine, steps) {
         Ok(()) => Ok(()),
         Err(_) => Err(NoMemory),
     }

@@ -1,12 +1,12 @@
 //! Writes replies.
 
-ghost use Rattle.std.specs.Prelude.{◌≡◌, ℕ, ◌++◌, ◌+◌, ◌≤◌, true, false, List as Items, IsErrOf, OnOk};
+ghost use Rattle.std.specs.Prelude.{◌≡◌, ℕ, ◌++◌, ◌+◌, ◌≤◌, true, false, is_some, List as Items, IsErrOf, OnOk};
 ghost use Rattle.std.specs.String.{string_bytes};
 ghost use Rattle.fsrm_model.specs.declared.command.Outcome.TheVariants.{Refused};
 ghost use Rattle.fsrm_model.specs.declared.row.NodeRow.{NodeRow};
 ghost use Rattle.fsrm_model.specs.Cost.{print_cost};
 ghost use Rattle.fsrm_model.specs.Named.{IsNamed};
-ghost use Rattle.fsrm_model.specs.Text.{is_bare, head_line, reply};
+ghost use Rattle.fsrm_model.specs.Text.{is_bare, is_report, head_line, reply};
 ghost use Rattle.fsrm_outside.specs.Causes.{Rose};
 ghost use Rattle.reply_text.specs.Lines.{is_listing};
 ghost use Rattle.reply_text.specs.Writes.{KeepsCount, Sends};
@@ -18,7 +18,7 @@ use crate::heads::{
 use crate::lists::write_list;
 use crate::sending::send;
 use fsrm_engine::Engine;
-use fsrm_model::{Answer, Ledger, NoMemory, Outcome, Refusal, Steps};
+use fsrm_model::{Answer, Ledger, NoMemory, Outcome, Refusal, Steps, Table};
 use fsrm_outside::Sink;
 use std::alloc::Global;
 
@@ -94,16 +94,18 @@ fn append_answer<L: Ledger>(
 }
 
 /// Writes the reply to a script's line: the line that tells what became of it, and those below. Lines are
-/// numbered from 1.
+/// numbered from 1. A table is given exactly if the answer is a report, whose rows it has. No answer is one so far.
 pub fn write_answer<S: Sink, L: Ledger>(
     alloc: Global,
     sink: &mut S,
     line: u64,
     answer: &Answer,
+    table: Option<&Table>,
     engine: &Engine,
     steps: &mut Steps<L>,
 ) -> Result<(), TextFault>
-    requires { IsNamed engine.now.rows answer.now.outcome }
+    requires named { IsNamed engine.now.rows answer.now.outcome }
+    requires table { is_some table ≡ is_report answer.now.outcome }
     ensures text { (moment : ℕ) → Sends result (S.shown sink.old) (S.shown sink.new) (reply engine.now.size engine.now.rows moment line answer.now.outcome) }
     ensures fault { IsErrOf result TextFault.WriteFault → Rose (S.write_faults sink.old) (S.write_faults sink.new) }
     ensures later { S.write_faults sink.old ≤ S.write_faults sink.new }

@@ -57,7 +57,7 @@ fn answer_is_written<L: Ledger>(
         outcome: Outcome::Listing(Ask::Quotas(None)),
         lasting: false,
     };
-    write_answer(alloc, &mut outside, 4, &answer, &engine, steps)?;
+    write_answer(alloc, &mut outside, 4, &answer, None, &engine, steps)?;
     assert!(end; outside.shown().starts_with(b"4 ok\n"));
     Ok(())
 }
