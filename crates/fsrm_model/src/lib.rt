@@ -8,6 +8,7 @@
 pub mod command;
 pub mod copies;
 pub mod laws;
+pub mod limits;
 pub mod path;
 pub mod report;
 pub mod row;

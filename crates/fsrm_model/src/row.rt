@@ -5,6 +5,9 @@
 //! Moments are seconds since 1970-01-01 00:00:00 UTC, up to 4,102,444,799. Lists of rows ascend
 //! by their number or folder, each at most once; logs stand oldest first.
 
+ghost use Rattle.std.specs.Prelude.{◌≡◌};
+ghost use Rattle.fsrm_model.specs.Quota.{is_complete};
+
 use fsrm_base::{List, Text};
 
 /// How much a store holds.
@@ -59,7 +62,7 @@ pub struct Action {
     pub last_run: Option<u64>,
 }
 
-/// A percentage of a quota's limit, and what is done where the usage reaches it.
+/// A percentage of a quota's limit, and what is done when the usage reaches it.
 #[derive(Drop)]
 pub struct Threshold {
     /// 1 to 250.
@@ -78,6 +81,15 @@ pub enum QuotaState {
     Rebuilding,
     /// Its scan wasn't finished when a run ended.
     Incomplete,
+}
+
+impl QuotaState {
+    /// Whether a quota in this state counts.
+    pub fn counts(self) -> bool
+        ensures { result ≡ is_complete self }
+    {
+        self == QuotaState::Complete
+    }
 }
 
 /// A limit on what the files at and below a folder take (MS-FSRM, IFsrmQuota).

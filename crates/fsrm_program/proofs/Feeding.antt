@@ -9,7 +9,7 @@ use Rattle.fsrm_model.specs.declared.row.Rows.{Rows}
 use Rattle.fsrm_model.specs.Script.{is_end, lines, spelled_lines, Replied, replied, text_from, fold_from, line_cost, cost_from}
 use Rattle.fsrm_model.proofs.ScriptLaws.{lines_last, spelled_lines-append, AreLines-append, replied-held, line_cost-held, text_from-append, fold_from-append, cost_from-append}
 use Rattle.fsrm_outside.specs.Shown.{IsFront}
-use Rattle.fsrm_program.specs.Progress.{State, IsHeld, Leads, Fed, Feeds, Broken, EndsBehind, EndsBroken}
+use Rattle.fsrm_program.specs.Progress.{State, IsHeld, Leads, Fed, Feeds, Broken, EndsAfter, EndsBroken}
 use Rattle.fsrm_base.proofs.TestLaws.{nor}
 
 pub held_nothing : IsHeld [] []
@@ -132,7 +132,7 @@ fed_broken a b looks xs ys s w p q = record {
       };
 }
 
--- whatever bytes come behind
+-- whatever bytes come after
 pub broken_more : (a : State) (looks : ℕ) (xs ys w : List ℕ) → Broken a looks xs w → Broken a looks (xs ++ ys) w
 broken_more a looks xs ys w p = record {
   breaks = λ line held.
@@ -177,7 +177,7 @@ pub record Says (held rest said : List ℕ) : Type 0 where
 no_line : (line : List ℕ) → take 65538 line ≡ [] → line ≡ []
 no_line line h = nil_from_length line (omega (arith, length-take 65538 line, ap length h))
 
--- where nothing is held, the line is in the piece
+-- if nothing is held, the line is in the piece
 pub says_whole : (held rest : List ℕ) → held ≡ [] → Says held rest rest
 says_whole held rest none = record { same = λ line h. ap (λ (bs : List ℕ). take 65538 (bs ++ rest)) (sym (no_line line (sym h.kept ∙ none))) }
 
@@ -240,7 +240,7 @@ same_reply K R n held rest said line s h = sym (replied-held K R n said) ∙ ap 
 same_cost : (K : Capacity) (R : Rows) (held rest said line : List ℕ) → Says held rest said → IsHeld line held → line_cost K R said ≡ line_cost K R (line ++ rest)
 same_cost K R held rest said line s h = sym (line_cost-held K R said) ∙ ap (line_cost K R) (s.same line h) ∙ line_cost-held K R (line ++ rest)
 
--- what was done for a line: the reply behind what was written, the rows, and the looks
+-- what was done for a line: the reply after what was written, the rows, and the looks
 pub record Answered (a : State) (said : List ℕ) (rows : Rows) (looks : ℕ) (before last : List ℕ) : Type 0 where
   pub rows_are : rows ≡ (replied a.size a.rows a.line said).rows
   pub text_is : last ≡ before ++ (replied a.size a.rows a.line said).text
@@ -294,8 +294,8 @@ broken_still a bytes looks same = record {
   breaks = λ front h. record { ended = []; rest = front ++ bytes; each = tt; stream_is = refl; front = nothing_written []; looks_are = omega arith };
 }
 
--- the last line, where there is none
-pub ends_nothing : (a : State) (written : List ℕ) → a.held ≡ [] → EndsBehind a a.looks written written
+-- the last line, if there is none
+pub ends_nothing : (a : State) (written : List ℕ) → a.held ≡ [] → EndsAfter a a.looks written written
 ends_nothing a written none = record {
   text = [];
   written = sym (append-nil written);
@@ -309,25 +309,25 @@ last_lines : (line held : List ℕ) → IsHeld line held → (held ≡ [] → �
 last_lines [] held h some = absurd (some h.kept)
 last_lines (byte ∷ line) held h some = lines_last byte line h.one_line
 
-nothing_behind : (held : List ℕ) → (line : List ℕ) → IsHeld line held → take 65538 held ≡ take 65538 line
-nothing_behind held line h = ap (λ (bs : List ℕ). take 65538 bs) h.kept ∙ take_twice line
+nothing_after : (held : List ℕ) → (line : List ℕ) → IsHeld line held → take 65538 held ≡ take 65538 line
+nothing_after held line h = ap (λ (bs : List ℕ). take 65538 bs) h.kept ∙ take_twice line
 
 last_reply : (a : State) (line : List ℕ) → IsHeld line a.held → (a.held ≡ [] → ⊥) → (replied a.size a.rows a.line a.held).text ≡ text_from a.size a.rows a.line (lines line)
 last_reply a line h some =
-    ap (λ (x : Replied). x.text) (sym (replied-held a.size a.rows a.line a.held) ∙ ap (λ (bs : List ℕ). replied a.size a.rows a.line bs) (nothing_behind a.held line h) ∙ replied-held a.size a.rows a.line line)
+    ap (λ (x : Replied). x.text) (sym (replied-held a.size a.rows a.line a.held) ∙ ap (λ (bs : List ℕ). replied a.size a.rows a.line bs) (nothing_after a.held line h) ∙ replied-held a.size a.rows a.line line)
     ∙ sym (append-nil (replied a.size a.rows a.line line).text)
     ∙ ap (text_from a.size a.rows a.line) (sym (last_lines line a.held h some))
 
 last_cost : (a : State) (line : List ℕ) → IsHeld line a.held → (a.held ≡ [] → ⊥) → line_cost a.size a.rows a.held ≡ cost_from a.size a.rows a.line (lines line)
 last_cost a line h some =
     sym (line_cost-held a.size a.rows a.held)
-    ∙ ap (line_cost a.size a.rows) (nothing_behind a.held line h)
+    ∙ ap (line_cost a.size a.rows) (nothing_after a.held line h)
     ∙ line_cost-held a.size a.rows line
     ∙ (let sum : line_cost a.size a.rows line ≡ line_cost a.size a.rows line + 0 = omega arith in sum)
     ∙ ap (cost_from a.size a.rows a.line) (sym (last_lines line a.held h some))
 
--- the last line, where there is one
-pub ends_line : (a : State) (rows : Rows) (looks : ℕ) (before last : List ℕ) → (a.held ≡ [] → ⊥) → Answered a a.held rows looks before last → EndsBehind a looks before last
+-- the last line, if there is one
+pub ends_line : (a : State) (rows : Rows) (looks : ℕ) (before last : List ℕ) → (a.held ≡ [] → ⊥) → Answered a a.held rows looks before last → EndsAfter a looks before last
 ends_line a rows looks before last some done = record {
   text = (replied a.size a.rows a.line a.held).text;
   written = done.text_is;
@@ -337,6 +337,6 @@ ends_line a rows looks before last some done = record {
   };
 }
 
--- the looks at the last line, where it was given up
+-- the looks at the last line, if it was given up
 pub ends_broken : (a : State) (looks : ℕ) → (a.held ≡ [] → ⊥) → looks ≤ a.looks + line_cost a.size a.rows a.held → EndsBroken a looks
 ends_broken a looks some few = record { looks_are = λ line h. omega (arith, few, last_cost a line h some) }

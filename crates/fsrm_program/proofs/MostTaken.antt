@@ -13,7 +13,7 @@ use Rattle.fsrm_program.proofs.Taking.{taken_nothing, taken_then}
 pub most_nothing : (left : Option (List ℕ)) (most : ℕ) → TakenMost left left most
 most_nothing left most = record { bytes = []; few = omega arith; taken = taken_nothing left }
 
--- and more behind what was taken before
+-- and more after what was taken before
 pub most_then : (a b : State) (l0 l1 l2 s0 s1 : Option (List ℕ)) (n most : ℕ) → n ≤ most → Takes a b l0 l1 s0 s1 n → TakenMost l1 l2 (most - n) → TakenMost l0 l2 most
 most_then a b l0 l1 l2 s0 s1 n most short p more = record {
   bytes = p.bytes ++ more.bytes;
@@ -29,7 +29,7 @@ whole_script ReadFault = omega arith
 whole_script WriteFault = omega arith
 whole_script NoMemory = omega arith
 
--- a status is TooLong where so much was taken
+-- a status is TooLong if so much was taken
 too_long_only : (status : Status) → longest_script < most_taken status → status ≡ TooLong
 too_long_only TooLong h = refl
 too_long_only Done h = absurd (omega (arith, h))

@@ -6,7 +6,7 @@ use Rattle.std.proofs.lemmas.List.{take-append-drop, nil_from_length, length-dro
 use Rattle.fsrm_outside.specs.Told.{GivesFront}
 use Rattle.fsrm_program.specs.Bytes.{Taken, IsAtEnd}
 
--- nothing where there was room: the end
+-- nothing if there was room: the end
 
 pub taken_nothing : (left : Option (List ℕ)) → Taken left left []
 taken_nothing left = record { rest = λ script e. (script, refl, e) }

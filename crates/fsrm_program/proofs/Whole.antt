@@ -18,11 +18,11 @@ use Rattle.fsrm_program.specs.Answers.{ShowsEnded, IsRun}
 use Rattle.fsrm_program.proofs.Feeding.{held_nothing, after, joined_text, joined_looks}
 use Rattle.fsrm_outside.proofs.Shown.{shows_then, shows_then_front}
 
--- a front of a text, and what is behind it
+-- a front of a text, and what is after it
 front_of : (whole front back : List ℕ) → whole ≡ front ++ back → IsFront front whole
 front_of whole front back e = (back, e)
 
--- the script, where so much of it was taken and answered
+-- the script, if so much of it was taken and answered
 record Divides (K : Capacity) (R : Rows) (looks : ℕ) (script : List ℕ) (ended : List (List ℕ)) (rest : List ℕ) : Type 0 where
   text_is : text K R script ≡ text_from K R 1 ended ++ text_from K (fold_from K R 1 ended) (1 + length ended) (lines rest)
   cost_is : script_cost K R script ≡ cost_from K R 1 ended + cost_from K (fold_from K R 1 ended) (1 + length ended) (lines rest)

@@ -25,7 +25,7 @@ pub record IsTooLong (script : List ℕ) (left : Option (List ℕ)) : Type 0 whe
   pub longer : longest_script < length script
   pub taken : left ≡ Some (drop (longest_script + 1) script)
 
--- how many bytes a run takes: one more than a script may have, where it is too long
+-- how many bytes a run takes: one more than a script may have, if it is too long
 abbrev pub most_taken : Status → ℕ
 most_taken TooLong = longest_script + 1
 most_taken other = longest_script
@@ -39,7 +39,7 @@ pub record ShowsEnded (K : Capacity) (R : Rows) (taken : List ℕ) (shown_before
   pub taken_is : taken ≡ spelled_lines ended ++ next
   pub shown : shown_after ≡ append_known shown_before (text_from K R 1 ended)
 
--- what was taken where a read ended the run; of a script that is too long, as much of it as is read
+-- what was taken when a read ended the run; of a script that is too long, as much of it as is read
 pub record IsEnded (K : Capacity) (R : Rows) (status : Status) (script : List ℕ) (left shown_before shown_after : Option (List ℕ)) : Type 0 where
   pub taken : List ℕ
   pub rest : List ℕ

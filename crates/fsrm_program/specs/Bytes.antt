@@ -3,7 +3,7 @@ use Rattle.std.specs.Prelude.{◌≡◌, ℕ, ◌≤◌, List, [], ◌∷◌, �
 use Rattle.std.specs.List.{list_any}
 use Rattle.fsrm_model.specs.Script.{is_end}
 
--- these bytes were taken from the front of what was left, where that is told
+-- these bytes were taken from the front of what was left, if that is told
 pub record Taken (before after : Option (List ℕ)) (bytes : List ℕ) : Type 0 where
   pub rest : (script : List ℕ) → before ≡ Some script → (rest : List ℕ) × (script ≡ bytes ++ rest) × (after ≡ Some rest)
 
@@ -18,6 +18,6 @@ pub record CutsLine (bytes line rest : List ℕ) : Type 0 where
   pub one_line : list_any is_end line ≡ false
   pub cut : bytes ≡ line ++ 10 ∷ rest
 
--- nothing is left, where that is told
+-- nothing is left, if that is told
 pub record IsAtEnd (left : Option (List ℕ)) : Type 0 where
   pub ended : (script : List ℕ) → left ≡ Some script → script ≡ []

@@ -42,11 +42,11 @@ pub record Leads (old new : State) (stream text : List ℕ) : Type 0 where
   pub rows_are : new.rows ≡ fold_from old.size old.rows old.line ended
   pub looks_are : new.looks ≤ old.looks + cost_from old.size old.rows old.line ended
 
--- these bytes lead there, whatever line what is held begins
+-- these bytes lead from one state to the other, for each line that may begin with what is held
 pub record Fed (old new : State) (bytes text : List ℕ) : Type 0 where
   pub goes : (line : List ℕ) → IsHeld line old.held → Leads old new (line ++ bytes) text
 
--- the same, with the text behind what was written before
+-- the same, with the text after what was written before
 pub record Feeds (old new : State) (bytes before after : List ℕ) : Type 0 where
   pub text : List ℕ
   pub written : after ≡ before ++ text
@@ -61,17 +61,17 @@ pub record BreaksOff (old : State) (looks : ℕ) (stream written : List ℕ) : T
   pub front : IsFront written (text_from old.size old.rows old.line ended)
   pub looks_are : looks ≤ old.looks + cost_from old.size old.rows old.line ended
 
--- the same, whatever line what is held begins
+-- the same, for each line that may begin with what is held
 pub record Broken (old : State) (looks : ℕ) (bytes written : List ℕ) : Type 0 where
   pub breaks : (line : List ℕ) → IsHeld line old.held → BreaksOff old looks (line ++ bytes) written
 
--- the text of the last line, which has no LF, where there is one
+-- the text of the last line, which has no LF, if there is one
 pub record Ends (old : State) (looks : ℕ) (text : List ℕ) : Type 0 where
   pub text_is : (line : List ℕ) → IsHeld line old.held → text ≡ text_from old.size old.rows old.line (lines line)
   pub looks_are : (line : List ℕ) → IsHeld line old.held → looks ≤ old.looks + cost_from old.size old.rows old.line (lines line)
 
--- the same, with the text behind what was written before
-pub record EndsBehind (old : State) (looks : ℕ) (before after : List ℕ) : Type 0 where
+-- the same, with the text after what was written before
+pub record EndsAfter (old : State) (looks : ℕ) (before after : List ℕ) : Type 0 where
   pub text : List ℕ
   pub written : after ≡ before ++ text
   pub ends : Ends old looks text

@@ -1,4 +1,4 @@
--- What a run has come to where a status ends it.
+-- What a run has come to when a status ends it.
 use Rattle.std.specs.Prelude.{◌≡◌, ℕ, ◌≤◌, List, length, Option}
 use Rattle.std.specs.Io.KnownBytes.{append_known}
 use Rattle.fsrm_model.specs.Limits.{longest_script}
@@ -9,7 +9,7 @@ use Rattle.fsrm_outside.specs.Shown.{IsFront}
 use Rattle.fsrm_program.specs.Bytes.{Taken, IsAtEnd}
 use Rattle.fsrm_program.specs.Progress.{State, IsHeld, Takes, Halts, Breaks, Ends, EndsBroken}
 
--- After this status no more is read: of a script that is too long the byte behind its longest front was taken.
+-- After this status no more is read: of a script that is too long one byte more was taken than is read.
 abbrev pub Stops : Status → State → State → Option (List ℕ) → Option (List ℕ) → Option (List ℕ) → Option (List ℕ) → ℕ → Type 0
 Stops Done old new left_before left_after shown_before shown_after count = ⊥
 Stops Usage old new left_before left_after shown_before shown_after count = ⊥
@@ -37,7 +37,7 @@ pub record Reads (old new : State) (left_before left_after shown_before shown_af
   pub takes : Takes old new left_before left_after shown_before shown_after count
   pub at_end : IsAtEnd left_after
 
--- the text of the last line is shown, where there is one
+-- the text of the last line is shown, if there is one
 pub record Finishes (old : State) (looks : ℕ) (shown_before shown_after : Option (List ℕ)) : Type 0 where
   pub text : List ℕ
   pub shown : shown_after ≡ append_known shown_before text

@@ -5,7 +5,7 @@ ghost use Rattle.std.specs.Prelude.{◌≡◌, [], Some};
 use fsrm_outside::{Failed, Sink};
 use std::alloc::Global;
 
-/// Replies in memory, as they are to be written. A write fails only where memory is wanting.
+/// Replies in memory, as they are to be written. A write fails only if memory runs out.
 #[derive(Drop)]
 pub struct Batch {
     pub bytes: Vec<u8>,

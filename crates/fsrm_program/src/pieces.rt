@@ -8,9 +8,8 @@ ghost use Rattle.fsrm_program.specs.Bytes.{Taken, IsAtEnd};
 ghost use Rattle.fsrm_program.specs.Stops.{Loses};
 
 use crate::status::Status;
+use fsrm_model::limits::LONGEST_SCRIPT;
 use fsrm_outside::{Failed, Outside, Source};
-
-const LONGEST_SCRIPT: u64 = 4_294_967_296;
 
 // Reads a piece of at most so many bytes to the front of the buffer. None come only at the end.
 fn read_piece<S: Source>(source: &mut S, buffer: &mut [u8], room: usize) -> Result<usize, Failed>
@@ -29,7 +28,7 @@ fn read_piece<S: Source>(source: &mut S, buffer: &mut [u8], room: usize) -> Resu
     }
 }
 
-// How much may be read: never past the longest script, but one byte where that was read, to see whether more comes.
+// How much may be read: never past the longest script, but one byte once that was read, to see whether more comes.
 fn room_for(taken: u64, size: usize) -> usize
     requires taken { taken ≤ longest_script }
     requires some { 0 < size }

@@ -30,7 +30,7 @@ fn are_words(words: &[String]) -> bool
 /// the plain machine's reply to each line, over a new volume of 65,536 nodes, 4,194,304 bytes of names,
 /// and clusters of 4,096 bytes. The script may be any bytes, in any pieces.
 ///
-/// Clauses on what is read and written hold where the source tells what is left.
+/// Clauses on what is read and written hold if the source tells what is left.
 pub fn run<O: Outside, L: Ledger>(
     alloc: Global,
     words: &[String],
@@ -41,20 +41,20 @@ pub fn run<O: Outside, L: Ledger>(
     ensures text { ForSome (O.left outside.old) (λ script. result ≡ Status.Done → IsWhole default_capacity new_rows script (O.left outside.new) (O.shown outside.old) (O.shown outside.new)) }
     // At every status what was added is a prefix of it.
     ensures prefix { ForSome (O.left outside.old) (λ script. ShowsFront (O.shown outside.old) (O.shown outside.new) (text default_capacity new_rows script)) }
-    // Where a read ended the run, it is the whole text of the lines that an LF ended in what was taken: at TooLong,
+    // If a read ended the run, it is the whole text of the lines that an LF ended in what was taken: at TooLong,
     // in the first 2^32 bytes.
     ensures ended { ForSome (O.left outside.old) (λ script. OnReadStop result (IsEnded default_capacity new_rows result script (O.left outside.new) (O.shown outside.old) (O.shown outside.new))) }
 
-    // The answer is Usage exactly where the words aren't the one word; then nothing was read or written.
+    // The answer is Usage exactly if the words aren't the one word; then nothing was read or written.
     ensures usage { (result ≡ Status.Usage) ↔ (AreWords (map string_bytes words.now) → ⊥) }
     ensures idle { result ≡ Status.Usage → outside.new ≡ outside.old }
-    // The answer is TooLong exactly where 2^32 bytes were taken, and one more.
+    // The answer is TooLong exactly if 2^32 bytes were taken, and one more.
     ensures too_long { ForSome (O.left outside.old) (λ script. (result ≡ Status.TooLong) ↔ IsTooLong script (O.left outside.new)) }
     // At every other status no more than 2^32 were taken.
     ensures taken { TakenMost (O.left outside.old) (O.left outside.new) (most_taken result) }
     ensures read_fault { result ≡ Status.ReadFault → Rose (O.read_faults outside.old) (O.read_faults outside.new) }
     ensures write_fault { result ≡ Status.WriteFault → Rose (O.write_faults outside.old) (O.write_faults outside.new) }
-    // Over devices that don't fail, a script of at most 2^32 bytes is done, but for want of memory.
+    // Over devices that don't fail, a script of at most 2^32 bytes is done, unless memory runs out.
     ensures complete { AreWords (map string_bytes words.now) → ForSome (O.left outside.old) (λ script. length script ≤ longest_script → (Rose (O.read_faults outside.old) (O.read_faults outside.new) → ⊥) → (Rose (O.write_faults outside.old) (O.write_faults outside.new) → ⊥) → IsDoneOrNoMemory result) }
 
     // A failed read is told as ReadFault and a failed write as WriteFault, unless a read had ended the run before it.

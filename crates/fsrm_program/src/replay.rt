@@ -99,7 +99,7 @@ fn read_all<O: Outside, L: Ledger>(
     }
 }
 
-// Answers the last line, where it has no LF, and writes the reply.
+// Answers the last line, if it has no LF, and writes the reply.
 fn finish<S: Sink, L: Ledger>(
     sink: &mut S,
     session: &mut Session,

@@ -5,19 +5,22 @@ ghost use Rattle.std.specs.List.{list_any};
 ghost use Rattle.fsrm_model.specs.Limits.{longest_line};
 ghost use Rattle.fsrm_model.specs.Script.{is_end};
 ghost use Rattle.fsrm_program.specs.Bytes.{CutsLine};
-ghost use Rattle.fsrm_program.specs.Progress.{Feeds, Broken, EndsBehind, EndsBroken};
+ghost use Rattle.fsrm_program.specs.Progress.{Feeds, Broken, EndsAfter, EndsBroken};
 ghost use Rattle.fsrm_program.specs.Held.{state_of};
 
 use crate::answering::answer;
 use crate::batch::Batch;
 use fsrm_engine::Engine;
+use fsrm_model::limits::LONGEST_LINE;
 use fsrm_model::{Ledger, NoMemory, Steps};
 use memchr::memchr;
 use std::alloc::Global;
 
 const LINE_FEED: u8 = b'\n';
-// Two bytes more than the longest line that is read, of which one may be a CR: so a longer one is known by its length.
-const MOST_HELD: usize = 65_538;
+
+// So many bytes of a line are held: those of the longest line, its CR, and one more. A line that has more than the
+// longest one is known by that.
+const MOST_HELD: usize = LONGEST_LINE + 2;
 
 /// A run between two pieces of its script.
 #[derive(Drop)]
@@ -32,7 +35,7 @@ pub struct Session {
     pub replies: Batch,
 }
 
-// The first line, and what is behind its LF.
+// The first line, and what comes after its LF.
 fn next_line(bytes: &[u8]) -> Option<(&[u8], &[u8])>
     ensures { MatchOption result (list_any is_end bytes.now ≡ false) (λ parts. CutsLine bytes.now parts.0.now parts.1.now) }
 {
@@ -166,12 +169,12 @@ pub fn feed<L: Ledger>(
     ensures idle { session.new.engine.waiting ≡ [] }
 {
     let mut rest = piece;
-    'lines: while let Some((line, behind)) = next_line(rest) {
+    'lines: while let Some((line, after)) = next_line(rest) {
         match end_line(session, line, steps) {
             Ok(()) => {}
             Err(NoMemory) => return Err(NoMemory),
         }
-        rest = behind;
+        rest = after;
     }
     match hold_rest(session, rest) {
         Ok(()) => Ok(()),
@@ -179,10 +182,10 @@ pub fn feed<L: Ledger>(
     }
 }
 
-/// Answers the last line, where it has no LF.
+/// Answers the last line, if it has no LF.
 pub fn end<L: Ledger>(session: &mut Session, steps: &mut Steps<L>) -> Result<(), NoMemory>
     requires { session.old.engine.waiting ≡ [] }
-    ensures ok { OnOk result (EndsBehind (state_of session.old steps.old) steps.new session.old.replies.bytes.items session.new.replies.bytes.items) }
+    ensures ok { OnOk result (EndsAfter (state_of session.old steps.old) steps.new session.old.replies.bytes.items session.new.replies.bytes.items) }
     ensures err { OnErr result (EndsBroken (state_of session.old steps.old) steps.new) }
 {
     if session.held.is_empty() {

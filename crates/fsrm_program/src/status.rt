@@ -13,6 +13,6 @@ pub enum Status {
     WriteFault,
     /// More than 2^32 bytes came. The replies to all lines that ended within these are written.
     TooLong,
-    /// Memory was wanting.
+    /// Memory ran out.
     NoMemory,
 }

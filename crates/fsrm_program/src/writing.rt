@@ -8,7 +8,7 @@ ghost use Rattle.fsrm_outside.specs.Shown.{ShowsFront};
 use crate::batch::Batch;
 use fsrm_outside::{Failed, Sink, write_all};
 
-/// Writes the replies, and empties the batch. Where the sink fails, a front of them was written.
+/// Writes the replies, and empties the batch. If the sink fails, a front of them was written.
 pub fn flush<S: Sink>(sink: &mut S, replies: &mut Batch) -> Result<(), Failed>
     ensures ok { OnOk result (S.shown sink.new ≡ append_known (S.shown sink.old) replies.old.bytes.items) }
     ensures empty { OnOk result (replies.new.bytes.items ≡ []) }

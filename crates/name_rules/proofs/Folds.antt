@@ -16,7 +16,7 @@ use Rattle.name_rules.specs.Fronts.{HasSameFront}
 chars_none : (text : List ℕ) → length text ≡ 0 → chars text ≡ []
 chars_none text none = ap chars (nil_from_length text none) ∙ chars-nil
 
--- where both texts have ended, or one of them
+-- if both texts have ended, or one of them
 pub ended : (a b : List ℕ) → length a ≡ 0 → length b ≡ 0 → name_cmp a b ≡ Equal
 ended a b none none' = rw (chars_none a none, chars_none b none') refl
 
@@ -27,7 +27,7 @@ module _ (a rest : List ℕ) (x : ℕ) (text : IsUtf8 a) (cut : a ≡ encode_utf
   pub shorter : length b ≡ 0 → name_cmp b a ≡ Less
   shorter none = rw (chars_past_char a rest x text cut, chars_none b none) refl
 
--- where both have a character
+-- if both have a character
 then_rest : (o : Ordering) → (o ≡ Equal → ⊥) → (rest : Ordering) → ordering_then o rest ≡ o
 then_rest Less apart rest = refl
 then_rest Equal apart rest = absurd (apart refl)
@@ -68,7 +68,7 @@ name_cmp_past_front a b count front =
     ∙ ap (slice_cmp nat_cmp (folded (take count a) ++ folded (drop count a))) others
     ∙ cmp_past_front (folded (take count a)) (folded (drop count a)) (folded (drop count b))
 
--- and both may be cut behind it
+-- and both may be cut after it
 pub may_cut : (a b : List ℕ) (count : ℕ) → IsUtf8 a → HasSameFront a b count → IsCharBoundary a count
 may_cut a b count text front = IsCharBoundary-from_take a count text front.within (IsUtf8-from_ascii (take count a) front.ascii)
 

@@ -1,5 +1,5 @@
 -- Names among the parts of a path.
-use Rattle.std.proofs.Common.{◌≡◌, ℕ, ◌&&◌, Bool, true, false, List, [], ◌∷◌, ◌++◌, Ok, drop, length, nat_lt, ap, refl, ◌∙◌, arith}
+use Rattle.std.proofs.Common.{◌≡◌, ℕ, ◌&&◌, true, false, List, [], ◌∷◌, ◌++◌, Ok, drop, length, nat_lt, ap, refl, ◌∙◌, arith}
 use Rattle.std.specs.List.{list_all}
 use Rattle.std.proofs.lemmas.Bool.{false≢true, lt-ltb}
 use Rattle.fsrm_model.specs.Name.{is_name}
@@ -28,7 +28,7 @@ names_full ((b ∷ name) ∷ names) h =
     let some : nat_lt 0 (length (b ∷ name)) ≡ true = lt-ltb 0 (length (b ∷ name)) (omega arith) in
     rw some (names_full names parts.1)
 
--- a text behind the volume whose parts are names is a path
+-- a text after the volume whose parts are names is a path
 pub path_read : (text : List ℕ) (names : List (List ℕ)) → is_on_volume text ≡ true → names ≡ parts_of (drop 3 text) → list_all is_name names ≡ true → path_from text ≡ Ok names
 path_read text names volume is valid =
     let named : list_all is_name (path_parts text) ≡ true = rw is at valid in

@@ -47,7 +47,7 @@ Steps = split_terminator_steps FindsChar (λ c d. d ≡ c)
 abbrev pub parts_left : SplitTerminator ℕ → List (List ℕ)
 parts_left s = cond (split_has_more (split_terminator_parts s)) (parts_of (split_text (split_terminator_parts s))) []
 
--- no match ends at 0, so the text is empty where nothing comes
+-- no match ends at 0, so the text is empty if nothing comes
 no_text : (text : List ℕ) (o : Option (ℕ × ℕ)) → FindsChar 92 text o → MatchOption o (length text ≡ 0) (λ q. q.1 ≡ 0) → parts_of text ≡ []
 no_text text None found is = ap parts_of (nil_from_length text is)
 no_text text (Some q) found is = absurd (omega (arith, found.1.ends))

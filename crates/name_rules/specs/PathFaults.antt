@@ -5,7 +5,7 @@ use Rattle.fsrm_model.specs.Reading.{Read}
 use Rattle.name_rules.specs.declared.path.PathFault.{PathFault}
 use Rattle.name_rules.specs.declared.path.PathFault.TheVariants.{InvalidPath, InvalidName, NoMemory}
 
--- a fault is for want of memory, or the one that a text reads as
+-- a fault says that memory ran out, or is the one that a text reads as
 abbrev pub IsFault : PathFault → Read (List (List ℕ)) → Type 0
 IsFault InvalidPath read = read ≡ Err PathRefusal
 IsFault InvalidName read = read ≡ Err NameRefusal

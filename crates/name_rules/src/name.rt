@@ -4,6 +4,7 @@ ghost use Rattle.std.specs.Prelude.{◌≡◌, ◌||◌, true, false, IfOk, OnOk
 ghost use Rattle.std.specs.List.{list_all};
 ghost use Rattle.fsrm_model.specs.Name.{is_name, is_name_byte};
 
+use fsrm_model::limits::LONGEST_NAME;
 use fsrm_model::{NoMemory, Text};
 use std::alloc::Global;
 use std::marker::Model;
@@ -13,7 +14,7 @@ use std::marker::Model;
 pub enum NameFault {
     /// It isn't one.
     InvalidName,
-    /// There was no memory.
+    /// Memory ran out.
     NoMemory,
 }
 
@@ -36,7 +37,7 @@ impl Model for Name {
 }
 
 impl Name {
-    /// The name that a text is. InvalidName exactly where it isn't one.
+    /// The name that a text is. InvalidName exactly if it isn't one.
     pub fn read(alloc: Global, text: &str) -> Result<Name, NameFault>
         ensures ok { IfOk result (λ name. name ≡ text.now) }
         ensures may { OnOk result (is_name text.now ≡ true) }
@@ -65,10 +66,8 @@ pub fn is_name(text: &str) -> bool
     ensures { result ≡ is_name text.now }
 {
     let bytes = text.as_bytes();
-    (1..=LONGEST).contains(&bytes.len()) && are_name_bytes(bytes) && !is_dots(text)
+    (1..=LONGEST_NAME).contains(&bytes.len()) && are_name_bytes(bytes) && !is_dots(text)
 }
-
-const LONGEST: usize = 255;
 
 // The folder itself, and the one above it.
 fn is_dots(text: &str) -> bool

@@ -18,7 +18,7 @@ pub enum PathFault {
     InvalidPath,
     /// Its form is that of a path, but a part isn't a name.
     InvalidName,
-    /// There was no memory.
+    /// Memory ran out.
     NoMemory,
 }
 
@@ -27,7 +27,7 @@ pub fn read_path(alloc: Global, text: &str) -> Result<Path, PathFault>
     ensures path { IfOk result (λ path. path_from text.now ≡ Ok path) }
     ensures fault { IfErr result (λ fault. IsFault fault (path_from text.now)) }
 {
-    let Some(rest) = behind_volume(text) else {
+    let Some(rest) = after_volume(text) else {
         return Err(PathFault::InvalidPath);
     };
     match read_names(alloc, rest) {
@@ -39,8 +39,8 @@ pub fn read_path(alloc: Global, text: &str) -> Result<Path, PathFault>
     }
 }
 
-// What stands behind `D:\` or `d:\`.
-fn behind_volume(text: &str) -> Option<&str>
+// What stands after `D:\` or `d:\`.
+fn after_volume(text: &str) -> Option<&str>
     ensures { MatchOption result (is_on_volume text.now ≡ false)
         (λ rest. (is_on_volume text.now ≡ true) × (rest.now ≡ drop 3 text.now)) }
 {
@@ -50,7 +50,7 @@ fn behind_volume(text: &str) -> Option<&str>
     }
 }
 
-// The parts of the rest of a path, where each one is a name.
+// The parts of the rest of a path, if each one is a name.
 fn read_names(alloc: Global, rest: &str) -> Result<List<Text>, NameFault>
     ensures names { IfOk result (λ names. names ≡ parts_of rest.now) }
     ensures valid { IfOk result (λ names. list_all is_name names ≡ true) }

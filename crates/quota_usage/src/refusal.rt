@@ -12,7 +12,7 @@ ghost use Rattle.quota_usage.specs.Counters.{counted, used_in};
 use crate::change::{Change, Counter, Exceeded};
 use crate::climb::{height, parent};
 use crate::counters::search;
-use fsrm_model::{Ledger, QuotaRow, QuotaState, Steps};
+use fsrm_model::{Ledger, QuotaRow, Steps};
 use fsrm_objects::Objects;
 use volume_tree::Tree;
 
@@ -20,11 +20,10 @@ use volume_tree::Tree;
 fn refuses(quota: &QuotaRow, before: u64, after: u64) -> bool
     ensures { result ≡ refuses quota.now before after }
 {
-    let counts = matches!(quota.state, QuotaState::Complete);
-    counts && quota.enforce && before < after && quota.limit < after
+    quota.state.counts() && quota.enforce && before < after && quota.limit < after
 }
 
-// What the quota of a folder tells where it refuses that bytes are taken and then given.
+// The refusal by the quota of a folder, if it refuses that its counter loses bytes and then gains others.
 fn judge(
     counters: &[Counter],
     objects: &Objects,
@@ -54,8 +53,8 @@ fn judge(
     })
 }
 
-// What the first quota tells, on the way up from a node, that refuses that bytes are taken from each
-// folder on it and then given. It takes a look for each node on the way.
+// The refusal by the first quota on the way up from a node that refuses, if each folder on the way loses bytes and then
+// gains others. It takes a look for each node on the way.
 fn first_refusal<L: Ledger>(
     counters: &[Counter],
     tree: &Tree,
@@ -83,7 +82,7 @@ fn first_refusal<L: Ledger>(
 }
 
 // Climbs from two nodes to the one where their ways up meet, and judges below it the quotas on the way
-// from `to`, of which none is above `from`. An `Err` is what the first tells that refuses. With the rest
+// from `to`, of which none is above `from`. An `Err` is the first refusal. With the rest
 // of the way it takes no more than 2 looks for each node on both.
 fn below_meeting<L: Ledger>(
     counters: &[Counter],
@@ -123,7 +122,7 @@ fn below_meeting<L: Ledger>(
     Ok(at_to)
 }
 
-// What the deepest quota tells that refuses a change from one folder to another.
+// The refusal by the deepest quota that refuses a change from one folder to another.
 fn move_refusal<L: Ledger>(
     counters: &[Counter],
     tree: &Tree,
@@ -152,7 +151,7 @@ fn move_refusal<L: Ledger>(
     }
 }
 
-/// What the deepest quota tells that refuses a change.
+/// The refusal by the deepest quota that refuses a change.
 pub fn refusal<L: Ledger>(
     counters: &[Counter],
     tree: &Tree,

@@ -12,14 +12,12 @@ use crate::change::{Change, Counter, Exceeded};
 use crate::climb::charge;
 use crate::counters::search;
 use crate::refusal::refusal;
+use fsrm_model::limits::MOST_QUOTAS;
 use fsrm_model::{Ledger, NoMemory, Steps};
 use fsrm_objects::Objects;
 use std::alloc::Global;
 use std::marker::Model;
 use volume_tree::Tree;
-
-// No more quotas than this count.
-const MOST: usize = 4096;
 
 /// The counters of the counting quotas, in room for 4,096 that is reserved once. Contracts see them as
 /// a list that ascends by folder.
@@ -45,7 +43,7 @@ impl Usage {
     pub fn reserve(alloc: Global) -> Result<Usage, NoMemory>
         ensures { IfOk result (λ usage. usage ≡ []) }
     {
-        let counters = Vec::with_capacity(alloc, MOST)?;
+        let counters = Vec::with_capacity(alloc, MOST_QUOTAS)?;
         Ok(Usage { counters })
     }
 
@@ -72,7 +70,7 @@ impl Usage {
         }
     }
 
-    /// How many bytes a folder uses for which it counts.
+    /// How many bytes a folder uses, if it has a counter.
     pub fn used(&self, folder: u32) -> Option<u64>
         ensures { result ≡ used_in self.now folder }
     {
@@ -82,8 +80,8 @@ impl Usage {
         }
     }
 
-    /// Whether no quota refuses a change; else what the deepest one tells that does. A quota refuses
-    /// where it counts, is enforced, and its folder would use more bytes than before and than its limit.
+    /// Ok if no quota refuses a change, else the refusal by the deepest one that does. A quota refuses
+    /// if it counts, is enforced, and its folder would use more bytes than before and than its limit.
     /// It takes no more than 2 looks for each node on the two ways up.
     pub fn admit<L: Ledger>(
         &self,

@@ -71,6 +71,6 @@ digits_end text (suc n) utf8 e =
     let at : n + 1 ≡ suc n = omega arith in
     subst (IsCharBoundary text) at (IsCharBoundary-after_ascii text n utf8 (omega arith) (digit_is_ascii (get_or text n 0) digit))
 
--- a text may be cut behind its digits
+-- a text may be cut after its digits
 pub digits_cut : (text bytes : List ℕ) (n : ℕ) → IsUtf8 text → bytes ≡ text → n ≡ prefix_len is_ascii_digit bytes → IsCharBoundary text n
 digits_cut text bytes n utf8 same n_is = digits_end text n utf8 (n_is ∙ ap (prefix_len is_ascii_digit) same)

@@ -1,4 +1,4 @@
--- The words of a text, behind its blanks and behind its first word.
+-- The words of a text, after its blanks and after its first word.
 use Rattle.std.proofs.Common.{◌≡◌, ℕ, suc, zero, ◌+◌, ◌<◌, ◌≤◌, Bool, true, false, cond, List, [], ◌∷◌, length, take, drop, refl, sym, ap, ◌∙◌, arith, add-zero, inl, inr, get_or, subst}
 use Rattle.std.specs.Prelude.{not, ◌&&◌}
 use Rattle.std.specs.List.{prefix_len, onto_first}
@@ -13,22 +13,22 @@ use Rattle.std.specs.Str.{IsUtf8, IsCharBoundary}
 use Rattle.fsrm_model.specs.Spelling.{EndsWord}
 use Rattle.fsrm_model.specs.Words.{Word, is_blank, is_quote, parts_from, words_at, without_quotes}
 use Rattle.tool_commands.specs.Lengths.{word_length}
-use Rattle.tool_commands.proofs.WordLengths.{word_length-le-length, prefix_len-behind}
+use Rattle.tool_commands.proofs.WordLengths.{word_length-le-length, prefix_len-after}
 
--- the parts behind the first one, of which what ends it is the first byte
-abbrev parts_behind : List ℕ → List (List ℕ)
-parts_behind [] = []
-parts_behind (b ∷ bs) = parts_from false bs
+-- the parts after the first one, of which what ends it is the first byte
+abbrev parts_after : List ℕ → List (List ℕ)
+parts_after [] = []
+parts_after (b ∷ bs) = parts_from false bs
 
 -- the first part is a word, or empty
-parts_from-word : (quoted : Bool) (text : List ℕ) → parts_from quoted text ≡ take (word_length quoted text) text ∷ parts_behind (drop (word_length quoted text) text)
+parts_from-word : (quoted : Bool) (text : List ℕ) → parts_from quoted text ≡ take (word_length quoted text) text ∷ parts_after (drop (word_length quoted text) text)
 parts_from-word quoted [] = refl
 parts_from-word quoted (b ∷ bs) = at (is_blank b && not quoted) (parts_from-word (cond (is_quote b) (not quoted) quoted) bs)
   where
     at : (end : Bool)
-        → parts_from (cond (is_quote b) (not quoted) quoted) bs ≡ take (word_length (cond (is_quote b) (not quoted) quoted) bs) bs ∷ parts_behind (drop (word_length (cond (is_quote b) (not quoted) quoted) bs) bs)
+        → parts_from (cond (is_quote b) (not quoted) quoted) bs ≡ take (word_length (cond (is_quote b) (not quoted) quoted) bs) bs ∷ parts_after (drop (word_length (cond (is_quote b) (not quoted) quoted) bs) bs)
         → cond end ([] ∷ parts_from false bs) (onto_first b (parts_from (cond (is_quote b) (not quoted) quoted) bs))
-        ≡ take (cond end 0 (suc (word_length (cond (is_quote b) (not quoted) quoted) bs))) (b ∷ bs) ∷ parts_behind (drop (cond end 0 (suc (word_length (cond (is_quote b) (not quoted) quoted) bs))) (b ∷ bs))
+        ≡ take (cond end 0 (suc (word_length (cond (is_quote b) (not quoted) quoted) bs))) (b ∷ bs) ∷ parts_after (drop (cond end 0 (suc (word_length (cond (is_quote b) (not quoted) quoted) bs))) (b ∷ bs))
     at true ih = refl
     at false ih = ap (onto_first b) ih
 
@@ -42,9 +42,9 @@ ends quoted (b ∷ bs) = at (is_blank b && not quoted) refl (ends (cond (is_quot
     at true e ih = (and_parts (is_blank b) (not quoted) e).0
     at false e ih = ih
 
-words_behind : (column : ℕ) (text : List ℕ) → EndsWord text → words_at (column + 1) (parts_behind text) ≡ words_at column (parts_from false text)
-words_behind column [] h = refl
-words_behind column (b ∷ bs) h = rw h refl
+words_after : (column : ℕ) (text : List ℕ) → EndsWord text → words_at (column + 1) (parts_after text) ≡ words_at column (parts_from false text)
+words_after column [] h = refl
+words_after column (b ∷ bs) h = rw h refl
 
 words_at-part : (column : ℕ) (part : List ℕ) (parts : List (List ℕ)) → 0 < length part
     → words_at column (part ∷ parts) ≡ record { column = column; text = without_quotes part } ∷ words_at (column + length part + 1) parts
@@ -60,11 +60,11 @@ words_at-word column text some =
     let within : word_length false text ≤ length text = word_length-le-length false text in
     let long : length (take (word_length false text) text) ≡ word_length false text = omega (arith, length-take (word_length false text) text) in
     let word : Word = record { column = column; text = without_quotes (take (word_length false text) text) } in
-    let behind : words_at (column + length (take (word_length false text) text) + 1) (parts_behind (drop (word_length false text) text)) ≡ words_at (column + word_length false text) (parts_from false (drop (word_length false text) text)) =
-    rw long (words_behind (column + word_length false text) (drop (word_length false text) text) (ends false text)) in
+    let after : words_at (column + length (take (word_length false text) text) + 1) (parts_after (drop (word_length false text) text)) ≡ words_at (column + word_length false text) (parts_from false (drop (word_length false text) text)) =
+    rw long (words_after (column + word_length false text) (drop (word_length false text) text) (ends false text)) in
     ap (words_at column) (parts_from-word false text)
-    ∙ words_at-part column (take (word_length false text) text) (parts_behind (drop (word_length false text) text)) (omega arith)
-    ∙ ap (λ (more : List Word). word ∷ more) behind
+    ∙ words_at-part column (take (word_length false text) text) (parts_after (drop (word_length false text) text)) (omega arith)
+    ∙ ap (λ (more : List Word). word ∷ more) after
 
 -- blanks in front
 pub words_at-blanks : (column : ℕ) (text : List ℕ) → words_at column (parts_from false text) ≡ words_at (column + prefix_len is_blank text) (parts_from false (drop (prefix_len is_blank text) text))
@@ -90,24 +90,24 @@ no_word (b ∷ bs) h k = at (is_blank b) refl
     at false e = let one : suc (word_length (cond (is_quote b) true false) bs) ≡ 0 = rw e at k in absurd (omega (arith, one))
 
 -- the end stays where it is
-pub same_end : (column count : ℕ) (rest behind : List ℕ) → count ≤ length rest → behind ≡ drop count rest → column + count + length behind ≡ column + length rest
-same_end column count rest behind within behind_is =
+pub same_end : (column count : ℕ) (rest after : List ℕ) → count ≤ length rest → after ≡ drop count rest → column + count + length after ≡ column + length rest
+same_end column count rest after within after_is =
     let long = length-drop count rest in
-    rw behind_is (omega arith)
+    rw after_is (omega arith)
 
 -- blanks are passed over
-pub skipped : (column column' : ℕ) (rest bytes : List ℕ) (n : ℕ) (behind : List ℕ) → bytes ≡ rest → n ≡ prefix_len is_blank bytes → behind ≡ drop n rest → column' ≡ column + n
-    → words_at column' (parts_from false behind) ≡ words_at column (parts_from false rest)
-skipped column column' rest bytes n behind same n_is behind_is column_is =
+pub skipped : (column column' : ℕ) (rest bytes : List ℕ) (n : ℕ) (after : List ℕ) → bytes ≡ rest → n ≡ prefix_len is_blank bytes → after ≡ drop n rest → column' ≡ column + n
+    → words_at column' (parts_from false after) ≡ words_at column (parts_from false rest)
+skipped column column' rest bytes n after same n_is after_is column_is =
     let n_of : n ≡ prefix_len is_blank rest = n_is ∙ ap (prefix_len is_blank) same in
-    let behind_of : behind ≡ drop (prefix_len is_blank rest) rest = behind_is ∙ ap (λ (k : ℕ). drop k rest) n_of in
-    rw (column_is, n_of, behind_of) (sym (words_at-blanks column rest))
+    let after_of : after ≡ drop (prefix_len is_blank rest) rest = after_is ∙ ap (λ (k : ℕ). drop k rest) n_of in
+    rw (column_is, n_of, after_of) (sym (words_at-blanks column rest))
 
 -- no blank is left in front
-pub no_blanks : (rest bytes : List ℕ) (n : ℕ) (behind : List ℕ) → bytes ≡ rest → n ≡ prefix_len is_blank bytes → behind ≡ drop n rest → prefix_len is_blank behind ≡ 0
-no_blanks rest bytes n behind same n_is behind_is =
+pub no_blanks : (rest bytes : List ℕ) (n : ℕ) (after : List ℕ) → bytes ≡ rest → n ≡ prefix_len is_blank bytes → after ≡ drop n rest → prefix_len is_blank after ≡ 0
+no_blanks rest bytes n after same n_is after_is =
     let n_of : n ≡ prefix_len is_blank rest = n_is ∙ ap (prefix_len is_blank) same in
-    rw (behind_is, n_of) (prefix_len-behind is_blank rest)
+    rw (after_is, n_of) (prefix_len-after is_blank rest)
 
 blank_is_ascii : (b : ℕ) → is_blank b ≡ true → b < 128
 blank_is_ascii b h = grind (arith, nat_tests)
@@ -121,13 +121,13 @@ blanks_end text (suc n) utf8 e =
     subst (IsCharBoundary text) at (IsCharBoundary-after_ascii text n utf8 (omega arith) (blank_is_ascii (get_or text n 0) blank))
 
 -- the first word is taken, its quotes in it
-pub taken : (column column' : ℕ) (rest bytes : List ℕ) (n : ℕ) (front behind : List ℕ) → bytes ≡ rest → n ≡ word_length false bytes → 0 < n → front ≡ take n rest → behind ≡ drop n rest → column' ≡ column + n
-    → words_at column (parts_from false rest) ≡ record { column = column; text = without_quotes front } ∷ words_at column' (parts_from false behind)
-taken column column' rest bytes n front behind same n_is some front_is behind_is column_is =
+pub taken : (column column' : ℕ) (rest bytes : List ℕ) (n : ℕ) (front after : List ℕ) → bytes ≡ rest → n ≡ word_length false bytes → 0 < n → front ≡ take n rest → after ≡ drop n rest → column' ≡ column + n
+    → words_at column (parts_from false rest) ≡ record { column = column; text = without_quotes front } ∷ words_at column' (parts_from false after)
+taken column column' rest bytes n front after same n_is some front_is after_is column_is =
     let n_of : n ≡ word_length false rest = n_is ∙ ap (word_length false) same in
     let front_of : front ≡ take (word_length false rest) rest = front_is ∙ ap (λ (k : ℕ). take k rest) n_of in
-    let behind_of : behind ≡ drop (word_length false rest) rest = behind_is ∙ ap (λ (k : ℕ). drop k rest) n_of in
-    rw (column_is, n_of, front_of, behind_of) (words_at-word column rest (omega arith))
+    let after_of : after ≡ drop (word_length false rest) rest = after_is ∙ ap (λ (k : ℕ). drop k rest) n_of in
+    rw (column_is, n_of, front_of, after_of) (words_at-word column rest (omega arith))
 
 pub word_end : (text : List ℕ) (n : ℕ) → n ≡ word_length false text → IsCharBoundary text n
 word_end text n e = elim (cases_lt n (length text)) [

@@ -5,13 +5,13 @@ use Rattle.std.specs.List.{prefix_len}
 use Rattle.std.specs.Str.{IsUtf8, is_utf8}
 use Rattle.std.specs.Str.Lossy.{utf8_valid_len}
 use Rattle.std.proofs.Math.ListN.{drop_of_length-le}
-use Rattle.std.proofs.lemmas.Bool.{lt-ltb, le-ltb}
+use Rattle.std.proofs.lemmas.Bool.{le-ltb}
 use Rattle.std.proofs.lemmas.Bool.Decides.{nat_tests}
 use Rattle.std.proofs.lemmas.List.{get_or-drop, length-drop}
 use Rattle.std.proofs.lemmas.List.Sums.{prefix_len-le-length}
-use Rattle.tool_commands.proofs.WordLengths.{prefix_len-behind}
+use Rattle.tool_commands.proofs.WordLengths.{prefix_len-after}
 use Rattle.std.proofs.lemmas.Str.{IsUtf8-from_is_utf8, is_utf8-from_IsUtf8}
-use Rattle.fsrm_model.specs.declared.command.Refusal.TheVariants.{BadLine, LineTooLong}
+use Rattle.fsrm_model.specs.declared.command.Refusal.TheVariants.{BadLine}
 use Rattle.fsrm_model.specs.Line.{read_line, read_words, is_skipped}
 use Rattle.fsrm_model.specs.declared.command.Command.{Command}
 use Rattle.fsrm_model.specs.Words.{is_blank}
@@ -20,9 +20,9 @@ use Rattle.tool_commands.specs.declared.reading.LineFault.{LineFault}
 use Rattle.tool_commands.specs.declared.reading.LineFault.TheVariants.{Refused, NoMemory}
 
 -- blanks in front change nothing
-skipped-behind : (line : List ℕ) → is_skipped line ≡ is_skipped (drop (prefix_len is_blank line) line)
-skipped-behind [] = refl
-skipped-behind (b ∷ bs) = at (is_blank b) refl (skipped-behind bs)
+skipped-after : (line : List ℕ) → is_skipped line ≡ is_skipped (drop (prefix_len is_blank line) line)
+skipped-after [] = refl
+skipped-after (b ∷ bs) = at (is_blank b) refl (skipped-after bs)
   where
     no_mark : (b : ℕ) → is_blank b ≡ true → nat_eq b 35 ≡ false
     no_mark b blank = grind (arith, nat_tests)
@@ -49,7 +49,7 @@ skipped-mark (b ∷ bs) none some = at (is_blank b) refl
 pub skipped_all : (line : List ℕ) (n : ℕ) → n ≡ prefix_len is_blank line → n ≡ length line → is_skipped line ≡ true
 skipped_all line n n_is all =
     let none : drop (prefix_len is_blank line) line ≡ [] = drop_of_length-le line (omega arith) in
-    skipped-behind line ∙ rw none refl
+    skipped-after line ∙ rw none refl
 
 -- a line is skipped by its first byte that isn't blank
 pub skipped_at : (line : List ℕ) (n : ℕ) → n ≡ prefix_len is_blank line → n < length line → is_skipped line ≡ nat_eq (get_or line n 0) 35
@@ -57,7 +57,7 @@ skipped_at line n n_is inside =
     let long = length-drop (prefix_len is_blank line) line in
     let here : get_or (drop (prefix_len is_blank line) line) 0 0 ≡ get_or line n 0 =
     get_or-drop (prefix_len is_blank line) line 0 0 ∙ (let k : prefix_len is_blank line + 0 ≡ n = omega arith in ap (λ (k : ℕ). get_or line k 0) k) in
-    skipped-behind line ∙ skipped-mark (drop (prefix_len is_blank line) line) (prefix_len-behind is_blank line) (omega arith) ∙ ap (λ (b : ℕ). nat_eq b 35) here
+    skipped-after line ∙ skipped-mark (drop (prefix_len is_blank line) line) (prefix_len-after is_blank line) (omega arith) ∙ ap (λ (b : ℕ). nat_eq b 35) here
 
 pub blanks_within : (line : List ℕ) (n : ℕ) → n ≡ prefix_len is_blank line → (n ≡ length line → ⊥) → n < length line
 blanks_within line n n_is more = omega (arith, prefix_len-le-length is_blank line)

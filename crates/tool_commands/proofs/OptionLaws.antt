@@ -51,7 +51,7 @@ or_none : {X : Type 0} (o : Option X) → option_or o None ≡ o
 or_none None = refl
 or_none (Some x) = refl
 
--- the first value behind one more option
+-- the first value after one more option
 one_more : {X : Type 0} (value : Given → Option X) (given : List Given) (next : Given) → one value (given ++ next ∷ []) ≡ option_or (one value given) (value next)
 one_more value [] next = or_none (value next)
 one_more value (first ∷ given) next = at (value first) (one value (given ++ next ∷ [])) (one value given) (value next) (one_more value given next)

@@ -45,7 +45,7 @@ without_first_quote (b ∷ bs) (suc place) within before here = at (is_quote b) 
     at true none ih = absurd (none refl)
     at false none ih = ap (λ (rest : List ℕ). b ∷ rest) ih
 
--- what stands before the first quote, and behind it
+-- what stands before the first quote, and after it
 pub without_quotes-some : (text : List ℕ) (place : ℕ) → IsFirstByte (is_byte 34) text (Some place) → without_quotes text ≡ take place text ++ without_quotes (drop (place + 1) text)
 without_quotes-some text place h =
     rw add-one (without_first_quote text place h.0.high (λ k less. h.0.before k (omega arith) less) h.1)

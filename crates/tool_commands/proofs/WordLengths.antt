@@ -1,4 +1,4 @@
--- How the length of a word goes on behind its plain bytes and behind its quotes.
+-- How the length of a word goes on after its plain bytes and after its quotes.
 use Rattle.std.proofs.Common.{◌≡◌, ℕ, suc, ◌+◌, ◌-◌, ◌<◌, ◌≤◌, Bool, true, false, cond, List, [], ◌∷◌, length, drop, refl, sym, ap, ◌∙◌, arith, zero-add, get_or, take, subst}
 use Rattle.std.proofs.lemmas.List.{drop-drop, length-drop, take_rest}
 use Rattle.std.proofs.lemmas.List.Sums.{prefix_len-le-length}
@@ -15,7 +15,7 @@ neither true b h = absurd cc
 neither false true h = absurd cc
 neither false false h = (refl, refl)
 
--- behind plain bytes
+-- after plain bytes
 pub word_length-plain : (text : List ℕ) → word_length false text ≡ prefix_len is_plain text + word_length false (drop (prefix_len is_plain text) text)
 word_length-plain [] = refl
 word_length-plain (b ∷ bs) = at (is_plain b) refl (word_length-plain bs)
@@ -28,7 +28,7 @@ word_length-plain (b ∷ bs) = at (is_plain b) refl (word_length-plain bs)
         let one : 1 + prefix_len is_plain bs ≡ suc (prefix_len is_plain bs) = omega arith in
         rw (one, tests.0, tests.1) (omega (arith, ih))
 
--- behind the quote that ends what stands within quotes
+-- after the quote that ends what stands within quotes
 pub word_length-quoted : (text : List ℕ) → word_length true text ≡ quoted_length text + word_length false (drop (quoted_length text) text)
 word_length-quoted [] = refl
 word_length-quoted (b ∷ bs) = at (is_quote b) refl (word_length-quoted bs)
@@ -52,10 +52,10 @@ word_length-le-length quoted (b ∷ bs) = at (is_blank b && not quoted) (word_le
     at true h = omega arith
     at false h = omega arith
 
--- behind plain bytes stands no plain byte
-pub prefix_len-behind : (p : ℕ → Bool) (text : List ℕ) → prefix_len p (drop (prefix_len p text) text) ≡ 0
-prefix_len-behind p [] = refl
-prefix_len-behind p (b ∷ bs) = at (p b) refl (prefix_len-behind p bs)
+-- after plain bytes stands no plain byte
+pub prefix_len-after : (p : ℕ → Bool) (text : List ℕ) → prefix_len p (drop (prefix_len p text) text) ≡ 0
+prefix_len-after p [] = refl
+prefix_len-after p (b ∷ bs) = at (p b) refl (prefix_len-after p bs)
   where
     at : (passes : Bool) → p b ≡ passes → prefix_len p (drop (prefix_len p bs) bs) ≡ 0 → prefix_len p (drop (cond passes (1 + prefix_len p bs) 0) (b ∷ bs)) ≡ 0
     at false e ih = rw e refl
@@ -77,8 +77,8 @@ turn text place quoted plain within quote quoted_is plain_is =
     let one : place + 1 ≡ suc place = omega arith in
     let quoted_len : quoted ≡ quoted_length (drop (suc place) text) = quoted_is ∙ ap quoted_length (take_rest text (place + 1)) ∙ ap (λ (k : ℕ). quoted_length (drop k text)) one in
     let plain_len : plain ≡ prefix_len is_plain (drop (place + 1 + quoted) text) = plain_is ∙ ap (prefix_len is_plain) (take_rest text (place + 1 + quoted)) in
-    let behind_quotes : drop quoted (drop (suc place) text) ≡ drop (place + 1 + quoted) text = drop-drop quoted (suc place) text ∙ (let k : suc place + quoted ≡ place + 1 + quoted = omega arith in ap (λ (k : ℕ). drop k text) k) in
-    let behind_all : drop plain (drop (place + 1 + quoted) text) ≡ drop (place + 1 + quoted + plain) text = drop-drop plain (place + 1 + quoted) text in
+    let after_quotes : drop quoted (drop (suc place) text) ≡ drop (place + 1 + quoted) text = drop-drop quoted (suc place) text ∙ (let k : suc place + quoted ≡ place + 1 + quoted = omega arith in ap (λ (k : ℕ). drop k text) k) in
+    let after_all : drop plain (drop (place + 1 + quoted) text) ≡ drop (place + 1 + quoted + plain) text = drop-drop plain (place + 1 + quoted) text in
     record {
       within =
           let a = length-drop (suc place) text in
@@ -88,12 +88,12 @@ turn text place quoted plain within quote quoted_is plain_is =
           let a : word_length false (drop place text) ≡ suc (word_length true (drop (suc place) text)) = ap (word_length false) here in
           let b : word_length true (drop (suc place) text) ≡ quoted + word_length false (drop quoted (drop (suc place) text)) = rw quoted_len (word_length-quoted (drop (suc place) text)) in
           let c : word_length false (drop (place + 1 + quoted) text) ≡ plain + word_length false (drop plain (drop (place + 1 + quoted) text)) = rw plain_len (word_length-plain (drop (place + 1 + quoted) text)) in
-          let d = ap (word_length false) behind_quotes in
-          let e = ap (word_length false) behind_all in
+          let d = ap (word_length false) after_quotes in
+          let e = ap (word_length false) after_all in
           omega arith;
-      marked = subst (λ (rest : List ℕ). prefix_len is_plain rest ≡ 0) behind_all (rw plain_len (prefix_len-behind is_plain (drop (place + 1 + quoted) text)));
+      marked = subst (λ (rest : List ℕ). prefix_len is_plain rest ≡ 0) after_all (rw plain_len (prefix_len-after is_plain (drop (place + 1 + quoted) text)));
     }
 
 -- where the search begins
 pub first_turn : (text : List ℕ) (plain : ℕ) → plain ≡ prefix_len is_plain text → (plain ≤ length text) × (word_length false text ≡ plain + word_length false (drop plain text)) × (prefix_len is_plain (drop plain text) ≡ 0)
-first_turn text plain e = rw e (prefix_len-le-length is_plain text, word_length-plain text, prefix_len-behind is_plain text)
+first_turn text plain e = rw e (prefix_len-le-length is_plain text, word_length-plain text, prefix_len-after is_plain text)

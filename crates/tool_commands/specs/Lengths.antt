@@ -15,6 +15,6 @@ word_length quoted (b ∷ bs) =
     if is_blank b && not quoted then 0
     else suc (word_length (if is_quote b then not quoted else quoted) bs)
 
--- how many bytes a text has up to its first quote and with it, or in all where it has none
+-- how many bytes a text has up to its first quote and with it, or in all if it has none
 abbrev pub quoted_length : List ℕ → ℕ
 quoted_length text = min (prefix_len (λ b. not (is_quote b)) text + 1) (length text)

@@ -26,7 +26,7 @@ pub record Holds (held : Given) (given : List LineGiven) : Type 0 where
   pub enforce : held.enforce ≡ one type_in given
   pub enabled : held.enabled ≡ one status_in given
 
--- a value is kept where none was kept before, and else refused before it is judged
+-- a value is kept if none was kept before, and else refused before it is judged
 abbrev pub KeepsOnce : {X : Type 0} → Result (Unit {0}) LineFault → Option X → Option X → ℕ → Result X LineFault → Type 0
 KeepsOnce result (Some old) new column value = result ≡ Err (Refused (BadLine column))
 KeepsOnce result None new column (Ok x) = (result ≡ Ok tt) × (new ≡ Some x)
@@ -38,12 +38,12 @@ option_word keys word given = do
   key ← known (BadLine word.column) (word_key keys word.text)
   with_option key word.column (after_first is_colon word.text) given
 
--- what is given then, unless memory is wanting
+-- what is given then, unless memory runs out
 abbrev pub Adds : Result (Unit {0}) LineFault → Given → Read (List LineGiven) → Type 0
 Adds (Ok done) new read = (given : List LineGiven) × (read ≡ Ok given) × Holds new given
 Adds (Err fault) new read = Reads {X = List LineGiven} (Err fault) read
 
--- what is given in all, unless memory is wanting
+-- what is given in all, unless memory runs out
 abbrev pub ReadsGiven : Result Given LineFault → Read (List LineGiven) → Type 0
 ReadsGiven (Ok held) read = (given : List LineGiven) × (read ≡ Ok given) × Holds held given
 ReadsGiven (Err fault) read = Reads {X = List LineGiven} (Err fault) read

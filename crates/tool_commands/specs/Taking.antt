@@ -17,7 +17,7 @@ use Rattle.tool_commands.specs.LineFaults.{Reads}
 unfoldable pub left : Words → List LineWord
 left words = words_at words.column (parts_from false words.rest.now)
 
--- the column behind the line's end
+-- the column after the line's end
 unfoldable pub end : Words → ℕ
 end words = words.column + length words.rest.now
 
@@ -39,7 +39,7 @@ abbrev pub first_column : List LineWord → Option ℕ
 first_column [] = None
 first_column (word ∷ words) = Some word.column
 
--- the next word is taken, if any, unless memory is wanting
+-- the next word is taken, if any, unless memory runs out
 abbrev pub TakesLeft : Result (Option Word) LineFault → Words → Words → Type 0
 TakesLeft (Ok None) old new = (left old ≡ []) × (end new ≡ end old)
 TakesLeft (Ok (Some word)) old new = (left old ≡ line_word word ∷ left new) × (end new ≡ end old)

@@ -1,4 +1,4 @@
-//! The commands, each read from the words behind its name.
+//! The commands, each read from the words after its name.
 
 ghost use Rattle.std.specs.Prelude.{◌≡◌};
 ghost use Rattle.fsrm_model.specs.Line.{no_more, mkdir_words, create_words, resize_words, touch_words, move_words, remove_words, usage_words, step_words, readers, deed_words, command_of};
@@ -12,7 +12,7 @@ use crate::words::{Word, Words};
 use fsrm_model::{Command, Deed, FileOp};
 use std::alloc::Global;
 
-// The deed, where no word is left.
+// The deed, if no word is left.
 fn finished(words: &Words<'_>, deed: Deed) -> Result<Deed, LineFault>
     ensures { Reads result (no_more (left words.now) deed) }
 {

@@ -11,14 +11,9 @@ ghost use Rattle.tool_commands.specs.LineFaults.{Reads};
 
 use crate::reading::LineFault;
 use crate::values::is_named;
-use crate::words::{before, behind};
+use crate::words::{after, before};
 use fsrm_model::Refusal;
-
-/// In bytes.
-const LEAST_LIMIT: u64 = 1_024;
-
-/// 2^60 bytes.
-const GREATEST_LIMIT: u64 = 1_152_921_504_606_846_976;
+use fsrm_model::limits::{GREATEST_LIMIT, LEAST_LIMIT};
 
 // How many digits a text begins with.
 fn digit_count(text: &[u8]) -> usize
@@ -60,7 +55,7 @@ fn is_limit(limit: u64) -> bool
     LEAST_LIMIT <= limit && limit <= GREATEST_LIMIT
 }
 
-// So many of a unit, in bytes. None where they don't fit.
+// So many of a unit, in bytes. None if they don't fit 64 bits.
 fn in_bytes(digits: &str, unit: u64) -> Option<u64>
     requires some { 0 < length digits.now }
     requires digits { list_all is_ascii_digit digits.now ≡ true }
@@ -88,7 +83,7 @@ fn limit_of(digits: &str, unit: u64) -> Result<u64, LineFault>
 }
 
 /// The limit that a text of a word at this column is, in bytes: digits, as many as are given, and a
-/// unit. BadLine where it hasn't that form, InvalidLimit below 1,024 bytes or above 2^60.
+/// unit. BadLine if it hasn't that form, InvalidLimit below 1,024 bytes or above 2^60.
 pub fn read_limit(text: &str, column: usize) -> Result<u64, LineFault>
     requires { column ≤ 65537 }
     ensures { Reads result (limit_from column text.now) }
@@ -97,7 +92,7 @@ pub fn read_limit(text: &str, column: usize) -> Result<u64, LineFault>
     if count == 0 {
         return Err(LineFault::bad_line(column));
     }
-    let Some(unit) = unit_bytes(behind(text, count)) else {
+    let Some(unit) = unit_bytes(after(text, count)) else {
         return Err(LineFault::bad_line(column));
     };
     limit_of(before(text, count), unit)

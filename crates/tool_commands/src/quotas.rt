@@ -1,4 +1,4 @@
-//! The commands on quotas, each read from the options behind its name.
+//! The commands on quotas, each read from the options after its name.
 
 ghost use Rattle.std.specs.Prelude.{◌≡◌};
 ghost use Rattle.fsrm_model.specs.declared.command.Deed.TheVariants.{QuotaDelete, QuotaScan, QuotaResetpeak};
@@ -114,7 +114,7 @@ fn quota(alloc: Global, words: &mut Words<'_>) -> Result<Deed, LineFault>
     deed(alloc, &name, words)
 }
 
-/// What the words behind `dirquota` spell.
+/// What the words after `dirquota` spell.
 pub fn dirquota(alloc: Global, words: &mut Words<'_>) -> Result<Deed, LineFault>
     ensures { Reads result (tool_words dirquota (end words.old) (left words.old)) }
 {

@@ -11,13 +11,11 @@ ghost use Rattle.tool_commands.specs.declared.reading.LineFault.TheVariants.{Ref
 
 use crate::commands::command;
 use crate::words::{Words, blanks};
+use fsrm_model::limits::LONGEST_LINE;
 use fsrm_model::{Command, Refusal};
 use memchr::{memchr_iter, memrchr};
 use std::alloc::Global;
 use std::str;
-
-/// In bytes.
-const LONGEST_LINE: usize = 65_536;
 
 /// Why a line is read as no command.
 #[derive(Clone, Copy, Debug, PartialEq, Eq)]
@@ -25,7 +23,7 @@ pub enum LineFault {
     /// What it spells is refused: BadLine, LineTooLong, InvalidPath, InvalidName, OutOfRange or
     /// InvalidLimit.
     Refused(Refusal),
-    /// There was no memory.
+    /// Memory ran out.
     NoMemory,
 }
 
@@ -47,7 +45,7 @@ fn is_skipped(line: &[u8]) -> bool
     place == line.len() || line[place] == b'#'
 }
 
-// The column of the last quote, where it isn't ended. It counts bytes from 1.
+// The column of the last quote, if it isn't ended. It counts bytes from 1.
 fn unclosed_quote(line: &[u8]) -> Option<usize>
     ensures column { result ≡ (if is_closed line.now then None else Some (last_quote line.now)) }
     ensures within { IfSome result (λ column. column ≤ length line.now) }
@@ -72,8 +70,8 @@ fn read_words(alloc: Global, line: &str) -> Result<Command, LineFault>
     }
 }
 
-/// The command that a line spells, without the LF or CR LF that ends it. None exactly where the line
-/// is skipped: it has blanks alone, or a `#` behind them.
+/// The command that a line spells, without the LF or CR LF that ends it. None exactly if the line is skipped: it has
+/// nothing but blanks, or its first byte that is no blank is a `#`.
 pub fn read_line(alloc: Global, line: &[u8]) -> Result<Option<Command>, LineFault>
     ensures read { IfOk result (λ read. read_line line.now ≡ option_map (λ command. Ok command) read) }
     ensures valid { IfOk result (λ read. (command : Command) → read ≡ Some command → is_command command ≡ true) }

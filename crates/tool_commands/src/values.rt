@@ -12,19 +12,10 @@ ghost use Rattle.tool_commands.specs.Taking.{Takes};
 
 use crate::reading::LineFault;
 use crate::words::Words;
+use fsrm_model::limits::{LAST_OWNER, LATEST_MOMENT, LONGEST_FILE, MOST_VISITS};
 use fsrm_model::{Path, Refusal};
 use name_rules::{PathFault, read_path};
 use std::alloc::Global;
-
-/// 2099-12-31 23:59:59 UTC, in seconds since 1970-01-01 00:00:00 UTC.
-const LATEST_MOMENT: u64 = 4_102_444_799;
-
-/// 2^44 - 65,536 bytes.
-const LONGEST_FILE: u64 = 17_592_185_978_880;
-
-const LAST_OWNER: u64 = u32::MAX as u64;
-
-const MOST_VISITS: u64 = 1_000_000;
 
 const MOST_DIGITS: usize = 20;
 
@@ -117,7 +108,7 @@ impl<'a> Words<'a> {
     pub fn owner(&mut self, alloc: Global) -> Result<u32, LineFault>
         ensures { Takes result self.old self.new owner_word }
     {
-        let owner = self.number(alloc, 1, LAST_OWNER)?;
+        let owner = self.number(alloc, 1, LAST_OWNER as u64)?;
         Ok(owner as u32)
     }
 
@@ -125,7 +116,7 @@ impl<'a> Words<'a> {
     pub fn visits(&mut self, alloc: Global) -> Result<u32, LineFault>
         ensures { Takes result self.old self.new (number_word 1 most_visits) }
     {
-        let visits = self.number(alloc, 1, MOST_VISITS)?;
+        let visits = self.number(alloc, 1, MOST_VISITS as u64)?;
         Ok(visits as u32)
     }
 

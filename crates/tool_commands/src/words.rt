@@ -33,7 +33,7 @@ fn plain_len(text: &[u8]) -> usize
     memchr3(b' ', b'\t', b'"', text).unwrap_or(text.len())
 }
 
-// How many bytes a text has up to its first quote and with it, or in all where it has none.
+// How many bytes a text has up to its first quote and with it, or in all if it has none.
 fn quoted_len(text: &[u8]) -> usize
     ensures { result ≡ quoted_length text.now }
 {
@@ -65,7 +65,7 @@ pub fn before(text: &str, place: usize) -> &str
 }
 
 /// What stands from a place of a text on.
-pub fn behind(text: &str, place: usize) -> &str
+pub fn after(text: &str, place: usize) -> &str
     requires { IsCharBoundary text.now place }
     ensures { result.now ≡ drop place text.now }
 {
@@ -80,7 +80,7 @@ fn copy_without_quotes(alloc: Global, raw: &str) -> Result<String, NoMemory>
     let mut rest = raw;
     while let Some(place) = memchr(b'"', rest.as_bytes()) {
         text.push_str(before(rest, place))?;
-        rest = behind(rest, place + 1);
+        rest = after(rest, place + 1);
     }
     text.push_str(rest)?;
     Ok(text)
@@ -137,14 +137,14 @@ impl<'a> Words<'a> {
         }
     }
 
-    // Leaves so many bytes behind.
+    // Passes so many bytes.
     fn advance(&mut self, count: usize)
         requires { IsCharBoundary self.old.rest.now count }
         ensures rest { self.new.rest.now ≡ drop count self.old.rest.now }
         ensures column { self.new.column ≡ self.old.column + count }
         ensures end { end self.new ≡ end self.old }
     {
-        self.rest = behind(self.rest, count);
+        self.rest = after(self.rest, count);
         self.column += count;
     }
 
@@ -181,7 +181,7 @@ impl<'a> Words<'a> {
         words.next_raw().map(|raw| raw.column)
     }
 
-    /// The column behind the line's end.
+    /// The column after the line's end.
     pub fn end(&self) -> usize
         ensures end { result ≡ end self.now }
         ensures within { result ≤ 65537 }

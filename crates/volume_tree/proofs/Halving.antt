@@ -119,7 +119,7 @@ pub few_below : (low high begun looks now : ℕ) → IsFew (high - low) begun lo
 few_below low high begun looks now h l e =
     subst (IsFew (low + (high - low) / 2 - low) begun) (sym e) (few_more (high - low) (low + (high - low) / 2 - low) begun looks h (omega arith) (omega arith))
 
--- a node comes before the empty name of a folder where its own folder's number is less
+-- a node comes before the empty name of a folder if its own folder's number is less
 pub before_empty : (row : NodeRow) (folder : ℕ) → is_before row folder [] ≡ nat_lt row.parent folder
 before_empty row folder =
     ap (λ b. nat_lt row.parent folder || ((row.parent == folder) && b)) (name_before_empty row.name)

@@ -138,7 +138,7 @@ not_other (Some k) s n h e = let same : k ≡ s = same_Some k s e in let is : k 
     not_not true h = refl
     not_not false h = cc
 
--- where nothing is against a move, the nodes are those of a volume afterwards
+-- if nothing is against a move, the nodes are those of a volume afterwards
 pub volume_placed : (K : Capacity) (nodes : List NodeRow) (x d : ℕ) (name : List ℕ) → IsVolume K nodes → has_row number x nodes ≡ true → (x == 0) ≡ false → is_folder nodes d ≡ true → is_name name ≡ true → is_under nodes x d ≡ false → is_other (child_number nodes d name) x ≡ false → name_bytes nodes + length name ≤ K.names + length (name_of nodes x) → IsVolume K (with_change number x (placed d name) nodes)
 volume_placed K nodes x d name v has inner folder named apart alone room =
     let f = has_found number x nodes has in
@@ -243,7 +243,7 @@ sought_in slots read order taken d name text found same_slots same_order same_na
     (subst (λ (numbers : List ℕ). Sought (rows_of read) numbers d name found) same_order
     (subst (λ (bytes : List ℕ). Sought (rows_of read) taken d bytes found) same_name s))
 
--- nobody but the node itself has the name, where the test of what was found says so
+-- nobody but the node itself has the name, if the test of what was found says so
 pub sought_alone : (nodes : List NodeRow) (order : List ℕ) (x d : ℕ) (name : List ℕ) (found : Result ℕ ℕ) (other : Bool) → Sought nodes order d name found → IfOk found (λ place. other ≡ not (slice_index order place == x)) → other ≡ false → is_other (child_number nodes d name) x ≡ false
 sought_alone nodes order x d name (Ok place) other s own h = ap (λ o. is_other o x) s.taken ∙ (sym own ∙ h)
 sought_alone nodes order x d name (Err place) other s own h = ap (λ o. is_other o x) s.none
@@ -298,7 +298,7 @@ get_within [] (suc k) n h = cc
 get_within (m ∷ order) zero n h = omega arith
 get_within (m ∷ order) (suc k) n h = let l = get_within order k n h in omega (arith, l)
 
--- where a node was found by its own place, its number stands
+-- if a node was found by its own place, its number stands
 pub own_place_is : (nodes : List NodeRow) (order : List ℕ) (n k : ℕ) (row : NodeRow) (name : List ℕ) → node_of nodes n ≡ Some row → name ≡ row.name → child_number nodes (parent_of nodes n) (name_of nodes n) ≡ Some n → k < length order → child_number nodes row.parent name ≡ Some (slice_index order k) → slice_get order k ≡ Some n
 own_place_is nodes order n k row name h e own l found =
     let up = found_parent nodes n row h in

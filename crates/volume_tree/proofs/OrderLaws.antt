@@ -218,7 +218,7 @@ order_respelled nodes order n folder name row a h f parent same =
     let is : row ≡ r = same_Some _ _ (sym f ∙ (ap (node_of nodes) (sym (eq_is _ _ t)) ∙ own)) in
     record { folder = sym parent ∙ ap (λ (x : NodeRow). x.parent) is; name = ap (λ (x : NodeRow). same_name x.name name) (sym is) ∙ same }))
 
--- a place after an item in front of it, or behind it, was taken out
+-- a place, once an item before it or after it was taken out
 record Shifts (old new place : ℕ) : Type 0 where
   lower : old < new → place + 1 ≡ new
   upper : new ≤ old → place ≡ new
@@ -251,13 +251,13 @@ sides entries old new place row l s d apart =
           subst (λ (x : NodeRow). Before x row) (sym is) (d.before r.place front);
       above = λ k e m n.
           let r = removed entries old e k l in
-          let behind : new ≤ r.place = elim (cases_lt old new) [
+          let after : new ≤ r.place = elim (cases_lt old new) [
             | inl o ↦ let is = lower o in elim r.cases [ inl u ↦ omega arith | inr u ↦ omega arith ]
             | inr o ↦ let is = upper o in elim r.cases [ inl u ↦ omega arith | inr u ↦ omega arith ]
           ] in
           let inside : r.place < length entries = elim r.cases [ inl u ↦ omega arith | inr u ↦ omega arith ] in
           let is = r.is ∙ get_or_default entries r.place e root_node inside in
-          subst (Before row) (sym is) (row_above (at entries r.place) row (d.after r.place behind inside) (apart r.place inside));
+          subst (Before row) (sym is) (row_above (at entries r.place) row (d.after r.place after inside) (apart r.place inside));
     }
 
 -- the entries but one stay as they are

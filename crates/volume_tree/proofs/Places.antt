@@ -54,7 +54,7 @@ only_place nodes order folder name place k h d l e t =
           absurd (clash _ (sym (comes_as p.parent p.name folder b.name name t) ∙ before) (d.after place (omega arith) (omega arith)))
     ]
 
--- no child has the name where the place's entry hasn't
+-- no child has the name if the place's entry hasn't
 none_at : (nodes : List NodeRow) (order : List ℕ) (folder : ℕ) (name : List ℕ) (place : ℕ) (h : IsOrder nodes order) → is_ascending number nodes ≡ true → Divides (λ r. is_before r folder name) h.entries place → (place < length h.entries → (((at h.entries place).parent == folder) && same_name (at h.entries place).name name) ≡ false) → (o : Option NodeRow) → child_of nodes folder name ≡ o → option_map number o ≡ None
 none_at nodes order folder name place h a d other None f = refl
 none_at nodes order folder name place h a d other (Some row) f =
@@ -97,7 +97,7 @@ own_place nodes order k h l =
       ];
     }
 
--- the child of the name is the place's entry where that has the name
+-- the child of the name is the place's entry if that has the name
 one_found : (nodes : List NodeRow) (order : List ℕ) (folder : ℕ) (name : List ℕ) (place : ℕ) (h : IsOrder nodes order) → is_ascending number nodes ≡ true → Divides (λ r. is_before r folder name) h.entries place → (o : Option NodeRow) → child_of nodes folder name ≡ o → is_some o ≡ true → o ≡ Some (at h.entries place)
 one_found nodes order folder name place h a d None f some = cc
 one_found nodes order folder name place h a d (Some row) f some =

@@ -116,7 +116,7 @@ closed nodes root placed n h =
     subst (Has nodes) (sym (found_parent nodes n f.row f.is))
     (placed_parent nodes f.row (f.row.number == 0) root (all_found (is_placed nodes) (λ y. number y == n) nodes f.row placed f.is))
 
--- where all ways come to the root, each does in as many steps as there are nodes
+-- if all ways come to the root, each does in as many steps as there are nodes
 pub all_rooted : (nodes : List NodeRow) → has_row number 0 nodes ≡ true → list_all (is_placed nodes) nodes ≡ true → ((k : ℕ) (d : NodeRow) → k < length nodes → Reaches nodes (get_or nodes k d).number) → IsTree nodes
 all_rooted nodes root placed h =
     let w = within nodes nodes (each (λ (r : NodeRow). Reaches nodes r.number) nodes h) in

@@ -38,9 +38,9 @@ pub ceiling_last : (nodes : List NodeRow) (order : List ℕ) (folder : ℕ) (nam
 ceiling_last nodes order folder name place is =
     record { within = omega arith; after = λ k n row l e f. let m = slice_get_within order k n e in absurd (omega arith) }
 
--- behind an entry that comes before the name there is a floor
-pub floor_behind : (nodes : List NodeRow) (order : List ℕ) (folder : ℕ) (place : ℕ) (row : NodeRow) (h : IsOrder nodes order) → is_ascending number nodes ≡ true → 0 < place → place ≤ length order → node_of nodes (slice_index order (place - 1)) ≡ Some row → row.parent < folder → IsFloor nodes order folder [] place
-floor_behind nodes order folder place row h a l m e less =
+-- after an entry that comes before the name there is a floor
+pub floor_after : (nodes : List NodeRow) (order : List ℕ) (folder : ℕ) (place : ℕ) (row : NodeRow) (h : IsOrder nodes order) → is_ascending number nodes ≡ true → 0 < place → place ≤ length order → node_of nodes (slice_index order (place - 1)) ≡ Some row → row.parent < folder → IsFloor nodes order folder [] place
+floor_after nodes order folder place row h a l m e less =
     let size = length-order_entries nodes order h in
     let here : is_before (at h.entries (place - 1)) folder [] ≡ true =
     subst (λ (r : NodeRow). is_before r folder [] ≡ true) (row_is nodes order (place - 1) row h a (omega arith) e) (sym (lower_before row folder less)) in

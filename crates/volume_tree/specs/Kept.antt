@@ -75,7 +75,7 @@ pub record IsPlace (nodes : List NodeRow) (order : List ℕ) (folder : ℕ) (nam
   pub before : (k n : ℕ) (row : NodeRow) → k < place → slice_get order k ≡ Some n → node_of nodes n ≡ Some row → is_before row folder name ≡ true
   pub after : (k n : ℕ) (row : NodeRow) → place ≤ k → slice_get order k ≡ Some n → node_of nodes n ≡ Some row → is_before row folder name ≡ false
 
--- a place that isn't behind this one: what stands in front of it comes before the name
+-- a place that isn't after this one: what stands in front of it comes before the name
 pub record IsFloor (nodes : List NodeRow) (order : List ℕ) (folder : ℕ) (name : List ℕ) (place : ℕ) : Type 0 where
   pub within : place ≤ length order
   pub before : (k n : ℕ) (row : NodeRow) → k < place → slice_get order k ≡ Some n → node_of nodes n ≡ Some row → is_before row folder name ≡ true

@@ -21,7 +21,7 @@ pub record Move : Type 0 where
   pub folder : ℕ
   pub name : List ℕ
 
--- a fault is for want of memory, or the one that is due
+-- a fault says that memory ran out, or is the one that is due
 abbrev pub IsFault : TreeFault → Option TreeFault → Type 0
 IsFault NoMemory due = Unit {0}
 IsFault AlreadyExists due = due ≡ Some AlreadyExists
@@ -36,7 +36,7 @@ first_fault [] = None
 first_fault (None ∷ faults) = first_fault faults
 first_fault (Some fault ∷ faults) = Some fault
 
--- the fault, where its condition holds
+-- the fault, if its condition holds
 abbrev pub fault_if : TreeFault → Bool → Option TreeFault
 fault_if fault b = if b then Some fault else None
 

@@ -17,7 +17,7 @@ pub enum TreeFault {
     VolumeFull,
     /// The names would take more bytes than they may.
     NamesFull,
-    /// There was no memory. Nothing in the volume is the cause.
+    /// Memory ran out. Nothing in the volume is the cause.
     NoMemory,
 }
 
@@ -36,7 +36,7 @@ impl From<NoMemory> for TreeFault {
 pub enum RowsFault {
     /// They aren't the nodes of a volume of this size.
     BadRows,
-    /// There was no memory.
+    /// Memory ran out.
     NoMemory,
 }
 

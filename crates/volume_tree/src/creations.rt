@@ -44,8 +44,8 @@ impl Tree {
     /// Makes a folder in a folder, and gives its number, the least that is free. It takes no more
     /// than 44 looks.
     ///
-    /// It is refused where the folder has a child of this name, else where the volume is full, else
-    /// where the names are. An `Err` changes nothing.
+    /// It is refused if the folder has a child of this name, else if the volume is full, else
+    /// if the names are. An `Err` changes nothing.
     pub fn mkdir<L: Ledger>(
         &mut self,
         folder: u32,

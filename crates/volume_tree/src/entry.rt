@@ -41,7 +41,7 @@ pub fn own_place<L: Ledger>(
     order::search(slots, order, row.parent, row.name.as_str(), steps).unwrap()
 }
 
-/// Moves a node's entry to where a name was searched and not found. Where one was found, it stays.
+/// Moves a node's entry to the place where a name was searched and not found. If one was found, it stays.
 /// It looks at no more than 22 nodes.
 pub fn reorder<L: Ledger>(
     slots: &[Option<NodeRow>],

@@ -1,8 +1,12 @@
 //! The tree of a volume's folders and files.
 //!
 //! The numbers of all nodes are kept in the order of their places, by folder and folded name, and searched by halves. A
-//! node's row stands in the slot of its number. Every node that is read, compared or passed is counted as a look.
-//! Contracts see a tree as its capacity and its nodes in the order of their numbers.
+//! node's row stands in the slot of its number. Contracts see a tree as its capacity and its nodes in the order of
+//! their numbers.
+//!
+//! A call that reads nodes counts them as looks. `children`, `child_count` and `child_at` count one look for the call,
+//! and `children` one more for each child that it lends. What these three compare to find where a folder's children
+//! stand in the order isn't counted.
 #![tactic(auto)]
 
 mod answer;

@@ -38,8 +38,8 @@ impl Tree {
     /// Moves a node other than the root into a folder, under a name; its number and moments stay. It
     /// takes no more than 66 looks, and one for each node from the folder up to the root.
     ///
-    /// It is refused where the folder is the node or below it, else where another child of the
-    /// folder has this name, else where the names would be full, less the old one. An `Err` changes
+    /// It is refused if the folder is the node or below it, else if another child of the
+    /// folder has this name, else if the names would be full, less the old one. An `Err` changes
     /// nothing.
     pub fn move_node<L: Ledger>(
         &mut self,

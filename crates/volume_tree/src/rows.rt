@@ -13,6 +13,7 @@ ghost use Rattle.fsrm_model.specs.Capacities.{is_capacity};
 
 use crate::answer::RowsFault;
 use crate::slots::{holes_in, row};
+use fsrm_model::limits::{LATEST_MOMENT, LONGEST_FILE};
 use fsrm_model::{Capacity, Duplicate, Ledger, List, NoMemory, NodeRow, Steps};
 use name_rules::{fold_cmp, is_name};
 use number_set::NumberSet;
@@ -53,7 +54,7 @@ pub struct Parts {
     pub holes: NumberSet,
 }
 
-/// The parts of the tree of these rows. They are bad exactly where they aren't the nodes of a
+/// The parts of the tree of these rows. They are bad exactly if they aren't the nodes of a
 /// volume of this size.
 pub fn read(alloc: Global, rows: &[NodeRow], size: Capacity) -> Result<Parts, RowsFault>
     requires { is_capacity size ≡ true }
@@ -80,7 +81,7 @@ pub fn read(alloc: Global, rows: &[NodeRow], size: Capacity) -> Result<Parts, Ro
     })
 }
 
-// Slots with copies of these rows. They are bad exactly where a number, a row by itself, a parent or
+// Slots with copies of these rows. They are bad exactly if a number, a row by itself, a parent or
 // a way up is.
 fn sound_slots(
     alloc: Global,
@@ -104,7 +105,7 @@ fn sound_slots(
     }
 }
 
-// Slots with copies of these rows. They are bad exactly where their numbers don't ascend below the
+// Slots with copies of these rows. They are bad exactly if their numbers don't ascend below the
 // bound.
 fn slots_of(alloc: Global, rows: &[NodeRow], bound: u32) -> Result<Vec<Option<NodeRow>>, RowsFault>
     ensures slots { IfOk result (λ slots. AreSlots 0 slots.items) }
@@ -185,9 +186,6 @@ fn is_root(row: &NodeRow) -> bool
     is_folder && is_top && row.owner == 1 && is_new
 }
 
-// The bytes of the longest file.
-const LONGEST_FILE: u64 = 17_592_185_978_880;
-
 // Whether a node other than the root has what it must have, whatever stands beside it.
 fn is_own(row: &NodeRow) -> bool
     ensures { result ≡ is_own row.now }
@@ -196,9 +194,6 @@ fn is_own(row: &NodeRow) -> bool
     let are_moments = is_moment(row.created) && is_moment(row.modified) && is_moment(row.accessed);
     is_name(row.name.as_str()) && row.owner > 0 && row.length <= longest && are_moments
 }
-
-// The greatest moment, in seconds since 1970-01-01 00:00:00 UTC.
-const LATEST_MOMENT: u64 = 4_102_444_799;
 
 fn is_moment(moment: u64) -> bool
     ensures { result ≡ is_moment moment }
@@ -264,7 +259,7 @@ fn mark(marks: &mut [bool], number: u32)
     }
 }
 
-// The parent of a node, 0 where there is no such node.
+// The parent of a node, 0 if there is no such node.
 fn parent(slots: &[Option<NodeRow>], number: u32) -> u32
     requires { AreSlots 0 slots.now }
     ensures { result ≡ parent_of (rows_of slots.now) number }
@@ -326,7 +321,7 @@ fn name_bytes(rows: &[NodeRow], most: u32) -> Option<u32>
     Some(most - left as u32)
 }
 
-// The numbers of all rows but the root in the order of their places. The rows are bad exactly where
+// The numbers of all rows but the root in the order of their places. The rows are bad exactly if
 // two children of a folder have one name.
 fn order_of(alloc: Global, rows: &[NodeRow]) -> Result<Vec<u32>, RowsFault>
     requires { is_ascending key rows.now ≡ true }

@@ -45,7 +45,7 @@ fn first_from(slots: &[Option<NodeRow>], order: &[u32], folder: u64) -> usize
     first_between(slots, order, folder, 0, order.len())
 }
 
-// A place not behind the one from which the folders have this number or greater ones. It is sought from a
+// A place not after the one from which the folders have this number or greater ones. It is sought from a
 // place backwards, in steps that double.
 fn floor_near(slots: &[Option<NodeRow>], order: &[u32], folder: u64, near: usize) -> usize
     requires slots { AreSlots 0 slots.now }
@@ -67,8 +67,8 @@ fn floor_near(slots: &[Option<NodeRow>], order: &[u32], folder: u64, near: usize
 }
 
 // The place in the order from which the folders have this number or greater ones. It is sought from a place
-// that isn't behind it forwards, in steps that double.
-fn first_behind(slots: &[Option<NodeRow>], order: &[u32], folder: u64, floor: usize) -> usize
+// that isn't after it forwards, in steps that double.
+fn first_after(slots: &[Option<NodeRow>], order: &[u32], folder: u64, floor: usize) -> usize
     requires slots { AreSlots 0 slots.now }
     requires order { IsOrder (rows_of slots.now) order.now }
     requires floor { IsFloor (rows_of slots.now) order.now folder [] floor }
@@ -88,7 +88,7 @@ fn first_behind(slots: &[Option<NodeRow>], order: &[u32], folder: u64, floor: us
 }
 
 /// From where to where in the order a folder's children stand. They are sought from a place on, and found soon
-/// where they are near it.
+/// if they are near it.
 pub fn segment(slots: &[Option<NodeRow>], order: &[u32], folder: u32, near: usize) -> (usize, usize)
     requires slots { AreSlots 0 slots.now }
     requires order { IsOrder (rows_of slots.now) order.now }
@@ -96,8 +96,8 @@ pub fn segment(slots: &[Option<NodeRow>], order: &[u32], folder: u32, near: usiz
 {
     let folder = u64::from(folder);
     let floor = floor_near(slots, order, folder, near.min(order.len()));
-    let first = first_behind(slots, order, folder, floor);
-    let end = first_behind(slots, order, folder + 1, first);
+    let first = first_after(slots, order, folder, floor);
+    let end = first_after(slots, order, folder + 1, first);
     (first, end)
 }
 

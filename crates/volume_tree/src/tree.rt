@@ -25,8 +25,8 @@ use std::marker::Model;
 
 /// A volume's folders and files, in memory of its own. Contracts see its size and its nodes.
 ///
-/// A look is a call of `node`, `child_count` or `child_at`, or one node that another call compares
-/// or passes; `steps` counts them.
+/// A look is one node that is read, compared or lent; `steps` counts them. A call of `child_count` or `child_at` is one
+/// look, and one of `children` is one and one more for each child.
 #[derive(Drop)]
 pub struct Tree {
     pub(crate) size: Capacity,
@@ -127,7 +127,7 @@ impl Tree {
     }
 
     /// The node that the first names of a path lead to, so many of them. It takes no more than 22
-    /// looks for each, and one more: that one at least, and one for each where it finds the node.
+    /// looks for each, and one more: that one at least, and one for each if it finds the node.
     pub fn resolve_first<L: Ledger>(
         &self,
         path: &Path,
@@ -153,7 +153,7 @@ impl Tree {
     }
 
     /// The node that a path leads to. It takes no more than 22 looks for each name, and one more: that one
-    /// at least, and one for each name where it finds the node.
+    /// at least, and one for each name if it finds the node.
     pub fn resolve<L: Ledger>(&self, path: &Path, steps: &mut Steps<L>) -> Option<u32>
         ensures value { result ≡ resolve self.now.nodes path.now }
         ensures some { steps.old + 1 ≤ steps.new }
@@ -207,7 +207,7 @@ impl Tree {
     /// The numbers of a folder's children, in the order of their folded names. It takes a look, and one for
     /// each child.
     ///
-    /// The search begins at the finger and leaves it behind these children, so that those of the next folder
+    /// The search begins at the finger and leaves it after these children, so that those of the next folder
     /// are found at once.
     pub fn children<L: Ledger>(
         &self,
@@ -253,7 +253,7 @@ impl Tree {
 
     /// Takes away a node other than the root. It takes no more than 44 looks.
     ///
-    /// It is refused where the node has a child. An `Err` changes nothing.
+    /// It is refused if the node has a child. An `Err` changes nothing.
     pub fn remove<L: Ledger>(&mut self, node: u32, steps: &mut Steps<L>) -> Result<(), TreeFault>
         requires there { has_row key node self.old.nodes ≡ true }
         requires inner { (node == 0) ≡ false }
@@ -290,7 +290,7 @@ impl Tree {
         rows::copies(&self.slots, alloc, steps)
     }
 
-    /// The tree of these rows. They are bad exactly where they aren't the nodes of a volume of this
+    /// The tree of these rows. They are bad exactly if they aren't the nodes of a volume of this
     /// size: ascending numbers below the size, a root of number 0, valid names, no two children of a
     /// folder of one folded name, lengths, owners and moments in their ranges, parents that are
     /// folders and lead up to the root, and no more bytes of names than the size has.

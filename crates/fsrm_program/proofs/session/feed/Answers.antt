@@ -18,7 +18,7 @@ lines-preserved g c =
     let line = c.in-Some.line.now in (
       done ++ (line ++ 10 ∷ []),
       record {
-        cut = cut_more c.args.piece.now done c.lines.rest.now line c.in-Some.behind.now kept.cut c.in-Some.ensures;
+        cut = cut_more c.args.piece.now done c.lines.rest.now line c.in-Some.after.now kept.cut c.in-Some.ensures;
         fed = feeds_then start now next done (line ++ 10 ∷ []) c.args.session.now.replies.bytes.items c.lines.session.replies.bytes.items c.end_line.new.session.replies.bytes.items kept.fed c.in-Ok.ensures.ok;
         number = omega (arith, kept.number, c.in-Ok.ensures.number, length-append done (line ++ 10 ∷ []), length-append line (10 ∷ []));
         idle = c.end_line.ensures.idle;
@@ -32,9 +32,9 @@ returns-in-Err-clause-err g c =
     let done = c.lines.invariant.0 in
     let kept = c.lines.invariant.1 in
     let line = c.in-Some.line.now in
-    let cut = cut_more c.args.piece.now done c.lines.rest.now line c.in-Some.behind.now kept.cut c.in-Some.ensures in
+    let cut = cut_more c.args.piece.now done c.lines.rest.now line c.in-Some.after.now kept.cut c.in-Some.ensures in
     subst (λ (bytes : List ℕ). Broken start c.end_line.new.steps bytes []) (sym cut)
-    (broken_more start c.end_line.new.steps (done ++ (line ++ 10 ∷ [])) c.in-Some.behind.now [] (feeds_broken start now c.end_line.new.steps done (line ++ 10 ∷ []) c.args.session.now.replies.bytes.items c.lines.session.replies.bytes.items kept.fed c.in-Err.ensures.err))
+    (broken_more start c.end_line.new.steps (done ++ (line ++ 10 ∷ [])) c.in-Some.after.now [] (feeds_broken start now c.end_line.new.steps done (line ++ 10 ∷ []) c.args.session.now.replies.bytes.items c.lines.session.replies.bytes.items kept.fed c.in-Err.ensures.err))
 
 pub returns-in-Ok-hold_rest-clause-ok : goal.returns-in-Ok-hold_rest-clause-ok
 returns-in-Ok-hold_rest-clause-ok g c =

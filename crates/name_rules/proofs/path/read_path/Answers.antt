@@ -6,6 +6,6 @@ use Rattle.name_rules.proofs.path.read_path.Goals as goal
 pub returns-in-Ok-clause-path : goal.returns-in-Ok-clause-path
 returns-in-Ok-clause-path c =
     let read = c.in-Ok.ensures in
-    let behind = c.in-Some.ensures in
-    let names : c.in-Ok.names ≡ parts_of (drop 3 c.args.text.now) = read.names ∙ ap parts_of behind.1 in
-    path_read c.args.text.now c.in-Ok.names behind.0 names read.valid ∙ ap Ok (sym c.from_parts.ensures)
+    let after = c.in-Some.ensures in
+    let names : c.in-Ok.names ≡ parts_of (drop 3 c.args.text.now) = read.names ∙ ap parts_of after.1 in
+    path_read c.args.text.now c.in-Ok.names after.0 names read.valid ∙ ap Ok (sym c.from_parts.ensures)

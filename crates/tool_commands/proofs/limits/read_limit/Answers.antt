@@ -1,8 +1,8 @@
 use Rattle.tool_commands.proofs.LimitWords.{digits_cut, digits_taken}
 use Rattle.tool_commands.proofs.limits.read_limit.Goals as goal
 
-pub behind-requires : goal.behind-requires
-behind-requires c = digits_cut c.args.text.now c.as_bytes.result.now c.digit_count-count.result c.utf8.text c.as_bytes.ensures.value c.digit_count-count.ensures
+pub after-requires : goal.after-requires
+after-requires c = digits_cut c.args.text.now c.as_bytes.result.now c.digit_count-count.result c.utf8.text c.as_bytes.ensures.value c.digit_count-count.ensures
 
 pub before-requires : goal.before-requires
 before-requires c = digits_cut c.args.text.now c.as_bytes.result.now c.digit_count-count.result c.utf8.text c.as_bytes.ensures.value c.digit_count-count.ensures

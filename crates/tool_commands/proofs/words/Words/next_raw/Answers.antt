@@ -20,7 +20,7 @@ pub returns-clause-first : goal.returns-clause-first
 unfolding left
 returns-clause-first c =
     let words = c.skip_blanks.new.self in
-    let behind = c.advance.new.self in
+    let after = c.advance.new.self in
     let some : 0 < c.word_len-length.result = omega (arith, c.if-length-eq0.false) in
     sym c.skip_blanks.ensures.left
-    ∙ taken words.column behind.column words.rest.now c.as_bytes.result.now c.word_len-length.result c.before-text.result.now behind.rest.now c.as_bytes.ensures.value c.word_len-length.ensures some c.before-text.ensures c.advance.ensures.rest c.advance.ensures.column
+    ∙ taken words.column after.column words.rest.now c.as_bytes.result.now c.word_len-length.result c.before-text.result.now after.rest.now c.as_bytes.ensures.value c.word_len-length.ensures some c.before-text.ensures c.advance.ensures.rest c.advance.ensures.column

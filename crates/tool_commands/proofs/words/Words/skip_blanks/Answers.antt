@@ -14,8 +14,8 @@ pub returns-clause-left : goal.returns-clause-left
 unfolding left
 returns-clause-left c =
     let words = c.args.self.now in
-    let behind = c.advance.new.self in
-    skipped words.column behind.column words.rest.now c.as_bytes.result.now c.blanks-blanks.result behind.rest.now c.as_bytes.ensures.value c.blanks-blanks.ensures c.advance.ensures.rest c.advance.ensures.column
+    let after = c.advance.new.self in
+    skipped words.column after.column words.rest.now c.as_bytes.result.now c.blanks-blanks.result after.rest.now c.as_bytes.ensures.value c.blanks-blanks.ensures c.advance.ensures.rest c.advance.ensures.column
 
 pub returns-clause-none : goal.returns-clause-none
 returns-clause-none c = no_blanks c.args.self.now.rest.now c.as_bytes.result.now c.blanks-blanks.result c.advance.new.self.rest.now c.as_bytes.ensures.value c.blanks-blanks.ensures c.advance.ensures.rest

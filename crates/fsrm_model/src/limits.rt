@@ -1,0 +1,49 @@
+//! The numbers that limit something, as the code has them. `limits` proves that each is the number of that name in the
+//! definitions.
+
+ghost use Rattle.std.specs.Prelude.{◌≡◌};
+ghost use Rattle.fsrm_model.specs.Limits.{latest_moment, longest_file, last_owner, longest_line, longest_script, longest_name, least_limit, greatest_limit, most_quotas, most_visits};
+
+/// The greatest moment: 2099-12-31 23:59:59 UTC, in seconds since 1970-01-01 00:00:00 UTC.
+pub const LATEST_MOMENT: u64 = 4_102_444_799;
+
+/// The bytes of the longest file, 2^44 - 65,536.
+pub const LONGEST_FILE: u64 = 17_592_185_978_880;
+
+/// The greatest number of an owner.
+pub const LAST_OWNER: u32 = 4_294_967_295;
+
+/// The bytes of the longest line that is read, its end not counted.
+pub const LONGEST_LINE: usize = 65_536;
+
+/// The bytes of a script that are read.
+pub const LONGEST_SCRIPT: u64 = 4_294_967_296;
+
+/// The bytes of the longest name. A pattern of file names has as many at most.
+pub const LONGEST_NAME: usize = 255;
+
+/// The least limit of a quota, in bytes.
+pub const LEAST_LIMIT: u64 = 1_024;
+
+/// The greatest limit of a quota, 2^60 bytes.
+pub const GREATEST_LIMIT: u64 = 1_152_921_504_606_846_976;
+
+/// How many quotas there may be.
+pub const MOST_QUOTAS: usize = 4_096;
+
+/// How many folders one step of a scan may visit.
+pub const MOST_VISITS: u32 = 1_000_000;
+
+/// Each of these constants is the number that the definitions have.
+pub fn limits()
+    ensures latest_moment { LATEST_MOMENT ≡ latest_moment }
+    ensures longest_file { LONGEST_FILE ≡ longest_file }
+    ensures last_owner { LAST_OWNER ≡ last_owner }
+    ensures longest_line { LONGEST_LINE ≡ longest_line }
+    ensures longest_script { LONGEST_SCRIPT ≡ longest_script }
+    ensures longest_name { LONGEST_NAME ≡ longest_name }
+    ensures least_limit { LEAST_LIMIT ≡ least_limit }
+    ensures greatest_limit { GREATEST_LIMIT ≡ greatest_limit }
+    ensures most_quotas { MOST_QUOTAS ≡ most_quotas }
+    ensures most_visits { MOST_VISITS ≡ most_visits }
+{}
