@@ -1,20 +1,24 @@
--- Each command's work is orderly. Here alone the laws over all commands go through them, one by one.
-use Rattle.std.proofs.Common.{◌≡◌, ℕ, ◌<◌, ◌≤◌, ◌⊎◌, inl, inr, true, List, false, refl, Some, nat_lt, subst}
+-- Each command's work is orderly, and the kind of its entry is its own. Here alone the laws over all commands go
+-- through them, one by one.
+use Rattle.std.proofs.Common.{◌≡◌, ℕ, ◌<◌, ◌≤◌, ◌⊎◌, inl, inr, true, List, false, refl, sym, ap, ◌∙◌, Some, None, Option, nat_lt, subst}
 use Rattle.fsrm_model.specs.declared.command.Command.{Command}
 use Rattle.fsrm_model.specs.declared.command.Deed.{Deed}
 use Rattle.fsrm_model.specs.declared.command.Deed.TheVariants.{File, Usage, Step, QuotaAdd, QuotaModify, QuotaDelete, QuotaScan, QuotaResetpeak, QuotaList}
 use Rattle.fsrm_model.specs.declared.command.FileOp.{FileOp}
+use Rattle.fsrm_model.specs.declared.command.FileOp.TheVariants.{Mkdir, Create, Resize, Touch, Move, Remove}
 use Rattle.fsrm_model.specs.declared.command.Outcome.TheVariants.{Refused}
 use Rattle.fsrm_model.specs.declared.command.Refusal.{Refusal}
 use Rattle.fsrm_model.specs.declared.command.Refusal.TheVariants.{QuotaExceeded}
 use Rattle.fsrm_model.specs.declared.command.Outcome.TheVariants.{Sum}
 use Rattle.std.specs.List.{list_all}
-use Rattle.std.specs.Prelude.{◌&&◌, [], ◌∷◌, is_none, sum_by}
+use Rattle.std.specs.Prelude.{◌&&◌, ◌==◌, [], ◌∷◌, find, is_none, sum_by}
 use Rattle.std.specs.Option.{option_map_or}
+use Rattle.std.proofs.lemmas.Option.{same_Some}
 use Rattle.fsrm_model.specs.declared.row.Capacity.{Capacity}
 use Rattle.fsrm_model.specs.declared.row.NodeRow.{NodeRow}
 use Rattle.fsrm_model.specs.declared.row.QuotaRow.{QuotaRow}
 use Rattle.fsrm_model.specs.declared.row.Rows.{Rows}
+use Rattle.fsrm_model.specs.Entry.{emptied, kind}
 use Rattle.fsrm_model.specs.Exceeds.{Exceeds}
 use Rattle.fsrm_model.specs.Exceptions.{MayLeave}
 use Rattle.fsrm_model.specs.FileOps.{plain}
@@ -25,20 +29,19 @@ use Rattle.fsrm_model.specs.Quota.{quota_of, counts, is_limit}
 use Rattle.fsrm_model.specs.Space.{space}
 use Rattle.fsrm_model.specs.Step.{step, work}
 use Rattle.fsrm_model.specs.Tree.{usage, under}
-use Rattle.fsrm_model.specs.Valid.{is_moment, IsStore}
-use Rattle.fsrm_model.specs.Valid.{is_empty}
+use Rattle.fsrm_model.specs.Valid.{is_moment, is_empty, IsStore}
 use Rattle.fsrm_model.specs.Valued.{is_path, is_deed, is_short, is_command}
 use Rattle.fsrm_model.specs.Work.{Work}
 use Rattle.fsrm_model.proofs.Ends.{effect_nodes}
 use Rattle.fsrm_model.proofs.FileOrderly.{file_orderly, file_limits, usage_still}
 use Rattle.fsrm_model.proofs.FileKept.{file_kept}
-use Rattle.fsrm_model.proofs.Orderly.{IsOrderly, IsStill, KeepsLimits, KeepsValid, still_limits}
-use Rattle.fsrm_model.proofs.OrderlyLaws.{verdict, refused_kept, nothing_left, refused_by, sum_afresh, refusal_exceeds, still_unexceeded, limits_hold, outcome_named, unlasting_kept, valid_kept}
 use Rattle.fsrm_model.proofs.QuotaKept.{add_kept, modify_kept, delete_kept, reset_kept, list_kept}
 use Rattle.fsrm_model.proofs.QuotaOrderly.{add_still, modify_still, delete_still, reset_still, list_still}
-use Rattle.fsrm_model.proofs.RowsKept.{nothing_followed}
 use Rattle.fsrm_model.proofs.ScanKept.{scan_kept, step_kept}
 use Rattle.fsrm_model.proofs.ScanOrderly.{scan_still, step_still}
+use Rattle.fsrm_model.proofs.Orderly.{IsOrderly, IsStill, KeepsLimits, KeepsValid, still_limits}
+use Rattle.fsrm_model.proofs.OrderlyLaws.{verdict, refused_kept, nothing_left, refused_by, sum_afresh, refusal_exceeds, still_unexceeded, limits_hold, outcome_named, unlasting_kept, valid_kept}
+use Rattle.fsrm_model.proofs.RowsKept.{nothing_followed}
 use Rattle.fsrm_base.proofs.TestLaws.{both, le_is}
 
 -- the nodes that a file operation makes
@@ -137,7 +140,7 @@ lasting_kept K R c store h =
     let late = nat_lt c.moment R.last_moment in
     unlasting_kept K R c.moment late w (orderly K R c.moment c.deed) store (verdict late w) refl h
 
--- a command leaves valid rows where its work does
+-- a command leaves valid rows if its work does
 pub kept_valid : (K : Capacity) (R : Rows) (moment : ℕ) (deed : Deed) → IsStore K R → moment ≤ latest_moment → KeepsValid K R (work K R moment deed) → IsStore K (step K R (record { moment = moment; deed = deed })).rows
 kept_valid K R moment deed store legal kept =
     let w = work K R moment deed in
@@ -153,3 +156,34 @@ step_valid K R c store legal =
     let values : (is_moment c.moment ≡ true) × ((is_deed c.deed && is_short c.deed) ≡ true) = both _ _ legal in
     let deed : (is_deed c.deed ≡ true) × (is_short c.deed ≡ true) = both _ _ values.1 in
     deed_valid K R c.moment c.deed store (le_is c.moment latest_moment values.0) deed.0
+
+-- the commands whose entries have a kind, without their values
+abbrev kinds : List Deed
+kinds =
+    File (Mkdir [] 0) ∷ File (Create [] 0 0) ∷ File (Resize [] 0) ∷ File (Touch []) ∷ File (Move [] []) ∷ File (Remove [])
+    ∷ QuotaAdd [] None None false None [] [] ∷ QuotaModify [] None None None [] [] [] ∷ QuotaDelete [] ∷ QuotaScan []
+    ∷ QuotaResetpeak [] ∷ []
+
+-- the first of them that has this kind
+abbrev of_kind : ℕ → Option Deed
+of_kind k = find (λ deed. option_map_or (λ own. own == k) (kind deed) false) kinds
+
+of_kind_is : (deed : Deed) (k : ℕ) → kind deed ≡ Some k → of_kind k ≡ Some (emptied deed)
+of_kind_is (File (Mkdir path owner)) k h = ap of_kind (sym (same_Some _ _ h))
+of_kind_is (File (Create path length owner)) k h = ap of_kind (sym (same_Some _ _ h))
+of_kind_is (File (Resize path length)) k h = ap of_kind (sym (same_Some _ _ h))
+of_kind_is (File (Touch path)) k h = ap of_kind (sym (same_Some _ _ h))
+of_kind_is (File (Move from to)) k h = ap of_kind (sym (same_Some _ _ h))
+of_kind_is (File (Remove path)) k h = ap of_kind (sym (same_Some _ _ h))
+of_kind_is (Usage path) k h = absurd (cc h)
+of_kind_is (Step n) k h = absurd (cc h)
+of_kind_is (QuotaAdd path limit enforce enabled template percents notices) k h = ap of_kind (sym (same_Some _ _ h))
+of_kind_is (QuotaModify path limit enforce enabled removed percents notices) k h = ap of_kind (sym (same_Some _ _ h))
+of_kind_is (QuotaDelete path) k h = ap of_kind (sym (same_Some _ _ h))
+of_kind_is (QuotaScan path) k h = ap of_kind (sym (same_Some _ _ h))
+of_kind_is (QuotaResetpeak path) k h = ap of_kind (sym (same_Some _ _ h))
+of_kind_is (QuotaList path) k h = absurd (cc h)
+
+-- so the kind tells the command
+pub same_kind : (one other : Deed) (k : ℕ) → kind one ≡ Some k → kind other ≡ Some k → emptied one ≡ emptied other
+same_kind one other k h g = same_Some _ _ (sym (of_kind_is one k h) ∙ of_kind_is other k g)

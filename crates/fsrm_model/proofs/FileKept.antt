@@ -22,7 +22,8 @@ use Rattle.fsrm_model.specs.Scan.{AreUnvisited, unvisited_with, unvisited_moved}
 use Rattle.fsrm_model.specs.Tree.{number, node_of, is_folder, last_name, name_of, name_bytes}
 use Rattle.fsrm_model.specs.Valid.{IsVolume, is_own, IsStore}
 use Rattle.fsrm_model.specs.ValidScans.{AreLeft}
-use Rattle.fsrm_model.specs.Valued.{is_op, is_path, is_owner, is_length}
+use Rattle.fsrm_model.specs.Entry.{is_owner, is_length}
+use Rattle.fsrm_model.specs.Valued.{is_op, is_path}
 use Rattle.fsrm_model.proofs.FileParts.{NewParts, new_parts, new_alone, file_at, may_go, move_parts, move_alone, last_named}
 use Rattle.fsrm_model.proofs.Keeps.{KeepsNode, MayMove, moves_of, volume-new, volume-change, volume-moved, volume-removed, folder-new, folder-change}
 use Rattle.fsrm_base.proofs.Look.{found_has, row_of-without, has_row-without}

@@ -10,13 +10,13 @@ use Rattle.fsrm_model.specs.declared.command.Command.{Command}
 use Rattle.fsrm_model.specs.declared.command.Deed.{Deed}
 use Rattle.fsrm_model.specs.declared.command.Deed.TheVariants.{File, Usage, Step, QuotaAdd, QuotaModify, QuotaDelete, QuotaScan, QuotaResetpeak, QuotaList}
 use Rattle.fsrm_model.specs.declared.command.FileOp.TheVariants.{Mkdir, Create, Resize, Touch, Move, Remove}
-use Rattle.fsrm_model.specs.Entry.{paths, kind, number_bytes, choice_bytes, path_bytes, optional, more_bytes}
+use Rattle.fsrm_model.specs.Entry.{paths, is_owner, is_length, has_values, kind, number_bytes, choice_bytes, path_bytes, optional, more_bytes}
 use Rattle.fsrm_model.specs.Limits.{latest_moment, longest_line, longest_file, longest_entry, last_owner, most_visits}
 use Rattle.fsrm_model.specs.Options.{Key, Given, PathIs, LimitIs, TypeIs, StatusIs, path_in, limit_in, type_in, status_in, one}
 use Rattle.fsrm_model.specs.Quota.{is_limit}
 use Rattle.fsrm_model.specs.Spelling.{Piece, Plain, Quoted, spelled_pieces, text_of_pieces, SpellsWords, Writes, WritesPath, WritesValue, SpellsEach, SpellsTool, SpellsPlaced, SpellsDeed, Spells}
 use Rattle.fsrm_model.specs.Tools.{Names, ToolCommand, needs, of_path, quota_add, quota_modify, quota_list, quota_commands, dirquota, tools}
-use Rattle.fsrm_model.specs.Valued.{is_path, is_owner, is_length, has_values, is_deed, is_short, is_command}
+use Rattle.fsrm_model.specs.Valued.{is_path, is_deed, is_short, is_command}
 use Rattle.fsrm_model.specs.Valid.{is_moment}
 use Rattle.fsrm_model.proofs.CommandLaws.{named_each}
 use Rattle.fsrm_base.proofs.TestLaws.{both_true}

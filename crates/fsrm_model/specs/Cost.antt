@@ -1,13 +1,12 @@
--- How many looks at nodes a command may take. A look is one call of the tree's `node`, `child_count`
--- or `child_at`, or one node that another call of the tree compares or passes.
+-- How many looks at nodes a command may take. A look is one node of the tree that is read, compared or lent.
 use Rattle.std.specs.Prelude.{ℕ, ◌+◌, ◌*◌, nat_lt, List, length, sum_by, Some, if◌then◌else◌}
 use Rattle.fsrm_model.specs.declared.row.NodeRow.{NodeRow}
 use Rattle.fsrm_model.specs.declared.row.Rows.{Rows}
 use Rattle.fsrm_model.specs.declared.command.Command.{Command}
 use Rattle.fsrm_model.specs.declared.command.Deed.{Deed}
-use Rattle.fsrm_model.specs.declared.command.Deed.TheVariants.{File, Usage, Step}
+use Rattle.fsrm_model.specs.declared.command.Deed.TheVariants.{File, Usage, Step, QuotaAdd, QuotaModify, QuotaDelete, QuotaScan, QuotaResetpeak, QuotaList}
 use Rattle.fsrm_model.specs.declared.command.FileOp.{FileOp}
-use Rattle.fsrm_model.specs.declared.command.FileOp.TheVariants.{Move}
+use Rattle.fsrm_model.specs.declared.command.FileOp.TheVariants.{Mkdir, Create, Resize, Touch, Move, Remove}
 use Rattle.fsrm_model.specs.declared.command.Outcome.{Outcome}
 use Rattle.fsrm_model.specs.declared.command.Ask.{Ask}
 use Rattle.fsrm_model.specs.declared.command.Ask.TheVariants.{Quotas}
@@ -27,8 +26,12 @@ names_of deed = sum_by length (paths deed)
 
 -- a folder that moves is looked through up to 8 times, a node that is summed up to 4 times
 abbrev pub op_cost : List NodeRow → FileOp → ℕ
+op_cost nodes (Mkdir path owner) = 0
+op_cost nodes (Create path length owner) = 0
+op_cost nodes (Resize path length) = 0
+op_cost nodes (Touch path) = 0
 op_cost nodes (Move from to) = if leads_to_folder nodes from then 8 * length (under nodes (target nodes from)) else 0
-op_cost nodes other = 0
+op_cost nodes (Remove path) = 0
 
 -- a folder that is visited is looked at with each of its children up to 3 times
 abbrev pub visit_cost : List NodeRow → ℕ → ℕ
@@ -37,18 +40,24 @@ visit_cost nodes folder = 3 * (1 + length (children nodes folder))
 abbrev pub step_cost : Rows → ℕ → ℕ
 step_cost R n = sum_by (visit_cost R.nodes) (without_numbers (visits n R.nodes R.unvisited) R.unvisited)
 
+-- the looks of a command beside those for the names of its paths
 abbrev pub more_cost : List NodeRow → Deed → ℕ
 more_cost nodes (File op) = op_cost nodes op
 more_cost nodes (Usage path) = if leads nodes path then 4 * length (under nodes (target nodes path)) else 0
-more_cost nodes other = 0
+more_cost nodes (Step n) = 0
+more_cost nodes (QuotaAdd path limit enforce enabled template percents notices) = 0
+more_cost nodes (QuotaModify path limit enforce enabled removed percents notices) = 0
+more_cost nodes (QuotaDelete path) = 0
+more_cost nodes (QuotaScan path) = 0
+more_cost nodes (QuotaResetpeak path) = 0
+more_cost nodes (QuotaList path) = 0
 
--- Up to 40 looks for each name of its paths, and 80 beside. A step of a scan has no path: up to 40, and what its
--- visits take
+-- Up to 40 looks for each name of its paths, and 80 more. A step of a scan has no path: up to 40, and what its visits take
 abbrev pub deed_cost : Rows → Deed → ℕ
 deed_cost R (Step n) = 40 + step_cost R n
 deed_cost R deed = 40 * (names_of deed + 2) + more_cost R.nodes deed
 
--- the looks of a command: none where it comes too late
+-- the looks of a command: none if its moment is too early
 abbrev pub cost : Rows → Command → ℕ
 cost R c = if nat_lt c.moment R.last_moment then 0 else deed_cost R c.deed
 

@@ -15,6 +15,7 @@ ghost use Rattle.fsrm_model.specs.declared.row.NodeRow.{NodeRow};
 ghost use Rattle.fsrm_model.specs.declared.row.QuotaRow.{QuotaRow};
 ghost use Rattle.fsrm_model.specs.declared.row.Rows.{Rows};
 ghost use Rattle.fsrm_model.specs.Date.{date_of};
+ghost use Rattle.fsrm_model.specs.Entry.{kind, emptied};
 ghost use Rattle.fsrm_model.specs.Exceeds.{Exceeds};
 ghost use Rattle.fsrm_model.specs.Exceptions.{MayLeave};
 ghost use Rattle.fsrm_model.specs.FileOps.{plain};
@@ -65,9 +66,9 @@ pub fn worked_rows()
     ensures quotas_gone { quotas_gone }
 {}
 
-/// What a line is read as is what it spells, and a line that spells a command is read as it. The command is valid. Exactly
-/// those lines are skipped that have blanks alone, or a `#` behind them. Each other line is refused,
-/// by a refusal that comes from reading alone.
+/// What a line is read as is what it spells, and a line that spells a command is read as it. The command is valid.
+/// Exactly those lines are skipped that have nothing but blanks, or whose first byte that is no blank is a `#`. Each
+/// other line is refused, by a refusal that comes from reading alone.
 pub fn spelling()
     ensures commands { (line : List ℕ) (c : Command) → (read_line line ≡ Some (Ok c)) ↔ Spells line c }
     ensures valid { (line : List ℕ) (c : Command) → Spells line c → is_command c ≡ true }
@@ -75,8 +76,7 @@ pub fn spelling()
     ensures refusals { (line : List ℕ) (refusal : Refusal) → read_line line ≡ Some (Err refusal) → is_line_refusal refusal ≡ true }
 {}
 
-/// The lines of a script are what stands before each LF, and what is left behind the last one where
-/// that isn't empty.
+/// The lines of a script are what stands before each LF, and what is left after the last one if that isn't empty.
 pub fn script_lines()
     ensures ended { (ended : List (List ℕ)) → AreLines ended → lines (spelled_lines ended) ≡ ended }
     ensures last { (ended : List (List ℕ)) (byte : ℕ) (rest : List ℕ) → AreLines ended → list_any is_end (byte ∷ rest) ≡ false → lines (spelled_lines ended ++ byte ∷ rest) ≡ ended ++ (byte ∷ rest) ∷ [] }
@@ -130,6 +130,12 @@ pub fn valid()
     ensures new { (K : Capacity) → 0 < K.nodes → IsStore K new_rows }
     // A command whose values are in their ranges leaves valid rows, whatever it answers.
     ensures kept { (K : Capacity) (R : Rows) (c : Command) → IsStore K R → is_command c ≡ true → IsStore K (step K R c).rows }
+{}
+
+/// In a journal the kind of an entry tells the command. Two deeds whose entries have the same kind are of the same
+/// command: they are the same but for their values.
+pub fn entries()
+    ensures kinds { (one other : Deed) (k : ℕ) → kind one ≡ Some k → kind other ≡ Some k → emptied one ≡ emptied other }
 {}
 
 /// Rows that are those of a store, and rows in which one thing is wrong.

@@ -1,0 +1,5 @@
+use Rattle.fsrm_model.proofs.EachCommand.{same_kind}
+use Rattle.fsrm_model.proofs.laws.entries.Goals as goal
+
+pub returns : goal.returns
+returns c = record { kinds = same_kind }
