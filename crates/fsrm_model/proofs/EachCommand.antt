@@ -33,15 +33,12 @@ use Rattle.fsrm_model.specs.Valid.{is_moment, is_empty, IsStore}
 use Rattle.fsrm_model.specs.Valued.{is_path, is_deed, is_short, is_command}
 use Rattle.fsrm_model.specs.Work.{Work}
 use Rattle.fsrm_model.proofs.Ends.{effect_nodes}
-use Rattle.fsrm_model.proofs.FileOrderly.{file_orderly, file_limits, usage_still}
-use Rattle.fsrm_model.proofs.FileKept.{file_kept}
-use Rattle.fsrm_model.proofs.QuotaKept.{add_kept, modify_kept, delete_kept, reset_kept, list_kept}
-use Rattle.fsrm_model.proofs.QuotaOrderly.{add_still, modify_still, delete_still, reset_still, list_still}
-use Rattle.fsrm_model.proofs.ScanKept.{scan_kept, step_kept}
-use Rattle.fsrm_model.proofs.ScanOrderly.{scan_still, step_still}
+use Rattle.fsrm_model.proofs.FileCommands.{file_orderly, file_limits, usage_still, file_kept}
 use Rattle.fsrm_model.proofs.Orderly.{IsOrderly, IsStill, KeepsLimits, KeepsValid, still_limits}
 use Rattle.fsrm_model.proofs.OrderlyLaws.{verdict, refused_kept, nothing_left, refused_by, sum_afresh, refusal_exceeds, still_unexceeded, limits_hold, outcome_named, unlasting_kept, valid_kept}
+use Rattle.fsrm_model.proofs.QuotaCommands.{add_kept, modify_kept, delete_kept, reset_kept, list_kept, add_still, modify_still, delete_still, reset_still, list_still}
 use Rattle.fsrm_model.proofs.RowsKept.{nothing_followed}
+use Rattle.fsrm_model.proofs.ScanCommands.{scan_kept, step_kept, scan_still, step_still}
 use Rattle.fsrm_base.proofs.TestLaws.{both, le_is}
 
 -- the nodes that a file operation makes

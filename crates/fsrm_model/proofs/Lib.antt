@@ -37,12 +37,9 @@ pub mod Orderly
 pub mod OrderlyLaws
 pub mod FileParts
 pub mod HardLimits
-pub mod FileOrderly
-pub mod QuotaOrderly
-pub mod ScanOrderly
-pub mod QuotaKept
-pub mod ScanKept
-pub mod FileKept
+pub mod FileCommands
+pub mod QuotaCommands
+pub mod ScanCommands
 pub mod EachCommand
 pub mod ClimbRows
 pub mod DateLaws

@@ -41,7 +41,7 @@ pub record IsCheck (K : Capacity) (R : Rows) (nodes : List NodeRow) (check : Che
 abbrev pub AreChecks : Capacity → Rows → List NodeRow → List Check → Type 0
 AreChecks K R nodes checks = AllByRecursion (IsCheck K R nodes) checks
 
--- a quota of a store that counts and is enforced, and whose usage rises where the nodes become these
+-- a quota of a store that counts and is enforced, and whose usage rises if the nodes become these
 pub record Rising (K : Capacity) (R : Rows) (new : List NodeRow) (folder : ℕ) (quota : QuotaRow) : Type 0 where
   pub there : quota_of R folder ≡ Some quota
   pub counting : counts quota ≡ true
@@ -52,7 +52,7 @@ pub record Rising (K : Capacity) (R : Rows) (new : List NodeRow) (folder : ℕ) 
 abbrev pub IsWithin : Capacity → Rows → List NodeRow → Type 0
 IsWithin K R nodes = (folder : ℕ) (quota : QuotaRow) → Rising K R nodes folder quota → usage K nodes folder ≤ quota.limit
 
--- what is known of every work. Behind its checks it may rest on the rows being those of a store
+-- What is known of every work. What it says of an accepted command may rest on the rows being those of a store
 pub record IsOrderly (K : Capacity) (R : Rows) (w : Work) : Type 0 where
   pub answer : IsAnswer K R w.outcome
   pub checks : AreChecks K R w.effect.nodes w.checks

@@ -1,26 +1,30 @@
--- File operations leave the rows of a store where no check refuses them.
-use Rattle.std.proofs.Common.{◌≡◌, ℕ, ◌≤◌, ◌==◌, Bool, true, false, not, ◌&&◌, List, [], ◌∷◌, length, refl, sym, ◌∙◌, ap, subst, arith, Some, Option, nat_le}
-use Rattle.std.specs.Prelude.{if◌then◌else◌}
-use Rattle.std.specs.Option.{option_map_or}
-use Rattle.std.specs.List.{list_all}
+-- File operations and sums: each one's work is orderly, and leaves the rows of a store if no check refuses.
+use Rattle.std.proofs.Common.{◌≡◌, ℕ, true, not, List, [], ◌∷◌, refl, Some, None, Option, ◌≤◌, ◌==◌, Bool, false, ◌&&◌, length, sym, ◌∙◌, ap, subst, arith, nat_le}
+use Rattle.std.specs.Prelude.{is_some, unwrap_or, if◌then◌else◌}
 use Rattle.fsrm_model.specs.declared.command.FileOp.{FileOp}
 use Rattle.fsrm_model.specs.declared.command.FileOp.TheVariants.{Mkdir, Create, Resize, Touch, Move, Remove}
 use Rattle.fsrm_model.specs.declared.command.Refusal.TheVariants.{PathNotFound}
 use Rattle.fsrm_model.specs.declared.row.Capacity.{Capacity}
 use Rattle.fsrm_model.specs.declared.row.NodeRow.{NodeRow}
 use Rattle.fsrm_model.specs.declared.row.Rows.{Rows}
-use Rattle.fsrm_model.specs.Check.{◌when◌}
-use Rattle.fsrm_model.specs.FileOps.{target, target_folder, new_node, resized, touched, placed}
-use Rattle.fsrm_model.specs.FileWork.{file_effect, file_work}
+use Rattle.fsrm_model.specs.Check.{first, ◌when◌}
+use Rattle.fsrm_model.specs.FileWork.{file_checks, file_effect, file_work, usage_work}
 use Rattle.fsrm_base.specs.Keyed.{has_row, with_row, with_change, without_row}
-use Rattle.fsrm_model.specs.Leads.{leads_to_file}
+use Rattle.fsrm_model.specs.Leads.{leads, leads_to_file}
+use Rattle.fsrm_model.specs.Tree.{number, resolve, node_of, is_folder, last_name, name_of, name_bytes}
+use Rattle.fsrm_model.specs.Valid.{IsVolume, is_own, IsStore}
+use Rattle.fsrm_model.proofs.Ends.{effect_nodes}
+use Rattle.fsrm_model.proofs.HardLimits.{op_within}
+use Rattle.fsrm_model.proofs.Orderly.{AreChecks, IsOrderly, IsStill, KeepsLimits, change_orderly, show_still, bare, quotas_bear, first_none, when_none, not_false, KeepsValid}
+use Rattle.fsrm_model.proofs.Resolves.{resolved}
+use Rattle.std.specs.Option.{option_map_or}
+use Rattle.std.specs.List.{list_all}
+use Rattle.fsrm_model.specs.FileOps.{target, target_folder, new_node, resized, touched, placed}
 use Rattle.fsrm_model.specs.Limits.{latest_moment, longest_file, last_owner}
 use Rattle.fsrm_base.specs.Numbers.{without_number}
 use Rattle.fsrm_model.specs.Quota.{folder_of, exceeded}
 use Rattle.fsrm_model.specs.QuotaStates.{head, same_head, scan_begun, followed}
 use Rattle.fsrm_model.specs.Scan.{AreUnvisited, unvisited_with, unvisited_moved}
-use Rattle.fsrm_model.specs.Tree.{number, node_of, is_folder, last_name, name_of, name_bytes}
-use Rattle.fsrm_model.specs.Valid.{IsVolume, is_own, IsStore}
 use Rattle.fsrm_model.specs.ValidScans.{AreLeft}
 use Rattle.fsrm_model.specs.Entry.{is_owner, is_length}
 use Rattle.fsrm_model.specs.Valued.{is_op, is_path}
@@ -28,7 +32,6 @@ use Rattle.fsrm_model.proofs.FileParts.{NewParts, new_parts, new_alone, file_at,
 use Rattle.fsrm_model.proofs.Keeps.{KeepsNode, MayMove, moves_of, volume-new, volume-change, volume-moved, volume-removed, folder-new, folder-change}
 use Rattle.fsrm_base.proofs.Look.{found_has, row_of-without, has_row-without}
 use Rattle.fsrm_base.proofs.Order.{least_free_is, length-with_row}
-use Rattle.fsrm_model.proofs.Orderly.{KeepsValid, first_none}
 use Rattle.fsrm_model.proofs.OwnLaws.{own_parts, own_joined, own_named, own_new, file_inner, file_short}
 use Rattle.fsrm_model.proofs.QueueKept.{queue_without}
 use Rattle.fsrm_model.proofs.QuotasKept.{quotas_stay, quotas-without}
@@ -37,6 +40,33 @@ use Rattle.fsrm_model.proofs.Sizes.{name_bytes-new, name_bytes-placed}
 use Rattle.fsrm_base.proofs.TestLaws.{both, not_true, clash, eq_is, le_is, le_test, lt_test}
 use Rattle.fsrm_model.proofs.UnvisitedKept.{unvisited-new, unvisited-change, unvisited-moved, unvisited-removed}
 use Rattle.fsrm_model.proofs.Walks.{found_name}
+
+file_are : (K : Capacity) (R : Rows) (op : FileOp) (after : Rows) → AreChecks K R after.nodes (file_checks K R op after)
+file_are K R (Mkdir path owner) after = (bare _ _ refl, (bare _ _ refl, (bare _ _ refl, (bare _ _ refl, (bare _ _ refl, tt)))))
+file_are K R (Create path length owner) after = (bare _ _ refl, (bare _ _ refl, (bare _ _ refl, (bare _ _ refl, (bare _ _ refl, (quotas_bear, tt))))))
+file_are K R (Resize path length) after = (bare _ _ refl, (quotas_bear, tt))
+file_are K R (Touch path) after = (bare _ _ refl, tt)
+file_are K R (Move from to) after = (bare _ _ refl, (bare _ _ refl, (bare _ _ refl, (bare _ _ refl, (bare _ _ refl, (bare _ _ refl, (bare _ _ refl, (quotas_bear, tt))))))))
+file_are K R (Remove path) after = (bare _ _ refl, (bare _ _ refl, (bare _ _ refl, tt)))
+
+pub file_orderly : (K : Capacity) (R : Rows) (op : FileOp) (moment : ℕ) → IsOrderly K R (file_work K R op moment)
+file_orderly K R op moment = change_orderly K R _ _ (file_are K R op (file_effect R op moment))
+
+pub file_limits : (K : Capacity) (R : Rows) (op : FileOp) (moment : ℕ) → KeepsLimits K R (file_work K R op moment)
+file_limits K R op moment store h = rw (effect_nodes R op moment) (op_within K R op moment store h)
+
+-- a path that leads somewhere leads to a node
+leads_there : (K : Capacity) (nodes : List NodeRow) (path : List (List ℕ)) (o : Option ℕ) → IsVolume K nodes → resolve nodes path ≡ o → is_some o ≡ true → has_row number (unwrap_or o 0) nodes ≡ true
+leads_there K nodes path None v e h = absurd cc
+leads_there K nodes path (Some n) v e h = (resolved K nodes path n v e).has
+
+unrefused_path : (R : Rows) (path : List (List ℕ)) → first ((PathNotFound when not (leads R.nodes path)) ∷ []) ≡ None → leads R.nodes path ≡ true
+unrefused_path R path h =
+    let missing = not (leads R.nodes path) in
+    not_false (leads R.nodes path) (when_none PathNotFound missing (first_none (PathNotFound when missing) [] h).0)
+
+pub usage_still : (K : Capacity) (R : Rows) (path : List (List ℕ)) → IsStill K R (usage_work K R path)
+usage_still K R path = show_still K R _ _ refl (bare _ _ refl, tt) (λ store h. leads_there K R.nodes path (resolve R.nodes path) store.volume refl (unrefused_path R path h))
 
 -- the one path of an operation
 one_path : (path : List (List ℕ)) → list_all is_path (path ∷ []) ≡ true → is_path path ≡ true

@@ -1,32 +1,60 @@
--- The commands on quotas leave the rows of a store where no check refuses them.
-use Rattle.std.proofs.Common.{◌≡◌, ℕ, ◌≤◌, ◌==◌, Bool, true, false, not, List, [], ◌∷◌, length, refl, sym, ◌∙◌, arith, Some, None, Option, nat_lt}
-use Rattle.std.specs.Prelude.{is_some, unwrap_or, if◌then◌else◌}
-use Rattle.std.specs.Option.{option_map_or}
-use Rattle.fsrm_model.specs.declared.command.Refusal.TheVariants.{PathNotFound, AlreadyExists, TableFull}
+-- The commands on quotas: each one's work is orderly, and leaves the rows of a store if no check refuses.
+use Rattle.std.proofs.Common.{◌≡◌, ℕ, ◌==◌, Bool, true, false, not, List, [], ◌∷◌, refl, sym, ◌∙◌, Some, None, Option, ◌≤◌, length, arith, nat_lt}
+use Rattle.std.specs.Prelude.{is_some, is_none, unwrap_or, if◌then◌else◌}
+use Rattle.fsrm_model.specs.declared.command.Refusal.TheVariants.{PathNotFound, NotFound, AlreadyExists, TableFull}
 use Rattle.fsrm_model.specs.declared.row.Capacity.{Capacity}
 use Rattle.fsrm_model.specs.declared.row.QuotaRow.{QuotaRow}
-use Rattle.fsrm_model.specs.declared.row.QuotaState.{QuotaState}
-use Rattle.fsrm_model.specs.declared.row.QuotaState.TheVariants.{Disabled}
 use Rattle.fsrm_model.specs.declared.row.Rows.{Rows}
-use Rattle.fsrm_model.specs.Check.{◌when◌, table_full}
+use Rattle.fsrm_model.specs.Check.{first, ◌when◌, table_full}
 use Rattle.fsrm_model.specs.FileOps.{target}
 use Rattle.fsrm_base.specs.Keyed.{has_row, with_row, with_change, without_row}
 use Rattle.fsrm_model.specs.Leads.{leads_to_folder}
+use Rattle.fsrm_model.specs.Quota.{folder_of, quota_of, is_limit}
+use Rattle.fsrm_model.specs.QuotaWork.{quota_checks, add_work, modify_work, delete_work, reset_work, list_work, new_quota, modified, reset}
+use Rattle.fsrm_base.proofs.Look.{is_some-find, has_row-change}
+use Rattle.fsrm_model.proofs.Orderly.{IsStill, change_still, show_still, bare, first_none, when_none, KeepsValid}
+use Rattle.std.specs.Option.{option_map_or}
+use Rattle.fsrm_model.specs.declared.row.QuotaState.{QuotaState}
+use Rattle.fsrm_model.specs.declared.row.QuotaState.TheVariants.{Disabled}
 use Rattle.fsrm_model.specs.Limits.{latest_moment, most_quotas}
 use Rattle.fsrm_base.specs.Numbers.{without_number}
-use Rattle.fsrm_model.specs.Quota.{folder_of, quota_of, is_limit}
 use Rattle.fsrm_model.specs.QuotaStates.{start, state_after, queued, in_state, with_quota}
-use Rattle.fsrm_model.specs.QuotaWork.{new_quota, add_work, modified, modify_work, delete_work, reset, reset_work, list_work}
 use Rattle.fsrm_model.specs.Valid.{AreQuotas}
 use Rattle.fsrm_model.proofs.FileParts.{folder_at}
-use Rattle.fsrm_base.proofs.Look.{is_some-find, has_row-change}
 use Rattle.fsrm_base.proofs.Order.{length-with_row}
-use Rattle.fsrm_model.proofs.Orderly.{KeepsValid, first_none, when_none}
 use Rattle.fsrm_model.proofs.QueueKept.{queue_added, queue_changed, queue_same, queue_without}
-use Rattle.fsrm_model.proofs.QuotaOrderly.{quota_there}
 use Rattle.fsrm_model.proofs.QuotasKept.{quota_at, quotas-new, quotas-change, quotas-without}
 use Rattle.fsrm_model.proofs.RowsKept.{plain-new, plain-change, plain-without, quotas_followed, nothing_followed}
 use Rattle.fsrm_base.proofs.TestLaws.{ge_is, le_test}
+
+pub add_still : (K : Capacity) (R : Rows) (moment : ℕ) (path : List (List ℕ)) (limit : Option ℕ) (enforce : Option Bool) (enabled : Bool) → IsStill K R (add_work R moment path limit enforce enabled)
+add_still K R moment path limit enforce enabled =
+    change_still K R _ _ (bare _ _ refl, (bare _ _ refl, (bare _ _ refl, tt))) refl
+
+pub modify_still : (K : Capacity) (R : Rows) (path : List (List ℕ)) (limit : Option ℕ) (enforce enabled : Option Bool) → IsStill K R (modify_work R path limit enforce enabled)
+modify_still K R path limit enforce enabled = change_still K R _ _ (bare _ _ refl, (bare _ _ refl, tt)) refl
+
+pub delete_still : (K : Capacity) (R : Rows) (path : List (List ℕ)) → IsStill K R (delete_work R path)
+delete_still K R path = change_still K R _ _ (bare _ _ refl, (bare _ _ refl, tt)) refl
+
+pub reset_still : (K : Capacity) (R : Rows) (moment : ℕ) (path : List (List ℕ)) → IsStill K R (reset_work K R moment path)
+reset_still K R moment path = change_still K R _ _ (bare _ _ refl, (bare _ _ refl, tt)) refl
+
+-- a path that these checks let pass leads to a folder with a quota
+some_there : (o : Option QuotaRow) → is_none o ≡ false → is_some o ≡ true
+some_there None h = absurd (cc h)
+some_there (Some quota) h = refl
+
+pub quota_there : (R : Rows) (path : List (List ℕ)) → first (quota_checks R path) ≡ None → has_row folder_of (target R.nodes path) R.quotas ≡ true
+quota_there R path h =
+    let o = quota_of R (target R.nodes path) in
+    let rest = first_none (PathNotFound when not (leads_to_folder R.nodes path)) ((NotFound when is_none o) ∷ []) h in
+    let own = when_none NotFound (is_none o) (first_none (NotFound when is_none o) [] rest.1).0 in
+    sym (is_some-find (λ quota. folder_of quota == target R.nodes path) R.quotas) ∙ some_there o own
+
+pub list_still : (K : Capacity) (R : Rows) (path : Option (List (List ℕ))) → IsStill K R (list_work R path)
+list_still K R None = show_still K R _ _ tt tt (λ store h. tt)
+list_still K R (Some path) = show_still K R _ _ tt (bare _ _ refl, (bare _ _ refl, tt)) (λ store h. quota_there R path h)
 
 -- a limit that has to be given
 limit_given : (limit : Option ℕ) → option_map_or is_limit limit false ≡ true → is_limit (unwrap_or limit 0) ≡ true
