@@ -1,4 +1,4 @@
--- What is unvisited stays so over visits, and where a node comes, changes, moves or goes.
+-- What is unvisited stays so over visits, and when a node comes, changes, moves or goes.
 use Rattle.std.proofs.Common.{◌≡◌, ℕ, zero, suc, ◌==◌, Bool, true, false, cond, not, ◌||◌, ◌&&◌, List, [], ◌∷◌, refl, sym, ◌∙◌, ap, subst, ◌⊎◌, inl, inr, Some, None, Option}
 use Rattle.std.specs.Prelude.{map, filter}
 use Rattle.std.specs.Option.{option_map_or}
@@ -113,7 +113,7 @@ pub unvisited_visits : (k : ℕ) (nodes : List NodeRow) (scanned : ℕ) (us : Li
 unvisited_visits zero nodes scanned us a = a
 unvisited_visits (suc k) nodes scanned us a = unvisited_visits k nodes scanned (visit nodes us) (unvisited_visit nodes scanned us a)
 
--- where a node changes and keeps its place and kind
+-- if a node changes and keeps its place and kind
 pub unvisited-change : (nodes : List NodeRow) (x : ℕ) (c : NodeRow → NodeRow) (scanned : ℕ) (us : List ℕ) → KeepsNode c → AreUnvisited nodes scanned us → AreUnvisited (with_change number x c nodes) scanned us
 unvisited-change nodes x c scanned us k a =
     let kind : (n : ℕ) → is_folder (with_change number x c nodes) n ≡ is_folder nodes n = λ n. folder-change nodes x n c k.same_number k.same_folder in
@@ -124,15 +124,15 @@ unvisited-change nodes x c scanned us k a =
       closed = λ n is inner up. a.closed n (sym (kind n) ∙ is) inner (ap (is_in us) (sym (parent_of-change x c (place_of c k) nodes n)) ∙ up);
     }
 
--- where one comes
-in_new : (node : NodeRow) (us : List ℕ) (m : ℕ) → is_in (unvisited_with node us) m ≡ (((node.folder && is_in us node.parent) && (node.number == m)) || is_in us m)
+-- a new node is unvisited if it is a folder and its parent is unvisited
+pub in_new : (node : NodeRow) (us : List ℕ) (m : ℕ) → is_in (unvisited_with node us) m ≡ (((node.folder && is_in us node.parent) && (node.number == m)) || is_in us m)
 in_new node us m = at (node.folder && is_in us node.parent)
   where
     at : (b : Bool) → is_in (cond b (with_number node.number us) us) m ≡ ((b && (node.number == m)) || is_in us m)
     at true = in_with node.number m us
     at false = refl
 
-set_new : (node : NodeRow) (us : List ℕ) → is_set us ≡ true → is_set (unvisited_with node us) ≡ true
+pub set_new : (node : NodeRow) (us : List ℕ) → is_set us ≡ true → is_set (unvisited_with node us) ≡ true
 set_new node us h = at (node.folder && is_in us node.parent)
   where
     at : (b : Bool) → is_set (cond b (with_number node.number us) us) ≡ true
@@ -157,7 +157,7 @@ unvisited-new K nodes node scanned us v free folder a =
     other : (n : ℕ) → Has nodes n → (n == node.number) ≡ false
     other n h = not_true _ (λ e. clash _ (subst (Has nodes) (eq_is n node.number e) h) free)
 
-    -- what is unvisited then: the new folder, where its parent is, and what was
+    -- what is unvisited then: the new folder, if its parent is, and what was
     which : (n : ℕ) → is_in (unvisited_with node us) n ≡ true → (((node.folder && is_in us node.parent) && (node.number == n)) ≡ true) ⊎ (is_in us n ≡ true)
     which n h = is_or _ _ (sym (in_new node us n) ∙ h)
 
@@ -208,7 +208,7 @@ unvisited-new K nodes node scanned us v free folder a =
         let here : is_in us (parent_of nodes n) ≡ true = subst (λ k. is_in us k ≡ true) same (not_new (parent_of new n) above up) in
         in_new node us n ∙ or_later ((node.folder && is_in us node.parent) && (node.number == n)) (is_in us n) (a.closed n old inner here)
 
--- where one goes that isn't the scanned folder
+-- if one goes that isn't the scanned folder
 pub unvisited-removed : (K : Capacity) (nodes : List NodeRow) (x scanned : ℕ) (us : List ℕ) → IsVolume K nodes → MayGo nodes x → AreUnvisited nodes scanned us → AreUnvisited (without_row number x nodes) scanned (without_number x us)
 unvisited-removed K nodes x scanned us v m a =
     record {
@@ -232,7 +232,7 @@ unvisited-removed K nodes x scanned us v m a =
     kind : (n : ℕ) → (n == x) ≡ false → is_folder new n ≡ is_folder nodes n
     kind n e = ap (λ o. option_map_or (λ r. r.folder) o false) (row_of-without number x n nodes e)
 
--- where one moves
+-- if one moves
 pub record MovedScan (K : Capacity) (nodes new : List NodeRow) (x d scanned : ℕ) (us : List ℕ) : Type 0 where
   pub volume : IsVolume K nodes
   pub moves : Moves nodes new x d

@@ -5,12 +5,12 @@ use Rattle.std.specs.List.{AllByRecursion, list_any}
 use Rattle.fsrm_model.specs.declared.row.Capacity.{Capacity}
 use Rattle.fsrm_model.specs.declared.row.NodeRow.{NodeRow}
 use Rattle.fsrm_base.specs.Keyed.{without_row}
-use Rattle.fsrm_base.specs.Numbers.{is_in, is_set, with_number, without_number}
+use Rattle.fsrm_base.specs.Numbers.{is_in, without_number}
 use Rattle.fsrm_model.specs.Scan.{counted, unvisited_with}
 use Rattle.fsrm_model.specs.Space.{space}
 use Rattle.fsrm_model.specs.Tree.{number, node_of, parent_of, is_folder, is_child, chain, is_under}
 use Rattle.fsrm_model.specs.Valid.{IsVolume}
-use Rattle.fsrm_base.proofs.TestLaws.{is_or_not, clash, not_true, neither, eq_is, eq_same, eq_turned, not_zero}
+use Rattle.fsrm_base.proofs.TestLaws.{is_or_not, clash, not_true, neither, eq_is, eq_turned, not_zero}
 use Rattle.fsrm_model.proofs.ValidLaws.{folder_has, found_parent}
 use Rattle.fsrm_model.proofs.ChainLaws.{Has, chain_lacks}
 use Rattle.fsrm_base.proofs.EditedRows.{sum_by_same, sum_by-without_row}
@@ -20,7 +20,8 @@ use Rattle.fsrm_base.proofs.Look.{found_has, found_key, row_of-without, has_row-
 use Rattle.fsrm_base.proofs.Members.{none_passes}
 use Rattle.fsrm_model.proofs.RemoveLaws.{removed_chain}
 use Rattle.fsrm_model.proofs.UsageLaws.{parent_lacks}
-use Rattle.fsrm_base.proofs.NumberLaws.{in_with, in_without, set_with, set_without, same_set}
+use Rattle.fsrm_model.proofs.UnvisitedKept.{in_new, set_new}
+use Rattle.fsrm_base.proofs.NumberLaws.{in_without, set_without, same_set}
 use Rattle.rescan.specs.Frontiers.{Front, scanned, has_above, unvisited}
 use Rattle.rescan.specs.Tops.{AreTops}
 use Rattle.rescan.proofs.CountLaws.{is_counted, part, counted_is}
@@ -176,26 +177,12 @@ counted_with K nodes n row l f = rest_sum K nodes n row l f f (rest_counted K no
 pub counted_without : (K : Capacity) (nodes : List NodeRow) (n : ℕ) (row : NodeRow) → IsLeaf K nodes n row → (f : Front) → counted K (without_row number n nodes) (scanned f) (unvisited (without_row number n nodes) (record f { tops = without_number n f.tops })) + part K nodes f row ≡ counted K nodes (scanned f) (unvisited nodes f)
 counted_without K nodes n row l f = rest_sum K nodes n row l f (record f { tops = without_number n f.tops }) (rest_counted_without K nodes n row l f)
 
--- what is unvisited with the node: the node too, where it is a folder and its parent is unvisited
+-- two tests are both met, or not, if the first ones are the same and the second ones are where the first is met
 same_both : (a b c d : Bool) → a ≡ b → (b ≡ true → c ≡ d) → (a && c) ≡ (b && d)
 same_both true true c d h g = g refl
 same_both false false c d h g = refl
 same_both true false c d h g = cc
 same_both false true c d h g = cc
-
-in_new : (row : NodeRow) (set : List ℕ) (m : ℕ) → is_in (unvisited_with row set) m ≡ (((row.folder && is_in set row.parent) && (row.number == m)) || is_in set m)
-in_new row set m = at (row.folder && is_in set row.parent)
-  where
-    at : (b : Bool) → is_in (cond b (with_number row.number set) set) m ≡ ((b && (row.number == m)) || is_in set m)
-    at true = in_with row.number m set
-    at false = refl
-
-set_new : (row : NodeRow) (set : List ℕ) → is_set set ≡ true → is_set (unvisited_with row set) ≡ true
-set_new row set h = at (row.folder && is_in set row.parent)
-  where
-    at : (b : Bool) → is_set (cond b (with_number row.number set) set) ≡ true
-    at true = set_with row.number set h
-    at false = h
 
 last_test : (b : Bool) → (b && false) ≡ false
 last_test true = refl
