@@ -66,7 +66,7 @@ fn main(rt: HostRuntime) -> ExitCode {
     let status = run_counted::<Brand>(&rt, rt.alloc(), Blank::new(1));
     let (number, text) = exit_of(status);
     if number != 0 {
-        // Where standard error is closed too, the exit status tells it alone.
+        // If standard error is closed too, the exit status tells it alone.
         let _ = eprintln!(rt; "{text}");
     }
     ExitCode::from(number)

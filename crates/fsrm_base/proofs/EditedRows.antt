@@ -105,7 +105,7 @@ change_sum_at key f n c x r rows true e a h g =
 change_sum_at key f n c x r rows false e a h g =
     omega (arith, sum_by-cons f x (with_change key n c rows), sum_by-cons f x rows, g h)
 
--- the sum where one row changes
+-- the sum if one row changes
 pub sum_by-with_change : {X : Type 0} (key : X → ℕ) (f : X → ℕ) (n : ℕ) (c : X → X) (r : X) (rows : List X) → is_ascending key rows ≡ true → row_of key n rows ≡ Some r → sum_by f (with_change key n c rows) + f r ≡ sum_by f rows + f (c r)
 sum_by-with_change key f n c r [] a h = cc
 sum_by-with_change key f n c r (x ∷ rows) a h =

@@ -170,7 +170,7 @@ pub has_row-new_other : {X : Type 0} (key : X → ℕ) (row : X) (m : ℕ) (rows
 has_row-new_other key row m rows h =
     sym (is_some-find (λ x. key x == m) (with_row key row rows)) ∙ (ap is_some (row_of-new_other key row m rows h) ∙ is_some-find (λ x. key x == m) rows)
 
--- where no row passes, none is found to
+-- if no row passes, none is found to
 pub none_filtered : {X : Type 0} (p : X → Bool) (xs : List X) → length (filter p xs) ≡ 0 → list_any p xs ≡ false
 none_filtered p [] h = refl
 none_filtered p (x ∷ xs) h = elim (cases_Bool (p x)) [

@@ -1,4 +1,4 @@
--- Tests of all rows, where the rows ascend: what fails one is a row that is found by its number.
+-- Tests of all rows, if the rows ascend: what fails one is a row that is found by its number.
 use Rattle.std.proofs.Common.{◌≡◌, ℕ, Bool, true, false, cond, not, ◌||◌, ◌&&◌, List, [], ◌∷◌, refl, ◌∙◌, ap, subst, inl, inr, Some}
 use Rattle.std.proofs.lemmas.Option.{same_Some}
 use Rattle.std.specs.Prelude.{filter, find}
@@ -19,7 +19,7 @@ member key p rows a h =
     let f = some_row _ (is_some-find p rows ∙ h) in
     record { row = f.row; first = f.is; found = found_own key p rows f.row a f.is; passes = found_passes p rows f.row f.is }
 
--- none passes where each that is found fails
+-- none passes if each that is found fails
 pub none_passes : {X : Type 0} (key : X → ℕ) (p : X → Bool) (rows : List X) → is_ascending key rows ≡ true → ((r : X) → row_of key (key r) rows ≡ Some r → p r ≡ false) → list_any p rows ≡ false
 none_passes key p rows a h =
     elim (is_or_not (list_any p rows)) [
@@ -35,11 +35,11 @@ none_fails : {X : Type 0} (p : X → Bool) (rows : List X) → list_any (λ r. n
 none_fails p [] h = refl
 none_fails p (x ∷ rows) h = fails_at (p x) (list_all p rows) (list_any (λ r. not (p r)) rows) h (none_fails p rows)
 
--- all pass where each does that is found
+-- all pass if each does that is found
 pub all_pass : {X : Type 0} (key : X → ℕ) (p : X → Bool) (rows : List X) → is_ascending key rows ≡ true → ((r : X) → row_of key (key r) rows ≡ Some r → p r ≡ true) → list_all p rows ≡ true
 all_pass key p rows a h = none_fails p rows (none_passes key (λ r. not (p r)) rows a (λ r f. ap not (h r f)))
 
--- where all pass, what is found does
+-- if all pass, what is found does
 passed_at : {X : Type 0} (p q : X → Bool) (x r : X) (rows : List X) (b : Bool) → p x ≡ true → cond b (Some x) (find q rows) ≡ Some r → (find q rows ≡ Some r → p r ≡ true) → p r ≡ true
 passed_at p q x r rows true e h f = subst (λ y. p y ≡ true) (same_Some x r h) e
 passed_at p q x r rows false e h f = f h

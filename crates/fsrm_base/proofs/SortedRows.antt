@@ -67,7 +67,7 @@ remove_row key n (x ∷ rows) (suc p) r a h e =
     let apart : (key x == n) ≡ false = eq_below (key x) n (omega arith) in
     ap (λ ys. x ∷ ys) (remove_row key n rows p r (ascending_tail key x rows a) h e) ∙ sym (ap (λ b. cond (not b) (x ∷ without_row key n rows) (without_row key n rows)) apart)
 
--- what stands before and behind a place
+-- what stands before and after a place
 abbrev Before : {X : Type 0} → (X → ℕ) → ℕ → List X → ℕ → Type 0
 Before {X} key n rows p = (k : ℕ) (row : X) → k < p → slice_get rows k ≡ Some row → key row < n
 
@@ -190,7 +190,7 @@ pub ascending-remove : {X : Type 0} (key : X → ℕ) (n : ℕ) (rows : List X) 
 ascending-remove key n rows p a at =
     ap (is_ascending key) (remove_found key n rows p a at) ∙ ascending-filter key _ rows a
 
--- a number is a row's exactly where that row is lent
+-- a number is a row's exactly if that row is lent
 lent_some : {X : Type 0} (o : Option (Bor X)) → is_some o ≡ is_some (option_copied o)
 lent_some None = refl
 lent_some (Some row) = refl

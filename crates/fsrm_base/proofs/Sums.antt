@@ -60,7 +60,7 @@ sum_by_only key f n g [] r a h = cc
 sum_by_only key f n g (x ∷ rows) r a h =
     sum_by-cons f x rows ∙ only_at key f n x r rows (key x == n) refl g a h (sum_by_only key f n g rows r (ascending_tail key x rows a))
 
--- where each row adds no more, neither does their sum
+-- if each row adds no more, neither does their sum
 pub sum_by_most : {X : Type 0} (f g : X → ℕ) (xs : List X) → AllByRecursion (λ x. f x ≤ g x) xs → sum_by f xs ≤ sum_by g xs
 sum_by_most f g [] h = omega arith
 sum_by_most f g (x ∷ xs) h = omega (arith, sum_by-cons f x xs, sum_by-cons g x xs, h.0, sum_by_most f g xs h.1)

@@ -29,7 +29,7 @@ with_change key n change rows = map (λ r. if key r == n then change r else r) r
 abbrev pub without_row : {X : Type 0} → (X → ℕ) → ℕ → List X → List X
 without_row key n rows = filter (λ r. not (key r == n)) rows
 
--- the least number from n on that none of the ascending rows has, where they have none below n
+-- the least number from n on that none of the ascending rows has, if they have none below n
 abbrev pub least_free_from : {X : Type 0} → (X → ℕ) → ℕ → List X → ℕ
 least_free_from key n [] = n
 least_free_from key n (r ∷ rows) = if key r == n then least_free_from key (n + 1) rows else n

@@ -61,7 +61,7 @@ impl<T> List<T> {
 }
 
 impl<T: Drop> List<T> {
-    /// Adds an item at the end. Where memory is wanting the item is dropped and the list stays.
+    /// Adds an item at the end. If memory runs out the item is dropped and the list stays.
     pub fn push(&mut self, item: T) -> Result<(), NoMemory>
         ensures ok { OnOk result (self.new ≡ self.old ++ item ∷ []) }
         ensures err { OnErr result (self.new ≡ self.old) }

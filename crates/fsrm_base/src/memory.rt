@@ -1,10 +1,10 @@
-//! Want of memory, and copies that it can refuse.
+//! The answer when memory runs out, and copies that may run out of it.
 
 ghost use Rattle.std.specs.Prelude.{◌≡◌, IfOk};
 
 use std::alloc::{AllocError, AllocFailed, Global};
 
-/// The one answer for want of memory. No call is tied to the allocation that failed: the value
+/// The one answer when memory runs out. No call is tied to the allocation that failed: the value
 /// that it was made on is as before, unless its own documentation says otherwise.
 #[derive(Clone, Copy, Debug, PartialEq, Eq)]
 pub struct NoMemory;

@@ -54,7 +54,7 @@ above_all nodes t x f n i hf hn below above =
 before_length : (f n : ℕ) (ns : List ℕ) → (n == f) ≡ false → 0 < length (before f (n ∷ ns))
 before_length f n ns h = subst (λ ms. 0 < length ms) (sym (ap (λ b. cond b [] (n ∷ before f ns)) h)) (omega arith)
 
--- a chain is at least as long as that of a node above, and longer where it is another node
+-- a chain is at least as long as that of a node above, and longer if it is another node
 pub above_shorter : (nodes : List NodeRow) → IsTree nodes → (f x : ℕ) → (f == 0) ≡ false → Has nodes f → Has nodes x → is_in (chain nodes x) f ≡ true → (x == f) ≡ false → length (chain nodes f) < length (chain nodes x)
 above_shorter nodes t f zero i hf hx h e = absurd (clash (0 == f) (sym (chain_root nodes f) ∙ h) e)
 above_shorter nodes t f (suc x) i hf hx h e =

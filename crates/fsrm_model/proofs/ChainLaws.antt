@@ -44,7 +44,7 @@ chain_in_has nodes t (suc k) (suc n) x h m =
 pub chain_lacks : (nodes : List NodeRow) → IsTree nodes → (k n f : ℕ) → Has nodes n → has_row number f nodes ≡ false → is_in (chain_in k nodes n) f ≡ false
 chain_lacks nodes t k n f h absent = not_true _ (λ m. let is : Has nodes f = chain_in_has nodes t k n f h m in cc)
 
--- where the parents are the same but for one node, a chain without it is the same
+-- if the parents are the same but for one node, a chain without it is the same
 pub same_chain : (k : ℕ) (old new : List NodeRow) (f : ℕ) → ((m : ℕ) → (m == f) ≡ false → parent_of new m ≡ parent_of old m) → (n : ℕ) → is_in (chain_in k old n) f ≡ false → chain_in k new n ≡ chain_in k old n
 same_chain zero old new f same n h = refl
 same_chain (suc k) old new f same zero h = refl

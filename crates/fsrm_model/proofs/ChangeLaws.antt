@@ -12,7 +12,7 @@ use Rattle.fsrm_base.specs.Numbers.{is_in}
 use Rattle.fsrm_model.proofs.ChainLaws.{share, usage_is}
 use Rattle.fsrm_base.proofs.EditedRows.{sum_by_same, all_rows, sum_by-with_change, length-change}
 
--- chains where no node's number and parent changes
+-- chains if no node's number and parent changes
 abbrev pub up_of : Option NodeRow → ℕ
 up_of o = option_map_or (λ node. node.parent) o 0
 

@@ -51,28 +51,28 @@ path_word_writes end (word ∷ more) x h =
     let same : (read.0, more) ≡ x = cc read.2 in
     subst (λ (y : Path × List Word). PathWord (word ∷ more) y.0 y.1) same (record { word = word; given_is = refl; writes = path_writes word.text read.0 read.1 })
 
--- a word, and what the words behind it are
-behind_word : {given more rest : List Word} (word : Word) → given ≡ word ∷ more → more ≡ rest → given ≡ word ∷ rest
-behind_word word e f = e ∙ ap (λ (ws : List Word). word ∷ ws) f
+-- a word, and what the words after it are
+after_word : {given more rest : List Word} (word : Word) → given ≡ word ∷ more → more ≡ rest → given ≡ word ∷ rest
+after_word word e f = e ∙ ap (λ (ws : List Word). word ∷ ws) f
 
 no_more_ok : {X : Type 0} (given : List Word) (x y : X) → no_more given x ≡ Ok y → (given ≡ []) × (x ≡ y)
 no_more_ok [] x y h = (refl, cc h)
 no_more_ok (word ∷ more) x y h = absurd (cc h)
 
--- and a value that stands there is read, with the words behind it
+-- and a value that stands there is read, with the words after it
 abbrev IsRead : {A : Type 0} → Read (A × List Word) → A → List (List ℕ) → Type 0
-IsRead r value behind = (more : List Word) × (r ≡ Ok (value, more)) × (texts more ≡ behind)
+IsRead r value after = (more : List Word) × (r ≡ Ok (value, more)) × (texts more ≡ after)
 
-number_word_reads : (low high end : ℕ) (given : List Word) (text : List ℕ) (behind : List (List ℕ)) (n : ℕ) → texts given ≡ text ∷ behind → Writes low high text n → IsRead (number_word low high end given) n behind
-number_word_reads low high end [] text behind n e w = absurd (cc e)
-number_word_reads low high end (word ∷ more) text behind n e w =
+number_word_reads : (low high end : ℕ) (given : List Word) (text : List ℕ) (after : List (List ℕ)) (n : ℕ) → texts given ≡ text ∷ after → Writes low high text n → IsRead (number_word low high end given) n after
+number_word_reads low high end [] text after n e w = absurd (cc e)
+number_word_reads low high end (word ∷ more) text after n e w =
     let same : word.text ≡ text = cc e in
     let here : Writes low high word.text n = subst (λ (bs : List ℕ). Writes low high bs n) (sym same) w in
     (more, then_ok (number_from low high word.column word.text) n (λ x. Ok (x, more)) (number_reads low high word.column word.text n here), cc e)
 
-path_word_reads : (end : ℕ) (given : List Word) (text : List ℕ) (behind : List (List ℕ)) (path : Path) → texts given ≡ text ∷ behind → WritesPath text path → IsRead (path_word end given) path behind
-path_word_reads end [] text behind path e w = absurd (cc e)
-path_word_reads end (word ∷ more) text behind path e w =
+path_word_reads : (end : ℕ) (given : List Word) (text : List ℕ) (after : List (List ℕ)) (path : Path) → texts given ≡ text ∷ after → WritesPath text path → IsRead (path_word end given) path after
+path_word_reads end [] text after path e w = absurd (cc e)
+path_word_reads end (word ∷ more) text after path e w =
     let same : word.text ≡ text = cc e in
     let here : WritesPath word.text path = subst (λ (bs : List ℕ). WritesPath bs path) (sym same) w in
     (more, then_ok (path_from word.text) path (λ x. Ok (x, more)) (path_reads word.text path here), cc e)
@@ -102,7 +102,7 @@ path_number_spells low high deed end given d h =
     let last = no_more_ok n.0.1 (deed path.0.0 n.0.0) d n.2 in
     let a = path_word_writes end given path.0 path.1 in
     let b = number_word_writes low high end path.0.1 n.0 n.1 in
-    let words : given ≡ a.word ∷ b.word ∷ [] = behind_word a.word a.given_is (behind_word b.word b.given_is last.0) in
+    let words : given ≡ a.word ∷ b.word ∷ [] = after_word a.word a.given_is (after_word b.word b.given_is last.0) in
     (a.word.text, b.word.text, path.0.0, n.0.0, ap texts words, a.writes, b.writes, last.1)
 
 path_number_reads : (low high : ℕ) (deed : Path → ℕ → Deed) (end : ℕ) (given : List Word) (a b : List ℕ) (path : Path) (n : ℕ) → texts given ≡ a ∷ b ∷ [] → WritesPath a path → Writes low high b n → (path_word end given >>= λ path. number_word low high end path.1 >>= λ n. no_more n.1 (deed path.0 n.0)) ≡ Ok (deed path n)
@@ -126,7 +126,7 @@ one_number_reads low high deed end given a n e w =
     let q = number_word_reads low high end given a [] n e w in
     then_ok (number_word low high end given) (n, q.0) (λ n. no_more n.1 (deed n.0)) q.1 ∙ no_more_reads q.0 (deed n) q.2
 
--- the words behind the name of a command whose words have their places
+-- the words after the name of a command whose words have their places
 abbrev Spelled : List ℕ → Reader → Type 0
 Spelled name reads = (word : Word) (end : ℕ) (given : List Word) (d : Deed) → IsNamed name word.text → reads end given ≡ Ok d → SpellsPlaced (texts (word ∷ given)) d
 
@@ -167,7 +167,7 @@ move_spells word end given d named h =
     let last = no_more_ok to.0.1 (File (Move from.0.0 to.0.0)) d to.2 in
     let a = path_word_writes end given from.0 from.1 in
     let b = path_word_writes end from.0.1 to.0 to.1 in
-    let words : given ≡ a.word ∷ b.word ∷ [] = behind_word a.word a.given_is (behind_word b.word b.given_is last.0) in
+    let words : given ≡ a.word ∷ b.word ∷ [] = after_word a.word a.given_is (after_word b.word b.given_is last.0) in
     subst (SpellsPlaced (texts (word ∷ given))) last.1 (word.text, a.word.text, b.word.text, ap (λ (ws : List Word). texts (word ∷ ws)) words, named, a.writes, b.writes)
 
 create_spells : Spelled (codes "create") create_words
@@ -179,8 +179,8 @@ create_spells word end given d named h =
     let a = path_word_writes end given path.0 path.1 in
     let b = number_word_writes 0 longest_file end path.0.1 size.0 size.1 in
     let c = number_word_writes 1 last_owner end size.0.1 owner.0 owner.1 in
-    let rest : size.0.1 ≡ c.word ∷ [] = behind_word c.word c.given_is last.0 in
-    let words : given ≡ a.word ∷ b.word ∷ c.word ∷ [] = behind_word a.word a.given_is (behind_word b.word b.given_is rest) in
+    let rest : size.0.1 ≡ c.word ∷ [] = after_word c.word c.given_is last.0 in
+    let words : given ≡ a.word ∷ b.word ∷ c.word ∷ [] = after_word a.word a.given_is (after_word b.word b.given_is rest) in
     subst (SpellsPlaced (texts (word ∷ given))) last.1 (word.text, a.word.text, b.word.text, c.word.text, ap (λ (ws : List Word). texts (word ∷ ws)) words, named, a.writes, b.writes, c.writes)
 
 -- they are refused as a line is
@@ -323,9 +323,9 @@ named_word_is names end (word ∷ more) next d h =
     let found = both_ok (known (BadLine word.column) (named names word.text)) (λ own. next own more) d h in
     record { word = word; own = found.0; more = more; given_is = refl; own_is = known_ok (BadLine word.column) (named names word.text) found.0 found.1; read = found.2 }
 
-named_word_reads : {X : Type 0} (names : Names X) (end : ℕ) (given : List Word) (next : X → List Word → Read Deed) (text : List ℕ) (behind : List (List ℕ)) (own : X) → texts given ≡ text ∷ behind → named names text ≡ Some own → (more : List Word) × (named_word names end given next ≡ next own more) × (texts more ≡ behind)
-named_word_reads names end [] next text behind own e h = absurd (cc e)
-named_word_reads {X} names end (word ∷ more) next text behind own e h =
+named_word_reads : {X : Type 0} (names : Names X) (end : ℕ) (given : List Word) (next : X → List Word → Read Deed) (text : List ℕ) (after : List (List ℕ)) (own : X) → texts given ≡ text ∷ after → named names text ≡ Some own → (more : List Word) × (named_word names end given next ≡ next own more) × (texts more ≡ after)
+named_word_reads names end [] next text after own e h = absurd (cc e)
+named_word_reads {X} names end (word ∷ more) next text after own e h =
     let same : word.text ≡ text = cc e in
     let here : named names word.text ≡ Some own = ap (named names) same ∙ h in
     (more, ap (λ (o : Option X). known (BadLine word.column) o >>= λ own. next own more) here, cc e)
@@ -338,7 +338,7 @@ named_word_line {X} names end (word ∷ more) next h = at (named names word.text
     at None e = refl
     at (Some own) e = h word.text own more e
 
--- the words behind a tool's name
+-- the words after a tool's name
 abbrev tool_next : ℕ → Names ToolCommand → List Word → Read Deed
 tool_next end commands words = named_word commands end words (λ command words. option_words command end words)
 
@@ -352,7 +352,7 @@ tool_spells word objects end given d tool h =
       object = object.word.text;
       command = command.word.text;
       rest = texts command.more;
-      words_are = ap (λ (ws : List Word). texts (word ∷ ws)) (behind_word object.word object.given_is command.given_is);
+      words_are = ap (λ (ws : List Word). texts (word ∷ ws)) (after_word object.word object.given_is command.given_is);
       objects = objects;
       commands = object.own;
       own = command.own;
@@ -417,10 +417,10 @@ move_reads end given a b from to e w v =
     ∙ then_ok (path_word end p.0) (to, q.0) (λ to. no_more to.1 (File (Move from to.0))) q.1
     ∙ no_more_reads q.0 (File (Move from to)) q.2
 
--- a command whose words have their places is read from those behind its name
-placed_word : (name : List ℕ) (reads : Reader) (end : ℕ) (given : List Word) (text : List ℕ) (behind : List (List ℕ)) → texts given ≡ text ∷ behind → IsNamed name text → named readers name ≡ Some reads → (more : List Word) × (deed_words end given ≡ reads end more) × (texts more ≡ behind)
-placed_word name reads end given text behind e is own =
-    named_word_reads readers end given (λ reader words. reader end words) text behind reads e (named_same readers name text is ∙ own)
+-- a command whose words have their places is read from those after its name
+placed_word : (name : List ℕ) (reads : Reader) (end : ℕ) (given : List Word) (text : List ℕ) (after : List (List ℕ)) → texts given ≡ text ∷ after → IsNamed name text → named readers name ≡ Some reads → (more : List Word) × (deed_words end given ≡ reads end more) × (texts more ≡ after)
+placed_word name reads end given text after e is own =
+    named_word_reads readers end given (λ reader words. reader end words) text after reads e (named_same readers name text is ∙ own)
 
 placed_reads : (end : ℕ) (given : List Word) (d : Deed) → SpellsPlaced (texts given) d → deed_words end given ≡ Ok d
 placed_reads end given (File (Mkdir path owner)) s =

@@ -19,7 +19,7 @@ pub record IsDayOf (place : ℕ) (date : Civil) : Type 0 where
   pub first_day : 1 ≤ date.day
   pub last_day : date.day ≤ days_in_month (pos date.year) date.month
 
--- either of two dates is of this day, each where it is taken
+-- either of two dates is of this day, each if it is taken
 either_day : (b : Bool) (count : ℕ) (x y : Civil) → (b ≡ true → IsDayOf count x) → (b ≡ false → IsDayOf count y) → IsDayOf count (cond b x y)
 either_day true count x y h k = h refl
 either_day false count x y h k = k refl

@@ -84,7 +84,7 @@ length-numbers : (nodes : List NodeRow) → length (map number nodes) ≡ length
 length-numbers [] = refl
 length-numbers (y ∷ ys) = ap suc (length-numbers ys)
 
--- where each member of a chain is one of some nodes, the chain has at most as many members as they are
+-- if each member of a chain is one of some nodes, the chain has at most as many members as they are
 pub chain_fits : (j : ℕ) (nodes : List NodeRow) → IsRooted j nodes → (n : ℕ) → Has nodes n → (some : List NodeRow) → ((x : ℕ) → is_in (chain_in (suc j) nodes n) x ≡ true → Has some x) → length (chain_in (suc j) nodes n) ≤ length some
 chain_fits j nodes t n h some each =
     let distinct = chain_distinct j nodes t (length (chain_in (suc j) nodes n)) n h (omega arith) in

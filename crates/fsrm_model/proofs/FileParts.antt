@@ -1,4 +1,4 @@
--- What is known where no check refuses a file operation: what its paths lead to, and that there is room.
+-- What is known if no check refuses a file operation: what its paths lead to, and that there is room.
 use Rattle.std.proofs.Common.{◌≡◌, ℕ, ◌≤◌, ◌==◌, Bool, true, false, not, ◌&&◌, List, [], ◌∷◌, ◌++◌, length, refl, sym, ◌∙◌, ap, subst, inl, inr, Some, None, Option}
 use Rattle.std.specs.Prelude.{is_some, option_map, unwrap_or, nat_lt}
 use Rattle.std.specs.List.{list_all}

@@ -38,7 +38,7 @@ use Rattle.fsrm_model.proofs.Orderly.{Rising, IsWithin, first_none}
 use Rattle.fsrm_model.proofs.QuotaLaws.{over_test}
 use Rattle.fsrm_model.proofs.ValidLaws.{folder_has}
 
--- where each of two is below the other, one is below all
+-- if each of two is below the other, one is below all
 record IsOrder {X : Type 0} (above : X → X → Bool) (Good : X → Type 0) : Type 0 where
   itself : (a : X) → above a a ≡ true
   total : (a b : X) → Good a → Good b → (above a b ≡ true) ⊎ (above b a ≡ true)
@@ -124,7 +124,7 @@ order_of old new tree t h = record {
   joined = λ a b c ga gb gc f g. ap (λ ns. is_in ns a.folder) gc.same ∙ under_joined old tree a.folder b.folder c.folder gb.has gc.has (sym (ap (λ ns. is_in ns a.folder) gb.same) ∙ f) (sym (ap (λ ns. is_in ns b.folder) gc.same) ∙ g);
 }
 
--- where no quota refuses, none would
+-- if no quota refuses, none would
 none_deepest : (old new : List NodeRow) → IsTree old → (t : ℕ) → Has old t → (quotas : List QuotaRow) → AllByRecursion (GoodQuota old new t) quotas → deepest new quotas ≡ None → quotas ≡ []
 none_deepest old new tree t h [] each none = refl
 none_deepest old new tree t h (x ∷ xs) each none =

@@ -62,7 +62,7 @@ choice_line first second column text =
     if_line (str_eq_ignore_ascii_case first text) (Ok true) (if str_eq_ignore_ascii_case second text then Ok false else Err (BadLine column)) tt
     (if_line (str_eq_ignore_ascii_case second text) (Ok false) (Err (BadLine column)) tt refl)
 
--- the words behind names
+-- the words after names
 pub next_line : (end : ℕ) (given : List Word) → AsLine (next_word end given)
 next_line end [] = refl
 next_line end (word ∷ words) = tt

@@ -263,7 +263,7 @@ sum_by-zero : {X : Type 0} (p : X → Bool) (xs : List X) → sum_by (λ x. cond
 sum_by-zero p [] = refl
 sum_by-zero p (x ∷ xs) = omega (arith, sum_by-cons (λ x. cond (p x) 0 0) x xs, nothing (p x), sum_by-zero p xs)
 
--- the share of each node below x, where a test holds
+-- the share of each node below x, if a test holds
 only_where : (K : Capacity) (nodes : List NodeRow) (x : ℕ) (b : Bool) → sum_by (λ r. cond (is_in (chain nodes r.number) x) (cond b (space K r) 0) 0) nodes ≡ cond b (usage K nodes x) 0
 only_where K nodes x true = sym (usage_is K nodes x)
 only_where K nodes x false = sum_by-zero (λ r. is_in (chain nodes r.number) x) nodes

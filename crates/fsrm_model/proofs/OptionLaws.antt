@@ -150,7 +150,7 @@ once_free given more next once = elim (cases_Bool (may_repeat (key_of next))) [
       rw (single, none_counted (is_of k) given none) refl
 ]
 
--- words that are read as options spell them, behind those that were given
+-- words that are read as options spell them, after those that were given
 record Reading (keys : List Key) (words : List (List ℕ)) (given all : List Given) : Type 0 where
   more : List Given
   all_is : all ≡ given ++ more

@@ -62,7 +62,7 @@ names_plain (name ∷ path) h =
     let parts = and_parts (is_name name) (list_all is_name path) h in
     or_from (has_backslash name) (list_any has_backslash path) (name_parts name parts.0).1 (names_plain path parts.1)
 
--- a text is parted behind a front without a backslash
+-- a text is parted after a front without a backslash
 split_front : (front rest : List ℕ) → has_backslash front ≡ false → slice_split is_backslash (front ++ rest) ≡ in_front front (slice_split is_backslash rest)
 split_front [] rest h = refl
 split_front (b ∷ front) rest h =
@@ -149,13 +149,13 @@ volume_of text h = elim (or_cases (bytes_eq (take 3 text) (codes "D:\\")) (bytes
   | inr e ↦ inr ((bytes_eq-Decides (take 3 text) (codes "d:\\")).0 e)
 ]
 
--- and what stands behind it
-abbrev Behind : List ℕ → List ℕ → Type 0
-Behind text rest = (is_on_volume text ≡ true) × (drop 3 text ≡ rest)
+-- and what stands after it
+abbrev After : List ℕ → List ℕ → Type 0
+After text rest = (is_on_volume text ≡ true) × (drop 3 text ≡ rest)
 
-behind : (text volume rest : List ℕ) → (volume ≡ codes "D:\\") ⊎ (volume ≡ codes "d:\\") → text ≡ volume ++ rest → Behind text rest
-behind text volume rest (inl v) e = subst (λ (bs : List ℕ). Behind bs rest) (sym (e ∙ ap (λ (bs : List ℕ). bs ++ rest) v)) (refl, refl)
-behind text volume rest (inr v) e = subst (λ (bs : List ℕ). Behind bs rest) (sym (e ∙ ap (λ (bs : List ℕ). bs ++ rest) v)) (refl, refl)
+after : (text volume rest : List ℕ) → (volume ≡ codes "D:\\") ⊎ (volume ≡ codes "d:\\") → text ≡ volume ++ rest → After text rest
+after text volume rest (inl v) e = subst (λ (bs : List ℕ). After bs rest) (sym (e ∙ ap (λ (bs : List ℕ). bs ++ rest) v)) (refl, refl)
+after text volume rest (inr v) e = subst (λ (bs : List ℕ). After bs rest) (sym (e ∙ ap (λ (bs : List ℕ). bs ++ rest) v)) (refl, refl)
 
 abbrev named_parts : List (List ℕ) → Read (List (List ℕ))
 named_parts parts = guarded (list_all is_name parts) InvalidName parts
@@ -178,8 +178,8 @@ path_writes text path h =
       ];
     }
 
-path_reads_behind : (text rest : List ℕ) (path : List (List ℕ)) → Behind text rest → AreNames rest path → list_all is_name path ≡ true → path_from text ≡ Ok path
-path_reads_behind text rest path on names each =
+path_reads_after : (text rest : List ℕ) (path : List (List ℕ)) → After text rest → AreNames rest path → list_all is_name path ≡ true → path_from text ≡ Ok path
+path_reads_after text rest path on names each =
     let parts : path_parts text ≡ path = ap (λ (bs : List ℕ). without_last_empty (slice_split is_backslash bs)) on.1 ∙ names_parted rest path each names in
     let filled : list_all is_filled (path_parts text) ≡ true = ap (list_all is_filled) parts ∙ names_filled path each in
     let form : has_path_form text ≡ true = and_from (is_on_volume text) (list_all is_filled (path_parts text)) on.0 filled in
@@ -190,7 +190,7 @@ path_reads_behind text rest path on names each =
 -- and a path that is written is read
 pub path_reads : (text : List ℕ) (path : List (List ℕ)) → WritesPath text path → path_from text ≡ Ok path
 path_reads text path w = elim w.names [
-  | inl e ↦ path_reads_behind text (join_with_byte 92 path) path (behind text w.volume (join_with_byte 92 path) w.volume_is e) (inl refl) w.each
+  | inl e ↦ path_reads_after text (join_with_byte 92 path) path (after text w.volume (join_with_byte 92 path) w.volume_is e) (inl refl) w.each
   | inr e ↦
-      path_reads_behind text (join_with_byte 92 path ++ 92 ∷ []) path (behind text w.volume (join_with_byte 92 path ++ 92 ∷ []) w.volume_is e.1) (inr (e.0, refl)) w.each
+      path_reads_after text (join_with_byte 92 path ++ 92 ∷ []) path (after text w.volume (join_with_byte 92 path ++ 92 ∷ []) w.volume_is e.1) (inr (e.0, refl)) w.each
 ]

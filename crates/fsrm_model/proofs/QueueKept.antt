@@ -1,4 +1,4 @@
--- The queue of scans stays that of the rebuilding quotas where one comes, changes or goes.
+-- The queue of scans stays that of the rebuilding quotas when one comes, changes or goes.
 use Rattle.std.proofs.Common.{◌≡◌, ℕ, ◌==◌, Bool, true, false, cond, not, ◌||◌, ◌&&◌, List, [], ◌∷◌, ◌++◌, Option, Some, None, ◌⊎◌, inl, inr, refl, ap, sym, ◌∙◌, subst}
 use Rattle.std.proofs.lemmas.Option.{same_Some}
 use Rattle.std.specs.Prelude.{is_some, map, option_map, nat_lt, if◌then◌else◌}
@@ -38,7 +38,7 @@ or_none : (b : Bool) → (b || false) ≡ b
 or_none true = refl
 or_none false = refl
 
--- A folder is in the queue then exactly where its quota is rebuilding, and each other one where it was
+-- A folder is in the queue then exactly if its quota is rebuilding, and each other one if it was
 pub in_own : (queue : List ℕ) (n : ℕ) (state : QuotaState) → is_in (queued queue n state) n ≡ is_rebuilding state
 in_own queue n state = at (is_rebuilding state) (is_in queue n) refl
   where
@@ -85,7 +85,7 @@ once_queued queue n state once = at (is_rebuilding state) (is_in queue n) refl
     at true false e = once_more queue n e once
     at false d e = once_less queue n once
 
--- the queue is that of the rebuilding quotas, where one folder's quota came to be in a state
+-- the queue is that of the rebuilding quotas, if one folder's quota came to be in a state
 pub queue_set : (quotas after : List QuotaRow) (queue : List ℕ) (n : ℕ) (state : QuotaState) → IsQueue quotas queue → has_row folder_of n after ≡ true → ((q : QuotaRow) → row_of folder_of n after ≡ Some q → q.state ≡ state) → ((f : ℕ) → (f == n) ≡ false → row_of folder_of f after ≡ row_of folder_of f quotas) → IsQueue after (queued queue n state)
 queue_set quotas after queue n state k there own other =
     record {
@@ -107,7 +107,7 @@ queue_set quotas after queue n state k there own other =
         ∙ (in_own queue n state ∙ sym (ap is_rebuilding (own q (subst (λ k. row_of folder_of k after ≡ Some q) (eq_is f n t) found))))
     is f q found (inr t) = in_other queue n f state t ∙ k.rebuilding f q (sym (other f t) ∙ found)
 
--- the queue where a quota was added
+-- the queue if a quota was added
 pub queue_added : (quotas : List QuotaRow) (queue : List ℕ) (row : QuotaRow) → IsQueue quotas queue → has_row folder_of row.folder quotas ≡ false → IsQueue (with_row folder_of row quotas) (queued queue row.folder row.state)
 queue_added quotas queue row k absent =
     let found = find-with_row_same folder_of (λ r. folder_of r == folder_of row) row quotas (eq_same (folder_of row)) absent in
@@ -116,7 +116,7 @@ queue_added quotas queue row k absent =
     (λ q h. ap (λ (q : QuotaRow). q.state) (same_Some q row (sym h ∙ found)))
     (λ f t. row_of-new_other folder_of row f quotas t)
 
--- where one was changed
+-- if one was changed
 pub queue_changed : (quotas : List QuotaRow) (queue : List ℕ) (n : ℕ) (state : QuotaState) (c : QuotaRow → QuotaRow) → IsQueue quotas queue → has_row folder_of n quotas ≡ true → ((r : QuotaRow) → (c r).folder ≡ r.folder) → ((r : QuotaRow) → (c r).state ≡ state) → IsQueue (with_change folder_of n c quotas) (queued queue n state)
 queue_changed quotas queue n state c k there keeps sets =
     queue_set quotas (with_change folder_of n c quotas) queue n state k (has_row-change folder_of n c keeps n quotas ∙ there) own
@@ -131,7 +131,7 @@ queue_changed quotas queue n state c k there keeps sets =
     other f t None h = refl
     other f t (Some r) h = ap (λ b. Some (cond b (c r) r)) (ap (λ k. k == n) (found_key folder_of f quotas r h) ∙ t)
 
--- and where peaks rose
+-- and if peaks rose
 peaked_state : (K : Capacity) (nodes : List NodeRow) (m : ℕ) (q : QuotaRow) → (peaked K nodes m q).state ≡ q.state
 peaked_state K nodes m q = at (counts q && nat_lt q.peak (usage K nodes q.folder))
   where

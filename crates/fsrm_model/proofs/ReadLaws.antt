@@ -12,7 +12,7 @@ use Rattle.fsrm_model.specs.Spelling.{Writes}
 pub then_ok : {A B : Type 0} (r : Read A) (a : A) (f : A → Read B) → r ≡ Ok a → (r >>= f) ≡ f a
 then_ok {A} r a f e = ap (λ (s : Read A). s >>= f) e
 
--- where both are read, the first is
+-- if both are read, the first is
 pub both_ok : {A B : Type 0} (r : Read A) (f : A → Read B) (b : B) → (r >>= f) ≡ Ok b → (a : A) × (r ≡ Ok a) × (f a ≡ Ok b)
 both_ok (Ok a) f b e = (a, refl, e)
 both_ok (Err refusal) f b e = absurd (cc e)
@@ -28,7 +28,7 @@ guarded_then false refusal x f y e = absurd (cc e)
 pub guarded_from : {A : Type 0} (test : Bool) (refusal : Refusal) (x : A) → test ≡ true → guarded test refusal x ≡ Ok x
 guarded_from {A} test refusal x e = ap (λ (b : Bool). guarded b refusal x) e
 
--- the value of digits, where it is in range
+-- the value of digits, if it is in range
 abbrev in_range : ℕ → ℕ → ℕ → Read ℕ
 in_range low high n = guarded (nat_le low n && nat_le n high) OutOfRange n
 

@@ -1,4 +1,4 @@
--- Rows stay those of a store where their nodes, quotas and scans do: over what a command makes of them, and over its end.
+-- Rows stay those of a store if their nodes, quotas and scans do: over what a command makes of them, and over its end.
 use Rattle.std.proofs.Common.{◌≡◌, ℕ, zero, suc, ◌≤◌, ◌==◌, Bool, true, false, cond, not, ◌||◌, ◌&&◌, List, [], ◌∷◌, refl, ◌∙◌, ap, subst, arith, Some, None, Option}
 use Rattle.std.proofs.lemmas.List.Sums.{sum_by-cons}
 use Rattle.std.specs.Prelude.{is_none, map, sum_by, nat_lt, if◌then◌else◌}
@@ -120,7 +120,7 @@ valid_with K R nodes quotas queue unvisited last s volume are plain waits left l
       unvisited = left;
     }
 
--- what is left to visit, where the queue changes
+-- what is left to visit, if the queue changes
 pub same_heads : (was now : List ℕ) → same_head was now ≡ true → head was ≡ head now
 same_heads [] [] h = refl
 same_heads [] (n ∷ now) h = absurd (cc h)
@@ -138,7 +138,7 @@ left_followed K nodes was now left v same = at (same_head was now) refl
     at true e = same e
     at false e = begun (head now)
 
--- and where the nodes do
+-- and if the nodes do
 pub left_after : (nodes new : List NodeRow) (o : Option ℕ) (left : List ℕ) (after : ℕ → List ℕ) → AreLeft nodes o left → ((n : ℕ) → o ≡ Some n → AreUnvisited nodes n left → AreUnvisited new n (after n)) → AreLeft new o (option_map_or after o [])
 left_after nodes new None left after a h = refl
 left_after nodes new (Some n) left after a h = h n refl a

@@ -1,4 +1,4 @@
--- How many nodes there are, and how many bytes their names have, where one is new, moved or gone.
+-- How many nodes there are, and how many bytes their names have, when one is new, moved or gone.
 use Rattle.std.proofs.Common.{◌≡◌, ℕ, ◌+◌, true, List, length, ap, arith}
 use Rattle.fsrm_model.specs.declared.row.NodeRow.{NodeRow}
 use Rattle.fsrm_model.specs.FileOps.{placed}

@@ -1,4 +1,4 @@
--- A line is read as the command that it spells, and skipped where it spells none.
+-- A line is read as the command that it spells, and skipped if it spells none.
 use Rattle.std.proofs.Common.{◌≡◌, ℕ, List, [], ◌∷◌, ◌++◌, Bool, true, false, length, refl, sym, ◌∙◌, ap, subst, inl, inr}
 use Rattle.std.specs.Prelude.{Option, Some, None, Ok, Err, ◌+◌, ◌⊎◌, ◌==◌, ◌&&◌, not, nat_lt, nat_le, if◌then◌else◌}
 use Rattle.std.specs.Char.{is_ascii_digit}
@@ -50,18 +50,18 @@ line_read : (line : List ℕ) → IsLine line → read_line line ≡ looked_at l
 unfolding read_line
 line_read line l = rw (le-ltb longest_line (length line) l.short, l.utf8) refl
 
--- what stands behind blanks tells whether a line is skipped
+-- what stands after blanks tells whether a line is skipped
 blank_no_comment : (b : ℕ) → is_blank b ≡ true → (b == 35) ≡ false
 blank_no_comment b h = elim (cases_Bool (b == 35)) [
   | inl is ↦ absurd (true≢false (sym (subst (λ (c : ℕ). is_blank c ≡ true) (eqb-true b 35 is) h)))
   | inr other ↦ other
 ]
 
-skipped_behind : (blanks rest : List ℕ) → list_all is_blank blanks ≡ true → is_skipped (blanks ++ rest) ≡ is_skipped rest
-skipped_behind [] rest h = refl
-skipped_behind (b ∷ blanks) rest h =
+skipped_after : (blanks rest : List ℕ) → list_all is_blank blanks ≡ true → is_skipped (blanks ++ rest) ≡ is_skipped rest
+skipped_after [] rest h = refl
+skipped_after (b ∷ blanks) rest h =
     let tests = and_parts (is_blank b) (list_all is_blank blanks) h in
-    rw (blank_no_comment b tests.0, tests.0) (skipped_behind blanks rest tests.1)
+    rw (blank_no_comment b tests.0, tests.0) (skipped_after blanks rest tests.1)
 
 -- a line that is skipped: blanks, and a comment or nothing
 record SkippedLine (line : List ℕ) : Type 0 where
@@ -103,7 +103,7 @@ read_skips line h =
 
 pub skips_read : (line : List ℕ) → Skips line → read_line line ≡ None
 skips_read line s =
-    let skipped : is_skipped line ≡ true = ap is_skipped s.line_is ∙ skipped_behind s.blanks s.rest s.are_blanks ∙ none_skipped s.rest s.none in
+    let skipped : is_skipped line ≡ true = ap is_skipped s.line_is ∙ skipped_after s.blanks s.rest s.are_blanks ∙ none_skipped s.rest s.none in
     line_read line s.is_line ∙ ap (λ (test : Bool). if test then None else Some (read_words line)) skipped
 
 -- a number is no comment
@@ -129,7 +129,7 @@ spelled_no_comment line moment words s number =
     let w = s.5 in
     let text : is_number (text_of_pieces w.pieces) ≡ true = ap is_number (sym w.text_is) ∙ number in
     ap is_skipped s.3
-    ∙ skipped_behind s.0 (s.1 ++ s.2) s.4
+    ∙ skipped_after s.0 (s.1 ++ s.2) s.4
     ∙ ap (λ (bs : List ℕ). is_skipped (bs ++ s.2)) w.spelling_is
     ∙ pieces_no_comment w.pieces s.2 w.each text
 

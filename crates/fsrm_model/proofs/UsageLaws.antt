@@ -29,7 +29,7 @@ apart_sum : (a b : Bool) (x : ℕ) → (a ≡ true → b ≡ false) → cond (a 
 apart_sum true b x h = omega (arith, ap (λ b. cond b x 0) (h refl))
 apart_sum false b x h = omega arith
 
--- what a node other than the root adds below a folder: where it is the folder, and where its parent is below it
+-- what a node other than the root adds below a folder: if it is the folder, and if its parent is below it
 up_sum : (nodes : List NodeRow) → IsTree nodes → (n f x : ℕ) → Has nodes (suc n) → cond (is_under nodes f (suc n)) x 0 ≡ cond (suc n == f) x 0 + cond (is_under nodes f (parent_of nodes (suc n))) x 0
 up_sum nodes t n f x h =
     let up = parent_of nodes (suc n) in
@@ -66,7 +66,7 @@ root_sum nodes f x =
     no_root zero b x = refl
     no_root (suc k) b x = nothing_at (not (suc k == 0) && b) (0 == suc k) x (eq_turned _ _ (suc_apart k))
 
--- a node is below a folder where it is the folder or is below one of its children
+-- a node is below a folder if it is the folder or is below one of its children
 below_in : (nodes : List NodeRow) → IsTree nodes → is_ascending number nodes ≡ true → (most n f x : ℕ) → Has nodes n → length (chain nodes n) ≤ most → cond (is_under nodes f n) x 0 ≡ cond (n == f) x 0 + sum_by (λ c. cond (is_under nodes c.number n) x 0) (children nodes f)
 below_in nodes t a most zero f x h l = omega (arith, ap (λ b. cond b x 0) (chain_root nodes f), root_sum nodes f x)
 below_in nodes t a zero (suc n) f x h l = absurd (omega (arith, ap length (chain_step nodes n (t.rooted (suc n) h))))

@@ -170,13 +170,13 @@ spelled_words (text ∷ ts) line s =
     let spelling = s.1 in
     let rest = s.2 in
     let w = s.5 in
-    let behind = spelled_words ts rest s.7 in
-    let open_there : is_open false (spelling ++ rest) ≡ false = ap (λ (bs : List ℕ). is_open false (bs ++ rest)) w.spelling_is ∙ pieces_open w.pieces rest w.each ∙ behind.0 in (
+    let after = spelled_words ts rest s.7 in
+    let open_there : is_open false (spelling ++ rest) ≡ false = ap (λ (bs : List ℕ). is_open false (bs ++ rest)) w.spelling_is ∙ pieces_open w.pieces rest w.each ∙ after.0 in (
       ap (is_open false) s.3 ∙ blanks_open blanks (spelling ++ rest) s.4 ∙ open_there,
-      ap (λ (bs : List ℕ). texts_of (parts_from false bs)) s.3 ∙ blanks_texts blanks (spelling ++ rest) s.4 ∙ spelled_texts spelling text rest w s.6 ∙ ap (λ (more : List (List ℕ)). text ∷ more) behind.1,
+      ap (λ (bs : List ℕ). texts_of (parts_from false bs)) s.3 ∙ blanks_texts blanks (spelling ++ rest) s.4 ∙ spelled_texts spelling text rest w s.6 ∙ ap (λ (more : List (List ℕ)). text ∷ more) after.1,
     )
 
--- a line's first word, which may be empty, and what stands behind it
+-- a line's first word, which may be empty, and what stands after it
 record WordThen (line : List ℕ) : Type 0 where
   pieces : List Piece
   each : ArePieces pieces

@@ -7,7 +7,7 @@ use Rattle.fsrm_model.specs.declared.command.Refusal.TheVariants.{VolumeFull, Na
 use Rattle.fsrm_model.specs.Limits.{most_quotas}
 use Rattle.fsrm_model.specs.Tree.{name_bytes}
 
--- the refusal, where its condition holds
+-- the refusal, if its condition holds
 abbrev pub Check : Type 0
 Check = Option Refusal
 

@@ -8,14 +8,14 @@ pub record Civil : Type 0 where
   pub month : ℕ
   pub day : ℕ
 
--- the date of a day, where day 0 begins this month, and so many months may be left
+-- the date of a day, if day 0 begins this month, and so many months may be left
 abbrev pub in_months : ℕ → ℕ → ℕ → ℕ → Civil
 in_months zero year month day = record { year = year; month = month; day = day + 1 }
 in_months (suc months) year month day =
     if nat_lt day (days_in_month (pos year) month) then record { year = year; month = month; day = day + 1 }
     else in_months months year (month + 1) (day - days_in_month (pos year) month)
 
--- the date of a day, where day 0 begins this year, and so many years may be left
+-- the date of a day, if day 0 begins this year, and so many years may be left
 abbrev pub in_years : ℕ → ℕ → ℕ → Civil
 in_years zero year day = in_months 11 year 1 day
 in_years (suc years) year day =

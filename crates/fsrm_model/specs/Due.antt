@@ -9,6 +9,6 @@ use Rattle.fsrm_model.specs.declared.command.Act.{Act}
 abbrev pub due : Capacity → Rows → Rows → ℕ → List Act
 due K before after moment = []
 
--- where a quota refuses that the nodes become these: those of its thresholds that would have been reached
+-- if a quota refuses that the nodes become these: those of its thresholds that would have been reached
 abbrev pub due_refused : Capacity → Rows → List NodeRow → ℕ → List Act
 due_refused K R nodes moment = []

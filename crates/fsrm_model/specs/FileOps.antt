@@ -6,7 +6,7 @@ use Rattle.fsrm_model.specs.declared.command.FileOp.TheVariants.{Mkdir, Create, 
 use Rattle.fsrm_base.specs.Keyed.{with_row, with_change, without_row}
 use Rattle.fsrm_model.specs.Tree.{number, fresh, resolve, folder_part, last_name}
 
--- the node that a path leads to; 0 where it leads to none
+-- the node that a path leads to; 0 if it leads to none
 abbrev pub target : List NodeRow → List (List ℕ) → ℕ
 target nodes path = unwrap_or (resolve nodes path) 0
 

@@ -26,7 +26,7 @@ new_checks K R path after =
     ∷ (AlreadyExists when leads R.nodes path)
     ∷ volume_full K after ∷ names_full K after ∷ []
 
--- The refusals of a move. A place that is the node's own, as where the spelling alone changes, isn't taken
+-- The refusals of a move. A place that is the node's own, as when the spelling alone changes, isn't taken
 abbrev pub move_checks : Capacity → Rows → List (List ℕ) → List (List ℕ) → Rows → List Check
 move_checks K R from to after =
     (PathNotFound when not (leads R.nodes from))
@@ -53,7 +53,7 @@ file_checks K R (Touch path) after = (PathNotFound when not (leads_to_file R.nod
 file_checks K R (Move from to) after = move_checks K R from to after
 file_checks K R (Remove path) after = remove_checks R path
 
--- what is unvisited, in the scan of a folder, behind a file operation that leaves these nodes
+-- what is unvisited, in the scan of a folder, after a file operation that leaves these nodes
 abbrev pub unvisited_in : Rows → List NodeRow → FileOp → ℕ → List ℕ
 unvisited_in R nodes (Mkdir path owner) scanned = unvisited_with (new_node R.nodes path true 0 owner 0) R.unvisited
 unvisited_in R nodes (Move from to) scanned =
@@ -61,7 +61,7 @@ unvisited_in R nodes (Move from to) scanned =
 unvisited_in R nodes (Remove path) scanned = without_number (target R.nodes path) R.unvisited
 unvisited_in R nodes other scanned = R.unvisited
 
--- the same of the active scan, where there is one
+-- the same of the active scan, if there is one
 abbrev pub unvisited_after : Rows → List NodeRow → FileOp → List ℕ
 unvisited_after R nodes op = option_map_or (unvisited_in R nodes op) (head R.queue) []
 
@@ -76,7 +76,7 @@ file_effect R op moment =
     let nodes = plain R.nodes op moment in
     objects_after op R (record R { nodes = nodes; unvisited = unvisited_after R nodes op })
 
--- a file operation lasts where it is accepted, and answers no more than that it was done
+-- a file operation lasts if it is accepted, and answers no more than that it was done
 abbrev pub file_work : Capacity → Rows → FileOp → ℕ → Work
 file_work K R op moment =
     let after = file_effect R op moment in

@@ -14,17 +14,17 @@ use Rattle.fsrm_model.specs.Words.{Word, words, is_blank}
 use Rattle.fsrm_model.specs.Options.{options}
 use Rattle.fsrm_model.specs.Tools.{Names, named, ToolCommand, tools}
 
--- the next word and those behind it. One that is missing is refused behind the line's end
+-- the next word and those after it. One that is missing is refused at the column after the line's end
 abbrev pub next_word : ℕ → List Word → Read (Word × List Word)
 next_word end [] = Err (BadLine end)
 next_word end (word ∷ words) = Ok (word, words)
 
--- x, where no word is left
+-- x, if no word is left
 abbrev pub no_more : {X : Type 0} → List Word → X → Read X
 no_more [] x = Ok x
 no_more (word ∷ words) x = Err (BadLine word.column)
 
--- the next word's value, and the words behind it
+-- the next word's value, and the words after it
 abbrev pub number_word : ℕ → ℕ → ℕ → List Word → Read (ℕ × List Word)
 number_word low high end given = do
   word ← next_word end given
@@ -43,7 +43,7 @@ owner_word end given = number_word 1 last_owner end given
 abbrev pub length_word : ℕ → List Word → Read (ℕ × List Word)
 length_word end given = number_word 0 longest_file end given
 
--- the words behind each command's name
+-- the words after each command's name
 abbrev pub mkdir_words : ℕ → List Word → Read Deed
 mkdir_words end given = do
   path ← path_word end given
@@ -89,18 +89,18 @@ step_words end given = do
   visits ← number_word 1 most_visits end given
   no_more visits.1 (Step visits.0)
 
--- what reads the words behind a name
+-- what reads the words after a name
 abbrev pub Reader : Type 0
 Reader = ℕ → List Word → Read Deed
 
--- what the next word's name stands for goes on with the words behind it
+-- what the next word's name stands for goes on with the words after it
 abbrev pub named_word : {X : Type 0} → Names X → ℕ → List Word → (X → List Word → Read Deed) → Read Deed
 named_word names end given next = do
   name ← next_word end given
   own ← known (BadLine name.0.column) (named names name.0.text)
   next own name.1
 
--- the options behind the names of a tool's command. One that is missing is refused behind the line's end
+-- the options after the names of a tool's command. One that is missing is refused at the column after the line's end
 abbrev pub option_words : ToolCommand → Reader
 option_words command end words = do
   given ← options command.keys words []
@@ -155,7 +155,7 @@ is_line_refusal OutOfRange = true
 is_line_refusal InvalidLimit = true
 is_line_refusal other = false
 
--- None where the line is skipped without a reply. Its length is judged first, then its bytes, then its words
+-- None if the line is skipped without a reply. Its length is judged first, then its bytes, then its words
 unfoldable pub read_line : List ℕ → Option (Read Command)
 read_line line =
     if nat_lt longest_line (length line) then Some (Err LineTooLong)

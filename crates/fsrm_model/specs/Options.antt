@@ -1,5 +1,5 @@
 -- The options of the tools' commands: words of the form /Name:value, in any order. Each may be given once, or any
--- number of times where it may repeat.
+-- number of times if it may repeat.
 use Rattle.std.specs.Prelude.{ℕ, ◌==◌, ◌||◌, not, Bool, false, List, [], ◌∷◌, ◌++◌, find, codes, Ok, Option, Some, None, is_some, if◌then◌else◌}
 use Rattle.std.specs.List.{list_any, before_first, after_first}
 use Rattle.std.specs.Option.{option_or}
@@ -49,7 +49,7 @@ value_from TheLimit column text = limit_from column text >>= λ limit. Ok (Limit
 value_from TheType column text = choice_from (codes "hard") (codes "soft") column text >>= λ enforce. Ok (TypeIs enforce)
 value_from TheStatus column text = choice_from (codes "enabled") (codes "disabled") column text >>= λ enabled. Ok (StatusIs enabled)
 
--- the value, where it is that of the option
+-- the value, if it is that of the option
 abbrev pub path_in : Given → Option (List (List ℕ))
 path_in (PathIs path) = Some path
 path_in other = None
@@ -89,14 +89,14 @@ key_named keys name = find (λ key. str_eq_ignore_ascii_case (key_name key) name
 abbrev pub word_key : List Key → List ℕ → Option Key
 word_key keys text = if list_any is_colon text then key_named keys (before_first is_colon text) else None
 
--- one more option behind those that were given. That it is given again is judged before its value
+-- one more option after those that were given. That it is given again is judged before its value
 abbrev pub with_option : Key → ℕ → List ℕ → List Given → Read (List Given)
 with_option key column text given = do
   fresh ← guarded (may_repeat key || not (list_any (is_of key) given)) (BadLine column) key
   value ← value_from fresh column text
   Ok (given ++ value ∷ [])
 
--- the options that words give, behind those that were given
+-- the options that words give, after those that were given
 abbrev pub options : List Key → List Word → List Given → Read (List Given)
 options keys [] given = Ok given
 options keys (word ∷ words) given = do

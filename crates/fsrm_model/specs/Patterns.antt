@@ -9,7 +9,7 @@ use Rattle.fsrm_model.specs.Limits.{longest_name}
 use Rattle.fsrm_model.specs.Name.{is_name_byte, same_name}
 
 -- ---- patterns, over the characters of a name
--- whether some end of a name passes a test: the whole name, what is left behind its first character, and so on to the empty end
+-- whether some end of a name passes a test: the whole name, what is left after its first character, and so on to the empty end
 abbrev pub some_end : (List ℕ → Bool) → List ℕ → Bool
 some_end test [] = test []
 some_end test (c ∷ cs) = test (c ∷ cs) || some_end test cs

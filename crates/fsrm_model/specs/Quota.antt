@@ -31,7 +31,7 @@ is_complete Disabled = false
 is_complete Rebuilding = false
 is_complete Incomplete = false
 
--- a quota counts exactly where it is complete
+-- a quota counts exactly if it is complete
 abbrev pub counts : QuotaRow → Bool
 counts quota = is_complete quota.state
 
@@ -57,7 +57,7 @@ abbrev pub exceeded : Capacity → Rows → List NodeRow → Check
 exceeded K R nodes =
     option_map (λ quota. QuotaExceeded quota.folder (usage K nodes quota.folder) quota.limit) (deepest nodes (over K R nodes))
 
--- a quota behind a command of this moment: a usage that is greater than its peak is its new peak
+-- a quota after a command of this moment: a usage that is greater than its peak is its new peak
 abbrev pub peaked : Capacity → List NodeRow → ℕ → QuotaRow → QuotaRow
 peaked K nodes moment quota =
     if counts quota && nat_lt quota.peak (usage K nodes quota.folder)

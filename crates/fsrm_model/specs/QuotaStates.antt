@@ -28,17 +28,17 @@ is_disabled Incomplete = false
 abbrev pub state_of : Rows → ℕ → QuotaState
 state_of R folder = option_map_or (λ quota. quota.state) (quota_of R folder) Disabled
 
--- what a quota is that is made or enabled: where its folder has a child, what is in it is to be counted first
+-- what a quota is that is made or enabled: if its folder has a child, what is in it is to be counted first
 abbrev pub start : List NodeRow → ℕ → QuotaState
 start nodes folder = if length (children nodes folder) == 0 then Complete else Rebuilding
 
--- the state that a status asks for, where one is given. One that holds already changes nothing
+-- the state that a status asks for, if one is given. One that holds already changes nothing
 abbrev pub state_after : Rows → ℕ → Option Bool → QuotaState
 state_after R folder None = state_of R folder
 state_after R folder (Some false) = Disabled
 state_after R folder (Some true) = if is_disabled (state_of R folder) then start R.nodes folder else state_of R folder
 
--- The queue where a folder's quota has this state: exactly the rebuilding quotas are in it. A new one goes to its end
+-- The queue once a folder's quota has this state: exactly the rebuilding quotas are in it. A new one goes to its end
 abbrev pub queued : List ℕ → ℕ → QuotaState → List ℕ
 queued queue folder state =
     if is_rebuilding state then (if is_in queue folder then queue else queue ++ folder ∷ []) else without_number folder queue
@@ -74,7 +74,7 @@ same_head (a ∷ as') (b ∷ bs) = a == b
 abbrev pub scan_begun : List NodeRow → List ℕ → List ℕ
 scan_begun nodes queue = option_map_or (folders_under nodes) (head queue) []
 
--- the rows that a command makes of these, where a scan begins when another folder comes to the head of the queue
+-- the rows that a command makes of these: a scan begins if another folder comes to the head of the queue
 abbrev pub followed : Rows → Rows → Rows
 followed before after =
     record after { unvisited = if same_head before.queue after.queue then after.unvisited else scan_begun after.nodes after.queue }

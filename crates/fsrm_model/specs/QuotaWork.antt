@@ -36,7 +36,7 @@ new_quota folder limit enforce state moment =
       peak_at = moment;
     }
 
--- a valid command gives a limit. The quota is hard where no type is given
+-- a valid command gives a limit. The quota is hard if no type is given
 abbrev pub add_work : Rows → ℕ → List (List ℕ) → Option ℕ → Option Bool → Bool → Work
 add_work R moment path limit enforce enabled =
     let folder = target R.nodes path in
@@ -46,7 +46,7 @@ add_work R moment path limit enforce enabled =
     ((PathNotFound when not (leads_to_folder R.nodes path)) ∷ (AlreadyExists when is_some (quota_of R folder)) ∷ table_full after ∷ [])
     after (Done None) true
 
--- a quota with another limit, or of another type, where these are given. All else of it stays
+-- a quota with another limit, or of another type, if these are given. All else of it stays
 abbrev pub modified : Option ℕ → Option Bool → QuotaRow → QuotaRow
 modified limit enforce quota = record quota { limit = unwrap_or limit quota.limit; enforce = unwrap_or enforce quota.enforce }
 
@@ -61,7 +61,7 @@ abbrev pub delete_work : Rows → List (List ℕ) → Work
 delete_work R path =
     asks (quota_checks R path) (without_quota R (target R.nodes path)) (Done None) true
 
--- the peak is what is used now, where the quota counts, and else 0
+-- the peak is what is used now, if the quota counts, and else 0
 abbrev pub reset : Capacity → Rows → ℕ → QuotaRow → QuotaRow
 reset K R moment quota = record quota { peak = if counts quota then usage K R.nodes quota.folder else 0; peak_at = moment }
 
@@ -71,7 +71,7 @@ reset_work K R moment path =
     (record R { quotas = with_change folder_of (target R.nodes path) (reset K R moment) R.quotas })
     (Done None) true
 
--- a list changes nothing. Where no folder is named, all quotas are listed
+-- a list changes nothing. If no folder is named, all quotas are listed
 abbrev pub list_work : Rows → Option (List (List ℕ)) → Work
 list_work R None = asks [] R (Listing (Quotas None)) false
 list_work R (Some path) = asks (quota_checks R path) R (Listing (Quotas (Some (target R.nodes path)))) false

@@ -13,13 +13,13 @@ use Rattle.fsrm_model.specs.Quota.{is_limit}
 abbrev pub Read : Type 0 → Type 0
 Read X = Result X Refusal
 
--- what is read next, where this could be read
+-- what is read next, if this could be read
 infixl 10 ◌>>=◌
 abbrev pub ◌>>=◌ : {A B : Type 0} → Read A → (A → Read B) → Read B
 (Ok x) >>= f = f x
 (Err refusal) >>= f = Err refusal
 
--- x, where the test holds
+-- x, if the test holds
 abbrev pub guarded : {A : Type 0} → Bool → Refusal → A → Read A
 guarded true refusal x = Ok x
 guarded false refusal x = Err refusal
@@ -37,14 +37,14 @@ number_from low high column text = do
 abbrev pub is_backslash : ℕ → Bool
 is_backslash b = b == 92
 
--- parts without the last one, where that is empty
+-- parts without the last one, if that is empty
 abbrev pub without_last_empty : List (List ℕ) → List (List ℕ)
 without_last_empty [] = []
 without_last_empty ([] ∷ []) = []
 without_last_empty ([] ∷ part ∷ parts) = [] ∷ without_last_empty (part ∷ parts)
 without_last_empty ((b ∷ bs) ∷ parts) = (b ∷ bs) ∷ without_last_empty parts
 
--- what stands between the backslashes behind the volume. A last backslash ends the path
+-- what stands between the backslashes after the volume. A last backslash ends the path
 abbrev pub path_parts : List ℕ → List (List ℕ)
 path_parts text = without_last_empty (slice_split is_backslash (drop 3 text))
 

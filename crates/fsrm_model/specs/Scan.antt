@@ -29,12 +29,12 @@ abbrev pub visits : ℕ → List NodeRow → List ℕ → List ℕ
 visits zero nodes unvisited = unvisited
 visits (suc n) nodes unvisited = visits n nodes (visit nodes unvisited)
 
--- A new folder is unvisited exactly where its parent is. A folder that is removed no longer is
+-- A new folder is unvisited exactly if its parent is. A folder that is removed no longer is
 abbrev pub unvisited_with : NodeRow → List ℕ → List ℕ
 unvisited_with node unvisited =
     if node.folder && is_in unvisited node.parent then with_number node.number unvisited else unvisited
 
--- What is unvisited in the scan of a folder after a node was moved. Where the scanned folder itself moves, at or
+-- What is unvisited in the scan of a folder after a node was moved. If the scanned folder itself moves, at or
 -- below the node, nothing changes. A node that comes to lie outside takes its folders out. One that comes from
 -- outside, or under an unvisited folder, has all its folders to be visited. Else each of them stays as it was.
 abbrev pub unvisited_moved : (before after : List NodeRow) → ℕ → ℕ → ℕ → List ℕ → List ℕ

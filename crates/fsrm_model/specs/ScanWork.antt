@@ -16,7 +16,7 @@ use Rattle.fsrm_model.specs.Scan.{visits}
 use Rattle.fsrm_model.specs.Tree.{usage}
 use Rattle.fsrm_model.specs.Work.{Work, asks}
 
--- A quota that is complete or incomplete is scanned anew, behind those that wait already. Only from complete does
+-- A quota that is complete or incomplete is scanned anew, after those that wait already. Only from complete does
 -- this last: what a scan has counted is lost with the run
 abbrev pub scan_work : Rows → List (List ℕ) → Work
 scan_work R path =
@@ -24,7 +24,7 @@ scan_work R path =
     asks (quota_checks R path ++ (InvalidCombination when is_disabled (state_of R folder)) ∷ [])
     (with_state R folder Rebuilding) (Done None) (option_map_or counts (quota_of R folder) false)
 
--- At most so many visits of the active scan. Where nothing is unvisited then, the scan is finished: its quota is
+-- At most so many visits of the active scan. If nothing is unvisited then, the scan is finished: its quota is
 -- complete, and the next one begins
 abbrev pub step_work : Capacity → Rows → ℕ → Work
 step_work K R n =

@@ -20,7 +20,7 @@ abbrev pub onto_first : ℕ → List (List ℕ) → List (List ℕ)
 onto_first b [] = (b ∷ []) ∷ []
 onto_first b (line ∷ lines) = (b ∷ line) ∷ lines
 
--- the lines of a script: what stands before each LF, and what is left behind the last where that isn't empty
+-- the lines of a script: what stands before each LF, and what is left after the last if that isn't empty
 abbrev pub lines : List ℕ → List (List ℕ)
 lines [] = []
 lines (b ∷ bs) = if is_end b then [] ∷ lines bs else onto_first b (lines bs)
@@ -66,7 +66,7 @@ abbrev pub fold_from : Capacity → Rows → ℕ → List (List ℕ) → Rows
 fold_from K R line [] = R
 fold_from K R line (l ∷ ls) = fold_from K (replied K R line l).rows (line + 1) ls
 
--- the text of a script's replies: what the program writes where it comes to the end, and else a front of it
+-- the text of a script's replies: what the program writes if it comes to the end, and else a front of it
 abbrev pub text : Capacity → Rows → List ℕ → List ℕ
 text K R script = text_from K R 1 (lines script)
 

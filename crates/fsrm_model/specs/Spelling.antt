@@ -54,7 +54,7 @@ abbrev pub EndsWord : List ℕ → Type 0
 EndsWord [] = Unit {0}
 EndsWord (b ∷ bs) = is_blank b ≡ true
 
--- a line is these words, with blanks between them, and maybe before the first and behind the last
+-- a line is these words, with blanks between them, and maybe before the first and after the last
 abbrev pub SpellsWords : List ℕ → List (List ℕ) → Type 0
 SpellsWords line [] = list_all is_blank line ≡ true
 SpellsWords line (text ∷ texts) =
@@ -68,7 +68,7 @@ pub record Writes (low high : ℕ) (digits : List ℕ) (n : ℕ) : Type 0 where
   pub least : low ≤ n
   pub most : n ≤ high
 
--- The volume, and the names parted by backslashes. One more may stand behind the last name
+-- The volume, and the names parted by backslashes. One more may stand after the last name
 pub record WritesPath (text : List ℕ) (path : List (List ℕ)) : Type 0 where
   pub each : list_all is_name path ≡ true
   pub volume : List ℕ
@@ -183,7 +183,7 @@ pub record Spells (line : List ℕ) (command : Command) : Type 0 where
   pub moment_is : Writes 0 latest_moment moment command.moment
   pub deed_is : SpellsDeed words command.deed
 
--- a line is skipped that has blanks alone, or a # behind them
+-- a line is skipped if it has nothing but blanks, or if its first byte that is no blank is a #
 pub record Skips (line : List ℕ) : Type 0 where
   pub is_line : IsLine line
   pub blanks : List ℕ

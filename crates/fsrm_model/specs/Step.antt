@@ -47,7 +47,7 @@ pub record Acted : Type 0 where
 abbrev pub unacted : Rows → Acted
 unacted R = record { rows = R; acts = [] }
 
--- what follows where a screen judged a name: its entry in the audit log, and the screen's actions. So far nothing
+-- what follows if a screen judged a name: its entry in the audit log, and the screen's actions. So far nothing
 abbrev pub screened : Rows → ℕ → Option Judged → Acted
 screened after moment judged = unacted after
 
@@ -67,7 +67,7 @@ lasted K before after moment outcome =
 abbrev pub unlasting : Rows → Outcome → Stepped
 unlasting R outcome = record { rows = R; outcome = outcome; lasting = false; acts = [] }
 
--- what a refusal leaves, where it leaves something. So far none does
+-- what a refusal leaves, if it leaves something. So far none does
 abbrev pub left_by : Capacity → Rows → ℕ → Work → Refusal → Option Acted
 left_by K R moment w refusal = None
 
@@ -79,7 +79,7 @@ refused_leaving K R moment refusal (Some after) = lasted K R after moment (Refus
 abbrev pub refused : Capacity → Rows → ℕ → Work → Refusal → Stepped
 refused K R moment w refusal = refused_leaving K R moment refusal (left_by K R moment w refusal)
 
--- a command that no check refuses. Behind its effect a scan may begin
+-- a command that no check refuses. After its effect a scan may begin
 abbrev pub accepted : Capacity → Rows → ℕ → Work → Stepped
 accepted K R moment w =
     let after = followed R w.effect in

@@ -13,7 +13,7 @@ abbrev pub named : {X : Type 0} → Names X → List ℕ → Option X
 named [] name = None
 named (row ∷ rows) name = if str_eq_ignore_ascii_case row.0 name then Some row.1 else named rows name
 
--- the options that a command takes, and what it asks for where they are given: None where one is missing that is required
+-- the options that a command takes, and what it asks for if they are given: None if one is missing that is required
 pub record ToolCommand : Type 0 where
   pub keys : List Key
   pub deed : List Given → Option Deed
@@ -26,7 +26,7 @@ needs value given deed = option_and_then deed (one value given)
 abbrev pub of_path : (List (List ℕ) → Deed) → ToolCommand
 of_path deed = record { keys = ThePath ∷ []; deed = λ given. needs path_in given (λ path. Some (deed path)) }
 
--- a quota is enabled where nothing else is given
+-- a quota is enabled if nothing else is given
 abbrev pub quota_add : ToolCommand
 quota_add =
     record {

@@ -13,7 +13,7 @@ use Rattle.fsrm_model.specs.Space.{space}
 abbrev pub number : NodeRow → ℕ
 number node = node.number
 
--- the node of a number; its parent, its name, and whether it is a folder. Where no node has the number: None,
+-- the node of a number; its parent, its name, and whether it is a folder. If no node has the number: None,
 -- 0, no bytes and false
 abbrev pub node_of : List NodeRow → ℕ → Option NodeRow
 node_of nodes n = row_of number n nodes

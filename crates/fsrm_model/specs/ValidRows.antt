@@ -52,7 +52,7 @@ wrong_nodes =
     ∷ [])
     ≡ false ∷ false ∷ false ∷ false ∷ false ∷ []
 
--- with a quota: it is on a file, it stands behind one of a greater number, it is there twice, its limit is too small or
+-- with a quota: it is on a file, it stands after one of a greater number, it is there twice, its limit is too small or
 -- too great, its peak is of a later moment, it has a threshold, it has a template
 abbrev pub wrong_quotas : Type 0
 wrong_quotas =

@@ -25,7 +25,7 @@ pub record IsQueue (quotas : List QuotaRow) (queue : List ℕ) : Type 0 where
   pub queued : (folder : ℕ) → is_in queue folder ≡ true → has_row folder_of folder quotas ≡ true
   pub rebuilding : (folder : ℕ) (quota : QuotaRow) → row_of folder_of folder quotas ≡ Some quota → is_in queue folder ≡ is_rebuilding quota.state
 
--- what the active scan has still to visit; nothing where there is none
+-- what the active scan has still to visit; nothing if there is none
 abbrev pub are_left : List NodeRow → Option ℕ → List ℕ → Bool
 are_left nodes None [] = true
 are_left nodes None (n ∷ unvisited) = false

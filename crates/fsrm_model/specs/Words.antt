@@ -1,5 +1,5 @@
 -- The words of a line. A line is parted at the blanks that no quotes enclose. A word is a part that isn't
--- empty, without its quotes; so a word may be empty where it is quoted.
+-- empty, without its quotes; so a word may be empty if it is quoted.
 use Rattle.std.specs.Prelude.{ℕ, ◌+◌, ◌-◌, ◌%◌, ◌==◌, ◌&&◌, ◌||◌, not, Bool, false, List, [], ◌∷◌, length, filter, count_by, Ok, Err, if◌then◌else◌}
 use Rattle.std.specs.List.{suffix_len, onto_first}
 use Rattle.fsrm_model.specs.declared.command.Refusal.TheVariants.{BadLine}

@@ -1,4 +1,4 @@
--- What a command asks for: why it may be refused, and what it does where it isn't.
+-- What a command asks for: why it may be refused, and what it does if it isn't.
 use Rattle.std.specs.Prelude.{ℕ, Bool, List, Option, None}
 use Rattle.fsrm_model.specs.declared.row.Rows.{Rows}
 use Rattle.fsrm_model.specs.declared.row.ScreenRow.{ScreenRow}
@@ -18,7 +18,7 @@ pub record Work : Type 0 where
   -- the rows that its effect leaves
   pub effect : Rows
   pub outcome : Outcome
-  -- whether it lasts where it is accepted
+  -- whether it lasts if it is accepted
   pub lasts : Bool
   -- what a screen judges; so far nothing
   pub judged : Option Judged

@@ -126,7 +126,7 @@ out_for_good =
     text default_capacity new_rows (codes "100 mkdir D:\\h 1\n100 mkdir D:\\h\\m 1\n100 mkdir D:\\h\\m\\n 1\n100 create D:\\h\\m\\f 1 1\n100 create D:\\h\\m\\n\\g 1 1\n100 dirquota quota add /Path:D:\\h /Limit:1mb\n100 step 2\n100 move D:\\h\\m D:\\m\n100 step 1\n")
     ≡ codes "1 ok\n2 ok\n3 ok\n4 ok\n5 ok\n6 ok\n7 ok visited 2 of D:\\h\n8 ok\n9 ok visited 0 of D:\\h done 0\n"
 
--- what is refused of scans, and a disabled quota that is enabled where its folder has a child
+-- what is refused of scans, and a disabled quota that is enabled while its folder has a child
 abbrev pub scan_refusals : Type 0
 scan_refusals =
     text default_capacity new_rows (codes "100 step 1\n100 dirquota quota scan /Path:D:\\\n100 dirquota quota add /Path:D:\\ /Limit:1kb /Status:disabled\n100 dirquota quota scan /Path:D:\\\n100 create D:\\f 5000 1\n100 dirquota quota add /Path:D:\\ /Limit:1kb\n100 dirquota quota modify /Path:D:\\ /Status:enabled\n100 step 1\n100 dirquota quota resetpeak /Path:D:\\x\n")

@@ -65,7 +65,7 @@ pub enum FileOp {
     Remove { path: Path },
 }
 
-/// An action that a threshold gets, and the threshold itself where it isn't there. The action has no last run.
+/// An action that a threshold gets; a quota that hasn't the threshold gets that too. The action has no last run.
 #[derive(Drop)]
 pub struct Added {
     /// 1 to 250.
@@ -87,7 +87,7 @@ pub enum Deed {
         n: u32,
     },
     /// Limits what the files at and below a folder take, in bytes (MS-FSRM, IFsrmQuota). A hard quota is
-    /// enforced, a soft one only watches. It is hard where its type isn't given. No line gives a template or
+    /// enforced, a soft one only watches. It is hard if its type isn't given. No line gives a template or
     /// thresholds so far.
     QuotaAdd {
         path: Path,
@@ -113,7 +113,7 @@ pub enum Deed {
     QuotaDelete {
         path: Path,
     },
-    /// Has what a folder's files take counted afresh, by the active scan or behind it (MS-FSRM, IFsrmQuotaManager,
+    /// Has what a folder's files take counted afresh, by a scan that waits for its turn (MS-FSRM, IFsrmQuotaManager,
     /// Scan).
     QuotaScan {
         path: Path,
@@ -155,7 +155,7 @@ pub enum Outcome {
         bytes: u64,
     },
     Listing(Ask),
-    /// Folders that the scan of a folder visited, and, where it is finished, the bytes that the files at and below
+    /// Folders that the scan of a folder visited, and, if it is finished, the bytes that the files at and below
     /// the folder take.
     Scanned {
         folder: u32,

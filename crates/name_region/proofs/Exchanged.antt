@@ -1,4 +1,4 @@
--- Rings in which what is behind two nodes is exchanged.
+-- Rings in which the nodes after two nodes are exchanged.
 use Rattle.std.proofs.Common.{◌≡◌, ◌≢◌, ℕ, ◌<◌, List, length, set, ap, sym, ◌∙◌, arith, inl, inr}
 use Rattle.std.specs.Prelude.{◌⊎◌, slice_index}
 use Rattle.std.specs.List.{swap}
@@ -8,7 +8,7 @@ use Rattle.std.proofs.lemmas.List.Edits.{swapped_from_swap, length-swap}
 use Rattle.name_region.specs.Rings.{AreRings, IsOneToOne}
 use Rattle.name_region.proofs.Slots.{Which, which}
 
--- what is behind two nodes is exchanged
+-- the nodes after two nodes are exchanged
 pub record AreExchanged (old new : List ℕ) (a b : ℕ) : Type 0 where
   pub count : length new ≡ length old
   pub a_is : slice_index new a ≡ slice_index old b

@@ -20,12 +20,12 @@ positive n never (inl is) = absurd (never is)
 positive n never (inr other) = omega (arith, other)
 
 module _ (front : ℕ) (block : List ℕ) (slots : List Slot) (behind : List ℕ) (rooms : AreRooms block slots) (links : AreLinked front (length block) slots behind) (once : IsOneToOne behind) where
-  -- a node behind another one has bytes of text
+  -- a node after another one has bytes of text
   behind_some : (k : ℕ) → k < length slots → slice_index behind k < length slots → slice_index behind k ≢ k → slice_index behind k ≢ front → (slot_of slots (slice_index behind k)).length ≡ 0 → ⊥
   behind_some k k_in next_in not_itself not_front none =
       not_itself (once (slice_index behind k) k (omega (arith, next_in, links.linked)) (omega (arith, k_in, links.linked)) (links.alone (slice_index behind k) next_in not_front none))
 
-  -- a hole that isn't in a room ends behind it or before it
+  -- a hole that isn't in a room ends after it or before it
   beyond : (k node : ℕ) → k ≢ node → (slot_of slots k).length < (slot_of slots k).room → (slot_of slots node).place ≤ end_of (slot_of slots k)
       → (end_of (slot_of slots k) < (slot_of slots node).place + (slot_of slots node).room) ⊎ ((slot_of slots node).place + (slot_of slots node).room ≤ end_of (slot_of slots k))
       → (slot_of slots node).place + (slot_of slots node).room ≤ end_of (slot_of slots k)
@@ -93,7 +93,7 @@ module _ (front : ℕ) (block : List ℕ) (slots : List Slot) (behind : List ℕ
       full = λ k apart hole. omega (arith, room_end, full_by k apart hole (which k last node));
     }
 
-    -- and the texts end behind where they ended
+    -- and the texts end after the place where they ended
     pub end_later : end_of (slot_of slots last) < end_of (slot_of (slid last node slots) node)
     end_later = omega (arith, gathered.some more, ap (λ s. s.place) slid_changed.b_is, ap (λ s. s.length) slid_changed.b_is)
 

@@ -8,7 +8,7 @@ use Rattle.std.specs.Vec.{vec_capacity}
 use Rattle.name_region.specs.Contents.{Contents, with_text, bytes_of, used, live_count}
 use Rattle.name_region.specs.Kept.{IsKept, IsFree}
 
--- the bytes, and the live keys, where a key gets its text
+-- the bytes, and the live keys, if a key gets its text
 pub used-put : (c : Contents) (key : ℕ) (text : List ℕ) → IsFree c key → used (with_text c key (Some text)) ≡ used c + length text
 used-put c key text free = omega (arith, sum_by-set bytes_of c.texts key (Some text) None free.within, ap bytes_of free.dead)
 

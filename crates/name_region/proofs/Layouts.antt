@@ -21,7 +21,7 @@ use Rattle.name_region.proofs.Texts.{texts_set, texts_same, length-texts_in, tex
 pub slot_read : (slots : List Slot) (node : ℕ) (slot : Slot) → node < length slots → slot ≡ slice_index_or slots node slot → slot ≡ slot_of slots node
 slot_read slots node slot node_in is = get_or_read slots node slot node_in is no_slot
 
--- a slot behind the text of another one
+-- a slot after the text of another one
 abbrev pub behind_text : Slot → ℕ → Slot
 behind_text head length = record { place = end_of head; length = length; room = head.room - head.length; live = true }
 

@@ -1,4 +1,4 @@
--- The order of the rooms, where two slots change.
+-- The order of the rooms, when two slots change.
 use Rattle.std.proofs.Common.{◌≡◌, ◌≢◌, ℕ, ◌+◌, ◌<◌, List, length, ap, sym, ◌∙◌, arith, inl, inr, refl}
 use Rattle.std.specs.Prelude.{slice_index}
 use Rattle.name_region.specs.declared.slot.Slot.{Slot}
@@ -33,7 +33,7 @@ module _ (front bytes : ℕ) (slots : List Slot) (behind : List ℕ) (links : Ar
   b_behind : (k j : ℕ) → k < length slots → j < length slots → slice_index behind j ≡ b → slice_index behind k ≡ b → k ≡ j
   b_behind k j k_in j_in is same = once k j (omega (arith, k_in, links.linked)) (omega (arith, j_in, links.linked)) (same ∙ sym is)
 
-  -- ---- the second slot, which was alone, comes behind the first one
+  -- ---- the second slot, which was alone, comes after the first one
   module _ (next : List ℕ) (exchanged : AreExchanged behind next b a) (lonely : slice_index behind b ≡ b)
       (start : second.place ≡ first.place + first.room) (end : second.place + second.room ≡ (slot_of slots a).place + (slot_of slots a).room)
       (some : 0 < second.length) (hole : (slot_of slots a).length < (slot_of slots a).room) where
@@ -89,7 +89,7 @@ module _ (front bytes : ℕ) (slots : List Slot) (behind : List ℕ) (links : Ar
       alone = λ k k_in. put_alone k (omega (arith, k_in, changed.count)) (which k a b);
     }
 
-  -- ---- the second slot, which is behind the first one, moves to it
+  -- ---- the second slot, which is after the first one, moves to it
   module _ (leads : slice_index behind a ≡ b)
       (start : second.place ≡ first.place + first.room) (end : second.place + second.room ≡ (slot_of slots b).place + (slot_of slots b).room)
       (some : 0 < second.length) (room : 0 < (slot_of slots b).room) where
@@ -128,7 +128,7 @@ module _ (front bytes : ℕ) (slots : List Slot) (behind : List ℕ) (links : Ar
       alone = λ k k_in. slide_alone k (omega (arith, k_in, changed.count)) (which k a b);
     }
 
-  -- ---- the second slot, which is behind the first one, falls to it
+  -- ---- the second slot, which is after the first one, falls to it
   module _ (next : List ℕ) (exchanged : AreExchanged behind next b a) (leads : slice_index behind a ≡ b)
       (none : second ≡ no_slot) (end : first.place + first.room ≡ (slot_of slots b).place + (slot_of slots b).room) where
     itself_then : slice_index next b ≡ b

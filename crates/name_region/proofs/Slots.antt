@@ -91,7 +91,7 @@ closed_at slots last last_in full k (inr apart) =
     let e : slot_of (set slots last (closed (slot_of slots last))) k ≡ slot_of slots k = get_or-set_other slots last k (closed (slot_of slots last)) no_slot apart in
     omega (arith, ap (λ s. s.room) e, ap (λ s. s.length) e, full k apart)
 
--- where all other slots have no hole
+-- if all other slots have no hole
 pub sum_rooms : (slots : List Slot) (last : ℕ) → last < length slots → ((k : ℕ) → k ≢ last → (slot_of slots k).room ≤ (slot_of slots k).length)
     → sum_by (λ s. s.room) slots + (slot_of slots last).length ≤ sum_by (λ s. s.length) slots + (slot_of slots last).room
 sum_rooms slots last last_in full =

@@ -88,7 +88,7 @@ no_text_by block slot false is none = is
 pub no_text : (block : List ℕ) (slot : Slot) → text_in block slot ≡ None → slot.live ≡ false
 no_text block slot none = no_text_by block slot slot.live refl none
 
--- a key without a text has none where all texts are the same
+-- a key without a text has none if all texts are the same
 pub dead_same : (front now : ℕ) (block next : List ℕ) (slots new : List Slot) (key : ℕ) → now ≡ front → front ≤ length slots → front ≤ length new → key < front
     → texts_in now next new ≡ texts_in front block slots → (slot_of slots key).live ≡ false → (slot_of new key).live ≡ false
 dead_same front now block next slots new key is most most_new key_in same dead =

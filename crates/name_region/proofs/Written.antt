@@ -16,7 +16,7 @@ module _ (old new : List ℕ) (at : ℕ) (text : List ℕ) (written : IsWritten 
       ∙ (ap (drop at) written.front
       ∙ drop_at (take at old) text at (length-take-le at old (omega (arith, written.within))))
 
-  -- what stood before it and what stood behind it are there still
+  -- what stood before it and what stood after it are there still
   stays_before : (place n : ℕ) → place + n ≤ at → take n (drop place new) ≡ take n (drop place old)
   stays_before place n before =
       sym (drop-take place n new)

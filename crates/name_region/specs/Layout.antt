@@ -70,7 +70,7 @@ pub record AreRooms (block : List ℕ) (slots : List Slot) : Type 0 where
   pub are_texts : (k : ℕ) → IsUtf8 (take (slot_of slots k).length (drop (slot_of slots k).place block))
   pub dead : (k : ℕ) → (slot_of slots k).live ≡ false → (slot_of slots k).length ≡ 0
 
--- Each room ends where that of the node behind begins, or with the block where that is the front. A node without
+-- Each room ends where that of the next node begins, or with the block if that is the front. A node without
 -- bytes of text is alone, if it isn't the front.
 pub record AreLinked (front bytes : ℕ) (slots : List Slot) (behind : List ℕ) : Type 0 where
   pub count : length slots ≡ front + 1
@@ -92,7 +92,7 @@ IsLayout layout = AreLaidOut layout.front layout.holes layout.block.items layout
 abbrev pub texts_of : Layout → List (Option (List ℕ))
 texts_of layout = texts_in layout.front layout.block.items layout.slots.items
 
--- a node that is no front is behind another one
+-- a node that is no front comes after another one
 pub record Leads (layout : Layout) (before node : ℕ) : Type 0 where
   pub before_in : before < length layout.slots.items
   pub node_in : node < length layout.slots.items

@@ -1,11 +1,11 @@
--- Nodes in rings, by the one before each and the one behind it.
+-- Nodes in rings, by the one before each and the one after it.
 use Rattle.std.specs.Prelude.{◌≡◌, ℕ, ◌<◌, List, length, slice_index}
 
--- no node is behind two others
+-- no node comes after two others
 abbrev pub IsOneToOne : List ℕ → Type 0
 IsOneToOne behind = (i j : ℕ) → i < length behind → j < length behind → slice_index behind i ≡ slice_index behind j → i ≡ j
 
--- what is before the one behind a node, and behind the one before it, is the node
+-- the one before the one after a node, and the one after the one before it, is the node
 pub record AreRings (before behind : List ℕ) : Type 0 where
   pub count : length before ≡ length behind
   pub within_before : (k : ℕ) → k < length behind → slice_index before k < length behind

@@ -53,7 +53,7 @@ impl Holes {
         }
     }
 
-    /// A node with a hole that is so wide. None exactly where there is no such hole.
+    /// A node with a hole that is so wide. None exactly if there is no such hole.
     pub fn find(&self, slots: &[Slot], width: u32) -> Option<u32>
         requires nodes { self.now ≡ length slots.now }
         requires width { 0 < width }
@@ -89,7 +89,7 @@ impl Holes {
         None
     }
 
-    // The first node whose hole is so wide. It looks at each one, since texts are moved where there is none.
+    // The first node whose hole is so wide. It looks at each one, since texts are moved if there is none.
     fn first_of_all(&self, slots: &[Slot], width: u32) -> Option<u32>
         requires nodes { self.now ≡ length slots.now }
         requires within { IsWithin slots.now }

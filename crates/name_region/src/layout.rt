@@ -117,7 +117,7 @@ impl Layout {
         self.holes.note(before, room - head.length);
     }
 
-    // A node with a hole that is so wide. Only where there is none are the texts moved together.
+    // A node with a hole that is so wide. The texts are moved together only if there is none.
     fn hole(&mut self, width: u32) -> u32
         requires layout { IsLayout self.old }
         requires width { 0 < width }
@@ -135,7 +135,7 @@ impl Layout {
         }
     }
 
-    // Puts a text into the hole of a node, for a key that has none. What is left of the hole is behind it.
+    // Puts a text into the hole of a node, for a key that has none. What is left of the hole comes after it.
     fn fill(&mut self, key: u32, hole: u32, text: &str)
         requires layout { IsLayout self.old }
         requires key { key < self.old.front }
@@ -167,7 +167,7 @@ impl Layout {
         self.holes.note(key, slot.room - slot.length);
     }
 
-    // Moves all texts together, and answers the node behind which all other bytes then are.
+    // Moves all texts together, and answers the node after which all other bytes then are.
     fn gather(&mut self) -> u32
         requires layout { IsLayout self.old }
         ensures layout { IsLayout self.new }
@@ -188,7 +188,7 @@ impl Layout {
         last
     }
 
-    // Moves the text of a node into the hole before it, which is behind it then.
+    // Moves the text of a node into the hole before it, which comes after it then.
     fn slide(&mut self, before: u32, node: u32)
         requires layout { IsLayout self.old }
         requires nodes { Leads self.old before node }

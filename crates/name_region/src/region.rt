@@ -56,10 +56,11 @@ impl Region {
         })
     }
 
-    /// Stores a text, and answers its key, below the number of keys. Full exactly where the texts
-    /// would take more bytes than were reserved, otherwise NoKey exactly where all keys are live.
-    /// It takes time for the text's length, and for all texts where they have to be moved together, which
-    /// is only where no hole between two of them, nor what is left behind the last one, is so long.
+    /// Stores a text, and answers its key, below the number of keys. Full exactly if the texts
+    /// would take more bytes than were reserved, otherwise NoKey exactly if all keys are live.
+    ///
+    /// It takes time for the text's length. All texts have to be moved together only if no hole between two of them,
+    /// and no bytes after the last one, are so long; then it takes time for all of them.
     pub fn store(&mut self, text: &str) -> Result<u32, RegionFault>
         ensures key { IfOk result (λ key. key < length self.old.texts) }
         ensures dead { IfOk result (λ key. text_of self.old key ≡ None) }

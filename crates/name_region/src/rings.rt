@@ -9,8 +9,8 @@ use fsrm_base::NoMemory;
 use std::alloc::Global;
 use std::marker::Model;
 
-/// Nodes, numbered from 0. Each stands in a ring, between one before it and one behind it; where it is
-/// alone, both are itself. Contracts see for each node the one behind it.
+/// Nodes, numbered from 0. Each stands in a ring, between one before it and one after it; if it is
+/// alone, both are itself. Contracts see for each node the one after it.
 #[derive(Drop)]
 pub struct Rings {
     before: Vec<u32>,
@@ -39,7 +39,7 @@ impl Rings {
         Ok(Rings { before, behind })
     }
 
-    /// The node behind one.
+    /// The node after one.
     pub fn behind(&self, node: u32) -> u32
         requires { node < length self.now }
         ensures value { result ≡ slice_index self.now node }
@@ -59,8 +59,8 @@ impl Rings {
         self.before[node as usize]
     }
 
-    /// Exchanges what is behind two nodes. So one that is alone comes behind the other one, and one that
-    /// is behind the other one is alone.
+    /// Exchanges the nodes after two nodes. So one that is alone comes after the other one, and one that
+    /// comes after the other one is alone then.
     pub fn exchange(&mut self, first: u32, second: u32)
         requires first { first < length self.old }
         requires second { second < length self.old }

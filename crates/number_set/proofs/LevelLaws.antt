@@ -29,7 +29,7 @@ set_range a zero = refl
 set_range a (suc zero) = refl
 set_range a (suc (suc k)) = ap (λ b. b && is_set (range_with_len (a + 1) (suc k))) (lt_test a (a + 1) (omega arith)) ∙ set_range (a + 1) (suc k)
 
--- no bit is set behind the last word
+-- no bit is set past the last word
 pub past : (words : List ℕ) (n : ℕ) → length words ≤ n / 64 → has_bit words n ≡ false
 unfolding has_bit
 past words n h = ap (λ w. bit_at w (n % 64) == 1) (get_or_past words (n / 64) 0 h) ∙ ap (λ b. b == 1) (bit_at-zero (n % 64))
@@ -88,7 +88,7 @@ marks_with up new old words p m same occupied is =
       members = λ k. in_with p k up.members ∙ (ap (λ b. (p == k) || b) (m.members k) ∙ sym (occupied k));
     })
 
--- where the places stay
+-- if the places stay
 pub marks_stay : (up : Numbers) (old words : List ℕ) → Marks up old → length words ≡ length old → ((k : ℕ) → is_occupied words k ≡ is_occupied old k) → Marks up words
 marks_stay up old words m same occupied =
     record { several = omega (arith, m.several); bound = m.bound ∙ sym same; set = m.set; members = λ k. m.members k ∙ sym (occupied k) }
@@ -169,7 +169,7 @@ first_is_least (k ∷ ns) m h g below =
           cc
     ]
 
--- the first word that has a bit, where any has
+-- the first word that has a bit, if any has
 pub record IsFirstWord (words : List ℕ) (place : ℕ) : Type 0 where
   pub inside : place < length words
   pub below : (k : ℕ) → k < place → is_occupied words k ≡ false

@@ -135,15 +135,15 @@ both_fits nodes counters from to s d minus plus f t e fits = record {
       (subst (λ o. bytes - cond (is_above nodes o folder) minus 0 + cond (is_above nodes to folder) plus 0 < 2 ^ 64) (f ∙ ap Some e) (fits folder bytes used)));
 }
 
--- what a counter stands at behind a climb
-abbrev pub bytes_behind : List NodeRow → ℕ → ℕ → ℕ → ℕ → ℕ → ℕ
-bytes_behind nodes start minus plus folder n = if is_under nodes folder start then amended minus plus n else n
+-- what a counter stands at after a climb
+abbrev pub bytes_after : List NodeRow → ℕ → ℕ → ℕ → ℕ → ℕ → ℕ
+bytes_after nodes start minus plus folder n = if is_under nodes folder start then amended minus plus n else n
 
-behind_at : (b : Bool) (minus plus : ℕ) (r : Counter) → (cond b (amended_counter minus plus r) r).bytes ≡ cond b (amended minus plus r.bytes) r.bytes
-behind_at true minus plus r = refl
-behind_at false minus plus r = refl
+after_at : (b : Bool) (minus plus : ℕ) (r : Counter) → (cond b (amended_counter minus plus r) r).bytes ≡ cond b (amended minus plus r.bytes) r.bytes
+after_at true minus plus r = refl
+after_at false minus plus r = refl
 
-used_climbed : (nodes : List NodeRow) (start minus plus folder : ℕ) (old : List Counter) → used_in (climbed nodes start minus plus old) folder ≡ option_map (bytes_behind nodes start minus plus folder) (used_in old folder)
+used_climbed : (nodes : List NodeRow) (start minus plus folder : ℕ) (old : List Counter) → used_in (climbed nodes start minus plus old) folder ≡ option_map (bytes_after nodes start minus plus folder) (used_in old folder)
 used_climbed nodes start minus plus folder old =
     ap (option_map (λ (counter : Counter). counter.bytes)) (find-map (λ (r : Counter). counted r == folder) g (λ r. ap (λ j. j == folder) (own_key minus plus (is_under nodes r.folder start) r)) old)
     ∙ same (row_of counted folder old) refl
@@ -151,10 +151,10 @@ used_climbed nodes start minus plus folder old =
     g : Counter → Counter
     g r = if is_under nodes r.folder start then amended_counter minus plus r else r
 
-    same : (o : Option Counter) → row_of counted folder old ≡ o → option_map (λ (counter : Counter). counter.bytes) (option_map g o) ≡ option_map (bytes_behind nodes start minus plus folder) (option_map (λ (counter : Counter). counter.bytes) o)
+    same : (o : Option Counter) → row_of counted folder old ≡ o → option_map (λ (counter : Counter). counter.bytes) (option_map g o) ≡ option_map (bytes_after nodes start minus plus folder) (option_map (λ (counter : Counter). counter.bytes) o)
     same None e = refl
     same (Some r) e =
-        ap Some (behind_at (is_under nodes r.folder start) minus plus r)
+        ap Some (after_at (is_under nodes r.folder start) minus plus r)
         ∙ ap (λ f. Some (cond (is_under nodes f start) (amended minus plus r.bytes) r.bytes)) (found_key counted folder old r e)
 
 mapped_fits : (P : ℕ → Type 0) (h : ℕ → ℕ) (o : Option ℕ) → ((n : ℕ) → o ≡ Some n → P (h n)) → (m : ℕ) → option_map h o ≡ Some m → P m
@@ -169,7 +169,7 @@ second_at a false n minus plus h g = cc
 pub second_fits : (nodes : List NodeRow) (old middle : List Counter) (from to : Option ℕ) (s d minus plus : ℕ) → from ≡ Some s → to ≡ Some d → middle ≡ climbed nodes s minus 0 old → FitsBy nodes old from to minus plus → FitsAbove nodes middle d 0 plus
 second_fits nodes old middle from to s d minus plus f t m fits = record {
   fits = λ folder bytes on used.
-      mapped_fits (λ n. n - 0 + plus < 2 ^ 64) (bytes_behind nodes s minus 0 folder) (used_in old folder)
+      mapped_fits (λ n. n - 0 + plus < 2 ^ 64) (bytes_after nodes s minus 0 folder) (used_in old folder)
       (λ n h.
       second_at (is_under nodes folder s) (is_under nodes folder d) n minus plus on
       (subst (λ o. n - cond (is_under nodes folder s) minus 0 + cond (is_above nodes o folder) plus 0 < 2 ^ 64) t

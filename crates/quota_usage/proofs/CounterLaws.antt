@@ -75,7 +75,7 @@ not_gap counters folder place h gap = clash _ h gap.absent
 pub not_at : (counters : List Counter) (folder place : ℕ) → is_ascending counted counters ≡ true → has_row counted folder counters ≡ false → IsAt counted folder counters place → ⊥
 not_at counters folder place a h at = clash _ (found_has counted folder counters _ (row_at counters folder place at)) h
 
--- what is kept where the counters came to others of their folders
+-- what is kept if the counters came to others of their folders
 length_map : {X Y : Type 0} (f : X → Y) (xs : List X) → length (map f xs) ≡ length xs
 length_map f [] = refl
 length_map f (x ∷ xs) = ap suc (length_map f xs)

@@ -169,7 +169,7 @@ pub record Gives (nodes : List NodeRow) (quotas : List QuotaRow) (change : Chang
 on_way : (nodes : List NodeRow) (quotas : List QuotaRow) (counters : List Counter) (change : Change) (d : ℕ) (q : QuotaRow) → Gives nodes quotas change d → refuses_change nodes counters change q ≡ true → is_under nodes q.folder d ≡ true
 on_way nodes quotas counters change d q c is = ap (λ o. is_above nodes o q.folder) (sym c.to) ∙ over_on nodes counters change q is
 
--- where none refuses
+-- if none refuses
 none_over : (nodes : List NodeRow) (quotas : List QuotaRow) (counters : List Counter) (change : Change) → is_ascending folder_of quotas ≡ true → ((f : ℕ) (q : QuotaRow) → row_of folder_of f quotas ≡ Some q → refuses_change nodes counters change q ≡ false) → over_by nodes quotas counters change ≡ []
 none_over nodes quotas counters change a h =
     none_kept (refuses_change nodes counters change) quotas
@@ -189,7 +189,7 @@ admitted_nowhere nodes quotas counters change a e =
     none_over nodes quotas counters change a
     (λ f q found. not_true _ (λ is. clash (is_above nodes change.to q.folder) (over_on nodes counters change q is) (ap (λ o. is_above nodes o q.folder) e)))
 
--- where one refuses
+-- if one refuses
 above_first : (nodes : List NodeRow) (quotas : List QuotaRow) (counters : List Counter) (change : Change) (d : ℕ) (x : Exceeded) → Gives nodes quotas change d → (n : IsFirst nodes (refusal_at nodes quotas counters change) d x) → (f : ℕ) (q : QuotaRow) → row_of folder_of f quotas ≡ Some q → refuses_change nodes counters change q ≡ true → is_under nodes f n.place ≡ true
 above_first nodes quotas counters change d x c n f q found is =
     elim (is_or_not (is_under nodes f n.place)) [

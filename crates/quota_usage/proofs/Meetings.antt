@@ -83,7 +83,7 @@ pub common_to : (nodes : List NodeRow) → IsTree nodes → (from at_from at_to 
 common_to nodes t from at_from at_to up ht i u common f on above =
     common f on (ap (λ ns. is_in ns f) (climb nodes t at_to ht i) ∙ or_later (at_to == f) _ (ap (is_under nodes f) (sym u) ∙ above))
 
--- what is judged where the quota is on one way, or on both
+-- what is judged if the quota is on one way, or on both
 pub moved_at : (nodes : List NodeRow) (quotas : List QuotaRow) (counters : List Counter) (from to minus plus f : ℕ) → is_under nodes f from ≡ false → is_under nodes f to ≡ true → moved_refusal nodes quotas counters from to minus plus f ≡ refusal_of quotas counters 0 plus f
 moved_at nodes quotas counters from to minus plus f off on =
     ap (λ b. refusal_of quotas counters (cond b minus 0) (cond (is_under nodes f to) plus 0) f) off
@@ -116,7 +116,7 @@ nearest_same nodes was is start (Some e) same n = record {
   below = λ f on off. same f on ∙ n.below f on off;
 }
 
--- the first behind the meeting is the first of the whole way
+-- the first after the meeting is the first of the whole way
 met_at : (nodes : List NodeRow) (was is : ℕ → Option Exceeded) (to node f : ℕ) (b : Bool) → is_under nodes f node ≡ b → ((f : ℕ) → is_under nodes f node ≡ true → is f ≡ was f) → (is_under nodes f node ≡ true → was f ≡ None) → (is_under nodes f node ≡ false → is f ≡ None) → is f ≡ None
 met_at nodes was is to node f true e same above below = same f e ∙ above e
 met_at nodes was is to node f false e same above below = below e

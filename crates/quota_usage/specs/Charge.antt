@@ -11,7 +11,7 @@ use Rattle.quota_usage.specs.declared.change.Counter.{Counter}
 use Rattle.quota_usage.specs.declared.change.Exceeded.{Exceeded}
 use Rattle.quota_usage.specs.Counters.{used_in}
 
--- whether a folder is the other one or above it, where there is another one
+-- whether a folder is the other one or above it, if there is another one
 abbrev pub is_above : List NodeRow → Option ℕ → ℕ → Bool
 is_above nodes None folder = false
 is_above nodes (Some below) folder = is_under nodes folder below
@@ -34,7 +34,7 @@ refuses_change nodes counters change quota =
 abbrev pub over_by : List NodeRow → List QuotaRow → List Counter → Change → List QuotaRow
 over_by nodes quotas counters change = filter (refuses_change nodes counters change) quotas
 
--- what a quota tells that refuses: its folder, what its counter would come to, and its limit
+-- the refusal by a quota: its folder, what its counter would come to, and its limit
 abbrev pub told_of : List NodeRow → List Counter → Change → QuotaRow → Exceeded
 told_of nodes counters change quota =
     record {
@@ -43,7 +43,7 @@ told_of nodes counters change quota =
       limit = quota.limit;
     }
 
--- what the deepest of them tells
+-- the refusal by the deepest of them
 abbrev pub exceeded_by : List NodeRow → List QuotaRow → List Counter → Change → Option Exceeded
 exceeded_by nodes quotas counters change = option_map (told_of nodes counters change) (deepest nodes (over_by nodes quotas counters change))
 

@@ -17,7 +17,7 @@ pub fn search(counters: &[Counter], folder: u32) -> Result<usize, usize>
     counters.binary_search_by_key(&folder, |counter| counter.folder)
 }
 
-/// Takes bytes from a folder's counter, as many as it has at most, and then gives it others. Where the
+/// Takes bytes from a folder's counter, as many as it has at most, and then gives it others. If the
 /// folder has none nothing is done.
 pub fn amend(counters: &mut [Counter], folder: u32, minus: u64, plus: u64)
     requires ascending { is_ascending counted counters.old ≡ true }

@@ -39,7 +39,7 @@ pub head_front : (K : Capacity) (R : Rows) (moment line : ℕ) (ask : Ask) (outc
 head_front K R moment line ask outcome a b shown is e h =
     rw is (front_more a b (head_line R.nodes line (Done None)) (list_lines K R ask) (rw e at h))
 
--- the lines of a list behind its head
+-- the lines of a list after its head
 pub list_text : {T E : Type 0} (r : Result T E) (K : Capacity) (R : Rows) (moment line : ℕ) (ask : Ask) (outcome : Outcome) (a b c : Option (List ℕ)) (shown : List ℕ) → outcome ≡ Listing ask → shown ≡ head_line R.nodes line (Done None) → b ≡ append_known a shown → Sends r b c (list_lines K R ask) → Sends r a c (reply K R moment line outcome)
 list_text r K R moment line ask outcome a b c shown is e p h =
     rw is (sends_then r a b c (head_line R.nodes line (Done None)) (list_lines K R ask) (rw e at p) h)

@@ -56,7 +56,7 @@ unfolding line_text moment_text
 line_same K R quota used path h e p =
     parts_same (decimal quota.limit) (mode_word quota.enforce) (state_word quota.state) _ _ (decimal quota.peak) (date_text quota.peak_at) _ _ (used_same K R quota used h e) p
 
--- a row that stands behind another has a greater key
+-- a row that stands after another has a greater key
 later_key : {X : Type 0} (key : X → ℕ) (x q : X) (xs : List X) (k : ℕ) → is_ascending key (x ∷ xs) ≡ true → slice_get xs k ≡ Some q → key x < key q
 later_key key x q [] k a h = cc
 later_key key x q (y ∷ ys) zero a h =
@@ -84,7 +84,7 @@ pub sum_more : (f : QuotaRow → ℕ) (rows : List QuotaRow) (k : ℕ) (q : Quot
 sum_more f rows k q h =
     sum_by_more f rows k q (slice_get_within rows k q h) ∙ ap (λ r. sum_by f (take k rows) + f r) (get_or_from_slice_get rows k q q h)
 
--- what is shown of one line more, and what of it where the sink failed
+-- what is shown of one line more, and what of it if the sink failed
 pub shows_line : (f : QuotaRow → List ℕ) (rows : List QuotaRow) (k : ℕ) (q : QuotaRow) (a b c : Option (List ℕ)) → slice_get rows k ≡ Some q → b ≡ append_known a (flat_map f (take k rows)) → c ≡ append_known b (f q) → c ≡ append_known a (flat_map f (take (k + 1) rows))
 shows_line f rows k q a b c h p r =
     shows_then a b c (flat_map f (take k rows)) (f q) p r ∙ ap (append_known a) (sym (flat_more f rows k q h))

@@ -14,7 +14,7 @@ sent r a b t u e h = subst (λ x. Sends r a b x) e h
 pub composed : (shown built old more : List ℕ) → shown ≡ built → built ≡ old ++ more → old ≡ [] → shown ≡ more
 composed shown built old more p q e = p ∙ q ∙ ap (λ (xs : List ℕ). xs ++ more) e
 
--- one text behind another
+-- one text after another
 pub sends_then : {T E : Type 0} (r : Result T E) (a b c : Option (List ℕ)) (t u : List ℕ) → b ≡ append_known a t → Sends r b c u → Sends r a c (t ++ u)
 sends_then (Ok x) a b c t u p h = shows_then a b c t u p h
 sends_then (Err e) a b c t u p h = shows_then_front a b c t u p h
@@ -26,7 +26,7 @@ front_more a b xs ys h = record {
   is_front = (h.is_front.0 ++ ys, ap (λ (zs : List ℕ). zs ++ ys) h.is_front.1 ∙ append_assoc h.front h.is_front.0 ys);
 }
 
--- one part of a text behind another
+-- one part of a text after another
 pub joined : (old a b x y : List ℕ) → a ≡ old ++ x → b ≡ a ++ y → b ≡ old ++ (x ++ y)
 joined old a b x y p q = q ∙ ap (λ (xs : List ℕ). xs ++ y) p ∙ append_assoc old x y
 

@@ -5,7 +5,7 @@ use Rattle.fsrm_outside.specs.Shown.{ShowsFront}
 use Rattle.reply_text.specs.declared.fault.TextFault.{TextFault}
 use Rattle.reply_text.specs.declared.fault.TextFault.TheVariants.{WriteFault, NoMemory}
 
--- the whole text is shown where it was written, and else a front of it
+-- the whole text is shown if it was written, and else a front of it
 abbrev pub Sends : {T E : Type 0} → Result T E → Option (List ℕ) → Option (List ℕ) → List ℕ → Type 0
 Sends (Ok value) before after text = after ≡ append_known before text
 Sends (Err fault) before after text = ShowsFront before after text

@@ -11,7 +11,7 @@ use fsrm_outside::Failed;
 pub enum TextFault {
     /// The sink failed, and counted that.
     WriteFault,
-    /// There was no memory.
+    /// Memory ran out.
     NoMemory,
 }
 

@@ -33,7 +33,7 @@ pub fn append_sum(text: &mut String, bytes: u64, path: &str) -> Result<(), NoMem
     Ok(())
 }
 
-/// Appends the reply to a step of the scan of a folder, by its path: how many folders it visited, and, where the
+/// Appends the reply to a step of the scan of a folder, by its path: how many folders it visited, and, if the
 /// scan is finished, what the files at and below the folder take, in bytes.
 pub fn append_visited(
     text: &mut String,

@@ -42,7 +42,7 @@ fn state_word(state: QuotaState) -> &'static str
     }
 }
 
-// Appends what is used, in bytes, where the quota counts.
+// Appends what is used, in bytes, if the quota counts.
 fn append_used(text: &mut String, used: Option<u64>) -> Result<(), NoMemory>
     ensures { OnOk result (string_bytes text.new ≡ string_bytes text.old ++ used_word used) }
 {

@@ -204,7 +204,7 @@ scanned_follows v f x d name g is w =
     let same : scanned f ≡ x = ap (λ o. unwrap_or o 0) is in
     whole_follows v f x d name g.stands w (whole v f x d name g (ap (is_under v.nodes x) same ∙ under_own v.nodes x))
 
--- where the scanned folder is below the node, both places are outside
+-- if the scanned folder is below the node, both places are outside
 far_place : (v : Volume) (f : Front) (n : ℕ) → Stands v f → Has v.nodes n → is_under v.nodes (scanned f) n ≡ false → IsOutside ≡ standing v.nodes f n
 far_place v f n s hn e =
     let a = tops_of v f s in

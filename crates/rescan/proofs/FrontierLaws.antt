@@ -1,5 +1,5 @@
 -- What a frontier says at its beginning and at its end.
-use Rattle.std.proofs.Common.{◌≡◌, ℕ, ◌≤◌, ◌==◌, Bool, true, false, cond, not, ◌||◌, ◌&&◌, List, [], ◌∷◌, length, Some, refl, sym, ◌∙◌, ap, subst, arith}
+use Rattle.std.proofs.Common.{◌≡◌, ℕ, ◌==◌, Bool, true, false, cond, not, ◌||◌, ◌&&◌, List, [], ◌∷◌, length, Some, refl, sym, ◌∙◌, ap, subst, arith}
 use Rattle.std.proofs.lemmas.Bool.Decides.{nat_tests}
 use Rattle.std.specs.Prelude.{map, filter}
 use Rattle.std.specs.List.{list_any}
@@ -26,7 +26,7 @@ use Rattle.rescan.proofs.Tops.{in_unvisited, above_of, stands_by, tops_of}
 use Rattle.fsrm_base.proofs.RowLaws.{each_found}
 use Rattle.fsrm_model.proofs.ValidLaws.{found_parent}
 
--- no folder is unvisited exactly where there is no topmost one
+-- no folder is unvisited exactly if there is no topmost one
 some_top : (tops : List ℕ) (t : ℕ) → is_in tops t ≡ true → (length tops == 0) ≡ false
 some_top [] t h = cc
 some_top (x ∷ xs) t h = suc_apart (length xs)

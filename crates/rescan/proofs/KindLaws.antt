@@ -97,7 +97,7 @@ kind_counted K n c k nodes f row v w found =
     let new = with_change number n c nodes in
     omega (arith, counted_is K new w f, counted_is K nodes v f, kind_parts K n c k nodes f new, sum_by-with_change number (part K nodes f) n c row nodes v.ascending found)
 
--- where each node keeps its length, the same is counted
+-- if each node keeps its length, the same is counted
 pub kind_counted_same : (K : Capacity) (n : ℕ) (c : NodeRow → NodeRow) → KeepsKind c → ((r : NodeRow) → (c r).length ≡ r.length) → (nodes : List NodeRow) (f : Front) → IsVolume K nodes → IsVolume K (with_change number n c nodes) → counted K (with_change number n c nodes) (scanned f) (unvisited (with_change number n c nodes) f) ≡ counted K nodes (scanned f) (unvisited nodes f)
 kind_counted_same K n c k l nodes f v w =
     let new = with_change number n c nodes in
@@ -112,7 +112,7 @@ kind_counted_same K n c k l nodes f v w =
     ∙ (sum_by_each (λ r. part K nodes f (g r)) (part K nodes f) (λ r. cond_same (part K nodes f) c own (number r == n) r) nodes
     ∙ sym (counted_is K nodes v f))))
 
--- the nodes before the change are a tree where those after it are one
+-- the nodes before the change are a tree if those after it are one
 pub kind_tree_back : (n : ℕ) (c : NodeRow → NodeRow) → KeepsKind c → (nodes : List NodeRow) → IsTree (with_change number n c nodes) → IsTree nodes
 kind_tree_back n c k nodes t =
     let new = with_change number n c nodes in

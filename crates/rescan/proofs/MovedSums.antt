@@ -1,4 +1,4 @@
--- What is counted after a move, where the scanned folder doesn't move.
+-- What is counted after a move, if the scanned folder doesn't move.
 use Rattle.std.proofs.Common.{◌≡◌, ℕ, ◌+◌, ◌==◌, Bool, true, false, cond, not, ◌||◌, ◌&&◌, List, refl, sym, ◌∙◌, ap, inl, inr, arith, Some}
 use Rattle.std.specs.Prelude.{sum_by, if◌then◌else◌}
 use Rattle.std.specs.List.{AllByRecursion}

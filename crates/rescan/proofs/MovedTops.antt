@@ -1,4 +1,4 @@
--- Which folders are unvisited after a move, where the scanned folder doesn't move.
+-- Which folders are unvisited after a move, if the scanned folder doesn't move.
 use Rattle.std.proofs.Common.{◌≡◌, ℕ, ◌==◌, Bool, true, false, cond, not, ◌||◌, ◌&&◌, List, refl, sym, ◌∙◌, ap, subst, ◌⊎◌, inl, inr}
 use Rattle.std.specs.Prelude.{is_some, unwrap_or, if◌then◌else◌}
 use Rattle.fsrm_model.specs.declared.row.NodeRow.{NodeRow}
@@ -16,7 +16,7 @@ use Rattle.rescan.proofs.CountLaws.{is_counted}
 use Rattle.rescan.proofs.Tops.{above_of, above_by, under_under}
 
 -- The topmost folders follow the move of a node x to a folder d. At and below the node they stay, or there is none
--- but the node itself, where it enters the scan
+-- but the node itself, if it enters the scan
 pub record TopsMoved (nodes new : List NodeRow) (f f2 : Front) (x d : ℕ) (keeps enters : Bool) : Type 0 where
   pub moves : Moves nodes new x d
   pub tops : AreTops nodes f
@@ -78,7 +78,7 @@ above_other nodes new f f2 x d keeps enters s n hn e =
     let far = apart_above nodes t x a.top n (top_has nodes f s.tops a.top a.member) hn a.above e in
     above_by new f2.tops n a.top (s.others a.top far ∙ a.member) (ap (λ (ns : List ℕ). is_in ns a.top) same ∙ a.above))
 
--- a node at or below it, where the topmost folders there stay
+-- a node at or below it, if the topmost folders there stay
 pub above_kept : (nodes new : List NodeRow) (f f2 : Front) (x d : ℕ) (keeps enters : Bool) → TopsMoved nodes new f f2 x d keeps enters → keeps ≡ true → (n : ℕ) → Has nodes n → is_under nodes x n ≡ true → has_above new f2.tops n ≡ has_above nodes f.tops n
 above_kept nodes new f f2 x d keeps enters s k n hn b =
     let m = s.moves in
@@ -103,7 +103,7 @@ above_kept nodes new f f2 x d keeps enters s k n hn b =
           absurd (clash _ (above_by nodes f.tops x a.top a.member up) (not_above nodes f x (s.kept k).0))
     ])
 
--- and where they go: it is as the moved node is
+-- and if they go: it is as the moved node is
 pub above_moved : (nodes new : List NodeRow) (f f2 : Front) (x d : ℕ) (keeps enters : Bool) → TopsMoved nodes new f f2 x d keeps enters → keeps ≡ false → (n : ℕ) → Has nodes n → is_under nodes x n ≡ true → has_above new f2.tops n ≡ (enters || has_above nodes f.tops d)
 above_moved nodes new f f2 x d keeps enters s k n hn b =
     let m = s.moves in

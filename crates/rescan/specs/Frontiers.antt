@@ -16,7 +16,7 @@ pub record Room : Type 0 where
   pub nodes : ℕ
   pub cluster : ℕ
 
--- A frontier: for which volumes it is, the folder of its scan, where one is active, the topmost unvisited folders, and
+-- A frontier: for which volumes it is, the folder of its scan, if one is active, the topmost unvisited folders, and
 -- the bytes that are counted
 pub record Front : Type 0 where
   pub room : Room

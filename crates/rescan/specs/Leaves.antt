@@ -1,4 +1,4 @@
--- What a scan loses where a folder leaves it.
+-- What a scan loses when a folder leaves it.
 use Rattle.std.specs.Prelude.{◌≡◌, ℕ, ◌+◌, ◌&&◌, not, Bool, true, List, filter, sum_by}
 use Rattle.fsrm_model.specs.declared.row.Capacity.{Capacity}
 use Rattle.fsrm_model.specs.declared.row.NodeRow.{NodeRow}

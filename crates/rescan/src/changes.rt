@@ -17,8 +17,8 @@ use fsrm_model::{Ledger, Steps, allocated};
 use volume_tree::Tree;
 
 impl Frontier {
-    /// Follows that a node was made. A folder is unvisited where its parent is; a file is taken as empty:
-    /// its length is told to `on_resize`.
+    /// Follows a new node. A folder is unvisited if its parent is. A file is taken as empty: its length is told to
+    /// `on_resize`.
     pub fn on_create(&mut self, tree: &Tree, node: u32)
         requires volume { IsVolume tree.now.size tree.now.nodes }
         requires there { has_row key node tree.now.nodes ≡ true }
@@ -30,8 +30,8 @@ impl Frontier {
         let _node = node;
     }
 
-    /// Follows that a node is to be removed: a file that is empty by now, or a folder without children. It
-    /// isn't the scanned folder: whoever removes that one gives the scan up.
+    /// Follows a node that is about to be removed: a file that is empty by now, or a folder without children. It isn't
+    /// the scanned folder: whoever removes that one gives the scan up.
     pub fn on_remove(&mut self, tree: &Tree, node: u32)
         requires there { has_row key node tree.now.nodes ≡ true }
         requires inner { (node == 0) ≡ false }
@@ -44,8 +44,8 @@ impl Frontier {
         self.tops.remove(node);
     }
 
-    /// Follows that a file's length goes from one to another, in bytes, before the tree changes or after.
-    /// It takes no more than 2 looks for each node from the file up to the root.
+    /// Follows a file whose length goes from one to another, in bytes. The tree may have changed already, or not yet. It
+    /// takes no more than 2 looks for each node from the file up to the root.
     pub fn on_resize<L: Ledger>(
         &mut self,
         tree: &Tree,

@@ -69,7 +69,7 @@ impl Frontier {
         ensures begun { self.new ≡ record { room = self.old.room; folder = Some folder; tops = folder ∷ []; sum = 0 } }
         ensures follows { (v : Volume) → IsVolume v.size v.nodes → Suits v.size self.old.room → is_folder v.nodes folder ≡ true → Follows self.new self.new v (folders_under v.nodes folder) }
     {
-        // Nothing is counted where no scan was active.
+        // Nothing is counted if no scan was active.
         self.tops.insert(folder);
         self.folder = Some(folder);
     }

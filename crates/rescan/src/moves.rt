@@ -20,7 +20,7 @@ use fsrm_model::{Ledger, Steps, allocated};
 use volume_tree::Tree;
 
 impl Frontier {
-    /// Follows that a node is to be moved into a folder. It takes no more than 4 looks for each node at and
+    /// Follows a node that is about to be moved into a folder. It takes no more than 4 looks for each node at and
     /// below it, and 2 for each node from it, and from the folder, up to the root.
     pub fn on_move<L: Ledger>(&mut self, tree: &Tree, node: u32, folder: u32, steps: &mut Steps<L>)
         requires stands { Stands tree.now self.old }

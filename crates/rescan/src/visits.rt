@@ -17,7 +17,7 @@ use volume_tree::{Finger, Tree};
 
 impl Frontier {
     /// Visits the unvisited folder of the least number among those whose parent is visited: counts the
-    /// files in it, and leaves its folders to be visited. None exactly where no folder is unvisited. It
+    /// files in it, and leaves its folders to be visited. None exactly if no folder is unvisited. It
     /// takes no more than 2 looks, and 2 for each child.
     pub fn visit<L: Ledger>(&mut self, tree: &Tree, steps: &mut Steps<L>) -> Option<u32>
         requires stands { Stands tree.now self.old }

@@ -18,7 +18,7 @@ use Rattle.scan_queue.proofs.Lengths.{own_follows, sized_unvisited}
 use Rattle.scan_queue.proofs.Queues.{first_in}
 use Rattle.scan_queue.proofs.Turning.{none_left}
 
--- the queue is kept where the frontier goes on with its scan
+-- the queue is kept if the frontier goes on with its scan
 pub kept_going : (queue : List ℕ) (old new : Front) → is_some (head queue) ≡ true → new.folder ≡ old.folder → new.room ≡ old.room → IsKept queue old → IsKept queue new
 kept_going queue old new some folder room k =
     record {

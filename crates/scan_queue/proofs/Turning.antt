@@ -1,4 +1,4 @@
--- A scan begins where another folder comes to the head of the queue.
+-- A scan begins if another folder comes to the head of the queue.
 use Rattle.std.proofs.Common.{◌≡◌, ℕ, ◌<◌, ◌≤◌, ◌==◌, Bool, true, false, cond, ◌&&◌, List, [], ◌∷◌, ◌++◌, Option, Some, None, refl, sym, ◌∙◌, ap, subst, inl, inr}
 use Rattle.std.specs.Prelude.{filter, map, is_some, unwrap_or}
 use Rattle.std.specs.Option.{option_map_or}

@@ -16,7 +16,7 @@ use Rattle.volume_tree.specs.Volume.{Volume}
 use Rattle.rescan.specs.Frontiers.{Front, Stands, Follows, unvisited, visit_looks}
 use Rattle.fsrm_base.proofs.NumberLaws.{in_filter}
 
--- one visit more, and visits where nothing is left
+-- one visit more, and visits if nothing is left
 pub visits_more : (k : ℕ) (nodes : List NodeRow) (left : List ℕ) → visits (suc k) nodes left ≡ visit nodes (visits k nodes left)
 visits_more zero nodes left = refl
 visits_more (suc k) nodes left = visits_more k nodes (visit nodes left)

@@ -6,7 +6,7 @@ use Rattle.fsrm_model.specs.Valid.{IsVolume}
 use Rattle.rescan.specs.Frontiers.{Front, Room, Follows, Suits}
 use Rattle.volume_tree.specs.Volume.{Volume}
 
--- A scan of the folder at the head of a queue has begun, where there is one: over any volume that fits, all folders at
+-- A scan of the folder at the head of a queue has begun, if there is one: over any volume that fits, all folders at
 -- and below it are unvisited
 pub record Begins (room : Room) (head : Option ℕ) (front : Front) : Type 0 where
   pub folder : front.folder ≡ head

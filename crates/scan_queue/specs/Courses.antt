@@ -18,7 +18,7 @@ pub record Course : Type 0 where
 abbrev pub left : List NodeRow → Course → List ℕ
 left nodes course = unvisited nodes course.front
 
--- The scan of the folder at the head of the queue is the active one, over the nodes of a volume; where the queue is
+-- The scan of the folder at the head of the queue is the active one, over the nodes of a volume; if the queue is
 -- empty there is none
 pub record Scanning (v : Volume) (course : Course) : Type 0 where
   pub volume : IsVolume v.size v.nodes
@@ -35,7 +35,7 @@ pub record Goes (old new : Course) (v : Volume) (next : ℕ → List ℕ) : Type
   pub queue : new.queue ≡ old.queue
   pub left_is : left v.nodes new ≡ option_map_or next (head old.queue) []
 
--- The queue has changed, and a scan begins where another folder came to its head
+-- The queue has changed, and a scan begins if another folder came to its head
 pub record Turns (old new : Course) (v : Volume) : Type 0 where
   pub scanning : Scanning v new
   pub left_is : left v.nodes new ≡ (if same_head old.queue new.queue then left v.nodes old else scan_begun v.nodes new.queue)

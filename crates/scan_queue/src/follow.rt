@@ -1,4 +1,4 @@
-//! The active scan among changes of the tree. Where none is active there is nothing to do.
+//! The active scan among changes of the tree. If none is active there is nothing to do.
 
 ghost use Rattle.std.specs.Prelude.{◌≡◌, ℕ, ◌+◌, ◌*◌, ◌≤◌, ◌==◌, List, true, false, length, Some};
 ghost use Rattle.fsrm_model.specs.declared.row.NodeRow.{NodeRow};
@@ -16,7 +16,7 @@ use fsrm_model::{Ledger, Steps};
 use volume_tree::Tree;
 
 impl Scans {
-    /// Follows that a folder was made.
+    /// Follows a new folder.
     pub fn follow_mkdir(&mut self, tree: &Tree, node: u32)
         requires volume { IsVolume tree.now.size tree.now.nodes }
         requires there { has_row key node tree.now.nodes ≡ true }
@@ -29,8 +29,7 @@ impl Scans {
         }
     }
 
-    /// Follows that a file of so many bytes was made. It takes no more than 2 looks for each node from it up
-    /// to the root.
+    /// Follows a new file of so many bytes. It takes no more than 2 looks for each node from it up to the root.
     pub fn follow_create<L: Ledger>(
         &mut self,
         tree: &Tree,
@@ -53,7 +52,7 @@ impl Scans {
         }
     }
 
-    /// Follows that a file is to have another length, in bytes. It takes no more than 2 looks for each node
+    /// Follows a file that is about to have another length, in bytes. It takes no more than 2 looks for each node
     /// from it up to the root.
     pub fn follow_resize<L: Ledger>(
         &mut self,
@@ -76,7 +75,7 @@ impl Scans {
         }
     }
 
-    /// Follows that a folder without children is to be removed, which isn't in the queue.
+    /// Follows a folder without children that is about to be removed. It isn't in the queue.
     pub fn follow_rmdir(&mut self, tree: &Tree, node: u32)
         requires scanning { Scanning tree.now self.old }
         requires there { has_row key node tree.now.nodes ≡ true }
@@ -91,7 +90,7 @@ impl Scans {
         }
     }
 
-    /// Follows that a file of so many bytes is to be removed. It takes no more than 2 looks for each node from
+    /// Follows a file of so many bytes that is about to be removed. It takes no more than 2 looks for each node from
     /// it up to the root.
     pub fn follow_remove<L: Ledger>(
         &mut self,
@@ -113,7 +112,7 @@ impl Scans {
         }
     }
 
-    /// Follows that a node is to be moved into a folder. It takes no more than 4 looks for each node at and
+    /// Follows a node that is about to be moved into a folder. It takes no more than 4 looks for each node at and
     /// below it, and 2 for each node from it, and from the folder, up to the root.
     pub fn follow_move<L: Ledger>(
         &mut self,

@@ -68,7 +68,7 @@ impl Scans {
         self.queue.contains(&folder)
     }
 
-    /// Puts a folder to the end of the queue. Where it is the only one its scan begins. An `Err` changes
+    /// Puts a folder to the end of the queue. If it is the only one its scan begins. An `Err` changes
     /// nothing.
     pub fn push(&mut self, folder: u32) -> Result<(), NoMemory>
         requires room { folder < self.old.front.room.nodes }
@@ -85,7 +85,7 @@ impl Scans {
         Ok(())
     }
 
-    /// Takes a folder out of the queue, where it is there. Where it was at the head its scan is given up,
+    /// Takes a folder out of the queue, if it is there. If it was at the head its scan is given up,
     /// and the next one begins.
     pub fn leave(&mut self, folder: u32)
         ensures queue { self.new.queue ≡ without_number folder self.old.queue }
@@ -108,7 +108,7 @@ impl Scans {
     }
 }
 
-// Begins the scan of the folder at the head of a queue, where there is one. None is active before.
+// Begins the scan of the folder at the head of a queue, if there is one. None is active before.
 pub(crate) fn begin(head: Option<u32>, frontier: &mut Frontier)
     requires idle { frontier.old.folder ≡ None }
     requires empty { frontier.old.tops ≡ [] }

@@ -92,7 +92,7 @@ fn children_are_ordered<L: Ledger>(
     steps: &mut Steps<L>,
 ) -> Result<(), Fail> {
     let tree = some_children(alloc, end, steps)?;
-    // Wherever the finger is: at the front, and behind them.
+    // Wherever the finger is: at the front, and after them.
     let mut finger = Finger::default();
     assert_eq!(end;
         tree.children(0, &mut finger, steps),

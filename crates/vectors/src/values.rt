@@ -1,4 +1,4 @@
-//! Values that the tests are made of: the one place to mend where a public type gets a field.
+//! Values that the tests are made of: the one place to mend if a public type gets a field.
 
 ghost use Rattle.std.specs.Prelude.{◌≡◌, ◌≤◌, [], ◌∷◌, true, IfOk, codes};
 ghost use Rattle.fsrm_model.specs.Limits.{latest_moment};

@@ -1,4 +1,4 @@
--- The text stands in the hole, and what is left of the hole is behind it.
+-- The text stands in the hole, and what is left of the hole is after it.
 use Rattle.std.proofs.Common.{◌≡◌, ◌+◌, ◌∙◌, subst, arith}
 use Rattle.std.proofs.lemmas.Grind.{common_steps}
 use Rattle.std.proofs.lemmas.List.{with_items_is}

@@ -15,6 +15,6 @@ invariant-loop-node l = record {
   gathered : AreGathered l.self.front l.self.slots.items l.self.places l.last l.node;
 }
 
--- what is left behind the last text that was moved
+-- what is left after the last text that was moved
 abbrev pub decreases-loop-node : goal.decreases-loop-node
 decreases-loop-node l = length l.self.block.items - end_of (slot_of l.self.slots.items l.last)

@@ -1,4 +1,4 @@
--- Both nodes stand before what is now behind them.
+-- Both nodes stand before those that come after them now.
 use Rattle.std.proofs.Common.{◌<◌, arith, length}
 use Rattle.std.proofs.lemmas.Grind.{common_steps}
 use Rattle.std.proofs.lemmas.List.{get_or_read}

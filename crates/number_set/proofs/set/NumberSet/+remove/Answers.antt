@@ -1,4 +1,4 @@
--- One word has a bit less, and where it was the last, its place is no longer above.
+-- One word has a bit less, and if it was the last, its place is no longer above.
 use Rattle.std.proofs.Common.{◌≡◌, ℕ, ◌==◌, ◌&&◌, true, not, ◌∙◌, ap, subst, sym, ◌/◌, ◌<◌, List, length, arith}
 use Rattle.std.proofs.lemmas.List.{with_items_is}
 use Rattle.fsrm_base.specs.Numbers.{is_in, is_set, without_number}
