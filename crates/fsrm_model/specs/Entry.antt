@@ -50,7 +50,7 @@ has_values_of_op (Touch path) = true
 has_values_of_op (Move from to) = true
 has_values_of_op (Remove path) = true
 
--- a new quota has a limit. Neither templates nor thresholds can be given yet
+-- a new quota must have a limit. Neither templates nor thresholds can be given yet
 abbrev pub has_values : Deed → Bool
 has_values (File op) = has_values_of_op op
 has_values (Usage path) = true

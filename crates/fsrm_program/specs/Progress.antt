@@ -42,7 +42,7 @@ pub record Leads (old new : State) (stream text : List ℕ) : Type 0 where
   pub rows_are : new.rows ≡ fold_from old.size old.rows old.line ended
   pub looks_are : new.looks ≤ old.looks + cost_from old.size old.rows old.line ended
 
--- these bytes lead there, whatever line what is held begins
+-- these bytes lead from one state to the other, for each line that may begin with what is held
 pub record Fed (old new : State) (bytes text : List ℕ) : Type 0 where
   pub goes : (line : List ℕ) → IsHeld line old.held → Leads old new (line ++ bytes) text
 
@@ -61,7 +61,7 @@ pub record BreaksOff (old : State) (looks : ℕ) (stream written : List ℕ) : T
   pub front : IsFront written (text_from old.size old.rows old.line ended)
   pub looks_are : looks ≤ old.looks + cost_from old.size old.rows old.line ended
 
--- the same, whatever line what is held begins
+-- the same, for each line that may begin with what is held
 pub record Broken (old : State) (looks : ℕ) (bytes written : List ℕ) : Type 0 where
   pub breaks : (line : List ℕ) → IsHeld line old.held → BreaksOff old looks (line ++ bytes) written
 

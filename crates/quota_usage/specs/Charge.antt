@@ -34,7 +34,7 @@ refuses_change nodes counters change quota =
 abbrev pub over_by : List NodeRow → List QuotaRow → List Counter → Change → List QuotaRow
 over_by nodes quotas counters change = filter (refuses_change nodes counters change) quotas
 
--- what a quota tells that refuses: its folder, what its counter would come to, and its limit
+-- the refusal by a quota: its folder, what its counter would come to, and its limit
 abbrev pub told_of : List NodeRow → List Counter → Change → QuotaRow → Exceeded
 told_of nodes counters change quota =
     record {
@@ -43,7 +43,7 @@ told_of nodes counters change quota =
       limit = quota.limit;
     }
 
--- what the deepest of them tells
+-- the refusal by the deepest of them
 abbrev pub exceeded_by : List NodeRow → List QuotaRow → List Counter → Change → Option Exceeded
 exceeded_by nodes quotas counters change = option_map (told_of nodes counters change) (deepest nodes (over_by nodes quotas counters change))
 

@@ -12,7 +12,7 @@ use Rattle.quota_usage.specs.declared.change.Exceeded.{Exceeded}
 use Rattle.quota_usage.specs.Charge.{is_above}
 use Rattle.quota_usage.specs.Counters.{used_in}
 
--- what bytes come to if some are taken, and then others given
+-- what a number of bytes comes to if some are taken from it, and then others given
 abbrev pub amended : ℕ → ℕ → ℕ → ℕ
 amended minus plus bytes = bytes - minus + plus
 
@@ -28,7 +28,7 @@ abbrev pub climbed : List NodeRow → ℕ → ℕ → ℕ → List Counter → L
 climbed nodes start minus plus counters =
     map (λ counter. if is_under nodes counter.folder start then amended_counter minus plus counter else counter) counters
 
--- what a quota tells if it refuses that its counter is amended
+-- the refusal by a quota, if it refuses that its counter is amended
 abbrev pub judged : ℕ → ℕ → QuotaRow → ℕ → Option Exceeded
 judged minus plus quota bytes =
     if refuses quota bytes (amended minus plus bytes)
@@ -57,7 +57,7 @@ pub record IsFirst (nodes : List NodeRow) (refusal : ℕ → Option Exceeded) (s
   pub refused : refusal place ≡ Some exceeded
   pub below : (folder : ℕ) → is_under nodes folder start ≡ true → is_under nodes folder place ≡ false → refusal folder ≡ None
 
--- what the first tells, if one refuses
+-- the refusal by the first of them, if one refuses
 abbrev pub IsNearest : List NodeRow → (ℕ → Option Exceeded) → ℕ → Option Exceeded → Type 0
 IsNearest nodes refusal start None = (folder : ℕ) → is_under nodes folder start ≡ true → refusal folder ≡ None
 IsNearest nodes refusal start (Some exceeded) = IsFirst nodes refusal start exceeded

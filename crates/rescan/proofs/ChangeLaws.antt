@@ -1,13 +1,13 @@
 -- A scan goes on over changes of the tree: nodes that come and go, and other lengths and moments.
-use Rattle.std.proofs.Common.{◌≡◌, ℕ, ◌≤◌, ◌==◌, Bool, true, false, cond, not, ◌&&◌, ◌||◌, inl, inr, List, [], ◌∷◌, length, refl, sym, ◌∙◌, ap, subst, arith, Some, nat_lt}
+use Rattle.std.proofs.Common.{◌≡◌, ℕ, ◌≤◌, ◌==◌, Bool, true, false, cond, not, ◌&&◌, inl, inr, List, [], ◌∷◌, length, refl, sym, ◌∙◌, ap, subst, arith, Some, nat_lt}
 use Rattle.std.proofs.lemmas.Bool.Decides.{nat_tests}
 use Rattle.std.proofs.lemmas.Option.{same_Some}
 use Rattle.std.specs.Prelude.{map, nat_le, option_map, if◌then◌else◌}
 use Rattle.std.specs.List.{AllByRecursion}
 use Rattle.fsrm_model.specs.declared.row.Capacity.{Capacity}
 use Rattle.fsrm_model.specs.declared.row.NodeRow.{NodeRow}
-use Rattle.fsrm_model.specs.FileOps.{resized, touched}
-use Rattle.fsrm_base.specs.Keyed.{row_of, has_row, is_ascending, with_row, with_change, without_row}
+use Rattle.fsrm_model.specs.FileOps.{touched}
+use Rattle.fsrm_base.specs.Keyed.{has_row, is_ascending, with_row, with_change, without_row}
 use Rattle.fsrm_model.specs.Limits.{longest_file}
 use Rattle.fsrm_model.specs.Name.{is_name}
 use Rattle.fsrm_base.specs.Numbers.{without_number}
@@ -26,7 +26,7 @@ use Rattle.rescan.proofs.KindLaws.{KeepsKind, kind_tops, kind_unvisited, kind_co
 use Rattle.rescan.proofs.LeafLaws.{IsLeaf, leaf_inner, tops_with, tops_without, counted_with, counted_without, unvisited_new, unvisited_gone}
 use Rattle.rescan.proofs.Tops.{tops_of, stands_by}
 use Rattle.fsrm_base.proofs.EditedRows.{without_absent}
-use Rattle.fsrm_base.proofs.RowLaws.{each_found, change_same, change_none}
+use Rattle.fsrm_base.proofs.RowLaws.{change_same, change_none}
 use Rattle.fsrm_model.proofs.ValidVolume.{root_folder}
 
 -- a change of a node that keeps number, parent, kind and length

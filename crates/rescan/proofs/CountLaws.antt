@@ -1,21 +1,17 @@
 -- What a scan has counted, as a sum over the nodes.
-use Rattle.std.proofs.Common.{◌≡◌, ℕ, ◌≤◌, ◌==◌, Bool, true, false, cond, not, ◌&&◌, List, [], ◌∷◌, refl, ◌∙◌, ap, arith, Some}
+use Rattle.std.proofs.Common.{◌≡◌, ℕ, Bool, true, cond, not, ◌&&◌, List, ◌∙◌, ap}
 use Rattle.std.specs.Prelude.{sum_by, if◌then◌else◌}
-use Rattle.std.specs.List.{AllByRecursion}
 use Rattle.fsrm_model.specs.declared.row.Capacity.{Capacity}
 use Rattle.fsrm_model.specs.declared.row.NodeRow.{NodeRow}
-use Rattle.fsrm_base.specs.Keyed.{row_of, has_row, is_ascending}
 use Rattle.fsrm_base.specs.Numbers.{is_in}
 use Rattle.fsrm_model.specs.Scan.{counted}
 use Rattle.fsrm_model.specs.Space.{space}
 use Rattle.fsrm_model.specs.Tree.{number, is_folder, is_under}
 use Rattle.fsrm_model.specs.Valid.{IsVolume}
-use Rattle.fsrm_base.proofs.TestLaws.{clash, eq_is, eq_same}
-use Rattle.fsrm_base.proofs.EditedRows.{sum_by-filter, sum_by_same, absent_later, ascending_tail}
-use Rattle.fsrm_base.proofs.Look.{found_has}
+use Rattle.fsrm_base.proofs.EditedRows.{sum_by-filter, sum_by_same}
 use Rattle.rescan.specs.Frontiers.{Front, scanned, has_above, unvisited}
 use Rattle.rescan.proofs.Tops.{in_unvisited}
-use Rattle.fsrm_base.proofs.RowLaws.{each, own_later, own_rows, each_found}
+use Rattle.fsrm_base.proofs.RowLaws.{each_found}
 
 -- whether the files in a folder are counted: it is at or below the scanned one, and at or below no unvisited one
 abbrev pub is_counted : List NodeRow → Front → ℕ → Bool

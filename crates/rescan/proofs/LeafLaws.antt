@@ -5,12 +5,12 @@ use Rattle.std.specs.List.{AllByRecursion, list_any}
 use Rattle.fsrm_model.specs.declared.row.Capacity.{Capacity}
 use Rattle.fsrm_model.specs.declared.row.NodeRow.{NodeRow}
 use Rattle.fsrm_base.specs.Keyed.{without_row}
-use Rattle.fsrm_base.specs.Numbers.{is_in, is_set, with_number, without_number}
+use Rattle.fsrm_base.specs.Numbers.{is_in, without_number}
 use Rattle.fsrm_model.specs.Scan.{counted, unvisited_with}
 use Rattle.fsrm_model.specs.Space.{space}
 use Rattle.fsrm_model.specs.Tree.{number, node_of, parent_of, is_folder, is_child, chain, is_under}
 use Rattle.fsrm_model.specs.Valid.{IsVolume}
-use Rattle.fsrm_base.proofs.TestLaws.{is_or_not, clash, not_true, neither, eq_is, eq_same, eq_turned, not_zero}
+use Rattle.fsrm_base.proofs.TestLaws.{is_or_not, clash, not_true, neither, eq_is, eq_turned, not_zero}
 use Rattle.fsrm_model.proofs.ValidLaws.{folder_has, found_parent}
 use Rattle.fsrm_model.proofs.ChainLaws.{Has, chain_lacks}
 use Rattle.fsrm_base.proofs.EditedRows.{sum_by_same, sum_by-without_row}
@@ -21,7 +21,7 @@ use Rattle.fsrm_base.proofs.Members.{none_passes}
 use Rattle.fsrm_model.proofs.RemoveLaws.{removed_chain}
 use Rattle.fsrm_model.proofs.UsageLaws.{parent_lacks}
 use Rattle.fsrm_model.proofs.UnvisitedKept.{in_new, set_new}
-use Rattle.fsrm_base.proofs.NumberLaws.{in_with, in_without, set_with, set_without, same_set}
+use Rattle.fsrm_base.proofs.NumberLaws.{in_without, set_without, same_set}
 use Rattle.rescan.specs.Frontiers.{Front, scanned, has_above, unvisited}
 use Rattle.rescan.specs.Tops.{AreTops}
 use Rattle.rescan.proofs.CountLaws.{is_counted, part, counted_is}

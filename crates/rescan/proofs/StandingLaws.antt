@@ -6,7 +6,7 @@ use Rattle.fsrm_model.specs.Tree.{parent_of, is_under}
 use Rattle.fsrm_base.proofs.TestLaws.{is_or_not, clash, not_true, eq_is, eq_same}
 use Rattle.fsrm_model.proofs.ChainLaws.{IsTree, Has}
 use Rattle.fsrm_model.proofs.Below.{chain_root, each_above}
-use Rattle.std.specs.Prelude.{is_some, unwrap_or}
+use Rattle.std.specs.Prelude.{unwrap_or}
 use Rattle.std.specs.Option.{option_eq}
 use Rattle.fsrm_model.proofs.Climbs.{under_own, under_up}
 use Rattle.fsrm_model.proofs.ValidLaws.{folder_has}

@@ -1,5 +1,5 @@
 -- The topmost unvisited folders say which folders are unvisited.
-use Rattle.std.proofs.Common.{◌≡◌, ℕ, zero, suc, ◌≤◌, ◌==◌, Bool, true, false, not, ◌||◌, ◌&&◌, List, [], ◌∷◌, length, Option, Some, None, refl, sym, ◌∙◌, ap, subst, inl, inr}
+use Rattle.std.proofs.Common.{◌≡◌, ℕ, zero, suc, ◌==◌, Bool, true, false, not, ◌||◌, ◌&&◌, List, [], ◌∷◌, length, Option, Some, None, refl, sym, ◌∙◌, ap, subst, inl, inr}
 use Rattle.std.specs.Prelude.{filter}
 use Rattle.std.specs.Option.{option_map_or}
 use Rattle.std.specs.List.{list_any}
@@ -9,13 +9,13 @@ use Rattle.fsrm_base.specs.Numbers.{is_in, is_set}
 use Rattle.fsrm_model.specs.Scan.{is_topmost, counted}
 use Rattle.fsrm_model.specs.Tree.{number, node_of, parent_of, is_folder, chain, is_under}
 use Rattle.fsrm_model.specs.Valid.{IsVolume}
-use Rattle.fsrm_base.proofs.TestLaws.{clash, not_true, is_false, both, both_true, is_or, or_later, eq_is, eq_same, suc_apart, not_root, same_tests}
+use Rattle.fsrm_base.proofs.TestLaws.{clash, not_true, is_false, both, both_true, is_or, or_later, eq_is, eq_same, not_root, same_tests}
 use Rattle.fsrm_model.proofs.ValidLaws.{folder_has, found_parent}
 use Rattle.fsrm_model.proofs.ChainLaws.{IsTree, Has}
 use Rattle.fsrm_base.proofs.Look.{found_key, has_found}
 use Rattle.fsrm_model.proofs.Keeps.{tree_of}
 use Rattle.fsrm_model.proofs.MoveLaws.{own_first}
-use Rattle.fsrm_model.proofs.Below.{chain_root, above_all}
+use Rattle.fsrm_model.proofs.Below.{chain_root}
 use Rattle.fsrm_model.proofs.Climbs.{climb}
 pub use Rattle.fsrm_model.proofs.UnvisitedKept.{under_child, under_under}
 use Rattle.fsrm_model.proofs.UsageLaws.{parent_lacks}

@@ -18,7 +18,6 @@ use Rattle.fsrm_base.proofs.EditedRows.{sum_by-filter, sum_by_same}
 use Rattle.fsrm_model.proofs.Below.{chain_root}
 use Rattle.fsrm_model.proofs.Climbs.{shorter, under_own}
 use Rattle.fsrm_model.proofs.Keeps.{tree_of, as_suc}
-use Rattle.fsrm_model.proofs.MoveLaws.{own_first}
 use Rattle.fsrm_base.proofs.Sums.{sum_by-add}
 use Rattle.fsrm_model.proofs.UsageLaws.{parent_lacks}
 use Rattle.number_set.specs.Numbers.{Numbers}

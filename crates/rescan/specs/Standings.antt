@@ -23,8 +23,9 @@ share_of cluster bytes Outside = 0
 share_of cluster bytes Visited = rounded cluster bytes
 share_of cluster bytes Unvisited = 0
 
--- A folder goes from a place that stands so to another. If both are visited, nothing changes; one that was
--- visited leaves; one that comes to a visited folder is to be visited, and else it is no topmost folder.
+-- What becomes of a folder that moves from a place of one standing to one of another. If both are visited, nothing
+-- changes. From a visited place to another it leaves the scan with all that was counted in it. To a visited place from
+-- another it comes as a topmost folder, and else it is none.
 abbrev pub FolderGoes : Standing → Standing → Capacity → List NodeRow → Front → Front → ℕ → Type 0
 FolderGoes Visited Visited K nodes old new node = new ≡ old
 FolderGoes Visited Outside K nodes old new node = Leaves K nodes old new node

@@ -1,5 +1,5 @@
 -- Whether each quote of a line is ended, and where the last one stands.
-use Rattle.std.proofs.Common.{◌≡◌, ℕ, ◌+◌, ◌-◌, ◌<◌, Bool, true, false, cond, List, [], length, get_or, Some, None, refl, sym, ap, ◌∙◌, arith}
+use Rattle.std.proofs.Common.{◌≡◌, ℕ, ◌+◌, ◌-◌, ◌<◌, true, false, cond, List, [], length, get_or, Some, None, refl, sym, ap, ◌∙◌, arith}
 use Rattle.std.specs.Prelude.{not, Option, count_by, ◌%◌, nat_eq}
 use Rattle.std.specs.List.{suffix_len}
 use Rattle.std.proofs.lemmas.Bool.Decides.{nat_tests}

@@ -1,5 +1,5 @@
-use Rattle.std.proofs.Common.{◌≡◌, ◌+◌, ◌≤◌, List, length, map}
-use Rattle.fsrm_model.specs.Tree.{number, children, children_in_order}
+use Rattle.std.proofs.Common.{◌+◌, ◌≤◌, length}
+use Rattle.fsrm_model.specs.Tree.{children}
 use Rattle.rescan.proofs.ChildLaws.{TakenUp}
 use Rattle.rescan.proofs.visits.enter_children.Given as goal
 
