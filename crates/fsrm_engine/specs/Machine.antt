@@ -14,7 +14,7 @@ use Rattle.fsrm_model.specs.Quota.{folder_of, counts, peaked, peaks}
 use Rattle.fsrm_model.specs.QuotaStates.{followed, queued}
 use Rattle.fsrm_model.specs.Step.{Stepped, step}
 use Rattle.fsrm_model.specs.Tree.{usage}
-use Rattle.fsrm_model.specs.Valid.{IsVolume, AreQuotas, IsStore}
+use Rattle.fsrm_model.specs.Valid.{IsVolume, AreQuotas, IsValid}
 use Rattle.quota_usage.specs.declared.change.Counter.{Counter}
 use Rattle.scan_queue.specs.Courses.{Scanning, left}
 use Rattle.fsrm_engine.specs.declared.parts.Parts.{Parts}
@@ -79,7 +79,7 @@ pub record IsSound (parts : Parts) : Type 0 where
 -- beside, the rows are those of a store
 pub record IsWhole (parts : Parts) : Type 0 where
   pub sound : IsSound parts
-  pub valid : IsStore parts.tree.size (rows_of parts)
+  pub valid : IsValid parts.tree.size (rows_of parts)
 
 -- parts with these quotas, and with their counters
 abbrev pub recounted : Parts → List QuotaRow → Parts

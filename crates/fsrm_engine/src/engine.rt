@@ -9,7 +9,7 @@ ghost use Rattle.fsrm_model.specs.Limits.{latest_moment};
 ghost use Rattle.fsrm_model.specs.Named.{IsNamed};
 ghost use Rattle.fsrm_model.specs.Quota.{used_of};
 ghost use Rattle.fsrm_model.specs.Step.{step};
-ghost use Rattle.fsrm_model.specs.Valid.{IsVolume, IsStore};
+ghost use Rattle.fsrm_model.specs.Valid.{IsVolume, IsValid};
 ghost use Rattle.fsrm_model.specs.Valued.{is_op, is_command};
 ghost use Rattle.fsrm_engine.specs.Machine.{Takes};
 
@@ -76,7 +76,7 @@ impl Engine {
     /// The quotas, lent.
     pub fn objects(&self) -> &Objects
         ensures quotas { result.now.quotas ≡ self.now.rows.quotas }
-        ensures store { IsStore self.now.size self.now.rows }
+        ensures store { IsValid self.now.size self.now.rows }
     {
         &self.parts.objects
     }
@@ -117,7 +117,7 @@ impl Engine {
         ensures ok { IfOk result (λ answer. Takes self.old self.new (step self.old.size self.old.rows command.now) answer) }
         ensures named { IfOk result (λ answer. IsNamed self.new.rows answer.outcome) }
         ensures err { OnErr result (self.new ≡ self.old) }
-        ensures kept { IsStore self.new.size self.new.rows }
+        ensures kept { IsValid self.new.size self.new.rows }
         ensures looks { steps.new ≤ steps.old + cost self.old.rows command.now }
     {
         if command.moment < self.parts.last_moment {
@@ -141,7 +141,7 @@ impl Engine {
         ensures ok { IfOk result (λ answer. Takes self.old self.new (step self.old.size self.old.rows (record { moment = moment; deed = File op.now })) answer) }
         ensures named { IfOk result (λ answer. IsNamed self.new.rows answer.outcome) }
         ensures err { OnErr result (self.new ≡ self.old) }
-        ensures kept { IsStore self.new.size self.new.rows }
+        ensures kept { IsValid self.new.size self.new.rows }
         ensures looks { steps.new ≤ steps.old + cost self.old.rows (record { moment = moment; deed = File op.now }) }
     {
         if moment < self.parts.last_moment {
@@ -159,7 +159,7 @@ impl Engine {
         requires idle { self.old.waiting ≡ [] }
         ensures ok { Takes self.old self.new (step self.old.size self.old.rows (record { moment = moment; deed = Step n })) result }
         ensures named { IsNamed self.new.rows result.outcome }
-        ensures kept { IsStore self.new.size self.new.rows }
+        ensures kept { IsValid self.new.size self.new.rows }
         ensures looks { steps.new ≤ steps.old + cost self.old.rows (record { moment = moment; deed = Step n }) }
     {
         if moment < self.parts.last_moment {

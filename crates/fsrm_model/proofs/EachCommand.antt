@@ -29,7 +29,7 @@ use Rattle.fsrm_model.specs.Quota.{quota_of, counts, is_limit}
 use Rattle.fsrm_model.specs.Space.{space}
 use Rattle.fsrm_model.specs.Step.{step, work}
 use Rattle.fsrm_model.specs.Tree.{usage, under}
-use Rattle.fsrm_model.specs.Valid.{is_moment, is_empty, IsStore}
+use Rattle.fsrm_model.specs.Valid.{is_moment, is_empty, IsValid}
 use Rattle.fsrm_model.specs.Valued.{is_path, is_deed, is_short, is_command}
 use Rattle.fsrm_model.specs.Work.{Work}
 use Rattle.fsrm_model.proofs.Ends.{effect_nodes}
@@ -105,7 +105,7 @@ sum_fresh K R c folder bytes h =
 abbrev RefusedOp : Capacity → Rows → ℕ → Deed → ℕ → ℕ → ℕ → Type 0
 RefusedOp K R moment deed folder would limit = (op : FileOp) × (deed ≡ File op) × Exceeds K R (plain R.nodes op moment) folder would limit
 
-pub quota_refuses : (K : Capacity) (R : Rows) (c : Command) (folder would limit : ℕ) → IsStore K R → (step K R c).outcome ≡ Refused (QuotaExceeded folder would limit) → RefusedOp K R c.moment c.deed folder would limit
+pub quota_refuses : (K : Capacity) (R : Rows) (c : Command) (folder would limit : ℕ) → IsValid K R → (step K R c).outcome ≡ Refused (QuotaExceeded folder would limit) → RefusedOp K R c.moment c.deed folder would limit
 quota_refuses K R c folder would limit store h =
     let w = work K R c.moment c.deed in
     let late = nat_lt c.moment R.last_moment in
@@ -117,38 +117,38 @@ quota_refuses K R c folder would limit store h =
       | inr file ↦ (file.op, file.is, subst (λ (nodes : List NodeRow). Exceeds K R nodes folder would limit) file.made over)
     ]
 
-pub limits_kept : (K : Capacity) (R : Rows) (c : Command) (folder : ℕ) (quota : QuotaRow) → IsStore K R → quota_of R folder ≡ Some quota → counts quota ≡ true → quota.enforce ≡ true → usage K R.nodes folder < usage K (step K R c).rows.nodes folder → usage K (step K R c).rows.nodes folder ≤ quota.limit
+pub limits_kept : (K : Capacity) (R : Rows) (c : Command) (folder : ℕ) (quota : QuotaRow) → IsValid K R → quota_of R folder ≡ Some quota → counts quota ≡ true → quota.enforce ≡ true → usage K R.nodes folder < usage K (step K R c).rows.nodes folder → usage K (step K R c).rows.nodes folder ≤ quota.limit
 limits_kept K R c folder quota store there counting enforced rises =
     let w = work K R c.moment c.deed in
     let late = nat_lt c.moment R.last_moment in
     limits_hold K R c.moment late w (certified K R c.moment c.deed).limits store (verdict late w) refl folder quota (record { there = there; counting = counting; enforced = enforced; rises = rises })
 
 -- an outcome names what is there
-pub named : (K : Capacity) (R : Rows) (c : Command) → IsStore K R → IsNamed (step K R c).rows (step K R c).outcome
+pub named : (K : Capacity) (R : Rows) (c : Command) → IsValid K R → IsNamed (step K R c).rows (step K R c).outcome
 named K R c store =
     let w = work K R c.moment c.deed in
     let late = nat_lt c.moment R.last_moment in
     outcome_named K R c.moment late w (orderly K R c.moment c.deed) store (verdict late w) refl
 
 -- a command that doesn't last leaves what a store keeps
-pub lasting_kept : (K : Capacity) (R : Rows) (c : Command) → IsStore K R → (step K R c).lasting ≡ false → lasting (step K R c).rows ≡ lasting R
+pub lasting_kept : (K : Capacity) (R : Rows) (c : Command) → IsValid K R → (step K R c).lasting ≡ false → lasting (step K R c).rows ≡ lasting R
 lasting_kept K R c store h =
     let w = work K R c.moment c.deed in
     let late = nat_lt c.moment R.last_moment in
     unlasting_kept K R c.moment late w (orderly K R c.moment c.deed) store (verdict late w) refl h
 
 -- a command leaves valid rows if its work does
-pub kept_valid : (K : Capacity) (R : Rows) (moment : ℕ) (deed : Deed) → IsStore K R → moment ≤ latest_moment → KeepsValid K R (work K R moment deed) → IsStore K (step K R (record { moment = moment; deed = deed })).rows
+pub kept_valid : (K : Capacity) (R : Rows) (moment : ℕ) (deed : Deed) → IsValid K R → moment ≤ latest_moment → KeepsValid K R (work K R moment deed) → IsValid K (step K R (record { moment = moment; deed = deed })).rows
 kept_valid K R moment deed store legal kept =
     let w = work K R moment deed in
     let late = nat_lt moment R.last_moment in
     valid_kept K R moment late w kept store legal (verdict late w) refl
 
 -- and if its values are in their ranges
-pub deed_valid : (K : Capacity) (R : Rows) (moment : ℕ) (deed : Deed) → IsStore K R → moment ≤ latest_moment → is_deed deed ≡ true → IsStore K (step K R (record { moment = moment; deed = deed })).rows
+pub deed_valid : (K : Capacity) (R : Rows) (moment : ℕ) (deed : Deed) → IsValid K R → moment ≤ latest_moment → is_deed deed ≡ true → IsValid K (step K R (record { moment = moment; deed = deed })).rows
 deed_valid K R moment deed store late legal = kept_valid K R moment deed store late ((certified K R moment deed).kept late legal)
 
-pub step_valid : (K : Capacity) (R : Rows) (c : Command) → IsStore K R → is_command c ≡ true → IsStore K (step K R c).rows
+pub step_valid : (K : Capacity) (R : Rows) (c : Command) → IsValid K R → is_command c ≡ true → IsValid K (step K R c).rows
 step_valid K R c store legal =
     let values : (is_moment c.moment ≡ true) × ((is_deed c.deed && is_short c.deed) ≡ true) = both _ _ legal in
     let deed : (is_deed c.deed ≡ true) × (is_short c.deed ≡ true) = both _ _ values.1 in

@@ -12,7 +12,7 @@ use Rattle.fsrm_model.specs.FileWork.{file_checks, file_effect, file_work, usage
 use Rattle.fsrm_base.specs.Keyed.{has_row, with_row, with_change, without_row}
 use Rattle.fsrm_model.specs.Leads.{leads, leads_to_file}
 use Rattle.fsrm_model.specs.Tree.{number, resolve, node_of, is_folder, last_name, name_of, name_bytes}
-use Rattle.fsrm_model.specs.Valid.{IsVolume, is_own, IsStore}
+use Rattle.fsrm_model.specs.Valid.{IsVolume, is_own, IsValid}
 use Rattle.fsrm_model.proofs.Ends.{effect_nodes}
 use Rattle.fsrm_model.proofs.HardLimits.{op_within}
 use Rattle.fsrm_model.proofs.Orderly.{AreChecks, IsOrderly, IsStill, KeepsLimits, change_orderly, show_still, bare, quotas_bear, first_none, when_none, not_false, KeepsValid}
@@ -73,7 +73,7 @@ one_path : (path : List (List ℕ)) → list_all is_path (path ∷ []) ≡ true 
 one_path path h = let parts : (is_path path ≡ true) × (true ≡ true) = both _ _ h in parts.0
 
 -- the rows with other nodes, in which the folders of quotas are kept
-nodes_followed : (K : Capacity) (R : Rows) (new : List NodeRow) (after : ℕ → List ℕ) → IsStore K R → IsVolume K new → ((n : ℕ) → is_folder R.nodes n ≡ true → is_folder new n ≡ true) → ((n : ℕ) → head R.queue ≡ Some n → AreUnvisited R.nodes n R.unvisited → AreUnvisited new n (after n)) → IsStore K (followed R (record R { nodes = new; unvisited = option_map_or after (head R.queue) [] }))
+nodes_followed : (K : Capacity) (R : Rows) (new : List NodeRow) (after : ℕ → List ℕ) → IsValid K R → IsVolume K new → ((n : ℕ) → is_folder R.nodes n ≡ true → is_folder new n ≡ true) → ((n : ℕ) → head R.queue ≡ Some n → AreUnvisited R.nodes n R.unvisited → AreUnvisited new n (after n)) → IsValid K (followed R (record R { nodes = new; unvisited = option_map_or after (head R.queue) [] }))
 nodes_followed K R new after s volume folders unvisited =
     let left = option_map_or after (head R.queue) [] in
     valid_with K R new R.quotas R.queue (if same_head R.queue R.queue then left else scan_begun new R.queue) R.last_moment s volume
@@ -108,7 +108,7 @@ new_kept K nodes path folder bytes owner moment v p legal short owned late =
       });
     }
 
-new_followed : (K : Capacity) (R : Rows) (node : NodeRow) → IsStore K R → IsNew K R.nodes node → IsStore K (followed R (record R { nodes = with_row number node R.nodes; unvisited = option_map_or (λ n. unvisited_with node R.unvisited) (head R.queue) [] }))
+new_followed : (K : Capacity) (R : Rows) (node : NodeRow) → IsValid K R → IsNew K R.nodes node → IsValid K (followed R (record R { nodes = with_row number node R.nodes; unvisited = option_map_or (λ n. unvisited_with node R.unvisited) (head R.queue) [] }))
 new_followed K R node s is =
     nodes_followed K R (with_row number node R.nodes) (λ n. unvisited_with node R.unvisited) s is.volume
     (λ n folder. folder-new R.nodes node n is.free folder)
@@ -129,7 +129,7 @@ create_kept K R path bytes owner moment legal late s h =
     new_followed K R node s (new_kept K R.nodes path false bytes owner moment s.volume p.0 (one_path path values.0) (le_is bytes longest_file sizes.0) sizes.1 late)
 
 -- a file that changes
-change_followed : (K : Capacity) (R : Rows) (x : ℕ) (c : NodeRow → NodeRow) → IsStore K R → KeepsNode c → is_folder R.nodes x ≡ false → ((r : NodeRow) → node_of R.nodes x ≡ Some r → (x == 0) ≡ false → is_own (c r) ≡ true) → IsStore K (followed R (record R { nodes = with_change number x c R.nodes; unvisited = option_map_or (λ n. R.unvisited) (head R.queue) [] }))
+change_followed : (K : Capacity) (R : Rows) (x : ℕ) (c : NodeRow → NodeRow) → IsValid K R → KeepsNode c → is_folder R.nodes x ≡ false → ((r : NodeRow) → node_of R.nodes x ≡ Some r → (x == 0) ≡ false → is_own (c r) ≡ true) → IsValid K (followed R (record R { nodes = with_change number x c R.nodes; unvisited = option_map_or (λ n. R.unvisited) (head R.queue) [] }))
 change_followed K R x c s k file own =
     let inner = file_inner K R.nodes x s.volume file in
     nodes_followed K R (with_change number x c R.nodes) (λ n. R.unvisited) s

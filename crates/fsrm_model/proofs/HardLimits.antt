@@ -19,7 +19,7 @@ use Rattle.fsrm_model.specs.Leads.{leads_to_file}
 use Rattle.fsrm_model.specs.Quota.{folder_of, quota_of, counts, refuses, over, deepest, exceeded}
 use Rattle.fsrm_model.specs.Space.{space}
 use Rattle.fsrm_model.specs.Tree.{number, parent_of, is_folder, chain, is_under, usage, last_name, fresh}
-use Rattle.fsrm_model.specs.Valid.{IsStore}
+use Rattle.fsrm_model.specs.Valid.{IsValid}
 use Rattle.fsrm_base.proofs.TestLaws.{is_or_not, lt_is, clash, or_later, eq_is}
 use Rattle.fsrm_model.proofs.ChainLaws.{IsTree, Has, chain_step, chain-new_other, usage-new}
 use Rattle.fsrm_base.specs.Numbers.{is_in}
@@ -151,7 +151,7 @@ none_mapped : {X Y : Type 0} (f : X → Y) (o : Option X) → option_map f o ≡
 none_mapped f None h = refl
 none_mapped f (Some x) h = absurd (cc h)
 
-no_quota_over : (K : Capacity) (R : Rows) (new : List NodeRow) (t : ℕ) → IsStore K R → Has R.nodes t → ((f : ℕ) → is_folder R.nodes f ≡ true → usage K R.nodes f < usage K new f → Stays R.nodes new t f) → exceeded K R new ≡ None → (folder : ℕ) (quota : QuotaRow) → Rising K R new folder quota → usage K new folder ≤ quota.limit
+no_quota_over : (K : Capacity) (R : Rows) (new : List NodeRow) (t : ℕ) → IsValid K R → Has R.nodes t → ((f : ℕ) → is_folder R.nodes f ≡ true → usage K R.nodes f < usage K new f → Stays R.nodes new t f) → exceeded K R new ≡ None → (folder : ℕ) (quota : QuotaRow) → Rising K R new folder quota → usage K new folder ≤ quota.limit
 no_quota_over K R new t store h grows none folder quota r =
     let rises : QuotaRow → Bool = λ q. refuses q (usage K R.nodes q.folder) (usage K new q.folder) in
     let good : AllByRecursion (λ q. rises q ≡ true → GoodQuota R.nodes new t q) R.quotas = all_rows folder_of (λ q. rises q ≡ true → GoodQuota R.nodes new t q) R.quotas (λ q has e.
@@ -190,25 +190,25 @@ moved b false old new s e l = absurd (omega (arith, e))
 abbrev pub Kept : Capacity → Rows → FileOp → ℕ → Type 0
 Kept K R op moment = IsWithin K R (plain R.nodes op moment)
 
-quota_has : (K : Capacity) (R : Rows) (folder : ℕ) (quota : QuotaRow) → IsStore K R → quota_of R folder ≡ Some quota → Has R.nodes folder
+quota_has : (K : Capacity) (R : Rows) (folder : ℕ) (quota : QuotaRow) → IsValid K R → quota_of R folder ≡ Some quota → Has R.nodes folder
 quota_has K R folder quota store there = folder_has R.nodes folder (store.quotas.folders folder quota there)
 
 -- a new node in a folder
-used_new : (K : Capacity) (R : Rows) (node : NodeRow) → IsStore K R → node.number ≡ fresh R.nodes → is_folder R.nodes node.parent ≡ true → (f : ℕ) → Has R.nodes f → (usage K (with_row number node R.nodes) f ≡ usage K R.nodes f + cond (is_under R.nodes f node.parent) (space K node) 0) × (chain (with_row number node R.nodes) f ≡ chain R.nodes f)
+used_new : (K : Capacity) (R : Rows) (node : NodeRow) → IsValid K R → node.number ≡ fresh R.nodes → is_folder R.nodes node.parent ≡ true → (f : ℕ) → Has R.nodes f → (usage K (with_row number node R.nodes) f ≡ usage K R.nodes f + cond (is_under R.nodes f node.parent) (space K node) 0) × (chain (with_row number node R.nodes) f ≡ chain R.nodes f)
 used_new K R node store own parent f h =
     let tree = tree_of K R.nodes store.volume in
     let free : has_row number node.number R.nodes ≡ false = ap (λ n. has_row number n R.nodes) own ∙ (least_free_is number R.nodes store.volume.ascending).free in
     let s = as_suc node.number (zero_apart R.nodes node.number store.volume.has_root free) in
     (usage-new K R.nodes tree node s.0 s.1 free (folder_has R.nodes node.parent parent) f h, chain-new_other R.nodes tree node free f h)
 
-mkdir_kept : (K : Capacity) (R : Rows) (path : List (List ℕ)) (owner moment : ℕ) → IsStore K R → NewChecks K R path (file_effect R (Mkdir path owner) moment) [] → Kept K R (Mkdir path owner) moment
+mkdir_kept : (K : Capacity) (R : Rows) (path : List (List ℕ)) (owner moment : ℕ) → IsValid K R → NewChecks K R path (file_effect R (Mkdir path owner) moment) [] → Kept K R (Mkdir path owner) moment
 mkdir_kept K R path owner moment store h folder quota r =
     let node = new_node R.nodes path true 0 owner moment in
     let p = new_parts K R path (file_effect R (Mkdir path owner) moment) [] store.volume h in
     let used = used_new K R node store refl p.0.place.folder folder (quota_has K R folder quota store r.there) in
     absurd (added_nothing (is_under R.nodes folder node.parent) (usage K R.nodes folder) (usage K (plain R.nodes (Mkdir path owner) moment) folder) used.0 r.rises)
 
-create_kept : (K : Capacity) (R : Rows) (path : List (List ℕ)) (length owner moment : ℕ) → IsStore K R → NewChecks K R path (file_effect R (Create path length owner) moment) (exceeded K R (plain R.nodes (Create path length owner) moment) ∷ []) → Kept K R (Create path length owner) moment
+create_kept : (K : Capacity) (R : Rows) (path : List (List ℕ)) (length owner moment : ℕ) → IsValid K R → NewChecks K R path (file_effect R (Create path length owner) moment) (exceeded K R (plain R.nodes (Create path length owner) moment) ∷ []) → Kept K R (Create path length owner) moment
 create_kept K R path length owner moment store h folder quota r =
     let node = new_node R.nodes path false length owner moment in
     let new = plain R.nodes (Create path length owner) moment in
@@ -221,7 +221,7 @@ create_kept K R path length owner moment store h folder quota r =
     record { has = has; under = added (is_under R.nodes f node.parent) (usage K R.nodes f) (usage K new f) (space K node) used.0 rise; same = used.1 })
     none.0 folder quota r
 
-resize_kept : (K : Capacity) (R : Rows) (path : List (List ℕ)) (length moment : ℕ) → IsStore K R → first ((PathNotFound when not (leads_to_file R.nodes path)) ∷ exceeded K R (plain R.nodes (Resize path length) moment) ∷ []) ≡ None → Kept K R (Resize path length) moment
+resize_kept : (K : Capacity) (R : Rows) (path : List (List ℕ)) (length moment : ℕ) → IsValid K R → first ((PathNotFound when not (leads_to_file R.nodes path)) ∷ exceeded K R (plain R.nodes (Resize path length) moment) ∷ []) ≡ None → Kept K R (Resize path length) moment
 resize_kept K R path length moment store h folder quota r =
     let new = plain R.nodes (Resize path length) moment in
     let n = target R.nodes path in
@@ -242,7 +242,7 @@ resize_kept K R path length moment store h folder quota r =
     })
     none.0 folder quota r
 
-touch_kept : (K : Capacity) (R : Rows) (path : List (List ℕ)) (moment : ℕ) → IsStore K R → first ((PathNotFound when not (leads_to_file R.nodes path)) ∷ []) ≡ None → Kept K R (Touch path) moment
+touch_kept : (K : Capacity) (R : Rows) (path : List (List ℕ)) (moment : ℕ) → IsValid K R → first ((PathNotFound when not (leads_to_file R.nodes path)) ∷ []) ≡ None → Kept K R (Touch path) moment
 touch_kept K R path moment store h folder quota r =
     let n = target R.nodes path in
     let a = first_none (PathNotFound when not (leads_to_file R.nodes path)) [] h in
@@ -252,7 +252,7 @@ touch_kept K R path moment store h folder quota r =
     let rises = r.rises in
     absurd (omega (arith, e, rises))
 
-remove_kept : (K : Capacity) (R : Rows) (path : List (List ℕ)) (moment : ℕ) → IsStore K R → first (remove_checks R path) ≡ None → Kept K R (Remove path) moment
+remove_kept : (K : Capacity) (R : Rows) (path : List (List ℕ)) (moment : ℕ) → IsValid K R → first (remove_checks R path) ≡ None → Kept K R (Remove path) moment
 remove_kept K R path moment store h folder quota r =
     let x = target R.nodes path in
     let leaf = may_go K R path store.volume h in
@@ -261,7 +261,7 @@ remove_kept K R path moment store h folder quota r =
     let rises = r.rises in
     absurd (omega (arith, e, rises))
 
-move_kept : (K : Capacity) (R : Rows) (from to : List (List ℕ)) (moment : ℕ) → IsStore K R → first (move_checks K R from to (file_effect R (Move from to) moment)) ≡ None → Kept K R (Move from to) moment
+move_kept : (K : Capacity) (R : Rows) (from to : List (List ℕ)) (moment : ℕ) → IsValid K R → first (move_checks K R from to (file_effect R (Move from to) moment)) ≡ None → Kept K R (Move from to) moment
 move_kept K R from to moment store h folder quota r =
     let old = R.nodes in
     let new = plain R.nodes (Move from to) moment in
@@ -285,7 +285,7 @@ move_kept K R from to moment store h folder quota r =
     ])
     p.unexceeded folder quota r
 
-pub op_within : (K : Capacity) (R : Rows) (op : FileOp) (moment : ℕ) → IsStore K R → first (file_checks K R op (file_effect R op moment)) ≡ None → Kept K R op moment
+pub op_within : (K : Capacity) (R : Rows) (op : FileOp) (moment : ℕ) → IsValid K R → first (file_checks K R op (file_effect R op moment)) ≡ None → Kept K R op moment
 op_within K R (Mkdir path owner) moment store h = mkdir_kept K R path owner moment store h
 op_within K R (Create path length owner) moment store h = create_kept K R path length owner moment store h
 op_within K R (Resize path length) moment store h = resize_kept K R path length moment store h

@@ -18,7 +18,7 @@ use Rattle.fsrm_model.specs.Quota.{quota_of, counts, over, deepest, exceeded}
 use Rattle.fsrm_model.specs.QuotaStates.{followed}
 use Rattle.fsrm_model.specs.Text.{is_bare}
 use Rattle.fsrm_model.specs.Tree.{usage}
-use Rattle.fsrm_model.specs.Valid.{IsStore}
+use Rattle.fsrm_model.specs.Valid.{IsValid}
 use Rattle.fsrm_model.specs.Work.{Work, asks}
 
 -- what a command may answer that no check refuses: no refusal, and a sum that is made afresh
@@ -56,8 +56,8 @@ IsWithin K R nodes = (folder : ℕ) (quota : QuotaRow) → Rising K R nodes fold
 pub record IsOrderly (K : Capacity) (R : Rows) (w : Work) : Type 0 where
   pub answer : IsAnswer K R w.outcome
   pub checks : AreChecks K R w.effect.nodes w.checks
-  pub named : IsStore K R → first w.checks ≡ None → IsNamed w.effect w.outcome
-  pub quiet : IsStore K R → first w.checks ≡ None → w.lasts ≡ false → lasting w.effect ≡ lasting R
+  pub named : IsValid K R → first w.checks ≡ None → IsNamed w.effect w.outcome
+  pub quiet : IsValid K R → first w.checks ≡ None → w.lasts ≡ false → lasting w.effect ≡ lasting R
   pub unjudged : w.judged ≡ None
 
 -- a work that leaves the nodes as they were
@@ -67,11 +67,11 @@ pub record IsStill (K : Capacity) (R : Rows) (w : Work) : Type 0 where
 
 -- a work that lets no usage rise above its limit
 abbrev pub KeepsLimits : Capacity → Rows → Work → Type 0
-KeepsLimits K R w = IsStore K R → first w.checks ≡ None → IsWithin K R w.effect.nodes
+KeepsLimits K R w = IsValid K R → first w.checks ≡ None → IsWithin K R w.effect.nodes
 
 -- a work that leaves the rows of a store
 abbrev pub KeepsValid : Capacity → Rows → Work → Type 0
-KeepsValid K R w = IsStore K R → first w.checks ≡ None → IsStore K (followed R w.effect)
+KeepsValid K R w = IsValid K R → first w.checks ≡ None → IsValid K (followed R w.effect)
 
 -- nodes that stay let no usage rise
 pub none_rises : (K : Capacity) (R : Rows) (new : List NodeRow) → new ≡ R.nodes → (folder : ℕ) → usage K R.nodes folder < usage K new folder → ⊥
@@ -93,7 +93,7 @@ pub change_still : (K : Capacity) (R : Rows) (checks : List Check) (effect : Row
 change_still K R checks effect are same = record { orderly = change_orderly K R checks effect are; same = same }
 
 -- a command that only shows something
-pub show_still : (K : Capacity) (R : Rows) (checks : List Check) (outcome : Outcome) → IsAnswer K R outcome → AreChecks K R R.nodes checks → (IsStore K R → first checks ≡ None → IsNamed R outcome) → IsStill K R (asks checks R outcome false)
+pub show_still : (K : Capacity) (R : Rows) (checks : List Check) (outcome : Outcome) → IsAnswer K R outcome → AreChecks K R R.nodes checks → (IsValid K R → first checks ≡ None → IsNamed R outcome) → IsStill K R (asks checks R outcome false)
 show_still K R checks outcome answer are named =
     record { orderly = record { answer = answer; checks = are; named = named; quiet = λ store h still. refl; unjudged = refl }; same = refl }
 

@@ -18,7 +18,7 @@ use Rattle.fsrm_model.specs.Named.{IsNamed}
 use Rattle.fsrm_model.specs.QuotaStates.{followed}
 use Rattle.fsrm_model.specs.Step.{decided, lasted, unlasting, unacted}
 use Rattle.fsrm_model.specs.Tree.{usage}
-use Rattle.fsrm_model.specs.Valid.{IsStore}
+use Rattle.fsrm_model.specs.Valid.{IsValid}
 use Rattle.fsrm_model.specs.Work.{Work}
 use Rattle.fsrm_model.proofs.Ends.{outcome_kept, nodes_kept}
 use Rattle.fsrm_model.proofs.Orderly.{IsAnswer, IsCheck, IsWithin, KeepsLimits, KeepsValid, IsOrderly, bare, first_check, first_none, none_rises}
@@ -57,7 +57,7 @@ sum_afresh K R moment w c (Some r) folder bytes h = absurd (cc h)
 sum_afresh K R moment w c None folder bytes h = answered K R moment w (Sum folder bytes) c h
 
 -- a refusal for a quota names the one that the nodes of the effect exceed
-pub refusal_exceeds : (K : Capacity) (R : Rows) (late : Bool) (w : Work) → IsOrderly K R w → IsStore K R → (folder would limit : ℕ) → verdict late w ≡ Some (QuotaExceeded folder would limit) → Exceeds K R w.effect.nodes folder would limit
+pub refusal_exceeds : (K : Capacity) (R : Rows) (late : Bool) (w : Work) → IsOrderly K R w → IsValid K R → (folder would limit : ℕ) → verdict late w ≡ Some (QuotaExceeded folder would limit) → Exceeds K R w.effect.nodes folder would limit
 refusal_exceeds K R late w c store folder would limit h =
     let nodes = w.effect.nodes in
     let check = first_check K R nodes ((ClockBack when late) ∷ w.checks) (bare _ _ refl, c.checks) in
@@ -68,7 +68,7 @@ pub still_unexceeded : (K : Capacity) (R : Rows) (nodes : List NodeRow) (folder 
 still_unexceeded K R nodes folder would limit same e = none_rises K R nodes same folder e.is_over.rises
 
 -- no usage rises above a limit
-pub limits_hold : (K : Capacity) (R : Rows) (moment : ℕ) (late : Bool) (w : Work) → KeepsLimits K R w → IsStore K R → (o : Option Refusal) → verdict late w ≡ o → IsWithin K R (decided K R moment w o).rows.nodes
+pub limits_hold : (K : Capacity) (R : Rows) (moment : ℕ) (late : Bool) (w : Work) → KeepsLimits K R w → IsValid K R → (o : Option Refusal) → verdict late w ≡ o → IsWithin K R (decided K R moment w o).rows.nodes
 limits_hold K R moment late w keeps store (Some r) e = λ folder quota rising. absurd (none_rises K R R.nodes refl folder rising.rises)
 limits_hold K R moment late w keeps store None e =
     subst (IsWithin K R) (sym (nodes_kept K R moment w)) (keeps store (first_none (ClockBack when late) w.checks e).1)
@@ -88,13 +88,13 @@ named_in K R E moment w (Scanned folder visited used) false a h = h
 named_in K R E moment w (Refused refusal) b a h = absurd a
 
 -- so does a refusal, in the rows that it leaves
-refusal_named : (K : Capacity) (R : Rows) (nodes : List NodeRow) (check : Check) (refusal : Refusal) → IsStore K R → check ≡ Some refusal → IsCheck K R nodes check → IsNamed R (Refused refusal)
+refusal_named : (K : Capacity) (R : Rows) (nodes : List NodeRow) (check : Check) (refusal : Refusal) → IsValid K R → check ≡ Some refusal → IsCheck K R nodes check → IsNamed R (Refused refusal)
 refusal_named K R nodes check (QuotaExceeded folder would limit) store e h =
     let found = exceeded_is K R nodes folder would limit store.quotas.ascending (subst (IsCheck K R nodes) e h).over in
     folder_has R.nodes folder (store.quotas.folders folder found.quota found.is_over.is_there)
 refusal_named K R nodes check other store e h = tt
 
-pub outcome_named : (K : Capacity) (R : Rows) (moment : ℕ) (late : Bool) (w : Work) → IsOrderly K R w → IsStore K R → (o : Option Refusal) → verdict late w ≡ o → IsNamed (decided K R moment w o).rows (decided K R moment w o).outcome
+pub outcome_named : (K : Capacity) (R : Rows) (moment : ℕ) (late : Bool) (w : Work) → IsOrderly K R w → IsValid K R → (o : Option Refusal) → verdict late w ≡ o → IsNamed (decided K R moment w o).rows (decided K R moment w o).outcome
 outcome_named K R moment late w c store (Some refusal) e =
     let nodes = w.effect.nodes in
     refusal_named K R nodes (verdict late w) refusal store e (first_check K R nodes ((ClockBack when late) ∷ w.checks) (bare _ _ refl, c.checks))
@@ -107,15 +107,15 @@ quiet_end : (K : Capacity) (R : Rows) (moment : ℕ) (w : Work) (lasts : Bool) �
 quiet_end K R moment w true e h l = absurd (cc l)
 quiet_end K R moment w false e h l = h e
 
-pub unlasting_kept : (K : Capacity) (R : Rows) (moment : ℕ) (late : Bool) (w : Work) → IsOrderly K R w → IsStore K R → (o : Option Refusal) → verdict late w ≡ o → (decided K R moment w o).lasting ≡ false → lasting (decided K R moment w o).rows ≡ lasting R
+pub unlasting_kept : (K : Capacity) (R : Rows) (moment : ℕ) (late : Bool) (w : Work) → IsOrderly K R w → IsValid K R → (o : Option Refusal) → verdict late w ≡ o → (decided K R moment w o).lasting ≡ false → lasting (decided K R moment w o).rows ≡ lasting R
 unlasting_kept K R moment late w c store (Some refusal) e l = refl
 unlasting_kept K R moment late w c store None e l = quiet_end K R moment w w.lasts refl (c.quiet store (first_none (ClockBack when late) w.checks e).1) l
 
 -- the rows of a store stay such, over a refusal and over the end of a command
-valid_end : (K : Capacity) (R : Rows) (moment : ℕ) (w : Work) (lasts : Bool) → moment ≤ latest_moment → IsStore K (followed R w.effect) → IsStore K (if lasts then lasted K R (unacted (followed R w.effect)) moment w.outcome else unlasting (followed R w.effect) w.outcome).rows
+valid_end : (K : Capacity) (R : Rows) (moment : ℕ) (w : Work) (lasts : Bool) → moment ≤ latest_moment → IsValid K (followed R w.effect) → IsValid K (if lasts then lasted K R (unacted (followed R w.effect)) moment w.outcome else unlasting (followed R w.effect) w.outcome).rows
 valid_end K R moment w true late s = valid_ended K (followed R w.effect) moment s late
 valid_end K R moment w false late s = s
 
-pub valid_kept : (K : Capacity) (R : Rows) (moment : ℕ) (late : Bool) (w : Work) → KeepsValid K R w → IsStore K R → moment ≤ latest_moment → (o : Option Refusal) → verdict late w ≡ o → IsStore K (decided K R moment w o).rows
+pub valid_kept : (K : Capacity) (R : Rows) (moment : ℕ) (late : Bool) (w : Work) → KeepsValid K R w → IsValid K R → moment ≤ latest_moment → (o : Option Refusal) → verdict late w ≡ o → IsValid K (decided K R moment w o).rows
 valid_kept K R moment late w keeps store legal (Some refusal) e = store
 valid_kept K R moment late w keeps store legal None e = valid_end K R moment w w.lasts legal (keeps store (first_none (ClockBack when late) w.checks e).1)

@@ -19,7 +19,7 @@ use Rattle.fsrm_model.specs.QuotaStates.{head, same_head, scan_begun, followed}
 use Rattle.fsrm_model.specs.Scan.{AreUnvisited, folders_under, visits}
 use Rattle.fsrm_model.specs.Texts.{bytes_of, action_bytes, threshold_bytes, quota_bytes, template_bytes, group_bytes, job_bytes, object_texts}
 use Rattle.fsrm_model.specs.Tree.{is_folder, usage}
-use Rattle.fsrm_model.specs.Valid.{is_empty, is_plain, IsVolume, AreQuotas, AreTables, IsStore}
+use Rattle.fsrm_model.specs.Valid.{is_empty, is_plain, IsVolume, AreQuotas, AreTables, IsValid}
 use Rattle.fsrm_model.specs.ValidScans.{IsQueue, AreLeft}
 use Rattle.fsrm_base.proofs.Look.{has_found}
 use Rattle.fsrm_model.proofs.QueueKept.{queue_peaked}
@@ -95,7 +95,7 @@ plain_peaked K nodes m quota h = at (counts quota && nat_lt quota.peak (usage K 
     at false = h
 
 -- other nodes, quotas and scans, and another last moment
-pub valid_with : (K : Capacity) (R : Rows) (nodes : List NodeRow) (quotas : List QuotaRow) (queue unvisited : List ℕ) (last : ℕ) → IsStore K R → IsVolume K nodes → AreQuotas nodes quotas → list_all is_plain quotas ≡ true → IsQueue quotas queue → AreLeft nodes (head queue) unvisited → last ≤ latest_moment → IsStore K (record R { nodes = nodes; quotas = quotas; queue = queue; unvisited = unvisited; last_moment = last })
+pub valid_with : (K : Capacity) (R : Rows) (nodes : List NodeRow) (quotas : List QuotaRow) (queue unvisited : List ℕ) (last : ℕ) → IsValid K R → IsVolume K nodes → AreQuotas nodes quotas → list_all is_plain quotas ≡ true → IsQueue quotas queue → AreLeft nodes (head queue) unvisited → last ≤ latest_moment → IsValid K (record R { nodes = nodes; quotas = quotas; queue = queue; unvisited = unvisited; last_moment = last })
 valid_with K R nodes quotas queue unvisited last s volume are plain waits left late =
     let E : Rows = record R { nodes = nodes; quotas = quotas; queue = queue; unvisited = unvisited; last_moment = last } in
     let t : AreTables E = record {
@@ -152,18 +152,18 @@ left_visits k nodes None left a = ap (visits k nodes) a ∙ none_visited k nodes
 left_visits k nodes (Some n) left a = unvisited_visits k nodes n left a
 
 -- a command changes quotas and the queue
-pub quotas_followed : (K : Capacity) (R : Rows) (quotas : List QuotaRow) (queue : List ℕ) → IsStore K R → AreQuotas R.nodes quotas → list_all is_plain quotas ≡ true → IsQueue quotas queue → IsStore K (followed R (record R { quotas = quotas; queue = queue }))
+pub quotas_followed : (K : Capacity) (R : Rows) (quotas : List QuotaRow) (queue : List ℕ) → IsValid K R → AreQuotas R.nodes quotas → list_all is_plain quotas ≡ true → IsQueue quotas queue → IsValid K (followed R (record R { quotas = quotas; queue = queue }))
 quotas_followed K R quotas queue s are plain waits =
     valid_with K R R.nodes quotas queue (if same_head R.queue queue then R.unvisited else scan_begun R.nodes queue) R.last_moment s s.volume are plain waits
     (left_followed K R.nodes R.queue queue R.unvisited s.volume (λ same. subst (λ (o : Option ℕ). AreLeft R.nodes o R.unvisited) (same_heads R.queue queue same) s.unvisited))
     s.last_moment
 
 -- or nothing
-pub nothing_followed : (K : Capacity) (R : Rows) → IsStore K R → IsStore K (followed R R)
+pub nothing_followed : (K : Capacity) (R : Rows) → IsValid K R → IsValid K (followed R R)
 nothing_followed K R s = quotas_followed K R R.quotas R.queue s s.quotas s.tables.plain s.queue
 
 -- the end of a command that lasts
-pub valid_ended : (K : Capacity) (R : Rows) (moment : ℕ) → IsStore K R → moment ≤ latest_moment → IsStore K (record (peaks K R moment) { last_moment = moment })
+pub valid_ended : (K : Capacity) (R : Rows) (moment : ℕ) → IsValid K R → moment ≤ latest_moment → IsValid K (record (peaks K R moment) { last_moment = moment })
 valid_ended K R moment s late =
     valid_with K R R.nodes (peaks K R moment).quotas R.queue R.unvisited moment s s.volume
     (quotas-peaked K R.nodes R.quotas moment s.quotas (le_test moment latest_moment late))
@@ -171,11 +171,11 @@ valid_ended K R moment s late =
     (queue_peaked K R.nodes moment R.quotas R.queue s.queue) s.unvisited late
 
 -- another last moment alone
-pub valid_at : (K : Capacity) (R : Rows) (moment : ℕ) → IsStore K R → moment ≤ latest_moment → IsStore K (record R { last_moment = moment })
+pub valid_at : (K : Capacity) (R : Rows) (moment : ℕ) → IsValid K R → moment ≤ latest_moment → IsValid K (record R { last_moment = moment })
 valid_at K R moment s late = valid_with K R R.nodes R.quotas R.queue R.unvisited moment s s.volume s.quotas s.tables.plain s.queue s.unvisited late
 
 -- visits alone
-pub valid_visited : (K : Capacity) (R : Rows) (n : ℕ) → IsStore K R → IsStore K (record R { unvisited = visits n R.nodes R.unvisited })
+pub valid_visited : (K : Capacity) (R : Rows) (n : ℕ) → IsValid K R → IsValid K (record R { unvisited = visits n R.nodes R.unvisited })
 valid_visited K R n s =
     valid_with K R R.nodes R.quotas R.queue (visits n R.nodes R.unvisited) R.last_moment s s.volume s.quotas s.tables.plain s.queue
     (left_visits n R.nodes (head R.queue) R.unvisited s.unvisited) s.last_moment
@@ -185,7 +185,7 @@ pub head_in : (queue : List ℕ) (n : ℕ) → head queue ≡ Some n → is_in q
 head_in [] n h = absurd (cc h)
 head_in (k ∷ queue) n h = let is : k ≡ n = cc h in ap (λ b. b || is_in queue n) (ap (λ i. i == n) is ∙ eq_same n)
 
-pub head_folder : (K : Capacity) (R : Rows) (n : ℕ) → IsStore K R → head R.queue ≡ Some n → is_folder R.nodes n ≡ true
+pub head_folder : (K : Capacity) (R : Rows) (n : ℕ) → IsValid K R → head R.queue ≡ Some n → is_folder R.nodes n ≡ true
 head_folder K R n s h =
     let found = has_found folder_of n R.quotas (s.queue.queued n (head_in R.queue n h)) in
     s.quotas.folders n found.row found.is

@@ -20,7 +20,7 @@ use Rattle.fsrm_model.specs.QuotaStates.{head, in_state, is_disabled, state_of, 
 use Rattle.fsrm_model.specs.Scan.{visits}
 use Rattle.fsrm_model.specs.ScanWork.{scan_work, step_work}
 use Rattle.fsrm_model.specs.Tree.{number}
-use Rattle.fsrm_model.specs.Valid.{AreQuotas, IsStore}
+use Rattle.fsrm_model.specs.Valid.{AreQuotas, IsValid}
 use Rattle.fsrm_model.proofs.Ends.{step_nodes}
 use Rattle.fsrm_base.proofs.Look.{eq_same, is_some-find}
 use Rattle.fsrm_model.proofs.Orderly.{IsStill, bare, first_none, when_none, KeepsValid}
@@ -90,7 +90,7 @@ quota_node R folder None q e h = absurd cc
 quota_node R folder (Some quota) q e h = folder_has R.nodes folder (q.folders folder quota e)
 
 -- the folder whose scan is the active one is a node
-head_node : (K : Capacity) (R : Rows) (queue : List ℕ) → IsStore K R → R.queue ≡ queue → (length queue == 0) ≡ false → has_row number (unwrap_or (head queue) 0) R.nodes ≡ true
+head_node : (K : Capacity) (R : Rows) (queue : List ℕ) → IsValid K R → R.queue ≡ queue → (length queue == 0) ≡ false → has_row number (unwrap_or (head queue) 0) R.nodes ≡ true
 head_node K R [] s e h = absurd cc
 head_node K R (folder ∷ more) s e h =
     let here : is_in (folder ∷ more) folder ≡ true = ap (λ b. b || is_in more folder) (eq_same folder) in
@@ -161,7 +161,7 @@ step_kept K R n s h =
     still : (queue : List ℕ) → same_head R.queue queue ≡ true → AreLeft R.nodes (head queue) left
     still queue same = subst (λ (o : Option ℕ). AreLeft R.nodes o left) (same_heads R.queue queue same) goes
 
-    by : (ends : Bool) → has_row folder_of scanned R.quotas ≡ true → IsStore K (followed R (if ends then with_state visited scanned Complete else visited))
+    by : (ends : Bool) → has_row folder_of scanned R.quotas ≡ true → IsValid K (followed R (if ends then with_state visited scanned Complete else visited))
     by true there =
         let queue = queued R.queue scanned Complete in
         valid_with K R R.nodes (with_change folder_of scanned (in_state Complete) R.quotas) queue (if same_head R.queue queue then left else scan_begun R.nodes queue) R.last_moment s s.volume

@@ -15,7 +15,7 @@ use Rattle.fsrm_model.specs.QuotaStates.{is_rebuilding, head}
 use Rattle.fsrm_model.specs.Scan.{are_unvisited, AreUnvisited}
 use Rattle.fsrm_model.specs.Texts.{object_texts}
 use Rattle.fsrm_model.specs.Tree.{number, is_folder, is_under}
-use Rattle.fsrm_model.specs.Valid.{is_moment, is_tree, is_empty, is_plain, is_sound_quota, are_quotas, AreQuotas, are_tables, AreTables, is_valid, IsStore}
+use Rattle.fsrm_model.specs.Valid.{is_moment, is_tree, is_empty, is_plain, is_sound_quota, are_quotas, AreQuotas, are_tables, AreTables, is_valid, IsValid}
 use Rattle.fsrm_model.specs.ValidScans.{is_waiting, is_queue, IsQueue, are_left, AreLeft}
 use Rattle.fsrm_model.proofs.Keeps.{folder_found, found_folder}
 use Rattle.fsrm_base.proofs.Look.{found_key, found_has, has_found}
@@ -188,7 +188,7 @@ pub test_by_tables : (R : Rows) → AreTables R → are_tables R ≡ true
 test_by_tables R t = rw (t.plain, t.templates, t.autos, t.groups, t.screens, t.excepts, t.jobs, t.acts, t.audits) refl
 
 -- all of it
-pub valid_by_test : (K : Capacity) (R : Rows) → is_valid K R ≡ true → IsStore K R
+pub valid_by_test : (K : Capacity) (R : Rows) → is_valid K R ≡ true → IsValid K R
 valid_by_test K R h =
     let scans = is_queue R.quotas R.queue && are_left R.nodes (head R.queue) R.unvisited in
     let settings = nat_le R.run_limit most_minutes && is_moment R.last_moment in
@@ -210,7 +210,7 @@ valid_by_test K R h =
       unvisited = left_by_test R.nodes (head R.queue) R.unvisited waits.1;
     }
 
-pub test_by_valid : (K : Capacity) (R : Rows) → IsStore K R → is_valid K R ≡ true
+pub test_by_valid : (K : Capacity) (R : Rows) → IsValid K R → is_valid K R ≡ true
 test_by_valid K R s =
     joined (is_tree K R.nodes) (are_quotas R.nodes R.quotas) (are_tables R) (nat_le (object_texts R) most_text_bytes) (nat_le R.run_limit most_minutes) (is_moment R.last_moment) (is_queue R.quotas R.queue) (are_left R.nodes (head R.queue) R.unvisited)
     (tree_of_volume K R.nodes s.volume)
@@ -226,5 +226,5 @@ test_by_valid K R s =
     joined a b c d e f g i ha hb hc hd he hf hg hi = rw (ha, hb, hc, hd, he, hf, hg, hi) refl
 
 -- the rows of a new store are valid
-pub new_valid : (K : Capacity) → 0 < K.nodes → IsStore K new_rows
+pub new_valid : (K : Capacity) → 0 < K.nodes → IsValid K new_rows
 new_valid K some = valid_by_test K new_rows (rw (lt_test 0 K.nodes some, le_test 0 K.names (omega arith)) refl)

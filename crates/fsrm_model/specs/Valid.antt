@@ -113,7 +113,7 @@ is_valid K R =
     && ((nat_le (object_texts R) most_text_bytes && (nat_le R.run_limit most_minutes && is_moment R.last_moment))
     && (is_queue R.quotas R.queue && are_left R.nodes (head R.queue) R.unvisited))
 
-pub record IsStore (K : Capacity) (R : Rows) : Type 0 where
+pub record IsValid (K : Capacity) (R : Rows) : Type 0 where
   pub volume : IsVolume K R.nodes
   pub quotas : AreQuotas R.nodes R.quotas
   pub tables : AreTables R

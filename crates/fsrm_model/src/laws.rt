@@ -29,7 +29,7 @@ ghost use Rattle.fsrm_model.specs.Spelling.{Spells, Skips};
 ghost use Rattle.fsrm_model.specs.Step.{step, work};
 ghost use Rattle.fsrm_model.specs.Text.{reply, act_lines};
 ghost use Rattle.fsrm_model.specs.Tree.{number, under, usage};
-ghost use Rattle.fsrm_model.specs.Valid.{is_tree, IsVolume, are_quotas, AreQuotas, are_tables, AreTables, is_valid, IsStore};
+ghost use Rattle.fsrm_model.specs.Valid.{is_tree, IsVolume, are_quotas, AreQuotas, are_tables, AreTables, is_valid, IsValid};
 ghost use Rattle.fsrm_model.specs.ValidRows.{valid_rows, wrong_nodes, wrong_quotas, wrong_tables, wrong_queues, wrong_unvisited};
 ghost use Rattle.fsrm_model.specs.Valued.{is_command};
 ghost use Rattle.fsrm_model.specs.ValidScans.{is_queue, IsQueue, are_left, AreLeft};
@@ -108,28 +108,28 @@ pub fn plain_machine()
 pub fn quotas()
     // The refusal for a quota names the deepest folder whose quota counts and is enforced, and whose usage would
     // rise, and above the limit.
-    ensures exceeds { (K : Capacity) (R : Rows) (nodes : List NodeRow) (folder would limit : ℕ) → IsStore K R → exceeded K R nodes ≡ Some (QuotaExceeded folder would limit) → Exceeds K R nodes folder would limit }
+    ensures exceeds { (K : Capacity) (R : Rows) (nodes : List NodeRow) (folder would limit : ℕ) → IsValid K R → exceeded K R nodes ≡ Some (QuotaExceeded folder would limit) → Exceeds K R nodes folder would limit }
     // Only a file operation is refused for a quota, and only for what it would make of the nodes.
-    ensures refuses { (K : Capacity) (R : Rows) (c : Command) (folder would limit : ℕ) → IsStore K R → (step K R c).outcome ≡ Refused (QuotaExceeded folder would limit) → (op : FileOp) × (c.deed ≡ File op) × Exceeds K R (plain R.nodes op c.moment) folder would limit }
+    ensures refuses { (K : Capacity) (R : Rows) (c : Command) (folder would limit : ℕ) → IsValid K R → (step K R c).outcome ≡ Refused (QuotaExceeded folder would limit) → (op : FileOp) × (c.deed ≡ File op) × Exceeds K R (plain R.nodes op c.moment) folder would limit }
     // No command lets the usage of a folder whose quota counts and is enforced rise above the limit. What is above
     // it already may stay, and fall.
-    ensures limits { (K : Capacity) (R : Rows) (c : Command) (folder : ℕ) (quota : QuotaRow) → IsStore K R → quota_of R folder ≡ Some quota → counts quota ≡ true → quota.enforce ≡ true → usage K R.nodes folder < usage K (step K R c).rows.nodes folder → usage K (step K R c).rows.nodes folder ≤ quota.limit }
+    ensures limits { (K : Capacity) (R : Rows) (c : Command) (folder : ℕ) (quota : QuotaRow) → IsValid K R → quota_of R folder ≡ Some quota → counts quota ≡ true → quota.enforce ≡ true → usage K R.nodes folder < usage K (step K R c).rows.nodes folder → usage K (step K R c).rows.nodes folder ≤ quota.limit }
     // A command that lasts leaves no counting quota whose peak is below its usage.
     ensures peaks { (K : Capacity) (R : Rows) (c : Command) (folder : ℕ) (quota : QuotaRow) → (step K R c).lasting ≡ true → quota_of (step K R c).rows folder ≡ Some quota → counts quota ≡ true → usage K (step K R c).rows.nodes folder ≤ quota.peak }
 {}
 
 /// Which rows are those of a store, as a test and part by part; and that they stay such.
 pub fn valid()
-    ensures whole { (K : Capacity) (R : Rows) → (is_valid K R ≡ true) ↔ IsStore K R }
+    ensures whole { (K : Capacity) (R : Rows) → (is_valid K R ≡ true) ↔ IsValid K R }
     ensures nodes { (K : Capacity) (nodes : List NodeRow) → (is_tree K nodes ≡ true) ↔ IsVolume K nodes }
     ensures quotas { (nodes : List NodeRow) (quotas : List QuotaRow) → (are_quotas nodes quotas ≡ true) ↔ AreQuotas nodes quotas }
     ensures tables { (R : Rows) → (are_tables R ≡ true) ↔ AreTables R }
     ensures queue { (quotas : List QuotaRow) (queue : List ℕ) → is_ascending folder_of quotas ≡ true → (is_queue quotas queue ≡ true) ↔ IsQueue quotas queue }
     ensures unvisited { (nodes : List NodeRow) (scanned : Option ℕ) (unvisited : List ℕ) → is_ascending number nodes ≡ true → (are_left nodes scanned unvisited ≡ true) ↔ AreLeft nodes scanned unvisited }
     // The rows of a new store are valid.
-    ensures new { (K : Capacity) → 0 < K.nodes → IsStore K new_rows }
+    ensures new { (K : Capacity) → 0 < K.nodes → IsValid K new_rows }
     // A command whose values are in their ranges leaves valid rows, whatever it answers.
-    ensures kept { (K : Capacity) (R : Rows) (c : Command) → IsStore K R → is_command c ≡ true → IsStore K (step K R c).rows }
+    ensures kept { (K : Capacity) (R : Rows) (c : Command) → IsValid K R → is_command c ≡ true → IsValid K (step K R c).rows }
 {}
 
 /// In a journal the kind of an entry tells the command. Two deeds whose entries have the same kind are of the same

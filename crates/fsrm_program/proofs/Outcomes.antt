@@ -31,7 +31,7 @@ use Rattle.fsrm_model.specs.Script.{Replied, without_cr, replied, replied_to, li
 use Rattle.fsrm_model.specs.Step.{step, work, decided, accepted, lasted, unacted, unlasting}
 use Rattle.fsrm_model.specs.Text.{is_bare, is_report, head_line, reply, act_lines}
 use Rattle.fsrm_model.specs.Tree.{number, resolve, usage}
-use Rattle.fsrm_model.specs.Valid.{IsVolume, AreQuotas, IsStore}
+use Rattle.fsrm_model.specs.Valid.{IsVolume, AreQuotas, IsValid}
 use Rattle.fsrm_model.specs.Work.{Work}
 use Rattle.fsrm_model.proofs.Ends.{outcome_kept, nodes_kept, step_nodes}
 use Rattle.fsrm_model.proofs.LineRefusals.{line_refusal}

@@ -20,7 +20,7 @@ use Rattle.fsrm_model.specs.Cost.{path_cost, list_cost}
 use Rattle.fsrm_model.specs.declared.command.Ask.TheVariants.{Quotas}
 use Rattle.fsrm_model.specs.Text.{body_line, list_lines, path_text, quota_line, state_word}
 use Rattle.fsrm_model.specs.Tree.{number, usage}
-use Rattle.fsrm_model.specs.Valid.{IsStore}
+use Rattle.fsrm_model.specs.Valid.{IsValid}
 use Rattle.fsrm_model.proofs.Keeps.{folder_found}
 use Rattle.fsrm_base.proofs.Look.{found_has, found_key, is_some-find}
 use Rattle.fsrm_base.proofs.Members.{filter_none}
@@ -32,12 +32,12 @@ use Rattle.reply_text.proofs.Sent.{front_more}
 use Rattle.reply_text.specs.Lines.{moment_text, line_text, used_word, mode_word, quota_text}
 
 -- a quota of a store: its folder is there, and its peak's moment is one
-pub is_node : (K : Capacity) (R : Rows) (quota : QuotaRow) → IsStore K R → row_of folder_of quota.folder R.quotas ≡ Some quota → has_row number quota.folder R.nodes ≡ true
+pub is_node : (K : Capacity) (R : Rows) (quota : QuotaRow) → IsValid K R → row_of folder_of quota.folder R.quotas ≡ Some quota → has_row number quota.folder R.nodes ≡ true
 is_node K R quota store h =
     let found = folder_found R.nodes quota.folder (store.quotas.folders quota.folder quota h) in
     found_has number quota.folder R.nodes found.row found.found
 
-pub in_time : (K : Capacity) (R : Rows) (quota : QuotaRow) → IsStore K R → row_of folder_of quota.folder R.quotas ≡ Some quota → quota.peak_at ≤ latest_moment
+pub in_time : (K : Capacity) (R : Rows) (quota : QuotaRow) → IsValid K R → row_of folder_of quota.folder R.quotas ≡ Some quota → quota.peak_at ≤ latest_moment
 in_time K R quota store h = le_is quota.peak_at latest_moment (store.quotas.moments quota.folder quota h)
 
 -- the word of what is used
@@ -141,12 +141,12 @@ pub all_lines : (K : Capacity) (R : Rows) → flat_map (line_text K R.nodes) R.q
 unfolding line_text
 all_lines K R = refl
 
-pub one_line : (K : Capacity) (R : Rows) (folder : ℕ) (quota : QuotaRow) → IsStore K R → row_of folder_of folder R.quotas ≡ Some quota → line_text K R.nodes quota ≡ list_lines K R (Quotas (Some folder))
+pub one_line : (K : Capacity) (R : Rows) (folder : ℕ) (quota : QuotaRow) → IsValid K R → row_of folder_of folder R.quotas ≡ Some quota → line_text K R.nodes quota ≡ list_lines K R (Quotas (Some folder))
 unfolding line_text
 one_line K R folder quota store h =
     sym (ap (flat_map (quota_line K R.nodes)) (only_one folder_of folder R.quotas quota store.quotas.ascending h) ∙ append-nil (quota_line K R.nodes quota))
 
-pub one_cost : (K : Capacity) (R : Rows) (folder : ℕ) (quota : QuotaRow) → IsStore K R → row_of folder_of folder R.quotas ≡ Some quota → path_cost R.nodes quota.folder ≡ list_cost R (Quotas (Some folder))
+pub one_cost : (K : Capacity) (R : Rows) (folder : ℕ) (quota : QuotaRow) → IsValid K R → row_of folder_of folder R.quotas ≡ Some quota → path_cost R.nodes quota.folder ≡ list_cost R (Quotas (Some folder))
 one_cost K R folder quota store h =
     let e = ap (sum_by (λ (row : QuotaRow). path_cost R.nodes row.folder)) (only_one folder_of folder R.quotas quota store.quotas.ascending h) in
     omega (arith, e)

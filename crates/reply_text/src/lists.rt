@@ -11,7 +11,7 @@ ghost use Rattle.fsrm_model.specs.Named.{IsNamed};
 ghost use Rattle.fsrm_model.specs.Quota.{folder_of};
 ghost use Rattle.fsrm_model.specs.Text as Words;
 ghost use Rattle.fsrm_model.specs.Text.{list_lines};
-ghost use Rattle.fsrm_model.specs.Valid.{IsStore};
+ghost use Rattle.fsrm_model.specs.Valid.{IsValid};
 ghost use Rattle.fsrm_outside.specs.Causes.{Rose};
 ghost use Rattle.reply_text.specs.Lines.{mode_word, used_word, quota_text, line_text};
 ghost use Rattle.reply_text.specs.Writes.{KeepsCount, Sends};
@@ -80,7 +80,7 @@ fn write_quota<S: Sink, L: Ledger>(
     engine: &Engine,
     steps: &mut Steps<L>,
 ) -> Result<(), TextFault>
-    requires store { IsStore engine.now.size engine.now.rows }
+    requires store { IsValid engine.now.size engine.now.rows }
     requires own { row_of folder_of quota.now.folder engine.now.rows.quotas ≡ Some quota.now }
     ensures text { Sends result (S.shown sink.old) (S.shown sink.new) (line_text engine.now.size engine.now.rows.nodes quota.now) }
     ensures fault { IsErrOf result TextFault.WriteFault → Rose (S.write_faults sink.old) (S.write_faults sink.new) }

@@ -10,7 +10,7 @@ use Rattle.fsrm_model.specs.declared.row.Rows.{Rows}
 use Rattle.fsrm_model.specs.Cost.{cost, deed_cost}
 use Rattle.fsrm_model.specs.Named.{IsNamed}
 use Rattle.fsrm_model.specs.Step.{step}
-use Rattle.fsrm_model.specs.Valid.{IsStore}
+use Rattle.fsrm_model.specs.Valid.{IsValid}
 use Rattle.fsrm_model.proofs.EachCommand.{named}
 use Rattle.scan_queue.specs.Courses.{Scanning}
 use Rattle.fsrm_engine.specs.declared.parts.Parts.{Parts}
@@ -23,25 +23,25 @@ sound_ended mid new m is counted scanning =
     record { counted = counted; scanning = subst (λ (p : Parts). Scanning p.tree p.scans) (sym is) scanning }
 
 -- the rows of a step are valid, and so are those of the parts that did it
-pub whole_after : (old new : Parts) (m : ℕ) (deed : Deed) (answer : Answer) → Does old new m deed answer → IsSound new → IsStore old.tree.size (step old.tree.size (rows_of old) (record { moment = m; deed = deed })).rows → IsWhole new
+pub whole_after : (old new : Parts) (m : ℕ) (deed : Deed) (answer : Answer) → Does old new m deed answer → IsSound new → IsValid old.tree.size (step old.tree.size (rows_of old) (record { moment = m; deed = deed })).rows → IsWhole new
 whole_after old new m deed answer does sound valid =
     record {
       sound = sound;
-      valid = subst (IsStore new.tree.size) (sym does.rows_are) (subst (λ (K : Capacity). IsStore K (step old.tree.size (rows_of old) (record { moment = m; deed = deed })).rows) (sym does.size_is) valid);
+      valid = subst (IsValid new.tree.size) (sym does.rows_are) (subst (λ (K : Capacity). IsValid K (step old.tree.size (rows_of old) (record { moment = m; deed = deed })).rows) (sym does.size_is) valid);
     }
 
 -- also if memory ran out
-pub result_whole : (old new : Parts) (m : ℕ) (deed : Deed) (result : Result Answer Wanting) → IsWhole old → IfOk result (λ answer. Does old new m deed answer) → OnErr result (new ≡ old) → IsSound new → IsStore old.tree.size (step old.tree.size (rows_of old) (record { moment = m; deed = deed })).rows → IsWhole new
+pub result_whole : (old new : Parts) (m : ℕ) (deed : Deed) (result : Result Answer Wanting) → IsWhole old → IfOk result (λ answer. Does old new m deed answer) → OnErr result (new ≡ old) → IsSound new → IsValid old.tree.size (step old.tree.size (rows_of old) (record { moment = m; deed = deed })).rows → IsWhole new
 result_whole old new m deed (Ok answer) whole does same sound valid = whole_after old new m deed answer does sound valid
 result_whole old new m deed (Err e) whole does same sound valid = subst IsWhole (sym same) whole
 
 -- What an answer names is there
-pub takes_named : (old new : Machine) (c : Command) (answer : Answer) → Takes old new (step old.size old.rows c) answer → IsStore old.size old.rows → IsNamed new.rows answer.outcome
+pub takes_named : (old new : Machine) (c : Command) (answer : Answer) → Takes old new (step old.size old.rows c) answer → IsValid old.size old.rows → IsNamed new.rows answer.outcome
 takes_named old new c answer t store =
     subst (λ (S : Rows). IsNamed S answer.outcome) (sym t.rows_are)
     (subst (IsNamed (step old.size old.rows c).rows) (sym t.outcome_is) (named old.size old.rows c store))
 
-pub result_named : (old new : Machine) (c : Command) (result : Result Answer Wanting) → IfOk result (λ answer. Takes old new (step old.size old.rows c) answer) → IsStore old.size old.rows → IfOk result (λ answer. IsNamed new.rows answer.outcome)
+pub result_named : (old new : Machine) (c : Command) (result : Result Answer Wanting) → IfOk result (λ answer. Takes old new (step old.size old.rows c) answer) → IsValid old.size old.rows → IfOk result (λ answer. IsNamed new.rows answer.outcome)
 result_named old new c (Ok answer) t store = takes_named old new c answer t store
 result_named old new c (Err e) t store = tt
 
