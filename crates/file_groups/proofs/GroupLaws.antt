@@ -13,7 +13,7 @@ use Rattle.fsrm_model.specs.Name.{same_name}
 use Rattle.fsrm_model.specs.Limits.{most_groups}
 use Rattle.fsrm_model.specs.Patterns.{all_texts, are_apart, group_number, has_name, is_group, regrouped, texts_of, with_group, with_patterns, without_group}
 use Rattle.fsrm_base.proofs.EditedRows.{sum_by-with_row, sum_by-with_change, sum_by-without_row}
-use Rattle.fsrm_model.proofs.Keeps.{same_turned}
+use Rattle.fsrm_model.proofs.nodes.Keeps.{same_turned}
 use Rattle.fsrm_base.proofs.EditedTests.{list_all-filter, list_all-with_change, list_all-with_row, list_any-filter, list_any-with_row}
 use Rattle.fsrm_base.proofs.Look.{found_has, found_key, found_own}
 use Rattle.fsrm_base.proofs.Order.{least_free_is}

@@ -33,13 +33,13 @@ use Rattle.fsrm_model.specs.Text.{is_bare, is_report, head_line, reply, act_line
 use Rattle.fsrm_model.specs.Tree.{number, resolve, usage}
 use Rattle.fsrm_model.specs.Valid.{IsVolume, AreQuotas, IsValid}
 use Rattle.fsrm_model.specs.Work.{Work}
-use Rattle.fsrm_model.proofs.Ends.{outcome_kept, nodes_kept, step_nodes}
-use Rattle.fsrm_model.proofs.LineRefusals.{line_refusal}
+use Rattle.fsrm_model.proofs.commands.Ends.{outcome_kept, nodes_kept, step_nodes}
+use Rattle.fsrm_model.proofs.lines.LineRefusals.{line_refusal}
 use Rattle.fsrm_base.proofs.Look.{eq_same, is_some-find}
-use Rattle.fsrm_model.proofs.PlainMachine.{replied-read, line_cost-read}
-use Rattle.fsrm_model.proofs.QuotaLaws.{exceeded_is}
-use Rattle.fsrm_model.proofs.Resolves.{resolved}
-use Rattle.fsrm_model.proofs.ValidLaws.{folder_has}
+use Rattle.fsrm_model.proofs.lines.PlainMachine.{replied-read, line_cost-read}
+use Rattle.fsrm_model.proofs.commands.QuotaLaws.{exceeded_is}
+use Rattle.fsrm_model.proofs.nodes.Resolves.{resolved}
+use Rattle.fsrm_model.proofs.valid.ValidLaws.{folder_has}
 use Rattle.tool_commands.specs.declared.reading.LineFault.{LineFault}
 use Rattle.tool_commands.specs.declared.reading.LineFault.TheVariants.{Refused as Reason}
 use Rattle.tool_commands.specs.LineFaults.{IsFault}

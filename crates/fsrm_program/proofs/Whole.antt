@@ -8,7 +8,7 @@ use Rattle.fsrm_model.specs.declared.row.Capacity.{Capacity}
 use Rattle.fsrm_model.specs.declared.row.Rows.{Rows}
 use Rattle.fsrm_model.specs.Limits.{longest_script}
 use Rattle.fsrm_model.specs.Script.{lines, spelled_lines, AreLines, text, text_from, fold_from, cost_from, script_cost}
-use Rattle.fsrm_model.proofs.ScriptLaws.{lines_spelled, text_from-append, cost_from-append}
+use Rattle.fsrm_model.proofs.lines.ScriptLaws.{lines_spelled, text_from-append, cost_from-append}
 use Rattle.fsrm_program.specs.declared.status.Status.{Status}
 use Rattle.fsrm_program.specs.declared.status.Status.TheVariants.{Done, Usage, ReadFault, WriteFault, TooLong, NoMemory}
 use Rattle.fsrm_outside.specs.Shown.{IsFront, ShowsFront}

@@ -5,18 +5,18 @@ use Rattle.fsrm_model.specs.declared.row.NodeRow.{NodeRow}
 use Rattle.fsrm_base.specs.Keyed.{row_of, is_ascending, with_change}
 use Rattle.fsrm_model.specs.Tree.{parent_of, chain_in, chain, is_under}
 use Rattle.fsrm_base.proofs.TestLaws.{is_or_not, eq_is, eq_same, or_later, clash}
-use Rattle.fsrm_model.proofs.ChainLaws.{IsTree, Has}
+use Rattle.fsrm_model.proofs.nodes.ChainLaws.{IsTree, Has}
 use Rattle.fsrm_base.specs.Numbers.{is_in}
-use Rattle.fsrm_model.proofs.Below.{above_all, chain_root}
-use Rattle.fsrm_model.proofs.Climbs.{climb, under_up, under_own}
-use Rattle.fsrm_model.proofs.ClimbRows.{is_passed, passed_rows, climbed_step, climbed_root}
+use Rattle.fsrm_model.proofs.nodes.Below.{above_all, chain_root}
+use Rattle.fsrm_model.proofs.nodes.Climbs.{climb, under_up, under_own}
+use Rattle.fsrm_model.proofs.nodes.ClimbRows.{is_passed, passed_rows, climbed_step, climbed_root}
 use Rattle.fsrm_base.proofs.Look.{found_key, find-map}
 use Rattle.fsrm_base.proofs.Order.{ascending-map}
 use Rattle.quota_usage.specs.Climb.{amended, amended_counter, climbed, FitsAbove, IsFirst, IsNearest}
 use Rattle.quota_usage.specs.Counters.{counted, used_in}
 use Rattle.quota_usage.specs.declared.change.Counter.{Counter}
 use Rattle.quota_usage.specs.declared.change.Exceeded.{Exceeded}
-use Rattle.fsrm_model.proofs.DepthLaws.{some_member}
+use Rattle.fsrm_model.proofs.nodes.DepthLaws.{some_member}
 
 -- the parent of a node on the way is on the way
 pub on_up : (nodes : List NodeRow) → IsTree nodes → (start n : ℕ) → Has nodes start → Has nodes n → (n ≡ 0 → ⊥) → is_under nodes n start ≡ true → is_under nodes (parent_of nodes n) start ≡ true

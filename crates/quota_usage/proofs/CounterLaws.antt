@@ -10,7 +10,7 @@ use Rattle.fsrm_base.specs.Keyed.{row_of, has_row, with_change, is_ascending}
 use Rattle.fsrm_model.specs.Limits.{most_quotas}
 use Rattle.fsrm_base.proofs.EditedRows.{change_absent}
 use Rattle.fsrm_base.proofs.Look.{none_row, is_some-find, found_has}
-use Rattle.fsrm_model.proofs.Sizes.{length-removed}
+use Rattle.fsrm_model.proofs.nodes.Sizes.{length-removed}
 use Rattle.fsrm_base.proofs.TestLaws.{clash, eq_is}
 use Rattle.fsrm_base.proofs.Order.{ascending-with_row, ascending-filter, ascending-map, length-with_row}
 use Rattle.quota_usage.specs.Climb.{amended_counter}

@@ -11,8 +11,8 @@ use Rattle.fsrm_base.specs.Keyed.{row_of, is_ascending}
 use Rattle.fsrm_model.specs.Quota.{folder_of, counts, refuses}
 use Rattle.fsrm_model.specs.Tree.{is_under}
 use Rattle.fsrm_base.proofs.TestLaws.{both, clash, eq_is, is_or_not, not_true, implied, is_false}
-use Rattle.fsrm_model.proofs.ChainLaws.{IsTree, Has}
-use Rattle.fsrm_model.proofs.Below.{chain_root, each_above}
+use Rattle.fsrm_model.proofs.nodes.ChainLaws.{IsTree, Has}
+use Rattle.fsrm_model.proofs.nodes.Below.{chain_root, each_above}
 use Rattle.fsrm_base.proofs.Look.{found_key, found_own, found_passes, found_any, is_some-find}
 use Rattle.quota_usage.specs.Charge.{IsThere, is_above, charged, refuses_change, over_by, told_of, exceeded_by}
 use Rattle.quota_usage.specs.Climb.{judged, refusal_at, IsFirst, IsNearest, IsNearestTo}

@@ -4,10 +4,10 @@ use Rattle.fsrm_model.specs.declared.row.NodeRow.{NodeRow}
 use Rattle.fsrm_model.specs.declared.row.QuotaRow.{QuotaRow}
 use Rattle.fsrm_model.specs.Tree.{parent_of, chain, is_under}
 use Rattle.fsrm_base.proofs.TestLaws.{is_or_not, eq_is, eq_same, or_later, clash, not_true, is_apart}
-use Rattle.fsrm_model.proofs.ChainLaws.{IsTree, Has, chain_in_has}
+use Rattle.fsrm_model.proofs.nodes.ChainLaws.{IsTree, Has, chain_in_has}
 use Rattle.fsrm_base.specs.Numbers.{is_in}
-use Rattle.fsrm_model.proofs.Below.{above_all, above_shorter}
-use Rattle.fsrm_model.proofs.Climbs.{climb, under_up, under_own}
+use Rattle.fsrm_model.proofs.nodes.Below.{above_all, above_shorter}
+use Rattle.fsrm_model.proofs.nodes.Climbs.{climb, under_up, under_own}
 use Rattle.quota_usage.specs.Charge.{is_above}
 use Rattle.quota_usage.specs.Climb.{refusal_of, moved_refusal, refusal_at, IsNearest, IsMeeting, FitsAbove}
 use Rattle.quota_usage.specs.Counters.{used_in}

@@ -1,7 +1,7 @@
 //! The way up to the root.
 
 ghost use Rattle.std.specs.Prelude.{◌≡◌, ◌+◌, ◌*◌, ◌≤◌, true, length, map};
-ghost use Rattle.fsrm_model.proofs.ChainLaws.{IsTree};
+ghost use Rattle.fsrm_model.proofs.nodes.ChainLaws.{IsTree};
 ghost use Rattle.fsrm_base.specs.Keyed.{has_row, is_ascending};
 ghost use Rattle.fsrm_model.specs.Tree.{number as key, chain, parent_of};
 ghost use Rattle.quota_usage.specs.Charge.{charged_counter, IsChange, Fits, height};

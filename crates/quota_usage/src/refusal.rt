@@ -1,7 +1,7 @@
 //! Which quota refuses a change.
 
 ghost use Rattle.std.specs.Prelude.{◌≡◌, ℕ, ◌+◌, ◌*◌, ◌<◌, ◌≤◌, ◌^◌, IfOk, IfErr, Some, true, false, length};
-ghost use Rattle.fsrm_model.proofs.ChainLaws.{IsTree};
+ghost use Rattle.fsrm_model.proofs.nodes.ChainLaws.{IsTree};
 ghost use Rattle.fsrm_base.specs.Keyed.{has_row, is_ascending};
 ghost use Rattle.fsrm_model.specs.Quota.{refuses};
 ghost use Rattle.fsrm_model.specs.Tree.{number as key, chain, is_under};

@@ -21,7 +21,7 @@ use Rattle.fsrm_model.specs.declared.command.Ask.TheVariants.{Quotas}
 use Rattle.fsrm_model.specs.Text.{body_line, list_lines, path_text, quota_line, state_word}
 use Rattle.fsrm_model.specs.Tree.{number, usage}
 use Rattle.fsrm_model.specs.Valid.{IsValid}
-use Rattle.fsrm_model.proofs.Keeps.{folder_found}
+use Rattle.fsrm_model.proofs.nodes.Keeps.{folder_found}
 use Rattle.fsrm_base.proofs.Look.{found_has, found_key, is_some-find}
 use Rattle.fsrm_base.proofs.Members.{filter_none}
 use Rattle.fsrm_base.proofs.Order.{parts}

@@ -15,15 +15,15 @@ use Rattle.fsrm_model.specs.Scan.{AreUnvisited, is_topmost, counted}
 use Rattle.fsrm_model.specs.Space.{alloc, space}
 use Rattle.fsrm_model.specs.Tree.{number, node_of, parent_of, is_folder, is_under}
 use Rattle.fsrm_model.specs.Valid.{IsVolume, is_moment, is_own, is_root_node}
-use Rattle.fsrm_model.proofs.ChangeLaws.{KeepsPlace, parent_of-change, chain-change}
+use Rattle.fsrm_model.proofs.nodes.ChangeLaws.{KeepsPlace, parent_of-change, chain-change}
 use Rattle.fsrm_base.proofs.EditedRows.{absent_later, ascending_tail}
-use Rattle.fsrm_model.proofs.Keeps.{folder-change, cond_same}
+use Rattle.fsrm_model.proofs.nodes.Keeps.{folder-change, cond_same}
 use Rattle.fsrm_base.proofs.Look.{found_has}
 use Rattle.fsrm_base.proofs.TestLaws.{is_or_not, both, clash, eq_is}
 use Rattle.volume_tree.specs.Volume.{Volume, with_length}
 use Rattle.rescan.specs.Frontiers.{Front, Stands, Follows, scanned, has_above, unvisited, of_length, sized}
-use Rattle.rescan.proofs.KindLaws.{place_of, kind_folder, kind_under, kind_above, kept_at, numbers_kept, kind_unvisited}
-use Rattle.rescan.proofs.ChangeLaws.{kind_of, alike, stamped, stamped_keeps, change_twice, length_keeps, root_length, own_length}
+use Rattle.rescan.proofs.followed.KindLaws.{place_of, kind_folder, kind_under, kind_above, kept_at, numbers_kept, kind_unvisited}
+use Rattle.rescan.proofs.followed.ChangeLaws.{kind_of, alike, stamped, stamped_keeps, change_twice, length_keeps, root_length, own_length}
 
 -- a scan that has followed another length goes on after the tree has it too
 pub resized_follows : (v : Volume) (old f : Front) (n bytes moment : ℕ) → Follows old f (sized v n bytes) (unvisited v.nodes old) → IsVolume v.size (with_length v n bytes moment).nodes → Follows old f (with_length v n bytes moment) (unvisited v.nodes old)

@@ -4,10 +4,10 @@ use Rattle.std.specs.Prelude.{is_some}
 use Rattle.fsrm_model.specs.FileOps.{touched}
 use Rattle.fsrm_model.specs.QuotaStates.{head}
 use Rattle.fsrm_model.specs.Valid.{IsVolume}
-use Rattle.fsrm_model.proofs.Keeps.{folder-change}
+use Rattle.fsrm_model.proofs.nodes.Keeps.{folder-change}
 use Rattle.fsrm_base.proofs.Look.{none_row}
 use Rattle.fsrm_base.proofs.TestLaws.{is_or_not}
-use Rattle.rescan.proofs.ChangeLaws.{touch_stands, touched_keeps, alike_unvisited}
+use Rattle.rescan.proofs.followed.ChangeLaws.{touch_stands, touched_keeps, alike_unvisited}
 use Rattle.volume_tree.specs.Volume.{Volume, with_touch}
 use Rattle.scan_queue.specs.Courses.{Course, Scanning, Goes, left}
 use Rattle.scan_queue.proofs.Following.{goes_idle, goes_on, stands_active}

@@ -16,7 +16,7 @@ use Rattle.scan_queue.specs.Courses.{Course, Scanning, Turns}
 use Rattle.scan_queue.specs.Kept.{IsKept}
 use Rattle.fsrm_base.proofs.TestLaws.{eq_is, or_false}
 use Rattle.scan_queue.proofs.Queues.{SameHead, in_pushed, once_pushed, later_pushed, in_left, once_left, first_in, first_leaves, other_leaves, first_removed, nobody, somebody}
-use Rattle.rescan.proofs.FindLaws.{no_above}
+use Rattle.rescan.proofs.unvisited.FindLaws.{no_above}
 
 -- without a topmost folder nothing is unvisited
 

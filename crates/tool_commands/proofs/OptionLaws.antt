@@ -7,7 +7,7 @@ use Rattle.fsrm_model.specs.declared.command.Refusal.TheVariants.{BadLine}
 use Rattle.fsrm_model.specs.Options.{Key, ThePath, TheLimit, TheType, TheStatus, may_repeat, Given, key_of, value_from, path_in, limit_in, type_in, status_in, is_of, one, key_named, word_key, is_colon, with_option, options}
 use Rattle.fsrm_model.specs.Reading.{Read, ◌>>=◌, guarded, known}
 use Rattle.fsrm_model.specs.Words.{Word}
-use Rattle.fsrm_model.proofs.OptionLaws.{own_key}
+use Rattle.fsrm_model.proofs.lines.OptionLaws.{own_key}
 use Rattle.tool_commands.specs.OptionWords.{Holds, KeepsOnce, option_word, Adds}
 use Rattle.tool_commands.specs.LineFaults.{Reads}
 use Rattle.tool_commands.specs.declared.options.Given.{Given as Held}

@@ -1,7 +1,7 @@
 //! The way up to the root.
 
 ghost use Rattle.std.specs.Prelude.{◌≡◌, ◌+◌, ◌≤◌, true, length};
-ghost use Rattle.fsrm_model.proofs.ChainLaws.{IsTree};
+ghost use Rattle.fsrm_model.proofs.nodes.ChainLaws.{IsTree};
 ghost use Rattle.fsrm_base.specs.Keyed.{has_row};
 ghost use Rattle.fsrm_model.specs.Tree.{number as key, chain, parent_of, is_under};
 ghost use Rattle.volume_tree.specs.Kept.{AreSlots, rows_of};

@@ -12,19 +12,19 @@ use Rattle.fsrm_model.specs.Quota.{folder_of}
 use Rattle.fsrm_model.specs.Space.{space}
 use Rattle.fsrm_model.specs.Tree.{number, node_of, parent_of, fresh, is_folder, is_under, usage, chain}
 use Rattle.fsrm_model.specs.Valid.{IsVolume, AreQuotas}
-use Rattle.fsrm_model.proofs.ChainLaws.{IsTree, Has, share, usage_is, usage-new, chain-new_other}
+use Rattle.fsrm_model.proofs.nodes.ChainLaws.{IsTree, Has, share, usage_is, usage-new, chain-new_other}
 use Rattle.fsrm_base.specs.Numbers.{is_in}
 use Rattle.fsrm_base.proofs.EditedRows.{all_rows}
-use Rattle.fsrm_model.proofs.ChangeLaws.{KeepsPlace, usage-change, chain-change}
-use Rattle.fsrm_model.proofs.MoveLaws.{Moves, Outside, KeepsSpace, usage-moved, under_other}
-use Rattle.fsrm_model.proofs.RemoveLaws.{usage-removed, removed_chain}
+use Rattle.fsrm_model.proofs.nodes.ChangeLaws.{KeepsPlace, usage-change, chain-change}
+use Rattle.fsrm_model.proofs.nodes.MoveLaws.{Moves, Outside, KeepsSpace, usage-moved, under_other}
+use Rattle.fsrm_model.proofs.nodes.RemoveLaws.{usage-removed, removed_chain}
 use Rattle.fsrm_base.proofs.Look.{found_key, found_has}
 use Rattle.fsrm_base.proofs.Order.{least_free_is}
-use Rattle.fsrm_model.proofs.Keeps.{tree_of, MayGo, removes_of, as_suc}
-use Rattle.fsrm_model.proofs.Keeps.{moves_at}
-use Rattle.fsrm_model.proofs.ValidLaws.{folder_has}
-use Rattle.fsrm_model.proofs.Below.{above_all, each_above, usage-moved_below}
-use Rattle.fsrm_model.proofs.Climbs.{shorter, under_up, under_own}
+use Rattle.fsrm_model.proofs.nodes.Keeps.{tree_of, MayGo, removes_of, as_suc}
+use Rattle.fsrm_model.proofs.nodes.Keeps.{moves_at}
+use Rattle.fsrm_model.proofs.valid.ValidLaws.{folder_has}
+use Rattle.fsrm_model.proofs.nodes.Below.{above_all, each_above, usage-moved_below}
+use Rattle.fsrm_model.proofs.nodes.Climbs.{shorter, under_up, under_own}
 use Rattle.fsrm_base.proofs.TestLaws.{eq_is, eq_same, is_or_not, clash, not_true}
 use Rattle.quota_usage.specs.declared.change.Change.{Change}
 use Rattle.quota_usage.specs.Charge.{is_above, charged}

@@ -17,10 +17,10 @@ use Rattle.fsrm_model.specs.Quota.{folder_of, counts}
 use Rattle.fsrm_model.specs.Space.{space}
 use Rattle.fsrm_model.specs.Tree.{number, is_under, usage}
 use Rattle.fsrm_model.specs.Valid.{IsVolume, AreQuotas}
-use Rattle.fsrm_model.proofs.ChainLaws.{share, usage_is}
+use Rattle.fsrm_model.proofs.nodes.ChainLaws.{share, usage_is}
 use Rattle.fsrm_base.proofs.Look.{found_key, has_found}
 use Rattle.fsrm_base.proofs.EditedRows.{sum_by-without_row}
-use Rattle.fsrm_model.proofs.Sizes.{length-removed}
+use Rattle.fsrm_model.proofs.nodes.Sizes.{length-removed}
 use Rattle.fsrm_base.proofs.TestLaws.{cond_most}
 use Rattle.quota_usage.specs.declared.change.Change.{Change}
 use Rattle.quota_usage.specs.declared.change.Counter.{Counter}
@@ -31,7 +31,7 @@ use Rattle.fsrm_base.proofs.RowLaws.{each, each_found, all_filter}
 use Rattle.fsrm_engine.proofs.tables.SumLaws.{shown_of, used_sums}
 use Rattle.fsrm_engine.proofs.operations.ChangeLaws.{Changes}
 use Rattle.fsrm_engine.proofs.walks.WalkLaws.{row_space, nodes_few}
-use Rattle.rescan.proofs.FitLaws.{sum_most, root_empty, sum_le}
+use Rattle.rescan.proofs.counted.FitLaws.{sum_most, root_empty, sum_le}
 
 -- the space of all files, and of one more, is less than 2^64
 pub total_small : (K : Capacity) (nodes : List NodeRow) → IsVolume K nodes → is_capacity K ≡ true → sum_by (space K) nodes + longest_file < 2 ^ 64

@@ -22,12 +22,12 @@ use Rattle.fsrm_model.specs.Scan.{unvisited_with, unvisited_moved}
 use Rattle.fsrm_model.specs.Tree.{number, node_of, fresh, is_folder, folder_part, last_name, resolve, chain}
 use Rattle.fsrm_model.specs.Valid.{IsVolume}
 use Rattle.fsrm_base.proofs.Look.{found_has}
-use Rattle.fsrm_model.proofs.ChainLaws.{Has, chain-new}
-use Rattle.fsrm_model.proofs.Keeps.{found_folder, tree_of, as_suc}
+use Rattle.fsrm_model.proofs.nodes.ChainLaws.{Has, chain-new}
+use Rattle.fsrm_model.proofs.nodes.Keeps.{found_folder, tree_of, as_suc}
 use Rattle.fsrm_base.proofs.Order.{least_free_is}
 use Rattle.fsrm_base.proofs.TestLaws.{clash, not_true, eq_is}
-use Rattle.fsrm_model.proofs.ValidLaws.{folder_has}
-use Rattle.rescan.proofs.FollowLaws.{made_back, made_found}
+use Rattle.fsrm_model.proofs.valid.ValidLaws.{folder_has}
+use Rattle.rescan.proofs.followed.FollowLaws.{made_back, made_found}
 use Rattle.scan_queue.specs.Courses.{Course, Scanning, Goes, left}
 use Rattle.scan_queue.proofs.Queues.{left_absent}
 use Rattle.volume_tree.specs.declared.answer.NodeView.{NodeView}

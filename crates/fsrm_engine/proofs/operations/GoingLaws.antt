@@ -23,9 +23,9 @@ use Rattle.fsrm_base.proofs.Look.{eq_turned}
 use Rattle.fsrm_base.proofs.TestLaws.{eq_same, eq_is}
 use Rattle.fsrm_base.proofs.NumberLaws.{in_without}
 use Rattle.rescan.specs.Frontiers.{Room, unvisited}
-use Rattle.rescan.proofs.ChangeLaws.{removed}
-use Rattle.rescan.proofs.FollowLaws.{folder_stands}
-use Rattle.rescan.proofs.FrontierLaws.{begun, begun_unvisited, begins}
+use Rattle.rescan.proofs.followed.ChangeLaws.{removed}
+use Rattle.rescan.proofs.followed.FollowLaws.{folder_stands}
+use Rattle.rescan.proofs.followed.FrontierLaws.{begun, begun_unvisited, begins}
 use Rattle.scan_queue.proofs.Following.{absent_apart}
 use Rattle.scan_queue.proofs.Queues.{first_in}
 use Rattle.scan_queue.specs.Courses.{Course, Scanning, Goes, Turns, left}

@@ -18,11 +18,11 @@ use Rattle.fsrm_model.specs.Quota.{folder_of, exceeded, peaked}
 use Rattle.fsrm_model.specs.Space.{alloc, space}
 use Rattle.fsrm_model.specs.Tree.{number, node_of, parent_of, is_folder, chain}
 use Rattle.fsrm_model.specs.Valid.{IsVolume, AreQuotas, is_moment}
-use Rattle.fsrm_model.proofs.ChangeLaws.{KeepsPlace, chain-change}
-use Rattle.fsrm_model.proofs.Climbs.{shorter}
-use Rattle.fsrm_model.proofs.Resolves.{resolved}
+use Rattle.fsrm_model.proofs.nodes.ChangeLaws.{KeepsPlace, chain-change}
+use Rattle.fsrm_model.proofs.nodes.Climbs.{shorter}
+use Rattle.fsrm_model.proofs.nodes.Resolves.{resolved}
 use Rattle.fsrm_base.proofs.Look.{has_row-change}
-use Rattle.fsrm_model.proofs.Keeps.{tree_of, found_folder, folder-new, folder-change}
+use Rattle.fsrm_model.proofs.nodes.Keeps.{tree_of, found_folder, folder-new, folder-change}
 use Rattle.fsrm_base.proofs.Order.{least_free_is}
 use Rattle.fsrm_base.proofs.TestLaws.{clash, both}
 use Rattle.fsrm_objects.specs.Tables.{Tables}
@@ -44,9 +44,9 @@ use Rattle.fsrm_engine.proofs.steps.PlaceLaws.{target_is}
 use Rattle.fsrm_engine.proofs.tables.SumLaws.{sums_has}
 use Rattle.fsrm_engine.proofs.operations.ChangeLaws.{Changes, changes_resized}
 use Rattle.fsrm_engine.proofs.operations.OverLaws.{none_exceeded, one_exceeded}
-use Rattle.fsrm_model.proofs.QuotasKept.{quotas_stay}
+use Rattle.fsrm_model.proofs.valid.QuotasKept.{quotas_stay}
 use Rattle.fsrm_engine.proofs.tables.PeakLaws.{counters_charged, peaks_raised, some_settled, counted_raised}
-use Rattle.fsrm_model.proofs.ValidLaws.{found_parent}
+use Rattle.fsrm_model.proofs.valid.ValidLaws.{found_parent}
 
 -- a counter's folder has a quota
 pub owned : (K : Capacity) (nodes : List NodeRow) (quotas : List QuotaRow) (counters : List Counter) → counters ≡ sums_of K nodes quotas → (folder : ℕ) → has_row counted folder counters ≡ true → has_row folder_of folder quotas ≡ true

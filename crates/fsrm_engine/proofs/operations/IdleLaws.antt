@@ -19,17 +19,17 @@ use Rattle.fsrm_model.specs.Quota.{folder_of, counts, used_of}
 use Rattle.fsrm_model.specs.Space.{alloc, space}
 use Rattle.fsrm_model.specs.Tree.{number, parent_of, fresh, is_folder, is_under, is_child, children, resolve, chain, usage}
 use Rattle.fsrm_model.specs.Valid.{IsVolume}
-use Rattle.fsrm_model.proofs.ChainLaws.{Has, usage-new}
-use Rattle.fsrm_model.proofs.ChangeLaws.{KeepsPlace, usage-change}
-use Rattle.fsrm_model.proofs.Climbs.{shorter}
-use Rattle.fsrm_model.proofs.Keeps.{tree_of, folder-new, folder-change, found_folder, MayGo, removes_of, as_suc}
+use Rattle.fsrm_model.proofs.nodes.ChainLaws.{Has, usage-new}
+use Rattle.fsrm_model.proofs.nodes.ChangeLaws.{KeepsPlace, usage-change}
+use Rattle.fsrm_model.proofs.nodes.Climbs.{shorter}
+use Rattle.fsrm_model.proofs.nodes.Keeps.{tree_of, folder-new, folder-change, found_folder, MayGo, removes_of, as_suc}
 use Rattle.fsrm_base.proofs.Look.{is_some-find, found_key, found_has, has_found, row_of-without, has_row-without, none_filtered, is_some-mapped}
 use Rattle.fsrm_base.proofs.Order.{least_free_is}
-use Rattle.fsrm_model.proofs.RemoveLaws.{usage-removed, removed_chain}
+use Rattle.fsrm_model.proofs.nodes.RemoveLaws.{usage-removed, removed_chain}
 use Rattle.fsrm_base.proofs.EditedRows.{without_absent}
-use Rattle.fsrm_model.proofs.Resolves.{resolved}
+use Rattle.fsrm_model.proofs.nodes.Resolves.{resolved}
 use Rattle.fsrm_base.proofs.TestLaws.{eq_is, clash, not_true}
-use Rattle.fsrm_model.proofs.ValidLaws.{folder_has, found_parent}
+use Rattle.fsrm_model.proofs.valid.ValidLaws.{folder_has, found_parent}
 use Rattle.fsrm_objects.specs.Tables.{Tables, without_quota}
 use Rattle.quota_usage.specs.declared.change.Change.{Change}
 use Rattle.quota_usage.specs.declared.change.Counter.{Counter}
@@ -43,7 +43,7 @@ use Rattle.fsrm_engine.specs.Machine.{rows_of, counter_of, sums_of, IsCounted, A
 use Rattle.fsrm_engine.specs.Places.{IsFile}
 use Rattle.fsrm_engine.proofs.operations.ChangeLaws.{Changes, changes_removed, not_zero}
 use Rattle.fsrm_engine.proofs.tables.CountingLaws.{counted_without}
-use Rattle.fsrm_model.proofs.QuotasKept.{quotas_stay}
+use Rattle.fsrm_model.proofs.valid.QuotasKept.{quotas_stay}
 use Rattle.fsrm_engine.proofs.tables.PeakLaws.{counters_charged}
 use Rattle.fsrm_engine.proofs.steps.PlaceLaws.{shown_folder}
 use Rattle.fsrm_base.proofs.RowLaws.{each_found, all_filter, map_same}

@@ -9,10 +9,10 @@ use Rattle.fsrm_base.specs.Keyed.{has_row, with_row}
 use Rattle.fsrm_model.specs.Space.{alloc}
 use Rattle.fsrm_model.specs.Tree.{number, is_folder, chain}
 use Rattle.fsrm_model.specs.Valid.{IsVolume, AreQuotas}
-use Rattle.fsrm_model.proofs.ChainLaws.{chain-new_other}
-use Rattle.fsrm_model.proofs.Keeps.{tree_of}
+use Rattle.fsrm_model.proofs.nodes.ChainLaws.{chain-new_other}
+use Rattle.fsrm_model.proofs.nodes.Keeps.{tree_of}
 use Rattle.fsrm_base.proofs.Order.{least_free_is}
-use Rattle.fsrm_model.proofs.ValidLaws.{folder_has}
+use Rattle.fsrm_model.proofs.valid.ValidLaws.{folder_has}
 use Rattle.fsrm_objects.specs.Tables.{Tables}
 use Rattle.quota_usage.specs.declared.change.Counter.{Counter}
 use Rattle.quota_usage.specs.Charge.{charged_counter}

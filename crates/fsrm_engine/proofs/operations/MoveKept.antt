@@ -12,11 +12,11 @@ use Rattle.fsrm_base.specs.Keyed.{has_row, with_change}
 use Rattle.fsrm_model.specs.Leads.{leads_to_folder}
 use Rattle.fsrm_model.specs.Tree.{number, name_of, parent_of, is_folder, is_under, under, chain, resolve, child_number, name_bytes}
 use Rattle.fsrm_model.specs.Valid.{IsVolume, AreQuotas}
-use Rattle.fsrm_model.proofs.Climbs.{shorter}
-use Rattle.fsrm_model.proofs.Keeps.{tree_of}
+use Rattle.fsrm_model.proofs.nodes.Climbs.{shorter}
+use Rattle.fsrm_model.proofs.nodes.Keeps.{tree_of}
 use Rattle.fsrm_base.proofs.Look.{has_row-change, found_has, has_found}
-use Rattle.fsrm_model.proofs.Resolves.{resolved}
-use Rattle.fsrm_model.proofs.UsageLaws.{count_of_file}
+use Rattle.fsrm_model.proofs.nodes.Resolves.{resolved}
+use Rattle.fsrm_model.proofs.nodes.UsageLaws.{count_of_file}
 use Rattle.fsrm_objects.specs.Tables.{Tables}
 use Rattle.quota_usage.specs.declared.change.Change.{Change}
 use Rattle.quota_usage.specs.declared.change.Counter.{Counter}
@@ -32,7 +32,7 @@ use Rattle.fsrm_engine.proofs.steps.PlaceLaws.{leads_to_folder_is, target_is}
 use Rattle.fsrm_engine.proofs.operations.ChangeLaws.{Changes, MovesTo, changes_moved, moved_chain_to, moved_chain_from, not_zero}
 use Rattle.fsrm_engine.proofs.operations.FitLaws.{fits_moved, fits_new}
 use Rattle.fsrm_engine.proofs.operations.GrowthLaws.{ChargedTo, charged_at, placed_folder}
-use Rattle.fsrm_model.proofs.ValidLaws.{found_parent}
+use Rattle.fsrm_model.proofs.valid.ValidLaws.{found_parent}
 
 -- the change of a move
 abbrev pub move_change : ℕ → ℕ → ℕ → Change

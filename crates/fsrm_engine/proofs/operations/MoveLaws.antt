@@ -16,8 +16,8 @@ use Rattle.fsrm_model.specs.Leads.{is_root, leads, leads_to_folder, leads_to_oth
 use Rattle.fsrm_model.specs.Tree.{number, name_of, is_folder, is_under, resolve, folder_part, last_name, child_number, name_bytes}
 use Rattle.fsrm_model.specs.Valid.{IsVolume}
 use Rattle.fsrm_base.proofs.TestLaws.{clash}
-use Rattle.fsrm_model.proofs.Files.{below_file}
-use Rattle.fsrm_model.proofs.Sizes.{name_bytes-placed}
+use Rattle.fsrm_model.proofs.nodes.Files.{below_file}
+use Rattle.fsrm_model.proofs.nodes.Sizes.{name_bytes-placed}
 use Rattle.volume_tree.specs.declared.answer.TreeFault.TheVariants as fault
 use Rattle.volume_tree.specs.Volume.{Volume, is_other, move_fault, with_place}
 use Rattle.fsrm_engine.specs.declared.parts.Parts.{Parts}

@@ -15,7 +15,7 @@ use Rattle.fsrm_model.specs.Leads.{is_root, leads, leads_to_folder}
 use Rattle.fsrm_model.specs.Tree.{number, folder_part, last_name, child_number, name_bytes}
 use Rattle.fsrm_model.specs.Valid.{IsVolume}
 use Rattle.fsrm_base.proofs.Order.{length-with_row}
-use Rattle.fsrm_model.proofs.Sizes.{name_bytes-new}
+use Rattle.fsrm_model.proofs.nodes.Sizes.{name_bytes-new}
 use Rattle.volume_tree.specs.declared.answer.TreeFault.TheVariants as fault
 use Rattle.volume_tree.specs.Volume.{Volume, new_fault, with_node}
 use Rattle.fsrm_engine.specs.Places.{IsPlace}

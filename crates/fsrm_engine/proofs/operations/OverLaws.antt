@@ -13,7 +13,7 @@ use Rattle.fsrm_model.specs.Quota.{folder_of, counts, refuses, over, deepest, ex
 use Rattle.fsrm_model.specs.Tree.{is_under, usage}
 use Rattle.fsrm_model.specs.Valid.{AreQuotas}
 use Rattle.fsrm_base.proofs.TestLaws.{both}
-use Rattle.fsrm_model.proofs.ValidLaws.{folder_has}
+use Rattle.fsrm_model.proofs.valid.ValidLaws.{folder_has}
 use Rattle.quota_usage.specs.declared.change.Change.{Change}
 use Rattle.quota_usage.specs.declared.change.Counter.{Counter}
 use Rattle.quota_usage.specs.declared.change.Exceeded.{Exceeded}

@@ -15,9 +15,9 @@ use Rattle.fsrm_model.specs.Tree.{number, is_folder, child_number, chain, path_o
 use Rattle.fsrm_model.specs.Valid.{IsVolume}
 use Rattle.fsrm_base.proofs.Look.{found_key}
 use Rattle.fsrm_base.proofs.TestLaws.{not_true, eq_is, suc_apart}
-use Rattle.fsrm_model.proofs.Walks.{path_root}
-use Rattle.fsrm_model.proofs.Resolves.{resolve_root, resolve_child, resolved, some_name}
-use Rattle.fsrm_model.proofs.Keeps.{found_folder}
+use Rattle.fsrm_model.proofs.nodes.Walks.{path_root}
+use Rattle.fsrm_model.proofs.nodes.Resolves.{resolve_root, resolve_child, resolved, some_name}
+use Rattle.fsrm_model.proofs.nodes.Keeps.{found_folder}
 use Rattle.fsrm_model.specs.Name.{is_name}
 use Rattle.volume_tree.specs.declared.answer.NodeView.{NodeView}
 use Rattle.volume_tree.specs.Volume.{Shows}

@@ -20,7 +20,7 @@ use Rattle.fsrm_model.specs.Tree.{usage}
 use Rattle.fsrm_model.specs.ValidScans.{IsQueue}
 use Rattle.fsrm_base.proofs.TestLaws.{suc_apart}
 use Rattle.scan_queue.specs.Courses.{Course, Scanning, Turns, left}
-use Rattle.fsrm_model.proofs.RowsKept.{head_in}
+use Rattle.fsrm_model.proofs.valid.RowsKept.{head_in}
 use Rattle.fsrm_engine.specs.declared.parts.Parts.{Parts}
 use Rattle.fsrm_engine.specs.Machine.{Machine, Does, IsSound, AreCounted, machine_of, rows_of, recounted, ended, settled, lasting_rows, with_rows}
 use Rattle.fsrm_engine.proofs.steps.StepLaws.{lasting_as, passing_as, same_own}

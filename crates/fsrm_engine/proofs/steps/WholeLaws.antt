@@ -11,7 +11,7 @@ use Rattle.fsrm_model.specs.Cost.{cost, deed_cost}
 use Rattle.fsrm_model.specs.Named.{IsNamed}
 use Rattle.fsrm_model.specs.Step.{step}
 use Rattle.fsrm_model.specs.Valid.{IsValid}
-use Rattle.fsrm_model.proofs.EachCommand.{named}
+use Rattle.fsrm_model.proofs.commands.EachCommand.{named}
 use Rattle.scan_queue.specs.Courses.{Scanning}
 use Rattle.fsrm_engine.specs.declared.parts.Parts.{Parts}
 use Rattle.fsrm_engine.specs.Machine.{Machine, Takes, Does, IsSound, IsWhole, AreCounted, machine_of, rows_of, ended}

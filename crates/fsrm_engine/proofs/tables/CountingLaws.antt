@@ -22,7 +22,7 @@ use Rattle.quota_usage.specs.declared.change.Counter.{Counter}
 use Rattle.quota_usage.specs.Counters.{counted, used_in, with_counter, without_counter}
 use Rattle.fsrm_objects.specs.Tables.{Tables}
 use Rattle.fsrm_engine.specs.declared.parts.Parts.{Parts}
-use Rattle.fsrm_model.proofs.QuotasKept.{without_found, filter_few, quotas-new, quotas-change, quotas-without}
+use Rattle.fsrm_model.proofs.valid.QuotasKept.{without_found, filter_few, quotas-new, quotas-change, quotas-without}
 use Rattle.fsrm_engine.specs.Machine.{counter_of, sums_of, IsCounted, recounted, ended}
 use Rattle.fsrm_engine.specs.Peaks.{raised}
 use Rattle.fsrm_engine.proofs.tables.PeakLaws.{peak_stays, raised_is, some_settled, counted_raised}

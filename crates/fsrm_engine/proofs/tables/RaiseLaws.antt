@@ -10,11 +10,11 @@ use Rattle.fsrm_base.specs.Keyed.{row_of, has_row, is_ascending, with_change}
 use Rattle.fsrm_model.specs.Quota.{folder_of}
 use Rattle.fsrm_model.specs.declared.row.NodeRow.{NodeRow}
 use Rattle.fsrm_model.specs.Tree.{parent_of, is_under}
-use Rattle.fsrm_model.proofs.Below.{above_all}
-use Rattle.fsrm_model.proofs.ChainLaws.{IsTree, Has}
+use Rattle.fsrm_model.proofs.nodes.Below.{above_all}
+use Rattle.fsrm_model.proofs.nodes.ChainLaws.{IsTree, Has}
 use Rattle.fsrm_base.specs.Numbers.{is_in}
 use Rattle.fsrm_base.proofs.EditedRows.{change_absent, absent_later, ascending_tail}
-use Rattle.fsrm_model.proofs.Climbs.{climb, under_own}
+use Rattle.fsrm_model.proofs.nodes.Climbs.{climb, under_own}
 use Rattle.fsrm_base.proofs.TestLaws.{clash, eq_is, eq_same, is_or_not, not_true, or_later}
 use Rattle.volume_tree.specs.declared.answer.NodeView.{NodeView}
 use Rattle.volume_tree.specs.Volume.{Shows}
@@ -24,7 +24,7 @@ use Rattle.quota_usage.specs.declared.change.Counter.{Counter}
 use Rattle.quota_usage.specs.Counters.{used_in}
 use Rattle.fsrm_engine.specs.Peaks.{raised, raised_above}
 use Rattle.fsrm_base.proofs.RowLaws.{change_same, change_none}
-use Rattle.fsrm_model.proofs.ValidLaws.{found_parent}
+use Rattle.fsrm_model.proofs.valid.ValidLaws.{found_parent}
 
 raised_by : (counters : List Counter) (m : ℕ) (q : QuotaRow) (o : Option ℕ) → used_in counters q.folder ≡ o → raised counters m q ≡ option_map_or (λ used. if nat_lt q.peak used then record q { peak = used; peak_at = m } else q) o q
 raised_by counters m q o h = ap (λ o. option_map_or (λ used. if nat_lt q.peak used then record q { peak = used; peak_at = m } else q) o q) h

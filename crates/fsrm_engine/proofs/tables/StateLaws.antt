@@ -25,11 +25,11 @@ use Rattle.fsrm_model.specs.Valid.{IsVolume}
 use Rattle.fsrm_base.proofs.Look.{is_some-find}
 use Rattle.fsrm_base.proofs.Order.{length-with_row}
 use Rattle.fsrm_base.proofs.TestLaws.{clash, eq_is}
-use Rattle.fsrm_model.proofs.UsageLaws.{usage_children}
+use Rattle.fsrm_model.proofs.nodes.UsageLaws.{usage_children}
 use Rattle.fsrm_engine.specs.Places.{IsFolder}
 use Rattle.fsrm_engine.proofs.steps.PlaceLaws.{target_is, leads_to_folder_is}
 use Rattle.fsrm_base.proofs.RowLaws.{change_same}
-use Rattle.rescan.proofs.ChangeLaws.{change_twice}
+use Rattle.rescan.proofs.followed.ChangeLaws.{change_twice}
 
 -- Refusals: the path leads to no folder, or that folder has no quota
 pub missing : (nodes : List NodeRow) (path : List (List ℕ)) (more : List Check) → leads_to_folder nodes path ≡ false → first ((PathNotFound when not (leads_to_folder nodes path)) ∷ more) ≡ Some PathNotFound

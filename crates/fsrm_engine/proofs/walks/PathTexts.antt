@@ -10,11 +10,11 @@ use Rattle.fsrm_base.specs.Keyed.{has_row}
 use Rattle.fsrm_model.specs.Tree.{number, name_of, chain, path_of}
 use Rattle.fsrm_model.specs.Valid.{IsVolume}
 use Rattle.fsrm_base.proofs.TestLaws.{eq_is}
-use Rattle.fsrm_model.proofs.DepthLaws.{some_member}
-use Rattle.fsrm_model.proofs.Keeps.{tree_of}
-use Rattle.fsrm_model.proofs.Walks.{found_name}
-use Rattle.fsrm_model.proofs.Climbs.{climb, shorter}
-use Rattle.fsrm_model.proofs.Resolves.{path_length}
+use Rattle.fsrm_model.proofs.nodes.DepthLaws.{some_member}
+use Rattle.fsrm_model.proofs.nodes.Keeps.{tree_of}
+use Rattle.fsrm_model.proofs.nodes.Walks.{found_name}
+use Rattle.fsrm_model.proofs.nodes.Climbs.{climb, shorter}
+use Rattle.fsrm_model.proofs.nodes.Resolves.{path_length}
 use Rattle.volume_tree.specs.declared.answer.NodeView.{NodeView}
 use Rattle.volume_tree.specs.Volume.{Shows}
 use Rattle.fsrm_engine.specs.Walk.{AreThere}

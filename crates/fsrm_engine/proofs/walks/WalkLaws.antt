@@ -20,15 +20,15 @@ use Rattle.fsrm_base.proofs.EditedRows.{all_rows}
 use Rattle.fsrm_base.proofs.Order.{parts}
 use Rattle.fsrm_base.proofs.Members.{all_pass}
 use Rattle.fsrm_base.proofs.Sums.{sum_by-map}
-use Rattle.fsrm_model.proofs.CapacityLaws.{nodes_most, alloc_most}
-use Rattle.fsrm_model.proofs.Keeps.{found_folder}
+use Rattle.fsrm_model.proofs.valid.CapacityLaws.{nodes_most, alloc_most}
+use Rattle.fsrm_model.proofs.nodes.Keeps.{found_folder}
 use Rattle.fsrm_base.proofs.Look.{has_found}
-use Rattle.fsrm_model.proofs.UsageLaws.{usage_children, count_children, usage_of_file, count_of_file}
+use Rattle.fsrm_model.proofs.nodes.UsageLaws.{usage_children, count_children, usage_of_file, count_of_file}
 use Rattle.volume_tree.specs.declared.answer.NodeView.{NodeView}
 use Rattle.volume_tree.specs.Volume.{Shows}
 use Rattle.fsrm_engine.specs.Walk.{usage_of_all, under_all, AreThere}
-use Rattle.volume_tree.proofs.FreshLaws.{few_nodes}
-use Rattle.volume_tree.proofs.Children.{children_many}
+use Rattle.volume_tree.proofs.slotted.FreshLaws.{few_nodes}
+use Rattle.volume_tree.proofs.ordering.Children.{children_many}
 
 -- a sum stays where items are put in order
 put_sum : {X : Type 0} (before : X → X → Bool) (f : X → ℕ) (x : X) (ys : List X) → sum_by f (put before x ys) ≡ f x + sum_by f ys

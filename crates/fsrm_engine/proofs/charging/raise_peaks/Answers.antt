@@ -3,12 +3,12 @@ use Rattle.fsrm_model.specs.declared.row.QuotaRow.{QuotaRow}
 use Rattle.fsrm_base.specs.Keyed.{has_row, is_ascending, with_change}
 use Rattle.fsrm_model.specs.Quota.{folder_of}
 use Rattle.fsrm_model.specs.Tree.{number, chain, is_under}
-use Rattle.fsrm_model.proofs.Climbs.{shorter, under_own}
-use Rattle.fsrm_model.proofs.Keeps.{tree_of}
+use Rattle.fsrm_model.proofs.nodes.Climbs.{shorter, under_own}
+use Rattle.fsrm_model.proofs.nodes.Keeps.{tree_of}
 use Rattle.fsrm_base.proofs.Order.{ascending-change}
 use Rattle.fsrm_objects.specs.Tables.{Tables}
 use Rattle.fsrm_engine.specs.Peaks.{raised}
-use Rattle.fsrm_model.proofs.ClimbRows.{passed_rows, passed_none, climbed_step, climbed_root}
+use Rattle.fsrm_model.proofs.nodes.ClimbRows.{passed_rows, passed_none, climbed_step, climbed_root}
 use Rattle.fsrm_engine.proofs.tables.RaiseLaws.{raised_keeps, up_is, up_on}
 use Rattle.fsrm_engine.proofs.charging.raise_peaks.Goals as goal
 

@@ -3,7 +3,7 @@ use Rattle.fsrm_base.specs.Keyed.{has_row, is_ascending}
 use Rattle.fsrm_model.specs.Quota.{folder_of}
 use Rattle.fsrm_model.specs.Tree.{number, chain, is_under}
 use Rattle.fsrm_engine.specs.Peaks.{raised}
-use Rattle.fsrm_model.proofs.ClimbRows.{passed_rows}
+use Rattle.fsrm_model.proofs.nodes.ClimbRows.{passed_rows}
 use Rattle.fsrm_engine.proofs.charging.raise_peaks.Given as goal
 
 -- the peaks below this node on the way up were raised

@@ -1,5 +1,5 @@
 use Rattle.std.proofs.Common.{ℕ, List, ◌++◌, ◌∙◌, length, length-append, ap, arith}
-use Rattle.volume_tree.proofs.Children.{children_many, numbers_many}
+use Rattle.volume_tree.proofs.ordering.Children.{children_many, numbers_many}
 use Rattle.fsrm_engine.proofs.walks.WalkLaws.{folder_sum, visited_count, visited_there, children_few, file_sum, file_count}
 use Rattle.fsrm_engine.proofs.usage.visit.Goals as goal
 

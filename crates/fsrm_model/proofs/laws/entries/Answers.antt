@@ -1,4 +1,4 @@
-use Rattle.fsrm_model.proofs.EachCommand.{same_kind}
+use Rattle.fsrm_model.proofs.commands.EachCommand.{same_kind}
 use Rattle.fsrm_model.proofs.laws.entries.Goals as goal
 
 pub returns : goal.returns

@@ -1,9 +1,9 @@
 use Rattle.std.proofs.Common.{ap, Some, None}
 use Rattle.std.specs.Prelude.{Err, Ok}
 use Rattle.fsrm_model.specs.Script.{Replied, without_cr}
-use Rattle.fsrm_model.proofs.EachCommand.{refused_or_exception, no_exception, sum_fresh}
-use Rattle.fsrm_model.proofs.PlainMachine.{replied-read}
-use Rattle.fsrm_model.proofs.SpellingLaws.{spelled_reads, skips_read}
+use Rattle.fsrm_model.proofs.commands.EachCommand.{refused_or_exception, no_exception, sum_fresh}
+use Rattle.fsrm_model.proofs.lines.PlainMachine.{replied-read}
+use Rattle.fsrm_model.proofs.lines.SpellingLaws.{spelled_reads, skips_read}
 use Rattle.fsrm_model.proofs.laws.plain_machine.Goals as goal
 
 pub returns-clause-unread_rows : goal.returns-clause-unread_rows

@@ -1,5 +1,5 @@
-use Rattle.fsrm_model.proofs.QuotaLaws.{exceeded_is, peaks_last}
-use Rattle.fsrm_model.proofs.EachCommand.{quota_refuses, limits_kept}
+use Rattle.fsrm_model.proofs.commands.QuotaLaws.{exceeded_is, peaks_last}
+use Rattle.fsrm_model.proofs.commands.EachCommand.{quota_refuses, limits_kept}
 use Rattle.fsrm_model.proofs.laws.quotas.Goals as goal
 
 pub returns-clause-exceeds : goal.returns-clause-exceeds

@@ -1,6 +1,6 @@
-use Rattle.fsrm_model.proofs.SpellingLaws.{read_spells, spelled_reads, read_skips, skips_read}
-use Rattle.fsrm_model.proofs.LineRefusals.{line_refusal}
-use Rattle.fsrm_model.proofs.SpelledValues.{spelled_valid}
+use Rattle.fsrm_model.proofs.lines.SpellingLaws.{read_spells, spelled_reads, read_skips, skips_read}
+use Rattle.fsrm_model.proofs.lines.LineRefusals.{line_refusal}
+use Rattle.fsrm_model.proofs.lines.SpelledValues.{spelled_valid}
 use Rattle.fsrm_model.proofs.laws.spelling.Goals as goal
 
 pub returns-clause-commands : goal.returns-clause-commands

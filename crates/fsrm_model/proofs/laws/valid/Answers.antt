@@ -1,6 +1,6 @@
-use Rattle.fsrm_model.proofs.EachCommand.{step_valid}
-use Rattle.fsrm_model.proofs.ValidTests.{valid_by_test, test_by_valid, quotas_by_test, test_by_quotas, tables_by_test, test_by_tables, queue_by_test, test_by_queue, left_by_test, test_by_left, new_valid}
-use Rattle.fsrm_model.proofs.ValidVolume.{volume_of_tree, tree_of_volume}
+use Rattle.fsrm_model.proofs.commands.EachCommand.{step_valid}
+use Rattle.fsrm_model.proofs.valid.ValidTests.{valid_by_test, test_by_valid, quotas_by_test, test_by_quotas, tables_by_test, test_by_tables, queue_by_test, test_by_queue, left_by_test, test_by_left, new_valid}
+use Rattle.fsrm_model.proofs.valid.ValidVolume.{volume_of_tree, tree_of_volume}
 use Rattle.fsrm_model.proofs.laws.valid.Goals as goal
 
 pub returns-clause-whole : goal.returns-clause-whole

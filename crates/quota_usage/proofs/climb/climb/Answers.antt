@@ -1,8 +1,8 @@
 use Rattle.std.proofs.Common.{◌≡◌, ◌<◌, true, length, sym, subst, arith}
 use Rattle.fsrm_base.specs.Keyed.{has_row}
 use Rattle.fsrm_model.specs.Tree.{number, chain, is_under}
-use Rattle.fsrm_model.proofs.ClimbRows.{passed_none}
-use Rattle.fsrm_model.proofs.Climbs.{shorter, under_own}
+use Rattle.fsrm_model.proofs.nodes.ClimbRows.{passed_none}
+use Rattle.fsrm_model.proofs.nodes.Climbs.{shorter, under_own}
 use Rattle.quota_usage.specs.Climb.{amended_counter}
 use Rattle.quota_usage.specs.Counters.{counted}
 use Rattle.quota_usage.proofs.ClimbLaws.{on_up, passed_ascending, passed_fits, passed_up, passed_all}

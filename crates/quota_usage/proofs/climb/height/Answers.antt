@@ -1,7 +1,7 @@
 use Rattle.std.proofs.Common.{◌≡◌, ◌+◌, true, length, sym, subst, arith}
 use Rattle.fsrm_base.specs.Keyed.{has_row}
 use Rattle.fsrm_model.specs.Tree.{number, parent_of, chain}
-use Rattle.fsrm_model.proofs.Climbs.{shorter}
+use Rattle.fsrm_model.proofs.nodes.Climbs.{shorter}
 use Rattle.quota_usage.proofs.ClimbLaws.{height_most, height_root, height_some, height_up}
 use Rattle.quota_usage.proofs.climb.height.Goals as goal
 

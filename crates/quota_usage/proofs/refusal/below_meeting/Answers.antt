@@ -1,7 +1,7 @@
 use Rattle.std.proofs.Common.{◌≡◌, ◌+◌, ◌<◌, ◌≤◌, true, length, sym, ◌∙◌, subst, arith}
 use Rattle.fsrm_base.specs.Keyed.{has_row}
 use Rattle.fsrm_model.specs.Tree.{number, chain, is_under}
-use Rattle.fsrm_model.proofs.Climbs.{under_own}
+use Rattle.fsrm_model.proofs.nodes.Climbs.{under_own}
 use Rattle.fsrm_base.proofs.TestLaws.{clash}
 use Rattle.quota_usage.specs.Climb.{moved_refusal}
 use Rattle.quota_usage.proofs.ClimbLaws.{on_up, height_up, passes_up, first_here}

@@ -2,7 +2,7 @@ use Rattle.std.proofs.Common.{◌≡◌, ◌<◌, true, length, inl, inr, sym, �
 use Rattle.std.specs.Prelude.{is_some}
 use Rattle.fsrm_base.specs.Keyed.{has_row}
 use Rattle.fsrm_model.specs.Tree.{number, chain, is_under}
-use Rattle.fsrm_model.proofs.Climbs.{shorter, under_own}
+use Rattle.fsrm_model.proofs.nodes.Climbs.{shorter, under_own}
 use Rattle.fsrm_base.proofs.Look.{none_row}
 use Rattle.fsrm_base.proofs.TestLaws.{clash}
 use Rattle.quota_usage.specs.Climb.{refusal_of}

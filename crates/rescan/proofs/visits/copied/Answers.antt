@@ -1,5 +1,5 @@
 use Rattle.std.proofs.Common.{◌+◌, sym, subst, ◌∙◌, arith}
-use Rattle.rescan.proofs.SetLaws.{Copies, copied_in, copied_out, all_copied}
+use Rattle.rescan.proofs.unvisited.SetLaws.{Copies, copied_in, copied_out, all_copied}
 use Rattle.rescan.proofs.visits.copied.Goals.{then-contains, else-contains}
 use Rattle.rescan.proofs.visits.copied.Goals as goal
 

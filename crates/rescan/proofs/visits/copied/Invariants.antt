@@ -1,4 +1,4 @@
-use Rattle.rescan.proofs.SetLaws.{Copies}
+use Rattle.rescan.proofs.unvisited.SetLaws.{Copies}
 use Rattle.rescan.proofs.visits.copied.Given as goal
 
 abbrev pub invariant-loop-number : goal.invariant-loop-number

@@ -3,7 +3,7 @@ use Rattle.std.proofs.lemmas.List.{append-nil}
 use Rattle.fsrm_base.specs.Numbers.{is_set}
 use Rattle.number_set.specs.Numbers.{Numbers}
 use Rattle.fsrm_base.proofs.NumberLaws.{set_without}
-use Rattle.rescan.proofs.SetLaws.{first_taken, listed_more, none_first}
+use Rattle.rescan.proofs.unvisited.SetLaws.{first_taken, listed_more, none_first}
 use Rattle.rescan.proofs.visits.drained.Goals as goal
 
 pub loop-least-preserved : goal.loop-least-preserved

@@ -3,10 +3,10 @@ use Rattle.fsrm_model.specs.Capacities.{is_capacity}
 use Rattle.fsrm_model.specs.Space.{alloc}
 use Rattle.fsrm_model.specs.Tree.{number}
 use Rattle.fsrm_base.proofs.Look.{found_has}
-use Rattle.volume_tree.proofs.Children.{child_numbered, numbers_many}
+use Rattle.volume_tree.proofs.ordering.Children.{child_numbered, numbers_many}
 use Rattle.number_set.specs.Numbers.{Numbers}
-use Rattle.rescan.proofs.ChildLaws.{none_taken, folder_taken, file_taken, all_taken, taken_least, child_low}
-use Rattle.rescan.proofs.FitLaws.{total_small}
+use Rattle.rescan.proofs.unvisited.ChildLaws.{none_taken, folder_taken, file_taken, all_taken, taken_least, child_low}
+use Rattle.rescan.proofs.counted.FitLaws.{total_small}
 use Rattle.rescan.proofs.visits.enter_children.Goals.{then-node, else-node}
 use Rattle.rescan.proofs.visits.enter_children.Goals as goal
 

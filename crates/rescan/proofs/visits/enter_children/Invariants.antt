@@ -1,6 +1,6 @@
 use Rattle.std.proofs.Common.{◌+◌, ◌≤◌, length}
 use Rattle.fsrm_model.specs.Tree.{children}
-use Rattle.rescan.proofs.ChildLaws.{TakenUp}
+use Rattle.rescan.proofs.unvisited.ChildLaws.{TakenUp}
 use Rattle.rescan.proofs.visits.enter_children.Given as goal
 
 abbrev pub invariant-loop-child : goal.invariant-loop-child

@@ -3,9 +3,9 @@ use Rattle.std.specs.Str.Lossy.{utf8_valid_len}
 use Rattle.fsrm_model.specs.Line.{read_words}
 use Rattle.fsrm_model.specs.Valued.{is_command}
 use Rattle.tool_commands.proofs.Lines.{not_text, passed_over, by_words, fault_of}
-use Rattle.fsrm_model.proofs.ScriptLaws.{too_long}
-use Rattle.fsrm_model.proofs.SpelledValues.{spelled_valid}
-use Rattle.fsrm_model.proofs.SpellingLaws.{read_spells}
+use Rattle.fsrm_model.proofs.lines.ScriptLaws.{too_long}
+use Rattle.fsrm_model.proofs.lines.SpelledValues.{spelled_valid}
+use Rattle.fsrm_model.proofs.lines.SpellingLaws.{read_spells}
 use Rattle.tool_commands.proofs.reading.read_line.Goals as goal
 
 pub returns-then-line-gt-LONGEST_LINE-clause-fault : goal.returns-then-line-gt-LONGEST_LINE-clause-fault

@@ -2,10 +2,10 @@ use Rattle.std.proofs.Common.{◌≡◌, ℕ, ◌+◌, ◌≤◌, List, true, fa
 use Rattle.fsrm_model.specs.declared.row.NodeRow.{NodeRow}
 use Rattle.fsrm_base.specs.Keyed.{has_row}
 use Rattle.fsrm_model.specs.Tree.{number, chain, parent_of, is_under}
-use Rattle.fsrm_model.proofs.Climbs.{under_up, under_own, under_root, shorter}
+use Rattle.fsrm_model.proofs.nodes.Climbs.{under_up, under_own, under_root, shorter}
 use Rattle.volume_tree.specs.Kept.{rows_of}
 use Rattle.volume_tree.specs.Looks.{passed}
-use Rattle.volume_tree.proofs.LookLaws.{passed_own, passed_root, passed_up, passed_most}
+use Rattle.volume_tree.proofs.kept.LookLaws.{passed_own, passed_root, passed_up, passed_most}
 use Rattle.volume_tree.proofs.climb.is_at_or_below.Goals as goal
 
 at_node : (rows : List NodeRow) (node at folder : ℕ) → at ≡ node → is_under rows node at ≡ is_under rows node folder → true ≡ is_under rows node folder

@@ -2,7 +2,7 @@ use Rattle.std.proofs.Common.{◌≡◌, ℕ, ◌<◌, length, Some}
 use Rattle.fsrm_model.specs.Tree.{node_of, child_number}
 use Rattle.volume_tree.specs.Kept.{rows_of}
 use Rattle.std.specs.Prelude.{slice_index}
-use Rattle.volume_tree.proofs.KeptLaws.{ok_is, own_place_is}
+use Rattle.volume_tree.proofs.kept.KeptLaws.{ok_is, own_place_is}
 use Rattle.volume_tree.proofs.entry.own_place.Goals as goal
 
 pub returns-clause-place : goal.returns-clause-place

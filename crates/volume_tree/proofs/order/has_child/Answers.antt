@@ -1,7 +1,7 @@
 use Rattle.std.proofs.Common.{arith}
 use Rattle.volume_tree.specs.Kept.{rows_of}
-use Rattle.volume_tree.proofs.Children.{childless_end, has_there}
-use Rattle.volume_tree.proofs.SlotRows.{slots_ascend}
+use Rattle.volume_tree.proofs.ordering.Children.{childless_end, has_there}
+use Rattle.volume_tree.proofs.slotted.SlotRows.{slots_ascend}
 use Rattle.volume_tree.proofs.order.has_child.Goals as goal
 
 pub returns-then-place-order-clause-value : goal.returns-then-place-order-clause-value

@@ -1,6 +1,6 @@
 use Rattle.volume_tree.specs.Kept.{rows_of}
-use Rattle.volume_tree.proofs.Halving.{halves_above, halves_below, halves_end, few_above, few_below}
-use Rattle.volume_tree.proofs.SlotRows.{slots_ascend}
+use Rattle.volume_tree.proofs.ordering.Halving.{halves_above, halves_below, halves_end, few_above, few_below}
+use Rattle.volume_tree.proofs.slotted.SlotRows.{slots_ascend}
 use Rattle.volume_tree.proofs.order.place_of.Goals as goal
 
 pub loop-low-preserved-then-is_before : goal.loop-low-preserved-then-is_before

@@ -1,7 +1,7 @@
 use Rattle.std.proofs.Common.{arith}
 use Rattle.volume_tree.specs.Kept.{rows_of}
-use Rattle.volume_tree.proofs.Places.{none_at_end, one_named, other_named}
-use Rattle.volume_tree.proofs.SlotRows.{slots_ascend}
+use Rattle.volume_tree.proofs.ordering.Places.{none_at_end, one_named, other_named}
+use Rattle.volume_tree.proofs.slotted.SlotRows.{slots_ascend}
 use Rattle.volume_tree.proofs.order.search.Goals as goal
 
 pub returns-then-place-order-clause-none : goal.returns-then-place-order-clause-none

@@ -1,7 +1,7 @@
 use Rattle.std.proofs.Common.{◌∙◌, ap, sym}
 use Rattle.std.specs.Option.{option_copied}
 use Rattle.volume_tree.specs.Kept.{rows_of}
-use Rattle.volume_tree.proofs.SlotLaws.{taken_is}
+use Rattle.volume_tree.proofs.slotted.SlotLaws.{taken_is}
 use Rattle.volume_tree.proofs.reads.node.Goals as goal
 
 pub unwrap-requires : goal.unwrap-requires

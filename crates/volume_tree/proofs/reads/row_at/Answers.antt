@@ -5,8 +5,8 @@ use Rattle.std.specs.Option.{option_copied}
 use Rattle.fsrm_model.specs.declared.row.NodeRow.{NodeRow}
 use Rattle.fsrm_model.specs.Tree.{node_of}
 use Rattle.volume_tree.specs.Kept.{AreSlots, IsOrder, rows_of}
-use Rattle.volume_tree.proofs.Entries.{at, node_there}
-use Rattle.volume_tree.proofs.SlotRows.{slots_ascend, slot_within, slot_read}
+use Rattle.volume_tree.proofs.ordering.Entries.{at, node_there}
+use Rattle.volume_tree.proofs.slotted.SlotRows.{slots_ascend, slot_within, slot_read}
 use Rattle.volume_tree.proofs.reads.row_at.Goals as goal
 
 found : (slots : List (Option NodeRow)) (order : List ℕ) (k : ℕ) → AreSlots 0 slots → (h : IsOrder (rows_of slots) order) → k < length order → node_of (rows_of slots) (slice_index order k) ≡ Some (at h.entries k)

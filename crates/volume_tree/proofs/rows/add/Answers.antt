@@ -1,8 +1,8 @@
 use Rattle.std.proofs.Common.{[], ◌∷◌, ◌++◌, Some, sym, ◌∙◌, ap, subst, arith}
 use Rattle.fsrm_model.specs.declared.row.NodeRow.{NodeRow}
 use Rattle.volume_tree.specs.Kept.{AreSlots, rows_of}
-use Rattle.volume_tree.proofs.FromRows.{empty_slots, empty_rows, rows_of-append}
-use Rattle.volume_tree.proofs.SlotLaws.{pushed_slots}
+use Rattle.volume_tree.proofs.slotted.FromRows.{empty_slots, empty_rows, rows_of-append}
+use Rattle.volume_tree.proofs.slotted.SlotLaws.{pushed_slots}
 use Rattle.volume_tree.proofs.rows.add.Goals as goal
 
 pub loop-slots-preserved : goal.loop-slots-preserved

@@ -1,5 +1,5 @@
 use Rattle.std.proofs.Common.{sym, arith}
-use Rattle.volume_tree.proofs.Reaches.{all_rooted, all_under}
+use Rattle.volume_tree.proofs.kept.Reaches.{all_rooted, all_under}
 use Rattle.volume_tree.proofs.rows.are_rooted.Goals as goal
 
 pub returns : goal.returns

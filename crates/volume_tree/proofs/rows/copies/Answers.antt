@@ -1,7 +1,7 @@
 use Rattle.std.proofs.Common.{List, [], ◌∷◌, ◌++◌, length, take, sym, ◌∙◌, ap, arith}
 use Rattle.fsrm_model.specs.declared.row.NodeRow.{NodeRow}
 use Rattle.volume_tree.specs.Kept.{rows_of}
-use Rattle.volume_tree.proofs.FromRows.{is_none, still_few, one_more, none_more, length_more}
+use Rattle.volume_tree.proofs.slotted.FromRows.{is_none, still_few, one_more, none_more, length_more}
 use Rattle.volume_tree.proofs.rows.copies.Goals.{in-Some+in_ok-copy+in_ok-push, in_default}
 use Rattle.volume_tree.proofs.rows.copies.Goals as goal
 

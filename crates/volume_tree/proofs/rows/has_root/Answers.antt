@@ -1,6 +1,6 @@
 use Rattle.std.proofs.Common.{◌∙◌}
 use Rattle.volume_tree.specs.Kept.{rows_of}
-use Rattle.volume_tree.proofs.SlotLaws.{taken_is}
+use Rattle.volume_tree.proofs.slotted.SlotLaws.{taken_is}
 use Rattle.volume_tree.proofs.rows.has_root.Goals as goal
 
 pub returns : goal.returns

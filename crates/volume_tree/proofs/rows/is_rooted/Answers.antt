@@ -3,7 +3,7 @@ use Rattle.fsrm_base.specs.Numbers.{is_in}
 use Rattle.fsrm_model.specs.Tree.{chain_in}
 use Rattle.volume_tree.specs.Kept.{rows_of}
 use Rattle.volume_tree.specs.Sound.{Reaches}
-use Rattle.volume_tree.proofs.Reaches.{not_marked, step_up, up}
+use Rattle.volume_tree.proofs.kept.Reaches.{not_marked, step_up, up}
 use Rattle.volume_tree.proofs.rows.is_rooted.Goals as goal
 
 pub loop-left-preserved : goal.loop-left-preserved

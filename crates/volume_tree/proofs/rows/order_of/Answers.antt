@@ -3,7 +3,7 @@ use Rattle.std.specs.Borrow.{Bor}
 use Rattle.std.specs.List.{AllAdjacentBelow, IsAllAdjacentAnswer}
 use Rattle.fsrm_model.specs.declared.row.NodeRow.{NodeRow}
 use Rattle.volume_tree.specs.Kept.{is_before}
-use Rattle.volume_tree.proofs.EntryRows.{ordered, twins}
+use Rattle.volume_tree.proofs.ordering.EntryRows.{ordered, twins}
 use Rattle.volume_tree.proofs.rows.order_of.Goals as goal
 
 pub returns-then-not-are_apart-clause-bad : goal.returns-then-not-are_apart-clause-bad

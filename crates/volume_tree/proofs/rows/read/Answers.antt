@@ -3,13 +3,13 @@ use Rattle.std.proofs.lemmas.Result.{err_from_is_err_and}
 use Rattle.fsrm_model.specs.declared.row.NodeRow.{NodeRow}
 use Rattle.fsrm_model.specs.Tree.{name_bytes}
 use Rattle.fsrm_model.specs.Valid.{IsVolume}
-use Rattle.fsrm_model.proofs.CapacityLaws.{nodes_most}
-use Rattle.fsrm_model.proofs.ValidVolume.{tree_of_volume}
+use Rattle.fsrm_model.proofs.valid.CapacityLaws.{nodes_most}
+use Rattle.fsrm_model.proofs.valid.ValidVolume.{tree_of_volume}
 use Rattle.volume_tree.specs.declared.answer.RowsFault.TheVariants.{BadRows}
 use Rattle.volume_tree.specs.Kept.{AreHoles, IsOrder}
-use Rattle.volume_tree.proofs.FreshLaws.{few_nodes}
-use Rattle.volume_tree.proofs.FromRows.{passed_on}
-use Rattle.volume_tree.proofs.Sound.{bad_sound, bad_twins, sound_ascending, volume_of_parts}
+use Rattle.volume_tree.proofs.slotted.FreshLaws.{few_nodes}
+use Rattle.volume_tree.proofs.slotted.FromRows.{passed_on}
+use Rattle.volume_tree.proofs.kept.Sound.{bad_sound, bad_twins, sound_ascending, volume_of_parts}
 use Rattle.volume_tree.proofs.rows.read.Goals as goal
 
 pub returns-in_err-slots-clause-bad : goal.returns-in_err-slots-clause-bad

@@ -4,7 +4,7 @@ use Rattle.std.proofs.lemmas.List.Sorted.{IsPermutation-map}
 use Rattle.std.specs.Borrow.{Bor}
 use Rattle.fsrm_model.specs.declared.row.NodeRow.{NodeRow}
 use Rattle.volume_tree.specs.Kept.{is_before}
-use Rattle.volume_tree.proofs.EntryRows.{before_weak}
+use Rattle.volume_tree.proofs.ordering.EntryRows.{before_weak}
 use Rattle.volume_tree.proofs.rows.sorted.Goals as goal
 
 pub returns-clause-all : goal.returns-clause-all

@@ -1,6 +1,6 @@
 use Rattle.volume_tree.specs.Kept.{rows_of}
-use Rattle.volume_tree.proofs.Children.{child_there}
-use Rattle.volume_tree.proofs.SlotRows.{slots_ascend}
+use Rattle.volume_tree.proofs.ordering.Children.{child_there}
+use Rattle.volume_tree.proofs.slotted.SlotRows.{slots_ascend}
 use Rattle.volume_tree.proofs.segment.child_at.Goals as goal
 
 pub bounds-order-first_from : goal.bounds-order-first_from

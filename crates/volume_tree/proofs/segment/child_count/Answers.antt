@@ -1,6 +1,6 @@
 use Rattle.volume_tree.specs.Kept.{rows_of}
-use Rattle.volume_tree.proofs.Children.{counted}
-use Rattle.volume_tree.proofs.SlotRows.{slots_ascend}
+use Rattle.volume_tree.proofs.ordering.Children.{counted}
+use Rattle.volume_tree.proofs.slotted.SlotRows.{slots_ascend}
 use Rattle.volume_tree.proofs.segment.child_count.Goals as goal
 
 pub overflow_sub-result : goal.overflow_sub-result

@@ -1,7 +1,7 @@
 use Rattle.std.proofs.Common.{[], length, refl, arith}
 use Rattle.volume_tree.specs.Kept.{rows_of}
-use Rattle.volume_tree.proofs.SlotRows.{slots_ascend}
-use Rattle.volume_tree.proofs.Spans.{ceiling_last, ceiling_here}
+use Rattle.volume_tree.proofs.slotted.SlotRows.{slots_ascend}
+use Rattle.volume_tree.proofs.ordering.Spans.{ceiling_last, ceiling_here}
 use Rattle.volume_tree.proofs.segment.first_after.Goals as goal
 
 pub first_between-requires-clause-ceiling : goal.first_between-requires-clause-ceiling

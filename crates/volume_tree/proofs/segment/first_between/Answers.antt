@@ -1,8 +1,8 @@
 use Rattle.std.proofs.Common.{[], arith}
 use Rattle.volume_tree.specs.Kept.{rows_of}
-use Rattle.volume_tree.proofs.Halving.{halves_above, halves_below, halves_end, lower_before, upper_stays}
-use Rattle.volume_tree.proofs.SlotRows.{slots_ascend}
-use Rattle.volume_tree.proofs.Spans.{halves_between}
+use Rattle.volume_tree.proofs.ordering.Halving.{halves_above, halves_below, halves_end, lower_before, upper_stays}
+use Rattle.volume_tree.proofs.slotted.SlotRows.{slots_ascend}
+use Rattle.volume_tree.proofs.ordering.Spans.{halves_between}
 use Rattle.volume_tree.proofs.segment.first_between.Goals as goal
 
 pub loop-low-preserved-then-from-folder : goal.loop-low-preserved-then-from-folder

@@ -1,6 +1,6 @@
 use Rattle.std.proofs.Common.{◌-◌, []}
 use Rattle.volume_tree.specs.Kept.{rows_of}
-use Rattle.volume_tree.proofs.Halving.{Halves}
+use Rattle.volume_tree.proofs.ordering.Halving.{Halves}
 use Rattle.volume_tree.proofs.segment.first_between.Given as goal
 
 abbrev pub invariant-loop-low : goal.invariant-loop-low

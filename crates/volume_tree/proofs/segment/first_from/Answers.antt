@@ -1,6 +1,6 @@
 use Rattle.std.proofs.Common.{[], length, refl}
 use Rattle.volume_tree.specs.Kept.{rows_of}
-use Rattle.volume_tree.proofs.Spans.{floor_first, ceiling_last}
+use Rattle.volume_tree.proofs.ordering.Spans.{floor_first, ceiling_last}
 use Rattle.volume_tree.proofs.segment.first_from.Goals as goal
 
 pub first_between-requires-clause-floor : goal.first_between-requires-clause-floor

@@ -1,7 +1,7 @@
 use Rattle.std.proofs.Common.{[], arith}
 use Rattle.volume_tree.specs.Kept.{rows_of}
-use Rattle.volume_tree.proofs.SlotRows.{slots_ascend}
-use Rattle.volume_tree.proofs.Spans.{floor_first, floor_after}
+use Rattle.volume_tree.proofs.slotted.SlotRows.{slots_ascend}
+use Rattle.volume_tree.proofs.ordering.Spans.{floor_first, floor_after}
 use Rattle.volume_tree.proofs.segment.floor_near.Goals as goal
 
 pub returns-then-from-folder : goal.returns-then-from-folder

@@ -1,6 +1,6 @@
 use Rattle.volume_tree.specs.Kept.{rows_of}
-use Rattle.volume_tree.proofs.SlotRows.{slots_ascend}
-use Rattle.volume_tree.proofs.Spans.{floor_next, segment_of}
+use Rattle.volume_tree.proofs.slotted.SlotRows.{slots_ascend}
+use Rattle.volume_tree.proofs.ordering.Spans.{floor_next, segment_of}
 use Rattle.volume_tree.proofs.segment.segment.Goals as goal
 
 pub first_after-end-requires-clause-floor : goal.first_after-end-requires-clause-floor

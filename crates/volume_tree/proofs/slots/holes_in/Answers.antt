@@ -3,8 +3,8 @@ use Rattle.fsrm_base.specs.Keyed.{has_row}
 use Rattle.fsrm_model.specs.Tree.{number}
 use Rattle.number_set.specs.Numbers.{Numbers}
 use Rattle.volume_tree.specs.Kept.{rows_of}
-use Rattle.volume_tree.proofs.HoleLaws.{AreBelow, no_holes, hole_more, row_more, holes_below}
-use Rattle.volume_tree.proofs.SlotLaws.{taken_is}
+use Rattle.volume_tree.proofs.slotted.HoleLaws.{AreBelow, no_holes, hole_more, row_more, holes_below}
+use Rattle.volume_tree.proofs.slotted.SlotLaws.{taken_is}
 use Rattle.volume_tree.proofs.slots.holes_in.Goals.{then-is_none, else-is_none}
 use Rattle.volume_tree.proofs.slots.holes_in.Goals as goal
 

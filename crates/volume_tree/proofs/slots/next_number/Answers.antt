@@ -1,8 +1,8 @@
 use Rattle.std.proofs.Common.{◌^◌, ◌<◌, length, arith, rules}
 use Rattle.volume_tree.specs.Kept.{rows_of}
-use Rattle.volume_tree.proofs.FreshLaws.{fresh_most}
-use Rattle.volume_tree.proofs.HoleLaws.{least_is, none_is}
-use Rattle.volume_tree.proofs.SlotRows.{slots_ascend}
+use Rattle.volume_tree.proofs.slotted.FreshLaws.{fresh_most}
+use Rattle.volume_tree.proofs.slotted.HoleLaws.{least_is, none_is}
+use Rattle.volume_tree.proofs.slotted.SlotRows.{slots_ascend}
 use Rattle.volume_tree.proofs.slots.next_number.Goals as goal
 
 pub overflow_cast-result : goal.overflow_cast-result

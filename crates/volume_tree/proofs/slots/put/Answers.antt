@@ -1,6 +1,6 @@
 use Rattle.std.proofs.Common.{Some, refl, sym, ◌∙◌, ap, subst, arith}
 use Rattle.volume_tree.specs.Kept.{AreSlots, rows_of}
-use Rattle.volume_tree.proofs.SlotLaws.{set_slots, put_rows, pushed_slots, pushed_rows}
+use Rattle.volume_tree.proofs.slotted.SlotLaws.{set_slots, put_rows, pushed_slots, pushed_rows}
 use Rattle.volume_tree.proofs.slots.put.Goals as goal
 
 pub returns-then-place-len-clause-slots : goal.returns-then-place-len-clause-slots

@@ -1,5 +1,5 @@
 use Rattle.std.proofs.Common.{◌∙◌}
-use Rattle.volume_tree.proofs.SlotLaws.{row_read, row_past}
+use Rattle.volume_tree.proofs.slotted.SlotLaws.{row_read, row_past}
 use Rattle.volume_tree.proofs.slots.row.Goals as goal
 
 pub returns-in-Some : goal.returns-in-Some

@@ -1,7 +1,7 @@
 use Rattle.std.proofs.Common.{Some, ◌∙◌, ap, arith}
 use Rattle.fsrm_model.specs.declared.row.NodeRow.{NodeRow}
 use Rattle.fsrm_model.specs.FileOps.{touched}
-use Rattle.volume_tree.proofs.SlotLaws.{filled, set_slots, changed_rows, same_row, not_empty}
+use Rattle.volume_tree.proofs.slotted.SlotLaws.{filled, set_slots, changed_rows, same_row, not_empty}
 use Rattle.volume_tree.proofs.slots.set_accessed.Goals as goal
 
 pub index_mut-requires : goal.index_mut-requires

@@ -1,5 +1,5 @@
 use Rattle.std.proofs.Common.{None, arith}
-use Rattle.volume_tree.proofs.SlotLaws.{filled, set_slots, gone_rows}
+use Rattle.volume_tree.proofs.slotted.SlotLaws.{filled, set_slots, gone_rows}
 use Rattle.volume_tree.proofs.slots.take_away.Goals as goal
 
 pub index_mut-requires : goal.index_mut-requires

@@ -1,8 +1,8 @@
 use Rattle.std.proofs.Common.{subst, arith}
 use Rattle.fsrm_model.specs.declared.command.Deed.TheVariants.{Step}
 use Rattle.fsrm_model.specs.Step.{step}
-use Rattle.fsrm_model.proofs.EachCommand.{kept_valid}
-use Rattle.fsrm_model.proofs.ScanCommands.{step_kept}
+use Rattle.fsrm_model.proofs.commands.EachCommand.{kept_valid}
+use Rattle.fsrm_model.proofs.commands.ScanCommands.{step_kept}
 use Rattle.fsrm_engine.specs.Machine.{Machine, Takes, machine_of, rows_of}
 use Rattle.fsrm_engine.proofs.steps.WholeLaws.{takes_named, whole_after, seen_cost}
 use Rattle.fsrm_engine.proofs.engine.Engine.scan_step.Goals as goal

@@ -1,7 +1,7 @@
 use Rattle.std.proofs.Common.{false, refl, ap, sym, ◌∙◌, arith, subst}
 use Rattle.fsrm_model.specs.declared.command.Deed.TheVariants.{File}
 use Rattle.fsrm_model.specs.declared.command.FileOp.TheVariants.{Create}
-use Rattle.fsrm_model.proofs.ValidLaws.{folder_has}
+use Rattle.fsrm_model.proofs.valid.ValidLaws.{folder_has}
 use Rattle.volume_tree.specs.Volume.{Volume, new_fault}
 use Rattle.fsrm_engine.specs.Faults.{refused_answer}
 use Rattle.fsrm_engine.specs.Machine.{IsSound}

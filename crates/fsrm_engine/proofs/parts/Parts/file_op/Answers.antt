@@ -1,5 +1,5 @@
 use Rattle.fsrm_model.specs.declared.command.Deed.TheVariants.{File}
-use Rattle.fsrm_model.proofs.EachCommand.{deed_valid}
+use Rattle.fsrm_model.proofs.commands.EachCommand.{deed_valid}
 use Rattle.fsrm_engine.specs.Machine.{rows_of}
 use Rattle.fsrm_engine.proofs.steps.WholeLaws.{result_whole}
 use Rattle.fsrm_engine.proofs.parts.Parts.file_op.Goals as goal

@@ -5,8 +5,8 @@ use Rattle.fsrm_base.specs.Keyed.{has_row}
 use Rattle.fsrm_model.specs.Name.{is_name}
 use Rattle.fsrm_model.specs.Tree.{number, is_folder, is_under}
 use Rattle.fsrm_base.proofs.TestLaws.{is_inner}
-use Rattle.fsrm_model.proofs.Resolves.{resolved}
-use Rattle.fsrm_model.proofs.ValidLaws.{folder_has}
+use Rattle.fsrm_model.proofs.nodes.Resolves.{resolved}
+use Rattle.fsrm_model.proofs.valid.ValidLaws.{folder_has}
 use Rattle.volume_tree.specs.Volume.{Volume, Move as Moving, move_fault}
 use Rattle.fsrm_engine.specs.Faults.{refused_answer}
 use Rattle.fsrm_engine.proofs.steps.StepLaws.{refused_as, refused_by_as}

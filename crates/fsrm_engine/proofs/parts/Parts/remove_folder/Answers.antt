@@ -1,7 +1,7 @@
 use Rattle.std.proofs.Common.{None, ap, ◌∙◌, arith}
 use Rattle.fsrm_model.specs.declared.command.Deed.TheVariants.{File}
 use Rattle.fsrm_model.specs.declared.command.FileOp.TheVariants.{Remove}
-use Rattle.fsrm_model.proofs.Keeps.{folder_found}
+use Rattle.fsrm_model.proofs.nodes.Keeps.{folder_found}
 use Rattle.fsrm_objects.specs.Tables.{Tables}
 use Rattle.fsrm_engine.proofs.operations.IdleLaws.{may_go, idle_gone}
 use Rattle.fsrm_engine.proofs.steps.PlaceLaws.{has_resolved}

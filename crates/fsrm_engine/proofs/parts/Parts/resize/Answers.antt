@@ -4,7 +4,7 @@ use Rattle.fsrm_model.specs.declared.command.FileOp.TheVariants.{Resize}
 use Rattle.fsrm_model.specs.FileOps.{resized}
 use Rattle.fsrm_base.specs.Keyed.{with_change}
 use Rattle.fsrm_model.specs.Tree.{number}
-use Rattle.fsrm_model.proofs.Resolves.{resolved}
+use Rattle.fsrm_model.proofs.nodes.Resolves.{resolved}
 use Rattle.volume_tree.specs.Volume.{Volume}
 use Rattle.fsrm_engine.specs.Faults.{refused_answer}
 use Rattle.fsrm_engine.proofs.steps.StepLaws.{refused_as}

@@ -1,5 +1,5 @@
 use Rattle.std.proofs.Common.{sym, ◌∙◌}
-use Rattle.fsrm_model.proofs.Resolves.{resolved}
+use Rattle.fsrm_model.proofs.nodes.Resolves.{resolved}
 use Rattle.fsrm_engine.proofs.parts.Parts.sum.Goals as goal
 
 pub usage_of-requires-clause-there : goal.usage_of-requires-clause-there

@@ -1,4 +1,4 @@
-use Rattle.fsrm_model.proofs.EachCommand.{step_valid}
+use Rattle.fsrm_model.proofs.commands.EachCommand.{step_valid}
 use Rattle.fsrm_engine.specs.Machine.{rows_of}
 use Rattle.fsrm_engine.proofs.steps.WholeLaws.{result_whole}
 use Rattle.fsrm_engine.proofs.parts.Parts.take.Goals as goal

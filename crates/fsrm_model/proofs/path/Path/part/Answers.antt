@@ -1,7 +1,7 @@
 use Rattle.std.proofs.Common.{rules, ◌≡◌, Some}
 use Rattle.std.specs.Prelude.{slice_get}
 use Rattle.fsrm_model.specs.Name.{is_name}
-use Rattle.fsrm_model.proofs.Parts.{all_at}
+use Rattle.fsrm_model.proofs.lines.Parts.{all_at}
 use Rattle.fsrm_model.proofs.path.Path.part.Goals as goal
 
 pub returns-clause-name : goal.returns-clause-name

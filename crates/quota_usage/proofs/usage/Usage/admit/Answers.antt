@@ -1,5 +1,5 @@
 use Rattle.std.proofs.Common.{◌≡◌, [], List, Some, ◌∙◌, subst}
-use Rattle.fsrm_model.proofs.Keeps.{tree_of}
+use Rattle.fsrm_model.proofs.nodes.Keeps.{tree_of}
 use Rattle.quota_usage.specs.Charge.{over_by, exceeded_by}
 use Rattle.quota_usage.specs.declared.change.Counter.{Counter}
 use Rattle.quota_usage.proofs.Deepest.{admitted, refused}

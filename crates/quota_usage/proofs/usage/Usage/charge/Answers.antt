@@ -1,7 +1,7 @@
 use Rattle.std.proofs.Common.{refl}
 use Rattle.quota_usage.specs.Charge.{charged_counter}
 use Rattle.quota_usage.proofs.CounterLaws.{kept_charged}
-use Rattle.fsrm_model.proofs.Keeps.{tree_of}
+use Rattle.fsrm_model.proofs.nodes.Keeps.{tree_of}
 use Rattle.quota_usage.proofs.usage.Usage.charge.Goals as goal
 
 pub charge-requires-clause-tree : goal.charge-requires-clause-tree

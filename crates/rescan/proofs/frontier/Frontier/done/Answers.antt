@@ -1,6 +1,6 @@
 use Rattle.std.proofs.Common.{◌∙◌, ap, length, ◌==◌}
 use Rattle.rescan.specs.Frontiers.{Front}
-use Rattle.rescan.proofs.FrontierLaws.{none_left}
+use Rattle.rescan.proofs.followed.FrontierLaws.{none_left}
 use Rattle.rescan.proofs.frontier.Frontier.done.Goals as goal
 
 pub returns-clause-done : goal.returns-clause-done

@@ -3,8 +3,8 @@ use Rattle.fsrm_base.specs.Numbers.{is_in, is_set}
 use Rattle.number_set.specs.Numbers.{Numbers, no_numbers}
 use Rattle.rescan.specs.Frontiers.{Front}
 use Rattle.rescan.specs.Visits.{looks_left}
-use Rattle.rescan.proofs.FindLaws.{topped, finding_begins, finding_more, finding_ends, looks_after, looks_most, waits_low, folder_low}
-use Rattle.rescan.proofs.Tops.{tops_of}
+use Rattle.rescan.proofs.unvisited.FindLaws.{topped, finding_begins, finding_more, finding_ends, looks_after, looks_most, waits_low, folder_low}
+use Rattle.rescan.proofs.unvisited.Tops.{tops_of}
 use Rattle.rescan.proofs.frontier.Frontier.find.Goals as goal
 
 pub copied-requires-clause-set : goal.copied-requires-clause-set

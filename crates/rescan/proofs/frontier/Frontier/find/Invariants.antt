@@ -1,6 +1,6 @@
 use Rattle.std.proofs.Common.{◌+◌, ◌≤◌}
 use Rattle.rescan.specs.Visits.{looks_left}
-use Rattle.rescan.proofs.FindLaws.{Finding, topped}
+use Rattle.rescan.proofs.unvisited.FindLaws.{Finding, topped}
 use Rattle.rescan.proofs.frontier.Frontier.find.Given as goal
 
 abbrev pub invariant-loop-next : goal.invariant-loop-next

@@ -1,6 +1,6 @@
 use Rattle.std.proofs.Common.{◌∙◌, ap}
 use Rattle.rescan.specs.Frontiers.{Front}
-use Rattle.rescan.proofs.FrontierLaws.{ends}
+use Rattle.rescan.proofs.followed.FrontierLaws.{ends}
 use Rattle.rescan.proofs.frontier.Frontier.finish.Goals as goal
 
 pub returns-clause-fresh : goal.returns-clause-fresh

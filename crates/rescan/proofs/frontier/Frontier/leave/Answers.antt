@@ -7,9 +7,9 @@ use Rattle.fsrm_base.specs.Numbers.{with_number, without_number, with_numbers}
 use Rattle.fsrm_model.specs.Space.{space}
 use Rattle.fsrm_model.specs.Tree.{children}
 use Rattle.rescan.specs.Visits.{folders_in}
-use Rattle.rescan.proofs.Ahead.{ahead, top_ahead, open_ahead, whole_ahead, next_in, none_next}
-use Rattle.rescan.proofs.Leaving.{Leaving, Tracked, begin, finish, pass_top, same_room}
-use Rattle.rescan.proofs.Opening.{opened, pass_open, enough_left}
+use Rattle.rescan.proofs.moved.Ahead.{ahead, top_ahead, open_ahead, whole_ahead, next_in, none_next}
+use Rattle.rescan.proofs.moved.Leaving.{Leaving, Tracked, begin, finish, pass_top, same_room}
+use Rattle.rescan.proofs.moved.Opening.{opened, pass_open, enough_left}
 use Rattle.rescan.proofs.frontier.Frontier.leave.Goals as goal
 
 pub loop-next-init : goal.loop-next-init

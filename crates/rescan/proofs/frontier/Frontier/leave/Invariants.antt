@@ -1,7 +1,7 @@
 use Rattle.std.proofs.Common.{◌≡◌, ◌+◌, ◌*◌, ◌≤◌, length}
 use Rattle.fsrm_model.specs.Tree.{under}
-use Rattle.rescan.proofs.Ahead.{ahead}
-use Rattle.rescan.proofs.Leaving.{Leaving}
+use Rattle.rescan.proofs.moved.Ahead.{ahead}
+use Rattle.rescan.proofs.moved.Leaving.{Leaving}
 use Rattle.rescan.proofs.frontier.Frontier.leave.Given as goal
 
 abbrev pub invariant-loop-next : goal.invariant-loop-next

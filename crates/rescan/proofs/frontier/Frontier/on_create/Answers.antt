@@ -1,4 +1,4 @@
-use Rattle.rescan.proofs.ChangeLaws.{created}
+use Rattle.rescan.proofs.followed.ChangeLaws.{created}
 use Rattle.rescan.proofs.frontier.Frontier.on_create.Goals as goal
 
 pub returns : goal.returns

@@ -2,15 +2,15 @@ use Rattle.std.proofs.Common.{◌≡◌, ◌==◌, ℕ, true, false, length, ref
 use Rattle.fsrm_model.specs.Capacities.{is_capacity}
 use Rattle.fsrm_base.specs.Keyed.{has_row}
 use Rattle.fsrm_model.specs.Tree.{number, parent_of, chain}
-use Rattle.fsrm_model.proofs.Climbs.{shorter}
-use Rattle.fsrm_model.proofs.Keeps.{tree_of}
+use Rattle.fsrm_model.proofs.nodes.Climbs.{shorter}
+use Rattle.fsrm_model.proofs.nodes.Keeps.{tree_of}
 use Rattle.fsrm_base.proofs.Look.{has_found}
 use Rattle.fsrm_base.proofs.TestLaws.{clash, eq_same}
-use Rattle.fsrm_model.proofs.ValidLaws.{folder_has, found_parent}
-use Rattle.rescan.proofs.FolderArms.{scanned_follows, folder_follows}
-use Rattle.rescan.proofs.MoveArms.{Goes, below_counted, file_follows, share_same, share_counted, share_fits}
-use Rattle.rescan.proofs.StandingLaws.{same_folder, other_folder}
-use Rattle.rescan.proofs.Tops.{tops_of}
+use Rattle.fsrm_model.proofs.valid.ValidLaws.{folder_has, found_parent}
+use Rattle.rescan.proofs.moved.FolderArms.{scanned_follows, folder_follows}
+use Rattle.rescan.proofs.moved.MoveArms.{Goes, below_counted, file_follows, share_same, share_counted, share_fits}
+use Rattle.rescan.proofs.unvisited.StandingLaws.{same_folder, other_folder}
+use Rattle.rescan.proofs.unvisited.Tops.{tops_of}
 use Rattle.rescan.proofs.frontier.Frontier.on_move.Goals as goal
 
 pub returns-then-eq-clause-follows : goal.returns-then-eq-clause-follows

@@ -6,7 +6,7 @@ use Rattle.number_set.specs.Numbers.{Numbers}
 use Rattle.volume_tree.specs.Volume.{without_node}
 use Rattle.rescan.specs.contracts.frontier.Frontier.{the_view}
 use Rattle.rescan.specs.Frontiers.{Front, Follows, unvisited}
-use Rattle.rescan.proofs.ChangeLaws.{removed}
+use Rattle.rescan.proofs.followed.ChangeLaws.{removed}
 use Rattle.rescan.proofs.frontier.Frontier.on_remove.Goals as goal
 
 pub returns : goal.returns

@@ -8,7 +8,7 @@ use Rattle.rescan.specs.contracts.standing.Standing.{the_type as standing_type}
 use Rattle.rescan.specs.declared.standing.Standing.TheVariants.{Visited}
 use Rattle.rescan.specs.Frontiers.{Front, Follows, sized, unvisited}
 use Rattle.rescan.specs.Standings.{standing}
-use Rattle.rescan.proofs.ResizeLaws.{IsResized, resized_tree, resized_tops, parent_there, way_up, visited_within, visited_small, visited_follows, other_follows}
+use Rattle.rescan.proofs.counted.ResizeLaws.{IsResized, resized_tree, resized_tops, parent_there, way_up, visited_within, visited_small, visited_follows, other_follows}
 use Rattle.rescan.proofs.frontier.Frontier.on_resize.Goals as goal
 
 pub standing-requires-clause-tree : goal.standing-requires-clause-tree

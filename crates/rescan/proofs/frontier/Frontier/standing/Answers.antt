@@ -2,10 +2,10 @@ use Rattle.std.proofs.Common.{◌≡◌, ◌<◌, length, true, false, sym, ◌�
 use Rattle.fsrm_base.specs.Keyed.{has_row}
 use Rattle.fsrm_base.specs.Numbers.{is_in}
 use Rattle.fsrm_model.specs.Tree.{number, parent_of, chain, is_under}
-use Rattle.fsrm_model.proofs.Climbs.{shorter}
+use Rattle.fsrm_model.proofs.nodes.Climbs.{shorter}
 use Rattle.rescan.specs.Frontiers.{scanned, has_above}
-use Rattle.rescan.proofs.StandingLaws.{at_top, at_scanned, at_root, above_up, below_up, same_folder, other_folder}
-use Rattle.fsrm_model.proofs.ValidLaws.{found_parent}
+use Rattle.rescan.proofs.unvisited.StandingLaws.{at_top, at_scanned, at_root, above_up, below_up, same_folder, other_folder}
+use Rattle.fsrm_model.proofs.valid.ValidLaws.{found_parent}
 use Rattle.rescan.proofs.frontier.Frontier.standing.Goals as goal
 
 pub returns-then-contains-clause-value : goal.returns-then-contains-clause-value

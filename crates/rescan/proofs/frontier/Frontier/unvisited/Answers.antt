@@ -1,6 +1,6 @@
 use Rattle.std.proofs.Common.{◌∙◌, ap}
 use Rattle.fsrm_base.specs.Numbers.{is_set}
-use Rattle.rescan.proofs.Tops.{set_unvisited}
+use Rattle.rescan.proofs.unvisited.Tops.{set_unvisited}
 use Rattle.rescan.proofs.frontier.Frontier.unvisited.Goals as goal
 
 pub drained-requires : goal.drained-requires

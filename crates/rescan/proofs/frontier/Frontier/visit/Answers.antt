@@ -1,7 +1,7 @@
 use Rattle.std.proofs.Common.{◌≡◌, Some, None, ◌∙◌, ap, sym, arith}
 use Rattle.std.specs.Prelude.{slice_get}
 use Rattle.rescan.specs.Frontiers.{Front}
-use Rattle.rescan.proofs.VisitLaws.{next_is, visited_none, visited_some, visited_sum, visited_fields}
+use Rattle.rescan.proofs.unvisited.VisitLaws.{next_is, visited_none, visited_some, visited_sum, visited_fields}
 use Rattle.rescan.proofs.frontier.Frontier.visit.Goals as goal
 
 pub returns-in_err-folder-clause-visited : goal.returns-in_err-folder-clause-visited

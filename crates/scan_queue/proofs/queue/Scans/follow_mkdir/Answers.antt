@@ -3,7 +3,7 @@ use Rattle.std.specs.Prelude.{is_some}
 use Rattle.fsrm_model.specs.QuotaStates.{head}
 use Rattle.fsrm_model.specs.Scan.{unvisited_with}
 use Rattle.fsrm_model.specs.Tree.{number}
-use Rattle.fsrm_model.proofs.Keeps.{found_folder}
+use Rattle.fsrm_model.proofs.nodes.Keeps.{found_folder}
 use Rattle.fsrm_base.proofs.Look.{has_found}
 use Rattle.rescan.specs.Frontiers.{unvisited}
 use Rattle.volume_tree.specs.Volume.{without_node}
@@ -11,7 +11,7 @@ use Rattle.scan_queue.specs.Courses.{Course, Scanning, Goes, left}
 use Rattle.scan_queue.proofs.Following.{kept_going, goes_idle, goes_on}
 use Rattle.scan_queue.proofs.Leaving.{folder_back}
 use Rattle.scan_queue.proofs.Lengths.{own_follows}
-use Rattle.rescan.proofs.ChangeLaws.{folder_length}
+use Rattle.rescan.proofs.followed.ChangeLaws.{folder_length}
 use Rattle.scan_queue.proofs.queue.Scans.follow_mkdir.Goals as goal
 
 pub invariant_of-self : goal.invariant_of-self

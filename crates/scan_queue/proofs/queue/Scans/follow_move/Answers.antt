@@ -3,7 +3,7 @@ use Rattle.std.specs.Prelude.{is_some}
 use Rattle.fsrm_model.specs.FileOps.{placed}
 use Rattle.fsrm_model.specs.QuotaStates.{head}
 use Rattle.fsrm_model.specs.Scan.{unvisited_moved}
-use Rattle.fsrm_model.proofs.Keeps.{folder-change}
+use Rattle.fsrm_model.proofs.nodes.Keeps.{folder-change}
 use Rattle.rescan.specs.Frontiers.{unvisited}
 use Rattle.volume_tree.specs.Volume.{with_place}
 use Rattle.scan_queue.specs.Courses.{Course, Scanning, Goes, left}

@@ -11,7 +11,7 @@ use Rattle.scan_queue.specs.Courses.{Course, Scanning, Goes, left}
 use Rattle.scan_queue.proofs.Following.{goes_idle, goes_on, kept_going, removed_follows, stands_active}
 use Rattle.scan_queue.proofs.Leaving.{file_apart, file_children, folder_stays, volume_without}
 use Rattle.scan_queue.proofs.Lengths.{own_stands, row_length}
-use Rattle.fsrm_model.proofs.OwnLaws.{file_inner}
+use Rattle.fsrm_model.proofs.nodes.OwnLaws.{file_inner}
 use Rattle.scan_queue.proofs.queue.Scans.follow_remove.Goals as goal
 
 pub on_resize-requires-clause-old : goal.on_resize-requires-clause-old

@@ -4,7 +4,7 @@ use Rattle.fsrm_model.specs.FileOps.{resized}
 use Rattle.fsrm_model.specs.Limits.{longest_file}
 use Rattle.fsrm_model.specs.QuotaStates.{head}
 use Rattle.fsrm_model.specs.Tree.{number}
-use Rattle.fsrm_model.proofs.Keeps.{folder-change}
+use Rattle.fsrm_model.proofs.nodes.Keeps.{folder-change}
 use Rattle.fsrm_base.proofs.Look.{has_found}
 use Rattle.rescan.specs.Frontiers.{unvisited}
 use Rattle.volume_tree.specs.Volume.{with_length}

@@ -2,14 +2,14 @@ use Rattle.std.proofs.Common.{◌≡◌, true, refl, sym, ◌∙◌, ap, subst}
 use Rattle.std.specs.Prelude.{is_some}
 use Rattle.fsrm_base.specs.Numbers.{is_in, without_number}
 use Rattle.fsrm_model.specs.QuotaStates.{head}
-use Rattle.fsrm_model.proofs.Keeps.{found_folder}
+use Rattle.fsrm_model.proofs.nodes.Keeps.{found_folder}
 use Rattle.rescan.specs.Frontiers.{unvisited}
 use Rattle.volume_tree.specs.Volume.{without_node}
 use Rattle.scan_queue.specs.Courses.{Course, Scanning, Goes, left}
 use Rattle.scan_queue.proofs.Following.{absent_apart, goes_idle, goes_on, kept_going, not_scanned, stands_active}
 use Rattle.scan_queue.proofs.Leaving.{folder_stays, volume_without}
 use Rattle.scan_queue.proofs.Lengths.{own_stands}
-use Rattle.rescan.proofs.ChangeLaws.{folder_length}
+use Rattle.rescan.proofs.followed.ChangeLaws.{folder_length}
 use Rattle.scan_queue.proofs.queue.Scans.follow_rmdir.Goals as goal
 
 pub on_remove-requires-clause-other : goal.on_remove-requires-clause-other

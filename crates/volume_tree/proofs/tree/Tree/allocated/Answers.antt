@@ -1,4 +1,4 @@
-use Rattle.fsrm_model.proofs.CapacityLaws.{cluster_is}
+use Rattle.fsrm_model.proofs.valid.CapacityLaws.{cluster_is}
 use Rattle.volume_tree.proofs.tree.Tree.allocated.Goals as goal
 
 pub allocated-requires-clause-cluster : goal.allocated-requires-clause-cluster

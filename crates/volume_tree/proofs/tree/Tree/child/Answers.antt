@@ -1,6 +1,6 @@
 use Rattle.std.proofs.Common.{ℕ, ◌<◌, length, List, sym, subst}
 use Rattle.fsrm_model.specs.Limits.{most_nodes}
-use Rattle.volume_tree.proofs.KeptLaws.{few_order}
+use Rattle.volume_tree.proofs.kept.KeptLaws.{few_order}
 use Rattle.volume_tree.proofs.tree.Tree.child.Goals as goal
 
 pub search-requires-clause-few : goal.search-requires-clause-few

@@ -2,7 +2,7 @@ use Rattle.std.proofs.Common.{◌≡◌, ◌<◌, ◌^◌, length, List, ap, ari
 use Rattle.fsrm_model.specs.declared.row.NodeRow.{NodeRow}
 use Rattle.volume_tree.specs.Kept.{rows_of}
 use Rattle.fsrm_model.specs.Tree.{children}
-use Rattle.volume_tree.proofs.KeptLaws.{few_rows, children_fit}
+use Rattle.volume_tree.proofs.kept.KeptLaws.{few_rows, children_fit}
 use Rattle.volume_tree.proofs.tree.Tree.child_count.Goals as goal
 
 pub overflow_cast-result : goal.overflow_cast-result

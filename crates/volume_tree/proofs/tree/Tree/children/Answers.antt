@@ -4,7 +4,7 @@ use Rattle.fsrm_model.specs.declared.row.NodeRow.{NodeRow}
 use Rattle.fsrm_model.specs.Tree.{number, children, children_in_order}
 use Rattle.volume_tree.specs.Kept.{rows_of}
 use Rattle.volume_tree.specs.Volume.{Volume}
-use Rattle.volume_tree.proofs.Children.{numbers_many}
+use Rattle.volume_tree.proofs.ordering.Children.{numbers_many}
 use Rattle.volume_tree.proofs.tree.Tree.children.Goals as goal
 
 many : (slots read : List (Option NodeRow)) (order taken given : List ℕ) (nodes : List NodeRow) (folder first end : ℕ) → read ≡ slots → taken ≡ order → given ≡ order → rows_of slots ≡ nodes → between first end taken ≡ map number (children_in_order (rows_of read) folder) → length (between first end given) ≡ length (children nodes folder)

@@ -1,7 +1,7 @@
 use Rattle.std.proofs.Common.{List, Option, sym, subst}
 use Rattle.fsrm_model.specs.declared.row.NodeRow.{NodeRow}
-use Rattle.fsrm_model.proofs.ChainLaws.{IsTree}
-use Rattle.fsrm_model.proofs.Keeps.{tree_of}
+use Rattle.fsrm_model.proofs.nodes.ChainLaws.{IsTree}
+use Rattle.fsrm_model.proofs.nodes.Keeps.{tree_of}
 use Rattle.volume_tree.specs.Kept.{rows_of}
 use Rattle.volume_tree.proofs.tree.Tree.is_at_or_below.Goals as goal
 

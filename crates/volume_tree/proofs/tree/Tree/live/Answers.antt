@@ -4,7 +4,7 @@ use Rattle.fsrm_base.specs.Keyed.{has_row}
 use Rattle.fsrm_model.specs.Tree.{number}
 use Rattle.volume_tree.specs.Kept.{rows_of}
 use Rattle.volume_tree.specs.Volume.{Volume}
-use Rattle.volume_tree.proofs.SlotLaws.{taken_is}
+use Rattle.volume_tree.proofs.slotted.SlotLaws.{taken_is}
 use Rattle.volume_tree.proofs.tree.Tree.live.Goals as goal
 
 pub returns : goal.returns

@@ -10,11 +10,11 @@ use Rattle.fsrm_model.specs.Name.{is_name}
 use Rattle.volume_tree.specs.Kept.{AreHoles, IsPlace}
 use Rattle.number_set.specs.Numbers.{Numbers}
 use Rattle.fsrm_base.specs.Numbers.{without_number}
-use Rattle.volume_tree.proofs.FreshLaws.{fresh_near, fresh_free}
-use Rattle.volume_tree.proofs.KeptLaws.{few_order, few_rows, kept_made, inserted_is}
+use Rattle.volume_tree.proofs.slotted.FreshLaws.{fresh_near, fresh_free}
+use Rattle.volume_tree.proofs.kept.KeptLaws.{few_order, few_rows, kept_made, inserted_is}
 use Rattle.volume_tree.specs.Volume.{new_fault}
-use Rattle.volume_tree.proofs.MakeLaws.{may_make}
-use Rattle.fsrm_model.proofs.OwnLaws.{own_new}
+use Rattle.volume_tree.proofs.kept.MakeLaws.{may_make}
+use Rattle.fsrm_model.proofs.nodes.OwnLaws.{own_new}
 use Rattle.volume_tree.proofs.tree.Tree.make.Goals as goal
 
 pub next_number-number-requires-clause-few : goal.next_number-number-requires-clause-few

@@ -5,11 +5,11 @@ use Rattle.fsrm_base.specs.Keyed.{has_row}
 use Rattle.fsrm_model.specs.Limits.{most_nodes}
 use Rattle.fsrm_model.specs.Name.{is_name}
 use Rattle.fsrm_model.specs.Tree.{number, name_of, parent_of, is_folder, child_number}
-use Rattle.fsrm_model.proofs.CapacityLaws.{names_most}
+use Rattle.fsrm_model.proofs.valid.CapacityLaws.{names_most}
 use Rattle.volume_tree.specs.Kept.{rows_of}
 use Rattle.volume_tree.specs.Volume.{Volume, Move, move_fault}
-use Rattle.volume_tree.proofs.KeptLaws.{few_order, own_child, name_fits, sought_in, placed_order, kept_moved}
-use Rattle.volume_tree.proofs.MoveLaws.{may_move, volume_moved}
+use Rattle.volume_tree.proofs.kept.KeptLaws.{few_order, own_child, name_fits, sought_in, placed_order, kept_moved}
+use Rattle.volume_tree.proofs.kept.MoveLaws.{may_move, volume_moved}
 use Rattle.volume_tree.proofs.tree.Tree.make_move.Goals as goal
 
 pub search-found-requires-clause-few : goal.search-found-requires-clause-few

@@ -2,7 +2,7 @@ use Rattle.std.proofs.Common.{◌≡◌, List, Option, Some, sym, ◌∙◌, ap,
 use Rattle.fsrm_model.specs.declared.row.NodeRow.{NodeRow}
 use Rattle.fsrm_model.specs.Tree.{node_of}
 use Rattle.volume_tree.specs.Kept.{rows_of}
-use Rattle.volume_tree.proofs.KeptLaws.{node_short}
+use Rattle.volume_tree.proofs.kept.KeptLaws.{node_short}
 use Rattle.volume_tree.proofs.tree.Tree.node.Goals as goal
 
 pub returns-clause-short : goal.returns-clause-short

@@ -5,14 +5,14 @@ use Rattle.fsrm_base.specs.Keyed.{has_row, with_change}
 use Rattle.fsrm_model.specs.Limits.{most_nodes}
 use Rattle.fsrm_model.specs.Tree.{number, name_of, is_folder, is_under, name_bytes}
 use Rattle.fsrm_model.specs.Valid.{IsVolume}
-use Rattle.fsrm_model.proofs.CapacityLaws.{names_most}
-use Rattle.fsrm_model.proofs.ChainLaws.{IsTree}
-use Rattle.fsrm_model.proofs.Keeps.{tree_of}
-use Rattle.fsrm_model.proofs.ValidLaws.{folder_has}
+use Rattle.fsrm_model.proofs.valid.CapacityLaws.{names_most}
+use Rattle.fsrm_model.proofs.nodes.ChainLaws.{IsTree}
+use Rattle.fsrm_model.proofs.nodes.Keeps.{tree_of}
+use Rattle.fsrm_model.proofs.valid.ValidLaws.{folder_has}
 use Rattle.std.specs.Prelude.{not, ◌==◌, slice_index, IfOk}
 use Rattle.volume_tree.specs.Kept.{rows_of}
 use Rattle.volume_tree.specs.Volume.{Volume}
-use Rattle.volume_tree.proofs.KeptLaws.{few_order, name_fits, sought_in, sought_alone, volume_placed}
+use Rattle.volume_tree.proofs.kept.KeptLaws.{few_order, name_fits, sought_in, sought_alone, volume_placed}
 use Rattle.volume_tree.proofs.tree.Tree.ready_move.Goals as goal
 
 pub is_at_or_below-requires-clause-tree : goal.is_at_or_below-requires-clause-tree

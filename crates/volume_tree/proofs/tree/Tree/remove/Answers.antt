@@ -2,7 +2,7 @@ use Rattle.std.proofs.Common.{◌≡◌, ℕ, ◌-◌, ◌<◌, true, false, len
 use Rattle.fsrm_model.specs.declared.row.NodeRow.{NodeRow}
 use Rattle.fsrm_base.specs.Keyed.{has_row}
 use Rattle.fsrm_model.specs.Tree.{number, name_of, parent_of, child_number}
-use Rattle.fsrm_model.proofs.CapacityLaws.{names_most}
+use Rattle.fsrm_model.proofs.valid.CapacityLaws.{names_most}
 use Rattle.volume_tree.specs.Kept.{IsKept, rows_of}
 use Rattle.volume_tree.specs.Volume.{Volume}
 use Rattle.fsrm_model.specs.Limits.{most_nodes}
@@ -10,7 +10,7 @@ use Rattle.std.specs.Prelude.{slice_get, remove, not, ◌==◌}
 use Rattle.fsrm_model.specs.Tree.{children}
 use Rattle.fsrm_base.specs.Numbers.{with_number}
 use Rattle.number_set.specs.Numbers.{Numbers}
-use Rattle.volume_tree.proofs.KeptLaws.{few_order, own_child, name_fits, node_below, get_within, kept_gone}
+use Rattle.volume_tree.proofs.kept.KeptLaws.{few_order, own_child, name_fits, node_below, get_within, kept_gone}
 use Rattle.volume_tree.proofs.tree.Tree.remove.Goals as goal
 
 pub has_child-requires-clause-few : goal.has_child-requires-clause-few

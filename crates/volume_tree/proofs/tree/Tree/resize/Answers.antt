@@ -1,7 +1,7 @@
 use Rattle.std.proofs.Common.{◌∙◌, ap}
 use Rattle.fsrm_model.specs.Tree.{is_folder}
 use Rattle.volume_tree.specs.Volume.{Volume}
-use Rattle.volume_tree.proofs.KeptLaws.{resized_kept}
+use Rattle.volume_tree.proofs.kept.KeptLaws.{resized_kept}
 use Rattle.volume_tree.proofs.tree.Tree.resize.Goals as goal
 
 pub invariant_of-self : goal.invariant_of-self

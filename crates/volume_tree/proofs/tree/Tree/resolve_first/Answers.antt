@@ -5,8 +5,8 @@ use Rattle.fsrm_model.specs.Limits.{most_nodes}
 use Rattle.fsrm_model.specs.Tree.{child_number}
 use Rattle.volume_tree.specs.Kept.{rows_of}
 use Rattle.volume_tree.specs.Volume.{Volume}
-use Rattle.volume_tree.proofs.KeptLaws.{few_order, read_index}
-use Rattle.volume_tree.proofs.WalkLaws.{get_take, walk_next, walk_end, resolves}
+use Rattle.volume_tree.proofs.kept.KeptLaws.{few_order, read_index}
+use Rattle.volume_tree.proofs.kept.WalkLaws.{get_take, walk_next, walk_end, resolves}
 use Rattle.volume_tree.proofs.tree.Tree.resolve_first.Goals as goal
 
 pub search-requires-clause-few : goal.search-requires-clause-few

@@ -1,5 +1,5 @@
 use Rattle.std.proofs.Common.{◌≡◌, ◌+◌, ◌*◌, ◌≤◌, drop, take}
-use Rattle.fsrm_model.proofs.Walks.{walk}
+use Rattle.fsrm_model.proofs.nodes.Walks.{walk}
 use Rattle.volume_tree.proofs.tree.Tree.resolve_first.Given as goal
 
 abbrev pub invariant-loop-place : goal.invariant-loop-place

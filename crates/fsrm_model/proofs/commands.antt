@@ -1,0 +1,10 @@
+pub mod EachCommand
+pub mod Ends
+pub mod FileCommands
+pub mod FileParts
+pub mod HardLimits
+pub mod Orderly
+pub mod OrderlyLaws
+pub mod QuotaCommands
+pub mod QuotaLaws
+pub mod ScanCommands

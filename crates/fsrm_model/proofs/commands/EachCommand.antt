@@ -1,0 +1,186 @@
+-- Each command's work is orderly, and the kind of its entry is its own. Here alone the laws over all commands go
+-- through them, one by one.
+use Rattle.std.proofs.Common.{◌≡◌, ℕ, ◌<◌, ◌≤◌, ◌⊎◌, inl, inr, true, List, false, refl, sym, ap, ◌∙◌, Some, None, Option, nat_lt, subst}
+use Rattle.fsrm_model.specs.declared.command.Command.{Command}
+use Rattle.fsrm_model.specs.declared.command.Deed.{Deed}
+use Rattle.fsrm_model.specs.declared.command.Deed.TheVariants.{File, Usage, Step, QuotaAdd, QuotaModify, QuotaDelete, QuotaScan, QuotaResetpeak, QuotaList}
+use Rattle.fsrm_model.specs.declared.command.FileOp.{FileOp}
+use Rattle.fsrm_model.specs.declared.command.FileOp.TheVariants.{Mkdir, Create, Resize, Touch, Move, Remove}
+use Rattle.fsrm_model.specs.declared.command.Outcome.TheVariants.{Refused}
+use Rattle.fsrm_model.specs.declared.command.Refusal.{Refusal}
+use Rattle.fsrm_model.specs.declared.command.Refusal.TheVariants.{QuotaExceeded}
+use Rattle.fsrm_model.specs.declared.command.Outcome.TheVariants.{Sum}
+use Rattle.std.specs.List.{list_all}
+use Rattle.std.specs.Prelude.{◌&&◌, ◌==◌, [], ◌∷◌, find, is_none, sum_by}
+use Rattle.std.specs.Option.{option_map_or}
+use Rattle.std.proofs.lemmas.Option.{same_Some}
+use Rattle.fsrm_model.specs.declared.row.Capacity.{Capacity}
+use Rattle.fsrm_model.specs.declared.row.NodeRow.{NodeRow}
+use Rattle.fsrm_model.specs.declared.row.QuotaRow.{QuotaRow}
+use Rattle.fsrm_model.specs.declared.row.Rows.{Rows}
+use Rattle.fsrm_model.specs.Entry.{emptied, kind}
+use Rattle.fsrm_model.specs.Exceeds.{Exceeds}
+use Rattle.fsrm_model.specs.Exceptions.{MayLeave}
+use Rattle.fsrm_model.specs.FileOps.{plain}
+use Rattle.fsrm_model.specs.Lasting.{lasting}
+use Rattle.fsrm_model.specs.Named.{IsNamed}
+use Rattle.fsrm_model.specs.Limits.{latest_moment}
+use Rattle.fsrm_model.specs.Quota.{quota_of, counts, is_limit}
+use Rattle.fsrm_model.specs.Space.{space}
+use Rattle.fsrm_model.specs.Step.{step, work}
+use Rattle.fsrm_model.specs.Tree.{usage, under}
+use Rattle.fsrm_model.specs.Valid.{is_moment, is_empty, IsValid}
+use Rattle.fsrm_model.specs.Valued.{is_path, is_deed, is_short, is_command}
+use Rattle.fsrm_model.specs.Work.{Work}
+use Rattle.fsrm_model.proofs.commands.Ends.{effect_nodes}
+use Rattle.fsrm_model.proofs.commands.FileCommands.{file_orderly, file_limits, usage_still, file_kept}
+use Rattle.fsrm_model.proofs.commands.Orderly.{IsOrderly, IsStill, KeepsLimits, KeepsValid, still_limits}
+use Rattle.fsrm_model.proofs.commands.OrderlyLaws.{verdict, refused_kept, nothing_left, refused_by, sum_afresh, refusal_exceeds, still_unexceeded, limits_hold, outcome_named, unlasting_kept, valid_kept}
+use Rattle.fsrm_model.proofs.commands.QuotaCommands.{add_kept, modify_kept, delete_kept, reset_kept, list_kept, add_still, modify_still, delete_still, reset_still, list_still}
+use Rattle.fsrm_model.proofs.valid.RowsKept.{nothing_followed}
+use Rattle.fsrm_model.proofs.commands.ScanCommands.{scan_kept, step_kept, scan_still, step_still}
+use Rattle.fsrm_base.proofs.TestLaws.{both, le_is}
+
+-- the nodes that a file operation makes
+record IsFileWork (R : Rows) (moment : ℕ) (deed : Deed) (nodes : List NodeRow) : Type 0 where
+  op : FileOp
+  is : deed ≡ File op
+  made : nodes ≡ plain R.nodes op moment
+
+-- a work is orderly and keeps limits, only a file operation makes other nodes, and of a command whose values are in
+-- their ranges it leaves the rows of a store
+record IsCertified (K : Capacity) (R : Rows) (moment : ℕ) (deed : Deed) (w : Work) : Type 0 where
+  orderly : IsOrderly K R w
+  limits : KeepsLimits K R w
+  nodes : (w.effect.nodes ≡ R.nodes) ⊎ IsFileWork R moment deed w.effect.nodes
+  kept : moment ≤ latest_moment → is_deed deed ≡ true → KeepsValid K R w
+
+still : {K : Capacity} {R : Rows} {moment : ℕ} {deed : Deed} {w : Work} → IsStill K R w → (moment ≤ latest_moment → is_deed deed ≡ true → KeepsValid K R w) → IsCertified K R moment deed w
+still {K} {R} {moment} {deed} {w} s kept = record { orderly = s.orderly; limits = still_limits K R w s.same; nodes = inl s.same; kept = kept }
+
+certified : (K : Capacity) (R : Rows) (moment : ℕ) (deed : Deed) → IsCertified K R moment deed (work K R moment deed)
+certified K R moment (File op) =
+    record {
+      orderly = file_orderly K R op moment;
+      limits = file_limits K R op moment;
+      nodes = inr (record { op = op; is = refl; made = effect_nodes R op moment });
+      kept = λ late legal. file_kept K R op moment legal late;
+    }
+certified K R moment (Usage path) = still (usage_still K R path) (λ late legal store h. nothing_followed K R store)
+certified K R moment (Step n) = still (step_still K R n) (λ late legal. step_kept K R n)
+certified K R moment (QuotaAdd path limit enforce enabled template percents notices) =
+    still (add_still K R moment path limit enforce enabled) (λ late legal.
+    let values : (list_all is_path (path ∷ []) ≡ true) × ((option_map_or is_limit limit false && (is_none template && (is_empty percents && is_empty notices))) ≡ true) = both _ _ legal in
+    add_kept K R moment path limit enforce enabled (both (option_map_or is_limit limit false) _ values.1).0 late)
+certified K R moment (QuotaModify path limit enforce enabled removed percents notices) =
+    still (modify_still K R path limit enforce enabled) (λ late legal.
+    let values : (list_all is_path (path ∷ []) ≡ true) × ((option_map_or is_limit limit true && (is_empty removed && (is_empty percents && is_empty notices))) ≡ true) = both _ _ legal in
+    modify_kept K R path limit enforce enabled (both (option_map_or is_limit limit true) _ values.1).0)
+certified K R moment (QuotaDelete path) = still (delete_still K R path) (λ late legal. delete_kept K R path)
+certified K R moment (QuotaScan path) = still (scan_still K R path) (λ late legal. scan_kept K R path)
+certified K R moment (QuotaResetpeak path) = still (reset_still K R moment path) (λ late legal. reset_kept K R moment path late)
+certified K R moment (QuotaList path) = still (list_still K R path) (λ late legal. list_kept K R path)
+
+pub orderly : (K : Capacity) (R : Rows) (moment : ℕ) (deed : Deed) → IsOrderly K R (work K R moment deed)
+orderly K R moment deed = (certified K R moment deed).orderly
+
+-- so far a refusal changes nothing; one that does is an exception, and none is one
+pub refused_same : (K : Capacity) (R : Rows) (c : Command) (refusal : Refusal) → (step K R c).outcome ≡ Refused refusal → (step K R c).rows ≡ R
+refused_same K R c refusal h =
+    let w = work K R c.moment c.deed in
+    refused_kept K R c.moment w (orderly K R c.moment c.deed) (verdict (nat_lt c.moment R.last_moment) w) refusal h
+
+pub refused_or_exception : (K : Capacity) (R : Rows) (c : Command) (refusal : Refusal) → (step K R c).outcome ≡ Refused refusal → ((step K R c).rows ≡ R) ⊎ MayLeave K R c.moment (work K R c.moment c.deed) refusal
+refused_or_exception K R c refusal h = inl (refused_same K R c refusal h)
+
+pub no_exception : (K : Capacity) (R : Rows) (moment : ℕ) (deed : Deed) (refusal : Refusal) → MayLeave K R moment (work K R moment deed) refusal → ⊥
+no_exception K R moment deed refusal may = nothing_left K R moment (work K R moment deed) refusal (orderly K R moment deed) may
+
+pub sum_fresh : (K : Capacity) (R : Rows) (c : Command) (folder bytes : ℕ) → (step K R c).outcome ≡ Sum folder bytes → bytes ≡ sum_by (space K) (under R.nodes folder)
+sum_fresh K R c folder bytes h =
+    let w = work K R c.moment c.deed in
+    sum_afresh K R c.moment w (orderly K R c.moment c.deed) (verdict (nat_lt c.moment R.last_moment) w) folder bytes h
+
+-- the file operation that a quota refuses
+abbrev RefusedOp : Capacity → Rows → ℕ → Deed → ℕ → ℕ → ℕ → Type 0
+RefusedOp K R moment deed folder would limit = (op : FileOp) × (deed ≡ File op) × Exceeds K R (plain R.nodes op moment) folder would limit
+
+pub quota_refuses : (K : Capacity) (R : Rows) (c : Command) (folder would limit : ℕ) → IsValid K R → (step K R c).outcome ≡ Refused (QuotaExceeded folder would limit) → RefusedOp K R c.moment c.deed folder would limit
+quota_refuses K R c folder would limit store h =
+    let w = work K R c.moment c.deed in
+    let late = nat_lt c.moment R.last_moment in
+    let sure = certified K R c.moment c.deed in
+    let by = refused_by K R c.moment w sure.orderly (verdict late w) (QuotaExceeded folder would limit) h in
+    let over = refusal_exceeds K R late w sure.orderly store folder would limit by in
+    elim sure.nodes [
+      | inl same ↦ absurd (still_unexceeded K R w.effect.nodes folder would limit same over)
+      | inr file ↦ (file.op, file.is, subst (λ (nodes : List NodeRow). Exceeds K R nodes folder would limit) file.made over)
+    ]
+
+pub limits_kept : (K : Capacity) (R : Rows) (c : Command) (folder : ℕ) (quota : QuotaRow) → IsValid K R → quota_of R folder ≡ Some quota → counts quota ≡ true → quota.enforce ≡ true → usage K R.nodes folder < usage K (step K R c).rows.nodes folder → usage K (step K R c).rows.nodes folder ≤ quota.limit
+limits_kept K R c folder quota store there counting enforced rises =
+    let w = work K R c.moment c.deed in
+    let late = nat_lt c.moment R.last_moment in
+    limits_hold K R c.moment late w (certified K R c.moment c.deed).limits store (verdict late w) refl folder quota (record { there = there; counting = counting; enforced = enforced; rises = rises })
+
+-- an outcome names what is there
+pub named : (K : Capacity) (R : Rows) (c : Command) → IsValid K R → IsNamed (step K R c).rows (step K R c).outcome
+named K R c store =
+    let w = work K R c.moment c.deed in
+    let late = nat_lt c.moment R.last_moment in
+    outcome_named K R c.moment late w (orderly K R c.moment c.deed) store (verdict late w) refl
+
+-- a command that doesn't last leaves what a store keeps
+pub lasting_kept : (K : Capacity) (R : Rows) (c : Command) → IsValid K R → (step K R c).lasting ≡ false → lasting (step K R c).rows ≡ lasting R
+lasting_kept K R c store h =
+    let w = work K R c.moment c.deed in
+    let late = nat_lt c.moment R.last_moment in
+    unlasting_kept K R c.moment late w (orderly K R c.moment c.deed) store (verdict late w) refl h
+
+-- a command leaves valid rows if its work does
+pub kept_valid : (K : Capacity) (R : Rows) (moment : ℕ) (deed : Deed) → IsValid K R → moment ≤ latest_moment → KeepsValid K R (work K R moment deed) → IsValid K (step K R (record { moment = moment; deed = deed })).rows
+kept_valid K R moment deed store legal kept =
+    let w = work K R moment deed in
+    let late = nat_lt moment R.last_moment in
+    valid_kept K R moment late w kept store legal (verdict late w) refl
+
+-- and if its values are in their ranges
+pub deed_valid : (K : Capacity) (R : Rows) (moment : ℕ) (deed : Deed) → IsValid K R → moment ≤ latest_moment → is_deed deed ≡ true → IsValid K (step K R (record { moment = moment; deed = deed })).rows
+deed_valid K R moment deed store late legal = kept_valid K R moment deed store late ((certified K R moment deed).kept late legal)
+
+pub step_valid : (K : Capacity) (R : Rows) (c : Command) → IsValid K R → is_command c ≡ true → IsValid K (step K R c).rows
+step_valid K R c store legal =
+    let values : (is_moment c.moment ≡ true) × ((is_deed c.deed && is_short c.deed) ≡ true) = both _ _ legal in
+    let deed : (is_deed c.deed ≡ true) × (is_short c.deed ≡ true) = both _ _ values.1 in
+    deed_valid K R c.moment c.deed store (le_is c.moment latest_moment values.0) deed.0
+
+-- the commands whose entries have a kind, without their values
+abbrev kinds : List Deed
+kinds =
+    File (Mkdir [] 0) ∷ File (Create [] 0 0) ∷ File (Resize [] 0) ∷ File (Touch []) ∷ File (Move [] []) ∷ File (Remove [])
+    ∷ QuotaAdd [] None None false None [] [] ∷ QuotaModify [] None None None [] [] [] ∷ QuotaDelete [] ∷ QuotaScan []
+    ∷ QuotaResetpeak [] ∷ []
+
+-- the first of them that has this kind
+abbrev of_kind : ℕ → Option Deed
+of_kind k = find (λ deed. option_map_or (λ own. own == k) (kind deed) false) kinds
+
+of_kind_is : (deed : Deed) (k : ℕ) → kind deed ≡ Some k → of_kind k ≡ Some (emptied deed)
+of_kind_is (File (Mkdir path owner)) k h = ap of_kind (sym (same_Some _ _ h))
+of_kind_is (File (Create path length owner)) k h = ap of_kind (sym (same_Some _ _ h))
+of_kind_is (File (Resize path length)) k h = ap of_kind (sym (same_Some _ _ h))
+of_kind_is (File (Touch path)) k h = ap of_kind (sym (same_Some _ _ h))
+of_kind_is (File (Move from to)) k h = ap of_kind (sym (same_Some _ _ h))
+of_kind_is (File (Remove path)) k h = ap of_kind (sym (same_Some _ _ h))
+of_kind_is (Usage path) k h = absurd (cc h)
+of_kind_is (Step n) k h = absurd (cc h)
+of_kind_is (QuotaAdd path limit enforce enabled template percents notices) k h = ap of_kind (sym (same_Some _ _ h))
+of_kind_is (QuotaModify path limit enforce enabled removed percents notices) k h = ap of_kind (sym (same_Some _ _ h))
+of_kind_is (QuotaDelete path) k h = ap of_kind (sym (same_Some _ _ h))
+of_kind_is (QuotaScan path) k h = ap of_kind (sym (same_Some _ _ h))
+of_kind_is (QuotaResetpeak path) k h = ap of_kind (sym (same_Some _ _ h))
+of_kind_is (QuotaList path) k h = absurd (cc h)
+
+-- so the kind tells the command
+pub same_kind : (one other : Deed) (k : ℕ) → kind one ≡ Some k → kind other ≡ Some k → emptied one ≡ emptied other
+same_kind one other k h g = same_Some _ _ (sym (of_kind_is one k h) ∙ of_kind_is other k g)

@@ -1,0 +1,228 @@
+-- File operations and sums: each one's work is orderly, and leaves the rows of a store if no check refuses.
+use Rattle.std.proofs.Common.{◌≡◌, ℕ, true, not, List, [], ◌∷◌, refl, Some, None, Option, ◌≤◌, ◌==◌, Bool, false, ◌&&◌, length, sym, ◌∙◌, ap, subst, arith, nat_le}
+use Rattle.std.specs.Prelude.{is_some, unwrap_or, if◌then◌else◌}
+use Rattle.fsrm_model.specs.declared.command.FileOp.{FileOp}
+use Rattle.fsrm_model.specs.declared.command.FileOp.TheVariants.{Mkdir, Create, Resize, Touch, Move, Remove}
+use Rattle.fsrm_model.specs.declared.command.Refusal.TheVariants.{PathNotFound}
+use Rattle.fsrm_model.specs.declared.row.Capacity.{Capacity}
+use Rattle.fsrm_model.specs.declared.row.NodeRow.{NodeRow}
+use Rattle.fsrm_model.specs.declared.row.Rows.{Rows}
+use Rattle.fsrm_model.specs.Check.{first, ◌when◌}
+use Rattle.fsrm_model.specs.FileWork.{file_checks, file_effect, file_work, usage_work}
+use Rattle.fsrm_base.specs.Keyed.{has_row, with_row, with_change, without_row}
+use Rattle.fsrm_model.specs.Leads.{leads, leads_to_file}
+use Rattle.fsrm_model.specs.Tree.{number, resolve, node_of, is_folder, last_name, name_of, name_bytes}
+use Rattle.fsrm_model.specs.Valid.{IsVolume, is_own, IsValid}
+use Rattle.fsrm_model.proofs.commands.Ends.{effect_nodes}
+use Rattle.fsrm_model.proofs.commands.HardLimits.{op_within}
+use Rattle.fsrm_model.proofs.commands.Orderly.{AreChecks, IsOrderly, IsStill, KeepsLimits, change_orderly, show_still, bare, quotas_bear, first_none, when_none, not_false, KeepsValid}
+use Rattle.fsrm_model.proofs.nodes.Resolves.{resolved}
+use Rattle.std.specs.Option.{option_map_or}
+use Rattle.std.specs.List.{list_all}
+use Rattle.fsrm_model.specs.FileOps.{target, target_folder, new_node, resized, touched, placed}
+use Rattle.fsrm_model.specs.Limits.{latest_moment, longest_file, last_owner}
+use Rattle.fsrm_base.specs.Numbers.{without_number}
+use Rattle.fsrm_model.specs.Quota.{folder_of, exceeded}
+use Rattle.fsrm_model.specs.QuotaStates.{head, same_head, scan_begun, followed}
+use Rattle.fsrm_model.specs.Scan.{AreUnvisited, unvisited_with, unvisited_moved}
+use Rattle.fsrm_model.specs.ValidScans.{AreLeft}
+use Rattle.fsrm_model.specs.Entry.{is_owner, is_length}
+use Rattle.fsrm_model.specs.Valued.{is_op, is_path}
+use Rattle.fsrm_model.proofs.commands.FileParts.{NewParts, new_parts, new_alone, file_at, may_go, move_parts, move_alone, last_named}
+use Rattle.fsrm_model.proofs.nodes.Keeps.{KeepsNode, MayMove, moves_of, volume-new, volume-change, volume-moved, volume-removed, folder-new, folder-change}
+use Rattle.fsrm_base.proofs.Look.{found_has, row_of-without, has_row-without}
+use Rattle.fsrm_base.proofs.Order.{least_free_is, length-with_row}
+use Rattle.fsrm_model.proofs.nodes.OwnLaws.{own_parts, own_joined, own_named, own_new, file_inner, file_short}
+use Rattle.fsrm_model.proofs.valid.QueueKept.{queue_without}
+use Rattle.fsrm_model.proofs.valid.QuotasKept.{quotas_stay, quotas-without}
+use Rattle.fsrm_model.proofs.valid.RowsKept.{plain-without, valid_with, same_heads, left_followed, left_after, head_folder}
+use Rattle.fsrm_model.proofs.nodes.Sizes.{name_bytes-new, name_bytes-placed}
+use Rattle.fsrm_base.proofs.TestLaws.{both, not_true, clash, eq_is, le_is, le_test, lt_test}
+use Rattle.fsrm_model.proofs.valid.UnvisitedKept.{unvisited-new, unvisited-change, unvisited-moved, unvisited-removed}
+use Rattle.fsrm_model.proofs.nodes.Walks.{found_name}
+
+file_are : (K : Capacity) (R : Rows) (op : FileOp) (after : Rows) → AreChecks K R after.nodes (file_checks K R op after)
+file_are K R (Mkdir path owner) after = (bare _ _ refl, (bare _ _ refl, (bare _ _ refl, (bare _ _ refl, (bare _ _ refl, tt)))))
+file_are K R (Create path length owner) after = (bare _ _ refl, (bare _ _ refl, (bare _ _ refl, (bare _ _ refl, (bare _ _ refl, (quotas_bear, tt))))))
+file_are K R (Resize path length) after = (bare _ _ refl, (quotas_bear, tt))
+file_are K R (Touch path) after = (bare _ _ refl, tt)
+file_are K R (Move from to) after = (bare _ _ refl, (bare _ _ refl, (bare _ _ refl, (bare _ _ refl, (bare _ _ refl, (bare _ _ refl, (bare _ _ refl, (quotas_bear, tt))))))))
+file_are K R (Remove path) after = (bare _ _ refl, (bare _ _ refl, (bare _ _ refl, tt)))
+
+pub file_orderly : (K : Capacity) (R : Rows) (op : FileOp) (moment : ℕ) → IsOrderly K R (file_work K R op moment)
+file_orderly K R op moment = change_orderly K R _ _ (file_are K R op (file_effect R op moment))
+
+pub file_limits : (K : Capacity) (R : Rows) (op : FileOp) (moment : ℕ) → KeepsLimits K R (file_work K R op moment)
+file_limits K R op moment store h = rw (effect_nodes R op moment) (op_within K R op moment store h)
+
+-- a path that leads somewhere leads to a node
+leads_there : (K : Capacity) (nodes : List NodeRow) (path : List (List ℕ)) (o : Option ℕ) → IsVolume K nodes → resolve nodes path ≡ o → is_some o ≡ true → has_row number (unwrap_or o 0) nodes ≡ true
+leads_there K nodes path None v e h = absurd cc
+leads_there K nodes path (Some n) v e h = (resolved K nodes path n v e).has
+
+unrefused_path : (R : Rows) (path : List (List ℕ)) → first ((PathNotFound when not (leads R.nodes path)) ∷ []) ≡ None → leads R.nodes path ≡ true
+unrefused_path R path h =
+    let missing = not (leads R.nodes path) in
+    not_false (leads R.nodes path) (when_none PathNotFound missing (first_none (PathNotFound when missing) [] h).0)
+
+pub usage_still : (K : Capacity) (R : Rows) (path : List (List ℕ)) → IsStill K R (usage_work K R path)
+usage_still K R path = show_still K R _ _ refl (bare _ _ refl, tt) (λ store h. leads_there K R.nodes path (resolve R.nodes path) store.volume refl (unrefused_path R path h))
+
+-- the one path of an operation
+one_path : (path : List (List ℕ)) → list_all is_path (path ∷ []) ≡ true → is_path path ≡ true
+one_path path h = let parts : (is_path path ≡ true) × (true ≡ true) = both _ _ h in parts.0
+
+-- the rows with other nodes, in which the folders of quotas are kept
+nodes_followed : (K : Capacity) (R : Rows) (new : List NodeRow) (after : ℕ → List ℕ) → IsValid K R → IsVolume K new → ((n : ℕ) → is_folder R.nodes n ≡ true → is_folder new n ≡ true) → ((n : ℕ) → head R.queue ≡ Some n → AreUnvisited R.nodes n R.unvisited → AreUnvisited new n (after n)) → IsValid K (followed R (record R { nodes = new; unvisited = option_map_or after (head R.queue) [] }))
+nodes_followed K R new after s volume folders unvisited =
+    let left = option_map_or after (head R.queue) [] in
+    valid_with K R new R.quotas R.queue (if same_head R.queue R.queue then left else scan_begun new R.queue) R.last_moment s volume
+    (quotas_stay R.nodes new R.quotas s.quotas (λ f q found is. folders f is)) s.tables.plain s.queue
+    (left_followed K new R.queue R.queue left volume (λ same. left_after R.nodes new (head R.queue) R.unvisited after s.unvisited unvisited))
+    s.last_moment
+
+-- a new node
+record IsNew (K : Capacity) (nodes : List NodeRow) (node : NodeRow) : Type 0 where
+  free : has_row number node.number nodes ≡ false
+  folder : is_folder nodes node.parent ≡ true
+  volume : IsVolume K (with_row number node nodes)
+
+new_kept : (K : Capacity) (nodes : List NodeRow) (path : List (List ℕ)) (folder : Bool) (bytes owner moment : ℕ) → IsVolume K nodes → NewParts K nodes (with_row number (new_node nodes path folder bytes owner moment) nodes) path → is_path path ≡ true → bytes ≤ (if folder then 0 else longest_file) → is_owner owner ≡ true → moment ≤ latest_moment → IsNew K nodes (new_node nodes path folder bytes owner moment)
+new_kept K nodes path folder bytes owner moment v p legal short owned late =
+    let node = new_node nodes path folder bytes owner moment in
+    let fresh = least_free_is number nodes v.ascending in
+    let few = p.few in
+    let most = fresh.most in
+    let names = p.names in
+    let owns : (nat_le 1 owner ≡ true) × (nat_le owner last_owner ≡ true) = both _ _ owned in
+    record {
+      free = fresh.free;
+      folder = p.place.folder;
+      volume = volume-new K nodes node v (record {
+        free = fresh.free;
+        below = lt_test node.number K.nodes (omega (arith, length-with_row number node nodes, few, most));
+        own = own_new node.number node.parent (last_name path) folder bytes owner moment (last_named path legal p.place.other) short (le_is 1 owner owns.0) late;
+        folder = p.place.folder;
+        alone = new_alone nodes path p.place p.free;
+        names = omega (arith, name_bytes-new nodes node, names);
+      });
+    }
+
+new_followed : (K : Capacity) (R : Rows) (node : NodeRow) → IsValid K R → IsNew K R.nodes node → IsValid K (followed R (record R { nodes = with_row number node R.nodes; unvisited = option_map_or (λ n. unvisited_with node R.unvisited) (head R.queue) [] }))
+new_followed K R node s is =
+    nodes_followed K R (with_row number node R.nodes) (λ n. unvisited_with node R.unvisited) s is.volume
+    (λ n folder. folder-new R.nodes node n is.free folder)
+    (λ n first are. unvisited-new K R.nodes node n R.unvisited s.volume is.free is.folder are)
+
+mkdir_kept : (K : Capacity) (R : Rows) (path : List (List ℕ)) (owner moment : ℕ) → is_op (Mkdir path owner) ≡ true → moment ≤ latest_moment → KeepsValid K R (file_work K R (Mkdir path owner) moment)
+mkdir_kept K R path owner moment legal late s h =
+    let values : (list_all is_path (path ∷ []) ≡ true) × (is_owner owner ≡ true) = both _ _ legal in
+    let p = new_parts K R path (file_effect R (Mkdir path owner) moment) [] s.volume h in
+    new_followed K R (new_node R.nodes path true 0 owner moment) s (new_kept K R.nodes path true 0 owner moment s.volume p.0 (one_path path values.0) (omega arith) values.1 late)
+
+create_kept : (K : Capacity) (R : Rows) (path : List (List ℕ)) (bytes owner moment : ℕ) → is_op (Create path bytes owner) ≡ true → moment ≤ latest_moment → KeepsValid K R (file_work K R (Create path bytes owner) moment)
+create_kept K R path bytes owner moment legal late s h =
+    let values : (list_all is_path (path ∷ []) ≡ true) × ((is_length bytes && is_owner owner) ≡ true) = both _ _ legal in
+    let sizes : (is_length bytes ≡ true) × (is_owner owner ≡ true) = both _ _ values.1 in
+    let node = new_node R.nodes path false bytes owner moment in
+    let p = new_parts K R path (file_effect R (Create path bytes owner) moment) (exceeded K R (with_row number node R.nodes) ∷ []) s.volume h in
+    new_followed K R node s (new_kept K R.nodes path false bytes owner moment s.volume p.0 (one_path path values.0) (le_is bytes longest_file sizes.0) sizes.1 late)
+
+-- a file that changes
+change_followed : (K : Capacity) (R : Rows) (x : ℕ) (c : NodeRow → NodeRow) → IsValid K R → KeepsNode c → is_folder R.nodes x ≡ false → ((r : NodeRow) → node_of R.nodes x ≡ Some r → (x == 0) ≡ false → is_own (c r) ≡ true) → IsValid K (followed R (record R { nodes = with_change number x c R.nodes; unvisited = option_map_or (λ n. R.unvisited) (head R.queue) [] }))
+change_followed K R x c s k file own =
+    let inner = file_inner K R.nodes x s.volume file in
+    nodes_followed K R (with_change number x c R.nodes) (λ n. R.unvisited) s
+    (volume-change K R.nodes x c s.volume k inner (λ r found. own r found inner))
+    (λ n folder. folder-change R.nodes x n c k.same_number k.same_folder ∙ folder)
+    (λ n first are. unvisited-change R.nodes x c n R.unvisited k are)
+
+resize_kept : (K : Capacity) (R : Rows) (path : List (List ℕ)) (bytes moment : ℕ) → is_op (Resize path bytes) ≡ true → moment ≤ latest_moment → KeepsValid K R (file_work K R (Resize path bytes) moment)
+resize_kept K R path bytes moment legal late s h =
+    let values : (list_all is_path (path ∷ []) ≡ true) × (is_length bytes ≡ true) = both _ _ legal in
+    let x = target R.nodes path in
+    let a = first_none (PathNotFound when not (leads_to_file R.nodes path)) (exceeded K R (with_change number x (resized bytes moment) R.nodes) ∷ []) h in
+    let f = file_at K R.nodes path s.volume a.0 in
+    change_followed K R x (resized bytes moment) s (record { same_number = λ r. refl; same_parent = λ r. refl; same_name = λ r. refl; same_folder = λ r. refl }) f.file (λ r found inner.
+    let p = own_parts r (s.volume.own x r found inner) in
+    let kind : r.folder ≡ false = sym (ap (λ o. option_map_or (λ node. node.folder) o false) found) ∙ f.file in
+    own_joined (resized bytes moment r) (record {
+      named = p.named;
+      short = file_short r.folder bytes kind (le_is bytes longest_file values.1);
+      made = p.made;
+      changed = le_test moment latest_moment late;
+      seen = p.seen;
+    }))
+
+touch_kept : (K : Capacity) (R : Rows) (path : List (List ℕ)) (moment : ℕ) → moment ≤ latest_moment → KeepsValid K R (file_work K R (Touch path) moment)
+touch_kept K R path moment late s h =
+    let x = target R.nodes path in
+    let a = first_none (PathNotFound when not (leads_to_file R.nodes path)) [] h in
+    let f = file_at K R.nodes path s.volume a.0 in
+    change_followed K R x (touched moment) s (record { same_number = λ r. refl; same_parent = λ r. refl; same_name = λ r. refl; same_folder = λ r. refl }) f.file (λ r found inner.
+    let p = own_parts r (s.volume.own x r found inner) in
+    own_joined (touched moment r) (record { named = p.named; short = p.short; made = p.made; changed = p.changed; seen = le_test moment latest_moment late }))
+
+-- a node that moves
+move_kept : (K : Capacity) (R : Rows) (from to : List (List ℕ)) (moment : ℕ) → is_op (Move from to) ≡ true → KeepsValid K R (file_work K R (Move from to) moment)
+move_kept K R from to moment legal s h =
+    let paths : (list_all is_path (from ∷ to ∷ []) ≡ true) × (true ≡ true) = both _ _ legal in
+    let values : (is_path from ≡ true) × ((is_path to && true) ≡ true) = both _ _ paths.0 in
+    let nodes = R.nodes in
+    let x = target nodes from in
+    let d = target_folder nodes to in
+    let name = last_name to in
+    let new = with_change number x (placed d name) nodes in
+    let p = move_parts K R from to (file_effect R (Move from to) moment) s.volume h in
+    let o = own_parts p.row (s.volume.own x p.row p.found p.inner) in
+    let bytes = name_bytes-placed nodes x d name s.volume.ascending (found_has number x nodes p.row p.found) in
+    let old : length (name_of nodes x) ≡ length p.row.name = ap length (found_name nodes x p.row p.found) in
+    let most : name_bytes new ≤ K.names = p.names in
+    let may : MayMove K nodes x d name = record {
+      inner = p.inner;
+      row = p.row;
+      found = p.found;
+      folder = p.place.folder;
+      apart = p.apart;
+      own = own_joined (placed d name p.row) (record {
+        named = own_named name p.row.name p.row.owner (last_named to (one_path to values.1) p.place.other) o.named;
+        short = o.short;
+        made = o.made;
+        changed = o.changed;
+        seen = o.seen;
+      });
+      alone = move_alone nodes to x p.place p.alone;
+      names = omega (arith, bytes, old, most);
+    } in
+    let kinds : (n : ℕ) → is_folder new n ≡ is_folder nodes n = λ n. folder-change nodes x n (placed d name) (λ r. refl) (λ r. refl) in
+    nodes_followed K R new (λ n. unvisited_moved nodes new n x d R.unvisited) s (volume-moved K nodes x d name s.volume may)
+    (λ n folder. kinds n ∙ folder)
+    (λ n first are. unvisited-moved K nodes new x d n R.unvisited (record { volume = s.volume; moves = moves_of K nodes x d name s.volume may; kinds = kinds; folder = head_folder K R n s first; are = are }))
+
+-- a node that goes, and its folder's quota
+remove_kept : (K : Capacity) (R : Rows) (path : List (List ℕ)) (moment : ℕ) → KeepsValid K R (file_work K R (Remove path) moment)
+remove_kept K R path moment s h =
+    let x = target R.nodes path in
+    let new = without_row number x R.nodes in
+    let m = may_go K R path s.volume h in
+    let quotas = without_row folder_of x R.quotas in
+    let queue = without_number x R.queue in
+    let left = option_map_or (λ n. without_number x R.unvisited) (head R.queue) [] in
+    let volume = volume-removed K R.nodes x s.volume m in
+    let stays : AreLeft new (head R.queue) left = left_after R.nodes new (head R.queue) R.unvisited (λ n. without_number x R.unvisited) s.unvisited (λ n first are. unvisited-removed K R.nodes x n R.unvisited s.volume m are) in
+    valid_with K R new quotas queue (if same_head R.queue queue then left else scan_begun new queue) R.last_moment s volume
+    (quotas_stay R.nodes new quotas (quotas-without R.nodes R.quotas x s.quotas) (λ f q found is.
+    let apart : (f == x) ≡ false = not_true (f == x) (λ e. clash _ (subst (λ k. has_row folder_of k quotas ≡ true) (eq_is f x e) (found_has folder_of f quotas q found)) (has_row-without folder_of x R.quotas)) in
+    ap (λ o. option_map_or (λ node. node.folder) o false) (row_of-without number x f R.nodes apart) ∙ is))
+    (plain-without x R.quotas s.tables.plain)
+    (queue_without R.quotas R.queue x s.queue)
+    (left_followed K new R.queue queue left volume (λ same. subst (λ (o : Option ℕ). AreLeft new o left) (same_heads R.queue queue same) stays))
+    s.last_moment
+
+pub file_kept : (K : Capacity) (R : Rows) (op : FileOp) (moment : ℕ) → is_op op ≡ true → moment ≤ latest_moment → KeepsValid K R (file_work K R op moment)
+file_kept K R (Mkdir path owner) moment legal late = mkdir_kept K R path owner moment legal late
+file_kept K R (Create path length owner) moment legal late = create_kept K R path length owner moment legal late
+file_kept K R (Resize path length) moment legal late = resize_kept K R path length moment legal late
+file_kept K R (Touch path) moment legal late = touch_kept K R path moment late
+file_kept K R (Move from to) moment legal late = move_kept K R from to moment legal
+file_kept K R (Remove path) moment legal late = remove_kept K R path moment

@@ -1,0 +1,13 @@
+pub mod CommandLaws
+pub mod LineRefusals
+pub mod LineValues
+pub mod OptionLaws
+pub mod PathLaws
+pub mod ReadLaws
+pub mod SpelledValues
+pub mod SpellingLaws
+pub mod ValueLaws
+pub mod WordLaws
+pub mod ScriptLaws
+pub mod PlainMachine
+pub mod Parts

@@ -1,0 +1,16 @@
+pub mod Below
+pub mod ChainLaws
+pub mod ChangeLaws
+pub mod Climbs
+pub mod ClimbRows
+pub mod DepthLaws
+pub mod Files
+pub mod Keeps
+pub mod MoveLaws
+pub mod Numbered
+pub mod OwnLaws
+pub mod RemoveLaws
+pub mod Resolves
+pub mod Sizes
+pub mod UsageLaws
+pub mod Walks

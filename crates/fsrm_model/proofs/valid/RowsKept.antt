@@ -1,0 +1,191 @@
+-- Rows stay those of a store if their nodes, quotas and scans do: over what a command makes of them, and over its end.
+use Rattle.std.proofs.Common.{◌≡◌, ℕ, zero, suc, ◌≤◌, ◌==◌, Bool, true, false, cond, not, ◌||◌, ◌&&◌, List, [], ◌∷◌, refl, ◌∙◌, ap, subst, arith, Some, None, Option}
+use Rattle.std.proofs.lemmas.List.Sums.{sum_by-cons}
+use Rattle.std.specs.Prelude.{is_none, map, sum_by, nat_lt, if◌then◌else◌}
+use Rattle.std.specs.List.{list_all}
+use Rattle.std.specs.Option.{option_map_or}
+use Rattle.fsrm_model.specs.declared.row.Capacity.{Capacity}
+use Rattle.fsrm_model.specs.declared.row.NodeRow.{NodeRow}
+use Rattle.fsrm_model.specs.declared.row.AutoRow.{AutoRow}
+use Rattle.fsrm_model.specs.declared.row.QuotaRow.{QuotaRow}
+use Rattle.fsrm_model.specs.declared.row.Rows.{Rows}
+use Rattle.fsrm_model.specs.declared.row.ScreenRow.{ScreenRow}
+use Rattle.fsrm_model.specs.declared.row.Threshold.{Threshold}
+use Rattle.fsrm_base.specs.Keyed.{with_row, with_change, without_row}
+use Rattle.fsrm_model.specs.Limits.{latest_moment}
+use Rattle.fsrm_base.specs.Numbers.{is_in}
+use Rattle.fsrm_model.specs.Quota.{folder_of, counts, peaked, peaks}
+use Rattle.fsrm_model.specs.QuotaStates.{head, same_head, scan_begun, followed}
+use Rattle.fsrm_model.specs.Scan.{AreUnvisited, folders_under, visits}
+use Rattle.fsrm_model.specs.Texts.{bytes_of, action_bytes, threshold_bytes, quota_bytes, template_bytes, group_bytes, job_bytes, object_texts}
+use Rattle.fsrm_model.specs.Tree.{is_folder, usage}
+use Rattle.fsrm_model.specs.Valid.{is_empty, is_plain, IsVolume, AreQuotas, AreTables, IsValid}
+use Rattle.fsrm_model.specs.ValidScans.{IsQueue, AreLeft}
+use Rattle.fsrm_base.proofs.Look.{has_found}
+use Rattle.fsrm_model.proofs.valid.QueueKept.{queue_peaked}
+use Rattle.fsrm_model.proofs.valid.QuotasKept.{quotas-peaked}
+use Rattle.fsrm_base.proofs.TestLaws.{both, both_true, eq_is, eq_same, le_test}
+use Rattle.fsrm_model.proofs.valid.UnvisitedKept.{unvisited_begun, unvisited_visits}
+
+-- so far no object has a text
+plain_bytes : (quota : QuotaRow) → is_plain quota ≡ true → quota_bytes quota ≡ 0
+plain_bytes quota h = at quota.thresholds (is_none quota.template) h
+  where
+    at : (thresholds : List Threshold) (b : Bool) → (is_empty thresholds && b) ≡ true → threshold_bytes thresholds ≡ 0
+    at [] b h = refl
+    at (t ∷ thresholds) b h = absurd (cc h)
+
+no_bytes : (quotas : List QuotaRow) → list_all is_plain quotas ≡ true → sum_by quota_bytes quotas ≡ 0
+no_bytes [] h = refl
+no_bytes (quota ∷ quotas) h =
+    let parts : (is_plain quota ≡ true) × (list_all is_plain quotas ≡ true) = both _ _ h in
+    omega (arith, sum_by-cons quota_bytes quota quotas, plain_bytes quota parts.0, no_bytes quotas parts.1)
+
+no_texts : (R : Rows) → AreTables R → object_texts R ≡ 0
+no_texts R t =
+    omega (
+      arith,
+      no_bytes R.quotas t.plain,
+      ap (sum_by template_bytes) t.templates,
+      ap (sum_by (λ (auto : AutoRow). bytes_of auto.excluded)) t.autos,
+      ap (sum_by group_bytes) t.groups,
+      ap (sum_by (λ (screen : ScreenRow). action_bytes screen.actions)) t.screens,
+      ap (sum_by job_bytes) t.jobs,
+    )
+
+-- and a quota that comes or changes has none
+pub plain-new : (quota : QuotaRow) (quotas : List QuotaRow) → is_plain quota ≡ true → list_all is_plain quotas ≡ true → list_all is_plain (with_row folder_of quota quotas) ≡ true
+plain-new quota [] is h = both_true (is_plain quota) true is refl
+plain-new quota (q ∷ quotas) is h =
+    let parts : (is_plain q ≡ true) × (list_all is_plain quotas ≡ true) = both _ _ h in
+    at (nat_lt (folder_of quota) (folder_of q)) parts.0 (plain-new quota quotas is parts.1)
+  where
+    at : (b : Bool) → is_plain q ≡ true → list_all is_plain (with_row folder_of quota quotas) ≡ true → list_all is_plain (cond b (quota ∷ q ∷ quotas) (q ∷ with_row folder_of quota quotas)) ≡ true
+    at true own rest = both_true (is_plain quota) (list_all is_plain (q ∷ quotas)) is h
+    at false own rest = both_true (is_plain q) (list_all is_plain (with_row folder_of quota quotas)) own rest
+
+pub plain-map : (g : QuotaRow → QuotaRow) (quotas : List QuotaRow) → ((quota : QuotaRow) → is_plain quota ≡ true → is_plain (g quota) ≡ true) → list_all is_plain quotas ≡ true → list_all is_plain (map g quotas) ≡ true
+plain-map g [] k h = refl
+plain-map g (quota ∷ quotas) k h =
+    let parts : (is_plain quota ≡ true) × (list_all is_plain quotas ≡ true) = both _ _ h in
+    both_true (is_plain (g quota)) (list_all is_plain (map g quotas)) (k quota parts.0) (plain-map g quotas k parts.1)
+
+pub plain-change : (n : ℕ) (c : QuotaRow → QuotaRow) (quotas : List QuotaRow) → ((quota : QuotaRow) → is_plain quota ≡ true → is_plain (c quota) ≡ true) → list_all is_plain quotas ≡ true → list_all is_plain (with_change folder_of n c quotas) ≡ true
+plain-change n c quotas k h = plain-map (λ quota. if folder_of quota == n then c quota else quota) quotas (λ quota is. at quota (folder_of quota == n) is) h
+  where
+    at : (quota : QuotaRow) (b : Bool) → is_plain quota ≡ true → is_plain (cond b (c quota) quota) ≡ true
+    at quota true is = k quota is
+    at quota false is = is
+
+pub plain-without : (n : ℕ) (quotas : List QuotaRow) → list_all is_plain quotas ≡ true → list_all is_plain (without_row folder_of n quotas) ≡ true
+plain-without n [] h = refl
+plain-without n (quota ∷ quotas) h =
+    let parts : (is_plain quota ≡ true) × (list_all is_plain quotas ≡ true) = both _ _ h in
+    at (not (folder_of quota == n)) parts.0 (plain-without n quotas parts.1)
+  where
+    at : (b : Bool) → is_plain quota ≡ true → list_all is_plain (without_row folder_of n quotas) ≡ true → list_all is_plain (cond b (quota ∷ without_row folder_of n quotas) (without_row folder_of n quotas)) ≡ true
+    at true own rest = both_true (is_plain quota) (list_all is_plain (without_row folder_of n quotas)) own rest
+    at false own rest = rest
+
+plain_peaked : (K : Capacity) (nodes : List NodeRow) (m : ℕ) (quota : QuotaRow) → is_plain quota ≡ true → is_plain (peaked K nodes m quota) ≡ true
+plain_peaked K nodes m quota h = at (counts quota && nat_lt quota.peak (usage K nodes quota.folder))
+  where
+    at : (b : Bool) → is_plain (cond b (record quota { peak = usage K nodes quota.folder; peak_at = m }) quota) ≡ true
+    at true = h
+    at false = h
+
+-- other nodes, quotas and scans, and another last moment
+pub valid_with : (K : Capacity) (R : Rows) (nodes : List NodeRow) (quotas : List QuotaRow) (queue unvisited : List ℕ) (last : ℕ) → IsValid K R → IsVolume K nodes → AreQuotas nodes quotas → list_all is_plain quotas ≡ true → IsQueue quotas queue → AreLeft nodes (head queue) unvisited → last ≤ latest_moment → IsValid K (record R { nodes = nodes; quotas = quotas; queue = queue; unvisited = unvisited; last_moment = last })
+valid_with K R nodes quotas queue unvisited last s volume are plain waits left late =
+    let E : Rows = record R { nodes = nodes; quotas = quotas; queue = queue; unvisited = unvisited; last_moment = last } in
+    let t : AreTables E = record {
+      plain = plain;
+      templates = s.tables.templates;
+      autos = s.tables.autos;
+      groups = s.tables.groups;
+      screens = s.tables.screens;
+      excepts = s.tables.excepts;
+      jobs = s.tables.jobs;
+      acts = s.tables.acts;
+      audits = s.tables.audits;
+    } in
+    record {
+      volume = volume;
+      quotas = are;
+      tables = t;
+      texts = omega (arith, no_texts E t);
+      run_limit = s.run_limit;
+      last_moment = late;
+      queue = waits;
+      unvisited = left;
+    }
+
+-- what is left to visit, if the queue changes
+pub same_heads : (was now : List ℕ) → same_head was now ≡ true → head was ≡ head now
+same_heads [] [] h = refl
+same_heads [] (n ∷ now) h = absurd (cc h)
+same_heads (n ∷ was) [] h = absurd (cc h)
+same_heads (n ∷ was) (k ∷ now) h = ap (λ i. Some i) (eq_is n k h)
+
+pub left_followed : (K : Capacity) (nodes : List NodeRow) (was now left : List ℕ) → IsVolume K nodes → (same_head was now ≡ true → AreLeft nodes (head now) left) → AreLeft nodes (head now) (if same_head was now then left else scan_begun nodes now)
+left_followed K nodes was now left v same = at (same_head was now) refl
+  where
+    begun : (o : Option ℕ) → AreLeft nodes o (option_map_or (folders_under nodes) o [])
+    begun None = refl
+    begun (Some n) = unvisited_begun K nodes n v
+
+    at : (b : Bool) → same_head was now ≡ b → AreLeft nodes (head now) (cond b left (scan_begun nodes now))
+    at true e = same e
+    at false e = begun (head now)
+
+-- and if the nodes do
+pub left_after : (nodes new : List NodeRow) (o : Option ℕ) (left : List ℕ) (after : ℕ → List ℕ) → AreLeft nodes o left → ((n : ℕ) → o ≡ Some n → AreUnvisited nodes n left → AreUnvisited new n (after n)) → AreLeft new o (option_map_or after o [])
+left_after nodes new None left after a h = refl
+left_after nodes new (Some n) left after a h = h n refl a
+
+none_visited : (k : ℕ) (nodes : List NodeRow) → visits k nodes [] ≡ []
+none_visited zero nodes = refl
+none_visited (suc k) nodes = none_visited k nodes
+
+pub left_visits : (k : ℕ) (nodes : List NodeRow) (o : Option ℕ) (left : List ℕ) → AreLeft nodes o left → AreLeft nodes o (visits k nodes left)
+left_visits k nodes None left a = ap (visits k nodes) a ∙ none_visited k nodes
+left_visits k nodes (Some n) left a = unvisited_visits k nodes n left a
+
+-- a command changes quotas and the queue
+pub quotas_followed : (K : Capacity) (R : Rows) (quotas : List QuotaRow) (queue : List ℕ) → IsValid K R → AreQuotas R.nodes quotas → list_all is_plain quotas ≡ true → IsQueue quotas queue → IsValid K (followed R (record R { quotas = quotas; queue = queue }))
+quotas_followed K R quotas queue s are plain waits =
+    valid_with K R R.nodes quotas queue (if same_head R.queue queue then R.unvisited else scan_begun R.nodes queue) R.last_moment s s.volume are plain waits
+    (left_followed K R.nodes R.queue queue R.unvisited s.volume (λ same. subst (λ (o : Option ℕ). AreLeft R.nodes o R.unvisited) (same_heads R.queue queue same) s.unvisited))
+    s.last_moment
+
+-- or nothing
+pub nothing_followed : (K : Capacity) (R : Rows) → IsValid K R → IsValid K (followed R R)
+nothing_followed K R s = quotas_followed K R R.quotas R.queue s s.quotas s.tables.plain s.queue
+
+-- the end of a command that lasts
+pub valid_ended : (K : Capacity) (R : Rows) (moment : ℕ) → IsValid K R → moment ≤ latest_moment → IsValid K (record (peaks K R moment) { last_moment = moment })
+valid_ended K R moment s late =
+    valid_with K R R.nodes (peaks K R moment).quotas R.queue R.unvisited moment s s.volume
+    (quotas-peaked K R.nodes R.quotas moment s.quotas (le_test moment latest_moment late))
+    (plain-map (peaked K R.nodes moment) R.quotas (plain_peaked K R.nodes moment) s.tables.plain)
+    (queue_peaked K R.nodes moment R.quotas R.queue s.queue) s.unvisited late
+
+-- another last moment alone
+pub valid_at : (K : Capacity) (R : Rows) (moment : ℕ) → IsValid K R → moment ≤ latest_moment → IsValid K (record R { last_moment = moment })
+valid_at K R moment s late = valid_with K R R.nodes R.quotas R.queue R.unvisited moment s s.volume s.quotas s.tables.plain s.queue s.unvisited late
+
+-- visits alone
+pub valid_visited : (K : Capacity) (R : Rows) (n : ℕ) → IsValid K R → IsValid K (record R { unvisited = visits n R.nodes R.unvisited })
+valid_visited K R n s =
+    valid_with K R R.nodes R.quotas R.queue (visits n R.nodes R.unvisited) R.last_moment s s.volume s.quotas s.tables.plain s.queue
+    (left_visits n R.nodes (head R.queue) R.unvisited s.unvisited) s.last_moment
+
+-- the folder of the active scan
+pub head_in : (queue : List ℕ) (n : ℕ) → head queue ≡ Some n → is_in queue n ≡ true
+head_in [] n h = absurd (cc h)
+head_in (k ∷ queue) n h = let is : k ≡ n = cc h in ap (λ b. b || is_in queue n) (ap (λ i. i == n) is ∙ eq_same n)
+
+pub head_folder : (K : Capacity) (R : Rows) (n : ℕ) → IsValid K R → head R.queue ≡ Some n → is_folder R.nodes n ≡ true
+head_folder K R n s h =
+    let found = has_found folder_of n R.quotas (s.queue.queued n (head_in R.queue n h)) in
+    s.quotas.folders n found.row found.is

@@ -1,0 +1,9 @@
+pub mod Ahead
+pub mod FolderArms
+pub mod Leaving
+pub mod MoveArms
+pub mod MovedScan
+pub mod MovedSums
+pub mod MovedTops
+pub mod MovedWhole
+pub mod Opening

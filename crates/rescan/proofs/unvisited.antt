@@ -1,0 +1,6 @@
+pub mod ChildLaws
+pub mod FindLaws
+pub mod SetLaws
+pub mod StandingLaws
+pub mod Tops
+pub mod VisitLaws

@@ -1,0 +1,80 @@
+-- Where a node stands in a scan, from the way up to the root.
+use Rattle.std.proofs.Common.{◌≡◌, ℕ, ◌==◌, Bool, true, false, cond, ◌||◌, List, Option, Some, None, refl, sym, ◌∙◌, ap, subst, inl, inr, eqb}
+use Rattle.fsrm_model.specs.declared.row.NodeRow.{NodeRow}
+use Rattle.fsrm_base.specs.Numbers.{is_in}
+use Rattle.fsrm_model.specs.Tree.{parent_of, is_under}
+use Rattle.fsrm_base.proofs.TestLaws.{is_or_not, clash, not_true, eq_is, eq_same}
+use Rattle.fsrm_model.proofs.nodes.ChainLaws.{IsTree, Has}
+use Rattle.fsrm_model.proofs.nodes.Below.{chain_root, each_above}
+use Rattle.std.specs.Prelude.{unwrap_or}
+use Rattle.std.specs.Option.{option_eq}
+use Rattle.fsrm_model.proofs.nodes.Climbs.{under_own, under_up}
+use Rattle.fsrm_model.proofs.valid.ValidLaws.{folder_has}
+use Rattle.rescan.specs.declared.standing.Standing.{Standing}
+use Rattle.rescan.specs.declared.standing.Standing.TheVariants.{Outside, Visited, Unvisited}
+use Rattle.rescan.specs.Frontiers.{Front, scanned, has_above}
+use Rattle.rescan.specs.Standings.{standing}
+use Rattle.rescan.specs.Tops.{AreTops}
+use Rattle.rescan.proofs.unvisited.Tops.{above_own, above_of, above_root, above_child}
+use Rattle.fsrm_base.proofs.Look.{unwrapped}
+
+-- the standing, from its two tests
+abbrev stands_at : Bool → Bool → Standing
+stands_at above below = cond above Unvisited (cond below Visited Outside)
+
+at_tests : (a b a' b' : Bool) → a ≡ a' → b ≡ b' → stands_at a b ≡ stands_at a' b'
+at_tests a b a' b' e g = ap (λ x. stands_at x b) e ∙ ap (λ x. stands_at a' x) g
+
+pub at_top : (nodes : List NodeRow) (f : Front) (n at : ℕ) → has_above nodes f.tops n ≡ has_above nodes f.tops at → is_in f.tops at ≡ true → Unvisited ≡ standing nodes f n
+at_top nodes f n at above top = sym (at_tests _ (is_under nodes (scanned f) n) true (is_under nodes (scanned f) n) (above ∙ above_own nodes f.tops at top) refl)
+
+-- a top above the scanned folder is that folder
+top_above : (nodes : List NodeRow) (f : Front) → IsTree nodes → AreTops nodes f → (top : ℕ) → Has nodes (scanned f) → Has nodes top → is_in f.tops top ≡ true → is_under nodes top (scanned f) ≡ true → top ≡ scanned f
+top_above nodes f t a top hs ht member above =
+    elim (is_or_not (top == 0)) [
+      | inl e ↦
+          let is : top ≡ 0 = eq_is top 0 e in
+          let at : (0 == scanned f) ≡ true = sym (chain_root nodes (scanned f)) ∙ subst (λ (j : ℕ). is_under nodes (scanned f) j ≡ true) is (a.below top member) in
+          is ∙ eq_is 0 (scanned f) at
+      | inr e ↦ eq_is top (scanned f) (each_above nodes t top (scanned f) e ht hs above (a.below top member))
+    ]
+
+-- no top is above the scanned folder, unless it is a top
+no_top_above : (nodes : List NodeRow) (f : Front) → IsTree nodes → AreTops nodes f → is_in f.tops (scanned f) ≡ false → has_above nodes f.tops (scanned f) ≡ false
+no_top_above nodes f t a lacks = not_true _ (λ h.
+    let above = above_of nodes f.tops (scanned f) h in
+    let has : Has nodes above.top = folder_has nodes above.top (a.folders above.top above.member) in
+    let is = top_above nodes f t a above.top (folder_has nodes (scanned f) a.folder) has above.member above.above in
+    clash (is_in f.tops (scanned f)) (ap (is_in f.tops) (sym is) ∙ above.member) lacks)
+
+pub at_scanned : (nodes : List NodeRow) (f : Front) → IsTree nodes → AreTops nodes f → (n at : ℕ) → has_above nodes f.tops n ≡ has_above nodes f.tops at → is_under nodes (scanned f) n ≡ is_under nodes (scanned f) at → is_in f.tops at ≡ false → f.folder ≡ Some at → Visited ≡ standing nodes f n
+at_scanned nodes f t a n at above below lacks is =
+    let same : scanned f ≡ at = ap (λ o. unwrap_or o 0) is in
+    let none : has_above nodes f.tops at ≡ false =
+    subst (λ (j : ℕ). has_above nodes f.tops j ≡ false) same (no_top_above nodes f t a (ap (is_in f.tops) same ∙ lacks)) in
+    let here : is_under nodes (scanned f) at ≡ true = ap (λ j. is_under nodes j at) same ∙ under_own nodes at in
+    sym (at_tests _ _ false true (above ∙ none) (below ∙ here))
+
+pub at_root : (nodes : List NodeRow) (f : Front) → AreTops nodes f → (n at : ℕ) → has_above nodes f.tops n ≡ has_above nodes f.tops at → is_under nodes (scanned f) n ≡ is_under nodes (scanned f) at → is_in f.tops at ≡ false → (f.folder ≡ Some at → ⊥) → at ≡ 0 → Outside ≡ standing nodes f n
+at_root nodes f a n at above below lacks other root =
+    let none : has_above nodes f.tops at ≡ false = ap (has_above nodes f.tops) root ∙ (above_root nodes f.tops ∙ (ap (is_in f.tops) (sym root) ∙ lacks)) in
+    let apart : is_under nodes (scanned f) at ≡ false = not_true _ (λ h.
+    let is : 0 ≡ scanned f = eq_is 0 (scanned f) (sym (chain_root nodes (scanned f)) ∙ (ap (is_under nodes (scanned f)) (sym root) ∙ h)) in
+    other (unwrapped f.folder a.active ∙ ap (λ j. Some j) (sym is ∙ sym root))) in
+    sym (at_tests _ _ false false (above ∙ none) (below ∙ apart))
+
+-- the tests of a node that is neither a top nor the scanned folder are those of its parent
+pub above_up : (nodes : List NodeRow) (f : Front) → IsTree nodes → (at : ℕ) → Has nodes at → (at ≡ 0 → ⊥) → is_in f.tops at ≡ false → has_above nodes f.tops at ≡ has_above nodes f.tops (parent_of nodes at)
+above_up nodes f t at h i lacks = above_child nodes f.tops t at h i ∙ ap (λ b. b || has_above nodes f.tops (parent_of nodes at)) lacks
+
+pub below_up : (nodes : List NodeRow) (f : Front) → IsTree nodes → AreTops nodes f → (at : ℕ) → Has nodes at → (at ≡ 0 → ⊥) → (f.folder ≡ Some at → ⊥) → is_under nodes (scanned f) at ≡ is_under nodes (scanned f) (parent_of nodes at)
+below_up nodes f t a at h i other =
+    under_up nodes t (scanned f) at h i (λ e. other (unwrapped f.folder a.active ∙ ap (λ j. Some j) (sym e)))
+
+-- the scanned folder, as it is compared
+pub same_folder : (o : Option ℕ) (n : ℕ) → option_eq eqb o (Some n) ≡ true → o ≡ Some n
+same_folder None n h = cc
+same_folder (Some s) n h = ap (λ j. Some j) (eq_is s n h)
+
+pub other_folder : (o : Option ℕ) (n : ℕ) → option_eq eqb o (Some n) ≡ false → o ≡ Some n → ⊥
+other_folder o n h e = clash (n == n) (eq_same n) (sym (ap (λ p. option_eq eqb p (Some n)) e) ∙ h)

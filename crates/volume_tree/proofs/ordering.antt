@@ -1,0 +1,11 @@
+pub mod Children
+pub mod Edits
+pub mod Entries
+pub mod EntryRows
+pub mod Halving
+pub mod Items
+pub mod Names
+pub mod OrderLaws
+pub mod Places
+pub mod Segments
+pub mod Spans

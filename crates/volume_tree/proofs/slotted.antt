@@ -1,0 +1,5 @@
+pub mod FreshLaws
+pub mod FromRows
+pub mod HoleLaws
+pub mod SlotLaws
+pub mod SlotRows
