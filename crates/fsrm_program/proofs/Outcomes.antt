@@ -1,45 +1,25 @@
 -- What the machine's steps come to, and what is shown of it.
-use Rattle.std.proofs.Common.{◌≡◌, ℕ, ◌+◌, Bool, true, false, not, List, [], ◌∷◌, ◌++◌, refl, sym, ap, ◌∙◌, subst, append-nil}
-use Rattle.std.specs.Prelude.{◌==◌, ◌||◌, length, if◌then◌else◌, Option, Some, None, option_map, Result, Ok, Err, OnOk, nat_lt, unwrap_or, is_some, is_none}
+use Rattle.std.proofs.Common.{◌≡◌, ℕ, ◌+◌, Bool, true, false, List, [], ◌∷◌, ◌++◌, refl, sym, ap, ◌∙◌, subst, append-nil}
+use Rattle.std.specs.Prelude.{if◌then◌else◌, Option, Some, None, option_map, Result, Ok, Err, OnOk, nat_lt}
 use Rattle.std.specs.Io.KnownBytes.{append_known}
 use Rattle.fsrm_model.specs.declared.command.Command.{Command}
-use Rattle.fsrm_model.specs.declared.command.Deed.{Deed}
-use Rattle.fsrm_model.specs.declared.command.FileOp.{FileOp}
-use Rattle.fsrm_model.specs.declared.command.FileOp.TheVariants.{Mkdir, Create, Resize, Touch, Move, Remove}
 use Rattle.fsrm_model.specs.declared.command.Outcome.{Outcome}
-use Rattle.fsrm_model.specs.declared.command.Outcome.TheVariants.{Done, Sum, Listing, Scanned, Refused}
+use Rattle.fsrm_model.specs.declared.command.Outcome.TheVariants.{Refused}
 use Rattle.fsrm_model.specs.declared.command.Refusal.{Refusal}
 use Rattle.fsrm_model.specs.declared.command.Refusal.TheVariants.{BadLine, LineTooLong, InvalidPath, InvalidName, OutOfRange, InvalidLimit, ClockBack, PathNotFound, NotFound, AlreadyExists, InvalidCombination, NotEmpty, InvalidMove, NothingToScan, VolumeFull, NamesFull, TableFull, QuotaExceeded}
 use Rattle.fsrm_model.specs.declared.row.Capacity.{Capacity}
-use Rattle.fsrm_model.specs.declared.row.NodeRow.{NodeRow}
-use Rattle.fsrm_model.specs.declared.row.QuotaRow.{QuotaRow}
 use Rattle.fsrm_model.specs.declared.row.Rows.{Rows}
-use Rattle.fsrm_model.specs.Check.{Check, ◌when◌, first}
+use Rattle.fsrm_model.specs.Check.{◌when◌, first}
 use Rattle.fsrm_model.specs.Cost.{cost, print_cost}
-use Rattle.fsrm_model.specs.FileOps.{target}
-use Rattle.fsrm_model.specs.FileWork.{new_checks, file_checks, file_effect}
-use Rattle.fsrm_base.specs.Keyed.{has_row}
-use Rattle.fsrm_model.specs.Leads.{leads, leads_to_folder}
 use Rattle.fsrm_model.specs.Line.{read_line, is_line_refusal}
-use Rattle.fsrm_model.specs.Named.{IsNamed}
-use Rattle.fsrm_base.specs.Numbers.{is_in}
-use Rattle.fsrm_model.specs.Quota.{folder_of, quota_of, deepest, over, exceeded}
-use Rattle.fsrm_model.specs.QuotaStates.{followed, head}
+use Rattle.fsrm_model.specs.QuotaStates.{followed}
 use Rattle.fsrm_model.specs.Reading.{Read}
-use Rattle.fsrm_model.specs.ScanWork.{scan_work, step_work}
 use Rattle.fsrm_model.specs.Script.{Replied, without_cr, replied, replied_to, line_cost}
 use Rattle.fsrm_model.specs.Step.{step, work, decided, accepted, lasted, unacted, unlasting}
-use Rattle.fsrm_model.specs.Text.{is_bare, is_report, head_line, reply, act_lines}
-use Rattle.fsrm_model.specs.Tree.{number, resolve, usage}
-use Rattle.fsrm_model.specs.Valid.{IsVolume, AreQuotas, IsValid}
+use Rattle.fsrm_model.specs.Text.{is_bare, head_line, reply, act_lines}
 use Rattle.fsrm_model.specs.Work.{Work}
-use Rattle.fsrm_model.proofs.commands.Ends.{outcome_kept, nodes_kept, step_nodes}
 use Rattle.fsrm_model.proofs.lines.LineRefusals.{line_refusal}
-use Rattle.fsrm_base.proofs.Look.{eq_same, is_some-find}
 use Rattle.fsrm_model.proofs.lines.PlainMachine.{replied-read, line_cost-read}
-use Rattle.fsrm_model.proofs.commands.QuotaLaws.{exceeded_is}
-use Rattle.fsrm_model.proofs.nodes.Resolves.{resolved}
-use Rattle.fsrm_model.proofs.valid.ValidLaws.{folder_has}
 use Rattle.tool_commands.specs.declared.reading.LineFault.{LineFault}
 use Rattle.tool_commands.specs.declared.reading.LineFault.TheVariants.{Refused as Reason}
 use Rattle.tool_commands.specs.LineFaults.{IsFault}

@@ -1,10 +1,7 @@
 -- What is taken from a script.
-use Rattle.std.proofs.Common.{◌≡◌, ℕ, ◌<◌, List, [], ◌++◌, length, take, drop, refl, sym, ap, ◌∙◌, append_assoc, arith}
-use Rattle.std.specs.Prelude.{Option, Some, None, option_map}
-use Rattle.std.specs.Option.{ForSome}
-use Rattle.std.proofs.lemmas.List.{take-append-drop, nil_from_length, length-drop}
-use Rattle.fsrm_outside.specs.Told.{GivesFront}
-use Rattle.fsrm_program.specs.Bytes.{Taken, IsAtEnd}
+use Rattle.std.proofs.Common.{ℕ, List, [], ◌++◌, refl, sym, ap, ◌∙◌, append_assoc}
+use Rattle.std.specs.Prelude.{Option}
+use Rattle.fsrm_program.specs.Bytes.{Taken}
 
 -- nothing if there was room: the end
 

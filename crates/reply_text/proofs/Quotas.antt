@@ -1,5 +1,5 @@
 -- The lines of quotas.
-use Rattle.std.proofs.Common.{◌≡◌, ℕ, zero, suc, ◌+◌, ◌<◌, ◌≤◌, ◌==◌, nat_le, Bool, true, false, cond, List, [], ◌∷◌, ◌++◌, get_or, take, drop, refl, sym, ap, subst, rules, Bor, ◌∙◌, arith}
+use Rattle.std.proofs.Common.{◌≡◌, ℕ, zero, suc, ◌+◌, ◌<◌, ◌≤◌, ◌==◌, Bool, true, false, cond, List, [], ◌∷◌, ◌++◌, get_or, take, drop, refl, sym, ap, subst, rules, Bor, ◌∙◌, arith}
 use Rattle.std.specs.Prelude.{Option, Some, None, is_some, decimal, codes, filter, find, flat_map, sum_by}
 use Rattle.std.specs.List.{slice_get}
 use Rattle.std.specs.Option.{option_copied, IsSome}
