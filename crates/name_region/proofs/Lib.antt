@@ -1,9 +1,4 @@
-pub mod Keys
-pub mod Slots
-pub mod Written
-pub mod Exchanged
-pub mod Rooms
-pub mod Links
-pub mod Texts
-pub mod Gathered
-pub mod Layouts
+pub mod LogLaws
+pub mod GatherLaws
+pub mod UnderKeys
+pub mod RegionLaws

@@ -1,5 +1,4 @@
 pub mod Contents
-pub mod Rings
-pub mod Written
-pub mod Layout
+pub mod Log
+pub mod Keys
 pub mod Kept

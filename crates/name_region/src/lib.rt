@@ -1,16 +1,17 @@
 //! A reserved region of bytes, seen as a map from keys to texts.
 //!
-//! All memory is taken by `reserve`. `store` answers Full exactly if the texts would take more bytes than were reserved,
-//! else NoKey exactly if all keys are live, else a key that wasn't live; every other text stays. Texts are moved within
-//! the region only if no hole is as long as the new text.
+//! All memory is taken by `reserve`, and none of it is touched before it is used. `store` answers Full exactly if the texts
+//! would take more bytes than were reserved, else NoKey exactly if all keys are live, else a key that wasn't live; every
+//! other text stays.
+//!
+//! Texts stand in a log, in the order in which they came. A text that was released stays in it, and counts for nothing,
+//! until the log is gathered: then all texts that are left slide down. That is done only if a text doesn't fit, or if the
+//! bytes of texts that were released pass those of all others.
 #![tactic(auto)]
 
-mod block;
-mod holes;
-mod layout;
-mod numbers;
+mod gather;
+mod keys;
+mod log;
 mod region;
-mod rings;
-mod slot;
 
 pub use region::{Region, RegionFault};

@@ -1,10 +1,10 @@
 //! Texts under keys that the region hands out.
 
-ghost use Rattle.std.specs.Prelude.{◌≡◌, ◌+◌, ◌<◌, ◌≤◌, IfOk, OnOk, OnErr, IsErrOf, length, None, Some, true};
+ghost use Rattle.std.specs.Prelude.{◌≡◌, ◌+◌, ◌<◌, ◌≤◌, IfOk, OnOk, OnErr, IsErrOf, length, None, Some, false, true};
 ghost use Rattle.name_region.specs.Contents.{fresh, is_live, live_count, text_of, used, with_text};
 
-use crate::block::Block;
-use crate::numbers::numbers;
+use crate::keys::{make_room, take_key};
+use crate::log::Log;
 use fsrm_base::NoMemory;
 use std::alloc::Global;
 use std::marker::Model;
@@ -18,28 +18,45 @@ pub enum RegionFault {
     NoKey,
 }
 
+// What is reserved beyond an eighth, so that texts are gathered seldom in a small region, too.
+const SPARE_BYTES: u32 = 65_536;
+
+const SPARE_TEXTS: u32 = 1_024;
+
 /// A reserved region of bytes, in which texts stand under keys. Contracts see how many bytes it
 /// has for texts, and under each key, from 0, the text or none.
 ///
-/// Only `reserve` takes memory: the bytes, and some 36 more for each key.
+/// Only `reserve` takes memory: an eighth more than the bytes, and some 17 bytes for each key. Of these, each text that is
+/// stored takes its bytes and 12 more.
 #[derive(Drop)]
 pub struct Region {
-    block: Block,
+    bytes: u32,
+    keys: u32,
     // The bytes of all texts.
     used: u32,
-    // The keys that aren't live. The last one is handed out next.
+    log: Log,
+    // Of each key that was ever handed out, which text of the log is its own, if it has one.
+    places: Vec<u32>,
+    // The keys that were given back. The last one is handed out next.
     free: Vec<u32>,
 }
 
 impl Model for Region {
     ghost use Rattle.name_region.specs.Contents.{Contents};
-    ghost use Rattle.name_region.specs.Kept.{IsKept};
+    ghost use Rattle.name_region.specs.Kept.{IsRegion, contents_of};
 
     ghost Value = { Contents };
 
-    ghost view = { λ r. r.block };
+    ghost view = { λ r. contents_of r.bytes r.keys r.log };
 
-    ghost invariant = { λ r. IsKept r.block r.used r.free };
+    ghost invariant = { λ r. IsRegion r.bytes r.keys r.used r.log r.places r.free };
+}
+
+// A number with an eighth more, and some more.
+fn with_spare(number: u32, more: u32) -> u32
+    ensures { number ≤ result }
+{
+    number.saturating_add(number / 8).saturating_add(more)
 }
 
 impl Region {
@@ -47,20 +64,25 @@ impl Region {
     pub fn reserve(alloc: Global, bytes: u32, keys: u32) -> Result<Region, NoMemory>
         ensures { IfOk result (λ region. region ≡ fresh bytes keys) }
     {
-        let block = Block::reserve(alloc, bytes, keys)?;
-        let free = numbers(alloc, keys)?;
+        let room = with_spare(bytes, SPARE_BYTES);
+        let most = with_spare(keys, SPARE_TEXTS);
+        let log = Log::reserve(alloc, room, most)?;
+        let places = Vec::with_capacity(alloc, keys as usize)?;
+        let free = Vec::with_capacity(alloc, keys as usize)?;
         Ok(Region {
-            block,
+            bytes,
+            keys,
             used: 0,
+            log,
+            places,
             free,
         })
     }
 
-    /// Stores a text, and answers its key, below the number of keys. Full exactly if the texts
-    /// would take more bytes than were reserved, otherwise NoKey exactly if all keys are live.
-    ///
-    /// It takes time for the text's length. All texts have to be moved together only if no hole between two of them,
-    /// and no bytes after the last one, are so long; then it takes time for all of them.
+    /// Stores a text, and answers its key, below the number of keys. Full exactly where the texts
+    /// would take more bytes than were reserved, otherwise NoKey exactly where all keys are live.
+    /// It takes time for the text's length, and for all texts if they are gathered, which is only if as many bytes as an
+    /// eighth of the region or as all texts have been released since, or keys as an eighth of all.
     pub fn store(&mut self, text: &str) -> Result<u32, RegionFault>
         ensures key { IfOk result (λ key. key < length self.old.texts) }
         ensures dead { IfOk result (λ key. text_of self.old key ≡ None) }
@@ -71,13 +93,16 @@ impl Region {
         ensures no_key { IsErrOf result RegionFault.NoKey → (used self.old + length text.now ≤ self.old.bytes) × (live_count self.old ≡ length self.old.texts) }
         ensures err { OnErr result (self.new ≡ self.old) }
     {
-        if text.len() > (self.block.bytes() - self.used) as usize {
+        if text.len() > (self.bytes - self.used) as usize {
             return Err(RegionFault::Full);
         }
-        let Some(key) = self.free.pop() else {
+        if self.has_no_key() {
             return Err(RegionFault::NoKey);
-        };
-        self.block.put(key, text);
+        }
+        make_room(&mut self.log, &mut self.places, self.used, text.len());
+        let key = take_key(&mut self.free, &mut self.places);
+        self.places[key as usize] = self.log.len();
+        self.log.push(key, text);
         self.used += text.len() as u32;
         Ok(key)
     }
@@ -87,7 +112,7 @@ impl Region {
         requires { is_live self.now key ≡ true }
         ensures { text_of self.now key ≡ Some result.now }
     {
-        self.block.get(key)
+        self.log.text(self.places[key as usize])
     }
 
     /// Takes the text of a live key away. The key and the bytes can be had again.
@@ -95,9 +120,10 @@ impl Region {
         requires { is_live self.old key ≡ true }
         ensures { self.new ≡ with_text self.old key None }
     {
-        self.used -= self.block.get(key).len() as u32;
-        self.block.remove(key);
-        self.free.push(key).unwrap();
+        let place = self.places[key as usize];
+        self.used -= self.log.text(place).len() as u32;
+        self.log.release(place);
+        let _ = self.free.push(key);
     }
 
     /// The bytes of all texts.
@@ -112,6 +138,18 @@ impl Region {
     pub fn live(&self, key: u32) -> bool
         ensures { result ≡ is_live self.now key }
     {
-        self.block.live(key)
+        if key as usize >= self.places.len() {
+            return false;
+        }
+        let place = self.places[key as usize];
+        place < self.log.len() && self.log.key(place) == key
+    }
+
+    // Whether all keys are live.
+    fn has_no_key(&self) -> bool
+        ensures all { result ≡ true → live_count self.now ≡ length self.now.texts }
+        ensures spare { result ≡ false → live_count self.now < length self.now.texts }
+    {
+        self.free.is_empty() && self.places.len() == self.keys as usize
     }
 }

@@ -13,6 +13,8 @@ mod engines;
 #[cfg(test)]
 mod groups;
 #[cfg(test)]
+mod lists;
+#[cfg(test)]
 mod names;
 #[cfg(test)]
 mod quotas;

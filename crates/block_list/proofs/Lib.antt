@@ -1,0 +1,5 @@
+pub mod PoolLaws
+pub mod Joined
+pub mod Pairs
+pub mod ShelfLaws
+pub mod HeadLaws

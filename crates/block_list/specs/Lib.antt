@@ -1,0 +1,5 @@
+pub mod Runs
+pub mod Places
+pub mod Tight
+pub mod Pool
+pub mod Heads

@@ -1,0 +1,26 @@
+//! Where the runs stand.
+
+ghost use Rattle.std.specs.Prelude.{◌≡◌, ◌+◌, ◌*◌, ◌≤◌, length};
+ghost use Rattle.block_list.specs.Heads.{IsHead};
+
+use crate::pool::BLOCK;
+
+/// The first entries of a block are a run. Its first entry is at hand, unless the run is empty.
+#[derive(Clone, Copy)]
+pub(crate) struct Head<T> {
+    pub first: T,
+    pub block: u32,
+    pub len: u32,
+}
+
+/// The head of the first entries of a block.
+pub(crate) fn head_of<T: Copy>(pool: &Vec<T>, block: u32, len: u32) -> Head<T>
+    requires block { block * 256 + 256 ≤ length pool.now.items }
+    requires len { len ≤ 256 }
+    ensures block { result.block ≡ block }
+    ensures len { result.len ≡ len }
+    ensures head { IsHead pool.now.items result }
+{
+    let first = pool[block as usize * BLOCK];
+    Head { first, block, len }
+}

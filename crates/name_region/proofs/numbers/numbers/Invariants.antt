@@ -1,6 +1,0 @@
-use Rattle.std.proofs.Common.{◌≡◌, ℕ, ◌<◌, ◌≤◌, length, slice_index}
-use Rattle.std.specs.Vec.{vec_capacity}
-use Rattle.name_region.proofs.numbers.numbers.Given as goal
-
-abbrev pub invariant-loop-number : goal.invariant-loop-number
-invariant-loop-number l = (length l.numbers.items ≡ l.number) × ((k : ℕ) → k < l.number → slice_index l.numbers.items k ≡ k) × (l.count ≤ vec_capacity l.numbers)
