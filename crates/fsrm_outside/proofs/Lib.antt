@@ -1,2 +1,4 @@
+pub mod Histories
+pub mod Kept
 pub mod Members
 pub mod Shown

@@ -2,6 +2,16 @@ pub mod Causes
 pub mod Told
 pub mod Kept
 pub mod Shown
+pub mod Parts
+pub mod Changes
+pub mod Moments
 pub mod Plan
+pub mod Contents
+pub mod Record
+pub mod RecordLaws
+pub mod DiskModel
+pub mod ImageLaws
+pub mod History
 pub mod MemoryOutside
+pub mod MemoryLaws
 pub mod RealOutside
