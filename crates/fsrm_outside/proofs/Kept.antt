@@ -133,9 +133,9 @@ stopped_failed a b c part place count first = ⊎_elim
   (λ lost. inr (record { calls = lost.calls ∙ first.calls; start = lost.start ∙ first.start; begun = lost.begun ∙ first.begun; parts = lost.parts ∙ first.parts }))
 
 -- a write that failed leaves what a read gives
+pub failed_same : (old new : History) (part : Part) (place count : ℕ) → FailedOrStopped part place count old new → parts_in new.parts ≡ parts_in old.parts
+failed_same old new part place count = ⊎_elim (λ is. is.parts) (λ lost. lost.parts)
+
 pub failed_reads : (old new : History) (part : Part) (place count n : ℕ) → FailedOrStopped part place count old new
     → (was : Parts) → Some (parts_in old.parts) ≡ Some was → (torn : Parts) × (Some (parts_in new.parts) ≡ Some torn) × Torn part place n was torn
-failed_reads old new part place count n failed was told = (was, ap (λ (p : Parts). Some p) same ∙ told, torn_same part place n was)
-  where
-    same : parts_in new.parts ≡ parts_in old.parts
-    same = ⊎_elim (λ is. is.parts) (λ lost. lost.parts) failed
+failed_reads old new part place count n failed was told = (was, ap (λ (p : Parts). Some p) (failed_same old new part place count failed) ∙ told, torn_same part place n was)

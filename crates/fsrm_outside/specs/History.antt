@@ -5,7 +5,10 @@ use Rattle.fsrm_outside.specs.Changes.{Written}
 use Rattle.fsrm_outside.specs.Contents.{parts_in}
 use Rattle.fsrm_outside.specs.DiskModel.{IsImage}
 use Rattle.fsrm_outside.specs.Parts.{Parts}
-use Rattle.fsrm_outside.specs.Record.{since}
+use Rattle.fsrm_outside.specs.Crash.{synced, unsynced, AreFilled}
+use Rattle.fsrm_outside.specs.Record.{now_of, since}
+use Rattle.fsrm_outside.specs.declared.crash.Pick.{Pick}
+use Rattle.fsrm_outside.specs.declared.crash.Pick.TheVariants.{Lost, Taken, Fill}
 use Rattle.fsrm_outside.specs.declared.calls.Call.{Call}
 use Rattle.fsrm_outside.specs.declared.calls.Call.TheVariants.{Write, WriteAt, FailedAt}
 use Rattle.fsrm_outside.specs.declared.traits.Part.{Part}
@@ -47,3 +50,13 @@ pub record Stopped (old new : History) : Type 0 where
 -- A write that failed was kept, or nothing was.
 abbrev pub FailedOrStopped : Part → ℕ → ℕ → History → History → Type 0
 FailedOrStopped part place count old new = Noted (FailedAt part place count) old new ⊎ Stopped old new
+
+-- A crash left the image of this pick, which is stable, and the calls stay.
+pub record Crashed (pick : Pick) (old new : History) : Type 0 where
+  pub calls : new.calls.items ≡ old.calls.items
+  pub image : IsImage (parts_in old.start) (since old.begun old.calls.items) (parts_in new.parts)
+  pub lost : pick ≡ Lost → parts_in new.parts ≡ now_of (parts_in old.start) (synced (since old.begun old.calls.items))
+  pub taken : pick ≡ Taken → parts_in new.parts ≡ parts_in old.parts
+  pub filled : (byte : ℕ) → pick ≡ Fill byte → AreFilled byte (unsynced (since old.begun old.calls.items)) (parts_in old.parts) (parts_in new.parts)
+  pub start : parts_in new.start ≡ parts_in new.parts
+  pub begun : new.begun ≡ length new.calls.items

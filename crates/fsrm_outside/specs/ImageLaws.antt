@@ -136,14 +136,14 @@ pub record Bounds (start : Parts) (calls : List Call) (part : Part) : Type 0 whe
   pub stable : length (since_of start calls part).stable ≤ (since_of start calls part).greatest
   pub now : length (part_of part (now_of start calls)) ≤ (since_of start calls part).greatest
 
-both_true : (a b : Bool) → (a && b) ≡ true → (a ≡ true) × (b ≡ true)
+pub both_true : (a b : Bool) → (a && b) ≡ true → (a ≡ true) × (b ≡ true)
 both_true true b is = (refl, is)
 both_true false b is = absurd (cc)
 
 over_long : (place : ℕ) (bytes old : List ℕ) → length (over place bytes old) ≤ max (length old) (place + length bytes)
 over_long place bytes old = omega (arith, length-append (take place old ++ bytes) (drop (place + length bytes) old), length-append (take place old) bytes, length-drop (place + length bytes) old, length-take place old)
 
-bounds : (start : Parts) (calls : List Call) (part : Part) → Bounds start calls part
+pub bounds : (start : Parts) (calls : List Call) (part : Part) → Bounds start calls part
 bounds start [] part = record { stable = omega arith; now = omega arith }
 bounds start (Sync true ∷ calls) part = record { stable = omega arith; now = omega arith }
 bounds start (Sync false ∷ calls) part = let b = bounds start calls part in record { stable = b.stable; now = b.now }
@@ -193,7 +193,7 @@ get_or-over place bytes old k within out = ⊎_elim (λ front. search (rules, pl
   get_or-append_right (take place old ++ bytes) (drop (place + length bytes) old) (place + length bytes) k 0 front behind
   ∙ get_or-drop (place + length bytes) old (k - (place + length bytes)) 0 ∙ ap (λ (j : ℕ). get_or old j 0) back) out
 
-over_longer : (place : ℕ) (bytes old : List ℕ) → place ≤ length old → length old ≤ length (over place bytes old)
+pub over_longer : (place : ℕ) (bytes old : List ℕ) → place ≤ length old → length old ≤ length (over place bytes old)
 over_longer place bytes old within = omega (arith, length-append (take place old ++ bytes) (drop (place + length bytes) old), length-append (take place old) bytes, length-drop (place + length bytes) old, length-take place old)
 
 after_write : (since : Since) (place : ℕ) (bytes old : List ℕ) → place ≤ length old → IsPartImage since old → IsPartImage (wrote since place (length bytes)) (over place bytes old)

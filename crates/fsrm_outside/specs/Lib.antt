@@ -11,7 +11,9 @@ pub mod Record
 pub mod RecordLaws
 pub mod DiskModel
 pub mod ImageLaws
+pub mod Crash
 pub mod History
 pub mod MemoryOutside
 pub mod MemoryLaws
+pub mod QuietOutside
 pub mod RealOutside

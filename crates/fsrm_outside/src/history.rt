@@ -7,6 +7,7 @@ ghost use Rattle.fsrm_outside.specs.Record.{now_of, since, valid, Stays};
 
 use crate::calls::{Call, CallKind};
 use crate::contents::Contents;
+use crate::crash::{Pick, pick_image};
 use crate::traits::Part;
 use std::alloc::{AllocError, Global};
 
@@ -28,7 +29,7 @@ pub struct History {
 impl History {
     ghost use Rattle.fsrm_outside.specs.Record.{kind_of};
     ghost use Rattle.fsrm_outside.specs.declared.calls.Call.{Call};
-    ghost use Rattle.fsrm_outside.specs.History.{FailedOrStopped, Noted, Stopped, Wrote};
+    ghost use Rattle.fsrm_outside.specs.History.{Crashed, FailedOrStopped, Noted, Stopped, Wrote};
 
     /// No call was made, and the parts are these, stable.
     pub fn begin(alloc: Global, zero: &[u8], one: &[u8]) -> Result<History, AllocError>
@@ -97,6 +98,15 @@ impl History {
             unreachable!()
         }
         true
+    }
+
+    /// Makes the disk one of the images of this moment, stable. No call is kept, and the calls so far stay.
+    pub fn crash(&mut self, pick: Pick)
+        ensures { Crashed pick self.old self.new }
+    {
+        pick_image(&mut self.parts, &self.start, &self.calls[self.begun..], pick);
+        self.start.become_copy(&self.parts);
+        self.begun = self.calls.len();
     }
 
     /// Keeps a write of so many bytes that failed, if there is memory for it.

@@ -1,13 +1,13 @@
 //! A source, a sink and a disk in memory, which fail where they are told to.
 
 ghost use Rattle.std.specs.Prelude.{◌≡◌, ◌⊎◌, ◌+◌, ◌-◌, ◌≤◌, ◌<◌, ◌↔◌, ℕ, List, [], min, false, None, Some, IfOk, OnErr, OnOk, IsErr, IsTrue, MatchBool, Contains, take, drop, reverse, length, slice_index_or, ◌++◌, vec_len};
-ghost use Rattle.fsrm_outside.specs.History.{NotedShown, Stopped};
+ghost use Rattle.fsrm_outside.specs.History.{Crashed, NotedShown, Stopped};
 ghost use Rattle.fsrm_outside.specs.Plan.{IsFrom};
 ghost use Rattle.fsrm_outside.specs.Record.{text_of};
 
 use crate::calls::{Call, CallKind};
 use crate::history::History;
-use crate::{Failed, Part, Sink, Source};
+use crate::{Failed, Part, Pick, Sink, Source};
 use fsrm_base::NoMemory;
 use std::alloc::Global;
 
@@ -125,6 +125,26 @@ impl MemoryOutside {
         ensures plan { plan_of self.new ≡ record (plan_of self.old) { stop = Some call } }
     {
         self.stop = Some(call);
+    }
+
+    /// Makes the disk one of the images that a crash at this moment may leave, stable, and lifts `stop_at`. It is no
+    /// call, and what is left to read, what was shown and the counts stay.
+    pub fn crash(&mut self, pick: Pick)
+        ensures disk { Crashed pick self.old.history self.new.history }
+        ensures stable { (image : Parts) → images_of self.new (time_of self.new) image → image ≡ parts_of self.new }
+        ensures left { ⟦<MemoryOutside as Source>⟧.left self.new
+            ≡ ⟦<MemoryOutside as Source>⟧.left self.old }
+        ensures shown { ⟦<MemoryOutside as Sink>⟧.shown self.new
+            ≡ ⟦<MemoryOutside as Sink>⟧.shown self.old }
+        ensures read_faults { ⟦<MemoryOutside as Source>⟧.read_faults self.new
+            ≡ ⟦<MemoryOutside as Source>⟧.read_faults self.old }
+        ensures write_faults { ⟦<MemoryOutside as Sink>⟧.write_faults self.new
+            ≡ ⟦<MemoryOutside as Sink>⟧.write_faults self.old }
+        ensures disk_faults { self.new.disk_faults ≡ self.old.disk_faults }
+        ensures plan { plan_of self.new ≡ record (plan_of self.old) { stop = None } }
+    {
+        self.history.crash(pick);
+        self.stop = None;
     }
 
     /// The bytes shown so far.

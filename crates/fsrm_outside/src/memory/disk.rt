@@ -1,6 +1,7 @@
 //! The disk in memory.
 
 ghost use Rattle.std.specs.Prelude.{◌≡◌, ◌⊎◌, ◌+◌, ◌^◌, ◌≤◌, ◌<◌, ℕ, Some, IfOk, OnErr, OnOk, IsErr, take, drop, length};
+ghost use Rattle.std.specs.Option.{ForSome};
 ghost use Rattle.fsrm_outside.specs.Causes.{HasCause, count_after};
 ghost use Rattle.fsrm_outside.specs.Changes.{Same, Through, Torn, Written};
 ghost use Rattle.fsrm_outside.specs.Parts.{Parts, part_of};
@@ -28,7 +29,20 @@ impl Disk for MemoryOutside {
 
     ghost by_disk = { ByDisk };
 
-    fn len(&mut self, part: Part) -> Result<u64, Failed> {
+    /// Fails where it is told to, where there is no memory for the record, and for a part of more than 2^62 bytes.
+    fn len(&mut self, part: Part) -> Result<u64, Failed>
+        ensures length { IfOk result (λ n. n ≡ length (part_of part (parts_of self.old))) }
+        ensures bound { IfOk result (λ n. n ≤ 2 ^ 62) }
+        ensures reads { parts_of self.new ≡ parts_of self.old }
+        ensures crash { Through (λ o. Some (time_of o)) images_of Same self.old self.new }
+        ensures by { ByDisk self.old self.new }
+        ensures cause { HasCause (disk_faults_of self.old) (disk_faults_of self.new) result }
+
+        ensures told { FailsNext (plan_of self.old) → IsErr result }
+        ensures only { OnErr result (FailsNext (plan_of self.old) ⊎ (plan_of self.new ≡ plan_of self.old) ⊎ (2 ^ 62 < length (part_of part (parts_of self.old)))) }
+        ensures plan { GoesBy (plan_of self.old) (plan_of self.new) }
+        ensures counted { disk_faults_of self.new ≡ count_after (disk_faults_of self.old) result }
+    {
         let fails = self.fails_next();
         let kept = self.history.note(Call::Len);
         let length = self.history.part(part).len() as u64;
@@ -39,7 +53,20 @@ impl Disk for MemoryOutside {
         Ok(length)
     }
 
-    fn read_at(&mut self, part: Part, place: u64, into: &mut [u8]) -> Result<usize, Failed> {
+    /// Fails where it is told to, and where there is no memory for the record.
+    fn read_at(&mut self, part: Part, place: u64, into: &mut [u8]) -> Result<usize, Failed>
+        ensures count { IfOk result (λ n. n ≤ length into.new) }
+        ensures bytes { IfOk result (λ n. take n into.new ≡ take (length into.old) (drop place (part_of part (parts_of self.old)))) }
+        ensures reads { parts_of self.new ≡ parts_of self.old }
+        ensures crash { Through (λ o. Some (time_of o)) images_of Same self.old self.new }
+        ensures by { ByDisk self.old self.new }
+        ensures cause { HasCause (disk_faults_of self.old) (disk_faults_of self.new) result }
+
+        ensures told { FailsNext (plan_of self.old) → IsErr result }
+        ensures only { OnErr result (FailsNext (plan_of self.old) ⊎ (plan_of self.new ≡ plan_of self.old)) }
+        ensures plan { GoesBy (plan_of self.old) (plan_of self.new) }
+        ensures counted { disk_faults_of self.new ≡ count_after (disk_faults_of self.old) result }
+    {
         let fails = self.fails_next();
         let kept = self.history.note(Call::ReadAt);
         if fails || !kept {
@@ -49,7 +76,22 @@ impl Disk for MemoryOutside {
         Ok(fill_from(self.history.part(part), place, into))
     }
 
-    fn write_at(&mut self, part: Part, place: u64, bytes: &[u8]) -> Result<(), Failed> {
+    /// Fails where it is told to, where there is no memory for the part or for the record, and past 2^62 bytes. What a
+    /// read gives then stays.
+    fn write_at(&mut self, part: Part, place: u64, bytes: &[u8]) -> Result<(), Failed>
+        requires { ForSome (Some (parts_of self.old)) (λ parts. place ≤ length (part_of part parts)) }
+        ensures written { OnOk result (parts_of self.new ≡ Written part place bytes.now (parts_of self.old)) }
+        ensures bound { OnOk result (place + length bytes.now ≤ 2 ^ 62) }
+        ensures failed { OnErr result (ForSome (Some (parts_of self.old)) (λ parts. (torn : Parts) × (Some (parts_of self.new) ≡ Some torn) × Torn part place (length bytes.now) parts torn)) }
+        ensures crash { Through (λ o. Some (time_of o)) images_of (Torn part place (length bytes.now)) self.old self.new }
+        ensures by { ByDisk self.old self.new }
+        ensures cause { HasCause (disk_faults_of self.old) (disk_faults_of self.new) result }
+
+        ensures told { FailsNext (plan_of self.old) → IsErr result }
+        ensures stays { OnErr result (parts_of self.new ≡ parts_of self.old) }
+        ensures plan { GoesBy (plan_of self.old) (plan_of self.new) }
+        ensures counted { disk_faults_of self.new ≡ count_after (disk_faults_of self.old) result }
+    {
         let count = bytes.len() as u64;
         if self.fails_next() || count > MOST || place > MOST - count {
             self.history.fail_at(part, place, bytes.len());
@@ -64,7 +106,19 @@ impl Disk for MemoryOutside {
         Ok(())
     }
 
-    fn sync(&mut self) -> Result<(), Failed> {
+    /// Fails where it is told to, and where there is no memory for the record.
+    fn sync(&mut self) -> Result<(), Failed>
+        ensures durable { (t : ℕ) (image : Parts) → OnOk result (Some (time_of self.new) ≡ Some t → images_of self.new t image → Some (parts_of self.new) ≡ Some image) }
+        ensures reads { parts_of self.new ≡ parts_of self.old }
+        ensures crash { Through (λ o. Some (time_of o)) images_of Same self.old self.new }
+        ensures by { ByDisk self.old self.new }
+        ensures cause { HasCause (disk_faults_of self.old) (disk_faults_of self.new) result }
+
+        ensures told { FailsNext (plan_of self.old) → IsErr result }
+        ensures only { OnErr result (FailsNext (plan_of self.old) ⊎ (plan_of self.new ≡ plan_of self.old)) }
+        ensures plan { GoesBy (plan_of self.old) (plan_of self.new) }
+        ensures counted { disk_faults_of self.new ≡ count_after (disk_faults_of self.old) result }
+    {
         let fails = self.fails_next();
         let kept = self.history.note(Call::Sync(!fails));
         if fails || !kept {

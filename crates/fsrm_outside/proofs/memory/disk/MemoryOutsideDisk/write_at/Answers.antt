@@ -1,6 +1,6 @@
 use Rattle.std.proofs.Common.{refl, length}
 use Rattle.fsrm_outside.specs.MemoryOutside.{parts_of}
-use Rattle.fsrm_outside.proofs.Kept.{wrote_through, failed_through, failed_reads, stopped_failed}
+use Rattle.fsrm_outside.proofs.Kept.{wrote_through, failed_through, failed_reads, failed_same, stopped_failed}
 use Rattle.fsrm_outside.proofs.memory.disk.MemoryOutsideDisk.write_at.Goals as goal
 
 pub returns-clause-crash : goal.returns-clause-crash
@@ -23,3 +23,11 @@ pub returns-then-not-write_at-clause-failed : goal.returns-then-not-write_at-cla
 returns-then-not-write_at-clause-failed c =
     let failed = stopped_failed c.args.self.now.history c.write_at.new.self c.fail_at-then-not-write_at.new.self c.args.part c.args.place (length c.args.bytes.now) c.if-not-write_at.ensures c.fail_at-then-not-write_at.ensures in
     failed_reads c.args.self.now.history c.fail_at-then-not-write_at.new.self c.args.part c.args.place (length c.args.bytes.now) (length c.args.bytes.now) failed
+
+pub returns-then-fails_next-clause-stays : goal.returns-then-fails_next-clause-stays
+returns-then-fails_next-clause-stays c = failed_same c.args.self.now.history c.fail_at.new.self c.args.part c.args.place (length c.args.bytes.now) c.fail_at.ensures
+
+pub returns-then-not-write_at-clause-stays : goal.returns-then-not-write_at-clause-stays
+returns-then-not-write_at-clause-stays c =
+    let failed = stopped_failed c.args.self.now.history c.write_at.new.self c.fail_at-then-not-write_at.new.self c.args.part c.args.place (length c.args.bytes.now) c.if-not-write_at.ensures c.fail_at-then-not-write_at.ensures in
+    failed_same c.args.self.now.history c.fail_at-then-not-write_at.new.self c.args.part c.args.place (length c.args.bytes.now) failed
