@@ -2,7 +2,7 @@ use Rattle.std.proofs.Common.{◌≡◌, ◌+◌, ℕ, Some, [], ◌∷◌, leng
 use Rattle.fsrm_outside.specs.Parts.{Parts, part_of}
 use Rattle.fsrm_outside.proofs.Stages.{DiskLaws, stayed}
 use Rattle.fsrm_journal.proofs.Files.{told_back, told_forth, written_here, length-over-old}
-use Rattle.fsrm_journal.proofs.Batches.{opens, makes_settled}
+use Rattle.fsrm_journal.proofs.Staging.{opens, makes_settled}
 use Rattle.fsrm_journal.proofs.batches.open_gate.Goals as goal
 
 pub returns-in_err-write_at-clause-any_moment : goal.returns-in_err-write_at-clause-any_moment

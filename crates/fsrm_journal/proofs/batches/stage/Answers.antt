@@ -2,7 +2,7 @@ use Rattle.std.proofs.Common.{◌≡◌, ◌+◌, ℕ, Some, [], ◌∷◌, leng
 use Rattle.fsrm_outside.specs.Parts.{Parts, part_of}
 use Rattle.fsrm_outside.proofs.Stages.{DiskLaws, stayed}
 use Rattle.fsrm_journal.proofs.Files.{told_back, told_forth, front_holds, written_here, length-over}
-use Rattle.fsrm_journal.proofs.Batches.{begins, writes, makes_staged}
+use Rattle.fsrm_journal.proofs.Staging.{begins, writes, makes_staged}
 use Rattle.fsrm_journal.proofs.batches.stage.Goals as goal
 
 pub returns-in_err-write_at-clause-any_moment : goal.returns-in_err-write_at-clause-any_moment

@@ -1,5 +1,6 @@
 -- What the two steps of a flush do.
-use Rattle.std.proofs.Common.{◌≡◌, ◌≢◌, ℕ, ◌+◌, ◌≤◌, ◌<◌, Some, List, [], ◌∷◌, ◌++◌, length, drop, refl, sym, ◌∙◌, ap, subst, arith, append_assoc, length-append}
+use Rattle.std.proofs.lemmas.Bool.Decides.{eqb_tells}
+use Rattle.std.proofs.Common.{◌≡◌, ◌≢◌, ⊎_elim, true, false, nat_eq, ℕ, ◌+◌, ◌≤◌, ◌<◌, Some, List, [], ◌∷◌, ◌++◌, length, drop, refl, sym, ◌∙◌, ap, subst, arith, append_assoc, length-append}
 use Rattle.std.specs.Prelude.{Option}
 use Rattle.std.proofs.lemmas.List.{append-nil}
 use Rattle.fsrm_outside.specs.Changes.{Torn, Same, Through, Written, over}
@@ -95,3 +96,20 @@ makes_settled {log = log} {bodies = bodies} {end = end} body more s new r rules 
 pub batch-push : (held : List (List ℕ)) (body : List ℕ) → held ≢ [] → batch (held ++ body ∷ []) ≡ batch held ++ 1 ∷ counted body
 batch-push [] body some = absurd (some refl)
 batch-push (h ∷ held) body some = ap (λ (l : List ℕ). counted h ++ l) (records-append held (body ∷ []) ∙ ap (λ (l : List ℕ). records held ++ l) (append-nil (1 ∷ counted body))) ∙ sym (append_assoc (counted h) (records held) (1 ∷ counted body))
+
+pub some_held : (held : List (List ℕ)) → (length held ≡ 0 → ⊥) → (body : List ℕ) × (more : List (List ℕ)) × (held ≡ body ∷ more)
+some_held [] some = absurd (some refl)
+some_held (body ∷ more) some = (body, more, refl)
+
+pub none_there : (xs : List ℕ) → length xs ≡ 0 → xs ≡ []
+none_there [] none = refl
+none_there (x ∷ xs) none = absurd (omega arith)
+
+-- a record after those that are held
+pub hold_more : (held : List (List ℕ)) (body old new : List ℕ) (n : ℕ) → length held ≡ n → old ≡ batch held
+    → (nat_eq n 0 ≡ true → new ≡ old ++ counted body) → (nat_eq n 0 ≡ false → new ≡ old ++ 1 ∷ counted body) → new ≡ batch (held ++ body ∷ [])
+hold_more [] body old new n few is first more =
+    first (ap (λ (k : ℕ). nat_eq k 0) (sym few)) ∙ ap (λ (l : List ℕ). l ++ counted body) is ∙ sym (append-nil (counted body))
+hold_more (h ∷ held) body old new n few is first more =
+    more (⊎_elim (λ same. absurd (omega (arith, same.1, few))) (λ other. other.0) (eqb_tells n 0))
+    ∙ ap (λ (l : List ℕ). l ++ 1 ∷ counted body) is ∙ sym (batch-push (h ∷ held) body (λ none. absurd (cc)))
