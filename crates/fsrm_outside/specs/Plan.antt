@@ -1,24 +1,30 @@
 -- What a device in memory is told to do, and how far it has come.
-use Rattle.std.specs.Prelude.{ℕ, ◌+◌, ◌-◌, ◌^◌, min, List, length, Contains}
+use Rattle.std.specs.Prelude.{◌≡◌, ◌⊎◌, ℕ, ◌+◌, ◌≤◌, min, Option, None, Some, List, length, Contains}
 
 pub record Plan : Type 0 where
   -- the numbers of the calls that are to fail
   pub fail : List ℕ
-  -- the number of the last call, and 0 before the first
+  -- the number of the call from which on all are to fail
+  pub stop : Option ℕ
+  -- how many calls were made
   pub calls : ℕ
   -- the most bytes that one read gives
   pub piece : ℕ
 
--- the number of the next call; the numbers stop at the last one of 64 bits
-abbrev pub next_call : Plan → ℕ
-next_call plan = min (plan.calls + 1) (2 ^ 64 - 1)
+abbrev pub IsFrom : Option ℕ → ℕ → Type 0
+IsFrom None call = ⊥
+IsFrom (Some stop) call = stop ≤ call
 
+-- the next call is to fail
 abbrev pub FailsNext : Plan → Type 0
-FailsNext plan = Contains plan.fail (next_call plan)
-
-abbrev pub after_call : Plan → Plan
-after_call plan = record { fail = plan.fail; calls = next_call plan; piece = plan.piece }
+FailsNext plan = Contains plan.fail (plan.calls + 1) ⊎ IsFrom plan.stop (plan.calls + 1)
 
 -- how many of the bytes left a read gives into this room
 abbrev pub most_of : Plan → List ℕ → List ℕ → ℕ
 most_of plan left room = min (min (length left) (length room)) plan.piece
+
+-- The plan stays, and one call was made or, for want of memory, none.
+pub record GoesBy (old new : Plan) : Type 0 where
+  pub same : record new { calls = old.calls } ≡ old
+  pub no_fewer : old.calls ≤ new.calls
+  pub at_most : new.calls ≤ old.calls + 1

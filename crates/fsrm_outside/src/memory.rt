@@ -1,56 +1,91 @@
-//! A source and a sink in memory, which fail where they are told to.
+//! A source, a sink and a disk in memory, which fail where they are told to.
 
-ghost use Rattle.std.specs.Prelude.{◌≡◌, ◌≤◌, ◌<◌, ◌↔◌, refl, List, [], min, IfOk, OnErr, IsErr, IsTrue, Contains, Some, take, drop, length, ◌++◌, vec_len};
-ghost use Rattle.std.proofs.Common.{◌∙◌, ap};
-ghost use Rattle.fsrm_outside.specs.Causes.{HasCause, count_after};
-ghost use Rattle.fsrm_outside.specs.Plan.{FailsNext, after_call, most_of};
-ghost use Rattle.fsrm_outside.specs.Told.{GivesFront};
+ghost use Rattle.std.specs.Prelude.{◌≡◌, ◌⊎◌, ◌+◌, ◌-◌, ◌≤◌, ◌<◌, ◌↔◌, ℕ, List, [], min, false, None, Some, IfOk, OnErr, OnOk, IsErr, IsTrue, MatchBool, Contains, take, drop, reverse, length, slice_index_or, ◌++◌, vec_len};
+ghost use Rattle.fsrm_outside.specs.History.{Crashed, NotedShown, Stopped};
+ghost use Rattle.fsrm_outside.specs.Plan.{IsFrom};
+ghost use Rattle.fsrm_outside.specs.Record.{text_of};
 
-use crate::{Failed, Outside, Sink, Source};
+use crate::calls::{Call, CallKind};
+use crate::history::History;
+use crate::{Failed, Part, Pick, Sink, Source};
 use fsrm_base::NoMemory;
 use std::alloc::Global;
 
-/// A script to read, and a record of what was shown.
+mod disk;
+
+/// A script to read, a record of what was shown, and a disk with what a crash may leave of it.
 ///
-/// Its calls, reads and writes together, are numbered from 1 (the numbers stop at `u64::MAX`). A
-/// call whose number is among those to fail fails; so does a write for which there is no memory.
-/// Every other call succeeds. Failed reads and writes are counted, each up to `u64::MAX`.
+/// Its calls, those of its three traits together, are numbered from 1. A call whose number is among those to
+/// fail fails, and from a call on that it was told to stop at, all do. A call for which there is no memory fails
+/// too; if there is none even for its place in the record, it has no number, and the next call takes it.
+/// Every other call succeeds. Failed reads, writes and calls of the disk are counted, each up to `u64::MAX`.
+///
+/// It keeps all that was written: it is made for tests, and grows with every call.
 #[derive(Drop)]
 pub struct MemoryOutside {
+    alloc: Global,
     script: Vec<u8>,
     place: usize,
     piece: usize,
     shown: Vec<u8>,
+    history: History,
     fail: Vec<u64>,
-    calls: u64,
+    stop: Option<u64>,
     read_faults: u64,
     write_faults: u64,
+    disk_faults: u64,
     ghost within: { place ≤ vec_len script },
     ghost some: { 0 < piece },
+    ghost told: { shown.items ≡ text_of (reverse history.calls.items) },
 }
 
 impl MemoryOutside {
-    ghost use Rattle.fsrm_outside.specs.MemoryOutside.{plan_of};
+    ghost use Rattle.fsrm_outside.specs.Plan.{FailsNext};
+    ghost use Rattle.fsrm_outside.specs.MemoryOutside.{calls_of, images_of, parts_of, plan_of, time_of};
+    ghost use Rattle.fsrm_outside.specs.Parts.{Parts, part_of};
+    ghost use Rattle.fsrm_outside.specs.Record.{kind_of};
+    ghost use Rattle.fsrm_outside.specs.declared.calls.Call.{Call};
 
-    /// Has the whole script left, and has shown nothing. `fail` has the numbers of the calls that
-    /// are to fail, in any order. `NoMemory`: there is no memory for a copy of either.
+    /// Has the whole script left, has shown nothing, and has two empty parts. `fail` has the numbers of the
+    /// calls that are to fail, in any order. `NoMemory`: there is no memory for a copy of either.
     pub fn new(alloc: Global, script: &[u8], fail: &[u64]) -> Result<MemoryOutside, NoMemory>
         ensures left { IfOk result (λ o. ⟦<MemoryOutside as Source>⟧.left o ≡ Some script.now) }
         ensures shown { IfOk result (λ o. ⟦<MemoryOutside as Sink>⟧.shown o ≡ Some []) }
+        ensures parts { IfOk result (λ o. parts_of o ≡ record { zero = []; one = [] }) }
+        ensures stable { (image : Parts) → IfOk result (λ o. images_of o 0 image → image ≡ parts_of o) }
         ensures read_faults { IfOk result (λ o. ⟦<MemoryOutside as Source>⟧.read_faults o ≡ 0) }
         ensures write_faults { IfOk result (λ o. ⟦<MemoryOutside as Sink>⟧.write_faults o ≡ 0) }
+        ensures disk_faults { IfOk result (λ o. o.disk_faults ≡ 0) }
         ensures plan { IfOk result (λ o.
-            plan_of o ≡ record { fail = fail.now; calls = 0; piece = usize.MAX }) }
+            plan_of o ≡ record { fail = fail.now; stop = None; calls = 0; piece = usize.MAX }) }
+    {
+        MemoryOutside::with_parts(alloc, [].as_slice(), [].as_slice(), script, fail)
+    }
+
+    /// The same with these parts, stable. `NoMemory`: there is no memory for a copy of all.
+    pub fn with_parts(alloc: Global, zero: &[u8], one: &[u8], script: &[u8], fail: &[u64]) -> Result<MemoryOutside, NoMemory>
+        ensures left { IfOk result (λ o. ⟦<MemoryOutside as Source>⟧.left o ≡ Some script.now) }
+        ensures shown { IfOk result (λ o. ⟦<MemoryOutside as Sink>⟧.shown o ≡ Some []) }
+        ensures parts { IfOk result (λ o. parts_of o ≡ record { zero = zero.now; one = one.now }) }
+        ensures stable { (image : Parts) → IfOk result (λ o. images_of o 0 image → image ≡ parts_of o) }
+        ensures read_faults { IfOk result (λ o. ⟦<MemoryOutside as Source>⟧.read_faults o ≡ 0) }
+        ensures write_faults { IfOk result (λ o. ⟦<MemoryOutside as Sink>⟧.write_faults o ≡ 0) }
+        ensures disk_faults { IfOk result (λ o. o.disk_faults ≡ 0) }
+        ensures plan { IfOk result (λ o.
+            plan_of o ≡ record { fail = fail.now; stop = None; calls = 0; piece = usize.MAX }) }
     {
         Ok(MemoryOutside {
+            alloc,
             script: Vec::from_slice(alloc, script)?,
             place: 0,
             piece: usize::MAX,
             shown: Vec::new(alloc),
+            history: History::begin(alloc, zero, one)?,
             fail: Vec::from_slice(alloc, fail)?,
-            calls: 0,
+            stop: None,
             read_faults: 0,
             write_faults: 0,
+            disk_faults: 0,
         })
     }
 
@@ -62,13 +97,54 @@ impl MemoryOutside {
             ≡ ⟦<MemoryOutside as Source>⟧.left self.old }
         ensures shown { ⟦<MemoryOutside as Sink>⟧.shown self.new
             ≡ ⟦<MemoryOutside as Sink>⟧.shown self.old }
+        ensures parts { parts_of self.new ≡ parts_of self.old }
+        ensures images { (m : ℕ) (image : Parts) → images_of self.new m image ↔ images_of self.old m image }
         ensures read_faults { ⟦<MemoryOutside as Source>⟧.read_faults self.new
             ≡ ⟦<MemoryOutside as Source>⟧.read_faults self.old }
         ensures write_faults { ⟦<MemoryOutside as Sink>⟧.write_faults self.new
             ≡ ⟦<MemoryOutside as Sink>⟧.write_faults self.old }
+        ensures disk_faults { self.new.disk_faults ≡ self.old.disk_faults }
         ensures plan { plan_of self.new ≡ record (plan_of self.old) { piece = bytes } }
     {
         self.piece = bytes;
+    }
+
+    /// From the call of this number on, all fail, as if the machine had stopped there, until `crash`.
+    pub fn stop_at(&mut self, call: u64)
+        ensures left { ⟦<MemoryOutside as Source>⟧.left self.new
+            ≡ ⟦<MemoryOutside as Source>⟧.left self.old }
+        ensures shown { ⟦<MemoryOutside as Sink>⟧.shown self.new
+            ≡ ⟦<MemoryOutside as Sink>⟧.shown self.old }
+        ensures parts { parts_of self.new ≡ parts_of self.old }
+        ensures images { (m : ℕ) (image : Parts) → images_of self.new m image ↔ images_of self.old m image }
+        ensures read_faults { ⟦<MemoryOutside as Source>⟧.read_faults self.new
+            ≡ ⟦<MemoryOutside as Source>⟧.read_faults self.old }
+        ensures write_faults { ⟦<MemoryOutside as Sink>⟧.write_faults self.new
+            ≡ ⟦<MemoryOutside as Sink>⟧.write_faults self.old }
+        ensures disk_faults { self.new.disk_faults ≡ self.old.disk_faults }
+        ensures plan { plan_of self.new ≡ record (plan_of self.old) { stop = Some call } }
+    {
+        self.stop = Some(call);
+    }
+
+    /// Makes the disk one of the images that a crash at this moment may leave, stable, and lifts `stop_at`. It is no
+    /// call, and what is left to read, what was shown and the counts stay.
+    pub fn crash(&mut self, pick: Pick)
+        ensures disk { Crashed pick self.old.history self.new.history }
+        ensures stable { (image : Parts) → images_of self.new (time_of self.new) image → image ≡ parts_of self.new }
+        ensures left { ⟦<MemoryOutside as Source>⟧.left self.new
+            ≡ ⟦<MemoryOutside as Source>⟧.left self.old }
+        ensures shown { ⟦<MemoryOutside as Sink>⟧.shown self.new
+            ≡ ⟦<MemoryOutside as Sink>⟧.shown self.old }
+        ensures read_faults { ⟦<MemoryOutside as Source>⟧.read_faults self.new
+            ≡ ⟦<MemoryOutside as Source>⟧.read_faults self.old }
+        ensures write_faults { ⟦<MemoryOutside as Sink>⟧.write_faults self.new
+            ≡ ⟦<MemoryOutside as Sink>⟧.write_faults self.old }
+        ensures disk_faults { self.new.disk_faults ≡ self.old.disk_faults }
+        ensures plan { plan_of self.new ≡ record (plan_of self.old) { stop = None } }
+    {
+        self.history.crash(pick);
+        self.stop = None;
     }
 
     /// The bytes shown so far.
@@ -78,18 +154,35 @@ impl MemoryOutside {
         self.shown.as_slice()
     }
 
-    // Numbers the call, and says whether it is to fail.
-    fn fails_now(&mut self) -> bool
-        ensures told { IsTrue result ↔ FailsNext (plan_of self.old) }
-        ensures plan { plan_of self.new ≡ after_call (plan_of self.old) }
-        ensures script { self.new.script ≡ self.old.script }
-        ensures place { self.new.place ≡ self.old.place }
-        ensures shown { self.new.shown ≡ self.old.shown }
-        ensures read_faults { self.new.read_faults ≡ self.old.read_faults }
-        ensures write_faults { self.new.write_faults ≡ self.old.write_faults }
+    /// What a read gives of a part.
+    pub fn part(&self, part: Part) -> &[u8]
+        ensures { result.now ≡ part_of part (parts_of self.now) }
     {
-        self.calls = self.calls.saturating_add(1);
-        is_among(&self.fail, self.calls)
+        self.history.part(part)
+    }
+
+    /// How many calls were made, which is the number of the last one.
+    pub fn calls(&self) -> u64
+        ensures { result ≡ time_of self.now }
+    {
+        self.history.count() as u64
+    }
+
+    /// Which function the call of this number was one of.
+    pub fn kind(&self, call: u64) -> CallKind
+        requires some { 1 ≤ call }
+        requires made { call ≤ time_of self.now }
+        ensures { (d : Call) → result ≡ kind_of (slice_index_or (calls_of self.now) (call - 1) d) }
+    {
+        self.history.kind((call - 1) as usize)
+    }
+
+    // Whether the next call is to fail.
+    fn fails_next(&self) -> bool
+        ensures { IsTrue result ↔ FailsNext (plan_of self.now) }
+    {
+        let call = self.history.count() as u64 + 1;
+        is_among(&self.fail, call) || is_from(self.stop, call)
     }
 }
 
@@ -97,6 +190,46 @@ fn is_among(numbers: &[u64], number: u64) -> bool
     ensures { IsTrue result ↔ Contains numbers.now number }
 {
     numbers.contains(&number)
+}
+
+fn is_from(stop: Option<u64>, call: u64) -> bool
+    ensures { IsTrue result ↔ IsFrom stop call }
+{
+    match stop {
+        Some(stop) => stop <= call,
+        None => false,
+    }
+}
+
+// Shows the bytes, and keeps the call. False: it is to fail, or there is no memory for both, and neither is
+// done.
+fn show(
+    fails: bool,
+    alloc: Global,
+    shown: &mut Vec<u8>,
+    history: &mut History,
+    bytes: &[u8],
+) -> bool
+    ensures told { IsTrue fails → result ≡ false }
+    ensures done {
+        MatchBool result
+            (NotedShown bytes.now history.old history.new × (shown.new.items ≡ shown.old.items ++ bytes.now))
+            (Stopped history.old history.new × (shown.new.items ≡ shown.old.items))
+    }
+{
+    if fails {
+        return false;
+    }
+    let Ok(copy) = Vec::from_slice(alloc, bytes) else {
+        return false;
+    };
+    if shown.try_reserve(bytes.len()).is_err() || !history.note(Call::Write(copy)) {
+        return false;
+    }
+    if shown.extend_from_slice(bytes).is_err() {
+        unreachable!()
+    }
+    true
 }
 
 // Copies the front of what is left into the buffer, and answers how much.
@@ -112,7 +245,11 @@ fn copy_front(rest: &[u8], into: &mut [u8], most: usize) -> usize
 }
 
 impl Source for MemoryOutside {
-    ghost use Rattle.fsrm_outside.specs.MemoryOutside.{plan_of, left_of, read_faults_of, ByRead};
+    ghost use Rattle.fsrm_outside.specs.Causes.{HasCause, count_after};
+    ghost use Rattle.fsrm_outside.specs.MemoryOutside.{ByRead, left_of, plan_of, read_faults_of};
+    ghost use Rattle.fsrm_outside.specs.MemoryLaws.{read_same, read_then};
+    ghost use Rattle.fsrm_outside.specs.Plan.{FailsNext, GoesBy, most_of};
+    ghost use Rattle.fsrm_outside.specs.Told.{GivesFront};
 
     ghost left = { λ o. Some (left_of o) };
 
@@ -121,7 +258,7 @@ impl Source for MemoryOutside {
     ghost by_read = { ByRead };
 
     /// Gives as many bytes as are left, as fit into the buffer and as one read may give. Fails
-    /// exactly where it is told to.
+    /// where it is told to, and where there is no memory for the record.
     fn read(&mut self, into: &mut [u8]) -> Result<usize, Failed>
         ensures count { IfOk result (λ n. n ≤ length into.new) }
         ensures front { IfOk result (λ n. GivesFront (left_of self.old) n into.new) }
@@ -130,13 +267,16 @@ impl Source for MemoryOutside {
         ensures by { ByRead self.old self.new }
         ensures cause { HasCause (read_faults_of self.old) (read_faults_of self.new) result }
 
-        ensures told { IsErr result ↔ FailsNext (plan_of self.old) }
-        ensures plan { plan_of self.new ≡ after_call (plan_of self.old) }
+        ensures told { FailsNext (plan_of self.old) → IsErr result }
+        ensures only { OnErr result (FailsNext (plan_of self.old) ⊎ (plan_of self.new ≡ plan_of self.old)) }
+        ensures plan { GoesBy (plan_of self.old) (plan_of self.new) }
         ensures counted { read_faults_of self.new ≡ count_after (read_faults_of self.old) result }
         ensures most { IfOk result (λ n.
             n ≡ most_of (plan_of self.old) (left_of self.old) into.new) }
     {
-        if self.fails_now() {
+        let fails = self.fails_next();
+        let kept = self.history.note(Call::Read);
+        if fails || !kept {
             self.read_faults = self.read_faults.saturating_add(1);
             return Err(Failed);
         }
@@ -145,21 +285,29 @@ impl Source for MemoryOutside {
         Ok(count)
     }
 
-    ghost read_same = { λ a. (refl, refl) };
+    ghost read_same = { read_same };
 
-    ghost read_then = { λ a b c p q. (q.0 ∙ p.0, q.1 ∙ p.1) };
+    ghost read_then = { read_then };
 }
 
 impl Sink for MemoryOutside {
-    ghost use Rattle.fsrm_outside.specs.MemoryOutside.{plan_of, shown_of, write_faults_of, ByWrite};
+    ghost use Rattle.fsrm_outside.specs.Causes.{HasCause, count_after};
+    ghost use Rattle.fsrm_outside.specs.MemoryOutside.{ByWrite, plan_of, shown_of, shown_at_of, time_of, write_faults_of};
+    ghost use Rattle.fsrm_outside.specs.MemoryLaws.{write_same, write_then, write_later, write_past, shown_now, shown_grows};
+    ghost use Rattle.fsrm_outside.specs.Plan.{FailsNext, GoesBy};
 
     ghost shown = { λ o. Some (shown_of o) };
+
+    ghost sink_clock = { λ o. Some (time_of o) };
+
+    ghost shown_at = { shown_at_of };
 
     ghost write_faults = { write_faults_of };
 
     ghost by_write = { ByWrite };
 
-    /// Takes the whole piece. Fails where it is told to, and where there is no memory for the piece.
+    /// Takes the whole piece. Fails where it is told to, and where there is no memory for the piece or
+    /// for the record.
     fn write(&mut self, bytes: &[u8]) -> Result<usize, Failed>
         ensures count { IfOk result (λ n. n ≤ length bytes.now) }
         ensures some { IfOk result (λ n. 0 < length bytes.now → 0 < n) }
@@ -169,24 +317,28 @@ impl Sink for MemoryOutside {
         ensures cause { HasCause (write_faults_of self.old) (write_faults_of self.new) result }
 
         ensures told { FailsNext (plan_of self.old) → IsErr result }
-        ensures plan { plan_of self.new ≡ after_call (plan_of self.old) }
+        ensures plan { GoesBy (plan_of self.old) (plan_of self.new) }
         ensures counted { write_faults_of self.new ≡ count_after (write_faults_of self.old) result }
         ensures all { IfOk result (λ n. n ≡ length bytes.now) }
     {
-        if self.fails_now() || self.shown.extend_from_slice(bytes).is_err() {
+        let fails = self.fails_next();
+        if !show(fails, self.alloc, &mut self.shown, &mut self.history, bytes) {
+            let _ = self.history.note(Call::Write(Vec::new(self.alloc)));
             self.write_faults = self.write_faults.saturating_add(1);
             return Err(Failed);
         }
         Ok(bytes.len())
     }
 
-    ghost write_same = { λ a. (refl, refl) };
+    ghost write_same = { write_same };
 
-    ghost write_then = { λ a b c p q. (q.0 ∙ p.0, q.1 ∙ p.1) };
-}
+    ghost write_then = { write_then };
 
-impl Outside for MemoryOutside {
-    ghost read_keeps_sink = { λ a b by. record { same_shown = ap Some by.0; same_faults = by.1 } };
+    ghost write_later = { write_later };
 
-    ghost write_keeps_source = { λ a b by. record { same_left = ap Some by.0; same_faults = by.1 } };
+    ghost write_past = { write_past };
+
+    ghost shown_now = { shown_now };
+
+    ghost shown_grows = { shown_grows };
 }

@@ -1,45 +1,95 @@
-//! The standard streams of the process.
+//! The standard streams of the process, and two files.
 
-ghost use Rattle.std.specs.Prelude.{◌≡◌, ◌≤◌, ◌<◌, length, IfOk, None, refl};
-ghost use Rattle.std.proofs.Common.{◌∙◌};
-ghost use Rattle.fsrm_outside.specs.Causes.{HasCause, count_after};
+ghost use Rattle.std.specs.Prelude.{◌≡◌, ◌≤◌, ◌<◌, length, IfOk, IfSome};
 
-use crate::{Failed, Outside, Sink, Source};
+use crate::{Disk, Failed, Outside, Part, Sink, Source};
 use fsrm_base::NoMemory;
 use std::alloc::Global;
+use std::fs::{File, OpenOptions};
 use std::io::{ErrorKind, Read, Stdin, Stdout, Write};
+use std::os::unix::fs::FileExt;
 
 // How often one call is made where a signal cuts each attempt short.
 const ATTEMPTS: usize = 64;
 
-/// Standard input and standard output, without a buffer.
+// The most bytes that a part may have.
+const MOST: u64 = 1 << 62;
+
+const FILE_OF_ZERO: &str = "fsrm.store.0";
+const FILE_OF_ONE: &str = "fsrm.store.1";
+
+/// Standard input and standard output, without a buffer, and the files `fsrm.store.0` and
+/// `fsrm.store.1` of the current folder.
 ///
-/// It tells no contents, since no clause can say what a stream of the process gives or takes. A call
+/// It tells no contents, since no clause can say what the system gives or takes. A call
 /// that a signal cuts short is made again; one that is cut short 64 times has failed. A write to a
-/// pipe that nobody reads fails like any other, and ends no process. Failed reads and writes are
-/// counted, each up to `u64::MAX`.
+/// pipe that nobody reads fails like any other, and ends no process. Failed reads, writes and calls of
+/// the disk are counted, each up to `u64::MAX`.
+///
+/// The first call of the disk opens both files, and makes those that are missing. So nothing is left
+/// in the folder by a process that keeps nothing. Where a file can't be opened, the call has failed,
+/// and the next one tries again. A sync also syncs the folder, which the names of new files are kept in.
 #[derive(Drop)]
 pub struct RealOutside {
+    system: HostRuntime,
     input: Stdin,
     output: Stdout,
+    zero: Option<File>,
+    one: Option<File>,
     read_faults: u64,
     write_faults: u64,
+    disk_faults: u64,
 }
 
 impl RealOutside {
-    /// The streams of the process, which are open already, with no failed call counted. The streams
-    /// need no memory, so this never answers `NoMemory`; a device with more to open may.
+    /// The streams of the process, which are open already, with no failed call counted. They need no
+    /// memory, and the files are opened later, so this never answers `NoMemory`.
     pub fn new(rt: &HostRuntime, _alloc: Global) -> Result<RealOutside, NoMemory>
         ensures read_faults { IfOk result (λ o. ⟦<RealOutside as Source>⟧.read_faults o ≡ 0) }
         ensures write_faults { IfOk result (λ o. ⟦<RealOutside as Sink>⟧.write_faults o ≡ 0) }
+        ensures disk_faults { IfOk result (λ o. ⟦<RealOutside as Disk>⟧.disk_faults o ≡ 0) }
     {
         Ok(RealOutside {
+            system: *rt,
             input: rt.stdin(),
             output: rt.stdout(),
+            zero: None,
+            one: None,
             read_faults: 0,
             write_faults: 0,
+            disk_faults: 0,
         })
     }
+
+    // Opens the files that aren't open yet.
+    fn open_files(&mut self)
+        ensures read_faults { self.new.read_faults ≡ self.old.read_faults }
+        ensures write_faults { self.new.write_faults ≡ self.old.write_faults }
+        ensures disk_faults { self.new.disk_faults ≡ self.old.disk_faults }
+    {
+        if self.zero.is_none() {
+            self.zero = opened(&self.system, FILE_OF_ZERO);
+        }
+        if self.one.is_none() {
+            self.one = opened(&self.system, FILE_OF_ONE);
+        }
+    }
+
+    fn file(&self, part: Part) -> Option<&File> {
+        match part {
+            Part::Zero => self.zero.as_ref(),
+            Part::One => self.one.as_ref(),
+        }
+    }
+}
+
+fn opened(rt: &HostRuntime, path: &str) -> Option<File> {
+    OpenOptions::new()
+        .read(true)
+        .write(true)
+        .create(true)
+        .open(rt, path)
+        .ok()
 }
 
 // One read, made again where a signal cut it short.
@@ -71,18 +121,70 @@ fn write_some(output: &mut Stdout, bytes: &[u8]) -> Result<usize, Failed>
     Err(Failed)
 }
 
+// How long the file is.
+fn length_of(file: Option<&File>) -> Option<u64> {
+    match file?.metadata() {
+        Ok(data) => Some(data.len()),
+        Err(_) => None,
+    }
+}
+
+// Fills the buffer from a place on, up to the file's end, however little one read gives.
+fn filled(file: Option<&File>, place: u64, into: &mut [u8]) -> Option<usize>
+    ensures { IfSome result (λ n. n ≤ length into.new) }
+{
+    let file = file?;
+    let mut done = 0;
+    for _ in 0..u64::MAX {
+        if done >= into.len() {
+            return Some(done);
+        }
+        match file.read_at(&mut into[done..], place.wrapping_add(done as u64)) {
+            Ok(0) => return Some(done),
+            Ok(count) => done += count,
+            Err(error) if error.kind() == ErrorKind::Interrupted => {}
+            Err(_) => return None,
+        }
+    }
+    None
+}
+
+fn is_written(file: Option<&File>, place: u64, bytes: &[u8]) -> bool {
+    match file {
+        Some(file) => file.write_all_at(bytes, place).is_ok(),
+        None => false,
+    }
+}
+
+fn is_synced(file: Option<&File>) -> bool {
+    match file {
+        Some(file) => file.sync_all().is_ok(),
+        None => false,
+    }
+}
+
+// Makes stable which files the folder has.
+fn is_folder_synced(rt: &HostRuntime) -> bool {
+    match File::open(rt, ".") {
+        Ok(folder) => folder.sync_all().is_ok(),
+        Err(_) => false,
+    }
+}
+
 impl Source for RealOutside {
-    ghost use Rattle.fsrm_outside.specs.RealOutside.{read_faults_of, write_faults_of};
+    ghost use Rattle.std.specs.Prelude.{None};
+    ghost use Rattle.fsrm_outside.specs.Causes.{HasCause, count_after};
+    ghost use Rattle.fsrm_outside.specs.RealOutside.{ByRead, read_faults_of, read_same, read_then};
 
     ghost left = { λ _. None };
 
     ghost read_faults = { read_faults_of };
 
-    ghost by_read = { λ a b. write_faults_of b ≡ write_faults_of a };
+    ghost by_read = { ByRead };
 
     fn read(&mut self, into: &mut [u8]) -> Result<usize, Failed>
         ensures count { IfOk result (λ n. n ≤ length into.new) }
-        ensures by { write_faults_of self.new ≡ write_faults_of self.old }
+        ensures by { ByRead self.old self.new }
         ensures cause { HasCause (read_faults_of self.old) (read_faults_of self.new) result }
         ensures counted { read_faults_of self.new ≡ count_after (read_faults_of self.old) result }
     {
@@ -93,24 +195,30 @@ impl Source for RealOutside {
         answer
     }
 
-    ghost read_same = { λ a. refl };
+    ghost read_same = { read_same };
 
-    ghost read_then = { λ a b c p q. q ∙ p };
+    ghost read_then = { read_then };
 }
 
 impl Sink for RealOutside {
-    ghost use Rattle.fsrm_outside.specs.RealOutside.{read_faults_of, write_faults_of};
+    ghost use Rattle.std.specs.Prelude.{None, [], refl};
+    ghost use Rattle.fsrm_outside.specs.Causes.{HasCause, count_after};
+    ghost use Rattle.fsrm_outside.specs.RealOutside.{ByWrite, write_faults_of, write_same, write_then, untold};
 
     ghost shown = { λ _. None };
 
+    ghost sink_clock = { λ _. None };
+
+    ghost shown_at = { λ _ _. [] };
+
     ghost write_faults = { write_faults_of };
 
-    ghost by_write = { λ a b. read_faults_of b ≡ read_faults_of a };
+    ghost by_write = { ByWrite };
 
     fn write(&mut self, bytes: &[u8]) -> Result<usize, Failed>
         ensures count { IfOk result (λ n. n ≤ length bytes.now) }
         ensures some { IfOk result (λ n. 0 < length bytes.now → 0 < n) }
-        ensures by { read_faults_of self.new ≡ read_faults_of self.old }
+        ensures by { ByWrite self.old self.new }
         ensures cause { HasCause (write_faults_of self.old) (write_faults_of self.new) result }
         ensures counted { write_faults_of self.new ≡ count_after (write_faults_of self.old) result }
     {
@@ -121,13 +229,103 @@ impl Sink for RealOutside {
         answer
     }
 
-    ghost write_same = { λ a. refl };
+    ghost write_same = { write_same };
 
-    ghost write_then = { λ a b c p q. q ∙ p };
+    ghost write_then = { write_then };
+
+    ghost write_later = { λ a b by. tt };
+
+    ghost write_past = { λ a b t m by told few. refl };
+
+    ghost shown_now = { λ a t told. untold t _ told };
+
+    ghost shown_grows = { λ a t m n told first second. untold t _ told };
+}
+
+impl Disk for RealOutside {
+    ghost use Rattle.std.specs.Prelude.{None};
+    ghost use Rattle.fsrm_outside.specs.RealOutside.{ByDisk, disk_faults_of, disk_same, disk_then, untold};
+
+    ghost reads = { λ _. None };
+
+    ghost disk_clock = { λ _. None };
+
+    ghost images = { λ _ _ _. Unit {0} };
+
+    ghost disk_faults = { disk_faults_of };
+
+    ghost by_disk = { ByDisk };
+
+    fn len(&mut self, part: Part) -> Result<u64, Failed> {
+        self.open_files();
+        match length_of(self.file(part)) {
+            Some(length) if length <= MOST => Ok(length),
+            _ => {
+                self.disk_faults = self.disk_faults.saturating_add(1);
+                Err(Failed)
+            }
+        }
+    }
+
+    fn read_at(&mut self, part: Part, place: u64, into: &mut [u8]) -> Result<usize, Failed> {
+        self.open_files();
+        match filled(self.file(part), place, into) {
+            Some(count) => Ok(count),
+            None => {
+                self.disk_faults = self.disk_faults.saturating_add(1);
+                Err(Failed)
+            }
+        }
+    }
+
+    fn write_at(&mut self, part: Part, place: u64, bytes: &[u8]) -> Result<(), Failed> {
+        self.open_files();
+        let count = bytes.len() as u64;
+        let fits = count <= MOST && place <= MOST - count;
+        if !fits || !is_written(self.file(part), place, bytes) {
+            self.disk_faults = self.disk_faults.saturating_add(1);
+            return Err(Failed);
+        }
+        Ok(())
+    }
+
+    fn sync(&mut self) -> Result<(), Failed> {
+        self.open_files();
+        let files = is_synced(self.zero.as_ref()) && is_synced(self.one.as_ref());
+        if !files || !is_folder_synced(&self.system) {
+            self.disk_faults = self.disk_faults.saturating_add(1);
+            return Err(Failed);
+        }
+        Ok(())
+    }
+
+    ghost disk_same = { disk_same };
+
+    ghost disk_then = { disk_then };
+
+    ghost disk_later = { λ a b by. tt };
+
+    ghost disk_past = { λ a b t m image by told few. untold t _ told };
+
+    ghost reads_now = { λ a t parts told is. untold t _ told };
+
+    ghost tells_reads = { λ a t told. untold t _ told };
 }
 
 impl Outside for RealOutside {
-    ghost read_keeps_sink = { λ a b by. record { same_shown = refl; same_faults = by } };
+    ghost use Rattle.fsrm_outside.specs.RealOutside.{disk_stays, sink_stays, source_stays, untold};
 
-    ghost write_keeps_source = { λ a b by. record { same_left = refl; same_faults = by } };
+    ghost one_clock = { λ a s t sink disk. untold s _ sink };
+
+    ghost read_keeps_disk = { λ a b by. disk_stays a b by.disk_faults };
+
+    ghost read_keeps_sink = { λ a b by. sink_stays a b by.write_faults };
+
+    ghost write_keeps_disk = { λ a b by. disk_stays a b by.disk_faults };
+
+    ghost write_keeps_source = { λ a b by. source_stays a b by.read_faults };
+
+    ghost disk_keeps_sink = { λ a b by. sink_stays a b by.write_faults };
+
+    ghost disk_keeps_source = { λ a b by. source_stays a b by.read_faults };
 }

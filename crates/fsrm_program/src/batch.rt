@@ -26,7 +26,14 @@ impl Batch {
 }
 
 impl Sink for Batch {
+    ghost use Rattle.std.specs.Prelude.{None, refl};
+
     ghost shown = { λ batch. Some batch.bytes.items };
+
+    // It keeps no record of earlier moments.
+    ghost sink_clock = { λ _. None };
+
+    ghost shown_at = { λ _ _. [] };
 
     ghost write_faults = { λ batch. batch.faults };
 
@@ -43,4 +50,12 @@ impl Sink for Batch {
     ghost write_same = { λ a. tt };
 
     ghost write_then = { λ a b c p q. tt };
+
+    ghost write_later = { λ a b by. tt };
+
+    ghost write_past = { λ a b t m by told few. refl };
+
+    ghost shown_now = { λ a t told. absurd (Prim.cc) };
+
+    ghost shown_grows = { λ a t m n told first second. absurd (Prim.cc) };
 }

@@ -9,6 +9,8 @@ mod commands;
 #[cfg(test)]
 mod devices;
 #[cfg(test)]
+mod disks;
+#[cfg(test)]
 mod engines;
 #[cfg(test)]
 mod groups;

@@ -1,0 +1,36 @@
+//! Why a call of the journal is refused.
+
+ghost use Rattle.std.specs.Prelude.{◌≡◌};
+
+use fsrm_outside::{Failed, Part};
+use thiserror::Error;
+
+/// Why a call of the journal is refused.
+#[derive(Clone, Copy, Debug, PartialEq, Eq, Drop, Error)]
+pub enum JournalFault {
+    /// Neither part's gate is open.
+    #[error("no store here")]
+    NoStore,
+    /// A part's gate is open.
+    #[error("a store is here already")]
+    AlreadyStore,
+    /// The first byte that is missing or isn't legal.
+    #[error("store damaged at {part:?}, place {place}")]
+    Damaged { part: Part, place: u64 },
+    /// A call of the disk failed, and was counted. The journal has to be opened again.
+    #[error("store device failed")]
+    DiskFault,
+    /// There is no memory for the records that are held.
+    #[error("out of memory")]
+    NoMemory,
+}
+
+impl From<Failed> for JournalFault {
+    ghost use Rattle.fsrm_journal.specs.declared.fault.JournalFault.TheVariants.{DiskFault};
+
+    ghost from_gives = { λ _ e. e ≡ DiskFault };
+
+    fn from(_failed: Failed) -> Self {
+        JournalFault::DiskFault
+    }
+}

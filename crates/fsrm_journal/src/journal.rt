@@ -1,0 +1,189 @@
+//! The journal: where its first closed gate stands, and the records that are held.
+
+ghost use Rattle.std.specs.Prelude.{◌≡◌, ◌≢◌, ◌≤◌, ◌<◌, ◌+◌, ◌-◌, ◌*◌, ◌^◌, ℕ, List, [], ◌∷◌, ◌++◌, length, vec_capacity, true, false, Err, IfOk, OnOk, OnErr};
+ghost use Rattle.byteorder.specs.Endian.{little_bytes};
+ghost use Rattle.std.specs.Option.{ForSome};
+ghost use Rattle.fsrm_outside.specs.Causes.{HasCause};
+ghost use Rattle.fsrm_outside.specs.Moments.{EachImage};
+ghost use Rattle.fsrm_outside.specs.Parts.{part_of};
+ghost use Rattle.fsrm_journal.specs.Records.{batch, counted, Holds, HoldsAllOrNone, Log, Settled};
+
+ghost use Rattle.fsrm_journal.specs.declared.fault.JournalFault.TheVariants.{DiskFault};
+
+use crate::batches::{open_gate, stage};
+use crate::fault::JournalFault;
+use byteorder::{ByteOrder, LittleEndian};
+use fsrm_base::NoMemory;
+use fsrm_outside::{Disk, Part};
+use std::alloc::Global;
+
+/// The most bytes that a record takes: its gate, its length and its body.
+const MOST_RECORD: usize = 131_077;
+
+/// The records of the half that rules: where they end, and those that are held until a flush.
+#[derive(Drop)]
+pub struct Journal {
+    ruling: Part,
+    // Where the first closed gate stands.
+    end: u64,
+    // The records that are held, without the first one's gate.
+    bytes: Vec<u8>,
+    held: u32,
+    group: u32,
+    ghost in_part: { end ≤ 2 ^ 62 },
+    ghost room: { group * 131077 ≤ vec_capacity bytes },
+    ghost fits: { length bytes.items ≤ held * 131077 - 1 },
+    ghost few: { held ≤ group },
+    ghost groups: { group ≤ 1024 },
+}
+
+// A length as a record spells it.
+fn spelled(len: usize) -> [u8; 4]
+    requires { len ≤ 131072 }
+    ensures { result ≡ little_bytes 4 len }
+{
+    let mut bytes = [0; 4];
+    LittleEndian::write_u32(&mut bytes, len as u32);
+    bytes
+}
+
+impl Journal {
+    /// How many records are held.
+    pub fn held(&self) -> u32
+        ensures { result ≡ self.now.held }
+    {
+        self.held
+    }
+
+    /// Makes room for groups of `n` records. `NoMemory`: there is no memory for them, and the room stays as it was.
+    pub fn set_group(&mut self, alloc: Global, n: u32) -> Result<(), NoMemory>
+        requires few { 1 ≤ n }
+        requires most { n ≤ 1024 }
+        requires none { self.old.held ≡ 0 }
+        ensures ok { OnOk result (self.new.group ≡ n) }
+        ensures err { OnErr result (self.new.group ≡ self.old.group) }
+        ensures ruling { self.new.ruling ≡ self.old.ruling }
+        ensures end { self.new.end ≡ self.old.end }
+        ensures held { self.new.held ≡ 0 }
+        ensures bytes { self.new.bytes.items ≡ self.old.bytes.items }
+    {
+        self.bytes.try_reserve(n as usize * MOST_RECORD)?;
+        self.group = n;
+        Ok(())
+    }
+
+    /// Holds a record, for which there is room.
+    pub fn hold(&mut self, body: &[u8])
+        requires some { 1 ≤ length body.now }
+        requires most { length body.now ≤ 131072 }
+        requires room { self.old.held < self.old.group }
+        ensures held { (bodies : List (List ℕ)) → length bodies ≡ self.old.held → self.old.bytes.items ≡ batch bodies → self.new.bytes.items ≡ batch (bodies ++ body.now ∷ []) }
+        ensures count { self.new.held ≡ self.old.held + 1 }
+        ensures group { self.new.group ≡ self.old.group }
+        ensures ruling { self.new.ruling ≡ self.old.ruling }
+        ensures end { self.new.end ≡ self.old.end }
+    {
+        let first = self.held == 0;
+        append_record(&mut self.bytes, first, body);
+        self.held += 1;
+    }
+
+    /// Makes the records that are held stable, all of them or, where a crash comes between, none.
+    pub fn flush<D: Disk>(&mut self, disk: &mut D) -> Result<(), JournalFault>
+        requires place { ForSome (D.reads disk.old) (λ parts. self.old.end < length (part_of self.old.ruling parts)) }
+
+        ensures added { (log : Log) (bodies held : List (List ℕ)) → length held ≡ self.old.held → self.old.bytes.items ≡ batch held
+            → Settled D.reads D.disk_clock D.images log bodies self.old.ruling self.old.end disk.old
+            → OnOk result (Settled D.reads D.disk_clock D.images log (bodies ++ held) self.new.ruling self.new.end disk.new) }
+        ensures any_moment { (log : Log) (bodies held : List (List ℕ)) → length held ≡ self.old.held → self.old.bytes.items ≡ batch held
+            → Settled D.reads D.disk_clock D.images log bodies self.old.ruling self.old.end disk.old
+            → EachImage D.disk_clock D.images (HoldsAllOrNone log bodies held) disk.old disk.new }
+        ensures none { OnOk result (self.new.held ≡ 0) }
+        ensures empty { OnOk result (self.new.bytes.items ≡ []) }
+        ensures group { self.new.group ≡ self.old.group }
+        ensures ready { OnOk result (ForSome (D.reads disk.new) (λ parts. self.new.end < length (part_of self.new.ruling parts))) }
+        ensures by { D.by_disk disk.old disk.new }
+        ensures only { OnErr result (result ≡ Err DiskFault) }
+        ensures cause { HasCause (D.disk_faults disk.old) (D.disk_faults disk.new) result }
+    {
+        if self.held == 0 {
+            return Ok(());
+        }
+        let len = self.bytes.len();
+        close_last(&mut self.bytes);
+        let staged = stage(disk, self.ruling, self.end, &self.bytes);
+        self.bytes.truncate(len);
+        let next = staged?;
+        open_gate(disk, self.ruling, self.end)?;
+        self.end = next;
+        self.bytes.clear();
+        self.held = 0;
+        Ok(())
+    }
+
+    /// Makes a record stable.
+    pub fn append<D: Disk>(&mut self, disk: &mut D, body: &[u8]) -> Result<(), JournalFault>
+        requires some { 1 ≤ length body.now }
+        requires most { length body.now ≤ 131072 }
+        requires none { self.old.held ≡ 0 }
+        requires group { 1 ≤ self.old.group }
+        requires place { ForSome (D.reads disk.old) (λ parts. self.old.end < length (part_of self.old.ruling parts)) }
+
+        ensures added { (log : Log) (bodies : List (List ℕ)) → Settled D.reads D.disk_clock D.images log bodies self.old.ruling self.old.end disk.old
+            → OnOk result (Settled D.reads D.disk_clock D.images log (bodies ++ body.now ∷ []) self.new.ruling self.new.end disk.new) }
+        ensures any_moment { (log : Log) (bodies : List (List ℕ)) → Settled D.reads D.disk_clock D.images log bodies self.old.ruling self.old.end disk.old
+            → EachImage D.disk_clock D.images (HoldsAllOrNone log bodies (body.now ∷ [])) disk.old disk.new }
+        ensures none { OnOk result (self.new.held ≡ 0) }
+        ensures group { self.new.group ≡ self.old.group }
+        ensures ready { OnOk result (ForSome (D.reads disk.new) (λ parts. self.new.end < length (part_of self.new.ruling parts))) }
+        ensures by { D.by_disk disk.old disk.new }
+        ensures only { OnErr result (result ≡ Err DiskFault) }
+        ensures cause { HasCause (D.disk_faults disk.old) (D.disk_faults disk.new) result }
+    {
+        self.hold(body);
+        self.flush(disk)
+    }
+}
+
+// The gate before a record, but not before the first one.
+fn open_between(bytes: &mut Vec<u8>, first: bool)
+    requires { length bytes.old.items < vec_capacity bytes.old }
+    ensures first { first ≡ true → bytes.new.items ≡ bytes.old.items }
+    ensures more { first ≡ false → bytes.new.items ≡ bytes.old.items ++ 1 ∷ [] }
+    ensures room { vec_capacity bytes.old ≤ vec_capacity bytes.new }
+{
+    if !first {
+        if bytes.push(1).is_err() {
+            unreachable!()
+        }
+    }
+}
+
+// Adds a record to those that are held.
+fn append_record(bytes: &mut Vec<u8>, first: bool, body: &[u8])
+    requires most { length body.now ≤ 131072 }
+    requires room { length bytes.old.items + 131077 ≤ vec_capacity bytes.old }
+    ensures first { first ≡ true → bytes.new.items ≡ bytes.old.items ++ counted body.now }
+    ensures more { first ≡ false → bytes.new.items ≡ bytes.old.items ++ 1 ∷ counted body.now }
+    ensures room { vec_capacity bytes.old ≤ vec_capacity bytes.new }
+{
+    let count = spelled(body.len());
+    open_between(bytes, first);
+    if bytes.extend_from_slice(&count).is_err() {
+        unreachable!()
+    }
+    if bytes.extend_from_slice(body).is_err() {
+        unreachable!()
+    }
+}
+
+// A closed gate after the records that are held.
+fn close_last(bytes: &mut Vec<u8>)
+    requires { length bytes.old.items < vec_capacity bytes.old }
+    ensures bytes { bytes.new.items ≡ bytes.old.items ++ 0 ∷ [] }
+    ensures room { vec_capacity bytes.old ≤ vec_capacity bytes.new }
+{
+    if bytes.push(0).is_err() {
+        unreachable!()
+    }
+}

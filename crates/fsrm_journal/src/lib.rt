@@ -1,0 +1,14 @@
+//! Records on a disk that a crash cuts between two of them, never inside one.
+//!
+//! One of the two parts rules. After its head and its image come records, each with a gate before it, and a closed gate
+//! ends them. A record is written after the closed gate, with the next closed gate after it, and synced; then its gate is
+//! opened, and synced. So whatever a crash leaves, the records are those from before the call, or these and all of the
+//! new ones.
+#![tactic(auto)]
+
+mod batches;
+mod fault;
+mod journal;
+
+pub use fault::JournalFault;
+pub use journal::Journal;

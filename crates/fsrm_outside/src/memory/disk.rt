@@ -1,0 +1,160 @@
+//! The disk in memory.
+
+ghost use Rattle.std.specs.Prelude.{◌≡◌, ◌⊎◌, ◌+◌, ◌^◌, ◌≤◌, ◌<◌, ℕ, Some, IfOk, OnErr, OnOk, IsErr, take, drop, length};
+ghost use Rattle.std.specs.Option.{ForSome};
+ghost use Rattle.fsrm_outside.specs.Causes.{HasCause, count_after};
+ghost use Rattle.fsrm_outside.specs.Changes.{Same, Through, Torn, Written};
+ghost use Rattle.fsrm_outside.specs.Parts.{Parts, part_of};
+ghost use Rattle.fsrm_outside.specs.Plan.{FailsNext, GoesBy};
+
+use crate::calls::Call;
+use crate::contents::fill_from;
+use crate::memory::MemoryOutside;
+use crate::traits::{Disk, Failed, Outside, Part};
+
+// The most bytes that a part may have.
+const MOST: u64 = 1 << 62;
+
+impl Disk for MemoryOutside {
+    ghost use Rattle.fsrm_outside.specs.MemoryOutside.{ByDisk, disk_faults_of, images_of, parts_of, plan_of, time_of};
+    ghost use Rattle.fsrm_outside.specs.MemoryLaws.{disk_same, disk_then, disk_later, disk_past, reads_now, tells_reads};
+
+    ghost reads = { λ o. Some (parts_of o) };
+
+    ghost disk_clock = { λ o. Some (time_of o) };
+
+    ghost images = { images_of };
+
+    ghost disk_faults = { disk_faults_of };
+
+    ghost by_disk = { ByDisk };
+
+    /// Fails where it is told to, where there is no memory for the record, and for a part of more than 2^62 bytes.
+    fn len(&mut self, part: Part) -> Result<u64, Failed>
+        ensures length { IfOk result (λ n. n ≡ length (part_of part (parts_of self.old))) }
+        ensures bound { IfOk result (λ n. n ≤ 2 ^ 62) }
+        ensures reads { parts_of self.new ≡ parts_of self.old }
+        ensures crash { Through (λ o. Some (time_of o)) images_of Same self.old self.new }
+        ensures by { ByDisk self.old self.new }
+        ensures cause { HasCause (disk_faults_of self.old) (disk_faults_of self.new) result }
+
+        ensures told { FailsNext (plan_of self.old) → IsErr result }
+        ensures only { OnErr result (FailsNext (plan_of self.old) ⊎ (plan_of self.new ≡ plan_of self.old) ⊎ (2 ^ 62 < length (part_of part (parts_of self.old)))) }
+        ensures plan { GoesBy (plan_of self.old) (plan_of self.new) }
+        ensures counted { disk_faults_of self.new ≡ count_after (disk_faults_of self.old) result }
+    {
+        let fails = self.fails_next();
+        let kept = self.history.note(Call::Len);
+        let length = self.history.part(part).len() as u64;
+        if fails || !kept || length > MOST {
+            self.disk_faults = self.disk_faults.saturating_add(1);
+            return Err(Failed);
+        }
+        Ok(length)
+    }
+
+    /// Fails where it is told to, and where there is no memory for the record.
+    fn read_at(&mut self, part: Part, place: u64, into: &mut [u8]) -> Result<usize, Failed>
+        ensures count { IfOk result (λ n. n ≤ length into.new) }
+        ensures bytes { IfOk result (λ n. take n into.new ≡ take (length into.old) (drop place (part_of part (parts_of self.old)))) }
+        ensures reads { parts_of self.new ≡ parts_of self.old }
+        ensures crash { Through (λ o. Some (time_of o)) images_of Same self.old self.new }
+        ensures by { ByDisk self.old self.new }
+        ensures cause { HasCause (disk_faults_of self.old) (disk_faults_of self.new) result }
+
+        ensures told { FailsNext (plan_of self.old) → IsErr result }
+        ensures only { OnErr result (FailsNext (plan_of self.old) ⊎ (plan_of self.new ≡ plan_of self.old)) }
+        ensures plan { GoesBy (plan_of self.old) (plan_of self.new) }
+        ensures counted { disk_faults_of self.new ≡ count_after (disk_faults_of self.old) result }
+    {
+        let fails = self.fails_next();
+        let kept = self.history.note(Call::ReadAt);
+        if fails || !kept {
+            self.disk_faults = self.disk_faults.saturating_add(1);
+            return Err(Failed);
+        }
+        Ok(fill_from(self.history.part(part), place, into))
+    }
+
+    /// Fails where it is told to, where there is no memory for the part or for the record, and past 2^62 bytes. What a
+    /// read gives then stays.
+    fn write_at(&mut self, part: Part, place: u64, bytes: &[u8]) -> Result<(), Failed>
+        requires { ForSome (Some (parts_of self.old)) (λ parts. place ≤ length (part_of part parts)) }
+        ensures written { OnOk result (parts_of self.new ≡ Written part place bytes.now (parts_of self.old)) }
+        ensures bound { OnOk result (place + length bytes.now ≤ 2 ^ 62) }
+        ensures failed { OnErr result (ForSome (Some (parts_of self.old)) (λ parts. (torn : Parts) × (Some (parts_of self.new) ≡ Some torn) × Torn part place (length bytes.now) parts torn)) }
+        ensures crash { Through (λ o. Some (time_of o)) images_of (Torn part place (length bytes.now)) self.old self.new }
+        ensures by { ByDisk self.old self.new }
+        ensures cause { HasCause (disk_faults_of self.old) (disk_faults_of self.new) result }
+
+        ensures told { FailsNext (plan_of self.old) → IsErr result }
+        ensures stays { OnErr result (parts_of self.new ≡ parts_of self.old) }
+        ensures plan { GoesBy (plan_of self.old) (plan_of self.new) }
+        ensures counted { disk_faults_of self.new ≡ count_after (disk_faults_of self.old) result }
+    {
+        let count = bytes.len() as u64;
+        if self.fails_next() || count > MOST || place > MOST - count {
+            self.history.fail_at(part, place, bytes.len());
+            self.disk_faults = self.disk_faults.saturating_add(1);
+            return Err(Failed);
+        }
+        if !self.history.write_at(self.alloc, part, place, bytes) {
+            self.history.fail_at(part, place, bytes.len());
+            self.disk_faults = self.disk_faults.saturating_add(1);
+            return Err(Failed);
+        }
+        Ok(())
+    }
+
+    /// Fails where it is told to, and where there is no memory for the record.
+    fn sync(&mut self) -> Result<(), Failed>
+        ensures durable { (t : ℕ) (image : Parts) → OnOk result (Some (time_of self.new) ≡ Some t → images_of self.new t image → Some (parts_of self.new) ≡ Some image) }
+        ensures reads { parts_of self.new ≡ parts_of self.old }
+        ensures crash { Through (λ o. Some (time_of o)) images_of Same self.old self.new }
+        ensures by { ByDisk self.old self.new }
+        ensures cause { HasCause (disk_faults_of self.old) (disk_faults_of self.new) result }
+
+        ensures told { FailsNext (plan_of self.old) → IsErr result }
+        ensures only { OnErr result (FailsNext (plan_of self.old) ⊎ (plan_of self.new ≡ plan_of self.old)) }
+        ensures plan { GoesBy (plan_of self.old) (plan_of self.new) }
+        ensures counted { disk_faults_of self.new ≡ count_after (disk_faults_of self.old) result }
+    {
+        let fails = self.fails_next();
+        let kept = self.history.note(Call::Sync(!fails));
+        if fails || !kept {
+            self.disk_faults = self.disk_faults.saturating_add(1);
+            return Err(Failed);
+        }
+        Ok(())
+    }
+
+    ghost disk_same = { disk_same };
+
+    ghost disk_then = { disk_then };
+
+    ghost disk_later = { disk_later };
+
+    ghost disk_past = { disk_past };
+
+    ghost reads_now = { reads_now };
+
+    ghost tells_reads = { tells_reads };
+}
+
+impl Outside for MemoryOutside {
+    ghost use Rattle.fsrm_outside.specs.MemoryLaws.{one_clock, read_keeps_disk, read_keeps_sink, write_keeps_disk, write_keeps_source, disk_keeps_sink, disk_keeps_source};
+
+    ghost one_clock = { one_clock };
+
+    ghost read_keeps_disk = { read_keeps_disk };
+
+    ghost read_keeps_sink = { read_keeps_sink };
+
+    ghost write_keeps_disk = { write_keeps_disk };
+
+    ghost write_keeps_source = { write_keeps_source };
+
+    ghost disk_keeps_sink = { disk_keeps_sink };
+
+    ghost disk_keeps_source = { disk_keeps_source };
+}
