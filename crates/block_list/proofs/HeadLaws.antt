@@ -9,7 +9,7 @@ use Rattle.std.specs.declared.alloc.Global.{Global}
 use Rattle.block_list.specs.declared.head.Head.{Head}
 use Rattle.block_list.specs.Pool.{run_in, SameBut}
 use Rattle.block_list.specs.Runs.{Shelf, run_at}
-use Rattle.block_list.specs.Heads.{run_of, runs_in, IsHead, mark, held, times, IsLaid, IsLonger, IsValid, TakesBlock}
+use Rattle.block_list.specs.Heads.{run_of, runs_in, IsHead, mark, held, times, IsLaid, IsLonger, IsStore, TakesBlock}
 use Rattle.block_list.proofs.PoolLaws.{length-run_in}
 
 -- ---- blocks that are counted
@@ -291,7 +291,7 @@ module _ {T : Type 0} where
     pub run : run_in pool head.block head.len ≡ run_at (runs_in heads pool) i
     pub first : (d : T) → 0 < head.len → get_or (run_at now i) 0 d ≡ head.first
 
-  pub known : (most : ℕ) (heads : Vec (Head T) Global) (free : Vec ℕ Global) (pool : Vec T Global) (now : Shelf T) (i : ℕ) (head : Head T) → IsValid most heads free pool → shelf most (runs_in heads.items pool.items) ≡ now → i < length now.runs
+  pub known : (most : ℕ) (heads : Vec (Head T) Global) (free : Vec ℕ Global) (pool : Vec T Global) (now : Shelf T) (i : ℕ) (head : Head T) → IsStore most heads free pool → shelf most (runs_in heads.items pool.items) ≡ now → i < length now.runs
       → head ≡ get_or heads.items i head → IsKnown heads.items pool.items now.runs i head
   known most heads free pool now i head store view lt is =
       let hs = heads.items in

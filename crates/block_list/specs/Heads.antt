@@ -49,7 +49,7 @@ pub record IsLaid {T : Type 0} (heads : List (Head T)) (free : List ℕ) (pool :
   pub each : (k : ℕ) (d : Head T) → k < length heads → IsHead pool (slice_index_or heads k d)
 
 -- and there is room for so many runs
-pub record IsValid {T : Type 0} (most : ℕ) (heads : Vec (Head T) Global) (free : Vec ℕ Global) (pool : Vec T Global) : Type 0 where
+pub record IsStore {T : Type 0} (most : ℕ) (heads : Vec (Head T) Global) (free : Vec ℕ Global) (pool : Vec T Global) : Type 0 where
   pub small : most < 4294967296
   pub room : length heads.items + length free.items ≤ most
   pub heads_room : most ≤ vec_capacity heads
