@@ -124,11 +124,3 @@ line_bare TableFull h = refl
 
 pub bare_refusal : (text : List ℕ) (refusal : Refusal) → read_line text ≡ Some (Err refusal) → is_bare refusal ≡ true
 bare_refusal text refusal e = line_bare refusal (line_refusal text refusal e)
-
--- no command makes a report so far
-pub no_report : (outcome : Outcome) → is_report outcome ≡ false
-no_report (Done passive) = refl
-no_report (Sum node bytes) = refl
-no_report (Listing ask) = refl
-no_report (Scanned folder visited used) = refl
-no_report (Refused refusal) = refl

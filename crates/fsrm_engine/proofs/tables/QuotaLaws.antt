@@ -2,6 +2,9 @@
 use Rattle.std.proofs.Common.{◌≡◌, ℕ, ◌≤◌, ◌==◌, Bool, true, false, cond, not, List, [], ◌∷◌, Option, Some, None, refl, ap, sym, ◌∙◌, subst, arith, Bor}
 use Rattle.std.specs.Prelude.{is_some, is_none, unwrap_or, if◌then◌else◌}
 use Rattle.std.specs.Option.{option_copied}
+use Rattle.fsrm_model.specs.declared.command.Answer.{Answer}
+use Rattle.fsrm_model.specs.declared.command.Deed.{Deed}
+use Rattle.fsrm_model.specs.declared.command.Outcome.TheVariants.{Done}
 use Rattle.fsrm_model.specs.declared.command.Refusal.TheVariants.{PathNotFound, NotFound}
 use Rattle.fsrm_model.specs.declared.row.Capacity.{Capacity}
 use Rattle.fsrm_model.specs.declared.row.NodeRow.{NodeRow}
@@ -12,18 +15,23 @@ use Rattle.fsrm_model.specs.FileOps.{target}
 use Rattle.fsrm_base.specs.Keyed.{row_of, has_row, with_change}
 use Rattle.fsrm_model.specs.Leads.{leads_to_folder}
 use Rattle.fsrm_model.specs.Limits.{latest_moment}
-use Rattle.fsrm_model.specs.Quota.{folder_of, counts}
+use Rattle.fsrm_model.specs.Quota.{folder_of, counts, is_limit}
 use Rattle.fsrm_model.specs.QuotaWork.{quota_checks, reset}
+use Rattle.fsrm_model.specs.QuotaStates.{scan_begun}
 use Rattle.fsrm_model.specs.Tree.{usage}
-use Rattle.fsrm_base.proofs.Look.{found_key, found_has, has_found}
-use Rattle.fsrm_objects.specs.Tables.{peaked_at}
+use Rattle.fsrm_model.specs.Valid.{is_moment}
+use Rattle.fsrm_model.specs.Work.{asks}
+use Rattle.fsrm_base.proofs.Look.{found_key, found_has, has_found, changed_key}
+use Rattle.fsrm_objects.specs.Tables.{Tables, peaked_at}
 use Rattle.fsrm_base.proofs.SortedRows.{has_lent}
 use Rattle.quota_usage.specs.declared.change.Counter.{Counter}
 use Rattle.quota_usage.specs.Counters.{used_in}
 use Rattle.fsrm_engine.specs.declared.parts.Parts.{Parts}
-use Rattle.fsrm_engine.specs.Machine.{rows_of, IsCounted, AreCounted}
+use Rattle.fsrm_engine.specs.Machine.{Does, rows_of, ended, IsCounted, AreCounted}
 use Rattle.fsrm_engine.specs.Places.{IsFolder}
+use Rattle.scan_queue.specs.Courses.{left}
 use Rattle.fsrm_engine.proofs.steps.PlaceLaws.{target_is, leads_to_folder_is}
+use Rattle.fsrm_engine.proofs.steps.StepLaws.{asked, done_as, same_own}
 use Rattle.fsrm_base.proofs.RowLaws.{change_same}
 use Rattle.fsrm_engine.proofs.tables.SumLaws.{used_found, sums_kept}
 use Rattle.fsrm_engine.proofs.tables.CountingLaws.{is_moment_of, counted_changed}
@@ -58,12 +66,35 @@ quota_due R path n o =
     at true false a b = refl
     at false b a e = cc
 
+-- A command that changes the quota of a folder, and nothing else: what it does, by the row that the change makes of it
+pub changed_as : (p new : Parts) (m n : ℕ) (deed : Deed) (answer : Answer) (path : List (List ℕ)) (c : QuotaRow → QuotaRow) (tables : Tables) → p.last_moment ≤ m → OnFolder p.tree.nodes p.objects.quotas path n → asked p m deed ≡ asks (quota_checks (rows_of p) path) (record (rows_of p) { quotas = with_change folder_of (target p.tree.nodes path) c p.objects.quotas }) (Done None) true → tables.quotas ≡ with_change folder_of n c p.objects.quotas → new ≡ ended (record p { objects = tables }) m → answer ≡ record { outcome = Done None; lasting = true } → Does p new m deed answer
+changed_as p new m n deed answer path c tables late on is set ends e =
+    let R = rows_of p in
+    done_as p (record p { objects = tables }) new m deed answer tables.quotas p.scans.queue R.unvisited late
+    (ap (λ w. first w.checks) is ∙ quota_due R path n on)
+    (ap (λ w. w.effect) is ∙ ap (λ (qs : List QuotaRow). record R { quotas = qs }) (ap (λ k. with_change folder_of k c p.objects.quotas) (target_is R.nodes path n on.at.resolved) ∙ sym set))
+    (ap (λ w. w.outcome) is) (ap (λ w. w.lasts) is) refl refl refl
+    (sym (ap (λ b. if b then left p.tree.nodes p.scans else scan_begun p.tree.nodes p.scans.queue) (same_own p.scans.queue)))
+    ends e
+
+-- its counters stay, if the quota counts as before
+pub counted_kept : (p : Parts) (n : ℕ) (c : QuotaRow → QuotaRow) → AreCounted p → ((r : QuotaRow) → (c r).folder ≡ r.folder) → ((r : QuotaRow) → counts (c r) ≡ counts r) → ((r : QuotaRow) → row_of folder_of n p.objects.quotas ≡ Some r → is_limit (c r).limit ≡ true) → ((r : QuotaRow) → row_of folder_of n p.objects.quotas ≡ Some r → is_moment (c r).peak_at ≡ true) → (p.level ≡ true → (r : QuotaRow) → row_of folder_of n p.objects.quotas ≡ Some r → counts (c r) ≡ true → usage p.tree.size p.tree.nodes n ≤ (c r).peak) → IsCounted p.tree.size p.tree.nodes (with_change folder_of n c p.objects.quotas) p.usage p.level
+counted_kept p n c e folder counting limit moment peak =
+    let K = p.tree.size in
+    let nodes = p.tree.nodes in
+    counted_changed K nodes p.objects.quotas p.usage p.usage n c e folder limit moment peak
+    (e.sums
+    ∙ sym (sums_kept K nodes (λ r. if folder_of r == n then c r else r) (λ r. changed_key folder_of n c folder (folder_of r == n) r) (λ r. same (folder_of r == n) r) p.objects.quotas))
+  where
+    same : (b : Bool) (r : QuotaRow) → counts (cond b (c r) r) ≡ counts r
+    same true r = counting r
+    same false r = refl
+
 -- with the peak that is used now
 pub counted_reset : (p : Parts) (m n : ℕ) → AreCounted p → m ≤ latest_moment → IsCounted p.tree.size p.tree.nodes (with_change folder_of n (reset p.tree.size (rows_of p) m) p.objects.quotas) p.usage p.level
 counted_reset p m n e late =
-    counted_changed K nodes quotas p.usage p.usage n c e (λ r. refl) (λ r found. e.are_quotas.limits n r found) (λ r found. is_moment_of m late)
-    (λ l r found t. subst (λ k. usage K nodes k ≤ (c r).peak) (found_key folder_of n quotas r found) (at r (counts r) t))
-    (e.sums ∙ sym (sums_kept K nodes (λ r. if folder_of r == n then c r else r) (λ r. same_folder (folder_of r == n) r) (λ r. same_counts (folder_of r == n) r) quotas))
+    counted_kept p n c e (λ r. refl) (λ r. refl) (λ r found. e.are_quotas.limits n r found) (λ r found. is_moment_of m late)
+    (λ l r found t. subst (λ k. usage K nodes k ≤ (c r).peak) (found_key folder_of n p.objects.quotas r found) (at r (counts r) t))
   where
     K : Capacity
     K = p.tree.size
@@ -71,19 +102,8 @@ counted_reset p m n e late =
     nodes : List NodeRow
     nodes = p.tree.nodes
 
-    quotas : List QuotaRow
-    quotas = p.objects.quotas
-
     c : QuotaRow → QuotaRow
     c = reset K (rows_of p) m
-
-    same_folder : (b : Bool) (r : QuotaRow) → (cond b (c r) r).folder ≡ r.folder
-    same_folder true r = refl
-    same_folder false r = refl
-
-    same_counts : (b : Bool) (r : QuotaRow) → counts (cond b (c r) r) ≡ counts r
-    same_counts true r = refl
-    same_counts false r = refl
 
     at : (r : QuotaRow) (b : Bool) → b ≡ true → usage K nodes r.folder ≤ cond b (usage K nodes r.folder) 0
     at r true h = omega arith

@@ -1,17 +1,10 @@
-use Rattle.std.proofs.Common.{refl, ap, sym, ◌∙◌, List}
-use Rattle.std.specs.Prelude.{unwrap_or, if◌then◌else◌}
+use Rattle.std.proofs.Common.{refl, ap, ◌∙◌}
+use Rattle.std.specs.Prelude.{unwrap_or}
 use Rattle.fsrm_model.specs.declared.command.Deed.TheVariants.{QuotaResetpeak}
-use Rattle.fsrm_model.specs.declared.row.QuotaRow.{QuotaRow}
-use Rattle.fsrm_base.specs.Keyed.{with_change}
-use Rattle.fsrm_model.specs.Quota.{folder_of}
-use Rattle.fsrm_model.specs.QuotaStates.{scan_begun}
 use Rattle.fsrm_model.specs.QuotaWork.{reset}
 use Rattle.fsrm_objects.specs.Tables.{Tables}
-use Rattle.scan_queue.specs.Courses.{left}
 use Rattle.fsrm_engine.specs.Machine.{rows_of}
-use Rattle.fsrm_engine.proofs.steps.PlaceLaws.{target_is}
-use Rattle.fsrm_engine.proofs.tables.QuotaLaws.{counted_same, counted_reset, reset_is, has_quota, on_folder, quota_due}
-use Rattle.fsrm_engine.proofs.steps.StepLaws.{done_as, same_own}
+use Rattle.fsrm_engine.proofs.tables.QuotaLaws.{counted_same, counted_reset, reset_is, has_quota, on_folder, changed_as}
 use Rattle.fsrm_engine.proofs.steps.WholeLaws.{sound_ended}
 use Rattle.fsrm_engine.proofs.parts.Parts.quota_resetpeak.Goals as goal
 
@@ -30,17 +23,10 @@ done-requires-clause-counted g c =
 pub returns-clause-ok : goal.returns-clause-ok
 returns-clause-ok g c =
     let p = c.args.self.now in
-    let R = rows_of p in
-    let at = c.in-Some.ensures.folder in
     let is = ap (λ (t : Tables). t.quotas) c.set_peak.ensures
     ∙ reset_is p c.args.moment c.in-Some.folder _ c.requires.whole.sound.counted (c.unwrap_or-used.ensures ∙ ap (λ o. unwrap_or o 0) c.used.ensures) in
-    done_as p (record p { objects = c.set_peak.new.self }) c.done.new.self c.args.moment (QuotaResetpeak c.args.path.now) _ c.set_peak.new.self.quotas p.scans.queue R.unvisited c.requires.late
-    (quota_due R _ _ (on_folder _ _ _ _ c.quota.result at c.quota.ensures c.if-is_none.ensures))
-    (ap (λ (qs : List QuotaRow). record R { quotas = qs })
-    (ap (λ n. with_change folder_of n (reset p.tree.size R c.args.moment) p.objects.quotas) (target_is R.nodes c.args.path.now _ at.resolved) ∙ sym is))
-    refl refl refl refl refl
-    (sym (ap (λ b. if b then left p.tree.nodes p.scans else scan_begun p.tree.nodes p.scans.queue) (same_own p.scans.queue)))
-    c.done.ensures.ended c.done.ensures.answer
+    changed_as p c.done.new.self c.args.moment c.in-Some.folder (QuotaResetpeak c.args.path.now) _ c.args.path.now (reset p.tree.size (rows_of p) c.args.moment) c.set_peak.new.self c.requires.late
+    (on_folder _ _ _ _ c.quota.result c.in-Some.ensures.folder c.quota.ensures c.if-is_none.ensures) refl is c.done.ensures.ended c.done.ensures.answer
 
 pub returns-clause-sound : goal.returns-clause-sound
 returns-clause-sound g c =
