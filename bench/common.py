@@ -16,7 +16,7 @@ def own_program():
 
 
 def rival_program(folder):
-    """The rival, built in this folder; None where there is no compiler for it."""
+    """The rival, built in this folder; None if there is no compiler for it."""
     if shutil.which('rustc') is None:
         return None
     rival = os.path.join(folder, 'rival')

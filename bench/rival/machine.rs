@@ -25,13 +25,13 @@ pub struct Quota {
     pub limit: u64,
     pub hard: bool,
     pub state: State,
-    // 0 where the quota is not complete
+    // 0 if the quota is not complete
     pub used: u64,
     pub peak: u64,
     pub peak_at: u64,
 }
 
-// The scan of the folder at the head of the queue. A folder is visited where it bears the scan's number, so that the
+// The scan of the folder at the head of the queue. A folder is visited if it bears the scan's number, so that the
 // next scan begins with none.
 #[derive(Default)]
 struct Scan {
@@ -173,7 +173,7 @@ impl Machine {
             self.nodes.len() as u32 - 1
         });
         let mut node = Node::new(parent, name, folder, length, owner, moment);
-        // a new folder has nothing to be counted: it is visited where its parent is
+        // a new folder has nothing to be counted: it is visited if its parent is
         node.visited_by = self.node(parent).visited_by;
         if !folder && self.is_visited(parent) {
             self.scan.counted += allocated(length);
@@ -328,7 +328,7 @@ impl Machine {
         Ok(())
     }
 
-    // A quota that is enabled counts at once where its folder is empty, and else waits for its scan.
+    // A quota that is enabled counts at once if its folder is empty, and else waits for its scan.
     pub fn set_enabled(&mut self, folder: u32, enabled: bool) {
         let empty = self.node(folder).children.is_empty();
         let quota = self.quotas.get_mut(&folder).unwrap();
@@ -368,7 +368,7 @@ impl Machine {
         }
     }
 
-    // Where none waits the new scan has nothing to visit, and no folder bears its number.
+    // If none waits the new scan has nothing to visit, and no folder bears its number.
     fn begin_scan(&mut self) {
         let (number, topmost) = (self.scan.number + 1, self.queue.front().copied().into_iter().collect());
         self.scan = Scan { number, topmost, counted: 0 };

@@ -169,7 +169,7 @@ fn take_quota(machine: &mut Machine, moment: u64, words: &[String]) -> Result<St
     Ok(String::new())
 }
 
-// What stands behind the `ok` of a line's reply.
+// What stands after the `ok` of a line's reply.
 fn take(machine: &mut Machine, words: &[String]) -> Result<String, Refusal> {
     let number = |place: usize| words.get(place).and_then(|word| word.parse::<u64>().ok()).ok_or("BadLine");
     let names = |place: usize| words.get(place).ok_or("BadLine").and_then(|word| path(word).ok_or("InvalidPath"));
@@ -212,7 +212,7 @@ fn main() {
             continue;
         }
         match words(line).ok_or("BadLine".into()).and_then(|words| take(&mut machine, &words)) {
-            Ok(behind) => writeln!(replies, "{} ok{behind}", number + 1).unwrap(),
+            Ok(after) => writeln!(replies, "{} ok{after}", number + 1).unwrap(),
             Err(refusal) => writeln!(replies, "{} refused {refusal}", number + 1).unwrap(),
         }
         if replies.len() > 60_000 {
