@@ -48,8 +48,9 @@ abbrev pub machine_of : Parts → Machine
 machine_of parts = record { size = parts.tree.size; rows = rows_of parts; waiting = [] }
 
 -- the parts did what the plain machine does at this deed of this moment
-pub record Does (old new : Parts) (moment : ℕ) (deed : Deed) (answer : Answer) : Type 0 where
-  pub takes : Takes (machine_of old) (machine_of new) (step old.tree.size (rows_of old) (record { moment = moment; deed = deed })) answer
+abbrev pub Does : Parts → Parts → ℕ → Deed → Answer → Type 0
+Does old new moment deed answer =
+    Takes (machine_of old) (machine_of new) (step old.tree.size (rows_of old) (record { moment = moment; deed = deed })) answer
 
 -- what the files at and below a quota's folder take
 abbrev pub counter_of : Capacity → List NodeRow → QuotaRow → Counter

@@ -63,7 +63,7 @@ by_step old new m deed answer s h size rows acts e =
 -- the answer to a command that is refused
 pub refused_as : (p : Parts) (m : ℕ) (deed : Deed) (answer : Answer) (refusal : Refusal) → p.last_moment ≤ m → due p m deed ≡ Some refusal → answer ≡ refused_answer refusal → Does p p m deed answer
 refused_as p m deed answer refusal late h e =
-    record { takes = by_step (machine_of p) (machine_of p) m deed answer (unlasting (rows_of p) (Refused refusal)) (step_by p.tree.size (rows_of p) m deed (Some refusal) late h) refl refl refl e }
+    by_step (machine_of p) (machine_of p) m deed answer (unlasting (rows_of p) (Refused refusal)) (step_by p.tree.size (rows_of p) m deed (Some refusal) late h) refl refl refl e
 
 accepted_by : (K : Capacity) (R : Rows) (m : ℕ) (w : Work) (b : Bool) → w.lasts ≡ b → accepted K R m w ≡ (if b then lasted K R (unacted (followed R w.effect)) m w.outcome else unlasting (followed R w.effect) w.outcome)
 accepted_by K R m w b h = ap (λ b. if b then lasted K R (unacted (followed R w.effect)) m w.outcome else unlasting (followed R w.effect) w.outcome) h
@@ -73,18 +73,18 @@ pub lasting_as : (p new : Parts) (m : ℕ) (deed : Deed) (answer : Answer) (effe
 lasting_as p new m deed answer effect late none made lasts is e =
     let R = rows_of p in
     let w = asked p m deed in
-    record { takes = by_step (machine_of p) (machine_of new) m deed answer (lasted p.tree.size R (unacted (followed R w.effect)) m w.outcome)
+    by_step (machine_of p) (machine_of new) m deed answer (lasted p.tree.size R (unacted (followed R w.effect)) m w.outcome)
     (step_by p.tree.size R m deed None late none ∙ accepted_by p.tree.size R m w true lasts)
-    (ap (λ (o : Machine). o.size) is) (ap (λ (o : Machine). o.rows) is ∙ sym (ap (λ (E : Rows). lasting_rows (machine_of p) E m) made)) (ap (λ (o : Machine). o.waiting) is) e }
+    (ap (λ (o : Machine). o.size) is) (ap (λ (o : Machine). o.rows) is ∙ sym (ap (λ (E : Rows). lasting_rows (machine_of p) E m) made)) (ap (λ (o : Machine). o.waiting) is) e
 
 -- and to one that was done, and doesn't last
 pub passing_as : (p new : Parts) (m : ℕ) (deed : Deed) (answer : Answer) (effect : Rows) → p.last_moment ≤ m → due p m deed ≡ None → (asked p m deed).effect ≡ effect → (asked p m deed).lasts ≡ false → machine_of new ≡ with_rows (machine_of p) (followed (rows_of p) effect) → answer ≡ record { outcome = (asked p m deed).outcome; lasting = false } → Does p new m deed answer
 passing_as p new m deed answer effect late none made lasts is e =
     let R = rows_of p in
     let w = asked p m deed in
-    record { takes = by_step (machine_of p) (machine_of new) m deed answer (unlasting (followed R w.effect) w.outcome)
+    by_step (machine_of p) (machine_of new) m deed answer (unlasting (followed R w.effect) w.outcome)
     (step_by p.tree.size R m deed None late none ∙ accepted_by p.tree.size R m w false lasts)
-    (ap (λ (o : Machine). o.size) is) (ap (λ (o : Machine). o.rows) is ∙ sym (ap (followed R) made)) (ap (λ (o : Machine). o.waiting) is) e }
+    (ap (λ (o : Machine). o.size) is) (ap (λ (o : Machine). o.rows) is ∙ sym (ap (followed R) made)) (ap (λ (o : Machine). o.waiting) is) e
 
 -- the same head is its own
 pub same_own : (queue : List ℕ) → same_head queue queue ≡ true

@@ -27,7 +27,7 @@ pub whole_after : (old new : Parts) (m : ℕ) (deed : Deed) (answer : Answer) �
 whole_after old new m deed answer does sound valid =
     record {
       sound = sound;
-      valid = subst (IsValid new.tree.size) (sym does.takes.rows_are) (subst (λ (K : Capacity). IsValid K (step old.tree.size (rows_of old) (record { moment = m; deed = deed })).rows) (sym does.takes.size_is) valid);
+      valid = subst (IsValid new.tree.size) (sym does.rows_are) (subst (λ (K : Capacity). IsValid K (step old.tree.size (rows_of old) (record { moment = m; deed = deed })).rows) (sym does.size_is) valid);
     }
 
 -- also if memory ran out
@@ -36,19 +36,18 @@ result_whole old new m deed (Ok answer) whole does same sound valid = whole_afte
 result_whole old new m deed (Err e) whole does same sound valid = subst IsWhole (sym same) whole
 
 -- What an answer names is there
-pub does_named : (old new : Parts) (c : Command) (answer : Answer) → Does old new c.moment c.deed answer → IsValid old.tree.size (rows_of old) → IsNamed (rows_of new) answer.outcome
-does_named old new c answer does valid =
-    let stepped = step old.tree.size (rows_of old) c in
-    subst (λ (S : Rows). IsNamed S answer.outcome) (sym does.takes.rows_are)
-    (subst (IsNamed stepped.rows) (sym does.takes.outcome_is) (named old.tree.size (rows_of old) c valid))
+pub takes_named : (old new : Machine) (c : Command) (answer : Answer) → Takes old new (step old.size old.rows c) answer → IsValid old.size old.rows → IsNamed new.rows answer.outcome
+takes_named old new c answer t store =
+    subst (λ (S : Rows). IsNamed S answer.outcome) (sym t.rows_are)
+    (subst (IsNamed (step old.size old.rows c).rows) (sym t.outcome_is) (named old.size old.rows c store))
 
-pub result_named : (old new : Parts) (c : Command) (result : Result Answer Wanting) → IfOk result (λ answer. Does old new c.moment c.deed answer) → IsValid old.tree.size (rows_of old) → IfOk result (λ answer. IsNamed (rows_of new) answer.outcome)
-result_named old new c (Ok answer) does valid = does_named old new c answer does valid
-result_named old new c (Err e) does valid = tt
+pub result_named : (old new : Machine) (c : Command) (result : Result Answer Wanting) → IfOk result (λ answer. Takes old new (step old.size old.rows c) answer) → IsValid old.size old.rows → IfOk result (λ answer. IsNamed new.rows answer.outcome)
+result_named old new c (Ok answer) t store = takes_named old new c answer t store
+result_named old new c (Err e) t store = tt
 
 -- What is known of the parts is known of the machine that is seen
 pub seen_ok : (old new : Parts) (seen : Machine) (c : Command) (result : Result Answer Wanting) → machine_of old ≡ seen → IfOk result (λ answer. Does old new c.moment c.deed answer) → IfOk result (λ answer. Takes seen (machine_of new) (step seen.size seen.rows c) answer)
-seen_ok old new seen c (Ok answer) view does = subst (λ (o : Machine). Takes o (machine_of new) (step o.size o.rows c) answer) view does.takes
+seen_ok old new seen c (Ok answer) view does = subst (λ (o : Machine). Takes o (machine_of new) (step o.size o.rows c) answer) view does
 seen_ok old new seen c (Err e) view does = tt
 
 pub seen_err : (old new : Parts) (seen : Machine) (result : Result Answer Wanting) → machine_of old ≡ seen → OnErr result (new ≡ old) → OnErr result (machine_of new ≡ seen)

@@ -1,4 +1,5 @@
 use Rattle.std.proofs.Common.{arith}
+use Rattle.fsrm_engine.specs.Machine.{machine_of}
 use Rattle.fsrm_engine.proofs.steps.WholeLaws.{result_named, seen_ok, seen_err, seen_cost}
 use Rattle.fsrm_engine.proofs.engine.Engine.apply.Goals as goal
 
@@ -7,7 +8,7 @@ returns-clause-ok g c = seen_ok c.self.inside.parts c.take.new.self c.args.self.
 
 pub returns-clause-named : goal.returns-clause-named
 returns-clause-named g c =
-    result_named c.self.inside.parts c.take.new.self c.args.command.now c.take.result c.take.ensures.ok c.self.invariant.valid
+    result_named (machine_of c.self.inside.parts) (machine_of c.take.new.self) c.args.command.now c.take.result c.take.ensures.ok c.self.invariant.valid
 
 pub returns-clause-err : goal.returns-clause-err
 returns-clause-err g c = seen_err c.self.inside.parts c.take.new.self c.args.self.now c.take.result c.self.view_is c.take.ensures.err

@@ -1,5 +1,6 @@
 use Rattle.std.proofs.Common.{arith}
 use Rattle.fsrm_model.specs.declared.command.Deed.TheVariants.{File}
+use Rattle.fsrm_engine.specs.Machine.{machine_of}
 use Rattle.fsrm_engine.proofs.steps.WholeLaws.{result_named, seen_ok, seen_err, seen_cost}
 use Rattle.fsrm_engine.proofs.engine.Engine.file_op.Goals as goal
 
@@ -8,7 +9,7 @@ returns-clause-ok g c = seen_ok c.self.inside.parts c.file_op.new.self c.args.se
 
 pub returns-clause-named : goal.returns-clause-named
 returns-clause-named g c =
-    result_named c.self.inside.parts c.file_op.new.self (record { moment = c.args.moment; deed = File c.args.op.now }) c.file_op.result c.file_op.ensures.ok c.self.invariant.valid
+    result_named (machine_of c.self.inside.parts) (machine_of c.file_op.new.self) (record { moment = c.args.moment; deed = File c.args.op.now }) c.file_op.result c.file_op.ensures.ok c.self.invariant.valid
 
 pub returns-clause-err : goal.returns-clause-err
 returns-clause-err g c = seen_err c.self.inside.parts c.file_op.new.self c.args.self.now c.file_op.result c.self.view_is c.file_op.ensures.err
