@@ -11,8 +11,8 @@ use Rattle.fsrm_model.specs.declared.command.Ask.TheVariants.{Quotas}
 use Rattle.fsrm_model.specs.declared.command.Outcome.TheVariants.{Done, Sum, Listing, Scanned, Refused}
 use Rattle.fsrm_model.specs.declared.command.Refusal.TheVariants.{QuotaExceeded}
 use Rattle.fsrm_base.specs.Numbers.{without_numbers}
-pub use Rattle.fsrm_model.specs.Asked.{op_cost, more_cost}
-use Rattle.fsrm_model.specs.Entry.{paths}
+pub use Rattle.fsrm_model.specs.Commands.{op_cost, more_cost}
+use Rattle.fsrm_model.specs.Commands.{paths}
 use Rattle.fsrm_model.specs.Scan.{visits}
 use Rattle.fsrm_model.specs.Tree.{children, path_of}
 use Rattle.fsrm_model.specs.Text.{asked}

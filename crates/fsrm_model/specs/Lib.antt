@@ -21,7 +21,7 @@ pub mod FileWork
 pub mod QuotaWork
 pub mod ScanWork
 pub mod Due
-pub mod Asked
+pub mod Commands
 pub mod Step
 pub mod Exceptions
 pub mod Named

@@ -8,7 +8,7 @@ use Rattle.fsrm_model.specs.declared.command.Outcome.{Outcome}
 use Rattle.fsrm_model.specs.declared.command.Outcome.TheVariants.{Refused}
 use Rattle.fsrm_model.specs.declared.command.Refusal.{Refusal}
 use Rattle.fsrm_model.specs.declared.command.Refusal.TheVariants.{ClockBack}
-pub use Rattle.fsrm_model.specs.Asked.{work}
+pub use Rattle.fsrm_model.specs.Commands.{work}
 use Rattle.fsrm_model.specs.Check.{◌when◌, first}
 use Rattle.fsrm_model.specs.Due.{due}
 use Rattle.fsrm_model.specs.Work.{Work, Judged}

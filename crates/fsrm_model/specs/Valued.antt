@@ -6,7 +6,7 @@ use Rattle.std.specs.Option.{option_map_or}
 use Rattle.fsrm_model.specs.declared.command.Command.{Command}
 use Rattle.fsrm_model.specs.declared.command.Deed.{Deed}
 use Rattle.fsrm_model.specs.declared.command.FileOp.{FileOp}
-use Rattle.fsrm_model.specs.Entry.{paths_of_op, paths, has_values_of_op, has_values, entry_bytes}
+use Rattle.fsrm_model.specs.Commands.{paths_of_op, paths, has_values_of_op, has_values, entry_bytes}
 use Rattle.fsrm_model.specs.Limits.{longest_entry}
 use Rattle.fsrm_model.specs.Name.{is_name}
 use Rattle.fsrm_model.specs.Valid.{is_moment}

@@ -15,7 +15,7 @@ ghost use Rattle.fsrm_model.specs.declared.row.NodeRow.{NodeRow};
 ghost use Rattle.fsrm_model.specs.declared.row.QuotaRow.{QuotaRow};
 ghost use Rattle.fsrm_model.specs.declared.row.Rows.{Rows};
 ghost use Rattle.fsrm_model.specs.Date.{date_of};
-ghost use Rattle.fsrm_model.specs.Entry.{kind, emptied};
+ghost use Rattle.fsrm_model.specs.Commands.{kind, emptied};
 ghost use Rattle.fsrm_model.specs.Exceeds.{Exceeds};
 ghost use Rattle.fsrm_model.specs.Exceptions.{MayLeave};
 ghost use Rattle.fsrm_model.specs.FileOps.{plain};

@@ -18,7 +18,7 @@ use Rattle.fsrm_model.specs.declared.row.Capacity.{Capacity}
 use Rattle.fsrm_model.specs.declared.row.NodeRow.{NodeRow}
 use Rattle.fsrm_model.specs.declared.row.QuotaRow.{QuotaRow}
 use Rattle.fsrm_model.specs.declared.row.Rows.{Rows}
-use Rattle.fsrm_model.specs.Entry.{emptied, kind}
+use Rattle.fsrm_model.specs.Commands.{emptied, kind}
 use Rattle.fsrm_model.specs.Exceeds.{Exceeds}
 use Rattle.fsrm_model.specs.Exceptions.{MayLeave}
 use Rattle.fsrm_model.specs.FileOps.{plain}

@@ -26,7 +26,7 @@ use Rattle.fsrm_model.specs.Quota.{folder_of, exceeded}
 use Rattle.fsrm_model.specs.QuotaStates.{head, same_head, scan_begun, followed}
 use Rattle.fsrm_model.specs.Scan.{AreUnvisited, unvisited_with, unvisited_moved}
 use Rattle.fsrm_model.specs.ValidScans.{AreLeft}
-use Rattle.fsrm_model.specs.Entry.{is_owner, is_length}
+use Rattle.fsrm_model.specs.Commands.{is_owner, is_length}
 use Rattle.fsrm_model.specs.Valued.{is_op, is_path}
 use Rattle.fsrm_model.proofs.commands.FileParts.{NewParts, new_parts, new_alone, file_at, may_go, move_parts, move_alone, last_named}
 use Rattle.fsrm_model.proofs.nodes.Keeps.{KeepsNode, MayMove, moves_of, volume-new, volume-change, volume-moved, volume-removed, folder-new, folder-change}

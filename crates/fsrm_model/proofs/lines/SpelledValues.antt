@@ -10,7 +10,8 @@ use Rattle.fsrm_model.specs.declared.command.Command.{Command}
 use Rattle.fsrm_model.specs.declared.command.Deed.{Deed}
 use Rattle.fsrm_model.specs.declared.command.Deed.TheVariants.{File, Usage, Step, QuotaAdd, QuotaModify, QuotaDelete, QuotaScan, QuotaResetpeak, QuotaList}
 use Rattle.fsrm_model.specs.declared.command.FileOp.TheVariants.{Mkdir, Create, Resize, Touch, Move, Remove}
-use Rattle.fsrm_model.specs.Entry.{paths, is_owner, is_length, has_values, kind, number_bytes, choice_bytes, path_bytes, optional, more_bytes}
+use Rattle.fsrm_model.specs.Commands.{paths, is_owner, is_length, has_values, kind, more_bytes}
+use Rattle.fsrm_model.specs.Entry.{number_bytes, choice_bytes, path_bytes, optional}
 use Rattle.fsrm_model.specs.Limits.{latest_moment, longest_line, longest_file, longest_entry, last_owner, most_visits}
 use Rattle.fsrm_model.specs.Options.{Key, Given, PathIs, LimitIs, TypeIs, StatusIs, path_in, limit_in, type_in, status_in, one}
 use Rattle.fsrm_model.specs.Quota.{is_limit}

@@ -1,0 +1,173 @@
+-- What there is to say of each command by itself: its paths and its other values, its entry in a journal, its work, and the
+-- looks that it may take.
+use Rattle.std.specs.Prelude.{ℕ, ◌+◌, ◌*◌, ◌&&◌, nat_le, Bool, true, false, List, [], ◌∷◌, length, sum_by, Option, Some, None, option_map, option_to_list, is_none, if◌then◌else◌}
+use Rattle.std.specs.Option.{option_map_or}
+use Rattle.fsrm_model.specs.declared.row.Capacity.{Capacity}
+use Rattle.fsrm_model.specs.declared.row.NodeRow.{NodeRow}
+use Rattle.fsrm_model.specs.declared.row.Rows.{Rows}
+use Rattle.fsrm_model.specs.declared.command.Deed.{Deed}
+use Rattle.fsrm_model.specs.declared.command.Deed.TheVariants.{File, Usage, Step, QuotaAdd, QuotaModify, QuotaDelete, QuotaScan, QuotaResetpeak, QuotaList}
+use Rattle.fsrm_model.specs.declared.command.FileOp.{FileOp}
+use Rattle.fsrm_model.specs.declared.command.FileOp.TheVariants.{Mkdir, Create, Resize, Touch, Move, Remove}
+use Rattle.fsrm_model.specs.Entry.{Path, number_bytes, choice_bytes, text_bytes, path_bytes, optional, counted, notice_bytes}
+use Rattle.fsrm_model.specs.FileOps.{target}
+use Rattle.fsrm_model.specs.FileWork.{file_work, usage_work}
+use Rattle.fsrm_model.specs.Leads.{leads, leads_to_folder}
+use Rattle.fsrm_model.specs.Limits.{longest_file, last_owner, most_visits}
+use Rattle.fsrm_model.specs.Quota.{is_limit}
+use Rattle.fsrm_model.specs.QuotaWork.{add_work, modify_work, delete_work, reset_work, list_work}
+use Rattle.fsrm_model.specs.ScanWork.{scan_work, step_work}
+use Rattle.fsrm_model.specs.Tree.{under}
+use Rattle.fsrm_model.specs.Valid.{is_empty}
+use Rattle.fsrm_model.specs.Work.{Work}
+
+-- the paths of a command
+abbrev pub paths_of_op : FileOp → List Path
+paths_of_op (Mkdir path owner) = path ∷ []
+paths_of_op (Create path size owner) = path ∷ []
+paths_of_op (Resize path size) = path ∷ []
+paths_of_op (Touch path) = path ∷ []
+paths_of_op (Move from to) = from ∷ to ∷ []
+paths_of_op (Remove path) = path ∷ []
+
+abbrev pub paths : Deed → List Path
+paths (File op) = paths_of_op op
+paths (Usage path) = path ∷ []
+paths (Step n) = []
+paths (QuotaAdd path limit enforce enabled template percents notices) = path ∷ []
+paths (QuotaModify path limit enforce enabled removed percents notices) = path ∷ []
+paths (QuotaDelete path) = path ∷ []
+paths (QuotaScan path) = path ∷ []
+paths (QuotaResetpeak path) = path ∷ []
+paths (QuotaList path) = option_to_list path
+
+abbrev pub is_owner : ℕ → Bool
+is_owner owner = nat_le 1 owner && nat_le owner last_owner
+
+abbrev pub is_length : ℕ → Bool
+is_length length = nat_le length longest_file
+
+-- whether all values but the paths are in their ranges
+abbrev pub has_values_of_op : FileOp → Bool
+has_values_of_op (Mkdir path owner) = is_owner owner
+has_values_of_op (Create path length owner) = is_length length && is_owner owner
+has_values_of_op (Resize path length) = is_length length
+has_values_of_op (Touch path) = true
+has_values_of_op (Move from to) = true
+has_values_of_op (Remove path) = true
+
+-- a new quota must have a limit. Neither templates nor thresholds can be given yet
+abbrev pub has_values : Deed → Bool
+has_values (File op) = has_values_of_op op
+has_values (Usage path) = true
+has_values (Step n) = nat_le 1 n && nat_le n most_visits
+has_values (QuotaAdd path limit enforce enabled template percents notices) =
+    option_map_or is_limit limit false && (is_none template && (is_empty percents && is_empty notices))
+has_values (QuotaModify path limit enforce enabled removed percents notices) =
+    option_map_or is_limit limit true && (is_empty removed && (is_empty percents && is_empty notices))
+has_values (QuotaDelete path) = true
+has_values (QuotaScan path) = true
+has_values (QuotaResetpeak path) = true
+has_values (QuotaList path) = true
+
+-- a command without its values: two deeds are of the same command if they are the same but for these
+abbrev pub emptied_op : FileOp → FileOp
+emptied_op (Mkdir path owner) = Mkdir [] 0
+emptied_op (Create path size owner) = Create [] 0 0
+emptied_op (Resize path size) = Resize [] 0
+emptied_op (Touch path) = Touch []
+emptied_op (Move from to) = Move [] []
+emptied_op (Remove path) = Remove []
+
+abbrev pub emptied : Deed → Deed
+emptied (File op) = File (emptied_op op)
+emptied (Usage path) = Usage []
+emptied (Step n) = Step 0
+emptied (QuotaAdd path limit enforce enabled template percents notices) = QuotaAdd [] None None false None [] []
+emptied (QuotaModify path limit enforce enabled removed percents notices) = QuotaModify [] None None None [] [] []
+emptied (QuotaDelete path) = QuotaDelete []
+emptied (QuotaScan path) = QuotaScan []
+emptied (QuotaResetpeak path) = QuotaResetpeak []
+emptied (QuotaList path) = QuotaList None
+
+-- The kind of a command's entry, by which a reader of the journal knows the command: no two commands have the same one. A
+-- command that never lasts has none, nor has a step of a scan: what is kept of it is that the scan was finished
+abbrev pub kind_of_op : FileOp → ℕ
+kind_of_op (Mkdir path owner) = 1
+kind_of_op (Create path size owner) = 2
+kind_of_op (Resize path size) = 3
+kind_of_op (Touch path) = 4
+kind_of_op (Move from to) = 5
+kind_of_op (Remove path) = 6
+
+abbrev pub kind : Deed → Option ℕ
+kind (File op) = Some (kind_of_op op)
+kind (Usage path) = None
+kind (Step n) = None
+kind (QuotaAdd path limit enforce enabled template percents notices) = Some 10
+kind (QuotaModify path limit enforce enabled removed percents notices) = Some 11
+kind (QuotaDelete path) = Some 12
+kind (QuotaScan path) = Some 13
+kind (QuotaResetpeak path) = Some 14
+kind (QuotaList path) = None
+
+-- all values of a command but its paths
+abbrev pub more_bytes_of_op : FileOp → ℕ
+more_bytes_of_op (Mkdir path owner) = number_bytes
+more_bytes_of_op (Create path size owner) = number_bytes + number_bytes
+more_bytes_of_op (Resize path size) = number_bytes
+more_bytes_of_op (Touch path) = 0
+more_bytes_of_op (Move from to) = 0
+more_bytes_of_op (Remove path) = 0
+
+abbrev pub more_bytes : Deed → ℕ
+more_bytes (File op) = more_bytes_of_op op
+more_bytes (Usage path) = 0
+more_bytes (Step n) = 0
+more_bytes (QuotaAdd path limit enforce enabled template percents notices) =
+    optional (λ n. number_bytes) limit + (optional (λ b. choice_bytes) enforce + (choice_bytes + (optional text_bytes template
+    + (counted (λ n. number_bytes) percents + counted notice_bytes notices))))
+more_bytes (QuotaModify path limit enforce enabled removed percents notices) =
+    optional (λ n. number_bytes) limit + (optional (λ b. choice_bytes) enforce + (optional (λ b. choice_bytes) enabled
+    + (counted (λ n. number_bytes) removed + (counted (λ n. number_bytes) percents + counted notice_bytes notices))))
+more_bytes (QuotaDelete path) = 0
+more_bytes (QuotaScan path) = 0
+more_bytes (QuotaResetpeak path) = 0
+more_bytes (QuotaList path) = 0
+
+-- how many bytes the entry of a command has, if it has one
+abbrev pub entry_bytes : Deed → Option ℕ
+entry_bytes deed = option_map (λ k. number_bytes + (choice_bytes + (sum_by path_bytes (paths deed) + more_bytes deed))) (kind deed)
+
+-- its work, family by family
+abbrev pub work : Capacity → Rows → ℕ → Deed → Work
+work K R moment (File op) = file_work K R op moment
+work K R moment (Usage path) = usage_work K R path
+work K R moment (Step n) = step_work K R n
+work K R moment (QuotaAdd path limit enforce enabled template percents notices) = add_work R moment path limit enforce enabled
+work K R moment (QuotaModify path limit enforce enabled removed percents notices) = modify_work R path limit enforce enabled
+work K R moment (QuotaDelete path) = delete_work R path
+work K R moment (QuotaScan path) = scan_work R path
+work K R moment (QuotaResetpeak path) = reset_work K R moment path
+work K R moment (QuotaList path) = list_work R path
+
+-- a folder that moves is looked through up to 8 times, a node that is summed up to 4 times
+abbrev pub op_cost : List NodeRow → FileOp → ℕ
+op_cost nodes (Mkdir path owner) = 0
+op_cost nodes (Create path length owner) = 0
+op_cost nodes (Resize path length) = 0
+op_cost nodes (Touch path) = 0
+op_cost nodes (Move from to) = if leads_to_folder nodes from then 8 * length (under nodes (target nodes from)) else 0
+op_cost nodes (Remove path) = 0
+
+-- the looks of a command beside those for the names of its paths
+abbrev pub more_cost : List NodeRow → Deed → ℕ
+more_cost nodes (File op) = op_cost nodes op
+more_cost nodes (Usage path) = if leads nodes path then 4 * length (under nodes (target nodes path)) else 0
+more_cost nodes (Step n) = 0
+more_cost nodes (QuotaAdd path limit enforce enabled template percents notices) = 0
+more_cost nodes (QuotaModify path limit enforce enabled removed percents notices) = 0
+more_cost nodes (QuotaDelete path) = 0
+more_cost nodes (QuotaScan path) = 0
+more_cost nodes (QuotaResetpeak path) = 0
+more_cost nodes (QuotaList path) = 0
