@@ -1,2 +1,4 @@
 pub mod Files
+pub mod HeadLaws
+pub mod Reading
 pub mod Staging

@@ -8,7 +8,9 @@
 
 mod batches;
 mod fault;
+mod heads;
 mod journal;
 
 pub use fault::JournalFault;
+pub use heads::Head;
 pub use journal::Journal;
