@@ -3,7 +3,10 @@
 //! One of the two parts rules. After its head and its image come records, each with a gate before it, and a closed gate
 //! ends them. A record is written after the closed gate, with the next closed gate after it, and synced; then its gate is
 //! opened, and synced. So whatever a crash leaves, the records are those from before the call, or these and all of the
-//! new ones.
+//! new ones. Several records may be held, and are then written as one batch.
+//!
+//! So far a journal is opened, which tells the half that rules and its head, or the first damage of the heads; and
+//! records are added to it. Still to come are reading the image and the records, and writing the other half.
 #![tactic(auto)]
 
 mod batches;
