@@ -1,4 +1,5 @@
 pub mod Files
 pub mod HeadLaws
-pub mod Reading
+pub mod Numbers
+pub mod Quiet
 pub mod Staging

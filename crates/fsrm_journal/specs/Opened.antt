@@ -30,3 +30,12 @@ IsRefused parts (Damaged part place) = judged_parts parts ≡ Err (Damaged part 
 IsRefused parts AlreadyStore = judged_parts parts ≡ Err AlreadyStore
 IsRefused parts DiskFault = Unit {0}
 IsRefused parts NoMemory = Unit {0}
+
+-- reading goes on, and changes nothing but its place
+pub record ReadsOn (old new : Journal) : Type 0 where
+  pub ruling : new.ruling ≡ old.ruling
+  pub image_end : new.image_end ≡ old.image_end
+  pub len : new.len ≡ old.len
+  pub bytes : new.bytes.items ≡ old.bytes.items
+  pub held : new.held ≡ old.held
+  pub group : new.group ≡ old.group

@@ -1,6 +1,6 @@
 //! The journal: where its first closed gate stands, and the records that are held.
 
-ghost use Rattle.std.specs.Prelude.{◌≡◌, ◌≢◌, ◌≤◌, ◌<◌, ◌+◌, ◌-◌, ◌*◌, ◌^◌, ℕ, List, [], ◌∷◌, ◌++◌, length, take, vec_capacity, true, false, Err, Some, IfOk, IfErr, IsErrOf, OnOk, OnErr};
+ghost use Rattle.std.specs.Prelude.{◌≡◌, ◌≢◌, ◌≤◌, ◌<◌, ◌+◌, ◌-◌, ◌*◌, ◌^◌, ℕ, List, [], ◌∷◌, ◌++◌, length, take, drop, vec_capacity, true, false, Err, None, Some, IfOk, IfSome, IfErr, IsErrOf, OnOk, OnErr};
 ghost use Rattle.byteorder.specs.Endian.{little_bytes};
 ghost use Rattle.std.specs.Option.{ForSome};
 ghost use Rattle.fsrm_outside.specs.Causes.{HasCause, Rose};
@@ -17,6 +17,7 @@ ghost use Rattle.fsrm_journal.specs.declared.fault.JournalFault.TheVariants.{Dis
 use crate::batches::{open_gate, stage};
 use crate::fault::JournalFault;
 use crate::heads::{Head, head_says, judged};
+use crate::reading::{damaged, next_length};
 use byteorder::{ByteOrder, LittleEndian};
 use fsrm_base::NoMemory;
 use fsrm_outside::{Disk, Failed, Part};
@@ -94,7 +95,8 @@ fn head_ruling(ruling: Part, zero: &[u8], one: &[u8]) -> Head
 }
 
 impl Journal {
-    ghost use Rattle.fsrm_journal.specs.Opened.{IsOpened, IsRefused};
+    ghost use Rattle.fsrm_journal.specs.Opened.{IsOpened, IsRefused, ReadsOn};
+    ghost use Rattle.fsrm_journal.specs.Next.{record_at, Tells};
 
     /// Finds the half that rules, and reads its head. The image comes next, and then the records.
     ///
@@ -129,6 +131,62 @@ impl Journal {
             group: 1,
         };
         Ok((journal, head))
+    }
+
+    /// Fills `into` with the next bytes of the image, and answers how many. Into room that is 0 only at the image's end,
+    /// or at the half's if that comes first.
+    pub fn read_image<D: Disk>(&mut self, disk: &mut D, into: &mut [u8]) -> Result<usize, JournalFault>
+        ensures count { IfOk result (λ n. n ≤ length into.new) }
+        ensures bytes { ForSome (D.reads disk.old) (λ parts. self.old.len ≡ length (part_of self.old.ruling parts)
+            → IfOk result (λ n. take n into.new ≡ take (length into.old) (take (self.old.image_end - self.old.end) (drop self.old.end (part_of self.old.ruling parts))))) }
+        ensures end { IfOk result (λ n. self.new.end ≡ self.old.end + n) }
+        ensures err { OnErr result (self.new.end ≡ self.old.end) }
+        ensures same { ReadsOn self.old self.new }
+        ensures reads { D.reads disk.new ≡ D.reads disk.old }
+        ensures crash { Through D.disk_clock D.images Same disk.old disk.new }
+        ensures by { D.by_disk disk.old disk.new }
+        ensures only { OnErr result (result ≡ Err DiskFault) }
+        ensures cause { HasCause (D.disk_faults disk.old) (D.disk_faults disk.new) result }
+    {
+        let left = self.image_end.min(self.len).saturating_sub(self.end);
+        let room = left.min(into.len() as u64) as usize;
+        let count = disk.read_at(self.ruling, self.end, &mut into[..room])?;
+        self.end += count as u64;
+        Ok(count)
+    }
+
+    /// The place and the length of the next record's body, with which `into` then begins. `None` exactly at the first closed
+    /// gate. `Damaged` exactly at a gate that is missing, at a length that isn't there or isn't legal, or at a body that isn't
+    /// there whole.
+    pub fn next<D: Disk>(&mut self, disk: &mut D, into: &mut [u8]) -> Result<Option<(u64, usize)>, JournalFault>
+        requires room { 131072 ≤ length into.old }
+        ensures tells { ForSome (D.reads disk.old) (λ parts. self.old.len ≡ length (part_of self.old.ruling parts)
+            → Tells self.old.ruling (record_at (part_of self.old.ruling parts) self.old.end) result) }
+        ensures body { ForSome (D.reads disk.old) (λ parts. self.old.len ≡ length (part_of self.old.ruling parts)
+            → IfOk result (λ found. IfSome found (λ at. take at.1 into.new ≡ take at.1 (drop at.0 (part_of self.old.ruling parts))))) }
+        ensures end { IfOk result (λ found. IfSome found (λ at. self.new.end ≡ at.0 + at.1)) }
+        ensures stays { IfOk result (λ found. found ≡ None → self.new.end ≡ self.old.end) }
+        ensures same { ReadsOn self.old self.new }
+        ensures reads { D.reads disk.new ≡ D.reads disk.old }
+        ensures crash { Through D.disk_clock D.images Same disk.old disk.new }
+        ensures by { D.by_disk disk.old disk.new }
+        ensures later { D.disk_faults disk.old ≤ D.disk_faults disk.new }
+        ensures failed { IsErrOf result DiskFault → Rose (D.disk_faults disk.old) (D.disk_faults disk.new) }
+    {
+        let Some(size) = next_length(disk, self.ruling, self.len, self.end)? else {
+            return Ok(None);
+        };
+        let place = self.end + 5;
+        let size = size as usize;
+        if self.len - place < size as u64 {
+            return Err(damaged(self.ruling, place));
+        }
+        let count = disk.read_at(self.ruling, place, &mut into[..size])?;
+        if count < size {
+            return Err(damaged(self.ruling, place));
+        }
+        self.end = place + size as u64;
+        Ok(Some((place, size)))
     }
 
     /// How many records are held.

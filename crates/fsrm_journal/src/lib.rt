@@ -5,14 +5,16 @@
 //! opened, and synced. So whatever a crash leaves, the records are those from before the call, or these and all of the
 //! new ones. Several records may be held, and are then written as one batch.
 //!
-//! So far a journal is opened, which tells the half that rules and its head, or the first damage of the heads; and
-//! records are added to it. Still to come are reading the image and the records, and writing the other half.
+//! A journal is opened, which tells the half that rules and its head, or the first damage of the heads. Then its image is
+//! read to the end, then its records to the closed gate, and then records may be added. Still to come are making a store
+//! and writing the other half, and with them the law that what was read is what records are added to.
 #![tactic(auto)]
 
 mod batches;
 mod fault;
 mod heads;
 mod journal;
+mod reading;
 
 pub use fault::JournalFault;
 pub use heads::Head;

@@ -1,7 +1,7 @@
 use Rattle.std.proofs.Common.{Err, refl, ap, ◌∙◌}
 use Rattle.std.proofs.lemmas.Result.{err_from_is_err_and}
 use Rattle.fsrm_outside.proofs.Stages.{DiskLaws, quiet_then}
-use Rattle.fsrm_journal.proofs.Reading.{still_stable, judged_read, refused_read, says_read}
+use Rattle.fsrm_journal.proofs.Quiet.{still_stable, judged_read, refused_read, says_read}
 use Rattle.fsrm_journal.proofs.journal.Journal.open_at.Goals as goal
 
 pub returns-in_err-len-clause-crash : goal.returns-in_err-len-clause-crash
