@@ -29,11 +29,11 @@ open_long head none open' = go (nat_eq (length head) 0) refl
     go : (empty : Bool) → nat_eq (length head) 0 ≡ empty → 24 ≤ length head
     go true is = absurd (cc (ap (λ (c : Bool). cond c (Some 0) (cond (is_open head) (head_fault head) None)) is, none))
     go false is =
-      let whole : head_fault head ≡ None = sym (within (nat_eq (length head) 0) (Some 0) (cond (is_open head) (head_fault head) None) is ∙ open_within (is_open head) (head_fault head) open') ∙ none in
-      let a = none_failed 1 (has_zeros head) ((8, has_magic head) ∷ (16, has_generation head) ∷ (24, has_version head) ∷ (28, has_nodes head) ∷ (32, has_names head) ∷ (36, has_cluster head) ∷ (40, has_image head) ∷ []) whole in
-      let b = none_failed 8 (has_magic head) ((16, has_generation head) ∷ (24, has_version head) ∷ (28, has_nodes head) ∷ (32, has_names head) ∷ (36, has_cluster head) ∷ (40, has_image head) ∷ []) a.1 in
-      let d = none_failed 16 (has_generation head) ((24, has_version head) ∷ (28, has_nodes head) ∷ (32, has_names head) ∷ (36, has_cluster head) ∷ (40, has_image head) ∷ []) b.1 in
-      long_generation head d.0
+        let whole : head_fault head ≡ None = sym (within (nat_eq (length head) 0) (Some 0) (cond (is_open head) (head_fault head) None) is ∙ open_within (is_open head) (head_fault head) open') ∙ none in
+        let a = none_failed 1 (has_zeros head) ((8, has_magic head) ∷ (16, has_generation head) ∷ (24, has_version head) ∷ (28, has_nodes head) ∷ (32, has_names head) ∷ (36, has_cluster head) ∷ (40, has_image head) ∷ []) whole in
+        let b = none_failed 8 (has_magic head) ((16, has_generation head) ∷ (24, has_version head) ∷ (28, has_nodes head) ∷ (32, has_names head) ∷ (36, has_cluster head) ∷ (40, has_image head) ∷ []) a.1 in
+        let d = none_failed 16 (has_generation head) ((24, has_version head) ∷ (28, has_nodes head) ∷ (32, has_names head) ∷ (36, has_cluster head) ∷ (40, has_image head) ∷ []) b.1 in
+        long_generation head d.0
 
 long_image : (head : List ℕ) → has_image head ≡ true → 48 ≤ length head
 unfolding has_image
@@ -46,13 +46,13 @@ open_whole head none open' = go (nat_eq (length head) 0) refl
     go : (empty : Bool) → nat_eq (length head) 0 ≡ empty → 48 ≤ length head
     go true is = absurd (cc (ap (λ (c : Bool). cond c (Some 0) (cond (is_open head) (head_fault head) None)) is, none))
     go false is =
-      let whole : head_fault head ≡ None = sym (within (nat_eq (length head) 0) (Some 0) (cond (is_open head) (head_fault head) None) is ∙ open_within (is_open head) (head_fault head) open') ∙ none in
-      let a = none_failed 1 (has_zeros head) ((8, has_magic head) ∷ (16, has_generation head) ∷ (24, has_version head) ∷ (28, has_nodes head) ∷ (32, has_names head) ∷ (36, has_cluster head) ∷ (40, has_image head) ∷ []) whole in
-      let b = none_failed 8 (has_magic head) ((16, has_generation head) ∷ (24, has_version head) ∷ (28, has_nodes head) ∷ (32, has_names head) ∷ (36, has_cluster head) ∷ (40, has_image head) ∷ []) a.1 in
-      let d = none_failed 16 (has_generation head) ((24, has_version head) ∷ (28, has_nodes head) ∷ (32, has_names head) ∷ (36, has_cluster head) ∷ (40, has_image head) ∷ []) b.1 in
-      let e = none_failed 24 (has_version head) ((28, has_nodes head) ∷ (32, has_names head) ∷ (36, has_cluster head) ∷ (40, has_image head) ∷ []) d.1 in
-      let f = none_failed 28 (has_nodes head) ((32, has_names head) ∷ (36, has_cluster head) ∷ (40, has_image head) ∷ []) e.1 in
-      let h = none_failed 32 (has_names head) ((36, has_cluster head) ∷ (40, has_image head) ∷ []) f.1 in
-      let i = none_failed 36 (has_cluster head) ((40, has_image head) ∷ []) h.1 in
-      let j = none_failed 40 (has_image head) [] i.1 in
-      long_image head j.0
+        let whole : head_fault head ≡ None = sym (within (nat_eq (length head) 0) (Some 0) (cond (is_open head) (head_fault head) None) is ∙ open_within (is_open head) (head_fault head) open') ∙ none in
+        let a = none_failed 1 (has_zeros head) ((8, has_magic head) ∷ (16, has_generation head) ∷ (24, has_version head) ∷ (28, has_nodes head) ∷ (32, has_names head) ∷ (36, has_cluster head) ∷ (40, has_image head) ∷ []) whole in
+        let b = none_failed 8 (has_magic head) ((16, has_generation head) ∷ (24, has_version head) ∷ (28, has_nodes head) ∷ (32, has_names head) ∷ (36, has_cluster head) ∷ (40, has_image head) ∷ []) a.1 in
+        let d = none_failed 16 (has_generation head) ((24, has_version head) ∷ (28, has_nodes head) ∷ (32, has_names head) ∷ (36, has_cluster head) ∷ (40, has_image head) ∷ []) b.1 in
+        let e = none_failed 24 (has_version head) ((28, has_nodes head) ∷ (32, has_names head) ∷ (36, has_cluster head) ∷ (40, has_image head) ∷ []) d.1 in
+        let f = none_failed 28 (has_nodes head) ((32, has_names head) ∷ (36, has_cluster head) ∷ (40, has_image head) ∷ []) e.1 in
+        let h = none_failed 32 (has_names head) ((36, has_cluster head) ∷ (40, has_image head) ∷ []) f.1 in
+        let i = none_failed 36 (has_cluster head) ((40, has_image head) ∷ []) h.1 in
+        let j = none_failed 40 (has_image head) [] i.1 in
+        long_image head j.0

@@ -1,8 +1,8 @@
 -- Numbers and records that were read.
 use Rattle.std.proofs.Common.{◌≡◌, ℕ, ◌+◌, ◌≤◌, ◌<◌, List, length, get_or, take, drop, refl, sym, ◌∙◌, ap, arith, length-take, length-drop}
 use Rattle.std.proofs.lemmas.List.{get_or-take}
-use Rattle.std.proofs.Common.{cond, true, false}
-use Rattle.std.specs.Prelude.{Bool, nat_le, Option, None, Some, Result, Ok, Err}
+use Rattle.std.proofs.Common.{cond}
+use Rattle.std.specs.Prelude.{Bool, Option, Some, Ok, Err}
 use Rattle.std.proofs.lemmas.Bool.{le-leb}
 use Rattle.std.proofs.lemmas.Bool.Decides.{leb_tells}
 use Rattle.std.proofs.Common.{⊎_elim}

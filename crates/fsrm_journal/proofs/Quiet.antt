@@ -1,6 +1,6 @@
 -- Reads leave what is stable.
 use Rattle.std.proofs.Common.{◌≡◌, ℕ, Some, List, refl, sym, ◌∙◌, ap, arith}
-use Rattle.std.specs.Prelude.{Option, Result, Ok, Err}
+use Rattle.std.specs.Prelude.{Option, Result, Err}
 use Rattle.fsrm_outside.specs.declared.traits.Part.{Part}
 use Rattle.fsrm_outside.specs.declared.traits.Part.TheVariants.{Zero, One}
 use Rattle.fsrm_journal.specs.Heads.{head_of, judged}

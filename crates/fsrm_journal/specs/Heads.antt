@@ -1,5 +1,5 @@
 -- Heads of halves, and which half rules. A head is the first 48 bytes of a half, or all if there are fewer.
-use Rattle.std.specs.Prelude.{ℕ, Bool, true, false, ◌&&◌, ◌||◌, not, cond, if◌then◌else◌, nat_le, nat_lt, nat_eq, Option, None, Some, Result, Ok, Err, List, [], ◌∷◌, length, take, drop, slice_index}
+use Rattle.std.specs.Prelude.{ℕ, Bool, ◌&&◌, ◌||◌, not, cond, if◌then◌else◌, nat_le, nat_lt, nat_eq, Option, None, Some, Result, Ok, Err, List, [], ◌∷◌, length, take, drop, slice_index}
 use Rattle.byteorder.specs.Endian.{little_number}
 use Rattle.fsrm_outside.specs.declared.traits.Part.{Part}
 use Rattle.fsrm_outside.specs.declared.traits.Part.TheVariants.{Zero, One}
@@ -43,7 +43,7 @@ abbrev pub is_cluster : ℕ → ℕ → Bool
 is_cluster version cluster =
     nat_eq cluster 4096
     || (nat_eq version 2
-      && (nat_eq cluster 512 || nat_eq cluster 1024 || nat_eq cluster 2048 || nat_eq cluster 8192 || nat_eq cluster 16384 || nat_eq cluster 32768 || nat_eq cluster 65536))
+    && (nat_eq cluster 512 || nat_eq cluster 1024 || nat_eq cluster 2048 || nat_eq cluster 8192 || nat_eq cluster 16384 || nat_eq cluster 32768 || nat_eq cluster 65536))
 
 -- each field is there, and legal
 unfoldable pub has_zeros : List ℕ → Bool
@@ -79,8 +79,8 @@ first_failed (test ∷ tests) = cond test.1 (first_failed tests) (Some test.0)
 abbrev pub head_fault : List ℕ → Option ℕ
 head_fault head =
     first_failed
-      ( (1, has_zeros head) ∷ (8, has_magic head) ∷ (16, has_generation head) ∷ (24, has_version head)
-      ∷ (28, has_nodes head) ∷ (32, has_names head) ∷ (36, has_cluster head) ∷ (40, has_image head) ∷ [] )
+    ((1, has_zeros head) ∷ (8, has_magic head) ∷ (16, has_generation head) ∷ (24, has_version head)
+    ∷ (28, has_nodes head) ∷ (32, has_names head) ∷ (36, has_cluster head) ∷ (40, has_image head) ∷ [])
 
 -- where there is a store, a half has at least its gate, and behind an open one a legal head
 abbrev pub half_fault : List ℕ → Option ℕ

@@ -11,7 +11,6 @@ ghost use Rattle.fsrm_outside.specs.declared.traits.Part.TheVariants.{Zero, One}
 ghost use Rattle.fsrm_outside.specs.Moments.{EachImage};
 ghost use Rattle.fsrm_outside.specs.Parts.{Parts, part_of};
 ghost use Rattle.fsrm_journal.specs.Records.{batch, counted, Holds, HoldsAllOrNone, Log, Settled};
-
 ghost use Rattle.fsrm_journal.specs.declared.fault.JournalFault.TheVariants.{DiskFault};
 
 use crate::batches::{open_gate, stage};
@@ -135,7 +134,11 @@ impl Journal {
 
     /// Fills `into` with the next bytes of the image, and answers how many. Into room that is 0 only at the image's end,
     /// or at the half's if that comes first.
-    pub fn read_image<D: Disk>(&mut self, disk: &mut D, into: &mut [u8]) -> Result<usize, JournalFault>
+    pub fn read_image<D: Disk>(
+        &mut self,
+        disk: &mut D,
+        into: &mut [u8],
+    ) -> Result<usize, JournalFault>
         ensures count { IfOk result (λ n. n ≤ length into.new) }
         ensures bytes { ForSome (D.reads disk.old) (λ parts. self.old.len ≡ length (part_of self.old.ruling parts)
             → IfOk result (λ n. take n into.new ≡ take (length into.old) (take (self.old.image_end - self.old.end) (drop self.old.end (part_of self.old.ruling parts))))) }
@@ -158,7 +161,11 @@ impl Journal {
     /// The place and the length of the next record's body, with which `into` then begins. `None` exactly at the first closed
     /// gate. `Damaged` exactly at a gate that is missing, at a length that isn't there or isn't legal, or at a body that isn't
     /// there whole.
-    pub fn next<D: Disk>(&mut self, disk: &mut D, into: &mut [u8]) -> Result<Option<(u64, usize)>, JournalFault>
+    pub fn next<D: Disk>(
+        &mut self,
+        disk: &mut D,
+        into: &mut [u8],
+    ) -> Result<Option<(u64, usize)>, JournalFault>
         requires room { 131072 ≤ length into.old }
         ensures tells { ForSome (D.reads disk.old) (λ parts. self.old.len ≡ length (part_of self.old.ruling parts)
             → Tells self.old.ruling (record_at (part_of self.old.ruling parts) self.old.end) result) }

@@ -1,4 +1,4 @@
-use Rattle.std.proofs.Common.{take, drop, ap, ◌∙◌, ℕ}
+use Rattle.std.proofs.Common.{take, ap, ◌∙◌, ℕ}
 use Rattle.fsrm_journal.proofs.Quiet.{still_stable}
 use Rattle.fsrm_outside.proofs.Stages.{DiskLaws, quiet_then}
 use Rattle.fsrm_journal.proofs.journal.read_heads.Goals as goal
