@@ -7,7 +7,9 @@ use Rattle.std.proofs.lemmas.List.{drop_at, get_or-append_right}
 use Rattle.byteorder.specs.Endian.{little_number, little_bytes}
 use Rattle.byteorder.specs.Numbers.{little_number-reads_back}
 use Rattle.fsrm_journal.specs.Next.{length_at, has_length, next_length, with_body, record_at}
-use Rattle.fsrm_journal.specs.Records.{counted}
+use Rattle.fsrm_outside.specs.Parts.{Parts, part_of}
+use Rattle.fsrm_journal.specs.Records.{counted, records, Log, Holds}
+use Rattle.fsrm_journal.proofs.Files.{records-append}
 use Rattle.fsrm_journal.proofs.Numbers.{tells_some}
 
 second : {A : Type 0} (a b : Bool) (x y z : A) → a ≡ true → b ≡ false → cond (not a) x (cond (not b) y z) ≡ y
@@ -63,3 +65,19 @@ record_there front body rest some most =
         (there front tail 1) (eq-eqb (get_or half place 0) 1 (gate_at front tail 1)) has
       ∙ ap (λ (k : ℕ). Ok (Some k)) n in
     tells_some half place (length body) next (omega (arith, size))
+
+pub held_there : (log : Log) (before after : List (List ℕ)) (body : List ℕ) (parts : Parts) → Holds log (before ++ body ∷ after) parts → 1 ≤ length body → length body ≤ 131072
+    → record_at (part_of log.ruling parts) (length (log.lead ++ records before)) ≡ Ok (Some (length (log.lead ++ records before) + 5, length body))
+held_there log before after body parts h some most =
+    let front = log.lead ++ records before in
+    let rest = records after ++ h.gate ∷ h.rest in
+    let split : part_of log.ruling parts ≡ front ++ 1 ∷ (counted body ++ rest) =
+      h.split ∙ ap (λ (l : List ℕ). log.lead ++ l ++ h.gate ∷ h.rest) (records-append before (body ∷ after)) ∙ regroup log.lead (records before) (counted body) (records after) h.gate h.rest in
+    ap (λ (half : List ℕ). record_at half (length front)) split ∙ record_there front body rest some most
+  where
+    regroup : (lead old one more : List ℕ) (gate : ℕ) (rest : List ℕ) → lead ++ (old ++ (1 ∷ one ++ more)) ++ gate ∷ rest ≡ (lead ++ old) ++ 1 ∷ (one ++ (more ++ gate ∷ rest))
+    regroup lead old one more gate rest = simp append_assoc
+
+pub ended_there : (log : Log) (bodies : List (List ℕ)) (parts : Parts) → Holds log bodies parts → record_at (part_of log.ruling parts) (length (log.lead ++ records bodies)) ≡ Ok None
+ended_there log bodies parts h =
+    ap (λ (half : List ℕ). record_at half (length (log.lead ++ records bodies))) h.split ∙ closed_there (log.lead ++ records bodies) h.rest h.gate h.closed

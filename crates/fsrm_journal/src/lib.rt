@@ -14,6 +14,7 @@ mod batches;
 mod fault;
 mod heads;
 mod journal;
+pub mod laws;
 mod reading;
 
 pub use fault::JournalFault;
