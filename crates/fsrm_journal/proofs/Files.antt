@@ -1,9 +1,9 @@
 -- What writes make of the bytes of a half.
-use Rattle.std.proofs.Common.{◌≡◌, ◌≢◌, ◌⊎◌, inl, inr, ℕ, ◌+◌, ◌≤◌, ◌<◌, None, Some, List, [], ◌∷◌, ◌++◌, length, get_or, take, drop, refl, sym, ◌∙◌, ap, subst, arith, append_assoc, length-append, length-take, length-drop, take-append-drop}
+use Rattle.std.proofs.Common.{◌≡◌, ◌≢◌, inl, inr, ℕ, ◌+◌, ◌≤◌, ◌<◌, None, Some, List, [], ◌∷◌, ◌++◌, length, get_or, take, drop, refl, sym, ◌∙◌, ap, subst, arith, append_assoc, length-append, length-take, length-drop, take-append-drop}
 use Rattle.std.specs.Prelude.{Option}
 use Rattle.std.specs.Option.{option_map}
 use Rattle.std.proofs.lemmas.Bool.{cases_eq}
-use Rattle.std.proofs.lemmas.List.{append-nil, take_at, drop_at, take-take, drop_more}
+use Rattle.std.proofs.lemmas.List.{take_at, drop_at, take-take, drop_more}
 use Rattle.std.proofs.Math.Seq.{drop-append-add}
 use Rattle.fsrm_outside.specs.Changes.{Torn, over, Written}
 use Rattle.fsrm_outside.specs.Parts.{Parts, part_of, other}
@@ -82,10 +82,11 @@ pub torn_gate : (r : Part) (front tail : List ℕ) (gate place : ℕ) (old new :
 torn_gate r front tail gate place old new is split torn =
     let long : place < length (part_of r new) = omega (arith, torn.no_shorter, ap length split, length-append front (gate ∷ tail)) in
     let before : take place (part_of r new) ≡ front = torn.before ∙ ap (take place) split ∙ take_at front (gate ∷ tail) place is in
-    let after : drop (place + 1) (part_of r new) ≡ tail = torn.after ∙ ap (drop (place + 1)) (split ∙ sym (append_assoc front (gate ∷ []) tail)) ∙ drop_at (front ++ gate ∷ []) tail (place + 1) (omega (arith, length-append front (gate ∷ []))) in
-    (get_or (part_of r new) place 0,
-     sym (take-append-drop place (part_of r new)) ∙ ap (λ (l : List ℕ). l ++ drop place (part_of r new)) before
-     ∙ ap (λ (l : List ℕ). front ++ l) (drop_more (part_of r new) place 0 long ∙ ap (λ (l : List ℕ). get_or (part_of r new) place 0 ∷ l) after))
+    let after : drop (place + 1) (part_of r new) ≡ tail = torn.after ∙ ap (drop (place + 1)) (split ∙ sym (append_assoc front (gate ∷ []) tail)) ∙ drop_at (front ++ gate ∷ []) tail (place + 1) (omega (arith, length-append front (gate ∷ []))) in (
+      get_or (part_of r new) place 0,
+      sym (take-append-drop place (part_of r new)) ∙ ap (λ (l : List ℕ). l ++ drop place (part_of r new)) before
+          ∙ ap (λ (l : List ℕ). front ++ l) (drop_more (part_of r new) place 0 long ∙ ap (λ (l : List ℕ). get_or (part_of r new) place 0 ∷ l) after),
+    )
 
 pub over_gate : (front tail : List ℕ) (gate place : ℕ) → length front ≡ place → over place (1 ∷ []) (front ++ gate ∷ tail) ≡ front ++ 1 ∷ tail
 over_gate front tail gate place is = over_at front (gate ∷ tail) (1 ∷ []) place is ∙ append_assoc front (1 ∷ []) tail

@@ -1,10 +1,9 @@
 -- What the two steps of a flush do.
 use Rattle.std.proofs.lemmas.Bool.Decides.{eqb_tells}
-use Rattle.std.proofs.Common.{◌≡◌, ◌≢◌, ⊎_elim, true, false, nat_eq, ℕ, ◌+◌, ◌≤◌, ◌<◌, Some, List, [], ◌∷◌, ◌++◌, length, drop, refl, sym, ◌∙◌, ap, subst, arith, append_assoc, length-append}
+use Rattle.std.proofs.Common.{◌≡◌, ◌≢◌, ⊎_elim, true, false, nat_eq, ℕ, ◌+◌, ◌<◌, Some, List, [], ◌∷◌, ◌++◌, length, drop, refl, sym, ◌∙◌, ap, subst, arith, append_assoc, length-append}
 use Rattle.std.specs.Prelude.{Option}
 use Rattle.std.proofs.lemmas.List.{append-nil}
-use Rattle.fsrm_outside.specs.Changes.{Torn, Same, Through, Written, over}
-use Rattle.fsrm_outside.specs.Moments.{EachNow, EachImage}
+use Rattle.fsrm_outside.specs.Changes.{Torn, Through, Written, over}
 use Rattle.fsrm_outside.specs.Parts.{Parts, part_of, other}
 use Rattle.fsrm_outside.specs.declared.traits.Part.{Part}
 use Rattle.fsrm_outside.proofs.Stages.{DiskLaws, Stage, begun, stepped, some_is}
@@ -17,7 +16,7 @@ pub begins : {D : Type 0} {reads : D → Option Parts} {clock : D → Option ℕ
 begins {log = log} {bodies = bodies} laws s =
     let F = Front log.ruling (shut log bodies s.holds.gate) log.beside in
     begun laws (Holds log bodies) {Q = F} (record { now = λ t i told left. subst F (sym (s.only t i told left)) (holds_front log bodies s.parts s.holds) })
-      (λ i f. front_holds log bodies s.holds.gate i s.holds.closed f)
+    (λ i f. front_holds log bodies s.holds.gate i s.holds.closed f)
 
 -- a write after the closed gate
 pub writes : {D : Type 0} {clock : D → Option ℕ} {images : D → ℕ → Parts → Type 0} {by : D → D → Type 0} {log : Log} {bodies : List (List ℕ)} {old mid : D} {gate : ℕ}
@@ -26,8 +25,8 @@ pub writes : {D : Type 0} {clock : D → Option ℕ} {images : D → ℕ → Par
     → Stage clock images by (Holds log bodies) (Front log.ruling (shut log bodies gate) log.beside) old new
 writes {log = log} {bodies = bodies} {gate = gate} laws new r place n rules closed after before ran by_step =
     stepped laws new (Front log.ruling (shut log bodies gate) log.beside) (Torn r place n) before ran by_step
-      (λ d i f torn. torn_front log.ruling (shut log bodies gate) log.beside place n d i (omega (arith, after, length-append (log.lead ++ records bodies) (gate ∷ []))) f (subst (λ (x : Part). Torn x place n d i) rules torn))
-      (λ i f. front_holds log bodies gate i closed f)
+    (λ d i f torn. torn_front log.ruling (shut log bodies gate) log.beside place n d i (omega (arith, after, length-append (log.lead ++ records bodies) (gate ∷ []))) f (subst (λ (x : Part). Torn x place n d i) rules torn))
+    (λ i f. front_holds log bodies gate i closed f)
 
 -- the batch was written and synced
 pub makes_staged : {D : Type 0} {reads : D → Option Parts} {clock : D → Option ℕ} {images : D → ℕ → Parts → Type 0} {log : Log} {bodies : List (List ℕ)} {ruling : Part} {end : ℕ} {disk : D}
@@ -66,13 +65,13 @@ opens {log = log} {bodies = bodies} {end = end} body more laws s new r rules ran
     let P = HoldsAllOrNone log bodies (body ∷ more) in
     let Q : Parts → Type 0 = λ i. i ≡ s.parts in
     let start = begun laws P {Q = Q} (record { now = λ t i told left. s.only t i told left })
-      (λ i is. either log bodies s.gate body more s.rest i (ap (part_of log.ruling) is ∙ s.split) (ap (part_of (other log.ruling)) is ∙ s.same)) in
+    (λ i is. either log bodies s.gate body more s.rest i (ap (part_of log.ruling) is ∙ s.split) (ap (part_of (other log.ruling)) is ∙ s.same)) in
     stepped laws new P (Torn r end 1) start ran by_step
-      (λ d i is torn.
-        let torn' = subst (λ (x : Part). Torn x end 1 d i) rules torn in
-        let at = torn_gate log.ruling (log.lead ++ records bodies) (batch (body ∷ more) ++ 0 ∷ s.rest) s.gate end d i (sym s.ends) (ap (part_of log.ruling) is ∙ s.split) torn' in
-        either log bodies at.0 body more s.rest i at.1 (torn'.other_part ∙ ap (part_of (other log.ruling)) is ∙ s.same))
-      (λ i p. p)
+    (λ d i is torn.
+    let torn' = subst (λ (x : Part). Torn x end 1 d i) rules torn in
+    let at = torn_gate log.ruling (log.lead ++ records bodies) (batch (body ∷ more) ++ 0 ∷ s.rest) s.gate end d i (sym s.ends) (ap (part_of log.ruling) is ∙ s.split) torn' in
+    either log bodies at.0 body more s.rest i at.1 (torn'.other_part ∙ ap (part_of (other log.ruling)) is ∙ s.same))
+    (λ i p. p)
 
 pub makes_settled : {D : Type 0} {reads : D → Option Parts} {clock : D → Option ℕ} {images : D → ℕ → Parts → Type 0} {log : Log} {bodies : List (List ℕ)} {end : ℕ} {disk : D} (body : List ℕ) (more : List (List ℕ))
     → (s : Staged reads clock images log bodies (batch (body ∷ more)) end disk) (new : D) (r : Part) → r ≡ log.ruling → reads new ≡ Some (Written r end (1 ∷ []) s.parts)
@@ -85,8 +84,8 @@ makes_settled {log = log} {bodies = bodies} {end = end} body more s new r rules 
       parts = p;
       told = told';
       holds = opened log bodies body more s.rest p
-        (written_here log.ruling end (1 ∷ []) s.parts ∙ ap (over end (1 ∷ [])) s.split ∙ over_gate (log.lead ++ records bodies) (batch (body ∷ more) ++ 0 ∷ s.rest) s.gate end (sym s.ends))
-        (written_there log.ruling end (1 ∷ []) s.parts ∙ s.same);
+          (written_here log.ruling end (1 ∷ []) s.parts ∙ ap (over end (1 ∷ [])) s.split ∙ over_gate (log.lead ++ records bodies) (batch (body ∷ more) ++ 0 ∷ s.rest) s.gate end (sym s.ends))
+          (written_there log.ruling end (1 ∷ []) s.parts ∙ s.same);
       rules = rules;
       ends = omega (arith, s.ends, ap (λ (l : List ℕ). length (log.lead ++ l)) (records-append bodies (body ∷ more)), length-append log.lead (records bodies ++ records (body ∷ more)), length-append (records bodies) (1 ∷ batch (body ∷ more)), length-append log.lead (records bodies));
       only = λ t i at left. some_is (sym (durable t i at left) ∙ told');

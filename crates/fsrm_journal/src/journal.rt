@@ -1,20 +1,25 @@
 //! The journal: where its first closed gate stands, and the records that are held.
 
-ghost use Rattle.std.specs.Prelude.{◌≡◌, ◌≢◌, ◌≤◌, ◌<◌, ◌+◌, ◌-◌, ◌*◌, ◌^◌, ℕ, List, [], ◌∷◌, ◌++◌, length, vec_capacity, true, false, Err, IfOk, OnOk, OnErr};
+ghost use Rattle.std.specs.Prelude.{◌≡◌, ◌≢◌, ◌≤◌, ◌<◌, ◌+◌, ◌-◌, ◌*◌, ◌^◌, ℕ, List, [], ◌∷◌, ◌++◌, length, take, drop, vec_capacity, true, false, Err, None, Some, IfOk, IfSome, IfErr, IsErrOf, OnOk, OnErr};
 ghost use Rattle.byteorder.specs.Endian.{little_bytes};
 ghost use Rattle.std.specs.Option.{ForSome};
-ghost use Rattle.fsrm_outside.specs.Causes.{HasCause};
+ghost use Rattle.fsrm_outside.specs.Causes.{HasCause, Rose};
+ghost use Rattle.fsrm_outside.specs.Changes.{Same, Through};
+ghost use Rattle.fsrm_journal.specs.HeadSays.{head_says};
+ghost use Rattle.fsrm_journal.specs.Heads.{head_of};
+ghost use Rattle.fsrm_outside.specs.declared.traits.Part.TheVariants.{Zero, One};
 ghost use Rattle.fsrm_outside.specs.Moments.{EachImage};
-ghost use Rattle.fsrm_outside.specs.Parts.{part_of};
+ghost use Rattle.fsrm_outside.specs.Parts.{Parts, part_of};
 ghost use Rattle.fsrm_journal.specs.Records.{batch, counted, Holds, HoldsAllOrNone, Log, Settled};
-
 ghost use Rattle.fsrm_journal.specs.declared.fault.JournalFault.TheVariants.{DiskFault};
 
 use crate::batches::{open_gate, stage};
 use crate::fault::JournalFault;
+use crate::heads::{Head, head_says, judged};
+use crate::reading::{damaged, next_length};
 use byteorder::{ByteOrder, LittleEndian};
 use fsrm_base::NoMemory;
-use fsrm_outside::{Disk, Part};
+use fsrm_outside::{Disk, Failed, Part};
 use std::alloc::Global;
 
 /// The most bytes that a record takes: its gate, its length and its body.
@@ -24,13 +29,17 @@ const MOST_RECORD: usize = 131_077;
 #[derive(Drop)]
 pub struct Journal {
     ruling: Part,
-    // Where the first closed gate stands.
+    // How far it was read; once all is read, where the first closed gate stands.
     end: u64,
+    // Where the image ends, and how many bytes the half had when it was opened.
+    image_end: u64,
+    len: u64,
     // The records that are held, without the first one's gate.
     bytes: Vec<u8>,
     held: u32,
     group: u32,
     ghost in_part: { end ≤ 2 ^ 62 },
+    ghost in_half: { len ≤ 2 ^ 62 },
     ghost room: { group * 131077 ≤ vec_capacity bytes },
     ghost fits: { length bytes.items ≤ held * 131077 - 1 },
     ghost few: { held ≤ group },
@@ -47,7 +56,146 @@ fn spelled(len: usize) -> [u8; 4]
     bytes
 }
 
+// Makes what is read stable, and reads the heads of both halves.
+fn read_heads<D: Disk>(
+    disk: &mut D,
+    zero: &mut [u8],
+    one: &mut [u8],
+) -> Result<(usize, usize), Failed>
+    requires zero { length zero.old ≡ 48 }
+    requires one { length one.old ≡ 48 }
+    ensures few_zero { IfOk result (λ n. n.0 ≤ length zero.new) }
+    ensures few_one { IfOk result (λ n. n.1 ≤ length one.new) }
+    ensures zero { ForSome (D.reads disk.old) (λ parts. IfOk result (λ n. take n.0 zero.new ≡ head_of parts.zero)) }
+    ensures one { ForSome (D.reads disk.old) (λ parts. IfOk result (λ n. take n.1 one.new ≡ head_of parts.one)) }
+    ensures reads { D.reads disk.new ≡ D.reads disk.old }
+    ensures stable { (t : ℕ) (image : Parts) → OnOk result (D.disk_clock disk.new ≡ Some t → D.images disk.new t image → D.reads disk.new ≡ Some image) }
+    ensures crash { Through D.disk_clock D.images Same disk.old disk.new }
+    ensures by { D.by_disk disk.old disk.new }
+    ensures cause { HasCause (D.disk_faults disk.old) (D.disk_faults disk.new) result }
+{
+    disk.sync()?;
+    let zero_len = disk.read_at(Part::Zero, 0, zero)?;
+    let one_len = disk.read_at(Part::One, 0, one)?;
+    Ok((zero_len, one_len))
+}
+
+// What reading tells from the half that rules.
+fn head_ruling(ruling: Part, zero: &[u8], one: &[u8]) -> Head
+    requires zero { ruling ≡ Zero → 48 ≤ length zero.now }
+    requires one { ruling ≡ One → 48 ≤ length one.now }
+    ensures zero { ruling ≡ Zero → result ≡ head_says zero.now }
+    ensures one { ruling ≡ One → result ≡ head_says one.now }
+{
+    match ruling {
+        Part::Zero => head_says(zero),
+        Part::One => head_says(one),
+    }
+}
+
 impl Journal {
+    ghost use Rattle.fsrm_journal.specs.Opened.{IsOpened, IsRefused, ReadsOn};
+    ghost use Rattle.fsrm_journal.specs.Next.{record_at, Tells};
+
+    /// Finds the half that rules, and reads its head. The image comes next, and then the records.
+    ///
+    /// `NoStore` exactly where neither gate is 1, `Damaged` exactly at the first byte of a head that is missing or isn't
+    /// legal, or at the generation of part 1 where both have the same. `NoMemory`: there is no memory to hold a record.
+    pub fn open_at<D: Disk>(alloc: Global, disk: &mut D) -> Result<(Journal, Head), JournalFault>
+        ensures opened { ForSome (D.reads disk.old) (λ parts. IfOk result (λ opened. IsOpened parts opened.0 opened.1)) }
+        ensures refused { ForSome (D.reads disk.old) (λ parts. IfErr result (λ fault. IsRefused parts fault)) }
+        ensures reads { D.reads disk.new ≡ D.reads disk.old }
+        ensures stable { (t : ℕ) (image : Parts) → OnOk result (D.disk_clock disk.new ≡ Some t → D.images disk.new t image → D.reads disk.new ≡ Some image) }
+        ensures crash { Through D.disk_clock D.images Same disk.old disk.new }
+        ensures by { D.by_disk disk.old disk.new }
+        ensures later { D.disk_faults disk.old ≤ D.disk_faults disk.new }
+        ensures failed { IsErrOf result DiskFault → Rose (D.disk_faults disk.old) (D.disk_faults disk.new) }
+    {
+        let mut zero = [0; 48];
+        let mut one = [0; 48];
+        let (zero_len, one_len) = read_heads(disk, &mut zero, &mut one)?;
+        let ruling = judged(&zero[..zero_len], &one[..one_len])?;
+        let len = disk.len(ruling)?;
+        let head = head_ruling(ruling, &zero[..zero_len], &one[..one_len]);
+        let Ok(bytes) = Vec::with_capacity(alloc, MOST_RECORD) else {
+            return Err(JournalFault::NoMemory);
+        };
+        let journal = Journal {
+            ruling,
+            end: 48,
+            image_end: head.image.saturating_add(48),
+            len,
+            bytes,
+            held: 0,
+            group: 1,
+        };
+        Ok((journal, head))
+    }
+
+    /// Fills `into` with the next bytes of the image, and answers how many. Into room that is 0 only at the image's end,
+    /// or at the half's if that comes first.
+    pub fn read_image<D: Disk>(
+        &mut self,
+        disk: &mut D,
+        into: &mut [u8],
+    ) -> Result<usize, JournalFault>
+        ensures count { IfOk result (λ n. n ≤ length into.new) }
+        ensures bytes { ForSome (D.reads disk.old) (λ parts. self.old.len ≡ length (part_of self.old.ruling parts)
+            → IfOk result (λ n. take n into.new ≡ take (length into.old) (take (self.old.image_end - self.old.end) (drop self.old.end (part_of self.old.ruling parts))))) }
+        ensures end { IfOk result (λ n. self.new.end ≡ self.old.end + n) }
+        ensures err { OnErr result (self.new.end ≡ self.old.end) }
+        ensures same { ReadsOn self.old self.new }
+        ensures reads { D.reads disk.new ≡ D.reads disk.old }
+        ensures crash { Through D.disk_clock D.images Same disk.old disk.new }
+        ensures by { D.by_disk disk.old disk.new }
+        ensures only { OnErr result (result ≡ Err DiskFault) }
+        ensures cause { HasCause (D.disk_faults disk.old) (D.disk_faults disk.new) result }
+    {
+        let left = self.image_end.min(self.len).saturating_sub(self.end);
+        let room = left.min(into.len() as u64) as usize;
+        let count = disk.read_at(self.ruling, self.end, &mut into[..room])?;
+        self.end += count as u64;
+        Ok(count)
+    }
+
+    /// The place and the length of the next record's body, with which `into` then begins. `None` exactly at the first closed
+    /// gate. `Damaged` exactly at a gate that is missing, at a length that isn't there or isn't legal, or at a body that isn't
+    /// there whole.
+    pub fn next<D: Disk>(
+        &mut self,
+        disk: &mut D,
+        into: &mut [u8],
+    ) -> Result<Option<(u64, usize)>, JournalFault>
+        requires room { 131072 ≤ length into.old }
+        ensures tells { ForSome (D.reads disk.old) (λ parts. self.old.len ≡ length (part_of self.old.ruling parts)
+            → Tells self.old.ruling (record_at (part_of self.old.ruling parts) self.old.end) result) }
+        ensures body { ForSome (D.reads disk.old) (λ parts. self.old.len ≡ length (part_of self.old.ruling parts)
+            → IfOk result (λ found. IfSome found (λ at. take at.1 into.new ≡ take at.1 (drop at.0 (part_of self.old.ruling parts))))) }
+        ensures end { IfOk result (λ found. IfSome found (λ at. self.new.end ≡ at.0 + at.1)) }
+        ensures stays { IfOk result (λ found. found ≡ None → self.new.end ≡ self.old.end) }
+        ensures same { ReadsOn self.old self.new }
+        ensures reads { D.reads disk.new ≡ D.reads disk.old }
+        ensures crash { Through D.disk_clock D.images Same disk.old disk.new }
+        ensures by { D.by_disk disk.old disk.new }
+        ensures later { D.disk_faults disk.old ≤ D.disk_faults disk.new }
+        ensures failed { IsErrOf result DiskFault → Rose (D.disk_faults disk.old) (D.disk_faults disk.new) }
+    {
+        let Some(size) = next_length(disk, self.ruling, self.len, self.end)? else {
+            return Ok(None);
+        };
+        let place = self.end + 5;
+        let size = size as usize;
+        if self.len - place < size as u64 {
+            return Err(damaged(self.ruling, place));
+        }
+        let count = disk.read_at(self.ruling, place, &mut into[..size])?;
+        if count < size {
+            return Err(damaged(self.ruling, place));
+        }
+        self.end = place + size as u64;
+        Ok(Some((place, size)))
+    }
+
     /// How many records are held.
     pub fn held(&self) -> u32
         ensures { result ≡ self.now.held }

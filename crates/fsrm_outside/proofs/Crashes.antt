@@ -1,5 +1,5 @@
 -- The calls up to the last sync, and what a crash leaves.
-use Rattle.std.proofs.Common.{◌≡◌, ◌⊎◌, inl, inr, ⊎_elim, ℕ, suc, ◌+◌, ◌-◌, ◌≤◌, ◌<◌, true, false, List, [], ◌∷◌, ◌++◌, length, get_or, take, drop, refl, sym, ◌∙◌, ap, subst, arith, length-append, length-take, length-drop, append_assoc}
+use Rattle.std.proofs.Common.{◌≡◌, ℕ, ◌+◌, ◌≤◌, ◌<◌, true, false, List, [], ◌∷◌, ◌++◌, length, get_or, take, drop, refl, sym, ◌∙◌, ap, subst, arith, length-append, length-take}
 use Rattle.std.specs.Prelude.{nat_le, reverse, Vec, Result, Ok, Err, OnErr}
 use Rattle.std.specs.declared.alloc.Global.{Global}
 use Rattle.std.proofs.lemmas.Bool.{leb-true}
@@ -8,7 +8,7 @@ use Rattle.std.specs.Result.{is_err}
 use Rattle.fsrm_outside.specs.Changes.{over}
 use Rattle.fsrm_outside.specs.Contents.{HasRoom, parts_in, room_of}
 use Rattle.fsrm_outside.specs.declared.contents.Contents.{Contents}
-use Rattle.fsrm_outside.specs.Crash.{synced, unsynced, ranges_of, all_ranges, IsFilled, AreFilled}
+use Rattle.fsrm_outside.specs.Crash.{synced, unsynced, all_ranges, IsFilled, AreFilled}
 use Rattle.fsrm_outside.specs.DiskModel.{IsOutside, IsPartImage, IsImage, since_of}
 use Rattle.fsrm_outside.specs.ImageLaws.{both_true, bounds, now_image, over_longer}
 use Rattle.fsrm_outside.specs.Parts.{Parts, part_of}

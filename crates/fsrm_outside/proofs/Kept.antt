@@ -1,7 +1,6 @@
 -- What one call more leaves of the images of a history.
-use Rattle.std.proofs.Common.{◌≡◌, ◌⊎◌, inl, inr, ⊎_elim, ℕ, ◌+◌, ◌≤◌, ◌<◌, true, false, Some, List, [], ◌∷◌, ◌++◌, length, take, refl, sym, ◌∙◌, ap, subst, arith, length-append, Vec}
-use Rattle.std.specs.Prelude.{Bool, MatchBool, reverse}
-use Rattle.std.specs.declared.alloc.Global.{Global}
+use Rattle.std.proofs.Common.{◌≡◌, ◌⊎◌, inl, inr, ⊎_elim, ℕ, ◌≤◌, true, false, Some, List, [], ◌∷◌, ◌++◌, length, take, refl, sym, ◌∙◌, ap, subst, arith, length-append}
+use Rattle.std.specs.Prelude.{Bool, MatchBool}
 use Rattle.std.proofs.lemmas.Bool.{cases_lt}
 use Rattle.std.proofs.lemmas.List.{take-append-le, take_all}
 use Rattle.fsrm_outside.specs.Changes.{Same, Through, Torn}
@@ -44,12 +43,12 @@ noted old new call calls_are start begun m i from left =
     let here = along old new (take m new.calls.items) i start begun left in
     let calls = old.calls.items in
     ⊎_elim
-      (λ more. inr (subst (λ (l : List Call). IsImage (parts_in old.start) l i)
-        (ap (since old.begun) (take_all m new.calls.items (omega (arith, more, ap length calls_are, length-append calls (call ∷ []))) ∙ calls_are) ∙ since-push old.begun calls call old.begins) here))
-      (λ few.
-        let same : length calls ≡ m = omega arith in
-        inl (subst (λ (l : List Call). IsImage (parts_in old.start) (since old.begun l) i) (ap (take m) calls_are ∙ take-append-le m calls (call ∷ []) (omega arith) ∙ take_whole calls m same) here))
-      (cases_lt (length calls) m)
+    (λ more. inr (subst (λ (l : List Call). IsImage (parts_in old.start) l i)
+    (ap (since old.begun) (take_all m new.calls.items (omega (arith, more, ap length calls_are, length-append calls (call ∷ []))) ∙ calls_are) ∙ since-push old.begun calls call old.begins) here))
+    (λ few.
+    let same : length calls ≡ m = omega arith in
+    inl (subst (λ (l : List Call). IsImage (parts_in old.start) (since old.begun l) i) (ap (take m) calls_are ∙ take-append-le m calls (call ∷ []) (omega arith) ∙ take_whole calls m same) here))
+    (cases_lt (length calls) m)
 
 stopped : (old new : History) → Stopped old new → (m : ℕ) (i : Parts) → length old.calls.items ≤ m → m ≤ length new.calls.items → images_in new m i → Image old i
 stopped old new kept m i from to left =
@@ -64,9 +63,9 @@ pub noted_through : (step : Parts → Parts → Type 0) (old new : History) (cal
 noted_through step old new call calls_are start begun still back s t m i at_s at_t from to left =
     let now : length old.calls.items ≡ s = some_same _ _ at_s in
     ⊎_elim
-      (λ before. (i, at_start old s i now before, still i))
-      (λ after. let was = back i after in (was.0, at_start old s was.0 now was.1, was.2))
-      (noted old new call calls_are start begun m i (omega arith) left)
+    (λ before. (i, at_start old s i now before, still i))
+    (λ after. let was = back i after in (was.0, at_start old s was.0 now was.1, was.2))
+    (noted old new call calls_are start begun m i (omega arith) left)
 
 pub stopped_through : (step : Parts → Parts → Type 0) (old new : History) → Stopped old new → ((i : Parts) → step i i) → Through clock_in images_in step old new
 stopped_through step old new kept still s t m i at_s at_t from to left =
@@ -78,16 +77,16 @@ stopped_through step old new kept still s t m i at_s at_t from to left =
 pub quiet_through : (old new : History) (call : Call) (b : Bool) → MatchBool b (Noted call old new) (Stopped old new)
     → ((cs : List Call) (i : Parts) → IsImage (parts_in old.start) (call ∷ cs) i → IsImage (parts_in old.start) cs i) → Through clock_in images_in Same old new
 quiet_through old new call b kept still = ⊎_elim
-  (λ is. noted_through Same old new call is.calls is.start is.begun (λ i. refl) (λ i after. (i, still (since old.begun old.calls.items) i after, refl)))
-  (λ lost. stopped_through Same old new lost (λ i. refl))
-  (one_of b (Noted call old new) (Stopped old new) kept)
+    (λ is. noted_through Same old new call is.calls is.start is.begun (λ i. refl) (λ i after. (i, still (since old.begun old.calls.items) i after, refl)))
+    (λ lost. stopped_through Same old new lost (λ i. refl))
+    (one_of b (Noted call old new) (Stopped old new) kept)
 
 -- a sync, whether it did its work or not
 pub sync_through : (old new : History) (done b : Bool) → MatchBool b (Noted (Sync done) old new) (Stopped old new) → Through clock_in images_in Same old new
 sync_through old new done b kept = ⊎_elim
-  (λ is. noted_through Same old new (Sync done) is.calls is.start is.begun (λ i. refl) (λ i after. (i, back done i after, refl)))
-  (λ lost. stopped_through Same old new lost (λ i. refl))
-  (one_of b (Noted (Sync done) old new) (Stopped old new) kept)
+    (λ is. noted_through Same old new (Sync done) is.calls is.start is.begun (λ i. refl) (λ i after. (i, back done i after, refl)))
+    (λ lost. stopped_through Same old new lost (λ i. refl))
+    (one_of b (Noted (Sync done) old new) (Stopped old new) kept)
   where
     back : (done : Bool) (i : Parts) → IsImage (parts_in old.start) (Sync done ∷ since old.begun old.calls.items) i → Image old i
     back true i only = subst (Image old) (sym (two_parts (now_of (parts_in old.start) (since old.begun old.calls.items)) i only.0 only.1)) (now_image (parts_in old.start) (since old.begun old.calls.items) old.ranges)
@@ -110,27 +109,27 @@ pub wrote_through : (old new : History) (part : Part) (place : ℕ) (bytes : Lis
 wrote_through old new part place bytes within wrote =
     let copy = wrote.calls.0 in
     noted_through (Torn part place (length bytes)) old new (WriteAt part place copy) wrote.calls.2 wrote.start wrote.begun (torn_same part place (length bytes))
-      (λ i after.
-        let was = image_back (parts_in old.start) (since old.begun old.calls.items) part place copy i (within_now old part place within) after in
-        (was.0, was.1, subst (λ (k : ℕ). Torn part place k was.0 i) (ap length wrote.calls.1) was.2))
+    (λ i after.
+    let was = image_back (parts_in old.start) (since old.begun old.calls.items) part place copy i (within_now old part place within) after in
+    (was.0, was.1, subst (λ (k : ℕ). Torn part place k was.0 i) (ap length wrote.calls.1) was.2))
 
 pub failed_through : (old new : History) (part : Part) (place count : ℕ) → place ≤ length (part_of part (parts_in old.parts)) → FailedOrStopped part place count old new
     → Through clock_in images_in (Torn part place count) old new
 failed_through old new part place count within = ⊎_elim
-  (λ is. noted_through (Torn part place count) old new (FailedAt part place count) is.calls is.start is.begun (torn_same part place count)
+    (λ is. noted_through (Torn part place count) old new (FailedAt part place count) is.calls is.start is.begun (torn_same part place count)
     (λ i after. failed_back (parts_in old.start) (since old.begun old.calls.items) part place count i (within_now old part place within) after))
-  (λ lost. stopped_through (Torn part place count) old new lost (torn_same part place count))
+    (λ lost. stopped_through (Torn part place count) old new lost (torn_same part place count))
 
 -- nothing was kept, and then a write that failed, or nothing
 pub stopped_failed : (a b c : History) (part : Part) (place count : ℕ) → Stopped a b → FailedOrStopped part place count b c → FailedOrStopped part place count a c
 stopped_failed a b c part place count first = ⊎_elim
-  (λ is. inl (record {
-    calls = is.calls ∙ ap (λ (l : List Call). l ++ FailedAt part place count ∷ []) first.calls;
-    start = is.start ∙ first.start;
-    begun = is.begun ∙ first.begun;
-    parts = is.parts ∙ first.parts;
-  }))
-  (λ lost. inr (record { calls = lost.calls ∙ first.calls; start = lost.start ∙ first.start; begun = lost.begun ∙ first.begun; parts = lost.parts ∙ first.parts }))
+    (λ is. inl (record {
+      calls = is.calls ∙ ap (λ (l : List Call). l ++ FailedAt part place count ∷ []) first.calls;
+      start = is.start ∙ first.start;
+      begun = is.begun ∙ first.begun;
+      parts = is.parts ∙ first.parts;
+    }))
+    (λ lost. inr (record { calls = lost.calls ∙ first.calls; start = lost.start ∙ first.start; begun = lost.begun ∙ first.begun; parts = lost.parts ∙ first.parts }))
 
 -- a write that failed leaves what a read gives
 pub failed_same : (old new : History) (part : Part) (place count : ℕ) → FailedOrStopped part place count old new → parts_in new.parts ≡ parts_in old.parts

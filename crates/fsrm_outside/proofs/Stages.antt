@@ -1,5 +1,5 @@
 -- How a run of disk calls goes on.
-use Rattle.std.proofs.Common.{◌≡◌, ◌↔◌, ◌⊎◌, inl, inr, ⊎_elim, ℕ, ◌≤◌, ◌<◌, None, Some, arith, refl, sym, ◌∙◌, subst}
+use Rattle.std.proofs.Common.{◌≡◌, ◌↔◌, ⊎_elim, ℕ, ◌≤◌, None, Some, arith, refl, sym, ◌∙◌, subst}
 use Rattle.std.specs.Prelude.{Option}
 use Rattle.std.proofs.lemmas.Bool.{cases_lt}
 use Rattle.fsrm_outside.specs.Parts.{Parts}
@@ -50,8 +50,8 @@ pub joined : {D : Type 0} {clock : D → Option ℕ} {images : D → ℕ → Par
     → by old mid → by mid new → EachImage clock images P old mid → EachImage clock images P mid new → EachImage clock images P old new
 joined {D} {clock} {images} {by} laws {old} {mid} {new} {P} first second a b = record {
   each = λ s t m i at_old at_new from to left.
-    let u = later_forth (clock old) (clock mid) s (laws.later old mid first) at_old in
-    ⊎_elim
+      let u = later_forth (clock old) (clock mid) s (laws.later old mid first) at_old in
+      ⊎_elim
       (λ before. a.each s u.0 m i at_old u.1 from (omega (arith, before)) ((laws.past mid new u.0 m i second u.1 (omega (arith, before))).0 left))
       (λ after. b.each u.0 t m i u.1 at_new after to left)
       (cases_lt m u.0);
@@ -61,9 +61,9 @@ joined {D} {clock} {images} {by} laws {old} {mid} {new} {P} first second a b = r
 pub started : {D : Type 0} {clock : D → Option ℕ} {images : D → ℕ → Parts → Type 0} {old : D} {P : Parts → Type 0} → EachNow clock images P old → EachImage clock images P old old
 started {D} {clock} {images} {old} {P} here = record {
   each = λ s t m i at_old at_new from to left.
-    let same : s ≡ t = some_is (sym at_old ∙ at_new) in
-    let is : m ≡ t = omega arith in
-    here.now t i at_new (subst (λ (k : ℕ). images old k i) is left);
+      let same : s ≡ t = some_is (sym at_old ∙ at_new) in
+      let is : m ≡ t = omega arith in
+      here.now t i at_new (subst (λ (k : ℕ). images old k i) is left);
 }
 
 -- one call, each step of which leads from Q to P
@@ -71,8 +71,8 @@ pub through : {D : Type 0} {clock : D → Option ℕ} {images : D → ℕ → Pa
     → EachNow clock images Q old → Through clock images step old new → ((d i : Parts) → Q d → step d i → P i) → EachImage clock images P old new
 through {D} {clock} {images} {old} new P {Q} step here by_step leads = record {
   each = λ s t m i at_old at_new from to left.
-    let was = by_step s t m i at_old at_new from to left in
-    leads was.0 i (here.now s was.0 at_old was.1) was.2;
+      let was = by_step s t m i at_old at_new from to left in
+      leads was.0 i (here.now s was.0 at_old was.1) was.2;
 }
 
 -- what holds of each image of a run holds of those of its end
@@ -80,8 +80,8 @@ pub at_end : {D : Type 0} {clock : D → Option ℕ} {images : D → ℕ → Par
     → by old new → EachImage clock images P old new → EachNow clock images P new
 at_end {D} {clock} {images} {by} laws {old} {new} {P} ran a = record {
   now = λ t i at_new left.
-    let s = later_back (clock old) (clock new) t (laws.later old new ran) at_new in
-    a.each s.0 t t i s.1 at_new s.2 (omega arith) left;
+      let s = later_back (clock old) (clock new) t (laws.later old new ran) at_new in
+      a.each s.0 t t i s.1 at_new s.2 (omega arith) left;
 }
 
 pub begun : {D : Type 0} {clock : D → Option ℕ} {images : D → ℕ → Parts → Type 0} {by : D → D → Type 0} → DiskLaws clock images by → {old : D} (P : Parts → Type 0) {Q : Parts → Type 0}
@@ -124,9 +124,9 @@ pub quiet_then : {D : Type 0} {clock : D → Option ℕ} {images : D → ℕ →
 quiet_then {D} {clock} {images} {by} laws old mid new first second a b s t m i at_old at_new from to left =
     let u = later_forth (clock old) (clock mid) s (laws.later old mid first) at_old in
     ⊎_elim
-      (λ before. a s u.0 m i at_old u.1 from (omega (arith, before)) ((laws.past mid new u.0 m i second u.1 (omega (arith, before))).0 left))
-      (λ after.
-        let was = b u.0 t m i u.1 at_new after to left in
-        let then_was = a s u.0 u.0 was.0 at_old u.1 u.2 (omega arith) was.1 in
-        (then_was.0, then_was.1, was.2 ∙ then_was.2))
-      (cases_lt m u.0)
+    (λ before. a s u.0 m i at_old u.1 from (omega (arith, before)) ((laws.past mid new u.0 m i second u.1 (omega (arith, before))).0 left))
+    (λ after.
+    let was = b u.0 t m i u.1 at_new after to left in
+    let then_was = a s u.0 u.0 was.0 at_old u.1 u.2 (omega arith) was.1 in
+    (then_was.0, then_was.1, was.2 ∙ then_was.2))
+    (cases_lt m u.0)

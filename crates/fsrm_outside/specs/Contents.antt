@@ -1,6 +1,6 @@
 -- The bytes of both parts of a disk, as contracts name them.
 use Rattle.std.specs.Prelude.{ℕ, ◌≤◌, length, vec_capacity}
-use Rattle.fsrm_outside.specs.Parts.{Parts, part_of}
+use Rattle.fsrm_outside.specs.Parts.{Parts}
 use Rattle.fsrm_outside.specs.declared.contents.Contents.{Contents}
 use Rattle.fsrm_outside.specs.declared.traits.Part.{Part}
 use Rattle.fsrm_outside.specs.declared.traits.Part.TheVariants.{Zero, One}

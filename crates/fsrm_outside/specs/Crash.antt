@@ -1,5 +1,5 @@
 -- What the three crashes of a device in memory leave.
-use Rattle.std.specs.Prelude.{◌≡◌, ◌⊎◌, ℕ, ◌<◌, Bool, true, false, List, [], ◌∷◌, ◌++◌, length, slice_index}
+use Rattle.std.specs.Prelude.{◌≡◌, ◌⊎◌, ℕ, ◌<◌, true, false, List, [], ◌∷◌, ◌++◌, length, slice_index}
 use Rattle.fsrm_outside.specs.DiskModel.{IsOutside}
 use Rattle.fsrm_outside.specs.Parts.{Parts}
 use Rattle.fsrm_outside.specs.declared.calls.Call.{Call}

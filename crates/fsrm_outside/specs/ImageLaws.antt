@@ -1,5 +1,5 @@
 -- Each image of the disk model is one that the calls may have left, torn write by torn write.
-use Rattle.std.proofs.Common.{◌≡◌, true, false, ◌++◌, length-append, rules, ◌⊎◌, inl, inr, ⊎_elim, ℕ, zero, suc, ◌+◌, ◌-◌, ◌≤◌, ◌<◌, min, max, List, [], ◌∷◌, length, get_or, take, drop, refl, sym, ◌∙◌, ap, subst, arith, length-take, length-drop}
+use Rattle.std.proofs.Common.{◌≡◌, true, false, ◌++◌, length-append, rules, ◌⊎◌, inl, inr, ⊎_elim, ℕ, zero, suc, ◌+◌, ◌-◌, ◌≤◌, ◌<◌, min, max, List, [], ◌∷◌, length, get_or, take, drop, refl, sym, ◌∙◌, ap, arith, length-take, length-drop}
 use Rattle.std.proofs.lemmas.Bool.{cases_lt}
 use Rattle.std.proofs.lemmas.List.{take-take, take_all, drop_all, get_or-take}
 use Rattle.std.specs.Prelude.{Bool, ◌&&◌, nat_le, Vec}
@@ -96,21 +96,21 @@ module _ (since : Since) (place n : ℕ) (image : List ℕ) (within : place ≤ 
 
   kept : (k : ℕ) → k < length since.stable → IsOutside since.written k → get_or back k 0 ≡ get_or since.stable k 0
   kept k few out = get_or-take since.greatest mixed k 0 (omega arith) ∙ ⊎_elim
-    (λ front. out-mix since.stable image place n k (inl front) ∙ is.same k few (inl front, out))
-    (λ from. ⊎_elim
+      (λ front. out-mix since.stable image place n k (inl front) ∙ is.same k few (inl front, out))
+      (λ from. ⊎_elim
       (λ inside. in-mix since.stable image place n k few (omega (arith, is.no_shorter)) from inside)
       (λ behind. out-mix since.stable image place n k (inr behind) ∙ is.same k few (inr behind, out))
       (cases_lt k (place + n)))
-    (cases_lt k place)
+      (cases_lt k place)
 
   front : take place image ≡ take place back
   front = sym (take-take place since.greatest mixed within ∙ take-mix since.stable image place n)
 
   tail : drop (place + n) image ≡ drop (place + n) back
   tail = ⊎_elim
-    (λ longer. drop_all (place + n) image (omega (arith, is.no_longer, longer)) ∙ sym (drop_all (place + n) back (omega (arith, is.no_longer, longer, size))))
-    (λ fits. sym (ap (drop (place + n)) (take_all since.greatest mixed (omega (arith, fits, length-mix since.stable image place n))) ∙ drop-mix since.stable image place n (place + n) refl))
-    (cases_lt since.greatest (length image))
+      (λ longer. drop_all (place + n) image (omega (arith, is.no_longer, longer)) ∙ sym (drop_all (place + n) back (omega (arith, is.no_longer, longer, size))))
+      (λ fits. sym (ap (drop (place + n)) (take_all since.greatest mixed (omega (arith, fits, length-mix since.stable image place n))) ∙ drop-mix since.stable image place n (place + n) refl))
+      (cases_lt since.greatest (length image))
 
   pub torn_back : Before since place n image
   torn_back = record {
@@ -125,8 +125,8 @@ module _ (since : Since) (place n : ℕ) (image : List ℕ) (within : place ≤ 
 -- over a whole record of calls
 one_part : (bytes image : List ℕ) → IsPartImage (settled bytes) image → image ≡ bytes
 one_part bytes image is = same_lists image bytes (omega (arith, is.no_shorter, is.no_longer)) (λ k d few.
-  let inside : k < length bytes = omega (arith, is.no_longer) in
-  get_or_default image k d 0 few ∙ is.same k inside tt ∙ get_or_default bytes k 0 d inside)
+    let inside : k < length bytes = omega (arith, is.no_longer) in
+    get_or_default image k d 0 few ∙ is.same k inside tt ∙ get_or_default bytes k 0 d inside)
 
 pub two_parts : (p i : Parts) → IsPartImage (settled p.zero) i.zero → IsPartImage (settled p.one) i.one → i ≡ p
 two_parts p i z o = λ k. record { zero = one_part p.zero i.zero z k; one = one_part p.one i.one o k }
@@ -188,10 +188,10 @@ failed_back start calls One place count image within is = image_torn start calls
 -- a byte outside what was written
 get_or-over : (place : ℕ) (bytes old : List ℕ) (k : ℕ) → place ≤ length old → (k < place) ⊎ (place + length bytes ≤ k) → get_or (over place bytes old) k 0 ≡ get_or old k 0
 get_or-over place bytes old k within out = ⊎_elim (λ front. search (rules, places, front)) (λ behind.
-  let front : length (take place old ++ bytes) ≡ place + length bytes = omega (arith, length-append (take place old) bytes, length-take place old) in
-  let back : place + length bytes + (k - (place + length bytes)) ≡ k = omega (arith, behind) in
-  get_or-append_right (take place old ++ bytes) (drop (place + length bytes) old) (place + length bytes) k 0 front behind
-  ∙ get_or-drop (place + length bytes) old (k - (place + length bytes)) 0 ∙ ap (λ (j : ℕ). get_or old j 0) back) out
+    let front : length (take place old ++ bytes) ≡ place + length bytes = omega (arith, length-append (take place old) bytes, length-take place old) in
+    let back : place + length bytes + (k - (place + length bytes)) ≡ k = omega (arith, behind) in
+    get_or-append_right (take place old ++ bytes) (drop (place + length bytes) old) (place + length bytes) k 0 front behind
+    ∙ get_or-drop (place + length bytes) old (k - (place + length bytes)) 0 ∙ ap (λ (j : ℕ). get_or old j 0) back) out
 
 pub over_longer : (place : ℕ) (bytes old : List ℕ) → place ≤ length old → length old ≤ length (over place bytes old)
 over_longer place bytes old within = omega (arith, length-append (take place old ++ bytes) (drop (place + length bytes) old), length-append (take place old) bytes, length-drop (place + length bytes) old, length-take place old)

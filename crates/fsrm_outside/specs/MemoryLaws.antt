@@ -1,5 +1,5 @@
 -- The laws of a device in memory.
-use Rattle.std.specs.Prelude.{◌≡◌, ◌↔◌, ℕ, ◌+◌, ◌-◌, ◌≤◌, Option, Some, List, [], ◌∷◌, ◌++◌, length, take, drop, reverse, refl}
+use Rattle.std.specs.Prelude.{◌≡◌, ◌↔◌, ℕ, ◌+◌, ◌-◌, ◌≤◌, Some, List, ◌++◌, length, take, drop, reverse, refl}
 use Rattle.std.proofs.Common.{sym, ◌∙◌, ap, subst, arith, take-add}
 use Rattle.std.proofs.lemmas.List.{take_all, reverse-append}
 use Rattle.fsrm_outside.specs.Contents.{parts_in}
@@ -73,8 +73,8 @@ iff_then f g = (λ a. g.0 (f.0 a), λ c. f.1 (g.1 c))
 along_start : (a b : MemoryOutside) (calls : List Call) (image : Parts) → parts_in b.history.start ≡ parts_in a.history.start → b.history.begun ≡ a.history.begun
     → IsImage (parts_in b.history.start) (since b.history.begun calls) image ↔ IsImage (parts_in a.history.start) (since a.history.begun calls) image
 along_start a b calls image start begun = iff_then
-  (iff_along (λ (x : Parts). IsImage x (since b.history.begun calls) image) (parts_in b.history.start) (parts_in a.history.start) start)
-  (iff_along (λ (n : ℕ). IsImage (parts_in a.history.start) (since n calls) image) b.history.begun a.history.begun begun)
+    (iff_along (λ (x : Parts). IsImage x (since b.history.begun calls) image) (parts_in b.history.start) (parts_in a.history.start) start)
+    (iff_along (λ (n : ℕ). IsImage (parts_in a.history.start) (since n calls) image) b.history.begun a.history.begun begun)
 
 -- over reads and writes the disk stays
 keeps_disk : (P : Call → Type 0) → ((start : Parts) (xs ys : List Call) (image : Parts) → Each P xs → IsImage start (xs ++ ys) image ↔ IsImage start ys image)
@@ -84,17 +84,17 @@ keeps_disk P may a b goes start begun parts faults = record {
   same_reads = ap (λ (p : Parts). Some p) parts;
   later = longer P (calls_of a) (calls_of b) goes;
   since = λ s t m image at_a at_b from to.
-    let now : time_of a ≡ s = some_same _ _ at_a in
-    iff_then
+      let now : time_of a ≡ s = some_same _ _ at_a in
+      iff_then
       (along_start a b (take m (calls_of b)) image start begun)
       (iff_then
-        (iff_along (λ (l : List Call). IsImage (parts_in a.history.start) l image) _ _ (newest_first P (calls_of a) (calls_of b) goes a.history.begun m a.history.begins (omega arith)))
-        (iff_then
-          (may (parts_in a.history.start) (newest P (calls_of a) (calls_of b) goes m) (since a.history.begun (calls_of a)) image (newest_kind P (calls_of a) (calls_of b) goes m))
-          (iff_along (λ (l : List Call). IsImage (parts_in a.history.start) (since a.history.begun l) image) (calls_of a) (take s (calls_of a)) (sym (take_whole (calls_of a) s now)))));
+      (iff_along (λ (l : List Call). IsImage (parts_in a.history.start) l image) _ _ (newest_first P (calls_of a) (calls_of b) goes a.history.begun m a.history.begins (omega arith)))
+      (iff_then
+      (may (parts_in a.history.start) (newest P (calls_of a) (calls_of b) goes m) (since a.history.begun (calls_of a)) image (newest_kind P (calls_of a) (calls_of b) goes m))
+      (iff_along (λ (l : List Call). IsImage (parts_in a.history.start) (since a.history.begun l) image) (calls_of a) (take s (calls_of a)) (sym (take_whole (calls_of a) s now)))));
   past = λ s m image at_a few.
-    let now : time_of a ≡ s = some_same _ _ at_a in
-    iff_then
+      let now : time_of a ≡ s = some_same _ _ at_a in
+      iff_then
       (along_start a b (take m (calls_of b)) image start begun)
       (iff_along (λ (l : List Call). IsImage (parts_in a.history.start) (since a.history.begun l) image) _ _ (earlier P (calls_of a) (calls_of b) goes m (omega arith)));
   same_faults = faults;
@@ -108,13 +108,13 @@ keeps_sink P shown a b goes same faults = record {
   same_shown = ap (λ (l : List ℕ). Some l) same;
   later = longer P (calls_of a) (calls_of b) goes;
   since = λ s t m at_a at_b from to.
-    let now : time_of a ≡ s = some_same _ _ at_a in
-    ap text_of (newest_first P (calls_of a) (calls_of b) goes 0 m (omega arith) (omega arith))
-    ∙ shown (newest P (calls_of a) (calls_of b) goes m) (reverse (calls_of a)) (newest_kind P (calls_of a) (calls_of b) goes m)
-    ∙ ap (λ (l : List Call). text_of (reverse l)) (sym (take_whole (calls_of a) s now));
+      let now : time_of a ≡ s = some_same _ _ at_a in
+      ap text_of (newest_first P (calls_of a) (calls_of b) goes 0 m (omega arith) (omega arith))
+      ∙ shown (newest P (calls_of a) (calls_of b) goes m) (reverse (calls_of a)) (newest_kind P (calls_of a) (calls_of b) goes m)
+      ∙ ap (λ (l : List Call). text_of (reverse l)) (sym (take_whole (calls_of a) s now));
   past = λ s m at_a few.
-    let now : time_of a ≡ s = some_same _ _ at_a in
-    ap (λ (l : List Call). text_of (reverse l)) (earlier P (calls_of a) (calls_of b) goes m (omega arith));
+      let now : time_of a ≡ s = some_same _ _ at_a in
+      ap (λ (l : List Call). text_of (reverse l)) (earlier P (calls_of a) (calls_of b) goes m (omega arith));
   same_faults = faults;
 }
 
@@ -165,8 +165,8 @@ pub disk_past : (a b : MemoryOutside) (t m : ℕ) (image : Parts) → ByDisk a b
 disk_past a b t m image by at few =
     let now : time_of a ≡ t = some_same _ _ at in
     iff_then
-      (along_start a b (take m (calls_of b)) image by.start by.begun)
-      (iff_along (λ (l : List Call). IsImage (parts_in a.history.start) (since a.history.begun l) image) _ _ (earlier IsDisk (calls_of a) (calls_of b) by.calls m (omega arith)))
+    (along_start a b (take m (calls_of b)) image by.start by.begun)
+    (iff_along (λ (l : List Call). IsImage (parts_in a.history.start) (since a.history.begun l) image) _ _ (earlier IsDisk (calls_of a) (calls_of b) by.calls m (omega arith)))
 
 pub reads_now : (o : MemoryOutside) (t : ℕ) (parts : Parts) → Some (time_of o) ≡ Some t → Some (parts_of o) ≡ Some parts → images_of o t parts
 reads_now o t parts at told =

@@ -1,5 +1,5 @@
 -- What a device in memory holds, as its contracts name it, and what its calls keep.
-use Rattle.std.specs.Prelude.{◌≡◌, ℕ, ◌+◌, List, length, drop, reverse, take}
+use Rattle.std.specs.Prelude.{◌≡◌, ℕ, List, length, drop, reverse, take}
 use Rattle.fsrm_outside.specs.Contents.{parts_in}
 use Rattle.fsrm_outside.specs.History.{images_in}
 use Rattle.fsrm_outside.specs.Parts.{Parts}

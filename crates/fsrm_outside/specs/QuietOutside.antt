@@ -1,5 +1,5 @@
 -- What a device in memory holds that keeps no record of its calls.
-use Rattle.std.specs.Prelude.{◌≡◌, ℕ, Option, None, Some, List, [], drop, refl}
+use Rattle.std.specs.Prelude.{◌≡◌, ℕ, None, Some, List, [], drop, refl}
 use Rattle.std.proofs.Common.{◌∙◌, ap}
 use Rattle.fsrm_outside.specs.Contents.{parts_in}
 use Rattle.fsrm_outside.specs.Kept.{KeepsDisk, KeepsSink, KeepsSource}

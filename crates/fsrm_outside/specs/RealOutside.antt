@@ -1,8 +1,7 @@
 -- The streams and files of the process: nothing is told of them but how often a call failed.
-use Rattle.std.specs.Prelude.{◌≡◌, ℕ, Option, None, Some, List, [], refl}
+use Rattle.std.specs.Prelude.{◌≡◌, ℕ, None, Some, [], refl}
 use Rattle.std.proofs.Common.{◌∙◌}
 use Rattle.fsrm_outside.specs.Kept.{KeepsDisk, KeepsSink, KeepsSource}
-use Rattle.fsrm_outside.specs.Parts.{Parts}
 use Rattle.fsrm_outside.specs.declared.real.RealOutside.{RealOutside}
 
 abbrev pub read_faults_of : RealOutside → ℕ

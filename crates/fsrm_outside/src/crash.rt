@@ -55,10 +55,7 @@ pub fn replay(contents: &mut Contents, calls: &[Call])
 {
     for call in calls {
         if let Call::WriteAt(part, place, bytes) = call {
-            if contents
-                .write_at(*part, *place as usize, bytes)
-                .is_err()
-            {
+            if contents.write_at(*part, *place as usize, bytes).is_err() {
                 unreachable!()
             }
         }

@@ -104,7 +104,12 @@ impl History {
     pub fn crash(&mut self, pick: Pick)
         ensures { Crashed pick self.old self.new }
     {
-        pick_image(&mut self.parts, &self.start, &self.calls[self.begun..], pick);
+        pick_image(
+            &mut self.parts,
+            &self.start,
+            &self.calls[self.begun..],
+            pick,
+        );
         self.start.become_copy(&self.parts);
         self.begun = self.calls.len();
     }

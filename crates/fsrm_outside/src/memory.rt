@@ -63,7 +63,13 @@ impl MemoryOutside {
     }
 
     /// The same with these parts, stable. `NoMemory`: there is no memory for a copy of all.
-    pub fn with_parts(alloc: Global, zero: &[u8], one: &[u8], script: &[u8], fail: &[u64]) -> Result<MemoryOutside, NoMemory>
+    pub fn with_parts(
+        alloc: Global,
+        zero: &[u8],
+        one: &[u8],
+        script: &[u8],
+        fail: &[u64],
+    ) -> Result<MemoryOutside, NoMemory>
         ensures left { IfOk result (λ o. ⟦<MemoryOutside as Source>⟧.left o ≡ Some script.now) }
         ensures shown { IfOk result (λ o. ⟦<MemoryOutside as Sink>⟧.shown o ≡ Some []) }
         ensures parts { IfOk result (λ o. parts_of o ≡ record { zero = zero.now; one = one.now }) }
@@ -211,11 +217,9 @@ fn show(
     bytes: &[u8],
 ) -> bool
     ensures told { IsTrue fails → result ≡ false }
-    ensures done {
-        MatchBool result
-            (NotedShown bytes.now history.old history.new × (shown.new.items ≡ shown.old.items ++ bytes.now))
-            (Stopped history.old history.new × (shown.new.items ≡ shown.old.items))
-    }
+    ensures done { MatchBool result
+        (NotedShown bytes.now history.old history.new × (shown.new.items ≡ shown.old.items ++ bytes.now))
+        (Stopped history.old history.new × (shown.new.items ≡ shown.old.items)) }
 {
     if fails {
         return false;

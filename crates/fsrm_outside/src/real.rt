@@ -16,6 +16,7 @@ const ATTEMPTS: usize = 64;
 const MOST: u64 = 1 << 62;
 
 const FILE_OF_ZERO: &str = "fsrm.store.0";
+
 const FILE_OF_ONE: &str = "fsrm.store.1";
 
 /// Standard input and standard output, without a buffer, and the files `fsrm.store.0` and

@@ -1,6 +1,8 @@
 //! Disks in memory that crash, one with room for so much, and the files of the current folder.
 
-use fsrm_outside::{CallKind, Disk, Failed, MemoryOutside, Part, Pick, QuietOutside, RealOutside, Sink};
+use fsrm_outside::{
+    CallKind, Disk, Failed, MemoryOutside, Part, Pick, QuietOutside, RealOutside, Sink,
+};
 use std::test::Fail;
 
 // What each crash leaves of a part that held `ab`, after `xyz` was written over it and before a sync.
@@ -13,8 +15,13 @@ const CRASHES: [(Pick, &[u8]); 3] = [
 #[test]
 fn a_crash_leaves_what_was_picked(rt: HostRuntime) -> Result<(), Fail> {
     for (pick, left) in CRASHES {
-        let mut disk =
-            MemoryOutside::with_parts(rt.alloc(), b"ab".as_slice(), &[], &[], [].as_slice())?;
+        let mut disk = MemoryOutside::with_parts(
+            rt.alloc(),
+            b"ab".as_slice(),
+            &[],
+            &[],
+            [].as_slice(),
+        )?;
         disk.stop_at(2);
         assert_eq!(rt; disk.write_at(Part::Zero, 0, b"xyz".as_slice()), Ok(()));
         assert_eq!(rt; disk.sync(), Err(Failed));
@@ -28,8 +35,13 @@ fn a_crash_leaves_what_was_picked(rt: HostRuntime) -> Result<(), Fail> {
 
 #[test]
 fn a_failed_write_may_have_torn_its_range(rt: HostRuntime) -> Result<(), Fail> {
-    let mut disk =
-        MemoryOutside::with_parts(rt.alloc(), b"abcd".as_slice(), &[], &[], [1].as_slice())?;
+    let mut disk = MemoryOutside::with_parts(
+        rt.alloc(),
+        b"abcd".as_slice(),
+        &[],
+        &[],
+        [1].as_slice(),
+    )?;
     assert_eq!(rt; disk.write_at(Part::Zero, 0, b"xy".as_slice()), Err(Failed));
     assert_eq!(rt; disk.part(Part::Zero), b"abcd".as_slice());
     disk.crash(Pick::Fill(255));
@@ -54,7 +66,10 @@ fn a_quiet_device_has_its_room(rt: HostRuntime) -> Result<(), Fail> {
     let mut outside = QuietOutside::new(rt.alloc(), &[], 2)?;
     assert_eq!(rt; outside.write(b"abc".as_slice()), Err(Failed));
     assert_eq!(rt; outside.write(b"ab".as_slice()), Ok(2));
-    assert_eq!(rt; outside.write_at(Part::One, 0, b"abc".as_slice()), Err(Failed));
+    assert_eq!(rt;
+        outside.write_at(Part::One, 0, b"abc".as_slice()),
+        Err(Failed)
+    );
     assert_eq!(rt; outside.write_at(Part::One, 0, b"ab".as_slice()), Ok(()));
     assert_eq!(rt; outside.len(Part::One), Ok(2));
     Ok(())

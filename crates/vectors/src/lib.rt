@@ -15,6 +15,8 @@ mod engines;
 #[cfg(test)]
 mod groups;
 #[cfg(test)]
+mod journals;
+#[cfg(test)]
 mod lists;
 #[cfg(test)]
 mod names;

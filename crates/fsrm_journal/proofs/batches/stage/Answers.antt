@@ -1,7 +1,6 @@
-use Rattle.std.proofs.Common.{◌≡◌, ◌+◌, ℕ, Some, [], ◌∷◌, length, ap, sym, ◌∙◌, arith}
-use Rattle.fsrm_outside.specs.Parts.{Parts, part_of}
+use Rattle.std.proofs.Common.{◌+◌, ◌∙◌, arith}
 use Rattle.fsrm_outside.proofs.Stages.{DiskLaws, stayed}
-use Rattle.fsrm_journal.proofs.Files.{told_back, told_forth, front_holds, written_here, length-over}
+use Rattle.fsrm_journal.proofs.Files.{told_forth, front_holds}
 use Rattle.fsrm_journal.proofs.Staging.{begins, writes, makes_staged}
 use Rattle.fsrm_journal.proofs.batches.stage.Goals as goal
 

@@ -45,7 +45,7 @@ returns-in-Lost-clause-image c =
     let calls = c.args.calls.now in
     let count = c.count_synced-count.result in
     let is : parts_in c.replay.new.contents ≡ now_of start (synced (reverse calls)) =
-      c.replay.ensures ∙ ap (λ (p : Parts). now_of p (reverse (take count calls))) c.become_copy.ensures.parts ∙ ap (now_of start) c.count_synced-count.ensures.synced in
+    c.replay.ensures ∙ ap (λ (p : Parts). now_of p (reverse (take count calls))) c.become_copy.ensures.parts ∙ ap (now_of start) c.count_synced-count.ensures.synced in
     subst (IsImage start (reverse calls)) (sym is) (lost_image start (reverse calls))
 
 pub returns-in-Lost-clause-zero : goal.returns-in-Lost-clause-zero
@@ -54,7 +54,7 @@ returns-in-Lost-clause-zero c =
     let calls = c.args.calls.now in
     let count = c.count_synced-count.result in
     let is : parts_in c.replay.new.contents ≡ now_of start (reverse (take count calls)) =
-      c.replay.ensures ∙ ap (λ (p : Parts). now_of p (reverse (take count calls))) c.become_copy.ensures.parts in
+    c.replay.ensures ∙ ap (λ (p : Parts). now_of p (reverse (take count calls))) c.become_copy.ensures.parts in
     omega (arith, ap (λ (p : Parts). length p.zero) is, grown_since start calls count Zero c.requires.valid, ap (λ (p : Parts). length p.zero) c.requires.parts)
 
 pub returns-in-Lost-clause-one : goal.returns-in-Lost-clause-one
@@ -63,7 +63,7 @@ returns-in-Lost-clause-one c =
     let calls = c.args.calls.now in
     let count = c.count_synced-count.result in
     let is : parts_in c.replay.new.contents ≡ now_of start (reverse (take count calls)) =
-      c.replay.ensures ∙ ap (λ (p : Parts). now_of p (reverse (take count calls))) c.become_copy.ensures.parts in
+    c.replay.ensures ∙ ap (λ (p : Parts). now_of p (reverse (take count calls))) c.become_copy.ensures.parts in
     omega (arith, ap (λ (p : Parts). length p.one) is, grown_since start calls count One c.requires.valid, ap (λ (p : Parts). length p.one) c.requires.parts)
 
 pub returns-in-Taken-clause-image : goal.returns-in-Taken-clause-image
@@ -80,4 +80,4 @@ returns-in-Fill-clause-image c =
     let rest = take_all (length c.args.calls.now - count) (drop count c.args.calls.now) (omega (arith, length-drop count c.args.calls.now)) in
     let filled = subst (λ (l : List Call). AreFilled c.in-Fill.byte l (parts_in c.args.parts.now) (parts_in c.fill.new.contents)) (ap reverse rest ∙ c.count_synced-count.ensures.unsynced) c.fill.ensures in
     filled_image start calls c.in-Fill.byte (parts_in c.fill.new.contents) c.requires.valid
-      (subst (λ (p : Parts). AreFilled c.in-Fill.byte (unsynced calls) p (parts_in c.fill.new.contents)) c.requires.parts filled)
+    (subst (λ (p : Parts). AreFilled c.in-Fill.byte (unsynced calls) p (parts_in c.fill.new.contents)) c.requires.parts filled)

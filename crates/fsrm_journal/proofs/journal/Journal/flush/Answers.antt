@@ -29,7 +29,7 @@ returns-clause-added g c log bodies held few is s =
     let done = c.in_ok-open_gate.ensures.opened log bodies h.0 h.1 s.rules staged in
     let end : c.args.self.now.end + 1 + length (batch (h.0 ∷ h.1)) ≡ c.in_ok-next.next = omega (arith, c.in_ok-next.ensures.next.0, ap length closed, length-append (batch (h.0 ∷ h.1)) (0 ∷ [])) in
     subst (λ (e : ℕ). Settled M.reads M.disk_clock M.images log (bodies ++ held) c.args.self.now.ruling e c.open_gate.new.disk) end
-      (subst (λ (x : List (List ℕ)). Settled M.reads M.disk_clock M.images log (bodies ++ x) c.args.self.now.ruling (c.args.self.now.end + 1 + length (batch (h.0 ∷ h.1))) c.open_gate.new.disk) (sym h.2) done)
+    (subst (λ (x : List (List ℕ)). Settled M.reads M.disk_clock M.images log (bodies ++ x) c.args.self.now.ruling (c.args.self.now.end + 1 + length (batch (h.0 ∷ h.1))) c.open_gate.new.disk) (sym h.2) done)
 
 pub returns-clause-any_moment : goal.returns-clause-any_moment
 returns-clause-any_moment g c log bodies held few is s =

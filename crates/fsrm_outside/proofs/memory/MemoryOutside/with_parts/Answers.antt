@@ -1,4 +1,4 @@
-use Rattle.std.proofs.Common.{◌≡◌, refl, sym, ◌∙◌, [], subst, List, ap}
+use Rattle.std.proofs.Common.{◌≡◌, sym, ◌∙◌, [], subst, List, ap}
 use Rattle.fsrm_outside.specs.Contents.{parts_in}
 use Rattle.fsrm_outside.specs.DiskModel.{IsImage}
 use Rattle.fsrm_outside.specs.ImageLaws.{two_parts}

@@ -1,4 +1,4 @@
-use Rattle.std.proofs.Common.{◌≡◌, ap, subst, Some, true, refl}
+use Rattle.std.proofs.Common.{◌≡◌, ap, subst, Some, true}
 use Rattle.std.specs.Prelude.{not, Bool}
 use Rattle.fsrm_outside.specs.History.{Noted}
 use Rattle.fsrm_outside.specs.Parts.{Parts}

@@ -1,0 +1,39 @@
+-- Reads leave what is stable.
+use Rattle.std.proofs.Common.{◌≡◌, ℕ, Some, List, refl, sym, ◌∙◌, ap, arith}
+use Rattle.std.specs.Prelude.{Option, Result, Err}
+use Rattle.fsrm_outside.specs.declared.traits.Part.{Part}
+use Rattle.fsrm_outside.specs.declared.traits.Part.TheVariants.{Zero, One}
+use Rattle.fsrm_journal.specs.Heads.{head_of, judged}
+use Rattle.fsrm_journal.specs.HeadSays.{head_says}
+use Rattle.fsrm_journal.specs.Opened.{judged_parts, IsRefused}
+use Rattle.fsrm_journal.specs.declared.fault.JournalFault.{JournalFault}
+use Rattle.fsrm_journal.specs.declared.fault.JournalFault.TheVariants.{NoStore, AlreadyStore, Damaged, DiskFault, NoMemory}
+use Rattle.fsrm_journal.specs.declared.heads.Head.{Head}
+use Rattle.fsrm_outside.specs.Changes.{Same, Through}
+use Rattle.fsrm_outside.specs.Parts.{Parts, part_of}
+use Rattle.fsrm_outside.proofs.Stages.{DiskLaws, later_back}
+
+pub still_stable : {D : Type 0} (reads : D → Option Parts) {clock : D → Option ℕ} {images : D → ℕ → Parts → Type 0} {by : D → D → Type 0} → DiskLaws clock images by → (old new : D)
+    → by old new → Through clock images Same old new → reads new ≡ reads old
+    → ((t : ℕ) (i : Parts) → clock old ≡ Some t → images old t i → reads old ≡ Some i)
+    → (t : ℕ) (i : Parts) → clock new ≡ Some t → images new t i → reads new ≡ Some i
+still_stable {D} reads {clock} {images} {by} laws old new ran same same_reads durable t i at left =
+    let s = later_back (clock old) (clock new) t (laws.later old new ran) at in
+    let was = same s.0 t t i s.1 at s.2 (omega arith) left in
+    same_reads ∙ durable s.0 was.0 s.1 was.1 ∙ ap (λ (p : Parts). Some p) (sym was.2)
+
+-- the heads that were read are those of the parts
+pub judged_read : (parts : Parts) (zero one : List ℕ) (r : Result Part JournalFault) → r ≡ judged zero one → zero ≡ head_of parts.zero → one ≡ head_of parts.one → judged_parts parts ≡ r
+judged_read parts zero one r is first second = sym (is ∙ ap (λ (l : List ℕ). judged l one) first ∙ ap (λ (l : List ℕ). judged (head_of parts.zero) l) second)
+
+pub refused_read : (parts : Parts) (fault : JournalFault) → judged_parts parts ≡ Err fault → IsRefused parts fault
+refused_read parts NoStore is = is
+refused_read parts AlreadyStore is = is
+refused_read parts (Damaged part place) is = is
+refused_read parts DiskFault is = tt
+refused_read parts NoMemory is = tt
+
+pub says_read : (r : Part) (head : Head) (zero one : List ℕ) (parts : Parts) → (r ≡ Zero → head ≡ head_says zero) → (r ≡ One → head ≡ head_says one) → zero ≡ head_of parts.zero → one ≡ head_of parts.one
+    → head ≡ head_says (head_of (part_of r parts))
+says_read Zero head zero one parts first second is_zero is_one = first refl ∙ ap head_says is_zero
+says_read One head zero one parts first second is_zero is_one = second refl ∙ ap head_says is_one

@@ -1,0 +1,59 @@
+use Rattle.std.proofs.Common.{Err, refl, ap, ◌∙◌}
+use Rattle.std.proofs.lemmas.Result.{err_from_is_err_and}
+use Rattle.fsrm_outside.proofs.Stages.{DiskLaws, quiet_then}
+use Rattle.fsrm_journal.proofs.Quiet.{still_stable, judged_read, refused_read, says_read}
+use Rattle.fsrm_journal.proofs.journal.Journal.open_at.Goals as goal
+
+pub returns-in_err-len-clause-crash : goal.returns-in_err-len-clause-crash
+returns-in_err-len-clause-crash g c =
+    let M = g.met.D.Disk in
+    let laws : DiskLaws g.D.Disk.disk_clock g.D.Disk.images g.D.Disk.by_disk = record { same = M.disk_same; then_by = M.disk_then; later = M.disk_later; past = M.disk_past } in
+    quiet_then laws _ _ _ c.read_heads.ensures.by c.len.ensures.by c.read_heads.ensures.crash c.len.ensures.crash
+
+pub returns-in_err-len-clause-by : goal.returns-in_err-len-clause-by
+returns-in_err-len-clause-by g c = g.met.D.Disk.disk_then _ _ _ c.read_heads.ensures.by c.len.ensures.by
+
+pub returns-in_default-clause-crash : goal.returns-in_default-clause-crash
+returns-in_default-clause-crash g c =
+    let M = g.met.D.Disk in
+    let laws : DiskLaws g.D.Disk.disk_clock g.D.Disk.images g.D.Disk.by_disk = record { same = M.disk_same; then_by = M.disk_then; later = M.disk_later; past = M.disk_past } in
+    quiet_then laws _ _ _ c.read_heads.ensures.by c.len.ensures.by c.read_heads.ensures.crash c.len.ensures.crash
+
+pub returns-in_default-clause-by : goal.returns-in_default-clause-by
+returns-in_default-clause-by g c = g.met.D.Disk.disk_then _ _ _ c.read_heads.ensures.by c.len.ensures.by
+
+pub returns-clause-crash : goal.returns-clause-crash
+returns-clause-crash g c =
+    let M = g.met.D.Disk in
+    let laws : DiskLaws g.D.Disk.disk_clock g.D.Disk.images g.D.Disk.by_disk = record { same = M.disk_same; then_by = M.disk_then; later = M.disk_later; past = M.disk_past } in
+    quiet_then laws _ _ _ c.read_heads.ensures.by c.len.ensures.by c.read_heads.ensures.crash c.len.ensures.crash
+
+pub returns-clause-by : goal.returns-clause-by
+returns-clause-by g c = g.met.D.Disk.disk_then _ _ _ c.read_heads.ensures.by c.len.ensures.by
+
+pub returns-clause-stable : goal.returns-clause-stable
+returns-clause-stable g c =
+    let M = g.met.D.Disk in
+    let laws : DiskLaws g.D.Disk.disk_clock g.D.Disk.images g.D.Disk.by_disk = record { same = M.disk_same; then_by = M.disk_then; later = M.disk_later; past = M.disk_past } in
+    still_stable g.D.Disk.reads laws _ _ c.len.ensures.by c.len.ensures.crash c.len.ensures.reads c.in_ok-zero_len.ensures.stable
+
+pub returns-in_err-ruling-clause-refused : goal.returns-in_err-ruling-clause-refused
+returns-in_err-ruling-clause-refused g c parts told =
+    let zero = c.in_ok-zero_len.ensures.zero parts told in
+    let one = c.in_ok-zero_len.ensures.one parts told in
+    let p = err_from_is_err_and c.from_residual-in_err-ruling.result c.from_residual-in_err-ruling.ensures.1 in
+    rw p.1 (refused_read parts p.0 (judged_read parts _ _ (Err p.0) (ap Err p.2 ∙ c.in_err-ruling.ensures.judged) zero one))
+
+pub returns-clause-opened : goal.returns-clause-opened
+returns-clause-opened g c parts told =
+    let zero = c.in_ok-zero_len.ensures.zero parts told in
+    let one = c.in_ok-zero_len.ensures.one parts told in
+    record {
+      rules = judged_read parts _ _ _ c.in_ok-ruling.ensures.judged zero one;
+      says = says_read c.in_ok-ruling.ruling c.head_ruling-head.result _ _ parts c.head_ruling-head.ensures.zero c.head_ruling-head.ensures.one zero one;
+      at = refl;
+      image = c.saturating_add.ensures;
+      long = c.in_ok-len.ensures.length parts (c.read_heads.ensures.reads ∙ told);
+      held = refl;
+      group = refl;
+    }
