@@ -23,6 +23,15 @@ copy_in-requires-clause-to g c = let i = c.self.inside in let t = known i.most i
 pub copy_in-requires-clause-to_len : goal.copy_in-requires-clause-to_len
 copy_in-requires-clause-to_len g c = let i = c.self.inside in let k = known i.most i.heads i.free i.pool c.args.self.now c.args.run c.index-head.result.now c.self.invariant c.self.view_is c.requires.run c.index-head.ensures in let t = known i.most i.heads i.free i.pool c.args.self.now c.args.to c.index-target.result.now c.self.invariant c.self.view_is c.requires.to c.index-target.ensures in omega (arith, c.requires.room, k.len, t.len)
 
+pub copy_in-requires-clause-place : goal.copy_in-requires-clause-place
+copy_in-requires-clause-place g c = let i = c.self.inside in let k = known i.most i.heads i.free i.pool c.args.self.now c.args.run c.index-head.result.now c.self.invariant c.self.view_is c.requires.run c.index-head.ensures in omega (arith, k.len, c.requires.place)
+
+pub overflow_cast-len : goal.overflow_cast-len
+overflow_cast-len g c = let i = c.self.inside in let k = known i.most i.heads i.free i.pool c.args.self.now c.args.run c.index-head.result.now c.self.invariant c.self.view_is c.requires.run c.index-head.ensures in omega (arith, k.len, k.most, c.requires.place)
+
+pub overflow_sub-head : goal.overflow_sub-head
+overflow_sub-head g c = let i = c.self.inside in let k = known i.most i.heads i.free i.pool c.args.self.now c.args.run c.index-head.result.now c.self.invariant c.self.view_is c.requires.run c.index-head.ensures in omega (arith, k.len, c.requires.place)
+
 pub overflow_add-target : goal.overflow_add-target
 overflow_add-target g c = let i = c.self.inside in let k = known i.most i.heads i.free i.pool c.args.self.now c.args.run c.index-head.result.now c.self.invariant c.self.view_is c.requires.run c.index-head.ensures in let t = known i.most i.heads i.free i.pool c.args.self.now c.args.to c.index-target.result.now c.self.invariant c.self.view_is c.requires.to c.index-target.ensures in omega (arith, c.requires.room, k.len, t.len)
 
