@@ -1,16 +1,17 @@
 -- Heads of which one is changed, made or taken away.
-use Rattle.std.proofs.Common.{◌≡◌, ◌≢◌, ℕ, zero, suc, ◌+◌, ◌-◌, ◌*◌, ◌<◌, ◌≤◌, List, [], ◌∷◌, ◌++◌, length, get_or, set, insert, remove, refl, sym, ◌∙◌, ap, subst, inl, inr, arith, length-append, get_or-set_same, get_or-set_other}
+use Rattle.std.proofs.Common.{◌≡◌, ◌≢◌, ℕ, zero, suc, ◌+◌, ◌-◌, ◌*◌, ◌<◌, ◌≤◌, List, [], ◌∷◌, ◌++◌, length, get_or, set, take, drop, insert, remove, refl, sym, ◌∙◌, ap, subst, inl, inr, arith, length-append, get_or-set_same, get_or-set_other}
 use Rattle.std.proofs.lemmas.Bool.{cases_eq, cases_lt}
 use Rattle.std.proofs.lemmas.Bool.Decides.{nat_tests}
-use Rattle.std.proofs.lemmas.List.{length-set, length-map, get_or-map, get_or_default, same_lists}
+use Rattle.std.proofs.lemmas.List.{take-take, length-set, length-map, get_or-map, get_or_default, same_lists}
 use Rattle.std.proofs.lemmas.List.Edits.{length-insert, get_or-insert_below, get_or-insert_at, get_or-insert_above, length-remove, get_or-remove_below, get_or-remove_above}
+use Rattle.std.specs.Vec.{vec_capacity, with_item}
 use Rattle.std.specs.Prelude.{Result, Ok, Err, IsOk, is_ok, if◌then◌else◌, Vec}
 use Rattle.std.specs.declared.alloc.Global.{Global}
 use Rattle.block_list.specs.declared.head.Head.{Head}
 use Rattle.block_list.specs.Pool.{run_in, SameBut}
 use Rattle.block_list.specs.Runs.{Shelf, run_at}
 use Rattle.block_list.specs.Heads.{run_of, runs_in, IsHead, mark, held, times, IsLaid, IsLonger, IsStore, TakesBlock}
-use Rattle.block_list.proofs.PoolLaws.{length-run_in}
+use Rattle.block_list.proofs.PoolLaws.{length-run_in, same_but-refl}
 
 -- ---- blocks that are counted
 pub mark-same : (b x : ℕ) → b ≡ x → mark b x ≡ 1
@@ -288,7 +289,7 @@ module _ {T : Type 0} where
     pub block : head.block * 256 + 256 ≤ length pool
     pub len : length (run_at now i) ≡ head.len
     pub most : head.len ≤ 256
-    pub run : run_in pool head.block head.len ≡ run_at (runs_in heads pool) i
+    pub run : run_in pool head.block head.len ≡ run_at now i
     pub first : (d : T) → 0 < head.len → get_or (run_at now i) 0 d ≡ head.first
 
   pub known : (most : ℕ) (heads : Vec (Head T) Global) (free : Vec ℕ Global) (pool : Vec T Global) (now : Shelf T) (i : ℕ) (head : Head T) → IsStore most heads free pool → shelf most (runs_in heads.items pool.items) ≡ now → i < length now.runs
@@ -311,9 +312,61 @@ module _ {T : Type 0} where
         block = subst (λ (h : Head T). h.block * 256 + 256 ≤ length es) (sym is) (block_within hs free.items es i head laid within);
         len = ap (λ runs. length (run_at runs i)) (sym same) ∙ (length-runs_at hs free.items es i head laid within ∙ ap (λ (h : Head T). h.len) (sym is));
         most = is_head.len;
-        run = run;
+        run = run ∙ ap (λ runs. run_at runs i) same;
         first = λ d some. ap (λ runs. get_or (run_at runs i) 0 d) (sym same) ∙ (ap (λ r. get_or r 0 d) (sym run) ∙ is_head.first d some);
       }
+
+  -- one run has changed, in its block
+  pub record IsChanged (most : ℕ) (heads : Vec (Head T) Global) (free : Vec ℕ Global) (pool : Vec T Global) (now : Shelf T) (i : ℕ) (run : List T) : Type 0 where
+    pub store : IsStore most heads free pool
+    pub view : shelf most (runs_in heads.items pool.items) ≡ shelf now.most (set now.runs i run)
+
+  pub changed : (most : ℕ) (heads heads' : Vec (Head T) Global) (free : Vec ℕ Global) (pool pool' : Vec T Global) (now : Shelf T) (i : ℕ) (head new : Head T) (run : List T) → IsStore most heads free pool → shelf most (runs_in heads.items pool.items) ≡ now → i < length now.runs
+      → head ≡ get_or heads.items i head → heads'.items ≡ set heads.items i new → vec_capacity heads' ≡ vec_capacity heads → vec_capacity pool' ≡ vec_capacity pool → new.block ≡ head.block → SameBut pool.items pool'.items head.block → IsHead pool'.items new
+      → run_in pool'.items head.block new.len ≡ run → IsChanged most heads' free pool' now i run
+  changed most heads heads' free pool pool' now i head new run store view within read edited heads_room pool_room block others is_head is_run =
+      let hs = heads.items in
+      let k = known most heads free pool now i head store view within read in
+      let at : head.block ≡ (get_or hs i head).block = ap (λ (h : Head T). h.block) k.is in
+      let same : SameBut pool.items pool'.items (get_or hs i head).block = subst (SameBut pool.items pool'.items) at others in
+      let new_run : run_of pool'.items new ≡ run = ap (λ b. run_in pool'.items b new.len) block ∙ is_run in
+      let runs = runs-set hs free.items pool.items pool'.items i head new run store.laid k.within same new_run in
+      record {
+        store = record {
+          small = store.small;
+          room = omega (arith, store.room, ap length edited, length-set hs i new);
+          heads_room = omega (arith, store.heads_room, heads_room);
+          free_room = store.free_room;
+          pool_room = omega (arith, store.pool_room, pool_room);
+          laid = subst (λ hs'. IsLaid hs' free.items pool'.items) (sym edited) (laid-set hs free.items pool.items pool'.items i head new store.laid k.within (block ∙ at) same is_head);
+        };
+        view = ap (λ hs'. shelf most (runs_in hs' pool'.items)) edited ∙ (ap (shelf most) runs ∙ ap (λ (v : Shelf T). shelf v.most (set v.runs i run)) view);
+      }
+
+  -- the entries from a place on were moved to the end of another run
+  pub shifted : (most : ℕ) (heads heads' : Vec (Head T) Global) (free : Vec ℕ Global) (pool pool' : Vec T Global) (now : Shelf T) (i to place : ℕ) (source target first second : Head T) → IsStore most heads free pool → shelf most (runs_in heads.items pool.items) ≡ now
+      → i < length now.runs → to < length now.runs → i ≢ to → place ≤ length (run_at now.runs i) → source ≡ get_or heads.items i source → target ≡ get_or heads.items to target
+      → heads'.items ≡ set (set heads.items to first) i second → vec_capacity heads' ≡ vec_capacity heads → vec_capacity pool' ≡ vec_capacity pool → SameBut pool.items pool'.items target.block
+      → first.block ≡ target.block → IsHead pool'.items first → run_in pool'.items target.block first.len ≡ run_in pool.items target.block target.len ++ drop place (run_in pool.items source.block source.len)
+      → second.block ≡ source.block → IsHead pool'.items second → second.len ≡ place
+      → IsChanged most heads' free pool' (shelf now.most (set now.runs to (run_at now.runs to ++ drop place (run_at now.runs i)))) i (take place (run_at now.runs i))
+  shifted most heads heads' free pool pool' now i to place source target first second store view within to_within other short read to_read edited heads_room pool_room others first_block first_head first_run second_block second_head second_len =
+      let hs = heads.items in
+      let k = known most heads free pool now i source store view within read in
+      let t = known most heads free pool now to target store view to_within to_read in
+      let between = with_item heads to first in
+      let is_first = first_run ∙ (ap (λ r. r ++ drop place (run_in pool.items source.block source.len)) t.run ∙ ap (λ r. run_at now.runs to ++ drop place r) k.run) in
+      let one = changed most heads between free pool pool' now to target first _ store view to_within to_read refl refl pool_room first_block others first_head is_first in
+      let at_target : (get_or hs to source).block ≡ target.block = ap (λ (h : Head T). h.block) (get_or_default hs to source target t.within ∙ sym t.is) in
+      let apart : source.block ≢ target.block = λ same.
+      other_blocks hs free.items pool.items to i source store.laid t.within k.within other (sym (ap (λ (h : Head T). h.block) k.is) ∙ (same ∙ sym at_target)) in
+      let few : place ≤ source.len = omega (arith, short, k.len) in
+      let is_second : run_in pool'.items source.block second.len ≡ take place (run_at now.runs i) =
+      ap (run_in pool'.items source.block) second_len
+      ∙ (others.runs source.block place apart (omega (arith, few, k.most))
+      ∙ (sym (take-take place source.len (drop (source.block * 256) pool.items) few) ∙ ap (take place) k.run)) in
+      changed most between heads' free pool' pool' _ i source second _ one.store one.view (omega (arith, within, length-set now.runs to (run_at now.runs to ++ drop place (run_at now.runs i)))) (k.is ∙ sym (get_or-set_other hs to i first source other))
+      edited heads_room refl second_block (same_but-refl pool'.items source.block) second_head is_second
 
   pub view_changed : (f : List (List T) → List (List T)) (most : ℕ) (old new : List (List T)) (now : Shelf T) → shelf most old ≡ now → new ≡ f old → shelf most new ≡ shelf now.most (f now.runs)
   view_changed f most old new now is changed = ap (shelf most) changed ∙ ap (λ (v : Shelf T). shelf v.most (f v.runs)) is
