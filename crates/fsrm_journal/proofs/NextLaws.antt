@@ -41,7 +41,7 @@ closed_there front rest gate closed =
     let half = front ++ gate ∷ rest in
     let shut : nat_eq (get_or half (length front) 0) 1 ≡ false = ⊎_elim (λ yes. absurd (closed (sym (gate_at front rest gate) ∙ yes.1))) (λ other. other.0) (eqb_tells (get_or half (length front) 0) 1) in
     ap (with_body half (length front)) (second (nat_lt (length front) (length half)) (nat_eq (get_or half (length front) 0) 1) (Err (length front)) (Ok None)
-      (cond (not (has_length half (length front))) (Err (length front + 1)) (Ok (Some (length_at half (length front))))) (there front rest gate) shut)
+    (cond (not (has_length half (length front))) (Err (length front + 1)) (Ok (Some (length_at half (length front))))) (there front rest gate) shut)
 
 -- after an open one there is the record that stands there
 pub record_there : (front body rest : List ℕ) → 1 ≤ length body → length body ≤ 131072
@@ -51,19 +51,19 @@ record_there front body rest some most =
     let tail = counted body ++ rest in
     let half = front ++ 1 ∷ tail in
     let after : drop (place + 1) half ≡ tail =
-      ap (drop (place + 1)) (sym (append_assoc front (1 ∷ []) tail)) ∙ drop_at (front ++ 1 ∷ []) tail (place + 1) (omega (arith, length-append front (1 ∷ []))) in
+    ap (drop (place + 1)) (sym (append_assoc front (1 ∷ []) tail)) ∙ drop_at (front ++ 1 ∷ []) tail (place + 1) (omega (arith, length-append front (1 ∷ []))) in
     let few : length body < 256 ^ 4 = omega (arith, most) in
     let n : length_at half place ≡ length body =
-      ap (little_number 4) (after ∙ append_assoc (little_bytes 4 (length body)) body rest) ∙ little_number-reads_back 4 (length body) (body ++ rest) few in
+    ap (little_number 4) (after ∙ append_assoc (little_bytes 4 (length body)) body rest) ∙ little_number-reads_back 4 (length body) (body ++ rest) few in
     let size : length half ≡ place + 5 + length body + length rest = omega (arith, length-append front (1 ∷ tail), length-append (counted body) rest) in
     let has : has_length half place ≡ true =
-      and_true (nat_le (place + 5) (length half)) (nat_le 1 (length_at half place) && nat_le (length_at half place) 131072)
-        (le-leb (place + 5) (length half) (omega (arith, size)))
-        (and_true (nat_le 1 (length_at half place)) (nat_le (length_at half place) 131072) (le-leb 1 (length_at half place) (omega (arith, n, some))) (le-leb (length_at half place) 131072 (omega (arith, n, most)))) in
+    and_true (nat_le (place + 5) (length half)) (nat_le 1 (length_at half place) && nat_le (length_at half place) 131072)
+    (le-leb (place + 5) (length half) (omega (arith, size)))
+    (and_true (nat_le 1 (length_at half place)) (nat_le (length_at half place) 131072) (le-leb 1 (length_at half place) (omega (arith, n, some))) (le-leb (length_at half place) 131072 (omega (arith, n, most)))) in
     let next : next_length half place ≡ Ok (Some (length body)) =
-      fourth (nat_lt place (length half)) (nat_eq (get_or half place 0) 1) (has_length half place) (Err place) (Ok None) (Err (place + 1)) (Ok (Some (length_at half place)))
-        (there front tail 1) (eq-eqb (get_or half place 0) 1 (gate_at front tail 1)) has
-      ∙ ap (λ (k : ℕ). Ok (Some k)) n in
+    fourth (nat_lt place (length half)) (nat_eq (get_or half place 0) 1) (has_length half place) (Err place) (Ok None) (Err (place + 1)) (Ok (Some (length_at half place)))
+    (there front tail 1) (eq-eqb (get_or half place 0) 1 (gate_at front tail 1)) has
+    ∙ ap (λ (k : ℕ). Ok (Some k)) n in
     tells_some half place (length body) next (omega (arith, size))
 
 pub held_there : (log : Log) (before after : List (List ℕ)) (body : List ℕ) (parts : Parts) → Holds log (before ++ body ∷ after) parts → 1 ≤ length body → length body ≤ 131072
@@ -72,7 +72,7 @@ held_there log before after body parts h some most =
     let front = log.lead ++ records before in
     let rest = records after ++ h.gate ∷ h.rest in
     let split : part_of log.ruling parts ≡ front ++ 1 ∷ (counted body ++ rest) =
-      h.split ∙ ap (λ (l : List ℕ). log.lead ++ l ++ h.gate ∷ h.rest) (records-append before (body ∷ after)) ∙ regroup log.lead (records before) (counted body) (records after) h.gate h.rest in
+    h.split ∙ ap (λ (l : List ℕ). log.lead ++ l ++ h.gate ∷ h.rest) (records-append before (body ∷ after)) ∙ regroup log.lead (records before) (counted body) (records after) h.gate h.rest in
     ap (λ (half : List ℕ). record_at half (length front)) split ∙ record_there front body rest some most
   where
     regroup : (lead old one more : List ℕ) (gate : ℕ) (rest : List ℕ) → lead ++ (old ++ (1 ∷ one ++ more)) ++ gate ∷ rest ≡ (lead ++ old) ++ 1 ∷ (one ++ (more ++ gate ∷ rest))

@@ -12,5 +12,4 @@ pub fn records_are_read()
         → record_at (part_of log.ruling parts) (length (log.lead ++ records before)) ≡ Ok (Some (length (log.lead ++ records before) + 5, length body)) }
     ensures last { (log : Log) (bodies : List (List ℕ)) (parts : Parts) → Holds log bodies parts
         → record_at (part_of log.ruling parts) (length (log.lead ++ records bodies)) ≡ Ok None }
-{
-}
+{}
