@@ -1,7 +1,8 @@
 //! Whether a name matches a pattern, without memory and without a way back: of all stars only the last
 //! one that was met is ever tried again.
 
-ghost use Rattle.std.specs.Prelude.{◌≡◌, [], MatchOption, chars};
+ghost use Rattle.std.specs.Prelude.{◌≡◌, ◌==◌, [], MatchOption, chars};
+ghost use Rattle.ucd_case.specs.CaseFolding.{simple_fold};
 ghost use Rattle.fsrm_model.specs.Patterns.{pattern_matches, matches, some_end, stands_for};
 ghost use Rattle.file_groups.specs.Heads.{AreHeads, BeginsWith};
 
@@ -57,7 +58,18 @@ fn first(text: &str) -> Option<(char, &str)>
 fn stands_for(wanted: char, character: char) -> bool
     ensures { result ≡ stands_for wanted character }
 {
-    wanted == '?' || wanted == character || simple_fold(wanted) == simple_fold(character)
+    wanted == '?' || wanted == character || fold_alike(wanted, character)
+}
+
+// Folding lowers the letters of ASCII and leaves its other characters, so two of them need no look either.
+#[inline]
+fn fold_alike(wanted: char, character: char) -> bool
+    ensures { result ≡ (simple_fold wanted == simple_fold character) }
+{
+    if wanted.is_ascii() && character.is_ascii() {
+        return wanted.eq_ignore_ascii_case(&character);
+    }
+    simple_fold(wanted) == simple_fold(character)
 }
 
 fn is_match(pattern: &str, name: &str) -> bool

@@ -1,3 +1,6 @@
 pub mod Folds
+pub mod Fronts
 pub mod Splits
 pub mod Names
+pub mod Taken
+pub mod EndLaws

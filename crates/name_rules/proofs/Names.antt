@@ -1,23 +1,18 @@
 -- Names among the parts of a path.
-use Rattle.std.proofs.Common.{◌≡◌, ℕ, ◌&&◌, true, false, List, [], ◌∷◌, ◌++◌, Ok, drop, length, nat_lt, ap, refl, ◌∙◌, arith}
+use Rattle.std.proofs.Common.{◌≡◌, ℕ, ◌&&◌, ◌||◌, not, Bool, true, false, List, [], ◌∷◌, ◌++◌, Ok, drop, length, nat_lt, nat_le, ap, refl, ◌∙◌, arith}
+use Rattle.std.specs.Prelude.{bytes_eq, codes}
 use Rattle.std.specs.List.{list_all}
 use Rattle.std.proofs.lemmas.Bool.{false≢true, lt-ltb}
-use Rattle.fsrm_model.specs.Name.{is_name}
+use Rattle.fsrm_model.specs.Limits.{longest_name}
+use Rattle.fsrm_model.specs.Name.{is_name, is_name_byte}
 use Rattle.fsrm_model.specs.Reading.{path_from, path_parts, is_on_volume, has_path_form}
 use Rattle.name_rules.specs.Parts.{parts_of}
 use Rattle.fsrm_base.proofs.TestLaws.{and_false, both}
 
--- one more name
-pub names_more : (names : List (List ℕ)) (name : List ℕ) → list_all is_name names ≡ true → is_name name ≡ true → list_all is_name (names ++ name ∷ []) ≡ true
-names_more [] name h is = ap (λ b. b && true) is
-names_more (first ∷ names) name h is =
-    let parts : (is_name first ≡ true) × (list_all is_name names ≡ true) = both _ _ h in
-    ap (λ b. b && list_all is_name (names ++ name ∷ [])) parts.0 ∙ names_more names name parts.1 is
-
--- a part that isn't a name
-pub names_broken : (names : List (List ℕ)) (part : List ℕ) (rest : List (List ℕ)) → is_name part ≡ false → list_all is_name (names ++ part ∷ rest) ≡ false
-names_broken [] part rest is = ap (λ b. b && list_all is_name rest) is
-names_broken (first ∷ names) part rest is = ap (λ b. is_name first && b) (names_broken names part rest is) ∙ and_false (is_name first)
+-- an item that fails a test
+pub all_broken : {X : Type 0} (p : X → Bool) (xs : List X) (x : X) (ys : List X) → p x ≡ false → list_all p (xs ++ x ∷ ys) ≡ false
+all_broken p [] x ys fails = ap (λ b. b && list_all p ys) fails
+all_broken p (first ∷ xs) x ys fails = ap (λ b. p first && b) (all_broken p xs x ys fails) ∙ and_false (p first)
 
 -- no name is empty
 names_full : (names : List (List ℕ)) → list_all is_name names ≡ true → list_all (λ part. nat_lt 0 (length part)) names ≡ true
@@ -35,3 +30,10 @@ path_read text names volume is valid =
     let full : list_all (λ part. nat_lt 0 (length part)) (path_parts text) ≡ true = names_full (path_parts text) named in
     let form : has_path_form text ≡ true = rw (volume, full) refl in
     rw (is, form, named) refl
+
+-- a name has no other bytes
+pub not_named : (text : List ℕ) → list_all is_name_byte text ≡ false → is_name text ≡ false
+not_named text h =
+    let short = nat_lt 0 (length text) && nat_le (length text) longest_name in
+    let other = not (bytes_eq text (codes ".") || bytes_eq text (codes "..")) in
+    ap (λ b. (short && b) && other) h ∙ ap (λ b. b && other) (and_false short)

@@ -30,14 +30,14 @@ no_backslash : (x : List ℕ) → all (Other 92) x → All (λ b. is_backslash b
 no_backslash [] none = All-nil (λ b. is_backslash b ≡ false)
 no_backslash (b ∷ x) none = All-cons (λ b. is_backslash b ≡ false) b x (ne_eqb b 92 none.0) (no_backslash x none.1)
 
-parts_of_last : (x : List ℕ) → all (Other 92) x → 0 < length x → parts_of x ≡ x ∷ []
-parts_of_last x none some = ap without_last_empty (slice_split_none is_backslash x (no_backslash x none)) ∙ one_part x some
+pub parts_of_last : (x : List ℕ) → All (λ b. is_backslash b ≡ false) x → 0 < length x → parts_of x ≡ x ∷ []
+parts_of_last x none some = ap without_last_empty (slice_split_none is_backslash x none) ∙ one_part x some
 
-parts_of_more : (x rest : List ℕ) → all (Other 92) x → parts_of (x ++ 92 ∷ rest) ≡ x ∷ parts_of rest
+pub parts_of_more : (x rest : List ℕ) → All (λ b. is_backslash b ≡ false) x → parts_of (x ++ 92 ∷ rest) ≡ x ∷ parts_of rest
 parts_of_more x rest none =
     let parts = slice_split is_backslash rest in
     let some : 0 < length parts = omega (arith, length-slice_split is_backslash rest) in
-    ap without_last_empty (slice_split_at is_backslash x 92 rest (no_backslash x none) refl) ∙ more_parts x parts some
+    ap without_last_empty (slice_split_at is_backslash x 92 rest none refl) ∙ more_parts x parts some
 
 -- ---- the iterator
 abbrev Steps : SplitTerminator ℕ → Option (Bor (List ℕ)) → SplitTerminator ℕ → Type 0
@@ -72,8 +72,8 @@ module _ (s t : SplitTerminator ℕ) (pattern : split_terminator_pattern s ≡ 9
       let cut = h.2.1 in
       let m = piece 92 (omega arith) text x.now rest _ cut.0 (subst (λ c. FindsChar c text cut.0) pattern cut.1) cut.2 in
       rw h.0 (⊎_elim
-      (λ last. rw (last.1, ← last.0) (parts_of_last x.now m.0 (not_empty x.now (λ e. clash (sym last.1 ∙ h.3 e)))))
-      (λ on. rw (on.0, on.1) (parts_of_more x.now rest m.0))
+      (λ last. rw (last.1, ← last.0) (parts_of_last x.now (no_backslash x.now m.0) (not_empty x.now (λ e. clash (sym last.1 ∙ h.3 e)))))
+      (λ on. rw (on.0, on.1) (parts_of_more x.now rest (no_backslash x.now m.0)))
       m.1)
 
 -- the last three facts are the clauses of `split_terminator`

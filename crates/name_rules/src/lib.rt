@@ -5,6 +5,7 @@
 //! and `fold_cmp` compare the folded characters.
 #![tactic(auto)]
 
+mod ends;
 mod name;
 mod order;
 mod path;

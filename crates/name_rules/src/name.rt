@@ -1,7 +1,8 @@
 //! Names of folders and files.
 
-ghost use Rattle.std.specs.Prelude.{◌≡◌, ◌||◌, true, false, IfOk, OnOk, IsErrOf, bytes_eq, codes};
-ghost use Rattle.std.specs.List.{list_all};
+ghost use Rattle.std.specs.Prelude.{◌≡◌, ◌||◌, ◌&&◌, nat_lt, nat_le, true, false, IfOk, OnOk, IsErrOf, bytes_eq, codes};
+ghost use Rattle.std.specs.List.{list_all, prefix_len};
+ghost use Rattle.fsrm_model.specs.Limits.{longest_name};
 ghost use Rattle.fsrm_model.specs.Name.{is_name, is_name_byte};
 
 use fsrm_model::limits::LONGEST_NAME;
@@ -66,20 +67,46 @@ pub fn is_name(text: &str) -> bool
     ensures { result ≡ is_name text.now }
 {
     let bytes = text.as_bytes();
-    (1..=LONGEST_NAME).contains(&bytes.len()) && are_name_bytes(bytes) && !is_dots(text)
+    is_name_length(bytes.len()) && are_name_bytes(bytes) && !is_dots(bytes)
 }
 
-// The folder itself, and the one above it.
-fn is_dots(text: &str) -> bool
-    ensures { result ≡ (bytes_eq text.now (codes ".") || bytes_eq text.now (codes "..")) }
+/// How many bytes a text begins with that may stand in a name.
+pub fn name_len(text: &[u8]) -> usize
+    ensures { result ≡ prefix_len is_name_byte text.now }
 {
-    text == "." || text == ".."
+    for (place, byte) in text.iter().enumerate() {
+        if !is_name_byte(*byte) {
+            return place;
+        }
+    }
+    text.len()
+}
+
+/// Whether bytes are a name, each of which may stand in one.
+pub fn is_whole_name(bytes: &[u8]) -> bool
+    requires { list_all is_name_byte bytes.now ≡ true }
+    ensures { result ≡ is_name bytes.now }
+{
+    is_name_length(bytes.len()) && !is_dots(bytes)
+}
+
+fn is_name_length(count: usize) -> bool
+    ensures { result ≡ (nat_lt 0 count && nat_le count longest_name) }
+{
+    0 < count && count <= LONGEST_NAME
 }
 
 fn are_name_bytes(bytes: &[u8]) -> bool
     ensures { result ≡ list_all is_name_byte bytes.now }
 {
     bytes.iter().all(|byte| is_name_byte(*byte))
+}
+
+// The folder itself, and the one above it.
+fn is_dots(bytes: &[u8]) -> bool
+    ensures { result ≡ (bytes_eq bytes.now (codes ".") || bytes_eq bytes.now (codes "..")) }
+{
+    bytes == b".".as_slice() || bytes == b"..".as_slice()
 }
 
 fn is_name_byte(byte: u8) -> bool

@@ -2,40 +2,71 @@
 //! 3.13; CaseFolding.txt, statuses C and S). So a sharp s is no `ss`, and a final sigma is a sigma.
 
 ghost use Rattle.std.specs.Ordering.{nat_cmp};
-ghost use Rattle.std.specs.Prelude.{◌≡◌};
+ghost use Rattle.std.specs.Char.{is_ascii};
+ghost use Rattle.std.specs.Prelude.{◌≡◌, ◌<◌, ◌&&◌, false, length, slice_index};
 ghost use Rattle.ucd_case.specs.CaseFolding.{simple_fold};
 ghost use Rattle.fsrm_model.specs.Name.{same_name, name_cmp};
-ghost use Rattle.name_rules.specs.Fronts.{HasSameFront};
+ghost use Rattle.name_rules.specs.Fronts.{HasSameFront, are_same_ascii};
 
 use std::cmp::Ordering;
 use unicode::case::simple_fold;
 
 /// Whether two names are one after folding.
-#[tactic(auto, using(crate::proofs::Folds::is_eq_name_cmp))]
+#[tactic(auto, using(crate::proofs::Folds::is_eq_name_cmp, crate::proofs::Folds::same_name_itself))]
 pub fn same_name(a: &str, b: &str) -> bool
     ensures { result ≡ same_name a.now b.now }
 {
-    fold_cmp(a, b).is_eq()
+    a == b || fold_cmp(a, b).is_eq()
 }
 
 /// The order of two names, by the numbers of their folded characters.
 pub fn fold_cmp(a: &str, b: &str) -> Ordering
     ensures { result ≡ name_cmp a.now b.now }
 {
-    let front = same_front(a.as_bytes(), b.as_bytes());
-    cmp_characters(&a[front..], &b[front..])
+    let (ours, theirs) = (a.as_bytes(), b.as_bytes());
+    let front = same_front(ours, theirs);
+    match (ours.get(front), theirs.get(front)) {
+        (None, None) => Ordering::Equal,
+        (None, Some(_)) => Ordering::Less,
+        (Some(_), None) => Ordering::Greater,
+        (Some(one), Some(other)) if are_ascii(*one, *other) => {
+            one.to_ascii_lowercase().cmp(&other.to_ascii_lowercase())
+        }
+        _ => cmp_characters(&a[front..], &b[front..]),
+    }
 }
 
-// Most of the time two names are spelled alike up to where they differ, so the bytes are compared
-// first.
+// Folding lowers the letters of ASCII and leaves its other characters, so bytes are compared as long as both names have
+// characters of ASCII. If either has another, the rest is compared by characters: some fold to a letter of ASCII, as the
+// Kelvin sign does to k.
 fn same_front(a: &[u8], b: &[u8]) -> usize
-    ensures { HasSameFront a.now b.now result }
+    ensures front { HasSameFront a.now b.now result }
+    ensures apart { result < length a.now → result < length b.now →
+        are_same_ascii (slice_index a.now result) (slice_index b.now result) ≡ false }
 {
     let mut front = 0;
-    while front < a.len() && front < b.len() && a[front] == b[front] && a[front].is_ascii() {
+    while front < a.len() && front < b.len() && are_same_ascii(a[front], b[front]) {
         front += 1;
     }
     front
+}
+
+#[inline]
+fn are_ascii(one: u8, other: u8) -> bool
+    ensures { result ≡ (is_ascii one && is_ascii other) }
+{
+    one.is_ascii() && other.is_ascii()
+}
+
+// Most bytes of two such fronts are the same, so that is asked first.
+#[inline]
+fn are_same_ascii(one: u8, other: u8) -> bool
+    ensures { result ≡ are_same_ascii one other }
+{
+    if one == other {
+        return one.is_ascii();
+    }
+    are_ascii(one, other) && one.eq_ignore_ascii_case(&other)
 }
 
 fn cmp_characters(a: &str, b: &str) -> Ordering

@@ -1,14 +1,15 @@
 //! Paths of the volume `D:`.
 
-ghost use Rattle.std.specs.Prelude.{◌≡◌, ◌∷◌, [], ◌++◌, true, false, drop, Ok, Err, OnOk, IfOk, IfErr, MatchOption};
+ghost use Rattle.std.specs.Prelude.{◌≡◌, true, false, drop, Ok, Err, IfOk, IfErr, MatchOption};
 ghost use Rattle.std.specs.List.{list_all};
 ghost use Rattle.fsrm_model.specs.Name.{is_name};
 ghost use Rattle.fsrm_model.specs.Reading.{path_from, is_on_volume};
 ghost use Rattle.name_rules.specs.Parts.{parts_of, has_no_empty_part};
 ghost use Rattle.name_rules.specs.PathFaults.{IsFault};
 
-use crate::name::{NameFault, is_name};
-use fsrm_model::{List, NoMemory, Path, Text};
+use crate::ends::name_ends;
+use crate::name::NameFault;
+use fsrm_model::Path;
 use std::alloc::Global;
 
 /// Why a text is read as no path.
@@ -31,7 +32,7 @@ pub fn read_path(alloc: Global, text: &str) -> Result<Path, PathFault>
         return Err(PathFault::InvalidPath);
     };
     match read_names(alloc, rest) {
-        Ok(names) => Ok(Path::from_parts(names)),
+        Ok(path) => Ok(path),
         // An empty part is no name either, so the form is looked at only here.
         Err(NameFault::InvalidName) if has_no_empty_part(rest) => Err(PathFault::InvalidName),
         Err(NameFault::InvalidName) => Err(PathFault::InvalidPath),
@@ -50,29 +51,17 @@ fn after_volume(text: &str) -> Option<&str>
     }
 }
 
-// The parts of the rest of a path, if each one is a name.
-fn read_names(alloc: Global, rest: &str) -> Result<List<Text>, NameFault>
-    ensures names { IfOk result (λ names. names ≡ parts_of rest.now) }
-    ensures valid { IfOk result (λ names. list_all is_name names ≡ true) }
+// The path of the parts of the rest of a path, if each one is a name.
+fn read_names(alloc: Global, rest: &str) -> Result<Path, NameFault>
+    ensures names { IfOk result (λ path. path ≡ parts_of rest.now) }
+    ensures valid { IfOk result (λ path. list_all is_name path ≡ true) }
     ensures invalid { result ≡ Err NameFault.InvalidName → list_all is_name (parts_of rest.now) ≡ false }
 {
-    let mut names = List::new(alloc);
-    for part in rest.split_terminator('\\') {
-        if !is_name(part) {
-            return Err(NameFault::InvalidName);
-        }
-        if let Err(NoMemory) = push_text(alloc, &mut names, part) {
-            return Err(NameFault::NoMemory);
-        }
+    let ends = name_ends(alloc, rest.as_bytes())?;
+    match String::from_str(alloc, rest) {
+        Ok(text) => Ok(Path::from_joined(text, ends)),
+        Err(_) => Err(NameFault::NoMemory),
     }
-    Ok(names)
-}
-
-fn push_text(alloc: Global, texts: &mut List<Text>, text: &str) -> Result<(), NoMemory>
-    ensures { OnOk result (texts.new ≡ texts.old ++ text.now ∷ []) }
-{
-    let text = Text::from_str(alloc, text)?;
-    texts.push(text)
 }
 
 fn has_no_empty_part(rest: &str) -> bool

@@ -1,5 +1,5 @@
 -- So many of a unit, as a limit.
-use Rattle.std.proofs.Common.{◌≡◌, ℕ, ◌+◌, ◌*◌, ◌<◌, ◌≤◌, ◌^◌, List, [], ◌∷◌, Bool, true, false, cond, length, take, get_or, refl, ap, ◌∙◌, arith, subst, suc, zero}
+use Rattle.std.proofs.Common.{◌≡◌, ℕ, ◌+◌, ◌*◌, ◌<◌, ◌≤◌, ◌^◌, List, [], ◌∷◌, Bool, true, false, cond, length, take, get_or, refl, ap, ◌∙◌, arith, rules, subst, suc, zero}
 use Rattle.std.specs.Prelude.{Result, Ok, Err}
 use Rattle.std.specs.Char.{is_ascii_digit}
 use Rattle.std.specs.List.{list_all, prefix_len}
@@ -10,11 +10,14 @@ use Rattle.std.proofs.lemmas.Bool.Decides.{nat_tests}
 use Rattle.std.proofs.Math.Nat.{mul-le-mul_left}
 use Rattle.std.proofs.lemmas.List.Sums.{prefix_len-le-length, prefix_len_passes}
 use Rattle.std.proofs.lemmas.Str.{IsCharBoundary-start, IsCharBoundary-after_ascii}
-use Rattle.std.proofs.lemmas.Str.Parse.{parse_digits}
+use Rattle.std.proofs.lemmas.Str.Parse.{IsNumeralModel, numerals_by_value, parse_digits}
 use Rattle.fsrm_model.specs.declared.command.Refusal.TheVariants.{InvalidLimit}
 use Rattle.fsrm_model.specs.Quota.{is_limit}
 use Rattle.fsrm_model.specs.Reading.{guarded}
-use Rattle.tool_commands.proofs.Numbers.{own}
+
+-- digits have the value of a numeral
+own : IsNumeralModel (λ ds. list_all is_ascii_digit ds ≡ true) (digits_value 10)
+own = numerals_by_value _ (search rules)
 
 -- digits that are parsed, or are too many for it
 pub parsed : {E : Type 0} (text : List ℕ) (r s : Result ℕ E) → ParsesUnsigned 64 10 text r → r ≡ s → list_all is_ascii_digit text ≡ true → OkIff s ((0 < length text) × (digits_value 10 text < 2 ^ 64)) (digits_value 10 text)

@@ -1,6 +1,6 @@
 -- What a line reads as, by the stage at which that is settled.
 use Rattle.std.proofs.Common.{◌≡◌, ℕ, ◌+◌, ◌<◌, ◌≤◌, Bool, true, false, cond, List, [], ◌∷◌, length, get_or, drop, Some, None, refl, sym, ap, ◌∙◌, arith, suc}
-use Rattle.std.specs.Prelude.{nat_lt, nat_eq, Err, ◌||◌}
+use Rattle.std.specs.Prelude.{nat_lt, nat_eq, Result, Ok, Err, IfOk, IfErr, Option, option_map, ◌||◌}
 use Rattle.std.specs.List.{prefix_len}
 use Rattle.std.specs.Str.{IsUtf8, is_utf8}
 use Rattle.std.specs.Str.Lossy.{utf8_valid_len}
@@ -14,8 +14,11 @@ use Rattle.std.proofs.lemmas.Str.{IsUtf8-from_is_utf8, is_utf8-from_IsUtf8}
 use Rattle.fsrm_model.specs.declared.command.Refusal.TheVariants.{BadLine}
 use Rattle.fsrm_model.specs.Line.{read_line, read_words, is_skipped}
 use Rattle.fsrm_model.specs.declared.command.Command.{Command}
+use Rattle.fsrm_model.specs.Valued.{is_command}
+use Rattle.fsrm_model.proofs.lines.SpelledValues.{spelled_valid}
+use Rattle.fsrm_model.proofs.lines.SpellingLaws.{read_spells}
 use Rattle.fsrm_model.specs.Words.{is_blank}
-use Rattle.tool_commands.specs.LineFaults.{IsFault, Reads}
+use Rattle.tool_commands.specs.LineFaults.{IsFault, Reads, ReadsWords}
 use Rattle.tool_commands.specs.declared.reading.LineFault.{LineFault}
 use Rattle.tool_commands.specs.declared.reading.LineFault.TheVariants.{Refused, NoMemory}
 
@@ -88,3 +91,20 @@ by_words line short utf8 skipped =
 pub fault_of : (line text : List ℕ) (fault : LineFault) → text ≡ line → read_line line ≡ Some (read_words line) → Reads {X = Command} (Err fault) (read_words text) → IsFault fault (read_line line)
 fault_of line text (Refused refusal) same reads fault = reads ∙ ap Some (ap read_words (sym same) ∙ fault)
 fault_of line text NoMemory same reads fault = tt
+
+-- what its words give is what the line gives
+pub read_of : (line text : List ℕ) (result : Result (Option Command) LineFault) → text ≡ line → read_line line ≡ Some (read_words line) → ReadsWords result (read_words text) → IfOk result (λ read. read_line line ≡ option_map (λ command. Ok command) read)
+read_of line text (Ok None) same reads read = absurd read
+read_of line text (Ok (Some command)) same reads read = reads ∙ ap Some (ap read_words (sym same) ∙ read)
+read_of line text (Err fault) same reads read = tt
+
+pub valid_of : (line : List ℕ) (result : Result (Option Command) LineFault) → IfOk result (λ read. read_line line ≡ option_map (λ command. Ok command) read) → IfOk result (λ read. (command : Command) → read ≡ Some command → is_command command ≡ true)
+valid_of line (Ok None) read = λ command is. absurd (cc)
+valid_of line (Ok (Some own)) read = λ command is.
+    let same : own ≡ command = cc in
+    ap is_command (sym same) ∙ spelled_valid line own (read_spells line own read)
+valid_of line (Err fault) read = tt
+
+pub faults_of : (line text : List ℕ) (result : Result (Option Command) LineFault) → text ≡ line → read_line line ≡ Some (read_words line) → ReadsWords result (read_words text) → IfErr result (λ fault. IsFault fault (read_line line))
+faults_of line text (Ok read) same reads words = tt
+faults_of line text (Err fault) same reads words = fault_of line text fault same reads words

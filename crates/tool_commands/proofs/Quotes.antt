@@ -1,14 +1,15 @@
 -- A text without its quotes, and what stands up to its first one.
-use Rattle.std.proofs.Common.{◌≡◌, ℕ, suc, zero, ◌+◌, ◌<◌, Bool, true, false, cond, List, [], ◌∷◌, ◌++◌, length, get_or, take, drop, Some, None, refl, sym, ap, ◌∙◌, arith, add-one, append_assoc, subst}
+use Rattle.std.proofs.Common.{◌≡◌, ℕ, suc, zero, ◌+◌, ◌<◌, ◌==◌, Bool, true, false, cond, List, [], ◌∷◌, ◌++◌, length, get_or, take, drop, Some, None, refl, sym, ap, ◌∙◌, arith, add-one, append_assoc, subst}
 use Rattle.std.specs.Prelude.{Option}
 use Rattle.std.specs.Str.{IsUtf8, IsCharBoundary}
 use Rattle.std.proofs.lemmas.Str.{IsCharBoundary-before_ascii, IsCharBoundary-after_ascii}
 use Rattle.std.proofs.lemmas.Bool.{eqb-true}
 use Rattle.std.specs.Prelude.{not}
 use Rattle.std.specs.List.{prefix_len}
-use Rattle.fsrm_model.specs.Words.{is_quote, without_quotes}
+use Rattle.fsrm_base.proofs.TestLaws.{eq_is, is_false, neither}
+use Rattle.fsrm_model.specs.Words.{is_blank, is_quote, without_quotes}
 use Rattle.memchr.specs.Find.{IsFirstByte, is_byte}
-use Rattle.tool_commands.specs.Lengths.{quoted_length}
+use Rattle.tool_commands.specs.Lengths.{is_plain, quoted_length}
 use Rattle.tool_commands.proofs.Marks.{first_mark}
 
 pub quoted_length-some : (text : List ℕ) (place : ℕ) → IsFirstByte (is_byte 34) text (Some place) → place + 1 ≡ quoted_length text
@@ -29,6 +30,30 @@ without_no_quotes (b ∷ bs) h = at (is_quote b) (h 0 (omega arith)) (without_no
     at : (quote : Bool) → (quote ≡ true → ⊥) → without_quotes bs ≡ bs → cond (not quote) (b ∷ without_quotes bs) (without_quotes bs) ≡ b ∷ bs
     at true none ih = absurd (none refl)
     at false none ih = ap (λ (rest : List ℕ). b ∷ rest) ih
+
+-- bytes that are plain have none
+pub without_quotes-plain : (text : List ℕ) → without_quotes (take (prefix_len is_plain text) text) ≡ take (prefix_len is_plain text) text
+without_quotes-plain [] = refl
+without_quotes-plain (b ∷ bs) = at (is_plain b) refl (without_quotes-plain bs)
+  where
+    at : (plain : Bool) → is_plain b ≡ plain → without_quotes (take (prefix_len is_plain bs) bs) ≡ take (prefix_len is_plain bs) bs
+        → without_quotes (take (cond plain (1 + prefix_len is_plain bs) 0) (b ∷ bs)) ≡ take (cond plain (1 + prefix_len is_plain bs) 0) (b ∷ bs)
+    at false e ih = refl
+    at true e ih =
+        let one : 1 + prefix_len is_plain bs ≡ suc (prefix_len is_plain bs) = omega arith in
+        let quote : is_quote b ≡ false = (neither (is_blank b) (is_quote b) (is_false _ e)).1 in
+        rw (one, quote) (ap (λ (rest : List ℕ). b ∷ rest) ih)
+
+passes : (b : Bool) → not b ≡ false → b ≡ true
+passes true h = refl
+passes false h = cc
+
+-- a word that has no other bytes
+pub plain_word : (rest bytes front : List ℕ) (plain count : ℕ) → bytes ≡ rest → plain ≡ prefix_len is_plain bytes → front ≡ take count rest → not (count == plain) ≡ false → without_quotes front ≡ front
+plain_word rest bytes front plain count same plain_is front_is equal =
+    let all : count ≡ prefix_len is_plain rest = eq_is count plain (passes _ equal) ∙ plain_is ∙ ap (prefix_len is_plain) same in
+    let is : front ≡ take (prefix_len is_plain rest) rest = front_is ∙ ap (λ (k : ℕ). take k rest) all in
+    subst (λ (text : List ℕ). without_quotes text ≡ text) (sym is) (without_quotes-plain rest)
 
 -- a text that has no quote
 pub without_quotes-none : (text : List ℕ) → IsFirstByte (is_byte 34) text None → without_quotes text ≡ text

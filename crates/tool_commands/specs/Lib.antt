@@ -2,3 +2,4 @@ pub mod LineFaults
 pub mod Lengths
 pub mod Taking
 pub mod OptionWords
+pub mod Numerals

@@ -115,6 +115,7 @@ fn quota(alloc: Global, words: &mut Words<'_>) -> Result<Deed, LineFault>
 }
 
 /// What the words after `dirquota` spell.
+#[inline(never)]
 pub fn dirquota(alloc: Global, words: &mut Words<'_>) -> Result<Deed, LineFault>
     ensures { Reads result (tool_words dirquota (end words.old) (left words.old)) }
 {

@@ -6,7 +6,7 @@ ghost use Rattle.fsrm_model.specs.declared.command.Refusal.TheVariants.{BadLine}
 ghost use Rattle.fsrm_model.specs.Line.{read_line, read_words, is_skipped};
 ghost use Rattle.fsrm_model.specs.Valued.{is_command};
 ghost use Rattle.fsrm_model.specs.Words.{is_closed, last_quote};
-ghost use Rattle.tool_commands.specs.LineFaults.{IsFault, Reads};
+ghost use Rattle.tool_commands.specs.LineFaults.{IsFault, ReadsWords};
 ghost use Rattle.tool_commands.specs.declared.reading.LineFault.TheVariants.{Refused};
 
 use crate::commands::command;
@@ -59,10 +59,11 @@ fn unclosed_quote(line: &[u8]) -> Option<usize>
     Some(last + 1)
 }
 
-// The command of a line that isn't skipped.
-fn read_words(alloc: Global, line: &str) -> Result<Command, LineFault>
+// The command of a line that isn't skipped. One that is skipped needs no room for a command.
+#[inline(never)]
+fn read_words(alloc: Global, line: &str) -> Result<Option<Command>, LineFault>
     requires { length line.now ≤ 65536 }
-    ensures { Reads result (read_words line.now) }
+    ensures { ReadsWords result (read_words line.now) }
 {
     match unclosed_quote(line.as_bytes()) {
         Some(column) => Err(LineFault::bad_line(column)),
@@ -87,8 +88,5 @@ pub fn read_line(alloc: Global, line: &[u8]) -> Result<Option<Command>, LineFaul
     if is_skipped(line) {
         return Ok(None);
     }
-    match read_words(alloc, text) {
-        Ok(command) => Ok(Some(command)),
-        Err(fault) => Err(fault),
-    }
+    read_words(alloc, text)
 }

@@ -1,13 +1,12 @@
 //! Values that words spell.
 
-ghost use Rattle.std.specs.Prelude.{◌≡◌, ◌≤◌, IfOk};
-ghost use Rattle.std.specs.Char.{is_ascii_digit};
-ghost use Rattle.std.specs.List.{list_all};
+ghost use Rattle.std.specs.Prelude.{◌≡◌, ◌≤◌, ◌<◌, ◌&&◌, nat_lt, nat_le, IfOk};
 ghost use Rattle.std.specs.Str.{str_eq_ignore_ascii_case};
 ghost use Rattle.fsrm_model.specs.Limits.{latest_moment, most_visits};
 ghost use Rattle.fsrm_model.specs.Line.{number_word, length_word, owner_word, path_word};
-ghost use Rattle.fsrm_model.specs.Reading.{is_number, number_from, path_from, choice_from};
+ghost use Rattle.fsrm_model.specs.Reading.{number_from, path_from, choice_from};
 ghost use Rattle.tool_commands.specs.LineFaults.{Reads};
+ghost use Rattle.tool_commands.specs.Numerals.{greatest_number, ReadsDigits, ReadsNumber};
 ghost use Rattle.tool_commands.specs.Taking.{Takes};
 
 use crate::reading::LineFault;
@@ -19,32 +18,58 @@ use std::alloc::Global;
 
 const MOST_DIGITS: usize = 20;
 
-fn all_digits(text: &[u8]) -> bool
-    ensures { result ≡ list_all is_ascii_digit text.now }
+// The number that digits write, or the greatest u64 if that is less. None if another byte is among them.
+fn number_from_digits(text: &[u8]) -> Option<u64>
+    ensures { ReadsDigits result text.now }
 {
-    text.iter().all(|b| b.is_ascii_digit())
+    let mut number: u64 = 0;
+    for byte in text {
+        if !byte.is_ascii_digit() {
+            return None;
+        }
+        number = number
+            .saturating_mul(10)
+            .saturating_add((*byte - b'0') as u64);
+    }
+    Some(number)
 }
 
-fn is_number(text: &[u8]) -> bool
-    ensures { result ≡ is_number text.now }
+fn is_number_length(count: usize) -> bool
+    ensures { result ≡ (nat_lt 0 count && nat_le count 20) }
 {
-    !text.is_empty() && text.len() <= MOST_DIGITS && all_digits(text)
+    0 < count && count <= MOST_DIGITS
+}
+
+// The number that 1 to 20 digits write, or the greatest u64 if that is less. None if the text hasn't this form.
+fn number_of(text: &[u8]) -> Option<u64>
+    ensures { ReadsNumber result text.now }
+{
+    if !is_number_length(text.len()) {
+        return None;
+    }
+    number_from_digits(text)
+}
+
+fn is_within(low: u64, high: u64, number: u64) -> bool
+    ensures { result ≡ (nat_le low number && nat_le number high) }
+{
+    low <= number && number <= high
 }
 
 // The number from low to high that a word at this column is.
 fn read_number(text: &str, column: usize, low: u64, high: u64) -> Result<u64, LineFault>
-    requires { column ≤ 65537 }
+    requires column { column ≤ 65537 }
+    requires high { high < greatest_number }
     ensures read { Reads result (number_from low high column text.now) }
     ensures within { IfOk result (λ n. n ≤ high) }
 {
-    if !is_number(text.as_bytes()) {
+    let Some(number) = number_of(text.as_bytes()) else {
         return Err(LineFault::bad_line(column));
+    };
+    if !is_within(low, high, number) {
+        return Err(LineFault::Refused(Refusal::OutOfRange));
     }
-    match text.parse::<u64>() {
-        Ok(number) if low <= number && number <= high => Ok(number),
-        // The greatest numbers of 20 digits fit no u64.
-        _ => Err(LineFault::Refused(Refusal::OutOfRange)),
-    }
+    Ok(number)
 }
 
 /// The path that a text spells.
@@ -83,6 +108,7 @@ pub fn read_choice(first: &str, second: &str, text: &str, column: usize) -> Resu
 impl<'a> Words<'a> {
     // Takes a number from low to high.
     fn number(&mut self, alloc: Global, low: u64, high: u64) -> Result<u64, LineFault>
+        requires { high < greatest_number }
         ensures read { Takes result self.old self.new (number_word low high) }
         ensures within { IfOk result (λ n. n ≤ high) }
     {

@@ -43,11 +43,12 @@ fn quoted_len(text: &[u8]) -> usize
     }
 }
 
-// How many bytes the word has that a text begins with, its quotes among them.
-fn word_len(text: &[u8]) -> usize
+// How many bytes the word has that a text begins with, its quotes among them. It begins with so many plain ones.
+fn word_len(text: &[u8], plain: usize) -> usize
+    requires { plain ≡ prefix_len is_plain text.now }
     ensures { result ≡ word_length false text.now }
 {
-    let mut place = plain_len(text);
+    let mut place = plain;
     while place < text.len() && text[place] == b'"' {
         let opened = place + 1;
         let closed = opened + quoted_len(&text[opened..]);
@@ -86,22 +87,24 @@ fn copy_without_quotes(alloc: Global, raw: &str) -> Result<String, NoMemory>
     Ok(text)
 }
 
-// A word's text. One that has no quotes is lent.
-fn unquoted(alloc: Global, raw: &str) -> Result<CowStr<'_, Global>, NoMemory>
-    ensures { IfOk result (λ text. cow_str_bytes text ≡ without_quotes raw.now) }
-{
-    match memchr(b'"', raw.as_bytes()) {
-        Some(_) => Ok(CowStr::Owned(copy_without_quotes(alloc, raw)?)),
-        None => Ok(CowStr::Borrowed(raw)),
-    }
-}
-
 /// A word as it stands in the line, with its quotes.
 #[derive(Clone, Copy)]
 pub struct RawWord<'a> {
     column: usize,
     text: &'a str,
+    has_quotes: bool,
     ghost within: { column ≤ 65537 },
+    ghost plain: { has_quotes ≡ false → without_quotes text.now ≡ text.now },
+}
+
+// A word's text. One that has no quotes is lent.
+fn unquoted<'a>(alloc: Global, raw: &RawWord<'a>) -> Result<CowStr<'a, Global>, NoMemory>
+    ensures { IfOk result (λ text. cow_str_bytes text ≡ without_quotes raw.now.text.now) }
+{
+    if raw.has_quotes {
+        return Ok(CowStr::Owned(copy_without_quotes(alloc, raw.text)?));
+    }
+    Ok(CowStr::Borrowed(raw.text))
 }
 
 /// A word, without its quotes.
@@ -162,14 +165,21 @@ impl<'a> Words<'a> {
         ensures end { end self.new ≡ end self.old }
     {
         self.skip_blanks();
-        let length = word_len(self.rest.as_bytes());
+        let bytes = self.rest.as_bytes();
+        let plain = plain_len(bytes);
+        let length = word_len(bytes, plain);
         if length == 0 {
             return None;
         }
         let column = self.column;
         let text = before(self.rest, length);
         self.advance(length);
-        Some(RawWord { column, text })
+        let has_quotes = length != plain;
+        Some(RawWord {
+            column,
+            text,
+            has_quotes,
+        })
     }
 
     /// The column of the next word, if one is left.
@@ -196,7 +206,7 @@ impl<'a> Words<'a> {
         let Some(raw) = self.next_raw() else {
             return Ok(None);
         };
-        match unquoted(alloc, raw.text) {
+        match unquoted(alloc, &raw) {
             Ok(text) => Ok(Some(Word {
                 column: raw.column,
                 text,

@@ -5,7 +5,7 @@ use Rattle.fsrm_model.specs.declared.command.Refusal.TheVariants.{BadLine}
 use Rattle.fsrm_model.specs.Line.{Reader, readers, tool_words}
 use Rattle.fsrm_model.specs.Reading.{◌>>=◌, known}
 use Rattle.fsrm_model.specs.Tools.{named, dirquota}
-use Rattle.tool_commands.specs.LineFaults.{Reads}
+use Rattle.tool_commands.specs.LineFaults.{ReadsWords, at_moment}
 use Rattle.tool_commands.specs.Taking.{left, end, line_word}
 use Rattle.tool_commands.proofs.commands.deed.Goals as goal
 
@@ -27,5 +27,5 @@ returns-then-is_named-9 c =
     (sym c.is_named.ensures ∙ c.if-is_named.false) (sym c.is_named-2.ensures ∙ c.if-is_named-2.false) (sym c.is_named-3.ensures ∙ c.if-is_named-3.false)
     (sym c.is_named-4.ensures ∙ c.if-is_named-4.false) (sym c.is_named-5.ensures ∙ c.if-is_named-5.false) (sym c.is_named-6.ensures ∙ c.if-is_named-6.false)
     (sym c.is_named-7.ensures ∙ c.if-is_named-7.false) (sym c.is_named-8.ensures ∙ c.if-is_named-8.false) (sym c.is_named-9.ensures ∙ c.if-is_named-9.true) in
-    subst (λ (o : Option Reader). Reads c.dirquota.result (known (BadLine column) o >>= λ reader. reader (end c.args.words.now) (left c.args.words.now)))
-    (sym (ap (λ text. named readers text) (sym c.as_str-word.ensures.value) ∙ found)) c.dirquota.ensures
+    subst (λ (o : Option Reader). ReadsWords c.tool.result (at_moment c.args.moment (known (BadLine column) o >>= λ reader. reader (end c.args.words.now) (left c.args.words.now))))
+    (sym (ap (λ text. named readers text) (sym c.as_str-word.ensures.value) ∙ found)) c.tool.ensures

@@ -1,11 +1,7 @@
-use Rattle.std.proofs.Common.{◌≡◌, Some, sym, ap, ◌∙◌}
+use Rattle.std.proofs.Common.{◌≡◌, sym, ◌∙◌}
 use Rattle.std.specs.Str.Lossy.{utf8_valid_len}
-use Rattle.fsrm_model.specs.Line.{read_words}
-use Rattle.fsrm_model.specs.Valued.{is_command}
-use Rattle.tool_commands.proofs.Lines.{not_text, passed_over, by_words, fault_of}
+use Rattle.tool_commands.proofs.Lines.{not_text, passed_over, by_words, read_of, valid_of, faults_of}
 use Rattle.fsrm_model.proofs.lines.ScriptLaws.{too_long}
-use Rattle.fsrm_model.proofs.lines.SpelledValues.{spelled_valid}
-use Rattle.fsrm_model.proofs.lines.SpellingLaws.{read_spells}
 use Rattle.tool_commands.proofs.reading.read_line.Goals as goal
 
 pub returns-then-line-gt-LONGEST_LINE-clause-fault : goal.returns-then-line-gt-LONGEST_LINE-clause-fault
@@ -20,19 +16,17 @@ pub returns-then-is_skipped-clause-read : goal.returns-then-is_skipped-clause-re
 returns-then-is_skipped-clause-read c =
     passed_over c.args.line.now c.if-line-gt-LONGEST_LINE.false c.in-Ok.ensures.cases.1 (sym c.is_skipped.ensures ∙ c.if-is_skipped.true)
 
-pub returns-in-Ok-read_words-clause-read : goal.returns-in-Ok-read_words-clause-read
-returns-in-Ok-read_words-clause-read c =
-    by_words c.args.line.now c.if-line-gt-LONGEST_LINE.false c.in-Ok.ensures.cases.1 (sym c.is_skipped.ensures ∙ c.if-is_skipped.false)
-    ∙ ap Some (ap read_words (sym c.in-Ok.ensures.cases.0) ∙ c.in-Ok-read_words.ensures)
-
-pub returns-in-Ok-read_words-clause-valid : goal.returns-in-Ok-read_words-clause-valid
-returns-in-Ok-read_words-clause-valid c = λ command is.
-    let own = c.in-Ok-read_words.command in
-    let same : own ≡ command = cc in
-    let read = by_words c.args.line.now c.if-line-gt-LONGEST_LINE.false c.in-Ok.ensures.cases.1 (sym c.is_skipped.ensures ∙ c.if-is_skipped.false) ∙ ap Some (ap read_words (sym c.in-Ok.ensures.cases.0) ∙ c.in-Ok-read_words.ensures) in
-    ap is_command (sym same) ∙ spelled_valid c.args.line.now own (read_spells c.args.line.now own read)
-
-pub returns-in-Err-read_words-clause-fault : goal.returns-in-Err-read_words-clause-fault
-returns-in-Err-read_words-clause-fault c =
+pub returns-clause-read : goal.returns-clause-read
+returns-clause-read c =
     let reads = by_words c.args.line.now c.if-line-gt-LONGEST_LINE.false c.in-Ok.ensures.cases.1 (sym c.is_skipped.ensures ∙ c.if-is_skipped.false) in
-    fault_of c.args.line.now c.in-Ok.text.now c.in-Err-read_words.fault c.in-Ok.ensures.cases.0 reads c.in-Err-read_words.ensures
+    read_of c.args.line.now c.in-Ok.text.now c.read_words.result c.in-Ok.ensures.cases.0 reads c.read_words.ensures
+
+pub returns-clause-valid : goal.returns-clause-valid
+returns-clause-valid c =
+    let reads = by_words c.args.line.now c.if-line-gt-LONGEST_LINE.false c.in-Ok.ensures.cases.1 (sym c.is_skipped.ensures ∙ c.if-is_skipped.false) in
+    valid_of c.args.line.now c.read_words.result (read_of c.args.line.now c.in-Ok.text.now c.read_words.result c.in-Ok.ensures.cases.0 reads c.read_words.ensures)
+
+pub returns-clause-fault : goal.returns-clause-fault
+returns-clause-fault c =
+    let reads = by_words c.args.line.now c.if-line-gt-LONGEST_LINE.false c.in-Ok.ensures.cases.1 (sym c.is_skipped.ensures ∙ c.if-is_skipped.false) in
+    faults_of c.args.line.now c.in-Ok.text.now c.read_words.result c.in-Ok.ensures.cases.0 reads c.read_words.ensures

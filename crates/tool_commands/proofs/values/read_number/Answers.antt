@@ -1,9 +1,14 @@
-use Rattle.std.proofs.Common.{◌≡◌, ◌∙◌, ap, sym, true}
-use Rattle.fsrm_model.specs.Reading.{is_number}
-use Rattle.tool_commands.proofs.Numbers.{unparsed}
+use Rattle.std.proofs.Common.{Some, ◌∙◌, subst, sym}
+use Rattle.tool_commands.specs.Numerals.{ReadsNumber}
+use Rattle.tool_commands.proofs.Numbers.{read_within, read_outside}
 use Rattle.tool_commands.proofs.values.read_number.Goals as goal
 
-pub returns-in_default-3-clause-read : goal.returns-in_default-3-clause-read
-returns-in_default-3-clause-read c =
-    let number : is_number c.args.text.now ≡ true = sym (c.is_number.ensures ∙ ap is_number c.as_bytes.ensures.value) ∙ c.if-not-is_number.false in
-    unparsed c.args.low c.args.high c.args.column c.args.text.now c.parse.result c.in_default.field-0 c.parse.ensures.value.0 c.in_default.is number c.ranges.high.fits
+pub returns-then-not-is_within-clause-read : goal.returns-then-not-is_within-clause-read
+returns-then-not-is_within-clause-read c =
+    let read = subst (ReadsNumber (Some c.in-Some.number)) c.as_bytes.ensures.value c.in-Some.ensures in
+    read_outside c.args.low c.args.high c.args.column c.args.text.now c.in-Some.number read c.requires.high (sym c.is_within.ensures ∙ c.if-not-is_within.true)
+
+pub returns-clause-read : goal.returns-clause-read
+returns-clause-read c =
+    let read = subst (ReadsNumber (Some c.in-Some.number)) c.as_bytes.ensures.value c.in-Some.ensures in
+    read_within c.args.low c.args.high c.args.column c.args.text.now c.in-Some.number read c.requires.high (sym c.is_within.ensures ∙ c.if-not-is_within.false)

@@ -4,7 +4,7 @@ use Rattle.tool_commands.proofs.words.word_len.Goals as goal
 
 pub loop-place-init : goal.loop-place-init
 loop-place-init c =
-    let first = first_turn c.args.text.now c.plain_len-place.result c.plain_len-place.ensures in
+    let first = first_turn c.args.text.now c.args.plain c.requires in
     record { within = first.0; word = first.1; marked = first.2 }
 
 pub overflow_add-place : goal.overflow_add-place
