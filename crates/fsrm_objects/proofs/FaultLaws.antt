@@ -1,5 +1,6 @@
 -- Which fault is due.
-use Rattle.std.proofs.Common.{◌≡◌, ℕ, ◌+◌, ◌<◌, ◌≤◌, nat_lt, nat_le, Bool, true, false, [], ◌∷◌, length, Some, None, refl}
+use Rattle.std.proofs.Common.{◌≡◌, ℕ, ◌+◌, ◌<◌, ◌≤◌, nat_lt, nat_le, Bool, true, false, [], ◌∷◌, length, Option, Some, None, MatchOption, refl}
+use Rattle.std.specs.Prelude.{is_some}
 use Rattle.fsrm_model.specs.declared.row.QuotaRow.{QuotaRow}
 use Rattle.fsrm_base.specs.Causes.{◌when◌, first}
 use Rattle.fsrm_base.specs.Keyed.{has_row, row_of}
@@ -12,25 +13,31 @@ use Rattle.fsrm_base.proofs.TestLaws.{gt_is, lt_test, not_lt}
 use Rattle.fsrm_objects.specs.declared.answer.ObjectFault.TheVariants.{AlreadyExists, OutOfRange, TableFull, TextsFull}
 use Rattle.fsrm_objects.specs.Tables.{Tables, has_long_list, other_fault, quota_fault}
 
--- a folder that has a quota gets no other
-pub taken_due : (tables : Tables) (row : QuotaRow) (room p : ℕ) → IsAt folder_of row.folder tables.quotas p → quota_fault tables row room ≡ Some AlreadyExists
-taken_due tables row room p at = rw (row_found folder_of row.folder tables.quotas p at).has refl
+-- whether a folder has a quota
+pub is_taken : (tables : Tables) (folder : ℕ) (o : Option ℕ) → MatchOption o (has_row folder_of folder tables.quotas ≡ false) (IsAt folder_of folder tables.quotas) → has_row folder_of folder tables.quotas ≡ is_some o
+is_taken tables folder None absent = absent
+is_taken tables folder (Some p) at = (row_found folder_of folder tables.quotas p at).has
 
--- if none is due, no list is too long, and there is a place for one more row
+-- one that has gets no other
+pub taken_due : (tables : Tables) (row : QuotaRow) (room : ℕ) → has_row folder_of row.folder tables.quotas ≡ true → quota_fault tables row room ≡ Some AlreadyExists
+taken_due tables row room has = rw has refl
+
+-- if none is due, the folder has none, no list is too long, and there is a place for one more row
 pub record Admitted (tables : Tables) (row : QuotaRow) : Type 0 where
+  pub free : has_row folder_of row.folder tables.quotas ≡ false
   pub short : has_long_list row ≡ false
   pub few : length tables.quotas < most_quotas
 
-two_pass : (taken long full more : Bool) → first ((AlreadyExists when taken) ∷ (OutOfRange when long) ∷ (TableFull when full) ∷ (TextsFull when more) ∷ []) ≡ None → (long ≡ false) × (full ≡ false)
-two_pass false false false more h = (refl, refl)
-two_pass false false true more h = cc
-two_pass false true full more h = cc
-two_pass true long full more h = cc
+three_pass : (taken long full more : Bool) → first ((AlreadyExists when taken) ∷ (OutOfRange when long) ∷ (TableFull when full) ∷ (TextsFull when more) ∷ []) ≡ None → (taken ≡ false) × (long ≡ false) × (full ≡ false)
+three_pass false false false more h = (refl, refl, refl)
+three_pass false false true more h = cc
+three_pass false true full more h = cc
+three_pass true long full more h = cc
 
 pub admitted : (tables : Tables) (row : QuotaRow) (room : ℕ) → quota_fault tables row room ≡ None → Admitted tables row
 admitted tables row room h =
-    let pass = two_pass (has_row folder_of row.folder tables.quotas) (has_long_list row) (nat_le most_quotas (length tables.quotas)) (nat_lt room (quota_bytes row)) h in
-    record { short = pass.0; few = gt_is _ _ pass.1 }
+    let pass = three_pass (has_row folder_of row.folder tables.quotas) (has_long_list row) (nat_le most_quotas (length tables.quotas)) (nat_lt room (quota_bytes row)) h in
+    record { free = pass.0; short = pass.1; few = gt_is _ _ pass.2 }
 
 -- of one in the place of another
 module _ (tables : Tables) (row old : QuotaRow) (room : ℕ) (found : row_of folder_of row.folder tables.quotas ≡ Some old) (short : has_long_list row ≡ false) where

@@ -1,5 +1,5 @@
 -- Quotas after an edit are as they are to be held, and the bytes of their texts.
-use Rattle.std.proofs.Common.{◌≡◌, ℕ, ◌+◌, ◌*◌, ◌<◌, ◌≤◌, ◌==◌, nat_le, true, false, List, [], ◌∷◌, length, get_or, insert, remove, Some, None, Result, Ok, IfOk, refl, sym, ◌∙◌, ap, subst, arith}
+use Rattle.std.proofs.Common.{◌≡◌, ℕ, ◌+◌, ◌*◌, ◌<◌, ◌≤◌, ◌==◌, nat_le, true, false, List, [], ◌∷◌, length, get_or, insert, remove, Option, Some, None, MatchOption, refl, sym, ◌∙◌, ap, subst, arith}
 use Rattle.std.proofs.lemmas.List.{length-set}
 use Rattle.std.proofs.lemmas.List.Edits.{length-insert, length-remove}
 use Rattle.std.proofs.lemmas.Option.{get_or_from_slice_get}
@@ -8,7 +8,7 @@ use Rattle.std.specs.Prelude.{slice_set}
 use Rattle.fsrm_model.specs.declared.row.Action.{Action}
 use Rattle.fsrm_model.specs.declared.row.QuotaRow.{QuotaRow}
 use Rattle.fsrm_model.specs.declared.row.Threshold.{Threshold}
-use Rattle.fsrm_base.specs.Keyed.{row_of, with_row, with_change, without_row}
+use Rattle.fsrm_base.specs.Keyed.{has_row, row_of, with_row, with_change, without_row}
 use Rattle.fsrm_base.specs.Places.{IsAt, IsGap}
 use Rattle.fsrm_model.specs.Limits.{most_quotas, longest_action_text}
 use Rattle.fsrm_model.specs.Quota.{folder_of}
@@ -55,19 +55,20 @@ pub read_small : (quotas : List QuotaRow) (n p : ℕ) (r : QuotaRow) → AreQuot
 read_small quotas n p r kept at read =
     small_fits r (all_found is_small (λ q. folder_of q == n) quotas r kept.small (read_found quotas n p r at read))
 
--- a folder without a place has no quota
-pub none_found : (quotas : List QuotaRow) (folder p : ℕ) → IsGap folder_of folder quotas p → row_of folder_of folder quotas ≡ None
-none_found quotas folder p gap = none_row _ (is_some-find _ quotas ∙ gap.absent)
-
--- a search that answers a place
-pub at_place : (quotas rows : List QuotaRow) (folder p : ℕ) (r : Result ℕ ℕ) → quotas ≡ rows → r ≡ Ok p → IfOk r (IsAt folder_of folder quotas) → IsAt folder_of folder rows p
-at_place quotas rows folder p r same is found =
-    subst (λ (items : List QuotaRow). IsAt folder_of folder items p) same (subst (λ (answer : Result ℕ ℕ). IfOk answer (IsAt folder_of folder quotas)) is found)
+-- a folder that has none
+pub none_found : (quotas : List QuotaRow) (folder : ℕ) → has_row folder_of folder quotas ≡ false → row_of folder_of folder quotas ≡ None
+none_found quotas folder absent = none_row _ (is_some-find _ quotas ∙ absent)
 
 -- ---- tables
 -- tables of these quotas
 abbrev pub tables_of : List QuotaRow → Tables
 tables_of quotas = record { quotas = quotas }
+
+-- the place that is found of a folder
+pub at_place : (quotas : List QuotaRow) (tables : Tables) (folder p : ℕ) (o : Option ℕ) → tables_of quotas ≡ tables → o ≡ Some p → MatchOption o (has_row folder_of folder tables.quotas ≡ false) (IsAt folder_of folder tables.quotas) → IsAt folder_of folder quotas p
+at_place quotas tables folder p o same is found =
+    subst (λ (held : Tables). IsAt folder_of folder held.quotas p) (sym same)
+    (subst (λ (answer : Option ℕ). MatchOption answer (has_row folder_of folder tables.quotas ≡ false) (IsAt folder_of folder tables.quotas)) is found)
 
 -- the texts of quotas fit
 pub texts_most : (quotas : List QuotaRow) → AreQuotas quotas → quota_texts quotas ≤ length quotas * 131072

@@ -1,5 +1,5 @@
 -- How the tables of objects are held.
-use Rattle.std.specs.Prelude.{◌≡◌, ℕ, ◌≤◌, ◌*◌, nat_le, Bool, true, List, length}
+use Rattle.std.specs.Prelude.{◌≡◌, ℕ, ◌≤◌, ◌*◌, nat_le, Bool, true, List, length, map}
 use Rattle.std.specs.List.{list_all}
 use Rattle.fsrm_model.specs.declared.row.QuotaRow.{QuotaRow}
 use Rattle.fsrm_base.specs.Keyed.{is_ascending}
@@ -25,3 +25,8 @@ pub record AreQuotas (quotas : List QuotaRow) : Type 0 where
 pub record AreCounted (quotas : List QuotaRow) (texts : ℕ) : Type 0 where
   pub are : AreQuotas quotas
   pub texts_are : texts ≡ quota_texts quotas
+
+-- and the table of places has their folders
+pub record IsKept (quotas : List QuotaRow) (numbers : List ℕ) (texts : ℕ) : Type 0 where
+  pub counted : AreCounted quotas texts
+  pub placed : numbers ≡ map folder_of quotas

@@ -1,48 +1,41 @@
 //! The tables of objects.
 
-ghost use Rattle.std.specs.Prelude.{◌≡◌, ◌<◌, IfOk, IfErr, OnOk, OnErr, [], None, Some, true, length, slice_get};
+ghost use Rattle.std.specs.Prelude.{◌≡◌, ◌<◌, IfOk, IfErr, MatchOption, OnOk, OnErr, [], None, Some, true, false, length, slice_get};
 ghost use Rattle.std.specs.Option.{option_copied};
-ghost use Rattle.fsrm_base.specs.Keyed.{row_of, has_row, is_ascending};
+ghost use Rattle.fsrm_base.specs.Keyed.{row_of, has_row};
 ghost use Rattle.fsrm_model.specs.Quota.{folder_of};
 ghost use Rattle.fsrm_model.specs.Texts.{quota_bytes};
-ghost use Rattle.fsrm_base.specs.Places.{IsAt, IsGap};
+ghost use Rattle.fsrm_base.specs.Places.{IsAt};
 ghost use Rattle.fsrm_objects.specs.Tables.{IsFault, has_short_texts, other_fault, quota_fault, texts_in, with_quota, with_other, with_peak, with_state, without_quota};
 
 use crate::answer::ObjectFault;
 use crate::texts::{has_long_list, left_of_quota, texts_of};
+use fsrm_model::limits::MOST_QUOTAS;
 use fsrm_model::{QuotaRow, QuotaState};
+use place_table::PlaceTable;
 use std::alloc::Global;
 use std::marker::Model;
-
-const MOST_QUOTAS: usize = 4096;
-
-// The place of a folder's quota, or as an `Err` the place where one is to stand.
-fn search(quotas: &[QuotaRow], folder: u32) -> Result<usize, usize>
-    requires { is_ascending folder_of quotas.now ≡ true }
-    ensures found { IfOk result (IsAt folder_of folder quotas.now) }
-    ensures free { IfErr result (IsGap folder_of folder quotas.now) }
-{
-    quotas.binary_search_by_key(&folder, |row| row.folder)
-}
 
 /// The objects of a store. Contracts see the rows of each table, ascending by folder, each folder at
 /// most once.
 #[derive(Drop)]
 pub struct Objects {
     quotas: Vec<QuotaRow>,
+    // Where each folder's quota stands.
+    places: PlaceTable,
     // The bytes of all texts.
     texts: u32,
 }
 
 impl Model for Objects {
-    ghost use Rattle.fsrm_objects.specs.Kept.{AreCounted};
+    ghost use Rattle.fsrm_objects.specs.Kept.{IsKept};
     ghost use Rattle.fsrm_objects.specs.Tables.{Tables};
 
     ghost Value = { Tables };
 
     ghost view = { λ o. record { quotas = o.quotas.items } };
 
-    ghost invariant = { λ o. AreCounted o.quotas.items o.texts };
+    ghost invariant = { λ o. IsKept o.quotas.items o.places.numbers o.texts };
 }
 
 impl Objects {
@@ -52,6 +45,7 @@ impl Objects {
     {
         Objects {
             quotas: Vec::new(alloc),
+            places: PlaceTable::new(alloc),
             texts: 0,
         }
     }
@@ -68,24 +62,34 @@ impl Objects {
         ensures refused { IfErr result (λ fault. IsFault fault (quota_fault self.old row room)) }
         ensures err { OnErr result (self.new ≡ self.old) }
     {
-        let (place, bytes) = self.admit(&row, room)?;
-        let Ok(()) = self.quotas.insert(place, row) else {
+        let bytes = self.admit(&row, room)?;
+        let Ok(()) = self.quotas.reserve(1) else {
             return Err(ObjectFault::NoMemory);
         };
+        let Ok(place) = self.places.insert(row.folder) else {
+            return Err(ObjectFault::NoMemory);
+        };
+        self.quotas.insert(place, row).unwrap();
         self.texts += bytes;
         Ok(())
     }
 
-    // The place of a new quota, and the bytes of its texts, if it may be added.
-    fn admit(&self, row: &QuotaRow, room: u32) -> Result<(usize, u32), ObjectFault>
-        ensures place { IfOk result (λ found. IsGap folder_of row.now.folder self.now.quotas found.0) }
-        ensures bytes { IfOk result (λ found. found.1 ≡ quota_bytes row.now) }
+    // The place of a folder's quota.
+    fn place(&self, folder: u32) -> Option<usize>
+        ensures { MatchOption result (has_row folder_of folder self.now.quotas ≡ false) (IsAt folder_of folder self.now.quotas) }
+    {
+        self.places.place(folder)
+    }
+
+    // The bytes of a new quota's texts, if it may be added.
+    fn admit(&self, row: &QuotaRow, room: u32) -> Result<u32, ObjectFault>
+        ensures bytes { IfOk result (λ bytes. bytes ≡ quota_bytes row.now) }
         ensures may { OnOk result (quota_fault self.now row.now room ≡ None) }
         ensures refused { IfErr result (λ fault. quota_fault self.now row.now room ≡ Some fault) }
     {
-        let Err(place) = search(&self.quotas, row.folder) else {
+        if self.place(row.folder).is_some() {
             return Err(ObjectFault::AlreadyExists);
-        };
+        }
         if has_long_list(row) {
             return Err(ObjectFault::OutOfRange);
         }
@@ -95,7 +99,7 @@ impl Objects {
         let Some(left) = left_of_quota(row, room) else {
             return Err(ObjectFault::TextsFull);
         };
-        Ok((place, room - left))
+        Ok(room - left)
     }
 
     /// Gives a folder that has a quota this one in its place. The texts of its actions have at most 1,024
@@ -115,7 +119,7 @@ impl Objects {
         if has_long_list(&row) {
             return Err(ObjectFault::OutOfRange);
         }
-        let place = search(&self.quotas, row.folder).unwrap();
+        let place = self.place(row.folder).unwrap();
         let replaced = texts_of(&self.quotas[place]);
         let bytes = texts_of(&row);
         if bytes.saturating_sub(replaced) > room {
@@ -131,9 +135,10 @@ impl Objects {
         requires { has_row folder_of folder self.old.quotas ≡ true }
         ensures { self.new ≡ without_quota self.old folder }
     {
-        let place = search(&self.quotas, folder).unwrap();
+        let place = self.place(folder).unwrap();
         self.texts -= texts_of(&self.quotas[place]);
         self.quotas.remove(place);
+        self.places.remove(folder);
     }
 
     /// Sets the peak of a folder's quota, in bytes, and its moment.
@@ -141,7 +146,7 @@ impl Objects {
         requires { has_row folder_of folder self.old.quotas ≡ true }
         ensures { self.new ≡ with_peak self.old folder peak moment }
     {
-        let place = search(&self.quotas, folder).unwrap();
+        let place = self.place(folder).unwrap();
         let quota = &mut self.quotas[place];
         quota.peak = peak;
         quota.peak_at = moment;
@@ -152,7 +157,7 @@ impl Objects {
         requires { has_row folder_of folder self.old.quotas ≡ true }
         ensures { self.new ≡ with_state self.old folder state }
     {
-        let place = search(&self.quotas, folder).unwrap();
+        let place = self.place(folder).unwrap();
         self.quotas[place].state = state;
     }
 
@@ -160,10 +165,8 @@ impl Objects {
     pub fn quota(&self, folder: u32) -> Option<&QuotaRow>
         ensures { option_copied result ≡ row_of folder_of folder self.now.quotas }
     {
-        match search(&self.quotas, folder) {
-            Ok(place) => Some(&self.quotas[place]),
-            Err(_) => None,
-        }
+        let place = self.place(folder)?;
+        Some(&self.quotas[place])
     }
 
     /// The bytes of all texts that the rows hold.

@@ -3,11 +3,10 @@ use Rattle.std.proofs.Common.{◌≡◌, ℕ, ◌+◌, ◌-◌, ◌<◌, ◌^◌
 use Rattle.std.proofs.lemmas.Option.{same_Some}
 use Rattle.std.specs.Prelude.{map, option_map, if◌then◌else◌}
 use Rattle.fsrm_model.specs.declared.row.NodeRow.{NodeRow}
-use Rattle.fsrm_base.specs.Keyed.{row_of, is_ascending}
+use Rattle.fsrm_base.specs.Keyed.{row_of}
 use Rattle.fsrm_model.specs.Tree.{is_under}
 use Rattle.fsrm_model.proofs.nodes.ChainLaws.{Has}
 use Rattle.fsrm_base.proofs.Look.{found_key, find-map}
-use Rattle.fsrm_base.proofs.Order.{ascending-map}
 use Rattle.quota_usage.specs.Charge.{is_above, IsThere}
 use Rattle.quota_usage.specs.Climb.{amended, amended_counter, climbed, FitsAbove}
 use Rattle.quota_usage.specs.Counters.{counted, used_in}
@@ -88,12 +87,6 @@ charged_two nodes from to s d minus plus old middle new f t m n =
         let x = cond (is_under nodes c.folder s) (amended_counter minus 0 c) c in
         ap (λ f. cond (is_under nodes f d) (amended_counter 0 plus x) x) (own_key minus 0 (is_under nodes c.folder s) c)
         ∙ two_at (is_under nodes c.folder s) (is_under nodes c.folder d) minus plus c
-
--- the order stays
-pub climbed_ascending : (nodes : List NodeRow) (start minus plus : ℕ) (old new : List Counter) → new ≡ climbed nodes start minus plus old → is_ascending counted old ≡ true → is_ascending counted new ≡ true
-climbed_ascending nodes start minus plus old new e a =
-    subst (λ (counters : List Counter). is_ascending counted counters ≡ true) (sym e)
-    (ascending-map counted (λ (r : Counter). if is_under nodes r.folder start then amended_counter minus plus r else r) (λ r. own_key minus plus (is_under nodes r.folder start) r) old a)
 
 -- what fits the change fits its climbs
 abbrev pub FitsBy : List NodeRow → List Counter → Option ℕ → Option ℕ → ℕ → ℕ → Type 0

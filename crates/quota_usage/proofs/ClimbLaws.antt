@@ -2,7 +2,7 @@
 use Rattle.std.proofs.Common.{◌≡◌, ℕ, zero, suc, ◌+◌, ◌<◌, ◌≤◌, ◌^◌, ◌==◌, Bool, true, false, cond, not, ◌&&◌, inl, inr, List, [], ◌∷◌, length, Option, Some, None, refl, sym, ◌∙◌, ap, subst, arith}
 use Rattle.std.specs.Prelude.{option_map, if◌then◌else◌}
 use Rattle.fsrm_model.specs.declared.row.NodeRow.{NodeRow}
-use Rattle.fsrm_base.specs.Keyed.{row_of, is_ascending, with_change}
+use Rattle.fsrm_base.specs.Keyed.{row_of, with_change}
 use Rattle.fsrm_model.specs.Tree.{parent_of, chain_in, chain, is_under}
 use Rattle.fsrm_base.proofs.TestLaws.{is_or_not, eq_is, eq_same, or_later, clash}
 use Rattle.fsrm_model.proofs.nodes.ChainLaws.{IsTree, Has}
@@ -11,7 +11,6 @@ use Rattle.fsrm_model.proofs.nodes.Below.{above_all, chain_root}
 use Rattle.fsrm_model.proofs.nodes.Climbs.{climb, under_up, under_own}
 use Rattle.fsrm_model.proofs.nodes.ClimbRows.{is_passed, passed_rows, climbed_step, climbed_root}
 use Rattle.fsrm_base.proofs.Look.{found_key, find-map}
-use Rattle.fsrm_base.proofs.Order.{ascending-map}
 use Rattle.quota_usage.specs.Climb.{amended, amended_counter, climbed, FitsAbove, IsFirst, IsNearest}
 use Rattle.quota_usage.specs.Counters.{counted, used_in}
 use Rattle.quota_usage.specs.declared.change.Counter.{Counter}
@@ -51,11 +50,6 @@ height_up nodes t n h i = let e = ap length (climb nodes t n h i) in omega (arit
 pub own_key : (minus plus : ℕ) (b : Bool) (r : Counter) → counted (cond b (amended_counter minus plus r) r) ≡ counted r
 own_key minus plus true r = refl
 own_key minus plus false r = refl
-
-pub passed_ascending : (nodes : List NodeRow) (start at minus plus : ℕ) (old now : List Counter) → now ≡ passed_rows counted nodes start at (amended_counter minus plus) old → is_ascending counted old ≡ true → is_ascending counted now ≡ true
-passed_ascending nodes start at minus plus old now e a =
-    subst (λ (counters : List Counter). is_ascending counted counters ≡ true) (sym e)
-    (ascending-map counted (λ (r : Counter). if is_passed nodes start at (counted r) then amended_counter minus plus r else r) (λ r. own_key minus plus (is_passed nodes start at (counted r)) r) old a)
 
 -- the counter of the node that the climb has come to is as it was
 not_passed : (a b : Bool) → b ≡ true → (a && not b) ≡ false

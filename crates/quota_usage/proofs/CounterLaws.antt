@@ -1,97 +1,91 @@
--- What a counter at a place stands at, and what a change of it makes.
-use Rattle.std.proofs.Common.{◌≡◌, ℕ, suc, ◌+◌, ◌-◌, ◌<◌, ◌≤◌, ◌==◌, true, false, not, List, [], ◌∷◌, length, get_or, set, Some, None, refl, sym, ◌∙◌, ap, subst, arith}
-use Rattle.std.proofs.lemmas.List.{with_items_is, get_or_default}
+-- What a counter at a place stands at, and what is kept if one comes, goes or is changed.
+use Rattle.std.proofs.Common.{◌≡◌, ℕ, ◌+◌, ◌-◌, ◌<◌, ◌≤◌, ◌==◌, true, false, List, [], ◌∷◌, length, get_or, set, Option, Some, None, MatchOption, Result, Ok, Err, IsOk, OnErr, refl, sym, ◌∙◌, ap, subst, arith}
+use Rattle.std.proofs.lemmas.List.{length-map, length-set}
+use Rattle.std.proofs.lemmas.List.Edits.{length-insert, length-remove}
 use Rattle.std.proofs.lemmas.Option.{slice_get-get_or}
 use Rattle.std.specs.Global.{Vec}
 use Rattle.std.specs.List.{insert, remove}
 use Rattle.std.specs.Prelude.{map, option_map}
-use Rattle.std.specs.Vec.{vec_capacity, with_items}
+use Rattle.std.specs.Vec.{vec_capacity}
 use Rattle.fsrm_base.specs.Keyed.{row_of, has_row, with_change, is_ascending}
-use Rattle.fsrm_model.specs.Limits.{most_quotas}
-use Rattle.fsrm_base.proofs.EditedRows.{change_absent}
-use Rattle.fsrm_base.proofs.Look.{none_row, is_some-find, found_has}
-use Rattle.fsrm_model.proofs.nodes.Sizes.{length-removed}
-use Rattle.fsrm_base.proofs.TestLaws.{clash, eq_is}
-use Rattle.fsrm_base.proofs.Order.{ascending-with_row, ascending-filter, ascending-map, length-with_row}
-use Rattle.quota_usage.specs.Climb.{amended_counter}
-use Rattle.quota_usage.specs.Counters.{counted, used_in, with_counter, without_counter}
-use Rattle.quota_usage.specs.Kept.{IsKept}
+use Rattle.fsrm_base.specs.Numbers.{with_number, without_number}
 use Rattle.fsrm_base.specs.Places.{IsAt, IsGap}
+use Rattle.fsrm_model.specs.Limits.{most_quotas}
+use Rattle.fsrm_base.proofs.Look.{none_row, is_some-find}
+use Rattle.fsrm_base.proofs.SortedRows.{set_found, ascending-insert, ascending-remove, ascending-set}
+use Rattle.fsrm_base.proofs.TestLaws.{eq_is}
+use Rattle.place_table.specs.Table.{Table}
+use Rattle.place_table.proofs.RowPlaces.{numbers_inserted, numbers_removed, numbers_set}
+use Rattle.quota_usage.specs.Climb.{amended_counter}
+use Rattle.quota_usage.specs.Counters.{counted, used_in}
+use Rattle.quota_usage.specs.Kept.{IsKept}
 use Rattle.quota_usage.specs.declared.change.Counter.{Counter}
-use Rattle.fsrm_base.proofs.SortedRows.{set_found, remove_found, insert_row}
-
-abbrev pub blank : Counter
-blank = record { folder = 0; bytes = 0 }
-
--- the counter at a place
-row_at : (counters : List Counter) (folder place : ℕ) → IsAt counted folder counters place → row_of counted folder counters ≡ Some (get_or counters place blank)
-row_at counters folder place at = sym at.found ∙ slice_get-get_or counters place blank at.within
-
-pub used_at : (counters : List Counter) (folder place : ℕ) → is_ascending counted counters ≡ true → IsAt counted folder counters place → used_in counters folder ≡ Some (get_or counters place blank).bytes
-used_at counters folder place a at = ap (option_map (λ (counter : Counter). counter.bytes)) (row_at counters folder place at)
-
-pub row_gap : (counters : List Counter) (folder place : ℕ) → IsGap counted folder counters place → row_of counted folder counters ≡ None
-row_gap counters folder place gap = none_row (row_of counted folder counters) (is_some-find (λ (r : Counter). counted r == folder) counters ∙ gap.absent)
-
-pub used_gap : (counters : List Counter) (folder place : ℕ) → IsGap counted folder counters place → used_in counters folder ≡ None
-used_gap counters folder place gap = ap (option_map (λ (counter : Counter). counter.bytes)) (row_gap counters folder place gap)
-
--- one counter amended
-pub amended_at : (counters : List Counter) (folder place minus plus less : ℕ) → is_ascending counted counters ≡ true → IsAt counted folder counters place → less ≡ (get_or counters place blank).bytes - minus → set counters place (record { folder = (get_or counters place blank).folder; bytes = less + plus }) ≡ with_change counted folder (amended_counter minus plus) counters
-amended_at counters folder place minus plus less a at e =
-    ap (λ bytes. set counters place (record { folder = (get_or counters place blank).folder; bytes = bytes + plus })) e
-    ∙ set_found counted folder (amended_counter minus plus) counters place (get_or counters place blank) a at (sym (get_or_default counters place (get_or counters place blank) blank at.within))
-
-pub amended_gap : (counters : List Counter) (folder place minus plus : ℕ) → IsGap counted folder counters place → counters ≡ with_change counted folder (amended_counter minus plus) counters
-amended_gap counters folder place minus plus gap = sym (change_absent counted folder (amended_counter minus plus) counters gap.absent)
-
--- what is kept with one counter more, and with one less
-pub kept_begun : (old new : Vec Counter) (folder bytes place : ℕ) → IsKept old → length old.items < most_quotas → IsGap counted folder old.items place → new.items ≡ insert old.items place (record { folder = folder; bytes = bytes }) → vec_capacity old ≤ vec_capacity new → IsKept new
-kept_begun old new folder bytes place k room gap e up =
-    let row : Counter = record { folder = folder; bytes = bytes } in
-    let is : new.items ≡ with_counter old.items folder bytes = e ∙ insert_row counted row old.items place gap in
-    let more : length new.items ≡ suc (length old.items) = ap length is ∙ length-with_row counted row old.items in
-    record {
-      ascending = subst (λ (counters : List Counter). is_ascending counted counters ≡ true) (sym is) (ascending-with_row counted row old.items gap.absent k.ascending);
-      few = omega (arith, more, room);
-      room = omega (arith, k.room, up);
-    }
-
-pub kept_ended : (old new : Vec Counter) (folder place : ℕ) → IsKept old → IsAt counted folder old.items place → new.items ≡ remove old.items place → vec_capacity new ≡ vec_capacity old → IsKept new
-kept_ended old new folder place k at e same =
-    let is : new.items ≡ without_counter old.items folder = e ∙ remove_found counted folder old.items place k.ascending at in
-    let has : has_row counted folder old.items ≡ true = found_has counted folder old.items _ (row_at old.items folder place at) in
-    let less : length new.items + 1 ≡ length old.items = ap (λ (counters : List Counter). length counters + 1) is ∙ length-removed counted folder old.items k.ascending has in
-    record {
-      ascending = subst (λ (counters : List Counter). is_ascending counted counters ≡ true) (sym is) (ascending-filter counted (λ (r : Counter). not (counted r == folder)) old.items k.ascending);
-      few = omega (arith, less, k.few);
-      room = omega (arith, k.room, same);
-    }
-
--- a counter that is there is at no gap
-pub not_gap : (counters : List Counter) (folder place : ℕ) → has_row counted folder counters ≡ true → IsGap counted folder counters place → ⊥
-not_gap counters folder place h gap = clash _ h gap.absent
-
-pub not_at : (counters : List Counter) (folder place : ℕ) → is_ascending counted counters ≡ true → has_row counted folder counters ≡ false → IsAt counted folder counters place → ⊥
-not_at counters folder place a h at = clash _ (found_has counted folder counters _ (row_at counters folder place at)) h
-
--- what is kept if the counters came to others of their folders
-length_map : {X Y : Type 0} (f : X → Y) (xs : List X) → length (map f xs) ≡ length xs
-length_map f [] = refl
-length_map f (x ∷ xs) = ap suc (length_map f xs)
-
-pub kept_charged : (old : Vec Counter) (middle new : List Counter) (f : Counter → Counter) → ((r : Counter) → counted (f r) ≡ counted r) → IsKept old → length middle ≡ old.len → middle ≡ old.items → new ≡ map f middle → IsKept (with_items old new)
-kept_charged old middle new f key k l e m =
-    let same : length new ≡ length middle = ap length m ∙ length_map f middle in
-    let is : (with_items old new).items ≡ map f old.items = with_items_is old new (same ∙ l) ∙ (m ∙ ap (map f) e) in
-    let count : length (with_items old new).items ≡ length old.items = ap length is ∙ length_map f old.items in
-    record {
-      ascending = subst (λ (counters : List Counter). is_ascending counted counters ≡ true) (sym is) (ascending-map counted f key old.items k.ascending);
-      few = omega (arith, count, k.few);
-      room = k.room;
-    }
 
 -- without counters
 pub no_counters : (counters : List Counter) → (length counters == 0) ≡ true → counters ≡ []
 no_counters [] h = refl
 no_counters (c ∷ counters) h = let e : length (c ∷ counters) ≡ 0 = eq_is _ _ h in absurd (omega (arith, e))
+
+-- what a folder's counter stands at
+pub used_absent : (counters : List Counter) (folder : ℕ) → has_row counted folder counters ≡ false → used_in counters folder ≡ None
+used_absent counters folder absent =
+    ap (option_map (λ (counter : Counter). counter.bytes)) (none_row (row_of counted folder counters) (is_some-find (λ (r : Counter). counted r == folder) counters ∙ absent))
+
+pub used_at : (counters : List Counter) (folder place : ℕ) (r : Counter) → IsAt counted folder counters place → r ≡ get_or counters place r → used_in counters folder ≡ Some r.bytes
+used_at counters folder place r at read =
+    ap (option_map (λ (counter : Counter). counter.bytes)) (sym at.found ∙ (slice_get-get_or counters place r at.within ∙ ap Some (sym read)))
+
+-- one counter amended
+pub amended_at : (counters : List Counter) (folder place minus plus less : ℕ) (r : Counter) → is_ascending counted counters ≡ true → IsAt counted folder counters place → r ≡ get_or counters place r → less ≡ r.bytes - minus → set counters place (record r { bytes = less + plus }) ≡ with_change counted folder (amended_counter minus plus) counters
+amended_at counters folder place minus plus less r a at read e =
+    ap (λ bytes. set counters place (record r { bytes = bytes + plus })) e
+    ∙ set_found counted folder (amended_counter minus plus) counters place r a at read
+
+-- what is kept with one counter more, with one less, and with one amended
+pub kept_begun : (old new : Vec Counter) (places more : Table) (folder bytes place : ℕ) → IsKept old places → length old.items < most_quotas → IsGap counted folder old.items place → new.items ≡ insert old.items place (record { folder = folder; bytes = bytes }) → vec_capacity old ≤ vec_capacity new → more ≡ record places { numbers = with_number folder places.numbers } → IsKept new more
+kept_begun old new places more folder bytes place k room gap e up m =
+    let row : Counter = record { folder = folder; bytes = bytes } in
+    let longer : length (insert old.items place row) ≡ length old.items + 1 = length-insert old.items place row gap.within in
+    record {
+      ascending = ap (is_ascending counted) e ∙ ascending-insert counted row old.items place k.ascending gap;
+      few = omega (arith, ap length e, longer, room);
+      room = omega (arith, k.room, up);
+      placed = ap (λ (t : Table). t.numbers) m ∙ (numbers_inserted counted row old.items place places.numbers k.placed gap ∙ sym (ap (map counted) e));
+      places_room = omega (arith, k.places_room, ap (λ (t : Table). t.room) m);
+    }
+
+pub kept_ended : (old new : Vec Counter) (places less : Table) (folder place : ℕ) → IsKept old places → IsAt counted folder old.items place → new.items ≡ remove old.items place → vec_capacity new ≡ vec_capacity old → less ≡ record places { numbers = without_number folder places.numbers } → IsKept new less
+kept_ended old new places less folder place k at e same m =
+    let shorter : length (remove old.items place) + 1 ≡ length old.items = length-remove old.items place at.within in
+    record {
+      ascending = ap (is_ascending counted) e ∙ ascending-remove counted folder old.items place k.ascending at;
+      few = omega (arith, ap length e, shorter, k.few);
+      room = omega (arith, k.room, same);
+      placed = ap (λ (t : Table). t.numbers) m ∙ (numbers_removed counted folder old.items place places.numbers k.ascending k.placed at ∙ sym (ap (map counted) e));
+      places_room = omega (arith, k.places_room, ap (λ (t : Table). t.room) m);
+    }
+
+pub kept_amended : (old new : Vec Counter) (places : Table) (folder place minus plus less : ℕ) (r : Counter) → IsKept old places → IsAt counted folder old.items place → r ≡ get_or old.items place r → less ≡ r.bytes - minus → new.items ≡ set old.items place (record r { bytes = less + plus }) → vec_capacity new ≡ vec_capacity old → IsKept new places
+kept_amended old new places folder place minus plus less r k at read l e same =
+    let change : Counter → Counter = amended_counter minus plus in
+    let is : new.items ≡ set old.items place (change r) = e ∙ ap (λ bytes. set old.items place (record r { bytes = bytes + plus })) l in
+    record {
+      ascending = ap (is_ascending counted) is ∙ ascending-set counted folder change old.items place r (λ row is. is) k.ascending at read;
+      few = omega (arith, ap length is, length-set old.items place (change r), k.few);
+      room = omega (arith, same, k.room);
+      placed = numbers_set counted folder change old.items place r places.numbers (λ row is. is) k.ascending k.placed at read ∙ sym (ap (map counted) is);
+      places_room = k.places_room;
+    }
+
+-- there is room for one number more where there is for one counter more
+pub numbers_few : (counters : Vec Counter) (places : Table) → IsKept counters places → length counters.items < most_quotas → length places.numbers < most_quotas
+numbers_few counters places k few = omega (arith, few, ap length k.placed, length-map counters.items counted)
+
+pub is_put : {X Y : Type 0} (r : Result X Y) (room used : ℕ) → OnErr r (room ≤ used) → used < most_quotas → most_quotas ≤ room → IsOk r
+is_put (Ok x) room used full few most = refl
+is_put (Err e) room used full few most = absurd (omega (arith, full, few, most))
+
+-- the place that is found of a folder
+pub at_place : (counters held : List Counter) (folder place : ℕ) (o : Option ℕ) → counters ≡ held → o ≡ Some place → MatchOption o (has_row counted folder held ≡ false) (IsAt counted folder held) → IsAt counted folder counters place
+at_place counters held folder place o same is found =
+    subst (λ (rows : List Counter). IsAt counted folder rows place) (sym same) (subst (λ (x : Option ℕ). MatchOption x (has_row counted folder held ≡ false) (IsAt counted folder held)) is found)

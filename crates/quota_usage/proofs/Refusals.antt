@@ -1,19 +1,17 @@
 -- What the quota of a folder tells if it refuses.
-use Rattle.std.proofs.Common.{◌≡◌, ℕ, ◌+◌, ◌-◌, true, false, cond, List, [], get_or, Option, Some, None, refl, sym, ◌∙◌, ap}
+use Rattle.std.proofs.Common.{◌≡◌, ℕ, ◌+◌, ◌-◌, true, false, cond, List, [], Option, Some, None, refl, sym, ◌∙◌, ap}
 use Rattle.std.specs.Option.{option_and_then}
 use Rattle.std.specs.Prelude.{if◌then◌else◌}
 use Rattle.fsrm_model.specs.declared.row.NodeRow.{NodeRow}
 use Rattle.quota_usage.specs.Charge.{is_above}
 use Rattle.quota_usage.specs.declared.change.Change.{Change}
 use Rattle.fsrm_model.specs.declared.row.QuotaRow.{QuotaRow}
-use Rattle.fsrm_base.specs.Keyed.{row_of, is_ascending}
+use Rattle.fsrm_base.specs.Keyed.{row_of}
 use Rattle.fsrm_model.specs.Quota.{folder_of, refuses}
 use Rattle.fsrm_base.proofs.Look.{found_key}
 use Rattle.quota_usage.specs.Climb.{judged, refusal_of, refusal_at, IsNearestTo}
-use Rattle.quota_usage.specs.Counters.{counted, used_in}
-use Rattle.fsrm_base.specs.Places.{IsAt}
+use Rattle.quota_usage.specs.Counters.{used_in}
 use Rattle.quota_usage.specs.declared.change.Counter.{Counter}
-use Rattle.quota_usage.proofs.CounterLaws.{blank, used_at}
 
 -- without a counter nothing refuses
 pub uncounted : (quotas : List QuotaRow) (counters : List Counter) (minus plus folder : ℕ) → used_in counters folder ≡ None → refusal_of quotas counters minus plus folder ≡ None
@@ -31,17 +29,15 @@ counted_is quotas counters minus plus folder n q found used =
     ∙ ap (option_and_then (judged minus plus q)) used
 
 -- the quota of a folder with a counter, which comes to less and then to more
-pub passed_at : (quotas : List QuotaRow) (counters : List Counter) (minus plus folder place less : ℕ) (q : QuotaRow) → is_ascending counted counters ≡ true → IsAt counted folder counters place → row_of folder_of folder quotas ≡ Some q → less ≡ (get_or counters place blank).bytes - minus → refuses q (get_or counters place blank).bytes (less + plus) ≡ false → None ≡ refusal_of quotas counters minus plus folder
-passed_at quotas counters minus plus folder place less q a at found e h =
-    let n = (get_or counters place blank).bytes in
-    sym (counted_is quotas counters minus plus folder n q found (used_at counters folder place a at)
+pub passed_at : (quotas : List QuotaRow) (counters : List Counter) (minus plus folder n less : ℕ) (q : QuotaRow) → row_of folder_of folder quotas ≡ Some q → used_in counters folder ≡ Some n → less ≡ n - minus → refuses q n (less + plus) ≡ false → None ≡ refusal_of quotas counters minus plus folder
+passed_at quotas counters minus plus folder n less q found used e h =
+    sym (counted_is quotas counters minus plus folder n q found used
     ∙ (ap (λ l. cond (refuses q n (l + plus)) (Some (record { folder = q.folder; would = l + plus; limit = q.limit })) None) (sym e)
     ∙ ap (λ b. cond b (Some (record { folder = q.folder; would = less + plus; limit = q.limit })) None) h))
 
-pub refused_at : (quotas : List QuotaRow) (counters : List Counter) (minus plus folder place less : ℕ) (q : QuotaRow) → is_ascending counted counters ≡ true → IsAt counted folder counters place → row_of folder_of folder quotas ≡ Some q → less ≡ (get_or counters place blank).bytes - minus → refuses q (get_or counters place blank).bytes (less + plus) ≡ true → Some (record { folder = folder; would = less + plus; limit = q.limit }) ≡ refusal_of quotas counters minus plus folder
-refused_at quotas counters minus plus folder place less q a at found e h =
-    let n = (get_or counters place blank).bytes in
-    sym (counted_is quotas counters minus plus folder n q found (used_at counters folder place a at)
+pub refused_at : (quotas : List QuotaRow) (counters : List Counter) (minus plus folder n less : ℕ) (q : QuotaRow) → row_of folder_of folder quotas ≡ Some q → used_in counters folder ≡ Some n → less ≡ n - minus → refuses q n (less + plus) ≡ true → Some (record { folder = folder; would = less + plus; limit = q.limit }) ≡ refusal_of quotas counters minus plus folder
+refused_at quotas counters minus plus folder n less q found used e h =
+    sym (counted_is quotas counters minus plus folder n q found used
     ∙ (ap (λ l. cond (refuses q n (l + plus)) (Some (record { folder = q.folder; would = l + plus; limit = q.limit })) None) (sym e)
     ∙ (ap (λ b. cond b (Some (record { folder = q.folder; would = less + plus; limit = q.limit })) None) h
     ∙ ap (λ f. Some (record { folder = f; would = less + plus; limit = q.limit })) (found_key folder_of folder quotas q found))))

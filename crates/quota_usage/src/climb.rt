@@ -2,14 +2,13 @@
 
 ghost use Rattle.std.specs.Prelude.{◌≡◌, ◌+◌, ◌*◌, ◌≤◌, true, length, map};
 ghost use Rattle.fsrm_model.proofs.nodes.ChainLaws.{IsTree};
-ghost use Rattle.fsrm_base.specs.Keyed.{has_row, is_ascending};
+ghost use Rattle.fsrm_base.specs.Keyed.{has_row};
 ghost use Rattle.fsrm_model.specs.Tree.{number as key, chain, parent_of};
 ghost use Rattle.quota_usage.specs.Charge.{charged_counter, IsChange, Fits, height};
 ghost use Rattle.quota_usage.specs.Climb.{FitsAbove, climbed};
-ghost use Rattle.quota_usage.specs.Counters.{counted};
 
-use crate::change::{Change, Counter};
-use crate::counters::amend;
+use crate::change::Change;
+use crate::usage::Usage;
 use fsrm_model::{Ledger, Steps};
 use volume_tree::Tree;
 
@@ -45,7 +44,7 @@ pub fn height<L: Ledger>(tree: &Tree, node: u32, steps: &mut Steps<L>) -> u64
 /// Takes bytes from the counter of each folder on the way up from a node, and then gives it others. It
 /// takes a look for each node on the way.
 pub fn climb<L: Ledger>(
-    counters: &mut [Counter],
+    counters: &mut Usage,
     tree: &Tree,
     start: u32,
     minus: u64,
@@ -54,14 +53,13 @@ pub fn climb<L: Ledger>(
 )
     requires tree { IsTree tree.now.nodes }
     requires there { has_row key start tree.now.nodes ≡ true }
-    requires ascending { is_ascending counted counters.old ≡ true }
     requires fits { FitsAbove tree.now.nodes counters.old start minus plus }
     ensures made { counters.new ≡ climbed tree.now.nodes start minus plus counters.old }
     ensures looks { steps.new ≤ steps.old + length (chain tree.now.nodes start) }
 {
     let mut at = start;
     loop {
-        amend(counters, at, minus, plus);
+        counters.amend(at, minus, plus);
         if at == 0 {
             return;
         }
@@ -70,14 +68,8 @@ pub fn climb<L: Ledger>(
 }
 
 /// Makes a change of all counters that it touches.
-pub fn charge<L: Ledger>(
-    counters: &mut [Counter],
-    tree: &Tree,
-    change: &Change,
-    steps: &mut Steps<L>,
-)
+pub fn charge<L: Ledger>(counters: &mut Usage, tree: &Tree, change: &Change, steps: &mut Steps<L>)
     requires tree { IsTree tree.now.nodes }
-    requires ascending { is_ascending counted counters.old ≡ true }
     requires change { IsChange tree.now.nodes change.now }
     requires fits { Fits tree.now.nodes counters.old change.now }
     ensures made { counters.new ≡ map (charged_counter tree.now.nodes change.now) counters.old }

@@ -7,7 +7,6 @@
 
 mod change;
 mod climb;
-mod counters;
 mod refusal;
 mod usage;
 

@@ -2,16 +2,16 @@
 
 ghost use Rattle.std.specs.Prelude.{◌≡◌, ℕ, ◌+◌, ◌*◌, ◌<◌, ◌≤◌, ◌^◌, IfOk, IfErr, Some, true, false, length};
 ghost use Rattle.fsrm_model.proofs.nodes.ChainLaws.{IsTree};
-ghost use Rattle.fsrm_base.specs.Keyed.{has_row, is_ascending};
+ghost use Rattle.fsrm_base.specs.Keyed.{has_row};
 ghost use Rattle.fsrm_model.specs.Quota.{refuses};
 ghost use Rattle.fsrm_model.specs.Tree.{number as key, chain, is_under};
 ghost use Rattle.quota_usage.specs.Charge.{IsChange, Fits, height as change_height};
 ghost use Rattle.quota_usage.specs.Climb.{amended, FitsAbove, refusal_of, moved_refusal, refusal_at, IsFirst, IsNearest, IsNearestTo, IsMeeting};
-ghost use Rattle.quota_usage.specs.Counters.{counted, used_in};
+ghost use Rattle.quota_usage.specs.Counters.{used_in};
 
-use crate::change::{Change, Counter, Exceeded};
+use crate::change::{Change, Exceeded};
 use crate::climb::{height, parent};
-use crate::counters::search;
+use crate::usage::Usage;
 use fsrm_model::{Ledger, QuotaRow, Steps};
 use fsrm_objects::Objects;
 use volume_tree::Tree;
@@ -25,23 +25,21 @@ fn refuses(quota: &QuotaRow, before: u64, after: u64) -> bool
 
 // The refusal by the quota of a folder, if it refuses that its counter loses bytes and then gains others.
 fn judge(
-    counters: &[Counter],
+    counters: &Usage,
     objects: &Objects,
     folder: u32,
     minus: u64,
     plus: u64,
 ) -> Option<Exceeded>
-    requires ascending { is_ascending counted counters.now ≡ true }
-    requires fits { (bytes : ℕ) → used_in counters.now folder ≡ Some bytes → amended minus plus bytes < 2 ^ 64 }
+    requires { (bytes : ℕ) → used_in counters.now folder ≡ Some bytes → amended minus plus bytes < 2 ^ 64 }
     ensures { result ≡ refusal_of objects.now.quotas counters.now minus plus folder }
 {
-    let Ok(place) = search(counters, folder) else {
+    let Some(before) = counters.used(folder) else {
         return None;
     };
     let Some(quota) = objects.quota(folder) else {
         return None;
     };
-    let before = counters[place].bytes;
     let would = before.saturating_sub(minus) + plus;
     if !refuses(quota, before, would) {
         return None;
@@ -56,7 +54,7 @@ fn judge(
 // The refusal by the first quota on the way up from a node that refuses, if each folder on the way loses bytes and then
 // gains others. It takes a look for each node on the way.
 fn first_refusal<L: Ledger>(
-    counters: &[Counter],
+    counters: &Usage,
     tree: &Tree,
     objects: &Objects,
     start: u32,
@@ -66,7 +64,6 @@ fn first_refusal<L: Ledger>(
 ) -> Option<Exceeded>
     requires tree { IsTree tree.now.nodes }
     requires there { has_row key start tree.now.nodes ≡ true }
-    requires ascending { is_ascending counted counters.now ≡ true }
     requires fits { FitsAbove tree.now.nodes counters.now start minus plus }
     ensures nearest { IsNearest tree.now.nodes (refusal_of objects.now.quotas counters.now minus plus) start result }
     ensures looks { steps.new ≤ steps.old + length (chain tree.now.nodes start) }
@@ -85,7 +82,7 @@ fn first_refusal<L: Ledger>(
 // from `to`, of which none is above `from`. An `Err` is the first refusal. With the rest
 // of the way it takes no more than 2 looks for each node on both.
 fn below_meeting<L: Ledger>(
-    counters: &[Counter],
+    counters: &Usage,
     tree: &Tree,
     objects: &Objects,
     from: u32,
@@ -96,7 +93,6 @@ fn below_meeting<L: Ledger>(
     requires tree { IsTree tree.now.nodes }
     requires from { has_row key from tree.now.nodes ≡ true }
     requires to { has_row key to tree.now.nodes ≡ true }
-    requires ascending { is_ascending counted counters.now ≡ true }
     requires fits { (folder bytes : ℕ) → is_under tree.now.nodes folder to ≡ true → is_under tree.now.nodes folder from ≡ false → used_in counters.now folder ≡ Some bytes → amended 0 plus bytes < 2 ^ 64 }
     ensures met { IfOk result (λ node. (minus : ℕ) → IsMeeting tree.now.nodes (moved_refusal tree.now.nodes objects.now.quotas counters.now from to minus plus) from to node) }
     ensures refused { IfErr result (λ exceeded. (minus : ℕ) → IsFirst tree.now.nodes (moved_refusal tree.now.nodes objects.now.quotas counters.now from to minus plus) to exceeded) }
@@ -124,7 +120,7 @@ fn below_meeting<L: Ledger>(
 
 // The refusal by the deepest quota that refuses a change from one folder to another.
 fn move_refusal<L: Ledger>(
-    counters: &[Counter],
+    counters: &Usage,
     tree: &Tree,
     objects: &Objects,
     change: &Change,
@@ -133,7 +129,6 @@ fn move_refusal<L: Ledger>(
     steps: &mut Steps<L>,
 ) -> Option<Exceeded>
     requires tree { IsTree tree.now.nodes }
-    requires ascending { is_ascending counted counters.now ≡ true }
     requires from { change.now.from ≡ Some from }
     requires to { change.now.to ≡ Some to }
     requires change { IsChange tree.now.nodes change.now }
@@ -153,14 +148,13 @@ fn move_refusal<L: Ledger>(
 
 /// The refusal by the deepest quota that refuses a change.
 pub fn refusal<L: Ledger>(
-    counters: &[Counter],
+    counters: &Usage,
     tree: &Tree,
     objects: &Objects,
     change: &Change,
     steps: &mut Steps<L>,
 ) -> Option<Exceeded>
     requires tree { IsTree tree.now.nodes }
-    requires ascending { is_ascending counted counters.now ≡ true }
     requires change { IsChange tree.now.nodes change.now }
     requires fits { Fits tree.now.nodes counters.now change.now }
     ensures nearest { IsNearestTo tree.now.nodes (refusal_at tree.now.nodes objects.now.quotas counters.now change.now) change.now.to result }

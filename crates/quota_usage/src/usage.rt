@@ -1,20 +1,22 @@
 //! The counters of the counting quotas.
 
-ghost use Rattle.std.specs.Prelude.{◌≡◌, ℕ, ◌+◌, ◌*◌, ◌<◌, ◌≤◌, IfOk, IfErr, OnOk, [], Some, true, false, length, map};
-ghost use Rattle.fsrm_base.specs.Keyed.{has_row, is_ascending};
+ghost use Rattle.std.specs.Prelude.{◌≡◌, ℕ, ◌+◌, ◌*◌, ◌<◌, ◌≤◌, ◌^◌, ◌==◌, IfOk, IfErr, OnOk, MatchOption, [], Some, true, false, length, map};
+ghost use Rattle.fsrm_base.specs.Keyed.{has_row, is_ascending, with_change};
+ghost use Rattle.fsrm_base.specs.Places.{IsAt};
 ghost use Rattle.fsrm_model.specs.Limits.{most_quotas};
 ghost use Rattle.fsrm_model.specs.Quota.{folder_of};
 ghost use Rattle.fsrm_model.specs.Valid.{IsVolume};
-ghost use Rattle.quota_usage.specs.Counters.{counted, used_in, with_counter, without_counter};
 ghost use Rattle.quota_usage.specs.Charge.{charged_counter, over_by, exceeded_by, IsChange, Fits, height};
+ghost use Rattle.quota_usage.specs.Climb.{amended, amended_counter};
+ghost use Rattle.quota_usage.specs.Counters.{counted, used_in, with_counter, without_counter};
 
 use crate::change::{Change, Counter, Exceeded};
 use crate::climb::charge;
-use crate::counters::search;
 use crate::refusal::refusal;
 use fsrm_model::limits::MOST_QUOTAS;
 use fsrm_model::{Ledger, NoMemory, Steps};
 use fsrm_objects::Objects;
+use place_table::PlaceTable;
 use std::alloc::Global;
 use std::marker::Model;
 use volume_tree::Tree;
@@ -24,6 +26,8 @@ use volume_tree::Tree;
 #[derive(Drop)]
 pub struct Usage {
     counters: Vec<Counter>,
+    // Where each folder's counter stands, so that a climb finds it without a search.
+    places: PlaceTable,
 }
 
 impl Model for Usage {
@@ -35,7 +39,7 @@ impl Model for Usage {
 
     ghost view = { λ u. u.counters.items };
 
-    ghost invariant = { λ u. IsKept u.counters };
+    ghost invariant = { λ u. IsKept u.counters u.places };
 }
 
 impl Usage {
@@ -44,7 +48,22 @@ impl Usage {
         ensures { IfOk result (λ usage. usage ≡ []) }
     {
         let counters = Vec::with_capacity(alloc, MOST_QUOTAS)?;
-        Ok(Usage { counters })
+        let places = PlaceTable::reserve(alloc, MOST_QUOTAS as u16)?;
+        Ok(Usage { counters, places })
+    }
+
+    /// Whether there is none.
+    pub(crate) fn is_empty(&self) -> bool
+        ensures { result ≡ (length self.now == 0) }
+    {
+        self.counters.is_empty()
+    }
+
+    // The place of a folder's counter.
+    fn place(&self, folder: u32) -> Option<usize>
+        ensures { MatchOption result (has_row counted folder self.now ≡ false) (IsAt counted folder self.now) }
+    {
+        self.places.place(folder)
     }
 
     /// Begins to count for a folder, which so far uses so many bytes.
@@ -53,11 +72,10 @@ impl Usage {
         requires free { has_row counted folder self.old ≡ false }
         ensures { self.new ≡ with_counter self.old folder bytes }
     {
-        if let Err(place) = search(&self.counters, folder) {
-            self.counters
-                .insert(place, Counter { folder, bytes })
-                .unwrap();
-        }
+        let place = self.places.insert(folder).unwrap();
+        self.counters
+            .insert(place, Counter { folder, bytes })
+            .unwrap();
     }
 
     /// Counts no longer for a folder.
@@ -65,18 +83,28 @@ impl Usage {
         requires { has_row counted folder self.old ≡ true }
         ensures { self.new ≡ without_counter self.old folder }
     {
-        if let Ok(place) = search(&self.counters, folder) {
-            self.counters.remove(place);
-        }
+        let place = self.place(folder).unwrap();
+        self.counters.remove(place);
+        self.places.remove(folder);
     }
 
     /// How many bytes a folder uses, if it has a counter.
     pub fn used(&self, folder: u32) -> Option<u64>
         ensures { result ≡ used_in self.now folder }
     {
-        match search(&self.counters, folder) {
-            Ok(place) => Some(self.counters[place].bytes),
-            Err(_) => None,
+        let place = self.place(folder)?;
+        Some(self.counters[place].bytes)
+    }
+
+    /// Takes bytes from a folder's counter, as many as it has at most, and then gives it others. If the
+    /// folder has none nothing is done.
+    pub(crate) fn amend(&mut self, folder: u32, minus: u64, plus: u64)
+        requires { (bytes : ℕ) → used_in self.old folder ≡ Some bytes → amended minus plus bytes < 2 ^ 64 }
+        ensures { self.new ≡ with_change counted folder (amended_counter minus plus) self.old }
+    {
+        if let Some(place) = self.place(folder) {
+            let counter = &mut self.counters[place];
+            counter.bytes = counter.bytes.saturating_sub(minus) + plus;
         }
     }
 
@@ -99,7 +127,7 @@ impl Usage {
         ensures refused { IfErr result (λ exceeded. exceeded_by tree.now.nodes objects.now.quotas self.now change.now ≡ Some exceeded) }
         ensures looks { steps.new ≤ steps.old + 2 * (height tree.now.nodes change.now.from + height tree.now.nodes change.now.to) }
     {
-        match refusal(&self.counters, tree, objects, change, steps) {
+        match refusal(self, tree, objects, change, steps) {
             None => Ok(()),
             Some(exceeded) => Err(exceeded),
         }
@@ -114,6 +142,6 @@ impl Usage {
         ensures made { self.new ≡ map (charged_counter tree.now.nodes change.now) self.old }
         ensures looks { steps.new ≤ steps.old + 2 * (height tree.now.nodes change.now.from + height tree.now.nodes change.now.to) }
     {
-        charge(&mut self.counters, tree, change, steps);
+        charge(self, tree, change, steps);
     }
 }

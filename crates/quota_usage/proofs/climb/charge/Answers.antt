@@ -2,7 +2,7 @@ use Rattle.std.proofs.Common.{◌∙◌, sym, ap}
 use Rattle.std.specs.Prelude.{map}
 use Rattle.quota_usage.specs.Charge.{charged_counter}
 use Rattle.quota_usage.proofs.CounterLaws.{no_counters}
-use Rattle.quota_usage.proofs.ChargeLaws.{charged_none, charged_given, charged_taken, charged_both, charged_two, climbed_ascending, given_fits, taken_fits, both_fits, second_fits}
+use Rattle.quota_usage.proofs.ChargeLaws.{charged_none, charged_given, charged_taken, charged_both, charged_two, given_fits, taken_fits, both_fits, second_fits}
 use Rattle.quota_usage.proofs.climb.charge.Goals as goal
 
 pub climb-requires-clause-fits : goal.climb-requires-clause-fits
@@ -44,10 +44,6 @@ pub climb-requires-2-clause-fits : goal.climb-requires-2-clause-fits
 climb-requires-2-clause-fits g c =
     let change = c.args.change.now in
     taken_fits c.args.tree.now.nodes c.args.counters.now change.from change.to c.in-Some.from change.minus change.plus c.in-Some.is c.requires.fits.fits
-
-pub climb-requires-3-clause-ascending : goal.climb-requires-3-clause-ascending
-climb-requires-3-clause-ascending g c =
-    climbed_ascending c.args.tree.now.nodes c.in-Some.from c.args.change.now.minus 0 c.args.counters.now c.climb-2.new.counters c.climb-2.ensures.made c.requires.ascending
 
 pub climb-requires-3-clause-fits : goal.climb-requires-3-clause-fits
 climb-requires-3-clause-fits g c =

@@ -5,7 +5,7 @@ use Rattle.fsrm_model.proofs.nodes.ClimbRows.{passed_none}
 use Rattle.fsrm_model.proofs.nodes.Climbs.{shorter, under_own}
 use Rattle.quota_usage.specs.Climb.{amended_counter}
 use Rattle.quota_usage.specs.Counters.{counted}
-use Rattle.quota_usage.proofs.ClimbLaws.{on_up, passed_ascending, passed_fits, passed_up, passed_all}
+use Rattle.quota_usage.proofs.ClimbLaws.{on_up, passed_fits, passed_up, passed_all}
 use Rattle.quota_usage.proofs.climb.climb.Goals as goal
 
 pub loop-at-init : goal.loop-at-init
@@ -16,12 +16,8 @@ loop-at-init g c = record {
   looks = omega arith;
 }
 
-pub amend-requires-clause-ascending : goal.amend-requires-clause-ascending
-amend-requires-clause-ascending g c =
-    passed_ascending c.args.tree.now.nodes c.args.start c.loop-at.at c.args.minus c.args.plus c.args.counters.now c.loop-at.counters c.loop-at.invariant.made c.requires.ascending
-
-pub amend-requires-clause-fits : goal.amend-requires-clause-fits
-amend-requires-clause-fits g c =
+pub amend-requires : goal.amend-requires
+amend-requires g c =
     passed_fits c.args.tree.now.nodes c.args.start c.loop-at.at c.args.minus c.args.plus c.args.counters.now c.loop-at.counters c.loop-at.invariant.made c.loop-at.invariant.on c.requires.fits
 
 pub returns-then-at-eq0-clause-made : goal.returns-then-at-eq0-clause-made

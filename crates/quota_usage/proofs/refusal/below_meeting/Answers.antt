@@ -53,8 +53,8 @@ loop-at_from-preserved-then-to_height-from_height g c =
       looks = omega (arith, step, l.looks, c.parent-at_from.ensures.count);
     }
 
-pub judge-requires-clause-fits : goal.judge-requires-clause-fits
-judge-requires-clause-fits g c =
+pub judge-requires : goal.judge-requires
+judge-requires g c =
     let nodes = c.args.tree.now.nodes in
     let l = c.loop-at_from.invariant in
     let higher : length (chain nodes c.loop-at_from.at_from) ≤ length (chain nodes c.loop-at_from.at_to) = omega (arith, l.from_high, l.to_high, c.if-to_height-from_height.false) in

@@ -7,6 +7,7 @@ use Rattle.fsrm_objects.specs.Tables.{Tables, other_fault, with_other}
 use Rattle.fsrm_objects.proofs.FaultLaws.{replaced_due, replaced_fits}
 use Rattle.fsrm_objects.proofs.QuotaRows.{at_place, change_kept, change_texts, less_texts, quota_small, read_found, small_fits, tables_of, texts_most}
 use Rattle.fsrm_base.proofs.SortedRows.{set_found}
+use Rattle.place_table.proofs.RowPlaces.{numbers_set}
 use Rattle.fsrm_objects.proofs.objects.Objects.set_quota.Goals as goal
 
 pub texts_of-bytes-requires : goal.texts_of-bytes-requires
@@ -19,7 +20,7 @@ pub returns-then-saturating_sub-room-clause-refused :
 returns-then-saturating_sub-room-clause-refused c =
     let quotas = c.self.inside.quotas.items in
     let old = c.index.result.now in
-    let at = at_place c.deref.result.now quotas c.args.row.folder c.unwrap-place.result c.search.result c.deref.ensures.value c.unwrap-place.ensures c.search.ensures.found in
+    let at = at_place quotas c.args.self.now c.args.row.folder c.unwrap-place.result c.place.result c.self.view_is c.unwrap-place.ensures c.place.ensures in
     let long : c.args.room + quota_bytes old < quota_bytes c.args.row = omega arith in
     ap (λ (tables : Tables). other_fault tables c.args.row c.args.room) (sym c.self.view_is)
     ∙ replaced_due (tables_of quotas) c.args.row old c.args.room (read_found quotas c.args.row.folder c.unwrap-place.result old at c.index.ensures) (sym c.has_long_list.ensures ∙ c.if-has_long_list.false) long
@@ -30,16 +31,16 @@ overflow_add-self c =
     let old = c.index.result.now in
     let folder = c.args.row.folder in
     let place = c.unwrap-place.result in
-    let at = at_place c.deref.result.now quotas folder place c.search.result c.deref.ensures.value c.unwrap-place.ensures c.search.ensures.found in
+    let at = at_place quotas c.args.self.now folder place c.place.result c.self.view_is c.unwrap-place.ensures c.place.ensures in
     let small : is_small c.args.row ≡ true = quota_small c.args.row (sym c.has_long_list.ensures ∙ c.if-has_long_list.false) c.requires.texts in
-    let kept : AreQuotas (slice_set quotas place c.args.row) = change_kept quotas folder place (λ q. c.args.row) old (λ q is. refl) c.self.invariant.are at c.index.ensures (λ q is. small) in
+    let kept : AreQuotas (slice_set quotas place c.args.row) = change_kept quotas folder place (λ q. c.args.row) old (λ q is. refl) c.self.invariant.counted.are at c.index.ensures (λ q is. small) in
     omega (
       arith,
       kept.few,
       texts_most (slice_set quotas place c.args.row) kept,
-      change_texts quotas folder place (λ q. c.args.row) old (λ q is. refl) c.self.invariant.are at c.index.ensures,
-      less_texts quotas folder place old c.self.invariant.are at c.index.ensures,
-      c.self.invariant.texts_are,
+      change_texts quotas folder place (λ q. c.args.row) old (λ q is. refl) c.self.invariant.counted.are at c.index.ensures,
+      less_texts quotas folder place old c.self.invariant.counted.are at c.index.ensures,
+      c.self.invariant.counted.texts_are,
       c.texts_of-replaced.ensures,
       c.texts_of-bytes.ensures,
     )
@@ -50,33 +51,36 @@ invariant_of-self c =
     let old = c.index.result.now in
     let folder = c.args.row.folder in
     let place = c.unwrap-place.result in
-    let at = at_place c.deref.result.now quotas folder place c.search.result c.deref.ensures.value c.unwrap-place.ensures c.search.ensures.found in
+    let at = at_place quotas c.args.self.now folder place c.place.result c.self.view_is c.unwrap-place.ensures c.place.ensures in
     let small : is_small c.args.row ≡ true = quota_small c.args.row (sym c.has_long_list.ensures ∙ c.if-has_long_list.false) c.requires.texts in
     record {
-      are = change_kept quotas folder place (λ q. c.args.row) old (λ q is. refl) c.self.invariant.are at c.index.ensures (λ q is. small);
-      texts_are = omega (
-        arith,
-        change_texts quotas folder place (λ q. c.args.row) old (λ q is. refl) c.self.invariant.are at c.index.ensures,
-        less_texts quotas folder place old c.self.invariant.are at c.index.ensures,
-        c.self.invariant.texts_are,
-        c.texts_of-replaced.ensures,
-        c.texts_of-bytes.ensures,
-      );
+      counted = record {
+        are = change_kept quotas folder place (λ q. c.args.row) old (λ q is. refl) c.self.invariant.counted.are at c.index.ensures (λ q is. small);
+        texts_are = omega (
+          arith,
+          change_texts quotas folder place (λ q. c.args.row) old (λ q is. refl) c.self.invariant.counted.are at c.index.ensures,
+          less_texts quotas folder place old c.self.invariant.counted.are at c.index.ensures,
+          c.self.invariant.counted.texts_are,
+          c.texts_of-replaced.ensures,
+          c.texts_of-bytes.ensures,
+        );
+      };
+      placed = numbers_set folder_of folder (λ q. c.args.row) quotas place old c.self.inside.places.numbers (λ q is. refl) c.self.invariant.counted.are.ascending c.self.invariant.placed at c.index.ensures;
     }
 
 pub returns-clause-ok : goal.returns-clause-ok
 returns-clause-ok c =
     let quotas = c.self.inside.quotas.items in
     let place = c.unwrap-place.result in
-    let at = at_place c.deref.result.now quotas c.args.row.folder place c.search.result c.deref.ensures.value c.unwrap-place.ensures c.search.ensures.found in
-    ap tables_of (set_found folder_of c.args.row.folder (λ q. c.args.row) quotas place c.index_mut.result.now c.self.invariant.are.ascending at c.index_mut.ensures.value)
+    let at = at_place quotas c.args.self.now c.args.row.folder place c.place.result c.self.view_is c.unwrap-place.ensures c.place.ensures in
+    ap tables_of (set_found folder_of c.args.row.folder (λ q. c.args.row) quotas place c.index_mut.result.now c.self.invariant.counted.are.ascending at c.index_mut.ensures.value)
     ∙ ap (λ (tables : Tables). with_other tables c.args.row) c.self.view_is
 
 pub returns-clause-may : goal.returns-clause-may
 returns-clause-may c =
     let quotas = c.self.inside.quotas.items in
     let old = c.index.result.now in
-    let at = at_place c.deref.result.now quotas c.args.row.folder c.unwrap-place.result c.search.result c.deref.ensures.value c.unwrap-place.ensures c.search.ensures.found in
+    let at = at_place quotas c.args.self.now c.args.row.folder c.unwrap-place.result c.place.result c.self.view_is c.unwrap-place.ensures c.place.ensures in
     let fits : quota_bytes c.args.row ≤ c.args.room + quota_bytes old = omega arith in
     ap (λ (tables : Tables). other_fault tables c.args.row c.args.room) (sym c.self.view_is)
     ∙ replaced_fits (tables_of quotas) c.args.row old c.args.room (read_found quotas c.args.row.folder c.unwrap-place.result old at c.index.ensures) (sym c.has_long_list.ensures ∙ c.if-has_long_list.false) fits

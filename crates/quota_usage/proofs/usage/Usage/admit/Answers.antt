@@ -1,7 +1,4 @@
-use Rattle.std.proofs.Common.{◌≡◌, [], List, Some, ◌∙◌, subst}
 use Rattle.fsrm_model.proofs.nodes.Keeps.{tree_of}
-use Rattle.quota_usage.specs.Charge.{over_by, exceeded_by}
-use Rattle.quota_usage.specs.declared.change.Counter.{Counter}
 use Rattle.quota_usage.proofs.Deepest.{admitted, refused}
 use Rattle.quota_usage.proofs.usage.Usage.admit.Goals as goal
 
@@ -11,13 +8,9 @@ refusal-requires-clause-tree g c = tree_of c.args.tree.now.size c.args.tree.now.
 pub returns-in-None-clause-admitted : goal.returns-in-None-clause-admitted
 returns-in-None-clause-admitted g c =
     let nodes = c.args.tree.now.nodes in
-    let quotas = c.args.objects.now.quotas in
-    subst (λ (counters : List Counter). over_by nodes quotas counters c.args.change.now ≡ []) (c.deref.ensures.value ∙ c.self.view_is)
-    (admitted nodes quotas c.deref.result.now c.args.change.now c.refusal.result (tree_of c.args.tree.now.size nodes c.requires.volume) c.requires.ascending c.requires.change.to c.refusal.ensures.nearest c.in-None.is)
+    admitted nodes c.args.objects.now.quotas c.args.self.now c.args.change.now c.refusal.result (tree_of c.args.tree.now.size nodes c.requires.volume) c.requires.ascending c.requires.change.to c.refusal.ensures.nearest c.in-None.is
 
 pub returns-in-Some-clause-refused : goal.returns-in-Some-clause-refused
 returns-in-Some-clause-refused g c =
     let nodes = c.args.tree.now.nodes in
-    let quotas = c.args.objects.now.quotas in
-    subst (λ (counters : List Counter). exceeded_by nodes quotas counters c.args.change.now ≡ Some c.in-Some.exceeded) (c.deref.ensures.value ∙ c.self.view_is)
-    (refused nodes quotas c.deref.result.now c.args.change.now c.in-Some.exceeded c.refusal.result (tree_of c.args.tree.now.size nodes c.requires.volume) c.requires.ascending c.requires.change.to c.refusal.ensures.nearest c.in-Some.is)
+    refused nodes c.args.objects.now.quotas c.args.self.now c.args.change.now c.in-Some.exceeded c.refusal.result (tree_of c.args.tree.now.size nodes c.requires.volume) c.requires.ascending c.requires.change.to c.refusal.ensures.nearest c.in-Some.is

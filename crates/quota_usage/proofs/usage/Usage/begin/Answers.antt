@@ -1,31 +1,47 @@
-use Rattle.std.proofs.Common.{◌≡◌, ◌<◌, false, List, length, sym, ◌∙◌, ap, subst}
+use Rattle.std.proofs.Common.{◌≡◌, ◌<◌, false, List, length, sym, ◌∙◌, ap, subst, arith}
 use Rattle.fsrm_base.specs.Keyed.{has_row}
-use Rattle.fsrm_model.specs.Limits.{most_quotas}
-use Rattle.quota_usage.specs.Counters.{counted, with_counter}
-use Rattle.fsrm_base.specs.Places.{IsAt, IsGap}
-use Rattle.quota_usage.specs.declared.change.Counter.{Counter}
-use Rattle.quota_usage.proofs.CounterLaws.{kept_begun, not_at}
 use Rattle.fsrm_base.proofs.SortedRows.{insert_row}
+use Rattle.fsrm_model.specs.Limits.{most_quotas}
+use Rattle.place_table.proofs.RowPlaces.{gap_row, has_number}
+use Rattle.quota_usage.specs.Counters.{counted, with_counter}
+use Rattle.quota_usage.specs.declared.change.Counter.{Counter}
+use Rattle.quota_usage.proofs.CounterLaws.{is_put, kept_begun, numbers_few}
 use Rattle.quota_usage.proofs.usage.Usage.begin.Goals as goal
+
+pub insert-requires-clause-absent : goal.insert-requires-clause-absent
+insert-requires-clause-absent c =
+    let s = c.self.inside in
+    has_number counted c.args.folder s.counters.items s.places.numbers false c.self.invariant.placed
+    (subst (λ (counters : List Counter). has_row counted c.args.folder counters ≡ false) (sym c.self.view_is) c.requires.free)
+
+pub insert-requires-clause-few : goal.insert-requires-clause-few
+insert-requires-clause-few c =
+    let s = c.self.inside in
+    omega (arith, numbers_few s.counters s.places c.self.invariant (subst (λ (counters : List Counter). length counters < most_quotas) (sym c.self.view_is) c.requires.room))
+
+pub unwrap-place-requires : goal.unwrap-place-requires
+unwrap-place-requires c =
+    let s = c.self.inside in
+    let few = numbers_few s.counters s.places c.self.invariant (subst (λ (counters : List Counter). length counters < most_quotas) (sym c.self.view_is) c.requires.room) in
+    is_put c.insert.result s.places.room (length s.places.numbers) c.insert.ensures.full few c.self.invariant.places_room
 
 pub invariant_of-self : goal.invariant_of-self
 invariant_of-self c =
-    let items = rw c.unwrap.ensures at c.insert.ensures.items in
-    kept_begun c.self.inside.counters c.insert.new.self c.args.folder c.args.bytes c.in-Err.place c.self.invariant
+    let s = c.self.inside in
+    let place = c.unwrap-place.result in
+    let told = rw c.unwrap-place.ensures at c.insert.ensures.place in
+    let more = rw c.unwrap-place.ensures at c.insert.ensures.ok in
+    let items = rw c.unwrap.ensures at c.insert-2.ensures.items in
+    kept_begun s.counters c.insert-2.new.self s.places c.insert.new.self c.args.folder c.args.bytes place c.self.invariant
     (subst (λ (counters : List Counter). length counters < most_quotas) (sym c.self.view_is) c.requires.room)
-    (subst (λ (counters : List Counter). IsGap counted c.args.folder counters c.in-Err.place) c.deref.ensures.value c.in-Err.ensures.absent)
-    items c.insert.ensures.capacity
+    (gap_row counted c.args.folder s.counters.items s.places.numbers place c.self.invariant.placed told) items c.insert-2.ensures.capacity more
 
-pub returns-in-Err : goal.returns-in-Err
-returns-in-Err c =
-    let items = rw c.unwrap.ensures at c.insert.ensures.items in
+pub returns : goal.returns
+returns c =
+    let s = c.self.inside in
+    let place = c.unwrap-place.result in
+    let told = rw c.unwrap-place.ensures at c.insert.ensures.place in
+    let items = rw c.unwrap.ensures at c.insert-2.ensures.items in
     items
-    ∙ (insert_row counted (record { folder = c.args.folder; bytes = c.args.bytes }) c.self.inside.counters.items c.in-Err.place
-    (subst (λ (counters : List Counter). IsGap counted c.args.folder counters c.in-Err.place) c.deref.ensures.value c.in-Err.ensures.absent)
+    ∙ (insert_row counted (record { folder = c.args.folder; bytes = c.args.bytes }) s.counters.items place (gap_row counted c.args.folder s.counters.items s.places.numbers place c.self.invariant.placed told)
     ∙ ap (λ (counters : List Counter). with_counter counters c.args.folder c.args.bytes) c.self.view_is)
-
-pub returns-in_default : goal.returns-in_default
-returns-in_default c =
-    absurd (not_at c.self.inside.counters.items c.args.folder _ c.self.invariant.ascending
-    (subst (λ (counters : List Counter). has_row counted c.args.folder counters ≡ false) (sym c.self.view_is) c.requires.free)
-    (subst (λ (counters : List Counter). IsAt counted c.args.folder counters c.in_default.field-0) c.deref.ensures.value c.in_default.ensures.found))
