@@ -1,6 +1,8 @@
 -- How the pieces of a script join.
 use Rattle.std.proofs.Common.{◌≡◌, ℕ, ◌+◌, ◌≤◌, List, [], ◌∷◌, ◌++◌, refl, sym, ap, ◌∙◌, append_assoc, length-append, false, length, take, arith, inl, inr}
+use Rattle.std.specs.Prelude.{Option}
 use Rattle.std.specs.List.{list_any}
+use Rattle.std.specs.Io.KnownBytes.{append_known}
 use Rattle.std.proofs.lemmas.Bool.{cases_lt}
 use Rattle.std.proofs.lemmas.List.{append-nil, nil_from_length, take_all, length-take, take-append-le}
 use Rattle.std.proofs.lemmas.List.Folds.{list_any-append}
@@ -8,8 +10,10 @@ use Rattle.fsrm_model.specs.declared.row.Capacity.{Capacity}
 use Rattle.fsrm_model.specs.declared.row.Rows.{Rows}
 use Rattle.fsrm_model.specs.Script.{is_end, lines, spelled_lines, Replied, replied, text_from, fold_from, line_cost, cost_from}
 use Rattle.fsrm_model.proofs.lines.ScriptLaws.{lines_last, spelled_lines-append, AreLines-append, replied-held, line_cost-held, text_from-append, fold_from-append, cost_from-append}
-use Rattle.fsrm_outside.specs.Shown.{IsFront}
-use Rattle.fsrm_program.specs.Progress.{State, IsHeld, Leads, Fed, Feeds, Broken, EndsAfter, EndsBroken}
+use Rattle.fsrm_outside.specs.Shown.{IsFront, ShowsFront}
+use Rattle.fsrm_outside.proofs.Shown.{append_known-nil, shows_then}
+use Rattle.fsrm_program.specs.Progress.{State, IsHeld, Leads, Fed, Feeds, Broken, FeedsBroken}
+use Rattle.fsrm_program.specs.Stops.{Finishes, FinishesFront}
 use Rattle.fsrm_base.proofs.TestLaws.{nor}
 
 pub held_nothing : IsHeld [] []
@@ -32,8 +36,12 @@ fed_nothing a = record {
   };
 }
 
-pub feeds_nothing : (a : State) (written : List ℕ) → Feeds a a [] written written
-feeds_nothing a written = record { text = []; written = sym (append-nil written); fed = fed_nothing a }
+-- bytes that show nothing
+pub feeds_still : (a b : State) (bytes : List ℕ) (shown : Option (List ℕ)) → Fed a b bytes [] → Feeds a b bytes shown shown
+feeds_still a b bytes shown fed = record { text = []; shown = sym (append_known-nil shown); fed = fed }
+
+pub feeds_nothing : (a : State) (shown : Option (List ℕ)) → Feeds a a [] shown shown
+feeds_nothing a shown = feeds_still a a [] shown (fed_nothing a)
 
 -- the streams of two pieces
 joined : (line xs ys next : List ℕ) (ended : List (List ℕ)) → line ++ xs ≡ spelled_lines ended ++ next → line ++ (xs ++ ys) ≡ spelled_lines ended ++ (next ++ ys)
@@ -102,10 +110,10 @@ leads_then a b c line xs ys s t one rest =
 pub fed_then : (a b c : State) (xs ys s t : List ℕ) → Fed a b xs s → Fed b c ys t → Fed a c (xs ++ ys) (s ++ t)
 fed_then a b c xs ys s t p q = record { goes = λ line h. leads_then a b c line xs ys s t (p.goes line h) q.goes }
 
-pub feeds_then : (a b c : State) (xs ys before mid last : List ℕ) → Feeds a b xs before mid → Feeds b c ys mid last → Feeds a c (xs ++ ys) before last
+pub feeds_then : (a b c : State) (xs ys : List ℕ) (before mid last : Option (List ℕ)) → Feeds a b xs before mid → Feeds b c ys mid last → Feeds a c (xs ++ ys) before last
 feeds_then a b c xs ys before mid last p q = record {
   text = p.text ++ q.text;
-  written = q.written ∙ ap (λ (ts : List ℕ). ts ++ q.text) p.written ∙ append_assoc before p.text q.text;
+  shown = shows_then before mid last p.text q.text p.shown q.shown;
   fed = fed_then a b c xs ys p.text q.text p.fed q.fed;
 }
 
@@ -166,9 +174,15 @@ fed_stops a b xs s p = record {
       record { ended = one.ended; rest = one.next; each = one.each; stream_is = one.stream_is; front = ([], sym one.text_is ∙ sym (append-nil s)); looks_are = one.looks_are };
 }
 
--- a stop in the second piece, after which nothing of either was written
-pub feeds_broken : (a b : State) (looks : ℕ) (xs ys before mid : List ℕ) → Feeds a b xs before mid → Broken b looks ys [] → Broken a looks (xs ++ ys) []
-feeds_broken a b looks xs ys before mid p q = broken_front a looks (xs ++ ys) (p.text ++ []) [] (nothing_written (p.text ++ [])) (fed_broken a b looks xs ys p.text [] p.fed q)
+pub feeds_broken : (a b : State) (looks : ℕ) (xs ys : List ℕ) (before mid last : Option (List ℕ)) → Feeds a b xs before mid → FeedsBroken b looks ys mid last → FeedsBroken a looks (xs ++ ys) before last
+feeds_broken a b looks xs ys before mid last p q = record {
+  written = p.text ++ q.written;
+  shown = shows_then before mid last p.text q.written p.shown q.shown;
+  broken = fed_broken a b looks xs ys p.text q.written p.fed q.broken;
+}
+
+pub feeds_broken_more : (a : State) (looks : ℕ) (xs ys : List ℕ) (before last : Option (List ℕ)) → FeedsBroken a looks xs before last → FeedsBroken a looks (xs ++ ys) before last
+feeds_broken_more a looks xs ys before last p = record { written = p.written; shown = p.shown; broken = broken_more a looks xs ys p.written p.broken }
 
 -- what is answered says the same as the line
 pub record Says (held rest said : List ℕ) : Type 0 where
@@ -211,26 +225,22 @@ one_line-append : (line rest : List ℕ) → list_any is_end line ≡ false → 
 one_line-append line rest p q = list_any-append is_end line rest ∙ nor (list_any is_end line) (list_any is_end rest) p q
 
 -- bytes that end no line
-pub feeds_held : (a b : State) (bytes written : List ℕ) → list_any is_end bytes ≡ false → b.size ≡ a.size → b.line ≡ a.line → b.rows ≡ a.rows → b.looks ≡ a.looks → (length a.held ≤ 65538 → b.held ≡ take 65538 (a.held ++ bytes)) → Feeds a b bytes written written
-feeds_held a b bytes written one size line rows looks held = record {
-  text = [];
-  written = sym (append-nil written);
-  fed = record {
-    goes = λ front h. record {
-      ended = [];
-      next = front ++ bytes;
-      each = tt;
-      held = record {
-        kept = held (held_short front a.held h) ∙ ap (λ (bs : List ℕ). take 65538 (bs ++ bytes)) h.kept ∙ take_held front bytes;
-        one_line = one_line-append front bytes h.one_line one;
-      };
-      stream_is = refl;
-      text_is = refl;
-      size_is = size;
-      line_is = omega arith;
-      rows_are = rows;
-      looks_are = omega arith;
+pub fed_held : (a b : State) (bytes : List ℕ) → list_any is_end bytes ≡ false → b.size ≡ a.size → b.line ≡ a.line → b.rows ≡ a.rows → b.looks ≡ a.looks → (length a.held ≤ 65538 → b.held ≡ take 65538 (a.held ++ bytes)) → Fed a b bytes []
+fed_held a b bytes one size line rows looks held = record {
+  goes = λ front h. record {
+    ended = [];
+    next = front ++ bytes;
+    each = tt;
+    held = record {
+      kept = held (held_short front a.held h) ∙ ap (λ (bs : List ℕ). take 65538 (bs ++ bytes)) h.kept ∙ take_held front bytes;
+      one_line = one_line-append front bytes h.one_line one;
     };
+    stream_is = refl;
+    text_is = refl;
+    size_is = size;
+    line_is = omega arith;
+    rows_are = rows;
+    looks_are = omega arith;
   };
 }
 
@@ -240,20 +250,20 @@ same_reply K R n held rest said line s h = sym (replied-held K R n said) ∙ ap 
 same_cost : (K : Capacity) (R : Rows) (held rest said line : List ℕ) → Says held rest said → IsHeld line held → line_cost K R said ≡ line_cost K R (line ++ rest)
 same_cost K R held rest said line s h = sym (line_cost-held K R said) ∙ ap (line_cost K R) (s.same line h) ∙ line_cost-held K R (line ++ rest)
 
--- what was done for a line: the reply after what was written, the rows, and the looks
-pub record Answered (a : State) (said : List ℕ) (rows : Rows) (looks : ℕ) (before last : List ℕ) : Type 0 where
+-- what was done for a line: the reply after what was shown, the rows, and the looks
+pub record Answered (a : State) (said : List ℕ) (rows : Rows) (looks : ℕ) (before last : Option (List ℕ)) : Type 0 where
   pub rows_are : rows ≡ (replied a.size a.rows a.line said).rows
-  pub text_is : last ≡ before ++ (replied a.size a.rows a.line said).text
+  pub text_is : last ≡ append_known before (replied a.size a.rows a.line said).text
   pub looks_are : looks ≤ a.looks + line_cost a.size a.rows said
 
 line_stream : (line rest : List ℕ) → line ++ (rest ++ 10 ∷ []) ≡ spelled_lines ((line ++ rest) ∷ []) ++ []
 line_stream line rest = sym (append_assoc line rest (10 ∷ [])) ∙ sym (append-nil ((line ++ rest) ++ 10 ∷ []))
 
 -- bytes that end a line
-pub feeds_line : (a b : State) (rest said before last : List ℕ) → list_any is_end rest ≡ false → Says a.held rest said → b.size ≡ a.size → b.line ≡ a.line + 1 → b.held ≡ [] → Answered a said b.rows b.looks before last → Feeds a b (rest ++ 10 ∷ []) before last
+pub feeds_line : (a b : State) (rest said : List ℕ) (before last : Option (List ℕ)) → list_any is_end rest ≡ false → Says a.held rest said → b.size ≡ a.size → b.line ≡ a.line + 1 → b.held ≡ [] → Answered a said b.rows b.looks before last → Feeds a b (rest ++ 10 ∷ []) before last
 feeds_line a b rest said before last one s size line held done = record {
   text = (replied a.size a.rows a.line said).text;
-  written = done.text_is;
+  shown = done.text_is;
   fed = record {
     goes = λ front h.
         let whole = front ++ rest in
@@ -273,32 +283,41 @@ feeds_line a b rest said before last one s size line held done = record {
   };
 }
 
--- a stop at a line of which nothing is written
-pub broken_line : (a : State) (rest said : List ℕ) (looks : ℕ) → list_any is_end rest ≡ false → Says a.held rest said → looks ≤ a.looks + line_cost a.size a.rows said → Broken a looks (rest ++ 10 ∷ []) []
-broken_line a rest said looks one s few = record {
-  breaks = λ front h.
-      let whole = front ++ rest in
-      record {
-        ended = whole ∷ [];
-        rest = [];
-        each = (one_line-append front rest h.one_line one, tt);
-        stream_is = line_stream front rest;
-        front = nothing_written (text_from a.size a.rows a.line (whole ∷ []));
-        looks_are = omega (arith, same_cost a.size a.rows a.held rest said front s h);
-      };
+-- a stop at a line of which a front of the reply is shown
+pub broken_line : (a : State) (rest said : List ℕ) (looks : ℕ) (before last : Option (List ℕ)) → list_any is_end rest ≡ false → Says a.held rest said → looks ≤ a.looks + line_cost a.size a.rows said → ShowsFront before last (replied a.size a.rows a.line said).text → FeedsBroken a looks (rest ++ 10 ∷ []) before last
+broken_line a rest said looks before last one s few f = record {
+  written = f.front;
+  shown = f.shown;
+  broken = record {
+    breaks = λ front h.
+        let whole = front ++ rest in
+        let r : replied a.size a.rows a.line said ≡ replied a.size a.rows a.line whole = same_reply a.size a.rows a.line a.held rest said front s h in
+        record {
+          ended = whole ∷ [];
+          rest = [];
+          each = (one_line-append front rest h.one_line one, tt);
+          stream_is = line_stream front rest;
+          front = (f.is_front.0, append-nil (replied a.size a.rows a.line whole).text ∙ sym (ap (λ (x : Replied). x.text) r) ∙ f.is_front.1);
+          looks_are = omega (arith, same_cost a.size a.rows a.held rest said front s h);
+        };
+  };
 }
 
--- a stop at any bytes, of which nothing is written and nothing is looked at
-pub broken_still : (a : State) (bytes : List ℕ) (looks : ℕ) → looks ≡ a.looks → Broken a looks bytes []
-broken_still a bytes looks same = record {
-  breaks = λ front h. record { ended = []; rest = front ++ bytes; each = tt; stream_is = refl; front = nothing_written []; looks_are = omega arith };
+-- a stop at any bytes, of which nothing is shown and nothing is looked at
+pub broken_still : (a : State) (bytes : List ℕ) (looks : ℕ) (shown : Option (List ℕ)) → looks ≡ a.looks → FeedsBroken a looks bytes shown shown
+broken_still a bytes looks shown same = record {
+  written = [];
+  shown = sym (append_known-nil shown);
+  broken = record {
+    breaks = λ front h. record { ended = []; rest = front ++ bytes; each = tt; stream_is = refl; front = nothing_written []; looks_are = omega arith };
+  };
 }
 
 -- the last line, if there is none
-pub ends_nothing : (a : State) (written : List ℕ) → a.held ≡ [] → EndsAfter a a.looks written written
-ends_nothing a written none = record {
+pub ends_nothing : (a : State) (shown : Option (List ℕ)) → a.held ≡ [] → Finishes a a.looks shown shown
+ends_nothing a shown none = record {
   text = [];
-  written = sym (append-nil written);
+  shown = sym (append_known-nil shown);
   ends = record {
     text_is = λ line h. ap (λ (bs : List ℕ). text_from a.size a.rows a.line (lines bs)) (sym (no_line line (sym h.kept ∙ none)));
     looks_are = λ line h. omega arith;
@@ -327,16 +346,21 @@ last_cost a line h some =
     ∙ ap (cost_from a.size a.rows a.line) (sym (last_lines line a.held h some))
 
 -- the last line, if there is one
-pub ends_line : (a : State) (rows : Rows) (looks : ℕ) (before last : List ℕ) → (a.held ≡ [] → ⊥) → Answered a a.held rows looks before last → EndsAfter a looks before last
+pub ends_line : (a : State) (rows : Rows) (looks : ℕ) (before last : Option (List ℕ)) → (a.held ≡ [] → ⊥) → Answered a a.held rows looks before last → Finishes a looks before last
 ends_line a rows looks before last some done = record {
   text = (replied a.size a.rows a.line a.held).text;
-  written = done.text_is;
+  shown = done.text_is;
   ends = record {
     text_is = λ line h. last_reply a line h some;
     looks_are = λ line h. omega (arith, done.looks_are, last_cost a line h some);
   };
 }
 
--- the looks at the last line, if it was given up
-pub ends_broken : (a : State) (looks : ℕ) → (a.held ≡ [] → ⊥) → looks ≤ a.looks + line_cost a.size a.rows a.held → EndsBroken a looks
-ends_broken a looks some few = record { looks_are = λ line h. omega (arith, few, last_cost a line h some) }
+-- the same, if it was given up
+pub ends_broken : (a : State) (looks : ℕ) (before last : Option (List ℕ)) → (a.held ≡ [] → ⊥) → looks ≤ a.looks + line_cost a.size a.rows a.held → ShowsFront before last (replied a.size a.rows a.line a.held).text → FinishesFront a looks before last
+ends_broken a looks before last some few f = record {
+  written = f.front;
+  shown = f.shown;
+  front = λ line h. (f.is_front.0, sym (last_reply a line h some) ∙ f.is_front.1);
+  looks_are = λ line h. omega (arith, few, last_cost a line h some);
+}

@@ -3,8 +3,10 @@ pub mod Cutting
 pub mod Feeding
 pub mod MostTaken
 pub mod Outcomes
+pub mod Batches
 pub mod Passing
 pub mod Taking
+pub mod Waiting
 pub mod Whole
 pub mod Words
 pub mod Endings

@@ -1,7 +1,6 @@
 -- What the machine's steps come to, and what is shown of it.
 use Rattle.std.proofs.Common.{◌≡◌, ℕ, ◌+◌, Bool, true, false, List, [], ◌∷◌, ◌++◌, refl, sym, ap, ◌∙◌, subst, append-nil}
 use Rattle.std.specs.Prelude.{if◌then◌else◌, Option, Some, None, option_map, Result, Ok, Err, OnOk, nat_lt}
-use Rattle.std.specs.Io.KnownBytes.{append_known}
 use Rattle.fsrm_model.specs.declared.command.Command.{Command}
 use Rattle.fsrm_model.specs.declared.command.Outcome.{Outcome}
 use Rattle.fsrm_model.specs.declared.command.Outcome.TheVariants.{Refused}
@@ -20,6 +19,8 @@ use Rattle.fsrm_model.specs.Text.{is_bare, head_line, reply, act_lines}
 use Rattle.fsrm_model.specs.Work.{Work}
 use Rattle.fsrm_model.proofs.lines.LineRefusals.{line_refusal}
 use Rattle.fsrm_model.proofs.lines.PlainMachine.{replied-read, line_cost-read}
+use Rattle.fsrm_outside.specs.Shown.{ShowsFront}
+use Rattle.fsrm_outside.proofs.Shown.{append_known-nil}
 use Rattle.tool_commands.specs.declared.reading.LineFault.{LineFault}
 use Rattle.tool_commands.specs.declared.reading.LineFault.TheVariants.{Refused as Reason}
 use Rattle.tool_commands.specs.LineFaults.{IsFault}
@@ -29,9 +30,13 @@ pub on_ok : {T E : Type 0} {P Q : Type 0} (r : Result T E) → (P → Q) → OnO
 on_ok (Ok x) f p = f p
 on_ok (Err e) f p = tt
 
--- what is shown after what was shown before
-pub shown_more : (before last text : List ℕ) → Some last ≡ append_known (Some before) text → last ≡ before ++ text
-shown_more before last text h = cc
+pub always_ok : {T E : Type 0} {P : Type 0} (r : Result T E) → P → OnOk r P
+always_ok (Ok x) p = p
+always_ok (Err e) p = tt
+
+-- nothing of a text is shown
+pub nothing_shown : (shown : Option (List ℕ)) (text : List ℕ) → ShowsFront shown shown text
+nothing_shown shown text = record { front = []; shown = sym (append_known-nil shown); is_front = (text, refl) }
 
 -- no command that is built runs an action
 accepted_acts : (K : Capacity) (R : Rows) (moment : ℕ) (w : Work) → (accepted K R moment w).acts ≡ []
@@ -48,15 +53,12 @@ acts_none K R c = by (first ((ClockBack when nat_lt c.moment R.last_moment) ∷ 
     by (Some r) = refl
     by None = accepted_acts K R c.moment (work K R c.moment c.deed)
 
-step_reply : (K size : Capacity) (R rows : Rows) (c : Command) (outcome : Outcome) (moment n : ℕ) → size ≡ K → rows ≡ (step K R c).rows → outcome ≡ (step K R c).outcome → reply size rows moment n outcome ≡ reply K (step K R c).rows moment n (step K R c).outcome
+-- the text of its reply
+pub step_reply : (K size : Capacity) (R rows : Rows) (c : Command) (outcome : Outcome) (moment n : ℕ) → size ≡ K → rows ≡ (step K R c).rows → outcome ≡ (step K R c).outcome → reply size rows moment n outcome ≡ reply K (step K R c).rows moment n (step K R c).outcome
 step_reply K size R rows c outcome moment n e r o =
     ap (λ (k : Capacity). reply k rows moment n outcome) e
     ∙ ap (λ (S : Rows). reply K S moment n outcome) r
     ∙ ap (reply K (step K R c).rows moment n) o
-
--- the text of a reply, the same way
-pub step_text : (K size : Capacity) (R rows : Rows) (c : Command) (outcome : Outcome) (n : ℕ) (before last : List ℕ) → size ≡ K → rows ≡ (step K R c).rows → outcome ≡ (step K R c).outcome → last ≡ before ++ reply size rows c.moment n outcome → last ≡ before ++ reply K (step K R c).rows c.moment n (step K R c).outcome
-step_text K size R rows c outcome n before last e r o h = subst (λ (ts : List ℕ). last ≡ before ++ ts) (step_reply K size R rows c outcome c.moment n e r o) h
 
 -- what was read of a line, and why it was not
 pub was_read : (read : Option (Read Command)) (o : Option Command) (c : Command) → read ≡ option_map (λ (d : Command). Ok d) o → o ≡ Some c → read ≡ Some (Ok c)
@@ -72,12 +74,12 @@ was_refused read fault refusal e is = subst (λ (f : LineFault). IsFault f read)
 pub rows_read : (K : Capacity) (R rows : Rows) (n : ℕ) (line text : List ℕ) (c : Command) → text ≡ without_cr line → read_line text ≡ Some (Ok c) → rows ≡ (step K R c).rows → rows ≡ (replied K R n line).rows
 rows_read K R rows n line text c cr e h = h ∙ sym (ap (λ (r : Replied). r.rows) (replied-read K R n line (Some (Ok c)) (sym (ap read_line cr) ∙ e)))
 
-pub text_read : (K : Capacity) (R : Rows) (n : ℕ) (line text before last : List ℕ) (c : Command) → text ≡ without_cr line → read_line text ≡ Some (Ok c) → last ≡ before ++ reply K (step K R c).rows c.moment n (step K R c).outcome → last ≡ before ++ (replied K R n line).text
-text_read K R n line text before last c cr e h =
+pub text_read : (K : Capacity) (R : Rows) (n : ℕ) (line text : List ℕ) (c : Command) → text ≡ without_cr line → read_line text ≡ Some (Ok c) → reply K (step K R c).rows c.moment n (step K R c).outcome ≡ (replied K R n line).text
+text_read K R n line text c cr e =
     let s = step K R c in
     let shown = reply K s.rows c.moment n s.outcome in
     let whole : shown ++ act_lines s.rows s.acts ≡ shown = ap (λ acts. shown ++ act_lines s.rows acts) (acts_none K R c) ∙ append-nil shown in
-    h ∙ ap (λ (ts : List ℕ). before ++ ts) (sym (ap (λ (r : Replied). r.text) (replied-read K R n line (Some (Ok c)) (sym (ap read_line cr) ∙ e)) ∙ whole))
+    sym (ap (λ (r : Replied). r.text) (replied-read K R n line (Some (Ok c)) (sym (ap read_line cr) ∙ e)) ∙ whole)
 
 pub cost_read : (K : Capacity) (R : Rows) (line text : List ℕ) (c : Command) → text ≡ without_cr line → read_line text ≡ Some (Ok c) → line_cost K R line ≡ cost R c + print_cost (step K R c).rows (step K R c).outcome
 cost_read K R line text c cr e = line_cost-read K R line (Some (Ok c)) (sym (ap read_line cr) ∙ e)
@@ -85,9 +87,8 @@ cost_read K R line text c cr e = line_cost-read K R line (Some (Ok c)) (sym (ap 
 pub rows_skipped : (K : Capacity) (R : Rows) (n : ℕ) (line text : List ℕ) → text ≡ without_cr line → read_line text ≡ None → R ≡ (replied K R n line).rows
 rows_skipped K R n line text cr e = sym (ap (λ (r : Replied). r.rows) (replied-read K R n line None (sym (ap read_line cr) ∙ e)))
 
-pub text_skipped : (K : Capacity) (R : Rows) (n : ℕ) (line text before : List ℕ) → text ≡ without_cr line → read_line text ≡ None → before ≡ before ++ (replied K R n line).text
-text_skipped K R n line text before cr e =
-    sym (append-nil before) ∙ ap (λ (ts : List ℕ). before ++ ts) (sym (ap (λ (r : Replied). r.text) (replied-read K R n line None (sym (ap read_line cr) ∙ e))))
+pub text_skipped : (K : Capacity) (R : Rows) (n : ℕ) (line text : List ℕ) → text ≡ without_cr line → read_line text ≡ None → [] ≡ (replied K R n line).text
+text_skipped K R n line text cr e = sym (ap (λ (r : Replied). r.text) (replied-read K R n line None (sym (ap read_line cr) ∙ e)))
 
 refused_read : (K : Capacity) (R : Rows) (n : ℕ) (line text : List ℕ) (refusal : Refusal) → text ≡ without_cr line → read_line text ≡ Some (Err refusal) → replied K R n line ≡ replied_to K R n (Some (Err refusal))
 refused_read K R n line text refusal cr e = replied-read K R n line (Some (Err refusal)) (sym (ap read_line cr) ∙ e)
@@ -95,11 +96,9 @@ refused_read K R n line text refusal cr e = replied-read K R n line (Some (Err r
 pub rows_refused : (K : Capacity) (R : Rows) (n : ℕ) (line text : List ℕ) (refusal : Refusal) → text ≡ without_cr line → read_line text ≡ Some (Err refusal) → R ≡ (replied K R n line).rows
 rows_refused K R n line text refusal cr e = sym (ap (λ (r : Replied). r.rows) (refused_read K R n line text refusal cr e))
 
-pub text_refused : (K : Capacity) (R : Rows) (n : ℕ) (line text before last : List ℕ) (refusal : Refusal) → text ≡ without_cr line → read_line text ≡ Some (Err refusal) → last ≡ before ++ head_line R.nodes n (Refused refusal) → last ≡ before ++ (replied K R n line).text
-text_refused K R n line text before last refusal cr e h =
-    h
-    ∙ ap (λ (ts : List ℕ). before ++ ts)
-    (sym (append-nil (head_line R.nodes n (Refused refusal))) ∙ sym (ap (λ (r : Replied). r.text) (refused_read K R n line text refusal cr e)))
+pub text_refused : (K : Capacity) (R : Rows) (n : ℕ) (line text : List ℕ) (refusal : Refusal) → text ≡ without_cr line → read_line text ≡ Some (Err refusal) → head_line R.nodes n (Refused refusal) ≡ (replied K R n line).text
+text_refused K R n line text refusal cr e =
+    sym (append-nil (head_line R.nodes n (Refused refusal))) ∙ sym (ap (λ (r : Replied). r.text) (refused_read K R n line text refusal cr e))
 
 -- the refusal of a line carries no path
 line_bare : (refusal : Refusal) → is_line_refusal refusal ≡ true → is_bare refusal ≡ true

@@ -1,15 +1,15 @@
 -- How the passes over a script join.
-use Rattle.std.proofs.Common.{◌≡◌, ℕ, ◌+◌, List, [], ◌++◌, refl, sym, ap, ◌∙◌, subst, append_assoc, length-append, arith}
+use Rattle.std.proofs.Common.{◌≡◌, ℕ, ◌+◌, ◌≤◌, List, [], ◌++◌, length, take, refl, sym, ap, ◌∙◌, subst, append_assoc, length-append, arith}
 use Rattle.std.specs.Prelude.{Option}
+use Rattle.std.proofs.lemmas.List.{length-take}
 use Rattle.std.specs.Io.KnownBytes.{append_known}
 use Rattle.fsrm_model.specs.Limits.{longest_script}
 use Rattle.fsrm_program.specs.declared.status.Status.{Status}
 use Rattle.fsrm_program.specs.declared.status.Status.TheVariants.{Done, Usage, ReadFault, WriteFault, TooLong, NoMemory}
-use Rattle.fsrm_outside.specs.Shown.{IsFront, ShowsFront}
 use Rattle.fsrm_program.specs.Bytes.{Taken}
-use Rattle.fsrm_program.specs.Progress.{State, Feeds, Takes, Halts, Breaks}
+use Rattle.fsrm_program.specs.Progress.{State, Feeds, FeedsBroken, Takes, Halts, Breaks}
 use Rattle.fsrm_program.specs.Stops.{Stops, StopsAt}
-use Rattle.fsrm_program.proofs.Feeding.{fed_nothing, fed_then, fed_broken, fed_stops, broken_front}
+use Rattle.fsrm_program.proofs.Feeding.{fed_nothing, fed_then, fed_broken}
 use Rattle.fsrm_outside.proofs.Shown.{append_known-nil, shows_then}
 use Rattle.fsrm_program.proofs.Taking.{taken_nothing, taken_then}
 
@@ -27,18 +27,30 @@ takes_then a b c l0 l1 l2 s0 s1 s2 n k p q = record {
   fed = fed_then a b c p.bytes q.bytes p.text q.text p.fed q.fed;
 }
 
--- the writing of a piece's replies was given up
-pub gives_up : (a b : State) (bytes before replies : List ℕ) (l0 l1 l2 s0 s1 s2 : Option (List ℕ)) → Feeds a b bytes before replies → before ≡ [] → Taken l0 l1 bytes → l2 ≡ l1 → s1 ≡ s0 → ShowsFront s1 s2 replies → Breaks a b.looks l0 l2 s0 s2
-gives_up a b bytes before replies l0 l1 l2 s0 s1 s2 fed none taken left shown front =
-    let is : replies ≡ fed.text = fed.written ∙ ap (λ (ts : List ℕ). ts ++ fed.text) none in
-    let begins : IsFront front.front fed.text = subst (IsFront front.front) is front.is_front in
-    record {
-      bytes = bytes;
-      taken = subst (λ (l : Option (List ℕ)). Taken l0 l bytes) (sym left) taken;
-      written = front.front;
-      shown = front.shown ∙ ap (λ (s : Option (List ℕ)). append_known s front.front) shown;
-      broken = broken_front a b.looks bytes fed.text front.front begins (fed_stops a b bytes fed.text fed.fed);
-    }
+-- as many bytes as were read
+pub piece_length : (buffer : List ℕ) (count : ℕ) → count ≤ length buffer → length (take count buffer) ≡ count
+piece_length buffer count few = omega (arith, length-take count buffer)
+
+-- a piece was taken and answered, and all its replies were written
+pub takes_piece : (a b : State) (bytes : List ℕ) (l0 l1 l2 s0 s1 s2 : Option (List ℕ)) (count : ℕ) → length bytes ≡ count → Taken l0 l1 bytes → l2 ≡ l1 → s1 ≡ s0 → Feeds a b bytes s1 s2 → Takes a b l0 l2 s0 s2 count
+takes_piece a b bytes l0 l1 l2 s0 s1 s2 count many taken left shown fed = record {
+  bytes = bytes;
+  count_is = many;
+  taken = subst (λ (l : Option (List ℕ)). Taken l0 l bytes) (sym left) taken;
+  text = fed.text;
+  shown = fed.shown ∙ ap (λ (s : Option (List ℕ)). append_known s fed.text) shown;
+  fed = fed.fed;
+}
+
+-- it was given up
+pub gives_up : (a : State) (looks : ℕ) (bytes : List ℕ) (l0 l1 l2 s0 s1 s2 : Option (List ℕ)) → Taken l0 l1 bytes → l2 ≡ l1 → s1 ≡ s0 → FeedsBroken a looks bytes s1 s2 → Breaks a looks l0 l2 s0 s2
+gives_up a looks bytes l0 l1 l2 s0 s1 s2 taken left shown broken = record {
+  bytes = bytes;
+  taken = subst (λ (l : Option (List ℕ)). Taken l0 l bytes) (sym left) taken;
+  written = broken.written;
+  shown = broken.shown ∙ ap (λ (s : Option (List ℕ)). append_known s broken.written) shown;
+  broken = broken.broken;
+}
 
 halts_after : (a b c : State) (l0 l1 l2 s0 s1 s2 : Option (List ℕ)) (n lost : ℕ) → Takes a b l0 l1 s0 s1 n → Halts b c l1 l2 s1 s2 0 lost → Halts a c l0 l2 s0 s2 n lost
 halts_after a b c l0 l1 l2 s0 s1 s2 n lost p q = record {

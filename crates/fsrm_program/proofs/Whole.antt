@@ -101,7 +101,7 @@ last_run K R status n looks b script l1 l2 s0 s1 s2 is r f =
     let last : ShowsFront s1 s2 (text_from b.size b.rows b.line (lines l.next)) = record { front = f.written; shown = f.shown; is_front = f.front l.next l.held } in
     given_up K R status script n looks l2 s0 s2 is (record {
       front = subst (ShowsFront s0 s2) (sym text_is) (shows_then_front s0 s1 s2 r.takes.text (text_from b.size b.rows b.line (lines l.next)) r.takes.shown last);
-      few = cost_whole K R n looks b script r.takes.bytes r.takes.text l all.script_is (f.looks_are.looks_are l.next l.held);
+      few = cost_whole K R n looks b script r.takes.bytes r.takes.text l all.script_is (f.looks_are l.next l.held);
     })
 
 -- a front of the text of whole lines that the script begins K R with

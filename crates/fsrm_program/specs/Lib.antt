@@ -1,4 +1,6 @@
 pub mod Bytes
+pub mod Grows
+pub mod Batch
 pub mod Progress
 pub mod Held
 pub mod Stops

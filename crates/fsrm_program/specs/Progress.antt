@@ -46,10 +46,10 @@ pub record Leads (old new : State) (stream text : List ℕ) : Type 0 where
 pub record Fed (old new : State) (bytes text : List ℕ) : Type 0 where
   pub goes : (line : List ℕ) → IsHeld line old.held → Leads old new (line ++ bytes) text
 
--- the same, with the text after what was written before
-pub record Feeds (old new : State) (bytes before after : List ℕ) : Type 0 where
+-- the same, with the text after what was shown before
+pub record Feeds (old new : State) (bytes : List ℕ) (before after : Option (List ℕ)) : Type 0 where
   pub text : List ℕ
-  pub written : after ≡ before ++ text
+  pub shown : after ≡ append_known before text
   pub fed : Fed old new bytes text
 
 -- what is written begins the text of whole lines that the stream begins with, and the looks so far are those for these lines
@@ -65,19 +65,15 @@ pub record BreaksOff (old : State) (looks : ℕ) (stream written : List ℕ) : T
 pub record Broken (old : State) (looks : ℕ) (bytes written : List ℕ) : Type 0 where
   pub breaks : (line : List ℕ) → IsHeld line old.held → BreaksOff old looks (line ++ bytes) written
 
+-- the same, with what was written after what was shown before
+pub record FeedsBroken (old : State) (looks : ℕ) (bytes : List ℕ) (before after : Option (List ℕ)) : Type 0 where
+  pub written : List ℕ
+  pub shown : after ≡ append_known before written
+  pub broken : Broken old looks bytes written
+
 -- the text of the last line, which has no LF, if there is one
 pub record Ends (old : State) (looks : ℕ) (text : List ℕ) : Type 0 where
   pub text_is : (line : List ℕ) → IsHeld line old.held → text ≡ text_from old.size old.rows old.line (lines line)
-  pub looks_are : (line : List ℕ) → IsHeld line old.held → looks ≤ old.looks + cost_from old.size old.rows old.line (lines line)
-
--- the same, with the text after what was written before
-pub record EndsAfter (old : State) (looks : ℕ) (before after : List ℕ) : Type 0 where
-  pub text : List ℕ
-  pub written : after ≡ before ++ text
-  pub ends : Ends old looks text
-
--- the looks at a last line that was given up
-pub record EndsBroken (old : State) (looks : ℕ) : Type 0 where
   pub looks_are : (line : List ℕ) → IsHeld line old.held → looks ≤ old.looks + cost_from old.size old.rows old.line (lines line)
 
 -- so many bytes were taken, and all that they lead to is shown

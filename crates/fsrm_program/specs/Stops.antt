@@ -1,13 +1,13 @@
 -- What a run has come to when a status ends it.
-use Rattle.std.specs.Prelude.{◌≡◌, ℕ, ◌≤◌, List, length, Option}
+use Rattle.std.specs.Prelude.{◌≡◌, ℕ, ◌+◌, ◌≤◌, List, length, Option}
 use Rattle.std.specs.Io.KnownBytes.{append_known}
 use Rattle.fsrm_model.specs.Limits.{longest_script}
-use Rattle.fsrm_model.specs.Script.{lines, text_from}
+use Rattle.fsrm_model.specs.Script.{lines, text_from, cost_from}
 use Rattle.fsrm_program.specs.declared.status.Status.{Status}
 use Rattle.fsrm_program.specs.declared.status.Status.TheVariants.{Done, Usage, ReadFault, WriteFault, TooLong, NoMemory}
 use Rattle.fsrm_outside.specs.Shown.{IsFront}
 use Rattle.fsrm_program.specs.Bytes.{Taken, IsAtEnd}
-use Rattle.fsrm_program.specs.Progress.{State, IsHeld, Takes, Halts, Breaks, Ends, EndsBroken}
+use Rattle.fsrm_program.specs.Progress.{State, IsHeld, Takes, Halts, Breaks, Ends}
 
 -- After this status no more is read: of a script that is too long one byte more was taken than is read.
 abbrev pub Stops : Status → State → State → Option (List ℕ) → Option (List ℕ) → Option (List ℕ) → Option (List ℕ) → ℕ → Type 0
@@ -48,7 +48,7 @@ pub record FinishesFront (old : State) (looks : ℕ) (shown_before shown_after :
   pub written : List ℕ
   pub shown : shown_after ≡ append_known shown_before written
   pub front : (line : List ℕ) → IsHeld line old.held → IsFront written (text_from old.size old.rows old.line (lines line))
-  pub looks_are : EndsBroken old looks
+  pub looks_are : (line : List ℕ) → IsHeld line old.held → looks ≤ old.looks + cost_from old.size old.rows old.line (lines line)
 
 -- what the last line ends with before its end
 abbrev pub IsGivenUp : Status → Type 0

@@ -1,20 +1,18 @@
-//! Does what a line asks for, and appends the reply.
+//! Does what a line asks for, and writes the reply.
 
-ghost use Rattle.std.specs.Prelude.{◌≡◌, ◌≤◌, ◌+◌, ◌++◌, [], true, List, OnOk, ℕ};
-ghost use Rattle.fsrm_model.specs.declared.command.Command.{Command};
-ghost use Rattle.fsrm_model.specs.declared.command.Outcome.TheVariants.{Refused};
-ghost use Rattle.fsrm_model.specs.declared.row.NodeRow.{NodeRow};
+ghost use Rattle.std.specs.Prelude.{◌≡◌, ◌≤◌, ◌+◌, [], true, OnOk, IsErrOf};
 ghost use Rattle.fsrm_model.specs.Cost.{cost, print_cost};
-ghost use Rattle.fsrm_model.specs.Named.{IsNamed};
 ghost use Rattle.fsrm_model.specs.Script.{without_cr, replied, line_cost};
 ghost use Rattle.fsrm_model.specs.Step.{step};
-ghost use Rattle.fsrm_model.specs.Text.{is_bare, head_line, reply};
+ghost use Rattle.fsrm_model.specs.Text.{reply};
 ghost use Rattle.fsrm_model.specs.Valued.{is_command};
+ghost use Rattle.fsrm_outside.specs.Causes.{Rose};
+ghost use Rattle.reply_text.specs.Writes.{KeepsCount, Sends};
 
-use crate::batch::Batch;
 use fsrm_engine::Engine;
-use fsrm_model::{Answer, Command, Ledger, NoMemory, Refusal, Steps};
-use reply_text::{write_answer, write_head};
+use fsrm_model::{Command, Ledger, NoMemory, Steps};
+use fsrm_outside::Sink;
+use reply_text::{TextFault, write_answer, write_head};
 use std::alloc::Global;
 use tool_commands::{LineFault, read_line};
 
@@ -30,84 +28,57 @@ fn without_cr(line: &[u8]) -> &[u8]
     }
 }
 
-// Appends the reply to a line that is refused as it is read. A batch fails only if memory runs out.
-fn append_refusal(
-    alloc: Global,
-    replies: &mut Batch,
-    number: u64,
-    refusal: &Refusal,
-) -> Result<(), NoMemory>
-    requires { is_bare refusal.now ≡ true }
-    ensures { (nodes : List NodeRow) → OnOk result (replies.new.bytes.items ≡ replies.old.bytes.items ++ head_line nodes number (Refused refusal.now)) }
-{
-    match write_head(alloc, replies, number, refusal) {
-        Ok(()) => Ok(()),
-        Err(_) => Err(NoMemory),
-    }
-}
-
-// Appends the reply to a command to which this is the answer. A batch fails only if memory runs out.
-fn append_answer<L: Ledger>(
-    engine: &Engine,
-    alloc: Global,
-    replies: &mut Batch,
-    number: u64,
-    answer: &Answer,
-    steps: &mut Steps<L>,
-) -> Result<(), NoMemory>
-    requires named { IsNamed engine.now.rows answer.now.outcome }
-    ensures text { (moment : ℕ) → OnOk result (replies.new.bytes.items ≡ replies.old.bytes.items ++ reply engine.now.size engine.now.rows moment number answer.now.outcome) }
-    ensures looks { steps.new ≤ steps.old + print_cost engine.now.rows answer.now.outcome }
-{
-    match write_answer(alloc, replies, number, answer, None, engine, steps) {
-        Ok(()) => Ok(()),
-        Err(_) => Err(NoMemory),
-    }
-}
-
-// Takes a command, and appends the reply.
-fn take<L: Ledger>(
+// Takes a command, and writes the reply.
+fn take<S: Sink, L: Ledger>(
     engine: &mut Engine,
     alloc: Global,
-    replies: &mut Batch,
+    sink: &mut S,
     number: u64,
     command: &Command,
     steps: &mut Steps<L>,
-) -> Result<(), NoMemory>
+) -> Result<(), TextFault>
     requires valid { is_command command.now ≡ true }
     requires idle { engine.old.waiting ≡ [] }
     ensures size { engine.new.size ≡ engine.old.size }
     ensures idle { engine.new.waiting ≡ [] }
     ensures rows { OnOk result (engine.new.rows ≡ (step engine.old.size engine.old.rows command.now).rows) }
-    ensures text { OnOk result (replies.new.bytes.items ≡ replies.old.bytes.items ++ reply engine.old.size (step engine.old.size engine.old.rows command.now).rows command.now.moment number (step engine.old.size engine.old.rows command.now).outcome) }
+    ensures text { Sends result (S.shown sink.old) (S.shown sink.new) (reply engine.old.size (step engine.old.size engine.old.rows command.now).rows command.now.moment number (step engine.old.size engine.old.rows command.now).outcome) }
+    ensures fault { IsErrOf result TextFault.WriteFault → Rose (S.write_faults sink.old) (S.write_faults sink.new) }
+    ensures later { S.write_faults sink.old ≤ S.write_faults sink.new }
+    ensures same { KeepsCount result (S.write_faults sink.old) (S.write_faults sink.new) }
+    ensures by { S.by_write sink.old sink.new }
     ensures looks { steps.new ≤ steps.old + (cost engine.old.rows command.now + print_cost (step engine.old.size engine.old.rows command.now).rows (step engine.old.size engine.old.rows command.now).outcome) }
 {
     match engine.apply(alloc, command, steps) {
-        Ok(answer) => append_answer(engine, alloc, replies, number, &answer, steps),
-        Err(NoMemory) => Err(NoMemory),
+        Ok(answer) => write_answer(alloc, sink, number, &answer, None, engine, steps),
+        Err(NoMemory) => Err(TextFault::NoMemory),
     }
 }
 
-/// Does what a line asks for, and appends the reply. A line that is skipped has none.
-pub fn answer<L: Ledger>(
+/// Does what a line asks for, and writes the reply. A line that is skipped has none.
+pub fn answer<S: Sink, L: Ledger>(
     engine: &mut Engine,
     alloc: Global,
-    replies: &mut Batch,
+    sink: &mut S,
     number: u64,
     line: &[u8],
     steps: &mut Steps<L>,
-) -> Result<(), NoMemory>
+) -> Result<(), TextFault>
     requires idle { engine.old.waiting ≡ [] }
     ensures size { engine.new.size ≡ engine.old.size }
     ensures idle { engine.new.waiting ≡ [] }
     ensures rows { OnOk result (engine.new.rows ≡ (replied engine.old.size engine.old.rows number line.now).rows) }
-    ensures text { OnOk result (replies.new.bytes.items ≡ replies.old.bytes.items ++ (replied engine.old.size engine.old.rows number line.now).text) }
+    ensures text { Sends result (S.shown sink.old) (S.shown sink.new) (replied engine.old.size engine.old.rows number line.now).text }
+    ensures fault { IsErrOf result TextFault.WriteFault → Rose (S.write_faults sink.old) (S.write_faults sink.new) }
+    ensures later { S.write_faults sink.old ≤ S.write_faults sink.new }
+    ensures same { KeepsCount result (S.write_faults sink.old) (S.write_faults sink.new) }
+    ensures by { S.by_write sink.old sink.new }
     ensures looks { steps.new ≤ steps.old + line_cost engine.old.size engine.old.rows line.now }
 {
     match read_line(alloc, without_cr(line)) {
-        Ok(Some(command)) => take(engine, alloc, replies, number, &command, steps),
+        Ok(Some(command)) => take(engine, alloc, sink, number, &command, steps),
         Ok(None) => Ok(()),
-        Err(LineFault::Refused(refusal)) => append_refusal(alloc, replies, number, &refusal),
-        Err(LineFault::NoMemory) => Err(NoMemory),
+        Err(LineFault::Refused(refusal)) => write_head(alloc, sink, number, &refusal),
+        Err(LineFault::NoMemory) => Err(TextFault::NoMemory),
     }
 }

@@ -1,12 +1,13 @@
 //! Runs a script over a new volume.
 
-ghost use Rattle.std.specs.Prelude.{◌≡◌, ℕ, ◌≤◌, ◌<◌, ◌+◌, ◌-◌, [], length, IfOk, IfErr, OnOk, OnErr, IsErrOf, MatchResult};
+ghost use Rattle.std.specs.Prelude.{◌≡◌, ℕ, ◌≤◌, ◌<◌, ◌+◌, ◌-◌, ◌^◌, [], length, IfOk, IfErr, OnOk, OnErr, IsErrOf, MatchResult};
 ghost use Rattle.std.specs.Option.{ForSome};
 ghost use Rattle.fsrm_model.specs.Fresh.{default_capacity, new_rows};
 ghost use Rattle.fsrm_model.specs.Limits.{longest_script};
 ghost use Rattle.fsrm_outside.specs.Causes.{Rose};
+ghost use Rattle.reply_text.specs.Writes.{KeepsCount};
 ghost use Rattle.fsrm_program.specs.Bytes.{IsAtEnd, TakenMost};
-ghost use Rattle.fsrm_program.specs.Progress.{State, Takes, start};
+ghost use Rattle.fsrm_program.specs.Progress.{State, Takes, Feeds, FeedsBroken, start};
 ghost use Rattle.fsrm_program.specs.Held.{state_of};
 ghost use Rattle.fsrm_program.specs.Stops.{Stops, StopsAt, Reads, Finishes, FinishesFront, IsGivenUp};
 ghost use Rattle.fsrm_program.specs.Answers.{IsRun, KeepsReads, KeepsWrites, most_taken};
@@ -15,19 +16,55 @@ use crate::batch::Batch;
 use crate::pieces::next_piece;
 use crate::session::{Session, end, feed};
 use crate::status::Status;
-use crate::writing::flush;
 use fsrm_engine::Engine;
 use fsrm_model::{Capacity, Ledger, NoMemory, Steps};
 use fsrm_outside::{Failed, Outside, Sink};
+use reply_text::TextFault;
 use std::alloc::Global;
 
 const PIECE: usize = 65_536;
+
+// Answers the lines that end in a piece, and writes all replies.
+fn answer_piece<S: Sink, L: Ledger>(
+    sink: &mut S,
+    session: &mut Session,
+    replies: &mut Vec<u8>,
+    piece: &[u8],
+    steps: &mut Steps<L>,
+) -> Result<(), TextFault>
+    requires number { session.old.line + length piece.now < 2 ^ 64 }
+    requires written { replies.old.items ≡ [] }
+    requires idle { session.old.engine.waiting ≡ [] }
+    ensures ok { OnOk result (Feeds (state_of session.old steps.old) (state_of session.new steps.new) piece.now (S.shown sink.old) (S.shown sink.new)) }
+    ensures err { OnErr result (FeedsBroken (state_of session.old steps.old) steps.new piece.now (S.shown sink.old) (S.shown sink.new)) }
+    ensures number { OnOk result (session.new.line ≤ session.old.line + length piece.now) }
+    ensures written { OnOk result (replies.new.items ≡ []) }
+    ensures idle { session.new.engine.waiting ≡ [] }
+    ensures fault { IsErrOf result TextFault.WriteFault → Rose (S.write_faults sink.old) (S.write_faults sink.new) }
+    ensures later { S.write_faults sink.old ≤ S.write_faults sink.new }
+    ensures same { KeepsCount result (S.write_faults sink.old) (S.write_faults sink.new) }
+    ensures by { S.by_write sink.old sink.new }
+{
+    let mut batch = Batch {
+        waiting: replies,
+        device: sink,
+    };
+    match feed(session, &mut batch, piece, steps) {
+        Ok(()) => {}
+        Err(fault) => return Err(fault),
+    }
+    match batch.flush() {
+        Ok(()) => Ok(()),
+        Err(Failed) => Err(TextFault::WriteFault),
+    }
+}
 
 // Reads a piece, answers the lines that end in it, and writes the replies. It answers the piece's length:
 // 0 at the script's end.
 fn pass<O: Outside, L: Ledger>(
     outside: &mut O,
     session: &mut Session,
+    replies: &mut Vec<u8>,
     buffer: &mut [u8],
     taken: u64,
     steps: &mut Steps<L>,
@@ -35,13 +72,13 @@ fn pass<O: Outside, L: Ledger>(
     requires taken { taken ≤ longest_script }
     requires buffer { 0 < length buffer.old }
     requires number { session.old.line ≤ taken + 1 }
-    requires written { session.old.replies.bytes.items ≡ [] }
+    requires written { replies.old.items ≡ [] }
     requires idle { session.old.engine.waiting ≡ [] }
     ensures takes { IfOk result (λ count. Takes (state_of session.old steps.old) (state_of session.new steps.new) (O.left outside.old) (O.left outside.new) (O.shown outside.old) (O.shown outside.new) count) }
     ensures within { IfOk result (λ count. taken + count ≤ longest_script) }
     ensures end { IfOk result (λ count. count ≡ 0 → IsAtEnd (O.left outside.new)) }
     ensures number { IfOk result (λ count. session.new.line ≤ session.old.line + count) }
-    ensures written { OnOk result (session.new.replies.bytes.items ≡ []) }
+    ensures written { OnOk result (replies.new.items ≡ []) }
     ensures idle { session.new.engine.waiting ≡ [] }
     ensures stops { IfErr result (λ status. Stops status (state_of session.old steps.old) (state_of session.new steps.new) (O.left outside.old) (O.left outside.new) (O.shown outside.old) (O.shown outside.new) 0) }
     ensures taken { IfErr result (λ status. TakenMost (O.left outside.old) (O.left outside.new) (most_taken status - taken)) }
@@ -57,13 +94,10 @@ fn pass<O: Outside, L: Ledger>(
         Ok(count) => count,
         Err(status) => return Err(status),
     };
-    match feed(session, &buffer[..count], steps) {
-        Ok(()) => {}
-        Err(NoMemory) => return Err(Status::NoMemory),
-    }
-    match flush(outside, &mut session.replies) {
+    match answer_piece(outside, session, replies, &buffer[..count], steps) {
         Ok(()) => Ok(count),
-        Err(Failed) => Err(Status::WriteFault),
+        Err(TextFault::WriteFault) => Err(Status::WriteFault),
+        Err(TextFault::NoMemory) => Err(Status::NoMemory),
     }
 }
 
@@ -71,13 +105,14 @@ fn pass<O: Outside, L: Ledger>(
 fn read_all<O: Outside, L: Ledger>(
     outside: &mut O,
     session: &mut Session,
+    replies: &mut Vec<u8>,
     steps: &mut Steps<L>,
 ) -> Result<(), Status>
     requires number { session.old.line ≤ 1 }
-    requires written { session.old.replies.bytes.items ≡ [] }
+    requires written { replies.old.items ≡ [] }
     requires idle { session.old.engine.waiting ≡ [] }
     ensures reads { OnOk result (Reads (state_of session.old steps.old) (state_of session.new steps.new) (O.left outside.old) (O.left outside.new) (O.shown outside.old) (O.shown outside.new)) }
-    ensures written { OnOk result (session.new.replies.bytes.items ≡ []) }
+    ensures written { OnOk result (replies.new.items ≡ []) }
     ensures idle { session.new.engine.waiting ≡ [] }
     ensures stops { IfErr result (λ status. StopsAt status (state_of session.old steps.old) (state_of session.new steps.new) (O.left outside.old) (O.left outside.new) (O.shown outside.old) (O.shown outside.new)) }
     ensures taken { IfErr result (λ status. TakenMost (O.left outside.old) (O.left outside.new) (most_taken status)) }
@@ -91,7 +126,7 @@ fn read_all<O: Outside, L: Ledger>(
     let mut buffer = [0u8; PIECE];
     let mut taken = 0u64;
     'pieces: loop {
-        match pass(outside, session, &mut buffer, taken, steps) {
+        match pass(outside, session, replies, &mut buffer, taken, steps) {
             Ok(0) => return Ok(()),
             Ok(count) => taken += count as u64,
             Err(status) => return Err(status),
@@ -103,9 +138,10 @@ fn read_all<O: Outside, L: Ledger>(
 fn finish<S: Sink, L: Ledger>(
     sink: &mut S,
     session: &mut Session,
+    replies: &mut Vec<u8>,
     steps: &mut Steps<L>,
 ) -> Result<(), Status>
-    requires written { session.old.replies.bytes.items ≡ [] }
+    requires written { replies.old.items ≡ [] }
     requires idle { session.old.engine.waiting ≡ [] }
     ensures ok { OnOk result (Finishes (state_of session.old steps.old) steps.new (S.shown sink.old) (S.shown sink.new)) }
     ensures err { OnErr result (FinishesFront (state_of session.old steps.old) steps.new (S.shown sink.old) (S.shown sink.new)) }
@@ -115,11 +151,16 @@ fn finish<S: Sink, L: Ledger>(
     ensures only { IfErr result IsGivenUp }
     ensures by { S.by_write sink.old sink.new }
 {
-    match end(session, steps) {
+    let mut batch = Batch {
+        waiting: replies,
+        device: sink,
+    };
+    match end(session, &mut batch, steps) {
         Ok(()) => {}
-        Err(NoMemory) => return Err(Status::NoMemory),
+        Err(TextFault::WriteFault) => return Err(Status::WriteFault),
+        Err(TextFault::NoMemory) => return Err(Status::NoMemory),
     }
-    match flush(sink, &mut session.replies) {
+    match batch.flush() {
         Ok(()) => Ok(()),
         Err(Failed) => Err(Status::WriteFault),
     }
@@ -128,7 +169,6 @@ fn finish<S: Sink, L: Ledger>(
 // Before the first byte: a volume with the root alone, of the default size.
 fn new_session(alloc: Global) -> Result<Session, NoMemory>
     ensures state { IfOk result (λ session. (looks : ℕ) → state_of session looks ≡ start default_capacity new_rows looks) }
-    ensures written { IfOk result (λ session. session.replies.bytes.items ≡ []) }
     ensures idle { IfOk result (λ session. session.engine.waiting ≡ []) }
 {
     let size = Capacity {
@@ -141,7 +181,6 @@ fn new_session(alloc: Global) -> Result<Session, NoMemory>
         alloc,
         line: 1,
         held: Vec::new(alloc),
-        replies: Batch::new(alloc),
     })
 }
 
@@ -149,10 +188,11 @@ fn new_session(alloc: Global) -> Result<Session, NoMemory>
 fn run_session<O: Outside, L: Ledger>(
     outside: &mut O,
     session: &mut Session,
+    replies: &mut Vec<u8>,
     steps: &mut Steps<L>,
 ) -> Status
     requires state { state_of session.old steps.old ≡ start session.old.engine.size session.old.engine.rows steps.old }
-    requires written { session.old.replies.bytes.items ≡ [] }
+    requires written { replies.old.items ≡ [] }
     requires idle { session.old.engine.waiting ≡ [] }
     ensures run { ForSome (O.left outside.old) (λ script. IsRun session.old.engine.size session.old.engine.rows result script steps.old steps.new (O.left outside.new) (O.shown outside.old) (O.shown outside.new)) }
     ensures taken { TakenMost (O.left outside.old) (O.left outside.new) (most_taken result) }
@@ -164,11 +204,11 @@ fn run_session<O: Outside, L: Ledger>(
     ensures writes_kept { KeepsWrites result (O.write_faults outside.old) (O.write_faults outside.new) }
     ensures no_usage { result ≡ Status.Usage → ⊥ }
 {
-    match read_all(outside, session, steps) {
+    match read_all(outside, session, replies, steps) {
         Ok(()) => {}
         Err(status) => return status,
     }
-    match finish(outside, session, steps) {
+    match finish(outside, session, replies, steps) {
         Ok(()) => Status::Done,
         Err(status) => status,
     }
@@ -186,8 +226,9 @@ pub fn replay<O: Outside, L: Ledger>(alloc: Global, outside: &mut O, steps: &mut
     ensures writes_kept { KeepsWrites result (O.write_faults outside.old) (O.write_faults outside.new) }
     ensures no_usage { result ≡ Status.Usage → ⊥ }
 {
+    let mut replies = Vec::new(alloc);
     match new_session(alloc) {
-        Ok(mut session) => run_session(outside, &mut session, steps),
+        Ok(mut session) => run_session(outside, &mut session, &mut replies, steps),
         Err(NoMemory) => Status::NoMemory,
     }
 }

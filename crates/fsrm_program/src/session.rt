@@ -1,19 +1,23 @@
 //! Cuts a script that comes in pieces into its lines, and answers each.
 
-ghost use Rattle.std.specs.Prelude.{◌≡◌, ℕ, ◌≤◌, ◌<◌, ◌+◌, ◌^◌, ◌++◌, ◌∷◌, [], length, take, false, OnOk, OnErr, MatchOption};
+ghost use Rattle.std.specs.Prelude.{◌≡◌, ℕ, ◌≤◌, ◌<◌, ◌+◌, ◌^◌, ◌++◌, ◌∷◌, [], length, take, false, OnOk, OnErr, IsErrOf, MatchOption};
 ghost use Rattle.std.specs.List.{list_any};
 ghost use Rattle.fsrm_model.specs.Limits.{longest_line};
 ghost use Rattle.fsrm_model.specs.Script.{is_end};
 ghost use Rattle.fsrm_program.specs.Bytes.{CutsLine};
-ghost use Rattle.fsrm_program.specs.Progress.{Feeds, Broken, EndsAfter, EndsBroken};
+ghost use Rattle.fsrm_outside.specs.Causes.{Rose};
+ghost use Rattle.reply_text.specs.Writes.{KeepsCount};
+ghost use Rattle.fsrm_program.specs.Progress.{Fed, Feeds, FeedsBroken};
 ghost use Rattle.fsrm_program.specs.Held.{state_of};
+ghost use Rattle.fsrm_program.specs.Stops.{Finishes, FinishesFront};
 
 use crate::answering::answer;
-use crate::batch::Batch;
 use fsrm_engine::Engine;
 use fsrm_model::limits::LONGEST_LINE;
 use fsrm_model::{Ledger, NoMemory, Steps};
+use fsrm_outside::Sink;
 use memchr::memchr;
+use reply_text::TextFault;
 use std::alloc::Global;
 
 const LINE_FEED: u8 = b'\n';
@@ -31,8 +35,6 @@ pub struct Session {
     pub line: u64,
     /// The beginning of that line.
     pub held: Vec<u8>,
-    /// Replies that are still to be written.
-    pub replies: Batch,
 }
 
 // The first line, and what comes after its LF.
@@ -55,24 +57,29 @@ fn hold(held: &mut Vec<u8>, bytes: &[u8]) -> Result<(), NoMemory>
 }
 
 // Answers a line that is whole in its piece.
-fn answer_whole<L: Ledger>(
+fn answer_whole<S: Sink, L: Ledger>(
     session: &mut Session,
+    sink: &mut S,
     line: &[u8],
     steps: &mut Steps<L>,
-) -> Result<(), NoMemory>
+) -> Result<(), TextFault>
     requires number { session.old.line + 1 < 2 ^ 64 }
     requires idle { session.old.engine.waiting ≡ [] }
     requires one_line { list_any is_end line.now ≡ false }
     requires nothing_held { session.old.held.items ≡ [] }
-    ensures ok { OnOk result (Feeds (state_of session.old steps.old) (state_of session.new steps.new) (line.now ++ 10 ∷ []) session.old.replies.bytes.items session.new.replies.bytes.items) }
-    ensures err { OnErr result (Broken (state_of session.old steps.old) steps.new (line.now ++ 10 ∷ []) []) }
+    ensures ok { OnOk result (Feeds (state_of session.old steps.old) (state_of session.new steps.new) (line.now ++ 10 ∷ []) (S.shown sink.old) (S.shown sink.new)) }
+    ensures err { OnErr result (FeedsBroken (state_of session.old steps.old) steps.new (line.now ++ 10 ∷ []) (S.shown sink.old) (S.shown sink.new)) }
     ensures number { OnOk result (session.new.line ≡ session.old.line + 1) }
     ensures idle { session.new.engine.waiting ≡ [] }
+    ensures fault { IsErrOf result TextFault.WriteFault → Rose (S.write_faults sink.old) (S.write_faults sink.new) }
+    ensures later { S.write_faults sink.old ≤ S.write_faults sink.new }
+    ensures same { KeepsCount result (S.write_faults sink.old) (S.write_faults sink.new) }
+    ensures by { S.by_write sink.old sink.new }
 {
     match answer(
         &mut session.engine,
         session.alloc,
-        &mut session.replies,
+        sink,
         session.line,
         line,
         steps,
@@ -81,32 +88,37 @@ fn answer_whole<L: Ledger>(
             session.line += 1;
             Ok(())
         }
-        Err(NoMemory) => Err(NoMemory),
+        Err(fault) => Err(fault),
     }
 }
 
 // Answers the line whose beginning is held.
-fn answer_held<L: Ledger>(
+fn answer_held<S: Sink, L: Ledger>(
     session: &mut Session,
+    sink: &mut S,
     rest: &[u8],
     steps: &mut Steps<L>,
-) -> Result<(), NoMemory>
+) -> Result<(), TextFault>
     requires number { session.old.line + 1 < 2 ^ 64 }
     requires idle { session.old.engine.waiting ≡ [] }
     requires one_line { list_any is_end rest.now ≡ false }
-    ensures ok { OnOk result (Feeds (state_of session.old steps.old) (state_of session.new steps.new) (rest.now ++ 10 ∷ []) session.old.replies.bytes.items session.new.replies.bytes.items) }
-    ensures err { OnErr result (Broken (state_of session.old steps.old) steps.new (rest.now ++ 10 ∷ []) []) }
+    ensures ok { OnOk result (Feeds (state_of session.old steps.old) (state_of session.new steps.new) (rest.now ++ 10 ∷ []) (S.shown sink.old) (S.shown sink.new)) }
+    ensures err { OnErr result (FeedsBroken (state_of session.old steps.old) steps.new (rest.now ++ 10 ∷ []) (S.shown sink.old) (S.shown sink.new)) }
     ensures number { OnOk result (session.new.line ≡ session.old.line + 1) }
     ensures idle { session.new.engine.waiting ≡ [] }
+    ensures fault { IsErrOf result TextFault.WriteFault → Rose (S.write_faults sink.old) (S.write_faults sink.new) }
+    ensures later { S.write_faults sink.old ≤ S.write_faults sink.new }
+    ensures same { KeepsCount result (S.write_faults sink.old) (S.write_faults sink.new) }
+    ensures by { S.by_write sink.old sink.new }
 {
     match hold(&mut session.held, rest) {
         Ok(()) => {}
-        Err(NoMemory) => return Err(NoMemory),
+        Err(NoMemory) => return Err(TextFault::NoMemory),
     }
     match answer(
         &mut session.engine,
         session.alloc,
-        &mut session.replies,
+        sink,
         session.line,
         &session.held,
         steps,
@@ -116,35 +128,40 @@ fn answer_held<L: Ledger>(
             session.held.clear();
             Ok(())
         }
-        Err(NoMemory) => Err(NoMemory),
+        Err(fault) => Err(fault),
     }
 }
 
 // Answers the line that ends with these bytes.
-fn end_line<L: Ledger>(
+fn end_line<S: Sink, L: Ledger>(
     session: &mut Session,
+    sink: &mut S,
     rest: &[u8],
     steps: &mut Steps<L>,
-) -> Result<(), NoMemory>
+) -> Result<(), TextFault>
     requires number { session.old.line + 1 < 2 ^ 64 }
     requires idle { session.old.engine.waiting ≡ [] }
     requires one_line { list_any is_end rest.now ≡ false }
-    ensures ok { OnOk result (Feeds (state_of session.old steps.old) (state_of session.new steps.new) (rest.now ++ 10 ∷ []) session.old.replies.bytes.items session.new.replies.bytes.items) }
-    ensures err { OnErr result (Broken (state_of session.old steps.old) steps.new (rest.now ++ 10 ∷ []) []) }
+    ensures ok { OnOk result (Feeds (state_of session.old steps.old) (state_of session.new steps.new) (rest.now ++ 10 ∷ []) (S.shown sink.old) (S.shown sink.new)) }
+    ensures err { OnErr result (FeedsBroken (state_of session.old steps.old) steps.new (rest.now ++ 10 ∷ []) (S.shown sink.old) (S.shown sink.new)) }
     ensures number { OnOk result (session.new.line ≡ session.old.line + 1) }
     ensures idle { session.new.engine.waiting ≡ [] }
+    ensures fault { IsErrOf result TextFault.WriteFault → Rose (S.write_faults sink.old) (S.write_faults sink.new) }
+    ensures later { S.write_faults sink.old ≤ S.write_faults sink.new }
+    ensures same { KeepsCount result (S.write_faults sink.old) (S.write_faults sink.new) }
+    ensures by { S.by_write sink.old sink.new }
 {
     if session.held.is_empty() {
-        answer_whole(session, rest, steps)
+        answer_whole(session, sink, rest, steps)
     } else {
-        answer_held(session, rest, steps)
+        answer_held(session, sink, rest, steps)
     }
 }
 
 // Keeps the beginning of a line, which the next piece goes on with.
 fn hold_rest(session: &mut Session, rest: &[u8]) -> Result<(), NoMemory>
     requires { list_any is_end rest.now ≡ false }
-    ensures ok { (looks : ℕ) → OnOk result (Feeds (state_of session.old looks) (state_of session.new looks) rest.now session.old.replies.bytes.items session.new.replies.bytes.items) }
+    ensures ok { (looks : ℕ) → OnOk result (Fed (state_of session.old looks) (state_of session.new looks) rest.now []) }
     ensures number { session.new.line ≡ session.old.line }
     ensures idle { session.new.engine.waiting ≡ session.old.engine.waiting }
 {
@@ -156,37 +173,50 @@ fn hold_rest(session: &mut Session, rest: &[u8]) -> Result<(), NoMemory>
 
 /// Takes the next piece of the script: answers each line that ends in it, and keeps the beginning of
 /// the one that doesn't.
-pub fn feed<L: Ledger>(
+pub fn feed<S: Sink, L: Ledger>(
     session: &mut Session,
+    sink: &mut S,
     piece: &[u8],
     steps: &mut Steps<L>,
-) -> Result<(), NoMemory>
+) -> Result<(), TextFault>
     requires number { session.old.line + length piece.now < 2 ^ 64 }
     requires idle { session.old.engine.waiting ≡ [] }
-    ensures ok { OnOk result (Feeds (state_of session.old steps.old) (state_of session.new steps.new) piece.now session.old.replies.bytes.items session.new.replies.bytes.items) }
-    ensures err { OnErr result (Broken (state_of session.old steps.old) steps.new piece.now []) }
+    ensures ok { OnOk result (Feeds (state_of session.old steps.old) (state_of session.new steps.new) piece.now (S.shown sink.old) (S.shown sink.new)) }
+    ensures err { OnErr result (FeedsBroken (state_of session.old steps.old) steps.new piece.now (S.shown sink.old) (S.shown sink.new)) }
     ensures number { OnOk result (session.new.line ≤ session.old.line + length piece.now) }
     ensures idle { session.new.engine.waiting ≡ [] }
+    ensures fault { IsErrOf result TextFault.WriteFault → Rose (S.write_faults sink.old) (S.write_faults sink.new) }
+    ensures later { S.write_faults sink.old ≤ S.write_faults sink.new }
+    ensures same { KeepsCount result (S.write_faults sink.old) (S.write_faults sink.new) }
+    ensures by { S.by_write sink.old sink.new }
 {
     let mut rest = piece;
     'lines: while let Some((line, after)) = next_line(rest) {
-        match end_line(session, line, steps) {
+        match end_line(session, sink, line, steps) {
             Ok(()) => {}
-            Err(NoMemory) => return Err(NoMemory),
+            Err(fault) => return Err(fault),
         }
         rest = after;
     }
     match hold_rest(session, rest) {
         Ok(()) => Ok(()),
-        Err(NoMemory) => Err(NoMemory),
+        Err(NoMemory) => Err(TextFault::NoMemory),
     }
 }
 
 /// Answers the last line, if it has no LF.
-pub fn end<L: Ledger>(session: &mut Session, steps: &mut Steps<L>) -> Result<(), NoMemory>
+pub fn end<S: Sink, L: Ledger>(
+    session: &mut Session,
+    sink: &mut S,
+    steps: &mut Steps<L>,
+) -> Result<(), TextFault>
     requires { session.old.engine.waiting ≡ [] }
-    ensures ok { OnOk result (EndsAfter (state_of session.old steps.old) steps.new session.old.replies.bytes.items session.new.replies.bytes.items) }
-    ensures err { OnErr result (EndsBroken (state_of session.old steps.old) steps.new) }
+    ensures ok { OnOk result (Finishes (state_of session.old steps.old) steps.new (S.shown sink.old) (S.shown sink.new)) }
+    ensures err { OnErr result (FinishesFront (state_of session.old steps.old) steps.new (S.shown sink.old) (S.shown sink.new)) }
+    ensures fault { IsErrOf result TextFault.WriteFault → Rose (S.write_faults sink.old) (S.write_faults sink.new) }
+    ensures later { S.write_faults sink.old ≤ S.write_faults sink.new }
+    ensures same { KeepsCount result (S.write_faults sink.old) (S.write_faults sink.new) }
+    ensures by { S.by_write sink.old sink.new }
 {
     if session.held.is_empty() {
         return Ok(());
@@ -194,12 +224,12 @@ pub fn end<L: Ledger>(session: &mut Session, steps: &mut Steps<L>) -> Result<(),
     match answer(
         &mut session.engine,
         session.alloc,
-        &mut session.replies,
+        sink,
         session.line,
         &session.held,
         steps,
     ) {
         Ok(()) => Ok(()),
-        Err(NoMemory) => Err(NoMemory),
+        Err(fault) => Err(fault),
     }
 }

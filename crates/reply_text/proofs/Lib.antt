@@ -1,4 +1,4 @@
-pub mod Digits
+pub mod Each
 pub mod Moments
 pub mod Sent
 pub mod Quotas

@@ -1,5 +1,5 @@
 -- The text of a moment.
-use Rattle.std.proofs.Common.{◌≡◌, ℕ, ◌+◌, ◌/◌, ◌%◌, ◌≤◌, ℤ, pos, unsigned_abs, List, [], ◌∷◌, ◌++◌, ap, ◌∙◌, arith, append_assoc}
+use Rattle.std.proofs.Common.{◌≡◌, ℕ, ◌+◌, ◌/◌, ◌%◌, ◌≤◌, ℤ, pos, unsigned_abs, List, [], ◌∷◌, ◌++◌, refl, ap, ◌∙◌, arith}
 use Rattle.jiff_core.specs.Calendar.{IsCivilDate, days_from_civil, IsBetween}
 use Rattle.jiff_core.proofs.SignedLemmas.{signed_arith}
 use Rattle.fsrm_model.specs.Date.{Civil, date_of, day_text, time_text}
@@ -18,13 +18,19 @@ same_text y m d date h =
     let year : unsigned_abs y ≡ date.year = ap unsigned_abs h.year_is in
     rw (year, h.month_is, h.day_is)
 
-joined : (old a b c date day time : List ℕ) → day ≡ date → a ≡ old ++ day → b ≡ a ++ (32 ∷ []) → c ≡ b ++ time → c ≡ old ++ (date ++ 32 ∷ time)
-joined old a b c date day time same p q r =
-    r ∙ ap (λ (xs : List ℕ). xs ++ time) (q ∙ ap (λ (xs : List ℕ). xs ++ (32 ∷ [])) (p ∙ ap (λ (xs : List ℕ). old ++ xs) same))
-    ∙ simp append_assoc
+-- the date of a day has one text
+pub day_shown : (day : ℕ) (y : ℤ) (m d : ℕ) → day ≤ 47481 → IsCivilDate y m d → days_from_civil y m d ≡ pos day → day_text (record { year = unsigned_abs y; month = m; day = d }) ≡ day_text (date_of day)
+day_shown day y m d few h e = same_text y m d (date_of day) (date_only day few y m d h e)
 
 -- a date and a time of day
-pub moment_shown : (moment : ℕ) (y : ℤ) (m d : ℕ) (old a b c : List ℕ) → moment / 86400 ≤ 47481 → IsCivilDate y m d → days_from_civil y m d ≡ pos (moment / 86400) → a ≡ old ++ day_text (record { year = unsigned_abs y; month = m; day = d }) → b ≡ a ++ (32 ∷ []) → c ≡ b ++ time_text (moment % 86400) → c ≡ old ++ moment_text moment
+pub moment_shown : (moment : ℕ) (date time : List ℕ) → date ≡ day_text (date_of (moment / 86400)) → time ≡ time_text (moment % 86400) → moment_text moment ≡ date ++ 32 ∷ time
 unfolding moment_text
-moment_shown moment y m d old a b c few h e p q r =
-    joined old a b c (day_text (date_of (moment / 86400))) _ _ (same_text y m d (date_of (moment / 86400)) (date_only (moment / 86400) few y m d h e)) p q r
+moment_shown moment date time p q = rw (p, q) refl
+
+-- a date, from its digits
+date_digits : (a b c d e f g h year month day : ℕ) → a ≡ 48 + year / 100 / 10 → b ≡ 48 + year / 100 % 10 → c ≡ 48 + year % 100 / 10 → d ≡ 48 + year % 100 % 10 → e ≡ 48 + month / 10 → f ≡ 48 + month % 10 → g ≡ 48 + day / 10 → h ≡ 48 + day % 10 → (a ∷ b ∷ c ∷ d ∷ 45 ∷ e ∷ f ∷ 45 ∷ g ∷ h ∷ []) ≡ day_text (record { year = year; month = month; day = day })
+date_digits a b c d e f g h year month day p q r s t u v w = rw (p, q, r, s, t, u, v, w) refl
+
+pub date_shown : (a b c d e f g h year month day m k : ℕ) (y : ℤ) (text : List ℕ) → a ≡ 48 + year / 100 / 10 → b ≡ 48 + year / 100 % 10 → c ≡ 48 + year % 100 / 10 → d ≡ 48 + year % 100 % 10 → e ≡ 48 + month / 10 → f ≡ 48 + month % 10 → g ≡ 48 + day / 10 → h ≡ 48 + day % 10 → year ≡ unsigned_abs y → month ≡ m → day ≡ k → day_text (record { year = unsigned_abs y; month = m; day = k }) ≡ text → (a ∷ b ∷ c ∷ d ∷ 45 ∷ e ∷ f ∷ 45 ∷ g ∷ h ∷ []) ≡ text
+date_shown a b c d e f g h year month day m k y text p q r s t u v w years months days same =
+    date_digits a b c d e f g h year month day p q r s t u v w ∙ rw (years, months, days) same

@@ -1,12 +1,10 @@
 -- The lines of quotas.
-use Rattle.std.proofs.Common.{◌≡◌, ℕ, zero, suc, ◌+◌, ◌<◌, ◌≤◌, ◌==◌, Bool, true, false, cond, List, [], ◌∷◌, ◌++◌, get_or, take, drop, refl, sym, ap, subst, rules, Bor, ◌∙◌, arith}
+use Rattle.std.proofs.Common.{◌≡◌, ℕ, zero, suc, ◌+◌, ◌<◌, ◌≤◌, ◌==◌, Bool, true, false, cond, List, [], ◌∷◌, ◌++◌, take, refl, sym, ap, subst, append_assoc, rules, Bor, ◌∙◌, arith}
 use Rattle.std.specs.Prelude.{Option, Some, None, is_some, decimal, codes, filter, find, flat_map, sum_by}
 use Rattle.std.specs.List.{slice_get}
 use Rattle.std.specs.Option.{option_copied, IsSome}
-use Rattle.std.specs.Io.KnownBytes.{append_known}
 use Rattle.std.proofs.lemmas.Bool.Decides.{nat_tests}
-use Rattle.std.proofs.lemmas.Grind.{flat_map-append}
-use Rattle.std.proofs.lemmas.List.{take_more, take-append-drop, append-nil}
+use Rattle.std.proofs.lemmas.List.{append-nil}
 use Rattle.std.proofs.lemmas.List.Sums.{sum_by_more}
 use Rattle.std.proofs.lemmas.Option.{get_or_from_slice_get, slice_get_within}
 use Rattle.fsrm_model.specs.declared.row.Capacity.{Capacity}
@@ -26,9 +24,6 @@ use Rattle.fsrm_base.proofs.Look.{found_has, found_key, is_some-find}
 use Rattle.fsrm_base.proofs.Members.{filter_none}
 use Rattle.fsrm_base.proofs.Order.{parts}
 use Rattle.fsrm_base.proofs.TestLaws.{lt_is, eq_is, eq_same, eq_below, le_is}
-use Rattle.fsrm_outside.specs.Shown.{ShowsFront}
-use Rattle.fsrm_outside.proofs.Shown.{shows_then, shows_then_front}
-use Rattle.reply_text.proofs.Sent.{front_more}
 use Rattle.reply_text.specs.Lines.{moment_text, line_text, used_word, mode_word, quota_text}
 
 -- a quota of a store: its folder is there, and its peak's moment is one
@@ -74,29 +69,9 @@ at_place key (x ∷ xs) zero q a h =
 at_place key (x ∷ xs) (suc k) q a h =
     rw (eq_below (key x) (key q) (later_key key x q xs k a h)) (at_place key xs k q (parts key x xs a).rest h)
 
--- the lines up to a place, and one more
-pub flat_more : (f : QuotaRow → List ℕ) (rows : List QuotaRow) (k : ℕ) (q : QuotaRow) → slice_get rows k ≡ Some q → flat_map f (take (k + 1) rows) ≡ flat_map f (take k rows) ++ f q
-flat_more f rows k q h =
-    ap (flat_map f) (take_more rows k q (slice_get_within rows k q h)) ∙ flat_map-append f (take k rows) (get_or rows k q ∷ [])
-    ∙ ap (λ r. flat_map f (take k rows) ++ (f r ++ [])) (get_or_from_slice_get rows k q q h) ∙ ap (λ (xs : List ℕ). flat_map f (take k rows) ++ xs) (append-nil (f q))
-
 pub sum_more : (f : QuotaRow → ℕ) (rows : List QuotaRow) (k : ℕ) (q : QuotaRow) → slice_get rows k ≡ Some q → sum_by f (take (k + 1) rows) ≡ sum_by f (take k rows) + f q
 sum_more f rows k q h =
     sum_by_more f rows k q (slice_get_within rows k q h) ∙ ap (λ r. sum_by f (take k rows) + f r) (get_or_from_slice_get rows k q q h)
-
--- what is shown of one line more, and what of it if the sink failed
-pub shows_line : (f : QuotaRow → List ℕ) (rows : List QuotaRow) (k : ℕ) (q : QuotaRow) (a b c : Option (List ℕ)) → slice_get rows k ≡ Some q → b ≡ append_known a (flat_map f (take k rows)) → c ≡ append_known b (f q) → c ≡ append_known a (flat_map f (take (k + 1) rows))
-shows_line f rows k q a b c h p r =
-    shows_then a b c (flat_map f (take k rows)) (f q) p r ∙ ap (append_known a) (sym (flat_more f rows k q h))
-
-whole_is : (f : QuotaRow → List ℕ) (rows : List QuotaRow) (k : ℕ) → flat_map f (take k rows) ++ flat_map f (drop k rows) ≡ flat_map f rows
-whole_is f rows k = sym (flat_map-append f (take k rows) (drop k rows)) ∙ ap (flat_map f) (take-append-drop k rows)
-
-pub shows_line_front : (f : QuotaRow → List ℕ) (rows : List QuotaRow) (k : ℕ) (q : QuotaRow) (a b c : Option (List ℕ)) → slice_get rows k ≡ Some q → b ≡ append_known a (flat_map f (take k rows)) → ShowsFront b c (f q) → ShowsFront a c (flat_map f rows)
-shows_line_front f rows k q a b c h p r =
-    let these = shows_then_front a b c (flat_map f (take k rows)) (f q) p r in
-    let those : ShowsFront a c (flat_map f (take (k + 1) rows)) = rw (flat_more f rows k q h) these in
-    rw (whole_is f rows (k + 1)) at (front_more a c (flat_map f (take (k + 1) rows)) (flat_map f (drop (k + 1) rows)) those)
 
 -- the quota of a folder alone
 none_above : {X : Type 0} (key : X → ℕ) (n : ℕ) (x : X) (xs : List X) → is_ascending key (x ∷ xs) ≡ true → n ≤ key x → has_row key n xs ≡ false
@@ -150,3 +125,10 @@ pub one_cost : (K : Capacity) (R : Rows) (folder : ℕ) (quota : QuotaRow) → I
 one_cost K R folder quota store h =
     let e = ap (sum_by (λ (row : QuotaRow). path_cost R.nodes row.folder)) (only_one folder_of folder R.quotas quota store.quotas.ascending h) in
     omega (arith, e)
+
+-- the line of a quota, from its parts
+pub row_shown : (quota : QuotaRow) (used : Option ℕ) (path bytes state mode shown day time : List ℕ) → mode ≡ mode_word quota.enforce → state ≡ state_word quota.state → shown ≡ used_word used → moment_text quota.peak_at ≡ day ++ 32 ∷ time → bytes ≡ path
+    → 32 ∷ 32 ∷ (decimal quota.limit ++ 32 ∷ (mode ++ 32 ∷ (state ++ 32 ∷ (shown ++ 32 ∷ (decimal quota.peak ++ 32 ∷ (day ++ 32 ∷ (time ++ 32 ∷ (bytes ++ 10 ∷ [])))))))) ≡ quota_text quota used path
+row_shown quota used path bytes state mode shown day time modes states shows moment same =
+    let tail : (day ++ 32 ∷ time) ++ 32 ∷ (path ++ 10 ∷ []) ≡ day ++ 32 ∷ (time ++ 32 ∷ (path ++ 10 ∷ [])) = append_assoc day (32 ∷ time) (32 ∷ (path ++ 10 ∷ [])) in
+    rw (same, modes, states, shows) (rw (moment, tail) refl)

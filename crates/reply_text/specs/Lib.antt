@@ -1,3 +1,3 @@
 pub mod Writes
-pub mod Days
+pub mod Parts
 pub mod Lines

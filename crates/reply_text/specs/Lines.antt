@@ -4,6 +4,8 @@ use Rattle.fsrm_model.specs.declared.row.Capacity.{Capacity}
 use Rattle.fsrm_model.specs.declared.row.NodeRow.{NodeRow}
 use Rattle.fsrm_model.specs.declared.row.QuotaRow.{QuotaRow}
 use Rattle.fsrm_model.specs.declared.command.Outcome.{Outcome}
+use Rattle.fsrm_model.specs.declared.command.Refusal.{Refusal}
+use Rattle.fsrm_model.specs.declared.command.Refusal.TheVariants.{BadLine}
 use Rattle.fsrm_model.specs.declared.command.Outcome.TheVariants.{Listing}
 use Rattle.fsrm_model.specs.Text.{body_line, quota_line, state_word}
 use Rattle.fsrm_model.specs.Date.{date_text}
@@ -32,3 +34,8 @@ quota_text quota used path =
 abbrev pub is_listing : Outcome → Bool
 is_listing (Listing ask) = true
 is_listing other = false
+
+-- whether a refusal carries a column
+abbrev pub carries_column : Refusal → Bool
+carries_column (BadLine column) = true
+carries_column other = false

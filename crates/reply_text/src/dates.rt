@@ -1,19 +1,11 @@
-//! The civil date and time of a moment, in UTC.
+//! The civil date and the time of a moment, in UTC.
 
-ghost use Rattle.std.specs.Prelude.{◌≡◌, ◌++◌, ◌<◌, ◌≤◌, pos, ◌≤ℤ◌, unsigned_abs, OnOk};
-ghost use Rattle.std.specs.String.{string_bytes};
-ghost use Rattle.jiff_core.specs.Calendar.{IsBetween};
+ghost use Rattle.std.specs.Prelude.{◌≡◌, ◌+◌, ◌<◌, ◌≤◌, pos};
 ghost use Rattle.jiff_core.specs.Date.{epoch_day};
-ghost use Rattle.fsrm_model.specs.Date.{time_text};
-ghost use Rattle.fsrm_model.specs.Limits.{latest_moment};
-ghost use Rattle.reply_text.specs.Lines.{moment_text};
-ghost use Rattle.reply_text.specs.Days.{text_of_date};
+ghost use Rattle.fsrm_model.specs.Date as Dates;
+ghost use Rattle.fsrm_model.specs.Date.{day_text};
 
-use fsrm_model::NoMemory;
-use jiff_core::civil::{Date, Time};
-use std::fmt::Write;
-
-const SECONDS_OF_A_DAY: u64 = 86_400;
+use jiff_core::civil::Date;
 
 // The days from -9999-01-01 to 1970-01-01.
 const DAYS_TO_1970: u32 = 4_371_587;
@@ -26,36 +18,52 @@ fn date_of(day: u32) -> Date
     Date::from_days_since_min(DAYS_TO_1970 + day)
 }
 
-// Appends a date as YYYY-MM-DD.
-fn append_date(text: &mut String, date: Date) -> Result<(), NoMemory>
-    requires { IsBetween (pos 1000) (pos 9999) date.year }
-    ensures { OnOk result (string_bytes text.new ≡ string_bytes text.old ++ text_of_date date) }
+fn digit(value: u32) -> u8
+    requires { value < 10 }
+    ensures { result ≡ 48 + value }
 {
-    write!(text, "{:04}-{:02}-{:02}", date.year, date.month, date.day)?;
-    Ok(())
+    b'0' + value as u8
 }
 
-// Appends a second of a day as hh:mm:ss.
-fn append_time(text: &mut String, second: u32) -> Result<(), NoMemory>
+/// The date of a day since 1970-01-01 as YYYY-MM-DD, in ASCII. The day is at most 47,481, that is, 2099-12-31.
+pub fn date_text(day: u32) -> [u8; 10]
+    requires { day ≤ 47481 }
+    ensures { result ≡ day_text (Dates.date_of day) }
+{
+    let date = date_of(day);
+    let (year, month, day) = (
+        u32::from(date.year.unsigned_abs()),
+        u32::from(date.month),
+        u32::from(date.day),
+    );
+    [
+        digit(year / 100 / 10),
+        digit(year / 100 % 10),
+        digit(year % 100 / 10),
+        digit(year % 100 % 10),
+        b'-',
+        digit(month / 10),
+        digit(month % 10),
+        b'-',
+        digit(day / 10),
+        digit(day % 10),
+    ]
+}
+
+/// A second of a day as hh:mm:ss, in ASCII. It is below 86,400.
+pub fn time_text(second: u32) -> [u8; 8]
     requires { second < 86400 }
-    ensures { OnOk result (string_bytes text.new ≡ string_bytes text.old ++ time_text second) }
+    ensures { result ≡ Dates.time_text second }
 {
-    let time = Time::from_second(second, 0);
-    write!(
-        text,
-        "{:02}:{:02}:{:02}",
-        time.hour, time.minute, time.second
-    )?;
-    Ok(())
-}
-
-/// Appends a moment as YYYY-MM-DD hh:mm:ss, in UTC. It is in seconds since 1970-01-01 00:00:00, at
-/// most 4,102,444,799.
-pub fn append_moment(text: &mut String, moment: u64) -> Result<(), NoMemory>
-    requires { moment ≤ latest_moment }
-    ensures { OnOk result (string_bytes text.new ≡ string_bytes text.old ++ moment_text moment) }
-{
-    append_date(text, date_of((moment / SECONDS_OF_A_DAY) as u32))?;
-    write!(text, " ")?;
-    append_time(text, (moment % SECONDS_OF_A_DAY) as u32)
+    let (hours, minutes, seconds) = (second / 3600, second / 60 % 60, second % 60);
+    [
+        digit(hours / 10),
+        digit(hours % 10),
+        b':',
+        digit(minutes / 10),
+        digit(minutes % 10),
+        b':',
+        digit(seconds / 10),
+        digit(seconds % 10),
+    ]
 }

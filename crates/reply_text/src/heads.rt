@@ -1,109 +1,183 @@
-//! Appends the lines that tell what became of a command.
+//! Writes the lines that tell what became of a command.
 
-ghost use Rattle.std.specs.Prelude.{◌≡◌, ℕ, ◌++◌, ◌∷◌, [], true, OnOk, None, List as Items, decimal, codes};
-ghost use Rattle.std.specs.String.{string_bytes};
+ghost use Rattle.std.specs.Prelude.{◌≡◌, ◌++◌, ◌∷◌, [], ◌≤◌, true, false, IfSome, IfNone, IsErrOf, None, List as Items, decimal, codes};
 ghost use Rattle.fsrm_model.specs.declared.command.Outcome.TheVariants.{Done, Refused};
 ghost use Rattle.fsrm_model.specs.declared.row.NodeRow.{NodeRow};
-ghost use Rattle.fsrm_model.specs.Text.{body_line, done_words, head_line, is_bare, line_of};
+ghost use Rattle.fsrm_model.specs.Text.{body_line, done_words, head_line, is_bare, line_of, refusal_words};
+ghost use Rattle.fsrm_outside.specs.Causes.{Rose};
+ghost use Rattle.reply_text.specs.Lines.{carries_column};
+ghost use Rattle.reply_text.specs.Writes.{KeepsCount, Sends};
 
-use fsrm_model::{NoMemory, Refusal};
-use std::fmt::Write;
+use crate::fault::TextFault;
+use crate::sending::{Part, send};
+use fsrm_model::Refusal;
+use fsrm_outside::Sink;
 
-/// Appends the first line of a reply to a line that was done.
-pub fn append_ok(text: &mut String, line: u64) -> Result<(), NoMemory>
-    ensures { (nodes : Items NodeRow) → OnOk result (string_bytes text.new ≡ string_bytes text.old ++ head_line nodes line (Done None)) }
+/// Writes the first line of a reply to a line that was done.
+pub fn write_ok<S: Sink>(sink: &mut S, line: u64) -> Result<(), TextFault>
+    ensures text { (nodes : Items NodeRow) → Sends result (S.shown sink.old) (S.shown sink.new) (head_line nodes line (Done None)) }
+    ensures fault { IsErrOf result TextFault.WriteFault → Rose (S.write_faults sink.old) (S.write_faults sink.new) }
+    ensures later { S.write_faults sink.old ≤ S.write_faults sink.new }
+    ensures same { KeepsCount result (S.write_faults sink.old) (S.write_faults sink.new) }
+    ensures by { S.by_write sink.old sink.new }
 {
-    writeln!(text, "{line} ok")?;
-    Ok(())
+    send(sink, &[Part::Number(line), Part::Text(b" ok\n")])
 }
 
-/// Appends the line that names the folder of a passive screen, by its path.
-pub fn append_passive(text: &mut String, path: &str) -> Result<(), NoMemory>
-    ensures { OnOk result (string_bytes text.new ≡ string_bytes text.old ++ body_line (codes "passive" ∷ path.now ∷ [])) }
+/// Writes the reply to a line that was done under a passive screen, with the path of its folder.
+pub fn write_passive<S: Sink>(sink: &mut S, line: u64, path: &str) -> Result<(), TextFault>
+    ensures text { (nodes : Items NodeRow) → Sends result (S.shown sink.old) (S.shown sink.new) (head_line nodes line (Done None) ++ body_line (codes "passive" ∷ path.now ∷ [])) }
+    ensures fault { IsErrOf result TextFault.WriteFault → Rose (S.write_faults sink.old) (S.write_faults sink.new) }
+    ensures later { S.write_faults sink.old ≤ S.write_faults sink.new }
+    ensures same { KeepsCount result (S.write_faults sink.old) (S.write_faults sink.new) }
+    ensures by { S.by_write sink.old sink.new }
 {
-    writeln!(text, "  passive {path}")?;
-    Ok(())
+    send(
+        sink,
+        &[
+            Part::Number(line),
+            Part::Text(b" ok\n  passive "),
+            Part::Text(path.as_bytes()),
+            Part::Text(b"\n"),
+        ],
+    )
 }
 
-/// Appends the line that tells what the files at and below a path take, in bytes.
-pub fn append_sum(text: &mut String, bytes: u64, path: &str) -> Result<(), NoMemory>
-    ensures { OnOk result (string_bytes text.new ≡ string_bytes text.old ++ body_line (decimal bytes ∷ path.now ∷ [])) }
+/// Writes the reply that tells what the files at and below a path take, in bytes.
+pub fn write_sum<S: Sink>(sink: &mut S, line: u64, bytes: u64, path: &str) -> Result<(), TextFault>
+    ensures text { (nodes : Items NodeRow) → Sends result (S.shown sink.old) (S.shown sink.new) (head_line nodes line (Done None) ++ body_line (decimal bytes ∷ path.now ∷ [])) }
+    ensures fault { IsErrOf result TextFault.WriteFault → Rose (S.write_faults sink.old) (S.write_faults sink.new) }
+    ensures later { S.write_faults sink.old ≤ S.write_faults sink.new }
+    ensures same { KeepsCount result (S.write_faults sink.old) (S.write_faults sink.new) }
+    ensures by { S.by_write sink.old sink.new }
 {
-    writeln!(text, "  {bytes} {path}")?;
-    Ok(())
+    send(
+        sink,
+        &[
+            Part::Number(line),
+            Part::Text(b" ok\n  "),
+            Part::Number(bytes),
+            Part::Text(b" "),
+            Part::Text(path.as_bytes()),
+            Part::Text(b"\n"),
+        ],
+    )
 }
 
-/// Appends the reply to a step of the scan of a folder, by its path: how many folders it visited, and, if the
+/// Writes the reply to a step of the scan of a folder, by its path: how many folders it visited, and, if the
 /// scan is finished, what the files at and below the folder take, in bytes.
-pub fn append_visited(
-    text: &mut String,
+pub fn write_visited<S: Sink>(
+    sink: &mut S,
     line: u64,
     visited: u32,
     done: Option<u64>,
     path: &str,
-) -> Result<(), NoMemory>
-    ensures { OnOk result (string_bytes text.new ≡ string_bytes text.old ++ line_of (decimal line ∷ codes "ok" ∷ codes "visited" ∷ decimal visited ∷ codes "of" ∷ path.now ∷ done_words done)) }
+) -> Result<(), TextFault>
+    ensures text { Sends result (S.shown sink.old) (S.shown sink.new) (line_of (decimal line ∷ codes "ok" ∷ codes "visited" ∷ decimal visited ∷ codes "of" ∷ path.now ∷ done_words done)) }
+    ensures fault { IsErrOf result TextFault.WriteFault → Rose (S.write_faults sink.old) (S.write_faults sink.new) }
+    ensures later { S.write_faults sink.old ≤ S.write_faults sink.new }
+    ensures same { KeepsCount result (S.write_faults sink.old) (S.write_faults sink.new) }
+    ensures by { S.by_write sink.old sink.new }
 {
+    let (line, visited) = (Part::Number(line), Part::Number(u64::from(visited)));
+    let (ok, of, path) = (
+        Part::Text(b" ok visited "),
+        Part::Text(b" of "),
+        Part::Text(path.as_bytes()),
+    );
+    let end = Part::Text(b"\n");
     match done {
-        Some(used) => writeln!(text, "{line} ok visited {visited} of {path} done {used}")?,
-        None => writeln!(text, "{line} ok visited {visited} of {path}")?,
+        Some(used) => {
+            let (done, used) = (Part::Text(b" done "), Part::Number(used));
+            send(sink, &[line, ok, visited, of, path, done, used, end])
+        }
+        None => send(sink, &[line, ok, visited, of, path, end]),
     }
-    Ok(())
 }
 
-/// Appends the reply to a line that would take a folder, by its path, above its limit, in bytes.
-pub fn append_exceeded(
-    text: &mut String,
+/// Writes the reply to a line that would take a folder, by its path, above its limit, in bytes.
+pub fn write_exceeded<S: Sink>(
+    sink: &mut S,
     line: u64,
     would: u64,
     limit: u64,
     path: &str,
-) -> Result<(), NoMemory>
-    ensures { OnOk result (string_bytes text.new ≡ string_bytes text.old ++ line_of (decimal line ∷ codes "refused" ∷ codes "QuotaExceeded" ∷ decimal would ∷ decimal limit ∷ path.now ∷ [])) }
+) -> Result<(), TextFault>
+    ensures text { Sends result (S.shown sink.old) (S.shown sink.new) (line_of (decimal line ∷ codes "refused" ∷ codes "QuotaExceeded" ∷ decimal would ∷ decimal limit ∷ path.now ∷ [])) }
+    ensures fault { IsErrOf result TextFault.WriteFault → Rose (S.write_faults sink.old) (S.write_faults sink.new) }
+    ensures later { S.write_faults sink.old ≤ S.write_faults sink.new }
+    ensures same { KeepsCount result (S.write_faults sink.old) (S.write_faults sink.new) }
+    ensures by { S.by_write sink.old sink.new }
 {
-    writeln!(text, "{line} refused QuotaExceeded {would} {limit} {path}")?;
-    Ok(())
+    send(
+        sink,
+        &[
+            Part::Number(line),
+            Part::Text(b" refused QuotaExceeded "),
+            Part::Number(would),
+            Part::Text(b" "),
+            Part::Number(limit),
+            Part::Text(b" "),
+            Part::Text(path.as_bytes()),
+            Part::Text(b"\n"),
+        ],
+    )
 }
 
-// Appends the reply to a line whose refusal carries nothing but its name.
-fn append_named(text: &mut String, line: u64, name: &str) -> Result<(), NoMemory>
-    ensures { OnOk result (string_bytes text.new ≡ string_bytes text.old ++ line_of (decimal line ∷ codes "refused" ∷ name.now ∷ [])) }
-{
-    writeln!(text, "{line} refused {name}")?;
-    Ok(())
-}
-
-// Appends the reply to a line of which a word hasn't its form.
-fn append_bad_line(text: &mut String, line: u64, column: u32) -> Result<(), NoMemory>
-    ensures { OnOk result (string_bytes text.new ≡ string_bytes text.old ++ line_of (decimal line ∷ codes "refused" ∷ codes "BadLine" ∷ decimal column ∷ [])) }
-{
-    writeln!(text, "{line} refused BadLine {column}")?;
-    Ok(())
-}
-
-/// Appends the reply to a line that is refused, for refusals that carry no path.
-pub fn append_bare(text: &mut String, line: u64, refusal: Refusal) -> Result<(), NoMemory>
-    requires { is_bare refusal ≡ true }
-    ensures { (nodes : Items NodeRow) → OnOk result (string_bytes text.new ≡ string_bytes text.old ++ head_line nodes line (Refused refusal)) }
+// The column that a refusal carries, if it does.
+fn column_of(refusal: Refusal) -> Option<u32>
+    ensures some { (nodes : Items NodeRow) → IfSome result (λ column. refusal_words nodes refusal ≡ codes "BadLine" ∷ decimal column ∷ []) }
+    ensures none { IfNone result (carries_column refusal ≡ false) }
 {
     match refusal {
-        Refusal::BadLine { column } => append_bad_line(text, line, column),
-        Refusal::LineTooLong => append_named(text, line, "LineTooLong"),
-        Refusal::InvalidPath => append_named(text, line, "InvalidPath"),
-        Refusal::InvalidName => append_named(text, line, "InvalidName"),
-        Refusal::OutOfRange => append_named(text, line, "OutOfRange"),
-        Refusal::InvalidLimit => append_named(text, line, "InvalidLimit"),
-        Refusal::ClockBack => append_named(text, line, "ClockBack"),
-        Refusal::PathNotFound => append_named(text, line, "PathNotFound"),
-        Refusal::NotFound => append_named(text, line, "NotFound"),
-        Refusal::AlreadyExists => append_named(text, line, "AlreadyExists"),
-        Refusal::InvalidCombination => append_named(text, line, "InvalidCombination"),
-        Refusal::NotEmpty => append_named(text, line, "NotEmpty"),
-        Refusal::InvalidMove => append_named(text, line, "InvalidMove"),
-        Refusal::NothingToScan => append_named(text, line, "NothingToScan"),
-        Refusal::VolumeFull => append_named(text, line, "VolumeFull"),
-        Refusal::NamesFull => append_named(text, line, "NamesFull"),
-        Refusal::TableFull => append_named(text, line, "TableFull"),
+        Refusal::BadLine { column } => Some(column),
+        _ => None,
+    }
+}
+
+// The reply to a line that is refused, after the line's number, for refusals that carry nothing.
+fn text_of(refusal: Refusal) -> &'static [u8]
+    requires bare { is_bare refusal ≡ true }
+    requires alone { carries_column refusal ≡ false }
+    ensures { (nodes : Items NodeRow) → 32 ∷ line_of (codes "refused" ∷ refusal_words nodes refusal) ≡ result.now }
+{
+    match refusal {
+        Refusal::LineTooLong => b" refused LineTooLong\n",
+        Refusal::InvalidPath => b" refused InvalidPath\n",
+        Refusal::InvalidName => b" refused InvalidName\n",
+        Refusal::OutOfRange => b" refused OutOfRange\n",
+        Refusal::InvalidLimit => b" refused InvalidLimit\n",
+        Refusal::ClockBack => b" refused ClockBack\n",
+        Refusal::PathNotFound => b" refused PathNotFound\n",
+        Refusal::NotFound => b" refused NotFound\n",
+        Refusal::AlreadyExists => b" refused AlreadyExists\n",
+        Refusal::InvalidCombination => b" refused InvalidCombination\n",
+        Refusal::NotEmpty => b" refused NotEmpty\n",
+        Refusal::InvalidMove => b" refused InvalidMove\n",
+        Refusal::NothingToScan => b" refused NothingToScan\n",
+        Refusal::VolumeFull => b" refused VolumeFull\n",
+        Refusal::NamesFull => b" refused NamesFull\n",
+        Refusal::TableFull => b" refused TableFull\n",
+        Refusal::BadLine { .. } => unreachable!(),
         Refusal::QuotaExceeded { .. } => unreachable!(),
+    }
+}
+
+/// Writes the reply to a line that is refused, for refusals that carry no path.
+pub fn write_bare<S: Sink>(sink: &mut S, line: u64, refusal: Refusal) -> Result<(), TextFault>
+    requires { is_bare refusal ≡ true }
+    ensures text { (nodes : Items NodeRow) → Sends result (S.shown sink.old) (S.shown sink.new) (head_line nodes line (Refused refusal)) }
+    ensures fault { IsErrOf result TextFault.WriteFault → Rose (S.write_faults sink.old) (S.write_faults sink.new) }
+    ensures later { S.write_faults sink.old ≤ S.write_faults sink.new }
+    ensures same { KeepsCount result (S.write_faults sink.old) (S.write_faults sink.new) }
+    ensures by { S.by_write sink.old sink.new }
+{
+    match column_of(refusal) {
+        Some(column) => {
+            let (line, bad) = (Part::Number(line), Part::Text(b" refused BadLine "));
+            let column = Part::Number(u64::from(column));
+            send(sink, &[line, bad, column, Part::Text(b"\n")])
+        }
+        None => send(sink, &[Part::Number(line), Part::Text(text_of(refusal))]),
     }
 }

@@ -1,7 +1,6 @@
 //! Writes the lines of a list.
 
-ghost use Rattle.std.specs.Prelude.{◌≡◌, ◌++◌, ◌+◌, ◌≤◌, OnOk, IsErrOf, Some, take, flat_map, sum_by};
-ghost use Rattle.std.specs.String.{string_bytes};
+ghost use Rattle.std.specs.Prelude.{◌≡◌, ◌++◌, ◌∷◌, ◌+◌, ◌≤◌, IsErrOf, Some, flat_map, sum_by};
 ghost use Rattle.fsrm_model.specs.declared.command.Ask.TheVariants.{Quotas};
 ghost use Rattle.fsrm_model.specs.declared.command.Outcome.TheVariants.{Listing};
 ghost use Rattle.fsrm_model.specs.Cost.{list_cost, path_cost};
@@ -13,63 +12,104 @@ ghost use Rattle.fsrm_model.specs.Text as Words;
 ghost use Rattle.fsrm_model.specs.Text.{list_lines};
 ghost use Rattle.fsrm_model.specs.Valid.{IsValid};
 ghost use Rattle.fsrm_outside.specs.Causes.{Rose};
-ghost use Rattle.reply_text.specs.Lines.{mode_word, used_word, quota_text, line_text};
+ghost use Rattle.reply_text.specs.Lines.{mode_word, moment_text, used_word, quota_text, line_text};
+ghost use Rattle.reply_text.specs.Parts.{part_text};
 ghost use Rattle.reply_text.specs.Writes.{KeepsCount, Sends};
 
-use crate::dates::append_moment;
+use crate::dates::{date_text, time_text};
 use crate::fault::TextFault;
-use crate::sending::send;
+use crate::sending::{Part, send};
 use fsrm_engine::Engine;
-use fsrm_model::{Ask, Ledger, NoMemory, QuotaRow, QuotaState, Steps};
+use fsrm_model::{Ask, Ledger, QuotaRow, QuotaState, Steps};
 use fsrm_outside::Sink;
 use std::alloc::Global;
-use std::fmt::Write;
 
-fn mode_word(enforce: bool) -> &'static str
+const SECONDS_OF_A_DAY: u64 = 86_400;
+
+fn mode_word(enforce: bool) -> &'static [u8]
     ensures { result.now ≡ mode_word enforce }
 {
-    if enforce { "hard" } else { "soft" }
+    if enforce { b"hard" } else { b"soft" }
 }
 
-fn state_word(state: QuotaState) -> &'static str
+fn state_word(state: QuotaState) -> &'static [u8]
     ensures { result.now ≡ Words.state_word state }
 {
     match state {
-        QuotaState::Complete => "complete",
-        QuotaState::Disabled => "disabled",
-        QuotaState::Rebuilding => "rebuilding",
-        QuotaState::Incomplete => "incomplete",
+        QuotaState::Complete => b"complete",
+        QuotaState::Disabled => b"disabled",
+        QuotaState::Rebuilding => b"rebuilding",
+        QuotaState::Incomplete => b"incomplete",
     }
 }
 
-// Appends what is used, in bytes, if the quota counts.
-fn append_used(text: &mut String, used: Option<u64>) -> Result<(), NoMemory>
-    ensures { OnOk result (string_bytes text.new ≡ string_bytes text.old ++ used_word used) }
+// What is used, in bytes, if the quota counts.
+fn used_part<'a>(used: Option<u64>) -> Part<'a>
+    ensures { part_text result ≡ used_word used }
 {
     match used {
-        Some(bytes) => write!(text, "{bytes}")?,
-        None => write!(text, "-")?,
+        Some(bytes) => Part::Number(bytes),
+        None => Part::Text(b"-"),
     }
-    Ok(())
 }
 
-// Appends the line of a quota whose folder has this usage and this path.
-fn append_quota(
-    text: &mut String,
+// Writes the line of a quota whose folder has this usage and this path. These are the date and the time of its peak.
+fn write_parts<'a, S: Sink>(
+    sink: &mut S,
+    quota: &QuotaRow,
+    used: Option<u64>,
+    date: &'a [u8],
+    time: &'a [u8],
+    path: &'a str,
+) -> Result<(), TextFault>
+    requires { moment_text quota.now.peak_at ≡ date.now ++ 32 ∷ time.now }
+    ensures text { Sends result (S.shown sink.old) (S.shown sink.new) (quota_text quota.now used path.now) }
+    ensures fault { IsErrOf result TextFault.WriteFault → Rose (S.write_faults sink.old) (S.write_faults sink.new) }
+    ensures later { S.write_faults sink.old ≤ S.write_faults sink.new }
+    ensures same { KeepsCount result (S.write_faults sink.old) (S.write_faults sink.new) }
+    ensures by { S.by_write sink.old sink.new }
+{
+    send(
+        sink,
+        &[
+            Part::Text(b"  "),
+            Part::Number(quota.limit),
+            Part::Text(b" "),
+            Part::Text(mode_word(quota.enforce)),
+            Part::Text(b" "),
+            Part::Text(state_word(quota.state)),
+            Part::Text(b" "),
+            used_part(used),
+            Part::Text(b" "),
+            Part::Number(quota.peak),
+            Part::Text(b" "),
+            Part::Text(date),
+            Part::Text(b" "),
+            Part::Text(time),
+            Part::Text(b" "),
+            Part::Text(path.as_bytes()),
+            Part::Text(b"\n"),
+        ],
+    )
+}
+
+// Writes the line of a quota whose folder has this usage and this path.
+fn write_row<S: Sink>(
+    sink: &mut S,
     quota: &QuotaRow,
     used: Option<u64>,
     path: &str,
-) -> Result<(), NoMemory>
+) -> Result<(), TextFault>
     requires { quota.now.peak_at ≤ latest_moment }
-    ensures { OnOk result (string_bytes text.new ≡ string_bytes text.old ++ quota_text quota.now used path.now) }
+    ensures text { Sends result (S.shown sink.old) (S.shown sink.new) (quota_text quota.now used path.now) }
+    ensures fault { IsErrOf result TextFault.WriteFault → Rose (S.write_faults sink.old) (S.write_faults sink.new) }
+    ensures later { S.write_faults sink.old ≤ S.write_faults sink.new }
+    ensures same { KeepsCount result (S.write_faults sink.old) (S.write_faults sink.new) }
+    ensures by { S.by_write sink.old sink.new }
 {
-    let (mode, state) = (mode_word(quota.enforce), state_word(quota.state));
-    write!(text, "  {} {mode} {state} ", quota.limit)?;
-    append_used(text, used)?;
-    write!(text, " {} ", quota.peak)?;
-    append_moment(text, quota.peak_at)?;
-    writeln!(text, " {path}")?;
-    Ok(())
+    let date = date_text((quota.peak_at / SECONDS_OF_A_DAY) as u32);
+    let time = time_text((quota.peak_at % SECONDS_OF_A_DAY) as u32);
+    write_parts(sink, quota, used, &date, &time, path)
 }
 
 // Writes the line of a quota.
@@ -91,9 +131,7 @@ fn write_quota<S: Sink, L: Ledger>(
 {
     let path = engine.path_text(alloc, quota.folder, steps)?;
     let used = engine.used(quota.folder);
-    let mut text = String::new(alloc);
-    append_quota(&mut text, quota, used, path.as_str())?;
-    send(sink, text.as_str())
+    write_row(sink, quota, used, path.as_str())
 }
 
 // Writes the lines of all quotas.

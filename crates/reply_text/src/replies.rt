@@ -1,7 +1,6 @@
 //! Writes replies.
 
-ghost use Rattle.std.specs.Prelude.{◌≡◌, ℕ, ◌++◌, ◌+◌, ◌≤◌, true, false, is_some, List as Items, IsErrOf, OnOk};
-ghost use Rattle.std.specs.String.{string_bytes};
+ghost use Rattle.std.specs.Prelude.{◌≡◌, ℕ, ◌+◌, ◌≤◌, true, false, is_some, List as Items, IsErrOf};
 ghost use Rattle.fsrm_model.specs.declared.command.Outcome.TheVariants.{Refused};
 ghost use Rattle.fsrm_model.specs.declared.row.NodeRow.{NodeRow};
 ghost use Rattle.fsrm_model.specs.Cost.{print_cost};
@@ -12,20 +11,17 @@ ghost use Rattle.reply_text.specs.Lines.{is_listing};
 ghost use Rattle.reply_text.specs.Writes.{KeepsCount, Sends};
 
 use crate::fault::TextFault;
-use crate::heads::{
-    append_bare, append_exceeded, append_ok, append_passive, append_sum, append_visited,
-};
+use crate::heads::{write_bare, write_exceeded, write_ok, write_passive, write_sum, write_visited};
 use crate::lists::write_list;
-use crate::sending::send;
 use fsrm_engine::Engine;
-use fsrm_model::{Answer, Ledger, NoMemory, Outcome, Refusal, Steps, Table};
+use fsrm_model::{Answer, Ledger, Outcome, Refusal, Steps, Table};
 use fsrm_outside::Sink;
 use std::alloc::Global;
 
 /// Writes the reply to a script's line that is refused, for refusals that carry no path: `LINE refused`
 /// and why. Lines are numbered from 1.
 pub fn write_head<S: Sink>(
-    alloc: Global,
+    _alloc: Global,
     sink: &mut S,
     line: u64,
     refusal: &Refusal,
@@ -37,38 +33,38 @@ pub fn write_head<S: Sink>(
     ensures same { KeepsCount result (S.write_faults sink.old) (S.write_faults sink.new) }
     ensures by { S.by_write sink.old sink.new }
 {
-    let mut text = String::new(alloc);
-    append_bare(&mut text, line, *refusal)?;
-    send(sink, text.as_str())
+    write_bare(sink, line, *refusal)
 }
 
-// Appends the reply to a line that asks for no list.
-fn append_answer<L: Ledger>(
+// Writes the reply to a line that asks for no list.
+fn write_one<S: Sink, L: Ledger>(
     alloc: Global,
-    text: &mut String,
+    sink: &mut S,
     line: u64,
     outcome: &Outcome,
     engine: &Engine,
     steps: &mut Steps<L>,
-) -> Result<(), NoMemory>
+) -> Result<(), TextFault>
     requires named { IsNamed engine.now.rows outcome.now }
     requires one { is_listing outcome.now ≡ false }
-    ensures text { (moment : ℕ) → OnOk result (string_bytes text.new ≡ string_bytes text.old ++ reply engine.now.size engine.now.rows moment line outcome.now) }
+    ensures text { (moment : ℕ) → Sends result (S.shown sink.old) (S.shown sink.new) (reply engine.now.size engine.now.rows moment line outcome.now) }
+    ensures fault { IsErrOf result TextFault.WriteFault → Rose (S.write_faults sink.old) (S.write_faults sink.new) }
+    ensures later { S.write_faults sink.old ≤ S.write_faults sink.new }
+    ensures same { KeepsCount result (S.write_faults sink.old) (S.write_faults sink.new) }
+    ensures by { S.by_write sink.old sink.new }
     ensures looks { steps.new ≤ steps.old + print_cost engine.now.rows outcome.now }
 {
     match outcome {
-        Outcome::Done { passive: None } => append_ok(text, line),
+        Outcome::Done { passive: None } => write_ok(sink, line),
         Outcome::Done {
             passive: Some(screen),
         } => {
             let path = engine.path_text(alloc, *screen, steps)?;
-            append_ok(text, line)?;
-            append_passive(text, path.as_str())
+            write_passive(sink, line, path.as_str())
         }
         Outcome::Sum { node, bytes } => {
             let path = engine.path_text(alloc, *node, steps)?;
-            append_ok(text, line)?;
-            append_sum(text, *bytes, path.as_str())
+            write_sum(sink, line, *bytes, path.as_str())
         }
         Outcome::Scanned {
             folder,
@@ -76,7 +72,7 @@ fn append_answer<L: Ledger>(
             done,
         } => {
             let path = engine.path_text(alloc, *folder, steps)?;
-            append_visited(text, line, *visited, *done, path.as_str())
+            write_visited(sink, line, *visited, *done, path.as_str())
         }
         Outcome::Refused(
             Refusal::QuotaExceeded {
@@ -86,9 +82,9 @@ fn append_answer<L: Ledger>(
             },
         ) => {
             let path = engine.path_text(alloc, *folder, steps)?;
-            append_exceeded(text, line, *would, *limit, path.as_str())
+            write_exceeded(sink, line, *would, *limit, path.as_str())
         }
-        Outcome::Refused(refusal) => append_bare(text, line, *refusal),
+        Outcome::Refused(refusal) => write_bare(sink, line, *refusal),
         Outcome::Listing(_) => unreachable!(),
     }
 }
@@ -113,16 +109,11 @@ pub fn write_answer<S: Sink, L: Ledger>(
     ensures by { S.by_write sink.old sink.new }
     ensures looks { steps.new ≤ steps.old + print_cost engine.now.rows answer.now.outcome }
 {
-    let mut text = String::new(alloc);
     match &answer.outcome {
         Outcome::Listing(ask) => {
-            append_ok(&mut text, line)?;
-            send(sink, text.as_str())?;
+            write_ok(sink, line)?;
             write_list(alloc, sink, ask, engine, steps)
         }
-        _ => {
-            append_answer(alloc, &mut text, line, &answer.outcome, engine, steps)?;
-            send(sink, text.as_str())
-        }
+        _ => write_one(alloc, sink, line, &answer.outcome, engine, steps),
     }
 }

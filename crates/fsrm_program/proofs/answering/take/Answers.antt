@@ -1,9 +1,12 @@
-use Rattle.std.proofs.Common.{◌∙◌}
-use Rattle.fsrm_program.proofs.Outcomes.{on_ok, acts_none, step_text}
+use Rattle.std.proofs.Common.{◌∙◌, sym}
+use Rattle.fsrm_outside.specs.Shown.{ShowsFront}
+use Rattle.fsrm_outside.proofs.Shown.{append_known-nil}
+use Rattle.reply_text.proofs.Sent.{sent}
+use Rattle.fsrm_program.proofs.Outcomes.{on_ok, acts_none, step_reply, nothing_shown}
 use Rattle.fsrm_program.proofs.answering.take.Goals as goal
 
-pub append_answer-requires : goal.append_answer-requires
-append_answer-requires g c = record { named = c.in-Ok.ensures.named }
+pub write_answer-requires-clause-named : goal.write_answer-requires-clause-named
+write_answer-requires-clause-named g c = c.in-Ok.ensures.named
 
 pub returns-in-Ok-clause-idle : goal.returns-in-Ok-clause-idle
 returns-in-Ok-clause-idle g c =
@@ -14,6 +17,7 @@ returns-in-Ok-clause-text g c =
     let e = c.args.engine.now in
     let took = c.in-Ok.ensures.ok in
     let command = c.args.command.now in
-    on_ok c.append_answer.result
-    (step_text e.size c.apply.new.self.size e.rows c.apply.new.self.rows command c.in-Ok.answer.outcome c.args.number c.args.replies.now.bytes.items c.append_answer.new.replies.bytes.items took.size_is took.rows_are took.outcome_is)
-    (c.append_answer.ensures.text command.moment)
+    sent c.write_answer.result (g.S.Sink.shown c.args.sink.now) (g.S.Sink.shown c.write_answer.new.sink) _ _ (step_reply e.size c.apply.new.self.size e.rows c.apply.new.self.rows command c.in-Ok.answer.outcome command.moment c.args.number took.size_is took.rows_are took.outcome_is) (c.write_answer.ensures.text command.moment)
+
+pub returns-in-Err-clause-text : goal.returns-in-Err-clause-text
+returns-in-Err-clause-text g c = nothing_shown _ _

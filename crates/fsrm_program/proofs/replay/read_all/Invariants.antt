@@ -13,7 +13,7 @@ invariant-pieces g l =
       takes : Takes (state_of l.fn.session l.fn.steps) (state_of l.session l.steps) (source.left l.fn.outside) (source.left l.outside) (sink.shown l.fn.outside) (sink.shown l.outside) l.taken;
       within : l.taken ≤ longest_script;
       number : l.session.line ≤ l.fn.session.line + l.taken;
-      written : l.session.replies.bytes.items ≡ [];
+      written : l.replies.items ≡ [];
       idle : l.session.engine.waiting ≡ [];
       reads_kept : source.read_faults l.outside ≡ source.read_faults l.fn.outside;
       writes_kept : sink.write_faults l.outside ≡ sink.write_faults l.fn.outside;
