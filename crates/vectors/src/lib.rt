@@ -1,4 +1,4 @@
-//! What no clause says of the public calls of all crates: that each succeeds with ample memory, and that the
+//! What no clause says of the public calls of the libraries: that each succeeds with ample memory, and that the
 //! definitions say what was meant where no script can show it. A crate with tests is proved twice, and each statement
 //! of a test is proved too: so the tests of all crates stand here, and are short. Tables of cases that a script can
 //! state are scripts (`.ci/scripts`).

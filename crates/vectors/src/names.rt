@@ -1,5 +1,6 @@
 //! Names and paths: their order, which no reply shows.
 
+use fsrm_model::Duplicate;
 use name_rules::{Name, fold_cmp, is_name, read_path, same_name};
 use std::cmp::Ordering;
 use std::test::Fail;
@@ -12,6 +13,8 @@ fn names_and_paths_are_read(rt: HostRuntime) -> Result<(), Fail> {
     assert!(rt; same_name("\u{10400}", "\u{10428}") && !same_name("ß", "ss"));
     let path = read_path(rt.alloc(), "d:\\a\\b c\\")?;
     assert_eq!(rt; (path.depth(), path.part(1)), (2, "b c"));
+    let copy = path.copy(rt.alloc())?;
+    assert_eq!(rt; (copy.depth(), copy.part(0)), (2, "a"));
     Ok(())
 }
 

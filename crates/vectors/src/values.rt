@@ -1,11 +1,9 @@
 //! Values that the tests are made of: the one place to mend if a public type gets a field.
 
-ghost use Rattle.std.specs.Prelude.{◌≡◌, ◌≤◌, [], ◌∷◌, true, IfOk, codes};
-ghost use Rattle.fsrm_model.specs.Limits.{latest_moment};
-ghost use Rattle.fsrm_model.specs.Valued.{is_command};
+ghost use Rattle.std.specs.Prelude.{◌≡◌, [], ◌∷◌, true, IfOk, codes};
 ghost use Rattle.fsrm_objects.specs.Tables.{has_short_texts};
 
-use fsrm_model::{Capacity, Command, Deed, List, NodeRow, Path, QuotaRow, QuotaState, Text};
+use fsrm_model::{Capacity, List, NodeRow, Path, QuotaRow, QuotaState, Text};
 use std::alloc::Global;
 use std::test::Fail;
 
@@ -28,25 +26,6 @@ pub fn root(alloc: Global) -> Path
     ensures { result ≡ [] }
 {
     Path::from_parts(List::new(alloc))
-}
-
-/// The command that puts a hard quota of 1,024 bytes on the root.
-pub fn root_quota(alloc: Global, moment: u64) -> Command
-    requires { moment ≤ latest_moment }
-    ensures { is_command result ≡ true }
-{
-    Command {
-        moment,
-        deed: Deed::QuotaAdd {
-            path: root(alloc),
-            limit: Some(1_024),
-            enforce: None,
-            enabled: true,
-            source_template: None,
-            add_threshold: List::new(alloc),
-            add_notification: List::new(alloc),
-        },
-    }
 }
 
 /// A folder's complete quota of this limit, without thresholds.
