@@ -8,6 +8,8 @@ import sys
 
 HERE = os.path.dirname(os.path.abspath(__file__))
 COUNTED = shutil.which('valgrind') is not None
+# GNU time: of the program's own peak. What the system tells of a child has in it what this script itself takes.
+TIME = shutil.which('time')
 
 
 def own_program():
@@ -30,16 +32,28 @@ def processor_time():
     return used.ru_utime + used.ru_stime
 
 
-def replay(program, script):
+def replay(program, script, replies=os.devnull, under=()):
     """How long a processor works on a script. What else the machine does counts for little there."""
-    with open(script, 'rb') as lines:
+    with open(script, 'rb') as lines, open(replies, 'wb') as written:
         begun = processor_time()
-        subprocess.run([program, 'replay'], stdin=lines, stdout=subprocess.DEVNULL, check=True)
+        subprocess.run([*under, program, 'replay'], stdin=lines, stdout=written, check=True)
         return processor_time() - begun
 
 
-def seconds(program, script):
-    return min(replay(program, script) for _ in range(5))
+def seconds(programs, script):
+    """The least of five times for each of these programs, which run in turn."""
+    times = [[replay(program, script) for program in programs] for _ in range(5)]
+    return [min(column) for column in zip(*times)]
+
+
+def peak(program, script, replies):
+    """The most memory that the program had, in KiB, while it wrote these replies; None if GNU time isn't installed."""
+    noted = replies + '.peak'
+    replay(program, script, replies, [TIME, '-f', '%M', '-o', noted] if TIME else ())
+    if TIME is None:
+        return None
+    with open(noted, encoding='ascii') as text:
+        return int(text.read())
 
 
 def instructions(program, script, folder):
