@@ -35,12 +35,13 @@ impl Parts {
             Ok(place) => place,
             Err(refusal) => return Ok(refused(refusal)),
         };
-        if let Err(fault) = self.tree.may_create(place.folder, place.name, steps) {
-            return refused_by(fault);
-        }
+        let vacancy = match self.tree.may_create(place.folder, place.name, steps) {
+            Ok(vacancy) => vacancy,
+            Err(fault) => return refused_by(fault),
+        };
         let node = self
             .tree
-            .make_folder(place.folder, place.name, owner, moment, steps)?;
+            .make_folder(place.folder, place.name, vacancy, owner, moment, steps)?;
         self.scans.follow_mkdir(&self.tree, node);
         Ok(self.done(moment))
     }
@@ -67,9 +68,10 @@ impl Parts {
             Ok(place) => place,
             Err(refusal) => return Ok(refused(refusal)),
         };
-        if let Err(fault) = self.tree.may_create(place.folder, place.name, steps) {
-            return refused_by(fault);
-        }
+        let vacancy = match self.tree.may_create(place.folder, place.name, steps) {
+            Ok(vacancy) => vacancy,
+            Err(fault) => return refused_by(fault),
+        };
         let change = Change {
             from: None,
             to: Some(place.folder),
@@ -79,9 +81,15 @@ impl Parts {
         if let Err(exceeded) = self.usage.admit(&self.tree, &self.objects, &change, steps) {
             return Ok(refused(exceeded_by(exceeded)));
         }
-        let node = self
-            .tree
-            .make_file(place.folder, place.name, length, owner, moment, steps)?;
+        let node = self.tree.make_file(
+            place.folder,
+            place.name,
+            vacancy,
+            length,
+            owner,
+            moment,
+            steps,
+        )?;
         self.scans.follow_create(&self.tree, node, length, steps);
         charge(
             &self.tree,

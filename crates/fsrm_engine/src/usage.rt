@@ -14,7 +14,23 @@ use crate::exits::refused;
 use crate::parts::Parts;
 use fsrm_model::{Answer, Ledger, NoMemory, Outcome, Path, Refusal, Steps};
 use std::alloc::Global;
-use volume_tree::{Finger, Tree};
+use volume_tree::{Children, Finger, Tree};
+
+// Puts children after the nodes that are still to be visited. It takes a look for each.
+fn put<L: Ledger>(
+    children: &mut Children<'_>,
+    pending: &mut Vec<u32>,
+    steps: &mut Steps<L>,
+) -> Result<(), NoMemory>
+    ensures ok { OnOk result (pending.new.items ≡ pending.old.items ++ children.old) }
+    ensures count { OnOk result (steps.new ≡ steps.old + length children.old) }
+    ensures looks { steps.new ≤ steps.old + length children.old }
+{
+    while let Some(numbers) = children.next(steps) {
+        pending.extend_from_slice(numbers)?;
+    }
+    Ok(())
+}
 
 // Visits a node: what it takes itself, with its children put after the nodes that are still to be
 // visited.
@@ -36,7 +52,8 @@ fn visit<L: Ledger>(
 {
     let view = tree.node(node, steps);
     if view.folder {
-        pending.extend_from_slice(tree.children(node, finger, steps))?;
+        let mut children = tree.children(node, finger, steps);
+        put(&mut children, pending, steps)?;
         Ok(0)
     } else {
         Ok(tree.allocated(view.length))

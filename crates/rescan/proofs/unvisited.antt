@@ -1,4 +1,5 @@
 pub mod ChildLaws
+pub mod EnterLaws
 pub mod FindLaws
 pub mod SetLaws
 pub mod StandingLaws

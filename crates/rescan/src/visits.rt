@@ -1,13 +1,14 @@
 //! Visits of a scan.
 
-ghost use Rattle.std.specs.Prelude.{◌≡◌, ◌+◌, ◌*◌, ◌^◌, ◌≤◌, ◌<◌, IfOk, length, true, sum_by, ℕ};
+ghost use Rattle.std.specs.Prelude.{◌≡◌, ◌+◌, ◌*◌, ◌^◌, ◌≤◌, ◌<◌, IfOk, length, true, sum_by, slice_index, ℕ};
+ghost use Rattle.fsrm_base.specs.Keyed.{has_row};
 ghost use Rattle.fsrm_base.specs.Numbers.{is_in, is_set, with_numbers};
 ghost use Rattle.fsrm_model.specs.Scan.{next_visit, visit as visited};
 ghost use Rattle.fsrm_model.specs.Space.{space};
-ghost use Rattle.fsrm_model.specs.Tree.{children};
+ghost use Rattle.fsrm_model.specs.Tree.{number as key, children};
 ghost use Rattle.fsrm_model.specs.Valid.{IsVolume};
 ghost use Rattle.rescan.specs.Frontiers.{Stands, Follows, visit_looks, unvisited as unvisited_of};
-ghost use Rattle.rescan.specs.Visits.{folders_in};
+ghost use Rattle.rescan.specs.Visits.{folders_in, folders_among, space_of};
 
 use crate::frontier::Frontier;
 use fsrm_model::{Ledger, List, NoMemory, Steps};
@@ -87,11 +88,35 @@ pub(crate) fn enter_children<L: Ledger>(
 {
     // The files of a volume of this size take fewer than 2^64 bytes.
     let _size = tree.capacity();
+    let mut children = tree.children(folder, finger, steps);
     let mut bytes = 0u64;
-    for &child in tree.children(folder, finger, steps) {
-        let node = tree.node(child, steps);
+    while let Some(numbers) = children.next(steps) {
+        bytes += enter_nodes(tree, numbers, set, steps);
+    }
+    bytes
+}
+
+// Puts the folders among these nodes into a set. It gives the bytes that the files among them take. It takes a look
+// for each node.
+fn enter_nodes<L: Ledger>(
+    tree: &Tree,
+    numbers: &[u32],
+    set: &mut NumberSet,
+    steps: &mut Steps<L>,
+) -> u64
+    requires volume { IsVolume tree.now.size tree.now.nodes }
+    requires room { tree.now.size.nodes ≤ set.old.bound }
+    requires there { (k : ℕ) → k < length numbers.now → has_row key (slice_index numbers.now k) tree.now.nodes ≡ true }
+    requires small { sum_by (space_of tree.now.size tree.now.nodes) numbers.now < 2 ^ 64 }
+    ensures set { set.new ≡ record set.old { members = with_numbers (folders_among tree.now.nodes numbers.now) set.old.members } }
+    ensures bytes { result ≡ sum_by (space_of tree.now.size tree.now.nodes) numbers.now }
+    ensures count { steps.new ≡ steps.old + length numbers.now }
+{
+    let mut bytes = 0u64;
+    for &number in numbers {
+        let node = tree.node(number, steps);
         if node.folder {
-            set.insert(child);
+            set.insert(number);
         } else {
             bytes += tree.allocated(node.length);
         }

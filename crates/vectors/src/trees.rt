@@ -95,12 +95,12 @@ fn children_are_ordered<L: Ledger>(
     // Wherever the finger is: at the front, and after them.
     let mut finger = Finger::default();
     assert_eq!(end;
-        tree.children(0, &mut finger, steps),
-        [4, 2, 1, 3].as_slice()
+        tree.children(0, &mut finger, steps).next(steps),
+        Some([4, 2, 1, 3].as_slice())
     );
     assert_eq!(end;
-        tree.children(0, &mut finger, steps),
-        [4, 2, 1, 3].as_slice()
+        tree.children(0, &mut finger, steps).next(steps),
+        Some([4, 2, 1, 3].as_slice())
     );
     assert!(end; 1 < tree.child_count(0, steps));
     assert_eq!(end; tree.child_at(0, 1, steps), 2);

@@ -7,5 +7,6 @@ pub mod Items
 pub mod Names
 pub mod OrderLaws
 pub mod Places
+pub mod Runs
 pub mod Segments
 pub mod Spans

@@ -1,11 +1,15 @@
 -- How a tree's fields hold its nodes.
-use Rattle.std.specs.Prelude.{◌≡◌, ℕ, suc, ◌<◌, ◌≤◌, ◌==◌, ◌&&◌, ◌||◌, nat_lt, not, Bool, true, false, List, [], ◌∷◌, length, map, filter, slice_get, Option, Some, None}
+use Rattle.std.specs.Prelude.{◌≡◌, ℕ, suc, ◌+◌, ◌<◌, ◌≤◌, ◌==◌, ◌&&◌, ◌||◌, nat_lt, not, Bool, true, false, List, [], ◌∷◌, length, map, filter, take, drop, slice_get, Option, Some, None}
 use Rattle.std.specs.List.{AllPairs, between}
 use Rattle.std.specs.List.Sorted.{IsPermutation}
+use Rattle.std.specs.Option.{option_map_or}
 use Rattle.fsrm_model.specs.declared.row.Capacity.{Capacity}
 use Rattle.fsrm_model.specs.declared.row.NodeRow.{NodeRow}
 use Rattle.fsrm_model.specs.Capacities.{is_capacity}
-use Rattle.fsrm_model.specs.Name.{name_before}
+use Rattle.block_list.specs.declared.place.Place.{Place}
+use Rattle.block_list.specs.Places.{index_of}
+use Rattle.block_list.specs.Runs.{Contents, entries_of, run_at}
+use Rattle.fsrm_model.specs.Name.{name_before, same_name}
 use Rattle.fsrm_base.specs.Keyed.{has_row}
 use Rattle.fsrm_base.specs.Numbers.{is_in, is_set}
 use Rattle.fsrm_model.specs.Tree.{number, node_of, children_in_order, name_bytes}
@@ -36,6 +40,14 @@ inner nodes = filter (λ node. not (node.number == 0)) nodes
 abbrev pub is_before : NodeRow → ℕ → List ℕ → Bool
 is_before node folder name = nat_lt node.parent folder || ((node.parent == folder) && name_before node.name name)
 
+-- whether a node has a name in a folder
+abbrev pub is_named : NodeRow → ℕ → List ℕ → Bool
+is_named node folder name = (node.parent == folder) && same_name node.name name
+
+-- whether a number is that of a node other than the root that has a name in a folder
+abbrev pub has_name : List NodeRow → ℕ → ℕ → List ℕ → Bool
+has_name nodes n folder name = option_map_or (λ row. not (n == 0) && is_named row folder name) (node_of nodes n) false
+
 -- numbers are those of all nodes but the root in the order of their places, no place twice
 pub record IsOrder (nodes : List NodeRow) (order : List ℕ) : Type 0 where
   pub entries : List NodeRow
@@ -53,7 +65,7 @@ pub record AreHoles (slots : List (Option NodeRow)) (holes : List ℕ) : Type 0 
   pub members : (n : ℕ) → is_in holes n ≡ is_hole slots n
 
 -- how many nodes and bytes of names there are, the empty slots, the slots and the order
-pub record IsKept (K : Capacity) (count used : ℕ) (holes : Numbers) (slots : List (Option NodeRow)) (order : List ℕ) : Type 0 where
+pub record IsKept (K : Capacity) (count used : ℕ) (holes : Numbers) (slots : List (Option NodeRow)) (order : Contents ℕ) : Type 0 where
   pub volume : IsVolume K (rows_of slots)
   pub size : is_capacity K ≡ true
   pub slots_are : AreSlots 0 slots
@@ -61,7 +73,8 @@ pub record IsKept (K : Capacity) (count used : ℕ) (holes : Numbers) (slots : L
   pub used_is : used ≡ name_bytes (rows_of slots)
   pub bound_is : holes.bound ≡ K.nodes
   pub holes_are : AreHoles slots holes.members
-  pub order_is : IsOrder (rows_of slots) order
+  pub order_is : IsOrder (rows_of slots) (entries_of order.runs)
+  pub room_is : order.room ≡ K.nodes
 
 -- a node is there, and stands in a folder
 pub record IsIn (nodes : List NodeRow) (n folder : ℕ) : Type 0 where
@@ -80,13 +93,32 @@ pub record IsFloor (nodes : List NodeRow) (order : List ℕ) (folder : ℕ) (nam
   pub within : place ≤ length order
   pub before : (k n : ℕ) (row : NodeRow) → k < place → slice_get order k ≡ Some n → node_of nodes n ≡ Some row → is_before row folder name ≡ true
 
--- a place that isn't in front of this one: what stands from it on doesn't come before the name
-pub record IsCeiling (nodes : List NodeRow) (order : List ℕ) (folder : ℕ) (name : List ℕ) (place : ℕ) : Type 0 where
+-- a place from which on nothing comes before the name, or has it
+pub record IsBeyond (nodes : List NodeRow) (order : List ℕ) (folder : ℕ) (name : List ℕ) (place : ℕ) : Type 0 where
   pub within : place ≤ length order
   pub after : (k n : ℕ) (row : NodeRow) → place ≤ k → slice_get order k ≡ Some n → node_of nodes n ≡ Some row → is_before row folder name ≡ false
+  pub other : (k n : ℕ) (row : NodeRow) → place ≤ k → slice_get order k ≡ Some n → node_of nodes n ≡ Some row → is_named row folder name ≡ false
+
+-- what stands at a place has the name
+pub record IsNamed (nodes : List NodeRow) (order : List ℕ) (folder : ℕ) (name : List ℕ) (place : ℕ) : Type 0 where
+  pub number : ℕ
+  pub row : NodeRow
+  pub at : slice_get order place ≡ Some number
+  pub found : node_of nodes number ≡ Some row
+  pub named : is_named row folder name ≡ true
 
 -- from where to where in the order a folder's children stand, in the order of their folded names
 pub record IsSegment (nodes : List NodeRow) (order : List ℕ) (folder first end : ℕ) : Type 0 where
   pub ordered : first ≤ end
   pub within : end ≤ length order
   pub children_are : between first end order ≡ map number (children_in_order nodes folder)
+
+-- so many numbers from a place in runs on
+abbrev pub numbers_from : List (List ℕ) → Place → ℕ → List ℕ
+numbers_from runs place left = take left (drop (index_of runs place) (entries_of runs))
+
+-- so many are there, and if there is one, the place is at the beginning of a run or before an entry of it
+pub record IsLeft (runs : List (List ℕ)) (place : Place) (left : ℕ) : Type 0 where
+  pub within : index_of runs place + left ≤ length (entries_of runs)
+  pub run : 0 < left → place.run < length runs
+  pub offset : 0 < left → 0 < place.offset → place.offset < length (run_at runs place.run)

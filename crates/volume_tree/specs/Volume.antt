@@ -1,5 +1,5 @@
 -- The nodes of a volume, and what a tree of them answers.
-use Rattle.std.specs.Prelude.{◌≡◌, ℕ, ◌+◌, ◌==◌, nat_lt, nat_le, not, Bool, false, List, [], ◌∷◌, length, slice_get, Option, Some, None, is_some, if◌then◌else◌}
+use Rattle.std.specs.Prelude.{◌≡◌, ℕ, ◌+◌, ◌==◌, nat_lt, nat_le, not, Bool, false, List, [], ◌∷◌, length, slice_get, Option, Some, is_some}
 use Rattle.std.specs.Option.{option_map_or}
 use Rattle.fsrm_base.specs.Causes.{◌when◌, first}
 use Rattle.fsrm_model.specs.declared.row.Capacity.{Capacity}

@@ -9,8 +9,10 @@ ghost use Rattle.fsrm_model.specs.Valid.{IsVolume};
 ghost use Rattle.volume_tree.specs.Volume.{IsFault, new_fault, with_node};
 
 use crate::answer::TreeFault;
+use crate::order::search;
+use crate::slots;
 use crate::tree::Tree;
-use crate::{order, slots};
+use crate::vacancy::{Vacancy, new_place};
 use fsrm_model::{Ledger, NoMemory, NodeRow, Steps, Text};
 
 // What a new node is, beside its place. A folder has no length.
@@ -66,8 +68,8 @@ impl Tree {
         ensures kept { IsVolume self.new.size self.new.nodes }
         ensures looks { steps.new ≤ steps.old + 44 }
     {
-        self.may_create(folder, name, steps)?;
-        Ok(self.make_folder(folder, name, owner, moment, steps)?)
+        let vacancy = self.may_create(folder, name, steps)?;
+        Ok(self.make_folder(folder, name, vacancy, owner, moment, steps)?)
     }
 
     /// Makes a file of so many bytes in a folder, and gives its number, the least that is free. It
@@ -96,12 +98,12 @@ impl Tree {
         ensures kept { IsVolume self.new.size self.new.nodes }
         ensures looks { steps.new ≤ steps.old + 44 }
     {
-        self.may_create(folder, name, steps)?;
-        Ok(self.make_file(folder, name, length, owner, moment, steps)?)
+        let vacancy = self.may_create(folder, name, steps)?;
+        Ok(self.make_file(folder, name, vacancy, length, owner, moment, steps)?)
     }
 
     /// The first half of `mkdir` and `create`: all that can refuse a new node of this name in a folder.
-    /// It takes no memory, and no more than 22 looks.
+    /// It gives where the node is to stand. It takes no memory, and no more than 21 looks.
     ///
     /// It is refused as they are, but for memory.
     pub fn may_create<L: Ledger>(
@@ -109,32 +111,34 @@ impl Tree {
         folder: u32,
         name: &str,
         steps: &mut Steps<L>,
-    ) -> Result<(), TreeFault>
+    ) -> Result<Vacancy, TreeFault>
         ensures may { OnOk result (new_fault self.now folder name.now ≡ None) }
         ensures fault { IfErr result (λ fault. new_fault self.now folder name.now ≡ Some fault) }
         ensures kept { IsVolume self.now.size self.now.nodes }
         ensures some { steps.old + 1 ≤ steps.new }
-        ensures looks { steps.new ≤ steps.old + 22 }
+        ensures looks { steps.new ≤ steps.old + 21 }
     {
         let size = self.size;
-        if self.child(folder, name, steps).is_some() {
-            return Err(TreeFault::AlreadyExists);
-        }
+        let place = match search(&self.slots, &self.order, folder, name, steps) {
+            Ok(_) => return Err(TreeFault::AlreadyExists),
+            Err(place) => place,
+        };
         if self.count >= size.nodes {
             return Err(TreeFault::VolumeFull);
         }
         if self.used as u64 + name.len() as u64 > size.names as u64 {
             return Err(TreeFault::NamesFull);
         }
-        Ok(())
+        Ok(Vacancy::at(place))
     }
 
     /// The second half of `mkdir`: makes a folder that the tree has nothing against, and gives its number,
-    /// the least that is free. It takes no more than 22 looks. An `Err` changes nothing.
+    /// the least that is free. It takes no more than 23 looks. An `Err` changes nothing.
     pub fn make_folder<L: Ledger>(
         &mut self,
         folder: u32,
         name: &str,
+        vacancy: Vacancy,
         owner: u32,
         moment: u64,
         steps: &mut Steps<L>,
@@ -148,7 +152,7 @@ impl Tree {
         ensures made { OnOk result (self.new ≡ with_node self.old (made_node self.old.nodes folder name.now true 0 owner moment)) }
         ensures err { OnErr result (self.new ≡ self.old) }
         ensures kept { IsVolume self.new.size self.new.nodes }
-        ensures looks { steps.new ≤ steps.old + 22 }
+        ensures looks { steps.new ≤ steps.old + 23 }
     {
         let new = NewNode {
             folder: true,
@@ -156,15 +160,16 @@ impl Tree {
             owner,
             moment,
         };
-        self.make(folder, name, new, steps)
+        self.make(folder, name, vacancy, new, steps)
     }
 
     /// The second half of `create`: makes a file that the tree has nothing against, and gives its number,
-    /// the least that is free. It takes no more than 22 looks. An `Err` changes nothing.
+    /// the least that is free. It takes no more than 23 looks. An `Err` changes nothing.
     pub fn make_file<L: Ledger>(
         &mut self,
         folder: u32,
         name: &str,
+        vacancy: Vacancy,
         length: u64,
         owner: u32,
         moment: u64,
@@ -180,7 +185,7 @@ impl Tree {
         ensures made { OnOk result (self.new ≡ with_node self.old (made_node self.old.nodes folder name.now false length owner moment)) }
         ensures err { OnErr result (self.new ≡ self.old) }
         ensures kept { IsVolume self.new.size self.new.nodes }
-        ensures looks { steps.new ≤ steps.old + 22 }
+        ensures looks { steps.new ≤ steps.old + 23 }
     {
         let new = NewNode {
             folder: false,
@@ -188,7 +193,7 @@ impl Tree {
             owner,
             moment,
         };
-        self.make(folder, name, new, steps)
+        self.make(folder, name, vacancy, new, steps)
     }
 
     // Makes a node as `make_folder` and `make_file` do.
@@ -196,6 +201,7 @@ impl Tree {
         &mut self,
         folder: u32,
         name: &str,
+        vacancy: Vacancy,
         new: NewNode,
         steps: &mut Steps<L>,
     ) -> Result<u32, NoMemory>
@@ -209,16 +215,16 @@ impl Tree {
         ensures made { OnOk result (self.new ≡ with_node self.old (made_node self.old.nodes folder name.now new.folder new.length new.owner new.moment)) }
         ensures err { OnErr result (self.new ≡ self.old) }
         ensures kept { IsVolume self.new.size self.new.nodes }
-        ensures looks { steps.new ≤ steps.old + 22 }
+        ensures looks { steps.new ≤ steps.old + 23 }
     {
-        // With room in the order nothing can fail once the slot is filled.
-        self.order.reserve(1)?;
         let text = Text::from_str(self.alloc, name)?;
-        let place = order::new_place(&self.slots, &self.order, folder, name, steps);
+        let near = vacancy.place();
+        let place = new_place(&self.slots, &self.order, folder, name, near, steps);
         let number = slots::next_number(&self.slots, &self.holes);
+        self.hints.enter(&self.slots, folder, name, number);
         slots::put(&mut self.slots, new.row(number, folder, text))?;
         self.holes.remove(number);
-        self.order.insert(place, number).unwrap();
+        self.order.insert(place, number);
         self.count += 1;
         self.used += name.len() as u32;
         Ok(number)

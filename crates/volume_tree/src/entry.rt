@@ -1,78 +1,109 @@
 //! The entry of a node in the order.
 
-ghost use Rattle.std.specs.Prelude.{◌≡◌, ◌+◌, ◌<◌, ◌≤◌, ◌==◌, not, IfOk, IfErr, OnOk, OnErr, true, false, length, Some, slice_get, slice_index};
+ghost use Rattle.std.specs.Prelude.{◌≡◌, ◌+◌, ◌^◌, ◌<◌, ◌≤◌, ◌==◌, not, IfOk, IfErr, OnOk, OnErr, true, false, length, Some, slice_get, option_map};
 ghost use Rattle.fsrm_base.specs.Keyed.{has_row};
 ghost use Rattle.fsrm_model.specs.Limits.{most_nodes};
 ghost use Rattle.fsrm_model.specs.Tree.{number as key, parent_of, name_of, child_number};
-ghost use Rattle.volume_tree.specs.Kept.{AreSlots, IsOrder, rows_of};
+ghost use Rattle.block_list.specs.Places.{IsEntry, IsGap, index_of};
+ghost use Rattle.block_list.specs.Runs.{entries_of};
+ghost use Rattle.volume_tree.specs.Kept.{AreSlots, IsOrder, IsPlace, rows_of};
 ghost use Rattle.volume_tree.specs.Shift.{IsShifted};
+ghost use Rattle.volume_tree.specs.Volume.{is_other};
 
 use crate::{order, reads};
+use block_list::{BlockList, Place};
 use fsrm_model::{Ledger, NodeRow, Steps};
 
 /// Whether the node that was found is another one.
-pub fn is_other(order: &[u32], found: Result<usize, usize>, node: u32) -> bool
-    requires { IfOk found (λ place. place < length order.now) }
-    ensures ok { IfOk found (λ place. result ≡ not (slice_index order.now place == node)) }
+pub fn is_other(order: &BlockList<u32>, found: Result<Place, Place>, node: u32) -> bool
+    requires { IfOk found (λ place. IsEntry order.now.runs place) }
+    ensures ok { IfOk found (λ place. result ≡ is_other (slice_get (entries_of order.now.runs) (index_of order.now.runs place)) node) }
     ensures err { OnErr found (result ≡ false) }
 {
     match found {
-        Ok(place) => order[place] != node,
+        Ok(place) => order.get(place) != node,
         Err(_) => false,
     }
 }
 
-/// The place of a node in the order. It looks at no more than 22 nodes.
+/// The place of a node in the order, and the bytes of its name. It looks at no more than 22 nodes.
 pub fn own_place<L: Ledger>(
     slots: &[Option<NodeRow>],
-    order: &[u32],
+    order: &BlockList<u32>,
     node: u32,
     steps: &mut Steps<L>,
-) -> usize
+) -> (Place, u32)
     requires slots { AreSlots 0 slots.now }
-    requires order { IsOrder (rows_of slots.now) order.now }
-    requires few { length order.now < most_nodes }
+    requires order { IsOrder (rows_of slots.now) (entries_of order.now.runs) }
+    requires few { length (entries_of order.now.runs) < most_nodes }
     requires there { has_row key node (rows_of slots.now) ≡ true }
     requires found { child_number (rows_of slots.now) (parent_of (rows_of slots.now) node) (name_of (rows_of slots.now) node) ≡ Some node }
-    ensures place { slice_get order.now result ≡ Some node }
+    requires short { length (name_of (rows_of slots.now) node) < 2 ^ 32 }
+    ensures entry { IsEntry order.now.runs result.0 }
+    ensures place { slice_get (entries_of order.now.runs) (index_of order.now.runs result.0) ≡ Some node }
+    ensures bytes { result.1 ≡ length (name_of (rows_of slots.now) node) }
     ensures looks { steps.new ≤ steps.old + 22 }
 {
     let row = reads::node(slots, node, steps);
-    order::search(slots, order, row.parent, row.name.as_str(), steps).unwrap()
+    let place = order::search(slots, order, row.parent, row.name.as_str(), steps).unwrap();
+    (place, row.name.as_str().len() as u32)
 }
 
 /// Moves a node's entry to the place where a name was searched and not found. If one was found, it stays.
 /// It looks at no more than 22 nodes.
 pub fn reorder<L: Ledger>(
     slots: &[Option<NodeRow>],
-    order: &mut Vec<u32>,
+    order: &mut BlockList<u32>,
     node: u32,
-    found: Result<usize, usize>,
+    found: Result<Place, Place>,
     steps: &mut Steps<L>,
 )
     requires slots { AreSlots 0 slots.now }
-    requires order { IsOrder (rows_of slots.now) order.old.items }
-    requires few { length order.old.items < most_nodes }
+    requires order { IsOrder (rows_of slots.now) (entries_of order.old.runs) }
+    requires few { length (entries_of order.old.runs) < most_nodes }
+    requires room { length (entries_of order.old.runs) ≤ order.old.room }
     requires there { has_row key node (rows_of slots.now) ≡ true }
     requires own { child_number (rows_of slots.now) (parent_of (rows_of slots.now) node) (name_of (rows_of slots.now) node) ≡ Some node }
-    requires within { IfErr found (λ place. place ≤ length order.old.items) }
-    ensures ok { OnOk found (order.new.items ≡ order.old.items) }
-    ensures err { IfErr found (λ place. IsShifted order.old.items order.new.items node place) }
+    requires short { length (name_of (rows_of slots.now) node) < 2 ^ 32 }
+    requires gap { IfErr found (λ place. IsGap order.old.runs place) }
+    ensures room { order.new.room ≡ order.old.room }
+    ensures ok { OnOk found (entries_of order.new.runs ≡ entries_of order.old.runs) }
+    ensures err { IfErr found (λ place. IsShifted (entries_of order.old.runs) (entries_of order.new.runs) node (index_of order.old.runs place)) }
     ensures looks { steps.new ≤ steps.old + 22 }
 {
     if let Err(place) = found {
-        let own = own_place(slots, order, node, steps);
-        shift(order, own, place);
+        let (own, _) = own_place(slots, order, node, steps);
+        shift(order, node, own, place);
     }
 }
 
-// Moves an entry to before the one at another place, or to the end.
-fn shift(order: &mut Vec<u32>, from: usize, to: usize)
-    requires from { from < length order.old.items }
-    requires to { to ≤ length order.old.items }
-    ensures { IsShifted order.old.items order.new.items (slice_index order.old.items from) to }
+// The place before which so many entries stand.
+fn gap_at(order: &BlockList<u32>, index: u32) -> Place
+    requires { index ≤ length (entries_of order.now.runs) }
+    ensures gap { IsGap order.now.runs result }
+    ensures index { index_of order.now.runs result ≡ index }
 {
-    let entry = order.remove(from);
-    let place = if from < to { to - 1 } else { to };
-    order.insert(place, entry).unwrap();
+    if index < order.len() {
+        order.place_of(index)
+    } else {
+        order.end()
+    }
+}
+
+// Moves a node's entry to before the one at another place, or to the end. A removal may move that place, so it is
+// kept as a number of entries, for which the runs before it are passed.
+fn shift(order: &mut BlockList<u32>, node: u32, from: Place, to: Place)
+    requires few { length (entries_of order.old.runs) < most_nodes }
+    requires room { length (entries_of order.old.runs) ≤ order.old.room }
+    requires from { IsEntry order.old.runs from }
+    requires node { slice_get (entries_of order.old.runs) (index_of order.old.runs from) ≡ Some node }
+    requires to { IsGap order.old.runs to }
+    ensures room { order.new.room ≡ order.old.room }
+    ensures shifted { IsShifted (entries_of order.old.runs) (entries_of order.new.runs) node (index_of order.old.runs to) }
+{
+    let old = order.index_of(from);
+    let new = order.index_of(to);
+    order.remove(from);
+    let place = gap_at(order, if old < new { new - 1 } else { new });
+    order.insert(place, node);
 }

@@ -1,8 +1,27 @@
 //! Where a search among a volume's nodes begins.
 
-/// A place among a volume's nodes that is kept from one search to the next. A search is short if it ends
-/// near the finger; what it finds is the same wherever the finger is.
+use block_list::Place;
+
+/// A place among a volume's nodes that is kept from one search to the next. A search ends at once if the finger is
+/// where it would end; what it finds is the same wherever the finger is.
 #[derive(Clone, Copy, Debug, Default, PartialEq, Eq)]
 pub struct Finger {
-    pub(crate) place: usize,
+    run: usize,
+    offset: usize,
+}
+
+impl Finger {
+    pub(crate) fn at(place: Place) -> Finger {
+        Finger {
+            run: place.run,
+            offset: place.offset,
+        }
+    }
+
+    pub(crate) fn place(self) -> Place {
+        Place {
+            run: self.run,
+            offset: self.offset,
+        }
+    }
 }

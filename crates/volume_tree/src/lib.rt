@@ -1,19 +1,24 @@
 //! The tree of a volume's folders and files.
 //!
-//! The numbers of all nodes are kept in the order of their places, by folder and folded name, and searched by halves. A
-//! node's row stands in the slot of its number. Contracts see a tree as its capacity and its nodes in the order of
-//! their numbers.
+//! The numbers of all nodes are kept in the order of their places, by folder and folded name, in the runs of a list in
+//! blocks. A search halves the runs' first entries and then one run, and ends where it finds the name: at no more than
+//! 13 and 8 looks. A new node moves the entries of at most two blocks. A node's row stands in the slot of its number.
+//! Which node has a name in a folder is guessed first, so that most searches take one look, at the node that is guessed.
+//! Contracts see a tree as its capacity and its nodes in the order of their numbers.
 //!
 //! A call that reads nodes counts them as looks. `children`, `child_count` and `child_at` count one look for the call,
-//! and `children` one more for each child that it lends. What these three compare to find where a folder's children
+//! and `Children::next` one for each child that it lends. What these three compare to find where a folder's children
 //! stand in the order isn't counted.
 #![tactic(auto)]
 
 mod answer;
+mod children;
 mod climb;
 mod creations;
 mod entry;
 mod finger;
+mod hints;
+mod lookup;
 mod moves;
 mod order;
 mod reads;
@@ -21,8 +26,11 @@ mod rows;
 mod segment;
 mod slots;
 mod tree;
+mod vacancy;
 
 pub use answer::{NodeView, RowsFault, TreeFault};
+pub use children::Children;
 pub use finger::Finger;
 pub use moves::ReadyMove;
 pub use tree::Tree;
+pub use vacancy::Vacancy;

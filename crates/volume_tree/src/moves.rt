@@ -122,6 +122,8 @@ impl Tree {
         let found = order::search(&self.slots, &self.order, folder, name.as_str(), steps);
         reorder(&self.slots, &mut self.order, node, found, steps);
         let bytes = name.as_str().len() as u32;
+        self.hints.forget(&self.slots, node);
+        self.hints.enter(&self.slots, folder, name.as_str(), node);
         let old_bytes = slots::set_place(&mut self.slots, node, folder, name, steps);
         self.used = self.used - old_bytes + bytes;
     }

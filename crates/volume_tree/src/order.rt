@@ -1,127 +1,224 @@
 //! The numbers of all nodes but the root in the order of their places: by folders, and in each folder
-//! by folded names.
+//! by folded names. They are kept in runs, of which each begins a block of its own.
 
-ghost use Rattle.std.specs.Prelude.{◌≡◌, ◌+◌, ◌<◌, ◌≤◌, ◌==◌, ◌&&◌, IfOk, IfErr, OnOk, true, not, length, [], Some, None, slice_index};
+ghost use Rattle.std.specs.Prelude.{◌≡◌, ℕ, ◌+◌, ◌<◌, ◌≤◌, ◌==◌, IfOk, IfErr, OnOk, true, not, length, [], Some, None, slice_get};
+ghost use Rattle.std.specs.Ordering.{is_lt, is_eq};
 ghost use Rattle.fsrm_model.specs.Limits.{most_nodes};
-ghost use Rattle.fsrm_model.specs.Name.{same_name};
-ghost use Rattle.fsrm_model.specs.Tree.{node_of, children, child_number};
-ghost use Rattle.volume_tree.specs.Kept.{AreSlots, IsOrder, IsPlace, rows_of, is_before};
+ghost use Rattle.fsrm_model.specs.Tree.{children, child_number};
+ghost use Rattle.block_list.specs.Places.{IsEntry, IsGap, index_of};
+ghost use Rattle.block_list.specs.Runs.{entries_of, run_at, start_of};
+ghost use Rattle.volume_tree.specs.Kept.{AreSlots, IsBeyond, IsFloor, IsNamed, IsOrder, IsPlace, rows_of, is_before, is_named};
 
-use crate::reads::entry;
+use crate::reads::{entry, node};
+use block_list::{BlockList, Place};
 use fsrm_model::{Ledger, NodeRow, Steps};
-use name_rules::{fold_cmp, same_name};
+use name_rules::fold_cmp;
+use std::cmp::Ordering;
 
-// Whether a node stands before the place of a name in a folder.
-fn is_before(row: &NodeRow, folder: u32, name: &str) -> bool
-    ensures { result ≡ is_before row.now folder name.now }
+/// How a node stands to the place of a name in a folder: before it, at it or after it.
+pub fn compare(row: &NodeRow, folder: u64, name: &str) -> Ordering
+    ensures less { is_lt result ≡ is_before row.now folder name.now }
+    ensures equal { is_eq result ≡ is_named row.now folder name.now }
 {
-    row.parent < folder || (row.parent == folder && fold_cmp(row.name.as_str(), name).is_lt())
+    match u64::from(row.parent).cmp(&folder) {
+        Ordering::Equal => fold_cmp(row.name.as_str(), name),
+        order => order,
+    }
 }
 
-// Whether a node has this name in this folder.
-fn is_named(row: &NodeRow, folder: u32, name: &str) -> bool
-    ensures { result ≡ (row.now.parent == folder) && same_name row.now.name name.now }
-{
-    row.parent == folder && same_name(row.name.as_str(), name)
-}
-
-// The place in the order of a name in a folder. It looks at no more than 20 nodes.
-fn place_of<L: Ledger>(
+// The run that begins with the node of a name in a folder, or as an `Err` how many runs begin before the place of
+// the name. It gives too at how many nodes it looked: at no more than 13.
+fn runs_before(
     slots: &[Option<NodeRow>],
-    order: &[u32],
-    folder: u32,
+    order: &BlockList<u32>,
+    folder: u64,
     name: &str,
-    steps: &mut Steps<L>,
-) -> usize
+) -> (Result<usize, usize>, usize)
     requires slots { AreSlots 0 slots.now }
-    requires order { IsOrder (rows_of slots.now) order.now }
-    requires few { length order.now < most_nodes }
-    ensures place { IsPlace (rows_of slots.now) order.now folder name.now result }
-    ensures least { steps.old ≤ steps.new }
-    ensures looks { steps.new ≤ steps.old + 20 }
+    requires order { IsOrder (rows_of slots.now) (entries_of order.now.runs) }
+    requires few { length (entries_of order.now.runs) < most_nodes }
+    ensures run { IfOk result.0 (λ run. run < length order.now.runs) }
+    ensures named { IfOk result.0 (λ run. IsNamed (rows_of slots.now) (entries_of order.now.runs) folder name.now (start_of order.now.runs run)) }
+    ensures taken { IfOk result.0 (λ run. IsPlace (rows_of slots.now) (entries_of order.now.runs) folder name.now (start_of order.now.runs run)) }
+    ensures count { IfErr result.0 (λ count. count ≤ length order.now.runs) }
+    ensures floor { IfErr result.0 (λ count. (run : ℕ) → run + 1 ≡ count → IsFloor (rows_of slots.now) (entries_of order.now.runs) folder name.now (start_of order.now.runs run + 1)) }
+    ensures beyond { IfErr result.0 (λ count. IsBeyond (rows_of slots.now) (entries_of order.now.runs) folder name.now (start_of order.now.runs count)) }
+    ensures some { OnOk result.0 (1 ≤ result.1) }
+    ensures looks { result.1 ≤ 13 }
 {
     let mut low = 0;
-    let mut high = order.len();
+    let mut high = order.run_count();
+    let mut looks = 0;
     while low < high {
         let middle = low + (high - low) / 2;
-        if is_before(entry(slots, order, middle, steps), folder, name) {
-            low = middle + 1;
-        } else {
-            high = middle;
+        let row = entry(slots, order.first(middle), &mut looks);
+        match compare(row, folder, name) {
+            Ordering::Less => low = middle + 1,
+            Ordering::Equal => return (Ok(middle), looks),
+            Ordering::Greater => high = middle,
         }
     }
-    low
+    (Err(low), looks)
+}
+
+// Where in a run whose first node comes before the name, and before whose end its place is, the node of the name
+// stands, or as an `Err` where one is to stand. It gives too at how many nodes it looked: at no more than 8.
+fn offset_of(
+    slots: &[Option<NodeRow>],
+    order: &BlockList<u32>,
+    run: usize,
+    folder: u64,
+    name: &str,
+) -> (Result<usize, usize>, usize)
+    requires slots { AreSlots 0 slots.now }
+    requires order { IsOrder (rows_of slots.now) (entries_of order.now.runs) }
+    requires run { run < length order.now.runs }
+    requires floor { IsFloor (rows_of slots.now) (entries_of order.now.runs) folder name.now (start_of order.now.runs run + 1) }
+    requires beyond { IsBeyond (rows_of slots.now) (entries_of order.now.runs) folder name.now (start_of order.now.runs (run + 1)) }
+    ensures entry { IfOk result.0 (λ offset. offset < length (run_at order.now.runs run)) }
+    ensures named { IfOk result.0 (λ offset. IsNamed (rows_of slots.now) (entries_of order.now.runs) folder name.now (start_of order.now.runs run + offset)) }
+    ensures taken { IfOk result.0 (λ offset. IsPlace (rows_of slots.now) (entries_of order.now.runs) folder name.now (start_of order.now.runs run + offset)) }
+    ensures gap { IfErr result.0 (λ offset. offset ≤ length (run_at order.now.runs run)) }
+    ensures floor { IfErr result.0 (λ offset. IsFloor (rows_of slots.now) (entries_of order.now.runs) folder name.now (start_of order.now.runs run + offset)) }
+    ensures beyond { IfErr result.0 (λ offset. IsBeyond (rows_of slots.now) (entries_of order.now.runs) folder name.now (start_of order.now.runs run + offset)) }
+    ensures some { OnOk result.0 (1 ≤ result.1) }
+    ensures looks { result.1 ≤ 8 }
+{
+    let numbers = order.run(run);
+    let mut low = 1;
+    let mut high = numbers.len();
+    let mut looks = 0;
+    while low < high {
+        let middle = low + (high - low) / 2;
+        let row = entry(slots, numbers[middle], &mut looks);
+        match compare(row, folder, name) {
+            Ordering::Less => low = middle + 1,
+            Ordering::Equal => return (Ok(middle), looks),
+            Ordering::Greater => high = middle,
+        }
+    }
+    (Err(low), looks)
+}
+
+/// The place in the order of a folder's child of a name, or as an `Err` the place where one is to stand. It gives
+/// too at how many nodes it looked: at no more than 21. The folder may be any number.
+pub fn place_of(
+    slots: &[Option<NodeRow>],
+    order: &BlockList<u32>,
+    folder: u64,
+    name: &str,
+) -> (Result<Place, Place>, usize)
+    requires slots { AreSlots 0 slots.now }
+    requires order { IsOrder (rows_of slots.now) (entries_of order.now.runs) }
+    requires few { length (entries_of order.now.runs) < most_nodes }
+    ensures entry { IfOk result.0 (λ place. IsEntry order.now.runs place) }
+    ensures named { IfOk result.0 (λ place. IsNamed (rows_of slots.now) (entries_of order.now.runs) folder name.now (index_of order.now.runs place)) }
+    ensures taken { IfOk result.0 (λ place. IsPlace (rows_of slots.now) (entries_of order.now.runs) folder name.now (index_of order.now.runs place)) }
+    ensures gap { IfErr result.0 (λ place. IsGap order.now.runs place) }
+    ensures floor { IfErr result.0 (λ place. IsFloor (rows_of slots.now) (entries_of order.now.runs) folder name.now (index_of order.now.runs place)) }
+    ensures beyond { IfErr result.0 (λ place. IsBeyond (rows_of slots.now) (entries_of order.now.runs) folder name.now (index_of order.now.runs place)) }
+    ensures some { OnOk result.0 (1 ≤ result.1) }
+    ensures looks { result.1 ≤ 21 }
+{
+    let (found, heads) = runs_before(slots, order, folder, name);
+    match found {
+        Ok(run) => {
+            // No run is empty.
+            let _numbers = order.run(run);
+            (Ok(Place { run, offset: 0 }), heads)
+        }
+        Err(0) => (Err(Place { run: 0, offset: 0 }), heads),
+        Err(count) => {
+            let run = count - 1;
+            let (found, looks) = offset_of(slots, order, run, folder, name);
+            match found {
+                Ok(offset) => (Ok(Place { run, offset }), heads + looks),
+                Err(offset) => (Err(Place { run, offset }), heads + looks),
+            }
+        }
+    }
 }
 
 /// The place in the order of a folder's child of a name, or as an `Err` the place where one is to
-/// stand. It looks at no more than 21 nodes.
+/// stand. It takes a look, at the folder if there is no other node, and no more than 21.
 pub fn search<L: Ledger>(
     slots: &[Option<NodeRow>],
-    order: &[u32],
+    order: &BlockList<u32>,
     folder: u32,
     name: &str,
     steps: &mut Steps<L>,
-) -> Result<usize, usize>
+) -> Result<Place, Place>
     requires slots { AreSlots 0 slots.now }
-    requires order { IsOrder (rows_of slots.now) order.now }
-    requires few { length order.now < most_nodes }
-    ensures taken { IfOk result (λ place. place < length order.now) }
-    ensures free { IfErr result (λ place. IsPlace (rows_of slots.now) order.now folder name.now place) }
-    ensures found { IfOk result (λ place. child_number (rows_of slots.now) folder name.now ≡ Some (slice_index order.now place)) }
+    requires order { IsOrder (rows_of slots.now) (entries_of order.now.runs) }
+    requires few { length (entries_of order.now.runs) < most_nodes }
+    ensures entry { IfOk result (λ place. IsEntry order.now.runs place) }
+    ensures gap { IfErr result (λ place. IsGap order.now.runs place) }
+    ensures taken { IfOk result (λ place. IsPlace (rows_of slots.now) (entries_of order.now.runs) folder name.now (index_of order.now.runs place)) }
+    ensures free { IfErr result (λ place. IsPlace (rows_of slots.now) (entries_of order.now.runs) folder name.now (index_of order.now.runs place)) }
+    ensures found { IfOk result (λ place. child_number (rows_of slots.now) folder name.now ≡ slice_get (entries_of order.now.runs) (index_of order.now.runs place)) }
     ensures none { IfErr result (λ place. child_number (rows_of slots.now) folder name.now ≡ None) }
-    ensures some { OnOk result (steps.old + 1 ≤ steps.new) }
-    ensures least { steps.old ≤ steps.new }
+    ensures some { steps.old + 1 ≤ steps.new }
     ensures looks { steps.new ≤ steps.old + 21 }
 {
-    let place = place_of(slots, order, folder, name, steps);
-    if place == order.len() {
-        return Err(place);
-    }
-    if is_named(entry(slots, order, place, steps), folder, name) {
-        Ok(place)
-    } else {
-        Err(place)
-    }
+    let (found, looks) = place_of(slots, order, u64::from(folder), name);
+    steps.count(looks.max(1));
+    found
 }
 
-/// Where a name that no child of a folder has is to stand in the order. It looks at no more than 21 nodes.
-pub fn new_place<L: Ledger>(
-    slots: &[Option<NodeRow>],
-    order: &[u32],
-    folder: u32,
-    name: &str,
-    steps: &mut Steps<L>,
-) -> usize
+/// The place in the order from which the folders have this number or greater ones. It gives too at how many nodes
+/// it looked: at no more than 21.
+pub fn first_from(slots: &[Option<NodeRow>], order: &BlockList<u32>, folder: u64) -> (Place, usize)
     requires slots { AreSlots 0 slots.now }
-    requires order { IsOrder (rows_of slots.now) order.now }
-    requires few { length order.now < most_nodes }
-    requires none { child_number (rows_of slots.now) folder name.now ≡ None }
-    ensures place { IsPlace (rows_of slots.now) order.now folder name.now result }
-    ensures looks { steps.new ≤ steps.old + 21 }
+    requires order { IsOrder (rows_of slots.now) (entries_of order.now.runs) }
+    requires few { length (entries_of order.now.runs) < most_nodes }
+    ensures gap { IsGap order.now.runs result.0 }
+    ensures place { IsPlace (rows_of slots.now) (entries_of order.now.runs) folder [] (index_of order.now.runs result.0) }
+    ensures looks { result.1 ≤ 21 }
 {
-    // The place isn't kept from the question whether there is one, since other places may have moved since.
-    match search(slots, order, folder, name, steps) {
-        Ok(place) | Err(place) => place,
+    // No name comes before the empty one.
+    let (found, looks) = place_of(slots, order, folder, "");
+    match found {
+        Ok(place) | Err(place) => (place, looks),
     }
 }
 
-/// Whether a folder has a child. It looks at no more than 21 nodes.
+/// The number that stands at a place, if that isn't the end.
+pub fn number_at(order: &BlockList<u32>, place: Place) -> Option<u32>
+    requires { IsGap order.now.runs place }
+    ensures { result ≡ slice_get (entries_of order.now.runs) (index_of order.now.runs place) }
+{
+    if order.run_count() == 0 {
+        return None;
+    }
+    let numbers = order.run(place.run);
+    if place.offset < numbers.len() {
+        return Some(numbers[place.offset]);
+    }
+    let next = place.run + 1;
+    if next < order.run_count() {
+        Some(order.first(next))
+    } else {
+        None
+    }
+}
+
+/// Whether a folder has a child. It looks at no more than 22 nodes.
 pub fn has_child<L: Ledger>(
     slots: &[Option<NodeRow>],
-    order: &[u32],
+    order: &BlockList<u32>,
     folder: u32,
     steps: &mut Steps<L>,
 ) -> bool
     requires slots { AreSlots 0 slots.now }
-    requires order { IsOrder (rows_of slots.now) order.now }
-    requires few { length order.now < most_nodes }
+    requires order { IsOrder (rows_of slots.now) (entries_of order.now.runs) }
+    requires few { length (entries_of order.now.runs) < most_nodes }
     ensures value { result ≡ not (length (children (rows_of slots.now) folder) == 0) }
-    ensures looks { steps.new ≤ steps.old + 21 }
+    ensures looks { steps.new ≤ steps.old + 22 }
 {
-    // No name comes before the empty one, so a child would stand at its place.
-    let place = place_of(slots, order, folder, "", steps);
-    if place == order.len() {
+    let (place, looks) = first_from(slots, order, u64::from(folder));
+    steps.count(looks);
+    let Some(number) = number_at(order, place) else {
         return false;
-    }
-    entry(slots, order, place, steps).parent == folder
+    };
+    node(slots, number, steps).parent == folder
 }

@@ -7,12 +7,14 @@ ghost use Rattle.std.specs.Ordering.{is_lt};
 ghost use Rattle.fsrm_base.specs.Keyed.{has_row, is_ascending};
 ghost use Rattle.fsrm_model.specs.Tree.{number as key, parent_of, is_folder, is_under, name_bytes};
 ghost use Rattle.fsrm_model.specs.Valid.{is_tree, is_moment, is_own, is_root_node};
+ghost use Rattle.block_list.specs.Runs.{entries_of};
 ghost use Rattle.volume_tree.specs.Kept.{AreSlots, IsKept, IsOrder, inner, is_before, rows_of};
 ghost use Rattle.volume_tree.specs.Sound.{AreMarks, HasTwins, Reaches, are_from, are_sound, is_placed};
 ghost use Rattle.fsrm_model.specs.Capacities.{is_capacity};
 
 use crate::answer::RowsFault;
 use crate::slots::{holes_in, row};
+use block_list::BlockList;
 use fsrm_model::limits::{LATEST_MOMENT, LONGEST_FILE};
 use fsrm_model::{Capacity, Duplicate, Ledger, List, NoMemory, NodeRow, Steps};
 use name_rules::{fold_cmp, is_name};
@@ -46,7 +48,7 @@ pub struct Parts {
     /// Each row in the slot of its number.
     pub slots: Vec<Option<NodeRow>>,
     /// The numbers of all rows but the root, by folders and in each by folded names.
-    pub order: Vec<u32>,
+    pub order: BlockList<u32>,
     /// How many rows there are, and the bytes of all their names.
     pub count: u32,
     pub used: u32,
@@ -58,7 +60,7 @@ pub struct Parts {
 /// volume of this size.
 pub fn read(alloc: Global, rows: &[NodeRow], size: Capacity) -> Result<Parts, RowsFault>
     requires { is_capacity size ≡ true }
-    ensures kept { IfOk result (λ made. IsKept size made.count made.used made.holes made.slots.items made.order.items) }
+    ensures kept { IfOk result (λ made. IsKept size made.count made.used made.holes made.slots.items made.order) }
     ensures nodes { IfOk result (λ made. rows_of made.slots.items ≡ rows.now) }
     ensures may { OnOk result (is_tree size rows.now ≡ true) }
     ensures bad { IsErrOf result RowsFault.BadRows → is_tree size rows.now ≡ false }
@@ -67,7 +69,7 @@ pub fn read(alloc: Global, rows: &[NodeRow], size: Capacity) -> Result<Parts, Ro
     let Some(used) = name_bytes(rows, size.names) else {
         return Err(RowsFault::BadRows);
     };
-    let order = order_of(alloc, rows)?;
+    let order = order_of(alloc, rows, size.nodes)?;
     let holes = match holes_in(alloc, &slots, size.nodes) {
         Ok(holes) => holes,
         Err(NoMemory) => return Err(RowsFault::NoMemory),
@@ -321,11 +323,13 @@ fn name_bytes(rows: &[NodeRow], most: u32) -> Option<u32>
     Some(most - left as u32)
 }
 
-// The numbers of all rows but the root in the order of their places. The rows are bad exactly if
-// two children of a folder have one name.
-fn order_of(alloc: Global, rows: &[NodeRow]) -> Result<Vec<u32>, RowsFault>
-    requires { is_ascending key rows.now ≡ true }
-    ensures order { IfOk result (λ order. IsOrder rows.now order.items) }
+// The numbers of all rows but the root in the order of their places, with room for so many. The rows are bad exactly
+// if two children of a folder have one name.
+fn order_of(alloc: Global, rows: &[NodeRow], room: u32) -> Result<BlockList<u32>, RowsFault>
+    requires ascending { is_ascending key rows.now ≡ true }
+    requires room { length rows.now ≤ room }
+    ensures order { IfOk result (λ order. IsOrder rows.now (entries_of order.runs)) }
+    ensures room { IfOk result (λ order. order.room ≡ room) }
     ensures bad { IsErrOf result RowsFault.BadRows → HasTwins rows.now }
 {
     let entries = match sorted(alloc, rows) {
@@ -335,7 +339,7 @@ fn order_of(alloc: Global, rows: &[NodeRow]) -> Result<Vec<u32>, RowsFault>
     if !are_apart(&entries) {
         return Err(RowsFault::BadRows);
     }
-    match numbers(alloc, &entries) {
+    match numbers(alloc, &entries, room) {
         Ok(order) => Ok(order),
         Err(NoMemory) => Err(RowsFault::NoMemory),
     }
@@ -374,9 +378,14 @@ fn are_apart(entries: &[&NodeRow]) -> bool
     entries.is_sorted_by(|a, b| compare(a, b).is_lt())
 }
 
-fn numbers(alloc: Global, entries: &[&NodeRow]) -> Result<Vec<u32>, NoMemory>
-    ensures { IfOk result (λ order. order.items ≡ map (λ row. row.now.number) entries.now) }
+// The numbers of these rows, with room for so many.
+fn numbers(alloc: Global, entries: &[&NodeRow], room: u32) -> Result<BlockList<u32>, NoMemory>
+    requires { length entries.now ≤ room }
+    ensures numbers { IfOk result (λ order. entries_of order.runs ≡ map (λ row. row.now.number) entries.now) }
+    ensures room { IfOk result (λ order. order.room ≡ room) }
 {
-    let order = entries.iter().map(|row| row.number).collect(alloc)?;
+    let numbers: Vec<u32> = entries.iter().map(|row| row.number).collect(alloc)?;
+    let mut order = BlockList::reserve(alloc, room)?;
+    order.extend_from_slice(&numbers);
     Ok(order)
 }

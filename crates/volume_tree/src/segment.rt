@@ -1,122 +1,117 @@
 //! Where in the order a folder's children stand.
 
-ghost use Rattle.std.specs.Prelude.{◌≡◌, ◌+◌, ◌<◌, ◌≤◌, length, []};
+ghost use Rattle.std.specs.Prelude.{◌≡◌, ◌+◌, ◌<◌, ◌≤◌, true, length, []};
+ghost use Rattle.fsrm_model.specs.Limits.{most_nodes};
 ghost use Rattle.fsrm_model.specs.Tree.{children};
-ghost use Rattle.volume_tree.specs.Kept.{AreSlots, IsOrder, IsPlace, IsFloor, IsCeiling, IsSegment, rows_of};
+ghost use Rattle.block_list.specs.Places.{IsGap, index_of};
+ghost use Rattle.block_list.specs.Runs.{entries_of};
+ghost use Rattle.volume_tree.specs.Kept.{AreSlots, IsOrder, IsPlace, IsSegment, rows_of};
 ghost use Rattle.volume_tree.specs.Volume.{IsChildAt};
 
+use crate::order::{first_from, number_at};
 use crate::reads::folder_at;
+use block_list::{BlockList, Place};
 use fsrm_model::NodeRow;
 
-// The place in the order from which the folders have this number or greater ones, between two places.
-fn first_between(
+// Whether a place is known to be the one from which the folders have this number or greater ones: one in a run, not
+// at its beginning.
+fn is_first(slots: &[Option<NodeRow>], order: &BlockList<u32>, folder: u64, place: Place) -> bool
+    requires slots { AreSlots 0 slots.now }
+    requires order { IsOrder (rows_of slots.now) (entries_of order.now.runs) }
+    ensures gap { result ≡ true → IsGap order.now.runs place }
+    ensures place { result ≡ true → IsPlace (rows_of slots.now) (entries_of order.now.runs) folder [] (index_of order.now.runs place) }
+{
+    if place.run >= order.run_count() {
+        return false;
+    }
+    let numbers = order.run(place.run);
+    if place.offset == 0 || place.offset > numbers.len() {
+        return false;
+    }
+    if u64::from(folder_at(slots, numbers[place.offset - 1])) >= folder {
+        return false;
+    }
+    match number_at(order, place) {
+        Some(number) => u64::from(folder_at(slots, number)) >= folder,
+        None => true,
+    }
+}
+
+// The place from which the folders have this number or greater ones, sought first at another place.
+fn first_near(slots: &[Option<NodeRow>], order: &BlockList<u32>, folder: u64, near: Place) -> Place
+    requires slots { AreSlots 0 slots.now }
+    requires order { IsOrder (rows_of slots.now) (entries_of order.now.runs) }
+    requires few { length (entries_of order.now.runs) < most_nodes }
+    ensures gap { IsGap order.now.runs result }
+    ensures place { IsPlace (rows_of slots.now) (entries_of order.now.runs) folder [] (index_of order.now.runs result) }
+{
+    if is_first(slots, order, folder, near) {
+        near
+    } else {
+        first_from(slots, order, folder).0
+    }
+}
+
+/// From where to where in the order a folder's children stand. They are found at once if they begin at the place
+/// where they are sought first.
+pub fn segment(
     slots: &[Option<NodeRow>],
-    order: &[u32],
-    folder: u64,
-    floor: usize,
-    ceiling: usize,
-) -> usize
+    order: &BlockList<u32>,
+    folder: u32,
+    near: Place,
+) -> (Place, Place)
     requires slots { AreSlots 0 slots.now }
-    requires order { IsOrder (rows_of slots.now) order.now }
-    requires ordered { floor ≤ ceiling }
-    requires floor { IsFloor (rows_of slots.now) order.now folder [] floor }
-    requires ceiling { IsCeiling (rows_of slots.now) order.now folder [] ceiling }
-    ensures { IsPlace (rows_of slots.now) order.now folder [] result }
-{
-    let mut low = floor;
-    let mut high = ceiling;
-    while low < high {
-        let middle = low + (high - low) / 2;
-        if u64::from(folder_at(slots, order, middle)) < folder {
-            low = middle + 1;
-        } else {
-            high = middle;
-        }
-    }
-    low
-}
-
-// The place in the order from which the folders have this number or greater ones.
-fn first_from(slots: &[Option<NodeRow>], order: &[u32], folder: u64) -> usize
-    requires slots { AreSlots 0 slots.now }
-    requires order { IsOrder (rows_of slots.now) order.now }
-    ensures { IsPlace (rows_of slots.now) order.now folder [] result }
-{
-    first_between(slots, order, folder, 0, order.len())
-}
-
-// A place not after the one from which the folders have this number or greater ones. It is sought from a
-// place backwards, in steps that double.
-fn floor_near(slots: &[Option<NodeRow>], order: &[u32], folder: u64, near: usize) -> usize
-    requires slots { AreSlots 0 slots.now }
-    requires order { IsOrder (rows_of slots.now) order.now }
-    requires near { near ≤ length order.now }
-    ensures { IsFloor (rows_of slots.now) order.now folder [] result }
-{
-    let mut low = near;
-    let mut width = 1;
-    while low > 0 {
-        if u64::from(folder_at(slots, order, low - 1)) < folder {
-            return low;
-        }
-        let step = width.min(low);
-        low -= step;
-        width = 2 * step;
-    }
-    0
-}
-
-// The place in the order from which the folders have this number or greater ones. It is sought from a place
-// that isn't after it forwards, in steps that double.
-fn first_after(slots: &[Option<NodeRow>], order: &[u32], folder: u64, floor: usize) -> usize
-    requires slots { AreSlots 0 slots.now }
-    requires order { IsOrder (rows_of slots.now) order.now }
-    requires floor { IsFloor (rows_of slots.now) order.now folder [] floor }
-    ensures { IsPlace (rows_of slots.now) order.now folder [] result }
-{
-    let mut high = floor;
-    let mut width = 1;
-    while high < order.len() {
-        if u64::from(folder_at(slots, order, high)) >= folder {
-            return first_between(slots, order, folder, floor, high);
-        }
-        let step = width.min(order.len() - high);
-        high += step;
-        width = 2 * step;
-    }
-    first_between(slots, order, folder, floor, order.len())
-}
-
-/// From where to where in the order a folder's children stand. They are sought from a place on, and found soon
-/// if they are near it.
-pub fn segment(slots: &[Option<NodeRow>], order: &[u32], folder: u32, near: usize) -> (usize, usize)
-    requires slots { AreSlots 0 slots.now }
-    requires order { IsOrder (rows_of slots.now) order.now }
-    ensures { IsSegment (rows_of slots.now) order.now folder result.0 result.1 }
+    requires order { IsOrder (rows_of slots.now) (entries_of order.now.runs) }
+    requires few { length (entries_of order.now.runs) < most_nodes }
+    ensures first { IsGap order.now.runs result.0 }
+    ensures end { IsGap order.now.runs result.1 }
+    ensures segment { IsSegment (rows_of slots.now) (entries_of order.now.runs) folder (index_of order.now.runs result.0) (index_of order.now.runs result.1) }
 {
     let folder = u64::from(folder);
-    let floor = floor_near(slots, order, folder, near.min(order.len()));
-    let first = first_after(slots, order, folder, floor);
-    let end = first_after(slots, order, folder + 1, first);
+    let first = first_near(slots, order, folder, near);
+    let end = first_from(slots, order, folder + 1).0;
     (first, end)
 }
 
+/// How many entries stand from one place to another, which isn't before it. It passes each run between them.
+pub fn between(order: &BlockList<u32>, first: Place, end: Place) -> usize
+    requires first { IsGap order.now.runs first }
+    requires end { IsGap order.now.runs end }
+    requires ordered { index_of order.now.runs first ≤ index_of order.now.runs end }
+    requires few { length (entries_of order.now.runs) < most_nodes }
+    ensures { index_of order.now.runs first + result ≡ index_of order.now.runs end }
+{
+    if first.run > end.run {
+        return 0;
+    }
+    let mut count = end.offset;
+    for run in first.run..end.run {
+        count += order.run(run).len();
+    }
+    count - first.offset
+}
+
 /// How many children a folder has.
-pub fn child_count(slots: &[Option<NodeRow>], order: &[u32], folder: u32) -> usize
+pub fn child_count(slots: &[Option<NodeRow>], order: &BlockList<u32>, folder: u32) -> usize
     requires slots { AreSlots 0 slots.now }
-    requires order { IsOrder (rows_of slots.now) order.now }
+    requires order { IsOrder (rows_of slots.now) (entries_of order.now.runs) }
+    requires few { length (entries_of order.now.runs) < most_nodes }
     ensures { result ≡ length (children (rows_of slots.now) folder) }
 {
     let folder = u64::from(folder);
-    first_from(slots, order, folder + 1) - first_from(slots, order, folder)
+    let (first, _) = first_from(slots, order, folder);
+    let (end, _) = first_from(slots, order, folder + 1);
+    between(order, first, end)
 }
 
-/// The number of the child at a place among a folder's children.
-pub fn child_at(slots: &[Option<NodeRow>], order: &[u32], folder: u32, place: u32) -> u32
+/// The number of the child at a place among a folder's children. It passes each run before it.
+pub fn child_at(slots: &[Option<NodeRow>], order: &BlockList<u32>, folder: u32, place: u32) -> u32
     requires slots { AreSlots 0 slots.now }
-    requires order { IsOrder (rows_of slots.now) order.now }
+    requires order { IsOrder (rows_of slots.now) (entries_of order.now.runs) }
+    requires few { length (entries_of order.now.runs) < most_nodes }
     requires place { place < length (children (rows_of slots.now) folder) }
     ensures { IsChildAt (rows_of slots.now) folder place result }
 {
-    order[first_from(slots, order, u64::from(folder)) + place as usize]
+    let (first, _) = first_from(slots, order, u64::from(folder));
+    order.get(order.place_of(order.index_of(first) + place))
 }

@@ -66,24 +66,15 @@ pub fn put(slots: &mut Vec<Option<NodeRow>>, row: NodeRow) -> Result<(), NoMemor
     Ok(())
 }
 
-/// Takes a row away, and gives the bytes of its name. It takes one look.
-pub fn take_away<L: Ledger>(
-    slots: &mut Vec<Option<NodeRow>>,
-    number: u32,
-    steps: &mut Steps<L>,
-) -> u32
+/// Takes a row away. It doesn't look at it.
+pub fn take_away(slots: &mut Vec<Option<NodeRow>>, number: u32)
     requires slots { AreSlots 0 slots.old.items }
     requires there { has_row key number (rows_of slots.old.items) ≡ true }
-    requires short { length (name_of (rows_of slots.old.items) number) < 2 ^ 32 }
     ensures slots { AreSlots 0 slots.new.items }
     ensures gone { rows_of slots.new.items ≡ without_row key number (rows_of slots.old.items) }
     ensures len { length slots.new.items ≡ length slots.old.items }
-    ensures bytes { result ≡ length (name_of (rows_of slots.old.items) number) }
-    ensures count { steps.new ≡ steps.old + 1 }
 {
-    let bytes = name_length(slots, number, steps);
     slots[number as usize] = None;
-    bytes
 }
 
 /// Sets a file's length, and the moment that it was modified. It takes one look.

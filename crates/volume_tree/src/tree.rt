@@ -14,10 +14,13 @@ ghost use Rattle.volume_tree.specs.Looks.{passed};
 ghost use Rattle.volume_tree.specs.Volume.{IsFault, IsChildAt, Shows, new_fault, remove_fault, with_node, with_length, with_touch, without_node};
 
 use crate::answer::{NodeView, RowsFault, TreeFault};
+use crate::children::Children;
 use crate::climb::is_at_or_below;
 use crate::entry::own_place;
 use crate::finger::Finger;
-use crate::{order, rows, segment, slots};
+use crate::hints::Hints;
+use crate::{lookup, order, rows, segment, slots};
+use block_list::BlockList;
 use fsrm_model::{Capacity, Ledger, List, NoMemory, NodeRow, Path, Steps, allocated};
 use number_set::NumberSet;
 use std::alloc::Global;
@@ -25,8 +28,8 @@ use std::marker::Model;
 
 /// A volume's folders and files, in memory of its own. Contracts see its size and its nodes.
 ///
-/// A look is one node that is read, compared or lent; `steps` counts them. A call of `child_count` or `child_at` is one
-/// look, and one of `children` is one and one more for each child.
+/// A look is one node that is read, compared or lent; `steps` counts them. A call of `children`, `child_count` or
+/// `child_at` is one look.
 #[derive(Drop)]
 pub struct Tree {
     pub(crate) size: Capacity,
@@ -37,8 +40,10 @@ pub struct Tree {
     pub(crate) slots: Vec<Option<NodeRow>>,
     // The numbers of the slots that are empty.
     pub(crate) holes: NumberSet,
-    // The numbers of all nodes but the root, by folders and in each by folded names.
-    pub(crate) order: Vec<u32>,
+    // The numbers of all nodes but the root, by folders and in each by folded names, with room for all nodes.
+    pub(crate) order: BlockList<u32>,
+    // Where a name is looked for first. Nothing rests on it.
+    pub(crate) hints: Hints,
     pub(crate) alloc: Global,
 }
 
@@ -50,7 +55,7 @@ impl Model for Tree {
 
     ghost view = { λ t. record { size = t.size; nodes = rows_of t.slots.items } };
 
-    ghost invariant = { λ t. IsKept t.size t.count t.used t.holes t.slots.items t.order.items };
+    ghost invariant = { λ t. IsKept t.size t.count t.used t.holes t.slots.items t.order };
 }
 
 impl Tree {
@@ -63,13 +68,15 @@ impl Tree {
     {
         let slots = slots::root_alone(alloc)?;
         let holes = NumberSet::reserve(alloc, size.nodes)?;
+        let order = BlockList::reserve(alloc, size.nodes)?;
         Ok(Tree {
             size,
             count: 1,
             used: 0,
             slots,
             holes,
-            order: Vec::new(alloc),
+            order,
+            hints: Hints::new(alloc),
             alloc,
         })
     }
@@ -118,12 +125,7 @@ impl Tree {
         ensures some { steps.old + 1 ≤ steps.new }
         ensures looks { steps.new ≤ steps.old + 22 }
     {
-        // A look at the folder.
-        steps.tick();
-        match order::search(&self.slots, &self.order, folder, name, steps) {
-            Ok(place) => Some(self.order[place]),
-            Err(_) => None,
-        }
+        lookup::child(&self.slots, &self.order, &self.hints, folder, name, steps)
     }
 
     /// The node that the first names of a path lead to, so many of them. It takes no more than 22
@@ -144,9 +146,10 @@ impl Tree {
         steps.tick();
         let mut at = 0;
         for place in 0..names {
-            match order::search(&self.slots, &self.order, at, path.part(place), steps) {
-                Ok(child) => at = self.order[child],
-                Err(_) => return None,
+            let name = path.part(place);
+            match lookup::child(&self.slots, &self.order, &self.hints, at, name, steps) {
+                Some(child) => at = child,
+                None => return None,
             }
         }
         Some(at)
@@ -204,26 +207,25 @@ impl Tree {
         segment::child_at(&self.slots, &self.order, folder, place)
     }
 
-    /// The numbers of a folder's children, in the order of their folded names. It takes a look, and one for
-    /// each child.
+    /// The numbers of a folder's children, in the order of their folded names, to be lent a run at a time. It takes a
+    /// look, and then one for each child that is lent.
     ///
-    /// The search begins at the finger and leaves it after these children, so that those of the next folder
+    /// They are sought first at the finger, which is left after these children, so that those of the next folder
     /// are found at once.
     pub fn children<L: Ledger>(
         &self,
         folder: u32,
         finger: &mut Finger,
         steps: &mut Steps<L>,
-    ) -> &[u32]
-        ensures numbers { result.now ≡ map key (children_in_order self.now.nodes folder) }
-        ensures count { steps.new ≡ steps.old + (1 + length (children self.now.nodes folder)) }
+    ) -> Children<'_>
+        ensures numbers { result ≡ map key (children_in_order self.now.nodes folder) }
+        ensures count { steps.new ≡ steps.old + 1 }
     {
-        let (first, end) = segment::segment(&self.slots, &self.order, folder, finger.place);
-        finger.place = end;
-        let numbers = &self.order[first..end];
         steps.tick();
-        steps.count(numbers.len());
-        numbers
+        let (first, end) = segment::segment(&self.slots, &self.order, folder, finger.place());
+        *finger = Finger::at(end);
+        let left = segment::between(&self.order, first, end);
+        Children::from(&self.order, first, left)
     }
 
     /// Sets a file's length, in bytes, and the moment that it was modified. It takes one look.
@@ -268,8 +270,9 @@ impl Tree {
         if order::has_child(&self.slots, &self.order, node, steps) {
             return Err(TreeFault::NotEmpty);
         }
-        let place = own_place(&self.slots, &self.order, node, steps);
-        let bytes = slots::take_away(&mut self.slots, node, steps);
+        let (place, bytes) = own_place(&self.slots, &self.order, node, steps);
+        self.hints.forget(&self.slots, node);
+        slots::take_away(&mut self.slots, node);
         self.order.remove(place);
         self.count -= 1;
         self.used -= bytes;
@@ -305,6 +308,7 @@ impl Tree {
             Ok(parts) => parts,
             Err(fault) => return Err(fault),
         };
+        let hints = Hints::of(alloc, &parts.slots);
         Ok(Tree {
             size,
             count: parts.count,
@@ -312,6 +316,7 @@ impl Tree {
             slots: parts.slots,
             holes: parts.holes,
             order: parts.order,
+            hints,
             alloc,
         })
     }

@@ -15,9 +15,9 @@ use Rattle.fsrm_model.specs.QuotaStates.{in_state}
 use Rattle.fsrm_model.specs.Tree.{is_folder, usage}
 use Rattle.fsrm_model.specs.Valid.{AreQuotas, is_moment}
 use Rattle.fsrm_base.proofs.EditedRows.{absent_later, ascending_tail, change_absent, without_absent}
-use Rattle.fsrm_base.proofs.Look.{FoundRow, found_key, found_has, has_found, changed_found, row_of-without, has_row-without, new_found, is_some-find}
-use Rattle.fsrm_base.proofs.Order.{ascending-with_row, ascending-change, ascending-filter, length-with_row, length-change}
-use Rattle.fsrm_base.proofs.TestLaws.{is_or_not, not_true, clash, eq_is, eq_same, lt_is}
+use Rattle.fsrm_base.proofs.Look.{FoundRow, found_key, found_has, has_found, changed_found, new_found, is_some-find}
+use Rattle.fsrm_base.proofs.Order.{ascending-filter}
+use Rattle.fsrm_base.proofs.TestLaws.{not_true, clash, eq_is, eq_same, lt_is}
 use Rattle.quota_usage.specs.declared.change.Counter.{Counter}
 use Rattle.quota_usage.specs.Counters.{counted, used_in, with_counter, without_counter}
 use Rattle.fsrm_objects.specs.Tables.{Tables}

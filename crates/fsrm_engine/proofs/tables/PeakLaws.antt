@@ -11,7 +11,7 @@ use Rattle.fsrm_model.specs.declared.row.QuotaRow.{QuotaRow}
 use Rattle.fsrm_base.specs.Keyed.{row_of, is_ascending}
 use Rattle.fsrm_model.specs.Capacities.{is_capacity}
 use Rattle.fsrm_model.specs.Quota.{folder_of, counts, is_limit, peaked}
-use Rattle.fsrm_model.specs.Tree.{is_folder, usage}
+use Rattle.fsrm_model.specs.Tree.{usage}
 use Rattle.fsrm_model.specs.Valid.{IsVolume, AreQuotas, is_moment}
 use Rattle.fsrm_base.proofs.Look.{find-map, found_key}
 use Rattle.fsrm_base.proofs.Order.{ascending-map}

@@ -1,7 +1,7 @@
 -- What is at and below the nodes that are still to be visited.
-use Rattle.std.proofs.Common.{◌≡◌, ℕ, suc, ◌+◌, ◌*◌, ◌<◌, ◌≤◌, ◌==◌, Bool, true, false, cond, inl, inr, List, [], ◌∷◌, ◌++◌, length, take, refl, sym, ◌∙◌, ap, subst, arith, Some, length-append, fold, nat_lt}
+use Rattle.std.proofs.Common.{◌≡◌, ℕ, suc, ◌+◌, ◌*◌, ◌<◌, ◌≤◌, ◌==◌, Bool, true, false, cond, inl, inr, List, [], ◌∷◌, ◌++◌, length, refl, sym, ◌∙◌, ap, subst, arith, Some, length-append, fold, nat_lt}
 use Rattle.std.proofs.lemmas.Bool.Decides.{nat_tests}
-use Rattle.std.proofs.lemmas.List.{take_all, length-map}
+use Rattle.std.proofs.lemmas.List.{length-map}
 use Rattle.std.proofs.lemmas.List.Sums.{sum_by-cons, sum_by-append, sum_by_push}
 use Rattle.std.specs.Prelude.{map, filter, sum_by, nat_le}
 use Rattle.std.specs.List.{AllByRecursion, list_all}
@@ -28,7 +28,6 @@ use Rattle.volume_tree.specs.declared.answer.NodeView.{NodeView}
 use Rattle.volume_tree.specs.Volume.{Shows}
 use Rattle.fsrm_engine.specs.Walk.{usage_of_all, under_all, AreThere}
 use Rattle.volume_tree.proofs.slotted.FreshLaws.{few_nodes}
-use Rattle.volume_tree.proofs.ordering.Children.{children_many}
 
 -- a sum stays where items are put in order
 put_sum : {X : Type 0} (before : X → X → Bool) (f : X → ℕ) (x : X) (ys : List X) → sum_by f (put before x ys) ≡ f x + sum_by f ys

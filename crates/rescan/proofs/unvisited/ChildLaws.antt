@@ -28,7 +28,7 @@ use Rattle.rescan.specs.Visits.{folders_in}
 use Rattle.fsrm_model.proofs.nodes.Numbered.{has_row-filter}
 use Rattle.fsrm_model.proofs.valid.ValidLaws.{found_parent}
 
-abbrev before : NodeRow → NodeRow → Bool
+abbrev pub before : NodeRow → NodeRow → Bool
 before a b = name_before a.name b.name
 
 -- the children in order are the children

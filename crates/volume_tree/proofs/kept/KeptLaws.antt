@@ -3,7 +3,7 @@ use Rattle.std.proofs.Common.{◌≡◌, ℕ, zero, suc, ◌+◌, ◌-◌, ◌<�
 use Rattle.std.proofs.lemmas.Bool.Decides.{nat_tests}
 use Rattle.std.proofs.lemmas.Option.{same_Some}
 use Rattle.std.proofs.lemmas.Slice.Eq.{bytes_eq-Decides}
-use Rattle.std.specs.Prelude.{filter, insert, remove, max, slice_get, slice_index, slice_index_or, is_some, option_map, if◌then◌else◌, IfOk, IfErr, OnOk, is_ok}
+use Rattle.std.specs.Prelude.{filter, insert, remove, max, slice_get, slice_index, is_some, option_map, if◌then◌else◌, IfOk, IfErr, OnOk}
 use Rattle.fsrm_model.specs.declared.row.Capacity.{Capacity}
 use Rattle.fsrm_model.specs.declared.row.NodeRow.{NodeRow}
 use Rattle.fsrm_model.specs.FileOps.{resized, touched, placed}
@@ -25,22 +25,35 @@ use Rattle.volume_tree.specs.Kept.{rows_of, AreSlots, IsOrder, IsPlace, IsKept}
 use Rattle.volume_tree.specs.Shift.{IsShifted}
 use Rattle.volume_tree.specs.Volume.{is_other}
 use Rattle.number_set.specs.Numbers.{Numbers}
+use Rattle.block_list.specs.declared.place.Place.{Place}
+use Rattle.block_list.specs.Places.{IsEntry, index_of}
+use Rattle.block_list.specs.Runs.{Contents, entries_of}
+use Rattle.block_list.proofs.Joined.{entries_before}
 use Rattle.volume_tree.proofs.slotted.HoleLaws.{holes_made, holes_gone, holes_changed}
 use Rattle.volume_tree.proofs.slotted.FreshLaws.{fresh_near, fresh_free, fresh_most, fresh_apart, few_nodes}
 use Rattle.volume_tree.proofs.ordering.OrderLaws.{order_made, order_gone, order_kept, order_respelled, order_moved, length-order}
 use Rattle.fsrm_model.proofs.valid.ValidLaws.{found_parent}
 
 -- the order and the rows of slots have few members
-pub few_rows : (K : Capacity) (count used : ℕ) (holes : Numbers) (slots : List (Option NodeRow)) (order : List ℕ) → IsKept K count used holes slots order → length (rows_of slots) ≤ most_nodes
+pub few_rows : (K : Capacity) (count used : ℕ) (holes : Numbers) (slots : List (Option NodeRow)) (order : Contents ℕ) → IsKept K count used holes slots order → length (rows_of slots) ≤ most_nodes
 few_rows K count used holes slots order k =
     let few = few_nodes K (rows_of slots) k.volume in
     let most = nodes_most K k.size in
     omega (arith, few, most)
 
-pub few_order : (K : Capacity) (count used : ℕ) (holes : Numbers) (slots : List (Option NodeRow)) (order : List ℕ) → IsKept K count used holes slots order → length order < most_nodes
+pub order_length : (K : Capacity) (count used : ℕ) (holes : Numbers) (slots : List (Option NodeRow)) (order : Contents ℕ) → IsKept K count used holes slots order → length (entries_of order.runs) + 1 ≡ length (rows_of slots)
+order_length K count used holes slots order k = length-order (rows_of slots) (entries_of order.runs) k.volume.ascending k.order_is k.volume.has_root
+
+pub order_fits : (K : Capacity) (count used : ℕ) (holes : Numbers) (slots : List (Option NodeRow)) (order : Contents ℕ) → IsKept K count used holes slots order → length (entries_of order.runs) ≤ order.room
+order_fits K count used holes slots order k =
+    let few = few_nodes K (rows_of slots) k.volume in
+    let e = order_length K count used holes slots order k in
+    omega (arith, few, e, k.room_is)
+
+pub few_order : (K : Capacity) (count used : ℕ) (holes : Numbers) (slots : List (Option NodeRow)) (order : Contents ℕ) → IsKept K count used holes slots order → length (entries_of order.runs) < most_nodes
 few_order K count used holes slots order k =
     let few = few_rows K count used holes slots order k in
-    let e = length-order (rows_of slots) order k.volume.ascending k.order_is k.volume.has_root in
+    let e = length-order (rows_of slots) (entries_of order.runs) k.volume.ascending k.order_is k.volume.has_root in
     omega (arith, few, e)
 
 no_child_of : (o : Option NodeRow) → option_map number o ≡ None → is_some o ≡ false
@@ -48,8 +61,8 @@ no_child_of None h = refl
 no_child_of (Some row) h = cc
 
 -- one more node is kept
-pub kept_made : (K : Capacity) (count used : ℕ) (holes : Numbers) (slots made : List (Option NodeRow)) (order : List ℕ) (row : NodeRow) (place : ℕ) → IsKept K count used holes slots order → row.number ≡ fresh (rows_of slots) → is_own row ≡ true → is_folder (rows_of slots) row.parent ≡ true → child_number (rows_of slots) row.parent row.name ≡ None → count < K.nodes → used + length row.name ≤ K.names → IsPlace (rows_of slots) order row.parent row.name place → AreSlots 0 made → rows_of made ≡ with_row number row (rows_of slots) → length made ≡ max (length slots) (row.number + 1) → IsKept K (count + 1) (used + length row.name) (record holes { members = without_number row.number holes.members }) made (insert order place row.number)
-kept_made K count used holes slots made order row place k fr own folder alone room names at are rows len =
+pub kept_made : (K : Capacity) (count used : ℕ) (holes : Numbers) (slots made : List (Option NodeRow)) (order more : Contents ℕ) (row : NodeRow) (place : ℕ) → IsKept K count used holes slots order → row.number ≡ fresh (rows_of slots) → is_own row ≡ true → is_folder (rows_of slots) row.parent ≡ true → child_number (rows_of slots) row.parent row.name ≡ None → count < K.nodes → used + length row.name ≤ K.names → IsPlace (rows_of slots) (entries_of order.runs) row.parent row.name place → AreSlots 0 made → rows_of made ≡ with_row number row (rows_of slots) → length made ≡ max (length slots) (row.number + 1) → entries_of more.runs ≡ insert (entries_of order.runs) place row.number → more.room ≡ order.room → IsKept K (count + 1) (used + length row.name) (record holes { members = without_number row.number holes.members }) made more
+kept_made K count used holes slots made order more row place k fr own folder alone room names at are rows len put same_room =
     let nodes = rows_of slots in
     let near = fresh_near slots k.slots_are in
     let lacks : has_row number row.number nodes ≡ false = ap (λ n. has_row number n nodes) fr ∙ fresh_free nodes k.volume.ascending in
@@ -76,11 +89,12 @@ kept_made K count used holes slots made order row place k fr own folder alone ro
       used_is = used_here ∙ ap name_bytes (sym rows);
       bound_is = k.bound_is;
       holes_are = holes_made slots made holes.members row k.holes_are lacks (omega (arith, fr, near)) rows len;
-      order_is = subst (λ ns. IsOrder ns (insert order place row.number)) (sym rows) (order_made nodes order row place k.volume.ascending k.order_is inner at alone);
+      order_is = subst (λ ns. IsOrder ns (entries_of more.runs)) (sym rows) (subst (IsOrder (with_row number row nodes)) (sym put) (order_made nodes (entries_of order.runs) row place k.volume.ascending k.order_is inner at alone));
+      room_is = same_room ∙ k.room_is;
     }
 
 -- a change that keeps places and names is kept
-pub kept_changed : (K : Capacity) (count used : ℕ) (holes : Numbers) (slots made : List (Option NodeRow)) (order : List ℕ) (n : ℕ) (c : NodeRow → NodeRow) → IsKept K count used holes slots order → KeepsNode c → (n == 0) ≡ false → ((r : NodeRow) → node_of (rows_of slots) n ≡ Some r → is_own (c r) ≡ true) → AreSlots 0 made → rows_of made ≡ with_change number n c (rows_of slots) → length made ≡ length slots → IsKept K count used holes made order
+pub kept_changed : (K : Capacity) (count used : ℕ) (holes : Numbers) (slots made : List (Option NodeRow)) (order : Contents ℕ) (n : ℕ) (c : NodeRow → NodeRow) → IsKept K count used holes slots order → KeepsNode c → (n == 0) ≡ false → ((r : NodeRow) → node_of (rows_of slots) n ≡ Some r → is_own (c r) ≡ true) → AreSlots 0 made → rows_of made ≡ with_change number n c (rows_of slots) → length made ≡ length slots → IsKept K count used holes made order
 kept_changed K count used holes slots made order n c k keeps inner own are rows len =
     let nodes = rows_of slots in
     record {
@@ -91,11 +105,12 @@ kept_changed K count used holes slots made order n c k keeps inner own are rows 
       used_is = k.used_is ∙ (sym (name_bytes-change n c keeps.same_name nodes) ∙ ap name_bytes (sym rows));
       bound_is = k.bound_is;
       holes_are = holes_changed slots made holes.members n c keeps.same_number k.holes_are rows len;
-      order_is = subst (λ ns. IsOrder ns order) (sym rows) (order_kept nodes order n c k.order_is keeps.same_number keeps.same_parent keeps.same_name);
+      order_is = subst (λ ns. IsOrder ns (entries_of order.runs)) (sym rows) (order_kept nodes (entries_of order.runs) n c k.order_is keeps.same_number keeps.same_parent keeps.same_name);
+      room_is = k.room_is;
     }
 
 -- a file of another length is kept
-pub resized_kept : (K : Capacity) (count used : ℕ) (holes : Numbers) (slots made : List (Option NodeRow)) (order : List ℕ) (n bytes moment : ℕ) → IsKept K count used holes slots order → is_folder (rows_of slots) n ≡ false → bytes ≤ longest_file → moment ≤ latest_moment → AreSlots 0 made → rows_of made ≡ with_change number n (resized bytes moment) (rows_of slots) → length made ≡ length slots → IsKept K count used holes made order
+pub resized_kept : (K : Capacity) (count used : ℕ) (holes : Numbers) (slots made : List (Option NodeRow)) (order : Contents ℕ) (n bytes moment : ℕ) → IsKept K count used holes slots order → is_folder (rows_of slots) n ≡ false → bytes ≤ longest_file → moment ≤ latest_moment → AreSlots 0 made → rows_of made ≡ with_change number n (resized bytes moment) (rows_of slots) → length made ≡ length slots → IsKept K count used holes made order
 resized_kept K count used holes slots made order n bytes moment k file b m are rows len =
     let inner = file_inner K (rows_of slots) n k.volume file in
     kept_changed K count used holes slots made order n (resized bytes moment) k
@@ -112,7 +127,7 @@ resized_kept K count used holes slots made order n bytes moment k file b m are r
     are rows len
 
 -- a file that was read is kept
-pub touched_kept : (K : Capacity) (count used : ℕ) (holes : Numbers) (slots made : List (Option NodeRow)) (order : List ℕ) (n moment : ℕ) → IsKept K count used holes slots order → is_folder (rows_of slots) n ≡ false → moment ≤ latest_moment → AreSlots 0 made → rows_of made ≡ with_change number n (touched moment) (rows_of slots) → length made ≡ length slots → IsKept K count used holes made order
+pub touched_kept : (K : Capacity) (count used : ℕ) (holes : Numbers) (slots made : List (Option NodeRow)) (order : Contents ℕ) (n moment : ℕ) → IsKept K count used holes slots order → is_folder (rows_of slots) n ≡ false → moment ≤ latest_moment → AreSlots 0 made → rows_of made ≡ with_change number n (touched moment) (rows_of slots) → length made ≡ length slots → IsKept K count used holes made order
 touched_kept K count used holes slots made order n moment k file m are rows len =
     let inner = file_inner K (rows_of slots) n k.volume file in
     kept_changed K count used holes slots made order n (touched moment) k
@@ -157,8 +172,8 @@ volume_placed K nodes x d name v has inner folder named apart alone room =
     })
 
 -- a node at another place is kept
-pub kept_moved : (K : Capacity) (count used now : ℕ) (holes : Numbers) (slots made : List (Option NodeRow)) (order moved : List ℕ) (x d : ℕ) (name : List ℕ) → IsKept K count used holes slots order → has_row number x (rows_of slots) ≡ true → IsVolume K (with_change number x (placed d name) (rows_of slots)) → now + length (name_of (rows_of slots) x) ≡ used + length name → AreSlots 0 made → rows_of made ≡ with_change number x (placed d name) (rows_of slots) → length made ≡ length slots → IsOrder (with_change number x (placed d name) (rows_of slots)) moved → IsKept K count now holes made moved
-kept_moved K count used now holes slots made order moved x d name k has volume bytes are rows len ordered =
+pub kept_moved : (K : Capacity) (count used now : ℕ) (holes : Numbers) (slots made : List (Option NodeRow)) (order moved : Contents ℕ) (x d : ℕ) (name : List ℕ) → IsKept K count used holes slots order → has_row number x (rows_of slots) ≡ true → IsVolume K (with_change number x (placed d name) (rows_of slots)) → now + length (name_of (rows_of slots) x) ≡ used + length name → AreSlots 0 made → rows_of made ≡ with_change number x (placed d name) (rows_of slots) → length made ≡ length slots → IsOrder (with_change number x (placed d name) (rows_of slots)) (entries_of moved.runs) → moved.room ≡ order.room → IsKept K count now holes made moved
+kept_moved K count used now holes slots made order moved x d name k has volume bytes are rows len ordered same_room =
     let nodes = rows_of slots in
     let u = k.used_is in
     let sum = name_bytes-placed nodes x d name k.volume.ascending has in
@@ -171,15 +186,16 @@ kept_moved K count used now holes slots made order moved x d name k has volume b
       used_is = used_here ∙ ap name_bytes (sym rows);
       bound_is = k.bound_is;
       holes_are = holes_changed slots made holes.members x (placed d name) (λ r. refl) k.holes_are rows len;
-      order_is = subst (λ ns. IsOrder ns moved) (sym rows) ordered;
+      order_is = subst (λ ns. IsOrder ns (entries_of moved.runs)) (sym rows) ordered;
+      room_is = same_room ∙ k.room_is;
     }
 
 no_children : (n : ℕ) → not (n == 0) ≡ false → n ≡ 0
 no_children n h = grind (arith, nat_tests)
 
 -- a node that went is kept away
-pub kept_gone : (K : Capacity) (count used : ℕ) (holes : Numbers) (slots made : List (Option NodeRow)) (order : List ℕ) (n place : ℕ) → IsKept K count used holes slots order → has_row number n (rows_of slots) ≡ true → (n == 0) ≡ false → not (length (children (rows_of slots) n) == 0) ≡ false → slice_get order place ≡ Some n → AreSlots 0 made → rows_of made ≡ without_row number n (rows_of slots) → length made ≡ length slots → IsKept K (count - 1) (used - length (name_of (rows_of slots) n)) (record holes { members = with_number n holes.members }) made (remove order place)
-kept_gone K count used holes slots made order n place k has inner leaf at are rows len =
+pub kept_gone : (K : Capacity) (count used : ℕ) (holes : Numbers) (slots made : List (Option NodeRow)) (order less : Contents ℕ) (n place : ℕ) → IsKept K count used holes slots order → has_row number n (rows_of slots) ≡ true → (n == 0) ≡ false → not (length (children (rows_of slots) n) == 0) ≡ false → slice_get (entries_of order.runs) place ≡ Some n → AreSlots 0 made → rows_of made ≡ without_row number n (rows_of slots) → length made ≡ length slots → entries_of less.runs ≡ remove (entries_of order.runs) place → less.room ≡ order.room → IsKept K (count - 1) (used - length (name_of (rows_of slots) n)) (record holes { members = with_number n holes.members }) made less
+kept_gone K count used holes slots made order less n place k has inner leaf at are rows len cut same_room =
     let nodes = rows_of slots in
     let f = has_found number n nodes has in
     let s = name_bytes-removed nodes n k.volume.ascending has in
@@ -201,7 +217,8 @@ kept_gone K count used holes slots made order n place k has inner leaf at are ro
       used_is = used_here ∙ ap name_bytes (sym rows);
       bound_is = k.bound_is;
       holes_are = holes_gone slots made holes.members n k.slots_are k.holes_are has rows len;
-      order_is = subst (λ ns. IsOrder ns (remove order place)) (sym rows) (order_gone nodes order place n k.volume.ascending k.order_is at);
+      order_is = subst (λ ns. IsOrder ns (entries_of less.runs)) (sym rows) (subst (IsOrder (without_row number n nodes)) (sym cut) (order_gone nodes (entries_of order.runs) place n k.volume.ascending k.order_is at));
+      room_is = same_room ∙ k.room_is;
     }
 
 same_own : (name : List ℕ) → same_name name name ≡ true
@@ -231,22 +248,21 @@ node_short K nodes n r v h = choose (n == 0) refl
     choose false e = short_at r.folder r.length (own_parts r (v.own n r h e)).short
 
 -- what a search for the place of a folder's name found
-pub record Sought (nodes : List NodeRow) (order : List ℕ) (d : ℕ) (name : List ℕ) (found : Result ℕ ℕ) : Type 0 where
-  pub free : IfErr found (λ place. IsPlace nodes order d name place)
-  pub taken : IfOk found (λ place. child_number nodes d name ≡ Some (slice_index order place))
+pub record Sought (nodes : List NodeRow) (runs : List (List ℕ)) (d : ℕ) (name : List ℕ) (found : Result Place Place) : Type 0 where
+  pub free : IfErr found (λ place. IsPlace nodes (entries_of runs) d name (index_of runs place))
+  pub taken : IfOk found (λ place. child_number nodes d name ≡ slice_get (entries_of runs) (index_of runs place))
   pub none : IfErr found (λ place. child_number nodes d name ≡ None)
 
 -- what a search found in copies, it found in what they are copies of
-pub sought_in : (slots read : List (Option NodeRow)) (order taken : List ℕ) (d : ℕ) (name text : List ℕ) (found : Result ℕ ℕ) → read ≡ slots → taken ≡ order → text ≡ name → Sought (rows_of read) taken d text found → Sought (rows_of slots) order d name found
-sought_in slots read order taken d name text found same_slots same_order same_name s =
-    subst (λ (rows : List (Option NodeRow)). Sought (rows_of rows) order d name found) same_slots
-    (subst (λ (numbers : List ℕ). Sought (rows_of read) numbers d name found) same_order
-    (subst (λ (bytes : List ℕ). Sought (rows_of read) taken d bytes found) same_name s))
+pub sought_in : (slots read : List (Option NodeRow)) (runs : List (List ℕ)) (d : ℕ) (name text : List ℕ) (found : Result Place Place) → read ≡ slots → text ≡ name → Sought (rows_of read) runs d text found → Sought (rows_of slots) runs d name found
+sought_in slots read runs d name text found same_slots same_name s =
+    subst (λ (rows : List (Option NodeRow)). Sought (rows_of rows) runs d name found) same_slots
+    (subst (λ (bytes : List ℕ). Sought (rows_of read) runs d bytes found) same_name s)
 
 -- nobody but the node itself has the name, if the test of what was found says so
-pub sought_alone : (nodes : List NodeRow) (order : List ℕ) (x d : ℕ) (name : List ℕ) (found : Result ℕ ℕ) (other : Bool) → Sought nodes order d name found → IfOk found (λ place. other ≡ not (slice_index order place == x)) → other ≡ false → is_other (child_number nodes d name) x ≡ false
-sought_alone nodes order x d name (Ok place) other s own h = ap (λ o. is_other o x) s.taken ∙ (sym own ∙ h)
-sought_alone nodes order x d name (Err place) other s own h = ap (λ o. is_other o x) s.none
+pub sought_alone : (nodes : List NodeRow) (runs : List (List ℕ)) (x d : ℕ) (name : List ℕ) (found : Result Place Place) (other : Bool) → Sought nodes runs d name found → IfOk found (λ place. other ≡ is_other (slice_get (entries_of runs) (index_of runs place)) x) → other ≡ false → is_other (child_number nodes d name) x ≡ false
+sought_alone nodes runs x d name (Ok place) other s own h = ap (λ o. is_other o x) s.taken ∙ (sym own ∙ h)
+sought_alone nodes runs x d name (Err place) other s own h = ap (λ o. is_other o x) s.none
 
 record FoundNumber (o : Option NodeRow) (x : ℕ) : Type 0 where
   pub row : NodeRow
@@ -257,16 +273,25 @@ some_number : (o : Option NodeRow) (x : ℕ) → option_map number o ≡ Some x 
 some_number None x h = cc
 some_number (Some r) x h = record { row = r; is = refl; number_is = same_Some r.number x h }
 
+-- what stands at a place
+pub get_index : (order : List ℕ) (k : ℕ) → k < length order → slice_get order k ≡ Some (slice_index order k)
+get_index [] k l = absurd (omega arith)
+get_index (n ∷ order) zero l = refl
+get_index (n ∷ order) (suc k) l = get_index order k (omega arith)
+
 -- the order, once the node stands at its new place
-pub placed_order : (K : Capacity) (nodes : List NodeRow) (order moved : List ℕ) (x d : ℕ) (name : List ℕ) (found : Result ℕ ℕ) → IsVolume K nodes → IsOrder nodes order → Sought nodes order d name found → is_other (child_number nodes d name) x ≡ false → OnOk found (moved ≡ order) → IfErr found (λ place. IsShifted order moved x place) → IsOrder (with_change number x (placed d name) nodes) moved
-placed_order K nodes order moved x d name (Ok place) v ordered s alone stays moves =
-    let same : slice_index order place ≡ x = not_other (child_number nodes d name) (slice_index order place) x alone s.taken in
-    let f = some_number (child_of nodes d name) x (s.taken ∙ ap Some same) in
+pub placed_order : (K : Capacity) (nodes : List NodeRow) (runs moved : List (List ℕ)) (x d : ℕ) (name : List ℕ) (found : Result Place Place) → IsVolume K nodes → IsOrder nodes (entries_of runs) → Sought nodes runs d name found → IfOk found (λ place. IsEntry runs place) → is_other (child_number nodes d name) x ≡ false → OnOk found (entries_of moved ≡ entries_of runs) → IfErr found (λ place. IsShifted (entries_of runs) (entries_of moved) x (index_of runs place)) → IsOrder (with_change number x (placed d name) nodes) (entries_of moved)
+placed_order K nodes runs moved x d name (Ok place) v ordered s there alone stays moves =
+    let order = entries_of runs in
+    let k = index_of runs place in
+    let read : slice_get order k ≡ Some (slice_index order k) = get_index order k (entries_before runs place.run place.offset there.run there.offset) in
+    let same : slice_index order k ≡ x = not_other (child_number nodes d name) (slice_index order k) x alone (s.taken ∙ read) in
+    let f = some_number (child_of nodes d name) x (s.taken ∙ (read ∙ ap Some same)) in
     let child = child_found K nodes d name f.row v f.is in
     let there : node_of nodes x ≡ Some f.row = ap (node_of nodes) (sym f.number_is) ∙ child.found in
     subst (IsOrder (with_change number x (placed d name) nodes)) (sym stays) (order_respelled nodes order x d name f.row v.ascending ordered there child.up child.same)
-placed_order K nodes order moved x d name (Err place) v ordered s alone stays moves =
-    subst (IsOrder (with_change number x (placed d name) nodes)) (sym moves.is) (order_moved nodes order x d moves.from place name v.ascending ordered moves.at s.none s.free)
+placed_order K nodes runs moved x d name (Err place) v ordered s there alone stays moves =
+    subst (IsOrder (with_change number x (placed d name) nodes)) (sym moves.is) (order_moved nodes (entries_of runs) x d moves.from (index_of runs place) name v.ascending ordered moves.at s.none s.free)
 
 children_fit_at : (p : NodeRow → Bool) (r : NodeRow) (nodes : List NodeRow) (b : Bool) → length (filter p nodes) ≤ length nodes → length (cond b (r ∷ filter p nodes) (filter p nodes)) ≤ suc (length nodes)
 children_fit_at p r nodes true l = omega (arith, l)
@@ -284,31 +309,11 @@ children_fit nodes folder = filter_fit (is_child folder) nodes
 pub ok_is : {A E : Type 0} (P : A → Type 0) (r : Result A E) (u : A) → r ≡ Ok u → IfOk r P → P u
 ok_is P r u e h = subst (λ r. IfOk r P) e h
 
-pub inserted_is : {A E : Type 0} (r : Result A E) (u : A) (new made kept : List ℕ) → r ≡ Ok u → new ≡ (if is_ok r then made else kept) → new ≡ made
-inserted_is r u new made kept e h = h ∙ ap (λ r. cond (is_ok r) made kept) e
-
-pub get_index : (order : List ℕ) (k : ℕ) → k < length order → slice_get order k ≡ Some (slice_index order k)
-get_index [] k l = absurd (omega arith)
-get_index (n ∷ order) zero l = refl
-get_index (n ∷ order) (suc k) l = get_index order k (omega arith)
-
-pub get_within : (order : List ℕ) (k n : ℕ) → slice_get order k ≡ Some n → k < length order
-get_within [] zero n h = cc
-get_within [] (suc k) n h = cc
-get_within (m ∷ order) zero n h = omega arith
-get_within (m ∷ order) (suc k) n h = let l = get_within order k n h in omega (arith, l)
-
--- if a node was found by its own place, its number stands
-pub own_place_is : (nodes : List NodeRow) (order : List ℕ) (n k : ℕ) (row : NodeRow) (name : List ℕ) → node_of nodes n ≡ Some row → name ≡ row.name → child_number nodes (parent_of nodes n) (name_of nodes n) ≡ Some n → k < length order → child_number nodes row.parent name ≡ Some (slice_index order k) → slice_get order k ≡ Some n
-own_place_is nodes order n k row name h e own l found =
+-- if a node was found by its own place, its number stands there
+pub own_place_is : (nodes : List NodeRow) (order : List ℕ) (n k : ℕ) (row : NodeRow) (name : List ℕ) → node_of nodes n ≡ Some row → name ≡ row.name → child_number nodes (parent_of nodes n) (name_of nodes n) ≡ Some n → child_number nodes row.parent name ≡ slice_get order k → slice_get order k ≡ Some n
+own_place_is nodes order n k row name h e own found =
     let up = found_parent nodes n row h in
     let named = found_name nodes n row h in
     let same : child_number nodes row.parent name ≡ child_number nodes (parent_of nodes n) (name_of nodes n) =
     ap (λ p. child_number nodes p name) (sym up) ∙ ap (child_number nodes (parent_of nodes n)) (e ∙ sym named) in
-    get_index order k l ∙ (sym found ∙ (same ∙ own))
-
--- a number that was read from the order
-pub read_index : (order : List ℕ) (k n : ℕ) → k < length order → n ≡ slice_index_or order k n → slice_index order k ≡ n
-read_index [] k n l e = absurd (omega arith)
-read_index (m ∷ order) zero n l e = sym e
-read_index (m ∷ order) (suc k) n l e = read_index order k n (omega arith) e
+    sym found ∙ (same ∙ own)

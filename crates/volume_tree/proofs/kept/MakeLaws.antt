@@ -1,5 +1,5 @@
 -- What a new node that a tree has nothing against says.
-use Rattle.std.proofs.Common.{◌≡◌, ℕ, ◌+◌, ◌<◌, ◌≤◌, Bool, true, false, length, List, refl, None, Option, arith, nat_le}
+use Rattle.std.proofs.Common.{◌≡◌, ℕ, ◌+◌, ◌<◌, ◌≤◌, Bool, true, false, length, List, refl, ap, None, Option, arith, nat_le, nat_lt}
 use Rattle.std.proofs.lemmas.Bool.Decides.{nat_tests}
 use Rattle.std.specs.Prelude.{[], ◌∷◌, is_some, Some}
 use Rattle.fsrm_base.specs.Causes.{◌when◌, first}
@@ -36,3 +36,8 @@ pub may_make : (v : Volume) (folder : ℕ) (name : List ℕ) → new_fault v fol
 may_make v folder name h =
     let n = none_due _ _ _ h in
     record { alone = no_number _ n.first; room = not_le _ _ n.second; names = ge_is _ _ n.third }
+
+-- a name that a child has is refused before all else
+pub taken_first : (v : Volume) (folder : ℕ) (name : List ℕ) (n : ℕ) → child_number v.nodes folder name ≡ Some n → new_fault v folder name ≡ Some AlreadyExists
+taken_first v folder name n h =
+    ap (λ (o : Option ℕ). first ((AlreadyExists when is_some o) ∷ (VolumeFull when nat_le v.size.nodes (length v.nodes)) ∷ (NamesFull when nat_lt v.size.names (name_bytes v.nodes + length name)) ∷ [])) h

@@ -1,10 +1,10 @@
 -- Rows in the order of their places.
-use Rattle.std.proofs.Common.{◌≡◌, ◌≢◌, ℕ, zero, suc, ◌+◌, ◌-◌, ◌<◌, ◌==◌, true, false, not, inl, inr, All, AllPairs, List, [], ◌∷◌, length, get_or, map, sym, ◌∙◌, ap, subst, arith, Some, IsPermutation}
+use Rattle.std.proofs.Common.{◌≡◌, ◌≢◌, ℕ, zero, suc, ◌+◌, ◌-◌, ◌<◌, ◌≤◌, ◌==◌, Bool, true, false, cond, filter, not, inl, inr, All, AllPairs, List, [], ◌∷◌, length, get_or, map, sym, ◌∙◌, ap, subst, arith, Some, IsPermutation}
 use Rattle.std.proofs.lemmas.Bool.Decides.{nat_tests, Decides-eqb}
 use Rattle.std.proofs.lemmas.Cmp.{nat_list_cmp_total}
 use Rattle.std.proofs.lemmas.List.{get_or-map, length-map}
 use Rattle.std.proofs.lemmas.List.Elements.{All-filter, filter_passes}
-use Rattle.std.proofs.lemmas.List.Sorted.{ranks_by, IsPermutation-map, All-permutation}
+use Rattle.std.proofs.lemmas.List.Sorted.{ranks_by, IsPermutation-map, All-permutation, length_permutation}
 use Rattle.std.proofs.lemmas.Map.Keys.{IsDistinct-IsPermutation}
 use Rattle.std.proofs.lemmas.Map.Made.{AllPairs-from_IsDistinct, IsDistinct-from_AllPairs}
 use Rattle.std.proofs.lemmas.Simd.{map-map}
@@ -154,3 +154,16 @@ ordered nodes entries order p h e =
       members = p;
       ascending = pairs-map Before (λ (r : Bor NodeRow). r.now) entries pairs;
     }
+
+-- there are no more entries than rows
+kept_fit : {X : Type 0} (p : X → Bool) (xs : List X) → length (filter p xs) ≤ length xs
+kept_fit p [] = omega arith
+kept_fit {X} p (x ∷ xs) = at (p x) (kept_fit p xs)
+  where
+    at : (b : Bool) → length (filter p xs) ≤ length xs → length (cond b (x ∷ filter p xs) (filter p xs)) ≤ length (x ∷ xs)
+    at true l = omega (arith, l)
+    at false l = omega (arith, l)
+
+pub entries_fit : (rows : List NodeRow) (entries : List (Bor NodeRow)) → IsPermutation (inner rows) (map (λ (r : Bor NodeRow). r.now) entries) → length entries ≤ length rows
+entries_fit rows entries all =
+    omega (arith, kept_fit (λ (node : NodeRow). not (node.number == 0)) rows, length_permutation (inner rows) (map (λ (r : Bor NodeRow). r.now) entries) all, length-map entries (λ (r : Bor NodeRow). r.now))

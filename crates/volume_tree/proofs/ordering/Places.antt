@@ -68,23 +68,15 @@ none_at nodes order folder name place h a d other (Some row) f =
     passes : (p q : ℕ) (b : Bool) → p ≡ q → b ≡ true → ((p == q) && b) ≡ true
     passes p q b e h = let t : (p == q) ≡ true = grind (arith, nat_tests) in rw (t, h) refl
 
-none_named : (nodes : List NodeRow) (order : List ℕ) (folder : ℕ) (name : List ℕ) (place : ℕ) (h : IsOrder nodes order) → is_ascending number nodes ≡ true → IsPlace nodes order folder name place → ((row : NodeRow) → place < length order → node_of nodes (slice_index order place) ≡ Some row → false ≡ ((row.parent == folder) && same_name row.name name)) → child_number nodes folder name ≡ None
+pub none_named : (nodes : List NodeRow) (order : List ℕ) (folder : ℕ) (name : List ℕ) (place : ℕ) (h : IsOrder nodes order) → is_ascending number nodes ≡ true → IsPlace nodes order folder name place → ((row : NodeRow) → place < length order → node_of nodes (slice_index order place) ≡ Some row → false ≡ ((row.parent == folder) && same_name row.name name)) → child_number nodes folder name ≡ None
 none_named nodes order folder name place h a p other =
     let size = length-order_entries nodes order h in
     none_at nodes order folder name place h a (place_divides nodes order folder name place h a p)
     (λ l. sym (other (at h.entries place) (omega arith) (node_there nodes order place h a (omega arith))))
     (child_of nodes folder name) refl
 
-pub none_at_end : (nodes : List NodeRow) (order : List ℕ) (folder : ℕ) (name : List ℕ) (place : ℕ) (h : IsOrder nodes order) → is_ascending number nodes ≡ true → IsPlace nodes order folder name place → place ≡ length order → child_number nodes folder name ≡ None
-none_at_end nodes order folder name place h a p e = none_named nodes order folder name place h a p (λ row l f. absurd (omega arith))
-
-pub other_named : (nodes : List NodeRow) (order : List ℕ) (folder : ℕ) (name : List ℕ) (place : ℕ) (read : NodeRow) (h : IsOrder nodes order) → is_ascending number nodes ≡ true → IsPlace nodes order folder name place → node_of nodes (slice_index order place) ≡ Some read → false ≡ ((read.parent == folder) && same_name read.name name) → child_number nodes folder name ≡ None
-other_named nodes order folder name place read h a p e t =
-    none_named nodes order folder name place h a p
-    (λ row l f. t ∙ ap (λ (r : NodeRow). (r.parent == folder) && same_name r.name name) (same_Some _ _ (sym e ∙ f)))
-
 -- an entry stands at the place of its own name
-own_place : (nodes : List NodeRow) (order : List ℕ) (k : ℕ) (h : IsOrder nodes order) → k < length h.entries → Divides (λ r. is_before r (at h.entries k).parent (at h.entries k).name) h.entries k
+pub own_place : (nodes : List NodeRow) (order : List ℕ) (k : ℕ) (h : IsOrder nodes order) → k < length h.entries → Divides (λ r. is_before r (at h.entries k).parent (at h.entries k).name) h.entries k
 own_place nodes order k h l =
     let row = at h.entries k in
     record {

@@ -1,5 +1,5 @@
 -- Rows that stand in the slots of their numbers.
-use Rattle.std.proofs.Common.{◌≡◌, ℕ, suc, ◌+◌, ◌<◌, ◌==◌, Bool, true, false, cond, List, [], ◌∷◌, length, slice_get, get_or, Option, Some, None, refl, ◌∙◌, ap, subst, arith}
+use Rattle.std.proofs.Common.{◌≡◌, ℕ, suc, ◌+◌, ◌<◌, ◌≤◌, ◌==◌, Bool, true, false, cond, List, [], ◌∷◌, length, slice_get, get_or, Option, Some, None, refl, ◌∙◌, ap, subst, arith}
 use Rattle.std.proofs.lemmas.Bool.Decides.{nat_tests}
 use Rattle.std.proofs.lemmas.Option.{slice_get_within, get_or_from_slice_get}
 use Rattle.fsrm_model.specs.declared.row.NodeRow.{NodeRow}
@@ -64,3 +64,9 @@ slot_within slots m row h f = slice_get_within slots m (Some row) (slot_is slots
 
 pub slot_read : (slots : List (Option NodeRow)) (m : ℕ) (row : NodeRow) (read : Option NodeRow) → AreSlots 0 slots → node_of (rows_of slots) m ≡ Some row → read ≡ get_or slots m read → read ≡ Some row
 slot_read slots m row read h f e = e ∙ get_or_from_slice_get slots m (Some row) read (slot_is slots m row h f)
+
+-- there are no more rows than slots
+pub rows_fit : (slots : List (Option NodeRow)) → length (rows_of slots) ≤ length slots
+rows_fit [] = omega arith
+rows_fit (None ∷ slots) = let rest = rows_fit slots in omega (arith, rest)
+rows_fit (Some row ∷ slots) = let rest = rows_fit slots in omega (arith, rest)

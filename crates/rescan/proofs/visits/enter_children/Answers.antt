@@ -1,79 +1,82 @@
-use Rattle.std.proofs.Common.{ℕ, ◌+◌, arith, refl, sym, ◌∙◌, ap, get_or}
+use Rattle.std.proofs.Common.{◌≡◌, ℕ, ◌+◌, ◌++◌, ◌∙◌, List, [], length, length-append, append_assoc, arith, refl, sym, ap}
+use Rattle.std.proofs.lemmas.List.{append-nil}
+use Rattle.std.specs.Prelude.{map}
 use Rattle.fsrm_model.specs.Capacities.{is_capacity}
-use Rattle.fsrm_model.specs.Space.{alloc}
-use Rattle.fsrm_model.specs.Tree.{number}
-use Rattle.fsrm_base.proofs.Look.{found_has}
-use Rattle.volume_tree.proofs.ordering.Children.{child_numbered, numbers_many}
+use Rattle.fsrm_model.specs.Tree.{number, children_in_order}
+use Rattle.volume_tree.proofs.ordering.Children.{numbers_many}
 use Rattle.number_set.specs.Numbers.{Numbers}
-use Rattle.rescan.proofs.unvisited.ChildLaws.{none_taken, folder_taken, file_taken, all_taken, taken_least, child_low}
+use Rattle.rescan.proofs.unvisited.EnterLaws.{Entered, none_entered, more_entered, all_entered, part_small, part_there}
 use Rattle.rescan.proofs.counted.FitLaws.{total_small}
-use Rattle.rescan.proofs.visits.enter_children.Goals.{then-node, else-node}
 use Rattle.rescan.proofs.visits.enter_children.Goals as goal
 
-pub loop-child-init : goal.loop-child-init
-loop-child-init g c = record {
-  taken = none_taken c.args.tree.now.size c.args.tree.now.nodes c.args.folder c.args.set.now;
-  looks = omega (arith, c.children-child-items.ensures.count);
-}
-
-pub node-node-requires : goal.node-node-requires
-node-node-requires g c =
+pub loop-numbers-init : goal.loop-numbers-init
+loop-numbers-init g c =
     let nodes = c.args.tree.now.nodes in
-    let numbers = c.children-child-items.result.now in
-    let at = child_numbered nodes c.args.folder c.loop-child.child-index numbers c.requires.volume.ascending c.children-child-items.ensures.numbers c.loop-child-test.true in
-    found_has number (get_or numbers c.loop-child.child-index 0) nodes at.row at.found
+    let many = numbers_many nodes c.args.folder c.children-children.result c.children-children.ensures.numbers in
+    record {
+      parts = ([], c.children-children.ensures.numbers, none_entered c.args.tree.now.size nodes c.args.set.now);
+      looks = omega (arith, c.children-children.ensures.count, many);
+    }
 
-pub insert-requires : goal.insert-requires
-insert-requires g c =
+pub enter_nodes-bytes-requires-clause-there : goal.enter_nodes-bytes-requires-clause-there
+enter_nodes-bytes-requires-clause-there g c =
+    let parts = c.loop-numbers.invariant.parts in
+    part_there c.args.tree.now.nodes c.args.folder parts.0 c.in-Some.numbers.now c.next.new.self c.requires.volume.ascending (ap (λ (ns : List ℕ). parts.0 ++ ns) (sym c.in-Some.ensures.lent) ∙ parts.1)
+
+pub enter_nodes-bytes-requires-clause-small : goal.enter_nodes-bytes-requires-clause-small
+enter_nodes-bytes-requires-clause-small g c =
     let nodes = c.args.tree.now.nodes in
-    let numbers = c.children-child-items.result.now in
-    let at = child_numbered nodes c.args.folder c.loop-child.child-index numbers c.requires.volume.ascending c.children-child-items.ensures.numbers c.loop-child-test.true in
-    let low = child_low c.args.tree.now.size nodes c.args.folder c.loop-child.child-index (get_or numbers c.loop-child.child-index 0) c.requires.volume at in
-    let same = ap (λ (s : Numbers). s.bound) c.loop-child.invariant.taken.set in
-    omega (arith, low, same, c.requires.room)
+    let parts = c.loop-numbers.invariant.parts in
+    let least = part_small c.args.tree.now.size nodes c.args.folder parts.0 c.in-Some.numbers.now c.next.new.self c.requires.volume.ascending (ap (λ (ns : List ℕ). parts.0 ++ ns) (sym c.in-Some.ensures.lent) ∙ parts.1) in
+    let small = total_small c.args.tree.now.size nodes c.requires.volume (ap is_capacity (sym c.capacity-size.ensures.size) ∙ c.capacity-size.ensures.legal) in
+    omega (arith, least, small)
+
+pub enter_nodes-bytes-requires-clause-room : goal.enter_nodes-bytes-requires-clause-room
+enter_nodes-bytes-requires-clause-room g c =
+    let same = ap (λ (s : Numbers). s.bound) c.loop-numbers.invariant.parts.2.set in
+    omega (arith, same, c.requires.room)
 
 pub overflow_add-bytes : goal.overflow_add-bytes
 overflow_add-bytes g c =
-    let K = c.args.tree.now.size in
     let nodes = c.args.tree.now.nodes in
-    let numbers = c.children-child-items.result.now in
-    let place = c.loop-child.child-index in
-    let at = child_numbered nodes c.args.folder place numbers c.requires.volume.ascending c.children-child-items.ensures.numbers c.loop-child-test.true in
-    let sum : ℕ = c.loop-child.bytes + alloc K c.node-node.result.length in
-    let next = file_taken K nodes c.args.folder place (get_or numbers place 0) c.node-node.result c.args.set.now c.loop-child.set c.loop-child.set c.loop-child.bytes at c.node-node.ensures.view c.if-node.false c.loop-child.invariant.taken refl sum refl in
-    let most = taken_least K nodes c.args.folder (place + 1) c.args.set.now c.loop-child.set sum next in
-    let small = total_small K nodes c.requires.volume (ap is_capacity (sym c.capacity-size.ensures.size) ∙ c.capacity-size.ensures.legal) in
-    omega (arith, most, small, c.allocated-bytes.ensures.space)
+    let parts = c.loop-numbers.invariant.parts in
+    let least = part_small c.args.tree.now.size nodes c.args.folder parts.0 c.in-Some.numbers.now c.next.new.self c.requires.volume.ascending (ap (λ (ns : List ℕ). parts.0 ++ ns) (sym c.in-Some.ensures.lent) ∙ parts.1) in
+    let small = total_small c.args.tree.now.size nodes c.requires.volume (ap is_capacity (sym c.capacity-size.ensures.size) ∙ c.capacity-size.ensures.legal) in
+    omega (arith, least, small, parts.2.bytes, c.enter_nodes-bytes.ensures.bytes)
 
-pub loop-child-preserved : goal.loop-child-preserved
-loop-child-preserved g c =
+pub loop-numbers-preserved : goal.loop-numbers-preserved
+loop-numbers-preserved g c =
     let K = c.args.tree.now.size in
     let nodes = c.args.tree.now.nodes in
-    let numbers = c.children-child-items.result.now in
-    let place = c.loop-child.child-index in
-    let at = child_numbered nodes c.args.folder place numbers c.requires.volume.ascending c.children-child-items.ensures.numbers c.loop-child-test.true in
+    let parts = c.loop-numbers.invariant.parts in
+    let numbers = c.in-Some.numbers.now in
+    let sum : ℕ = c.loop-numbers.bytes + c.enter_nodes-bytes.result in
+    let own : Entered K nodes numbers c.loop-numbers.set c.enter_nodes-bytes.new.set c.enter_nodes-bytes.result = record { set = c.enter_nodes-bytes.ensures.set; bytes = c.enter_nodes-bytes.ensures.bytes } in
     record {
-      taken = elim c.if-node.branch [
-        | then-node w ↦ folder_taken K nodes c.args.folder place (get_or numbers place 0) c.node-node.result c.args.set.now c.loop-child.set c.if-node.set c.loop-child.bytes at c.node-node.ensures.view w.if-node.true c.loop-child.invariant.taken (w.set-is ∙ w.insert.ensures) c.if-node.bytes w.bytes-is
-        | else-node w ↦ file_taken K nodes c.args.folder place (get_or numbers place 0) c.node-node.result c.args.set.now c.loop-child.set c.if-node.set c.loop-child.bytes at c.node-node.ensures.view w.if-node.false c.loop-child.invariant.taken w.set-is c.if-node.bytes (w.bytes-is ∙ ap (λ (k : ℕ). c.loop-child.bytes + k) w.allocated-bytes.ensures.space)
-      ];
-      looks = omega (arith, c.loop-child.invariant.looks, c.node-node.ensures.count);
+      parts = (
+        parts.0 ++ numbers,
+        append_assoc parts.0 numbers c.next.new.self ∙ (ap (λ (ns : List ℕ). parts.0 ++ ns) (sym c.in-Some.ensures.lent) ∙ parts.1),
+        more_entered K nodes parts.0 numbers c.args.set.now c.loop-numbers.set c.enter_nodes-bytes.new.set c.loop-numbers.bytes c.enter_nodes-bytes.result sum parts.2 own refl,
+      );
+      looks = omega (arith, c.enter_nodes-bytes.ensures.count, c.in-Some.ensures.count, ap length c.in-Some.ensures.lent, length-append numbers c.next.new.self, c.loop-numbers.invariant.looks);
     }
+
+pub loop-numbers-smaller : goal.loop-numbers-smaller
+loop-numbers-smaller g c = omega (arith, ap length c.in-Some.ensures.lent, length-append c.in-Some.numbers.now c.next.new.self, c.in-Some.ensures.some)
 
 pub returns-clause-set : goal.returns-clause-set
 returns-clause-set g c =
-    let many = numbers_many c.args.tree.now.nodes c.args.folder c.children-child-items.result.now c.children-child-items.ensures.numbers in
-    (all_taken c.args.tree.now.size c.args.tree.now.nodes c.args.folder c.loop-child.child-index c.args.set.now c.loop-child.set c.loop-child.bytes (omega (arith, many)) c.loop-child.invariant.taken).0
+    let nodes = c.args.tree.now.nodes in
+    let parts = c.loop-numbers.invariant.parts in
+    let all : parts.0 ≡ map number (children_in_order nodes c.args.folder) = sym (append-nil parts.0) ∙ (ap (λ (ns : List ℕ). parts.0 ++ ns) (sym c.in_default.ensures.none) ∙ parts.1) in
+    (all_entered c.args.tree.now.size nodes c.args.folder parts.0 c.args.set.now c.loop-numbers.set c.loop-numbers.bytes c.requires.volume.ascending all parts.2).0
 
 pub returns-clause-bytes : goal.returns-clause-bytes
 returns-clause-bytes g c =
-    let many = numbers_many c.args.tree.now.nodes c.args.folder c.children-child-items.result.now c.children-child-items.ensures.numbers in
-    (all_taken c.args.tree.now.size c.args.tree.now.nodes c.args.folder c.loop-child.child-index c.args.set.now c.loop-child.set c.loop-child.bytes (omega (arith, many)) c.loop-child.invariant.taken).1
+    let nodes = c.args.tree.now.nodes in
+    let parts = c.loop-numbers.invariant.parts in
+    let all : parts.0 ≡ map number (children_in_order nodes c.args.folder) = sym (append-nil parts.0) ∙ (ap (λ (ns : List ℕ). parts.0 ++ ns) (sym c.in_default.ensures.none) ∙ parts.1) in
+    (all_entered c.args.tree.now.size nodes c.args.folder parts.0 c.args.set.now c.loop-numbers.set c.loop-numbers.bytes c.requires.volume.ascending all parts.2).1
 
 pub returns-clause-small : goal.returns-clause-small
 returns-clause-small g c = total_small c.args.tree.now.size c.args.tree.now.nodes c.requires.volume (ap is_capacity (sym c.capacity-size.ensures.size) ∙ c.capacity-size.ensures.legal)
-
-pub returns-clause-looks : goal.returns-clause-looks
-returns-clause-looks g c =
-    let many = numbers_many c.args.tree.now.nodes c.args.folder c.children-child-items.result.now c.children-child-items.ensures.numbers in
-    omega (arith, many, c.loop-child.invariant.looks)

@@ -1,10 +1,13 @@
-use Rattle.std.proofs.Common.{◌+◌, ◌≤◌, length}
-use Rattle.fsrm_model.specs.Tree.{children}
-use Rattle.rescan.proofs.unvisited.ChildLaws.{TakenUp}
+use Rattle.std.proofs.Common.{◌≡◌, ◌+◌, ◌*◌, ◌≤◌, ◌++◌, ℕ, List, length, map}
+use Rattle.fsrm_model.specs.Tree.{number, children, children_in_order}
+use Rattle.rescan.proofs.unvisited.EnterLaws.{Entered}
 use Rattle.rescan.proofs.visits.enter_children.Given as goal
 
-abbrev pub invariant-loop-child : goal.invariant-loop-child
-invariant-loop-child g l = record {
-  taken : TakenUp l.tree.size l.tree.nodes l.folder l.child-index l.fn.set l.set l.bytes;
-  looks : l.steps ≤ l.fn.steps + (1 + length (children l.tree.nodes l.folder) + l.child-index);
+abbrev pub invariant-loop-numbers : goal.invariant-loop-numbers
+invariant-loop-numbers g l = record {
+  parts : (first : List ℕ) × (first ++ l.children ≡ map number (children_in_order l.tree.nodes l.folder)) × Entered l.tree.size l.tree.nodes first l.fn.set l.set l.bytes;
+  looks : l.steps + 2 * length l.children ≤ l.fn.steps + (1 + 2 * length (children l.tree.nodes l.folder));
 }
+
+abbrev pub decreases-loop-numbers : goal.decreases-loop-numbers
+decreases-loop-numbers g l = length l.children

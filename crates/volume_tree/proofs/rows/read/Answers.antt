@@ -6,9 +6,11 @@ use Rattle.fsrm_model.specs.Valid.{IsVolume}
 use Rattle.fsrm_model.proofs.valid.CapacityLaws.{nodes_most}
 use Rattle.fsrm_model.proofs.valid.ValidVolume.{tree_of_volume}
 use Rattle.volume_tree.specs.declared.answer.RowsFault.TheVariants.{BadRows}
+use Rattle.block_list.specs.Runs.{entries_of}
 use Rattle.volume_tree.specs.Kept.{AreHoles, IsOrder}
 use Rattle.volume_tree.proofs.slotted.FreshLaws.{few_nodes}
 use Rattle.volume_tree.proofs.slotted.FromRows.{passed_on}
+use Rattle.volume_tree.proofs.slotted.SlotRows.{rows_fit}
 use Rattle.volume_tree.proofs.kept.Sound.{bad_sound, bad_twins, sound_ascending, volume_of_parts}
 use Rattle.volume_tree.proofs.rows.read.Goals as goal
 
@@ -18,8 +20,11 @@ returns-in_err-slots-clause-bad c =
     let p = err_from_is_err_and c.from_residual.result c.from_residual.ensures.1 in
     bad_sound c.args.size c.args.rows.now (c.in_err-slots.ensures.bad (passed_on c.from_residual.result p.0 c.in_err-slots.field-0.0 BadRows e p.1 p.2))
 
-pub order_of-requires : goal.order_of-requires
-order_of-requires c = sound_ascending c.args.size.nodes c.args.rows.now c.in_ok-slots.ensures.may
+pub order_of-requires-clause-room : goal.order_of-requires-clause-room
+order_of-requires-clause-room c = omega (arith, rows_fit c.in_ok-slots.slots.items, ap length c.in_ok-slots.ensures.rows, c.in_ok-slots.ensures.fit)
+
+pub order_of-requires-clause-ascending : goal.order_of-requires-clause-ascending
+order_of-requires-clause-ascending c = sound_ascending c.args.size.nodes c.args.rows.now c.in_ok-slots.ensures.may
 
 pub returns-in_err-order-clause-bad : goal.returns-in_err-order-clause-bad
 returns-in_err-order-clause-bad c =
@@ -29,7 +34,7 @@ returns-in_err-order-clause-bad c =
 
 pub overflow_cast-result : goal.overflow_cast-result
 overflow_cast-result c =
-    let volume = volume_of_parts c.args.size c.args.rows.now c.in_ok-order.order.items c.in-Some.used c.in_ok-slots.ensures.may c.in-Some.ensures.sum c.in-Some.ensures.within c.in_ok-order.ensures.order in
+    let volume = volume_of_parts c.args.size c.args.rows.now (entries_of c.in_ok-order.order.runs) c.in-Some.used c.in_ok-slots.ensures.may c.in-Some.ensures.sum c.in-Some.ensures.within c.in_ok-order.ensures.order in
     let few = few_nodes c.args.size c.args.rows.now volume in
     let most = nodes_most c.args.size c.requires in
     let small : length c.args.rows.now < 2 ^ 32 = omega (arith, few, most) in
@@ -37,7 +42,7 @@ overflow_cast-result c =
 
 pub returns-clause-kept : goal.returns-clause-kept
 returns-clause-kept c =
-    let volume = volume_of_parts c.args.size c.args.rows.now c.in_ok-order.order.items c.in-Some.used c.in_ok-slots.ensures.may c.in-Some.ensures.sum c.in-Some.ensures.within c.in_ok-order.ensures.order in
+    let volume = volume_of_parts c.args.size c.args.rows.now (entries_of c.in_ok-order.order.runs) c.in-Some.used c.in_ok-slots.ensures.may c.in-Some.ensures.sum c.in-Some.ensures.within c.in_ok-order.ensures.order in
     let same = sym c.in_ok-slots.ensures.rows in
     record {
       volume = subst (IsVolume c.args.size) same volume;
@@ -47,10 +52,11 @@ returns-clause-kept c =
       used_is = c.in-Some.ensures.sum ∙ ap name_bytes same;
       bound_is = c.in-Ok.ensures.bound;
       holes_are = subst (λ (slots : List (Option NodeRow)). AreHoles slots c.in-Ok.holes.members) c.deref.ensures.value c.in-Ok.ensures.holes;
-      order_is = subst (λ (rows : List NodeRow). IsOrder rows c.in_ok-order.order.items) same c.in_ok-order.ensures.order;
+      order_is = subst (λ (rows : List NodeRow). IsOrder rows (entries_of c.in_ok-order.order.runs)) same c.in_ok-order.ensures.order;
+      room_is = c.in_ok-order.ensures.room;
     }
 
 pub returns-clause-may : goal.returns-clause-may
 returns-clause-may c =
-    let volume = volume_of_parts c.args.size c.args.rows.now c.in_ok-order.order.items c.in-Some.used c.in_ok-slots.ensures.may c.in-Some.ensures.sum c.in-Some.ensures.within c.in_ok-order.ensures.order in
+    let volume = volume_of_parts c.args.size c.args.rows.now (entries_of c.in_ok-order.order.runs) c.in-Some.used c.in_ok-slots.ensures.may c.in-Some.ensures.sum c.in-Some.ensures.within c.in_ok-order.ensures.order in
     tree_of_volume c.args.size c.args.rows.now volume

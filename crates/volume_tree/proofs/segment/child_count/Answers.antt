@@ -1,14 +1,18 @@
+use Rattle.std.proofs.Common.{arith}
+use Rattle.block_list.specs.Places.{index_of}
+use Rattle.block_list.specs.Runs.{entries_of}
 use Rattle.volume_tree.specs.Kept.{rows_of}
 use Rattle.volume_tree.proofs.ordering.Children.{counted}
 use Rattle.volume_tree.proofs.slotted.SlotRows.{slots_ascend}
 use Rattle.volume_tree.proofs.segment.child_count.Goals as goal
 
-pub overflow_sub-result : goal.overflow_sub-result
-overflow_sub-result c =
-    let slots = c.args.slots.now in
-    (counted (rows_of slots) c.args.order.now c.args.folder c.from-folder.result c.first_from-2.result c.first_from.result c.requires.order (slots_ascend slots c.requires.slots) c.from-folder.ensures c.first_from-2.ensures c.first_from.ensures).0
+pub between-requires-clause-ordered : goal.between-requires-clause-ordered
+between-requires-clause-ordered c =
+    let runs = c.args.order.now.runs in
+    (counted (rows_of c.args.slots.now) (entries_of runs) c.args.folder c.from-folder.result (index_of runs c.first_from.result.0) (index_of runs c.first_from-2.result.0) c.requires.order (slots_ascend c.args.slots.now c.requires.slots) c.from-folder.ensures c.first_from.ensures.place c.first_from-2.ensures.place).0
 
 pub returns : goal.returns
 returns c =
-    let slots = c.args.slots.now in
-    (counted (rows_of slots) c.args.order.now c.args.folder c.from-folder.result c.first_from-2.result c.first_from.result c.requires.order (slots_ascend slots c.requires.slots) c.from-folder.ensures c.first_from-2.ensures c.first_from.ensures).1
+    let runs = c.args.order.now.runs in
+    let many = counted (rows_of c.args.slots.now) (entries_of runs) c.args.folder c.from-folder.result (index_of runs c.first_from.result.0) (index_of runs c.first_from-2.result.0) c.requires.order (slots_ascend c.args.slots.now c.requires.slots) c.from-folder.ensures c.first_from.ensures.place c.first_from-2.ensures.place in
+    omega (arith, many.0, many.1, c.between.ensures)

@@ -1,6 +1,6 @@
 use Rattle.std.proofs.Common.{ap}
 use Rattle.fsrm_objects.specs.Tables.{Tables}
-use Rattle.fsrm_engine.proofs.tables.RoomLaws.{plain_short, plain_fault}
+use Rattle.fsrm_engine.proofs.tables.RoomLaws.{plain_short}
 use Rattle.fsrm_engine.proofs.tables.CountingLaws.{added, room_more, recounted_as}
 use Rattle.fsrm_engine.proofs.parts.Parts.add.Goals as goal
 

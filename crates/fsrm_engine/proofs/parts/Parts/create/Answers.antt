@@ -35,13 +35,13 @@ returns-in-Err-admit-clause-ok g c =
     let changes = make_changes p.tree.size p.tree.nodes p.objects.quotas c.in-Ok.place.folder c.in-Ok.place.name.now c.args.length c.args.owner c.args.moment c.allocated.result e.volume e.are_quotas at.folder_is c.allocated.ensures.space in
     refused_as p c.args.moment (File (Create c.args.path.now c.args.length c.args.owner)) _ _ c.requires.late
     (create_due p c.args.moment c.args.path.now c.args.length c.args.owner c.in-Ok.place.folder c.in-Ok.place.name.now e.volume at
-    ∙ due_quota (new_fault p.tree c.in-Ok.place.folder c.in-Ok.place.name.now) _ c.in-Err-admit.exceeded c.in_default.ensures.may
+    ∙ due_quota (new_fault p.tree c.in-Ok.place.folder c.in-Ok.place.name.now) _ c.in-Err-admit.exceeded c.in-Ok-may_create.ensures.may
     (refused_by_quota p _ _ c.in-Err-admit.exceeded e changes c.in-Err-admit.ensures.refused))
     (c.refused-in-Err-admit.ensures ∙ ap refused_answer c.exceeded_by.ensures)
 
 pub returns-in-Err-admit-clause-looks : goal.returns-in-Err-admit-clause-looks
 returns-in-Err-admit-clause-looks g c =
-    omega (arith, c.in-Ok.ensures.looks, c.in-Err-admit.ensures.looks, c.in_default.ensures.looks, place_depth _ _ _ _ _ c.requires.whole.sound.counted.volume c.in-Ok.ensures.ok)
+    omega (arith, c.in-Ok.ensures.looks, c.in-Err-admit.ensures.looks, c.in-Ok-may_create.ensures.looks, place_depth _ _ _ _ _ c.requires.whole.sound.counted.volume c.in-Ok.ensures.ok)
 
 pub charge-requires-clause-change : goal.charge-requires-clause-change
 charge-requires-clause-change g c =
@@ -71,7 +71,7 @@ returns-clause-ok g c =
     e at.folder_is c.allocated.ensures.space c.in_ok-node.ensures.made c.in_ok-node.ensures.kept c.requires.moment c.charge.ensures.counters c.charge.ensures.quotas in
     op_done p (record p { tree = w; scans = c.follow_create.new.self; usage = c.charge.new.usage; objects = c.charge.new.objects }) c.done.new.self c.args.moment (Create c.args.path.now c.args.length c.args.owner) c.done.result p.objects.quotas _ c.requires.late
     (create_due p c.args.moment c.args.path.now c.args.length c.args.owner c.in-Ok.place.folder c.in-Ok.place.name.now e.volume at
-    ∙ due_none (new_fault p.tree c.in-Ok.place.folder c.in-Ok.place.name.now) _ c.in_default.ensures.may (admitted p _ _ e changes c.in_default-admit.ensures.admitted))
+    ∙ due_none (new_fault p.tree c.in-Ok.place.folder c.in-Ok.place.name.now) _ c.in-Ok-may_create.ensures.may (admitted p _ _ e changes c.in_default.ensures.admitted))
     (ap (λ (w : Volume). w.nodes) (sym (c.in_ok-node.ensures.made ∙ made_is p.tree _ _ _ false c.args.length c.args.owner c.args.moment at)))
     refl refl (λ k. left_back p w c.in_ok-node.node made.back)
     c.follow_create.ensures.follows (ap (λ (w : Volume). w.size) c.in_ok-node.ensures.made) d.raised_are c.done.ensures.ended c.done.ensures.answer
@@ -88,8 +88,8 @@ returns-clause-looks g c =
     omega (
       arith,
       c.in-Ok.ensures.looks,
+      c.in-Ok-may_create.ensures.looks,
       c.in_default.ensures.looks,
-      c.in_default-admit.ensures.looks,
       c.in_ok-node.ensures.looks,
       c.follow_create.ensures.looks,
       c.charge.ensures.looks,
@@ -129,4 +129,4 @@ returns-in_err-node-clause-sound g c = subst (λ (w : Volume). IsSound (record c
 
 pub returns-in_err-node-clause-looks : goal.returns-in_err-node-clause-looks
 returns-in_err-node-clause-looks g c =
-    omega (arith, c.in-Ok.ensures.looks, c.in_default.ensures.looks, c.in_default-admit.ensures.looks, c.make_file.ensures.looks, place_depth _ _ _ _ _ c.requires.whole.sound.counted.volume c.in-Ok.ensures.ok)
+    omega (arith, c.in-Ok.ensures.looks, c.in-Ok-may_create.ensures.looks, c.in_default.ensures.looks, c.make_file.ensures.looks, place_depth _ _ _ _ _ c.requires.whole.sound.counted.volume c.in-Ok.ensures.ok)

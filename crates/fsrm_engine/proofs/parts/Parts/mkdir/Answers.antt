@@ -45,7 +45,7 @@ returns-clause-ok g c =
     let row = made_node p.tree.nodes c.in-Ok.place.folder c.in-Ok.place.name.now true 0 c.args.owner c.args.moment in
     let made = is_made p.tree w c.in_ok-node.node c.in-Ok.place.folder c.in-Ok.place.name.now true 0 c.args.owner c.args.moment c.requires.whole.sound.counted.volume c.in_ok-node.ensures.made c.in_ok-node.ensures.number in
     op_done p (record p { tree = w; scans = c.follow_mkdir.new.self }) c.done.new.self c.args.moment (Mkdir c.args.path.now c.args.owner) c.done.result p.objects.quotas _ c.requires.late
-    (mkdir_due p c.args.moment _ c.args.owner _ _ c.requires.whole.sound.counted.volume at ∙ ap (λ o. tree_first o None) c.in_default.ensures.may)
+    (mkdir_due p c.args.moment _ c.args.owner _ _ c.requires.whole.sound.counted.volume at ∙ ap (λ o. tree_first o None) c.in-Ok-may_create.ensures.may)
     (ap (λ (w : Volume). w.nodes) (sym (c.in_ok-node.ensures.made ∙ made_is p.tree _ _ _ true 0 c.args.owner c.args.moment at)))
     refl refl
     (mkdir_next p w c.args.path.now c.in-Ok.place.folder c.in-Ok.place.name.now c.args.owner c.args.moment c.in_ok-node.node (plain p.tree.nodes (Mkdir c.args.path.now c.args.owner) c.args.moment) at made.back)

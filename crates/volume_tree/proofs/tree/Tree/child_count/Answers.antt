@@ -2,7 +2,7 @@ use Rattle.std.proofs.Common.{◌≡◌, ◌<◌, ◌^◌, length, List, ap, ari
 use Rattle.fsrm_model.specs.declared.row.NodeRow.{NodeRow}
 use Rattle.volume_tree.specs.Kept.{rows_of}
 use Rattle.fsrm_model.specs.Tree.{children}
-use Rattle.volume_tree.proofs.kept.KeptLaws.{few_rows, children_fit}
+use Rattle.volume_tree.proofs.kept.KeptLaws.{few_order, few_rows, children_fit}
 use Rattle.volume_tree.proofs.tree.Tree.child_count.Goals as goal
 
 pub overflow_cast-result : goal.overflow_cast-result
@@ -14,3 +14,6 @@ overflow_cast-result g c =
     let e = c.child_count.ensures in
     let small : c.child_count.result < 2 ^ 32 = omega (arith, same, fit, few, e) in
     search rules
+
+pub child_count-requires-clause-few : goal.child_count-requires-clause-few
+child_count-requires-clause-few g c = few_order _ _ _ _ _ _ c.self.invariant

@@ -7,7 +7,7 @@ use Rattle.volume_tree.proofs.tree.Tree.resize.Goals as goal
 pub invariant_of-self : goal.invariant_of-self
 invariant_of-self g c =
     let i = c.self.inside in
-    resized_kept i.size i.count i.used i.holes i.slots.items c.set_length.new.slots.items i.order.items c.args.node c.args.length c.args.moment c.self.invariant
+    resized_kept i.size i.count i.used i.holes i.slots.items c.set_length.new.slots.items i.order c.args.node c.args.length c.args.moment c.self.invariant
     (ap (λ (v : Volume). is_folder v.nodes c.args.node) c.self.view_is ∙ c.requires.file) c.requires.length c.requires.moment c.set_length.ensures.slots c.set_length.ensures.set c.set_length.ensures.len
 
 pub returns-clause-kept : goal.returns-clause-kept

@@ -7,7 +7,7 @@ use Rattle.volume_tree.proofs.tree.Tree.touch.Goals as goal
 pub invariant_of-self : goal.invariant_of-self
 invariant_of-self g c =
     let i = c.self.inside in
-    touched_kept i.size i.count i.used i.holes i.slots.items c.set_accessed.new.slots.items i.order.items c.args.node c.args.moment c.self.invariant
+    touched_kept i.size i.count i.used i.holes i.slots.items c.set_accessed.new.slots.items i.order c.args.node c.args.moment c.self.invariant
     (ap (λ (v : Volume). is_folder v.nodes c.args.node) c.self.view_is ∙ c.requires.file) c.requires.moment c.set_accessed.ensures.slots c.set_accessed.ensures.set c.set_accessed.ensures.len
 
 pub returns-clause-kept : goal.returns-clause-kept

@@ -1,0 +1,184 @@
+-- The order in runs.
+use Rattle.std.proofs.Common.{◌≡◌, ℕ, zero, suc, ◌+◌, ◌-◌, ◌<◌, ◌≤◌, ◌==◌, not, true, ◌⊎◌, inl, inr, List, [], ◌∷◌, ◌++◌, length, take, drop, slice_get, Some, None, Result, Ok, Err, refl, sym, ◌∙◌, ap, subst, arith, length-append, length-drop}
+use Rattle.std.specs.Prelude.{IfOk, IfErr, min}
+use Rattle.std.proofs.lemmas.Bool.{cases_lt}
+use Rattle.std.proofs.lemmas.List.{take_all}
+use Rattle.std.proofs.lemmas.Option.{same_Some, slice_get_within, get_or_from_slice_get}
+use Rattle.fsrm_model.specs.declared.row.NodeRow.{NodeRow}
+use Rattle.fsrm_base.specs.Keyed.{is_ascending, has_row}
+use Rattle.fsrm_model.specs.Tree.{number, node_of, children}
+use Rattle.fsrm_base.proofs.Look.{found_has}
+use Rattle.block_list.specs.declared.place.Place.{Place}
+use Rattle.block_list.specs.Places.{IsEntry, IsGap, index_of}
+use Rattle.block_list.specs.Runs.{entries_of, run_at, start_of}
+use Rattle.block_list.proofs.Joined.{entries_more, entries_place, run_within}
+use Rattle.volume_tree.specs.Kept.{IsOrder, IsPlace, IsFloor, IsLeft, is_before, numbers_from}
+use Rattle.volume_tree.proofs.ordering.Children.{has_there}
+use Rattle.volume_tree.proofs.ordering.Entries.{there}
+use Rattle.volume_tree.proofs.ordering.Spans.{first_at, floor_first, floor_past}
+
+-- a number of the order is that of a node
+pub entry_has : (nodes : List NodeRow) (order : List ℕ) (k n : ℕ) → is_ascending number nodes ≡ true → IsOrder nodes order → slice_get order k ≡ Some n → has_row number n nodes ≡ true
+entry_has nodes order k n a h e = let t = there nodes order k n h a e in found_has number n nodes _ t.found
+
+-- after a run whose first entry comes before a name there is a floor
+pub run_past : (nodes : List NodeRow) (runs : List (List ℕ)) (folder : ℕ) (name : List ℕ) (middle n : ℕ) (row : NodeRow) → is_ascending number nodes ≡ true → IsOrder nodes (entries_of runs) → slice_get (entries_of runs) (start_of runs middle) ≡ Some n → node_of nodes n ≡ Some row → is_before row folder name ≡ true → (run : ℕ) → run + 1 ≡ middle + 1 → IsFloor nodes (entries_of runs) folder name (start_of runs run + 1)
+run_past nodes runs folder name middle n row a h e f t run is =
+    let same : middle ≡ run = omega arith in
+    subst (λ i. IsFloor nodes (entries_of runs) folder name (start_of runs i + 1)) same (floor_past nodes (entries_of runs) folder name (start_of runs middle) n row h a e f t)
+
+-- runs begin one after the other
+pub starts_rise : (runs : List (List ℕ)) (i j : ℕ) → i ≤ j → start_of runs i ≤ start_of runs j
+starts_rise runs zero j l = omega arith
+starts_rise runs (suc i) zero l = absurd (omega arith)
+starts_rise [] (suc i) (suc j) l = omega arith
+starts_rise (run ∷ runs) (suc i) (suc j) l =
+    let rest = starts_rise runs i j (omega arith) in
+    omega (arith, rest, length-append run (entries_of (take i runs)), length-append run (entries_of (take j runs)))
+
+-- nothing stands from the end on
+pub get_past : (xs : List ℕ) (k : ℕ) → length xs ≤ k → slice_get xs k ≡ None
+get_past [] zero l = refl
+get_past [] (suc k) l = refl
+get_past (x ∷ xs) zero l = absurd (omega arith)
+get_past (x ∷ xs) (suc k) l = get_past xs k (omega arith)
+
+no_run : (run : ℕ) → length (run_at {T = ℕ} [] run) ≡ 0
+no_run zero = refl
+no_run (suc run) = refl
+
+pub no_entries : (runs : List (List ℕ)) (k : ℕ) → length runs ≡ 0 → slice_get (entries_of runs) k ≡ None
+no_entries [] k e = get_past [] k (omega arith)
+no_entries (run ∷ runs) k e = absurd (omega arith)
+
+-- a gap after an entry is in a run
+pub gap_run : (runs : List (List ℕ)) (place : Place) → IsGap runs place → 0 < place.offset → place.run < length runs
+gap_run [] place g l = let most = g.offset in absurd (omega (arith, most, no_run place.run))
+gap_run (run ∷ runs) place g l = let in_run = g.run in omega arith
+
+pub entry_gap : (runs : List (List ℕ)) (place : Place) → IsEntry runs place → IsGap runs place
+entry_gap runs place e = let run = e.run in let offset = e.offset in record { run = omega arith; offset = omega arith }
+
+-- what each place of a result has
+pub ok_map : {A E : Type 0} {P Q : A → Type 0} (r : Result A E) → ((x : A) → P x → Q x) → IfOk r P → IfOk r Q
+ok_map (Ok x) f p = f x p
+ok_map (Err e) f p = tt
+
+pub err_both : {A E : Type 0} {P Q S : E → Type 0} (r : Result A E) → ((e : E) → P e → Q e → S e) → IfErr r P → IfErr r Q → IfErr r S
+err_both (Ok x) f p q = tt
+err_both (Err e) f p q = f e p q
+
+-- what is at the end
+pub past_end : (xs : List ℕ) (k : ℕ) → k ≤ length xs → slice_get xs k ≡ None → k ≡ length xs
+past_end [] k l e = omega arith
+past_end (x ∷ xs) zero l e = cc
+past_end (x ∷ xs) (suc k) l e = let rest = past_end xs k (omega arith) e in omega (arith, rest)
+
+-- before the first run nothing stands
+pub first_gap : (runs : List (List ℕ)) (place : Place) → place.run ≡ 0 → place.offset ≡ 0 → IsGap runs place
+first_gap runs place r o = record { run = omega arith; offset = omega arith }
+
+pub first_floor : (nodes : List NodeRow) (runs : List (List ℕ)) (folder : ℕ) (name : List ℕ) (place : Place) → place.run ≡ 0 → place.offset ≡ 0 → IsFloor nodes (entries_of runs) folder name (index_of runs place)
+first_floor nodes runs folder name place r o =
+    let start : start_of runs place.run ≡ 0 = ap (start_of runs) r in
+    let is : 0 ≡ index_of runs place = omega (arith, start) in
+    subst (IsFloor nodes (entries_of runs) folder name) is (floor_first nodes (entries_of runs) folder name)
+
+pub has_read : (nodes : List NodeRow) (order : List ℕ) (folder place n : ℕ) (row : NodeRow) (h : IsOrder nodes order) → is_ascending number nodes ≡ true → IsPlace nodes order folder [] place → slice_get order place ≡ Some n → node_of nodes n ≡ Some row → (row.parent == folder) ≡ not (length (children nodes folder) == 0)
+has_read nodes order folder place n row h a p e f =
+    has_there nodes order folder place row h a p (slice_get_within order place n e) (ap (node_of nodes) (get_or_from_slice_get order place n 0 e) ∙ f)
+
+-- the place of a folder's first child, behind an entry of a folder before it
+pub first_some : (nodes : List NodeRow) (order : List ℕ) (folder k n : ℕ) (row : NodeRow) (index m : ℕ) (next : NodeRow) (h : IsOrder nodes order) → is_ascending number nodes ≡ true → slice_get order k ≡ Some n → node_of nodes n ≡ Some row → row.parent < folder → k + 1 ≡ index → slice_get order index ≡ Some m → node_of nodes m ≡ Some next → folder ≤ next.parent → IsPlace nodes order folder [] index
+first_some nodes order folder k n row index m next h a e f less is e2 f2 most =
+    subst (IsPlace nodes order folder []) is
+    (first_at nodes order folder k n row h a e f less (λ i x g j.
+    let same : i ≡ m = same_Some _ _ (sym g ∙ (ap (slice_get order) is ∙ e2)) in
+    let own : x ≡ next = same_Some _ _ (sym j ∙ (ap (node_of nodes) same ∙ f2)) in
+    subst (λ (r : NodeRow). folder ≤ r.parent) (sym own) most))
+
+pub first_none : (nodes : List NodeRow) (order : List ℕ) (folder k n : ℕ) (row : NodeRow) (index : ℕ) (h : IsOrder nodes order) → is_ascending number nodes ≡ true → slice_get order k ≡ Some n → node_of nodes n ≡ Some row → row.parent < folder → k + 1 ≡ index → slice_get order index ≡ None → IsPlace nodes order folder [] index
+first_none nodes order folder k n row index h a e f less is e2 =
+    subst (IsPlace nodes order folder []) is
+    (first_at nodes order folder k n row h a e f less (λ i x g j. absurd (no_some i (sym e2 ∙ (ap (slice_get order) (sym is) ∙ g)))))
+  where
+    no_some : (i : ℕ) → None ≡ Some i → ⊥
+    no_some i e = cc
+
+-- what is lent of a run, and what is left then
+drop_front : (xs ys : List ℕ) (k : ℕ) → k ≤ length xs → drop k (xs ++ ys) ≡ drop k xs ++ ys
+drop_front xs ys zero l = refl
+drop_front [] ys (suc k) l = absurd (omega arith)
+drop_front (x ∷ xs) ys (suc k) l = drop_front xs ys k (omega arith)
+
+drop_past : (xs ys : List ℕ) (n k : ℕ) → n ≡ length xs + k → drop n (xs ++ ys) ≡ drop k ys
+drop_past [] ys n k e = let same : n ≡ k = omega (arith, e) in ap (λ m. drop m ys) same
+drop_past (x ∷ xs) ys zero k e = absurd (omega (arith, e))
+drop_past (x ∷ xs) ys (suc n) k e = drop_past xs ys n k (omega (arith, e))
+
+pub rest_of : (runs : List (List ℕ)) (i offset n m : ℕ) → i < length runs → offset ≤ length (run_at runs i) → n ≡ start_of runs i + offset → m ≡ start_of runs i + length (run_at runs i) → drop n (entries_of runs) ≡ drop offset (run_at runs i) ++ drop m (entries_of runs)
+rest_of [] i offset n m within l e f = absurd (omega arith)
+rest_of (run ∷ runs) zero offset n m within l e f =
+    let same : n ≡ offset = omega (arith, e) in
+    ap (λ k. drop k (run ++ entries_of runs)) same
+    ∙ (drop_front run (entries_of runs) offset l ∙ ap (λ ys. drop offset run ++ ys) (sym (drop_past run (entries_of runs) m 0 (omega (arith, f)))))
+rest_of (run ∷ runs) (suc i) offset n m within l e f =
+    let size = length-append run (entries_of (take i runs)) in
+    drop_past run (entries_of runs) n (start_of runs i + offset) (omega (arith, e, size))
+    ∙ (rest_of runs i offset (start_of runs i + offset) (start_of runs i + length (run_at runs i)) (omega arith) l refl refl
+    ∙ ap (λ ys. drop offset (run_at runs i) ++ ys) (sym (drop_past run (entries_of runs) m (start_of runs i + length (run_at runs i)) (omega (arith, f, size)))))
+
+pub take_both : (xs ys : List ℕ) (n few rest : ℕ) → few ≤ length xs → few + rest ≡ n → ((rest ≡ 0) ⊎ (few ≡ length xs)) → take n (xs ++ ys) ≡ take few xs ++ take rest ys
+take_both [] ys n zero rest l e w = let same : n ≡ rest = omega (arith, e) in ap (λ k. take k ys) same
+take_both [] ys n (suc few) rest l e w = absurd (omega arith)
+take_both (x ∷ xs) ys n zero rest l e (inl z) = let none : n ≡ 0 = omega (arith, e, z) in ap (λ k. take k (x ∷ xs ++ ys)) none ∙ sym (ap (λ k. take k ys) z)
+take_both (x ∷ xs) ys n zero rest l e (inr w) = absurd (omega (arith, w))
+take_both (x ∷ xs) ys zero (suc few) rest l e w = absurd (omega (arith, e))
+take_both (x ∷ xs) ys (suc n) (suc few) rest l e (inl z) = ap (λ zs. x ∷ zs) (take_both xs ys n few rest (omega arith) (omega (arith, e)) (inl z))
+take_both (x ∷ xs) ys (suc n) (suc few) rest l e (inr w) = ap (λ zs. x ∷ zs) (take_both xs ys n few rest (omega arith) (omega (arith, e)) (inr (omega (arith, w))))
+
+pub lent_before : (runs : List (List ℕ)) (place next : Place) (left few rest : ℕ) → place.run < length runs → place.offset ≤ length (run_at runs place.run) → index_of runs next ≡ start_of runs place.run + length (run_at runs place.run) → few + place.offset ≤ length (run_at runs place.run) → few + rest ≡ left → ((rest ≡ 0) ⊎ (few + place.offset ≡ length (run_at runs place.run))) → numbers_from runs place left ≡ take few (drop place.offset (run_at runs place.run)) ++ numbers_from runs next rest
+lent_before runs place next left few rest within l is m e w =
+    let run = run_at runs place.run in
+    let size = length-drop place.offset run in
+    let way : (rest ≡ 0) ⊎ (few ≡ length (drop place.offset run)) = elim w [ inl z ↦ inl z | inr f ↦ inr (omega (arith, f, size)) ] in
+    ap (take left) (rest_of runs place.run place.offset (index_of runs place) (index_of runs next) within l refl is)
+    ∙ take_both (drop place.offset run) (drop (index_of runs next) (entries_of runs)) left few rest (omega (arith, m, size)) e way
+
+pub left_after : (runs : List (List ℕ)) (place : Place) (left few rest : ℕ) → IsLeft runs place left → place.run < length runs → place.offset ≤ length (run_at runs place.run) → few + rest ≡ left → ((rest ≡ 0) ⊎ (few + place.offset ≡ length (run_at runs place.run))) → IsLeft runs (record { run = place.run + 1; offset = 0 }) rest
+left_after runs place left few rest h within l e w =
+    let more = entries_more runs place.run within in
+    let most = entries_place runs place.run (length (run_at runs place.run)) within (omega arith) in
+    let fit : start_of runs (place.run + 1) + rest ≤ length (entries_of runs) = elim w [ inl z ↦ omega (arith, more, most, z) | inr f ↦ omega (arith, more, most, f, e, h.within) ] in
+    record {
+      within = omega (arith, fit);
+      run = λ some. run_within runs (place.run + 1) (omega (arith, fit, some));
+      offset = λ some none. absurd (omega arith);
+    }
+
+pub offset_within : (runs : List (List ℕ)) (place : Place) (left : ℕ) → IsLeft runs place left → 0 < left → place.offset ≤ length (run_at runs place.run)
+offset_within runs place left h some = elim (cases_lt 0 place.offset) [ inl l ↦ let m = h.offset some l in omega (arith, m) | inr l ↦ omega (arith, l) ]
+
+-- as many as are left of a run, or as many as are left in all
+pub record Lent (run all : List ℕ) (place : Place) (left few : ℕ) : Type 0 where
+  pub whole : take (length all - place.offset) (drop place.offset all) ≡ drop place.offset run
+  pub most : few + place.offset ≤ length run
+  pub sum : few + (left - few) ≡ left
+  pub way : (left - few ≡ 0) ⊎ (few + place.offset ≡ length run)
+
+pub lent_parts : (runs : List (List ℕ)) (place : Place) (left few : ℕ) (all : List ℕ) → all ≡ run_at runs place.run → place.offset ≤ length (run_at runs place.run) → few ≡ min (length (take (length all - place.offset) (drop place.offset all))) left → Lent (run_at runs place.run) all place left few
+lent_parts runs place left few all is l f =
+    let size = length-drop place.offset all in
+    let same = ap length is in
+    let rest = take (length all - place.offset) (drop place.offset all) in
+    let own : rest ≡ drop place.offset all = take_all (length all - place.offset) (drop place.offset all) (omega (arith, size)) in
+    let width : length rest ≡ length (run_at runs place.run) - place.offset = omega (arith, ap length own, size, same) in
+    record {
+      whole = own ∙ ap (drop place.offset) is;
+      most = omega (arith, f, width, l);
+      sum = omega (arith, f);
+      way = elim (cases_lt left (length rest)) [
+        | inl m ↦ inl (omega (arith, f, m))
+        | inr m ↦ inr (omega (arith, f, m, width, l))
+      ];
+    }

@@ -1,0 +1,87 @@
+//! A folder's children, lent a run at a time.
+
+ghost use Rattle.std.specs.Prelude.{◌≡◌, ◌+◌, ◌<◌, ◌≤◌, ◌++◌, IfSome, IfNone, length, []};
+ghost use Rattle.block_list.specs.Places.{IsGap, index_of};
+ghost use Rattle.block_list.specs.Runs.{entries_of, run_at};
+ghost use Rattle.volume_tree.specs.Kept.{numbers_from};
+
+use block_list::{BlockList, Place};
+use fsrm_model::{Ledger, Steps};
+use std::marker::Model;
+
+/// The numbers of a folder's children that are still to be lent, in the order of their folded names. Contracts see
+/// them.
+#[derive(Drop)]
+pub struct Children<'t> {
+    order: &'t BlockList<u32>,
+    place: Place,
+    left: usize,
+}
+
+impl<'t> Model for Children<'t> {
+    ghost use Rattle.std.specs.Prelude.{ℕ, List};
+    ghost use Rattle.volume_tree.specs.Kept.{IsLeft, numbers_from};
+
+    ghost Value = { List ℕ };
+
+    ghost view = { λ c. numbers_from c.order.now.runs c.place c.left };
+
+    ghost invariant = { λ c. IsLeft c.order.now.runs c.place c.left };
+}
+
+// The same place, but if it is the end of a run the beginning of the next one.
+fn entry_from(order: &BlockList<u32>, place: Place) -> Place
+    requires { IsGap order.now.runs place }
+    ensures index { index_of order.now.runs result ≡ index_of order.now.runs place }
+    ensures offset { 0 < result.offset → result.offset < length (run_at order.now.runs result.run) }
+{
+    if place.offset == 0 {
+        return place;
+    }
+    let _runs = order.run_count();
+    if place.offset < order.run(place.run).len() {
+        return place;
+    }
+    Place {
+        run: place.run + 1,
+        offset: 0,
+    }
+}
+
+impl<'t> Children<'t> {
+    // So many entries from a place on.
+    pub(crate) fn from(order: &'t BlockList<u32>, place: Place, left: usize) -> Children<'t>
+        requires place { IsGap order.now.runs place }
+        requires within { index_of order.now.runs place + left ≤ length (entries_of order.now.runs) }
+        ensures { result ≡ numbers_from order.now.runs place left }
+    {
+        let place = entry_from(order, place);
+        Children { order, place, left }
+    }
+
+    /// The next children, as many as stand in one run, at least one. None exactly if none is left. It takes a look
+    /// for each.
+    pub fn next<L: Ledger>(&mut self, steps: &mut Steps<L>) -> Option<&'t [u32]>
+        ensures lent { IfSome result (λ numbers. self.old ≡ numbers.now ++ self.new) }
+        ensures some { IfSome result (λ numbers. 0 < length numbers.now) }
+        ensures none { IfNone result (self.old ≡ []) }
+        ensures rest { IfNone result (self.new ≡ []) }
+        ensures count { steps.new + length self.new ≡ steps.old + length self.old }
+    {
+        if self.left == 0 {
+            return None;
+        }
+        let order = self.order;
+        // There are no more runs than can be counted.
+        let _runs = order.run_count();
+        let rest = &order.run(self.place.run)[self.place.offset..];
+        let few = rest.len().min(self.left);
+        self.left -= few;
+        self.place = Place {
+            run: self.place.run + 1,
+            offset: 0,
+        };
+        steps.count(few);
+        Some(&rest[..few])
+    }
+}

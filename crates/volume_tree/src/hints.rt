@@ -1,0 +1,174 @@
+//! Guesses at which node has a name in a folder. A wrong one costs whoever takes it a look, and nothing else; so no
+//! clause tells what is guessed, and nothing of the table has to be kept true.
+
+use fsrm_model::NodeRow;
+use std::alloc::Global;
+
+// How many slots a bucket has.
+const SLOTS: usize = 8;
+
+// What stands in a slot that is free. The root is never entered, so no number of an entry is 0.
+const FREE: u32 = 0;
+
+// Numbers of nodes are below this one. An entry has 12 bits of a hash above them.
+const NUMBERS: u32 = 1_048_576;
+
+// 2^64 over the golden ratio, whose bits are as good as drawn.
+const STIR: u64 = 0x9e37_79b9_7f4a_7c15;
+
+// Set in each byte, this bit makes one of the two cases of a letter.
+const BOTH_CASES: u64 = 0x2020_2020_2020_2020;
+
+#[inline]
+fn stir(hash: u64, word: u64) -> u64 {
+    (hash.rotate_left(23) ^ (word | BOTH_CASES)).wrapping_mul(STIR)
+}
+
+// The bytes of a name that has fewer than eight.
+#[inline]
+fn short_word(bytes: &[u8]) -> u64 {
+    match (bytes.first_chunk::<4>(), bytes.last_chunk::<4>()) {
+        (Some(first), Some(last)) => {
+            let first = u64::from(u32::from_le_bytes(*first));
+            first << 32 | u64::from(u32::from_le_bytes(*last))
+        }
+        _ => {
+            let mut word = 0;
+            for byte in bytes {
+                word = word << 8 | u64::from(*byte);
+            }
+            word
+        }
+    }
+}
+
+// A hash of a folder's number and of a name, by words of eight bytes, of which the last one overlaps.
+#[inline]
+fn hash(folder: u32, name: &str) -> u32 {
+    let bytes = name.as_bytes();
+    let mut hash = u64::from(folder).wrapping_mul(STIR);
+    match bytes.last_chunk::<8>() {
+        Some(last) => {
+            let (words, _) = bytes.as_chunks::<8>();
+            for word in words {
+                hash = stir(hash, u64::from_le_bytes(*word));
+            }
+            hash = stir(hash, u64::from_le_bytes(*last));
+        }
+        None => hash = stir(hash, short_word(bytes)),
+    }
+    // The high half depends on all bits, the low one doesn't.
+    ((hash ^ hash >> 32).wrapping_mul(STIR) >> 32) as u32
+}
+
+// The bits of a hash that an entry has.
+#[inline]
+fn mark(hash: u32) -> u32 {
+    hash << 20
+}
+
+// Writes an entry into a free slot, or if there is none over another entry.
+fn put(bucket: &mut [u32; SLOTS], entry: u32) {
+    for slot in bucket.iter_mut() {
+        if *slot == FREE {
+            *slot = entry;
+            return;
+        }
+    }
+    bucket[entry as usize % SLOTS] = entry;
+}
+
+/// For many nodes, where each may stand in the table by its folder and name, in the bucket that their hash leads to. An
+/// entry is a part of the hash and the node's number.
+#[derive(Drop)]
+pub struct Hints {
+    buckets: Vec<[u32; SLOTS]>,
+}
+
+impl Hints {
+    /// A table without entries. It takes no memory.
+    pub fn new(alloc: Global) -> Hints {
+        Hints {
+            buckets: Vec::new(alloc),
+        }
+    }
+
+    /// A table of these nodes.
+    pub fn of(alloc: Global, nodes: &[Option<NodeRow>]) -> Hints {
+        let mut hints = Hints::new(alloc);
+        hints.fit(nodes);
+        hints
+    }
+
+    // The place of the bucket that a hash leads to.
+    #[inline]
+    fn home(&self, hash: u32) -> usize {
+        (u64::from(hash).wrapping_mul(self.buckets.len() as u64) >> 32) as usize
+    }
+
+    /// A number that the child of this name may have. All slots are passed, since to leave the loop early would save
+    /// less than the branch costs.
+    #[inline]
+    pub fn guess(&self, folder: u32, name: &str) -> Option<u32> {
+        let hash = hash(folder, name);
+        let bucket = self.buckets.get(self.home(hash))?;
+        let mut guess = None;
+        for slot in bucket {
+            let number = *slot ^ mark(hash);
+            if number < NUMBERS {
+                guess = Some(number);
+            }
+        }
+        guess
+    }
+
+    fn note(&mut self, folder: u32, name: &str, number: u32) {
+        let hash = hash(folder, name);
+        let home = self.home(hash);
+        if let Some(bucket) = self.buckets.get_mut(home) {
+            put(bucket, mark(hash) | number);
+        }
+    }
+
+    // Sees that there are two slots for each node. Where there aren't, it takes eight for each, and notes all nodes anew; if
+    // there is no memory for them, the table stays as it is.
+    fn fit(&mut self, nodes: &[Option<NodeRow>]) {
+        if nodes.len() / 4 < self.buckets.len() {
+            return;
+        }
+        if self.buckets.resize(nodes.len(), [FREE; SLOTS]).is_err() {
+            return;
+        }
+        for bucket in &mut self.buckets {
+            *bucket = [FREE; SLOTS];
+        }
+        for node in nodes {
+            if let Some(row) = node {
+                self.note(row.parent, row.name.as_str(), row.number);
+            }
+        }
+    }
+
+    /// Enters a node that comes to stand in a folder under a name, beside these nodes.
+    pub fn enter(&mut self, nodes: &[Option<NodeRow>], folder: u32, name: &str, number: u32) {
+        self.fit(nodes);
+        self.note(folder, name, number);
+    }
+
+    /// Gives up the entry of a node that is to leave its place.
+    pub fn forget(&mut self, nodes: &[Option<NodeRow>], number: u32) {
+        let Some(Some(row)) = nodes.get(number as usize) else {
+            return;
+        };
+        let hash = hash(row.parent, row.name.as_str());
+        let entry = mark(hash) | number;
+        let home = self.home(hash);
+        if let Some(bucket) = self.buckets.get_mut(home) {
+            for slot in bucket.iter_mut() {
+                if *slot == entry {
+                    *slot = FREE;
+                }
+            }
+        }
+    }
+}

@@ -1,0 +1,73 @@
+//! The child of a name, which is sought first at the node that is guessed.
+
+ghost use Rattle.std.specs.Prelude.{◌≡◌, ◌+◌, ◌<◌, ◌≤◌, IfSome, OnSome, true, length};
+ghost use Rattle.fsrm_model.specs.Limits.{most_nodes};
+ghost use Rattle.fsrm_model.specs.Tree.{child_number};
+ghost use Rattle.block_list.specs.Runs.{entries_of};
+ghost use Rattle.volume_tree.specs.Kept.{AreSlots, IsOrder, has_name, rows_of};
+
+use crate::hints::Hints;
+use crate::order::search;
+use crate::slots::row;
+use block_list::BlockList;
+use fsrm_model::{Ledger, NodeRow, Steps};
+use name_rules::same_name;
+
+// Whether a number is that of a node other than the root that has a name in a folder.
+fn has_name(slots: &[Option<NodeRow>], number: u32, folder: u32, name: &str) -> bool
+    requires { AreSlots 0 slots.now }
+    ensures { result ≡ has_name (rows_of slots.now) number folder name.now }
+{
+    match row(slots, number) {
+        Some(row) => number != 0 && row.parent == folder && same_name(row.name.as_str(), name),
+        None => false,
+    }
+}
+
+// A node that has a name in a folder, if the one that is guessed has it. It takes a look at that one, if one is guessed.
+fn guessed<L: Ledger>(
+    slots: &[Option<NodeRow>],
+    hints: &Hints,
+    folder: u32,
+    name: &str,
+    steps: &mut Steps<L>,
+) -> Option<u32>
+    requires { AreSlots 0 slots.now }
+    ensures named { IfSome result (λ number. has_name (rows_of slots.now) number folder name.now ≡ true) }
+    ensures some { OnSome result (steps.old + 1 ≤ steps.new) }
+    ensures least { steps.old ≤ steps.new }
+    ensures looks { steps.new ≤ steps.old + 1 }
+{
+    let number = hints.guess(folder, name)?;
+    steps.tick();
+    if has_name(slots, number, folder, name) {
+        Some(number)
+    } else {
+        None
+    }
+}
+
+/// The number of a folder's child of this name. It takes a look, and no more than 22.
+pub fn child<L: Ledger>(
+    slots: &[Option<NodeRow>],
+    order: &BlockList<u32>,
+    hints: &Hints,
+    folder: u32,
+    name: &str,
+    steps: &mut Steps<L>,
+) -> Option<u32>
+    requires slots { AreSlots 0 slots.now }
+    requires order { IsOrder (rows_of slots.now) (entries_of order.now.runs) }
+    requires few { length (entries_of order.now.runs) < most_nodes }
+    ensures value { result ≡ child_number (rows_of slots.now) folder name.now }
+    ensures some { steps.old + 1 ≤ steps.new }
+    ensures looks { steps.new ≤ steps.old + 22 }
+{
+    if let Some(number) = guessed(slots, hints, folder, name, steps) {
+        return Some(number);
+    }
+    match search(slots, order, folder, name, steps) {
+        Ok(place) => Some(order.get(place)),
+        Err(_) => None,
+    }
+}

@@ -1,0 +1,137 @@
+//! Where in the order a new node is to stand, kept from the question whether there may be one.
+
+ghost use Rattle.std.specs.Prelude.{◌≡◌, ◌+◌, ◌<◌, ◌≤◌, true, length};
+ghost use Rattle.fsrm_model.specs.Limits.{most_nodes};
+ghost use Rattle.block_list.specs.Places.{IsGap, index_of};
+ghost use Rattle.block_list.specs.Runs.{entries_of};
+ghost use Rattle.volume_tree.specs.Kept.{AreSlots, IsFloor, IsOrder, IsPlace, rows_of};
+
+use crate::order::{compare, number_at, search};
+use crate::reads::node;
+use block_list::{BlockList, Place};
+use fsrm_model::{Ledger, NodeRow, Steps};
+
+/// A place among a volume's nodes where a name was sought that a folder hasn't. A node of the name is made there, if
+/// that is still its place; what is made is the same wherever a vacancy is.
+#[derive(Clone, Copy, Debug, PartialEq, Eq)]
+pub struct Vacancy {
+    run: usize,
+    offset: usize,
+}
+
+impl Vacancy {
+    pub(crate) fn at(place: Place) -> Vacancy {
+        Vacancy {
+            run: place.run,
+            offset: place.offset,
+        }
+    }
+
+    pub(crate) fn place(self) -> Place {
+        Place {
+            run: self.run,
+            offset: self.offset,
+        }
+    }
+}
+
+// Whether what stands in front of a place is known to come before a name in a folder. It takes a look at most.
+fn is_floor<L: Ledger>(
+    slots: &[Option<NodeRow>],
+    order: &BlockList<u32>,
+    folder: u32,
+    name: &str,
+    place: Place,
+    steps: &mut Steps<L>,
+) -> bool
+    requires slots { AreSlots 0 slots.now }
+    requires order { IsOrder (rows_of slots.now) (entries_of order.now.runs) }
+    ensures gap { result ≡ true → IsGap order.now.runs place }
+    ensures floor { result ≡ true → IsFloor (rows_of slots.now) (entries_of order.now.runs) folder name.now (index_of order.now.runs place) }
+    ensures looks { steps.new ≤ steps.old + 1 }
+{
+    if place.offset == 0 {
+        return place.run == 0;
+    }
+    if place.run >= order.run_count() {
+        return false;
+    }
+    let numbers = order.run(place.run);
+    if place.offset > numbers.len() {
+        return false;
+    }
+    let row = node(slots, numbers[place.offset - 1], steps);
+    compare(row, u64::from(folder), name).is_lt()
+}
+
+// Whether what stands at such a place, if anything does, doesn't come before the name. It takes a look at most.
+fn is_met<L: Ledger>(
+    slots: &[Option<NodeRow>],
+    order: &BlockList<u32>,
+    folder: u32,
+    name: &str,
+    place: Place,
+    steps: &mut Steps<L>,
+) -> bool
+    requires slots { AreSlots 0 slots.now }
+    requires order { IsOrder (rows_of slots.now) (entries_of order.now.runs) }
+    requires gap { IsGap order.now.runs place }
+    requires floor { IsFloor (rows_of slots.now) (entries_of order.now.runs) folder name.now (index_of order.now.runs place) }
+    ensures place { result ≡ true → IsPlace (rows_of slots.now) (entries_of order.now.runs) folder name.now (index_of order.now.runs place) }
+    ensures looks { steps.new ≤ steps.old + 1 }
+{
+    match number_at(order, place) {
+        Some(number) => {
+            let row = node(slots, number, steps);
+            !compare(row, u64::from(folder), name).is_lt()
+        }
+        None => true,
+    }
+}
+
+// Whether a place is known to be that of a name in a folder. It takes no more than two looks.
+fn is_place<L: Ledger>(
+    slots: &[Option<NodeRow>],
+    order: &BlockList<u32>,
+    folder: u32,
+    name: &str,
+    place: Place,
+    steps: &mut Steps<L>,
+) -> bool
+    requires slots { AreSlots 0 slots.now }
+    requires order { IsOrder (rows_of slots.now) (entries_of order.now.runs) }
+    ensures gap { result ≡ true → IsGap order.now.runs place }
+    ensures place { result ≡ true → IsPlace (rows_of slots.now) (entries_of order.now.runs) folder name.now (index_of order.now.runs place) }
+    ensures looks { steps.new ≤ steps.old + 2 }
+{
+    if !is_floor(slots, order, folder, name, place, steps) {
+        return false;
+    }
+    is_met(slots, order, folder, name, place, steps)
+}
+
+/// Where a name of a folder stands in the order, or is to stand, sought first at a place. It looks at no more than 23
+/// nodes.
+pub fn new_place<L: Ledger>(
+    slots: &[Option<NodeRow>],
+    order: &BlockList<u32>,
+    folder: u32,
+    name: &str,
+    near: Place,
+    steps: &mut Steps<L>,
+) -> Place
+    requires slots { AreSlots 0 slots.now }
+    requires order { IsOrder (rows_of slots.now) (entries_of order.now.runs) }
+    requires few { length (entries_of order.now.runs) < most_nodes }
+    ensures gap { IsGap order.now.runs result }
+    ensures place { IsPlace (rows_of slots.now) (entries_of order.now.runs) folder name.now (index_of order.now.runs result) }
+    ensures looks { steps.new ≤ steps.old + 23 }
+{
+    if is_place(slots, order, folder, name, near, steps) {
+        return near;
+    }
+    // Other places may have moved since.
+    match search(slots, order, folder, name, steps) {
+        Ok(place) | Err(place) => place,
+    }
+}
