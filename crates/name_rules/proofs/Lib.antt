@@ -4,3 +4,4 @@ pub mod Splits
 pub mod Names
 pub mod Taken
 pub mod EndLaws
+pub mod NameBytes

@@ -8,3 +8,4 @@ pub mod Lines
 pub mod LimitWords
 pub mod OptionLaws
 pub mod NamedWords
+pub mod Taken

@@ -1,6 +1,6 @@
 -- The words of a text, after its blanks and after its first word.
 use Rattle.std.proofs.Common.{◌≡◌, ℕ, suc, zero, ◌+◌, ◌<◌, ◌≤◌, Bool, true, false, cond, List, [], ◌∷◌, length, take, drop, refl, sym, ap, ◌∙◌, arith, add-zero, inl, inr, get_or, subst}
-use Rattle.std.specs.Prelude.{not, ◌&&◌}
+use Rattle.std.specs.Prelude.{not, nat_lt, ◌==◌, ◌&&◌, ◌||◌, Some, None}
 use Rattle.std.specs.List.{prefix_len, onto_first}
 use Rattle.std.proofs.lemmas.Bool.{and_parts}
 use Rattle.std.proofs.lemmas.List.{length-take, length-drop}
@@ -8,12 +8,16 @@ use Rattle.std.proofs.lemmas.List.Sums.{prefix_len-le-length, prefix_len_passes}
 use Rattle.std.proofs.lemmas.Bool.Decides.{nat_tests}
 use Rattle.std.proofs.lemmas.Bool.{cases_lt}
 use Rattle.std.proofs.lemmas.Str.{IsCharBoundary-start, IsCharBoundary-end, IsCharBoundary-before_ascii, IsCharBoundary-after_ascii}
+use Rattle.std.proofs.Math.ListN.{drop_of_length-le}
 use Rattle.std.proofs.Math.Seq.{drop-cons}
 use Rattle.std.specs.Str.{IsUtf8, IsCharBoundary}
 use Rattle.fsrm_model.specs.Spelling.{EndsWord}
 use Rattle.fsrm_model.specs.Words.{Word, is_blank, is_quote, parts_from, words_at, without_quotes}
-use Rattle.tool_commands.specs.Lengths.{word_length}
-use Rattle.tool_commands.proofs.WordLengths.{word_length-le-length, prefix_len-after}
+use Rattle.fsrm_base.proofs.TestLaws.{both, eq_below, lt_is}
+use Rattle.tool_commands.specs.Lengths.{is_plain, IsPlainWord, word_length}
+use Rattle.tool_commands.specs.Taking.{first_column}
+use Rattle.tool_commands.proofs.Quotes.{without_quotes-plain}
+use Rattle.tool_commands.proofs.WordLengths.{word_length-plain, word_length-le-length, prefix_len-after}
 
 -- the parts after the first one, of which what ends it is the first byte
 abbrev parts_after : List ℕ → List (List ℕ)
@@ -143,3 +147,67 @@ word_end text n e = elim (cases_lt n (length text)) [
 -- no word is left
 pub none_left : (column : ℕ) (rest bytes : List ℕ) (n : ℕ) → bytes ≡ rest → n ≡ word_length false bytes → n ≡ 0 → prefix_len is_blank rest ≡ 0 → words_at column (parts_from false rest) ≡ []
 none_left column rest bytes n same n_is zero_is none = rw (no_word rest none (ap (word_length false) (sym same) ∙ sym n_is ∙ zero_is)) refl
+
+-- the same, with a text that is the word's without its quotes
+pub taken_as : (column column' : ℕ) (rest bytes : List ℕ) (n : ℕ) (front after text : List ℕ) → bytes ≡ rest → n ≡ word_length false bytes → 0 < n → front ≡ take n rest → after ≡ drop n rest → column' ≡ column + n → text ≡ without_quotes front
+    → words_at column (parts_from false rest) ≡ record { column = column; text = text } ∷ words_at column' (parts_from false after)
+taken_as column column' rest bytes n front after text same n_is some front_is after_is column_is text_is =
+    rw text_is (taken column column' rest bytes n front after same n_is some front_is after_is column_is)
+
+-- ---- a word without quotes
+second : (a b : Bool) → a ≡ false → (a || b) ≡ true → b ≡ true
+second true b h e = absurd (cc h)
+second false b h e = e
+
+blank_ends : (b : ℕ) (bs : List ℕ) → is_blank b ≡ true → word_length false (b ∷ bs) ≡ 0
+blank_ends b bs h = rw h refl
+
+ended_there : (text : List ℕ) (n : ℕ) → (n == length text || is_blank (get_or text n 0)) ≡ true → word_length false (drop n text) ≡ 0
+ended_there text n ended = elim (cases_lt n (length text)) [
+  | inl inside ↦
+      let blank = second (n == length text) (is_blank (get_or text n 0)) (eq_below n (length text) inside) ended in
+      ap (word_length false) (drop-cons text n 0 inside) ∙ blank_ends (get_or text n 0) (drop (suc n) text) blank
+  | inr past ↦ ap (word_length false) (drop_of_length-le text past)
+]
+
+pub plain_length : (text : List ℕ) (n : ℕ) → IsPlainWord text n → n ≡ word_length false text
+plain_length text n word =
+    let sum : word_length false text ≡ n + word_length false (drop n text) = rw word.plain (word_length-plain text) in
+    omega (arith, sum, ended_there text n word.ended)
+
+plain_text : (text : List ℕ) (n : ℕ) → IsPlainWord text n → take n text ≡ without_quotes (take n text)
+plain_text text n word = rw word.plain (sym (without_quotes-plain text))
+
+pub plain_taken : (column column' : ℕ) (rest : List ℕ) (n : ℕ) (after : List ℕ) → IsPlainWord rest n → after ≡ drop n rest → column' ≡ column + n
+    → words_at column (parts_from false rest) ≡ record { column = column; text = take n rest } ∷ words_at column' (parts_from false after)
+plain_taken column column' rest n after word after_is column_is =
+    taken_as column column' rest rest n (take n rest) after (take n rest) refl (plain_length rest n word) word.some refl after_is column_is (plain_text rest n word)
+
+pub is_plain_word : (rest bytes : List ℕ) (n : ℕ) → bytes ≡ rest → n ≡ prefix_len is_plain bytes → (nat_lt 0 n && (n == length bytes || is_blank (get_or bytes n 0))) ≡ true → IsPlainWord rest n
+is_plain_word rest bytes n same plain word =
+    let parts = both (nat_lt 0 n) (n == length bytes || is_blank (get_or bytes n 0)) word in
+    subst (λ (text : List ℕ). IsPlainWord text n) same (record { some = lt_is 0 n parts.0; plain = plain; ended = parts.1 })
+
+-- ---- the column of the next word
+some_word : (text : List ℕ) → prefix_len is_blank text ≡ 0 → 0 < length text → 0 < word_length false text
+some_word [] none some = absurd (omega arith)
+some_word (b ∷ bs) none some = at (is_blank b) refl
+  where
+    at : (blank : Bool) → is_blank b ≡ blank → 0 < word_length false (b ∷ bs)
+    at true e = let one : 1 + prefix_len is_blank bs ≡ 0 = rw e at none in absurd (omega (arith, one))
+    at false e = rw e (omega arith)
+
+pub no_column : (column : ℕ) (rest bytes : List ℕ) (n : ℕ) → bytes ≡ rest → n ≡ prefix_len is_blank bytes → n ≡ length rest → None ≡ first_column (words_at column (parts_from false rest))
+no_column column rest bytes n same n_is all =
+    let n_of : n ≡ prefix_len is_blank rest = n_is ∙ ap (prefix_len is_blank) same in
+    let none : drop (prefix_len is_blank rest) rest ≡ [] = drop_of_length-le rest (omega arith) in
+    let words : words_at column (parts_from false rest) ≡ [] = words_at-blanks column rest ∙ rw none refl in
+    rw words refl
+
+pub column_after : (column : ℕ) (rest bytes : List ℕ) (n : ℕ) → bytes ≡ rest → n ≡ prefix_len is_blank bytes → (n ≡ length rest → ⊥) → Some (column + n) ≡ first_column (words_at column (parts_from false rest))
+column_after column rest bytes n same n_is more =
+    let n_of : n ≡ prefix_len is_blank rest = n_is ∙ ap (prefix_len is_blank) same in
+    let text : List ℕ = drop (prefix_len is_blank rest) rest in
+    let some : 0 < length (drop (prefix_len is_blank rest) rest) = omega (arith, prefix_len-le-length is_blank rest, length-drop (prefix_len is_blank rest) rest) in
+    let word = words_at-word (column + prefix_len is_blank rest) text (some_word text (prefix_len-after is_blank rest) some) in
+    rw n_of (sym (ap first_column (words_at-blanks column rest ∙ word)))

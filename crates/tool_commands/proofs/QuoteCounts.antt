@@ -1,14 +1,15 @@
 -- Whether each quote of a line is ended, and where the last one stands.
 use Rattle.std.proofs.Common.{◌≡◌, ℕ, ◌+◌, ◌-◌, ◌<◌, true, false, cond, List, [], length, get_or, Some, None, refl, sym, ap, ◌∙◌, arith}
 use Rattle.std.specs.Prelude.{not, Option, count_by, ◌%◌, nat_eq}
-use Rattle.std.specs.List.{suffix_len}
+use Rattle.std.specs.List.{list_any, suffix_len}
 use Rattle.std.proofs.lemmas.Bool.Decides.{nat_tests}
+use Rattle.std.proofs.lemmas.List.Folds.{list_any_at}
 use Rattle.std.proofs.lemmas.List.Sums.{suffix_len_is}
 use Rattle.fsrm_model.specs.Words.{is_quote, is_closed, last_quote}
 use Rattle.memchr.specs.Find.{IsLastByte, is_byte, places}
 use Rattle.memchr.proofs.lemmas.CallerLemmas.{length-places}
 use Rattle.memchr.proofs.lemmas.PlaceLemmas.{places_between-none}
-use Rattle.fsrm_base.proofs.TestLaws.{fails}
+use Rattle.fsrm_base.proofs.TestLaws.{clash, fails}
 
 -- the quote that isn't ended, if any
 abbrev pub unclosed : List ℕ → Option ℕ
@@ -20,6 +21,9 @@ no_quotes line h =
     let none : places (is_byte 34) line ≡ [] = places_between-none (is_byte 34) line 0 (length line) (omega arith) h in
     let count : count_by is_quote line ≡ 0 = sym (length-places (is_byte 34) line) ∙ ap length none in
     rw count refl
+
+pub no_quote_found : (line : List ℕ) → list_any is_quote line ≡ false → None ≡ unclosed line
+no_quote_found line none = no_quotes line (λ k low less is. clash (list_any is_quote line) (list_any_at is_quote line k 0 less is) none)
 
 -- an even number of quotes
 pub even_quotes : (line : List ℕ) (found : List ℕ) → found ≡ places (is_byte 34) line → length found % 2 ≡ 0 → None ≡ unclosed line

@@ -1,12 +1,12 @@
 -- A text without its quotes, and what stands up to its first one.
-use Rattle.std.proofs.Common.{◌≡◌, ℕ, suc, zero, ◌+◌, ◌<◌, ◌==◌, Bool, true, false, cond, List, [], ◌∷◌, ◌++◌, length, get_or, take, drop, Some, None, refl, sym, ap, ◌∙◌, arith, add-one, append_assoc, subst}
+use Rattle.std.proofs.Common.{◌≡◌, ℕ, suc, zero, ◌+◌, ◌<◌, Bool, true, false, cond, List, [], ◌∷◌, ◌++◌, length, get_or, take, drop, Some, None, refl, sym, ap, ◌∙◌, arith, add-one, append_assoc, subst}
 use Rattle.std.specs.Prelude.{Option}
 use Rattle.std.specs.Str.{IsUtf8, IsCharBoundary}
 use Rattle.std.proofs.lemmas.Str.{IsCharBoundary-before_ascii, IsCharBoundary-after_ascii}
 use Rattle.std.proofs.lemmas.Bool.{eqb-true}
 use Rattle.std.specs.Prelude.{not}
 use Rattle.std.specs.List.{prefix_len}
-use Rattle.fsrm_base.proofs.TestLaws.{eq_is, is_false, neither}
+use Rattle.fsrm_base.proofs.TestLaws.{is_false, neither}
 use Rattle.fsrm_model.specs.Words.{is_blank, is_quote, without_quotes}
 use Rattle.memchr.specs.Find.{IsFirstByte, is_byte}
 use Rattle.tool_commands.specs.Lengths.{is_plain, quoted_length}
@@ -43,17 +43,6 @@ without_quotes-plain (b ∷ bs) = at (is_plain b) refl (without_quotes-plain bs)
         let one : 1 + prefix_len is_plain bs ≡ suc (prefix_len is_plain bs) = omega arith in
         let quote : is_quote b ≡ false = (neither (is_blank b) (is_quote b) (is_false _ e)).1 in
         rw (one, quote) (ap (λ (rest : List ℕ). b ∷ rest) ih)
-
-passes : (b : Bool) → not b ≡ false → b ≡ true
-passes true h = refl
-passes false h = cc
-
--- a word that has no other bytes
-pub plain_word : (rest bytes front : List ℕ) (plain count : ℕ) → bytes ≡ rest → plain ≡ prefix_len is_plain bytes → front ≡ take count rest → not (count == plain) ≡ false → without_quotes front ≡ front
-plain_word rest bytes front plain count same plain_is front_is equal =
-    let all : count ≡ prefix_len is_plain rest = eq_is count plain (passes _ equal) ∙ plain_is ∙ ap (prefix_len is_plain) same in
-    let is : front ≡ take (prefix_len is_plain rest) rest = front_is ∙ ap (λ (k : ℕ). take k rest) all in
-    subst (λ (text : List ℕ). without_quotes text ≡ text) (sym is) (without_quotes-plain rest)
 
 -- a text that has no quote
 pub without_quotes-none : (text : List ℕ) → IsFirstByte (is_byte 34) text None → without_quotes text ≡ text

@@ -1,11 +1,17 @@
 -- How far the word reaches that a text begins with.
-use Rattle.std.specs.Prelude.{ℕ, ◌+◌, suc, ◌&&◌, ◌||◌, not, Bool, List, [], ◌∷◌, length, min, if◌then◌else◌}
+use Rattle.std.specs.Prelude.{◌≡◌, ℕ, ◌+◌, ◌<◌, ◌==◌, suc, ◌&&◌, ◌||◌, not, Bool, true, List, [], ◌∷◌, length, slice_index, min, if◌then◌else◌}
 use Rattle.std.specs.List.{prefix_len}
 use Rattle.fsrm_model.specs.Words.{is_blank, is_quote}
 
 -- a byte that neither parts words nor quotes
 abbrev pub is_plain : ℕ → Bool
 is_plain b = not (is_blank b || is_quote b)
+
+-- a text begins with a word of so many bytes, none of which is a quote
+pub record IsPlainWord (text : List ℕ) (count : ℕ) : Type 0 where
+  pub some : 0 < count
+  pub plain : count ≡ prefix_len is_plain text
+  pub ended : (count == length text || is_blank (slice_index text count)) ≡ true
 
 -- how many bytes stand before the first blank that no quotes enclose, in a text whose beginning stands
 -- within quotes or not

@@ -1,14 +1,14 @@
 -- What taking words from the front of a line's words comes to.
-use Rattle.std.specs.Prelude.{◌≡◌, ℕ, ◌+◌, false, List, [], ◌∷◌, length, Result, Ok, Err, Option, Some, None}
+use Rattle.std.specs.Prelude.{◌≡◌, ℕ, ◌+◌, false, List, [], ◌∷◌, length, take, Result, Ok, Err, Option, Some, None}
 use Rattle.std.specs.Cow.{cow_str_bytes}
 use Rattle.fsrm_model.specs.Line.{next_word}
 use Rattle.fsrm_model.specs.declared.command.Refusal.TheVariants.{BadLine}
 use Rattle.fsrm_model.specs.Reading.{Read, ◌>>=◌, known}
 use Rattle.fsrm_model.specs.Tools.{Names, named}
-use Rattle.fsrm_model.specs.Words.{Word as LineWord, words_at, parts_from, without_quotes}
+use Rattle.fsrm_model.specs.Words.{Word as LineWord, words_at, parts_from}
 use Rattle.tool_commands.specs.declared.reading.LineFault.{LineFault}
 use Rattle.tool_commands.specs.declared.reading.LineFault.TheVariants.{NoMemory}
-use Rattle.tool_commands.specs.declared.words.RawWord.{RawWord}
+use Rattle.tool_commands.specs.declared.words.LentWord.{LentWord}
 use Rattle.tool_commands.specs.declared.words.Word.{Word}
 use Rattle.tool_commands.specs.declared.words.Words.{Words}
 use Rattle.tool_commands.specs.LineFaults.{Reads}
@@ -25,19 +25,23 @@ end words = words.column + length words.rest.now
 abbrev pub line_word : Word → LineWord
 line_word word = record { column = word.column; text = cow_str_bytes word.text }
 
--- the same of one that has its quotes
-abbrev pub raw_line_word : RawWord → LineWord
-raw_line_word raw = record { column = raw.column; text = without_quotes raw.text.now }
+-- the same of one whose text is lent
+abbrev pub lent_word : LentWord → LineWord
+lent_word word = record { column = word.column; text = word.text.now }
 
--- the first of the words is taken, if any
-abbrev pub TakesFirst : Option RawWord → List LineWord → List LineWord → Type 0
-TakesFirst None old new = old ≡ []
-TakesFirst (Some raw) old new = old ≡ raw_line_word raw ∷ new
+-- the word of so many plain bytes that what is left begins with
+abbrev pub plain_word : Words → ℕ → LineWord
+plain_word words count = record { column = words.column; text = take count words.rest.now }
 
 -- the column of the first word, if any
 abbrev pub first_column : List LineWord → Option ℕ
 first_column [] = None
 first_column (word ∷ words) = Some word.column
+
+-- the next word is taken if it has no quotes, and else none
+abbrev pub TakesPlain : Option LentWord → Words → Words → Type 0
+TakesPlain None old new = (left new ≡ left old) × (end new ≡ end old)
+TakesPlain (Some word) old new = (left old ≡ lent_word word ∷ left new) × (end new ≡ end old)
 
 -- the next word is taken, if any, unless memory runs out
 abbrev pub TakesLeft : Result (Option Word) LineFault → Words → Words → Type 0

@@ -1,15 +1,15 @@
 //! The commands, each read from the words after its name.
 
-ghost use Rattle.std.specs.Prelude.{◌≡◌};
-ghost use Rattle.fsrm_model.specs.Line.{mkdir_words, create_words, resize_words, touch_words, move_words, remove_words, usage_words, step_words, readers, deed_words, tool_words, command_of};
+ghost use Rattle.std.specs.Prelude.{◌≡◌, Ok, Some};
+ghost use Rattle.fsrm_model.specs.Line.{mkdir_words, create_words, resize_words, touch_words, move_words, remove_words, usage_words, step_words, readers, deed_words, tool_words};
 ghost use Rattle.fsrm_model.specs.Tools.{dirquota};
 ghost use Rattle.tool_commands.specs.LineFaults.{IsLast, ReadsWords, at_moment};
-ghost use Rattle.tool_commands.specs.Taking.{left, end, line_word, named_by};
+ghost use Rattle.tool_commands.specs.Taking.{left, end, lent_word, named_by};
 
 use crate::quotas::dirquota;
 use crate::reading::LineFault;
 use crate::values::is_named;
-use crate::words::{Word, Words};
+use crate::words::{LentWord, Words};
 use fsrm_model::{Command, Deed, FileOp};
 use std::alloc::Global;
 
@@ -23,14 +23,20 @@ fn finish(words: &Words<'_>) -> Result<(), LineFault>
     }
 }
 
+// What is to be done, at its moment.
+fn at(moment: u64, deed: Deed) -> Result<Option<Command>, LineFault>
+    ensures { result ≡ Ok (Some (record { moment = moment; deed = deed })) }
+{
+    Ok(Some(Command { moment, deed }))
+}
+
 fn mkdir(alloc: Global, moment: u64, words: &mut Words<'_>) -> Result<Option<Command>, LineFault>
     ensures { ReadsWords result (at_moment moment (mkdir_words (end words.old) (left words.old))) }
 {
     let path = words.path(alloc)?;
     let owner = words.owner(alloc)?;
     finish(words)?;
-    let deed = Deed::File(FileOp::Mkdir { path, owner });
-    Ok(Some(Command { moment, deed }))
+    at(moment, Deed::File(FileOp::Mkdir { path, owner }))
 }
 
 fn create(alloc: Global, moment: u64, words: &mut Words<'_>) -> Result<Option<Command>, LineFault>
@@ -40,12 +46,12 @@ fn create(alloc: Global, moment: u64, words: &mut Words<'_>) -> Result<Option<Co
     let length = words.length(alloc)?;
     let owner = words.owner(alloc)?;
     finish(words)?;
-    let deed = Deed::File(FileOp::Create {
+    let file = FileOp::Create {
         path,
         length,
         owner,
-    });
-    Ok(Some(Command { moment, deed }))
+    };
+    at(moment, Deed::File(file))
 }
 
 fn resize(alloc: Global, moment: u64, words: &mut Words<'_>) -> Result<Option<Command>, LineFault>
@@ -54,8 +60,7 @@ fn resize(alloc: Global, moment: u64, words: &mut Words<'_>) -> Result<Option<Co
     let path = words.path(alloc)?;
     let length = words.length(alloc)?;
     finish(words)?;
-    let deed = Deed::File(FileOp::Resize { path, length });
-    Ok(Some(Command { moment, deed }))
+    at(moment, Deed::File(FileOp::Resize { path, length }))
 }
 
 fn touch(alloc: Global, moment: u64, words: &mut Words<'_>) -> Result<Option<Command>, LineFault>
@@ -63,8 +68,7 @@ fn touch(alloc: Global, moment: u64, words: &mut Words<'_>) -> Result<Option<Com
 {
     let path = words.path(alloc)?;
     finish(words)?;
-    let deed = Deed::File(FileOp::Touch { path });
-    Ok(Some(Command { moment, deed }))
+    at(moment, Deed::File(FileOp::Touch { path }))
 }
 
 fn move_node(
@@ -77,8 +81,7 @@ fn move_node(
     let from = words.path(alloc)?;
     let to = words.path(alloc)?;
     finish(words)?;
-    let deed = Deed::File(FileOp::Move { from, to });
-    Ok(Some(Command { moment, deed }))
+    at(moment, Deed::File(FileOp::Move { from, to }))
 }
 
 fn remove(alloc: Global, moment: u64, words: &mut Words<'_>) -> Result<Option<Command>, LineFault>
@@ -86,8 +89,7 @@ fn remove(alloc: Global, moment: u64, words: &mut Words<'_>) -> Result<Option<Co
 {
     let path = words.path(alloc)?;
     finish(words)?;
-    let deed = Deed::File(FileOp::Remove { path });
-    Ok(Some(Command { moment, deed }))
+    at(moment, Deed::File(FileOp::Remove { path }))
 }
 
 fn usage(alloc: Global, moment: u64, words: &mut Words<'_>) -> Result<Option<Command>, LineFault>
@@ -95,8 +97,7 @@ fn usage(alloc: Global, moment: u64, words: &mut Words<'_>) -> Result<Option<Com
 {
     let path = words.path(alloc)?;
     finish(words)?;
-    let deed = Deed::Usage { path };
-    Ok(Some(Command { moment, deed }))
+    at(moment, Deed::Usage { path })
 }
 
 fn step(alloc: Global, moment: u64, words: &mut Words<'_>) -> Result<Option<Command>, LineFault>
@@ -104,8 +105,7 @@ fn step(alloc: Global, moment: u64, words: &mut Words<'_>) -> Result<Option<Comm
 {
     let n = words.visits(alloc)?;
     finish(words)?;
-    let deed = Deed::Step { n };
-    Ok(Some(Command { moment, deed }))
+    at(moment, Deed::Step { n })
 }
 
 // What the words after a tool's name spell. Its command has more in it than the others.
@@ -113,20 +113,21 @@ fn step(alloc: Global, moment: u64, words: &mut Words<'_>) -> Result<Option<Comm
 fn tool(alloc: Global, moment: u64, words: &mut Words<'_>) -> Result<Option<Command>, LineFault>
     ensures { ReadsWords result (at_moment moment (tool_words dirquota (end words.old) (left words.old))) }
 {
-    let deed = dirquota(alloc, words)?;
-    Ok(Some(Command { moment, deed }))
+    at(moment, dirquota(alloc, words)?)
 }
 
+/// What a command's name and the words after it spell, at its moment.
+// A function zeroes its locals where it begins. Those of all readers are kept from lines that are refused before.
 #[inline(never)]
-fn deed(
+pub fn deed(
     alloc: Global,
     moment: u64,
-    name: &Word<'_>,
+    name: &LentWord<'_>,
     words: &mut Words<'_>,
 ) -> Result<Option<Command>, LineFault>
-    ensures { ReadsWords result (at_moment moment (named_by readers (line_word name.now) (λ reader. reader (end words.old) (left words.old)))) }
+    ensures { ReadsWords result (at_moment moment (named_by readers (lent_word name.now) (λ reader. reader (end words.old) (left words.old)))) }
 {
-    let word = name.text.as_str();
+    let word = name.text;
     if is_named("mkdir", word) {
         return mkdir(alloc, moment, words);
     }
@@ -157,7 +158,9 @@ fn deed(
     Err(LineFault::bad_line(name.column))
 }
 
-fn named_deed(
+/// The same with a name that has quotes, or is missing.
+#[inline(never)]
+pub fn other_deed(
     alloc: Global,
     moment: u64,
     words: &mut Words<'_>,
@@ -165,13 +168,5 @@ fn named_deed(
     ensures { ReadsWords result (at_moment moment (deed_words (end words.old) (left words.old))) }
 {
     let name = words.next(alloc)?;
-    deed(alloc, moment, &name, words)
-}
-
-/// The command that words spell: its moment, its name and what follows that.
-pub fn command(alloc: Global, words: &mut Words<'_>) -> Result<Option<Command>, LineFault>
-    ensures { ReadsWords result (command_of (end words.old) (left words.old)) }
-{
-    let moment = words.moment(alloc)?;
-    named_deed(alloc, moment, words)
+    deed(alloc, moment, &name.lent(), words)
 }

@@ -1,15 +1,16 @@
 //! Reads a line.
 
 ghost use Rattle.std.specs.Prelude.{◌≡◌, ◌≤◌, IfOk, IfErr, IfSome, Ok, Some, None, true, length, option_map, if◌then◌else◌};
+ghost use Rattle.std.specs.List.{list_any};
 ghost use Rattle.fsrm_model.specs.declared.command.Command.{Command};
 ghost use Rattle.fsrm_model.specs.declared.command.Refusal.TheVariants.{BadLine};
 ghost use Rattle.fsrm_model.specs.Line.{read_line, read_words, is_skipped};
 ghost use Rattle.fsrm_model.specs.Valued.{is_command};
-ghost use Rattle.fsrm_model.specs.Words.{is_closed, last_quote};
+ghost use Rattle.fsrm_model.specs.Words.{is_quote, is_closed, last_quote};
 ghost use Rattle.tool_commands.specs.LineFaults.{IsFault, ReadsWords};
 ghost use Rattle.tool_commands.specs.declared.reading.LineFault.TheVariants.{Refused};
 
-use crate::commands::command;
+use crate::commands::{deed, other_deed};
 use crate::words::{Words, blanks};
 use fsrm_model::limits::LONGEST_LINE;
 use fsrm_model::{Command, Refusal};
@@ -46,7 +47,8 @@ fn is_skipped(line: &[u8]) -> bool
 }
 
 // The column of the last quote, if it isn't ended. It counts bytes from 1.
-fn unclosed_quote(line: &[u8]) -> Option<usize>
+#[inline(never)]
+fn odd_quote(line: &[u8]) -> Option<usize>
     ensures column { result ≡ (if is_closed line.now then None else Some (last_quote line.now)) }
     ensures within { IfSome result (λ column. column ≤ length line.now) }
 {
@@ -59,15 +61,44 @@ fn unclosed_quote(line: &[u8]) -> Option<usize>
     Some(last + 1)
 }
 
-// The command of a line that isn't skipped. One that is skipped needs no room for a command.
+// Whether a line has a quote. It is asked of each byte without a branch, so that the compiler asks many at once.
+fn has_quote(line: &[u8]) -> bool
+    ensures { result ≡ list_any is_quote line.now }
+{
+    let mut found = false;
+    for byte in line {
+        found = found | (*byte == b'"');
+    }
+    found
+}
+
+// The same. Most lines have no quote.
+fn unclosed_quote(line: &str) -> Option<usize>
+    ensures column { result ≡ (if is_closed line.now then None else Some (last_quote line.now)) }
+    ensures within { IfSome result (λ column. column ≤ length line.now) }
+{
+    let bytes = line.as_bytes();
+    if has_quote(bytes) {
+        return odd_quote(bytes);
+    }
+    None
+}
+
+// The command of a line that isn't skipped: its moment, its name and what follows that. One that is skipped needs no room
+// for a command.
 #[inline(never)]
 fn read_words(alloc: Global, line: &str) -> Result<Option<Command>, LineFault>
     requires { length line.now ≤ 65536 }
     ensures { ReadsWords result (read_words line.now) }
 {
-    match unclosed_quote(line.as_bytes()) {
-        Some(column) => Err(LineFault::bad_line(column)),
-        None => command(alloc, &mut Words::new(line)),
+    if let Some(column) = unclosed_quote(line) {
+        return Err(LineFault::bad_line(column));
+    }
+    let mut words = Words::new(line);
+    let moment = words.moment(alloc)?;
+    match words.next_plain() {
+        Some(name) => deed(alloc, moment, &name, &mut words),
+        None => other_deed(alloc, moment, &mut words),
     }
 }
 

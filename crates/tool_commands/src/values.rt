@@ -1,22 +1,56 @@
 //! Values that words spell.
 
-ghost use Rattle.std.specs.Prelude.{◌≡◌, ◌≤◌, ◌<◌, ◌&&◌, nat_lt, nat_le, IfOk};
+ghost use Rattle.std.specs.Prelude.{◌≡◌, ◌≤◌, ◌<◌, ◌&&◌, not, nat_lt, nat_le, length, slice_index, IfOk};
+ghost use Rattle.std.specs.Char.{is_ascii_digit};
 ghost use Rattle.std.specs.Str.{str_eq_ignore_ascii_case};
 ghost use Rattle.fsrm_model.specs.Limits.{latest_moment, most_visits};
 ghost use Rattle.fsrm_model.specs.Line.{number_word, length_word, owner_word, path_word};
-ghost use Rattle.fsrm_model.specs.Reading.{number_from, path_from, choice_from};
+ghost use Rattle.fsrm_model.specs.declared.command.Refusal.TheVariants.{OutOfRange};
+ghost use Rattle.fsrm_model.specs.Reading.{guarded, number_from, path_from, choice_from};
+ghost use Rattle.tool_commands.specs.Lengths.{is_plain};
 ghost use Rattle.tool_commands.specs.LineFaults.{Reads};
-ghost use Rattle.tool_commands.specs.Numerals.{greatest_number, ReadsDigits, ReadsNumber};
+ghost use Rattle.tool_commands.specs.Numerals.{greatest_number, BeginsWithDigits, ReadsDigits, ReadsNumber};
 ghost use Rattle.tool_commands.specs.Taking.{Takes};
 
 use crate::reading::LineFault;
-use crate::words::Words;
+use crate::words::{Words, is_plain, is_word};
 use fsrm_model::limits::{LAST_OWNER, LATEST_MOMENT, LONGEST_FILE, MOST_VISITS};
 use fsrm_model::{Path, Refusal};
 use name_rules::{PathFault, read_path};
 use std::alloc::Global;
 
 const MOST_DIGITS: usize = 20;
+
+/// What so many digits write always fits 64 bits.
+const FITTING_DIGITS: usize = 19;
+
+/// Digits that a text begins with, and the number that they write.
+#[derive(Clone, Copy)]
+struct Digits {
+    count: usize,
+    number: u64,
+}
+
+// The digits that a text begins with, or the first of them if they are more than surely fit.
+fn leading_digits(text: &[u8]) -> Digits
+    ensures { BeginsWithDigits text.now result.count result.number }
+{
+    let mut number: u64 = 0;
+    let mut count = 0;
+    while count < text.len() && count < FITTING_DIGITS && text[count].is_ascii_digit() {
+        number = number * 10 + (text[count] - b'0') as u64;
+        count += 1;
+    }
+    Digits { count, number }
+}
+
+// Whether the byte after so many digits makes their word no number, as it belongs to it and is neither a digit nor a
+// quote.
+fn is_spoilt(text: &[u8], count: usize) -> bool
+    ensures { result ≡ ((nat_lt count (length text.now) && is_plain (slice_index text.now count)) && not (is_ascii_digit (slice_index text.now count))) }
+{
+    count < text.len() && is_plain(text[count]) && !text[count].is_ascii_digit()
+}
 
 // The number that digits write, or the greatest u64 if that is less. None if another byte is among them.
 fn number_from_digits(text: &[u8]) -> Option<u64>
@@ -56,6 +90,17 @@ fn is_within(low: u64, high: u64, number: u64) -> bool
     low <= number && number <= high
 }
 
+// A number, if it is one from low to high.
+fn in_range(low: u64, high: u64, number: u64) -> Result<u64, LineFault>
+    ensures read { Reads result (guarded (nat_le low number && nat_le number high) OutOfRange number) }
+    ensures within { IfOk result (λ n. n ≤ high) }
+{
+    if !is_within(low, high, number) {
+        return Err(LineFault::Refused(Refusal::OutOfRange));
+    }
+    Ok(number)
+}
+
 // The number from low to high that a word at this column is.
 fn read_number(text: &str, column: usize, low: u64, high: u64) -> Result<u64, LineFault>
     requires column { column ≤ 65537 }
@@ -63,13 +108,10 @@ fn read_number(text: &str, column: usize, low: u64, high: u64) -> Result<u64, Li
     ensures read { Reads result (number_from low high column text.now) }
     ensures within { IfOk result (λ n. n ≤ high) }
 {
-    let Some(number) = number_of(text.as_bytes()) else {
-        return Err(LineFault::bad_line(column));
-    };
-    if !is_within(low, high, number) {
-        return Err(LineFault::Refused(Refusal::OutOfRange));
+    match number_of(text.as_bytes()) {
+        Some(number) => in_range(low, high, number),
+        None => Err(LineFault::bad_line(column)),
     }
-    Ok(number)
 }
 
 /// The path that a text spells.
@@ -88,7 +130,8 @@ pub fn read_path_word(alloc: Global, text: &str) -> Result<Path, LineFault>
 pub fn is_named(name: &str, word: &str) -> bool
     ensures { result ≡ str_eq_ignore_ascii_case name.now word.now }
 {
-    name.eq_ignore_ascii_case(word)
+    // Most are written as the name is, and then all bytes are compared at once.
+    name == word || name.eq_ignore_ascii_case(word)
 }
 
 /// Whether a text of a word at this column is the first of two words, or the second.
@@ -106,8 +149,30 @@ pub fn read_choice(first: &str, second: &str, text: &str, column: usize) -> Resu
 }
 
 impl<'a> Words<'a> {
-    // Takes a number from low to high.
+    // Takes a number from low to high. This and its callers are made part of where a number is read, since a call with its
+    // result would take as long.
+    #[inline(always)]
     fn number(&mut self, alloc: Global, low: u64, high: u64) -> Result<u64, LineFault>
+        requires { high < greatest_number }
+        ensures read { Takes result self.old self.new (number_word low high) }
+        ensures within { IfOk result (λ n. n ≤ high) }
+    {
+        self.skip_blanks();
+        let text = self.rest().as_bytes();
+        let digits = leading_digits(text);
+        if is_word(text, digits.count) {
+            self.take_plain(digits.count);
+            return in_range(low, high, digits.number);
+        }
+        if is_spoilt(text, digits.count) {
+            return Err(LineFault::bad_line(self.column()));
+        }
+        self.other_number(alloc, low, high)
+    }
+
+    // The same of a word that has quotes or more digits, or is missing.
+    #[inline(never)]
+    fn other_number(&mut self, alloc: Global, low: u64, high: u64) -> Result<u64, LineFault>
         requires { high < greatest_number }
         ensures read { Takes result self.old self.new (number_word low high) }
         ensures within { IfOk result (λ n. n ≤ high) }
@@ -124,6 +189,7 @@ impl<'a> Words<'a> {
     }
 
     /// Takes a file's length, in bytes.
+    #[inline(always)]
     pub fn length(&mut self, alloc: Global) -> Result<u64, LineFault>
         ensures { Takes result self.old self.new length_word }
     {
@@ -131,6 +197,7 @@ impl<'a> Words<'a> {
     }
 
     /// Takes the number of an owner, from 1.
+    #[inline(always)]
     pub fn owner(&mut self, alloc: Global) -> Result<u32, LineFault>
         ensures { Takes result self.old self.new owner_word }
     {
@@ -148,6 +215,17 @@ impl<'a> Words<'a> {
 
     /// Takes a path.
     pub fn path(&mut self, alloc: Global) -> Result<Path, LineFault>
+        ensures { Takes result self.old self.new path_word }
+    {
+        match self.next_plain() {
+            Some(word) => read_path_word(alloc, word.text),
+            None => self.other_path(alloc),
+        }
+    }
+
+    // The same of a word that has quotes, or is missing.
+    #[inline(never)]
+    fn other_path(&mut self, alloc: Global) -> Result<Path, LineFault>
         ensures { Takes result self.old self.new path_word }
     {
         let word = self.next(alloc)?;

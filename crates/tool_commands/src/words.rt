@@ -1,18 +1,30 @@
 //! The words of a line, taken from left to right.
 
-ghost use Rattle.std.specs.Prelude.{◌≡◌, ℕ, ◌+◌, ◌≤◌, false, length, take, drop, IfOk, IfSome};
-ghost use Rattle.std.specs.Cow.{cow_str_bytes};
+ghost use Rattle.std.specs.Prelude.{◌≡◌, ◌+◌, ◌≤◌, ◌==◌, ◌&&◌, ◌||◌, nat_lt, false, length, take, drop, slice_index, IfOk, IfSome};
 ghost use Rattle.std.specs.List.{prefix_len};
 ghost use Rattle.std.specs.Str.{IsCharBoundary};
 ghost use Rattle.std.specs.String.{string_bytes};
 ghost use Rattle.fsrm_model.specs.Words.{is_blank, parts_from, words_at, without_quotes};
-ghost use Rattle.tool_commands.specs.Lengths.{is_plain, word_length, quoted_length};
+ghost use Rattle.tool_commands.specs.Lengths.{is_plain, IsPlainWord, word_length, quoted_length};
 
 use crate::reading::LineFault;
 use fsrm_model::NoMemory;
 use memchr::{memchr, memchr3};
 use std::alloc::Global;
 use std::borrow::CowStr;
+
+fn is_blank(byte: u8) -> bool
+    ensures { result ≡ is_blank byte }
+{
+    byte == b' ' || byte == b'\t'
+}
+
+/// Whether a byte is neither a blank nor a quote.
+pub fn is_plain(byte: u8) -> bool
+    ensures { result ≡ is_plain byte }
+{
+    !(is_blank(byte) || byte == b'"')
+}
 
 /// How many blanks a text begins with.
 pub fn blanks(text: &[u8]) -> usize
@@ -31,6 +43,14 @@ fn plain_len(text: &[u8]) -> usize
     ensures { result ≡ prefix_len is_plain text.now }
 {
     memchr3(b' ', b'\t', b'"', text).unwrap_or(text.len())
+}
+
+/// Whether so many plain bytes, which a text begins with, are a word: there are some, and a blank or the end follows.
+pub fn is_word(text: &[u8], count: usize) -> bool
+    requires { count ≤ length text.now }
+    ensures { result ≡ (nat_lt 0 count && (count == length text.now || is_blank (slice_index text.now count))) }
+{
+    0 < count && (count == text.len() || is_blank(text[count]))
 }
 
 // How many bytes a text has up to its first quote and with it, or in all if it has none.
@@ -87,32 +107,34 @@ fn copy_without_quotes(alloc: Global, raw: &str) -> Result<String, NoMemory>
     Ok(text)
 }
 
-/// A word as it stands in the line, with its quotes.
-#[derive(Clone, Copy)]
-pub struct RawWord<'a> {
-    column: usize,
-    text: &'a str,
-    has_quotes: bool,
-    ghost within: { column ≤ 65537 },
-    ghost plain: { has_quotes ≡ false → without_quotes text.now ≡ text.now },
-}
-
-// A word's text. One that has no quotes is lent.
-fn unquoted<'a>(alloc: Global, raw: &RawWord<'a>) -> Result<CowStr<'a, Global>, NoMemory>
-    ensures { IfOk result (λ text. cow_str_bytes text ≡ without_quotes raw.now.text.now) }
-{
-    if raw.has_quotes {
-        return Ok(CowStr::Owned(copy_without_quotes(alloc, raw.text)?));
-    }
-    Ok(CowStr::Borrowed(raw.text))
-}
-
 /// A word, without its quotes.
 #[derive(Drop)]
 pub struct Word<'a> {
     /// Where the word begins in its line, a quote before it among its bytes. It counts bytes from 1.
     pub column: usize,
     pub text: CowStr<'a, Global>,
+    ghost within: { column ≤ 65537 },
+}
+
+impl Word<'_> {
+    ghost use Rattle.tool_commands.specs.Taking.{line_word, lent_word};
+
+    /// The same, with its text lent.
+    pub fn lent(&self) -> LentWord<'_>
+        ensures { lent_word result ≡ line_word self.now }
+    {
+        LentWord {
+            column: self.column,
+            text: self.text.as_str(),
+        }
+    }
+}
+
+/// A word, with a text that is lent.
+#[derive(Clone, Copy)]
+pub struct LentWord<'a> {
+    pub column: usize,
+    pub text: &'a str,
     ghost within: { column ≤ 65537 },
 }
 
@@ -126,7 +148,8 @@ pub struct Words<'a> {
 }
 
 impl<'a> Words<'a> {
-    ghost use Rattle.tool_commands.specs.Taking.{left, end, TakesFirst, first_column, TakesLeft, TakesWord};
+    ghost use Rattle.std.specs.Prelude.{◌∷◌};
+    ghost use Rattle.tool_commands.specs.Taking.{left, end, plain_word, first_column, TakesPlain, TakesLeft, TakesWord};
 
     /// All words of a line.
     pub fn new(line: &'a str) -> Words<'a>
@@ -151,7 +174,8 @@ impl<'a> Words<'a> {
         self.column += count;
     }
 
-    fn skip_blanks(&mut self)
+    /// Passes the blanks before the next word.
+    pub fn skip_blanks(&mut self)
         ensures left { left self.new ≡ left self.old }
         ensures end { end self.new ≡ end self.old }
         ensures none { prefix_len is_blank self.new.rest.now ≡ 0 }
@@ -160,26 +184,19 @@ impl<'a> Words<'a> {
         self.advance(blanks);
     }
 
-    fn next_raw(&mut self) -> Option<RawWord<'a>>
-        ensures first { TakesFirst result (left self.old) (left self.new) }
-        ensures end { end self.new ≡ end self.old }
+    /// What is left of the line.
+    pub fn rest(&self) -> &'a str
+        ensures { result.now ≡ self.now.rest.now }
     {
-        self.skip_blanks();
-        let bytes = self.rest.as_bytes();
-        let plain = plain_len(bytes);
-        let length = word_len(bytes, plain);
-        if length == 0 {
-            return None;
-        }
-        let column = self.column;
-        let text = before(self.rest, length);
-        self.advance(length);
-        let has_quotes = length != plain;
-        Some(RawWord {
-            column,
-            text,
-            has_quotes,
-        })
+        self.rest
+    }
+
+    /// Where what is left begins in the line. It counts bytes from 1.
+    pub fn column(&self) -> usize
+        ensures column { result ≡ self.now.column }
+        ensures within { result ≤ 65537 }
+    {
+        self.column
     }
 
     /// The column of the next word, if one is left.
@@ -187,8 +204,11 @@ impl<'a> Words<'a> {
         ensures column { result ≡ first_column (left self.now) }
         ensures within { IfSome result (λ column. column ≤ 65537) }
     {
-        let mut words = *self;
-        words.next_raw().map(|raw| raw.column)
+        let blanks = blanks(self.rest.as_bytes());
+        if blanks == self.rest.len() {
+            return None;
+        }
+        Some(self.column + blanks)
     }
 
     /// The column after the line's end.
@@ -199,19 +219,65 @@ impl<'a> Words<'a> {
         self.column + self.rest.len()
     }
 
+    /// Takes the word of so many plain bytes that what is left begins with.
+    pub fn take_plain(&mut self, count: usize)
+        requires { IsPlainWord self.old.rest.now count }
+        ensures left { left self.old ≡ plain_word self.old count ∷ left self.new }
+        ensures end { end self.new ≡ end self.old }
+    {
+        self.advance(count);
+    }
+
+    /// Takes the next word if it has no quotes, and else none.
+    pub fn next_plain(&mut self) -> Option<LentWord<'a>>
+        ensures { TakesPlain result self.old self.new }
+    {
+        self.skip_blanks();
+        let rest = self.rest;
+        let bytes = rest.as_bytes();
+        let count = plain_len(bytes);
+        if !is_word(bytes, count) {
+            return None;
+        }
+        let column = self.column;
+        let text = before(rest, count);
+        self.take_plain(count);
+        Some(LentWord { column, text })
+    }
+
+    // Takes the next word, if one is left, with a copy of its text.
+    #[inline(never)]
+    fn next_copied(&mut self, alloc: Global) -> Result<Option<Word<'a>>, LineFault>
+        ensures { TakesLeft result self.old self.new }
+    {
+        self.skip_blanks();
+        let bytes = self.rest.as_bytes();
+        let length = word_len(bytes, plain_len(bytes));
+        if length == 0 {
+            return Ok(None);
+        }
+        let column = self.column;
+        let raw = before(self.rest, length);
+        self.advance(length);
+        match copy_without_quotes(alloc, raw) {
+            Ok(text) => Ok(Some(Word {
+                column,
+                text: CowStr::Owned(text),
+            })),
+            Err(NoMemory) => Err(LineFault::NoMemory),
+        }
+    }
+
     /// Takes the next word, if one is left.
     pub fn next_left(&mut self, alloc: Global) -> Result<Option<Word<'a>>, LineFault>
         ensures { TakesLeft result self.old self.new }
     {
-        let Some(raw) = self.next_raw() else {
-            return Ok(None);
-        };
-        match unquoted(alloc, &raw) {
-            Ok(text) => Ok(Some(Word {
-                column: raw.column,
-                text,
+        match self.next_plain() {
+            Some(LentWord { column, text }) => Ok(Some(Word {
+                column,
+                text: CowStr::Borrowed(text),
             })),
-            Err(NoMemory) => Err(LineFault::NoMemory),
+            None => self.next_copied(alloc),
         }
     }
 

@@ -1,4 +1,4 @@
-use Rattle.std.proofs.Common.{◌≡◌, ℕ, true, false, List, Option, Some, refl, sym, ap, ◌∙◌, subst}
+use Rattle.std.proofs.Common.{◌≡◌, ℕ, true, false, List, Option, Some, refl, sym, ◌∙◌, subst}
 use Rattle.std.specs.Prelude.{codes}
 use Rattle.std.specs.Str.{str_eq_ignore_ascii_case}
 use Rattle.fsrm_model.specs.declared.command.Refusal.TheVariants.{BadLine}
@@ -6,7 +6,7 @@ use Rattle.fsrm_model.specs.Line.{Reader, readers, tool_words}
 use Rattle.fsrm_model.specs.Reading.{◌>>=◌, known}
 use Rattle.fsrm_model.specs.Tools.{named, dirquota}
 use Rattle.tool_commands.specs.LineFaults.{ReadsWords, at_moment}
-use Rattle.tool_commands.specs.Taking.{left, end, line_word}
+use Rattle.tool_commands.specs.Taking.{left, end}
 use Rattle.tool_commands.proofs.commands.deed.Goals as goal
 
 abbrev Is : List ℕ → List ℕ → Type 0
@@ -19,13 +19,12 @@ Isnt name word = str_eq_ignore_ascii_case name word ≡ false
 tool_named : (word : List ℕ) → Isnt (codes "mkdir") word → Isnt (codes "create") word → Isnt (codes "resize") word → Isnt (codes "touch") word → Isnt (codes "move") word → Isnt (codes "remove") word → Isnt (codes "usage") word → Isnt (codes "step") word → Is (codes "dirquota") word → named readers word ≡ Some (tool_words dirquota)
 tool_named word a b c d e f g h is = rw (a, b, c, d, e, f, g, h, is) refl
 
--- src/commands.rt:120:9
 pub returns-then-is_named-9 : goal.returns-then-is_named-9
 returns-then-is_named-9 c =
-    let column = (line_word c.args.name.now).column in
-    let found = tool_named c.as_str-word.result.now
+    let column = c.args.name.now.column in
+    let found = tool_named c.args.name.now.text.now
     (sym c.is_named.ensures ∙ c.if-is_named.false) (sym c.is_named-2.ensures ∙ c.if-is_named-2.false) (sym c.is_named-3.ensures ∙ c.if-is_named-3.false)
     (sym c.is_named-4.ensures ∙ c.if-is_named-4.false) (sym c.is_named-5.ensures ∙ c.if-is_named-5.false) (sym c.is_named-6.ensures ∙ c.if-is_named-6.false)
     (sym c.is_named-7.ensures ∙ c.if-is_named-7.false) (sym c.is_named-8.ensures ∙ c.if-is_named-8.false) (sym c.is_named-9.ensures ∙ c.if-is_named-9.true) in
     subst (λ (o : Option Reader). ReadsWords c.tool.result (at_moment c.args.moment (known (BadLine column) o >>= λ reader. reader (end c.args.words.now) (left c.args.words.now))))
-    (sym (ap (λ text. named readers text) (sym c.as_str-word.ensures.value) ∙ found)) c.tool.ensures
+    (sym found) c.tool.ensures
