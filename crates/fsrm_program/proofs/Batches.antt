@@ -5,7 +5,7 @@ use Rattle.std.specs.Io.KnownBytes.{append_known}
 use Rattle.std.proofs.lemmas.List.{append-nil}
 use Rattle.std.proofs.Math.Seq.{drop-append_seam}
 use Rattle.fsrm_outside.specs.Shown.{ShowsFront}
-use Rattle.fsrm_outside.proofs.Shown.{append_known-nil, shows_then}
+use Rattle.fsrm_outside.proofs.Shown.{append_known-nil}
 use Rattle.fsrm_program.specs.Grows.{Grows}
 use Rattle.fsrm_program.specs.Progress.{State, Feeds, FeedsBroken}
 use Rattle.fsrm_program.specs.Stops.{Finishes, FinishesFront}
@@ -14,9 +14,6 @@ use Rattle.fsrm_program.proofs.Feeding.{broken_front, fed_stops}
 -- what holds of the last value behind a reference that was kept holds of what it lent
 pub ended_as : {T : Type 0} (P : T → Type 0) (lent last : T) (first kept : ℕ) → kept ≡ first → (first ≡ kept → lent ≡ last) → P last → P lent
 ended_as P lent last first kept same ends p = subst P (sym (ends (sym same))) p
-
-pub grows_then : (a b c : Option (List ℕ)) → Grows a b → Grows b c → Grows a c
-grows_then a b c p q = record { more = p.more ++ q.more; shown = shows_then a b c p.more q.more p.shown q.shown }
 
 -- if two lists begin with the same, their rests are the same if they are
 same_rest : (xs ys zs : List ℕ) → xs ++ ys ≡ xs ++ zs → ys ≡ zs

@@ -9,6 +9,7 @@ use Rattle.fsrm_program.specs.declared.status.Status.TheVariants.{Done, Usage, R
 use Rattle.fsrm_program.specs.Bytes.{Taken}
 use Rattle.fsrm_program.specs.Progress.{State, Feeds, FeedsBroken, Takes, Halts, Breaks}
 use Rattle.fsrm_program.specs.Stops.{Stops, StopsAt}
+use Rattle.fsrm_program.specs.Answers.{KeepsWrites}
 use Rattle.fsrm_program.proofs.Feeding.{fed_nothing, fed_then, fed_broken}
 use Rattle.fsrm_outside.proofs.Shown.{append_known-nil, shows_then}
 use Rattle.fsrm_program.proofs.Taking.{taken_nothing, taken_then}
@@ -81,3 +82,12 @@ stops_after WriteFault a b c l0 l1 l2 s0 s1 s2 n p full q = record { count = n; 
 stops_after NoMemory a b c l0 l1 l2 s0 s1 s2 n p full q = record { count = n; full = full; stops = breaks_after a b c.looks l0 l1 l2 s0 s1 s2 n p q }
 stops_after Done a b c l0 l1 l2 s0 s1 s2 n p full q = absurd q
 stops_after Usage a b c l0 l1 l2 s0 s1 s2 n p full q = absurd q
+
+-- nothing was written, so no write failed, whatever the status
+pub none_failed : (status : Status) (before now : ℕ) → now ≡ before → KeepsWrites status before now
+none_failed Done before now same = same
+none_failed Usage before now same = same
+none_failed ReadFault before now same = same
+none_failed WriteFault before now same = tt
+none_failed TooLong before now same = same
+none_failed NoMemory before now same = same

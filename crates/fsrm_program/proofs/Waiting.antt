@@ -1,13 +1,10 @@
 -- What a batch shows as it is written to.
-use Rattle.std.proofs.Common.{◌≡◌, ℕ, ◌-◌, ◌≤◌, List, [], ◌++◌, length, take, drop, refl, sym, ap, ◌∙◌, arith}
-use Rattle.std.specs.Prelude.{Option}
+use Rattle.std.proofs.Common.{◌≡◌, ℕ, ◌-◌, ◌≤◌, List, [], ◌++◌, length, take, drop, sym, ap, ◌∙◌, arith}
+use Rattle.std.specs.Prelude.{Option, Result, Ok, Err, IfOk, OnErr}
 use Rattle.std.specs.Io.KnownBytes.{append_known}
 use Rattle.std.proofs.lemmas.List.{take_all, take-append-le, take-append-drop, length-drop}
-use Rattle.fsrm_outside.proofs.Shown.{append_known-nil, append_known-then}
+use Rattle.fsrm_outside.proofs.Shown.{append_known-nil, append_known-then, shows_then}
 use Rattle.fsrm_program.specs.Grows.{Grows}
-
-pub grows_nothing : (a : Option (List ℕ)) → Grows a a
-grows_nothing a = record { more = []; shown = sym (append_known-nil a) }
 
 -- what wasn't taken, once what was taken stands after it
 rest_left : (waiting : List ℕ) (count : ℕ) → take (length waiting - count) (drop count waiting ++ take count waiting) ≡ drop count waiting
@@ -28,22 +25,25 @@ pub shows_all : (before device : Option (List ℕ)) (waiting taken left : List �
 shows_all before device waiting taken left count same all p e =
     ap (append_known device) e ∙ append_known-nil device ∙ p ∙ ap (λ (xs : List ℕ). append_known before (take count xs)) same ∙ ap (append_known before) (take_all count waiting all)
 
--- the device was shown what it took
+-- what waited was written, and a piece waits in its place
+pub shows_piece : (before device : Option (List ℕ)) (waiting emptied longer piece : List ℕ) → append_known device emptied ≡ append_known before waiting → longer ≡ emptied ++ piece → append_known device longer ≡ append_known (append_known before waiting) (take (length piece) piece)
+shows_piece before device waiting emptied longer piece p e =
+    ap (append_known device) e ∙ sym (append_known-then device emptied piece) ∙ ap (λ d. append_known d piece) p
+    ∙ ap (append_known (append_known before waiting)) (sym (take_all (length piece) piece (omega arith)))
+
+-- or the device took a front of the piece, and nothing waits
+pub shows_direct : (before device last : Option (List ℕ)) (waiting emptied none front : List ℕ) → append_known device emptied ≡ append_known before waiting → emptied ≡ [] → none ≡ emptied → last ≡ append_known device front → append_known last none ≡ append_known (append_known before waiting) front
+shows_direct before device last waiting emptied none front p e same q =
+    ap (append_known last) (same ∙ e) ∙ append_known-nil last ∙ q
+    ∙ ap (λ d. append_known d front) (sym (append_known-nil device) ∙ ap (append_known device) (sym e) ∙ p)
+
+-- the device shows what it took, and nothing more
 pub grows_front : (before device : Option (List ℕ)) (bytes : List ℕ) → device ≡ append_known before bytes → Grows before device
 grows_front before device bytes p = record { more = bytes; shown = p }
 
--- a piece waits
-pub shows_piece : (device : Option (List ℕ)) (waiting bytes longer : List ℕ) (count : ℕ) → count ≡ length bytes → longer ≡ waiting ++ bytes → append_known device longer ≡ append_known (append_known device waiting) (take count bytes)
-shows_piece device waiting bytes longer count n e =
-    ap (append_known device) e ∙ sym (append_known-then device waiting bytes)
-    ∙ ap (append_known (append_known device waiting)) (sym (take_all count bytes (omega arith)))
+pub grows_write : {E : Type 0} (r : Result ℕ E) (before device : Option (List ℕ)) (piece : List ℕ) → IfOk r (λ n. device ≡ append_known before (take n piece)) → OnErr r (device ≡ before) → Grows before device
+grows_write (Ok n) before device piece shown same = grows_front before device (take n piece) shown
+grows_write (Err e) before device piece shown same = grows_front before device [] (same ∙ sym (append_known-nil before))
 
--- nothing waits any more, and the device was given a piece
-pub shows_direct : (before device last : Option (List ℕ)) (waiting none front : List ℕ) → none ≡ [] → append_known device none ≡ append_known before waiting → last ≡ append_known device front → append_known last none ≡ append_known (append_known before waiting) front
-shows_direct before device last waiting none front e p q =
-    ap (append_known last) e ∙ append_known-nil last ∙ q
-    ∙ ap (λ d. append_known d front) (sym (append_known-nil device) ∙ ap (append_known device) (sym e) ∙ p)
-
--- it took nothing of it
-pub shows_same : (before device last : Option (List ℕ)) (waiting none : List ℕ) → append_known device none ≡ append_known before waiting → last ≡ device → append_known last none ≡ append_known before waiting
-shows_same before device last waiting none p q = ap (λ d. append_known d none) q ∙ p
+pub grows_then : (a b c : Option (List ℕ)) → Grows a b → Grows b c → Grows a c
+grows_then a b c p q = record { more = p.more ++ q.more; shown = shows_then a b c p.more q.more p.shown q.shown }

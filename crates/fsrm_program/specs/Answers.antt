@@ -59,11 +59,9 @@ abbrev pub KeepsReads : Status → ℕ → ℕ → Type 0
 KeepsReads ReadFault before now = Unit {0}
 KeepsReads other before now = now ≡ before
 
--- no write failed, unless the status says so. After a read that ended the run replies are still written, and a write may fail
+-- no write failed, unless the status says so. After a read that ended the run nothing is written
 abbrev pub KeepsWrites : Status → ℕ → ℕ → Type 0
 KeepsWrites WriteFault before now = Unit {0}
-KeepsWrites ReadFault before now = Unit {0}
-KeepsWrites TooLong before now = Unit {0}
 KeepsWrites other before now = now ≡ before
 
 -- the answers of a run over which no device failed

@@ -55,6 +55,31 @@ fn take<S: Sink, L: Ledger>(
     }
 }
 
+// Takes a command that a line spells, and lets it go. What that needs stands here, so other lines don't pay for it.
+#[inline(always)]
+fn take_read<S: Sink, L: Ledger>(
+    engine: &mut Engine,
+    alloc: Global,
+    sink: &mut S,
+    number: u64,
+    command: Command,
+    steps: &mut Steps<L>,
+) -> Result<(), TextFault>
+    requires valid { is_command command ≡ true }
+    requires idle { engine.old.waiting ≡ [] }
+    ensures size { engine.new.size ≡ engine.old.size }
+    ensures idle { engine.new.waiting ≡ [] }
+    ensures rows { OnOk result (engine.new.rows ≡ (step engine.old.size engine.old.rows command).rows) }
+    ensures text { Sends result (S.shown sink.old) (S.shown sink.new) (reply engine.old.size (step engine.old.size engine.old.rows command).rows command.moment number (step engine.old.size engine.old.rows command).outcome) }
+    ensures fault { IsErrOf result TextFault.WriteFault → Rose (S.write_faults sink.old) (S.write_faults sink.new) }
+    ensures later { S.write_faults sink.old ≤ S.write_faults sink.new }
+    ensures same { KeepsCount result (S.write_faults sink.old) (S.write_faults sink.new) }
+    ensures by { S.by_write sink.old sink.new }
+    ensures looks { steps.new ≤ steps.old + (cost engine.old.rows command + print_cost (step engine.old.size engine.old.rows command).rows (step engine.old.size engine.old.rows command).outcome) }
+{
+    take(engine, alloc, sink, number, &command, steps)
+}
+
 /// Does what a line asks for, and writes the reply. A line that is skipped has none.
 pub fn answer<S: Sink, L: Ledger>(
     engine: &mut Engine,
@@ -76,7 +101,7 @@ pub fn answer<S: Sink, L: Ledger>(
     ensures looks { steps.new ≤ steps.old + line_cost engine.old.size engine.old.rows line.now }
 {
     match read_line(alloc, without_cr(line)) {
-        Ok(Some(command)) => take(engine, alloc, sink, number, &command, steps),
+        Ok(Some(command)) => take_read(engine, alloc, sink, number, command, steps),
         Ok(None) => Ok(()),
         Err(LineFault::Refused(refusal)) => write_head(alloc, sink, number, &refusal),
         Err(LineFault::NoMemory) => Err(TextFault::NoMemory),

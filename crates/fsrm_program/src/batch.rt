@@ -5,7 +5,7 @@ ghost use Rattle.std.specs.Io.KnownBytes.{append_known};
 ghost use Rattle.std.proofs.Common.{◌∙◌, sym};
 ghost use Rattle.fsrm_outside.specs.Causes.{HasCause};
 ghost use Rattle.fsrm_outside.proofs.Shown.{append_known-nil, shows_then};
-ghost use Rattle.fsrm_program.specs.Batch.{ByBatch};
+ghost use Rattle.fsrm_program.specs.Batch.{ByBatch, most_waiting};
 
 use crate::writing::flush;
 use fsrm_outside::{Failed, Sink};
@@ -15,34 +15,25 @@ const MOST_WAITING: usize = 65_536;
 
 /// Replies that wait, over the device that takes them. It shows what the device shows, and then what waits.
 ///
-/// A write lets its bytes wait. If they would be too many, what waits is written first; so a reply of any length
-/// takes no more memory than that. It fails only if the device does.
+/// A write lets its bytes wait. If too many would wait, those that do are written first; so no more than 65,536 bytes
+/// wait, however long a reply is. (The text of a path that is written comes on top of them, and is the writer's.) A
+/// write fails only if the device does.
+#[derive(Drop)]
 pub struct Batch<'a, S> {
     pub waiting: &'a mut Vec<u8>,
     pub device: &'a mut S,
 }
 
-impl<'a, S> Drop for Batch<'a, S> {
-    fn drop(self)
-        ensures waiting { self.exit.0.now ≡ self.entry.waiting.now }
-        ensures device { self.exit.1.0.now ≡ self.entry.device.now }
-    {
-        let Self {
-            waiting: _,
-            device: _,
-        } = self;
-    }
-}
-
-// Lets a piece wait, if there is room and memory for it.
-fn wait(waiting: &mut Vec<u8>, piece: &[u8]) -> bool
-    ensures waits { waiting.new.items ≡ (if result then waiting.old.items ++ piece.now else waiting.old.items) }
-    ensures few { length waiting.old.items ≤ 65536 → length waiting.new.items ≤ 65536 }
+// Lets bytes wait, if there is room and memory for them.
+#[inline]
+fn wait(waiting: &mut Vec<u8>, bytes: &[u8]) -> bool
+    ensures waits { waiting.new.items ≡ (if result then waiting.old.items ++ bytes.now else waiting.old.items) }
+    ensures few { length waiting.old.items ≤ most_waiting → length waiting.new.items ≤ most_waiting }
 {
-    if piece.len() > MOST_WAITING.saturating_sub(waiting.len()) {
+    if bytes.len() > MOST_WAITING.saturating_sub(waiting.len()) {
         return false;
     }
-    waiting.extend_from_slice(piece).is_ok()
+    waiting.extend_from_slice(bytes).is_ok()
 }
 
 impl<'a, S: Sink> Batch<'a, S> {
@@ -69,8 +60,8 @@ impl<'a, S: Sink> Sink for Batch<'a, S> {
 
     ghost by_write = { ByBatch S.shown S.by_write };
 
-    /// Takes the whole piece, unless it is too long to wait, or there is no memory for it. Then the device is given
-    /// it at once, and may take a front of it. So a piece is never cut by what waits.
+    /// Takes the bytes whole, unless they are too many to wait, or there is no memory for them. Then the device is
+    /// given them at once, and may take a front of them. So they are never cut because of what waits.
     fn write(&mut self, bytes: &[u8]) -> Result<usize, Failed>
         ensures count { IfOk result (λ n. n ≤ length bytes.now) }
         ensures some { IfOk result (λ n. 0 < length bytes.now → 0 < n) }
@@ -78,25 +69,23 @@ impl<'a, S: Sink> Sink for Batch<'a, S> {
         ensures failed { OnErr result (append_known (S.shown self.new.device.now) self.new.waiting.now.items ≡ append_known (S.shown self.old.device.now) self.old.waiting.now.items) }
         ensures by { ByBatch S.shown S.by_write self.old self.new }
         ensures cause { HasCause (S.write_faults self.old.device.now) (S.write_faults self.new.device.now) result }
-
+        // If only a front was taken, the device has all that waited.
         ensures whole { IfOk result (λ n. n < length bytes.now → self.new.waiting.now.items ≡ []) }
     {
         if wait(self.waiting, bytes) {
             return Ok(bytes.len());
         }
-        match self.flush() {
-            Ok(()) => {}
-            Err(Failed) => return Err(Failed),
+        self.flush()?;
+        if wait(self.waiting, bytes) {
+            return Ok(bytes.len());
         }
-        match self.device.write(bytes) {
-            Ok(count) => Ok(count),
-            Err(Failed) => Err(Failed),
-        }
+        self.device.write(bytes)
     }
 
     ghost write_same = { λ a. record {
       device_by = S.write_same a.device.now;
       grows = record { more = []; shown = sym (append_known-nil (S.shown a.device.now)) };
+      few = λ before. before;
       same_device = refl;
       same_text = refl;
     } };
@@ -107,6 +96,7 @@ impl<'a, S: Sink> Sink for Batch<'a, S> {
         more = p.grows.more ++ q.grows.more;
         shown = shows_then (S.shown a.device.now) (S.shown b.device.now) (S.shown c.device.now) p.grows.more q.grows.more p.grows.shown q.grows.shown;
       };
+      few = λ before. q.few (p.few before);
       same_device = q.same_device ∙ p.same_device;
       same_text = q.same_text ∙ p.same_text;
     } };

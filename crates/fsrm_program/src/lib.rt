@@ -1,8 +1,9 @@
 //! The program as a library: `run` reads a script and writes the replies.
 //!
-//! A piece of the script is read, each line that ends in it is answered into a batch, and the batch is written. The
-//! loop's invariant (`specs/Progress`) speaks of every way in which the script may go on, so `run`'s clauses hold for
-//! any bytes in any pieces. Of a line no more than 65,538 bytes are held.
+//! A piece of the script is read, and each line that ends in it is answered. Replies wait in a batch, which is written
+//! when it is full and at the piece's end: no more than 65,536 bytes wait. The loop's invariant (`specs/Progress`)
+//! speaks of every way in which the script may go on, so `run`'s clauses hold for any bytes in any pieces. Of a line
+//! no more than 65,538 bytes are held.
 #![tactic(auto)]
 
 mod answering;

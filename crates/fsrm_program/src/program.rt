@@ -57,7 +57,7 @@ pub fn run<O: Outside, L: Ledger>(
     // Over devices that don't fail, a script of at most 2^32 bytes is done, unless memory runs out.
     ensures complete { AreWords (map string_bytes words.now) → ForSome (O.left outside.old) (λ script. length script ≤ longest_script → (Rose (O.read_faults outside.old) (O.read_faults outside.new) → ⊥) → (Rose (O.write_faults outside.old) (O.write_faults outside.new) → ⊥) → IsDoneOrNoMemory result) }
 
-    // A failed read is told as ReadFault and a failed write as WriteFault, unless a read had ended the run before it.
+    // A failed read is told as ReadFault, and a failed write as WriteFault.
     ensures reads_kept { KeepsReads result (O.read_faults outside.old) (O.read_faults outside.new) }
     ensures writes_kept { KeepsWrites result (O.write_faults outside.old) (O.write_faults outside.new) }
     // No count of faults falls.

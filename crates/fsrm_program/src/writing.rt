@@ -7,7 +7,8 @@ ghost use Rattle.fsrm_program.specs.Grows.{Grows};
 
 use fsrm_outside::{Failed, Sink};
 
-// Writes bytes until the sink fails, and answers how many it took: all, unless it failed.
+// Writes bytes until the sink fails, and answers how many it took: all, unless it failed. `write_all` doesn't tell
+// that, and what wasn't taken is to wait on.
 fn write_front<S: Sink>(sink: &mut S, bytes: &[u8]) -> usize
     ensures count { result ≤ length bytes.now }
     ensures shown { S.shown sink.new ≡ append_known (S.shown sink.old) (take result bytes.now) }
@@ -29,6 +30,7 @@ fn write_front<S: Sink>(sink: &mut S, bytes: &[u8]) -> usize
 /// Writes all that waits. If the sink fails, what it didn't take still waits.
 pub fn flush<S: Sink>(sink: &mut S, waiting: &mut Vec<u8>) -> Result<(), Failed>
     ensures shown { append_known (S.shown sink.new) waiting.new.items ≡ append_known (S.shown sink.old) waiting.old.items }
+    ensures few { length waiting.new.items ≤ length waiting.old.items }
     ensures grows { Grows (S.shown sink.old) (S.shown sink.new) }
     ensures empty { OnOk result (waiting.new.items ≡ []) }
     ensures cause { HasCause (S.write_faults sink.old) (S.write_faults sink.new) result }

@@ -9,6 +9,7 @@ use Rattle.fsrm_model.specs.declared.command.Outcome.TheVariants.{Done, Sum, Lis
 use Rattle.fsrm_model.specs.declared.command.Refusal.{Refusal}
 use Rattle.fsrm_model.specs.declared.command.Refusal.TheVariants.{QuotaExceeded}
 use Rattle.fsrm_model.specs.declared.row.Capacity.{Capacity}
+use Rattle.fsrm_model.specs.declared.row.NodeRow.{NodeRow}
 use Rattle.fsrm_model.specs.declared.row.Rows.{Rows}
 use Rattle.fsrm_model.specs.Text.{body_line, done_words, head_line, line_of, list_lines, path_text, reply}
 use Rattle.fsrm_outside.specs.Shown.{ShowsFront}
@@ -35,13 +36,13 @@ visited_text K R moment line folder visited done outcome path is same =
     ∙ sym (append-nil (head_line R.nodes line (Scanned folder visited done)))
     ∙ ap (reply K R moment line) (sym is)
 
-pub bare_text : (K : Capacity) (R : Rows) (moment line : ℕ) (refusal : Refusal) (outcome : Outcome) → outcome ≡ Refused refusal → head_line R.nodes line (Refused refusal) ≡ reply K R moment line outcome
-bare_text K R moment line refusal outcome is = sym (append-nil (head_line R.nodes line (Refused refusal))) ∙ ap (reply K R moment line) (sym is)
+pub refused_text : (K : Capacity) (R : Rows) (moment line : ℕ) (refusal : Refusal) (outcome : Outcome) → outcome ≡ Refused refusal → head_line R.nodes line (Refused refusal) ≡ reply K R moment line outcome
+refused_text K R moment line refusal outcome is = sym (append-nil (head_line R.nodes line (Refused refusal))) ∙ ap (reply K R moment line) (sym is)
 
-pub exceeded_text : (K : Capacity) (R : Rows) (moment line folder would limit : ℕ) (outcome : Outcome) (path : List ℕ) → outcome ≡ Refused (QuotaExceeded folder would limit) → path ≡ path_text R.nodes folder → line_of (decimal line ∷ codes "refused" ∷ codes "QuotaExceeded" ∷ decimal would ∷ decimal limit ∷ path ∷ []) ≡ reply K R moment line outcome
-exceeded_text K R moment line folder would limit outcome path is same =
+pub exceeded_text : (nodes : List NodeRow) (line folder would limit : ℕ) (refusal : Refusal) (path : List ℕ) → refusal ≡ QuotaExceeded folder would limit → path ≡ path_text nodes folder → line_of (decimal line ∷ codes "refused" ∷ codes "QuotaExceeded" ∷ decimal would ∷ decimal limit ∷ path ∷ []) ≡ head_line nodes line (Refused refusal)
+exceeded_text nodes line folder would limit refusal path is same =
     ap (λ (xs : List ℕ). line_of (decimal line ∷ codes "refused" ∷ codes "QuotaExceeded" ∷ decimal would ∷ decimal limit ∷ xs ∷ [])) same
-    ∙ bare_text K R moment line (QuotaExceeded folder would limit) outcome is
+    ∙ ap (λ r. head_line nodes line (Refused r)) (sym is)
 
 -- nothing was shown
 pub shows_nothing : (a : Option (List ℕ)) (text : List ℕ) → ShowsFront a a text

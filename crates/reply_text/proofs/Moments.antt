@@ -1,17 +1,9 @@
 -- The text of a moment.
-use Rattle.std.proofs.Common.{◌≡◌, ℕ, ◌+◌, ◌/◌, ◌%◌, ◌≤◌, ℤ, pos, unsigned_abs, List, [], ◌∷◌, ◌++◌, refl, ap, ◌∙◌, arith}
-use Rattle.jiff_core.specs.Calendar.{IsCivilDate, days_from_civil, IsBetween}
-use Rattle.jiff_core.proofs.SignedLemmas.{signed_arith}
+use Rattle.std.proofs.Common.{◌≡◌, ℕ, ◌+◌, ◌/◌, ◌%◌, ◌≤◌, ℤ, pos, unsigned_abs, List, [], ◌∷◌, ◌++◌, refl, ap, ◌∙◌}
+use Rattle.jiff_core.specs.Calendar.{IsCivilDate, days_from_civil}
 use Rattle.fsrm_model.specs.Date.{Civil, date_of, day_text, time_text}
-use Rattle.fsrm_model.proofs.DateLaws.{IsOnly, IsDayOf, date_only, date_counts}
+use Rattle.fsrm_model.proofs.DateLaws.{IsOnly, date_only}
 use Rattle.reply_text.specs.Lines.{moment_text}
-
-year_in : (count m d : ℕ) (y : ℤ) (date : Civil) → IsDayOf count date → IsOnly y m d date → IsBetween (pos 1000) (pos 9999) y
-year_in count m d y date h k = (omega (arith, signed_arith, h.first_year, h.last_year, k.year_is), omega (arith, signed_arith, h.first_year, h.last_year, k.year_is))
-
--- years of moments have four digits
-pub year_within : (day : ℕ) → day ≤ 47481 → (y : ℤ) (m d : ℕ) → IsCivilDate y m d → days_from_civil y m d ≡ pos day → IsBetween (pos 1000) (pos 9999) y
-year_within day few y m d h e = year_in (4371953 + day) m d y (date_of day) (date_counts day few) (date_only day few y m d h e)
 
 same_text : (y : ℤ) (m d : ℕ) (date : Civil) → IsOnly y m d date → day_text (record { year = unsigned_abs y; month = m; day = d }) ≡ day_text date
 same_text y m d date h =

@@ -1,6 +1,6 @@
 //! Writes the lines that tell what became of a command.
 
-ghost use Rattle.std.specs.Prelude.{◌≡◌, ◌++◌, ◌∷◌, [], ◌≤◌, true, false, IfSome, IfNone, IsErrOf, None, List as Items, decimal, codes};
+ghost use Rattle.std.specs.Prelude.{◌≡◌, ◌++◌, ◌∷◌, [], ◌≤◌, true, false, IfSome, IfNone, IsErrOf, None, List as Items, decimal, codes, length};
 ghost use Rattle.fsrm_model.specs.declared.command.Outcome.TheVariants.{Done, Refused};
 ghost use Rattle.fsrm_model.specs.declared.row.NodeRow.{NodeRow};
 ghost use Rattle.fsrm_model.specs.Text.{body_line, done_words, head_line, is_bare, line_of, refusal_words};
@@ -9,9 +9,10 @@ ghost use Rattle.reply_text.specs.Lines.{carries_column};
 ghost use Rattle.reply_text.specs.Writes.{KeepsCount, Sends};
 
 use crate::fault::TextFault;
-use crate::sending::{Part, send};
+use crate::sending::{Part, send, send_short, send_short_with};
 use fsrm_model::Refusal;
 use fsrm_outside::Sink;
+use std::alloc::Global;
 
 /// Writes the first line of a reply to a line that was done.
 pub fn write_ok<S: Sink>(sink: &mut S, line: u64) -> Result<(), TextFault>
@@ -21,7 +22,7 @@ pub fn write_ok<S: Sink>(sink: &mut S, line: u64) -> Result<(), TextFault>
     ensures same { KeepsCount result (S.write_faults sink.old) (S.write_faults sink.new) }
     ensures by { S.by_write sink.old sink.new }
 {
-    send(sink, &[Part::Number(line), Part::Text(b" ok\n")])
+    send_short(sink, line, b" ok\n")
 }
 
 /// Writes the reply to a line that was done under a passive screen, with the path of its folder.
@@ -139,7 +140,8 @@ fn column_of(refusal: Refusal) -> Option<u32>
 fn text_of(refusal: Refusal) -> &'static [u8]
     requires bare { is_bare refusal ≡ true }
     requires alone { carries_column refusal ≡ false }
-    ensures { (nodes : Items NodeRow) → 32 ∷ line_of (codes "refused" ∷ refusal_words nodes refusal) ≡ result.now }
+    ensures text { (nodes : Items NodeRow) → 32 ∷ line_of (codes "refused" ∷ refusal_words nodes refusal) ≡ result.now }
+    ensures short { length result.now ≤ 44 }
 {
     match refusal {
         Refusal::LineTooLong => b" refused LineTooLong\n",
@@ -163,21 +165,23 @@ fn text_of(refusal: Refusal) -> &'static [u8]
     }
 }
 
-/// Writes the reply to a line that is refused, for refusals that carry no path.
-pub fn write_bare<S: Sink>(sink: &mut S, line: u64, refusal: Refusal) -> Result<(), TextFault>
-    requires { is_bare refusal ≡ true }
-    ensures text { (nodes : Items NodeRow) → Sends result (S.shown sink.old) (S.shown sink.new) (head_line nodes line (Refused refusal)) }
+/// Writes the reply to a script's line that is refused, for refusals that carry no path: `LINE refused`
+/// and why. Lines are numbered from 1.
+pub fn write_head<S: Sink>(
+    _alloc: Global,
+    sink: &mut S,
+    line: u64,
+    refusal: &Refusal,
+) -> Result<(), TextFault>
+    requires { is_bare refusal.now ≡ true }
+    ensures text { (nodes : Items NodeRow) → Sends result (S.shown sink.old) (S.shown sink.new) (head_line nodes line (Refused refusal.now)) }
     ensures fault { IsErrOf result TextFault.WriteFault → Rose (S.write_faults sink.old) (S.write_faults sink.new) }
     ensures later { S.write_faults sink.old ≤ S.write_faults sink.new }
     ensures same { KeepsCount result (S.write_faults sink.old) (S.write_faults sink.new) }
     ensures by { S.by_write sink.old sink.new }
 {
-    match column_of(refusal) {
-        Some(column) => {
-            let (line, bad) = (Part::Number(line), Part::Text(b" refused BadLine "));
-            let column = Part::Number(u64::from(column));
-            send(sink, &[line, bad, column, Part::Text(b"\n")])
-        }
-        None => send(sink, &[Part::Number(line), Part::Text(text_of(refusal))]),
+    match column_of(*refusal) {
+        Some(column) => send_short_with(sink, line, b" refused BadLine ", u64::from(column)),
+        None => send_short(sink, line, text_of(*refusal)),
     }
 }

@@ -13,5 +13,6 @@ mod replies;
 mod sending;
 
 pub use fault::TextFault;
+pub use heads::write_head;
 pub use lists::write_list;
-pub use replies::{write_answer, write_head};
+pub use replies::write_answer;

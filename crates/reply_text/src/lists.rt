@@ -54,7 +54,7 @@ fn used_part<'a>(used: Option<u64>) -> Part<'a>
 }
 
 // Writes the line of a quota whose folder has this usage and this path. These are the date and the time of its peak.
-fn write_parts<'a, S: Sink>(
+fn write_line<'a, S: Sink>(
     sink: &mut S,
     quota: &QuotaRow,
     used: Option<u64>,
@@ -109,7 +109,7 @@ fn write_row<S: Sink>(
 {
     let date = date_text((quota.peak_at / SECONDS_OF_A_DAY) as u32);
     let time = time_text((quota.peak_at % SECONDS_OF_A_DAY) as u32);
-    write_parts(sink, quota, used, &date, &time, path)
+    write_line(sink, quota, used, &date, &time, path)
 }
 
 // Writes the line of a quota.

@@ -1,39 +1,50 @@
 //! Writes replies.
 
-ghost use Rattle.std.specs.Prelude.{◌≡◌, ℕ, ◌+◌, ◌≤◌, true, false, is_some, List as Items, IsErrOf};
+ghost use Rattle.std.specs.Prelude.{◌≡◌, ℕ, ◌+◌, ◌≤◌, false, is_some, IsErrOf};
 ghost use Rattle.fsrm_model.specs.declared.command.Outcome.TheVariants.{Refused};
-ghost use Rattle.fsrm_model.specs.declared.row.NodeRow.{NodeRow};
 ghost use Rattle.fsrm_model.specs.Cost.{print_cost};
 ghost use Rattle.fsrm_model.specs.Named.{IsNamed};
-ghost use Rattle.fsrm_model.specs.Text.{is_bare, is_report, head_line, reply};
+ghost use Rattle.fsrm_model.specs.Text.{is_report, head_line, reply};
 ghost use Rattle.fsrm_outside.specs.Causes.{Rose};
 ghost use Rattle.reply_text.specs.Lines.{is_listing};
 ghost use Rattle.reply_text.specs.Writes.{KeepsCount, Sends};
 
 use crate::fault::TextFault;
-use crate::heads::{write_bare, write_exceeded, write_ok, write_passive, write_sum, write_visited};
+use crate::heads::{write_exceeded, write_head, write_ok, write_passive, write_sum, write_visited};
 use crate::lists::write_list;
 use fsrm_engine::Engine;
 use fsrm_model::{Answer, Ledger, Outcome, Refusal, Steps, Table};
 use fsrm_outside::Sink;
 use std::alloc::Global;
 
-/// Writes the reply to a script's line that is refused, for refusals that carry no path: `LINE refused`
-/// and why. Lines are numbered from 1.
-pub fn write_head<S: Sink>(
-    _alloc: Global,
+// Writes the reply to a line that is refused.
+fn write_refusal<S: Sink, L: Ledger>(
+    alloc: Global,
     sink: &mut S,
     line: u64,
     refusal: &Refusal,
+    engine: &Engine,
+    steps: &mut Steps<L>,
 ) -> Result<(), TextFault>
-    requires { is_bare refusal.now ≡ true }
-    ensures text { (nodes : Items NodeRow) → Sends result (S.shown sink.old) (S.shown sink.new) (head_line nodes line (Refused refusal.now)) }
+    requires { IsNamed engine.now.rows (Refused refusal.now) }
+    ensures text { Sends result (S.shown sink.old) (S.shown sink.new) (head_line engine.now.rows.nodes line (Refused refusal.now)) }
     ensures fault { IsErrOf result TextFault.WriteFault → Rose (S.write_faults sink.old) (S.write_faults sink.new) }
     ensures later { S.write_faults sink.old ≤ S.write_faults sink.new }
     ensures same { KeepsCount result (S.write_faults sink.old) (S.write_faults sink.new) }
     ensures by { S.by_write sink.old sink.new }
+    ensures looks { steps.new ≤ steps.old + print_cost engine.now.rows (Refused refusal.now) }
 {
-    write_bare(sink, line, *refusal)
+    match refusal {
+        Refusal::QuotaExceeded {
+            folder,
+            would,
+            limit,
+        } => {
+            let path = engine.path_text(alloc, *folder, steps)?;
+            write_exceeded(sink, line, *would, *limit, path.as_str())
+        }
+        _ => write_head(alloc, sink, line, refusal),
+    }
 }
 
 // Writes the reply to a line that asks for no list.
@@ -74,17 +85,7 @@ fn write_one<S: Sink, L: Ledger>(
             let path = engine.path_text(alloc, *folder, steps)?;
             write_visited(sink, line, *visited, *done, path.as_str())
         }
-        Outcome::Refused(
-            Refusal::QuotaExceeded {
-                folder,
-                would,
-                limit,
-            },
-        ) => {
-            let path = engine.path_text(alloc, *folder, steps)?;
-            write_exceeded(sink, line, *would, *limit, path.as_str())
-        }
-        Outcome::Refused(refusal) => write_bare(sink, line, *refusal),
+        Outcome::Refused(refusal) => write_refusal(alloc, sink, line, refusal, engine, steps),
         Outcome::Listing(_) => unreachable!(),
     }
 }

@@ -1,6 +1,6 @@
-//! Sends the parts of a line to a sink, one after another. No line is made in memory first.
+//! Sends lines to a sink: a short one whole, and the parts of another one after another.
 
-ghost use Rattle.std.specs.Prelude.{◌≡◌, ◌≤◌, IsErrOf, decimal, flat_map};
+ghost use Rattle.std.specs.Prelude.{◌≡◌, ◌≤◌, ◌+◌, ◌++◌, ◌∷◌, [], IsErrOf, decimal, drop, flat_map, length};
 ghost use Rattle.fsrm_outside.specs.Causes.{Rose};
 ghost use Rattle.reply_text.specs.Parts.{part_text};
 ghost use Rattle.reply_text.specs.Writes.{KeepsCount, Sends};
@@ -12,6 +12,9 @@ use itoa::write_digits;
 // The digits of the greatest number, which is below 2^64.
 const MOST_DIGITS: usize = 20;
 
+// So many bytes a short line has at most.
+const SHORT_LINE: usize = 64;
+
 /// What a line is made of.
 #[derive(Clone, Copy, Debug)]
 pub enum Part<'a> {
@@ -22,6 +25,7 @@ pub enum Part<'a> {
 }
 
 // Writes bytes whole, or a front of them if the sink fails.
+#[inline]
 fn send_bytes<S: Sink>(sink: &mut S, bytes: &[u8]) -> Result<(), TextFault>
     ensures text { Sends result (S.shown sink.old) (S.shown sink.new) bytes.now }
     ensures fault { IsErrOf result TextFault.WriteFault → Rose (S.write_faults sink.old) (S.write_faults sink.new) }
@@ -56,6 +60,55 @@ fn send_part<S: Sink>(sink: &mut S, part: &Part) -> Result<(), TextFault>
         Part::Number(number) => send_number(sink, number),
         Part::Text(bytes) => send_bytes(sink, bytes),
     }
+}
+
+// Puts a text into a line so that it ends at a place, and answers where it starts.
+#[inline]
+fn put_text(text: &[u8], line: &mut [u8], end: usize) -> usize
+    requires { (length text.now ≤ end) × (end ≤ length line.old) }
+    ensures start { result + length text.now ≡ end }
+    ensures written { drop result line.new ≡ text.now ++ drop end line.old }
+{
+    let start = end - text.len();
+    line[start..end].copy_from_slice(text);
+    start
+}
+
+/// Writes a short line: a number, and the text after it, with its LF. It is made whole, from its end to its front,
+/// since that takes less time than another write.
+pub fn send_short<S: Sink>(sink: &mut S, number: u64, text: &[u8]) -> Result<(), TextFault>
+    requires { length text.now ≤ 44 }
+    ensures text { Sends result (S.shown sink.old) (S.shown sink.new) (decimal number ++ text.now) }
+    ensures fault { IsErrOf result TextFault.WriteFault → Rose (S.write_faults sink.old) (S.write_faults sink.new) }
+    ensures later { S.write_faults sink.old ≤ S.write_faults sink.new }
+    ensures same { KeepsCount result (S.write_faults sink.old) (S.write_faults sink.new) }
+    ensures by { S.by_write sink.old sink.new }
+{
+    let mut line = [0u8; SHORT_LINE];
+    let place = put_text(text, &mut line, SHORT_LINE);
+    let start = write_digits(number, &mut line, place);
+    send_bytes(sink, &line[start..])
+}
+
+/// The same with another number between the text and the LF.
+pub fn send_short_with<S: Sink>(
+    sink: &mut S,
+    number: u64,
+    text: &[u8],
+    last: u64,
+) -> Result<(), TextFault>
+    requires { length text.now ≤ 23 }
+    ensures text { Sends result (S.shown sink.old) (S.shown sink.new) (decimal number ++ (text.now ++ (decimal last ++ 10 ∷ []))) }
+    ensures fault { IsErrOf result TextFault.WriteFault → Rose (S.write_faults sink.old) (S.write_faults sink.new) }
+    ensures later { S.write_faults sink.old ≤ S.write_faults sink.new }
+    ensures same { KeepsCount result (S.write_faults sink.old) (S.write_faults sink.new) }
+    ensures by { S.by_write sink.old sink.new }
+{
+    let mut line = [b'\n'; SHORT_LINE];
+    let behind = write_digits(last, &mut line, SHORT_LINE - 1);
+    let place = put_text(text, &mut line, behind);
+    let start = write_digits(number, &mut line, place);
+    send_bytes(sink, &line[start..])
 }
 
 /// Writes the parts, or a front of them if the sink fails. No part is written after a failed write.

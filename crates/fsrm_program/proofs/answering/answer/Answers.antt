@@ -13,21 +13,21 @@ write_head-requires g c =
 pub returns-in-Ok-Some-clause-rows : goal.returns-in-Ok-Some-clause-rows
 returns-in-Ok-Some-clause-rows g c =
     let e = c.args.engine.now in
-    on_ok c.take.result
-    (rows_read e.size e.rows c.take.new.engine.rows c.args.number c.args.line.now c.without_cr.result.now c.in-Ok-Some.command c.without_cr.ensures (was_read (read_line c.without_cr.result.now) c.in-Ok-Some.field-0 c.in-Ok-Some.command c.in-Ok-Some.ensures.read c.in-Ok-Some.field-0-is))
-    c.take.ensures.rows
+    on_ok c.take_read.result
+    (rows_read e.size e.rows c.take_read.new.engine.rows c.args.number c.args.line.now c.without_cr.result.now c.in-Ok-Some.command c.without_cr.ensures (was_read (read_line c.without_cr.result.now) c.in-Ok-Some.field-0 c.in-Ok-Some.command c.in-Ok-Some.ensures.read c.in-Ok-Some.field-0-is))
+    c.take_read.ensures.rows
 
 pub returns-in-Ok-Some-clause-text : goal.returns-in-Ok-Some-clause-text
 returns-in-Ok-Some-clause-text g c =
     let e = c.args.engine.now in
-    sent c.take.result (g.S.Sink.shown c.args.sink.now) (g.S.Sink.shown c.take.new.sink) _ _
+    sent c.take_read.result (g.S.Sink.shown c.args.sink.now) (g.S.Sink.shown c.take_read.new.sink) _ _
     (text_read e.size e.rows c.args.number c.args.line.now c.without_cr.result.now c.in-Ok-Some.command c.without_cr.ensures (was_read (read_line c.without_cr.result.now) c.in-Ok-Some.field-0 c.in-Ok-Some.command c.in-Ok-Some.ensures.read c.in-Ok-Some.field-0-is))
-    c.take.ensures.text
+    c.take_read.ensures.text
 
 pub returns-in-Ok-Some-clause-looks : goal.returns-in-Ok-Some-clause-looks
 returns-in-Ok-Some-clause-looks g c =
     let e = c.args.engine.now in
-    omega (arith, c.take.ensures.looks, cost_read e.size e.rows c.args.line.now c.without_cr.result.now c.in-Ok-Some.command c.without_cr.ensures (was_read (read_line c.without_cr.result.now) c.in-Ok-Some.field-0 c.in-Ok-Some.command c.in-Ok-Some.ensures.read c.in-Ok-Some.field-0-is))
+    omega (arith, c.take_read.ensures.looks, cost_read e.size e.rows c.args.line.now c.without_cr.result.now c.in-Ok-Some.command c.without_cr.ensures (was_read (read_line c.without_cr.result.now) c.in-Ok-Some.field-0 c.in-Ok-Some.command c.in-Ok-Some.ensures.read c.in-Ok-Some.field-0-is))
 
 pub returns-in-Ok-None-clause-rows : goal.returns-in-Ok-None-clause-rows
 returns-in-Ok-None-clause-rows g c =

@@ -1,8 +1,6 @@
-use Rattle.std.proofs.Common.{◌∙◌, sym}
-use Rattle.fsrm_outside.specs.Shown.{ShowsFront}
-use Rattle.fsrm_outside.proofs.Shown.{append_known-nil}
+use Rattle.std.proofs.Common.{◌∙◌}
 use Rattle.reply_text.proofs.Sent.{sent}
-use Rattle.fsrm_program.proofs.Outcomes.{on_ok, acts_none, step_reply, nothing_shown}
+use Rattle.fsrm_program.proofs.Outcomes.{acts_none, step_reply, nothing_shown}
 use Rattle.fsrm_program.proofs.answering.take.Goals as goal
 
 pub write_answer-requires-clause-named : goal.write_answer-requires-clause-named

@@ -1,8 +1,8 @@
-use Rattle.std.proofs.Common.{◌≡◌, ℕ, List, [], rules, arith, ◌∙◌}
-use Rattle.std.proofs.lemmas.Grind.{common_steps}
+use Rattle.std.proofs.Common.{rules, ◌∙◌}
 use Rattle.fsrm_program.specs.Progress.{Feeds, FeedsBroken}
 use Rattle.fsrm_program.specs.Held.{state_of}
-use Rattle.fsrm_program.proofs.Batches.{ended_as, grows_then, feeds_device, broken_device, unwritten_device}
+use Rattle.fsrm_program.proofs.Batches.{ended_as, feeds_device, broken_device, unwritten_device}
+use Rattle.fsrm_program.proofs.Waiting.{grows_then}
 use Rattle.fsrm_program.proofs.replay.answer_piece.Goals as goal
 
 -- the piece was given up while replies waited
@@ -14,11 +14,6 @@ returns-in-Err-clause-err g c =
     ended_as (λ d. FeedsBroken start c.feed.new.steps c.args.piece.now (shown c.args.sink.now) (shown d)) _ batch.device.now _ batch.device.ghost_name c.in-Err.ensures.by.same_device (search rules)
     (broken_device start c.feed.new.steps c.args.piece.now c.args.replies.now.items batch.waiting.now.items (shown c.args.sink.now) (shown batch.device.now) c.requires.written c.in-Err.ensures.by.grows c.in-Err.ensures.err)
 
-pub returns-in-Err-clause-by : goal.returns-in-Err-clause-by
-returns-in-Err-clause-by g c =
-    let batch = c.feed.new.sink in
-    ended_as (λ d. g.S.Sink.by_write c.args.sink.now d) _ batch.device.now _ batch.device.ghost_name c.in-Err.ensures.by.same_device (search rules) c.in-Err.ensures.by.device_by
-
 -- all was written
 pub returns-in-Ok-flush-clause-ok : goal.returns-in-Ok-flush-clause-ok
 returns-in-Ok-flush-clause-ok g c =
@@ -29,20 +24,9 @@ returns-in-Ok-flush-clause-ok g c =
     ended_as (λ d. Feeds start next c.args.piece.now (shown c.args.sink.now) (shown d)) _ batch.device.now _ batch.device.ghost_name (c.in-Ok-flush.ensures.by.same_device ∙ c.in-Ok.ensures.by.same_device) (search rules)
     (feeds_device start next c.args.piece.now c.args.replies.now.items batch.waiting.now.items (shown c.args.sink.now) _ (shown batch.device.now) c.requires.written c.in-Ok-flush.ensures.empty c.in-Ok.ensures.ok c.in-Ok-flush.ensures.shown)
 
-pub returns-in-Ok-flush-clause-written : goal.returns-in-Ok-flush-clause-written
-returns-in-Ok-flush-clause-written g c =
-    let batch = c.flush.new.self in
-    ended_as (λ (xs : List ℕ). xs ≡ []) _ batch.waiting.now.items _ batch.waiting.ghost_name (c.in-Ok-flush.ensures.by.same_text ∙ c.in-Ok.ensures.by.same_text) (λ same. grind (arith, common_steps)) c.in-Ok-flush.ensures.empty
-
-pub returns-in-Ok-flush-clause-by : goal.returns-in-Ok-flush-clause-by
-returns-in-Ok-flush-clause-by g c =
-    let batch = c.flush.new.self in
-    ended_as (λ d. g.S.Sink.by_write c.args.sink.now d) _ batch.device.now _ batch.device.ghost_name (c.in-Ok-flush.ensures.by.same_device ∙ c.in-Ok.ensures.by.same_device) (search rules)
-    (g.met.S.Sink.write_then c.args.sink.now c.feed.new.sink.device.now batch.device.now c.in-Ok.ensures.by.device_by c.in-Ok-flush.ensures.by.device_by)
-
 -- the writing of what waited was given up
-pub returns-clause-err : goal.returns-clause-err
-returns-clause-err g c =
+pub returns-in-Err-flush-clause-err : goal.returns-in-Err-flush-clause-err
+returns-in-Err-flush-clause-err g c =
     let shown = g.S.Sink.shown in
     let start = state_of c.args.session.now c.args.steps.now in
     let next = state_of c.feed.new.session c.feed.new.steps in
@@ -50,9 +34,3 @@ returns-clause-err g c =
     ended_as (λ d. FeedsBroken start c.feed.new.steps c.args.piece.now (shown c.args.sink.now) (shown d)) _ batch.device.now _ batch.device.ghost_name (c.in-Err-flush.ensures.by.same_device ∙ c.in-Ok.ensures.by.same_device) (search rules)
     (unwritten_device start next c.args.piece.now c.args.replies.now.items batch.waiting.now.items (shown c.args.sink.now) _ (shown batch.device.now) c.requires.written
     (grows_then (shown c.args.sink.now) (shown c.feed.new.sink.device.now) (shown batch.device.now) c.in-Ok.ensures.by.grows c.in-Err-flush.ensures.by.grows) c.in-Ok.ensures.ok c.in-Err-flush.ensures.shown)
-
-pub returns-clause-by : goal.returns-clause-by
-returns-clause-by g c =
-    let batch = c.flush.new.self in
-    ended_as (λ d. g.S.Sink.by_write c.args.sink.now d) _ batch.device.now _ batch.device.ghost_name (c.in-Err-flush.ensures.by.same_device ∙ c.in-Ok.ensures.by.same_device) (search rules)
-    (g.met.S.Sink.write_then c.args.sink.now c.feed.new.sink.device.now batch.device.now c.in-Ok.ensures.by.device_by c.in-Err-flush.ensures.by.device_by)

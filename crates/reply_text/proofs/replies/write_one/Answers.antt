@@ -1,8 +1,7 @@
 use Rattle.std.proofs.Common.{◌≡◌, ◌∙◌, ap}
 use Rattle.std.specs.Prelude.{Some, None}
-use Rattle.fsrm_model.specs.declared.command.Outcome.TheVariants.{Done, Refused}
-use Rattle.fsrm_model.specs.declared.command.Refusal.TheVariants.{QuotaExceeded}
-use Rattle.reply_text.proofs.Answered.{done_text, passive_text, sum_text, visited_text, bare_text, exceeded_text, shows_nothing}
+use Rattle.fsrm_model.specs.declared.command.Outcome.TheVariants.{Done}
+use Rattle.reply_text.proofs.Answered.{done_text, passive_text, sum_text, visited_text, refused_text, shows_nothing}
 use Rattle.reply_text.proofs.Sent.{sent, sends_front}
 use Rattle.reply_text.proofs.replies.write_one.Goals as goal
 
@@ -38,16 +37,7 @@ pub returns-in-Refused-clause-text : goal.returns-in-Refused-clause-text
 returns-in-Refused-clause-text g c = λ moment.
     let sink = g.S.Sink in
     let e = c.args.engine.now in
-    sent c.write_bare.result (sink.shown c.args.sink.now) (sink.shown c.write_bare.new.sink) _ _ (bare_text e.size e.rows moment c.args.line c.in-Refused.refusal c.args.outcome.now c.in-Refused.is) (c.write_bare.ensures.text e.rows.nodes)
-
-pub returns-in_ok-path-in-Refused-QuotaExceeded-clause-text : goal.returns-in_ok-path-in-Refused-QuotaExceeded-clause-text
-returns-in_ok-path-in-Refused-QuotaExceeded-clause-text g c = λ moment.
-    let sink = g.S.Sink in
-    let e = c.args.engine.now in
-    let exceeded = c.in-Refused-QuotaExceeded in
-    let refusal : exceeded.field-0 ≡ QuotaExceeded exceeded.folder exceeded.would exceeded.limit = rw exceeded.is at exceeded.field-0-is in
-    let is : c.args.outcome.now ≡ Refused (QuotaExceeded exceeded.folder exceeded.would exceeded.limit) = exceeded.is ∙ ap Refused refusal in
-    sent c.write_exceeded.result (sink.shown c.args.sink.now) (sink.shown c.write_exceeded.new.sink) _ _ (exceeded_text e.size e.rows moment c.args.line exceeded.folder exceeded.would exceeded.limit c.args.outcome.now c.as_str-in-Refused-QuotaExceeded.result.now is (c.as_str-in-Refused-QuotaExceeded.ensures ∙ c.in_ok-path-in-Refused-QuotaExceeded.ensures.text)) c.write_exceeded.ensures.text
+    sent c.write_refusal.result (sink.shown c.args.sink.now) (sink.shown c.write_refusal.new.sink) _ _ (refused_text e.size e.rows moment c.args.line c.in-Refused.refusal c.args.outcome.now c.in-Refused.is) c.write_refusal.ensures.text
 
 -- there was no memory for a path
 pub returns-in_err-path-in-Done-Some-clause-text : goal.returns-in_err-path-in-Done-Some-clause-text
@@ -58,6 +48,3 @@ returns-in_err-path-in-Sum-clause-text g c = λ moment. sends_front c.from_resid
 
 pub returns-in_err-path-in-Scanned-clause-text : goal.returns-in_err-path-in-Scanned-clause-text
 returns-in_err-path-in-Scanned-clause-text g c = λ moment. sends_front c.from_residual-in_err-path-in-Scanned.result _ _ _ c.from_residual-in_err-path-in-Scanned.ensures.0 (shows_nothing _ _)
-
-pub returns-in_err-path-in-Refused-QuotaExceeded-clause-text : goal.returns-in_err-path-in-Refused-QuotaExceeded-clause-text
-returns-in_err-path-in-Refused-QuotaExceeded-clause-text g c = λ moment. sends_front c.from_residual-in_err-path-in-Refused-QuotaExceeded.result _ _ _ c.from_residual-in_err-path-in-Refused-QuotaExceeded.ensures.0 (shows_nothing _ _)

@@ -1,7 +1,7 @@
 use Rattle.reply_text.specs.Parts.{part_text}
 use Rattle.reply_text.proofs.Quotas.{row_shown}
 use Rattle.reply_text.proofs.Sent.{sent}
-use Rattle.reply_text.proofs.lists.write_parts.Goals as goal
+use Rattle.reply_text.proofs.lists.write_line.Goals as goal
 
 pub returns-clause-text : goal.returns-clause-text
 returns-clause-text g c =
