@@ -19,7 +19,7 @@ one_ascii : (x : ℕ) → x < 128 → IsAscii (x ∷ [])
 one_ascii x low zero = low
 one_ascii x low (suc i) = omega arith
 
-chars_ascii : (x : ℕ) (rest : List ℕ) → x < 128 → chars (x ∷ rest) ≡ x ∷ chars rest
+pub chars_ascii : (x : ℕ) (rest : List ℕ) → x < 128 → chars (x ∷ rest) ≡ x ∷ chars rest
 chars_ascii x rest low =
     chars-append (x ∷ []) rest (IsUtf8-from_ascii (x ∷ []) (one_ascii x low))
     ∙ ap (λ cs. cs ++ chars rest) (chars-IsAscii (x ∷ []) (one_ascii x low))

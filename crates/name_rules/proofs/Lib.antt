@@ -5,3 +5,4 @@ pub mod Names
 pub mod Taken
 pub mod EndLaws
 pub mod NameBytes
+pub mod PrefixLaws

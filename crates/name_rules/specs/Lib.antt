@@ -1,3 +1,4 @@
 pub mod Fronts
 pub mod Parts
 pub mod PathFaults
+pub mod Prefix

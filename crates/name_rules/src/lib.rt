@@ -2,14 +2,16 @@
 //! 3.13).
 //!
 //! `Name::read` and `read_path` refuse exactly what isn't a name or a path, InvalidPath before InvalidName; `same_name`
-//! and `fold_cmp` compare the folded characters.
+//! and `fold_cmp` compare the folded characters. `fold_prefix` is the first of them as a number, in the order of names.
 #![tactic(auto)]
 
 mod ends;
 mod name;
 mod order;
 mod path;
+mod prefix;
 
 pub use name::{Name, NameFault, is_name};
 pub use order::{fold_cmp, same_name};
 pub use path::{PathFault, read_path};
+pub use prefix::fold_prefix;
