@@ -14,7 +14,7 @@ use crate::exits::refused;
 use crate::parts::Parts;
 use fsrm_model::{Answer, Ledger, NoMemory, Outcome, Path, Refusal, Steps};
 use std::alloc::Global;
-use volume_tree::{Children, Finger, Tree};
+use volume_tree::{Children, Finger, Siblings, Tree};
 
 // Puts children after the nodes that are still to be visited. It takes a look for each.
 fn put<L: Ledger>(
@@ -26,8 +26,18 @@ fn put<L: Ledger>(
     ensures count { OnOk result (steps.new ≡ steps.old + length children.old) }
     ensures looks { steps.new ≤ steps.old + length children.old }
 {
-    while let Some(numbers) = children.next(steps) {
-        pending.extend_from_slice(numbers)?;
+    while let Some(siblings) = children.next(steps) {
+        put_all(&siblings, pending)?;
+    }
+    Ok(())
+}
+
+// Puts children that stand one after the other after those nodes.
+fn put_all(siblings: &Siblings<'_>, pending: &mut Vec<u32>) -> Result<(), NoMemory>
+    ensures { OnOk result (pending.new.items ≡ pending.old.items ++ siblings.now) }
+{
+    for place in 0..siblings.len() {
+        pending.push(siblings.number(place))?;
     }
     Ok(())
 }

@@ -14,7 +14,7 @@ use crate::frontier::Frontier;
 use fsrm_model::{Ledger, List, NoMemory, Steps};
 use number_set::NumberSet;
 use std::alloc::Global;
-use volume_tree::{Finger, Tree};
+use volume_tree::{Finger, Siblings, Tree};
 
 impl Frontier {
     /// Visits the unvisited folder of the least number among those whose parent is visited: counts the
@@ -90,8 +90,8 @@ pub(crate) fn enter_children<L: Ledger>(
     let _size = tree.capacity();
     let mut children = tree.children(folder, finger, steps);
     let mut bytes = 0u64;
-    while let Some(numbers) = children.next(steps) {
-        bytes += enter_nodes(tree, numbers, set, steps);
+    while let Some(siblings) = children.next(steps) {
+        bytes += enter_nodes(tree, &siblings, set, steps);
     }
     bytes
 }
@@ -100,20 +100,21 @@ pub(crate) fn enter_children<L: Ledger>(
 // for each node.
 fn enter_nodes<L: Ledger>(
     tree: &Tree,
-    numbers: &[u32],
+    siblings: &Siblings<'_>,
     set: &mut NumberSet,
     steps: &mut Steps<L>,
 ) -> u64
     requires volume { IsVolume tree.now.size tree.now.nodes }
     requires room { tree.now.size.nodes ≤ set.old.bound }
-    requires there { (k : ℕ) → k < length numbers.now → has_row key (slice_index numbers.now k) tree.now.nodes ≡ true }
-    requires small { sum_by (space_of tree.now.size tree.now.nodes) numbers.now < 2 ^ 64 }
-    ensures set { set.new ≡ record set.old { members = with_numbers (folders_among tree.now.nodes numbers.now) set.old.members } }
-    ensures bytes { result ≡ sum_by (space_of tree.now.size tree.now.nodes) numbers.now }
-    ensures count { steps.new ≡ steps.old + length numbers.now }
+    requires there { (k : ℕ) → k < length siblings.now → has_row key (slice_index siblings.now k) tree.now.nodes ≡ true }
+    requires small { sum_by (space_of tree.now.size tree.now.nodes) siblings.now < 2 ^ 64 }
+    ensures set { set.new ≡ record set.old { members = with_numbers (folders_among tree.now.nodes siblings.now) set.old.members } }
+    ensures bytes { result ≡ sum_by (space_of tree.now.size tree.now.nodes) siblings.now }
+    ensures count { steps.new ≡ steps.old + length siblings.now }
 {
     let mut bytes = 0u64;
-    for &number in numbers {
+    for place in 0..siblings.len() {
+        let number = siblings.number(place);
         let node = tree.node(number, steps);
         if node.folder {
             set.insert(number);

@@ -12,7 +12,7 @@ use std::marker::Brand;
 use std::process::Abort;
 use std::sync::ledger::{Blank, Ledger as Named};
 use std::test::Fail;
-use volume_tree::{Finger, RowsFault, Tree, TreeFault};
+use volume_tree::{Finger, RowsFault, Siblings, Tree, TreeFault};
 
 /// Whether there is a folder of this number.
 pub fn is_folder<L: Ledger>(tree: &Tree, node: u32, steps: &mut Steps<L>) -> bool
@@ -86,6 +86,16 @@ fn some_children<L: Ledger>(
     Ok(tree)
 }
 
+fn numbers(alloc: Global, siblings: Option<Siblings<'_>>) -> Result<Vec<u32>, Fail> {
+    let mut numbers = Vec::new(alloc);
+    if let Some(siblings) = siblings {
+        for place in 0..siblings.len() {
+            numbers.push(siblings.number(place))?;
+        }
+    }
+    Ok(numbers)
+}
+
 fn children_are_ordered<L: Ledger>(
     alloc: Global,
     end: &impl Abort,
@@ -94,14 +104,10 @@ fn children_are_ordered<L: Ledger>(
     let tree = some_children(alloc, end, steps)?;
     // Wherever the finger is: at the front, and after them.
     let mut finger = Finger::default();
-    assert_eq!(end;
-        tree.children(0, &mut finger, steps).next(steps),
-        Some([4, 2, 1, 3].as_slice())
-    );
-    assert_eq!(end;
-        tree.children(0, &mut finger, steps).next(steps),
-        Some([4, 2, 1, 3].as_slice())
-    );
+    let first = numbers(alloc, tree.children(0, &mut finger, steps).next(steps))?;
+    assert_eq!(end; first.as_slice(), [4, 2, 1, 3].as_slice());
+    let again = numbers(alloc, tree.children(0, &mut finger, steps).next(steps))?;
+    assert_eq!(end; again.as_slice(), [4, 2, 1, 3].as_slice());
     assert!(end; 1 < tree.child_count(0, steps));
     assert_eq!(end; tree.child_at(0, 1, steps), 2);
     assert_eq!(end; tree.child(0, "é", steps), Some(3));

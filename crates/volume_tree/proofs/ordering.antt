@@ -1,11 +1,15 @@
 pub mod Children
+pub mod Compared
 pub mod Edits
 pub mod Entries
 pub mod EntryRows
+pub mod EntryRuns
 pub mod Halving
 pub mod Items
 pub mod Names
+pub mod Narrowed
 pub mod OrderLaws
+pub mod OwnEntries
 pub mod Places
 pub mod Runs
 pub mod Segments

@@ -1,5 +1,5 @@
 -- How a tree's fields hold its nodes.
-use Rattle.std.specs.Prelude.{◌≡◌, ℕ, suc, ◌+◌, ◌<◌, ◌≤◌, ◌==◌, ◌&&◌, ◌||◌, nat_lt, not, Bool, true, false, List, [], ◌∷◌, length, map, filter, take, drop, slice_get, Option, Some, None}
+use Rattle.std.specs.Prelude.{◌≡◌, ℕ, suc, ◌+◌, ◌<◌, ◌≤◌, ◌==◌, ◌&&◌, ◌||◌, nat_lt, not, Bool, true, false, List, [], ◌∷◌, length, map, filter, take, drop, slice_get, Option, Some, None, IfNone, IfSome, OnSome}
 use Rattle.std.specs.List.{AllPairs, between}
 use Rattle.std.specs.List.Sorted.{IsPermutation}
 use Rattle.std.specs.Option.{option_map_or}
@@ -8,13 +8,14 @@ use Rattle.fsrm_model.specs.declared.row.NodeRow.{NodeRow}
 use Rattle.fsrm_model.specs.Capacities.{is_capacity}
 use Rattle.block_list.specs.declared.place.Place.{Place}
 use Rattle.block_list.specs.Places.{index_of}
-use Rattle.block_list.specs.Runs.{Contents, entries_of, run_at}
+use Rattle.block_list.specs.Runs.{entries_of, run_at}
 use Rattle.fsrm_model.specs.Name.{name_before, same_name}
 use Rattle.fsrm_base.specs.Keyed.{has_row}
 use Rattle.fsrm_base.specs.Numbers.{is_in, is_set}
 use Rattle.fsrm_model.specs.Tree.{number, node_of, children_in_order, name_bytes}
 use Rattle.fsrm_model.specs.Valid.{IsVolume}
 use Rattle.number_set.specs.Numbers.{Numbers}
+use Rattle.volume_tree.specs.Entries.{AreOwn, Sequence}
 
 -- the rows that stand in slots
 abbrev pub rows_of : List (Option NodeRow) → List NodeRow
@@ -65,7 +66,7 @@ pub record AreHoles (slots : List (Option NodeRow)) (holes : List ℕ) : Type 0 
   pub members : (n : ℕ) → is_in holes n ≡ is_hole slots n
 
 -- how many nodes and bytes of names there are, the empty slots, the slots and the order
-pub record IsKept (K : Capacity) (count used : ℕ) (holes : Numbers) (slots : List (Option NodeRow)) (order : Contents ℕ) : Type 0 where
+pub record IsKept (K : Capacity) (count used : ℕ) (holes : Numbers) (slots : List (Option NodeRow)) (order : Sequence) : Type 0 where
   pub volume : IsVolume K (rows_of slots)
   pub size : is_capacity K ≡ true
   pub slots_are : AreSlots 0 slots
@@ -74,6 +75,7 @@ pub record IsKept (K : Capacity) (count used : ℕ) (holes : Numbers) (slots : L
   pub bound_is : holes.bound ≡ K.nodes
   pub holes_are : AreHoles slots holes.members
   pub order_is : IsOrder (rows_of slots) (entries_of order.runs)
+  pub entries_are : AreOwn (rows_of slots) order
   pub room_is : order.room ≡ K.nodes
 
 -- a node is there, and stands in a folder
@@ -81,6 +83,21 @@ pub record IsIn (nodes : List NodeRow) (n folder : ℕ) : Type 0 where
   pub row : NodeRow
   pub found : node_of nodes n ≡ Some row
   pub parent_is : folder ≡ row.parent
+
+-- a node is there, and has a name
+pub record HasName (nodes : List NodeRow) (n : ℕ) (name : List ℕ) : Type 0 where
+  pub row : NodeRow
+  pub found : node_of nodes n ≡ Some row
+  pub name_is : name ≡ row.name
+
+-- a node is there, and stands before the place of a name in a folder or after it, or has the name
+pub record Stands (nodes : List NodeRow) (n folder : ℕ) (name : List ℕ) (before : Option Bool) : Type 0 where
+  pub row : NodeRow
+  pub found : node_of nodes n ≡ Some row
+  pub before_is : IfSome before (λ b. b ≡ is_before row folder name)
+  pub other : OnSome before (is_named row folder name ≡ false)
+  pub named : IfNone before (is_named row folder name ≡ true)
+  pub not_before : IfNone before (is_before row folder name ≡ false)
 
 -- where in the order a name of a folder stands, or is to stand
 pub record IsPlace (nodes : List NodeRow) (order : List ℕ) (folder : ℕ) (name : List ℕ) (place : ℕ) : Type 0 where

@@ -9,6 +9,7 @@ ghost use Rattle.fsrm_model.specs.Valid.{IsVolume};
 ghost use Rattle.volume_tree.specs.Volume.{IsFault, new_fault, with_node};
 
 use crate::answer::TreeFault;
+use crate::entries::Entry;
 use crate::order::search;
 use crate::slots;
 use crate::tree::Tree;
@@ -222,9 +223,10 @@ impl Tree {
         let place = new_place(&self.slots, &self.order, folder, name, near, steps);
         let number = slots::next_number(&self.slots, &self.holes);
         self.hints.enter(&self.slots, folder, name, number);
+        let entry = Entry::at(number, folder, name);
         slots::put(&mut self.slots, new.row(number, folder, text))?;
         self.holes.remove(number);
-        self.order.insert(place, number);
+        self.order.insert(place, entry);
         self.count += 1;
         self.used += name.len() as u32;
         Ok(number)

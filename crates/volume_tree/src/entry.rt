@@ -6,16 +6,18 @@ ghost use Rattle.fsrm_model.specs.Limits.{most_nodes};
 ghost use Rattle.fsrm_model.specs.Tree.{number as key, parent_of, name_of, child_number};
 ghost use Rattle.block_list.specs.Places.{IsEntry, IsGap, index_of};
 ghost use Rattle.block_list.specs.Runs.{entries_of};
+ghost use Rattle.volume_tree.specs.Entries.{AreOwn};
 ghost use Rattle.volume_tree.specs.Kept.{AreSlots, IsOrder, IsPlace, rows_of};
 ghost use Rattle.volume_tree.specs.Shift.{IsShifted};
 ghost use Rattle.volume_tree.specs.Volume.{is_other};
 
+use crate::entries::{Entry, Order};
 use crate::{order, reads};
-use block_list::{BlockList, Place};
+use block_list::Place;
 use fsrm_model::{Ledger, NodeRow, Steps};
 
 /// Whether the node that was found is another one.
-pub fn is_other(order: &BlockList<u32>, found: Result<Place, Place>, node: u32) -> bool
+pub fn is_other(order: &Order, found: Result<Place, Place>, node: u32) -> bool
     requires { IfOk found (λ place. IsEntry order.now.runs place) }
     ensures ok { IfOk found (λ place. result ≡ is_other (slice_get (entries_of order.now.runs) (index_of order.now.runs place)) node) }
     ensures err { OnErr found (result ≡ false) }
@@ -29,12 +31,13 @@ pub fn is_other(order: &BlockList<u32>, found: Result<Place, Place>, node: u32) 
 /// The place of a node in the order, and the bytes of its name. It looks at no more than 22 nodes.
 pub fn own_place<L: Ledger>(
     slots: &[Option<NodeRow>],
-    order: &BlockList<u32>,
+    order: &Order,
     node: u32,
     steps: &mut Steps<L>,
 ) -> (Place, u32)
     requires slots { AreSlots 0 slots.now }
     requires order { IsOrder (rows_of slots.now) (entries_of order.now.runs) }
+    requires entries { AreOwn (rows_of slots.now) order.now }
     requires few { length (entries_of order.now.runs) < most_nodes }
     requires there { has_row key node (rows_of slots.now) ≡ true }
     requires found { child_number (rows_of slots.now) (parent_of (rows_of slots.now) node) (name_of (rows_of slots.now) node) ≡ Some node }
@@ -49,36 +52,38 @@ pub fn own_place<L: Ledger>(
     (place, row.name.as_str().len() as u32)
 }
 
-/// Moves a node's entry to the place where a name was searched and not found. If one was found, it stays.
+/// Moves a node's entry, which becomes this one, to the place where a name was searched and not found. If one was
+/// found, it stays.
 /// It looks at no more than 22 nodes.
 pub fn reorder<L: Ledger>(
     slots: &[Option<NodeRow>],
-    order: &mut BlockList<u32>,
-    node: u32,
+    order: &mut Order,
+    entry: Entry,
     found: Result<Place, Place>,
     steps: &mut Steps<L>,
 )
     requires slots { AreSlots 0 slots.now }
     requires order { IsOrder (rows_of slots.now) (entries_of order.old.runs) }
+    requires entries { AreOwn (rows_of slots.now) order.old }
     requires few { length (entries_of order.old.runs) < most_nodes }
     requires room { length (entries_of order.old.runs) ≤ order.old.room }
-    requires there { has_row key node (rows_of slots.now) ≡ true }
-    requires own { child_number (rows_of slots.now) (parent_of (rows_of slots.now) node) (name_of (rows_of slots.now) node) ≡ Some node }
-    requires short { length (name_of (rows_of slots.now) node) < 2 ^ 32 }
+    requires there { has_row key entry.node (rows_of slots.now) ≡ true }
+    requires own { child_number (rows_of slots.now) (parent_of (rows_of slots.now) entry.node) (name_of (rows_of slots.now) entry.node) ≡ Some entry.node }
+    requires short { length (name_of (rows_of slots.now) entry.node) < 2 ^ 32 }
     requires gap { IfErr found (λ place. IsGap order.old.runs place) }
     ensures room { order.new.room ≡ order.old.room }
-    ensures ok { OnOk found (entries_of order.new.runs ≡ entries_of order.old.runs) }
-    ensures err { IfErr found (λ place. IsShifted (entries_of order.old.runs) (entries_of order.new.runs) node (index_of order.old.runs place)) }
+    ensures ok { OnOk found (order.new ≡ order.old) }
+    ensures err { IfErr found (λ place. IsShifted order.old order.new entry (index_of order.old.runs place)) }
     ensures looks { steps.new ≤ steps.old + 22 }
 {
     if let Err(place) = found {
-        let (own, _) = own_place(slots, order, node, steps);
-        shift(order, node, own, place);
+        let (own, _) = own_place(slots, order, entry.node, steps);
+        shift(order, entry, own, place);
     }
 }
 
 // The place before which so many entries stand.
-fn gap_at(order: &BlockList<u32>, index: u32) -> Place
+fn gap_at(order: &Order, index: u32) -> Place
     requires { index ≤ length (entries_of order.now.runs) }
     ensures gap { IsGap order.now.runs result }
     ensures index { index_of order.now.runs result ≡ index }
@@ -90,20 +95,20 @@ fn gap_at(order: &BlockList<u32>, index: u32) -> Place
     }
 }
 
-// Moves a node's entry to before the one at another place, or to the end. A removal may move that place, so it is
-// kept as a number of entries, for which the runs before it are passed.
-fn shift(order: &mut BlockList<u32>, node: u32, from: Place, to: Place)
+// Moves a node's entry, which becomes this one, to before the one at another place, or to the end. A removal may move
+// that place, so it is kept as a number of entries, for which the runs before it are passed.
+fn shift(order: &mut Order, entry: Entry, from: Place, to: Place)
     requires few { length (entries_of order.old.runs) < most_nodes }
     requires room { length (entries_of order.old.runs) ≤ order.old.room }
     requires from { IsEntry order.old.runs from }
-    requires node { slice_get (entries_of order.old.runs) (index_of order.old.runs from) ≡ Some node }
+    requires node { slice_get (entries_of order.old.runs) (index_of order.old.runs from) ≡ Some entry.node }
     requires to { IsGap order.old.runs to }
     ensures room { order.new.room ≡ order.old.room }
-    ensures shifted { IsShifted (entries_of order.old.runs) (entries_of order.new.runs) node (index_of order.old.runs to) }
+    ensures shifted { IsShifted order.old order.new entry (index_of order.old.runs to) }
 {
     let old = order.index_of(from);
     let new = order.index_of(to);
     order.remove(from);
     let place = gap_at(order, if old < new { new - 1 } else { new });
-    order.insert(place, node);
+    order.insert(place, entry);
 }

@@ -7,8 +7,8 @@ use std::alloc::Global;
 // How many slots a bucket has.
 const SLOTS: usize = 8;
 
-// What stands in a slot that is free. The root is never entered, so no number of an entry is 0.
-const FREE: u32 = 0;
+// What stands in a slot that is free. An entry like it would be that of the last of all numbers.
+const FREE: u32 = u32::MAX;
 
 // Numbers of nodes are below this one. An entry has 12 bits of a hash above them.
 const NUMBERS: u32 = 1_048_576;
@@ -78,8 +78,8 @@ fn put(bucket: &mut [u32; SLOTS], entry: u32) {
     bucket[entry as usize % SLOTS] = entry;
 }
 
-/// For many nodes, where each may stand in the table by its folder and name, in the bucket that their hash leads to. An
-/// entry is a part of the hash and the node's number.
+/// A table of nodes by their folders and names. A node's entry stands in the bucket that the hash of both leads to, or in
+/// none, and is a part of the hash and the node's number.
 #[derive(Drop)]
 pub struct Hints {
     buckets: Vec<[u32; SLOTS]>,
@@ -106,20 +106,17 @@ impl Hints {
         (u64::from(hash).wrapping_mul(self.buckets.len() as u64) >> 32) as usize
     }
 
-    /// A number that the child of this name may have. All slots are passed, since to leave the loop early would save
-    /// less than the branch costs.
+    /// A number that the child of this name may have: the least whose entry has the hash's mark. What other entries have
+    /// in place of the mark makes them greater, so there is no branch until all slots are passed.
     #[inline]
     pub fn guess(&self, folder: u32, name: &str) -> Option<u32> {
         let hash = hash(folder, name);
         let bucket = self.buckets.get(self.home(hash))?;
-        let mut guess = None;
+        let mut least = FREE;
         for slot in bucket {
-            let number = *slot ^ mark(hash);
-            if number < NUMBERS {
-                guess = Some(number);
-            }
+            least = least.min(*slot ^ mark(hash));
         }
-        guess
+        if least < NUMBERS { Some(least) } else { None }
     }
 
     fn note(&mut self, folder: u32, name: &str, number: u32) {
@@ -130,8 +127,8 @@ impl Hints {
         }
     }
 
-    // Sees that there are two slots for each node. Where there aren't, it takes eight for each, and notes all nodes anew; if
-    // there is no memory for them, the table stays as it is.
+    // Sees that there are two slots for each node. Where there aren't, it takes eight for each, and notes all nodes anew;
+    // if there is no memory for them, the table stays as it is.
     fn fit(&mut self, nodes: &[Option<NodeRow>]) {
         if nodes.len() / 4 < self.buckets.len() {
             return;

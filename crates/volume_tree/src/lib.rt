@@ -1,10 +1,11 @@
 //! The tree of a volume's folders and files.
 //!
-//! The numbers of all nodes are kept in the order of their places, by folder and folded name, in the runs of a list in
+//! The entries of all nodes are kept in the order of their places, by folder and folded name, in the runs of a list in
 //! blocks. A search halves the runs' first entries and then one run, and ends where it finds the name: at no more than
-//! 13 and 8 looks. A new node moves the entries of at most two blocks. A node's row stands in the slot of its number.
-//! Which node has a name in a folder is guessed first, so that most searches take one look, at the node that is guessed.
-//! Contracts see a tree as its capacity and its nodes in the order of their numbers.
+//! 13 and 8 looks. An entry has the folder and the first characters of the name, so that a look seldom reads the node's
+//! row, which stands in the slot of its number. A new node moves the entries of at most two blocks. Which node has a name
+//! in a folder is guessed first, so that most searches take one look, at the node that is guessed. Contracts see a tree
+//! as its capacity and its nodes in the order of their numbers.
 //!
 //! A call that reads nodes counts them as looks. `children`, `child_count` and `child_at` count one look for the call,
 //! and `Children::next` one for each child that it lends. What these three compare to find where a folder's children
@@ -15,6 +16,7 @@ mod answer;
 mod children;
 mod climb;
 mod creations;
+mod entries;
 mod entry;
 mod finger;
 mod hints;
@@ -29,7 +31,7 @@ mod tree;
 mod vacancy;
 
 pub use answer::{NodeView, RowsFault, TreeFault};
-pub use children::Children;
+pub use children::{Children, Siblings};
 pub use finger::Finger;
 pub use moves::ReadyMove;
 pub use tree::Tree;

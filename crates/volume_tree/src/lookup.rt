@@ -4,12 +4,13 @@ ghost use Rattle.std.specs.Prelude.{◌≡◌, ◌+◌, ◌<◌, ◌≤◌, IfSo
 ghost use Rattle.fsrm_model.specs.Limits.{most_nodes};
 ghost use Rattle.fsrm_model.specs.Tree.{child_number};
 ghost use Rattle.block_list.specs.Runs.{entries_of};
+ghost use Rattle.volume_tree.specs.Entries.{AreOwn};
 ghost use Rattle.volume_tree.specs.Kept.{AreSlots, IsOrder, has_name, rows_of};
 
+use crate::entries::Order;
 use crate::hints::Hints;
 use crate::order::search;
 use crate::slots::row;
-use block_list::BlockList;
 use fsrm_model::{Ledger, NodeRow, Steps};
 use name_rules::same_name;
 
@@ -24,7 +25,7 @@ fn has_name(slots: &[Option<NodeRow>], number: u32, folder: u32, name: &str) -> 
     }
 }
 
-// A node that has a name in a folder, if the one that is guessed has it. It takes a look at that one, if one is guessed.
+// A node that has a name in a folder, if the one that is guessed has it. It takes a look if one is guessed.
 fn guessed<L: Ledger>(
     slots: &[Option<NodeRow>],
     hints: &Hints,
@@ -50,7 +51,7 @@ fn guessed<L: Ledger>(
 /// The number of a folder's child of this name. It takes a look, and no more than 22.
 pub fn child<L: Ledger>(
     slots: &[Option<NodeRow>],
-    order: &BlockList<u32>,
+    order: &Order,
     hints: &Hints,
     folder: u32,
     name: &str,
@@ -58,6 +59,7 @@ pub fn child<L: Ledger>(
 ) -> Option<u32>
     requires slots { AreSlots 0 slots.now }
     requires order { IsOrder (rows_of slots.now) (entries_of order.now.runs) }
+    requires entries { AreOwn (rows_of slots.now) order.now }
     requires few { length (entries_of order.now.runs) < most_nodes }
     ensures value { result ≡ child_number (rows_of slots.now) folder name.now }
     ensures some { steps.old + 1 ≤ steps.new }

@@ -9,6 +9,7 @@ ghost use Rattle.volume_tree.specs.Volume.{IsFault, move_fault, with_place};
 
 use crate::answer::TreeFault;
 use crate::climb::is_at_or_below;
+use crate::entries::Entry;
 use crate::entry::{is_other, reorder};
 use crate::tree::Tree;
 use crate::{order, slots};
@@ -120,7 +121,8 @@ impl Tree {
         let ReadyMove { node, folder, name } = ready;
         // The place isn't kept from the first half, since other places may have moved since.
         let found = order::search(&self.slots, &self.order, folder, name.as_str(), steps);
-        reorder(&self.slots, &mut self.order, node, found, steps);
+        let entry = Entry::at(node, folder, name.as_str());
+        reorder(&self.slots, &mut self.order, entry, found, steps);
         let bytes = name.as_str().len() as u32;
         self.hints.forget(&self.slots, node);
         self.hints.enter(&self.slots, folder, name.as_str(), node);

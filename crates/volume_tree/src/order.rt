@@ -1,42 +1,75 @@
 //! The numbers of all nodes but the root in the order of their places: by folders, and in each folder
 //! by folded names. They are kept in runs, of which each begins a block of its own.
 
-ghost use Rattle.std.specs.Prelude.{◌≡◌, ℕ, ◌+◌, ◌<◌, ◌≤◌, ◌==◌, IfOk, IfErr, OnOk, true, not, length, [], Some, None, slice_get};
-ghost use Rattle.std.specs.Ordering.{is_lt, is_eq};
+ghost use Rattle.std.specs.Prelude.{◌≡◌, ℕ, ◌+◌, ◌-◌, ◌/◌, ◌<◌, ◌≤◌, ◌==◌, if◌then◌else◌, Contains, IfOk, IfErr, IfSome, OnOk, option_map, true, not, length, [], Some, None, slice_get};
 ghost use Rattle.fsrm_model.specs.Limits.{most_nodes};
 ghost use Rattle.fsrm_model.specs.Tree.{children, child_number};
 ghost use Rattle.block_list.specs.Places.{IsEntry, IsGap, index_of};
 ghost use Rattle.block_list.specs.Runs.{entries_of, run_at, start_of};
-ghost use Rattle.volume_tree.specs.Kept.{AreSlots, IsBeyond, IsFloor, IsNamed, IsOrder, IsPlace, rows_of, is_before, is_named};
+ghost use Rattle.name_rules.specs.Prefix.{prefix as prefix_of};
+ghost use Rattle.volume_tree.specs.Entries.{AreOwn, IsOwn, number_in};
+ghost use Rattle.volume_tree.specs.Kept.{AreSlots, IsBeyond, IsFloor, IsNamed, IsOrder, IsPlace, Stands, rows_of};
 
-use crate::reads::{entry, node};
-use block_list::{BlockList, Place};
+use crate::entries::{Entry, Order};
+use crate::reads::{name_at, node};
+use block_list::Place;
 use fsrm_model::{Ledger, NodeRow, Steps};
-use name_rules::fold_cmp;
+use name_rules::{fold_cmp, fold_prefix};
 use std::cmp::Ordering;
 
-/// How a node stands to the place of a name in a folder: before it, at it or after it.
-pub fn compare(row: &NodeRow, folder: u64, name: &str) -> Ordering
-    ensures less { is_lt result ≡ is_before row.now folder name.now }
-    ensures equal { is_eq result ≡ is_named row.now folder name.now }
+/// Whether an entry stands before the place of a name in a folder, not after it. None if it has the name. Its node's row
+/// is read only if the folder and the first characters are the same.
+#[inline]
+pub fn is_before(
+    slots: &[Option<NodeRow>],
+    entry: Entry,
+    folder: u64,
+    prefix: u64,
+    name: &str,
+) -> Option<bool>
+    requires slots { AreSlots 0 slots.now }
+    requires entry { IsOwn (rows_of slots.now) entry }
+    requires prefix { prefix ≡ prefix_of name.now }
+    ensures { Stands (rows_of slots.now) entry.node folder name.now result }
 {
-    match u64::from(row.parent).cmp(&folder) {
-        Ordering::Equal => fold_cmp(row.name.as_str(), name),
-        order => order,
+    let parent = u64::from(entry.parent);
+    if parent == folder && entry.prefix == prefix {
+        return match fold_cmp(name_at(slots, entry.node), name) {
+            Ordering::Equal => None,
+            order => Some(order.is_lt()),
+        };
     }
+    Some(parent < folder || parent == folder && entry.prefix < prefix)
+}
+
+// How many of the entries among which a name is sought are passed after a look at the middle one, and how many are left:
+// those after it if it stands before the name's place, else those before it. Nobody can foresee which, so it is computed
+// without a branch.
+#[inline]
+fn halved(size: usize, before: bool) -> (usize, usize)
+    requires { 0 < size }
+    ensures passed { result.0 ≡ (if before then size / 2 + 1 else 0) }
+    ensures left { result.1 ≡ (if before then size - size / 2 - 1 else size / 2) }
+{
+    let half = size / 2;
+    let after = usize::from(before);
+    (after * (half + 1), half - after * (2 * half + 1 - size))
 }
 
 // The run that begins with the node of a name in a folder, or as an `Err` how many runs begin before the place of
 // the name. It gives too at how many nodes it looked: at no more than 13.
 fn runs_before(
     slots: &[Option<NodeRow>],
-    order: &BlockList<u32>,
+    order: &Order,
     folder: u64,
+    prefix: u64,
     name: &str,
 ) -> (Result<usize, usize>, usize)
     requires slots { AreSlots 0 slots.now }
     requires order { IsOrder (rows_of slots.now) (entries_of order.now.runs) }
+    requires entries { AreOwn (rows_of slots.now) order.now }
     requires few { length (entries_of order.now.runs) < most_nodes }
+    requires prefix { prefix ≡ prefix_of name.now }
     ensures run { IfOk result.0 (λ run. run < length order.now.runs) }
     ensures named { IfOk result.0 (λ run. IsNamed (rows_of slots.now) (entries_of order.now.runs) folder name.now (start_of order.now.runs run)) }
     ensures taken { IfOk result.0 (λ run. IsPlace (rows_of slots.now) (entries_of order.now.runs) folder name.now (start_of order.now.runs run)) }
@@ -47,16 +80,17 @@ fn runs_before(
     ensures looks { result.1 ≤ 13 }
 {
     let mut low = 0;
-    let mut high = order.run_count();
+    let mut size = order.run_count();
     let mut looks = 0;
-    while low < high {
-        let middle = low + (high - low) / 2;
-        let row = entry(slots, order.first(middle), &mut looks);
-        match compare(row, folder, name) {
-            Ordering::Less => low = middle + 1,
-            Ordering::Equal => return (Ok(middle), looks),
-            Ordering::Greater => high = middle,
-        }
+    while size > 0 {
+        let middle = low + size / 2;
+        looks += 1;
+        let Some(before) = is_before(slots, order.first(middle), folder, prefix, name) else {
+            return (Ok(middle), looks);
+        };
+        let (passed, left) = halved(size, before);
+        low += passed;
+        size = left;
     }
     (Err(low), looks)
 }
@@ -65,14 +99,17 @@ fn runs_before(
 // stands, or as an `Err` where one is to stand. It gives too at how many nodes it looked: at no more than 8.
 fn offset_of(
     slots: &[Option<NodeRow>],
-    order: &BlockList<u32>,
+    order: &Order,
     run: usize,
     folder: u64,
+    prefix: u64,
     name: &str,
 ) -> (Result<usize, usize>, usize)
     requires slots { AreSlots 0 slots.now }
     requires order { IsOrder (rows_of slots.now) (entries_of order.now.runs) }
+    requires entries { AreOwn (rows_of slots.now) order.now }
     requires run { run < length order.now.runs }
+    requires prefix { prefix ≡ prefix_of name.now }
     requires floor { IsFloor (rows_of slots.now) (entries_of order.now.runs) folder name.now (start_of order.now.runs run + 1) }
     requires beyond { IsBeyond (rows_of slots.now) (entries_of order.now.runs) folder name.now (start_of order.now.runs (run + 1)) }
     ensures entry { IfOk result.0 (λ offset. offset < length (run_at order.now.runs run)) }
@@ -84,18 +121,19 @@ fn offset_of(
     ensures some { OnOk result.0 (1 ≤ result.1) }
     ensures looks { result.1 ≤ 8 }
 {
-    let numbers = order.run(run);
+    let entries = order.run(run);
     let mut low = 1;
-    let mut high = numbers.len();
+    let mut size = entries.len() - 1;
     let mut looks = 0;
-    while low < high {
-        let middle = low + (high - low) / 2;
-        let row = entry(slots, numbers[middle], &mut looks);
-        match compare(row, folder, name) {
-            Ordering::Less => low = middle + 1,
-            Ordering::Equal => return (Ok(middle), looks),
-            Ordering::Greater => high = middle,
-        }
+    while size > 0 {
+        let middle = low + size / 2;
+        looks += 1;
+        let Some(before) = is_before(slots, entries[middle], folder, prefix, name) else {
+            return (Ok(middle), looks);
+        };
+        let (passed, left) = halved(size, before);
+        low += passed;
+        size = left;
     }
     (Err(low), looks)
 }
@@ -104,12 +142,13 @@ fn offset_of(
 /// too at how many nodes it looked: at no more than 21. The folder may be any number.
 pub fn place_of(
     slots: &[Option<NodeRow>],
-    order: &BlockList<u32>,
+    order: &Order,
     folder: u64,
     name: &str,
 ) -> (Result<Place, Place>, usize)
     requires slots { AreSlots 0 slots.now }
     requires order { IsOrder (rows_of slots.now) (entries_of order.now.runs) }
+    requires entries { AreOwn (rows_of slots.now) order.now }
     requires few { length (entries_of order.now.runs) < most_nodes }
     ensures entry { IfOk result.0 (λ place. IsEntry order.now.runs place) }
     ensures named { IfOk result.0 (λ place. IsNamed (rows_of slots.now) (entries_of order.now.runs) folder name.now (index_of order.now.runs place)) }
@@ -120,17 +159,18 @@ pub fn place_of(
     ensures some { OnOk result.0 (1 ≤ result.1) }
     ensures looks { result.1 ≤ 21 }
 {
-    let (found, heads) = runs_before(slots, order, folder, name);
+    let prefix = fold_prefix(name);
+    let (found, heads) = runs_before(slots, order, folder, prefix, name);
     match found {
         Ok(run) => {
             // No run is empty.
-            let _numbers = order.run(run);
+            let _entries = order.run(run);
             (Ok(Place { run, offset: 0 }), heads)
         }
         Err(0) => (Err(Place { run: 0, offset: 0 }), heads),
         Err(count) => {
             let run = count - 1;
-            let (found, looks) = offset_of(slots, order, run, folder, name);
+            let (found, looks) = offset_of(slots, order, run, folder, prefix, name);
             match found {
                 Ok(offset) => (Ok(Place { run, offset }), heads + looks),
                 Err(offset) => (Err(Place { run, offset }), heads + looks),
@@ -143,13 +183,14 @@ pub fn place_of(
 /// stand. It takes a look, at the folder if there is no other node, and no more than 21.
 pub fn search<L: Ledger>(
     slots: &[Option<NodeRow>],
-    order: &BlockList<u32>,
+    order: &Order,
     folder: u32,
     name: &str,
     steps: &mut Steps<L>,
 ) -> Result<Place, Place>
     requires slots { AreSlots 0 slots.now }
     requires order { IsOrder (rows_of slots.now) (entries_of order.now.runs) }
+    requires entries { AreOwn (rows_of slots.now) order.now }
     requires few { length (entries_of order.now.runs) < most_nodes }
     ensures entry { IfOk result (λ place. IsEntry order.now.runs place) }
     ensures gap { IfErr result (λ place. IsGap order.now.runs place) }
@@ -167,9 +208,10 @@ pub fn search<L: Ledger>(
 
 /// The place in the order from which the folders have this number or greater ones. It gives too at how many nodes
 /// it looked: at no more than 21.
-pub fn first_from(slots: &[Option<NodeRow>], order: &BlockList<u32>, folder: u64) -> (Place, usize)
+pub fn first_from(slots: &[Option<NodeRow>], order: &Order, folder: u64) -> (Place, usize)
     requires slots { AreSlots 0 slots.now }
     requires order { IsOrder (rows_of slots.now) (entries_of order.now.runs) }
+    requires entries { AreOwn (rows_of slots.now) order.now }
     requires few { length (entries_of order.now.runs) < most_nodes }
     ensures gap { IsGap order.now.runs result.0 }
     ensures place { IsPlace (rows_of slots.now) (entries_of order.now.runs) folder [] (index_of order.now.runs result.0) }
@@ -182,17 +224,18 @@ pub fn first_from(slots: &[Option<NodeRow>], order: &BlockList<u32>, folder: u64
     }
 }
 
-/// The number that stands at a place, if that isn't the end.
-pub fn number_at(order: &BlockList<u32>, place: Place) -> Option<u32>
+/// The entry that stands at a place, if that isn't the end.
+pub fn entry_at(order: &Order, place: Place) -> Option<Entry>
     requires { IsGap order.now.runs place }
-    ensures { result ≡ slice_get (entries_of order.now.runs) (index_of order.now.runs place) }
+    ensures number { option_map number_in result ≡ slice_get (entries_of order.now.runs) (index_of order.now.runs place) }
+    ensures listed { IfSome result (Contains order.now.entries) }
 {
     if order.run_count() == 0 {
         return None;
     }
-    let numbers = order.run(place.run);
-    if place.offset < numbers.len() {
-        return Some(numbers[place.offset]);
+    let entries = order.run(place.run);
+    if place.offset < entries.len() {
+        return Some(entries[place.offset]);
     }
     let next = place.run + 1;
     if next < order.run_count() {
@@ -202,15 +245,27 @@ pub fn number_at(order: &BlockList<u32>, place: Place) -> Option<u32>
     }
 }
 
+/// The number that stands at a place, if that isn't the end.
+pub fn number_at(order: &Order, place: Place) -> Option<u32>
+    requires { IsGap order.now.runs place }
+    ensures { result ≡ slice_get (entries_of order.now.runs) (index_of order.now.runs place) }
+{
+    match entry_at(order, place) {
+        Some(entry) => Some(entry.node),
+        None => None,
+    }
+}
+
 /// Whether a folder has a child. It looks at no more than 22 nodes.
 pub fn has_child<L: Ledger>(
     slots: &[Option<NodeRow>],
-    order: &BlockList<u32>,
+    order: &Order,
     folder: u32,
     steps: &mut Steps<L>,
 ) -> bool
     requires slots { AreSlots 0 slots.now }
     requires order { IsOrder (rows_of slots.now) (entries_of order.now.runs) }
+    requires entries { AreOwn (rows_of slots.now) order.now }
     requires few { length (entries_of order.now.runs) < most_nodes }
     ensures value { result ≡ not (length (children (rows_of slots.now) folder) == 0) }
     ensures looks { steps.new ≤ steps.old + 22 }

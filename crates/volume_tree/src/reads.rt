@@ -1,11 +1,10 @@
 //! Reads of nodes. Each is counted as one look, but for those that only tell in which folder a node stands: the calls
 //! that find a folder's children by them count themselves.
 
-ghost use Rattle.std.specs.Prelude.{◌≡◌, ◌+◌, ◌<◌, true, Some};
+ghost use Rattle.std.specs.Prelude.{◌≡◌, ◌+◌, true, Some};
 ghost use Rattle.fsrm_base.specs.Keyed.{has_row};
-ghost use Rattle.fsrm_model.specs.Limits.{most_nodes};
 ghost use Rattle.fsrm_model.specs.Tree.{number as key, node_of};
-ghost use Rattle.volume_tree.specs.Kept.{AreSlots, IsIn, rows_of};
+ghost use Rattle.volume_tree.specs.Kept.{AreSlots, HasName, IsIn, rows_of};
 
 use crate::slots::row;
 use fsrm_model::{Ledger, NodeRow, Steps};
@@ -19,16 +18,13 @@ fn row_at(slots: &[Option<NodeRow>], number: u32) -> &NodeRow
     row(slots, number).unwrap()
 }
 
-/// A node that is there. It takes one look, which is counted with those of the same search.
-pub fn entry<'a>(slots: &'a [Option<NodeRow>], number: u32, looks: &mut usize) -> &'a NodeRow
+/// The name of a node that is there. It takes no look of its own.
+pub fn name_at(slots: &[Option<NodeRow>], number: u32) -> &str
     requires slots { AreSlots 0 slots.now }
     requires there { has_row key number (rows_of slots.now) ≡ true }
-    requires few { looks.old < most_nodes }
-    ensures node { node_of (rows_of slots.now) number ≡ Some result.now }
-    ensures count { looks.new ≡ looks.old + 1 }
+    ensures { HasName (rows_of slots.now) number result.now }
 {
-    *looks += 1;
-    row_at(slots, number)
+    row_at(slots, number).name.as_str()
 }
 
 /// The folder of a node that is there. It takes no look of its own.

@@ -8,13 +8,14 @@ ghost use Rattle.fsrm_base.specs.Keyed.{has_row, is_ascending};
 ghost use Rattle.fsrm_model.specs.Tree.{number as key, parent_of, is_folder, is_under, name_bytes};
 ghost use Rattle.fsrm_model.specs.Valid.{is_tree, is_moment, is_own, is_root_node};
 ghost use Rattle.block_list.specs.Runs.{entries_of};
+ghost use Rattle.volume_tree.specs.Entries.{AreOwn, entry_of};
 ghost use Rattle.volume_tree.specs.Kept.{AreSlots, IsKept, IsOrder, inner, is_before, rows_of};
 ghost use Rattle.volume_tree.specs.Sound.{AreMarks, HasTwins, Reaches, are_from, are_sound, is_placed};
 ghost use Rattle.fsrm_model.specs.Capacities.{is_capacity};
 
 use crate::answer::RowsFault;
+use crate::entries::{Entry, Order};
 use crate::slots::{holes_in, row};
-use block_list::BlockList;
 use fsrm_model::limits::{LATEST_MOMENT, LONGEST_FILE};
 use fsrm_model::{Capacity, Duplicate, Ledger, List, NoMemory, NodeRow, Steps};
 use name_rules::{fold_cmp, is_name};
@@ -47,8 +48,8 @@ pub fn copies<L: Ledger>(
 pub struct Parts {
     /// Each row in the slot of its number.
     pub slots: Vec<Option<NodeRow>>,
-    /// The numbers of all rows but the root, by folders and in each by folded names.
-    pub order: BlockList<u32>,
+    /// The entries of all rows but the root, by folders and in each by folded names.
+    pub order: Order,
     /// How many rows there are, and the bytes of all their names.
     pub count: u32,
     pub used: u32,
@@ -323,12 +324,13 @@ fn name_bytes(rows: &[NodeRow], most: u32) -> Option<u32>
     Some(most - left as u32)
 }
 
-// The numbers of all rows but the root in the order of their places, with room for so many. The rows are bad exactly
+// The entries of all rows but the root in the order of their places, with room for so many. The rows are bad exactly
 // if two children of a folder have one name.
-fn order_of(alloc: Global, rows: &[NodeRow], room: u32) -> Result<BlockList<u32>, RowsFault>
+fn order_of(alloc: Global, rows: &[NodeRow], room: u32) -> Result<Order, RowsFault>
     requires ascending { is_ascending key rows.now ≡ true }
     requires room { length rows.now ≤ room }
     ensures order { IfOk result (λ order. IsOrder rows.now (entries_of order.runs)) }
+    ensures entries { IfOk result (λ order. AreOwn rows.now order) }
     ensures room { IfOk result (λ order. order.room ≡ room) }
     ensures bad { IsErrOf result RowsFault.BadRows → HasTwins rows.now }
 {
@@ -339,7 +341,7 @@ fn order_of(alloc: Global, rows: &[NodeRow], room: u32) -> Result<BlockList<u32>
     if !are_apart(&entries) {
         return Err(RowsFault::BadRows);
     }
-    match numbers(alloc, &entries, room) {
+    match listed(alloc, &entries, room) {
         Ok(order) => Ok(order),
         Err(NoMemory) => Err(RowsFault::NoMemory),
     }
@@ -378,14 +380,21 @@ fn are_apart(entries: &[&NodeRow]) -> bool
     entries.is_sorted_by(|a, b| compare(a, b).is_lt())
 }
 
-// The numbers of these rows, with room for so many.
-fn numbers(alloc: Global, entries: &[&NodeRow], room: u32) -> Result<BlockList<u32>, NoMemory>
-    requires { length entries.now ≤ room }
-    ensures numbers { IfOk result (λ order. entries_of order.runs ≡ map (λ row. row.now.number) entries.now) }
+// The entries of these rows, with room for so many.
+fn listed(alloc: Global, rows: &[&NodeRow], room: u32) -> Result<Order, NoMemory>
+    requires { length rows.now ≤ room }
+    ensures numbers { IfOk result (λ order. entries_of order.runs ≡ map (λ row. row.now.number) rows.now) }
+    ensures entries { IfOk result (λ order. order.entries ≡ map (λ row. entry_of row.now) rows.now) }
     ensures room { IfOk result (λ order. order.room ≡ room) }
 {
-    let numbers: Vec<u32> = entries.iter().map(|row| row.number).collect(alloc)?;
-    let mut order = BlockList::reserve(alloc, room)?;
-    order.extend_from_slice(&numbers);
+    let entries: Vec<Entry> = rows.iter().map(|row| entry(row)).collect(alloc)?;
+    let mut order = Order::reserve(alloc, room)?;
+    order.extend_from_slice(&entries);
     Ok(order)
+}
+
+fn entry(row: &NodeRow) -> Entry
+    ensures { result ≡ entry_of row.now }
+{
+    Entry::at(row.number, row.parent, row.name.as_str())
 }

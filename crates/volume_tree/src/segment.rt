@@ -5,17 +5,19 @@ ghost use Rattle.fsrm_model.specs.Limits.{most_nodes};
 ghost use Rattle.fsrm_model.specs.Tree.{children};
 ghost use Rattle.block_list.specs.Places.{IsGap, index_of};
 ghost use Rattle.block_list.specs.Runs.{entries_of};
+ghost use Rattle.volume_tree.specs.Entries.{AreOwn};
 ghost use Rattle.volume_tree.specs.Kept.{AreSlots, IsOrder, IsPlace, IsSegment, rows_of};
 ghost use Rattle.volume_tree.specs.Volume.{IsChildAt};
 
+use crate::entries::Order;
 use crate::order::{first_from, number_at};
 use crate::reads::folder_at;
-use block_list::{BlockList, Place};
+use block_list::Place;
 use fsrm_model::NodeRow;
 
 // Whether a place is known to be the one from which the folders have this number or greater ones: one in a run, not
 // at its beginning.
-fn is_first(slots: &[Option<NodeRow>], order: &BlockList<u32>, folder: u64, place: Place) -> bool
+fn is_first(slots: &[Option<NodeRow>], order: &Order, folder: u64, place: Place) -> bool
     requires slots { AreSlots 0 slots.now }
     requires order { IsOrder (rows_of slots.now) (entries_of order.now.runs) }
     ensures gap { result ≡ true → IsGap order.now.runs place }
@@ -24,11 +26,11 @@ fn is_first(slots: &[Option<NodeRow>], order: &BlockList<u32>, folder: u64, plac
     if place.run >= order.run_count() {
         return false;
     }
-    let numbers = order.run(place.run);
-    if place.offset == 0 || place.offset > numbers.len() {
+    let entries = order.run(place.run);
+    if place.offset == 0 || place.offset > entries.len() {
         return false;
     }
-    if u64::from(folder_at(slots, numbers[place.offset - 1])) >= folder {
+    if u64::from(folder_at(slots, entries[place.offset - 1].node)) >= folder {
         return false;
     }
     match number_at(order, place) {
@@ -38,9 +40,10 @@ fn is_first(slots: &[Option<NodeRow>], order: &BlockList<u32>, folder: u64, plac
 }
 
 // The place from which the folders have this number or greater ones, sought first at another place.
-fn first_near(slots: &[Option<NodeRow>], order: &BlockList<u32>, folder: u64, near: Place) -> Place
+fn first_near(slots: &[Option<NodeRow>], order: &Order, folder: u64, near: Place) -> Place
     requires slots { AreSlots 0 slots.now }
     requires order { IsOrder (rows_of slots.now) (entries_of order.now.runs) }
+    requires entries { AreOwn (rows_of slots.now) order.now }
     requires few { length (entries_of order.now.runs) < most_nodes }
     ensures gap { IsGap order.now.runs result }
     ensures place { IsPlace (rows_of slots.now) (entries_of order.now.runs) folder [] (index_of order.now.runs result) }
@@ -54,14 +57,10 @@ fn first_near(slots: &[Option<NodeRow>], order: &BlockList<u32>, folder: u64, ne
 
 /// From where to where in the order a folder's children stand. They are found at once if they begin at the place
 /// where they are sought first.
-pub fn segment(
-    slots: &[Option<NodeRow>],
-    order: &BlockList<u32>,
-    folder: u32,
-    near: Place,
-) -> (Place, Place)
+pub fn segment(slots: &[Option<NodeRow>], order: &Order, folder: u32, near: Place) -> (Place, Place)
     requires slots { AreSlots 0 slots.now }
     requires order { IsOrder (rows_of slots.now) (entries_of order.now.runs) }
+    requires entries { AreOwn (rows_of slots.now) order.now }
     requires few { length (entries_of order.now.runs) < most_nodes }
     ensures first { IsGap order.now.runs result.0 }
     ensures end { IsGap order.now.runs result.1 }
@@ -74,7 +73,7 @@ pub fn segment(
 }
 
 /// How many entries stand from one place to another, which isn't before it. It passes each run between them.
-pub fn between(order: &BlockList<u32>, first: Place, end: Place) -> usize
+pub fn between(order: &Order, first: Place, end: Place) -> usize
     requires first { IsGap order.now.runs first }
     requires end { IsGap order.now.runs end }
     requires ordered { index_of order.now.runs first ≤ index_of order.now.runs end }
@@ -92,9 +91,10 @@ pub fn between(order: &BlockList<u32>, first: Place, end: Place) -> usize
 }
 
 /// How many children a folder has.
-pub fn child_count(slots: &[Option<NodeRow>], order: &BlockList<u32>, folder: u32) -> usize
+pub fn child_count(slots: &[Option<NodeRow>], order: &Order, folder: u32) -> usize
     requires slots { AreSlots 0 slots.now }
     requires order { IsOrder (rows_of slots.now) (entries_of order.now.runs) }
+    requires entries { AreOwn (rows_of slots.now) order.now }
     requires few { length (entries_of order.now.runs) < most_nodes }
     ensures { result ≡ length (children (rows_of slots.now) folder) }
 {
@@ -105,9 +105,10 @@ pub fn child_count(slots: &[Option<NodeRow>], order: &BlockList<u32>, folder: u3
 }
 
 /// The number of the child at a place among a folder's children. It passes each run before it.
-pub fn child_at(slots: &[Option<NodeRow>], order: &BlockList<u32>, folder: u32, place: u32) -> u32
+pub fn child_at(slots: &[Option<NodeRow>], order: &Order, folder: u32, place: u32) -> u32
     requires slots { AreSlots 0 slots.now }
     requires order { IsOrder (rows_of slots.now) (entries_of order.now.runs) }
+    requires entries { AreOwn (rows_of slots.now) order.now }
     requires few { length (entries_of order.now.runs) < most_nodes }
     requires place { place < length (children (rows_of slots.now) folder) }
     ensures { IsChildAt (rows_of slots.now) folder place result }

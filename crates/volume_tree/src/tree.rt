@@ -16,11 +16,11 @@ ghost use Rattle.volume_tree.specs.Volume.{IsFault, IsChildAt, Shows, new_fault,
 use crate::answer::{NodeView, RowsFault, TreeFault};
 use crate::children::Children;
 use crate::climb::is_at_or_below;
+use crate::entries::Order;
 use crate::entry::own_place;
 use crate::finger::Finger;
 use crate::hints::Hints;
 use crate::{lookup, order, rows, segment, slots};
-use block_list::BlockList;
 use fsrm_model::{Capacity, Ledger, List, NoMemory, NodeRow, Path, Steps, allocated};
 use number_set::NumberSet;
 use std::alloc::Global;
@@ -40,8 +40,8 @@ pub struct Tree {
     pub(crate) slots: Vec<Option<NodeRow>>,
     // The numbers of the slots that are empty.
     pub(crate) holes: NumberSet,
-    // The numbers of all nodes but the root, by folders and in each by folded names, with room for all nodes.
-    pub(crate) order: BlockList<u32>,
+    // The entries of all nodes but the root, by folders and in each by folded names, with room for all nodes.
+    pub(crate) order: Order,
     // Where a name is looked for first. Nothing rests on it.
     pub(crate) hints: Hints,
     pub(crate) alloc: Global,
@@ -68,7 +68,7 @@ impl Tree {
     {
         let slots = slots::root_alone(alloc)?;
         let holes = NumberSet::reserve(alloc, size.nodes)?;
-        let order = BlockList::reserve(alloc, size.nodes)?;
+        let order = Order::reserve(alloc, size.nodes)?;
         Ok(Tree {
             size,
             count: 1,

@@ -4,12 +4,15 @@ ghost use Rattle.std.specs.Prelude.{◌≡◌, ◌+◌, ◌<◌, ◌≤◌, true
 ghost use Rattle.fsrm_model.specs.Limits.{most_nodes};
 ghost use Rattle.block_list.specs.Places.{IsGap, index_of};
 ghost use Rattle.block_list.specs.Runs.{entries_of};
+ghost use Rattle.name_rules.specs.Prefix.{prefix as prefix_of};
+ghost use Rattle.volume_tree.specs.Entries.{AreOwn};
 ghost use Rattle.volume_tree.specs.Kept.{AreSlots, IsFloor, IsOrder, IsPlace, rows_of};
 
-use crate::order::{compare, number_at, search};
-use crate::reads::node;
-use block_list::{BlockList, Place};
+use crate::entries::Order;
+use crate::order::{entry_at, is_before, search};
+use block_list::Place;
 use fsrm_model::{Ledger, NodeRow, Steps};
+use name_rules::fold_prefix;
 
 /// A place among a volume's nodes where a name was sought that a folder hasn't. A node of the name is made there, if
 /// that is still its place; what is made is the same wherever a vacancy is.
@@ -38,14 +41,17 @@ impl Vacancy {
 // Whether what stands in front of a place is known to come before a name in a folder. It takes a look at most.
 fn is_floor<L: Ledger>(
     slots: &[Option<NodeRow>],
-    order: &BlockList<u32>,
+    order: &Order,
     folder: u32,
+    prefix: u64,
     name: &str,
     place: Place,
     steps: &mut Steps<L>,
 ) -> bool
     requires slots { AreSlots 0 slots.now }
     requires order { IsOrder (rows_of slots.now) (entries_of order.now.runs) }
+    requires entries { AreOwn (rows_of slots.now) order.now }
+    requires prefix { prefix ≡ prefix_of name.now }
     ensures gap { result ≡ true → IsGap order.now.runs place }
     ensures floor { result ≡ true → IsFloor (rows_of slots.now) (entries_of order.now.runs) folder name.now (index_of order.now.runs place) }
     ensures looks { steps.new ≤ steps.old + 1 }
@@ -56,34 +62,38 @@ fn is_floor<L: Ledger>(
     if place.run >= order.run_count() {
         return false;
     }
-    let numbers = order.run(place.run);
-    if place.offset > numbers.len() {
+    let entries = order.run(place.run);
+    if place.offset > entries.len() {
         return false;
     }
-    let row = node(slots, numbers[place.offset - 1], steps);
-    compare(row, u64::from(folder), name).is_lt()
+    steps.tick();
+    let entry = entries[place.offset - 1];
+    is_before(slots, entry, u64::from(folder), prefix, name).unwrap_or(false)
 }
 
 // Whether what stands at such a place, if anything does, doesn't come before the name. It takes a look at most.
 fn is_met<L: Ledger>(
     slots: &[Option<NodeRow>],
-    order: &BlockList<u32>,
+    order: &Order,
     folder: u32,
+    prefix: u64,
     name: &str,
     place: Place,
     steps: &mut Steps<L>,
 ) -> bool
     requires slots { AreSlots 0 slots.now }
     requires order { IsOrder (rows_of slots.now) (entries_of order.now.runs) }
+    requires entries { AreOwn (rows_of slots.now) order.now }
+    requires prefix { prefix ≡ prefix_of name.now }
     requires gap { IsGap order.now.runs place }
     requires floor { IsFloor (rows_of slots.now) (entries_of order.now.runs) folder name.now (index_of order.now.runs place) }
     ensures place { result ≡ true → IsPlace (rows_of slots.now) (entries_of order.now.runs) folder name.now (index_of order.now.runs place) }
     ensures looks { steps.new ≤ steps.old + 1 }
 {
-    match number_at(order, place) {
-        Some(number) => {
-            let row = node(slots, number, steps);
-            !compare(row, u64::from(folder), name).is_lt()
+    match entry_at(order, place) {
+        Some(entry) => {
+            steps.tick();
+            !is_before(slots, entry, u64::from(folder), prefix, name).unwrap_or(false)
         }
         None => true,
     }
@@ -92,7 +102,7 @@ fn is_met<L: Ledger>(
 // Whether a place is known to be that of a name in a folder. It takes no more than two looks.
 fn is_place<L: Ledger>(
     slots: &[Option<NodeRow>],
-    order: &BlockList<u32>,
+    order: &Order,
     folder: u32,
     name: &str,
     place: Place,
@@ -100,21 +110,23 @@ fn is_place<L: Ledger>(
 ) -> bool
     requires slots { AreSlots 0 slots.now }
     requires order { IsOrder (rows_of slots.now) (entries_of order.now.runs) }
+    requires entries { AreOwn (rows_of slots.now) order.now }
     ensures gap { result ≡ true → IsGap order.now.runs place }
     ensures place { result ≡ true → IsPlace (rows_of slots.now) (entries_of order.now.runs) folder name.now (index_of order.now.runs place) }
     ensures looks { steps.new ≤ steps.old + 2 }
 {
-    if !is_floor(slots, order, folder, name, place, steps) {
+    let prefix = fold_prefix(name);
+    if !is_floor(slots, order, folder, prefix, name, place, steps) {
         return false;
     }
-    is_met(slots, order, folder, name, place, steps)
+    is_met(slots, order, folder, prefix, name, place, steps)
 }
 
 /// Where a name of a folder stands in the order, or is to stand, sought first at a place. It looks at no more than 23
 /// nodes.
 pub fn new_place<L: Ledger>(
     slots: &[Option<NodeRow>],
-    order: &BlockList<u32>,
+    order: &Order,
     folder: u32,
     name: &str,
     near: Place,
@@ -122,6 +134,7 @@ pub fn new_place<L: Ledger>(
 ) -> Place
     requires slots { AreSlots 0 slots.now }
     requires order { IsOrder (rows_of slots.now) (entries_of order.now.runs) }
+    requires entries { AreOwn (rows_of slots.now) order.now }
     requires few { length (entries_of order.now.runs) < most_nodes }
     ensures gap { IsGap order.now.runs result }
     ensures place { IsPlace (rows_of slots.now) (entries_of order.now.runs) folder name.now (index_of order.now.runs result) }

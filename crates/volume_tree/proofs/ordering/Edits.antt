@@ -1,5 +1,5 @@
 -- Lists into which an item was put, or from which one was taken.
-use Rattle.std.proofs.Common.{◌≡◌, ℕ, zero, suc, ◌+◌, ◌<◌, ◌≤◌, nat_lt, Bool, true, false, cond, AllPairs, ◌⊎◌, inl, inr, List, [], ◌∷◌, length, get_or, insert, remove, map, filter, IsPermutation, refl, sym, ◌∙◌, ap, subst, arith}
+use Rattle.std.proofs.Common.{◌≡◌, ℕ, zero, suc, ◌+◌, ◌<◌, ◌≤◌, nat_lt, Bool, true, false, cond, All, AllPairs, ◌⊎◌, inl, inr, List, [], ◌∷◌, length, get_or, insert, remove, map, filter, IsPermutation, refl, sym, ◌∙◌, ap, subst, arith}
 use Rattle.std.proofs.lemmas.Bool.{cases_lt}
 use Rattle.std.proofs.lemmas.List.Edits.{length-insert, get_or-insert_below, get_or-insert_at, get_or-insert_above, get_or-remove_below, get_or-remove_above}
 use Rattle.std.proofs.lemmas.List.Sorted.{IsPermutation-refl, IsPermutation-cons, IsPermutation-trans, IsPermutation-middle}
@@ -56,6 +56,16 @@ pairs_insert R xs p x l h below above i j d m n =
         | inr (inl v) ↦ absurd (omega arith)
         | inr (inr v) ↦ rw (u.3, v.3) (h u.0 v.0 d (omega arith) (omega arith))
       ]
+    ]
+
+pub all_insert : {X : Type 0} (P : X → Type 0) (xs : List X) (p : ℕ) (x : X) → p ≤ length xs → P x → All P xs → All P (insert xs p x)
+all_insert P xs p x l own all i d m =
+    let size : length (insert xs p x) ≡ length xs + 1 = length-insert xs p x l in
+    let a = inserted xs p x d i l in
+    elim a.cases [
+      | inl u ↦ subst P (sym u.1) (all i d (omega (arith, u.0, l)))
+      | inr (inl u) ↦ subst P (sym u.1) own
+      | inr (inr u) ↦ subst P (sym u.3) (all u.0 d (omega (arith, u.2, m, size)))
     ]
 
 -- what stands at a place after an item was taken out

@@ -72,7 +72,7 @@ pairs-map R f (x ∷ xs) h =
     rw (ei, ej) (h i j x l (omega arith))
 
 -- rows of inner nodes, in any order, are found by their numbers
-inner_found : (nodes entries : List NodeRow) → is_ascending number nodes ≡ true → IsPermutation (inner nodes) entries → All (λ (r : NodeRow). node_of nodes r.number ≡ Some r) entries
+pub inner_found : (nodes entries : List NodeRow) → is_ascending number nodes ≡ true → IsPermutation (inner nodes) entries → All (λ (r : NodeRow). node_of nodes r.number ≡ Some r) entries
 inner_found nodes entries a p =
     All-permutation (λ (r : NodeRow). node_of nodes r.number ≡ Some r) (inner nodes) entries p
     (All-filter (λ (r : NodeRow). not (r.number == 0)) (λ (r : NodeRow). node_of nodes r.number ≡ Some r) nodes (rows_found number nodes a))

@@ -1,6 +1,7 @@
 -- A search in the order that halves.
 use Rattle.std.proofs.Common.{◌≡◌, ℕ, zero, suc, ◌+◌, ◌-◌, ◌/◌, ◌^◌, ◌<◌, ◌≤◌, ◌==◌, ◌&&◌, ◌||◌, nat_lt, Bool, true, false, List, [], length, refl, sym, ◌∙◌, ap, subst, arith, pow-suc}
 use Rattle.std.proofs.lemmas.Bool.Decides.{nat_tests}
+use Rattle.std.specs.Prelude.{if◌then◌else◌}
 use Rattle.fsrm_model.specs.declared.row.NodeRow.{NodeRow}
 use Rattle.fsrm_model.specs.Fresh.{root_node}
 use Rattle.volume_tree.specs.Kept.{IsOrder, is_before}
@@ -33,13 +34,9 @@ few_more most size more looks h s m =
     let e : most - looks - 1 ≡ most - (looks + 1) = omega arith in
     record { few = omega (arith, less.0); left = subst (λ n. more < 2 ^ n) e less.1 }
 
-pub few_above : (most low high looks now : ℕ) → IsFew most (high - low) looks → low < high → now ≡ looks + 1 → IsFew most (high - (low + (high - low) / 2 + 1)) now
-few_above most low high looks now h l e =
-    subst (IsFew most (high - (low + (high - low) / 2 + 1))) (sym e) (few_more most (high - low) (high - (low + (high - low) / 2 + 1)) looks h (omega arith) (omega arith))
-
-pub few_below : (most low high looks now : ℕ) → IsFew most (high - low) looks → low < high → now ≡ looks + 1 → IsFew most (low + (high - low) / 2 - low) now
-few_below most low high looks now h l e =
-    subst (IsFew most (low + (high - low) / 2 - low)) (sym e) (few_more most (high - low) (low + (high - low) / 2 - low) looks h (omega arith) (omega arith))
+pub few_halved : (most size looks left : ℕ) (before : Bool) → IsFew most size looks → 0 < size → left ≡ (if before then size - size / 2 - 1 else size / 2) → IsFew most left (looks + 1)
+few_halved most size looks left true h s e = few_more most size left looks h s (omega (arith, e))
+few_halved most size looks left false h s e = few_more most size left looks h s (omega (arith, e))
 
 -- and where something is left there may be one more
 pub few_one : (most size looks : ℕ) → IsFew most size looks → 0 < size → looks + 1 ≤ most

@@ -15,7 +15,7 @@ use Rattle.block_list.proofs.Joined.{entries_more, entries_place, run_within}
 use Rattle.volume_tree.specs.Kept.{IsOrder, IsPlace, IsFloor, IsLeft, is_before, numbers_from}
 use Rattle.volume_tree.proofs.ordering.Children.{has_there}
 use Rattle.volume_tree.proofs.ordering.Entries.{there}
-use Rattle.volume_tree.proofs.ordering.Spans.{first_at, floor_first, floor_past}
+use Rattle.volume_tree.proofs.ordering.Spans.{first_at, floor_past}
 
 -- a number of the order is that of a node
 pub entry_has : (nodes : List NodeRow) (order : List ℕ) (k n : ℕ) → is_ascending number nodes ≡ true → IsOrder nodes order → slice_get order k ≡ Some n → has_row number n nodes ≡ true
@@ -73,16 +73,6 @@ pub past_end : (xs : List ℕ) (k : ℕ) → k ≤ length xs → slice_get xs k 
 past_end [] k l e = omega arith
 past_end (x ∷ xs) zero l e = cc
 past_end (x ∷ xs) (suc k) l e = let rest = past_end xs k (omega arith) e in omega (arith, rest)
-
--- before the first run nothing stands
-pub first_gap : (runs : List (List ℕ)) (place : Place) → place.run ≡ 0 → place.offset ≡ 0 → IsGap runs place
-first_gap runs place r o = record { run = omega arith; offset = omega arith }
-
-pub first_floor : (nodes : List NodeRow) (runs : List (List ℕ)) (folder : ℕ) (name : List ℕ) (place : Place) → place.run ≡ 0 → place.offset ≡ 0 → IsFloor nodes (entries_of runs) folder name (index_of runs place)
-first_floor nodes runs folder name place r o =
-    let start : start_of runs place.run ≡ 0 = ap (start_of runs) r in
-    let is : 0 ≡ index_of runs place = omega (arith, start) in
-    subst (IsFloor nodes (entries_of runs) folder name) is (floor_first nodes (entries_of runs) folder name)
 
 pub has_read : (nodes : List NodeRow) (order : List ℕ) (folder place n : ℕ) (row : NodeRow) (h : IsOrder nodes order) → is_ascending number nodes ≡ true → IsPlace nodes order folder [] place → slice_get order place ≡ Some n → node_of nodes n ≡ Some row → (row.parent == folder) ≡ not (length (children nodes folder) == 0)
 has_read nodes order folder place n row h a p e f =

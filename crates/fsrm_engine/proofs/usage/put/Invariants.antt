@@ -1,11 +1,11 @@
 use Rattle.std.proofs.Common.{◌≡◌, ◌+◌, ◌++◌, length}
 use Rattle.fsrm_engine.proofs.usage.put.Given as goal
 
-abbrev pub invariant-loop-numbers : goal.invariant-loop-numbers
-invariant-loop-numbers g l = record {
+abbrev pub invariant-loop-siblings : goal.invariant-loop-siblings
+invariant-loop-siblings g l = record {
   items : l.pending.items ++ l.children ≡ l.fn.pending.items ++ l.fn.children;
   looks : l.steps + length l.children ≡ l.fn.steps + length l.fn.children;
 }
 
-abbrev pub decreases-loop-numbers : goal.decreases-loop-numbers
-decreases-loop-numbers g l = length l.children
+abbrev pub decreases-loop-siblings : goal.decreases-loop-siblings
+decreases-loop-siblings g l = length l.children

@@ -11,7 +11,7 @@ gap_at-place-requires c =
     let runs = c.args.order.now.runs in
     let from = c.args.from in
     let below : index_of runs from < length (entries_of runs) = entries_before runs from.run from.offset c.requires.from.run c.requires.from.offset in
-    let less = ap length c.remove.ensures.entries in
+    let less = ap length c.remove.ensures.numbers in
     let size = length-remove (entries_of runs) (index_of runs from) below in
     let to = gap_within runs c.args.to c.requires.to in
     elim c.if-old-new.branch [
@@ -24,4 +24,4 @@ insert-requires-clause-room c =
     let runs = c.args.order.now.runs in
     let from = c.args.from in
     let below : index_of runs from < length (entries_of runs) = entries_before runs from.run from.offset c.requires.from.run c.requires.from.offset in
-    omega (arith, below, ap length c.remove.ensures.entries, length-remove (entries_of runs) (index_of runs from) below, c.requires.room, c.remove.ensures.room)
+    omega (arith, below, ap length c.remove.ensures.numbers, length-remove (entries_of runs) (index_of runs from) below, c.requires.room, c.remove.ensures.room)

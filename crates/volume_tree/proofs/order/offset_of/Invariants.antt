@@ -1,18 +1,11 @@
-use Rattle.std.proofs.Common.{◌+◌, ◌-◌, ◌≤◌, length}
+use Rattle.std.proofs.Common.{length}
 use Rattle.block_list.specs.Runs.{entries_of, start_of}
-use Rattle.volume_tree.specs.Kept.{IsBeyond, IsFloor, rows_of}
-use Rattle.volume_tree.proofs.ordering.Halving.{IsFew}
+use Rattle.volume_tree.specs.Kept.{rows_of}
+use Rattle.volume_tree.proofs.ordering.Narrowed.{AreEntriesLeft}
 use Rattle.volume_tree.proofs.order.offset_of.Given as goal
 
-abbrev pub invariant-loop-low : goal.invariant-loop-low
-invariant-loop-low l = record {
-  begun : 1 ≤ l.low;
-  ordered : l.low ≤ l.high;
-  within : l.high ≤ length l.numbers;
-  floor : IsFloor (rows_of l.slots) (entries_of l.order.runs) l.folder l.name (start_of l.order.runs l.run + l.low);
-  beyond : IsBeyond (rows_of l.slots) (entries_of l.order.runs) l.folder l.name (start_of l.order.runs l.run + l.high);
-  few : IsFew 8 (l.high - l.low) l.looks;
-}
+abbrev pub invariant-loop-size : goal.invariant-loop-size
+invariant-loop-size l = AreEntriesLeft (rows_of l.slots) (entries_of l.order.runs) l.folder l.name (start_of l.order.runs l.run) (length l.entries) l.low l.size l.looks
 
-abbrev pub decreases-loop-low : goal.decreases-loop-low
-decreases-loop-low l = l.high - l.low
+abbrev pub decreases-loop-size : goal.decreases-loop-size
+decreases-loop-size l = l.size

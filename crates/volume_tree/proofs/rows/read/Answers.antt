@@ -7,6 +7,7 @@ use Rattle.fsrm_model.proofs.valid.CapacityLaws.{nodes_most}
 use Rattle.fsrm_model.proofs.valid.ValidVolume.{tree_of_volume}
 use Rattle.volume_tree.specs.declared.answer.RowsFault.TheVariants.{BadRows}
 use Rattle.block_list.specs.Runs.{entries_of}
+use Rattle.volume_tree.specs.Entries.{AreOwn}
 use Rattle.volume_tree.specs.Kept.{AreHoles, IsOrder}
 use Rattle.volume_tree.proofs.slotted.FreshLaws.{few_nodes}
 use Rattle.volume_tree.proofs.slotted.FromRows.{passed_on}
@@ -53,6 +54,7 @@ returns-clause-kept c =
       bound_is = c.in-Ok.ensures.bound;
       holes_are = subst (λ (slots : List (Option NodeRow)). AreHoles slots c.in-Ok.holes.members) c.deref.ensures.value c.in-Ok.ensures.holes;
       order_is = subst (λ (rows : List NodeRow). IsOrder rows (entries_of c.in_ok-order.order.runs)) same c.in_ok-order.ensures.order;
+      entries_are = subst (λ (rows : List NodeRow). AreOwn rows c.in_ok-order.order) same c.in_ok-order.ensures.entries;
       room_is = c.in_ok-order.ensures.room;
     }
 

@@ -4,7 +4,10 @@ use Rattle.fsrm_base.specs.Keyed.{has_row, with_row}
 use Rattle.fsrm_model.specs.Tree.{number, fresh, is_folder, child_number}
 use Rattle.volume_tree.specs.Kept.{IsKept, rows_of}
 use Rattle.volume_tree.specs.Volume.{Volume}
-use Rattle.std.specs.Prelude.{max}
+use Rattle.std.specs.Prelude.{insert, max}
+use Rattle.name_rules.specs.Prefix.{prefix}
+use Rattle.volume_tree.specs.Entries.{entry_of}
+use Rattle.volume_tree.specs.declared.entries.Entry.{Entry}
 use Rattle.fsrm_model.specs.Name.{is_name}
 use Rattle.volume_tree.specs.Kept.{AreHoles, IsPlace}
 use Rattle.number_set.specs.Numbers.{Numbers}
@@ -67,13 +70,14 @@ invariant_of-self-2 g c =
     subst (λ (name : List ℕ). IsPlace (rows_of slots) order c.args.folder name at) (sym same)
     (subst (λ (read : List (Option NodeRow)). IsPlace (rows_of read) order c.args.folder name at) c.deref.ensures.value c.new_place-place.ensures.place) in
     let next : n ≡ fresh (rows_of slots) = c.next_number-number.ensures ∙ ap (λ (read : List (Option NodeRow)). fresh (rows_of read)) c.deref-2.ensures.value in
+    let entered : c.at-entry.result ≡ entry_of row = c.at-entry.ensures ∙ ap (λ (bytes : List ℕ). record { prefix = prefix bytes; parent = c.args.folder; node = n }) (sym same) in
     let kept = kept_made i.size i.count i.used i.holes slots c.put.new.slots.items i.order c.insert.new.self row at c.self.invariant next
     (own_new n c.args.folder text new.folder new.length new.owner new.moment (ap is_name same ∙ c.requires.name) c.requires.length c.requires.owner c.requires.moment)
     (ap (λ (v : Volume). is_folder v.nodes c.args.folder) c.self.view_is ∙ c.requires.folder)
     (ap (child_number (rows_of slots) c.args.folder) same ∙ may.alone) (omega (arith, most, count)) (omega (arith, bytes, fits, used)) place c.in_ok-put.ensures.slots
     (c.in_ok-put.ensures.ok ∙ ap (λ (r : NodeRow). with_row number r (rows_of slots)) c.row.ensures)
     (c.in_ok-put.ensures.len ∙ ap (λ (r : NodeRow). max (length slots) (r.number + 1)) c.row.ensures)
-    c.insert.ensures.entries c.insert.ensures.room in
+    (c.insert.ensures.numbers ∙ ap (λ (e : Entry). insert order at e.node) entered) (c.insert.ensures.entries ∙ ap (insert i.order.entries at) entered) c.insert.ensures.room in
     let holes : Numbers = record i.holes { members = without_number n i.holes.members } in
     subst (λ (set : Numbers). IsKept i.size (i.count + 1) (i.used + length name) set c.put.new.slots.items c.insert.new.self) (sym c.remove.ensures)
     (subst (λ (bytes : List ℕ). IsKept i.size (i.count + 1) (i.used + length bytes) holes c.put.new.slots.items c.insert.new.self) same kept)

@@ -50,7 +50,7 @@ invariant_of-self g c =
     let place = c.own_place-bytes.result.0 in
     let leaf : not (length (children (rows_of slots) c.args.node) == 0) ≡ false = ap (λ (slots : List (Option NodeRow)). not (length (children (rows_of slots) c.args.node) == 0)) (sym c.deref.ensures.value) ∙ (sym c.has_child.ensures.value ∙ c.if-has_child.false) in
     let bytes : c.own_place-bytes.result.1 ≡ length (name_of (rows_of slots) c.args.node) = c.own_place-bytes.ensures.bytes ∙ ap (λ (slots : List (Option NodeRow)). length (name_of (rows_of slots) c.args.node)) c.deref-2.ensures.value in
-    let kept = kept_gone i.size i.count i.used i.holes slots c.take_away.new.slots.items i.order c.remove.new.self c.args.node (index_of i.order.runs place) c.self.invariant has c.requires.inner leaf c.own_place-bytes.ensures.place c.take_away.ensures.slots c.take_away.ensures.gone c.take_away.ensures.len c.remove.ensures.entries c.remove.ensures.room in
+    let kept = kept_gone i.size i.count i.used i.holes slots c.take_away.new.slots.items i.order c.remove.new.self c.args.node (index_of i.order.runs place) c.self.invariant has c.requires.inner leaf c.own_place-bytes.ensures.place c.take_away.ensures.slots c.take_away.ensures.gone c.take_away.ensures.len c.remove.ensures.numbers c.remove.ensures.entries c.remove.ensures.room in
     let holes : Numbers = record i.holes { members = with_number c.args.node i.holes.members } in
     subst (λ (set : Numbers). IsKept i.size (i.count - 1) (i.used - c.own_place-bytes.result.1) set c.take_away.new.slots.items c.remove.new.self) (sym c.insert.ensures)
     (subst (λ (n : ℕ). IsKept i.size (i.count - 1) (i.used - n) holes c.take_away.new.slots.items c.remove.new.self) (sym bytes) kept)

@@ -1,0 +1,37 @@
+-- The entries of nodes in the order of their places.
+use Rattle.std.specs.Prelude.{◌≡◌, ℕ, List, All, Some, map}
+use Rattle.fsrm_model.specs.declared.row.NodeRow.{NodeRow}
+use Rattle.fsrm_model.specs.Tree.{node_of}
+use Rattle.name_rules.specs.Prefix.{prefix}
+use Rattle.block_list.specs.Runs.{entries_of}
+use Rattle.volume_tree.specs.declared.entries.Entry.{Entry}
+
+-- whose entry it is
+abbrev pub number_in : Entry → ℕ
+number_in entry = entry.node
+
+-- the runs of a list of entries, as the numbers in them
+abbrev pub numbers_in : List (List Entry) → List (List ℕ)
+numbers_in runs = map (map number_in) runs
+
+-- a list of entries: how many there may be at most, the numbers in its runs, and the entries
+pub record Sequence : Type 0 where
+  pub room : ℕ
+  pub runs : List (List ℕ)
+  pub entries : List Entry
+
+-- the entry of a row: its number, and what tells in most cases where it stands in the order
+abbrev pub entry_of : NodeRow → Entry
+entry_of row = record { prefix = prefix row.name; parent = row.parent; node = row.number }
+
+-- an entry is that of its node's row
+pub record IsOwn (nodes : List NodeRow) (entry : Entry) : Type 0 where
+  pub row : NodeRow
+  pub found : node_of nodes entry.node ≡ Some row
+  pub parent_is : entry.parent ≡ row.parent
+  pub prefix_is : entry.prefix ≡ prefix row.name
+
+-- all entries are, and stand in the runs
+pub record AreOwn (nodes : List NodeRow) (order : Sequence) : Type 0 where
+  pub numbers_are : entries_of order.runs ≡ map number_in order.entries
+  pub each : All (IsOwn nodes) order.entries
