@@ -46,7 +46,7 @@ fn is_skipped(line: &[u8]) -> bool
     place == line.len() || line[place] == b'#'
 }
 
-// The column of the last quote, if it isn't ended. It counts bytes from 1.
+// The column of the last quote, if it isn't ended. It counts bytes from 1. Apart from lines without quotes.
 #[inline(never)]
 fn odd_quote(line: &[u8]) -> Option<usize>
     ensures column { result ≡ (if is_closed line.now then None else Some (last_quote line.now)) }
@@ -72,7 +72,7 @@ fn has_quote(line: &[u8]) -> bool
     found
 }
 
-// The same. Most lines have no quote.
+// The column of the last quote, if it isn't ended; most lines have none.
 fn unclosed_quote(line: &str) -> Option<usize>
     ensures column { result ≡ (if is_closed line.now then None else Some (last_quote line.now)) }
     ensures within { IfSome result (λ column. column ≤ length line.now) }
