@@ -5,7 +5,7 @@ ghost use Rattle.block_list.specs.Heads.{IsHead};
 
 use crate::pool::BLOCK;
 
-/// The first entries of a block are a run. Its first entry is at hand, unless the run is empty.
+/// A run: the first entries of a block. `first` is the first of them, unless the run is empty.
 #[derive(Clone, Copy)]
 pub(crate) struct Head<T> {
     pub first: T,

@@ -86,7 +86,7 @@ pub(crate) fn push_block<T: Copy>(pool: &mut Vec<T>, filler: T)
     let _ = pool.resize(pool.len() + BLOCK, filler);
 }
 
-/// A free block, or where there is none, a new one after those that are used.
+/// A free block, or if there is none, a new one after those that are used.
 pub(crate) fn take_block<T: Copy>(
     free: &mut Vec<u32>,
     pool: &mut Vec<T>,

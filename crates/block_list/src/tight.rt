@@ -62,8 +62,8 @@ fn append<T: Copy>(runs: &mut Runs<T>, run: usize, entry: T)
     runs.start(next, entry);
 }
 
-// Makes two runs of a full one, and puts an entry into the first, which ends with it if that leaves half of
-// the entries there: so entries that rise fill their blocks.
+// Divides a full run at the entry's place, or at its middle if that comes later, and puts the entry into the
+// first of both. So entries that come in order fill their blocks.
 fn divide<T: Copy>(runs: &mut Runs<T>, run: usize, place: usize, entry: T)
     requires run { run < length runs.old.runs }
     requires place { place < 256 }

@@ -6,7 +6,8 @@ use Rattle.fsrm_model.specs.declared.row.GroupRow.{GroupRow}
 use Rattle.fsrm_base.specs.Causes.{◌when◌, first}
 use Rattle.fsrm_base.specs.Keyed.{row_of}
 use Rattle.fsrm_model.specs.Limits.{most_groups}
-use Rattle.fsrm_model.specs.Patterns.{group_number, has_name, number_named, regrouped, texts_of}
+use Rattle.fsrm_model.specs.Patterns.{group_number, has_name, number_named, regrouped}
+use Rattle.fsrm_model.specs.Texts.{group_bytes}
 use Rattle.fsrm_base.proofs.Look.{is_some-find, is_some-mapped}
 use Rattle.fsrm_base.proofs.TestLaws.{gt_is, not_le, not_lt, le_test}
 use Rattle.file_groups.specs.declared.answer.GroupFault.TheVariants.{DuplicateName, TableFull, TextsFull}
@@ -46,8 +47,8 @@ admitted groups name is_long h =
 
 -- other patterns, for the group that is found under a number
 module _ (groups : List GroupRow) (n room : ℕ) (old : GroupRow) (members non_members : Option (List (List ℕ))) (found : row_of group_number n groups ≡ Some old) where
-  pub patterns_fit : texts_of (regrouped members non_members old) ≤ room + texts_of old → patterns_fault groups n members non_members room ≡ None
-  patterns_fit short = rw (found, not_lt (room + texts_of old) (texts_of (regrouped members non_members old)) short) refl
+  pub patterns_fit : group_bytes (regrouped members non_members old) ≤ room + group_bytes old → patterns_fault groups n members non_members room ≡ None
+  patterns_fit short = rw (found, not_lt (room + group_bytes old) (group_bytes (regrouped members non_members old)) short) refl
 
 -- texts that leave something of a room, or nothing, fit into it
 pub fitting : (left : Option ℕ) (bytes room : ℕ) → MatchOption left (room < bytes) (λ left. left + bytes ≡ room) → is_some left ≡ true → bytes ≤ room

@@ -11,14 +11,15 @@ use Rattle.fsrm_model.specs.declared.row.GroupRow.{GroupRow}
 use Rattle.fsrm_base.specs.Keyed.{row_of, has_row, is_ascending, with_change, least_free}
 use Rattle.fsrm_model.specs.Name.{same_name}
 use Rattle.fsrm_model.specs.Limits.{most_groups}
-use Rattle.fsrm_model.specs.Patterns.{all_texts, are_apart, group_number, has_name, is_group, regrouped, texts_of, with_group, with_patterns, without_group}
+use Rattle.fsrm_model.specs.Patterns.{are_apart, group_number, has_name, is_group, regrouped, with_group, with_patterns, without_group}
+use Rattle.fsrm_model.specs.Texts.{group_bytes}
 use Rattle.fsrm_base.proofs.EditedRows.{sum_by-with_row, sum_by-with_change, sum_by-without_row}
 use Rattle.fsrm_model.proofs.nodes.Keeps.{same_turned}
 use Rattle.fsrm_base.proofs.EditedTests.{list_all-filter, list_all-with_change, list_all-with_row, list_any-filter, list_any-with_row}
 use Rattle.fsrm_base.proofs.Look.{found_has, found_key, found_own}
 use Rattle.fsrm_base.proofs.Order.{least_free_is}
 use Rattle.fsrm_base.proofs.TestLaws.{both, both_true, neither, clash, is_false, not_true}
-use Rattle.file_groups.specs.Kept.{AreGroups}
+use Rattle.file_groups.specs.Kept.{AreGroups, group_texts}
 use Rattle.fsrm_base.specs.Places.{IsAt, IsGap}
 use Rattle.fsrm_base.proofs.SortedRows.{row_found, ascending-set, ascending-insert, ascending-remove, insert_row, remove_found, set_found}
 
@@ -98,10 +99,10 @@ more_are groups row p are gap room valid new =
       apart = ap are_apart is ∙ apart-with_group row groups new are.apart;
     }
 
-pub more_texts : (groups : List GroupRow) (row : GroupRow) (p texts bytes : ℕ) → IsGap group_number row.number groups p → texts ≡ all_texts groups → bytes ≡ texts_of row → texts + bytes ≡ all_texts (insert groups p row)
+pub more_texts : (groups : List GroupRow) (row : GroupRow) (p texts bytes : ℕ) → IsGap group_number row.number groups p → texts ≡ group_texts groups → bytes ≡ group_bytes row → texts + bytes ≡ group_texts (insert groups p row)
 more_texts groups row p texts bytes gap is its =
-    let sum : all_texts (insert groups p row) ≡ all_texts (with_group row groups) = ap all_texts (insert_row group_number row groups p gap) in
-    omega (arith, sum, sum_by-with_row group_number texts_of row groups, is, its)
+    let sum : group_texts (insert groups p row) ≡ group_texts (with_group row groups) = ap group_texts (insert_row group_number row groups p gap) in
+    omega (arith, sum, sum_by-with_row group_number group_bytes row groups, is, its)
 
 -- one less
 pub less_are : (groups : List GroupRow) (n p : ℕ) → AreGroups groups → IsAt group_number n groups p → AreGroups (remove groups p)
@@ -116,11 +117,11 @@ less_are groups n p are at =
       apart = ap are_apart is ∙ apart-filter _ groups are.apart;
     }
 
-pub less_texts : (groups : List GroupRow) (n p : ℕ) (r : GroupRow) → AreGroups groups → IsAt group_number n groups p → r ≡ get_or groups p r → all_texts (remove groups p) + texts_of r ≡ all_texts groups
+pub less_texts : (groups : List GroupRow) (n p : ℕ) (r : GroupRow) → AreGroups groups → IsAt group_number n groups p → r ≡ get_or groups p r → group_texts (remove groups p) + group_bytes r ≡ group_texts groups
 less_texts groups n p r are at read =
     let is : row_of group_number n groups ≡ Some r = read_found groups n p r at read in
-    let sum : all_texts (remove groups p) ≡ all_texts (without_group n groups) = ap all_texts (remove_found group_number n groups p are.ascending at) in
-    omega (arith, sum, sum_by-without_row group_number texts_of n r groups are.ascending is)
+    let sum : group_texts (remove groups p) ≡ group_texts (without_group n groups) = ap group_texts (remove_found group_number n groups p are.ascending at) in
+    omega (arith, sum, sum_by-without_row group_number group_bytes n r groups are.ascending is)
 
 -- one with other patterns
 module _ (groups : List GroupRow) (n p : ℕ) (old row : GroupRow) (members non_members : Option (List (List ℕ))) (are : AreGroups groups) (at : IsAt group_number n groups p) (read : old ≡ get_or groups p old) (made : row ≡ regrouped members non_members old) where
@@ -141,11 +142,11 @@ module _ (groups : List GroupRow) (n p : ℕ) (old row : GroupRow) (members non_
         apart = ap are_apart changed_is ∙ (apart-with_change n (regrouped members non_members) (λ g. refl) groups ∙ are.apart);
       }
 
-  pub changed_texts : all_texts (slice_set groups p row) + texts_of old ≡ all_texts groups + texts_of row
+  pub changed_texts : group_texts (slice_set groups p row) + group_bytes old ≡ group_texts groups + group_bytes row
   changed_texts =
-      let sum : all_texts (slice_set groups p row) ≡ all_texts (with_patterns n members non_members groups) = ap all_texts changed_is in
-      let its : texts_of row ≡ texts_of (regrouped members non_members old) = ap texts_of made in
-      omega (arith, sum, its, sum_by-with_change group_number texts_of n (regrouped members non_members) old groups are.ascending (read_found groups n p old at read))
+      let sum : group_texts (slice_set groups p row) ≡ group_texts (with_patterns n members non_members groups) = ap group_texts changed_is in
+      let its : group_bytes row ≡ group_bytes (regrouped members non_members old) = ap group_bytes made in
+      omega (arith, sum, its, sum_by-with_change group_number group_bytes n (regrouped members non_members) old groups are.ascending (read_found groups n p old at read))
 
 -- ---- what a search answers, of the rows that it was lent
 pub at_place : (groups rows : List GroupRow) (n p : ℕ) (r : Result ℕ ℕ) → groups ≡ rows → r ≡ Ok p → IfOk r (IsAt group_number n groups) → IsAt group_number n rows p

@@ -5,9 +5,10 @@ use Rattle.std.proofs.lemmas.List.Sums.{AllPass-from_list_all, sum_by-le}
 use Rattle.std.specs.List.{list_all}
 use Rattle.fsrm_model.specs.declared.row.GroupRow.{GroupRow}
 use Rattle.fsrm_model.specs.Limits.{most_groups, most_patterns}
-use Rattle.fsrm_model.specs.Patterns.{all_texts, are_members, are_non_members, is_group, is_object_byte, is_object_name, is_pattern, is_pattern_byte, texts_bytes, texts_of}
+use Rattle.fsrm_model.specs.Patterns.{are_members, are_non_members, is_group, is_object_byte, is_object_name, is_pattern, is_pattern_byte}
+use Rattle.fsrm_model.specs.Texts.{group_bytes, texts_bytes}
 use Rattle.fsrm_base.proofs.TestLaws.{both, both_true, le_is, le_test, lt_is, lt_test}
-use Rattle.file_groups.specs.Kept.{AreGroups, AreMembers, AreNonMembers}
+use Rattle.file_groups.specs.Kept.{AreGroups, AreMembers, AreNonMembers, group_texts}
 
 -- what a group has, part by part
 pub record Parts (group : GroupRow) : Type 0 where
@@ -58,12 +59,12 @@ texts_within texts are =
 name_short : (name : List ℕ) → is_object_name name ≡ true → length name ≤ 255
 name_short name is = le_is _ _ (both (nat_lt 0 (length name)) _ (both _ (list_all is_object_byte name) is).0).1
 
-pub group_small : (group : GroupRow) → is_group group ≡ true → texts_of group ≤ 32895
+pub group_small : (group : GroupRow) → is_group group ≡ true → group_bytes group ≤ 32895
 group_small group is =
     let p = parts group is in
     omega (arith, name_short group.name p.named, p.members.1, p.non_members, texts_within group.members p.member_patterns, texts_within group.non_members p.non_member_patterns)
 
-pub texts_most : (groups : List GroupRow) → AreGroups groups → all_texts groups ≤ length groups * 32895
+pub texts_most : (groups : List GroupRow) → AreGroups groups → group_texts groups ≤ length groups * 32895
 texts_most groups are =
-    sum_by-le texts_of 32895 groups
-    (All-weaker (λ (group : GroupRow). is_group group ≡ true) (λ (group : GroupRow). texts_of group ≤ 32895) group_small groups (AllPass-from_list_all is_group groups are.valid))
+    sum_by-le group_bytes 32895 groups
+    (All-weaker (λ (group : GroupRow). is_group group ≡ true) (λ (group : GroupRow). group_bytes group ≤ 32895) group_small groups (AllPass-from_list_all is_group groups are.valid))

@@ -6,7 +6,8 @@ use Rattle.fsrm_model.specs.declared.row.GroupRow.{GroupRow}
 use Rattle.fsrm_base.specs.Causes.{◌when◌, first}
 use Rattle.fsrm_base.specs.Keyed.{row_of}
 use Rattle.fsrm_model.specs.Limits.{most_groups}
-use Rattle.fsrm_model.specs.Patterns.{group_number, has_name, regrouped, texts_of}
+use Rattle.fsrm_model.specs.Patterns.{group_number, has_name, regrouped}
+use Rattle.fsrm_model.specs.Texts.{group_bytes}
 use Rattle.file_groups.specs.declared.answer.GroupFault.{GroupFault}
 use Rattle.file_groups.specs.declared.answer.GroupFault.TheVariants.{DuplicateName, TableFull, TextsFull, NoMemory}
 
@@ -26,9 +27,9 @@ new_fault groups name is_long =
 
 -- why a group can't be added, if so many bytes of texts may still come
 abbrev pub group_fault : List GroupRow → GroupRow → ℕ → Option GroupFault
-group_fault groups group room = new_fault groups group.name (nat_lt room (texts_of group))
+group_fault groups group room = new_fault groups group.name (nat_lt room (group_bytes group))
 
 -- why the group of a number can't have these patterns: with what they replace there is no room for its texts
 abbrev pub patterns_fault : List GroupRow → ℕ → Option (List (List ℕ)) → Option (List (List ℕ)) → ℕ → Option GroupFault
 patterns_fault groups number members non_members room =
-    option_map_or (λ group. TextsFull when nat_lt (room + texts_of group) (texts_of (regrouped members non_members group))) (row_of group_number number groups) None
+    option_map_or (λ group. TextsFull when nat_lt (room + group_bytes group) (group_bytes (regrouped members non_members group))) (row_of group_number number groups) None

@@ -1,10 +1,11 @@
 -- How a table of groups is held.
-use Rattle.std.specs.Prelude.{◌≡◌, ℕ, ◌<◌, ◌≤◌, true, List, length}
+use Rattle.std.specs.Prelude.{◌≡◌, ℕ, ◌<◌, ◌≤◌, true, List, length, sum_by}
 use Rattle.std.specs.List.{list_all}
 use Rattle.fsrm_model.specs.declared.row.GroupRow.{GroupRow}
 use Rattle.fsrm_base.specs.Keyed.{is_ascending}
 use Rattle.fsrm_model.specs.Limits.{most_groups, most_patterns}
-use Rattle.fsrm_model.specs.Patterns.{group_number, is_group, are_apart, all_texts}
+use Rattle.fsrm_model.specs.Patterns.{group_number, is_group, are_apart}
+use Rattle.fsrm_model.specs.Texts.{group_bytes}
 
 -- a group has 1 to 64 members, and at most 64 non-members
 abbrev pub AreMembers : List (List ℕ) → Type 0
@@ -20,7 +21,11 @@ pub record AreGroups (groups : List GroupRow) : Type 0 where
   pub valid : list_all is_group groups ≡ true
   pub apart : are_apart groups ≡ true
 
--- and the bytes of their texts
+-- the bytes of the names and patterns of all groups
+abbrev pub group_texts : List GroupRow → ℕ
+group_texts groups = sum_by group_bytes groups
+
+-- and these are counted
 pub record IsTable (groups : List GroupRow) (texts : ℕ) : Type 0 where
   pub are : AreGroups groups
-  pub texts_are : texts ≡ all_texts groups
+  pub texts_are : texts ≡ group_texts groups

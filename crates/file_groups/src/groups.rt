@@ -2,18 +2,19 @@
 
 ghost use Rattle.std.specs.Prelude.{◌≡◌, ◌<◌, ◌≤◌, IfOk, IfErr, IfSome, OnOk, OnErr, [], None, Some, true, false, is_none, length, slice_get};
 ghost use Rattle.fsrm_base.specs.Keyed.{row_of, has_row};
-ghost use Rattle.fsrm_model.specs.Patterns.{all_texts, group_number, in_group_of, is_group, is_object_name, new_group, number_named, texts_of, with_group, with_patterns, without_group};
+ghost use Rattle.fsrm_model.specs.Patterns.{group_number, in_group_of, is_group, is_object_name, new_group, number_named, with_group, with_patterns, without_group};
 ghost use Rattle.file_groups.specs.Faults.{IsFault, group_fault, new_fault, patterns_fault};
-ghost use Rattle.file_groups.specs.Kept.{AreGroups, AreMembers, AreNonMembers};
+ghost use Rattle.file_groups.specs.Kept.{AreGroups, AreMembers, AreNonMembers, group_texts};
 
 use crate::answer::GroupFault;
 use crate::pattern::Pattern;
 use crate::rows;
+use crate::rows::ByNumber;
+use fsrm_base::places::{gap, search};
+use fsrm_model::limits::MOST_GROUPS;
 use fsrm_model::{GroupRow, List, NoMemory, Text};
 use std::alloc::Global;
 use std::marker::Model;
-
-const MOST_GROUPS: usize = 1024;
 
 /// The file groups of a store, at most 1,024. Contracts see their rows, ascending by number; the numbers
 /// are below 1,024, and no two groups have one name, in any spelling.
@@ -123,7 +124,7 @@ impl Groups {
         Ok(())
     }
 
-    // Puts a group into its place that nothing refuses.
+    // Puts a group that nothing refuses into its place.
     fn insert(&mut self, row: GroupRow) -> Result<(), NoMemory>
         requires valid { is_group row ≡ true }
         requires free { has_row group_number row.number self.old ≡ false }
@@ -132,7 +133,7 @@ impl Groups {
         ensures err { OnErr result (self.new ≡ self.old) }
         ensures kept { AreGroups self.new }
     {
-        let place = rows::gap(&self.groups, row.number);
+        let place = gap::<ByNumber>(&self.groups, row.number);
         let bytes = rows::texts_of(&row);
         self.groups.insert(place, row)?;
         self.texts += bytes;
@@ -159,7 +160,7 @@ impl Groups {
         ensures err { OnErr result (self.new ≡ self.old) }
         ensures kept { AreGroups self.new }
     {
-        let place = rows::search(&self.groups, group).unwrap();
+        let place = search::<ByNumber>(&self.groups, group).unwrap();
         let old = &self.groups[place];
         let (members, non_members) = (members.as_ref(), non_members.as_ref());
         let replaced = rows::texts_of(old);
@@ -173,13 +174,13 @@ impl Groups {
         Ok(())
     }
 
-    /// Takes a group away that is there.
+    /// Takes away a group that is there.
     pub fn delete(&mut self, group: u32)
         requires { has_row group_number group self.old ≡ true }
         ensures without { self.new ≡ without_group group self.old }
         ensures kept { AreGroups self.new }
     {
-        let place = rows::search(&self.groups, group).unwrap();
+        let place = search::<ByNumber>(&self.groups, group).unwrap();
         self.texts -= rows::texts_of(&self.groups[place]);
         self.groups.remove(place);
     }
@@ -198,13 +199,13 @@ impl Groups {
         requires { has_row group_number group self.now ≡ true }
         ensures { result ≡ in_group_of self.now group name.now }
     {
-        let place = rows::search(&self.groups, group).unwrap();
+        let place = search::<ByNumber>(&self.groups, group).unwrap();
         rows::is_in(&self.groups[place], name)
     }
 
     /// The bytes of all names and patterns.
     pub fn texts(&self) -> u32
-        ensures { result ≡ all_texts self.now }
+        ensures { result ≡ group_texts self.now }
     {
         self.texts
     }
@@ -230,7 +231,7 @@ impl Groups {
         ensures group { row_of group_number number self.now ≡ Some result.now }
         ensures valid { is_group result.now ≡ true }
     {
-        let place = rows::search(&self.groups, number).unwrap();
+        let place = search::<ByNumber>(&self.groups, number).unwrap();
         &self.groups[place]
     }
 }

@@ -1,4 +1,4 @@
-//! Whether a name matches a pattern, without memory and without a way back: of all stars only the last
+//! Whether a name matches a pattern, without memory and without recursion: of all stars only the last
 //! one that was met is ever tried again.
 
 ghost use Rattle.std.specs.Prelude.{◌≡◌, ◌==◌, [], MatchOption, chars};
@@ -89,8 +89,8 @@ fn is_match(pattern: &str, name: &str) -> bool
     }
 }
 
-// Whether some end of the name matches, as after a star. If that comes to another star, any end that
-// the first one leads to is one that the other one leads to, so the first one is done with.
+// Whether some end of the name matches, as after a star. If the pattern comes to another star, each end of the
+// name that the first star leads to is one that the other leads to as well; so the first is done with.
 fn some_end_matches(pattern: &str, name: &str) -> bool
     ensures { result ≡ some_end (matches (chars pattern.now)) (chars name.now) }
 {

@@ -1,14 +1,14 @@
 //! Patterns of file names.
 
-ghost use Rattle.std.specs.Prelude.{◌≡◌, ◌&&◌, ◌||◌, nat_lt, nat_le, length, true, false, IfOk, OnOk, IsErrOf, bytes_eq, codes};
+ghost use Rattle.std.specs.Prelude.{◌≡◌, true, false, IfOk, OnOk, IsErrOf};
 ghost use Rattle.std.specs.List.{list_all};
-ghost use Rattle.fsrm_model.specs.Name.{is_name_byte};
 ghost use Rattle.fsrm_model.specs.Patterns.{is_pattern, is_pattern_byte, pattern_matches};
 
 use crate::matching;
-use fsrm_model::{NoMemory, Text};
-use name_rules::NameFault;
+use fsrm_model::Text;
+use name_rules::{NameFault, is_dots, is_name_byte, is_name_length};
 use std::alloc::Global;
+use std::convert::AsStr;
 use std::marker::Model;
 
 /// A pattern: the text of a name, 1 to 255 bytes, in which `*` and `?` may stand too; neither `.` nor
@@ -39,10 +39,8 @@ impl Pattern {
         if !is_pattern(text) {
             return Err(NameFault::InvalidName);
         }
-        match Text::from_str(alloc, text) {
-            Ok(text) => Ok(Pattern { text }),
-            Err(NoMemory) => Err(NameFault::NoMemory),
-        }
+        let text = Text::from_str(alloc, text)?;
+        Ok(Pattern { text })
     }
 
     /// The pattern's text, lent.
@@ -63,20 +61,19 @@ impl Pattern {
     }
 }
 
-const LONGEST: usize = 255;
+impl AsStr for Pattern {
+    ghost text = { λ p. p };
+
+    fn as_str(&self) -> &str {
+        Pattern::as_str(self)
+    }
+}
 
 fn is_pattern(text: &str) -> bool
     ensures { result ≡ is_pattern text.now }
 {
     let bytes = text.as_bytes();
-    (1..=LONGEST).contains(&bytes.len()) && are_pattern_bytes(bytes) && !is_dots(text)
-}
-
-// The folder itself, and the one above it.
-fn is_dots(text: &str) -> bool
-    ensures { result ≡ (bytes_eq text.now (codes ".") || bytes_eq text.now (codes "..")) }
-{
-    text == "." || text == ".."
+    is_name_length(bytes.len()) && are_pattern_bytes(bytes) && !is_dots(bytes)
 }
 
 fn are_pattern_bytes(bytes: &[u8]) -> bool
@@ -88,8 +85,5 @@ fn are_pattern_bytes(bytes: &[u8]) -> bool
 fn is_pattern_byte(byte: u8) -> bool
     ensures { result ≡ is_pattern_byte byte }
 {
-    !matches!(
-        byte,
-        0..=0x1f | 0x7f | b'<' | b'>' | b':' | b'"' | b'/' | b'\\' | b'|'
-    )
+    is_name_byte(byte) || matches!(byte, b'*' | b'?')
 }

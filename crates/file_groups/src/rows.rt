@@ -1,37 +1,34 @@
 //! Rows of groups: where they stand, what they take, and how they are made.
 
-ghost use Rattle.std.specs.Prelude.{◌≡◌, ◌+◌, ◌<◌, ◌≤◌, ◌^◌, true, false, length, IfOk, IfErr, IfSome, MatchOption, unwrap_or};
+ghost use Rattle.std.specs.Prelude.{◌≡◌, ◌+◌, ◌<◌, ◌≤◌, ◌^◌, true, length, IfOk, IfSome, MatchOption, unwrap_or};
 ghost use Rattle.std.specs.List.{list_all, list_any};
 ghost use Rattle.std.specs.Option.{option_copied};
-ghost use Rattle.fsrm_base.specs.Keyed.{has_row, is_ascending, least_free};
+ghost use Rattle.fsrm_base.specs.Keyed.{least_free};
 ghost use Rattle.fsrm_model.specs.Limits.{most_groups};
-ghost use Rattle.fsrm_model.specs.Patterns.{group_number, in_group, is_group, is_pattern, number_named, pattern_matches, regrouped, texts_bytes, texts_of};
-ghost use Rattle.fsrm_base.specs.Places.{IsAt, IsGap};
+ghost use Rattle.fsrm_model.specs.Patterns.{group_number, in_group, is_group, is_pattern, number_named, pattern_matches, regrouped};
+ghost use Rattle.fsrm_model.specs.Texts.{group_bytes, texts_bytes};
 ghost use Rattle.file_groups.specs.Kept.{AreMembers, AreNonMembers};
 
 use crate::matching::matches;
 use crate::pattern::Pattern;
+use fsrm_base::places::Key;
+use fsrm_base::room::{left_of_text, left_of_texts};
 use fsrm_model::{Duplicate, GroupRow, List, NoMemory, Text};
 use name_rules::same_name;
 use std::alloc::Global;
 
-/// The place of the group of a number, or as an `Err` the place where one is to stand.
-pub fn search(groups: &[GroupRow], number: u32) -> Result<usize, usize>
-    requires { is_ascending group_number groups.now ≡ true }
-    ensures found { IfOk result (IsAt group_number number groups.now) }
-    ensures free { IfErr result (IsGap group_number number groups.now) }
-{
-    groups.binary_search_by_key(&number, |group| group.number)
-}
+/// Groups by their numbers.
+pub struct ByNumber;
 
-/// The place where the group of a number that none has is to stand.
-pub fn gap(groups: &[GroupRow], number: u32) -> usize
-    requires ascending { is_ascending group_number groups.now ≡ true }
-    requires absent { has_row group_number number groups.now ≡ false }
-    ensures { IsGap group_number number groups.now result }
-{
-    match search(groups, number) {
-        Ok(place) | Err(place) => place,
+impl Key for ByNumber {
+    ghost use Rattle.fsrm_model.specs.Patterns.{group_number};
+
+    type Row = GroupRow;
+
+    ghost key = { group_number };
+
+    fn number(group: &GroupRow) -> u32 {
+        group.number
     }
 }
 
@@ -78,8 +75,8 @@ fn some_matches(patterns: &List<Text>, name: &str) -> bool
 
 /// The bytes of a group's texts, which fit.
 pub fn texts_of(group: &GroupRow) -> u32
-    requires { texts_of group.now < 2 ^ 32 }
-    ensures { result ≡ texts_of group.now }
+    requires { group_bytes group.now < 2 ^ 32 }
+    ensures { result ≡ group_bytes group.now }
 {
     let room = u64::from(u32::MAX);
     let left = left_of_group(group, room).unwrap();
@@ -88,12 +85,13 @@ pub fn texts_of(group: &GroupRow) -> u32
 
 /// How much of the room a group's texts leave; None if there isn't enough.
 pub fn left_of_group(group: &GroupRow, room: u64) -> Option<u64>
-    ensures { MatchOption result (room < texts_of group.now) (λ left. left + texts_of group.now ≡ room) }
+    ensures { MatchOption result (room < group_bytes group.now) (λ left. left + group_bytes group.now ≡ room) }
 {
     left_of_regrouped(group, None, None, room)
 }
 
-/// How much room it leaves with other members, other non-members, or both.
+/// How much of the room a group's texts leave with other members, other non-members, or both; None if there isn't
+/// enough.
 pub fn left_of_regrouped(
     group: &GroupRow,
     members: Option<&List<Pattern>>,
@@ -101,7 +99,7 @@ pub fn left_of_regrouped(
     room: u64,
 ) -> Option<u64>
     ensures { let row = regrouped (option_copied members.entry) (option_copied non_members.entry) group.now in
-        MatchOption result (room < texts_of row) (λ left. left + texts_of row ≡ room) }
+        MatchOption result (room < group_bytes row) (λ left. left + group_bytes row ≡ room) }
 {
     let left = left_of_text(group.name.as_str(), room)?;
     let left = left_of_either(members, &group.members, left)?;
@@ -119,8 +117,8 @@ pub fn left_of_new(
         MatchOption result (room < bytes) (λ left. left + bytes ≡ room) }
 {
     let left = left_of_text(name, room)?;
-    let left = left_of_patterns(members, left)?;
-    left_of_patterns(non_members, left)
+    let left = left_of_texts(members, left)?;
+    left_of_texts(non_members, left)
 }
 
 // The room that the patterns leave, or the texts if no patterns are given.
@@ -129,35 +127,9 @@ fn left_of_either(patterns: Option<&List<Pattern>>, texts: &List<Text>, room: u6
         MatchOption result (room < bytes) (λ left. left + bytes ≡ room) }
 {
     match patterns {
-        Some(patterns) => left_of_patterns(patterns, room),
+        Some(patterns) => left_of_texts(patterns, room),
         None => left_of_texts(texts, room),
     }
-}
-
-fn left_of_patterns(patterns: &List<Pattern>, room: u64) -> Option<u64>
-    ensures { MatchOption result (room < texts_bytes patterns.now) (λ left. left + texts_bytes patterns.now ≡ room) }
-{
-    let mut left = room;
-    for pattern in patterns.as_slice() {
-        left = left_of_text(pattern.as_str(), left)?;
-    }
-    Some(left)
-}
-
-fn left_of_texts(texts: &List<Text>, room: u64) -> Option<u64>
-    ensures { MatchOption result (room < texts_bytes texts.now) (λ left. left + texts_bytes texts.now ≡ room) }
-{
-    let mut left = room;
-    for text in texts.as_slice() {
-        left = left_of_text(text.as_str(), left)?;
-    }
-    Some(left)
-}
-
-fn left_of_text(text: &str, room: u64) -> Option<u64>
-    ensures { MatchOption result (room < length text.now) (λ left. left + length text.now ≡ room) }
-{
-    room.checked_sub(text.len() as u64)
 }
 
 /// The texts of patterns, in memory of their own.

@@ -1,10 +1,13 @@
-//! What the crates of the file server resource manager stand on that knows nothing of the machine:
-//! owned texts and lists, copies that may run out of memory, and a count of looks. In `specs/` and
-//! `proofs/` stand lists of rows in the order of their numbers, sets of numbers, and their laws.
+//! What all other crates of the file server resource manager stand on. It knows nothing of the machine:
+//! owned texts and lists, copies that may run out of memory, what texts leave of a room, where a number stands in
+//! ascending rows, and a count of looks. In `specs/` and `proofs/` stand lists of rows in the order of their numbers,
+//! sets of numbers, and their laws.
 #![tactic(auto)]
 
 pub mod list;
 pub mod memory;
+pub mod places;
+pub mod room;
 pub mod steps;
 pub mod text;
 

@@ -4,8 +4,8 @@ ghost use Rattle.std.specs.Prelude.{◌≡◌, IfOk};
 
 use std::alloc::{AllocError, AllocFailed, Global};
 
-/// The one answer when memory runs out. No call is tied to the allocation that failed: the value
-/// that it was made on is as before, unless its own documentation says otherwise.
+/// The one answer when memory runs out. It doesn't tell which allocation failed. The value that the call
+/// was made on is as before, unless the call's own documentation says otherwise.
 #[derive(Clone, Copy, Debug, PartialEq, Eq)]
 pub struct NoMemory;
 

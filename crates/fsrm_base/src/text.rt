@@ -5,6 +5,7 @@ ghost use Rattle.std.specs.String.{string_bytes};
 
 use crate::memory::{Duplicate, NoMemory};
 use std::alloc::Global;
+use std::convert::AsStr;
 use std::marker::Model;
 
 /// An owned UTF-8 text. Contracts see it as the list of its bytes.
@@ -43,6 +44,14 @@ impl Text {
         ensures { result.now ≡ self.now }
     {
         self.inner.as_str()
+    }
+}
+
+impl AsStr for Text {
+    ghost text = { λ t. t };
+
+    fn as_str(&self) -> &str {
+        Text::as_str(self)
     }
 }
 

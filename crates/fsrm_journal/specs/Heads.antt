@@ -1,6 +1,8 @@
 -- Heads of halves, and which half rules. A head is the first 48 bytes of a half, or all if there are fewer.
 use Rattle.std.specs.Prelude.{ℕ, Bool, ◌&&◌, ◌||◌, not, cond, if◌then◌else◌, nat_le, nat_lt, nat_eq, Option, None, Some, Result, Ok, Err, List, [], ◌∷◌, length, take, drop, slice_index}
 use Rattle.byteorder.specs.Endian.{little_number}
+use Rattle.fsrm_model.specs.Capacities.{is_cluster as is_cluster_size}
+use Rattle.fsrm_model.specs.Limits.{most_nodes, most_names}
 use Rattle.fsrm_outside.specs.declared.traits.Part.{Part}
 use Rattle.fsrm_outside.specs.declared.traits.Part.TheVariants.{Zero, One}
 use Rattle.fsrm_journal.specs.declared.fault.JournalFault.{JournalFault}
@@ -39,11 +41,9 @@ magic = 0x464c_4148_4d52_5346
 abbrev pub is_version : ℕ → Bool
 is_version version = nat_eq version 1 || nat_eq version 2
 
+-- in version 1 each cluster has 4,096 bytes
 abbrev pub is_cluster : ℕ → ℕ → Bool
-is_cluster version cluster =
-    nat_eq cluster 4096
-    || (nat_eq version 2
-    && (nat_eq cluster 512 || nat_eq cluster 1024 || nat_eq cluster 2048 || nat_eq cluster 8192 || nat_eq cluster 16384 || nat_eq cluster 32768 || nat_eq cluster 65536))
+is_cluster version cluster = nat_eq cluster 4096 || (nat_eq version 2 && is_cluster_size cluster)
 
 -- each field is there, and legal
 unfoldable pub has_zeros : List ℕ → Bool
@@ -59,10 +59,10 @@ unfoldable pub has_version : List ℕ → Bool
 has_version head = nat_le 28 (length head) && is_version (version_at head)
 
 unfoldable pub has_nodes : List ℕ → Bool
-has_nodes head = nat_le 32 (length head) && (nat_le 2 (nodes_at head) && nat_le (nodes_at head) 1048576)
+has_nodes head = nat_le 32 (length head) && (nat_le 2 (nodes_at head) && nat_le (nodes_at head) most_nodes)
 
 unfoldable pub has_names : List ℕ → Bool
-has_names head = nat_le 36 (length head) && (nat_le 256 (names_at head) && nat_le (names_at head) 268435456)
+has_names head = nat_le 36 (length head) && (nat_le 256 (names_at head) && nat_le (names_at head) most_names)
 
 unfoldable pub has_cluster : List ℕ → Bool
 has_cluster head = nat_le 40 (length head) && is_cluster (version_at head) (cluster_at head)
@@ -75,12 +75,15 @@ abbrev pub first_failed : List (ℕ × Bool) → Option ℕ
 first_failed [] = None
 first_failed (test ∷ tests) = cond test.1 (first_failed tests) (Some test.0)
 
--- the place of the first field of an open half that is missing, cut or not legal
+-- the fields of an open half, each with its place
+abbrev pub head_tests : List ℕ → List (ℕ × Bool)
+head_tests head =
+    (1, has_zeros head) ∷ (8, has_magic head) ∷ (16, has_generation head) ∷ (24, has_version head)
+    ∷ (28, has_nodes head) ∷ (32, has_names head) ∷ (36, has_cluster head) ∷ (40, has_image head) ∷ []
+
+-- the place of the first of them that is missing, cut or not legal
 abbrev pub head_fault : List ℕ → Option ℕ
-head_fault head =
-    first_failed
-    ((1, has_zeros head) ∷ (8, has_magic head) ∷ (16, has_generation head) ∷ (24, has_version head)
-    ∷ (28, has_nodes head) ∷ (32, has_names head) ∷ (36, has_cluster head) ∷ (40, has_image head) ∷ [])
+head_fault head = first_failed (head_tests head)
 
 -- where there is a store, a half has at least its gate, and behind an open one a legal head
 abbrev pub half_fault : List ℕ → Option ℕ

@@ -11,10 +11,10 @@ pub enum JournalFault {
     /// Neither part's gate is open.
     #[error("no store here")]
     NoStore,
-    /// A part's gate is open.
+    /// A part's gate is open. No call answers this so far.
     #[error("a store is here already")]
     AlreadyStore,
-    /// The first byte that is missing or isn't legal.
+    /// A field is missing or isn't legal. It begins at this place, and is the first such one.
     #[error("store damaged at {part:?}, place {place}")]
     Damaged { part: Part, place: u64 },
     /// A call of the disk failed, and was counted. The journal has to be opened again.

@@ -3,16 +3,20 @@
 ghost use Rattle.std.specs.Prelude.{◌≡◌, ◌≤◌, length, drop, IsTrue, Ok, true, false};
 ghost use Rattle.fsrm_outside.specs.declared.traits.Part.TheVariants.{Zero, One};
 ghost use Rattle.byteorder.specs.Endian.{little_number};
+ghost use Rattle.fsrm_model.specs.Capacities.{is_cluster as is_cluster_size};
 ghost use Rattle.fsrm_journal.specs.HeadSays.{head_says};
 ghost use Rattle.fsrm_journal.specs.Heads.{head_fault, half_fault, has_zeros, has_magic, has_generation, has_version, has_nodes, has_names, has_cluster, has_image, is_cluster, is_open, is_version, judged, ruling, generation_at};
 
 use crate::fault::JournalFault;
 use byteorder::{ByteOrder, LittleEndian};
 use fsrm_model::Capacity;
+use fsrm_model::limits::{MOST_NAMES, MOST_NODES};
 use fsrm_outside::Part;
 
 // `FSRMHALF`, as a number.
 const MAGIC: u64 = 0x464c_4148_4d52_5346;
+
+const CLUSTER_SIZES: [u32; 8] = [512, 1_024, 2_048, 4_096, 8_192, 16_384, 32_768, 65_536];
 
 /// What stands before the image of a half.
 #[derive(Clone, Copy, Debug, PartialEq, Eq)]
@@ -58,15 +62,13 @@ fn is_version(version: u32) -> bool
 fn is_cluster(version: u32, cluster: u32) -> bool
     ensures { result ≡ is_cluster version cluster }
 {
-    cluster == 4_096
-        || version == 2
-            && (cluster == 512
-                || cluster == 1_024
-                || cluster == 2_048
-                || cluster == 8_192
-                || cluster == 16_384
-                || cluster == 32_768
-                || cluster == 65_536)
+    cluster == 4_096 || version == 2 && is_cluster_size(cluster)
+}
+
+fn is_cluster_size(bytes: u32) -> bool
+    ensures { result ≡ is_cluster_size bytes }
+{
+    CLUSTER_SIZES.contains(&bytes)
 }
 
 #[tactic(auto, unfolding(crate::specs::Heads::has_zeros))]
@@ -112,7 +114,7 @@ fn has_nodes(head: &[u8]) -> bool
         return false;
     }
     let nodes = LittleEndian::read_u32(&head[28..]);
-    2 <= nodes && nodes <= 1_048_576
+    2 <= nodes && nodes <= MOST_NODES
 }
 
 #[tactic(auto, unfolding(crate::specs::Heads::has_names))]
@@ -123,7 +125,7 @@ fn has_names(head: &[u8]) -> bool
         return false;
     }
     let names = LittleEndian::read_u32(&head[32..]);
-    256 <= names && names <= 268_435_456
+    256 <= names && names <= MOST_NAMES
 }
 
 #[tactic(auto, unfolding(crate::specs::Heads::has_cluster))]
@@ -145,6 +147,7 @@ fn has_image(head: &[u8]) -> bool
 }
 
 // The place of the first field that is missing, cut or not legal.
+#[tactic(auto, using(crate::proofs::HeadLaws::chosen))]
 fn head_fault(head: &[u8]) -> Option<u64>
     ensures { result ≡ head_fault head.now }
 {

@@ -19,17 +19,18 @@ use crate::heads::{Head, head_says, judged};
 use crate::reading::{damaged, next_length};
 use byteorder::{ByteOrder, LittleEndian};
 use fsrm_base::NoMemory;
+use fsrm_model::limits::LONGEST_ENTRY;
 use fsrm_outside::{Disk, Failed, Part};
 use std::alloc::Global;
 
 /// The most bytes that a record takes: its gate, its length and its body.
-const MOST_RECORD: usize = 131_077;
+const MOST_RECORD: usize = LONGEST_ENTRY + 5;
 
 /// The records of the half that rules: where they end, and those that are held until a flush.
 #[derive(Drop)]
 pub struct Journal {
     ruling: Part,
-    // How far it was read; once all is read, where the first closed gate stands.
+    // Up to where it was read; after all is read, the place of the first closed gate.
     end: u64,
     // Where the image ends, and how many bytes the half had when it was opened.
     image_end: u64,
@@ -80,7 +81,7 @@ fn read_heads<D: Disk>(
     Ok((zero_len, one_len))
 }
 
-// What reading tells from the half that rules.
+// The head of the half that rules.
 fn head_ruling(ruling: Part, zero: &[u8], one: &[u8]) -> Head
     requires zero { ruling ≡ Zero → 48 ≤ length zero.now }
     requires one { ruling ≡ One → 48 ≤ length one.now }
@@ -99,8 +100,8 @@ impl Journal {
 
     /// Finds the half that rules, and reads its head. The image comes next, and then the records.
     ///
-    /// `NoStore` exactly where neither gate is 1, `Damaged` exactly at the first byte of a head that is missing or isn't
-    /// legal, or at the generation of part 1 where both have the same. `NoMemory`: there is no memory to hold a record.
+    /// `NoStore` exactly if neither gate is 1; `Damaged` exactly at the first field of a head that is missing or isn't
+    /// legal, or at the generation of part 1 if both have the same. `NoMemory`: there is no memory to hold a record.
     pub fn open_at<D: Disk>(alloc: Global, disk: &mut D) -> Result<(Journal, Head), JournalFault>
         ensures opened { ForSome (D.reads disk.old) (λ parts. IfOk result (λ opened. IsOpened parts opened.0 opened.1)) }
         ensures refused { ForSome (D.reads disk.old) (λ parts. IfErr result (λ fault. IsRefused parts fault)) }
@@ -236,7 +237,7 @@ impl Journal {
         self.held += 1;
     }
 
-    /// Makes the records that are held stable, all of them or, where a crash comes between, none.
+    /// Makes the records that are held stable: all of them or, if a crash comes between, none.
     pub fn flush<D: Disk>(&mut self, disk: &mut D) -> Result<(), JournalFault>
         requires place { ForSome (D.reads disk.old) (λ parts. self.old.end < length (part_of self.old.ruling parts)) }
 
@@ -293,7 +294,7 @@ impl Journal {
     }
 }
 
-// The gate before a record, but not before the first one.
+// Adds the gate before a record, unless it is the first one.
 fn open_between(bytes: &mut Vec<u8>, first: bool)
     requires { length bytes.old.items < vec_capacity bytes.old }
     ensures first { first ≡ true → bytes.new.items ≡ bytes.old.items }
@@ -325,7 +326,7 @@ fn append_record(bytes: &mut Vec<u8>, first: bool, body: &[u8])
     }
 }
 
-// A closed gate after the records that are held.
+// Adds a closed gate after the records that are held.
 fn close_last(bytes: &mut Vec<u8>)
     requires { length bytes.old.items < vec_capacity bytes.old }
     ensures bytes { bytes.new.items ≡ bytes.old.items ++ 0 ∷ [] }

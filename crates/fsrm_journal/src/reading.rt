@@ -11,9 +11,10 @@ ghost use Rattle.fsrm_outside.specs.Parts.{part_of};
 
 use crate::fault::JournalFault;
 use byteorder::{ByteOrder, LittleEndian};
+use fsrm_model::limits::LONGEST_ENTRY;
 use fsrm_outside::{Disk, Failed, Part};
 
-/// The byte at a place, where there is one.
+/// The byte at a place, if there is one.
 pub fn read_byte<D: Disk>(disk: &mut D, part: Part, place: u64) -> Result<u8, Failed>
     ensures byte { ForSome (D.reads disk.old) (λ parts. place < length (part_of part parts) → IfOk result (λ byte. byte ≡ slice_index (part_of part parts) place)) }
     ensures reads { D.reads disk.new ≡ D.reads disk.old }
@@ -26,7 +27,7 @@ pub fn read_byte<D: Disk>(disk: &mut D, part: Part, place: u64) -> Result<u8, Fa
     Ok(byte[0])
 }
 
-/// The number in the four bytes from a place on, where they are there.
+/// The number in the four bytes from a place on, if they are there.
 pub fn read_number<D: Disk>(disk: &mut D, part: Part, place: u64) -> Result<u32, Failed>
     ensures number { ForSome (D.reads disk.old) (λ parts. place + 4 ≤ length (part_of part parts) → IfOk result (λ n. n ≡ little_number 4 (drop place (part_of part parts)))) }
     ensures reads { D.reads disk.new ≡ D.reads disk.old }
@@ -65,7 +66,7 @@ pub fn next_length<D: Disk>(
         return Err(damaged(ruling, place + 1));
     }
     let size = read_number(disk, ruling, place + 1)?;
-    if size < 1 || size > 131_072 {
+    if size < 1 || size > LONGEST_ENTRY as u32 {
         return Err(damaged(ruling, place + 1));
     }
     Ok(Some(size))

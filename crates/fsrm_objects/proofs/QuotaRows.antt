@@ -20,7 +20,7 @@ use Rattle.fsrm_base.proofs.Members.{all_found}
 use Rattle.fsrm_base.proofs.SortedRows.{row_found, set_found, remove_found, insert_row, ascending-set, ascending-insert, ascending-remove}
 use Rattle.fsrm_base.proofs.Sums.{sum_by_within}
 use Rattle.fsrm_base.proofs.TestLaws.{both, both_true, ge_is, le_is, le_test, neither}
-use Rattle.fsrm_objects.specs.Kept.{AreCounted, AreQuotas, is_small, most_quota_bytes}
+use Rattle.fsrm_objects.specs.Kept.{AreCounted, AreSmallQuotas, is_small, most_quota_bytes}
 use Rattle.fsrm_objects.specs.Tables.{Tables, has_long_list, has_short_texts, is_crowded, is_short, quota_texts}
 
 -- ---- a quota whose lists and texts aren't too long is small
@@ -51,7 +51,7 @@ read_found quotas n p r at read =
     let is : r ≡ found.row = read ∙ get_or_from_slice_get quotas p found.row r found.at in
     sym at.found ∙ (found.at ∙ ap Some (sym is))
 
-pub read_small : (quotas : List QuotaRow) (n p : ℕ) (r : QuotaRow) → AreQuotas quotas → IsAt folder_of n quotas p → r ≡ get_or quotas p r → quota_bytes r ≤ 131072
+pub read_small : (quotas : List QuotaRow) (n p : ℕ) (r : QuotaRow) → AreSmallQuotas quotas → IsAt folder_of n quotas p → r ≡ get_or quotas p r → quota_bytes r ≤ 131072
 read_small quotas n p r kept at read =
     small_fits r (all_found is_small (λ q. folder_of q == n) quotas r kept.small (read_found quotas n p r at read))
 
@@ -71,7 +71,7 @@ at_place quotas tables folder p o same is found =
     (subst (λ (answer : Option ℕ). MatchOption answer (has_row folder_of folder tables.quotas ≡ false) (IsAt folder_of folder tables.quotas)) is found)
 
 -- the texts of quotas fit
-pub texts_most : (quotas : List QuotaRow) → AreQuotas quotas → quota_texts quotas ≤ length quotas * 131072
+pub texts_most : (quotas : List QuotaRow) → AreSmallQuotas quotas → quota_texts quotas ≤ length quotas * 131072
 texts_most quotas kept = sum_by_within quota_bytes most_quota_bytes quotas kept.small
 
 -- one more
@@ -79,7 +79,7 @@ module _ (quotas : List QuotaRow) (row : QuotaRow) (p : ℕ) (gap : IsGap folder
   more_is : insert quotas p row ≡ with_row folder_of row quotas
   more_is = insert_row folder_of row quotas p gap
 
-  pub more_kept : AreQuotas quotas → length quotas < most_quotas → is_small row ≡ true → AreQuotas (insert quotas p row)
+  pub more_kept : AreSmallQuotas quotas → length quotas < most_quotas → is_small row ≡ true → AreSmallQuotas (insert quotas p row)
   more_kept kept room small =
       let size : length (insert quotas p row) ≡ length quotas + 1 = length-insert quotas p row gap.within in
       record {
@@ -92,11 +92,11 @@ module _ (quotas : List QuotaRow) (row : QuotaRow) (p : ℕ) (gap : IsGap folder
   more_texts = ap quota_texts more_is ∙ sum_by-with_row folder_of quota_bytes row quotas
 
 -- one less
-module _ (quotas : List QuotaRow) (folder p : ℕ) (r : QuotaRow) (kept : AreQuotas quotas) (at : IsAt folder_of folder quotas p) (read : r ≡ get_or quotas p r) where
+module _ (quotas : List QuotaRow) (folder p : ℕ) (r : QuotaRow) (kept : AreSmallQuotas quotas) (at : IsAt folder_of folder quotas p) (read : r ≡ get_or quotas p r) where
   less_is : remove quotas p ≡ without_row folder_of folder quotas
   less_is = remove_found folder_of folder quotas p kept.ascending at
 
-  pub less_kept : AreQuotas (remove quotas p)
+  pub less_kept : AreSmallQuotas (remove quotas p)
   less_kept =
       let size : length (remove quotas p) + 1 ≡ length quotas = length-remove quotas p at.within in
       let few = kept.few in
@@ -110,11 +110,11 @@ module _ (quotas : List QuotaRow) (folder p : ℕ) (r : QuotaRow) (kept : AreQuo
   less_texts = ap (λ n. n + quota_bytes r) (ap quota_texts less_is) ∙ sum_by-without_row folder_of quota_bytes folder r quotas kept.ascending (read_found quotas folder p r at read)
 
 -- one changed
-module _ (quotas : List QuotaRow) (folder p : ℕ) (c : QuotaRow → QuotaRow) (r : QuotaRow) (keeps : (row : QuotaRow) → row.folder ≡ folder → (c row).folder ≡ folder) (kept : AreQuotas quotas) (at : IsAt folder_of folder quotas p) (read : r ≡ get_or quotas p r) where
+module _ (quotas : List QuotaRow) (folder p : ℕ) (c : QuotaRow → QuotaRow) (r : QuotaRow) (keeps : (row : QuotaRow) → row.folder ≡ folder → (c row).folder ≡ folder) (kept : AreSmallQuotas quotas) (at : IsAt folder_of folder quotas p) (read : r ≡ get_or quotas p r) where
   change_is : slice_set quotas p (c r) ≡ with_change folder_of folder c quotas
   change_is = set_found folder_of folder c quotas p r kept.ascending at read
 
-  pub change_kept : ((row : QuotaRow) → is_small row ≡ true → is_small (c row) ≡ true) → AreQuotas (slice_set quotas p (c r))
+  pub change_kept : ((row : QuotaRow) → is_small row ≡ true → is_small (c row) ≡ true) → AreSmallQuotas (slice_set quotas p (c r))
   change_kept small =
       let size : length (slice_set quotas p (c r)) ≡ length quotas = length-set quotas p (c r) in
       let few = kept.few in

@@ -16,14 +16,14 @@ abbrev pub is_small : QuotaRow → Bool
 is_small quota = nat_le (quota_bytes quota) most_quota_bytes
 
 -- Each folder has at most one quota, there are no more than may be, and each is small. So the bytes of all texts fit a u32
-pub record AreQuotas (quotas : List QuotaRow) : Type 0 where
+pub record AreSmallQuotas (quotas : List QuotaRow) : Type 0 where
   pub ascending : is_ascending folder_of quotas ≡ true
   pub few : length quotas ≤ most_quotas
   pub small : list_all is_small quotas ≡ true
 
 -- and the bytes of their texts are counted
 pub record AreCounted (quotas : List QuotaRow) (texts : ℕ) : Type 0 where
-  pub are : AreQuotas quotas
+  pub are : AreSmallQuotas quotas
   pub texts_are : texts ≡ quota_texts quotas
 
 -- and the table of places has their folders

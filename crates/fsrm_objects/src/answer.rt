@@ -1,5 +1,10 @@
 //! What the tables answer.
 
+ghost use Rattle.std.specs.Prelude.{◌≡◌};
+
+use fsrm_model::NoMemory;
+use std::alloc::AllocError;
+
 /// Why a row is refused. Of several causes the first in this order decides.
 #[derive(Clone, Copy, Debug, PartialEq, Eq)]
 pub enum ObjectFault {
@@ -13,4 +18,24 @@ pub enum ObjectFault {
     TextsFull,
     /// There was no memory. Nothing in the tables is the cause.
     NoMemory,
+}
+
+impl From<NoMemory> for ObjectFault {
+    ghost use Rattle.fsrm_objects.specs.declared.answer.ObjectFault.{ObjectFault};
+
+    ghost from_gives = { λ _ fault. fault ≡ ObjectFault.NoMemory };
+
+    fn from(_fault: NoMemory) -> Self {
+        ObjectFault::NoMemory
+    }
+}
+
+impl From<AllocError> for ObjectFault {
+    ghost use Rattle.fsrm_objects.specs.declared.answer.ObjectFault.{ObjectFault};
+
+    ghost from_gives = { λ _ fault. fault ≡ ObjectFault.NoMemory };
+
+    fn from(_fault: AllocError) -> Self {
+        ObjectFault::NoMemory
+    }
 }

@@ -63,12 +63,8 @@ impl Objects {
         ensures err { OnErr result (self.new ≡ self.old) }
     {
         let bytes = self.admit(&row, room)?;
-        let Ok(()) = self.quotas.reserve(1) else {
-            return Err(ObjectFault::NoMemory);
-        };
-        let Ok(place) = self.places.insert(row.folder) else {
-            return Err(ObjectFault::NoMemory);
-        };
+        self.quotas.reserve(1)?;
+        let place = self.places.insert(row.folder)?;
         self.quotas.insert(place, row).unwrap();
         self.texts += bytes;
         Ok(())
@@ -96,10 +92,11 @@ impl Objects {
         if self.quotas.len() >= MOST_QUOTAS {
             return Err(ObjectFault::TableFull);
         }
+        let room = u64::from(room);
         let Some(left) = left_of_quota(row, room) else {
             return Err(ObjectFault::TextsFull);
         };
-        Ok(room - left)
+        Ok((room - left) as u32)
     }
 
     /// Gives a folder that has a quota this one in its place. The texts of its actions have at most 1,024

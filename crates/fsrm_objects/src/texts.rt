@@ -1,15 +1,13 @@
 //! How long the lists and the texts of a quota are.
 
-ghost use Rattle.std.specs.Prelude.{◌≡◌, ◌+◌, ◌<◌, ◌^◌, MatchOption, length};
+ghost use Rattle.std.specs.Prelude.{◌≡◌, ◌+◌, ◌<◌, ◌^◌, MatchOption};
 ghost use Rattle.std.specs.List.{list_any};
 ghost use Rattle.fsrm_model.specs.Texts.{action_bytes, quota_bytes};
 ghost use Rattle.fsrm_objects.specs.Tables.{has_long_list, is_crowded};
 
+use fsrm_base::room::left_of_text;
+use fsrm_model::limits::{MOST_ACTIONS, MOST_THRESHOLDS};
 use fsrm_model::{Action, List, QuotaRow, Threshold};
-
-const MOST_THRESHOLDS: usize = 16;
-
-const MOST_ACTIONS: usize = 8;
 
 /// Whether a quota has more thresholds, or one of them more actions, than it may.
 pub fn has_long_list(row: &QuotaRow) -> bool
@@ -32,12 +30,13 @@ pub fn texts_of(row: &QuotaRow) -> u32
     requires { quota_bytes row.now < 2 ^ 32 }
     ensures { result ≡ quota_bytes row.now }
 {
-    let left = left_of_quota(row, u32::MAX).unwrap();
-    u32::MAX - left
+    let room = u64::from(u32::MAX);
+    let left = left_of_quota(row, room).unwrap();
+    (room - left) as u32
 }
 
 /// How much of the room a quota's texts leave; None if they are longer.
-pub fn left_of_quota(row: &QuotaRow, room: u32) -> Option<u32>
+pub fn left_of_quota(row: &QuotaRow, room: u64) -> Option<u64>
     ensures { MatchOption result (room < quota_bytes row.now) (λ left. left + quota_bytes row.now ≡ room) }
 {
     let mut left = room;
@@ -47,7 +46,7 @@ pub fn left_of_quota(row: &QuotaRow, room: u32) -> Option<u32>
     Some(left)
 }
 
-fn left_of_actions(actions: &List<Action>, room: u32) -> Option<u32>
+fn left_of_actions(actions: &List<Action>, room: u64) -> Option<u64>
     ensures { MatchOption result (room < action_bytes actions.now) (λ left. left + action_bytes actions.now ≡ room) }
 {
     let mut left = room;
@@ -55,14 +54,4 @@ fn left_of_actions(actions: &List<Action>, room: u32) -> Option<u32>
         left = left_of_text(action.text.as_str(), left)?;
     }
     Some(left)
-}
-
-fn left_of_text(text: &str, room: u32) -> Option<u32>
-    ensures { MatchOption result (room < length text.now) (λ left. left + length text.now ≡ room) }
-{
-    let bytes = text.len();
-    if bytes > room as usize {
-        return None;
-    }
-    Some(room - bytes as u32)
 }

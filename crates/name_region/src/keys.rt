@@ -44,7 +44,7 @@ fn note_places(places: &mut Vec<u32>, log: &Log)
 }
 
 /// Makes room in the log for a text of so many bytes. If it has none, or if released texts take more bytes than all
-/// others do, the texts are gathered.
+/// others and more than 1 MiB, the texts are gathered.
 pub fn make_room(log: &mut Log, places: &mut Vec<u32>, used: u32, bytes: usize)
     requires indexed { IsIndexed log.old.stored places.old.items }
     requires room { sum_by used_len log.old.stored + bytes ≤ log.old.room }

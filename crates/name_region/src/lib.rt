@@ -6,7 +6,7 @@
 //!
 //! Texts stand in a log, in the order in which they came. A text that was released stays in it, and counts for nothing,
 //! until the log is gathered: then all texts that are left slide down. That is done only if a text doesn't fit, or if the
-//! bytes of texts that were released pass those of all others.
+//! texts that were released have more bytes than all others, and more than 1 MiB.
 #![tactic(auto)]
 
 mod gather;

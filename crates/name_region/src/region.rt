@@ -26,8 +26,8 @@ const SPARE_TEXTS: u32 = 1_024;
 /// A reserved region of bytes, in which texts stand under keys. Contracts see how many bytes it
 /// has for texts, and under each key, from 0, the text or none.
 ///
-/// Only `reserve` takes memory: an eighth more than the bytes, and some 17 bytes for each key. Of these, each text that is
-/// stored takes its bytes and 12 more.
+/// Only `reserve` takes memory: an eighth more than the bytes, and some 17 bytes for each key. Each text that is stored
+/// uses its bytes of it and 12 more.
 #[derive(Drop)]
 pub struct Region {
     bytes: u32,
@@ -79,10 +79,11 @@ impl Region {
         })
     }
 
-    /// Stores a text, and answers its key, below the number of keys. Full exactly where the texts
-    /// would take more bytes than were reserved, otherwise NoKey exactly where all keys are live.
-    /// It takes time for the text's length, and for all texts if they are gathered, which is only if as many bytes as an
-    /// eighth of the region or as all texts have been released since, or keys as an eighth of all.
+    /// Stores a text, and answers its key, below the number of keys. Full exactly if the texts would
+    /// take more bytes than were reserved, else NoKey exactly if all keys are live.
+    /// It takes time for the text's length, and for all texts if they are gathered. That is done only if so much was
+    /// released since the last time: an eighth of the region's bytes, an eighth of its keys, or as many bytes as all
+    /// texts have.
     pub fn store(&mut self, text: &str) -> Result<u32, RegionFault>
         ensures key { IfOk result (λ key. key < length self.old.texts) }
         ensures dead { IfOk result (λ key. text_of self.old key ≡ None) }

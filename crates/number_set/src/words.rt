@@ -18,7 +18,7 @@ pub(crate) fn empty_words(alloc: Global, count: u32) -> Result<Vec<u64>, NoMemor
     Ok(words)
 }
 
-/// Whether the bit of a number is set; none is past the last word.
+/// Whether the bit of a number is set. Past the last word none is.
 pub(crate) fn has_bit(words: &[u64], number: u32) -> bool
     ensures { result ≡ has_bit words.now number }
 {

@@ -1,11 +1,12 @@
 //! The table of places.
 
-ghost use Rattle.std.specs.Prelude.{◌≡◌, ◌<◌, ◌≤◌, [], IfOk, IfErr, OnOk, OnErr, MatchOption, true, false, length};
-ghost use Rattle.fsrm_base.specs.Numbers.{is_in, is_set, itself, with_number, without_number};
+ghost use Rattle.std.specs.Prelude.{◌≡◌, ◌<◌, ◌≤◌, [], IfOk, OnOk, OnErr, MatchOption, true, false, length};
+ghost use Rattle.fsrm_base.specs.Numbers.{is_in, itself, with_number, without_number};
 ghost use Rattle.fsrm_base.specs.Places.{IsAt, IsGap};
 
 use crate::entries::{cover, forget, renumber};
 use fsrm_base::NoMemory;
+use fsrm_base::places::{Key, gap, search};
 use std::alloc::Global;
 use std::marker::Model;
 
@@ -33,23 +34,18 @@ impl Model for PlaceTable {
     ghost invariant = { λ t. IsKept t.numbers t.entries tabled t.room };
 }
 
-// The place of a number, or as an `Err` the place where it is to stand.
-fn search(numbers: &[u32], number: u32) -> Result<usize, usize>
-    requires { is_set numbers.now ≡ true }
-    ensures found { IfOk result (IsAt itself number numbers.now) }
-    ensures free { IfErr result (IsGap itself number numbers.now) }
-{
-    numbers.binary_search_by_key(&number, |number| *number)
-}
+// Each number is its own key.
+struct Itself;
 
-// The place where a number is to stand.
-fn gap(numbers: &[u32], number: u32) -> usize
-    requires set { is_set numbers.now ≡ true }
-    requires absent { is_in numbers.now number ≡ false }
-    ensures { IsGap itself number numbers.now result }
-{
-    match search(numbers, number) {
-        Ok(place) | Err(place) => place,
+impl Key for Itself {
+    ghost use Rattle.fsrm_base.specs.Numbers.{itself};
+
+    type Row = u32;
+
+    ghost key = { itself };
+
+    fn number(row: &u32) -> u32 {
+        *row
     }
 }
 
@@ -85,12 +81,12 @@ impl PlaceTable {
         match self.entries.get(number as usize) {
             Some(entry) => (*entry as usize).checked_sub(1),
             None if number < TABLED => None,
-            None => search(&self.numbers, number).ok(),
+            None => search::<Itself>(&self.numbers, number).ok(),
         }
     }
 
-    /// Puts a number into the list, and answers its place. It runs out of memory only if there is none for
-    /// one more, and then nothing has changed.
+    /// Puts a number into the list, and answers its place. It can run out of memory only if the list has as many
+    /// numbers as memory was reserved for, and then nothing has changed.
     pub fn insert(&mut self, number: u32) -> Result<usize, NoMemory>
         requires absent { is_in self.old.numbers number ≡ false }
         requires few { length self.old.numbers < 65535 }
@@ -100,7 +96,7 @@ impl PlaceTable {
         ensures full { OnErr result (self.old.room ≤ length self.old.numbers) }
     {
         cover(&mut self.entries, number, TABLED)?;
-        let place = gap(&self.numbers, number);
+        let place = gap::<Itself>(&self.numbers, number);
         self.numbers.insert(place, number)?;
         renumber(&mut self.entries, &self.numbers, place);
         Ok(place)

@@ -1,7 +1,8 @@
 use Rattle.std.proofs.Common.{List, ◌≡◌, ◌+◌, ◌-◌, remove, sym, ◌∙◌, ap, subst, arith}
 use Rattle.fsrm_model.specs.declared.row.GroupRow.{GroupRow}
-use Rattle.fsrm_model.specs.Patterns.{all_texts, group_number, texts_of, without_group}
-use Rattle.file_groups.specs.Kept.{IsTable}
+use Rattle.fsrm_model.specs.Patterns.{group_number, without_group}
+use Rattle.fsrm_model.specs.Texts.{group_bytes}
+use Rattle.file_groups.specs.Kept.{IsTable, group_texts}
 use Rattle.file_groups.proofs.GroupLaws.{at_place, less_are, less_texts}
 use Rattle.fsrm_base.proofs.SortedRows.{remove_found}
 use Rattle.file_groups.proofs.groups.Groups.delete.Goals as goal
@@ -11,7 +12,7 @@ invariant_of-self c =
     let groups = c.self.inside.groups.items in
     let place = c.unwrap-place.result in
     let at = at_place c.deref.result.now groups c.args.group place c.search.result c.deref.ensures.value c.unwrap-place.ensures c.search.ensures.found in
-    let sum : all_texts (remove groups place) + texts_of c.index.result.now ≡ all_texts groups = less_texts groups c.args.group place c.index.result.now c.self.invariant.are at c.index.ensures in
+    let sum : group_texts (remove groups place) + group_bytes c.index.result.now ≡ group_texts groups = less_texts groups c.args.group place c.index.result.now c.self.invariant.are at c.index.ensures in
     subst (λ (rows : List GroupRow). IsTable rows (c.self.inside.texts - c.texts_of.result)) (sym c.remove.ensures.items)
     (record {
       are = less_are groups c.args.group place c.self.invariant.are at;

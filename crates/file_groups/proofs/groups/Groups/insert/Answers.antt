@@ -1,6 +1,7 @@
 use Rattle.std.proofs.Common.{List, false, ◌+◌, ◌≤◌, sym, ◌∙◌, ap, subst, arith}
 use Rattle.fsrm_model.specs.declared.row.GroupRow.{GroupRow}
-use Rattle.fsrm_model.specs.Patterns.{group_number, texts_of, with_group}
+use Rattle.fsrm_model.specs.Patterns.{group_number, with_group}
+use Rattle.fsrm_model.specs.Texts.{group_bytes}
 use Rattle.file_groups.specs.Kept.{IsTable}
 use Rattle.fsrm_base.specs.Places.{IsGap}
 use Rattle.file_groups.proofs.FaultLaws.{Admitted, admitted}
@@ -10,13 +11,13 @@ use Rattle.fsrm_base.proofs.SortedRows.{insert_row}
 use Rattle.file_groups.proofs.groups.Groups.insert.Goals as goal
 
 pub texts_of-bytes-requires : goal.texts_of-bytes-requires
-texts_of-bytes-requires c = let its : texts_of c.args.row ≤ 32895 = group_small c.args.row c.requires.valid in omega arith
+texts_of-bytes-requires c = let its : group_bytes c.args.row ≤ 32895 = group_small c.args.row c.requires.valid in omega arith
 
 pub overflow_add-self : goal.overflow_add-self
 overflow_add-self c =
     let groups = c.self.inside.groups.items in
     let may : Admitted groups c.args.row.name = subst (λ (rows : List GroupRow). Admitted rows c.args.row.name) (sym c.self.view_is) (admitted c.args.self.now c.args.row.name false c.requires.admitted) in
-    let its : texts_of c.args.row ≤ 32895 = group_small c.args.row c.requires.valid in
+    let its : group_bytes c.args.row ≤ 32895 = group_small c.args.row c.requires.valid in
     omega (arith, its, may.few, texts_most groups c.self.invariant.are, c.self.invariant.texts_are, c.texts_of-bytes.ensures)
 
 pub invariant_of-self-2 : goal.invariant_of-self-2

@@ -1,16 +1,17 @@
 use Rattle.std.proofs.Common.{List, ◌≡◌, ◌+◌, ◌≤◌, true, not, sym, ◌∙◌, ap, arith}
 use Rattle.std.specs.Prelude.{is_some, slice_set}
 use Rattle.fsrm_model.specs.declared.row.GroupRow.{GroupRow}
-use Rattle.fsrm_model.specs.Patterns.{all_texts, regrouped, texts_of, with_patterns}
+use Rattle.fsrm_model.specs.Patterns.{regrouped, with_patterns}
+use Rattle.fsrm_model.specs.Texts.{group_bytes}
 use Rattle.file_groups.specs.Faults.{patterns_fault}
-use Rattle.file_groups.specs.Kept.{AreGroups}
+use Rattle.file_groups.specs.Kept.{AreGroups, group_texts}
 use Rattle.file_groups.proofs.FaultLaws.{fitting, patterns_fit}
 use Rattle.file_groups.proofs.GroupLaws.{at_place, lent_patterns, less_texts, read_found, changed_is, changed_are, changed_texts}
 use Rattle.file_groups.proofs.PartLaws.{group_small, texts_most}
 use Rattle.file_groups.proofs.groups.Groups.modify.Goals as goal
 
 pub texts_of-requires : goal.texts_of-requires
-texts_of-requires c = let its : texts_of c.in_ok-row.row ≤ 32895 = group_small c.in_ok-row.row c.in_ok-row.ensures.valid in omega arith
+texts_of-requires c = let its : group_bytes c.in_ok-row.row ≤ 32895 = group_small c.in_ok-row.row c.in_ok-row.ensures.valid in omega arith
 
 pub overflow_add-self : goal.overflow_add-self
 overflow_add-self c =
@@ -22,7 +23,7 @@ overflow_add-self c =
     let lent = lent_patterns c.as_ref-members.result c.as_ref-non_members.result c.args.members c.args.non_members old c.as_ref-members.ensures.value c.as_ref-non_members.ensures.value in
     let made : row ≡ regrouped c.args.members c.args.non_members old = c.in_ok-row.ensures.row ∙ lent in
     let after : AreGroups (slice_set groups place row) = changed_are groups c.args.group place old row c.args.members c.args.non_members c.self.invariant.are at c.index-old.ensures made c.in_ok-row.ensures.valid in
-    let sum : all_texts (slice_set groups place row) + texts_of old ≡ all_texts groups + texts_of row = changed_texts groups c.args.group place old row c.args.members c.args.non_members c.self.invariant.are at c.index-old.ensures made in
+    let sum : group_texts (slice_set groups place row) + group_bytes old ≡ group_texts groups + group_bytes row = changed_texts groups c.args.group place old row c.args.members c.args.non_members c.self.invariant.are at c.index-old.ensures made in
     omega (arith, after.few, texts_most (slice_set groups place row) after, sum, less_texts groups c.args.group place old c.self.invariant.are at c.index-old.ensures, c.self.invariant.texts_are, c.texts_of-replaced.ensures, c.texts_of.ensures)
 
 pub invariant_of-self : goal.invariant_of-self
@@ -34,7 +35,7 @@ invariant_of-self c =
     let at = at_place c.deref.result.now groups c.args.group place c.search.result c.deref.ensures.value c.unwrap-place.ensures c.search.ensures.found in
     let lent = lent_patterns c.as_ref-members.result c.as_ref-non_members.result c.args.members c.args.non_members old c.as_ref-members.ensures.value c.as_ref-non_members.ensures.value in
     let made : row ≡ regrouped c.args.members c.args.non_members old = c.in_ok-row.ensures.row ∙ lent in
-    let sum : all_texts (slice_set groups place row) + texts_of old ≡ all_texts groups + texts_of row = changed_texts groups c.args.group place old row c.args.members c.args.non_members c.self.invariant.are at c.index-old.ensures made in
+    let sum : group_texts (slice_set groups place row) + group_bytes old ≡ group_texts groups + group_bytes row = changed_texts groups c.args.group place old row c.args.members c.args.non_members c.self.invariant.are at c.index-old.ensures made in
     record {
       are = changed_are groups c.args.group place old row c.args.members c.args.non_members c.self.invariant.are at c.index-old.ensures made c.in_ok-row.ensures.valid;
       texts_are = omega (arith, sum, less_texts groups c.args.group place old c.self.invariant.are at c.index-old.ensures, c.self.invariant.texts_are, c.texts_of-replaced.ensures, c.texts_of.ensures);
@@ -57,8 +58,8 @@ returns-clause-may c =
     let lent = lent_patterns c.as_ref-members.result c.as_ref-non_members.result c.args.members c.args.non_members old c.as_ref-members.ensures.value c.as_ref-non_members.ensures.value in
     let at = at_place c.deref.result.now groups c.args.group place c.search.result c.deref.ensures.value c.unwrap-place.ensures c.search.ensures.found in
     let some : is_some c.left_of_regrouped.result ≡ true = c.is_none.ensures ∙ ap not c.if-is_none.false in
-    let short : texts_of (regrouped c.args.members c.args.non_members old) ≤ c.args.room + texts_of old =
-    omega (arith, ap texts_of lent, fitting c.left_of_regrouped.result _ _ c.left_of_regrouped.ensures some, c.from.ensures, c.from-2.ensures, c.texts_of-replaced.ensures) in
+    let short : group_bytes (regrouped c.args.members c.args.non_members old) ≤ c.args.room + group_bytes old =
+    omega (arith, ap group_bytes lent, fitting c.left_of_regrouped.result _ _ c.left_of_regrouped.ensures some, c.from.ensures, c.from-2.ensures, c.texts_of-replaced.ensures) in
     ap (λ (rows : List GroupRow). patterns_fault rows c.args.group c.args.members c.args.non_members c.args.room) (sym c.self.view_is)
     ∙ patterns_fit groups c.args.group c.args.room old c.args.members c.args.non_members (read_found groups c.args.group place old at c.index-old.ensures) short
 

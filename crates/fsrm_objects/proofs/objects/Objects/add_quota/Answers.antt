@@ -25,10 +25,10 @@ overflow_add-self c =
 pub invariant_of-self-2 : goal.invariant_of-self-2
 invariant_of-self-2 c =
     let quotas = c.self.inside.quotas.items in
-    let place = c.in-Ok-insert.place in
+    let place = c.in_ok-place.place in
     let may = subst (λ (tables : Tables). Admitted tables c.args.row) (sym c.self.view_is) (admitted c.args.self.now c.args.row c.args.room c.in_ok-bytes.ensures.may) in
     let small : is_small c.args.row ≡ true = quota_small c.args.row may.short c.requires in
-    let gap = gap_row folder_of c.args.row.folder quotas c.self.inside.places.numbers place c.self.invariant.placed c.in-Ok-insert.ensures.place in
+    let gap = gap_row folder_of c.args.row.folder quotas c.self.inside.places.numbers place c.self.invariant.placed c.in_ok-place.ensures.place in
     let put = rw c.unwrap.ensures at c.insert-2.ensures.items in
     let items : c.insert-2.new.self.items ≡ insert quotas place c.args.row = put ∙ ap (λ (rows : List QuotaRow). insert rows place c.args.row) c.reserve.ensures.items in
     record {
@@ -38,15 +38,15 @@ invariant_of-self-2 c =
             texts_are = omega (arith, more_texts quotas c.args.row place gap, c.self.invariant.counted.texts_are, c.in_ok-bytes.ensures.bytes);
           });
       placed =
-          ap (λ (t : Table). t.numbers) c.in-Ok-insert.ensures.ok
+          ap (λ (t : Table). t.numbers) c.in_ok-place.ensures.ok
           ∙ (numbers_inserted folder_of c.args.row quotas place c.self.inside.places.numbers c.self.invariant.placed gap ∙ sym (ap (map folder_of) items));
     }
 
 pub returns-clause-ok : goal.returns-clause-ok
 returns-clause-ok c =
     let quotas = c.self.inside.quotas.items in
-    let place = c.in-Ok-insert.place in
-    let gap = gap_row folder_of c.args.row.folder quotas c.self.inside.places.numbers place c.self.invariant.placed c.in-Ok-insert.ensures.place in
+    let place = c.in_ok-place.place in
+    let gap = gap_row folder_of c.args.row.folder quotas c.self.inside.places.numbers place c.self.invariant.placed c.in_ok-place.ensures.place in
     let put = rw c.unwrap.ensures at c.insert-2.ensures.items in
     let items : c.insert-2.new.self.items ≡ insert quotas place c.args.row = put ∙ ap (λ (rows : List QuotaRow). insert rows place c.args.row) c.reserve.ensures.items in
     ap tables_of (items ∙ insert_row folder_of c.args.row quotas place gap) ∙ ap (λ (tables : Tables). with_quota tables c.args.row) c.self.view_is

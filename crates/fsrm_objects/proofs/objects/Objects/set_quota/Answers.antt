@@ -2,7 +2,7 @@ use Rattle.std.proofs.Common.{◌≡◌, ◌+◌, ◌<◌, ◌≤◌, true, refl
 use Rattle.std.specs.Prelude.{slice_set}
 use Rattle.fsrm_model.specs.Quota.{folder_of}
 use Rattle.fsrm_model.specs.Texts.{quota_bytes}
-use Rattle.fsrm_objects.specs.Kept.{AreQuotas, is_small}
+use Rattle.fsrm_objects.specs.Kept.{AreSmallQuotas, is_small}
 use Rattle.fsrm_objects.specs.Tables.{Tables, other_fault, with_other}
 use Rattle.fsrm_objects.proofs.FaultLaws.{replaced_due, replaced_fits}
 use Rattle.fsrm_objects.proofs.QuotaRows.{at_place, change_kept, change_texts, less_texts, quota_small, read_found, small_fits, tables_of, texts_most}
@@ -33,7 +33,7 @@ overflow_add-self c =
     let place = c.unwrap-place.result in
     let at = at_place quotas c.args.self.now folder place c.place.result c.self.view_is c.unwrap-place.ensures c.place.ensures in
     let small : is_small c.args.row ≡ true = quota_small c.args.row (sym c.has_long_list.ensures ∙ c.if-has_long_list.false) c.requires.texts in
-    let kept : AreQuotas (slice_set quotas place c.args.row) = change_kept quotas folder place (λ q. c.args.row) old (λ q is. refl) c.self.invariant.counted.are at c.index.ensures (λ q is. small) in
+    let kept : AreSmallQuotas (slice_set quotas place c.args.row) = change_kept quotas folder place (λ q. c.args.row) old (λ q is. refl) c.self.invariant.counted.are at c.index.ensures (λ q is. small) in
     omega (
       arith,
       kept.few,
