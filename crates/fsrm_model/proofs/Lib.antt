@@ -3,4 +3,4 @@ pub mod commands
 pub mod lines
 pub mod nodes
 pub mod valid
-pub mod Cuts
+pub mod FirstNames

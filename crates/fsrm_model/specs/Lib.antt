@@ -29,7 +29,6 @@ pub mod Cost
 pub mod Date
 pub mod Text
 pub mod Reading
-pub mod Pieces
 pub mod PathNames
 pub mod Words
 pub mod Options

@@ -1,9 +1,13 @@
 -- The names of a path.
 use Rattle.std.specs.Prelude.{ℕ, List}
+use Rattle.std.specs.List.{slice_split}
+use Rattle.fsrm_model.specs.Reading.{is_backslash, without_last_empty}
 use Rattle.fsrm_model.specs.declared.path.Names.{Names}
-use Rattle.fsrm_model.specs.declared.path.Names.TheVariants.{Joined, Apart}
 
--- the names, whether one text has them or each has its own
-abbrev pub names_of : Names → List (List ℕ)
-names_of (Joined names) = names
-names_of (Apart names) = names
+-- what stands between the backslashes. A last backslash ends the path
+abbrev pub parts_of : List ℕ → List (List ℕ)
+parts_of rest = without_last_empty (slice_split is_backslash rest)
+
+-- the names that are still to come
+unfoldable pub left : Names → List (List ℕ)
+left names = parts_of names.rest.now

@@ -1,5 +1,5 @@
 -- Patterns of file names, and file groups, which they make up (MS-FSRM, IFsrmFileGroup).
-use Rattle.std.specs.Prelude.{ℕ, ◌+◌, ◌==◌, ◌&&◌, ◌||◌, nat_lt, nat_le, Bool, true, false, not, List, [], ◌∷◌, length, sum_by, find, option_map, unwrap_or, Option, bytes_eq, chars, codes, if◌then◌else◌}
+use Rattle.std.specs.Prelude.{ℕ, ◌==◌, ◌&&◌, ◌||◌, nat_lt, nat_le, Bool, true, false, not, List, [], ◌∷◌, length, find, option_map, unwrap_or, Option, bytes_eq, chars, codes, if◌then◌else◌}
 use Rattle.std.specs.List.{list_any, list_all}
 use Rattle.std.specs.Option.{option_map_or}
 use Rattle.ucd_case.specs.CaseFolding.{simple_fold}
@@ -61,16 +61,6 @@ is_object_byte b = (nat_le 32 b && not (b == 127)) && not (b == 124)
 abbrev pub is_object_name : List ℕ → Bool
 is_object_name text =
     (nat_lt 0 (length text) && nat_le (length text) longest_name) && list_all is_object_byte text
-
--- the bytes of texts, of those of a group (its name and all its patterns), and of those of all groups
-abbrev pub texts_bytes : List (List ℕ) → ℕ
-texts_bytes texts = sum_by (λ text. length text) texts
-
-abbrev pub texts_of : GroupRow → ℕ
-texts_of group = length group.name + (texts_bytes group.members + texts_bytes group.non_members)
-
-abbrev pub all_texts : List GroupRow → ℕ
-all_texts groups = sum_by texts_of groups
 
 abbrev pub group_number : GroupRow → ℕ
 group_number group = group.number

@@ -71,8 +71,8 @@ known refusal (Some x) = Ok x
 abbrev pub units : List (List ℕ × ℕ)
 units = ([], 1) ∷ (codes "kb", 2 ^ 10) ∷ (codes "mb", 2 ^ 20) ∷ (codes "gb", 2 ^ 30) ∷ (codes "tb", 2 ^ 40) ∷ []
 
-abbrev pub bytes_of : List ℕ → Option ℕ
-bytes_of unit = option_map (λ (row : List ℕ × ℕ). row.1) (find (λ (row : List ℕ × ℕ). str_eq_ignore_ascii_case row.0 unit) units)
+abbrev pub unit_bytes : List ℕ → Option ℕ
+unit_bytes unit = option_map (λ (row : List ℕ × ℕ). row.1) (find (λ (row : List ℕ × ℕ). str_eq_ignore_ascii_case row.0 unit) units)
 
 -- the digits that a text begins with
 abbrev pub digits_of : List ℕ → List ℕ
@@ -82,7 +82,7 @@ digits_of text = take (prefix_len is_ascii_digit text) text
 abbrev pub limit_from : ℕ → List ℕ → Read ℕ
 limit_from column text = do
   digits ← guarded (nat_lt 0 (length (digits_of text))) (BadLine column) (digits_of text)
-  bytes ← known (BadLine column) (bytes_of (drop (length digits) text))
+  bytes ← known (BadLine column) (unit_bytes (drop (length digits) text))
   let limit = digits_value 10 digits * bytes in guarded (is_limit limit) InvalidLimit limit
 
 -- one of two words, in letters of either case

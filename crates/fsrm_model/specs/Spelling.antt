@@ -13,7 +13,7 @@ use Rattle.fsrm_model.specs.Limits.{latest_moment, longest_file, longest_line, l
 use Rattle.fsrm_model.specs.Name.{is_name}
 use Rattle.fsrm_model.specs.Options.{Key, Given, PathIs, LimitIs, TypeIs, StatusIs, key_of, may_repeat, is_of, is_colon, key_named}
 use Rattle.fsrm_model.specs.Quota.{is_limit}
-use Rattle.fsrm_model.specs.Reading.{is_number, bytes_of}
+use Rattle.fsrm_model.specs.Reading.{is_number, unit_bytes}
 use Rattle.fsrm_model.specs.Tools.{Names, named, ToolCommand, tools}
 use Rattle.fsrm_model.specs.Words.{is_blank, is_quote}
 
@@ -87,7 +87,7 @@ pub record WritesLimit (text : List ℕ) (limit : ℕ) : Type 0 where
   pub text_is : text ≡ digits ++ unit
   pub some : 0 < length digits
   pub each : list_all is_ascii_digit digits ≡ true
-  pub unit_is : bytes_of unit ≡ Some bytes
+  pub unit_is : unit_bytes unit ≡ Some bytes
   pub value : digits_value 10 digits * bytes ≡ limit
   pub legal : is_limit limit ≡ true
 

@@ -9,8 +9,8 @@ use Rattle.fsrm_model.specs.declared.row.Rows.{Rows}
 use Rattle.fsrm_model.specs.declared.row.TemplateRow.{TemplateRow}
 use Rattle.fsrm_model.specs.declared.row.Threshold.{Threshold}
 
-abbrev pub bytes_of : List (List ℕ) → ℕ
-bytes_of texts = sum_by (λ text. length text) texts
+abbrev pub texts_bytes : List (List ℕ) → ℕ
+texts_bytes texts = sum_by (λ text. length text) texts
 
 abbrev pub action_bytes : List Action → ℕ
 action_bytes actions = sum_by (λ action. length action.text) actions
@@ -26,7 +26,7 @@ abbrev pub template_bytes : TemplateRow → ℕ
 template_bytes template = length template.name + threshold_bytes template.thresholds
 
 abbrev pub group_bytes : GroupRow → ℕ
-group_bytes group = length group.name + bytes_of group.members + bytes_of group.non_members
+group_bytes group = length group.name + (texts_bytes group.members + texts_bytes group.non_members)
 
 abbrev pub job_bytes : JobRow → ℕ
 job_bytes job = length job.name + length job.schedule + option_map_or (λ pattern. length pattern) job.filter.pattern 0
@@ -36,7 +36,7 @@ abbrev pub object_texts : Rows → ℕ
 object_texts R =
     sum_by quota_bytes R.quotas
     + sum_by template_bytes R.templates
-    + sum_by (λ auto. bytes_of auto.excluded) R.autos
+    + sum_by (λ auto. texts_bytes auto.excluded) R.autos
     + sum_by group_bytes R.groups
     + sum_by (λ screen. action_bytes screen.actions) R.screens
     + sum_by job_bytes R.jobs

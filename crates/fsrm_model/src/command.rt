@@ -4,8 +4,8 @@ use crate::path::Path;
 use crate::row::{Action, ActionKind};
 use fsrm_base::{List, Text};
 
-/// Why a command is refused. A refused command changes nothing. Those up to `InvalidLimit` come from
-/// reading the line alone.
+/// Why a command is refused. A refused command changes nothing. The refusals up to `InvalidLimit` come
+/// from reading the line alone.
 #[derive(Clone, Copy, Debug, PartialEq, Eq)]
 pub enum Refusal {
     /// A word of the line hasn't its form, or is missing. The column counts bytes from 1.

@@ -2,7 +2,7 @@
 //! outcomes, and, in `specs/`, the plain machine.
 //!
 //! The definitions compute: worked scripts are theorems. `laws` has functions whose contracts are the laws of the
-//! definitions, so that the gate owes them.
+//! definitions, so that the gate proves them.
 #![tactic(auto)]
 
 pub mod command;
@@ -16,7 +16,7 @@ pub mod space;
 
 pub use command::{Act, Added, Answer, Ask, Command, Deed, FileOp, Outcome, Refusal, Subject};
 pub use fsrm_base::{Duplicate, Ledger, List, NoMemory, Steps, Text, Weightless, WeightlessPage};
-pub use path::Path;
+pub use path::{Names, Path};
 pub use report::{ReportRow, Table};
 pub use row::{
     ActRow, Action, ActionKind, AuditRow, AutoRow, Capacity, ExceptRow, Filter, GroupRow, JobRow,

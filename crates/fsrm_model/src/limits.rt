@@ -2,7 +2,7 @@
 //! definitions.
 
 ghost use Rattle.std.specs.Prelude.{◌≡◌};
-ghost use Rattle.fsrm_model.specs.Limits.{latest_moment, longest_file, last_owner, longest_line, longest_script, longest_name, least_limit, greatest_limit, most_quotas, most_text_bytes, most_visits};
+ghost use Rattle.fsrm_model.specs.Limits.{latest_moment, longest_file, last_owner, longest_line, longest_entry, longest_script, longest_name, most_nodes, most_names, least_limit, greatest_limit, most_quotas, most_thresholds, most_actions, most_groups, most_text_bytes, most_visits};
 
 /// The greatest moment: 2099-12-31 23:59:59 UTC, in seconds since 1970-01-01 00:00:00 UTC.
 pub const LATEST_MOMENT: u64 = 4_102_444_799;
@@ -16,11 +16,20 @@ pub const LAST_OWNER: u32 = 4_294_967_295;
 /// The bytes of the longest line that is read, its end not counted.
 pub const LONGEST_LINE: usize = 65_536;
 
+/// The bytes of the longest entry of a journal.
+pub const LONGEST_ENTRY: usize = 131_072;
+
 /// The bytes of a script that are read.
 pub const LONGEST_SCRIPT: u64 = 4_294_967_296;
 
 /// The bytes of the longest name. A pattern of file names has as many at most.
 pub const LONGEST_NAME: usize = 255;
+
+/// The nodes of the largest store.
+pub const MOST_NODES: u32 = 1_048_576;
+
+/// The bytes of all names of nodes of the largest store.
+pub const MOST_NAMES: u32 = 268_435_456;
 
 /// The least limit of a quota, in bytes.
 pub const LEAST_LIMIT: u64 = 1_024;
@@ -30,6 +39,15 @@ pub const GREATEST_LIMIT: u64 = 1_152_921_504_606_846_976;
 
 /// How many quotas there may be.
 pub const MOST_QUOTAS: usize = 4_096;
+
+/// How many thresholds a quota may have.
+pub const MOST_THRESHOLDS: usize = 16;
+
+/// How many actions a threshold may have.
+pub const MOST_ACTIONS: usize = 8;
+
+/// How many file groups there may be.
+pub const MOST_GROUPS: usize = 1_024;
 
 /// The bytes of all texts of objects.
 pub const MOST_TEXT_BYTES: u32 = 4_194_304;
@@ -43,11 +61,17 @@ pub fn limits()
     ensures longest_file { LONGEST_FILE ≡ longest_file }
     ensures last_owner { LAST_OWNER ≡ last_owner }
     ensures longest_line { LONGEST_LINE ≡ longest_line }
+    ensures longest_entry { LONGEST_ENTRY ≡ longest_entry }
     ensures longest_script { LONGEST_SCRIPT ≡ longest_script }
     ensures longest_name { LONGEST_NAME ≡ longest_name }
+    ensures most_nodes { MOST_NODES ≡ most_nodes }
+    ensures most_names { MOST_NAMES ≡ most_names }
     ensures least_limit { LEAST_LIMIT ≡ least_limit }
     ensures greatest_limit { GREATEST_LIMIT ≡ greatest_limit }
     ensures most_quotas { MOST_QUOTAS ≡ most_quotas }
+    ensures most_thresholds { MOST_THRESHOLDS ≡ most_thresholds }
+    ensures most_actions { MOST_ACTIONS ≡ most_actions }
+    ensures most_groups { MOST_GROUPS ≡ most_groups }
     ensures most_text_bytes { MOST_TEXT_BYTES ≡ most_text_bytes }
     ensures most_visits { MOST_VISITS ≡ most_visits }
 {}

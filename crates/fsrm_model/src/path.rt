@@ -1,92 +1,24 @@
 //! Paths of the volume, by their names.
 
-ghost use Rattle.std.specs.Prelude.{◌≡◌, ◌<◌, ◌≤◌, ◌^◌, length, slice_get, Some, true, IfOk};
-ghost use Rattle.std.specs.List.{list_all};
+ghost use Rattle.std.specs.Prelude.{◌≡◌, ◌<◌, ◌∷◌, true, length, take, drop};
+ghost use Rattle.std.specs.List.{list_all, position_or_len};
+ghost use Rattle.std.specs.Str.{IsCharBoundary};
 ghost use Rattle.std.specs.String.{string_bytes};
 ghost use Rattle.fsrm_model.specs.Name.{is_name};
-ghost use Rattle.fsrm_model.specs.Pieces.{pieces, are_ends, start_of};
+ghost use Rattle.fsrm_model.specs.PathNames.{parts_of, left};
+ghost use Rattle.fsrm_model.specs.Reading.{is_backslash};
 
-use fsrm_base::{Duplicate, List, NoMemory, Text};
+use fsrm_base::{Duplicate, NoMemory};
 use std::alloc::Global;
 use std::marker::Model;
 
-/// Names that one text has, with a backslash after each but the last. Contracts see it as the list of the names.
-#[derive(Drop)]
-struct Joined {
-    text: String,
-    /// Where each name ends in the text.
-    ends: Vec<usize>,
-}
-
-impl Model for Joined {
-    ghost use Rattle.std.specs.Prelude.{◌≡◌, List as Items, ℕ, true};
-    ghost use Rattle.std.specs.String.{string_bytes};
-    ghost use Rattle.fsrm_model.specs.Pieces.{pieces, are_ends};
-
-    ghost Value = { Items (Items ℕ) };
-
-    ghost view = { λ j. pieces (string_bytes j.text) 0 j.ends.items };
-
-    ghost invariant = { λ j. are_ends (string_bytes j.text) 0 j.ends.items ≡ true };
-}
-
-// Where the name at a place begins.
-fn start_of(ends: &[usize], place: usize) -> usize
-    requires place { place ≤ length ends.now }
-    requires fits { start_of 0 ends.now place < 2 ^ 64 }
-    ensures { result ≡ start_of 0 ends.now place }
-{
-    if place == 0 { 0 } else { ends[place - 1] + 1 }
-}
-
-// The piece of a text at a place, from 0, if the text is cut at these ends.
-fn piece<'t>(text: &'t str, ends: &[usize], place: usize) -> &'t str
-    requires ends { are_ends text.now 0 ends.now ≡ true }
-    requires place { place < length ends.now }
-    ensures { slice_get (pieces text.now 0 ends.now) place ≡ Some result.now }
-{
-    let start = start_of(ends, place);
-    let end = ends[place];
-    &text[start..end]
-}
-
-#[tactic(auto, using(crate::proofs::Cuts::length_pieces))]
-impl Joined {
-    fn len(&self) -> usize
-        ensures { result ≡ length self.now }
-    {
-        self.ends.len()
-    }
-
-    fn part(&self, place: usize) -> &str
-        requires { place < length self.now }
-        ensures { slice_get self.now place ≡ Some result.now }
-    {
-        piece(self.text.as_str(), self.ends.as_slice(), place)
-    }
-
-    fn copy(&self) -> Result<Joined, NoMemory>
-        ensures { IfOk result (λ copy. copy ≡ self.now) }
-    {
-        Ok(Joined {
-            text: self.text.clone()?,
-            ends: self.ends.clone()?,
-        })
-    }
-}
-
-// The names of a path: joined in one text, as a line has them, or each in a text of its own.
-#[derive(Drop)]
-enum Names {
-    Joined(Joined),
-    Apart(List<Text>),
-}
-
 /// A path from the root `D:\` down. Contracts see it as the list of its names, which are all
 /// valid; the root's path has none.
+// One text has the names, so a path takes memory once. They are cut out of it as they are walked.
 #[derive(Drop)]
 pub struct Path {
-    names: Names,
+    text: String,
+    depth: usize,
 }
 
 impl Model for Path {
@@ -94,68 +26,107 @@ impl Model for Path {
 
     ghost Value = { Items (Items ℕ) };
 
-    ghost use Rattle.std.specs.Prelude.{◌≡◌, true};
+    ghost use Rattle.std.specs.Prelude.{◌≡◌, true, length};
     ghost use Rattle.std.specs.List.{list_all};
+    ghost use Rattle.std.specs.String.{string_bytes};
     ghost use Rattle.fsrm_model.specs.Name.{is_name};
-    ghost use Rattle.fsrm_model.specs.PathNames.{names_of};
+    ghost use Rattle.fsrm_model.specs.PathNames.{parts_of};
 
-    ghost view = { λ p. names_of p.names };
+    ghost view = { λ p. parts_of (string_bytes p.text) };
 
-    ghost invariant = { λ p. list_all is_name (names_of p.names) ≡ true };
+    ghost invariant = { λ p. (list_all is_name (parts_of (string_bytes p.text)) ≡ true) × (p.depth ≡ length (parts_of (string_bytes p.text))) };
 }
 
 impl Path {
-    /// The path of these names, each of which is valid.
-    pub fn from_parts(parts: List<Text>) -> Path
-        requires { list_all is_name parts ≡ true }
-        ensures { result ≡ parts }
+    /// The path of the names that a text has, so many, with a backslash after each but the last, which may have one
+    /// too. Each is valid.
+    pub fn from_joined(text: String, depth: usize) -> Path
+        requires names { list_all is_name (parts_of (string_bytes text)) ≡ true }
+        requires depth { depth ≡ length (parts_of (string_bytes text)) }
+        ensures { result ≡ parts_of (string_bytes text) }
     {
-        Path {
-            names: Names::Apart(parts),
-        }
-    }
-
-    /// The path of the names that end at these places of a text, from its front on. A backslash stands after each one,
-    /// or the text ends there; each is valid.
-    pub fn from_joined(text: String, ends: Vec<usize>) -> Path
-        requires ends { are_ends (string_bytes text) 0 ends.items ≡ true }
-        requires names { list_all is_name (pieces (string_bytes text) 0 ends.items) ≡ true }
-        ensures { result ≡ pieces (string_bytes text) 0 ends.items }
-    {
-        Path {
-            names: Names::Joined(Joined { text, ends }),
-        }
+        Path { text, depth }
     }
 
     /// How many names it has.
     pub fn depth(&self) -> usize
         ensures { result ≡ length self.now }
     {
-        match &self.names {
-            Names::Joined(joined) => joined.len(),
-            Names::Apart(parts) => parts.len(),
-        }
+        self.depth
     }
 
-    /// The name at a place, from 0 at the root's side.
-    pub fn part(&self, place: usize) -> &str
-        requires { place < length self.now }
-        ensures part { slice_get self.now place ≡ Some result.now }
-        ensures name { is_name result.now ≡ true }
+    /// Its names, from the root's side on.
+    pub fn names(&self) -> Names<'_>
+        ensures names { left result ≡ self.now }
+        ensures valid { list_all is_name (left result) ≡ true }
     {
-        match &self.names {
-            Names::Joined(joined) => joined.part(place),
-            Names::Apart(parts) => parts.get(place).unwrap().as_str(),
+        Names {
+            rest: self.text.as_str(),
         }
     }
 }
 
 impl Duplicate for Path {
-    fn copy(&self, alloc: Global) -> Result<Self, NoMemory> {
-        let names = match &self.names {
-            Names::Joined(joined) => Names::Joined(joined.copy()?),
-            Names::Apart(parts) => Names::Apart(parts.copy(alloc)?),
-        };
-        Ok(Path { names })
+    fn copy(&self, _alloc: Global) -> Result<Self, NoMemory> {
+        Ok(Path {
+            text: self.text.clone()?,
+            depth: self.depth,
+        })
+    }
+}
+
+/// The names of a path that are still to come.
+#[derive(Clone, Copy)]
+pub struct Names<'a> {
+    rest: &'a str,
+}
+
+// How many bytes a text has before its first backslash. Most names are too short for a search of many bytes at once.
+fn first_len(text: &[u8]) -> usize
+    ensures { result ≡ position_or_len is_backslash text.now }
+{
+    for (place, byte) in text.iter().enumerate() {
+        if *byte == b'\\' {
+            return place;
+        }
+    }
+    text.len()
+}
+
+fn before(text: &str, place: usize) -> &str
+    requires { IsCharBoundary text.now place }
+    ensures { result.now ≡ take place text.now }
+{
+    &text[..place]
+}
+
+fn after(text: &str, place: usize) -> &str
+    requires { IsCharBoundary text.now place }
+    ensures { result.now ≡ drop place text.now }
+{
+    &text[place..]
+}
+
+// The first name that a text has, and what stands after the backslash that ends it.
+fn first_name(text: &str) -> (&str, &str)
+    requires { 0 < length (parts_of text.now) }
+    ensures { parts_of text.now ≡ result.0.now ∷ parts_of result.1.now }
+{
+    let end = first_len(text.as_bytes());
+    if end == text.len() {
+        return (text, "");
+    }
+    (before(text, end), after(text, end + 1))
+}
+
+impl<'a> Names<'a> {
+    /// Takes the next name. One has to be left.
+    pub fn next(&mut self) -> &'a str
+        requires { 0 < length (left self.old) }
+        ensures { left self.old ≡ result.now ∷ left self.new }
+    {
+        let (name, rest) = first_name(self.rest);
+        self.rest = rest;
+        name
     }
 }

@@ -11,7 +11,7 @@ pub enum ReportRow {
         node: u32,
         alloc: u64,
     },
-    /// All files of one type: the folded text after the last point of their names. It is empty for those that have no
+    /// All files of one type: the folded text after the last dot of their names. It is empty for those that have no
     /// such text.
     Kind {
         name: Text,

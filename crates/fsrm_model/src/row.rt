@@ -3,7 +3,7 @@
 //! exceptions and report jobs, beside the folders and files that they govern.
 //!
 //! Moments are seconds since 1970-01-01 00:00:00 UTC, up to 4,102,444,799. Lists of rows ascend
-//! by their number or folder, each at most once; logs stand oldest first.
+//! by number or folder, and have each at most once; logs begin with the oldest entry.
 
 ghost use Rattle.std.specs.Prelude.{◌≡◌};
 ghost use Rattle.fsrm_model.specs.Quota.{is_complete};

@@ -3,6 +3,5 @@ pub mod Fronts
 pub mod Splits
 pub mod Names
 pub mod Taken
-pub mod EndLaws
 pub mod NameBytes
 pub mod PrefixLaws

@@ -6,7 +6,7 @@ use Rattle.std.proofs.lemmas.Bool.{false≢true, lt-ltb}
 use Rattle.fsrm_model.specs.Limits.{longest_name}
 use Rattle.fsrm_model.specs.Name.{is_name, is_name_byte}
 use Rattle.fsrm_model.specs.Reading.{path_from, path_parts, is_on_volume, has_path_form}
-use Rattle.name_rules.specs.Parts.{parts_of}
+use Rattle.fsrm_model.specs.PathNames.{parts_of}
 use Rattle.fsrm_base.proofs.TestLaws.{and_false, both}
 
 -- an item that fails a test

@@ -1,5 +1,5 @@
 -- The first characters of names as numbers.
-use Rattle.std.proofs.Common.{◌≡◌, ℕ, zero, suc, ◌+◌, ◌-◌, ◌*◌, ◌^◌, ◌<◌, ◌≤◌, nat_lt, Bool, true, false, cond, inl, inr, List, [], ◌∷◌, drop, drop-cons, get_or, Ordering, Less, Equal, Greater, refl, sym, ◌∙◌, ap, subst, arith, pow-suc, add-mul, add_assoc, mul_assoc, mul_comm, one-mul, zero-add, zero-mul, length}
+use Rattle.std.proofs.Common.{◌≡◌, ℕ, zero, suc, ◌+◌, ◌-◌, ◌*◌, ◌^◌, ◌<◌, ◌≤◌, nat_lt, Bool, true, false, inl, inr, List, [], ◌∷◌, drop, drop-cons, get_or, Ordering, Less, Equal, Greater, refl, sym, ◌∙◌, ap, arith, pow-suc, add-mul, add_assoc, mul_assoc, mul_comm, one-mul, zero-add, zero-mul, length}
 use Rattle.std.specs.Prelude.{if◌then◌else◌, min, map}
 use Rattle.std.specs.Ordering.{nat_cmp, ordering_then, ordering_reverse}
 use Rattle.std.specs.Char.{to_ascii_lowercase}

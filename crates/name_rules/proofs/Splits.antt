@@ -14,17 +14,13 @@ use Rattle.std.proofs.lemmas.List.{nil_from_length}
 use Rattle.std.proofs.lemmas.List.Elements.{All-nil, All-cons}
 use Rattle.std.proofs.lemmas.List.Splits.{slice_split_none, slice_split_at, length-slice_split}
 use Rattle.fsrm_model.specs.Reading.{is_backslash, without_last_empty}
-use Rattle.name_rules.specs.Parts.{parts_of}
+use Rattle.fsrm_model.specs.PathNames.{parts_of}
+use Rattle.fsrm_model.proofs.FirstNames.{more_parts}
 
 -- ---- a part is taken off
 one_part : (x : List ℕ) → 0 < length x → without_last_empty (x ∷ []) ≡ x ∷ []
 one_part [] some = absurd (omega arith)
 one_part (b ∷ x) some = refl
-
-more_parts : (x : List ℕ) (parts : List (List ℕ)) → 0 < length parts → without_last_empty (x ∷ parts) ≡ x ∷ without_last_empty parts
-more_parts x [] some = absurd (omega arith)
-more_parts [] (part ∷ parts) some = refl
-more_parts (b ∷ x) (part ∷ parts) some = refl
 
 no_backslash : (x : List ℕ) → all (Other 92) x → All (λ b. is_backslash b ≡ false) x
 no_backslash [] none = All-nil (λ b. is_backslash b ≡ false)

@@ -1,17 +1,18 @@
 -- The first part of a text, if its bytes may stand in a name.
-use Rattle.std.proofs.Common.{◌≡◌, ℕ, suc, ◌+◌, ◌-◌, ◌<◌, ◌≤◌, ◌==◌, ◌||◌, ◌&&◌, Bool, true, false, cond, List, [], ◌∷◌, ◌++◌, length, take, drop, get_or, ap, sym, subst, refl, ◌∙◌, arith}
+use Rattle.std.proofs.Common.{◌≡◌, ℕ, suc, ◌+◌, ◌<◌, ◌≤◌, ◌==◌, ◌||◌, ◌&&◌, Bool, true, false, cond, List, [], ◌∷◌, ◌++◌, length, take, drop, get_or, ap, sym, subst, refl, ◌∙◌, arith}
 use mathlib.Core.Logic.{⊎_elim}
 use Rattle.std.specs.Prelude.{slice_index}
 use Rattle.std.proofs.lemmas.Bool.Decides.{nat_tests}
 use Rattle.std.specs.List.{All, list_all, prefix_len, slice_split, onto_first}
-use Rattle.std.proofs.lemmas.List.{take-append-drop, take_all, drop_all, drop_more, drop-drop, get_or-drop, length-drop}
+use Rattle.std.proofs.lemmas.List.{take-append-drop, take_all, drop_all, drop_more, drop-drop}
 use Rattle.std.proofs.lemmas.List.Elements.{All-nil, All-cons}
 use Rattle.std.proofs.lemmas.List.Splits.{slice_split-cons_no}
 use Rattle.std.proofs.lemmas.List.Sums.{prefix_len-le-length, prefix_len_stops}
-use Rattle.fsrm_base.proofs.TestLaws.{both, is_or, is_or_not, eq_is, eq_test, clash, neither, or_later}
+use Rattle.fsrm_base.proofs.TestLaws.{both, is_or, is_or_not, eq_is, clash, neither}
 use Rattle.fsrm_model.specs.Name.{is_name, is_name_byte}
 use Rattle.fsrm_model.specs.Reading.{is_backslash, without_last_empty}
-use Rattle.name_rules.specs.Parts.{parts_of, IsFirstName}
+use Rattle.fsrm_model.specs.PathNames.{parts_of}
+use Rattle.name_rules.specs.Parts.{IsFirstName}
 use Rattle.name_rules.proofs.Names.{all_broken, not_named}
 use Rattle.name_rules.proofs.Splits.{parts_of_last, parts_of_more}
 
@@ -127,30 +128,6 @@ module _ (part : List ℕ) (count : ℕ) (is : count ≡ prefix_len is_name_byte
   }
 
 -- ---- the same at a place of the rest of a path
-pub record IsNext (rest : List ℕ) (start end : ℕ) : Type 0 where
-  pub order : start ≤ end
-  pub ended : (slice_index rest end == 92 || end == length rest) ≡ true
-  pub name : is_name (take (end - start) (drop start rest)) ≡ true
-  pub parts : parts_of (drop start rest) ≡ take (end - start) (drop start rest) ∷ parts_of (drop (end + 1) rest)
-
-last_place : (all start count size : ℕ) → start < all → size ≡ all - start → count ≡ size → start + count ≡ all
-last_place all start count size less long is = omega arith
-
-pub next_from : (rest : List ℕ) (start count : ℕ) → start < length rest → IsFirstName (drop start rest) count → IsNext rest start (start + count)
-next_from rest start count less first =
-    let part = drop start rest in
-    let long : length part ≡ length rest - start = length-drop start rest in
-    let size : (start + count) - start ≡ count = omega arith in
-    let read : get_or part count 0 ≡ get_or rest (start + count) 0 = get_or-drop start rest count 0 in
-    let sum : start + (count + 1) ≡ start + count + 1 = omega arith in
-    let after : drop (count + 1) part ≡ drop (start + count + 1) rest = drop-drop (count + 1) start rest ∙ ap (λ n. drop n rest) sum in
-    let place : (slice_index rest (start + count) == 92 || start + count == length rest) ≡ true = ⊎_elim
-    (λ last. or_later (slice_index rest (start + count) == 92) (start + count == length rest) (eq_test (start + count) (length rest) (last_place (length rest) start count (length part) less long (eq_is _ _ last))))
-    (λ at. let is : slice_index rest (start + count) ≡ 92 = sym read ∙ eq_is _ _ at in ap (λ (b : ℕ). b == 92 || start + count == length rest) is)
-    (is_or _ _ first.ended) in
-    record {
-      order = omega arith;
-      ended = place;
-      name = rw size first.name;
-      parts = rw size (first.parts ∙ ap (λ text. take count part ∷ parts_of text) after);
-    }
+pub parts_after : (rest : List ℕ) (start count : ℕ) → IsFirstName (drop start rest) count → parts_of (drop start rest) ≡ take count (drop start rest) ∷ parts_of (drop (start + (count + 1)) rest)
+parts_after rest start count first =
+    first.parts ∙ ap (λ text. take count (drop start rest) ∷ parts_of text) (drop-drop (count + 1) start rest)

@@ -1,12 +1,8 @@
 -- The parts of a path.
 use Rattle.std.specs.Prelude.{◌≡◌, ◌≤◌, ◌+◌, ◌==◌, ◌||◌, ℕ, Bool, true, nat_lt, List, ◌∷◌, length, take, drop, slice_index}
-use Rattle.std.specs.List.{list_all, slice_split}
+use Rattle.std.specs.List.{list_all}
 use Rattle.fsrm_model.specs.Name.{is_name}
-use Rattle.fsrm_model.specs.Reading.{is_backslash, without_last_empty}
-
--- what stands between the backslashes. A last backslash ends the path
-abbrev pub parts_of : List ℕ → List (List ℕ)
-parts_of rest = without_last_empty (slice_split is_backslash rest)
+use Rattle.fsrm_model.specs.PathNames.{parts_of}
 
 -- whether no part is empty
 abbrev pub has_no_empty_part : List ℕ → Bool

@@ -5,13 +5,13 @@
 //! and `fold_cmp` compare the folded characters. `fold_prefix` is the first of them as a number, in the order of names.
 #![tactic(auto)]
 
-mod ends;
 mod name;
 mod order;
+mod parts;
 mod path;
 mod prefix;
 
-pub use name::{Name, NameFault, is_name};
+pub use name::{Name, NameFault, is_dots, is_name, is_name_byte, is_name_length};
 pub use order::{fold_cmp, same_name};
 pub use path::{PathFault, read_path};
 pub use prefix::fold_prefix;

@@ -7,7 +7,7 @@ ghost use Rattle.fsrm_model.specs.Name.{is_name, is_name_byte};
 
 use fsrm_model::limits::LONGEST_NAME;
 use fsrm_model::{NoMemory, Text};
-use std::alloc::Global;
+use std::alloc::{AllocError, AllocFailed, Global};
 use std::marker::Model;
 
 // Whether a byte may stand in a name, by its number: it is asked of each byte of each path.
@@ -40,6 +40,36 @@ pub enum NameFault {
     NoMemory,
 }
 
+impl From<NoMemory> for NameFault {
+    ghost use Rattle.name_rules.specs.declared.name.NameFault.{NameFault};
+
+    ghost from_gives = { λ _ fault. fault ≡ NameFault.NoMemory };
+
+    fn from(_fault: NoMemory) -> Self {
+        NameFault::NoMemory
+    }
+}
+
+impl From<AllocError> for NameFault {
+    ghost use Rattle.name_rules.specs.declared.name.NameFault.{NameFault};
+
+    ghost from_gives = { λ _ fault. fault ≡ NameFault.NoMemory };
+
+    fn from(_error: AllocError) -> Self {
+        NameFault::NoMemory
+    }
+}
+
+impl<T: Drop> From<AllocFailed<T>> for NameFault {
+    ghost use Rattle.name_rules.specs.declared.name.NameFault.{NameFault};
+
+    ghost from_gives = { λ _ fault. fault ≡ NameFault.NoMemory };
+
+    fn from(_error: AllocFailed<T>) -> Self {
+        NameFault::NoMemory
+    }
+}
+
 /// A name: 1 to 255 bytes of UTF-8, without `< > : " / \ | ? *` and the control characters U+0000
 /// to U+001F and U+007F, and neither `.` nor `..`. Contracts see it as its bytes.
 #[derive(Drop)]
@@ -68,10 +98,8 @@ impl Name {
         if !is_name(text) {
             return Err(NameFault::InvalidName);
         }
-        match Text::from_str(alloc, text) {
-            Ok(text) => Ok(Name { text }),
-            Err(NoMemory) => Err(NameFault::NoMemory),
-        }
+        let text = Text::from_str(alloc, text)?;
+        Ok(Name { text })
     }
 
     /// The name's text, lent.
@@ -95,15 +123,10 @@ pub fn is_name(text: &str) -> bool
 pub fn name_len(text: &[u8]) -> usize
     ensures { result ≡ prefix_len is_name_byte text.now }
 {
-    for (place, byte) in text.iter().enumerate() {
-        if !is_name_byte(*byte) {
-            return place;
-        }
-    }
-    text.len()
+    text.iter().take_while(|byte| is_name_byte(**byte)).count()
 }
 
-/// Whether bytes are a name, each of which may stand in one.
+/// Whether bytes that may all stand in a name are one.
 pub fn is_whole_name(bytes: &[u8]) -> bool
     requires { list_all is_name_byte bytes.now ≡ true }
     ensures { result ≡ is_name bytes.now }
@@ -111,7 +134,8 @@ pub fn is_whole_name(bytes: &[u8]) -> bool
     is_name_length(bytes.len()) && !is_dots(bytes)
 }
 
-fn is_name_length(count: usize) -> bool
+/// Whether a name, or a pattern of names, may have so many bytes.
+pub fn is_name_length(count: usize) -> bool
     ensures { result ≡ (nat_lt 0 count && nat_le count longest_name) }
 {
     0 < count && count <= LONGEST_NAME
@@ -123,15 +147,16 @@ fn are_name_bytes(bytes: &[u8]) -> bool
     bytes.iter().all(|byte| is_name_byte(*byte))
 }
 
-// The folder itself, and the one above it.
-fn is_dots(bytes: &[u8]) -> bool
+/// Whether a text is `.` or `..`: the folder itself, or the one above it.
+pub fn is_dots(bytes: &[u8]) -> bool
     ensures { result ≡ (bytes_eq bytes.now (codes ".") || bytes_eq bytes.now (codes "..")) }
 {
     bytes == b".".as_slice() || bytes == b"..".as_slice()
 }
 
+/// Whether a byte may stand in a name.
 #[inline]
-fn is_name_byte(byte: u8) -> bool
+pub fn is_name_byte(byte: u8) -> bool
     ensures { result ≡ is_name_byte byte }
 {
     NAME_BYTES[byte as usize]

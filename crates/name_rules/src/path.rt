@@ -4,11 +4,12 @@ ghost use Rattle.std.specs.Prelude.{◌≡◌, true, false, drop, Ok, Err, IfOk,
 ghost use Rattle.std.specs.List.{list_all};
 ghost use Rattle.fsrm_model.specs.Name.{is_name};
 ghost use Rattle.fsrm_model.specs.Reading.{path_from, is_on_volume};
-ghost use Rattle.name_rules.specs.Parts.{parts_of, has_no_empty_part};
+ghost use Rattle.fsrm_model.specs.PathNames.{parts_of};
+ghost use Rattle.name_rules.specs.Parts.{has_no_empty_part};
 ghost use Rattle.name_rules.specs.PathFaults.{IsFault};
 
-use crate::ends::name_ends;
 use crate::name::NameFault;
+use crate::parts::count_names;
 use fsrm_model::Path;
 use std::alloc::Global;
 
@@ -23,7 +24,7 @@ pub enum PathFault {
     NoMemory,
 }
 
-/// The path that a text is: `D:\`, and names joined by `\`, of which one more may stand at the end.
+/// The path that a text is: `D:\` or `d:\`, and names joined by `\`; one more `\` may stand after the last name.
 pub fn read_path(alloc: Global, text: &str) -> Result<Path, PathFault>
     ensures path { IfOk result (λ path. path_from text.now ≡ Ok path) }
     ensures fault { IfErr result (λ fault. IsFault fault (path_from text.now)) }
@@ -57,11 +58,11 @@ fn read_names(alloc: Global, rest: &str) -> Result<Path, NameFault>
     ensures valid { IfOk result (λ path. list_all is_name path ≡ true) }
     ensures invalid { result ≡ Err NameFault.InvalidName → list_all is_name (parts_of rest.now) ≡ false }
 {
-    let ends = name_ends(alloc, rest.as_bytes())?;
-    match String::from_str(alloc, rest) {
-        Ok(text) => Ok(Path::from_joined(text, ends)),
-        Err(_) => Err(NameFault::NoMemory),
-    }
+    let Some(depth) = count_names(rest.as_bytes()) else {
+        return Err(NameFault::InvalidName);
+    };
+    let text = String::from_str(alloc, rest)?;
+    Ok(Path::from_joined(text, depth))
 }
 
 fn has_no_empty_part(rest: &str) -> bool

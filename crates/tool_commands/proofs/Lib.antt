@@ -1,3 +1,4 @@
+pub mod Fronts
 pub mod Marks
 pub mod WordLengths
 pub mod LineWords

@@ -1,5 +1,5 @@
 -- So many of a unit, as a limit.
-use Rattle.std.proofs.Common.{◌≡◌, ℕ, ◌+◌, ◌*◌, ◌<◌, ◌≤◌, ◌^◌, List, [], ◌∷◌, Bool, true, false, cond, length, take, get_or, refl, ap, ◌∙◌, arith, rules, subst, suc, zero}
+use Rattle.std.proofs.Common.{◌≡◌, ℕ, ◌+◌, ◌*◌, ◌<◌, ◌≤◌, ◌^◌, List, [], ◌∷◌, Bool, true, false, cond, length, take, refl, ap, ◌∙◌, arith, rules, subst, suc}
 use Rattle.std.specs.Prelude.{Result, Ok, Err}
 use Rattle.std.specs.Char.{is_ascii_digit}
 use Rattle.std.specs.List.{list_all, prefix_len}
@@ -8,12 +8,11 @@ use Rattle.std.specs.Str.{IsUtf8, IsCharBoundary}
 use Rattle.std.specs.Str.Parse.{digits_value, ParsesUnsigned}
 use Rattle.std.proofs.lemmas.Bool.Decides.{nat_tests}
 use Rattle.std.proofs.Math.Nat.{mul-le-mul_left}
-use Rattle.std.proofs.lemmas.List.Sums.{prefix_len-le-length, prefix_len_passes}
-use Rattle.std.proofs.lemmas.Str.{IsCharBoundary-start, IsCharBoundary-after_ascii}
 use Rattle.std.proofs.lemmas.Str.Parse.{IsNumeralModel, numerals_by_value, parse_digits}
 use Rattle.fsrm_model.specs.declared.command.Refusal.TheVariants.{InvalidLimit}
 use Rattle.fsrm_model.specs.Quota.{is_limit}
 use Rattle.fsrm_model.specs.Reading.{guarded}
+use Rattle.tool_commands.proofs.Fronts.{front_end}
 
 -- digits have the value of a numeral
 pub own : IsNumeralModel (λ ds. list_all is_ascii_digit ds ≡ true) (digits_value 10)
@@ -66,14 +65,6 @@ digits_taken text bytes front n same n_is front_is =
 digit_is_ascii : (b : ℕ) → is_ascii_digit b ≡ true → b < 128
 digit_is_ascii b h = grind (arith, nat_tests)
 
-digits_end : (text : List ℕ) (n : ℕ) → IsUtf8 text → n ≡ prefix_len is_ascii_digit text → IsCharBoundary text n
-digits_end text zero utf8 e = IsCharBoundary-start text utf8
-digits_end text (suc n) utf8 e =
-    let within = prefix_len-le-length is_ascii_digit text in
-    let digit = prefix_len_passes is_ascii_digit text n 0 (omega arith) in
-    let at : n + 1 ≡ suc n = omega arith in
-    subst (IsCharBoundary text) at (IsCharBoundary-after_ascii text n utf8 (omega arith) (digit_is_ascii (get_or text n 0) digit))
-
 -- a text may be cut after its digits
 pub digits_cut : (text bytes : List ℕ) (n : ℕ) → IsUtf8 text → bytes ≡ text → n ≡ prefix_len is_ascii_digit bytes → IsCharBoundary text n
-digits_cut text bytes n utf8 same n_is = digits_end text n utf8 (n_is ∙ ap (prefix_len is_ascii_digit) same)
+digits_cut text bytes n utf8 same n_is = front_end is_ascii_digit digit_is_ascii text n utf8 (n_is ∙ ap (prefix_len is_ascii_digit) same)

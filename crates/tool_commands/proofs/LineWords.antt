@@ -1,13 +1,13 @@
 -- The words of a text, after its blanks and after its first word.
-use Rattle.std.proofs.Common.{◌≡◌, ℕ, suc, zero, ◌+◌, ◌<◌, ◌≤◌, Bool, true, false, cond, List, [], ◌∷◌, length, take, drop, refl, sym, ap, ◌∙◌, arith, add-zero, inl, inr, get_or, subst}
+use Rattle.std.proofs.Common.{◌≡◌, ℕ, suc, ◌+◌, ◌<◌, ◌≤◌, Bool, true, false, cond, List, [], ◌∷◌, length, take, drop, refl, sym, ap, ◌∙◌, arith, add-zero, inl, inr, get_or, subst}
 use Rattle.std.specs.Prelude.{not, nat_lt, ◌==◌, ◌&&◌, ◌||◌, Some, None}
 use Rattle.std.specs.List.{prefix_len, onto_first}
 use Rattle.std.proofs.lemmas.Bool.{and_parts}
 use Rattle.std.proofs.lemmas.List.{length-take, length-drop}
-use Rattle.std.proofs.lemmas.List.Sums.{prefix_len-le-length, prefix_len_passes}
+use Rattle.std.proofs.lemmas.List.Sums.{prefix_len-le-length}
 use Rattle.std.proofs.lemmas.Bool.Decides.{nat_tests}
 use Rattle.std.proofs.lemmas.Bool.{cases_lt}
-use Rattle.std.proofs.lemmas.Str.{IsCharBoundary-start, IsCharBoundary-end, IsCharBoundary-before_ascii, IsCharBoundary-after_ascii}
+use Rattle.std.proofs.lemmas.Str.{IsCharBoundary-end, IsCharBoundary-before_ascii}
 use Rattle.std.proofs.Math.ListN.{drop_of_length-le}
 use Rattle.std.proofs.Math.Seq.{drop-cons}
 use Rattle.std.specs.Str.{IsUtf8, IsCharBoundary}
@@ -16,6 +16,7 @@ use Rattle.fsrm_model.specs.Words.{Word, is_blank, is_quote, parts_from, words_a
 use Rattle.fsrm_base.proofs.TestLaws.{both, eq_below, lt_is}
 use Rattle.tool_commands.specs.Lengths.{is_plain, IsPlainWord, word_length}
 use Rattle.tool_commands.specs.Taking.{first_column}
+use Rattle.tool_commands.proofs.Fronts.{front_end}
 use Rattle.tool_commands.proofs.Quotes.{without_quotes-plain}
 use Rattle.tool_commands.proofs.WordLengths.{word_length-plain, word_length-le-length, prefix_len-after}
 
@@ -117,12 +118,7 @@ blank_is_ascii : (b : ℕ) → is_blank b ≡ true → b < 128
 blank_is_ascii b h = grind (arith, nat_tests)
 
 pub blanks_end : (text : List ℕ) (n : ℕ) → IsUtf8 text → n ≡ prefix_len is_blank text → IsCharBoundary text n
-blanks_end text zero utf8 e = IsCharBoundary-start text utf8
-blanks_end text (suc n) utf8 e =
-    let within = prefix_len-le-length is_blank text in
-    let blank = prefix_len_passes is_blank text n 0 (omega arith) in
-    let at : n + 1 ≡ suc n = omega arith in
-    subst (IsCharBoundary text) at (IsCharBoundary-after_ascii text n utf8 (omega arith) (blank_is_ascii (get_or text n 0) blank))
+blanks_end = front_end is_blank blank_is_ascii
 
 -- the first word is taken, its quotes in it
 pub taken : (column column' : ℕ) (rest bytes : List ℕ) (n : ℕ) (front after : List ℕ) → bytes ≡ rest → n ≡ word_length false bytes → 0 < n → front ≡ take n rest → after ≡ drop n rest → column' ≡ column + n

@@ -108,7 +108,7 @@ fn step(alloc: Global, moment: u64, words: &mut Words<'_>) -> Result<Option<Comm
     at(moment, Deed::Step { n })
 }
 
-// What the words after a tool's name spell. Its command has more in it than the others.
+// What the words after a tool's name spell. It stands apart, since these commands take more room than the others.
 #[inline(never)]
 fn tool(alloc: Global, moment: u64, words: &mut Words<'_>) -> Result<Option<Command>, LineFault>
     ensures { ReadsWords result (at_moment moment (tool_words dirquota (end words.old) (left words.old))) }
@@ -117,7 +117,8 @@ fn tool(alloc: Global, moment: u64, words: &mut Words<'_>) -> Result<Option<Comm
 }
 
 /// What a command's name and the words after it spell, at its moment.
-// A function zeroes its locals where it begins. Those of all readers are kept from lines that are refused before.
+// A function zeroes its locals when it begins. This one isn't inlined, so a line that is refused before doesn't wait
+// for the locals of all readers.
 #[inline(never)]
 pub fn deed(
     alloc: Global,
@@ -158,7 +159,7 @@ pub fn deed(
     Err(LineFault::bad_line(name.column))
 }
 
-/// The same with a name that has quotes, or is missing.
+/// The same if the name has quotes or is missing.
 #[inline(never)]
 pub fn other_deed(
     alloc: Global,

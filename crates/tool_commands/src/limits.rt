@@ -6,7 +6,7 @@ ghost use Rattle.std.specs.List.{list_all, prefix_len};
 ghost use Rattle.std.specs.Str.Parse.{digits_value};
 ghost use Rattle.fsrm_model.specs.declared.command.Refusal.TheVariants.{InvalidLimit};
 ghost use Rattle.fsrm_model.specs.Quota.{is_limit};
-ghost use Rattle.fsrm_model.specs.Reading.{bytes_of, guarded, limit_from};
+ghost use Rattle.fsrm_model.specs.Reading.{unit_bytes, guarded, limit_from};
 ghost use Rattle.tool_commands.specs.LineFaults.{Reads};
 
 use crate::reading::LineFault;
@@ -19,17 +19,12 @@ use fsrm_model::limits::{GREATEST_LIMIT, LEAST_LIMIT};
 fn digit_count(text: &[u8]) -> usize
     ensures { result ≡ prefix_len is_ascii_digit text.now }
 {
-    for (place, byte) in text.iter().enumerate() {
-        if !byte.is_ascii_digit() {
-            return place;
-        }
-    }
-    text.len()
+    text.iter().take_while(|byte| byte.is_ascii_digit()).count()
 }
 
-// How many bytes a unit is, in letters of either case. No unit is a byte.
+// How many bytes a unit stands for, in letters of either case: one byte if it is empty.
 fn unit_bytes(unit: &str) -> Option<u64>
-    ensures { result ≡ bytes_of unit.now }
+    ensures { result ≡ unit_bytes unit.now }
 {
     if unit.is_empty() {
         return Some(1);
@@ -55,7 +50,7 @@ fn is_limit(limit: u64) -> bool
     LEAST_LIMIT <= limit && limit <= GREATEST_LIMIT
 }
 
-// So many of a unit, in bytes. None if they don't fit 64 bits.
+// So many units, in bytes. None if they don't fit 64 bits.
 fn in_bytes(digits: &str, unit: u64) -> Option<u64>
     requires some { 0 < length digits.now }
     requires digits { list_all is_ascii_digit digits.now ≡ true }
@@ -69,7 +64,7 @@ fn in_bytes(digits: &str, unit: u64) -> Option<u64>
     }
 }
 
-// The limit of so many of a unit.
+// The limit of so many units.
 fn limit_of(digits: &str, unit: u64) -> Result<u64, LineFault>
     requires some { 0 < length digits.now }
     requires digits { list_all is_ascii_digit digits.now ≡ true }

@@ -46,7 +46,8 @@ fn is_skipped(line: &[u8]) -> bool
     place == line.len() || line[place] == b'#'
 }
 
-// The column of the last quote, if it isn't ended. It counts bytes from 1. Apart from lines without quotes.
+// The column of the last quote, if it isn't ended. It counts bytes from 1. It stands apart, since most lines have no
+// quotes.
 #[inline(never)]
 fn odd_quote(line: &[u8]) -> Option<usize>
     ensures column { result ≡ (if is_closed line.now then None else Some (last_quote line.now)) }
@@ -72,7 +73,7 @@ fn has_quote(line: &[u8]) -> bool
     found
 }
 
-// The column of the last quote, if it isn't ended; most lines have none.
+// The column of the last quote, if it isn't ended. Most lines have no quote.
 fn unclosed_quote(line: &str) -> Option<usize>
     ensures column { result ≡ (if is_closed line.now then None else Some (last_quote line.now)) }
     ensures within { IfSome result (λ column. column ≤ length line.now) }
@@ -84,8 +85,8 @@ fn unclosed_quote(line: &str) -> Option<usize>
     None
 }
 
-// The command of a line that isn't skipped: its moment, its name and what follows that. One that is skipped needs no room
-// for a command.
+// The command of a line that isn't skipped: its moment, its name and what follows that. It stands apart, so that a line
+// that is skipped needs no room for a command.
 #[inline(never)]
 fn read_words(alloc: Global, line: &str) -> Result<Option<Command>, LineFault>
     requires { length line.now ≤ 65536 }

@@ -21,7 +21,7 @@ use std::alloc::Global;
 
 const MOST_DIGITS: usize = 20;
 
-/// What so many digits write always fits 64 bits.
+/// A number of so many digits always fits 64 bits.
 const FITTING_DIGITS: usize = 19;
 
 /// Digits that a text begins with, and the number that they write.
@@ -31,7 +31,7 @@ struct Digits {
     number: u64,
 }
 
-// The digits that a text begins with, or the first of them if they are more than surely fit.
+// The digits that a text begins with, or the first 19 if there are more.
 fn leading_digits(text: &[u8]) -> Digits
     ensures { BeginsWithDigits text.now result.count result.number }
 {
@@ -44,8 +44,8 @@ fn leading_digits(text: &[u8]) -> Digits
     Digits { count, number }
 }
 
-// Whether the byte after so many digits makes their word no number, as it belongs to it and is neither a digit nor a
-// quote.
+// Whether a word that begins with so many digits is no number, since the byte after them belongs to it and is neither a
+// digit nor a quote.
 fn is_spoilt(text: &[u8], count: usize) -> bool
     ensures { result ≡ ((nat_lt count (length text.now) && is_plain (slice_index text.now count)) && not (is_ascii_digit (slice_index text.now count))) }
 {
@@ -149,8 +149,8 @@ pub fn read_choice(first: &str, second: &str, text: &str, column: usize) -> Resu
 }
 
 impl<'a> Words<'a> {
-    // Takes a number from low to high. This and its callers are made part of where a number is read, since a call with its
-    // result would take as long.
+    // Takes a number from low to high. This and its callers are inlined, since a call with its result would take as
+    // long as the reading itself.
     #[inline(always)]
     fn number(&mut self, alloc: Global, low: u64, high: u64) -> Result<u64, LineFault>
         requires { high < greatest_number }

@@ -30,12 +30,7 @@ pub fn is_plain(byte: u8) -> bool
 pub fn blanks(text: &[u8]) -> usize
     ensures { result ≡ prefix_len is_blank text.now }
 {
-    for (place, byte) in text.iter().enumerate() {
-        if *byte != b' ' && *byte != b'\t' {
-            return place;
-        }
-    }
-    text.len()
+    text.iter().take_while(|byte| is_blank(**byte)).count()
 }
 
 // How many bytes a text begins with that are neither blanks nor quotes.
@@ -110,7 +105,7 @@ fn copy_without_quotes(alloc: Global, raw: &str) -> Result<String, NoMemory>
 /// A word, without its quotes.
 #[derive(Drop)]
 pub struct Word<'a> {
-    /// Where the word begins in its line, a quote before it among its bytes. It counts bytes from 1.
+    /// Where the word's first byte stands in its line, which may be a quote. It counts bytes from 1.
     pub column: usize,
     pub text: CowStr<'a, Global>,
     ghost within: { column ≤ 65537 },

@@ -10,7 +10,7 @@ use Rattle.fsrm_model.specs.declared.command.Refusal.TheVariants.{BadLine, Inval
 use Rattle.fsrm_model.specs.Line.{next_word, no_more, number_word, path_word, is_line_refusal}
 use Rattle.fsrm_model.specs.Name.{is_name}
 use Rattle.fsrm_model.specs.Quota.{is_limit}
-use Rattle.fsrm_model.specs.Reading.{Read, ◌>>=◌, guarded, known, is_number, number_from, path_parts, has_path_form, path_from, bytes_of, digits_of, limit_from, choice_from}
+use Rattle.fsrm_model.specs.Reading.{Read, ◌>>=◌, guarded, known, is_number, number_from, path_parts, has_path_form, path_from, unit_bytes, digits_of, limit_from, choice_from}
 use Rattle.fsrm_model.specs.Words.{Word}
 
 -- it is read, or refused as a line is
@@ -50,11 +50,11 @@ path_line text =
 pub limit_line : (column : ℕ) (text : List ℕ) → AsLine (limit_from column text)
 limit_line column text =
     let in_limits : ℕ → Read ℕ = λ limit. guarded (is_limit limit) InvalidLimit limit in
-    let unit : List ℕ → Read ℕ = λ digits. known (BadLine column) (bytes_of (drop (length digits) text)) in
+    let unit : List ℕ → Read ℕ = λ digits. known (BadLine column) (unit_bytes (drop (length digits) text)) in
     then_line (guarded (nat_lt 0 (length (digits_of text))) (BadLine column) (digits_of text)) (λ digits. unit digits >>= λ bytes. in_limits (digits_value 10 digits * bytes))
     (guarded_line (nat_lt 0 (length (digits_of text))) (BadLine column) (digits_of text) refl)
     (λ digits. then_line (unit digits) (λ bytes. in_limits (digits_value 10 digits * bytes))
-    (known_line (BadLine column) (bytes_of (drop (length digits) text)) refl)
+    (known_line (BadLine column) (unit_bytes (drop (length digits) text)) refl)
     (λ bytes. guarded_line (is_limit (digits_value 10 digits * bytes)) InvalidLimit (digits_value 10 digits * bytes) refl))
 
 pub choice_line : (first second : List ℕ) (column : ℕ) (text : List ℕ) → AsLine (choice_from first second column text)

@@ -16,7 +16,7 @@ use Rattle.fsrm_model.specs.declared.command.Refusal.{Refusal}
 use Rattle.fsrm_model.specs.declared.command.Refusal.TheVariants.{BadLine, InvalidLimit}
 use Rattle.fsrm_model.specs.Options.{is_colon}
 use Rattle.fsrm_model.specs.Quota.{is_limit}
-use Rattle.fsrm_model.specs.Reading.{Read, ◌>>=◌, guarded, known, units, bytes_of, digits_of, limit_from, choice_from}
+use Rattle.fsrm_model.specs.Reading.{Read, ◌>>=◌, guarded, known, units, unit_bytes, digits_of, limit_from, choice_from}
 use Rattle.fsrm_model.specs.Spelling.{IsNamed, WritesLimit, WritesType, WritesStatus}
 use Rattle.fsrm_model.proofs.lines.ReadLaws.{both_ok, guarded_ok, guarded_then, guarded_from}
 
@@ -125,13 +125,13 @@ abbrev in_limits : ℕ → Read ℕ
 in_limits limit = guarded (is_limit limit) InvalidLimit limit
 
 abbrev of_unit : ℕ → List ℕ → List ℕ → Read ℕ
-of_unit column text digits = known (BadLine column) (bytes_of (drop (length digits) text)) >>= λ bytes. in_limits (digits_value 10 digits * bytes)
+of_unit column text digits = known (BadLine column) (unit_bytes (drop (length digits) text)) >>= λ bytes. in_limits (digits_value 10 digits * bytes)
 
 pub limit_writes : (column : ℕ) (text : List ℕ) (limit : ℕ) → limit_from column text ≡ Ok limit → WritesLimit text limit
 limit_writes column text limit h =
     let digits = digits_of text in
     let form = guarded_then (nat_lt 0 (length digits)) (BadLine column) digits (of_unit column text) limit h in
-    let unit = both_ok (known (BadLine column) (bytes_of (drop (length digits) text))) (λ bytes. in_limits (digits_value 10 digits * bytes)) limit form.1 in
+    let unit = both_ok (known (BadLine column) (unit_bytes (drop (length digits) text))) (λ bytes. in_limits (digits_value 10 digits * bytes)) limit form.1 in
     let legal = guarded_ok (is_limit (digits_value 10 digits * unit.0)) InvalidLimit (digits_value 10 digits * unit.0) limit unit.2 in
     record {
       digits = digits;
@@ -140,7 +140,7 @@ limit_writes column text limit h =
       text_is = sym (ap (λ (n : ℕ). digits ++ drop n text) (length-prefix_len is_ascii_digit text) ∙ take-append-drop (prefix_len is_ascii_digit text) text);
       some = ltb-true 0 (length digits) form.0;
       each = front_passes is_ascii_digit text;
-      unit_is = known_ok (BadLine column) (bytes_of (drop (length digits) text)) unit.0 unit.1;
+      unit_is = known_ok (BadLine column) (unit_bytes (drop (length digits) text)) unit.0 unit.1;
       value = legal.1;
       legal = subst (λ (n : ℕ). is_limit n ≡ true) legal.1 legal.0;
     }
@@ -153,7 +153,7 @@ limit_reads column text limit w =
     let rest : drop (length w.digits) text ≡ w.unit = ap (drop (length w.digits)) w.text_is ∙ drop-append_seam w.digits w.unit in
     ap (λ (ds : List ℕ). guarded (nat_lt 0 (length ds)) (BadLine column) ds >>= of_unit column text) front
     ∙ ap (λ (test : Bool). guarded test (BadLine column) w.digits >>= of_unit column text) (lt-ltb 0 (length w.digits) w.some)
-    ∙ ap (λ (o : Option ℕ). known (BadLine column) o >>= λ bytes. in_limits (digits_value 10 w.digits * bytes)) (ap bytes_of rest ∙ w.unit_is)
+    ∙ ap (λ (o : Option ℕ). known (BadLine column) o >>= λ bytes. in_limits (digits_value 10 w.digits * bytes)) (ap unit_bytes rest ∙ w.unit_is)
     ∙ ap in_limits w.value
     ∙ guarded_from (is_limit limit) InvalidLimit limit w.legal
 

@@ -17,7 +17,7 @@ use Rattle.fsrm_base.specs.Numbers.{is_in}
 use Rattle.fsrm_model.specs.Quota.{folder_of, counts, peaked, peaks}
 use Rattle.fsrm_model.specs.QuotaStates.{head, same_head, scan_begun, followed}
 use Rattle.fsrm_model.specs.Scan.{AreUnvisited, folders_under, visits}
-use Rattle.fsrm_model.specs.Texts.{bytes_of, action_bytes, threshold_bytes, quota_bytes, template_bytes, group_bytes, job_bytes, object_texts}
+use Rattle.fsrm_model.specs.Texts.{texts_bytes, action_bytes, threshold_bytes, quota_bytes, template_bytes, group_bytes, job_bytes, object_texts}
 use Rattle.fsrm_model.specs.Tree.{is_folder, usage}
 use Rattle.fsrm_model.specs.Valid.{is_empty, is_plain, IsVolume, AreQuotas, AreTables, IsValid}
 use Rattle.fsrm_model.specs.ValidScans.{IsQueue, AreLeft}
@@ -47,7 +47,7 @@ no_texts R t =
       arith,
       no_bytes R.quotas t.plain,
       ap (sum_by template_bytes) t.templates,
-      ap (sum_by (λ (auto : AutoRow). bytes_of auto.excluded)) t.autos,
+      ap (sum_by (λ (auto : AutoRow). texts_bytes auto.excluded)) t.autos,
       ap (sum_by group_bytes) t.groups,
       ap (sum_by (λ (screen : ScreenRow). action_bytes screen.actions)) t.screens,
       ap (sum_by job_bytes) t.jobs,

@@ -1,6 +1,6 @@
 use Rattle.std.proofs.Common.{sym, ◌∙◌}
 use Rattle.name_rules.proofs.Taken.{front_within, front_bytes, not_ended, not_a_name, first_name}
-use Rattle.name_rules.proofs.ends.first_name_len.Goals as goal
+use Rattle.name_rules.proofs.parts.first_name_len.Goals as goal
 
 pub is_end-requires : goal.is_end-requires
 is_end-requires c = front_within c.args.text.now c.name_len-count.result c.name_len-count.ensures
