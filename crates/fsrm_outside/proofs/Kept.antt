@@ -1,6 +1,6 @@
 -- What one call more leaves of the images of a history.
 use Rattle.std.proofs.Common.{◌≡◌, ◌⊎◌, inl, inr, ⊎_elim, ℕ, ◌≤◌, true, false, Some, List, [], ◌∷◌, ◌++◌, length, take, refl, sym, ◌∙◌, ap, subst, arith, length-append}
-use Rattle.std.specs.Prelude.{Bool, MatchBool}
+use Rattle.std.specs.Prelude.{Bool}
 use Rattle.std.proofs.lemmas.Bool.{cases_lt}
 use Rattle.std.proofs.lemmas.List.{take-append-le, take_all}
 use Rattle.fsrm_outside.specs.Changes.{Same, Through, Torn}
@@ -20,10 +20,6 @@ use Rattle.fsrm_outside.proofs.Histories.{since-push}
 -- what a crash may leave now
 abbrev Image : History → Parts → Type 0
 Image h i = IsImage (parts_in h.start) (since h.begun h.calls.items) i
-
-pub one_of : (b : Bool) (P Q : Type 0) → MatchBool b P Q → P ⊎ Q
-one_of true P Q p = inl p
-one_of false P Q q = inr q
 
 pub torn_same : (part : Part) (place n : ℕ) (p : Parts) → Torn part place n p p
 torn_same part place n p = record { other_part = refl; before = refl; after = refl; no_shorter = omega arith; no_longer = omega arith }
@@ -74,19 +70,19 @@ stopped_through step old new kept still s t m i at_s at_t from to left =
     (i, at_start old s i now (stopped old new kept m i (omega arith) (omega arith) left), still i)
 
 -- a call that leaves the disk as it is, kept or not
-pub quiet_through : (old new : History) (call : Call) (b : Bool) → MatchBool b (Noted call old new) (Stopped old new)
+pub quiet_through : (old new : History) (call : Call) → Noted call old new ⊎ Stopped old new
     → ((cs : List Call) (i : Parts) → IsImage (parts_in old.start) (call ∷ cs) i → IsImage (parts_in old.start) cs i) → Through clock_in images_in Same old new
-quiet_through old new call b kept still = ⊎_elim
+quiet_through old new call kept still = ⊎_elim
     (λ is. noted_through Same old new call is.calls is.start is.begun (λ i. refl) (λ i after. (i, still (since old.begun old.calls.items) i after, refl)))
     (λ lost. stopped_through Same old new lost (λ i. refl))
-    (one_of b (Noted call old new) (Stopped old new) kept)
+    kept
 
 -- a sync, whether it did its work or not
-pub sync_through : (old new : History) (done b : Bool) → MatchBool b (Noted (Sync done) old new) (Stopped old new) → Through clock_in images_in Same old new
-sync_through old new done b kept = ⊎_elim
+pub sync_through : (old new : History) (done : Bool) → Noted (Sync done) old new ⊎ Stopped old new → Through clock_in images_in Same old new
+sync_through old new done kept = ⊎_elim
     (λ is. noted_through Same old new (Sync done) is.calls is.start is.begun (λ i. refl) (λ i after. (i, back done i after, refl)))
     (λ lost. stopped_through Same old new lost (λ i. refl))
-    (one_of b (Noted (Sync done) old new) (Stopped old new) kept)
+    kept
   where
     back : (done : Bool) (i : Parts) → IsImage (parts_in old.start) (Sync done ∷ since old.begun old.calls.items) i → Image old i
     back true i only = subst (Image old) (sym (two_parts (now_of (parts_in old.start) (since old.begun old.calls.items)) i only.0 only.1)) (now_image (parts_in old.start) (since old.begun old.calls.items) old.ranges)

@@ -36,9 +36,9 @@ shows_more a b c bytes done count p q =
     shows_then a b c (take done bytes) (take count (drop done bytes)) p (q ∙ ap (λ xs. append_known b (take count xs)) (left_whole bytes done))
     ∙ ap (append_known a) (sym (take-add done count bytes))
 
--- nothing more
-pub shows_no_more : (a b c : Option (List ℕ)) (bytes : List ℕ) (done : ℕ) → b ≡ append_known a (take done bytes) → c ≡ b → ShowsFront a c bytes
-shows_no_more a b c bytes done p q = record { front = take done bytes; shown = q ∙ p; is_front = (drop done bytes, sym (take-append-drop done bytes)) }
+-- so many bytes are a front
+pub shows_front : (a b : Option (List ℕ)) (bytes : List ℕ) (count : ℕ) → b ≡ append_known a (take count bytes) → ShowsFront a b bytes
+shows_front a b bytes count p = record { front = take count bytes; shown = p; is_front = (drop count bytes, sym (take-append-drop count bytes)) }
 
 -- what is taken of the rest stays within the whole
 pub taken_within : (bytes : List ℕ) (done count : ℕ) → done ≤ length bytes → count ≤ length (take (length bytes - done) (drop done bytes)) → done + count ≤ length bytes

@@ -130,7 +130,7 @@ fn become_bytes(bytes: &mut Vec<u8>, other: &[u8])
     }
 }
 
-// Adds zeros up to a length, where there are fewer bytes.
+// Adds zeros up to a length, if there are fewer bytes.
 fn lengthen(old: &mut Vec<u8>, len: usize) -> Result<(), AllocError>
     ensures ok { OnOk result (old.new.items ≡ old.old.items ++ replicate (len - length old.old.items) 0) }
     ensures err { OnErr result (old.new.items ≡ old.old.items) }

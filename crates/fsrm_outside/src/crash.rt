@@ -18,7 +18,7 @@ pub enum Pick {
     Lost,
     /// All of it was taken, as what a read gave.
     Taken,
-    /// Each byte of it is this one. Where a write failed past the end, the part doesn't grow.
+    /// Each byte of it is this one. If a write past the end failed, the part doesn't grow.
     Fill(u8),
 }
 
@@ -32,7 +32,7 @@ fn is_synced(call: &Call) -> bool
     }
 }
 
-/// How many of the calls come up to the last sync that did its work, this one too.
+/// How many calls there are up to the last sync that did its work, and with it.
 pub fn count_synced(calls: &[Call]) -> usize
     ensures within { result ≤ length calls.now }
     ensures synced { reverse (take result calls.now) ≡ synced (reverse calls.now) }

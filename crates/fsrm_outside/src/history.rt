@@ -53,7 +53,7 @@ impl History {
         self.calls.len()
     }
 
-    /// What a call was, of the first one 0.
+    /// Which function a call was one of. The first call is number 0.
     pub fn kind(&self, call: usize) -> CallKind
         requires { call < length self.now.calls.items }
         ensures { (d : Call) → result ≡ kind_of (slice_index_or self.now.calls.items call d) }

@@ -1,9 +1,10 @@
-//! A source, a sink and a disk in memory, which fail where they are told to.
+//! A source, a sink and a disk in memory, which fail when they are told to.
 
-ghost use Rattle.std.specs.Prelude.{◌≡◌, ◌⊎◌, ◌+◌, ◌-◌, ◌≤◌, ◌<◌, ◌↔◌, ℕ, List, [], min, false, None, Some, IfOk, OnErr, OnOk, IsErr, IsTrue, MatchBool, Contains, take, drop, reverse, length, slice_index_or, ◌++◌, vec_len};
-ghost use Rattle.fsrm_outside.specs.History.{Crashed, NotedShown, Stopped};
+ghost use Rattle.std.specs.Prelude.{◌≡◌, ◌⊎◌, ◌+◌, ◌-◌, ◌≤◌, ◌<◌, ◌↔◌, ℕ, List, [], min, true, false, None, Some, IfOk, OnErr, OnOk, IsErr, IsTrue, MatchBool, Contains, take, drop, reverse, length, slice_index_or, ◌++◌, vec_len};
+ghost use Rattle.fsrm_outside.specs.Contents.{parts_in};
+ghost use Rattle.fsrm_outside.specs.History.{Crashed, Noted, NotedShown, Stopped};
 ghost use Rattle.fsrm_outside.specs.Plan.{IsFrom};
-ghost use Rattle.fsrm_outside.specs.Record.{text_of};
+ghost use Rattle.fsrm_outside.specs.Record.{text_of, Stays};
 
 use crate::calls::{Call, CallKind};
 use crate::history::History;
@@ -16,9 +17,10 @@ mod disk;
 /// A script to read, a record of what was shown, and a disk with what a crash may leave of it.
 ///
 /// Its calls, those of its three traits together, are numbered from 1. A call whose number is among those to
-/// fail fails, and from a call on that it was told to stop at, all do. A call for which there is no memory fails
+/// fail fails, and from the call on at which it was told to stop, all do. A call for which there is no memory fails
 /// too; if there is none even for its place in the record, it has no number, and the next call takes it.
-/// Every other call succeeds. Failed reads, writes and calls of the disk are counted, each up to `u64::MAX`.
+/// So does one on more than 2^62 bytes of a part. Every other call succeeds. Failed reads, writes and calls of the
+/// disk are counted, each up to `u64::MAX`.
 ///
 /// It keeps all that was written: it is made for tests, and grows with every call.
 #[derive(Drop)]
@@ -174,7 +176,7 @@ impl MemoryOutside {
         self.history.count() as u64
     }
 
-    /// Which function the call of this number was one of.
+    /// Of which function the call of this number was one.
     pub fn kind(&self, call: u64) -> CallKind
         requires some { 1 ≤ call }
         requires made { call ≤ time_of self.now }
@@ -205,6 +207,18 @@ fn is_from(stop: Option<u64>, call: u64) -> bool
         Some(stop) => stop <= call,
         None => false,
     }
+}
+
+// Keeps the call, which leaves what a read gives as it is. False: it is to fail, or there is no memory to keep it.
+fn noted(fails: bool, history: &mut History, call: Call) -> bool
+    requires { Stays (parts_in history.old.parts) call }
+    ensures told { IsTrue fails → result ≡ false }
+    ensures done { result ≡ true → Noted call history.old history.new }
+    ensures kept { Noted call history.old history.new ⊎ Stopped history.old history.new }
+    ensures only { result ≡ false → IsTrue fails ⊎ Stopped history.old history.new }
+{
+    let kept = history.note(call);
+    kept && !fails
 }
 
 // Shows the bytes, and keeps the call. False: it is to fail, or there is no memory for both, and neither is
@@ -261,8 +275,8 @@ impl Source for MemoryOutside {
 
     ghost by_read = { ByRead };
 
-    /// Gives as many bytes as are left, as fit into the buffer and as one read may give. Fails
-    /// where it is told to, and where there is no memory for the record.
+    /// Gives as many bytes as are left, fit into the buffer and may come by one read. Fails if it is
+    /// told to, and if there is no memory for the record.
     fn read(&mut self, into: &mut [u8]) -> Result<usize, Failed>
         ensures count { IfOk result (λ n. n ≤ length into.new) }
         ensures front { IfOk result (λ n. GivesFront (left_of self.old) n into.new) }
@@ -279,10 +293,8 @@ impl Source for MemoryOutside {
             n ≡ most_of (plan_of self.old) (left_of self.old) into.new) }
     {
         let fails = self.fails_next();
-        let kept = self.history.note(Call::Read);
-        if fails || !kept {
-            self.read_faults = self.read_faults.saturating_add(1);
-            return Err(Failed);
+        if !noted(fails, &mut self.history, Call::Read) {
+            return Err(Failed::counted(&mut self.read_faults));
         }
         let count = copy_front(&self.script[self.place..], into, self.piece);
         self.place += count;
@@ -310,7 +322,7 @@ impl Sink for MemoryOutside {
 
     ghost by_write = { ByWrite };
 
-    /// Takes the whole piece. Fails where it is told to, and where there is no memory for the piece or
+    /// Takes the whole piece. Fails if it is told to, and if there is no memory for the piece or
     /// for the record.
     fn write(&mut self, bytes: &[u8]) -> Result<usize, Failed>
         ensures count { IfOk result (λ n. n ≤ length bytes.now) }
@@ -328,8 +340,7 @@ impl Sink for MemoryOutside {
         let fails = self.fails_next();
         if !show(fails, self.alloc, &mut self.shown, &mut self.history, bytes) {
             let _ = self.history.note(Call::Write(Vec::new(self.alloc)));
-            self.write_faults = self.write_faults.saturating_add(1);
-            return Err(Failed);
+            return Err(Failed::counted(&mut self.write_faults));
         }
         Ok(bytes.len())
     }

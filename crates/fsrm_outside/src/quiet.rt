@@ -114,8 +114,7 @@ impl Sink for QuietOutside {
         ensures all { IfOk result (λ n. n ≡ length bytes.now) }
     {
         if bytes.len() > self.room.saturating_sub(self.output.len()) {
-            self.write_faults = self.write_faults.saturating_add(1);
-            return Err(Failed);
+            return Err(Failed::counted(&mut self.write_faults));
         }
         if self.output.extend_from_slice(bytes).is_err() {
             unreachable!()
@@ -159,8 +158,7 @@ impl Disk for QuietOutside {
 
     fn write_at(&mut self, part: Part, place: u64, bytes: &[u8]) -> Result<(), Failed> {
         if bytes.len() > self.room || place as usize > self.room - bytes.len() {
-            self.disk_faults = self.disk_faults.saturating_add(1);
-            return Err(Failed);
+            return Err(Failed::counted(&mut self.disk_faults));
         }
         if self.contents.write_at(part, place as usize, bytes).is_err() {
             unreachable!()

@@ -9,7 +9,7 @@ use std::fs::{File, OpenOptions};
 use std::io::{ErrorKind, Read, Stdin, Stdout, Write};
 use std::os::unix::fs::FileExt;
 
-// How often one call is made where a signal cuts each attempt short.
+// How often one call is made if a signal cuts each attempt short.
 const ATTEMPTS: usize = 64;
 
 // The most bytes that a part may have.
@@ -28,7 +28,7 @@ const FILE_OF_ONE: &str = "fsrm.store.1";
 /// the disk are counted, each up to `u64::MAX`.
 ///
 /// The first call of the disk opens both files, and makes those that are missing. So nothing is left
-/// in the folder by a process that keeps nothing. Where a file can't be opened, the call has failed,
+/// in the folder by a process that keeps nothing. If a file can't be opened, the call has failed,
 /// and the next one tries again. A sync also syncs the folder, which the names of new files are kept in.
 #[derive(Drop)]
 pub struct RealOutside {
@@ -93,33 +93,33 @@ fn opened(rt: &HostRuntime, path: &str) -> Option<File> {
         .ok()
 }
 
-// One read, made again where a signal cut it short.
-fn read_some(input: &mut Stdin, into: &mut [u8]) -> Result<usize, Failed>
-    ensures { IfOk result (λ n. n ≤ length into.new) }
+// One read, made again if a signal cut it short.
+fn read_some(input: &mut Stdin, into: &mut [u8]) -> Option<usize>
+    ensures { IfSome result (λ n. n ≤ length into.new) }
 {
     for _ in 0..ATTEMPTS {
         match input.read(into) {
-            Ok(count) => return Ok(count),
+            Ok(count) => return Some(count),
             Err(error) if error.kind() == ErrorKind::Interrupted => {}
-            Err(_) => return Err(Failed),
+            Err(_) => return None,
         }
     }
-    Err(Failed)
+    None
 }
 
-// One write, made again where a signal cut it short. A stream that takes no byte of some has failed.
-fn write_some(output: &mut Stdout, bytes: &[u8]) -> Result<usize, Failed>
-    ensures count { IfOk result (λ n. n ≤ length bytes.now) }
-    ensures some { IfOk result (λ n. 0 < length bytes.now → 0 < n) }
+// One write, made again if a signal cut it short. A stream that is given bytes and takes none has failed.
+fn write_some(output: &mut Stdout, bytes: &[u8]) -> Option<usize>
+    ensures count { IfSome result (λ n. n ≤ length bytes.now) }
+    ensures some { IfSome result (λ n. 0 < length bytes.now → 0 < n) }
 {
     for _ in 0..ATTEMPTS {
         match output.write(bytes) {
-            Ok(count) if count > 0 || bytes.is_empty() => return Ok(count),
+            Ok(count) if count > 0 || bytes.is_empty() => return Some(count),
             Err(error) if error.kind() == ErrorKind::Interrupted => {}
-            _ => return Err(Failed),
+            _ => return None,
         }
     }
-    Err(Failed)
+    None
 }
 
 // How long the file is.
@@ -189,11 +189,10 @@ impl Source for RealOutside {
         ensures cause { HasCause (read_faults_of self.old) (read_faults_of self.new) result }
         ensures counted { read_faults_of self.new ≡ count_after (read_faults_of self.old) result }
     {
-        let answer = read_some(&mut self.input, into);
-        if answer.is_err() {
-            self.read_faults = self.read_faults.saturating_add(1);
+        match read_some(&mut self.input, into) {
+            Some(count) => Ok(count),
+            None => Err(Failed::counted(&mut self.read_faults)),
         }
-        answer
     }
 
     ghost read_same = { read_same };
@@ -223,11 +222,10 @@ impl Sink for RealOutside {
         ensures cause { HasCause (write_faults_of self.old) (write_faults_of self.new) result }
         ensures counted { write_faults_of self.new ≡ count_after (write_faults_of self.old) result }
     {
-        let answer = write_some(&mut self.output, bytes);
-        if answer.is_err() {
-            self.write_faults = self.write_faults.saturating_add(1);
+        match write_some(&mut self.output, bytes) {
+            Some(count) => Ok(count),
+            None => Err(Failed::counted(&mut self.write_faults)),
         }
-        answer
     }
 
     ghost write_same = { write_same };
@@ -261,10 +259,7 @@ impl Disk for RealOutside {
         self.open_files();
         match length_of(self.file(part)) {
             Some(length) if length <= MOST => Ok(length),
-            _ => {
-                self.disk_faults = self.disk_faults.saturating_add(1);
-                Err(Failed)
-            }
+            _ => Err(Failed::counted(&mut self.disk_faults)),
         }
     }
 
@@ -272,10 +267,7 @@ impl Disk for RealOutside {
         self.open_files();
         match filled(self.file(part), place, into) {
             Some(count) => Ok(count),
-            None => {
-                self.disk_faults = self.disk_faults.saturating_add(1);
-                Err(Failed)
-            }
+            None => Err(Failed::counted(&mut self.disk_faults)),
         }
     }
 
@@ -284,8 +276,7 @@ impl Disk for RealOutside {
         let count = bytes.len() as u64;
         let fits = count <= MOST && place <= MOST - count;
         if !fits || !is_written(self.file(part), place, bytes) {
-            self.disk_faults = self.disk_faults.saturating_add(1);
-            return Err(Failed);
+            return Err(Failed::counted(&mut self.disk_faults));
         }
         Ok(())
     }
@@ -294,8 +285,7 @@ impl Disk for RealOutside {
         self.open_files();
         let files = is_synced(self.zero.as_ref()) && is_synced(self.one.as_ref());
         if !files || !is_folder_synced(&self.system) {
-            self.disk_faults = self.disk_faults.saturating_add(1);
-            return Err(Failed);
+            return Err(Failed::counted(&mut self.disk_faults));
         }
         Ok(())
     }

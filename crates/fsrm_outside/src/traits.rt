@@ -1,6 +1,6 @@
 //! A source of bytes, a sink for bytes, a disk of two parts, and all three at once.
 
-ghost use Rattle.std.specs.Prelude.{◌≡◌, ◌↔◌, ℕ, ◌+◌, ◌^◌, ◌≤◌, ◌<◌, Option, Some, List, length, take, drop, IfOk, OnOk, OnErr};
+ghost use Rattle.std.specs.Prelude.{◌≡◌, ◌↔◌, ℕ, ◌+◌, ◌-◌, ◌^◌, ◌≤◌, ◌<◌, min, Option, Some, List, length, take, drop, IfOk, OnOk, OnErr};
 ghost use Rattle.std.specs.Io.KnownBytes.{append_known};
 ghost use Rattle.std.specs.Option.{option_map, ForSome};
 ghost use Rattle.fsrm_outside.specs.Causes.{HasCause};
@@ -14,6 +14,17 @@ ghost use Rattle.fsrm_outside.specs.Told.{GivesFront, Later};
 #[derive(Clone, Copy, Debug, PartialEq, Eq)]
 pub struct Failed;
 
+impl Failed {
+    /// Counts one more failed call, up to `u64::MAX`.
+    pub fn counted(faults: &mut u64) -> Failed
+        ensures later { faults.old ≤ faults.new }
+        ensures counted { faults.new ≡ min (faults.old + 1) (2 ^ 64 - 1) }
+    {
+        *faults = faults.saturating_add(1);
+        Failed
+    }
+}
+
 /// One of the two parts of a disk.
 #[derive(Clone, Copy, Debug, PartialEq, Eq)]
 pub enum Part {
@@ -23,7 +34,7 @@ pub enum Part {
 
 /// A device that gives bytes in their order, each once.
 pub trait Source {
-    /// The bytes not yet taken, where the source tells them.
+    /// The bytes not yet taken, if the source tells them.
     ghost left: { Self → Option (List ℕ) };
 
     /// How many reads have failed.
@@ -34,7 +45,7 @@ pub trait Source {
 
     /// Moves bytes from the front of what is left to the front of `into`, and answers how many.
     ///
-    /// That is 0 only at the end, or where `into` is empty. It may be fewer than are left and than
+    /// That is 0 only at the end, or if `into` is empty. It may be fewer than are left and than
     /// `into` has room for, so the end is reached only when it is 0. `Failed`: the device failed, and
     /// no byte was taken. A later read may succeed. What `into` holds past the count, and all that it
     /// holds after an error, is left open.
@@ -46,24 +57,24 @@ pub trait Source {
         ensures by { by_read self.old self.new }
         ensures cause { HasCause (read_faults self.old) (read_faults self.new) result };
 
-    /// No read keeps everything.
+    /// If nothing is read, everything stays.
     ghost read_same: { (a : Self) → by_read a a };
 
-    /// Reads after reads are reads.
+    /// Reads and then further reads are reads.
     ghost read_then: { (a b c : Self) → by_read a b → by_read b c → by_read a c };
 }
 
 /// A device that takes bytes, and shows them in their order.
 pub trait Sink {
-    /// The bytes taken so far, where the sink tells them.
+    /// The bytes taken so far, if the sink tells them.
     ghost shown: { Self → Option (List ℕ) };
 
-    /// How many calls were made on the device, where it tells what was shown at earlier moments. A
+    /// How many calls were made on the device, if it tells what was shown at earlier moments. A
     /// moment is such a number.
     ghost sink_clock: { Self → Option ℕ };
 
-    /// The bytes taken up to a moment. Where the clock is told and has come to the moment, this says
-    /// something.
+    /// The bytes taken up to a moment. This says something only if the clock is told and has come to the
+    /// moment.
     ghost shown_at: { Self → ℕ → List ℕ };
 
     /// How many writes have failed.
@@ -84,10 +95,10 @@ pub trait Sink {
         ensures by { by_write self.old self.new }
         ensures cause { HasCause (write_faults self.old) (write_faults self.new) result };
 
-    /// No write keeps everything.
+    /// If nothing is written, everything stays.
     ghost write_same: { (a : Self) → by_write a a };
 
-    /// Writes after writes are writes.
+    /// Writes and then further writes are writes.
     ghost write_then: { (a b c : Self) → by_write a b → by_write b c → by_write a c };
 
     /// The clock stays told, and doesn't go back.
@@ -103,21 +114,22 @@ pub trait Sink {
     ghost shown_grows: { (a : Self) (t m n : ℕ) → sink_clock a ≡ Some t → m ≤ n → n ≤ t → IsFront (shown_at a m) (shown_at a n) };
 }
 
-/// A device that keeps bytes in two parts, which a crash may tear where they were not synced.
+/// A device that keeps bytes in two parts. A crash may tear what was written since the last sync.
 ///
 /// A part is a row of bytes of some length. What a read gives is what was written last; what a crash
 /// leaves is one of the *images* of its moment. Right after a `sync` that answered `Ok` the only image
-/// is what a read gives. From then on a `write_at`, one that failed too, leaves any bytes in its range,
-/// and any length between the part's and the range's end, until the next `sync` that answers `Ok`.
+/// is what a read gives. From then on a `write_at`, even one that failed, may leave any bytes in its
+/// range, and any length between the part's and the range's end, until the next `sync` that answers
+/// `Ok`.
 pub trait Disk {
-    /// What a read gives of both parts, where the disk tells it.
+    /// What a read gives of both parts, if the disk tells it.
     ghost reads: { Self → Option Parts };
 
-    /// How many calls were made on the device, where it tells its images. A moment is such a number.
+    /// How many calls were made on the device, if it tells its images. A moment is such a number.
     ghost disk_clock: { Self → Option ℕ };
 
-    /// What a crash at a moment may leave. Where the clock is told and has come to the moment, this says
-    /// something.
+    /// What a crash at a moment may leave. This says something only if the clock is told and has come to
+    /// the moment.
     ghost images: { Self → ℕ → Parts → Type 0 };
 
     /// How many calls have failed.
@@ -168,10 +180,10 @@ pub trait Disk {
         ensures by { by_disk self.old self.new }
         ensures cause { HasCause (disk_faults self.old) (disk_faults self.new) result };
 
-    /// No call keeps everything.
+    /// If no call is made, everything stays.
     ghost disk_same: { (a : Self) → by_disk a a };
 
-    /// Calls after calls are calls.
+    /// Calls and then further calls are calls.
     ghost disk_then: { (a b c : Self) → by_disk a b → by_disk b c → by_disk a c };
 
     /// The clock stays told, and doesn't go back.
@@ -192,13 +204,13 @@ pub trait Outside: Source + Sink + Disk {
     /// One clock counts the calls of all three.
     ghost one_clock: { (a : Self) (s t : ℕ) → Self.sink_clock a ≡ Some s → Self.disk_clock a ≡ Some t → s ≡ t };
 
-    /// Reads leave the disk, what a crash may leave of it too, and count none of its calls as failed.
+    /// Reads change neither the disk nor what a crash may leave of it, and count none of its calls as failed.
     ghost read_keeps_disk: { (a b : Self) → Self.by_read a b → KeepsDisk Self.reads Self.disk_clock Self.images Self.disk_faults a b };
 
     /// Reads show nothing, and count no write as failed.
     ghost read_keeps_sink: { (a b : Self) → Self.by_read a b → KeepsSink Self.shown Self.sink_clock Self.shown_at Self.write_faults a b };
 
-    /// Writes leave the disk, what a crash may leave of it too, and count none of its calls as failed.
+    /// Writes change neither the disk nor what a crash may leave of it, and count none of its calls as failed.
     ghost write_keeps_disk: { (a b : Self) → Self.by_write a b → KeepsDisk Self.reads Self.disk_clock Self.images Self.disk_faults a b };
 
     /// Writes take nothing from the source, and count no read as failed.

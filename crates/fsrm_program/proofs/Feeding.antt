@@ -1,6 +1,6 @@
 -- How the pieces of a script join.
-use Rattle.std.proofs.Common.{◌≡◌, ℕ, ◌+◌, ◌≤◌, List, [], ◌∷◌, ◌++◌, refl, sym, ap, ◌∙◌, append_assoc, length-append, false, length, take, arith, inl, inr}
-use Rattle.std.specs.Prelude.{Option}
+use Rattle.std.proofs.Common.{◌≡◌, ℕ, ◌+◌, ◌≤◌, List, [], ◌∷◌, ◌++◌, refl, sym, ap, subst, ◌∙◌, append_assoc, length-append, false, length, take, arith, inl, inr}
+use Rattle.std.specs.Prelude.{Option, Result, Ok, Err, OnOk, OnErr}
 use Rattle.std.specs.List.{list_any}
 use Rattle.std.specs.Io.KnownBytes.{append_known}
 use Rattle.std.proofs.lemmas.Bool.{cases_lt}
@@ -12,6 +12,7 @@ use Rattle.fsrm_model.specs.Script.{is_end, lines, spelled_lines, Replied, repli
 use Rattle.fsrm_model.proofs.lines.ScriptLaws.{lines_last, spelled_lines-append, AreLines-append, replied-held, line_cost-held, text_from-append, fold_from-append, cost_from-append}
 use Rattle.fsrm_outside.specs.Shown.{IsFront, ShowsFront}
 use Rattle.fsrm_outside.proofs.Shown.{append_known-nil, shows_then}
+use Rattle.reply_text.specs.Writes.{Sends}
 use Rattle.fsrm_program.specs.Progress.{State, IsHeld, Leads, Fed, Feeds, Broken, FeedsBroken}
 use Rattle.fsrm_program.specs.Stops.{Finishes, FinishesFront}
 use Rattle.fsrm_base.proofs.TestLaws.{nor}
@@ -192,7 +193,7 @@ no_line : (line : List ℕ) → take 65538 line ≡ [] → line ≡ []
 no_line line h = nil_from_length line (omega (arith, length-take 65538 line, ap length h))
 
 -- if nothing is held, the line is in the piece
-pub says_whole : (held rest : List ℕ) → held ≡ [] → Says held rest rest
+says_whole : (held rest : List ℕ) → held ≡ [] → Says held rest rest
 says_whole held rest none = record { same = λ line h. ap (λ (bs : List ℕ). take 65538 (bs ++ rest)) (sym (no_line line (sym h.kept ∙ none))) }
 
 -- more of a line, held
@@ -212,7 +213,7 @@ take_twice bytes = take_all 65538 (take 65538 bytes) (omega (arith, length-take 
 pub held_short : (line held : List ℕ) → IsHeld line held → length held ≤ 65538
 held_short line held h = omega (arith, ap length h.kept, length-take 65538 line)
 
-pub says_held : (held rest said : List ℕ) → (length held ≤ 65538 → said ≡ take 65538 (held ++ rest)) → Says held rest said
+says_held : (held rest said : List ℕ) → (length held ≤ 65538 → said ≡ take 65538 (held ++ rest)) → Says held rest said
 says_held held rest said e = record {
   same = λ line h.
       ap (λ (bs : List ℕ). take 65538 bs) (e (held_short line held h))
@@ -220,6 +221,16 @@ says_held held rest said e = record {
       ∙ ap (λ (bs : List ℕ). take 65538 (bs ++ rest)) h.kept
       ∙ take_held line rest;
 }
+
+-- the line that is answered: what is kept of its beginning and its end, or its end alone if nothing was held
+pub says_line : (held rest kept lent said : List ℕ) → (held ≡ [] → kept ≡ []) → ((held ≡ [] → ⊥) → length held ≤ 65538 → kept ≡ take 65538 (held ++ rest)) → lent ≡ kept → (lent ≡ [] → said ≡ rest) → ((lent ≡ [] → ⊥) → said ≡ lent) → Says held rest said
+says_line [] rest kept lent said none some same whole cut = subst (Says [] rest) (sym (whole (same ∙ none refl))) (says_whole [] rest refl)
+says_line (byte ∷ bytes) rest kept lent said none some same whole cut =
+    let held = byte ∷ bytes in
+    says_held held rest said
+    (λ short.
+    let is : lent ≡ take 65538 (held ++ rest) = same ∙ some (λ e. cc) short in
+    cut (λ e. absurd (omega (arith, ap length is, ap length e, length-take 65538 (held ++ rest)))) ∙ is)
 
 one_line-append : (line rest : List ℕ) → list_any is_end line ≡ false → list_any is_end rest ≡ false → list_any is_end (line ++ rest) ≡ false
 one_line-append line rest p q = list_any-append is_end line rest ∙ nor (list_any is_end line) (list_any is_end rest) p q
@@ -346,21 +357,23 @@ last_cost a line h some =
     ∙ ap (cost_from a.size a.rows a.line) (sym (last_lines line a.held h some))
 
 -- the last line, if there is one
-pub ends_line : (a : State) (rows : Rows) (looks : ℕ) (before last : Option (List ℕ)) → (a.held ≡ [] → ⊥) → Answered a a.held rows looks before last → Finishes a looks before last
-ends_line a rows looks before last some done = record {
-  text = (replied a.size a.rows a.line a.held).text;
-  shown = done.text_is;
+pub ends_line : {T E : Type 0} (r : Result T E) (a : State) (said : List ℕ) (looks : ℕ) (before last : Option (List ℕ)) → (a.held ≡ [] → ⊥) → said ≡ a.held → looks ≤ a.looks + line_cost a.size a.rows said → Sends r before last (replied a.size a.rows a.line said).text → OnOk r (Finishes a looks before last)
+ends_line (Ok x) a said looks before last some same few shown = record {
+  text = (replied a.size a.rows a.line said).text;
+  shown = shown;
   ends = record {
-    text_is = λ line h. last_reply a line h some;
-    looks_are = λ line h. omega (arith, done.looks_are, last_cost a line h some);
+    text_is = λ line h. ap (λ (bs : List ℕ). (replied a.size a.rows a.line bs).text) same ∙ last_reply a line h some;
+    looks_are = λ line h. omega (arith, few, ap (line_cost a.size a.rows) same, last_cost a line h some);
   };
 }
+ends_line (Err e) a said looks before last some same few shown = tt
 
 -- the same, if it was given up
-pub ends_broken : (a : State) (looks : ℕ) (before last : Option (List ℕ)) → (a.held ≡ [] → ⊥) → looks ≤ a.looks + line_cost a.size a.rows a.held → ShowsFront before last (replied a.size a.rows a.line a.held).text → FinishesFront a looks before last
-ends_broken a looks before last some few f = record {
+pub ends_broken : {T E : Type 0} (r : Result T E) (a : State) (said : List ℕ) (looks : ℕ) (before last : Option (List ℕ)) → (a.held ≡ [] → ⊥) → said ≡ a.held → looks ≤ a.looks + line_cost a.size a.rows said → Sends r before last (replied a.size a.rows a.line said).text → OnErr r (FinishesFront a looks before last)
+ends_broken (Ok x) a said looks before last some same few f = tt
+ends_broken (Err e) a said looks before last some same few f = record {
   written = f.front;
   shown = f.shown;
-  front = λ line h. (f.is_front.0, sym (last_reply a line h some) ∙ f.is_front.1);
-  looks_are = λ line h. omega (arith, few, last_cost a line h some);
+  front = λ line h. (f.is_front.0, sym (ap (λ (bs : List ℕ). (replied a.size a.rows a.line bs).text) same ∙ last_reply a line h some) ∙ f.is_front.1);
+  looks_are = λ line h. omega (arith, few, ap (line_cost a.size a.rows) same, last_cost a line h some);
 }

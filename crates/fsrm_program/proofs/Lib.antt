@@ -1,6 +1,7 @@
 pub mod Completing
 pub mod Cutting
 pub mod Feeding
+pub mod GivenUp
 pub mod MostTaken
 pub mod Outcomes
 pub mod Batches

@@ -1,6 +1,6 @@
 -- What the machine's steps come to, and what is shown of it.
 use Rattle.std.proofs.Common.{◌≡◌, ℕ, ◌+◌, Bool, true, false, List, [], ◌∷◌, ◌++◌, refl, sym, ap, ◌∙◌, subst, append-nil}
-use Rattle.std.specs.Prelude.{if◌then◌else◌, Option, Some, None, option_map, Result, Ok, Err, OnOk, nat_lt}
+use Rattle.std.specs.Prelude.{if◌then◌else◌, Option, Some, None, option_map, Result, Ok, Err, OnOk, OnErr, nat_lt}
 use Rattle.fsrm_model.specs.declared.command.Command.{Command}
 use Rattle.fsrm_model.specs.declared.command.Outcome.{Outcome}
 use Rattle.fsrm_model.specs.declared.command.Outcome.TheVariants.{Refused}
@@ -33,6 +33,10 @@ on_ok (Err e) f p = tt
 pub always_ok : {T E : Type 0} {P : Type 0} (r : Result T E) → P → OnOk r P
 always_ok (Ok x) p = p
 always_ok (Err e) p = tt
+
+pub always_err : {T E : Type 0} {P : Type 0} (r : Result T E) → P → OnErr r P
+always_err (Ok x) p = tt
+always_err (Err e) p = p
 
 -- nothing of a text is shown
 pub nothing_shown : (shown : Option (List ℕ)) (text : List ℕ) → ShowsFront shown shown text

@@ -5,6 +5,8 @@ use Rattle.fsrm_model.specs.Limits.{longest_script}
 use Rattle.fsrm_model.specs.Script.{lines, text_from, cost_from}
 use Rattle.fsrm_program.specs.declared.status.Status.{Status}
 use Rattle.fsrm_program.specs.declared.status.Status.TheVariants.{Done, Usage, ReadFault, WriteFault, TooLong, NoMemory}
+use Rattle.reply_text.specs.declared.fault.TextFault.{TextFault}
+use Rattle.reply_text.specs.declared.fault.TextFault.TheVariants.{WriteFault as WriteFailed, NoMemory as MemoryOut}
 use Rattle.fsrm_outside.specs.Shown.{IsFront}
 use Rattle.fsrm_program.specs.Bytes.{Taken, IsAtEnd}
 use Rattle.fsrm_program.specs.Progress.{State, IsHeld, Takes, Halts, Breaks, Ends}
@@ -55,3 +57,8 @@ abbrev pub IsGivenUp : Status → Type 0
 IsGivenUp WriteFault = Unit {0}
 IsGivenUp NoMemory = Unit {0}
 IsGivenUp other = ⊥
+
+-- how a run ends whose text was not written
+abbrev pub status_of : TextFault → Status
+status_of WriteFailed = WriteFault
+status_of MemoryOut = NoMemory

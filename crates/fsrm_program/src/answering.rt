@@ -10,7 +10,7 @@ ghost use Rattle.fsrm_outside.specs.Causes.{Rose};
 ghost use Rattle.reply_text.specs.Writes.{KeepsCount, Sends};
 
 use fsrm_engine::Engine;
-use fsrm_model::{Command, Ledger, NoMemory, Steps};
+use fsrm_model::{Command, Ledger, Steps};
 use fsrm_outside::Sink;
 use reply_text::{TextFault, write_answer, write_head};
 use std::alloc::Global;
@@ -49,13 +49,11 @@ fn take<S: Sink, L: Ledger>(
     ensures by { S.by_write sink.old sink.new }
     ensures looks { steps.new ≤ steps.old + (cost engine.old.rows command.now + print_cost (step engine.old.size engine.old.rows command.now).rows (step engine.old.size engine.old.rows command.now).outcome) }
 {
-    match engine.apply(alloc, command, steps) {
-        Ok(answer) => write_answer(alloc, sink, number, &answer, None, engine, steps),
-        Err(NoMemory) => Err(TextFault::NoMemory),
-    }
+    let answer = engine.apply(alloc, command, steps)?;
+    write_answer(alloc, sink, number, &answer, None, engine, steps)
 }
 
-// Takes a command that a line spells, and lets it go. What that needs stands here, so other lines don't pay for it.
+// Takes a command that a line spells, and drops it. That is done here, so that other lines don't pay for it.
 #[inline(always)]
 fn take_read<S: Sink, L: Ledger>(
     engine: &mut Engine,

@@ -11,7 +11,7 @@ use crate::status::Status;
 use fsrm_model::limits::LONGEST_SCRIPT;
 use fsrm_outside::{Failed, Outside, Source};
 
-// Reads a piece of at most so many bytes to the front of the buffer. None come only at the end.
+// Reads a piece of at most so many bytes to the front of the buffer. It is empty only at the script's end.
 fn read_piece<S: Source>(source: &mut S, buffer: &mut [u8], room: usize) -> Result<usize, Failed>
     requires fits { room ≤ length buffer.old }
     requires some { 0 < room }
@@ -22,13 +22,10 @@ fn read_piece<S: Source>(source: &mut S, buffer: &mut [u8], room: usize) -> Resu
     ensures cause { HasCause (S.read_faults source.old) (S.read_faults source.new) result }
     ensures by { S.by_read source.old source.new }
 {
-    match source.read(&mut buffer[..room]) {
-        Ok(count) => Ok(count),
-        Err(Failed) => Err(Failed),
-    }
+    source.read(&mut buffer[..room])
 }
 
-// How much may be read: never past the longest script, but one byte once that was read, to see whether more comes.
+// How much may be read: never past the longest script; but if that was read, one byte, to see whether more comes.
 fn room_for(taken: u64, size: usize) -> usize
     requires taken { taken ≤ longest_script }
     requires some { 0 < size }

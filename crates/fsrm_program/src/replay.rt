@@ -7,9 +7,9 @@ ghost use Rattle.fsrm_model.specs.Limits.{longest_script};
 ghost use Rattle.fsrm_outside.specs.Causes.{Rose};
 ghost use Rattle.reply_text.specs.Writes.{KeepsCount};
 ghost use Rattle.fsrm_program.specs.Bytes.{IsAtEnd, TakenMost};
-ghost use Rattle.fsrm_program.specs.Progress.{State, Takes, Feeds, FeedsBroken, start};
+ghost use Rattle.fsrm_program.specs.Progress.{Takes, Feeds, FeedsBroken, start};
 ghost use Rattle.fsrm_program.specs.Held.{state_of};
-ghost use Rattle.fsrm_program.specs.Stops.{Stops, StopsAt, Reads, Finishes, FinishesFront, IsGivenUp};
+ghost use Rattle.fsrm_program.specs.Stops.{Stops, StopsAt, Reads, Finishes, FinishesFront};
 ghost use Rattle.fsrm_program.specs.Answers.{IsRun, KeepsReads, KeepsWrites, most_taken};
 
 use crate::batch::Batch;
@@ -18,7 +18,7 @@ use crate::session::{Session, end, feed};
 use crate::status::Status;
 use fsrm_engine::Engine;
 use fsrm_model::{Capacity, Ledger, NoMemory, Steps};
-use fsrm_outside::{Failed, Outside, Sink};
+use fsrm_outside::{Outside, Sink};
 use reply_text::TextFault;
 use std::alloc::Global;
 
@@ -49,14 +49,9 @@ fn answer_piece<S: Sink, L: Ledger>(
         waiting: replies,
         device: sink,
     };
-    match feed(session, &mut batch, piece, steps) {
-        Ok(()) => {}
-        Err(fault) => return Err(fault),
-    }
-    match batch.flush() {
-        Ok(()) => Ok(()),
-        Err(Failed) => Err(TextFault::WriteFault),
-    }
+    feed(session, &mut batch, piece, steps)?;
+    batch.flush()?;
+    Ok(())
 }
 
 // Reads a piece, answers the lines that end in it, and writes the replies. It answers the piece's length:
@@ -90,15 +85,9 @@ fn pass<O: Outside, L: Ledger>(
     ensures reads_kept { MatchResult result (λ _. O.read_faults outside.new ≡ O.read_faults outside.old) (λ status. KeepsReads status (O.read_faults outside.old) (O.read_faults outside.new)) }
     ensures writes_kept { MatchResult result (λ _. O.write_faults outside.new ≡ O.write_faults outside.old) (λ status. KeepsWrites status (O.write_faults outside.old) (O.write_faults outside.new)) }
 {
-    let count = match next_piece(outside, buffer, taken) {
-        Ok(count) => count,
-        Err(status) => return Err(status),
-    };
-    match answer_piece(outside, session, replies, &buffer[..count], steps) {
-        Ok(()) => Ok(count),
-        Err(TextFault::WriteFault) => Err(Status::WriteFault),
-        Err(TextFault::NoMemory) => Err(Status::NoMemory),
-    }
+    let count = next_piece(outside, buffer, taken)?;
+    answer_piece(outside, session, replies, &buffer[..count], steps)?;
+    Ok(count)
 }
 
 // Reads the script to its end, and answers each line that has an LF.
@@ -140,30 +129,23 @@ fn finish<S: Sink, L: Ledger>(
     session: &mut Session,
     replies: &mut Vec<u8>,
     steps: &mut Steps<L>,
-) -> Result<(), Status>
+) -> Result<(), TextFault>
     requires written { replies.old.items ≡ [] }
     requires idle { session.old.engine.waiting ≡ [] }
     ensures ok { OnOk result (Finishes (state_of session.old steps.old) steps.new (S.shown sink.old) (S.shown sink.new)) }
     ensures err { OnErr result (FinishesFront (state_of session.old steps.old) steps.new (S.shown sink.old) (S.shown sink.new)) }
+    ensures fault { IsErrOf result TextFault.WriteFault → Rose (S.write_faults sink.old) (S.write_faults sink.new) }
     ensures later { S.write_faults sink.old ≤ S.write_faults sink.new }
-    ensures cause { IsErrOf result Status.WriteFault → Rose (S.write_faults sink.old) (S.write_faults sink.new) }
-    ensures kept { MatchResult result (λ _. S.write_faults sink.new ≡ S.write_faults sink.old) (λ status. KeepsWrites status (S.write_faults sink.old) (S.write_faults sink.new)) }
-    ensures only { IfErr result IsGivenUp }
+    ensures same { KeepsCount result (S.write_faults sink.old) (S.write_faults sink.new) }
     ensures by { S.by_write sink.old sink.new }
 {
     let mut batch = Batch {
         waiting: replies,
         device: sink,
     };
-    match end(session, &mut batch, steps) {
-        Ok(()) => {}
-        Err(TextFault::WriteFault) => return Err(Status::WriteFault),
-        Err(TextFault::NoMemory) => return Err(Status::NoMemory),
-    }
-    match batch.flush() {
-        Ok(()) => Ok(()),
-        Err(Failed) => Err(Status::WriteFault),
-    }
+    end(session, &mut batch, steps)?;
+    batch.flush()?;
+    Ok(())
 }
 
 // Before the first byte: a volume with the root alone, of the default size.
@@ -210,7 +192,7 @@ fn run_session<O: Outside, L: Ledger>(
     }
     match finish(outside, session, replies, steps) {
         Ok(()) => Status::Done,
-        Err(status) => status,
+        Err(fault) => Status::from(fault),
     }
 }
 

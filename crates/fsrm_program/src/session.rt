@@ -47,7 +47,7 @@ fn next_line(bytes: &[u8]) -> Option<(&[u8], &[u8])>
     }
 }
 
-// Keeps more of a line, up to as much as is looked at.
+// Keeps more of a line, up to so many bytes of it as are held at most.
 fn hold(held: &mut Vec<u8>, bytes: &[u8]) -> Result<(), NoMemory>
     ensures ok { OnOk result (length held.old.items ≤ longest_line + 2 → held.new.items ≡ take (longest_line + 2) (held.old.items ++ bytes.now)) }
 {
@@ -56,19 +56,37 @@ fn hold(held: &mut Vec<u8>, bytes: &[u8]) -> Result<(), NoMemory>
     Ok(())
 }
 
-// Answers a line that is whole in its piece.
-fn answer_whole<S: Sink, L: Ledger>(
+// Keeps the end of a line whose beginning is held. Of a line that is whole in its piece nothing is kept.
+fn hold_end(held: &mut Vec<u8>, rest: &[u8]) -> Result<(), NoMemory>
+    ensures none { held.old.items ≡ [] → held.new.items ≡ [] }
+    ensures some { OnOk result ((held.old.items ≡ [] → ⊥) → length held.old.items ≤ longest_line + 2 → held.new.items ≡ take (longest_line + 2) (held.old.items ++ rest.now)) }
+{
+    if held.is_empty() {
+        return Ok(());
+    }
+    hold(held, rest)
+}
+
+// The line: what is held of it, or these bytes if nothing is.
+fn line_of<'a>(held: &'a [u8], rest: &'a [u8]) -> &'a [u8]
+    ensures none { held.now ≡ [] → result.now ≡ rest.now }
+    ensures some { (held.now ≡ [] → ⊥) → result.now ≡ held.now }
+{
+    if held.is_empty() { rest } else { held }
+}
+
+// Answers the line that ends with these bytes, and counts it.
+fn answer_line<S: Sink, L: Ledger>(
     session: &mut Session,
     sink: &mut S,
-    line: &[u8],
+    rest: &[u8],
     steps: &mut Steps<L>,
 ) -> Result<(), TextFault>
     requires number { session.old.line + 1 < 2 ^ 64 }
     requires idle { session.old.engine.waiting ≡ [] }
-    requires one_line { list_any is_end line.now ≡ false }
-    requires nothing_held { session.old.held.items ≡ [] }
-    ensures ok { OnOk result (Feeds (state_of session.old steps.old) (state_of session.new steps.new) (line.now ++ 10 ∷ []) (S.shown sink.old) (S.shown sink.new)) }
-    ensures err { OnErr result (FeedsBroken (state_of session.old steps.old) steps.new (line.now ++ 10 ∷ []) (S.shown sink.old) (S.shown sink.new)) }
+    requires one_line { list_any is_end rest.now ≡ false }
+    ensures ok { OnOk result (Feeds (state_of session.old steps.old) (state_of session.new steps.new) (rest.now ++ 10 ∷ []) (S.shown sink.old) (S.shown sink.new)) }
+    ensures err { OnErr result (FeedsBroken (state_of session.old steps.old) steps.new (rest.now ++ 10 ∷ []) (S.shown sink.old) (S.shown sink.new)) }
     ensures number { OnOk result (session.new.line ≡ session.old.line + 1) }
     ensures idle { session.new.engine.waiting ≡ [] }
     ensures fault { IsErrOf result TextFault.WriteFault → Rose (S.write_faults sink.old) (S.write_faults sink.new) }
@@ -76,86 +94,19 @@ fn answer_whole<S: Sink, L: Ledger>(
     ensures same { KeepsCount result (S.write_faults sink.old) (S.write_faults sink.new) }
     ensures by { S.by_write sink.old sink.new }
 {
-    match answer(
+    hold_end(&mut session.held, rest)?;
+    let line = line_of(&session.held, rest);
+    answer(
         &mut session.engine,
         session.alloc,
         sink,
         session.line,
         line,
         steps,
-    ) {
-        Ok(()) => {
-            session.line += 1;
-            Ok(())
-        }
-        Err(fault) => Err(fault),
-    }
-}
-
-// Answers the line whose beginning is held.
-fn answer_held<S: Sink, L: Ledger>(
-    session: &mut Session,
-    sink: &mut S,
-    rest: &[u8],
-    steps: &mut Steps<L>,
-) -> Result<(), TextFault>
-    requires number { session.old.line + 1 < 2 ^ 64 }
-    requires idle { session.old.engine.waiting ≡ [] }
-    requires one_line { list_any is_end rest.now ≡ false }
-    ensures ok { OnOk result (Feeds (state_of session.old steps.old) (state_of session.new steps.new) (rest.now ++ 10 ∷ []) (S.shown sink.old) (S.shown sink.new)) }
-    ensures err { OnErr result (FeedsBroken (state_of session.old steps.old) steps.new (rest.now ++ 10 ∷ []) (S.shown sink.old) (S.shown sink.new)) }
-    ensures number { OnOk result (session.new.line ≡ session.old.line + 1) }
-    ensures idle { session.new.engine.waiting ≡ [] }
-    ensures fault { IsErrOf result TextFault.WriteFault → Rose (S.write_faults sink.old) (S.write_faults sink.new) }
-    ensures later { S.write_faults sink.old ≤ S.write_faults sink.new }
-    ensures same { KeepsCount result (S.write_faults sink.old) (S.write_faults sink.new) }
-    ensures by { S.by_write sink.old sink.new }
-{
-    match hold(&mut session.held, rest) {
-        Ok(()) => {}
-        Err(NoMemory) => return Err(TextFault::NoMemory),
-    }
-    match answer(
-        &mut session.engine,
-        session.alloc,
-        sink,
-        session.line,
-        &session.held,
-        steps,
-    ) {
-        Ok(()) => {
-            session.line += 1;
-            session.held.clear();
-            Ok(())
-        }
-        Err(fault) => Err(fault),
-    }
-}
-
-// Answers the line that ends with these bytes.
-fn end_line<S: Sink, L: Ledger>(
-    session: &mut Session,
-    sink: &mut S,
-    rest: &[u8],
-    steps: &mut Steps<L>,
-) -> Result<(), TextFault>
-    requires number { session.old.line + 1 < 2 ^ 64 }
-    requires idle { session.old.engine.waiting ≡ [] }
-    requires one_line { list_any is_end rest.now ≡ false }
-    ensures ok { OnOk result (Feeds (state_of session.old steps.old) (state_of session.new steps.new) (rest.now ++ 10 ∷ []) (S.shown sink.old) (S.shown sink.new)) }
-    ensures err { OnErr result (FeedsBroken (state_of session.old steps.old) steps.new (rest.now ++ 10 ∷ []) (S.shown sink.old) (S.shown sink.new)) }
-    ensures number { OnOk result (session.new.line ≡ session.old.line + 1) }
-    ensures idle { session.new.engine.waiting ≡ [] }
-    ensures fault { IsErrOf result TextFault.WriteFault → Rose (S.write_faults sink.old) (S.write_faults sink.new) }
-    ensures later { S.write_faults sink.old ≤ S.write_faults sink.new }
-    ensures same { KeepsCount result (S.write_faults sink.old) (S.write_faults sink.new) }
-    ensures by { S.by_write sink.old sink.new }
-{
-    if session.held.is_empty() {
-        answer_whole(session, sink, rest, steps)
-    } else {
-        answer_held(session, sink, rest, steps)
-    }
+    )?;
+    session.line += 1;
+    session.held.clear();
+    Ok(())
 }
 
 // Keeps the beginning of a line, which the next piece goes on with.
@@ -165,10 +116,7 @@ fn hold_rest(session: &mut Session, rest: &[u8]) -> Result<(), NoMemory>
     ensures number { session.new.line ≡ session.old.line }
     ensures idle { session.new.engine.waiting ≡ session.old.engine.waiting }
 {
-    match hold(&mut session.held, rest) {
-        Ok(()) => Ok(()),
-        Err(NoMemory) => Err(NoMemory),
-    }
+    hold(&mut session.held, rest)
 }
 
 /// Takes the next piece of the script: answers each line that ends in it, and keeps the beginning of
@@ -192,16 +140,11 @@ pub fn feed<S: Sink, L: Ledger>(
 {
     let mut rest = piece;
     'lines: while let Some((line, after)) = next_line(rest) {
-        match end_line(session, sink, line, steps) {
-            Ok(()) => {}
-            Err(fault) => return Err(fault),
-        }
+        answer_line(session, sink, line, steps)?;
         rest = after;
     }
-    match hold_rest(session, rest) {
-        Ok(()) => Ok(()),
-        Err(NoMemory) => Err(TextFault::NoMemory),
-    }
+    hold_rest(session, rest)?;
+    Ok(())
 }
 
 /// Answers the last line, if it has no LF.
@@ -221,15 +164,12 @@ pub fn end<S: Sink, L: Ledger>(
     if session.held.is_empty() {
         return Ok(());
     }
-    match answer(
+    answer(
         &mut session.engine,
         session.alloc,
         sink,
         session.line,
         &session.held,
         steps,
-    ) {
-        Ok(()) => Ok(()),
-        Err(fault) => Err(fault),
-    }
+    )
 }

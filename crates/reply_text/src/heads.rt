@@ -125,7 +125,7 @@ pub fn write_exceeded<S: Sink>(
     )
 }
 
-// The column that a refusal carries, if it does.
+// The column that a refusal carries, if it carries one.
 fn column_of(refusal: Refusal) -> Option<u32>
     ensures some { (nodes : Items NodeRow) → IfSome result (λ column. refusal_words nodes refusal ≡ codes "BadLine" ∷ decimal column ∷ []) }
     ensures none { IfNone result (carries_column refusal ≡ false) }

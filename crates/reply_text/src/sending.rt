@@ -12,7 +12,7 @@ use itoa::write_digits;
 // The digits of the greatest number, which is below 2^64.
 const MOST_DIGITS: usize = 20;
 
-// So many bytes a short line has at most.
+// The bytes of the longest short line: a number and 44 more, or two numbers, 23 between them, and the LF.
 const SHORT_LINE: usize = 64;
 
 /// What a line is made of.
@@ -85,8 +85,8 @@ pub fn send_short<S: Sink>(sink: &mut S, number: u64, text: &[u8]) -> Result<(),
     ensures by { S.by_write sink.old sink.new }
 {
     let mut line = [0u8; SHORT_LINE];
-    let place = put_text(text, &mut line, SHORT_LINE);
-    let start = write_digits(number, &mut line, place);
+    let text_start = put_text(text, &mut line, SHORT_LINE);
+    let start = write_digits(number, &mut line, text_start);
     send_bytes(sink, &line[start..])
 }
 
@@ -105,9 +105,9 @@ pub fn send_short_with<S: Sink>(
     ensures by { S.by_write sink.old sink.new }
 {
     let mut line = [b'\n'; SHORT_LINE];
-    let behind = write_digits(last, &mut line, SHORT_LINE - 1);
-    let place = put_text(text, &mut line, behind);
-    let start = write_digits(number, &mut line, place);
+    let last_start = write_digits(last, &mut line, SHORT_LINE - 1);
+    let text_start = put_text(text, &mut line, last_start);
+    let start = write_digits(number, &mut line, text_start);
     send_bytes(sink, &line[start..])
 }
 

@@ -1,19 +1,45 @@
 //! The disk in memory.
 
-ghost use Rattle.std.specs.Prelude.{◌≡◌, ◌⊎◌, ◌+◌, ◌^◌, ◌≤◌, ◌<◌, ℕ, Some, IfOk, OnErr, OnOk, IsErr, take, drop, length};
+ghost use Rattle.std.specs.Prelude.{◌≡◌, ◌⊎◌, ◌+◌, ◌^◌, ◌≤◌, ◌<◌, ℕ, Some, true, false, IfOk, OnErr, OnOk, IsErr, IsTrue, MatchBool, take, drop, length};
 ghost use Rattle.std.specs.Option.{ForSome};
 ghost use Rattle.fsrm_outside.specs.Causes.{HasCause, count_after};
 ghost use Rattle.fsrm_outside.specs.Changes.{Same, Through, Torn, Written};
+ghost use Rattle.fsrm_outside.specs.Contents.{parts_in};
+ghost use Rattle.fsrm_outside.specs.History.{Stopped, Wrote};
 ghost use Rattle.fsrm_outside.specs.Parts.{Parts, part_of};
 ghost use Rattle.fsrm_outside.specs.Plan.{FailsNext, GoesBy};
 
 use crate::calls::Call;
 use crate::contents::fill_from;
-use crate::memory::MemoryOutside;
+use crate::history::History;
+use crate::memory::{MemoryOutside, noted};
 use crate::traits::{Disk, Failed, Outside, Part};
+use std::alloc::Global;
 
 // The most bytes that a part may have.
 const MOST: u64 = 1 << 62;
+
+// Writes the bytes, and keeps the call. False: it is to fail, there is no memory for it, or the bytes would end past
+// 2^62, and nothing is written or kept.
+fn written(
+    fails: bool,
+    alloc: Global,
+    history: &mut History,
+    part: Part,
+    place: u64,
+    bytes: &[u8],
+) -> bool
+    requires { place ≤ length (part_of part (parts_in history.old.parts)) }
+    ensures told { IsTrue fails → result ≡ false }
+    ensures bound { result ≡ true → place + length bytes.now ≤ 2 ^ 62 }
+    ensures done { MatchBool result (Wrote part place bytes.now history.old history.new) (Stopped history.old history.new) }
+{
+    let count = bytes.len() as u64;
+    if fails || count > MOST || place > MOST - count {
+        return false;
+    }
+    history.write_at(alloc, part, place, bytes)
+}
 
 impl Disk for MemoryOutside {
     ghost use Rattle.fsrm_outside.specs.MemoryOutside.{ByDisk, disk_faults_of, images_of, parts_of, plan_of, time_of};
@@ -29,7 +55,7 @@ impl Disk for MemoryOutside {
 
     ghost by_disk = { ByDisk };
 
-    /// Fails where it is told to, where there is no memory for the record, and for a part of more than 2^62 bytes.
+    /// Fails if it is told to, if there is no memory for the record, and for a part of more than 2^62 bytes.
     fn len(&mut self, part: Part) -> Result<u64, Failed>
         ensures length { IfOk result (λ n. n ≡ length (part_of part (parts_of self.old))) }
         ensures bound { IfOk result (λ n. n ≤ 2 ^ 62) }
@@ -44,16 +70,15 @@ impl Disk for MemoryOutside {
         ensures counted { disk_faults_of self.new ≡ count_after (disk_faults_of self.old) result }
     {
         let fails = self.fails_next();
-        let kept = self.history.note(Call::Len);
+        let kept = noted(fails, &mut self.history, Call::Len);
         let length = self.history.part(part).len() as u64;
-        if fails || !kept || length > MOST {
-            self.disk_faults = self.disk_faults.saturating_add(1);
-            return Err(Failed);
+        if !kept || length > MOST {
+            return Err(Failed::counted(&mut self.disk_faults));
         }
         Ok(length)
     }
 
-    /// Fails where it is told to, and where there is no memory for the record.
+    /// Fails if it is told to, and if there is no memory for the record.
     fn read_at(&mut self, part: Part, place: u64, into: &mut [u8]) -> Result<usize, Failed>
         ensures count { IfOk result (λ n. n ≤ length into.new) }
         ensures bytes { IfOk result (λ n. take n into.new ≡ take (length into.old) (drop place (part_of part (parts_of self.old)))) }
@@ -68,16 +93,14 @@ impl Disk for MemoryOutside {
         ensures counted { disk_faults_of self.new ≡ count_after (disk_faults_of self.old) result }
     {
         let fails = self.fails_next();
-        let kept = self.history.note(Call::ReadAt);
-        if fails || !kept {
-            self.disk_faults = self.disk_faults.saturating_add(1);
-            return Err(Failed);
+        if !noted(fails, &mut self.history, Call::ReadAt) {
+            return Err(Failed::counted(&mut self.disk_faults));
         }
         Ok(fill_from(self.history.part(part), place, into))
     }
 
-    /// Fails where it is told to, where there is no memory for the part or for the record, and past 2^62 bytes. What a
-    /// read gives then stays.
+    /// Fails if it is told to, if there is no memory for the part or for the record, and past 2^62 bytes. What a read
+    /// gives then stays.
     fn write_at(&mut self, part: Part, place: u64, bytes: &[u8]) -> Result<(), Failed>
         requires { ForSome (Some (parts_of self.old)) (λ parts. place ≤ length (part_of part parts)) }
         ensures written { OnOk result (parts_of self.new ≡ Written part place bytes.now (parts_of self.old)) }
@@ -92,21 +115,15 @@ impl Disk for MemoryOutside {
         ensures plan { GoesBy (plan_of self.old) (plan_of self.new) }
         ensures counted { disk_faults_of self.new ≡ count_after (disk_faults_of self.old) result }
     {
-        let count = bytes.len() as u64;
-        if self.fails_next() || count > MOST || place > MOST - count {
+        let fails = self.fails_next();
+        if !written(fails, self.alloc, &mut self.history, part, place, bytes) {
             self.history.fail_at(part, place, bytes.len());
-            self.disk_faults = self.disk_faults.saturating_add(1);
-            return Err(Failed);
-        }
-        if !self.history.write_at(self.alloc, part, place, bytes) {
-            self.history.fail_at(part, place, bytes.len());
-            self.disk_faults = self.disk_faults.saturating_add(1);
-            return Err(Failed);
+            return Err(Failed::counted(&mut self.disk_faults));
         }
         Ok(())
     }
 
-    /// Fails where it is told to, and where there is no memory for the record.
+    /// Fails if it is told to, and if there is no memory for the record.
     fn sync(&mut self) -> Result<(), Failed>
         ensures durable { (t : ℕ) (image : Parts) → OnOk result (Some (time_of self.new) ≡ Some t → images_of self.new t image → Some (parts_of self.new) ≡ Some image) }
         ensures reads { parts_of self.new ≡ parts_of self.old }
@@ -120,10 +137,8 @@ impl Disk for MemoryOutside {
         ensures counted { disk_faults_of self.new ≡ count_after (disk_faults_of self.old) result }
     {
         let fails = self.fails_next();
-        let kept = self.history.note(Call::Sync(!fails));
-        if fails || !kept {
-            self.disk_faults = self.disk_faults.saturating_add(1);
-            return Err(Failed);
+        if !noted(fails, &mut self.history, Call::Sync(!fails)) {
+            return Err(Failed::counted(&mut self.disk_faults));
         }
         Ok(())
     }

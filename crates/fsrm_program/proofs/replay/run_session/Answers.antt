@@ -1,7 +1,8 @@
 use Rattle.std.proofs.Common.{subst, Option, List, ℕ}
 use Rattle.fsrm_program.specs.Progress.{State, start}
 use Rattle.fsrm_program.specs.Held.{state_of}
-use Rattle.fsrm_program.specs.Stops.{StopsAt, Reads}
+use Rattle.fsrm_program.specs.Stops.{StopsAt, Reads, status_of}
+use Rattle.fsrm_program.proofs.GivenUp.{is_given_up}
 use Rattle.fsrm_program.proofs.Whole.{done_run, last_run, stopped_run}
 use Rattle.fsrm_program.proofs.replay.run_session.Goals as goal
 
@@ -39,7 +40,8 @@ returns-in-Err-finish-clause-run g c = λ script told.
     let mid = c.read_all.new.outside in
     let last = c.finish.new.sink in
     let now = state_of c.read_all.new.session c.read_all.new.steps in
-    last_run c.args.session.now.engine.size c.args.session.now.engine.rows c.in-Err-finish.status c.args.steps.now c.finish.new.steps now script (source.left mid) (source.left last) s0 (sink.shown mid) (sink.shown last) c.in-Err-finish.ensures.only
+    let fault = c.in-Err-finish.fault in
+    rw c.from.ensures (last_run c.args.session.now.engine.size c.args.session.now.engine.rows (status_of fault) c.args.steps.now c.finish.new.steps now script (source.left mid) (source.left last) s0 (sink.shown mid) (sink.shown last) (is_given_up fault)
     (subst (λ (left : Option (List ℕ)). Reads (start c.args.session.now.engine.size c.args.session.now.engine.rows c.args.steps.now) now left (source.left mid) s0 (sink.shown mid)) told
     (subst (λ (a : State). Reads a now (source.left c.args.outside.now) (source.left mid) s0 (sink.shown mid)) c.requires.state c.in-Ok.ensures.reads))
-    c.in-Err-finish.ensures.err
+    c.in-Err-finish.ensures.err)

@@ -1,4 +1,4 @@
-use Rattle.std.proofs.Common.{◌≡◌, ap, subst, Some, true}
+use Rattle.std.proofs.Common.{◌≡◌, ap, subst, Some, true, false, refl}
 use Rattle.std.specs.Prelude.{not, Bool}
 use Rattle.fsrm_outside.specs.History.{Noted}
 use Rattle.fsrm_outside.specs.Parts.{Parts}
@@ -6,14 +6,20 @@ use Rattle.fsrm_outside.specs.declared.calls.Call.TheVariants.{Sync}
 use Rattle.fsrm_outside.proofs.Kept.{sync_through, synced}
 use Rattle.fsrm_outside.proofs.memory.disk.MemoryOutsideDisk.sync.Goals as goal
 
-pub returns-then-fails-clause-crash : goal.returns-then-fails-clause-crash
-returns-then-fails-clause-crash c = sync_through c.args.self.now.history c.note-kept.new.self (not c.fails_next-fails.result) c.note-kept.result c.note-kept.ensures
+pub returns-then-not-noted-clause-crash : goal.returns-then-not-noted-clause-crash
+returns-then-not-noted-clause-crash c = sync_through c.args.self.now.history c.noted.new.history (not c.fails_next-fails.result) c.noted.ensures.kept
 
 pub returns-clause-crash : goal.returns-clause-crash
-returns-clause-crash c = sync_through c.args.self.now.history c.note-kept.new.self (not c.fails_next-fails.result) c.note-kept.result c.note-kept.ensures
+returns-clause-crash c = sync_through c.args.self.now.history c.noted.new.history (not c.fails_next-fails.result) c.noted.ensures.kept
+
+-- a call that was told to fail answers an Err
+was_not : (fails result : Bool) → (fails ≡ true → result ≡ false) → result ≡ true → not fails ≡ true
+was_not true result told done = absurd (cc (told refl))
+was_not false result told done = refl
 
 pub returns-clause-durable : goal.returns-clause-durable
 returns-clause-durable c t image at left =
-    let done : not c.fails_next-fails.result ≡ true = ap not c.if-fails.false in
-    let kept = subst (λ (d : Bool). Noted (Sync d) c.args.self.now.history c.note-kept.new.self) done c.if-not-kept.ensures in
-    ap (λ (p : Parts). Some p) (synced c.args.self.now.history c.note-kept.new.self t image kept at left)
+    let noted : c.noted.result ≡ true = c.if-not-noted.false in
+    let done : not c.fails_next-fails.result ≡ true = was_not c.fails_next-fails.result c.noted.result c.noted.ensures.told noted in
+    let kept = subst (λ (d : Bool). Noted (Sync d) c.args.self.now.history c.noted.new.history) done (c.noted.ensures.done noted) in
+    ap (λ (p : Parts). Some p) (synced c.args.self.now.history c.noted.new.history t image kept at left)

@@ -1,6 +1,6 @@
 use Rattle.std.proofs.Common.{◌∙◌}
 use Rattle.fsrm_outside.proofs.Shown.{shows_more, taken_within}
-use Rattle.fsrm_program.proofs.writing.write_front.Goals as goal
+use Rattle.fsrm_outside.proofs.writing.write_front.Goals as goal
 
 pub pieces-preserved : goal.pieces-preserved
 pieces-preserved g c =

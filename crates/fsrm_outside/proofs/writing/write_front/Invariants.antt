@@ -1,6 +1,6 @@
 use Rattle.std.proofs.Common.{◌≡◌, ◌-◌, ◌≤◌, length, take}
 use Rattle.std.specs.Io.KnownBytes.{append_known}
-use Rattle.fsrm_program.proofs.writing.write_front.Given as goal
+use Rattle.fsrm_outside.proofs.writing.write_front.Given as goal
 
 -- a front of the bytes is shown
 abbrev pub invariant-pieces : goal.invariant-pieces
