@@ -1,5 +1,6 @@
 -- The entries of nodes in the order of their places.
-use Rattle.std.specs.Prelude.{◌≡◌, ℕ, List, All, Some, map}
+use Rattle.std.specs.Prelude.{◌≡◌, ℕ, ◌<◌, ◌≤◌, List, All, Contains, Some, map, slice_get}
+use Rattle.std.specs.List.{slice_index_or}
 use Rattle.fsrm_model.specs.declared.row.NodeRow.{NodeRow}
 use Rattle.fsrm_model.specs.Tree.{node_of}
 use Rattle.name_rules.specs.Prefix.{prefix}
@@ -35,3 +36,21 @@ pub record IsOwn (nodes : List NodeRow) (entry : Entry) : Type 0 where
 pub record AreOwn (nodes : List NodeRow) (order : Sequence) : Type 0 where
   pub numbers_are : entries_of order.runs ≡ map number_in order.entries
   pub each : All (IsOwn nodes) order.entries
+
+-- the folder of the entry at a place in a run
+abbrev pub parent_at : List Entry → ℕ → ℕ
+parent_at entries place = (slice_index_or entries place (record { prefix = 0; parent = 0; node = 0 })).parent
+
+-- the entry at a place is of a lower folder than this one
+pub record IsLower (order : Sequence) (folder place : ℕ) : Type 0 where
+  pub entry : Entry
+  pub at : slice_get (entries_of order.runs) place ≡ Some entry.node
+  pub listed : Contains order.entries entry
+  pub lower : entry.parent < folder
+
+-- it is not
+pub record IsNotLower (order : Sequence) (folder place : ℕ) : Type 0 where
+  pub entry : Entry
+  pub at : slice_get (entries_of order.runs) place ≡ Some entry.node
+  pub listed : Contains order.entries entry
+  pub other : folder ≤ entry.parent

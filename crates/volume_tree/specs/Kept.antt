@@ -78,12 +78,6 @@ pub record IsKept (K : Capacity) (count used : ℕ) (holes : Numbers) (slots : L
   pub entries_are : AreOwn (rows_of slots) order
   pub room_is : order.room ≡ K.nodes
 
--- a node is there, and stands in a folder
-pub record IsIn (nodes : List NodeRow) (n folder : ℕ) : Type 0 where
-  pub row : NodeRow
-  pub found : node_of nodes n ≡ Some row
-  pub parent_is : folder ≡ row.parent
-
 -- a node is there, and has a name
 pub record HasName (nodes : List NodeRow) (n : ℕ) (name : List ℕ) : Type 0 where
   pub row : NodeRow

@@ -63,8 +63,8 @@ impl<'t> Siblings<'t> {
     }
 }
 
-// The same place, but if it is the end of a run the beginning of the next one.
-fn entry_from(order: &Order, place: Place) -> Place
+/// The same place, but if it is the end of a run the beginning of the next one.
+pub fn entry_from(order: &Order, place: Place) -> Place
     requires { IsGap order.now.runs place }
     ensures index { index_of order.now.runs result ≡ index_of order.now.runs place }
     ensures offset { 0 < result.offset → result.offset < length (run_at order.now.runs result.run) }

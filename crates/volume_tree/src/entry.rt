@@ -1,6 +1,6 @@
 //! The entry of a node in the order.
 
-ghost use Rattle.std.specs.Prelude.{◌≡◌, ◌+◌, ◌^◌, ◌<◌, ◌≤◌, ◌==◌, not, IfOk, IfErr, OnOk, OnErr, true, false, length, Some, slice_get, option_map};
+ghost use Rattle.std.specs.Prelude.{◌≡◌, ◌+◌, ◌<◌, ◌≤◌, ◌==◌, not, IfOk, IfErr, OnOk, OnErr, true, false, length, Some, slice_get, option_map};
 ghost use Rattle.fsrm_base.specs.Keyed.{has_row};
 ghost use Rattle.fsrm_model.specs.Limits.{most_nodes};
 ghost use Rattle.fsrm_model.specs.Tree.{number as key, parent_of, name_of, child_number};
@@ -28,33 +28,27 @@ pub fn is_other(order: &Order, found: Result<Place, Place>, node: u32) -> bool
     }
 }
 
-/// The place of a node in the order, and the bytes of its name. It looks at no more than 22 nodes.
+/// The place in the order of a node, whose row this is. It takes no more than 21 looks.
 pub fn own_place<L: Ledger>(
     slots: &[Option<NodeRow>],
     order: &Order,
-    node: u32,
+    row: &NodeRow,
     steps: &mut Steps<L>,
-) -> (Place, u32)
+) -> Place
     requires slots { AreSlots 0 slots.now }
     requires order { IsOrder (rows_of slots.now) (entries_of order.now.runs) }
     requires entries { AreOwn (rows_of slots.now) order.now }
     requires few { length (entries_of order.now.runs) < most_nodes }
-    requires there { has_row key node (rows_of slots.now) ≡ true }
-    requires found { child_number (rows_of slots.now) (parent_of (rows_of slots.now) node) (name_of (rows_of slots.now) node) ≡ Some node }
-    requires short { length (name_of (rows_of slots.now) node) < 2 ^ 32 }
-    ensures entry { IsEntry order.now.runs result.0 }
-    ensures place { slice_get (entries_of order.now.runs) (index_of order.now.runs result.0) ≡ Some node }
-    ensures bytes { result.1 ≡ length (name_of (rows_of slots.now) node) }
-    ensures looks { steps.new ≤ steps.old + 22 }
+    requires own { child_number (rows_of slots.now) row.now.parent row.now.name ≡ Some row.now.number }
+    ensures entry { IsEntry order.now.runs result }
+    ensures place { slice_get (entries_of order.now.runs) (index_of order.now.runs result) ≡ Some row.now.number }
+    ensures looks { steps.new ≤ steps.old + 21 }
 {
-    let row = reads::node(slots, node, steps);
-    let place = order::search(slots, order, row.parent, row.name.as_str(), steps).unwrap();
-    (place, row.name.as_str().len() as u32)
+    order::search(slots, order, row.parent, row.name.as_str(), steps).unwrap()
 }
 
-/// Moves a node's entry, which becomes this one, to the place where a name was searched and not found. If one was
-/// found, it stays.
-/// It looks at no more than 22 nodes.
+/// Moves a node's entry, which becomes this one, to the place where a name was searched and not found. If the name was
+/// found, the entry stays. It looks at no more than 22 nodes.
 pub fn reorder<L: Ledger>(
     slots: &[Option<NodeRow>],
     order: &mut Order,
@@ -69,7 +63,6 @@ pub fn reorder<L: Ledger>(
     requires room { length (entries_of order.old.runs) ≤ order.old.room }
     requires there { has_row key entry.node (rows_of slots.now) ≡ true }
     requires own { child_number (rows_of slots.now) (parent_of (rows_of slots.now) entry.node) (name_of (rows_of slots.now) entry.node) ≡ Some entry.node }
-    requires short { length (name_of (rows_of slots.now) entry.node) < 2 ^ 32 }
     requires gap { IfErr found (λ place. IsGap order.old.runs place) }
     ensures room { order.new.room ≡ order.old.room }
     ensures ok { OnOk found (order.new ≡ order.old) }
@@ -77,7 +70,8 @@ pub fn reorder<L: Ledger>(
     ensures looks { steps.new ≤ steps.old + 22 }
 {
     if let Err(place) = found {
-        let (own, _) = own_place(slots, order, entry.node, steps);
+        let row = reads::node(slots, entry.node, steps);
+        let own = own_place(slots, order, row, steps);
         shift(order, entry, own, place);
     }
 }
@@ -95,8 +89,8 @@ fn gap_at(order: &Order, index: u32) -> Place
     }
 }
 
-// Moves a node's entry, which becomes this one, to before the one at another place, or to the end. A removal may move
-// that place, so it is kept as a number of entries, for which the runs before it are passed.
+// Moves a node's entry, which becomes this one, to before the one at another place, or to the end. The removal of the
+// old entry may move that place, so it is kept as a number of entries, and found again by passing the runs before it.
 fn shift(order: &mut Order, entry: Entry, from: Place, to: Place)
     requires few { length (entries_of order.old.runs) < most_nodes }
     requires room { length (entries_of order.old.runs) ≤ order.old.room }

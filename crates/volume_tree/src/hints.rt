@@ -2,18 +2,16 @@
 //! clause tells what is guessed, and nothing of the table has to be kept true.
 
 use fsrm_model::NodeRow;
+use fsrm_model::limits::MOST_NODES;
 use std::alloc::Global;
 
 // How many slots a bucket has.
 const SLOTS: usize = 8;
 
-// What stands in a slot that is free. An entry like it would be that of the last of all numbers.
+// What stands in a slot that is free. Only an entry of the greatest number can look the same.
 const FREE: u32 = u32::MAX;
 
-// Numbers of nodes are below this one. An entry has 12 bits of a hash above them.
-const NUMBERS: u32 = 1_048_576;
-
-// 2^64 over the golden ratio, whose bits are as good as drawn.
+// 2^64 over the golden ratio, whose bits are as good as random ones.
 const STIR: u64 = 0x9e37_79b9_7f4a_7c15;
 
 // Set in each byte, this bit makes one of the two cases of a letter.
@@ -42,7 +40,8 @@ fn short_word(bytes: &[u8]) -> u64 {
     }
 }
 
-// A hash of a folder's number and of a name, by words of eight bytes, of which the last one overlaps.
+// A hash of a folder's number and of a name, by words of eight bytes. The last one has the name's last eight bytes, and
+// overlaps the one before it.
 #[inline]
 fn hash(folder: u32, name: &str) -> u32 {
     let bytes = name.as_bytes();
@@ -106,8 +105,8 @@ impl Hints {
         (u64::from(hash).wrapping_mul(self.buckets.len() as u64) >> 32) as usize
     }
 
-    /// A number that the child of this name may have: the least whose entry has the hash's mark. What other entries have
-    /// in place of the mark makes them greater, so there is no branch until all slots are passed.
+    /// A number that the child of this name may have: the least whose entry has the hash's mark. Without the mark such
+    /// an entry is the number alone, and every other one is greater; so the least is sought without a branch.
     #[inline]
     pub fn guess(&self, folder: u32, name: &str) -> Option<u32> {
         let hash = hash(folder, name);
@@ -116,7 +115,11 @@ impl Hints {
         for slot in bucket {
             least = least.min(*slot ^ mark(hash));
         }
-        if least < NUMBERS { Some(least) } else { None }
+        if least < MOST_NODES {
+            Some(least)
+        } else {
+            None
+        }
     }
 
     fn note(&mut self, folder: u32, name: &str, number: u32) {
@@ -127,7 +130,7 @@ impl Hints {
         }
     }
 
-    // Sees that there are two slots for each node. Where there aren't, it takes eight for each, and notes all nodes anew;
+    // Sees that there are two slots for each node. If there aren't, it takes eight for each, and notes all nodes anew;
     // if there is no memory for them, the table stays as it is.
     fn fit(&mut self, nodes: &[Option<NodeRow>]) {
         if nodes.len() / 4 < self.buckets.len() {

@@ -19,6 +19,7 @@ mod creations;
 mod entries;
 mod entry;
 mod finger;
+mod gallop;
 mod hints;
 mod lookup;
 mod moves;

@@ -14,18 +14,27 @@ use crate::slots::row;
 use fsrm_model::{Ledger, NodeRow, Steps};
 use name_rules::same_name;
 
-// Whether a number is that of a node other than the root that has a name in a folder.
-fn has_name(slots: &[Option<NodeRow>], number: u32, folder: u32, name: &str) -> bool
+// Whether a number is that of a node other than the root that has a name in a folder. It takes a look, whether or not
+// there is such a node.
+fn has_name<L: Ledger>(
+    slots: &[Option<NodeRow>],
+    number: u32,
+    folder: u32,
+    name: &str,
+    steps: &mut Steps<L>,
+) -> bool
     requires { AreSlots 0 slots.now }
-    ensures { result ≡ has_name (rows_of slots.now) number folder name.now }
+    ensures value { result ≡ has_name (rows_of slots.now) number folder name.now }
+    ensures count { steps.new ≡ steps.old + 1 }
 {
+    steps.tick();
     match row(slots, number) {
         Some(row) => number != 0 && row.parent == folder && same_name(row.name.as_str(), name),
         None => false,
     }
 }
 
-// A node that has a name in a folder, if the one that is guessed has it. It takes a look if one is guessed.
+// The node that is guessed to have a name in a folder, if it has it. It takes a look if one is guessed.
 fn guessed<L: Ledger>(
     slots: &[Option<NodeRow>],
     hints: &Hints,
@@ -40,8 +49,7 @@ fn guessed<L: Ledger>(
     ensures looks { steps.new ≤ steps.old + 1 }
 {
     let number = hints.guess(folder, name)?;
-    steps.tick();
-    if has_name(slots, number, folder, name) {
+    if has_name(slots, number, folder, name, steps) {
         Some(number)
     } else {
         None

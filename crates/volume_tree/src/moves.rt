@@ -106,7 +106,7 @@ impl Tree {
         Ok(ReadyMove { node, folder, name })
     }
 
-    /// The second half of `move_node`: makes a move that is ready, and that the tree has still nothing
+    /// The second half of `move_node`: makes a move that is ready, and that the tree still has nothing
     /// against. It can't fail, and takes no memory. It takes no more than 44 looks.
     pub fn make_move<L: Ledger>(&mut self, ready: ReadyMove, steps: &mut Steps<L>)
         requires there { has_row key ready.node self.old.nodes ≡ true }

@@ -1,7 +1,7 @@
-//! The numbers of all nodes but the root in the order of their places: by folders, and in each folder
-//! by folded names. They are kept in runs, of which each begins a block of its own.
+//! Searches among the entries of all nodes but the root, which stand in the order of their places: by folders, and in
+//! each folder by folded names. They are kept in runs, each at the beginning of a block.
 
-ghost use Rattle.std.specs.Prelude.{◌≡◌, ℕ, ◌+◌, ◌-◌, ◌/◌, ◌<◌, ◌≤◌, ◌==◌, if◌then◌else◌, Contains, IfOk, IfErr, IfSome, OnOk, option_map, true, not, length, [], Some, None, slice_get};
+ghost use Rattle.std.specs.Prelude.{◌≡◌, ℕ, ◌+◌, ◌-◌, ◌/◌, ◌<◌, ◌≤◌, ◌==◌, if◌then◌else◌, Contains, IfOk, IfErr, IfSome, OnOk, option_map, true, false, not, length, [], Some, None, slice_get};
 ghost use Rattle.fsrm_model.specs.Limits.{most_nodes};
 ghost use Rattle.fsrm_model.specs.Tree.{children, child_number};
 ghost use Rattle.block_list.specs.Places.{IsEntry, IsGap, index_of};
@@ -11,14 +11,14 @@ ghost use Rattle.volume_tree.specs.Entries.{AreOwn, IsOwn, number_in};
 ghost use Rattle.volume_tree.specs.Kept.{AreSlots, IsBeyond, IsFloor, IsNamed, IsOrder, IsPlace, Stands, rows_of};
 
 use crate::entries::{Entry, Order};
-use crate::reads::{name_at, node};
+use crate::reads::name_at;
 use block_list::Place;
 use fsrm_model::{Ledger, NodeRow, Steps};
 use name_rules::{fold_cmp, fold_prefix};
 use std::cmp::Ordering;
 
 /// Whether an entry stands before the place of a name in a folder, not after it. None if it has the name. Its node's row
-/// is read only if the folder and the first characters are the same.
+/// is read only if the folder and the first characters are the same. It takes a look, whether or not it reads it.
 #[inline]
 pub fn is_before(
     slots: &[Option<NodeRow>],
@@ -26,12 +26,16 @@ pub fn is_before(
     folder: u64,
     prefix: u64,
     name: &str,
+    looks: &mut usize,
 ) -> Option<bool>
     requires slots { AreSlots 0 slots.now }
     requires entry { IsOwn (rows_of slots.now) entry }
     requires prefix { prefix ≡ prefix_of name.now }
-    ensures { Stands (rows_of slots.now) entry.node folder name.now result }
+    requires few { looks.old < most_nodes }
+    ensures stands { Stands (rows_of slots.now) entry.node folder name.now result }
+    ensures count { looks.new ≡ looks.old + 1 }
 {
+    *looks += 1;
     let parent = u64::from(entry.parent);
     if parent == folder && entry.prefix == prefix {
         return match fold_cmp(name_at(slots, entry.node), name) {
@@ -57,7 +61,7 @@ fn halved(size: usize, before: bool) -> (usize, usize)
 }
 
 // The run that begins with the node of a name in a folder, or as an `Err` how many runs begin before the place of
-// the name. It gives too at how many nodes it looked: at no more than 13.
+// that name. It gives too at how many nodes it looked: at no more than 13.
 fn runs_before(
     slots: &[Option<NodeRow>],
     order: &Order,
@@ -84,8 +88,8 @@ fn runs_before(
     let mut looks = 0;
     while size > 0 {
         let middle = low + size / 2;
-        looks += 1;
-        let Some(before) = is_before(slots, order.first(middle), folder, prefix, name) else {
+        let Some(before) = is_before(slots, order.first(middle), folder, prefix, name, &mut looks)
+        else {
             return (Ok(middle), looks);
         };
         let (passed, left) = halved(size, before);
@@ -95,8 +99,8 @@ fn runs_before(
     (Err(low), looks)
 }
 
-// Where in a run whose first node comes before the name, and before whose end its place is, the node of the name
-// stands, or as an `Err` where one is to stand. It gives too at how many nodes it looked: at no more than 8.
+// Where in a run the node of a name stands, or as an `Err` where one is to stand. The run's first node comes before the
+// name, and the name's place isn't past the run's end. It gives too at how many nodes it looked: at no more than 8.
 fn offset_of(
     slots: &[Option<NodeRow>],
     order: &Order,
@@ -127,8 +131,8 @@ fn offset_of(
     let mut looks = 0;
     while size > 0 {
         let middle = low + size / 2;
-        looks += 1;
-        let Some(before) = is_before(slots, entries[middle], folder, prefix, name) else {
+        let Some(before) = is_before(slots, entries[middle], folder, prefix, name, &mut looks)
+        else {
             return (Ok(middle), looks);
         };
         let (passed, left) = halved(size, before);
@@ -245,35 +249,39 @@ pub fn entry_at(order: &Order, place: Place) -> Option<Entry>
     }
 }
 
-/// The number that stands at a place, if that isn't the end.
-pub fn number_at(order: &Order, place: Place) -> Option<u32>
-    requires { IsGap order.now.runs place }
-    ensures { result ≡ slice_get (entries_of order.now.runs) (index_of order.now.runs place) }
+// Whether an entry is a folder's child. It takes a look.
+fn is_child<L: Ledger>(entry: Entry, folder: u32, steps: &mut Steps<L>) -> bool
+    ensures value { result ≡ (entry.parent == folder) }
+    ensures count { steps.new ≡ steps.old + 1 }
 {
-    match entry_at(order, place) {
-        Some(entry) => Some(entry.node),
-        None => None,
-    }
+    steps.tick();
+    entry.parent == folder
 }
 
-/// Whether a folder has a child. It looks at no more than 22 nodes.
+/// Whether a node has a child. A file has none: that takes no look. For a folder it takes no more than 22.
 pub fn has_child<L: Ledger>(
     slots: &[Option<NodeRow>],
     order: &Order,
-    folder: u32,
+    row: &NodeRow,
     steps: &mut Steps<L>,
 ) -> bool
     requires slots { AreSlots 0 slots.now }
     requires order { IsOrder (rows_of slots.now) (entries_of order.now.runs) }
     requires entries { AreOwn (rows_of slots.now) order.now }
     requires few { length (entries_of order.now.runs) < most_nodes }
-    ensures value { result ≡ not (length (children (rows_of slots.now) folder) == 0) }
+    requires file { row.now.folder ≡ false → children (rows_of slots.now) row.now.number ≡ [] }
+    ensures value { result ≡ not (length (children (rows_of slots.now) row.now.number) == 0) }
+    ensures none { row.now.folder ≡ false → steps.new ≡ steps.old }
     ensures looks { steps.new ≤ steps.old + 22 }
 {
+    if !row.folder {
+        return false;
+    }
+    let folder = row.number;
     let (place, looks) = first_from(slots, order, u64::from(folder));
     steps.count(looks);
-    let Some(number) = number_at(order, place) else {
-        return false;
-    };
-    node(slots, number, steps).parent == folder
+    match entry_at(order, place) {
+        Some(entry) => is_child(entry, folder, steps),
+        None => false,
+    }
 }

@@ -1,10 +1,9 @@
-//! Reads of nodes. Each is counted as one look, but for those that only tell in which folder a node stands: the calls
-//! that find a folder's children by them count themselves.
+//! Reads of nodes. Each is counted as one look, but for that of a name alone: who compares it counts that.
 
 ghost use Rattle.std.specs.Prelude.{◌≡◌, ◌+◌, true, Some};
 ghost use Rattle.fsrm_base.specs.Keyed.{has_row};
 ghost use Rattle.fsrm_model.specs.Tree.{number as key, node_of};
-ghost use Rattle.volume_tree.specs.Kept.{AreSlots, HasName, IsIn, rows_of};
+ghost use Rattle.volume_tree.specs.Kept.{AreSlots, HasName, rows_of};
 
 use crate::slots::row;
 use fsrm_model::{Ledger, NodeRow, Steps};
@@ -25,15 +24,6 @@ pub fn name_at(slots: &[Option<NodeRow>], number: u32) -> &str
     ensures { HasName (rows_of slots.now) number result.now }
 {
     row_at(slots, number).name.as_str()
-}
-
-/// The folder of a node that is there. It takes no look of its own.
-pub fn folder_at(slots: &[Option<NodeRow>], number: u32) -> u32
-    requires slots { AreSlots 0 slots.now }
-    requires there { has_row key number (rows_of slots.now) ≡ true }
-    ensures { IsIn (rows_of slots.now) number result }
-{
-    row_at(slots, number).parent
 }
 
 /// A node that is there. It takes one look.

@@ -1,12 +1,13 @@
 //! A volume's nodes.
 
-ghost use Rattle.std.specs.Prelude.{◌≡◌, ◌+◌, ◌*◌, ◌<◌, ◌≤◌, ◌==◌, if◌then◌else◌, IfOk, IfErr, OnOk, OnErr, OnSome, IsErrOf, true, false, length, take, map, None, Some, ◌∷◌, []};
+ghost use Rattle.std.specs.Prelude.{◌≡◌, ◌+◌, ◌*◌, ◌<◌, ◌≤◌, ◌==◌, if◌then◌else◌, IfOk, IfErr, OnOk, OnErr, OnSome, IsErrOf, true, false, length, take, drop, map, None, Some, ◌∷◌, []};
 ghost use Rattle.fsrm_model.specs.Capacities.{is_capacity};
 ghost use Rattle.fsrm_model.specs.FileOps.{made_node};
 ghost use Rattle.fsrm_model.specs.Fresh.{root_node};
 ghost use Rattle.fsrm_base.specs.Keyed.{has_row};
 ghost use Rattle.fsrm_model.specs.Limits.{longest_file, latest_moment};
 ghost use Rattle.fsrm_model.specs.Name.{is_name};
+ghost use Rattle.fsrm_model.specs.PathNames.{left};
 ghost use Rattle.fsrm_model.specs.Space.{alloc};
 ghost use Rattle.fsrm_model.specs.Tree.{number as key, fresh, is_folder, is_under, children, children_in_order, child_number, chain, resolve, name_bytes};
 ghost use Rattle.fsrm_model.specs.Valid.{is_tree, IsVolume};
@@ -20,8 +21,8 @@ use crate::entries::Order;
 use crate::entry::own_place;
 use crate::finger::Finger;
 use crate::hints::Hints;
-use crate::{lookup, order, rows, segment, slots};
-use fsrm_model::{Capacity, Ledger, List, NoMemory, NodeRow, Path, Steps, allocated};
+use crate::{lookup, order, reads, rows, segment, slots};
+use fsrm_model::{Capacity, Ledger, List, Names, NoMemory, NodeRow, Path, Steps, allocated};
 use number_set::NumberSet;
 use std::alloc::Global;
 use std::marker::Model;
@@ -128,25 +129,26 @@ impl Tree {
         lookup::child(&self.slots, &self.order, &self.hints, folder, name, steps)
     }
 
-    /// The node that the first names of a path lead to, so many of them. It takes no more than 22
-    /// looks for each, and one more: that one at least, and one for each if it finds the node.
-    pub fn resolve_first<L: Ledger>(
+    /// The node that the next names of a path lead to, so many of them, which are taken. It takes no more
+    /// than 22 looks for each, and one more: that one at least, and one for each if it finds the node.
+    pub fn resolve_next<L: Ledger>(
         &self,
-        path: &Path,
-        names: usize,
+        names: &mut Names<'_>,
+        count: usize,
         steps: &mut Steps<L>,
     ) -> Option<u32>
-        requires names { names ≤ length path.now }
-        ensures value { result ≡ resolve self.now.nodes (take names path.now) }
+        requires count { count ≤ length (left names.old) }
+        ensures value { result ≡ resolve self.now.nodes (take count (left names.old)) }
+        ensures rest { OnSome result (left names.new ≡ drop count (left names.old)) }
         ensures some { steps.old + 1 ≤ steps.new }
-        ensures each { OnSome result (steps.old + (names + 1) ≤ steps.new) }
-        ensures looks { steps.new ≤ steps.old + (22 * names + 1) }
+        ensures each { OnSome result (steps.old + (count + 1) ≤ steps.new) }
+        ensures looks { steps.new ≤ steps.old + (22 * count + 1) }
     {
         // A look at the root.
         steps.tick();
         let mut at = 0;
-        for place in 0..names {
-            let name = path.part(place);
+        for _place in 0..count {
+            let name = names.next();
             match lookup::child(&self.slots, &self.order, &self.hints, at, name, steps) {
                 Some(child) => at = child,
                 None => return None,
@@ -163,7 +165,8 @@ impl Tree {
         ensures each { OnSome result (steps.old + (length path.now + 1) ≤ steps.new) }
         ensures looks { steps.new ≤ steps.old + (22 * length path.now + 1) }
     {
-        self.resolve_first(path, path.depth(), steps)
+        let mut names = path.names();
+        self.resolve_next(&mut names, path.depth(), steps)
     }
 
     /// A node that there is.
@@ -253,7 +256,7 @@ impl Tree {
         slots::set_accessed(&mut self.slots, node, moment, steps);
     }
 
-    /// Takes away a node other than the root. It takes no more than 44 looks.
+    /// Takes away a node other than the root. It takes no more than 22 looks for a file, and 44 for a folder.
     ///
     /// It is refused if the node has a child. An `Err` changes nothing.
     pub fn remove<L: Ledger>(&mut self, node: u32, steps: &mut Steps<L>) -> Result<(), TreeFault>
@@ -265,12 +268,16 @@ impl Tree {
         ensures only { IsErrOf result TreeFault.NoMemory → ⊥ }
         ensures err { OnErr result (self.new ≡ self.old) }
         ensures kept { IsVolume self.new.size self.new.nodes }
+        ensures file { is_folder self.old.nodes node ≡ false → steps.new ≤ steps.old + 22 }
         ensures looks { steps.new ≤ steps.old + 44 }
     {
-        if order::has_child(&self.slots, &self.order, node, steps) {
+        let nodes = self.slots.as_slice();
+        let row = reads::node(nodes, node, steps);
+        if order::has_child(nodes, &self.order, row, steps) {
             return Err(TreeFault::NotEmpty);
         }
-        let (place, bytes) = own_place(&self.slots, &self.order, node, steps);
+        let place = own_place(nodes, &self.order, row, steps);
+        let bytes = row.name.as_str().len() as u32;
         self.hints.forget(&self.slots, node);
         slots::take_away(&mut self.slots, node);
         self.order.remove(place);

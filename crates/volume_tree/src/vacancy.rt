@@ -14,8 +14,8 @@ use block_list::Place;
 use fsrm_model::{Ledger, NodeRow, Steps};
 use name_rules::fold_prefix;
 
-/// A place among a volume's nodes where a name was sought that a folder hasn't. A node of the name is made there, if
-/// that is still its place; what is made is the same wherever a vacancy is.
+/// A place in the order where a name was sought that a folder hasn't. The entry of a new node of that name is put there
+/// if it is still the name's place, and else the place is searched anew; so what is made doesn't depend on it.
 #[derive(Clone, Copy, Debug, PartialEq, Eq)]
 pub struct Vacancy {
     run: usize,
@@ -66,12 +66,14 @@ fn is_floor<L: Ledger>(
     if place.offset > entries.len() {
         return false;
     }
-    steps.tick();
     let entry = entries[place.offset - 1];
-    is_before(slots, entry, u64::from(folder), prefix, name).unwrap_or(false)
+    let mut looks = 0;
+    let before = is_before(slots, entry, u64::from(folder), prefix, name, &mut looks);
+    steps.count(looks);
+    before.unwrap_or(false)
 }
 
-// Whether what stands at such a place, if anything does, doesn't come before the name. It takes a look at most.
+// Whether no entry that comes before the name stands at such a place. It takes a look at most.
 fn is_met<L: Ledger>(
     slots: &[Option<NodeRow>],
     order: &Order,
@@ -92,8 +94,10 @@ fn is_met<L: Ledger>(
 {
     match entry_at(order, place) {
         Some(entry) => {
-            steps.tick();
-            !is_before(slots, entry, u64::from(folder), prefix, name).unwrap_or(false)
+            let mut looks = 0;
+            let before = is_before(slots, entry, u64::from(folder), prefix, name, &mut looks);
+            steps.count(looks);
+            !before.unwrap_or(false)
         }
         None => true,
     }
@@ -122,8 +126,8 @@ fn is_place<L: Ledger>(
     is_met(slots, order, folder, prefix, name, place, steps)
 }
 
-/// Where a name of a folder stands in the order, or is to stand, sought first at a place. It looks at no more than 23
-/// nodes.
+/// Where a name of a folder stands in the order, or is to stand. It is sought first at a given place. This looks at no
+/// more than 23 nodes.
 pub fn new_place<L: Ledger>(
     slots: &[Option<NodeRow>],
     order: &Order,

@@ -16,7 +16,7 @@ use Rattle.fsrm_model.specs.Valid.{IsVolume, is_own, is_root_node}
 use Rattle.fsrm_model.proofs.valid.CapacityLaws.{nodes_most}
 use Rattle.fsrm_base.proofs.EditedRows.{length-with_row, length-change}
 use Rattle.fsrm_model.proofs.nodes.Keeps.{volume-new, volume-change, volume-moved, volume-removed, KeepsNode, name_bytes-change, found_folder}
-use Rattle.fsrm_base.proofs.Look.{has_found, none_filtered}
+use Rattle.fsrm_base.proofs.Look.{found_key, has_found, none_filtered}
 use Rattle.fsrm_model.proofs.nodes.OwnLaws.{own_parts, own_joined, own_named, file_short, file_inner}
 use Rattle.fsrm_model.proofs.nodes.Sizes.{length-removed, name_bytes-new, name_bytes-placed, name_bytes-removed}
 use Rattle.fsrm_base.proofs.TestLaws.{lt_is, lt_test, eq_is, both, le_test, is_inner}
@@ -239,6 +239,9 @@ own_child K nodes n v h inner =
     let found = child_is K nodes n f.row f.row.name v f.is inner (same_own f.row.name) in
     ap (λ p. child_number nodes p (name_of nodes n)) (found_parent nodes n f.row f.is)
     ∙ (ap (child_number nodes f.row.parent) (found_name nodes n f.row f.is) ∙ found)
+
+pub own_found : (K : Capacity) (nodes : List NodeRow) (n : ℕ) (row : NodeRow) → IsVolume K nodes → node_of nodes n ≡ Some row → (n == 0) ≡ false → child_number nodes row.parent row.name ≡ Some row.number
+own_found K nodes n row v f inner = child_is K nodes n row row.name v f inner (same_own row.name) ∙ ap Some (sym (found_key number n nodes row f))
 
 -- the length of a node
 root_short : (r : NodeRow) → is_root_node r ≡ true → r.length ≡ 0

@@ -1,5 +1,6 @@
 -- One name of a path after another.
 use Rattle.std.proofs.Common.{◌≡◌, ℕ, zero, suc, ◌+◌, ◌<◌, ◌≤◌, List, [], ◌∷◌, length, take, drop, Option, Some, refl, ap, sym, ◌∙◌, subst, arith}
+use Rattle.std.proofs.lemmas.List.{drop-drop, length-drop}
 use Rattle.std.proofs.lemmas.Option.{same_Some}
 use Rattle.std.specs.Prelude.{slice_get}
 use Rattle.std.specs.Option.{option_and_then}
@@ -16,6 +17,19 @@ get_take path zero k name l h = absurd (omega arith)
 get_take [] (suc names) k name l h = h
 get_take (first ∷ path) (suc names) zero name l h = h
 get_take (first ∷ path) (suc names) (suc k) name l h = get_take path names k name (omega arith) h
+
+-- the next name, if so many were taken before
+pub name_at : (path : List (List ℕ)) (k : ℕ) (name : List ℕ) (more : List (List ℕ)) → drop k path ≡ name ∷ more → slice_get path k ≡ Some name
+name_at [] zero name more h = ap (λ names. slice_get names 0) h
+name_at [] (suc k) name more h = ap (λ names. slice_get names 0) h
+name_at (first ∷ path) zero name more h = ap (λ names. slice_get names 0) h
+name_at (first ∷ path) (suc k) name more h = name_at path k name more h
+
+pub more_at : (path : List (List ℕ)) (k : ℕ) (name : List ℕ) (more : List (List ℕ)) → drop k path ≡ name ∷ more → more ≡ drop (k + 1) path
+more_at path k name more h = sym (ap (drop 1) h) ∙ drop-drop 1 k path
+
+pub some_at : (path : List (List ℕ)) (k names : ℕ) → k < names → names ≤ length path → 0 < length (drop k path)
+some_at path k names less most = omega (arith, length-drop k path, less, most)
 
 next_name : (path : List (List ℕ)) (k : ℕ) (name : List ℕ) → slice_get path k ≡ Some name → drop k path ≡ name ∷ drop (suc k) path
 next_name [] zero name h = cc

@@ -3,23 +3,17 @@ use Rattle.std.proofs.Common.{◌≡◌, ℕ, zero, suc, ◌+◌, ◌-◌, ◌<�
 use Rattle.std.specs.Prelude.{IfOk, IfErr, min}
 use Rattle.std.proofs.lemmas.Bool.{cases_lt}
 use Rattle.std.proofs.lemmas.List.{take_all}
-use Rattle.std.proofs.lemmas.Option.{same_Some, slice_get_within, get_or_from_slice_get}
+use Rattle.std.proofs.lemmas.Option.{slice_get_within, get_or_from_slice_get}
 use Rattle.fsrm_model.specs.declared.row.NodeRow.{NodeRow}
-use Rattle.fsrm_base.specs.Keyed.{is_ascending, has_row}
+use Rattle.fsrm_base.specs.Keyed.{is_ascending}
 use Rattle.fsrm_model.specs.Tree.{number, node_of, children}
-use Rattle.fsrm_base.proofs.Look.{found_has}
 use Rattle.block_list.specs.declared.place.Place.{Place}
 use Rattle.block_list.specs.Places.{IsEntry, IsGap, index_of}
 use Rattle.block_list.specs.Runs.{entries_of, run_at, start_of}
 use Rattle.block_list.proofs.Joined.{entries_more, entries_place, run_within}
 use Rattle.volume_tree.specs.Kept.{IsOrder, IsPlace, IsFloor, IsLeft, is_before, numbers_from}
 use Rattle.volume_tree.proofs.ordering.Children.{has_there}
-use Rattle.volume_tree.proofs.ordering.Entries.{there}
-use Rattle.volume_tree.proofs.ordering.Spans.{first_at, floor_past}
-
--- a number of the order is that of a node
-pub entry_has : (nodes : List NodeRow) (order : List ℕ) (k n : ℕ) → is_ascending number nodes ≡ true → IsOrder nodes order → slice_get order k ≡ Some n → has_row number n nodes ≡ true
-entry_has nodes order k n a h e = let t = there nodes order k n h a e in found_has number n nodes _ t.found
+use Rattle.volume_tree.proofs.ordering.Spans.{floor_past}
 
 -- after a run whose first entry comes before a name there is a floor
 pub run_past : (nodes : List NodeRow) (runs : List (List ℕ)) (folder : ℕ) (name : List ℕ) (middle n : ℕ) (row : NodeRow) → is_ascending number nodes ≡ true → IsOrder nodes (entries_of runs) → slice_get (entries_of runs) (start_of runs middle) ≡ Some n → node_of nodes n ≡ Some row → is_before row folder name ≡ true → (run : ℕ) → run + 1 ≡ middle + 1 → IsFloor nodes (entries_of runs) folder name (start_of runs run + 1)
@@ -77,23 +71,6 @@ past_end (x ∷ xs) (suc k) l e = let rest = past_end xs k (omega arith) e in om
 pub has_read : (nodes : List NodeRow) (order : List ℕ) (folder place n : ℕ) (row : NodeRow) (h : IsOrder nodes order) → is_ascending number nodes ≡ true → IsPlace nodes order folder [] place → slice_get order place ≡ Some n → node_of nodes n ≡ Some row → (row.parent == folder) ≡ not (length (children nodes folder) == 0)
 has_read nodes order folder place n row h a p e f =
     has_there nodes order folder place row h a p (slice_get_within order place n e) (ap (node_of nodes) (get_or_from_slice_get order place n 0 e) ∙ f)
-
--- the place of a folder's first child, behind an entry of a folder before it
-pub first_some : (nodes : List NodeRow) (order : List ℕ) (folder k n : ℕ) (row : NodeRow) (index m : ℕ) (next : NodeRow) (h : IsOrder nodes order) → is_ascending number nodes ≡ true → slice_get order k ≡ Some n → node_of nodes n ≡ Some row → row.parent < folder → k + 1 ≡ index → slice_get order index ≡ Some m → node_of nodes m ≡ Some next → folder ≤ next.parent → IsPlace nodes order folder [] index
-first_some nodes order folder k n row index m next h a e f less is e2 f2 most =
-    subst (IsPlace nodes order folder []) is
-    (first_at nodes order folder k n row h a e f less (λ i x g j.
-    let same : i ≡ m = same_Some _ _ (sym g ∙ (ap (slice_get order) is ∙ e2)) in
-    let own : x ≡ next = same_Some _ _ (sym j ∙ (ap (node_of nodes) same ∙ f2)) in
-    subst (λ (r : NodeRow). folder ≤ r.parent) (sym own) most))
-
-pub first_none : (nodes : List NodeRow) (order : List ℕ) (folder k n : ℕ) (row : NodeRow) (index : ℕ) (h : IsOrder nodes order) → is_ascending number nodes ≡ true → slice_get order k ≡ Some n → node_of nodes n ≡ Some row → row.parent < folder → k + 1 ≡ index → slice_get order index ≡ None → IsPlace nodes order folder [] index
-first_none nodes order folder k n row index h a e f less is e2 =
-    subst (IsPlace nodes order folder []) is
-    (first_at nodes order folder k n row h a e f less (λ i x g j. absurd (no_some i (sym e2 ∙ (ap (slice_get order) (sym is) ∙ g)))))
-  where
-    no_some : (i : ℕ) → None ≡ Some i → ⊥
-    no_some i e = cc
 
 -- what is lent of a run, and what is left then
 drop_front : (xs ys : List ℕ) (k : ℕ) → k ≤ length xs → drop k (xs ++ ys) ≡ drop k xs ++ ys

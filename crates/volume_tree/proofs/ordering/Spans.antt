@@ -13,8 +13,8 @@ use Rattle.fsrm_model.specs.Tree.{number, node_of, child_number}
 use Rattle.fsrm_base.proofs.Look.{found_key}
 use Rattle.fsrm_base.proofs.TestLaws.{not_true, clash, both, eq_is, is_false}
 use Rattle.volume_tree.specs.Kept.{IsOrder, IsPlace, IsFloor, IsBeyond, IsNamed, IsSegment, has_name, is_before, is_named}
-use Rattle.volume_tree.proofs.ordering.Entries.{at, there, divides_place, entry_of, node_there, number_there, length-order_entries}
-use Rattle.volume_tree.proofs.ordering.Halving.{earlier, lower_before, upper_stays}
+use Rattle.volume_tree.proofs.ordering.Entries.{at, there, divides_place, entry_of, number_there, length-order_entries}
+use Rattle.volume_tree.proofs.ordering.Halving.{earlier}
 use Rattle.volume_tree.proofs.ordering.Names.{comes_as}
 use Rattle.volume_tree.proofs.ordering.Places.{own_place, none_named, one_named}
 use Rattle.volume_tree.proofs.ordering.Segments.{place_ends, ends_ordered, children_are_segment}
@@ -164,22 +164,6 @@ child_read nodes order folder name n (Some row) h a f t =
 
 pub has_name_found : (nodes : List NodeRow) (order : List ℕ) (folder : ℕ) (name : List ℕ) (n : ℕ) (h : IsOrder nodes order) → is_ascending number nodes ≡ true → has_name nodes n folder name ≡ true → child_number nodes folder name ≡ Some n
 has_name_found nodes order folder name n h a t = child_read nodes order folder name n (node_of nodes n) h a refl t
-
--- the place of a folder's first child, between an entry of a folder before it and one of it or of a folder after it
-pub first_at : (nodes : List NodeRow) (order : List ℕ) (folder k n : ℕ) (row : NodeRow) (h : IsOrder nodes order) → is_ascending number nodes ≡ true → slice_get order k ≡ Some n → node_of nodes n ≡ Some row → row.parent < folder → ((m : ℕ) (x : NodeRow) → slice_get order (k + 1) ≡ Some m → node_of nodes m ≡ Some x → folder ≤ x.parent) → IsPlace nodes order folder [] (k + 1)
-first_at nodes order folder k n row h a e f less most =
-    let floor = floor_past nodes order folder [] k n row h a e f (sym (lower_before row folder less)) in
-    record {
-      within = floor.within;
-      before = floor.before;
-      after = λ i m x l g j.
-          let inside = slice_get_within order i m g in
-          let next = slice_index order (k + 1) in
-          let got : slice_get order (k + 1) ≡ Some next = slice_get-get_or order (k + 1) 0 (omega arith) in
-          let size = length-order_entries nodes order h in
-          let own = node_there nodes order (k + 1) h a (omega arith) in
-          after_here nodes order folder [] (k + 1) next (at h.entries (k + 1)) h a got own (sym (upper_stays (at h.entries (k + 1)) folder (most next (at h.entries (k + 1)) got own))) i m x l g j;
-    }
 
 -- where the children stand
 numbers_between : (first end : ℕ) (rows : List NodeRow) → between first end (map number rows) ≡ map number (between first end rows)

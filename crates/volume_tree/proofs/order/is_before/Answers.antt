@@ -16,8 +16,8 @@ name_at-requires-clause-there c =
     let own = c.requires.entry in
     found_has number c.args.entry.node (rows_of c.args.slots.now) own.row own.found
 
-pub returns-then-entry-prefix : goal.returns-then-entry-prefix
-returns-then-entry-prefix c =
+pub returns-then-entry-prefix-clause-stands : goal.returns-then-entry-prefix-clause-stands
+returns-then-entry-prefix-clause-stands c =
     let e = c.args.entry in
     let own = c.requires.entry in
     let nodes = rows_of c.args.slots.now in
@@ -33,8 +33,8 @@ returns-then-entry-prefix c =
           (subst (λ b. Stands nodes e.node c.args.folder name (Some b)) (sym w.is_lt.ensures) (stands_by_name nodes e c.args.folder c.args.prefix name own c.requires.prefix c.fold_cmp.result same names w.in_default.not-Equal))
     ]
 
-pub returns-then-parent-folder-3 : goal.returns-then-parent-folder-3
-returns-then-parent-folder-3 c =
+pub returns-then-parent-folder-3-clause-stands : goal.returns-then-parent-folder-3-clause-stands
+returns-then-parent-folder-3-clause-stands c =
     let e = c.args.entry in
     let parent : e.parent ≡ c.args.folder = sym c.from-parent.ensures ∙ c.if-parent-folder-3.true in
     let other : (e.prefix == c.args.prefix) ≡ false = is_apart _ _ (elim c.else-parent-folder.either [ inl u ↦ u.1 | inr v ↦ absurd (v c.if-parent-folder-3.true) ]) in

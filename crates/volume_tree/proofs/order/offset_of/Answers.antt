@@ -1,10 +1,10 @@
-use Rattle.std.proofs.Common.{◌≡◌, ◌+◌, ◌-◌, ◌/◌, get_or, length, subst, arith}
+use Rattle.std.proofs.Common.{◌≡◌, ◌+◌, ◌-◌, ◌/◌, get_or, length, sym, subst, arith}
 use Rattle.std.proofs.lemmas.List.Elements.{All-contains}
 use Rattle.block_list.specs.Runs.{entries_of, start_of}
 use Rattle.volume_tree.specs.Entries.{IsOwn}
 use Rattle.volume_tree.specs.Kept.{IsBeyond, rows_of}
 use Rattle.volume_tree.specs.declared.entries.Entry.{Entry}
-use Rattle.volume_tree.proofs.ordering.Narrowed.{entries_left}
+use Rattle.volume_tree.proofs.ordering.Narrowed.{AreEntriesLeft, entries_left}
 use Rattle.volume_tree.proofs.ordering.Spans.{named_place}
 use Rattle.volume_tree.proofs.slotted.SlotRows.{slots_ascend}
 use Rattle.volume_tree.proofs.order.offset_of.Goals as goal
@@ -36,15 +36,16 @@ loop-size-preserved c =
     let runs = c.args.order.now.runs in
     let middle = c.loop-size.low + c.loop-size.size / 2 in
     let at = c.run-entries.ensures.numbers middle none (omega (arith, c.loop-size.invariant.within, c.loop-size-test.true)) in
-    let stands = c.in-Some.ensures in
-    entries_left (rows_of c.args.slots.now) (entries_of runs) c.args.folder c.args.name.now (start_of runs c.args.run) (length c.run-entries.result.now) c.loop-size.low c.loop-size.size c.loop-size.looks c.halved-passed.result.0 c.halved-passed.result.1 (get_or c.run-entries.result.now middle none).node c.in-Some.before stands.row
-    (slots_ascend c.args.slots.now c.requires.slots) c.requires.order c.loop-size.invariant c.loop-size-test.true at stands.found stands.before_is stands.other c.halved-passed.ensures.passed c.halved-passed.ensures.left
+    let stands = c.in-Some.ensures.stands in
+    subst (AreEntriesLeft (rows_of c.args.slots.now) (entries_of runs) c.args.folder c.args.name.now (start_of runs c.args.run) (length c.run-entries.result.now) (c.loop-size.low + c.halved-passed.result.0) c.halved-passed.result.1) (sym c.in-Some.ensures.count)
+    (entries_left (rows_of c.args.slots.now) (entries_of runs) c.args.folder c.args.name.now (start_of runs c.args.run) (length c.run-entries.result.now) c.loop-size.low c.loop-size.size c.loop-size.looks c.halved-passed.result.0 c.halved-passed.result.1 (get_or c.run-entries.result.now middle none).node c.in-Some.before stands.row
+    (slots_ascend c.args.slots.now c.requires.slots) c.requires.order c.loop-size.invariant c.loop-size-test.true at stands.found stands.before_is stands.other c.halved-passed.ensures.passed c.halved-passed.ensures.left)
 
 pub returns-in_default-clause-named : goal.returns-in_default-clause-named
 returns-in_default-clause-named c =
     let middle = c.loop-size.low + c.loop-size.size / 2 in
     let at = c.run-entries.ensures.numbers middle none (omega (arith, c.loop-size.invariant.within, c.loop-size-test.true)) in
-    let stands = c.in_default.ensures in
+    let stands = c.in_default.ensures.stands in
     record { number = (get_or c.run-entries.result.now middle none).node; row = stands.row; at = at; found = stands.found; named = stands.named }
 
 pub returns-in_default-clause-taken : goal.returns-in_default-clause-taken

@@ -14,8 +14,8 @@ use Rattle.volume_tree.proofs.vacancy.is_floor.Goals as goal
 abbrev none : Entry
 none = record { prefix = 0; parent = 0; node = 0 }
 
-pub is_before-requires-clause-entry : goal.is_before-requires-clause-entry
-is_before-requires-clause-entry g c =
+pub is_before-before-requires-clause-entry : goal.is_before-before-requires-clause-entry
+is_before-before-requires-clause-entry g c =
     let k = c.args.place.offset - 1 in
     let run = c.run-entries.result.now in
     All-contains (IsOwn (rows_of c.args.slots.now)) c.args.order.now.entries (get_or run k none) c.requires.entries.each
@@ -31,7 +31,7 @@ returns-clause-floor g c =
     let nodes = rows_of c.args.slots.now in
     let name = c.args.name.now in
     let k = c.args.place.offset - 1 in
-    let stands = c.is_before.ensures in
+    let stands = c.is_before-before.ensures.stands in
     let at : slice_get (entries_of runs) (start_of runs c.args.place.run + k) ≡ Some (get_or c.run-entries.result.now k none).node = c.run-entries.ensures.numbers k none (omega arith) in
     let before : is_before stands.row c.from.result name ≡ true = sym (known_before nodes _ c.from.result name _ stands) ∙ (sym c.unwrap_or.ensures ∙ t) in
     let is : start_of runs c.args.place.run + k + 1 ≡ index_of runs c.args.place = omega arith in

@@ -11,14 +11,14 @@ use Rattle.volume_tree.proofs.ordering.Spans.{place_some, place_none}
 use Rattle.volume_tree.proofs.slotted.SlotRows.{slots_ascend}
 use Rattle.volume_tree.proofs.vacancy.is_met.Goals as goal
 
-pub is_before-requires-clause-entry : goal.is_before-requires-clause-entry
-is_before-requires-clause-entry g c =
+pub is_before-before-requires-clause-entry : goal.is_before-before-requires-clause-entry
+is_before-before-requires-clause-entry g c =
     All-contains (IsOwn (rows_of c.args.slots.now)) c.args.order.now.entries c.in-Some.entry c.requires.entries.each c.in-Some.ensures.listed
 
 pub returns-in-Some-clause-place : goal.returns-in-Some-clause-place
 returns-in-Some-clause-place g c =
     λ t.
-    let stands = c.is_before.ensures in
+    let stands = c.is_before-before.ensures.stands in
     let at = sym c.in-Some.ensures.number in
     let after : is_before stands.row c.from.result c.args.name.now ≡ false = sym (known_before (rows_of c.args.slots.now) _ c.from.result c.args.name.now _ stands) ∙ (sym c.unwrap_or.ensures ∙ is_false _ t) in
     place_some (rows_of c.args.slots.now) (entries_of c.args.order.now.runs) c.args.folder c.args.name.now (index_of c.args.order.now.runs c.args.place) c.in-Some.entry.node stands.row c.requires.order (slots_ascend c.args.slots.now c.requires.slots) c.requires.floor at stands.found

@@ -32,17 +32,6 @@ reorder-requires-clause-own g c =
 pub reorder-requires-clause-room : goal.reorder-requires-clause-room
 reorder-requires-clause-room g c = order_fits _ _ _ _ _ _ c.self.invariant
 
-pub reorder-requires-clause-short : goal.reorder-requires-clause-short
-reorder-requires-clause-short g c =
-    let slots = c.self.inside.slots.items in
-    let m = c.ready.inside in
-    let has : has_row number m.node (rows_of slots) ≡ true = ap (λ (move : Move). has_row number move.node (rows_of slots)) c.ready.view_is ∙ (ap (λ (v : Volume). has_row number c.args.ready.node v.nodes) c.self.view_is ∙ c.requires.there) in
-    let fit = name_fits c.self.inside.size _ m.node c.self.invariant.volume has in
-    let same : length (name_of (rows_of c.deref-2.result.now) c.at-entry.result.node) ≡ length (name_of (rows_of slots) m.node) = ap (λ (read : List (Option NodeRow)). length (name_of (rows_of read) c.at-entry.result.node)) c.deref-2.ensures.value ∙ ap (λ (e : Entry). length (name_of (rows_of slots) e.node)) c.at-entry.ensures in
-    let names = c.self.invariant.volume.names in
-    let most = names_most c.self.inside.size c.self.invariant.size in
-    omega (arith, fit, same, names, most)
-
 pub set_place-old_bytes-requires-clause-short : goal.set_place-old_bytes-requires-clause-short
 set_place-old_bytes-requires-clause-short g c =
     let slots = c.self.inside.slots.items in
