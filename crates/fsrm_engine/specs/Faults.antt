@@ -4,11 +4,14 @@ use Rattle.fsrm_model.specs.declared.command.Answer.{Answer}
 use Rattle.fsrm_model.specs.declared.command.Outcome.TheVariants.{Refused}
 use Rattle.fsrm_model.specs.declared.command.Refusal.{Refusal}
 use Rattle.fsrm_model.specs.declared.command.Refusal.TheVariants as refusal
+use Rattle.quota_usage.specs.declared.change.Change.{Change}
 use Rattle.quota_usage.specs.declared.change.Exceeded.{Exceeded}
+use Rattle.quota_usage.specs.Charge.{exceeded_by}
 use Rattle.volume_tree.specs.declared.answer.TreeFault.{TreeFault}
 use Rattle.volume_tree.specs.declared.answer.TreeFault.TheVariants.{AlreadyExists, InvalidMove, NotEmpty, VolumeFull, NamesFull, NoMemory}
+use Rattle.fsrm_engine.specs.declared.parts.Parts.{Parts}
 
--- want of memory is no refusal
+-- a lack of memory is no refusal
 abbrev pub refusal_of : TreeFault → Option Refusal
 refusal_of AlreadyExists = Some refusal.AlreadyExists
 refusal_of InvalidMove = Some refusal.InvalidMove
@@ -21,10 +24,15 @@ refusal_of NoMemory = None
 abbrev pub refused_answer : Refusal → Answer
 refused_answer refusal = record { outcome = Refused refusal; lasting = false }
 
--- the answer where the tree refused
+-- the answer if the tree refused
 abbrev pub answer_of : TreeFault → Option Answer
 answer_of fault = option_map refused_answer (refusal_of fault)
 
 -- the refusal by a quota
 abbrev pub exceeded_refusal : Exceeded → Refusal
 exceeded_refusal exceeded = refusal.QuotaExceeded exceeded.folder exceeded.would exceeded.limit
+
+-- the refusal that is due to a change, if a quota refuses it
+abbrev pub quota_refusal : Parts → Change → Option Refusal
+quota_refusal parts change =
+    option_map exceeded_refusal (exceeded_by parts.tree.nodes parts.objects.quotas parts.usage change)

@@ -15,9 +15,12 @@ use Rattle.fsrm_model.specs.QuotaStates.{followed, queued}
 use Rattle.fsrm_model.specs.Step.{Stepped, step}
 use Rattle.fsrm_model.specs.Tree.{usage}
 use Rattle.fsrm_model.specs.Valid.{IsVolume, AreQuotas, IsValid}
+use Rattle.quota_usage.specs.declared.change.Change.{Change}
 use Rattle.quota_usage.specs.declared.change.Counter.{Counter}
+use Rattle.quota_usage.specs.Charge.{charged_counter}
 use Rattle.scan_queue.specs.Courses.{Scanning, left}
 use Rattle.fsrm_engine.specs.declared.parts.Parts.{Parts}
+use Rattle.fsrm_engine.specs.Peaks.{raised_above}
 
 -- how much it may hold, its rows, and the acts that wait to be handed out
 pub record Machine : Type 0 where
@@ -85,6 +88,15 @@ pub record IsWhole (parts : Parts) : Type 0 where
 abbrev pub recounted : Parts → List QuotaRow → Parts
 recounted parts quotas =
     record parts { objects = record parts.objects { quotas = quotas }; usage = sums_of parts.tree.size parts.tree.nodes quotas }
+
+-- parts whose counters were changed so at this moment, with the peaks raised of the folders that gained
+abbrev pub charged_parts : Parts → Change → ℕ → Parts
+charged_parts parts change moment =
+    let counters = map (charged_counter parts.tree.nodes change) parts.usage in
+    record parts {
+      objects = record parts.objects { quotas = map (raised_above parts.tree.nodes change.to counters moment) parts.objects.quotas };
+      usage = counters;
+    }
 
 -- parts after a command of this moment that lasts: peaks are raised, and its moment is the last one
 abbrev pub ended : Parts → ℕ → Parts

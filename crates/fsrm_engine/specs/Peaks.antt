@@ -12,6 +12,6 @@ abbrev pub raised : List Counter → ℕ → QuotaRow → QuotaRow
 raised counters moment quota =
     option_map_or (λ used. if nat_lt quota.peak used then record quota { peak = used; peak_at = moment } else quota) (used_in counters quota.folder) quota
 
--- the same of a quota at or above a folder, where there is a folder
+-- the same of a quota at or above a folder, if there is one
 abbrev pub raised_above : List NodeRow → Option ℕ → List Counter → ℕ → QuotaRow → QuotaRow
 raised_above nodes place counters moment quota = if is_above nodes place quota.folder then raised counters moment quota else quota

@@ -49,7 +49,12 @@ abbrev pub IsFolderAt : List NodeRow → List (List ℕ) → Option ℕ → Type
 IsFolderAt nodes path None = leads_to_folder nodes path ≡ false
 IsFolderAt nodes path (Some n) = IsFolder nodes path n
 
--- what moves with a node; where there is no quota it may be any number up to that
+-- the quota of the folder that a path leads to
+pub record IsQuotaAt (nodes : List NodeRow) (quotas : List QuotaRow) (path : List (List ℕ)) (quota : QuotaRow) : Type 0 where
+  pub at : IsFolder nodes path quota.folder
+  pub found : row_of folder_of quota.folder quotas ≡ Some quota
+
+-- the bytes that move with a node; if there is no quota, they may be any number up to that
 pub record IsMoved (K : Capacity) (nodes : List NodeRow) (quotas : List QuotaRow) (n bytes : ℕ) : Type 0 where
   pub few : bytes ≤ usage K nodes n
   pub all : (folder : ℕ) (quota : QuotaRow) → row_of folder_of folder quotas ≡ Some quota → bytes ≡ usage K nodes n

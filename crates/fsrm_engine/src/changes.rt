@@ -7,14 +7,14 @@ ghost use Rattle.fsrm_model.specs.Cost.{deed_cost};
 ghost use Rattle.fsrm_model.specs.Limits.{latest_moment, longest_file};
 ghost use Rattle.fsrm_engine.specs.Machine.{Does, IsSound, IsWhole, rows_of};
 
-use crate::charging::charge;
-use crate::exits::{exceeded_by, refused};
+use crate::exits::refused;
 use crate::parts::Parts;
 use crate::places::file_at;
 use fsrm_model::{Answer, Ledger, Path, Refusal, Steps};
 use quota_usage::Change;
 
 impl Parts {
+    /// Gives a file another length, if no quota refuses that.
     pub(crate) fn resize<L: Ledger>(
         &mut self,
         path: &Path,
@@ -41,24 +41,17 @@ impl Parts {
             minus: self.tree.allocated(old),
             plus: self.tree.allocated(length),
         };
-        if let Err(exceeded) = self.usage.admit(&self.tree, &self.objects, &change, steps) {
-            return refused(exceeded_by(exceeded));
+        if let Err(refusal) = self.admit(&change, steps) {
+            return refused(refusal);
         }
         self.scans
             .follow_resize(&self.tree, node, old, length, steps);
         self.tree.resize(node, length, moment, steps);
-        charge(
-            &self.tree,
-            &mut self.usage,
-            &mut self.objects,
-            &change,
-            moment,
-            steps,
-        );
+        self.charge(&change, moment, steps);
         self.done(moment)
     }
 
-    // Which folders are unvisited, and what of them is counted, doesn't hang on when a file was read.
+    /// Notes that a file was read. The active scan isn't told: what it visits and counts doesn't depend on moments.
     pub(crate) fn touch<L: Ledger>(
         &mut self,
         path: &Path,

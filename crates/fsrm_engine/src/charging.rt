@@ -1,21 +1,20 @@
 //! What file operations do to counters and peaks.
 
-ghost use Rattle.std.specs.Prelude.{◌≡◌, ◌+◌, ◌*◌, ◌≤◌, true, map, length, if◌then◌else◌};
+ghost use Rattle.std.specs.Prelude.{◌≡◌, ◌+◌, ◌≤◌, true, map, length, if◌then◌else◌};
 ghost use Rattle.fsrm_base.specs.Keyed.{has_row, is_ascending, with_change};
 ghost use Rattle.fsrm_model.specs.Quota.{folder_of};
 ghost use Rattle.fsrm_model.specs.Tree.{number as key, chain, is_under};
 ghost use Rattle.fsrm_model.specs.Valid.{IsVolume};
 ghost use Rattle.fsrm_objects.specs.Tables.{without_quota};
-ghost use Rattle.quota_usage.specs.Charge.{charged_counter, IsChange, Fits, height};
 ghost use Rattle.quota_usage.specs.Counters.{without_counter};
-ghost use Rattle.fsrm_engine.specs.Peaks.{raised, raised_above};
+ghost use Rattle.fsrm_engine.specs.Peaks.{raised};
 
 use fsrm_model::{Ledger, Steps};
 use fsrm_objects::Objects;
-use quota_usage::{Change, Usage};
+use quota_usage::Usage;
 use volume_tree::Tree;
 
-/// Makes what a folder uses its quota's peak, where it is more than the peak.
+/// Raises the peak of a folder's quota to what is used, if that is more.
 pub fn raise_peak(usage: &Usage, objects: &mut Objects, folder: u32, moment: u64)
     requires { is_ascending folder_of objects.old.quotas ≡ true }
     ensures { objects.new ≡ record { quotas = with_change folder_of folder (raised usage.now moment) objects.old.quotas } }
@@ -31,8 +30,8 @@ pub fn raise_peak(usage: &Usage, objects: &mut Objects, folder: u32, moment: u64
     }
 }
 
-// The same of a folder and each above it.
-fn raise_peaks<L: Ledger>(
+/// The same of a folder and each above it.
+pub fn raise_above<L: Ledger>(
     tree: &Tree,
     usage: &Usage,
     objects: &mut Objects,
@@ -56,7 +55,7 @@ fn raise_peaks<L: Ledger>(
     }
 }
 
-/// Makes what each folder uses its quota's peak, where it is more than the peak.
+/// Raises the peak of each folder's quota to what is used, if that is more.
 pub fn raise_all(usage: &Usage, objects: &mut Objects, moment: u64)
     requires { is_ascending folder_of objects.old.quotas ≡ true }
     ensures { objects.new ≡ record { quotas = map (raised usage.now moment) objects.old.quotas } }
@@ -64,29 +63,6 @@ pub fn raise_all(usage: &Usage, objects: &mut Objects, moment: u64)
     for place in 0..objects.quota_count() {
         let folder = objects.quota_at(place).folder;
         raise_peak(usage, objects, folder, moment);
-    }
-}
-
-/// Makes a change of the counters, and raises the peaks of the folders that gained.
-pub fn charge<L: Ledger>(
-    tree: &Tree,
-    usage: &mut Usage,
-    objects: &mut Objects,
-    change: &Change,
-    moment: u64,
-    steps: &mut Steps<L>,
-)
-    requires volume { IsVolume tree.now.size tree.now.nodes }
-    requires ascending { is_ascending folder_of objects.old.quotas ≡ true }
-    requires change { IsChange tree.now.nodes change.now }
-    requires fits { Fits tree.now.nodes usage.old change.now }
-    ensures counters { usage.new ≡ map (charged_counter tree.now.nodes change.now) usage.old }
-    ensures quotas { objects.new ≡ record { quotas = map (raised_above tree.now.nodes change.now.to usage.new moment) objects.old.quotas } }
-    ensures looks { steps.new ≤ steps.old + (2 * height tree.now.nodes change.now.from + 3 * height tree.now.nodes change.now.to) }
-{
-    usage.charge(tree, change, steps);
-    if let Some(folder) = change.to {
-        raise_peaks(tree, usage, objects, folder, moment, steps);
     }
 }
 
@@ -99,7 +75,7 @@ pub fn end_count(usage: &mut Usage, folder: u32)
     }
 }
 
-// Takes a folder's quota away, where it has one.
+// Takes a folder's quota away, if it has one.
 fn drop_row(objects: &mut Objects, folder: u32)
     ensures { objects.new ≡ without_quota objects.old folder }
 {
@@ -108,7 +84,7 @@ fn drop_row(objects: &mut Objects, folder: u32)
     }
 }
 
-/// Takes a folder's quota away, where it has one, and its counter.
+/// Takes a folder's quota away, if it has one, and its counter.
 pub fn drop_quota(usage: &mut Usage, objects: &mut Objects, folder: u32)
     ensures usage { usage.new ≡ without_counter usage.old folder }
     ensures objects { objects.new ≡ without_quota objects.old folder }

@@ -1,4 +1,4 @@
-//! What a command does, of a moment that isn't too late.
+//! What a command does, at a moment that isn't before the last one.
 
 ghost use Rattle.std.specs.Prelude.{◌≡◌, ◌+◌, ◌≤◌, true, IfOk, OnErr};
 ghost use Rattle.fsrm_model.specs.declared.command.Deed.TheVariants.{File};

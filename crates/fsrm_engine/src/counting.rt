@@ -39,7 +39,7 @@ impl Parts {
         MOST_TEXT_BYTES.saturating_sub(self.objects.texts())
     }
 
-    /// Puts a quota on a folder that has none. For one that counts nothing may be used. An `Err` changes nothing.
+    /// Puts a quota on a folder that has none. If it counts, nothing may be used yet. An `Err` changes nothing.
     pub(crate) fn add(&mut self, row: QuotaRow) -> Result<(), NoMemory>
         requires counted { AreCounted self.old }
         requires absent { has_row folder_of row.folder self.old.objects.quotas ≡ false }
@@ -59,7 +59,7 @@ impl Parts {
         match self.objects.add_quota(row, room) {
             Ok(()) => {}
             Err(ObjectFault::NoMemory) => return Err(NoMemory),
-            // Nothing else can refuse a row without texts that the folder and the table have a place for.
+            // The folder has no quota, the table isn't full, and the row has no texts: so nothing refuses it.
             Err(_) => unreachable!(),
         }
         recount(&mut self.usage, folder, counting);
@@ -75,8 +75,8 @@ impl Parts {
         drop_quota(&mut self.usage, &mut self.objects, folder);
     }
 
-    /// Gives a folder this quota in place of the one that it has, with its peak. If it comes to count nothing may be
-    /// used.
+    /// Gives a folder this quota in place of the one that it has, with its peak. If it comes to count, nothing may be
+    /// used yet.
     pub(crate) fn put(&mut self, row: QuotaRow)
         requires counted { AreCounted self.old }
         requires there { has_row folder_of row.folder self.old.objects.quotas ≡ true }
@@ -104,8 +104,8 @@ impl Parts {
         self.objects.set_state(folder, QuotaState::Rebuilding);
     }
 
-    /// Has a folder's quota, which doesn't, count from now on, from what is used. That ends the command: the quota's
-    /// peak may rise, and the moment is the last one.
+    /// A folder's quota, which didn't count, counts from now on, beginning with what is used. That ends the command:
+    /// the quota's peak may rise, and the moment is the last one.
     pub(crate) fn complete(&mut self, folder: u32, used: u64, moment: u64)
         requires counted { AreCounted self.old }
         requires there { has_row folder_of folder self.old.objects.quotas ≡ true }

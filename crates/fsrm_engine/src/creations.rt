@@ -7,14 +7,14 @@ ghost use Rattle.fsrm_model.specs.Cost.{deed_cost};
 ghost use Rattle.fsrm_model.specs.Limits.{latest_moment, longest_file};
 ghost use Rattle.fsrm_engine.specs.Machine.{Does, IsSound, IsWhole, rows_of};
 
-use crate::charging::charge;
-use crate::exits::{exceeded_by, refused, refused_by};
+use crate::exits::{refused, refused_by};
 use crate::parts::Parts;
 use crate::places::place_at;
 use fsrm_model::{Answer, Ledger, NoMemory, Path, Steps};
 use quota_usage::Change;
 
 impl Parts {
+    /// Makes a folder.
     pub(crate) fn mkdir<L: Ledger>(
         &mut self,
         path: &Path,
@@ -46,6 +46,7 @@ impl Parts {
         Ok(self.done(moment))
     }
 
+    /// Makes a file, if no quota refuses that.
     pub(crate) fn create<L: Ledger>(
         &mut self,
         path: &Path,
@@ -78,8 +79,8 @@ impl Parts {
             minus: 0,
             plus: self.tree.allocated(length),
         };
-        if let Err(exceeded) = self.usage.admit(&self.tree, &self.objects, &change, steps) {
-            return Ok(refused(exceeded_by(exceeded)));
+        if let Err(refusal) = self.admit(&change, steps) {
+            return Ok(refused(refusal));
         }
         let node = self.tree.make_file(
             place.folder,
@@ -91,14 +92,7 @@ impl Parts {
             steps,
         )?;
         self.scans.follow_create(&self.tree, node, length, steps);
-        charge(
-            &self.tree,
-            &mut self.usage,
-            &mut self.objects,
-            &change,
-            moment,
-            steps,
-        );
+        self.charge(&change, moment, steps);
         Ok(self.done(moment))
     }
 }

@@ -126,7 +126,7 @@ impl Engine {
         self.parts.take(alloc, command, steps)
     }
 
-    /// Takes a file operation of this moment, in seconds since 1970-01-01 00:00:00 UTC. What its answer
+    /// Takes a file operation at this moment, in seconds since 1970-01-01 00:00:00 UTC. What its answer
     /// names is there. An `Err` changes nothing.
     pub fn file_op<L: Ledger>(
         &mut self,
@@ -150,8 +150,8 @@ impl Engine {
         self.parts.file_op(alloc, op, moment, steps)
     }
 
-    /// Goes on with the active scan, of a moment in seconds since 1970-01-01 00:00:00 UTC: visits as many
-    /// folders, or as are left. If none is left then the scan is finished: its quota is complete, and the
+    /// Goes on with the active scan, at a moment in seconds since 1970-01-01 00:00:00 UTC: visits at most
+    /// `n` folders. If none is left then, the scan is finished: its quota is complete, and the
     /// next scan begins. It is refused if the moment is before that of the last command that lasts
     /// (ClockBack), else if no scan is active (NothingToScan). It takes no memory.
     pub fn scan_step<L: Ledger>(&mut self, n: u32, moment: u64, steps: &mut Steps<L>) -> Answer

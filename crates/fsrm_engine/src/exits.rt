@@ -1,23 +1,30 @@
-//! What a command answers that is refused.
+//! The answers of commands that don't last, and of refused ones.
 
-ghost use Rattle.std.specs.Prelude.{◌≡◌, IfOk, OnErr, Some, None};
+ghost use Rattle.std.specs.Prelude.{◌≡◌, false, IfOk, OnErr, Some, None};
 ghost use Rattle.fsrm_engine.specs.Faults.{answer_of, refused_answer, exceeded_refusal};
 
 use fsrm_model::{Answer, NoMemory, Outcome, Refusal};
 use quota_usage::Exceeded;
 use volume_tree::TreeFault;
 
-/// The answer of a refused command, which never lasts.
-pub fn refused(refusal: Refusal) -> Answer
-    ensures { result ≡ refused_answer refusal }
+/// The answer of a command that doesn't last.
+pub fn passing(outcome: Outcome) -> Answer
+    ensures { result ≡ record { outcome = outcome; lasting = false } }
 {
     Answer {
-        outcome: Outcome::Refused(refusal),
+        outcome,
         lasting: false,
     }
 }
 
-/// The same where the tree refused. Want of memory is no refusal.
+/// The answer of a refused command, which never lasts.
+pub fn refused(refusal: Refusal) -> Answer
+    ensures { result ≡ refused_answer refusal }
+{
+    passing(Outcome::Refused(refusal))
+}
+
+/// The same if the tree refused. A lack of memory is no refusal.
 pub fn refused_by(fault: TreeFault) -> Result<Answer, NoMemory>
     ensures ok { IfOk result (λ answer. answer_of fault ≡ Some answer) }
     ensures err { OnErr result (answer_of fault ≡ None) }

@@ -1,4 +1,4 @@
-//! Moves: what moves is no longer used where it was, and is where it comes to.
+//! Moves: what moves is taken from the quotas on the old way up and given to those on the new one.
 
 ghost use Rattle.std.specs.Prelude.{◌≡◌, ◌+◌, ◌*◌, ◌≤◌, ◌<◌, ◌==◌, [], true, false, length, IfOk, IfErr, OnOk, OnErr, Some, None};
 ghost use Rattle.fsrm_model.specs.declared.command.Deed.TheVariants.{File};
@@ -12,8 +12,7 @@ ghost use Rattle.fsrm_model.specs.Tree.{number as key, under};
 ghost use Rattle.fsrm_model.specs.Valid.{IsVolume};
 ghost use Rattle.fsrm_engine.specs.Places.{IsMoved};
 
-use crate::charging::charge;
-use crate::exits::{exceeded_by, refused, refused_by};
+use crate::exits::{refused, refused_by};
 use crate::parts::Parts;
 use crate::places::place_at;
 use crate::usage::usage_of;
@@ -23,7 +22,7 @@ use quota_usage::Change;
 use std::alloc::Global;
 use volume_tree::Tree;
 
-// What moves with a node. If there is no quota, nobody asks.
+// The bytes that move with a node. If there is no quota, nothing asks for them, and none are summed.
 fn moved_bytes<L: Ledger>(
     tree: &Tree,
     objects: &Objects,
@@ -44,6 +43,7 @@ fn moved_bytes<L: Ledger>(
 }
 
 impl Parts {
+    /// Moves a file, or a folder with all that is in it, if no quota refuses that.
     pub(crate) fn move_path<L: Ledger>(
         &mut self,
         alloc: Global,
@@ -81,20 +81,13 @@ impl Parts {
             minus: bytes,
             plus: bytes,
         };
-        if let Err(exceeded) = self.usage.admit(&self.tree, &self.objects, &change, steps) {
-            return Ok(refused(exceeded_by(exceeded)));
+        if let Err(refusal) = self.admit(&change, steps) {
+            return Ok(refused(refusal));
         }
         self.scans
             .follow_move(&self.tree, node, place.folder, steps);
         self.tree.make_move(ready, steps);
-        charge(
-            &self.tree,
-            &mut self.usage,
-            &mut self.objects,
-            &change,
-            moment,
-            steps,
-        );
+        self.charge(&change, moment, steps);
         Ok(self.done(moment))
     }
 }

@@ -1,17 +1,23 @@
-//! What an engine is made of.
+//! What an engine is made of, and what commands of all kinds do with it.
 
-ghost use Rattle.std.specs.Prelude.{◌≡◌, ◌≤◌, [], true, map, IfOk};
+ghost use Rattle.std.specs.Prelude.{◌≡◌, ◌+◌, ◌*◌, ◌≤◌, [], true, map, IfOk, IfErr, OnOk, Some};
+ghost use Rattle.fsrm_base.specs.Keyed.{is_ascending};
 ghost use Rattle.fsrm_model.specs.Capacities.{is_capacity};
 ghost use Rattle.fsrm_model.specs.Fresh.{new_rows};
 ghost use Rattle.fsrm_model.specs.Limits.{latest_moment};
+ghost use Rattle.fsrm_model.specs.Quota.{folder_of};
+ghost use Rattle.fsrm_model.specs.Valid.{IsVolume};
 ghost use Rattle.fsrm_model.specs.declared.command.Outcome.TheVariants.{Done};
 ghost use Rattle.std.specs.Prelude.{None};
-ghost use Rattle.fsrm_engine.specs.Machine.{rows_of, machine_of, ended, AreCounted, IsWhole};
+ghost use Rattle.quota_usage.specs.Charge.{IsChange, Fits, height};
+ghost use Rattle.fsrm_engine.specs.Faults.{quota_refusal};
+ghost use Rattle.fsrm_engine.specs.Machine.{rows_of, machine_of, charged_parts, ended, AreCounted, IsWhole};
 
-use crate::charging::raise_all;
-use fsrm_model::{Answer, Capacity, NoMemory, Outcome};
+use crate::charging::{raise_above, raise_all};
+use crate::exits::exceeded_by;
+use fsrm_model::{Answer, Capacity, Ledger, NoMemory, Outcome, Refusal, Steps};
 use fsrm_objects::Objects;
-use quota_usage::Usage;
+use quota_usage::{Change, Usage};
 use scan_queue::Scans;
 use std::alloc::Global;
 use volume_tree::Tree;
@@ -25,7 +31,7 @@ pub struct Parts {
     pub(crate) usage: Usage,
     pub(crate) scans: Scans,
     pub(crate) last_moment: u64,
-    // Whether no peak is below what is used. It needn't be so of rows that come from outside.
+    // Whether it is known that no counting quota's peak is below what is used. It needn't be so of rows from outside.
     pub(crate) level: bool,
 }
 
@@ -47,6 +53,47 @@ impl Parts {
             last_moment: 0,
             level: false,
         })
+    }
+
+    /// Ok if no quota refuses a change, else the refusal by the deepest one that does.
+    pub(crate) fn admit<L: Ledger>(
+        &self,
+        change: &Change,
+        steps: &mut Steps<L>,
+    ) -> Result<(), Refusal>
+        requires counted { AreCounted self.now }
+        requires change { IsChange self.now.tree.nodes change.now }
+        requires fits { Fits self.now.tree.nodes self.now.usage change.now }
+        ensures ok { OnOk result (quota_refusal self.now change.now ≡ None) }
+        ensures err { IfErr result (λ refusal. quota_refusal self.now change.now ≡ Some refusal) }
+        ensures looks { steps.new ≤ steps.old + 2 * (height self.now.tree.nodes change.now.from + height self.now.tree.nodes change.now.to) }
+    {
+        match self.usage.admit(&self.tree, &self.objects, change, steps) {
+            Ok(()) => Ok(()),
+            Err(exceeded) => Err(exceeded_by(exceeded)),
+        }
+    }
+
+    /// Makes a change of the counters, and raises the peaks of the folders that gained.
+    pub(crate) fn charge<L: Ledger>(&mut self, change: &Change, moment: u64, steps: &mut Steps<L>)
+        requires volume { IsVolume self.old.tree.size self.old.tree.nodes }
+        requires ascending { is_ascending folder_of self.old.objects.quotas ≡ true }
+        requires change { IsChange self.old.tree.nodes change.now }
+        requires fits { Fits self.old.tree.nodes self.old.usage change.now }
+        ensures charged { self.new ≡ charged_parts self.old change.now moment }
+        ensures looks { steps.new ≤ steps.old + (2 * height self.old.tree.nodes change.now.from + 3 * height self.old.tree.nodes change.now.to) }
+    {
+        self.usage.charge(&self.tree, change, steps);
+        if let Some(folder) = change.to {
+            raise_above(
+                &self.tree,
+                &self.usage,
+                &mut self.objects,
+                folder,
+                moment,
+                steps,
+            );
+        }
     }
 
     // Raises each peak that is below what is used.

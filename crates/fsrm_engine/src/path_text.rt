@@ -14,6 +14,9 @@ use fsrm_model::{Ledger, NoMemory, Steps, Text};
 use std::alloc::Global;
 use volume_tree::Tree;
 
+// Most paths have no more bytes than this.
+const USUAL_PATH: usize = 128;
+
 // The way from a node up to the root, without the root.
 fn way_up<L: Ledger>(
     tree: &Tree,
@@ -36,6 +39,15 @@ fn way_up<L: Ledger>(
     Ok(way)
 }
 
+// A text that begins so, with room for most paths.
+fn begun(alloc: Global, start: &str) -> Result<String, NoMemory>
+    ensures { IfOk result (λ text. string_bytes text ≡ start.now) }
+{
+    let mut text = String::with_capacity(alloc, USUAL_PATH)?;
+    text.push_str(start)?;
+    Ok(text)
+}
+
 // The text of the path whose nodes these are, from the last one to the first.
 fn joined<L: Ledger>(
     tree: &Tree,
@@ -49,7 +61,7 @@ fn joined<L: Ledger>(
     ensures looks { steps.new ≤ steps.old + length way.now }
 {
     // Each name stands after a `\`, and the root has the `\` alone.
-    let mut text = String::from_str(alloc, if way.is_empty() { "D:\\" } else { "D:" })?;
+    let mut text = begun(alloc, if way.is_empty() { "D:\\" } else { "D:" })?;
     for node in way.iter().rev() {
         text.push('\\')?;
         text.push_str(tree.node(*node, steps).name)?;

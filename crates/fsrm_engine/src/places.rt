@@ -1,10 +1,14 @@
 //! What paths lead to.
 
-ghost use Rattle.std.specs.Prelude.{◌≡◌, ◌+◌, ◌*◌, ◌≤◌, length, IfOk, IfErr};
+ghost use Rattle.std.specs.Prelude.{◌≡◌, ◌+◌, ◌*◌, ◌≤◌, length, IfOk, IfErr, Some};
+ghost use Rattle.fsrm_model.specs.Check.{first};
+ghost use Rattle.fsrm_model.specs.QuotaWork.{quota_checks};
 ghost use Rattle.fsrm_model.specs.Valid.{IsVolume};
-ghost use Rattle.fsrm_engine.specs.Places.{IsPlace, IsRefusedPlace, IsFileAt, IsFolderAt};
+ghost use Rattle.fsrm_engine.specs.Machine.{rows_of};
+ghost use Rattle.fsrm_engine.specs.Places.{IsPlace, IsRefusedPlace, IsFileAt, IsFolderAt, IsQuotaAt};
 
-use fsrm_model::{Ledger, Path, Refusal, Steps};
+use crate::parts::Parts;
+use fsrm_model::{Ledger, Path, QuotaRow, Refusal, Steps};
 use volume_tree::{NodeView, Tree};
 
 /// The place of a path's last name: a folder, and the name that is given in it.
@@ -28,7 +32,8 @@ pub fn place_at<'a, L: Ledger>(
     let Some(last) = path.depth().checked_sub(1) else {
         return Err(Refusal::AlreadyExists);
     };
-    let Some(folder) = tree.resolve_first(path, last, steps) else {
+    let mut names = path.names();
+    let Some(folder) = tree.resolve_next(&mut names, last, steps) else {
         return Err(Refusal::PathNotFound);
     };
     if !tree.node(folder, steps).folder {
@@ -36,7 +41,7 @@ pub fn place_at<'a, L: Ledger>(
     }
     Ok(Place {
         folder,
-        name: path.part(last),
+        name: names.next(),
     })
 }
 
@@ -66,5 +71,27 @@ pub fn folder_at<L: Ledger>(tree: &Tree, path: &Path, steps: &mut Steps<L>) -> O
         Some(node)
     } else {
         None
+    }
+}
+
+impl Parts {
+    /// The quota of the folder that a path leads to, lent.
+    pub(crate) fn quota_at<L: Ledger>(
+        &self,
+        path: &Path,
+        steps: &mut Steps<L>,
+    ) -> Result<&QuotaRow, Refusal>
+        requires { IsVolume self.now.tree.size self.now.tree.nodes }
+        ensures ok { IfOk result (λ quota. IsQuotaAt self.now.tree.nodes self.now.objects.quotas path.now quota.now) }
+        ensures err { IfErr result (λ refusal. first (quota_checks (rows_of self.now) path.now) ≡ Some refusal) }
+        ensures looks { steps.new ≤ steps.old + (22 * length path.now + 2) }
+    {
+        let Some(folder) = folder_at(&self.tree, path, steps) else {
+            return Err(Refusal::PathNotFound);
+        };
+        let Some(quota) = self.objects.quota(folder) else {
+            return Err(Refusal::NotFound);
+        };
+        Ok(quota)
     }
 }

@@ -1,18 +1,18 @@
 //! The commands on quotas.
 
-ghost use Rattle.std.specs.Prelude.{◌≡◌, ◌+◌, ◌*◌, ◌≤◌, [], true, false, length, IfOk, OnErr, Some, None, option_map};
+ghost use Rattle.std.specs.Prelude.{◌≡◌, ◌+◌, ◌*◌, ◌≤◌, [], true, false, length, IfOk, OnErr, Some, None};
 ghost use Rattle.std.specs.Option.{option_map_or};
 ghost use Rattle.fsrm_model.specs.declared.command.Ask.TheVariants.{Quotas};
 ghost use Rattle.fsrm_model.specs.declared.command.Deed.TheVariants.{QuotaAdd, QuotaModify, QuotaDelete, QuotaScan, QuotaResetpeak, QuotaList};
 ghost use Rattle.fsrm_model.specs.declared.command.Outcome.TheVariants.{Listing};
 ghost use Rattle.fsrm_model.specs.Cost.{deed_cost};
 ghost use Rattle.fsrm_model.specs.Limits.{latest_moment};
-ghost use Rattle.fsrm_model.specs.Quota.{quota_of, is_limit};
+ghost use Rattle.fsrm_model.specs.Quota.{is_limit};
 ghost use Rattle.fsrm_model.specs.QuotaStates.{is_disabled};
 ghost use Rattle.fsrm_model.specs.QuotaWork.{new_quota, modified};
 ghost use Rattle.fsrm_engine.specs.Machine.{Does, IsSound, IsWhole, rows_of};
 
-use crate::exits::refused;
+use crate::exits::{passing, refused};
 use crate::parts::Parts;
 use crate::places::folder_at;
 use crate::states::first_state;
@@ -57,32 +57,26 @@ fn is_disabled(state: QuotaState) -> bool
 fn listing(folder: Option<u32>) -> Answer
     ensures { result ≡ record { outcome = Listing (Quotas folder); lasting = false } }
 {
-    Answer {
-        outcome: Outcome::Listing(Ask::Quotas(folder)),
-        lasting: false,
-    }
+    passing(Outcome::Listing(Ask::Quotas(folder)))
+}
+
+// A quota with another limit, or of another type, if these are given.
+fn modified(
+    alloc: Global,
+    quota: &QuotaRow,
+    limit: Option<u64>,
+    enforce: Option<bool>,
+) -> Result<QuotaRow, NoMemory>
+    ensures { IfOk result (λ row. row ≡ modified limit enforce quota.now) }
+{
+    let mut row = quota.copy(alloc)?;
+    row.limit = limit.unwrap_or(row.limit);
+    row.enforce = enforce.unwrap_or(row.enforce);
+    Ok(row)
 }
 
 impl Parts {
-    // A folder's quota with another limit, or of another type, if these are given.
-    fn modified(
-        &self,
-        alloc: Global,
-        folder: u32,
-        limit: Option<u64>,
-        enforce: Option<bool>,
-    ) -> Result<Option<QuotaRow>, NoMemory>
-        ensures { IfOk result (λ row. row ≡ option_map (modified limit enforce) (quota_of (rows_of self.now) folder)) }
-    {
-        let Some(quota) = self.objects.quota(folder) else {
-            return Ok(None);
-        };
-        let mut row = quota.copy(alloc)?;
-        row.limit = limit.unwrap_or(row.limit);
-        row.enforce = enforce.unwrap_or(row.enforce);
-        Ok(Some(row))
-    }
-
+    /// Makes a quota.
     pub(crate) fn quota_add<L: Ledger>(
         &mut self,
         alloc: Global,
@@ -105,7 +99,7 @@ impl Parts {
         let Some(folder) = folder_at(&self.tree, path, steps) else {
             return Ok(refused(Refusal::PathNotFound));
         };
-        if self.state(folder).is_some() {
+        if self.objects.quota(folder).is_some() {
             return Ok(refused(Refusal::AlreadyExists));
         }
         if self.objects.quota_count() as usize >= MOST_QUOTAS {
@@ -120,6 +114,7 @@ impl Parts {
         Ok(self.done(moment))
     }
 
+    /// Changes what is given of a quota: its limit, its type, its status.
     pub(crate) fn quota_modify<L: Ledger>(
         &mut self,
         alloc: Global,
@@ -139,17 +134,17 @@ impl Parts {
         ensures sound { IsSound self.new }
         ensures looks { steps.new ≤ steps.old + deed_cost (rows_of self.old) (QuotaModify path.now limit enforce enabled [] [] []) }
     {
-        let Some(folder) = folder_at(&self.tree, path, steps) else {
-            return Ok(refused(Refusal::PathNotFound));
+        let quota = match self.quota_at(path, steps) {
+            Ok(quota) => quota,
+            Err(refusal) => return Ok(refused(refusal)),
         };
-        let Some(mut row) = self.modified(alloc, folder, limit, enforce)? else {
-            return Ok(refused(Refusal::NotFound));
-        };
-        row.state = self.state_after(folder, row.state, enabled, steps);
+        let mut row = modified(alloc, quota, limit, enforce)?;
+        row.state = self.state_after(quota.folder, quota.state, enabled, steps);
         self.replace(row)?;
         Ok(self.done(moment))
     }
 
+    /// Takes a quota away, with its scan.
     pub(crate) fn quota_delete<L: Ledger>(
         &mut self,
         path: &Path,
@@ -163,17 +158,16 @@ impl Parts {
         ensures sound { IsSound self.new }
         ensures looks { steps.new ≤ steps.old + deed_cost (rows_of self.old) (QuotaDelete path.now) }
     {
-        let Some(folder) = folder_at(&self.tree, path, steps) else {
-            return refused(Refusal::PathNotFound);
+        let folder = match self.quota_at(path, steps) {
+            Ok(quota) => quota.folder,
+            Err(refusal) => return refused(refusal),
         };
-        if self.objects.quota(folder).is_none() {
-            return refused(Refusal::NotFound);
-        }
         self.scans.leave(folder);
         self.take_away(folder);
         self.done(moment)
     }
 
+    /// Has a quota wait for a scan.
     pub(crate) fn quota_scan<L: Ledger>(
         &mut self,
         path: &Path,
@@ -188,12 +182,12 @@ impl Parts {
         ensures sound { IsSound self.new }
         ensures looks { steps.new ≤ steps.old + deed_cost (rows_of self.old) (QuotaScan path.now) }
     {
-        let Some(folder) = folder_at(&self.tree, path, steps) else {
-            return Ok(refused(Refusal::PathNotFound));
+        let quota = match self.quota_at(path, steps) {
+            Ok(quota) => quota,
+            Err(refusal) => return Ok(refused(refusal)),
         };
-        let Some(state) = self.state(folder) else {
-            return Ok(refused(Refusal::NotFound));
-        };
+        let folder = quota.folder;
+        let state = quota.state;
         if is_disabled(state) {
             return Ok(refused(Refusal::InvalidCombination));
         }
@@ -201,12 +195,10 @@ impl Parts {
         if state.counts() {
             return Ok(self.done(moment));
         }
-        Ok(Answer {
-            outcome: Outcome::Done { passive: None },
-            lasting: false,
-        })
+        Ok(passing(Outcome::Done { passive: None }))
     }
 
+    /// Sets a quota's peak to what is used.
     pub(crate) fn quota_resetpeak<L: Ledger>(
         &mut self,
         path: &Path,
@@ -220,12 +212,10 @@ impl Parts {
         ensures sound { IsSound self.new }
         ensures looks { steps.new ≤ steps.old + deed_cost (rows_of self.old) (QuotaResetpeak path.now) }
     {
-        let Some(folder) = folder_at(&self.tree, path, steps) else {
-            return refused(Refusal::PathNotFound);
+        let folder = match self.quota_at(path, steps) {
+            Ok(quota) => quota.folder,
+            Err(refusal) => return refused(refusal),
         };
-        if self.objects.quota(folder).is_none() {
-            return refused(Refusal::NotFound);
-        }
         let used = self.usage.used(folder).unwrap_or(0);
         self.objects.set_peak(folder, used, moment);
         self.done(moment)
@@ -238,15 +228,14 @@ impl Parts {
         ensures ok { Does self.now self.now moment (QuotaList (Some path.now)) result }
         ensures looks { steps.new ≤ steps.old + (22 * length path.now + 2) }
     {
-        let Some(folder) = folder_at(&self.tree, path, steps) else {
-            return refused(Refusal::PathNotFound);
+        let folder = match self.quota_at(path, steps) {
+            Ok(quota) => quota.folder,
+            Err(refusal) => return refused(refusal),
         };
-        if self.objects.quota(folder).is_none() {
-            return refused(Refusal::NotFound);
-        }
         listing(Some(folder))
     }
 
+    /// Lists one quota, or all of them.
     pub(crate) fn quota_list<L: Ledger>(
         &self,
         path: &Option<Path>,

@@ -15,6 +15,7 @@ use fsrm_model::{Answer, Ledger, Path, Refusal, Steps};
 use quota_usage::Change;
 
 impl Parts {
+    /// Removes a file, or a folder in which nothing is.
     pub(crate) fn remove<L: Ledger>(
         &mut self,
         path: &Path,

@@ -10,12 +10,12 @@ ghost use Rattle.fsrm_model.specs.Scan.{visits};
 ghost use Rattle.fsrm_model.specs.Tree.{usage};
 ghost use Rattle.fsrm_engine.specs.Machine.{Does, IsSound, IsWhole, machine_of, rows_of, lasting_rows, with_rows};
 
-use crate::exits::refused;
+use crate::exits::{passing, refused};
 use crate::parts::Parts;
 use fsrm_model::{Answer, Ledger, Outcome, Refusal, Steps};
 
 impl Parts {
-    /// Goes on with the active scan, of a moment that isn't too late.
+    /// Goes on with the active scan, at a moment that isn't before the last one.
     pub(crate) fn go_on<L: Ledger>(&mut self, n: u32, moment: u64, steps: &mut Steps<L>) -> Answer
         requires whole { IsWhole self.old }
         requires moment { moment ≤ latest_moment }
@@ -29,14 +29,11 @@ impl Parts {
         };
         let visited = self.visit(n, steps);
         if !self.scans.done() {
-            return Answer {
-                outcome: Outcome::Scanned {
-                    folder,
-                    visited,
-                    done: None,
-                },
-                lasting: false,
-            };
+            return passing(Outcome::Scanned {
+                folder,
+                visited,
+                done: None,
+            });
         }
         let used = self.finish(folder, moment);
         Answer {
@@ -49,7 +46,7 @@ impl Parts {
         }
     }
 
-    // Visits as many folders of the active scan, and tells how many it visited.
+    // Visits at most `n` folders of the active scan, and tells how many it visited.
     fn visit<L: Ledger>(&mut self, n: u32, steps: &mut Steps<L>) -> u32
         requires whole { IsWhole self.old }
         requires active { is_some (head self.old.scans.queue) ≡ true }

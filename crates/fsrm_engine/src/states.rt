@@ -1,11 +1,11 @@
 //! The states of quotas, and the queue of those that wait for a scan.
 
-ghost use Rattle.std.specs.Prelude.{◌≡◌, ◌+◌, ◌≤◌, ◌<◌, [], if◌then◌else◌, true, false, length, OnOk, OnErr, Some, option_map};
+ghost use Rattle.std.specs.Prelude.{◌≡◌, ◌+◌, ◌≤◌, ◌<◌, [], if◌then◌else◌, true, false, length, OnOk, OnErr, Some};
 ghost use Rattle.fsrm_model.specs.declared.row.QuotaRow.{QuotaRow};
 ghost use Rattle.fsrm_model.specs.declared.row.QuotaState.TheVariants.{Disabled, Rebuilding};
 ghost use Rattle.fsrm_base.specs.Keyed.{has_row, row_of};
 ghost use Rattle.fsrm_model.specs.Limits.{most_quotas};
-ghost use Rattle.fsrm_model.specs.Quota.{folder_of, quota_of, counts, is_limit};
+ghost use Rattle.fsrm_model.specs.Quota.{folder_of, counts, is_limit};
 ghost use Rattle.fsrm_model.specs.QuotaStates.{start, queued, state_of, state_after, followed, with_quota, with_state};
 ghost use Rattle.fsrm_model.specs.Tree.{is_folder, usage};
 ghost use Rattle.fsrm_model.specs.Valid.{IsVolume, is_moment};
@@ -35,7 +35,7 @@ fn requeue(scans: &mut Scans, folder: u32, state: QuotaState) -> Result<(), NoMe
     scans.push(folder)
 }
 
-// What a quota of a folder is that is made or enabled.
+// The state in which a folder's quota begins if it is made or enabled.
 fn start<L: Ledger>(tree: &Tree, folder: u32, steps: &mut Steps<L>) -> QuotaState
     requires volume { IsVolume tree.now.size tree.now.nodes }
     requires folder { is_folder tree.now.nodes folder ≡ true }
@@ -49,7 +49,7 @@ fn start<L: Ledger>(tree: &Tree, folder: u32, steps: &mut Steps<L>) -> QuotaStat
     }
 }
 
-/// What a new quota of a folder is.
+/// The state of a folder's new quota.
 pub fn first_state<L: Ledger>(
     tree: &Tree,
     folder: u32,
@@ -69,16 +69,6 @@ pub fn first_state<L: Ledger>(
 }
 
 impl Parts {
-    /// The state of a folder's quota, if it has one.
-    pub(crate) fn state(&self, folder: u32) -> Option<QuotaState>
-        ensures { result ≡ option_map (λ quota. quota.state) (quota_of (rows_of self.now) folder) }
-    {
-        match self.objects.quota(folder) {
-            Some(quota) => Some(quota.state),
-            None => None,
-        }
-    }
-
     /// The state that a status asks for, if one is given, of a quota in this state.
     pub(crate) fn state_after<L: Ledger>(
         &self,
@@ -101,8 +91,8 @@ impl Parts {
         }
     }
 
-    /// Puts a quota on a folder that has none, and its scan into the queue if it is rebuilding. For one that counts
-    /// nothing may be used. An `Err` changes nothing.
+    /// Puts a quota on a folder that has none, and its scan into the queue if it is rebuilding. If it counts, nothing
+    /// may be used yet. An `Err` changes nothing.
     pub(crate) fn enlist(&mut self, row: QuotaRow) -> Result<(), NoMemory>
         requires sound { IsSound self.old }
         requires absent { has_row folder_of row.folder self.old.objects.quotas ≡ false }
@@ -126,8 +116,8 @@ impl Parts {
         Ok(())
     }
 
-    /// Gives a folder this quota in place of the one that it has, with its peak. If it comes to count nothing may be
-    /// used. An `Err` changes nothing.
+    /// Gives a folder this quota in place of the one that it has, with its peak. If it comes to count, nothing may be
+    /// used yet. An `Err` changes nothing.
     pub(crate) fn replace(&mut self, row: QuotaRow) -> Result<(), NoMemory>
         requires sound { IsSound self.old }
         requires there { has_row folder_of row.folder self.old.objects.quotas ≡ true }

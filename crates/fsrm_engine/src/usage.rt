@@ -10,7 +10,7 @@ ghost use Rattle.fsrm_model.specs.Valid.{IsVolume};
 ghost use Rattle.fsrm_engine.specs.Machine.{Does, IsWhole, rows_of};
 ghost use Rattle.fsrm_engine.specs.Walk.{usage_of_all, under_all, AreThere};
 
-use crate::exits::refused;
+use crate::exits::{passing, refused};
 use crate::parts::Parts;
 use fsrm_model::{Answer, Ledger, NoMemory, Outcome, Path, Refusal, Steps};
 use std::alloc::Global;
@@ -32,7 +32,7 @@ fn put<L: Ledger>(
     Ok(())
 }
 
-// Puts children that stand one after the other after those nodes.
+// Puts some siblings after the nodes that are still to be visited.
 fn put_all(siblings: &Siblings<'_>, pending: &mut Vec<u32>) -> Result<(), NoMemory>
     ensures { OnOk result (pending.new.items ≡ pending.old.items ++ siblings.now) }
 {
@@ -111,9 +111,6 @@ impl Parts {
             return Ok(refused(Refusal::PathNotFound));
         };
         let bytes = usage_of(&self.tree, alloc, node, steps)?;
-        Ok(Answer {
-            outcome: Outcome::Sum { node, bytes },
-            lasting: false,
-        })
+        Ok(passing(Outcome::Sum { node, bytes }))
     }
 }

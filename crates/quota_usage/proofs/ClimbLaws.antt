@@ -46,6 +46,17 @@ height_some nodes n = some_member (length nodes) nodes n
 pub height_up : (nodes : List NodeRow) → IsTree nodes → (n : ℕ) → Has nodes n → (n ≡ 0 → ⊥) → length (chain nodes n) ≡ length (chain nodes (parent_of nodes n)) + 1
 height_up nodes t n h i = let e = ap length (climb nodes t n h i) in omega (arith, e)
 
+-- a step of the way, from a node to its parent
+pub record IsStep (nodes : List NodeRow) (at up : ℕ) : Type 0 where
+  pub there : Has nodes up
+  pub lower : length (chain nodes at) ≡ length (chain nodes up) + 1
+  pub on : (start : ℕ) → Has nodes start → is_under nodes at start ≡ true → is_under nodes up start ≡ true
+
+pub step_up : (nodes : List NodeRow) → IsTree nodes → (at up : ℕ) → Has nodes at → (at ≡ 0 → ⊥) → up ≡ parent_of nodes at → IsStep nodes at up
+step_up nodes t at up h i is =
+    subst (λ (n : ℕ). IsStep nodes at n) (sym is)
+    (record { there = t.closed at h; lower = height_up nodes t at h i; on = λ start hs on. on_up nodes t start at hs h i on })
+
 -- counters on the way
 pub own_key : (minus plus : ℕ) (b : Bool) (r : Counter) → counted (cond b (amended_counter minus plus r) r) ≡ counted r
 own_key minus plus true r = refl

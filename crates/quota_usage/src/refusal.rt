@@ -78,9 +78,9 @@ fn first_refusal<L: Ledger>(
     }
 }
 
-// Climbs from two nodes to the one where their ways up meet, and judges below it the quotas on the way
-// from `to`, of which none is above `from`. An `Err` is the first refusal. With the rest
-// of the way it takes no more than 2 looks for each node on both.
+// Climbs from two nodes to the one where their ways up meet. Below that it judges the quotas on the way from `to`: none
+// of their folders is above `from`, so they only gain. An `Err` is the first refusal. Together with a climb from the
+// meeting to the root it takes no more than 2 looks for each node on both ways.
 fn below_meeting<L: Ledger>(
     counters: &Usage,
     tree: &Tree,

@@ -16,7 +16,7 @@ use rescan::Frontier;
 use volume_tree::Tree;
 
 impl Scans {
-    /// Visits as many unvisited folders of the active scan, and tells how many it visited: fewer if no
+    /// Visits so many unvisited folders of the active scan, and tells how many it visited: fewer if no
     /// more are unvisited.
     pub fn visit<L: Ledger>(&mut self, tree: &Tree, most: u32, steps: &mut Steps<L>) -> u32
         requires scanning { Scanning tree.now self.old }
@@ -53,7 +53,7 @@ impl Scans {
     }
 }
 
-// Visits as many unvisited folders, and tells how many it visited.
+// Visits so many unvisited folders, if there are as many, and tells how many it visited.
 fn visit_folders<L: Ledger>(
     frontier: &mut Frontier,
     tree: &Tree,

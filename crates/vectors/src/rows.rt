@@ -3,17 +3,18 @@
 use crate::values::{one, quota, text};
 use fsrm_model::{
     ActRow, Action, ActionKind, AuditRow, AutoRow, Duplicate, ExceptRow, Filter, GroupRow, JobRow,
-    List, NodeRow, Path, ReportKind, ScreenRow, TemplateRow, Threshold,
+    List, NodeRow, ReportKind, ScreenRow, TemplateRow, Threshold,
 };
+use name_rules::read_path;
 use std::alloc::Global;
 use std::test::Fail;
 
 #[test]
 fn a_path_has_its_parts(rt: HostRuntime) -> Result<(), Fail> {
     let alloc = rt.alloc();
-    let path = Path::from_parts(one(alloc, text(alloc)?)?);
+    let path = read_path(alloc, "D:\\text")?;
     assert_eq!(rt; path.depth(), 1);
-    assert_eq!(rt; path.part(0), "text");
+    assert_eq!(rt; path.names().next(), "text");
     assert_eq!(rt; path.copy(alloc)?.depth(), 1);
     Ok(())
 }

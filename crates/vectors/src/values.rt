@@ -25,7 +25,7 @@ pub const TINY: Capacity = Capacity {
 pub fn root(alloc: Global) -> Path
     ensures { result ≡ [] }
 {
-    Path::from_parts(List::new(alloc))
+    Path::from_joined(String::new(alloc), 0)
 }
 
 /// A folder's complete quota of this limit, without thresholds.

@@ -28,22 +28,21 @@ use Rattle.fsrm_base.proofs.TestLaws.{clash, both}
 use Rattle.fsrm_objects.specs.Tables.{Tables}
 use Rattle.quota_usage.specs.declared.change.Change.{Change}
 use Rattle.quota_usage.specs.declared.change.Counter.{Counter}
-use Rattle.quota_usage.specs.declared.change.Exceeded.{Exceeded}
-use Rattle.quota_usage.specs.Charge.{is_above, charged_counter, over_by, exceeded_by}
+use Rattle.quota_usage.specs.Charge.{is_above, charged_counter}
 use Rattle.quota_usage.specs.Counters.{counted}
 use Rattle.volume_tree.specs.declared.answer.NodeView.{NodeView}
 use Rattle.volume_tree.specs.declared.answer.TreeFault.{TreeFault}
 use Rattle.volume_tree.specs.Volume.{Volume, with_length}
-use Rattle.fsrm_engine.specs.Faults.{exceeded_refusal}
+use Rattle.fsrm_engine.specs.Faults.{quota_refusal}
 use Rattle.fsrm_engine.specs.declared.parts.Parts.{Parts}
-use Rattle.fsrm_engine.specs.Machine.{rows_of, sums_of, IsCounted, AreCounted}
+use Rattle.fsrm_engine.specs.Machine.{rows_of, sums_of, charged_parts, IsCounted, AreCounted}
 use Rattle.fsrm_engine.specs.Peaks.{raised_above}
 use Rattle.fsrm_engine.specs.Places.{IsFile}
 use Rattle.fsrm_engine.proofs.steps.StepLaws.{due, tree_first, last_check}
 use Rattle.fsrm_engine.proofs.steps.PlaceLaws.{target_is}
 use Rattle.fsrm_engine.proofs.tables.SumLaws.{sums_has}
 use Rattle.fsrm_engine.proofs.operations.ChangeLaws.{Changes, changes_resized}
-use Rattle.fsrm_engine.proofs.operations.OverLaws.{none_exceeded, one_exceeded}
+use Rattle.fsrm_engine.proofs.operations.OverLaws.{exceeded_is}
 use Rattle.fsrm_model.proofs.valid.QuotasKept.{quotas_stay}
 use Rattle.fsrm_engine.proofs.tables.PeakLaws.{counters_charged, peaks_raised, some_settled, counted_raised}
 use Rattle.fsrm_model.proofs.valid.ValidLaws.{found_parent}
@@ -127,19 +126,19 @@ resize_due p m path view bytes k f =
     listed (leads_to_file nodes path) (exceeded p.tree.size (rows_of p) (with_change number (target nodes path) (resized bytes m) nodes)) leads
     ∙ ap (λ n. exceeded p.tree.size (rows_of p) (with_change number n (resized bytes m) nodes)) (target_is nodes path view.number f.resolved)
 
--- by the counters
-pub admitted : (p : Parts) (new : List NodeRow) (change : Change) → AreCounted p → Changes p.tree.size p.tree.nodes new p.objects.quotas change → over_by p.tree.nodes p.objects.quotas p.usage change ≡ [] → exceeded p.tree.size (rows_of p) new ≡ None
-admitted p new change e c h = none_exceeded p.tree.size (rows_of p) new change p.usage e.sums e.are_quotas c h
+-- the counters tell what quotas refuse
+pub by_quotas : (p : Parts) (new : List NodeRow) (change : Change) (o : Option Refusal) → AreCounted p → Changes p.tree.size p.tree.nodes new p.objects.quotas change → quota_refusal p change ≡ o → exceeded p.tree.size (rows_of p) new ≡ o
+by_quotas p new change o e c h = exceeded_is p.tree.size (rows_of p) new change p.usage e.sums e.are_quotas c ∙ h
 
-pub refused_by_quota : (p : Parts) (new : List NodeRow) (change : Change) (x : Exceeded) → AreCounted p → Changes p.tree.size p.tree.nodes new p.objects.quotas change → exceeded_by p.tree.nodes p.objects.quotas p.usage change ≡ Some x → exceeded p.tree.size (rows_of p) new ≡ Some (exceeded_refusal x)
-refused_by_quota p new change x e c h = one_exceeded p.tree.size (rows_of p) new change p.usage x e.sums e.are_quotas c h
+-- where the tree has nothing against it, they decide
+pub due_next : (o : Option TreeFault) (more refusal : Option Refusal) → o ≡ None → more ≡ refusal → tree_first o more ≡ refusal
+due_next o more refusal h is = ap (λ o. tree_first o more) h ∙ is
 
--- where the tree has nothing against it, the quota decides
-pub due_none : (o : Option TreeFault) (more : Option Refusal) → o ≡ None → more ≡ None → tree_first o more ≡ None
-due_none o more h n = ap (λ o. tree_first o more) h ∙ n
-
-pub due_quota : (o : Option TreeFault) (more : Option Refusal) (x : Exceeded) → o ≡ None → more ≡ Some (exceeded_refusal x) → tree_first o more ≡ Some (exceeded_refusal x)
-due_quota o more x h is = ap (λ o. tree_first o more) h ∙ is
+-- parts that were charged, by what is new in them
+pub charged_is : (p : Parts) (change : Change) (m : ℕ) (counters : List Counter) (tables : Tables) → counters ≡ map (charged_counter p.tree.nodes change) p.usage → tables ≡ record { quotas = map (raised_above p.tree.nodes change.to counters m) p.objects.quotas } → record p { objects = tables; usage = counters } ≡ charged_parts p change m
+charged_is p change m counters tables charging raising =
+    ap (λ (t : Tables). record p { objects = t; usage = counters }) raising
+    ∙ ap (λ (cs : List Counter). record p { objects = record { quotas = map (raised_above p.tree.nodes change.to cs m) p.objects.quotas }; usage = cs }) charging
 
 -- the folders of quotas stay folders
 pub resized_folder : (nodes : List NodeRow) (x bytes m f : ℕ) → is_folder nodes f ≡ true → is_folder (with_change number x (resized bytes m) nodes) f ≡ true

@@ -1,5 +1,5 @@
 -- The refusal by sums over the tree is the one by counters.
-use Rattle.std.proofs.Common.{◌≡◌, ℕ, Bool, true, false, cond, ◌&&◌, List, [], Option, Some, None, nat_lt, refl, ap, sym, ◌∙◌}
+use Rattle.std.proofs.Common.{◌≡◌, ℕ, Bool, true, false, cond, ◌&&◌, List, Option, Some, None, nat_lt, refl, ap, sym, ◌∙◌}
 use Rattle.std.specs.Prelude.{option_map, unwrap_or}
 use Rattle.std.specs.Option.{option_map_or}
 use Rattle.std.specs.List.{AllByRecursion, list_all}
@@ -16,7 +16,6 @@ use Rattle.fsrm_base.proofs.TestLaws.{both}
 use Rattle.fsrm_model.proofs.valid.ValidLaws.{folder_has}
 use Rattle.quota_usage.specs.declared.change.Change.{Change}
 use Rattle.quota_usage.specs.declared.change.Counter.{Counter}
-use Rattle.quota_usage.specs.declared.change.Exceeded.{Exceeded}
 use Rattle.quota_usage.specs.Charge.{is_above, charged, refuses_change, over_by, told_of, exceeded_by}
 use Rattle.quota_usage.specs.Counters.{used_in}
 use Rattle.fsrm_engine.specs.Faults.{exceeded_refusal}
@@ -77,23 +76,13 @@ same_told K nodes new quotas change xs (Some q) h e =
     ap Some (sym (find_has (λ q. list_all (λ above. is_under nodes above.folder q.folder) xs) (Refusing K nodes new quotas change) xs q h e).tells)
 
 -- the refusal by sums is the one by counters
-pub exceeded_is : (K : Capacity) (R : Rows) (new : List NodeRow) (change : Change) → AreQuotas R.nodes R.quotas → Changes K R.nodes new R.quotas change → exceeded K R new ≡ option_map exceeded_refusal (exceeded_by R.nodes R.quotas (sums_of K R.nodes R.quotas) change)
-exceeded_is K R new change qs c =
+pub exceeded_is : (K : Capacity) (R : Rows) (new : List NodeRow) (change : Change) (counters : List Counter) → counters ≡ sums_of K R.nodes R.quotas → AreQuotas R.nodes R.quotas → Changes K R.nodes new R.quotas change → exceeded K R new ≡ option_map exceeded_refusal (exceeded_by R.nodes R.quotas counters change)
+exceeded_is K R new change counters sums qs c =
     let xs = over K R new in
     let all : AllByRecursion (Refusing K R.nodes new R.quotas change) xs =
     all_filter (is_over K R.nodes new) (Refusing K R.nodes new R.quotas change) R.quotas
     (each_found folder_of _ R.quotas qs.ascending (λ q found is. refusing K R.nodes new R.quotas change qs c q found is)) in
     ap (option_map (λ q. QuotaExceeded q.folder (usage K new q.folder) q.limit)) (same_deepest K R.nodes new R.quotas change xs all)
     ∙ (same_told K R.nodes new R.quotas change xs (deepest R.nodes xs) all refl
-    ∙ ap (λ ys. option_map exceeded_refusal (option_map (told_of R.nodes (sums_of K R.nodes R.quotas) change) (deepest R.nodes ys))) (sym (over_same K R new change qs.ascending c)))
-
--- where the counters admit, nothing is exceeded
-pub none_exceeded : (K : Capacity) (R : Rows) (new : List NodeRow) (change : Change) (counters : List Counter) → counters ≡ sums_of K R.nodes R.quotas → AreQuotas R.nodes R.quotas → Changes K R.nodes new R.quotas change → over_by R.nodes R.quotas counters change ≡ [] → exceeded K R new ≡ None
-none_exceeded K R new change counters sums qs c none =
-    let empty : over K R new ≡ [] = sym (over_same K R new change qs.ascending c) ∙ (ap (λ cs. over_by R.nodes R.quotas cs change) (sym sums) ∙ none) in
-    ap (λ xs. option_map (λ q. QuotaExceeded q.folder (usage K new q.folder) q.limit) (deepest new xs)) empty
-
--- where they refuse, this is exceeded
-pub one_exceeded : (K : Capacity) (R : Rows) (new : List NodeRow) (change : Change) (counters : List Counter) (e : Exceeded) → counters ≡ sums_of K R.nodes R.quotas → AreQuotas R.nodes R.quotas → Changes K R.nodes new R.quotas change → exceeded_by R.nodes R.quotas counters change ≡ Some e → exceeded K R new ≡ Some (exceeded_refusal e)
-one_exceeded K R new change counters e sums qs c is =
-    exceeded_is K R new change qs c ∙ ap (option_map exceeded_refusal) (ap (λ cs. exceeded_by R.nodes R.quotas cs change) (sym sums) ∙ is)
+    ∙ (ap (λ ys. option_map exceeded_refusal (option_map (told_of R.nodes (sums_of K R.nodes R.quotas) change) (deepest R.nodes ys))) (sym (over_same K R new change qs.ascending c))
+    ∙ ap (λ cs. option_map exceeded_refusal (exceeded_by R.nodes R.quotas cs change)) (sym sums)))

@@ -1,7 +1,6 @@
 -- What the commands on quotas keep.
-use Rattle.std.proofs.Common.{◌≡◌, ℕ, ◌≤◌, ◌==◌, Bool, true, false, cond, not, List, [], ◌∷◌, Option, Some, None, refl, ap, sym, ◌∙◌, subst, arith, Bor}
-use Rattle.std.specs.Prelude.{is_some, is_none, unwrap_or, if◌then◌else◌}
-use Rattle.std.specs.Option.{option_copied}
+use Rattle.std.proofs.Common.{◌≡◌, ℕ, ◌≤◌, ◌==◌, Bool, true, false, cond, not, List, [], ◌∷◌, Some, None, refl, ap, sym, ◌∙◌, subst, arith}
+use Rattle.std.specs.Prelude.{is_none, unwrap_or, if◌then◌else◌}
 use Rattle.fsrm_model.specs.declared.command.Answer.{Answer}
 use Rattle.fsrm_model.specs.declared.command.Deed.{Deed}
 use Rattle.fsrm_model.specs.declared.command.Outcome.TheVariants.{Done}
@@ -12,7 +11,7 @@ use Rattle.fsrm_model.specs.declared.row.QuotaRow.{QuotaRow}
 use Rattle.fsrm_model.specs.declared.row.Rows.{Rows}
 use Rattle.fsrm_model.specs.Check.{◌when◌, first}
 use Rattle.fsrm_model.specs.FileOps.{target}
-use Rattle.fsrm_base.specs.Keyed.{row_of, has_row, with_change}
+use Rattle.fsrm_base.specs.Keyed.{row_of, with_change}
 use Rattle.fsrm_model.specs.Leads.{leads_to_folder}
 use Rattle.fsrm_model.specs.Limits.{latest_moment}
 use Rattle.fsrm_model.specs.Quota.{folder_of, counts, is_limit}
@@ -21,14 +20,13 @@ use Rattle.fsrm_model.specs.QuotaStates.{scan_begun}
 use Rattle.fsrm_model.specs.Tree.{usage}
 use Rattle.fsrm_model.specs.Valid.{is_moment}
 use Rattle.fsrm_model.specs.Work.{asks}
-use Rattle.fsrm_base.proofs.Look.{found_key, found_has, has_found, changed_key}
+use Rattle.fsrm_base.proofs.Look.{found_key, changed_key}
 use Rattle.fsrm_objects.specs.Tables.{Tables, peaked_at}
-use Rattle.fsrm_base.proofs.SortedRows.{has_lent}
 use Rattle.quota_usage.specs.declared.change.Counter.{Counter}
 use Rattle.quota_usage.specs.Counters.{used_in}
 use Rattle.fsrm_engine.specs.declared.parts.Parts.{Parts}
 use Rattle.fsrm_engine.specs.Machine.{Does, rows_of, ended, IsCounted, AreCounted}
-use Rattle.fsrm_engine.specs.Places.{IsFolder}
+use Rattle.fsrm_engine.specs.Places.{IsFolder, IsQuotaAt}
 use Rattle.scan_queue.specs.Courses.{left}
 use Rattle.fsrm_engine.proofs.steps.PlaceLaws.{target_is, leads_to_folder_is}
 use Rattle.fsrm_engine.proofs.steps.StepLaws.{asked, done_as, same_own}
@@ -41,25 +39,20 @@ pub counted_same : {level : Bool} (K : Capacity) (nodes : List NodeRow) (counter
 counted_same {level} K nodes counters after set is e = subst (λ (qs : List QuotaRow). IsCounted K nodes qs counters level) (sym is) e
 
 -- the quota of a folder that a path leads to
-pub record OnFolder (nodes : List NodeRow) (quotas : List QuotaRow) (path : List (List ℕ)) (n : ℕ) : Type 0 where
-  pub at : IsFolder nodes path n
-  pub quota : QuotaRow
-  pub found : row_of folder_of n quotas ≡ Some quota
+pub quota_found : (nodes : List NodeRow) (quotas : List QuotaRow) (path : List (List ℕ)) (n : ℕ) (quota : QuotaRow) → IsFolder nodes path n → row_of folder_of n quotas ≡ Some quota → IsQuotaAt nodes quotas path quota
+quota_found nodes quotas path n quota at found =
+    let is : n ≡ quota.folder = sym (found_key folder_of n quotas quota found) in
+    record {
+      at = subst (λ (k : ℕ). IsFolder nodes path k) is at;
+      found = subst (λ (k : ℕ). row_of folder_of k quotas ≡ Some quota) is found;
+    }
 
-pub on_folder : (nodes : List NodeRow) (quotas : List QuotaRow) (path : List (List ℕ)) (n : ℕ) (o : Option (Bor QuotaRow)) → IsFolder nodes path n → option_copied o ≡ row_of folder_of n quotas → is_some o ≡ true → OnFolder nodes quotas path n
-on_folder nodes quotas path n o at e h =
-    let f = has_found folder_of n quotas (sym (has_lent folder_of n quotas o e) ∙ h) in
-    record { at = at; quota = f.row; found = f.is }
-
-pub has_quota : (nodes : List NodeRow) (quotas : List QuotaRow) (path : List (List ℕ)) (n : ℕ) → OnFolder nodes quotas path n → has_row folder_of n quotas ≡ true
-has_quota nodes quotas path n o = found_has folder_of n quotas o.quota o.found
-
--- then no refusal is due
-pub quota_due : (R : Rows) (path : List (List ℕ)) (n : ℕ) → OnFolder R.nodes R.quotas path n → first (quota_checks R path) ≡ None
-quota_due R path n o =
+-- then none of the refusals is due that commands on a quota share
+pub quota_due : (R : Rows) (path : List (List ℕ)) (quota : QuotaRow) → IsQuotaAt R.nodes R.quotas path quota → first (quota_checks R path) ≡ None
+quota_due R path quota o =
     at (leads_to_folder R.nodes path) (is_none (row_of folder_of (target R.nodes path) R.quotas))
-    (leads_to_folder_is R.nodes path n o.at.resolved ∙ o.at.folder)
-    (ap (λ k. is_none (row_of folder_of k R.quotas)) (target_is R.nodes path n o.at.resolved) ∙ ap is_none o.found)
+    (leads_to_folder_is R.nodes path quota.folder o.at.resolved ∙ o.at.folder)
+    (ap (λ k. is_none (row_of folder_of k R.quotas)) (target_is R.nodes path quota.folder o.at.resolved) ∙ ap is_none o.found)
   where
     at : (a b : Bool) → a ≡ true → b ≡ false → first ((PathNotFound when not a) ∷ (NotFound when b) ∷ []) ≡ None
     at true true a b = cc
@@ -67,12 +60,12 @@ quota_due R path n o =
     at false b a e = cc
 
 -- A command that changes the quota of a folder, and nothing else: what it does, by the row that the change makes of it
-pub changed_as : (p new : Parts) (m n : ℕ) (deed : Deed) (answer : Answer) (path : List (List ℕ)) (c : QuotaRow → QuotaRow) (tables : Tables) → p.last_moment ≤ m → OnFolder p.tree.nodes p.objects.quotas path n → asked p m deed ≡ asks (quota_checks (rows_of p) path) (record (rows_of p) { quotas = with_change folder_of (target p.tree.nodes path) c p.objects.quotas }) (Done None) true → tables.quotas ≡ with_change folder_of n c p.objects.quotas → new ≡ ended (record p { objects = tables }) m → answer ≡ record { outcome = Done None; lasting = true } → Does p new m deed answer
-changed_as p new m n deed answer path c tables late on is set ends e =
+pub changed_as : (p new : Parts) (m : ℕ) (quota : QuotaRow) (deed : Deed) (answer : Answer) (path : List (List ℕ)) (c : QuotaRow → QuotaRow) (tables : Tables) → p.last_moment ≤ m → IsQuotaAt p.tree.nodes p.objects.quotas path quota → asked p m deed ≡ asks (quota_checks (rows_of p) path) (record (rows_of p) { quotas = with_change folder_of (target p.tree.nodes path) c p.objects.quotas }) (Done None) true → tables.quotas ≡ with_change folder_of quota.folder c p.objects.quotas → new ≡ ended (record p { objects = tables }) m → answer ≡ record { outcome = Done None; lasting = true } → Does p new m deed answer
+changed_as p new m quota deed answer path c tables late on is set ends e =
     let R = rows_of p in
     done_as p (record p { objects = tables }) new m deed answer tables.quotas p.scans.queue R.unvisited late
-    (ap (λ w. first w.checks) is ∙ quota_due R path n on)
-    (ap (λ w. w.effect) is ∙ ap (λ (qs : List QuotaRow). record R { quotas = qs }) (ap (λ k. with_change folder_of k c p.objects.quotas) (target_is R.nodes path n on.at.resolved) ∙ sym set))
+    (ap (λ w. first w.checks) is ∙ quota_due R path quota on)
+    (ap (λ w. w.effect) is ∙ ap (λ (qs : List QuotaRow). record R { quotas = qs }) (ap (λ k. with_change folder_of k c p.objects.quotas) (target_is R.nodes path quota.folder on.at.resolved) ∙ sym set))
     (ap (λ w. w.outcome) is) (ap (λ w. w.lasts) is) refl refl refl
     (sym (ap (λ b. if b then left p.tree.nodes p.scans else scan_begun p.tree.nodes p.scans.queue) (same_own p.scans.queue)))
     ends e

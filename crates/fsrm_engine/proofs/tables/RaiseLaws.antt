@@ -1,5 +1,5 @@
 -- One quota's peak, raised by its counter.
-use Rattle.std.proofs.Common.{◌≡◌, ℕ, ◌+◌, ◌<◌, ◌≤◌, ◌==◌, Bool, true, false, cond, inl, inr, List, [], ◌∷◌, ◌++◌, length, slice_get, ◌||◌, append_assoc, length-append, Option, Some, None, nat_lt, refl, ap, sym, ◌∙◌, subst, arith}
+use Rattle.std.proofs.Common.{◌≡◌, ℕ, ◌+◌, ◌<◌, ◌≤◌, ◌==◌, Bool, true, false, cond, List, [], ◌∷◌, ◌++◌, length, slice_get, ◌||◌, append_assoc, length-append, Option, Some, None, nat_lt, refl, ap, sym, ◌∙◌, subst, arith}
 use Rattle.std.proofs.lemmas.Bool.Decides.{nat_tests}
 use Rattle.std.proofs.lemmas.Option.{same_Some}
 use Rattle.std.specs.Prelude.{map, is_some, if◌then◌else◌}
@@ -9,13 +9,9 @@ use Rattle.std.proofs.lemmas.List.{length-map, map-append, append-nil}
 use Rattle.fsrm_base.specs.Keyed.{row_of, has_row, is_ascending, with_change}
 use Rattle.fsrm_model.specs.Quota.{folder_of}
 use Rattle.fsrm_model.specs.declared.row.NodeRow.{NodeRow}
-use Rattle.fsrm_model.specs.Tree.{parent_of, is_under}
-use Rattle.fsrm_model.proofs.nodes.Below.{above_all}
-use Rattle.fsrm_model.proofs.nodes.ChainLaws.{IsTree, Has}
-use Rattle.fsrm_base.specs.Numbers.{is_in}
+use Rattle.fsrm_model.specs.Tree.{parent_of}
 use Rattle.fsrm_base.proofs.EditedRows.{change_absent, absent_later, ascending_tail}
-use Rattle.fsrm_model.proofs.nodes.Climbs.{climb, under_own}
-use Rattle.fsrm_base.proofs.TestLaws.{clash, eq_is, eq_same, is_or_not, not_true, or_later}
+use Rattle.fsrm_base.proofs.TestLaws.{clash, eq_is, eq_same, not_true, or_later}
 use Rattle.volume_tree.specs.declared.answer.NodeView.{NodeView}
 use Rattle.volume_tree.specs.Volume.{Shows}
 use Rattle.fsrm_base.proofs.Look.{found_key, is_some-find}
@@ -73,20 +69,6 @@ raised_keeps counters m q = raised_keeps_at q m (used_in counters q.folder)
 -- one step up
 pub up_is : (nodes : List NodeRow) (n : ℕ) (view : NodeView) → Shows view nodes n → parent_of nodes n ≡ view.parent
 up_is nodes n view s = found_parent nodes n s.row s.found ∙ sym s.is.parent
-
-pub up_on : (nodes : List NodeRow) → IsTree nodes → (start at : ℕ) → Has nodes start → Has nodes at → (at ≡ 0 → ⊥) → is_under nodes at start ≡ true → is_under nodes (parent_of nodes at) start ≡ true
-up_on nodes t start at hs h i on =
-    let p = parent_of nodes at in
-    elim (is_or_not (p == 0)) [
-      | inl z ↦ subst (λ n. is_under nodes n start ≡ true) (sym (eq_is p 0 z)) (t.rooted start hs)
-      | inr z ↦
-          let up : is_under nodes p at ≡ true = own_up nodes t at h i in
-          above_all nodes t p at start z h hs on up
-    ]
-  where
-    own_up : (nodes : List NodeRow) → IsTree nodes → (n : ℕ) → Has nodes n → (n ≡ 0 → ⊥) → is_under nodes (parent_of nodes n) n ≡ true
-    own_up nodes t n h i =
-        ap (λ ns. is_in ns (parent_of nodes n)) (climb nodes t n h i) ∙ or_later (n == parent_of nodes n) (is_under nodes (parent_of nodes n) (parent_of nodes n)) (under_own nodes (parent_of nodes n))
 
 -- where nothing gains, no peak is raised
 pub none_above : (nodes : List NodeRow) (place : Option ℕ) (counters : List Counter) (m : ℕ) (quotas : List QuotaRow) → place ≡ None → quotas ≡ map (raised_above nodes place counters m) quotas

@@ -1,9 +1,10 @@
 -- The commands that give a quota its state.
-use Rattle.std.proofs.Common.{◌≡◌, ℕ, suc, ◌<◌, ◌≤◌, ◌==◌, Bool, true, false, cond, not, List, [], ◌∷◌, length, Option, Some, None, nat_lt, refl, ap, sym, ◌∙◌, subst, arith}
+use Rattle.std.proofs.Common.{◌≡◌, ℕ, suc, ◌<◌, ◌≤◌, ◌==◌, Bool, true, false, cond, not, List, [], ◌∷◌, ◌++◌, length, Option, Some, None, nat_lt, refl, ap, sym, ◌∙◌, subst, arith}
 use Rattle.std.proofs.lemmas.Bool.Decides.{nat_tests}
 use Rattle.std.proofs.lemmas.Option.{same_Some}
-use Rattle.std.specs.Prelude.{sum_by, is_some, is_none, option_map, if◌then◌else◌}
+use Rattle.std.specs.Prelude.{sum_by, is_some, is_none, if◌then◌else◌}
 use Rattle.std.specs.Option.{option_map_or}
+use Rattle.fsrm_model.specs.declared.command.Refusal.{Refusal}
 use Rattle.fsrm_model.specs.declared.command.Refusal.TheVariants.{PathNotFound, NotFound, AlreadyExists, TableFull}
 use Rattle.fsrm_model.specs.declared.row.Capacity.{Capacity}
 use Rattle.fsrm_model.specs.declared.row.NodeRow.{NodeRow}
@@ -13,12 +14,12 @@ use Rattle.fsrm_model.specs.declared.row.QuotaState.TheVariants.{Complete, Disab
 use Rattle.fsrm_model.specs.declared.row.Rows.{Rows}
 use Rattle.fsrm_model.specs.Check.{Check, ◌when◌, first}
 use Rattle.fsrm_model.specs.FileOps.{target}
-use Rattle.fsrm_base.specs.Keyed.{row_of, has_row, is_ascending, with_row, with_change}
+use Rattle.fsrm_base.specs.Keyed.{has_row, is_ascending, with_row, with_change}
 use Rattle.fsrm_model.specs.Leads.{leads_to_folder}
 use Rattle.fsrm_model.specs.Limits.{most_quotas}
 use Rattle.fsrm_model.specs.Quota.{folder_of, quota_of, is_complete}
 use Rattle.fsrm_model.specs.QuotaStates.{start, state_of, state_after, is_disabled, in_state}
-use Rattle.fsrm_model.specs.QuotaWork.{modified}
+use Rattle.fsrm_model.specs.QuotaWork.{quota_checks, modified}
 use Rattle.fsrm_model.specs.Space.{space}
 use Rattle.fsrm_model.specs.Tree.{node_of, is_folder, children, usage}
 use Rattle.fsrm_model.specs.Valid.{IsVolume}
@@ -49,26 +50,14 @@ checked R path n b more at h =
     by_case true = refl
     by_case false = refl
 
--- what is found of a quota
-pub record Of {X : Type 0} (f : QuotaRow → X) (o : Option QuotaRow) (x : X) : Type 0 where
-  pub quota : QuotaRow
-  pub found : o ≡ Some quota
-  pub is : f quota ≡ x
-
-pub some_of : {X : Type 0} (f : QuotaRow → X) (o : Option QuotaRow) (x : X) → option_map f o ≡ Some x → Of f o x
-some_of f None x h = cc
-some_of f (Some q) x h = record { quota = q; found = refl; is = same_Some (f q) x h }
-
-pub none_of : {X : Type 0} (f : QuotaRow → X) (o : Option QuotaRow) → option_map f o ≡ None → is_none o ≡ true
-none_of f None h = refl
-none_of f (Some q) h = cc
-
-pub lacks_of : {X : Type 0} (f : QuotaRow → X) (quotas : List QuotaRow) (n : ℕ) (o : Option X) → o ≡ option_map f (row_of folder_of n quotas) → is_some o ≡ false → has_row folder_of n quotas ≡ false
-lacks_of f quotas n o h e = sym (is_some-find (λ q. folder_of q == n) quotas) ∙ (sym (mapped (row_of folder_of n quotas)) ∙ (ap is_some (sym h) ∙ e))
+-- the refusals that commands on a quota share come before others
+pub quota_first : (R : Rows) (path : List (List ℕ)) (more : List Check) (refusal : Refusal) → first (quota_checks R path) ≡ Some refusal → first (quota_checks R path ++ more) ≡ Some refusal
+quota_first R path more refusal h = at (not (leads_to_folder R.nodes path)) (is_none (quota_of R (target R.nodes path))) h
   where
-    mapped : (o : Option QuotaRow) → is_some (option_map f o) ≡ is_some o
-    mapped None = refl
-    mapped (Some q) = refl
+    at : (a b : Bool) → first ((PathNotFound when a) ∷ (NotFound when b) ∷ []) ≡ Some refusal → first ((PathNotFound when a) ∷ (NotFound when b) ∷ more) ≡ Some refusal
+    at true b h = h
+    at false true h = h
+    at false false h = cc
 
 -- A quota that comes to be complete has a folder without children, in which nothing is used
 start_empty : (nodes : List NodeRow) (n : ℕ) → is_complete (start nodes n) ≡ true → length (children nodes n) ≡ 0

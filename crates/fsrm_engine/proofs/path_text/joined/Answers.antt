@@ -26,7 +26,7 @@ returns-clause-text g c =
     let all = YieldsList-end (YieldsList-from_rev_slice way cc) c.loop-node.yielded _ c.loop-node.yielded_by _ _ c.in-None.is c.next.ensures.steps in
     joined_text c.args.tree.now.nodes way (map (λ y. y.now) c.loop-node.yielded) (string_bytes c.in_ok-text.text) (string_bytes c.loop-node.text) all.0
     (elim c.if-is_empty.branch [
-      | then-is_empty w ↦ inl (sym w.if-is_empty.ensures, c.in_ok-text.ensures.ok ∙ ap (λ text. text.now) w.from_str-is)
-      | else-is_empty w ↦ inr (sym w.if-is_empty.ensures, c.in_ok-text.ensures.ok ∙ ap (λ text. text.now) w.from_str-is)
+      | then-is_empty w ↦ inl (sym w.if-is_empty.ensures, c.in_ok-text.ensures ∙ ap (λ text. text.now) w.begun-is)
+      | else-is_empty w ↦ inr (sym w.if-is_empty.ensures, c.in_ok-text.ensures ∙ ap (λ text. text.now) w.begun-is)
     ])
     c.loop-node.invariant.text

@@ -1,10 +1,34 @@
-use Rattle.std.proofs.Common.{sym}
+use Rattle.std.proofs.Common.{◌≡◌, ℕ, ◌<◌, true, List, Some, length, take, drop, ap, sym, subst, ◌∙◌, arith}
+use Rattle.std.specs.Prelude.{slice_get}
+use Rattle.std.specs.List.{list_all}
+use Rattle.fsrm_model.specs.Name.{is_name}
+use Rattle.fsrm_model.specs.PathNames.{left}
+use Rattle.fsrm_model.specs.Tree.{resolve}
+use Rattle.fsrm_model.proofs.lines.Parts.{all_at}
+use Rattle.volume_tree.proofs.kept.WalkLaws.{name_at, some_at}
 use Rattle.fsrm_engine.proofs.steps.PlaceLaws.{place_found, has_resolved}
 use Rattle.fsrm_engine.proofs.places.place_at.Goals as goal
 
+pub resolve_next-requires : goal.resolve_next-requires
+resolve_next-requires g c =
+    omega (arith, c.depth.ensures, c.in-Some.ensures, ap length c.names-names.ensures.names)
+
 pub node-requires : goal.node-requires
-node-requires g c = has_resolved _ _ _ _ c.requires (sym c.in-Some-resolve_first.ensures.value)
+node-requires g c = has_resolved _ _ _ _ c.requires (sym c.in-Some-resolve_next.ensures.value)
+
+pub next-requires : goal.next-requires
+next-requires g c =
+    let path = c.args.path.now in
+    let names = c.names-names.ensures.names in
+    subst (λ (more : List (List ℕ)). 0 < length more) (sym (c.in-Some-resolve_next.ensures.rest ∙ ap (drop c.in-Some.last) names))
+    (some_at path c.in-Some.last (length path) (omega (arith, c.depth.ensures, c.in-Some.ensures)) (omega arith))
 
 pub returns-clause-ok : goal.returns-clause-ok
 returns-clause-ok g c =
-    place_found c.args.tree.now.nodes _ _ _ _ _ _ c.depth.ensures c.in-Some.ensures c.in-Some-resolve_first.ensures.value c.node.ensures.view c.if-not-node.false c.part.ensures.part c.part.ensures.name
+    let path = c.args.path.now in
+    let last = c.in-Some.last in
+    let names = c.names-names.ensures.names in
+    let next = sym (c.in-Some-resolve_next.ensures.rest ∙ ap (drop last) names) ∙ c.next.ensures in
+    let name : slice_get path last ≡ Some c.next.result.now = name_at path last c.next.result.now (left c.next.new.self) next in
+    place_found c.args.tree.now.nodes _ _ _ _ _ _ c.depth.ensures c.in-Some.ensures (c.in-Some-resolve_next.ensures.value ∙ ap (λ way. resolve c.args.tree.now.nodes (take last way)) names) c.node.ensures.view c.if-not-node.false name
+    (all_at is_name path last c.next.result.now (subst (λ way. list_all is_name way ≡ true) names c.names-names.ensures.valid) name)

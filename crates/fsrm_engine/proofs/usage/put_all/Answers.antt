@@ -1,4 +1,4 @@
-use Rattle.std.proofs.Common.{◌≡◌, ℕ, [], ◌∷◌, ◌++◌, ◌∙◌, List, append_assoc, length, take, sym, ap, arith}
+use Rattle.std.proofs.Common.{ℕ, [], ◌∷◌, ◌++◌, ◌∙◌, List, append_assoc, take, sym, ap, arith}
 use Rattle.std.proofs.lemmas.List.{append-nil, take_all, take_more}
 use Rattle.fsrm_engine.proofs.usage.put_all.Goals as goal
 

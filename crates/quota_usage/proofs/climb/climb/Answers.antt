@@ -1,11 +1,9 @@
-use Rattle.std.proofs.Common.{◌≡◌, ◌<◌, true, length, sym, subst, arith}
-use Rattle.fsrm_base.specs.Keyed.{has_row}
-use Rattle.fsrm_model.specs.Tree.{number, chain, is_under}
+use Rattle.std.proofs.Common.{sym, arith}
 use Rattle.fsrm_model.proofs.nodes.ClimbRows.{passed_none}
-use Rattle.fsrm_model.proofs.nodes.Climbs.{shorter, under_own}
+use Rattle.fsrm_model.proofs.nodes.Climbs.{under_own}
 use Rattle.quota_usage.specs.Climb.{amended_counter}
 use Rattle.quota_usage.specs.Counters.{counted}
-use Rattle.quota_usage.proofs.ClimbLaws.{on_up, passed_fits, passed_up, passed_all}
+use Rattle.quota_usage.proofs.ClimbLaws.{step_up, passed_fits, passed_up, passed_all}
 use Rattle.quota_usage.proofs.climb.climb.Goals as goal
 
 pub loop-at-init : goal.loop-at-init
@@ -26,16 +24,16 @@ returns-then-at-eq0-clause-made g c =
 
 pub loop-at-smaller : goal.loop-at-smaller
 loop-at-smaller g c =
-    rw c.parent-at.ensures.value (shorter c.args.tree.now.nodes c.requires.tree _ c.loop-at.invariant.there c.if-at-eq0.false)
+    let step = step_up c.args.tree.now.nodes c.requires.tree c.loop-at.at c.parent-at.result c.loop-at.invariant.there c.if-at-eq0.false c.parent-at.ensures.value in
+    omega (arith, step.lower)
 
 pub loop-at-preserved : goal.loop-at-preserved
 loop-at-preserved g c =
     let nodes = c.args.tree.now.nodes in
-    let up = shorter nodes c.requires.tree _ c.loop-at.invariant.there c.if-at-eq0.false in
-    let same : length (chain nodes c.parent-at.result) < length (chain nodes c.loop-at.at) = rw c.parent-at.ensures.value up in
+    let step = step_up nodes c.requires.tree c.loop-at.at c.parent-at.result c.loop-at.invariant.there c.if-at-eq0.false c.parent-at.ensures.value in
     record {
-      there = subst (λ n. has_row number n nodes ≡ true) (sym c.parent-at.ensures.value) (c.requires.tree.closed _ c.loop-at.invariant.there);
-      on = subst (λ n. is_under nodes n c.args.start ≡ true) (sym c.parent-at.ensures.value) (on_up nodes c.requires.tree c.args.start c.loop-at.at c.requires.there c.loop-at.invariant.there c.if-at-eq0.false c.loop-at.invariant.on);
+      there = step.there;
+      on = step.on c.args.start c.requires.there c.loop-at.invariant.on;
       made = passed_up nodes c.requires.tree c.args.start c.loop-at.at c.parent-at.result c.args.minus c.args.plus c.args.counters.now c.loop-at.counters _ c.loop-at.invariant.there c.loop-at.invariant.on c.if-at-eq0.false c.parent-at.ensures.value c.loop-at.invariant.made c.amend.ensures;
-      looks = omega (arith, same, c.loop-at.invariant.looks, c.parent-at.ensures.count);
+      looks = omega (arith, step.lower, c.loop-at.invariant.looks, c.parent-at.ensures.count);
     }

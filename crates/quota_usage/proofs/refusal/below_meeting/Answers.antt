@@ -1,10 +1,9 @@
-use Rattle.std.proofs.Common.{◌≡◌, ◌+◌, ◌<◌, ◌≤◌, true, length, sym, ◌∙◌, subst, arith}
-use Rattle.fsrm_base.specs.Keyed.{has_row}
-use Rattle.fsrm_model.specs.Tree.{number, chain, is_under}
+use Rattle.std.proofs.Common.{◌≡◌, ◌<◌, ◌≤◌, true, length, sym, ◌∙◌, subst, arith}
+use Rattle.fsrm_model.specs.Tree.{chain, is_under}
 use Rattle.fsrm_model.proofs.nodes.Climbs.{under_own}
 use Rattle.fsrm_base.proofs.TestLaws.{clash}
 use Rattle.quota_usage.specs.Climb.{moved_refusal}
-use Rattle.quota_usage.proofs.ClimbLaws.{on_up, height_up, passes_up, first_here}
+use Rattle.quota_usage.proofs.ClimbLaws.{step_up, passes_up, first_here}
 use Rattle.quota_usage.proofs.Meetings.{from_inner, to_inner, not_from, common_from, common_to, moved_at}
 use Rattle.quota_usage.proofs.refusal.below_meeting.Goals as goal
 
@@ -28,9 +27,9 @@ loop-at_from-smaller-then-to_height-from_height g c =
     let nodes = c.args.tree.now.nodes in
     let l = c.loop-at_from.invariant in
     let lower : length (chain nodes c.loop-at_from.at_to) < length (chain nodes c.loop-at_from.at_from) = omega (arith, l.from_high, l.to_high, c.if-to_height-from_height.true) in
-    let up = height_up nodes c.requires.tree _ l.from_there (from_inner nodes c.loop-at_from.at_from c.loop-at_from.at_to lower) in
-    let step : length (chain nodes c.loop-at_from.at_from) ≡ length (chain nodes c.parent-at_from.result) + 1 = rw c.parent-at_from.ensures.value up in
-    omega (arith, step)
+    let inner = from_inner nodes c.loop-at_from.at_from c.loop-at_from.at_to lower in
+    let step = step_up nodes c.requires.tree c.loop-at_from.at_from c.parent-at_from.result l.from_there inner c.parent-at_from.ensures.value in
+    omega (arith, step.lower)
 
 pub loop-at_from-preserved-then-to_height-from_height : goal.loop-at_from-preserved-then-to_height-from_height
 loop-at_from-preserved-then-to_height-from_height g c =
@@ -40,17 +39,17 @@ loop-at_from-preserved-then-to_height-from_height g c =
     let is = c.parent-at_from.ensures.value in
     let lower : length (chain nodes c.loop-at_from.at_to) < length (chain nodes c.loop-at_from.at_from) = omega (arith, l.from_high, l.to_high, c.if-to_height-from_height.true) in
     let inner = from_inner nodes c.loop-at_from.at_from c.loop-at_from.at_to lower in
-    let step : length (chain nodes c.loop-at_from.at_from) ≡ length (chain nodes c.parent-at_from.result) + 1 = rw is (height_up nodes t _ l.from_there inner) in
+    let step = step_up nodes t c.loop-at_from.at_from c.parent-at_from.result l.from_there inner is in
     record {
-      from_there = subst (λ n. has_row number n nodes ≡ true) (sym is) (t.closed _ l.from_there);
+      from_there = step.there;
       to_there = l.to_there;
-      from_on = subst (λ n. is_under nodes n c.args.from ≡ true) (sym is) (on_up nodes t c.args.from c.loop-at_from.at_from c.requires.from l.from_there inner l.from_on);
+      from_on = step.on c.args.from c.requires.from l.from_on;
       to_on = l.to_on;
-      from_high = omega (arith, step, l.from_high);
+      from_high = omega (arith, step.lower, l.from_high);
       to_high = l.to_high;
       common = common_from nodes t c.args.from c.loop-at_from.at_from c.loop-at_from.at_to c.parent-at_from.result l.from_there l.to_there c.loop-at_from-test.true lower is l.common;
       below = l.below;
-      looks = omega (arith, step, l.looks, c.parent-at_from.ensures.count);
+      looks = omega (arith, step.lower, l.looks, c.parent-at_from.ensures.count);
     }
 
 pub judge-requires : goal.judge-requires
@@ -77,9 +76,9 @@ loop-at_from-smaller g c =
     let nodes = c.args.tree.now.nodes in
     let l = c.loop-at_from.invariant in
     let higher : length (chain nodes c.loop-at_from.at_from) ≤ length (chain nodes c.loop-at_from.at_to) = omega (arith, l.from_high, l.to_high, c.if-to_height-from_height.false) in
-    let up = height_up nodes c.requires.tree _ l.to_there (to_inner nodes c.requires.tree c.loop-at_from.at_from c.loop-at_from.at_to l.from_there c.loop-at_from-test.true higher) in
-    let step : length (chain nodes c.loop-at_from.at_to) ≡ length (chain nodes c.parent-at_to.result) + 1 = rw c.parent-at_to.ensures.value up in
-    omega (arith, step)
+    let inner = to_inner nodes c.requires.tree c.loop-at_from.at_from c.loop-at_from.at_to l.from_there c.loop-at_from-test.true higher in
+    let step = step_up nodes c.requires.tree c.loop-at_from.at_to c.parent-at_to.result l.to_there inner c.parent-at_to.ensures.value in
+    omega (arith, step.lower)
 
 pub loop-at_from-preserved : goal.loop-at_from-preserved
 loop-at_from-preserved g c =
@@ -90,20 +89,20 @@ loop-at_from-preserved g c =
     let higher : length (chain nodes c.loop-at_from.at_from) ≤ length (chain nodes c.loop-at_from.at_to) = omega (arith, l.from_high, l.to_high, c.if-to_height-from_height.false) in
     let off = not_from nodes t c.args.from c.loop-at_from.at_from c.loop-at_from.at_to l.from_there l.to_there c.loop-at_from-test.true higher l.common in
     let inner = to_inner nodes t c.loop-at_from.at_from c.loop-at_from.at_to l.from_there c.loop-at_from-test.true higher in
-    let step : length (chain nodes c.loop-at_from.at_to) ≡ length (chain nodes c.parent-at_to.result) + 1 = rw is (height_up nodes t _ l.to_there inner) in
+    let step = step_up nodes t c.loop-at_from.at_to c.parent-at_to.result l.to_there inner is in
     record {
       from_there = l.from_there;
-      to_there = subst (λ n. has_row number n nodes ≡ true) (sym is) (t.closed _ l.to_there);
+      to_there = step.there;
       from_on = l.from_on;
-      to_on = subst (λ n. is_under nodes n c.args.to ≡ true) (sym is) (on_up nodes t c.args.to c.loop-at_from.at_to c.requires.to l.to_there inner l.to_on);
+      to_on = step.on c.args.to c.requires.to l.to_on;
       from_high = l.from_high;
-      to_high = omega (arith, step, l.to_high);
+      to_high = omega (arith, step.lower, l.to_high);
       common = common_to nodes t c.args.from c.loop-at_from.at_from c.loop-at_from.at_to c.parent-at_to.result l.to_there inner is l.common;
       below = λ minus.
           passes_up nodes t (moved_refusal nodes c.args.objects.now.quotas c.args.counters.now c.args.from c.args.to minus c.args.plus) c.args.to c.loop-at_from.at_to c.parent-at_to.result l.to_there inner is
           (moved_at nodes c.args.objects.now.quotas c.args.counters.now c.args.from c.args.to minus c.args.plus c.loop-at_from.at_to off l.to_on ∙ (sym c.judge.ensures ∙ c.in_default.is))
           (l.below minus);
-      looks = omega (arith, step, l.looks, c.parent-at_to.ensures.count);
+      looks = omega (arith, step.lower, l.looks, c.parent-at_to.ensures.count);
     }
 
 pub returns-clause-met : goal.returns-clause-met

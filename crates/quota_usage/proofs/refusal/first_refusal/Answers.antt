@@ -1,12 +1,10 @@
-use Rattle.std.proofs.Common.{◌≡◌, ◌<◌, true, length, inl, inr, sym, ◌∙◌, ap, subst, arith}
+use Rattle.std.proofs.Common.{inl, inr, sym, ◌∙◌, ap, arith}
 use Rattle.std.specs.Prelude.{is_some}
-use Rattle.fsrm_base.specs.Keyed.{has_row}
-use Rattle.fsrm_model.specs.Tree.{number, chain, is_under}
-use Rattle.fsrm_model.proofs.nodes.Climbs.{shorter, under_own}
+use Rattle.fsrm_model.proofs.nodes.Climbs.{under_own}
 use Rattle.fsrm_base.proofs.Look.{none_row}
 use Rattle.fsrm_base.proofs.TestLaws.{clash}
 use Rattle.quota_usage.specs.Climb.{refusal_of}
-use Rattle.quota_usage.proofs.ClimbLaws.{on_up, passes_up, nearest_here}
+use Rattle.quota_usage.proofs.ClimbLaws.{step_up, passes_up, nearest_here}
 use Rattle.quota_usage.proofs.refusal.first_refusal.Goals as goal
 
 pub loop-refusal-init : goal.loop-refusal-init
@@ -26,17 +24,17 @@ returns-then-is_some-clause-nearest g c =
 
 pub loop-refusal-smaller : goal.loop-refusal-smaller
 loop-refusal-smaller g c =
-    rw c.parent-at.ensures.value (shorter c.args.tree.now.nodes c.requires.tree _ c.loop-refusal.invariant.there c.if-at-eq0.false)
+    let step = step_up c.args.tree.now.nodes c.requires.tree c.loop-refusal.at c.parent-at.result c.loop-refusal.invariant.there c.if-at-eq0.false c.parent-at.ensures.value in
+    omega (arith, step.lower)
 
 pub loop-refusal-preserved : goal.loop-refusal-preserved
 loop-refusal-preserved g c =
     let nodes = c.args.tree.now.nodes in
-    let up = shorter nodes c.requires.tree _ c.loop-refusal.invariant.there c.if-at-eq0.false in
-    let same : length (chain nodes c.parent-at.result) < length (chain nodes c.loop-refusal.at) = rw c.parent-at.ensures.value up in
+    let step = step_up nodes c.requires.tree c.loop-refusal.at c.parent-at.result c.loop-refusal.invariant.there c.if-at-eq0.false c.parent-at.ensures.value in
     record {
-      there = subst (λ n. has_row number n nodes ≡ true) (sym c.parent-at.ensures.value) (c.requires.tree.closed _ c.loop-refusal.invariant.there);
-      on = subst (λ n. is_under nodes n c.args.start ≡ true) (sym c.parent-at.ensures.value) (on_up nodes c.requires.tree c.args.start c.loop-refusal.at c.requires.there c.loop-refusal.invariant.there c.if-at-eq0.false c.loop-refusal.invariant.on);
+      there = step.there;
+      on = step.on c.args.start c.requires.there c.loop-refusal.invariant.on;
       below = passes_up nodes c.requires.tree (refusal_of c.args.objects.now.quotas c.args.counters.now c.args.minus c.args.plus) c.args.start c.loop-refusal.at c.parent-at.result c.loop-refusal.invariant.there c.if-at-eq0.false c.parent-at.ensures.value
           (sym c.judge-refusal.ensures ∙ none_row c.judge-refusal.result (sym c.is_some.ensures ∙ c.if-is_some.false)) c.loop-refusal.invariant.below;
-      looks = omega (arith, same, c.loop-refusal.invariant.looks, c.parent-at.ensures.count);
+      looks = omega (arith, step.lower, c.loop-refusal.invariant.looks, c.parent-at.ensures.count);
     }

@@ -1,22 +1,20 @@
-use Rattle.std.proofs.Common.{false, refl, ap, sym, ◌∙◌, arith, subst}
+use Rattle.std.proofs.Common.{false, None, Some, refl, ap, sym, ◌∙◌, arith, subst}
 use Rattle.fsrm_model.specs.declared.command.Deed.TheVariants.{File}
 use Rattle.fsrm_model.specs.declared.command.FileOp.TheVariants.{Create}
 use Rattle.fsrm_model.proofs.valid.ValidLaws.{folder_has}
 use Rattle.volume_tree.specs.Volume.{Volume, new_fault}
-use Rattle.fsrm_engine.specs.Faults.{refused_answer}
-use Rattle.fsrm_engine.specs.Machine.{IsSound}
+use Rattle.quota_usage.specs.declared.change.Change.{Change}
+use Rattle.fsrm_engine.specs.declared.parts.Parts.{Parts}
+use Rattle.fsrm_engine.specs.Machine.{charged_parts, ended, AreCounted, IsSound}
 use Rattle.fsrm_engine.proofs.steps.StepLaws.{is_fault, refused_as, refused_by_as}
 use Rattle.fsrm_engine.proofs.steps.PlaceLaws.{place_depth}
 use Rattle.fsrm_engine.proofs.operations.NewLaws.{create_due, made_is}
 use Rattle.fsrm_engine.proofs.operations.FitLaws.{fits_plus}
-use Rattle.fsrm_engine.proofs.operations.GrowthLaws.{owned, admitted, refused_by_quota, due_none, due_quota}
+use Rattle.fsrm_engine.proofs.operations.GrowthLaws.{by_quotas, due_next}
 use Rattle.fsrm_engine.proofs.operations.MakeLaws.{make_changes, make_done, made_height, there_made}
 use Rattle.fsrm_engine.proofs.operations.FollowLaws.{is_made, back_scans, left_back, made_length, made_chain, op_done}
 use Rattle.fsrm_engine.proofs.steps.WholeLaws.{sound_ended}
 use Rattle.fsrm_engine.proofs.parts.Parts.create.Goals as goal
-
-pub admit-requires-clause-owned : goal.admit-requires-clause-owned
-admit-requires-clause-owned g c = owned c.args.self.now.tree.size c.args.self.now.tree.nodes c.args.self.now.objects.quotas c.args.self.now.usage c.requires.whole.sound.counted.sums
 
 pub admit-requires-clause-change : goal.admit-requires-clause-change
 admit-requires-clause-change g c = record { from = tt; to = folder_has c.args.self.now.tree.nodes c.in-Ok.place.folder c.in-Ok.ensures.ok.folder_is }
@@ -35,9 +33,9 @@ returns-in-Err-admit-clause-ok g c =
     let changes = make_changes p.tree.size p.tree.nodes p.objects.quotas c.in-Ok.place.folder c.in-Ok.place.name.now c.args.length c.args.owner c.args.moment c.allocated.result e.volume e.are_quotas at.folder_is c.allocated.ensures.space in
     refused_as p c.args.moment (File (Create c.args.path.now c.args.length c.args.owner)) _ _ c.requires.late
     (create_due p c.args.moment c.args.path.now c.args.length c.args.owner c.in-Ok.place.folder c.in-Ok.place.name.now e.volume at
-    ∙ due_quota (new_fault p.tree c.in-Ok.place.folder c.in-Ok.place.name.now) _ c.in-Err-admit.exceeded c.in-Ok-may_create.ensures.may
-    (refused_by_quota p _ _ c.in-Err-admit.exceeded e changes c.in-Err-admit.ensures.refused))
-    (c.refused-in-Err-admit.ensures ∙ ap refused_answer c.exceeded_by.ensures)
+    ∙ due_next (new_fault p.tree c.in-Ok.place.folder c.in-Ok.place.name.now) _ _ c.in-Ok-may_create.ensures.may
+    (by_quotas p _ _ _ e changes c.in-Err-admit.ensures.err))
+    c.refused-in-Err-admit.ensures
 
 pub returns-in-Err-admit-clause-looks : goal.returns-in-Err-admit-clause-looks
 returns-in-Err-admit-clause-looks g c =
@@ -56,8 +54,9 @@ charge-requires-clause-fits g c =
 pub done-requires-clause-counted : goal.done-requires-clause-counted
 done-requires-clause-counted g c =
     let p = c.args.self.now in
-    (make_done p.tree c.make_file.new.self p.objects.quotas c.charge.new.objects p.usage c.charge.new.usage c.in-Ok.place.folder c.in-Ok.place.name.now c.args.length c.args.owner c.args.moment c.allocated.result
-    c.requires.whole.sound.counted c.in-Ok.ensures.ok.folder_is c.allocated.ensures.space c.in_ok-node.ensures.made c.in_ok-node.ensures.kept c.requires.moment c.charge.ensures.counters c.charge.ensures.quotas).engine
+    subst (λ (q : Parts). AreCounted q) (sym c.charge.ensures.charged)
+    (make_done p.tree c.make_file.new.self p.objects.quotas _ p.usage _ c.in-Ok.place.folder c.in-Ok.place.name.now c.args.length c.args.owner c.args.moment c.allocated.result
+    c.requires.whole.sound.counted c.in-Ok.ensures.ok.folder_is c.allocated.ensures.space c.in_ok-node.ensures.made c.in_ok-node.ensures.kept c.requires.moment refl refl).engine
 
 pub returns-clause-ok : goal.returns-clause-ok
 returns-clause-ok g c =
@@ -67,18 +66,22 @@ returns-clause-ok g c =
     let w = c.make_file.new.self in
     let changes = make_changes p.tree.size p.tree.nodes p.objects.quotas c.in-Ok.place.folder c.in-Ok.place.name.now c.args.length c.args.owner c.args.moment c.allocated.result e.volume e.are_quotas at.folder_is c.allocated.ensures.space in
     let made = is_made p.tree w c.in_ok-node.node c.in-Ok.place.folder c.in-Ok.place.name.now false c.args.length c.args.owner c.args.moment e.volume c.in_ok-node.ensures.made c.in_ok-node.ensures.number in
-    let d = make_done p.tree w p.objects.quotas c.charge.new.objects p.usage c.charge.new.usage c.in-Ok.place.folder c.in-Ok.place.name.now c.args.length c.args.owner c.args.moment c.allocated.result
-    e at.folder_is c.allocated.ensures.space c.in_ok-node.ensures.made c.in_ok-node.ensures.kept c.requires.moment c.charge.ensures.counters c.charge.ensures.quotas in
-    op_done p (record p { tree = w; scans = c.follow_create.new.self; usage = c.charge.new.usage; objects = c.charge.new.objects }) c.done.new.self c.args.moment (Create c.args.path.now c.args.length c.args.owner) c.done.result p.objects.quotas _ c.requires.late
+    let change : Change = record { from = None; to = Some c.in-Ok.place.folder; minus = 0; plus = c.allocated.result } in
+    let mid = charged_parts (record p { tree = w; scans = c.follow_create.new.self }) change c.args.moment in
+    let d = make_done p.tree w p.objects.quotas mid.objects p.usage mid.usage c.in-Ok.place.folder c.in-Ok.place.name.now c.args.length c.args.owner c.args.moment c.allocated.result
+    e at.folder_is c.allocated.ensures.space c.in_ok-node.ensures.made c.in_ok-node.ensures.kept c.requires.moment refl refl in
+    op_done p mid c.done.new.self c.args.moment (Create c.args.path.now c.args.length c.args.owner) c.done.result p.objects.quotas _ c.requires.late
     (create_due p c.args.moment c.args.path.now c.args.length c.args.owner c.in-Ok.place.folder c.in-Ok.place.name.now e.volume at
-    ∙ due_none (new_fault p.tree c.in-Ok.place.folder c.in-Ok.place.name.now) _ c.in-Ok-may_create.ensures.may (admitted p _ _ e changes c.in_default.ensures.admitted))
+    ∙ due_next (new_fault p.tree c.in-Ok.place.folder c.in-Ok.place.name.now) _ _ c.in-Ok-may_create.ensures.may (by_quotas p _ _ _ e changes c.in_default.ensures.ok))
     (ap (λ (w : Volume). w.nodes) (sym (c.in_ok-node.ensures.made ∙ made_is p.tree _ _ _ false c.args.length c.args.owner c.args.moment at)))
     refl refl (λ k. left_back p w c.in_ok-node.node made.back)
-    c.follow_create.ensures.follows (ap (λ (w : Volume). w.size) c.in_ok-node.ensures.made) d.raised_are c.done.ensures.ended c.done.ensures.answer
+    c.follow_create.ensures.follows (ap (λ (w : Volume). w.size) c.in_ok-node.ensures.made) d.raised_are (c.done.ensures.ended ∙ ap (λ (q : Parts). ended q c.args.moment) c.charge.ensures.charged) c.done.ensures.answer
 
 pub returns-clause-sound : goal.returns-clause-sound
 returns-clause-sound g c =
-    sound_ended (record c.args.self.now { tree = c.make_file.new.self; scans = c.follow_create.new.self; usage = c.charge.new.usage; objects = c.charge.new.objects }) c.done.new.self c.args.moment c.done.ensures.ended c.done.ensures.counted c.follow_create.ensures.follows.scanning
+    let change : Change = record { from = None; to = Some c.in-Ok.place.folder; minus = 0; plus = c.allocated.result } in
+    sound_ended (charged_parts (record c.args.self.now { tree = c.make_file.new.self; scans = c.follow_create.new.self }) change c.args.moment) c.done.new.self c.args.moment
+    (c.done.ensures.ended ∙ ap (λ (q : Parts). ended q c.args.moment) c.charge.ensures.charged) c.done.ensures.counted c.follow_create.ensures.follows.scanning
 
 pub returns-clause-looks : goal.returns-clause-looks
 returns-clause-looks g c =

@@ -8,12 +8,13 @@ use Rattle.fsrm_base.proofs.TestLaws.{is_inner}
 use Rattle.fsrm_model.proofs.nodes.Resolves.{resolved}
 use Rattle.fsrm_model.proofs.valid.ValidLaws.{folder_has}
 use Rattle.volume_tree.specs.Volume.{Volume, Move as Moving, move_fault}
-use Rattle.fsrm_engine.specs.Faults.{refused_answer}
+use Rattle.fsrm_engine.specs.declared.parts.Parts.{Parts}
+use Rattle.fsrm_engine.specs.Machine.{charged_parts, ended, AreCounted}
 use Rattle.fsrm_engine.proofs.steps.StepLaws.{refused_as, refused_by_as}
 use Rattle.fsrm_engine.proofs.steps.PlaceLaws.{place_depth, has_resolved}
 use Rattle.fsrm_engine.proofs.operations.MoveLaws.{move_due, move_root, stray_due}
-use Rattle.fsrm_engine.proofs.operations.GrowthLaws.{owned, admitted, refused_by_quota, due_none, due_quota}
-use Rattle.fsrm_engine.proofs.operations.MoveKept.{moves_to, move_changes, move_done, ready_apart, from_height, to_height, left_height, parent_there, there_moved, move_room, move_fits, moved_fits}
+use Rattle.fsrm_engine.proofs.operations.GrowthLaws.{by_quotas, due_next}
+use Rattle.fsrm_engine.proofs.operations.MoveKept.{move_change, moves_to, move_changes, move_done, ready_apart, from_height, to_height, left_height, parent_there, there_moved, move_room, move_fits, moved_fits}
 use Rattle.fsrm_engine.proofs.operations.FollowLaws.{goes_to, volume_is, made_ready, move_next, move_nodes, op_done}
 use Rattle.fsrm_engine.proofs.steps.WholeLaws.{sound_ended}
 use Rattle.fsrm_engine.proofs.parts.Parts.move_path.Goals as goal
@@ -36,9 +37,6 @@ returns-in_err-bytes-clause-looks g c =
 
 pub node-requires : goal.node-requires
 node-requires g c = has_resolved _ _ _ _ c.requires.whole.sound.counted.volume (sym c.in-Some.ensures.value)
-
-pub admit-requires-clause-owned : goal.admit-requires-clause-owned
-admit-requires-clause-owned g c = owned c.args.self.now.tree.size c.args.self.now.tree.nodes c.args.self.now.objects.quotas c.args.self.now.usage c.requires.whole.sound.counted.sums
 
 pub admit-requires-clause-change : goal.admit-requires-clause-change
 admit-requires-clause-change g c =
@@ -167,17 +165,18 @@ returns-in-Err-admit-clause-ok g c =
     let changes = move_changes v.size v.nodes p.objects.quotas c.in-Some.node c.in-Ok.place.folder c.in-Ok.place.name.now c.node.result c.in_ok-bytes.bytes e.volume e.are_quotas c.node.ensures.view to c.in_ok-bytes.ensures.bytes in
     refused_as p c.args.moment (File (Move c.args.from.now c.args.to.now)) _ _ c.requires.late
     (move_due p c.args.moment c.args.from.now c.args.to.now c.in-Some.node c.in-Ok.place.folder c.in-Ok.place.name.now e.volume (sym c.in-Some.ensures.value) inner at
-    ∙ due_quota (move_fault v c.in-Some.node c.in-Ok.place.folder c.in-Ok.place.name.now) _ c.in-Err-admit.exceeded c.in-Ok-ready_move.ensures.may
-    (refused_by_quota p _ _ c.in-Err-admit.exceeded e changes c.in-Err-admit.ensures.refused))
-    (c.refused-in-Err-admit.ensures ∙ ap refused_answer c.exceeded_by.ensures)
+    ∙ due_next (move_fault v c.in-Some.node c.in-Ok.place.folder c.in-Ok.place.name.now) _ _ c.in-Ok-ready_move.ensures.may
+    (by_quotas p _ _ _ e changes c.in-Err-admit.ensures.err))
+    c.refused-in-Err-admit.ensures
 
 pub done-requires-clause-counted : goal.done-requires-clause-counted
 done-requires-clause-counted g c =
     let p = c.args.self.now in
     let v = p.tree in
     let to = moves_to v.nodes c.in-Some.node c.in-Ok.place.folder c.node.result (is_under v.nodes c.in-Some.node c.in-Ok.place.folder) c.node.ensures.view (is_inner _ c.if-node-eq0.false) c.in-Ok.ensures.ok.folder_is refl (ready_apart v c.in-Some.node c.in-Ok.place.folder c.in-Ok.place.name.now c.in-Ok-ready_move.ensures.may) in
-    (move_done v c.make_move.new.self p.objects.quotas c.charge.new.objects p.usage c.charge.new.usage c.in-Some.node c.in-Ok.place.folder c.in-Ok.place.name.now c.node.result c.in_ok-bytes.bytes c.args.moment
-    c.requires.whole.sound.counted c.node.ensures.view to c.in_ok-bytes.ensures.bytes (made_ready _ _ _ _ _ _ c.in-Ok-ready_move.ensures.ready c.make_move.ensures.made) c.make_move.ensures.kept c.requires.moment c.charge.ensures.counters c.charge.ensures.quotas).engine
+    subst (λ (q : Parts). AreCounted q) (sym c.charge.ensures.charged)
+    (move_done v c.make_move.new.self p.objects.quotas _ p.usage _ c.in-Some.node c.in-Ok.place.folder c.in-Ok.place.name.now c.node.result c.in_ok-bytes.bytes c.args.moment
+    c.requires.whole.sound.counted c.node.ensures.view to c.in_ok-bytes.ensures.bytes (made_ready _ _ _ _ _ _ c.in-Ok-ready_move.ensures.ready c.make_move.ensures.made) c.make_move.ensures.kept c.requires.moment refl refl).engine
 
 pub returns-clause-ok : goal.returns-clause-ok
 returns-clause-ok g c =
@@ -191,19 +190,21 @@ returns-clause-ok g c =
     let made = made_ready _ _ _ _ _ _ c.in-Ok-ready_move.ensures.ready c.make_move.ensures.made in
     let to = moves_to v.nodes c.in-Some.node c.in-Ok.place.folder c.node.result (is_under v.nodes c.in-Some.node c.in-Ok.place.folder) c.node.ensures.view inner at.folder_is refl (ready_apart v c.in-Some.node c.in-Ok.place.folder c.in-Ok.place.name.now c.in-Ok-ready_move.ensures.may) in
     let changes = move_changes v.size v.nodes p.objects.quotas c.in-Some.node c.in-Ok.place.folder c.in-Ok.place.name.now c.node.result c.in_ok-bytes.bytes e.volume e.are_quotas c.node.ensures.view to c.in_ok-bytes.ensures.bytes in
-    let d = move_done v w p.objects.quotas c.charge.new.objects p.usage c.charge.new.usage c.in-Some.node c.in-Ok.place.folder c.in-Ok.place.name.now c.node.result c.in_ok-bytes.bytes c.args.moment
-    e c.node.ensures.view to c.in_ok-bytes.ensures.bytes made c.make_move.ensures.kept c.requires.moment c.charge.ensures.counters c.charge.ensures.quotas in
+    let mid = charged_parts (record p { tree = w; scans = c.follow_move.new.self }) (move_change c.node.result.parent c.in-Ok.place.folder c.in_ok-bytes.bytes) c.args.moment in
+    let d = move_done v w p.objects.quotas mid.objects p.usage mid.usage c.in-Some.node c.in-Ok.place.folder c.in-Ok.place.name.now c.node.result c.in_ok-bytes.bytes c.args.moment
+    e c.node.ensures.view to c.in_ok-bytes.ensures.bytes made c.make_move.ensures.kept c.requires.moment refl refl in
     let nodes = move_nodes v c.args.from.now c.args.to.now c.in-Some.node c.in-Ok.place.folder c.in-Ok.place.name.now c.args.moment from at in
-    op_done p (record p { tree = w; scans = c.follow_move.new.self; usage = c.charge.new.usage; objects = c.charge.new.objects }) c.done.new.self c.args.moment (Move c.args.from.now c.args.to.now) c.done.result p.objects.quotas _ c.requires.late
+    op_done p mid c.done.new.self c.args.moment (Move c.args.from.now c.args.to.now) c.done.result p.objects.quotas _ c.requires.late
     (move_due p c.args.moment c.args.from.now c.args.to.now c.in-Some.node c.in-Ok.place.folder c.in-Ok.place.name.now e.volume from inner at
-    ∙ due_none (move_fault v c.in-Some.node c.in-Ok.place.folder c.in-Ok.place.name.now) _ c.in-Ok-ready_move.ensures.may (admitted p _ _ e changes c.in_default-admit.ensures.admitted))
+    ∙ due_next (move_fault v c.in-Some.node c.in-Ok.place.folder c.in-Ok.place.name.now) _ _ c.in-Ok-ready_move.ensures.may (by_quotas p _ _ _ e changes c.in_default-admit.ensures.ok))
     (nodes ∙ sym (ap (λ (u : Volume). u.nodes) made)) refl refl
     (move_next p c.args.from.now c.args.to.now c.in-Some.node c.in-Ok.place.folder c.in-Ok.place.name.now _ from at nodes)
     (goes_to _ _ w _ _ made (c.follow_move.ensures.follows c.in-Ok.place.name.now (volume_is _ _ made c.make_move.ensures.kept)))
-    (ap (λ (u : Volume). u.size) made) d.raised_are c.done.ensures.ended c.done.ensures.answer
+    (ap (λ (u : Volume). u.size) made) d.raised_are (c.done.ensures.ended ∙ ap (λ (q : Parts). ended q c.args.moment) c.charge.ensures.charged) c.done.ensures.answer
 
 pub returns-clause-sound : goal.returns-clause-sound
 returns-clause-sound g c =
     let made = made_ready _ _ _ _ _ _ c.in-Ok-ready_move.ensures.ready c.make_move.ensures.made in
     let goes = goes_to _ _ c.make_move.new.self _ _ made (c.follow_move.ensures.follows c.in-Ok.place.name.now (volume_is _ _ made c.make_move.ensures.kept)) in
-    sound_ended (record c.args.self.now { tree = c.make_move.new.self; scans = c.follow_move.new.self; usage = c.charge.new.usage; objects = c.charge.new.objects }) c.done.new.self c.args.moment c.done.ensures.ended c.done.ensures.counted goes.scanning
+    sound_ended (charged_parts (record c.args.self.now { tree = c.make_move.new.self; scans = c.follow_move.new.self }) (move_change c.node.result.parent c.in-Ok.place.folder c.in_ok-bytes.bytes) c.args.moment) c.done.new.self c.args.moment
+    (c.done.ensures.ended ∙ ap (λ (q : Parts). ended q c.args.moment) c.charge.ensures.charged) c.done.ensures.counted goes.scanning

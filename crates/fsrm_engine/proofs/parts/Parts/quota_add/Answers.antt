@@ -9,9 +9,10 @@ use Rattle.fsrm_model.specs.Quota.{folder_of, counts, is_complete}
 use Rattle.fsrm_model.specs.QuotaStates.{start, with_quota}
 use Rattle.fsrm_model.specs.QuotaWork.{new_quota}
 use Rattle.fsrm_model.specs.Tree.{usage}
+use Rattle.fsrm_base.proofs.SortedRows.{has_lent}
 use Rattle.fsrm_engine.specs.Machine.{rows_of}
 use Rattle.fsrm_engine.proofs.steps.PlaceLaws.{target_is}
-use Rattle.fsrm_engine.proofs.tables.StateLaws.{add_checks, table_is, table_has, lacks_of, first_empty, empty_folder}
+use Rattle.fsrm_engine.proofs.tables.StateLaws.{add_checks, table_is, table_has, first_empty, empty_folder}
 use Rattle.fsrm_engine.proofs.steps.StepLaws.{refused_as, done_settled}
 use Rattle.fsrm_engine.proofs.steps.WholeLaws.{sound_ended}
 use Rattle.fsrm_engine.proofs.parts.Parts.quota_add.Goals as goal
@@ -21,7 +22,7 @@ pub returns-then-quota_count-ge-MOST_QUOTAS-clause-ok :
 returns-then-quota_count-ge-MOST_QUOTAS-clause-ok g c =
     let R = rows_of c.args.self.now in
     let n = c.in-Some.folder in
-    let absent = lacks_of (λ q. q.state) R.quotas n c.state.result c.state.ensures (sym c.is_some.ensures ∙ c.if-is_some.false) in
+    let absent = sym (has_lent folder_of n R.quotas c.quota.result c.quota.ensures) ∙ (sym c.is_some.ensures ∙ c.if-is_some.false) in
     refused_as c.args.self.now c.args.moment (QuotaAdd c.args.path.now c.args.limit c.args.enforce c.args.enabled None [] []) c.refused-then-quota_count-ge-MOST_QUOTAS.result TableFull c.requires.late
     (add_checks R c.args.path.now n true (λ k. new_quota k (unwrap_or c.args.limit 0) (unwrap_or c.args.enforce true) (if c.args.enabled then start R.nodes k else Disabled) c.args.moment) c.in-Some.ensures.folder absent
     (table_is R.quotas _ c.quota_count.result c.quota_count.ensures c.if-quota_count-ge-MOST_QUOTAS.true))
@@ -31,7 +32,7 @@ pub enlist-requires-clause-absent : goal.enlist-requires-clause-absent
 enlist-requires-clause-absent g c =
     let R = rows_of c.args.self.now in
     ap (λ (q : QuotaRow). has_row folder_of q.folder R.quotas) c.new_quota-row.ensures
-    ∙ lacks_of (λ q. q.state) R.quotas c.in-Some.folder c.state.result c.state.ensures (sym c.is_some.ensures ∙ c.if-is_some.false)
+    ∙ (sym (has_lent folder_of c.in-Some.folder R.quotas c.quota.result c.quota.ensures) ∙ (sym c.is_some.ensures ∙ c.if-is_some.false))
 
 pub enlist-requires-clause-nothing : goal.enlist-requires-clause-nothing
 enlist-requires-clause-nothing g c =
@@ -47,7 +48,7 @@ returns-clause-ok g c =
     let R = rows_of c.args.self.now in
     let n = c.in-Some.folder in
     let at = c.in-Some.ensures.folder in
-    let absent = lacks_of (λ q. q.state) R.quotas n c.state.result c.state.ensures (sym c.is_some.ensures ∙ c.if-is_some.false) in
+    let absent = sym (has_lent folder_of n R.quotas c.quota.result c.quota.ensures) ∙ (sym c.is_some.ensures ∙ c.if-is_some.false) in
     done_settled c.args.self.now c.enlist.new.self c.done.new.self c.args.moment (QuotaAdd c.args.path.now c.args.limit c.args.enforce c.args.enabled None [] []) c.done.result (with_quota R c.new_quota-row.result) c.requires.late
     (add_checks R c.args.path.now n false (λ k. new_quota k (unwrap_or c.args.limit 0) (unwrap_or c.args.enforce true) (if c.args.enabled then start R.nodes k else Disabled) c.args.moment) at absent
     (table_has R.quotas _ c.quota_count.result c.quota_count.ensures c.if-quota_count-ge-MOST_QUOTAS.false))

@@ -1,32 +1,40 @@
 use Rattle.std.proofs.Common.{refl, ap, ◌∙◌}
 use Rattle.std.specs.Prelude.{unwrap_or}
 use Rattle.fsrm_model.specs.declared.command.Deed.TheVariants.{QuotaResetpeak}
+use Rattle.fsrm_model.specs.Quota.{folder_of}
 use Rattle.fsrm_model.specs.QuotaWork.{reset}
+use Rattle.fsrm_base.proofs.Look.{found_has}
 use Rattle.fsrm_objects.specs.Tables.{Tables}
 use Rattle.fsrm_engine.specs.Machine.{rows_of}
-use Rattle.fsrm_engine.proofs.tables.QuotaLaws.{counted_same, counted_reset, reset_is, has_quota, on_folder, changed_as}
+use Rattle.fsrm_engine.proofs.tables.QuotaLaws.{counted_same, counted_reset, reset_is, changed_as}
+use Rattle.fsrm_engine.proofs.steps.StepLaws.{refused_as}
 use Rattle.fsrm_engine.proofs.steps.WholeLaws.{sound_ended}
 use Rattle.fsrm_engine.proofs.parts.Parts.quota_resetpeak.Goals as goal
 
 pub set_peak-requires : goal.set_peak-requires
 set_peak-requires g c =
-    has_quota c.args.self.now.tree.nodes _ c.args.path.now _ (on_folder _ _ _ _ c.quota.result c.in-Some.ensures.folder c.quota.ensures c.if-is_none.ensures)
+    let quota = c.in-Ok.quota.now in
+    found_has folder_of quota.folder c.args.self.now.objects.quotas quota c.in-Ok.ensures.ok.found
 
 pub done-requires-clause-counted : goal.done-requires-clause-counted
 done-requires-clause-counted g c =
     let p = c.args.self.now in
     let e = c.requires.whole.sound.counted in
     let is = ap (λ (t : Tables). t.quotas) c.set_peak.ensures
-    ∙ reset_is p c.args.moment c.in-Some.folder _ e (c.unwrap_or-used.ensures ∙ ap (λ o. unwrap_or o 0) c.used.ensures) in
-    counted_same p.tree.size p.tree.nodes p.usage _ c.set_peak.new.self.quotas is (counted_reset p c.args.moment c.in-Some.folder e c.requires.moment)
+    ∙ reset_is p c.args.moment c.in-Ok.quota.now.folder _ e (c.unwrap_or-used.ensures ∙ ap (λ o. unwrap_or o 0) c.used.ensures) in
+    counted_same p.tree.size p.tree.nodes p.usage _ c.set_peak.new.self.quotas is (counted_reset p c.args.moment c.in-Ok.quota.now.folder e c.requires.moment)
+
+pub returns-in-Err-clause-ok : goal.returns-in-Err-clause-ok
+returns-in-Err-clause-ok g c =
+    refused_as c.args.self.now c.args.moment (QuotaResetpeak c.args.path.now) c.refused.result _ c.requires.late c.in-Err.ensures.err c.refused.ensures
 
 pub returns-clause-ok : goal.returns-clause-ok
 returns-clause-ok g c =
     let p = c.args.self.now in
     let is = ap (λ (t : Tables). t.quotas) c.set_peak.ensures
-    ∙ reset_is p c.args.moment c.in-Some.folder _ c.requires.whole.sound.counted (c.unwrap_or-used.ensures ∙ ap (λ o. unwrap_or o 0) c.used.ensures) in
-    changed_as p c.done.new.self c.args.moment c.in-Some.folder (QuotaResetpeak c.args.path.now) _ c.args.path.now (reset p.tree.size (rows_of p) c.args.moment) c.set_peak.new.self c.requires.late
-    (on_folder _ _ _ _ c.quota.result c.in-Some.ensures.folder c.quota.ensures c.if-is_none.ensures) refl is c.done.ensures.ended c.done.ensures.answer
+    ∙ reset_is p c.args.moment c.in-Ok.quota.now.folder _ c.requires.whole.sound.counted (c.unwrap_or-used.ensures ∙ ap (λ o. unwrap_or o 0) c.used.ensures) in
+    changed_as p c.done.new.self c.args.moment c.in-Ok.quota.now (QuotaResetpeak c.args.path.now) _ c.args.path.now (reset p.tree.size (rows_of p) c.args.moment) c.set_peak.new.self c.requires.late
+    c.in-Ok.ensures.ok refl is c.done.ensures.ended c.done.ensures.answer
 
 pub returns-clause-sound : goal.returns-clause-sound
 returns-clause-sound g c =

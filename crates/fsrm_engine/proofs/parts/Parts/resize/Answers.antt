@@ -1,4 +1,4 @@
-use Rattle.std.proofs.Common.{refl, ap, sym, ◌∙◌, arith}
+use Rattle.std.proofs.Common.{Some, refl, ap, sym, ◌∙◌, subst, arith}
 use Rattle.fsrm_model.specs.declared.command.Deed.TheVariants.{File}
 use Rattle.fsrm_model.specs.declared.command.FileOp.TheVariants.{Resize}
 use Rattle.fsrm_model.specs.FileOps.{resized}
@@ -6,20 +6,19 @@ use Rattle.fsrm_base.specs.Keyed.{with_change}
 use Rattle.fsrm_model.specs.Tree.{number}
 use Rattle.fsrm_model.proofs.nodes.Resolves.{resolved}
 use Rattle.volume_tree.specs.Volume.{Volume}
-use Rattle.fsrm_engine.specs.Faults.{refused_answer}
+use Rattle.quota_usage.specs.declared.change.Change.{Change}
+use Rattle.fsrm_engine.specs.declared.parts.Parts.{Parts}
+use Rattle.fsrm_engine.specs.Machine.{charged_parts, ended, AreCounted}
 use Rattle.fsrm_engine.proofs.steps.StepLaws.{refused_as}
 use Rattle.fsrm_engine.proofs.steps.PlaceLaws.{shown_folder, target_is}
 use Rattle.fsrm_engine.proofs.operations.FitLaws.{fits_plus}
-use Rattle.fsrm_engine.proofs.operations.GrowthLaws.{owned, resize_changes, resize_due, admitted, refused_by_quota, file_parent, file_height, there_resized, resized_height, resize_done}
+use Rattle.fsrm_engine.proofs.operations.GrowthLaws.{resize_changes, resize_due, by_quotas, file_parent, file_height, there_resized, resized_height, resize_done}
 use Rattle.fsrm_engine.proofs.operations.FollowLaws.{goes_to, volume_is, shown_length, op_done}
 use Rattle.fsrm_engine.proofs.steps.WholeLaws.{sound_ended}
 use Rattle.fsrm_engine.proofs.parts.Parts.resize.Goals as goal
 
 pub resize-requires-clause-there : goal.resize-requires-clause-there
 resize-requires-clause-there g c = c.in-Some.ensures.file.there
-
-pub admit-requires-clause-owned : goal.admit-requires-clause-owned
-admit-requires-clause-owned g c = owned c.args.self.now.tree.size c.args.self.now.tree.nodes c.args.self.now.objects.quotas c.args.self.now.usage c.requires.whole.sound.counted.sums
 
 pub admit-requires-clause-change : goal.admit-requires-clause-change
 admit-requires-clause-change g c =
@@ -41,8 +40,8 @@ returns-in-Err-clause-ok g c =
     let changes = resize_changes p.tree.size p.tree.nodes p.objects.quotas c.args.path.now c.in-Some.file c.args.length c.args.moment c.allocated.result c.allocated-2.result e.volume e.are_quotas f c.allocated.ensures.space c.allocated-2.ensures.space in
     refused_as p c.args.moment (File (Resize c.args.path.now c.args.length)) _ _ c.requires.late
     (resize_due p c.args.moment c.args.path.now c.in-Some.file c.args.length e.volume f
-    ∙ refused_by_quota p _ _ c.in-Err.exceeded e changes c.in-Err.ensures.refused)
-    (c.refused-in-Err.ensures ∙ ap refused_answer c.exceeded_by.ensures)
+    ∙ by_quotas p _ _ _ e changes c.in-Err.ensures.err)
+    c.refused-in-Err.ensures
 
 pub returns-in-Err-clause-looks : goal.returns-in-Err-clause-looks
 returns-in-Err-clause-looks g c =
@@ -64,8 +63,9 @@ charge-requires-clause-fits g c =
 pub done-requires-clause-counted : goal.done-requires-clause-counted
 done-requires-clause-counted g c =
     let p = c.args.self.now in
-    (resize_done p.tree c.resize.new.self p.objects.quotas c.charge.new.objects p.usage c.charge.new.usage c.args.path.now c.in-Some.file c.args.length c.args.moment c.allocated.result c.allocated-2.result
-    c.requires.whole.sound.counted c.in-Some.ensures.file c.allocated.ensures.space c.allocated-2.ensures.space c.resize.ensures.made c.resize.ensures.kept c.requires.moment c.charge.ensures.counters c.charge.ensures.quotas).engine
+    subst (λ (q : Parts). AreCounted q) (sym c.charge.ensures.charged)
+    (resize_done p.tree c.resize.new.self p.objects.quotas _ p.usage _ c.args.path.now c.in-Some.file c.args.length c.args.moment c.allocated.result c.allocated-2.result
+    c.requires.whole.sound.counted c.in-Some.ensures.file c.allocated.ensures.space c.allocated-2.ensures.space c.resize.ensures.made c.resize.ensures.kept c.requires.moment refl refl).engine
 
 pub returns-clause-ok : goal.returns-clause-ok
 returns-clause-ok g c =
@@ -75,19 +75,23 @@ returns-clause-ok g c =
     let w = c.resize.new.self in
     let made = c.resize.ensures.made in
     let changes = resize_changes p.tree.size p.tree.nodes p.objects.quotas c.args.path.now c.in-Some.file c.args.length c.args.moment c.allocated.result c.allocated-2.result e.volume e.are_quotas f c.allocated.ensures.space c.allocated-2.ensures.space in
-    let d = resize_done p.tree w p.objects.quotas c.charge.new.objects p.usage c.charge.new.usage c.args.path.now c.in-Some.file c.args.length c.args.moment c.allocated.result c.allocated-2.result
-    e f c.allocated.ensures.space c.allocated-2.ensures.space made c.resize.ensures.kept c.requires.moment c.charge.ensures.counters c.charge.ensures.quotas in
-    op_done p (record p { tree = w; scans = c.follow_resize.new.self; usage = c.charge.new.usage; objects = c.charge.new.objects }) c.done.new.self c.args.moment (Resize c.args.path.now c.args.length) c.done.result p.objects.quotas _ c.requires.late
-    (resize_due p c.args.moment c.args.path.now c.in-Some.file c.args.length e.volume f ∙ admitted p _ _ e changes c.in_default-admit.ensures.admitted)
+    let change : Change = record { from = Some c.in-Some.file.parent; to = Some c.in-Some.file.parent; minus = c.allocated.result; plus = c.allocated-2.result } in
+    let mid = charged_parts (record p { tree = w; scans = c.follow_resize.new.self }) change c.args.moment in
+    let d = resize_done p.tree w p.objects.quotas mid.objects p.usage mid.usage c.args.path.now c.in-Some.file c.args.length c.args.moment c.allocated.result c.allocated-2.result
+    e f c.allocated.ensures.space c.allocated-2.ensures.space made c.resize.ensures.kept c.requires.moment refl refl in
+    op_done p mid c.done.new.self c.args.moment (Resize c.args.path.now c.args.length) c.done.result p.objects.quotas _ c.requires.late
+    (resize_due p c.args.moment c.args.path.now c.in-Some.file c.args.length e.volume f ∙ by_quotas p _ _ _ e changes c.in_default-admit.ensures.ok)
     (ap (λ n. with_change number n (resized c.args.length c.args.moment) p.tree.nodes) (target_is p.tree.nodes c.args.path.now _ f.resolved) ∙ sym (ap (λ (u : Volume). u.nodes) made))
     refl refl (λ k. refl)
     (goes_to _ _ w _ _ made (c.follow_resize.ensures.follows c.args.moment (volume_is _ _ made c.resize.ensures.kept)))
-    (ap (λ (u : Volume). u.size) made) d.raised_are c.done.ensures.ended c.done.ensures.answer
+    (ap (λ (u : Volume). u.size) made) d.raised_are (c.done.ensures.ended ∙ ap (λ (q : Parts). ended q c.args.moment) c.charge.ensures.charged) c.done.ensures.answer
 
 pub returns-clause-sound : goal.returns-clause-sound
 returns-clause-sound g c =
     let made = c.resize.ensures.made in
-    sound_ended (record c.args.self.now { tree = c.resize.new.self; scans = c.follow_resize.new.self; usage = c.charge.new.usage; objects = c.charge.new.objects }) c.done.new.self c.args.moment c.done.ensures.ended c.done.ensures.counted
+    let change : Change = record { from = Some c.in-Some.file.parent; to = Some c.in-Some.file.parent; minus = c.allocated.result; plus = c.allocated-2.result } in
+    sound_ended (charged_parts (record c.args.self.now { tree = c.resize.new.self; scans = c.follow_resize.new.self }) change c.args.moment) c.done.new.self c.args.moment
+    (c.done.ensures.ended ∙ ap (λ (q : Parts). ended q c.args.moment) c.charge.ensures.charged) c.done.ensures.counted
     (goes_to _ _ c.resize.new.self _ _ made (c.follow_resize.ensures.follows c.args.moment (volume_is _ _ made c.resize.ensures.kept))).scanning
 
 pub returns-clause-looks : goal.returns-clause-looks

@@ -4,7 +4,7 @@ use Rattle.fsrm_model.specs.Quota.{folder_of}
 use Rattle.fsrm_model.specs.Tree.{number, chain, is_under}
 use Rattle.fsrm_engine.specs.Peaks.{raised}
 use Rattle.fsrm_model.proofs.nodes.ClimbRows.{passed_rows}
-use Rattle.fsrm_engine.proofs.charging.raise_peaks.Given as goal
+use Rattle.fsrm_engine.proofs.charging.raise_above.Given as goal
 
 -- the peaks below this node on the way up were raised
 abbrev pub invariant-loop-at : goal.invariant-loop-at

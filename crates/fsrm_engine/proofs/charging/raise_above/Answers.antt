@@ -1,16 +1,17 @@
-use Rattle.std.proofs.Common.{◌≡◌, ℕ, ◌<◌, length, true, sym, ap, ◌∙◌, subst, arith, List}
+use Rattle.std.proofs.Common.{◌≡◌, ℕ, true, sym, ap, ◌∙◌, subst, arith, List}
 use Rattle.fsrm_model.specs.declared.row.QuotaRow.{QuotaRow}
-use Rattle.fsrm_base.specs.Keyed.{has_row, is_ascending, with_change}
+use Rattle.fsrm_base.specs.Keyed.{is_ascending, with_change}
 use Rattle.fsrm_model.specs.Quota.{folder_of}
-use Rattle.fsrm_model.specs.Tree.{number, chain, is_under}
-use Rattle.fsrm_model.proofs.nodes.Climbs.{shorter, under_own}
+use Rattle.fsrm_model.specs.Tree.{is_under}
+use Rattle.fsrm_model.proofs.nodes.Climbs.{under_own}
 use Rattle.fsrm_model.proofs.nodes.Keeps.{tree_of}
 use Rattle.fsrm_base.proofs.Order.{ascending-change}
 use Rattle.fsrm_objects.specs.Tables.{Tables}
 use Rattle.fsrm_engine.specs.Peaks.{raised}
 use Rattle.fsrm_model.proofs.nodes.ClimbRows.{passed_rows, passed_none, climbed_step, climbed_root}
-use Rattle.fsrm_engine.proofs.tables.RaiseLaws.{raised_keeps, up_is, up_on}
-use Rattle.fsrm_engine.proofs.charging.raise_peaks.Goals as goal
+use Rattle.quota_usage.proofs.ClimbLaws.{step_up}
+use Rattle.fsrm_engine.proofs.tables.RaiseLaws.{raised_keeps, up_is}
+use Rattle.fsrm_engine.proofs.charging.raise_above.Goals as goal
 
 pub loop-at-init : goal.loop-at-init
 loop-at-init g c = record {
@@ -43,8 +44,9 @@ returns-then-at-eq0-clause-looks g c = omega (arith, c.loop-at.invariant.looks)
 pub loop-at-smaller : goal.loop-at-smaller
 loop-at-smaller g c =
     let nodes = c.args.tree.now.nodes in
-    let short = shorter nodes (tree_of _ nodes c.requires.volume) c.loop-at.at c.loop-at.invariant.here c.if-at-eq0.false in
-    subst (λ (n : ℕ). length (chain nodes n) < length (chain nodes c.loop-at.at)) (up_is nodes c.loop-at.at c.node-at.result c.node-at.ensures.view) short
+    let up = up_is nodes c.loop-at.at c.node-at.result c.node-at.ensures.view in
+    let step = step_up nodes (tree_of _ nodes c.requires.volume) c.loop-at.at c.node-at.result.parent c.loop-at.invariant.here c.if-at-eq0.false (sym up) in
+    omega (arith, step.lower)
 
 pub loop-at-preserved : goal.loop-at-preserved
 loop-at-preserved g c =
@@ -52,17 +54,16 @@ loop-at-preserved g c =
     let t = tree_of _ nodes c.requires.volume in
     let raise = raised c.args.usage.now c.args.moment in
     let up = up_is nodes c.loop-at.at c.node-at.result c.node-at.ensures.view in
-    let short = shorter nodes t c.loop-at.at c.loop-at.invariant.here c.if-at-eq0.false in
-    let less : length (chain nodes c.node-at.result.parent) < length (chain nodes c.loop-at.at) = subst (λ (n : ℕ). length (chain nodes n) < length (chain nodes c.loop-at.at)) up short in
+    let step = step_up nodes t c.loop-at.at c.node-at.result.parent c.loop-at.invariant.here c.if-at-eq0.false (sym up) in
     let kept = raised_keeps c.args.usage.now c.args.moment in
     record {
-      here = subst (λ (n : ℕ). has_row number n nodes ≡ true) up (t.closed c.loop-at.at c.loop-at.invariant.here);
-      on = subst (λ (n : ℕ). is_under nodes n c.args.folder ≡ true) up (up_on nodes t c.args.folder c.loop-at.at c.requires.there c.loop-at.invariant.here c.if-at-eq0.false c.loop-at.invariant.on);
+      here = step.there;
+      on = step.on c.args.folder c.requires.there c.loop-at.invariant.on;
       passed =
           ap (λ (t : Tables). t.quotas) c.raise_peak.ensures
           ∙ (ap (with_change folder_of c.loop-at.at raise) c.loop-at.invariant.passed
           ∙ (climbed_step folder_of nodes c.args.folder c.loop-at.at raise t kept c.loop-at.invariant.here c.loop-at.invariant.on c.if-at-eq0.false c.args.objects.now.quotas
           ∙ ap (λ (n : ℕ). passed_rows folder_of nodes c.args.folder n raise c.args.objects.now.quotas) up));
       ascending = subst (λ (t : Tables). is_ascending folder_of t.quotas ≡ true) (sym c.raise_peak.ensures) (ascending-change folder_of c.loop-at.at raise kept c.loop-at.objects.quotas c.loop-at.invariant.ascending);
-      looks = omega (arith, c.loop-at.invariant.looks, c.node-at.ensures.count, less);
+      looks = omega (arith, c.loop-at.invariant.looks, c.node-at.ensures.count, step.lower);
     }
