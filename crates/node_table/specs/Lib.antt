@@ -1,0 +1,5 @@
+pub mod Slots
+pub mod Views
+pub mod Table
+pub mod Rows
+pub mod Kept
