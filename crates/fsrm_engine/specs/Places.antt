@@ -11,7 +11,7 @@ use Rattle.fsrm_model.specs.Quota.{folder_of}
 use Rattle.fsrm_model.specs.Leads.{is_root, leads_to_folder, leads_to_file}
 use Rattle.fsrm_model.specs.Name.{is_name}
 use Rattle.fsrm_model.specs.Tree.{number, resolve, is_folder, folder_part, last_name, usage}
-use Rattle.volume_tree.specs.declared.answer.NodeView.{NodeView}
+use Rattle.node_table.specs.declared.view.NodeView.{NodeView}
 use Rattle.volume_tree.specs.Volume.{Shows}
 
 -- a folder, and the name that a path gives in it

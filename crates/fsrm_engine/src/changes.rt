@@ -25,7 +25,7 @@ impl Parts {
         requires whole { IsWhole self.old }
         requires length { length ≤ longest_file }
         requires moment { moment ≤ latest_moment }
-        requires late { self.old.last_moment ≤ moment }
+        requires after { self.old.last_moment ≤ moment }
         ensures ok { Does self.old self.new moment (File (Resize path.now length)) result }
         ensures sound { IsSound self.new }
         ensures looks { steps.new ≤ steps.old + deed_cost (rows_of self.old) (File (Resize path.now length)) }
@@ -60,7 +60,7 @@ impl Parts {
     ) -> Answer
         requires whole { IsWhole self.old }
         requires moment { moment ≤ latest_moment }
-        requires late { self.old.last_moment ≤ moment }
+        requires after { self.old.last_moment ≤ moment }
         ensures ok { Does self.old self.new moment (File (Touch path.now)) result }
         ensures sound { IsSound self.new }
         ensures looks { steps.new ≤ steps.old + deed_cost (rows_of self.old) (File (Touch path.now)) }

@@ -23,7 +23,7 @@ impl Parts {
         requires whole { IsWhole self.old }
         requires valid { is_op op.now ≡ true }
         requires moment { moment ≤ latest_moment }
-        requires late { self.old.last_moment ≤ moment }
+        requires after { self.old.last_moment ≤ moment }
         ensures ok { IfOk result (λ answer. Does self.old self.new moment (File op.now) answer) }
         ensures err { OnErr result (self.new ≡ self.old) }
         ensures sound { IsSound self.new }
@@ -54,7 +54,7 @@ impl Parts {
         requires whole { IsWhole self.old }
         requires valid { is_op op.now ≡ true }
         requires moment { moment ≤ latest_moment }
-        requires late { self.old.last_moment ≤ moment }
+        requires after { self.old.last_moment ≤ moment }
         ensures ok { IfOk result (λ answer. Does self.old self.new moment (File op.now) answer) }
         ensures err { OnErr result (self.new ≡ self.old) }
         ensures whole { IsWhole self.new }
@@ -72,7 +72,7 @@ impl Parts {
     ) -> Result<Answer, NoMemory>
         requires whole { IsWhole self.old }
         requires valid { is_command command.now ≡ true }
-        requires late { self.old.last_moment ≤ command.now.moment }
+        requires after { self.old.last_moment ≤ command.now.moment }
         ensures ok { IfOk result (λ answer. Does self.old self.new command.now.moment command.now.deed answer) }
         ensures err { OnErr result (self.new ≡ self.old) }
         ensures sound { IsSound self.new }
@@ -113,7 +113,7 @@ impl Parts {
     ) -> Result<Answer, NoMemory>
         requires whole { IsWhole self.old }
         requires valid { is_command command.now ≡ true }
-        requires late { self.old.last_moment ≤ command.now.moment }
+        requires after { self.old.last_moment ≤ command.now.moment }
         ensures ok { IfOk result (λ answer. Does self.old self.new command.now.moment command.now.deed answer) }
         ensures err { OnErr result (self.new ≡ self.old) }
         ensures whole { IsWhole self.new }

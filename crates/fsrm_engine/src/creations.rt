@@ -25,7 +25,7 @@ impl Parts {
         requires whole { IsWhole self.old }
         requires owner { 1 ≤ owner }
         requires moment { moment ≤ latest_moment }
-        requires late { self.old.last_moment ≤ moment }
+        requires after { self.old.last_moment ≤ moment }
         ensures ok { IfOk result (λ answer. Does self.old self.new moment (File (Mkdir path.now owner)) answer) }
         ensures err { OnErr result (self.new ≡ self.old) }
         ensures sound { IsSound self.new }
@@ -59,7 +59,7 @@ impl Parts {
         requires length { length ≤ longest_file }
         requires owner { 1 ≤ owner }
         requires moment { moment ≤ latest_moment }
-        requires late { self.old.last_moment ≤ moment }
+        requires after { self.old.last_moment ≤ moment }
         ensures ok { IfOk result (λ answer. Does self.old self.new moment (File (Create path.now length owner)) answer) }
         ensures err { OnErr result (self.new ≡ self.old) }
         ensures sound { IsSound self.new }

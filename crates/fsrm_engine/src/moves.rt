@@ -54,7 +54,7 @@ impl Parts {
     ) -> Result<Answer, NoMemory>
         requires whole { IsWhole self.old }
         requires moment { moment ≤ latest_moment }
-        requires late { self.old.last_moment ≤ moment }
+        requires after { self.old.last_moment ≤ moment }
         ensures ok { IfOk result (λ answer. Does self.old self.new moment (File (Move from.now to.now)) answer) }
         ensures err { OnErr result (self.new ≡ self.old) }
         ensures sound { IsSound self.new }

@@ -90,7 +90,7 @@ impl Parts {
         requires whole { IsWhole self.old }
         requires limit { option_map_or is_limit limit false ≡ true }
         requires moment { moment ≤ latest_moment }
-        requires late { self.old.last_moment ≤ moment }
+        requires after { self.old.last_moment ≤ moment }
         ensures ok { IfOk result (λ answer. Does self.old self.new moment (QuotaAdd path.now limit enforce enabled None [] []) answer) }
         ensures err { OnErr result (self.new ≡ self.old) }
         ensures sound { IsSound self.new }
@@ -128,7 +128,7 @@ impl Parts {
         requires whole { IsWhole self.old }
         requires limit { option_map_or is_limit limit true ≡ true }
         requires moment { moment ≤ latest_moment }
-        requires late { self.old.last_moment ≤ moment }
+        requires after { self.old.last_moment ≤ moment }
         ensures ok { IfOk result (λ answer. Does self.old self.new moment (QuotaModify path.now limit enforce enabled [] [] []) answer) }
         ensures err { OnErr result (self.new ≡ self.old) }
         ensures sound { IsSound self.new }
@@ -153,7 +153,7 @@ impl Parts {
     ) -> Answer
         requires whole { IsWhole self.old }
         requires moment { moment ≤ latest_moment }
-        requires late { self.old.last_moment ≤ moment }
+        requires after { self.old.last_moment ≤ moment }
         ensures ok { Does self.old self.new moment (QuotaDelete path.now) result }
         ensures sound { IsSound self.new }
         ensures looks { steps.new ≤ steps.old + deed_cost (rows_of self.old) (QuotaDelete path.now) }
@@ -176,7 +176,7 @@ impl Parts {
     ) -> Result<Answer, NoMemory>
         requires whole { IsWhole self.old }
         requires moment { moment ≤ latest_moment }
-        requires late { self.old.last_moment ≤ moment }
+        requires after { self.old.last_moment ≤ moment }
         ensures ok { IfOk result (λ answer. Does self.old self.new moment (QuotaScan path.now) answer) }
         ensures err { OnErr result (self.new ≡ self.old) }
         ensures sound { IsSound self.new }
@@ -207,7 +207,7 @@ impl Parts {
     ) -> Answer
         requires whole { IsWhole self.old }
         requires moment { moment ≤ latest_moment }
-        requires late { self.old.last_moment ≤ moment }
+        requires after { self.old.last_moment ≤ moment }
         ensures ok { Does self.old self.new moment (QuotaResetpeak path.now) result }
         ensures sound { IsSound self.new }
         ensures looks { steps.new ≤ steps.old + deed_cost (rows_of self.old) (QuotaResetpeak path.now) }
@@ -224,7 +224,7 @@ impl Parts {
     // Lists a folder's quota.
     fn list_one<L: Ledger>(&self, path: &Path, moment: u64, steps: &mut Steps<L>) -> Answer
         requires whole { IsWhole self.now }
-        requires late { self.now.last_moment ≤ moment }
+        requires after { self.now.last_moment ≤ moment }
         ensures ok { Does self.now self.now moment (QuotaList (Some path.now)) result }
         ensures looks { steps.new ≤ steps.old + (22 * length path.now + 2) }
     {
@@ -243,7 +243,7 @@ impl Parts {
         steps: &mut Steps<L>,
     ) -> Answer
         requires whole { IsWhole self.now }
-        requires late { self.now.last_moment ≤ moment }
+        requires after { self.now.last_moment ≤ moment }
         ensures ok { Does self.now self.now moment (QuotaList path.now) result }
         ensures looks { steps.new ≤ steps.old + deed_cost (rows_of self.now) (QuotaList path.now) }
     {

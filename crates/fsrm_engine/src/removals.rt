@@ -24,7 +24,7 @@ impl Parts {
     ) -> Answer
         requires whole { IsWhole self.old }
         requires moment { moment ≤ latest_moment }
-        requires late { self.old.last_moment ≤ moment }
+        requires after { self.old.last_moment ≤ moment }
         ensures ok { Does self.old self.new moment (File (Remove path.now)) result }
         ensures sound { IsSound self.new }
         ensures looks { steps.new ≤ steps.old + deed_cost (rows_of self.old) (File (Remove path.now)) }
@@ -35,11 +35,22 @@ impl Parts {
         if node == 0 {
             return refused(Refusal::InvalidMove);
         }
-        if self.tree.node(node, steps).folder {
-            self.remove_folder(path, node, moment, steps)
-        } else {
-            self.remove_file(path, node, moment, steps)
+        let view = self.tree.node(node, steps);
+        if view.folder {
+            return self.remove_folder(path, node, moment, steps);
         }
+        // The folders above the file no longer use its space.
+        let bytes = view.length;
+        let change = Change {
+            from: Some(view.parent),
+            to: None,
+            minus: self.tree.allocated(bytes),
+            plus: 0,
+        };
+        self.scans.follow_remove(&self.tree, node, bytes, steps);
+        self.tree.remove(node, steps).unwrap();
+        self.usage.charge(&self.tree, &change, steps);
+        self.done(moment)
     }
 
     // Removes a folder, and with it its quota, and its scan.
@@ -52,7 +63,7 @@ impl Parts {
     ) -> Answer
         requires whole { IsWhole self.old }
         requires moment { moment ≤ latest_moment }
-        requires late { self.old.last_moment ≤ moment }
+        requires after { self.old.last_moment ≤ moment }
         requires resolved { resolve self.old.tree.nodes path.now ≡ Some node }
         requires inner { (node == 0) ≡ false }
         requires kind { is_folder self.old.tree.nodes node ≡ true }
@@ -67,38 +78,6 @@ impl Parts {
         self.scans.follow_rmdir(&self.tree, node);
         self.tree.remove(node, steps).unwrap();
         drop_quota(&mut self.usage, &mut self.objects, node);
-        self.done(moment)
-    }
-
-    // Removes a file, whose space the folders above it no longer use.
-    fn remove_file<L: Ledger>(
-        &mut self,
-        path: &Path,
-        node: u32,
-        moment: u64,
-        steps: &mut Steps<L>,
-    ) -> Answer
-        requires whole { IsWhole self.old }
-        requires moment { moment ≤ latest_moment }
-        requires late { self.old.last_moment ≤ moment }
-        requires resolved { resolve self.old.tree.nodes path.now ≡ Some node }
-        requires inner { (node == 0) ≡ false }
-        requires kind { is_folder self.old.tree.nodes node ≡ false }
-        ensures ok { Does self.old self.new moment (File (Remove path.now)) result }
-        ensures sound { IsSound self.new }
-        ensures looks { steps.new ≤ steps.old + (4 * length path.now + 60) }
-    {
-        let view = self.tree.node(node, steps);
-        let change = Change {
-            from: Some(view.parent),
-            to: None,
-            minus: self.tree.allocated(view.length),
-            plus: 0,
-        };
-        let bytes = view.length;
-        self.scans.follow_remove(&self.tree, node, bytes, steps);
-        self.tree.remove(node, steps).unwrap();
-        self.usage.charge(&self.tree, &change, steps);
         self.done(moment)
     }
 }

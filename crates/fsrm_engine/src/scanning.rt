@@ -19,7 +19,7 @@ impl Parts {
     pub(crate) fn go_on<L: Ledger>(&mut self, n: u32, moment: u64, steps: &mut Steps<L>) -> Answer
         requires whole { IsWhole self.old }
         requires moment { moment ≤ latest_moment }
-        requires late { self.old.last_moment ≤ moment }
+        requires after { self.old.last_moment ≤ moment }
         ensures ok { Does self.old self.new moment (Step n) result }
         ensures sound { IsSound self.new }
         ensures looks { steps.new ≤ steps.old + deed_cost (rows_of self.old) (Step n) }

@@ -103,7 +103,7 @@ impl Parts {
         steps: &mut Steps<L>,
     ) -> Result<Answer, NoMemory>
         requires whole { IsWhole self.now }
-        requires late { self.now.last_moment ≤ moment }
+        requires after { self.now.last_moment ≤ moment }
         ensures ok { IfOk result (λ answer. Does self.now self.now moment (Usage path.now) answer) }
         ensures looks { steps.new ≤ steps.old + deed_cost (rows_of self.now) (Usage path.now) }
     {

@@ -1,3 +1,5 @@
+pub mod FirstLaws
+pub mod HeldLaws
 pub mod KeptLaws
 pub mod LookLaws
 pub mod MakeLaws

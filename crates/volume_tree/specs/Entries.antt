@@ -1,5 +1,5 @@
 -- The entries of nodes in the order of their places.
-use Rattle.std.specs.Prelude.{◌≡◌, ℕ, ◌<◌, ◌≤◌, List, All, Contains, Some, map, slice_get}
+use Rattle.std.specs.Prelude.{◌≡◌, ℕ, ◌-◌, ◌<◌, ◌≤◌, List, All, Contains, Some, length, map, slice_get}
 use Rattle.std.specs.List.{slice_index_or}
 use Rattle.fsrm_model.specs.declared.row.NodeRow.{NodeRow}
 use Rattle.fsrm_model.specs.Tree.{node_of}
@@ -54,3 +54,8 @@ pub record IsNotLower (order : Sequence) (folder place : ℕ) : Type 0 where
   pub at : slice_get (entries_of order.runs) place ≡ Some entry.node
   pub listed : Contains order.entries entry
   pub other : folder ≤ entry.parent
+
+-- the place from which the entries are of this folder or greater ones
+pub record IsFirst (order : Sequence) (folder place : ℕ) : Type 0 where
+  pub lower : 0 < place → IsLower order folder (place - 1)
+  pub other : place < length (entries_of order.runs) → IsNotLower order folder place

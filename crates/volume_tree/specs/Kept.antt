@@ -1,5 +1,5 @@
 -- How a tree's fields hold its nodes.
-use Rattle.std.specs.Prelude.{◌≡◌, ℕ, suc, ◌+◌, ◌<◌, ◌≤◌, ◌==◌, ◌&&◌, ◌||◌, nat_lt, not, Bool, true, false, List, [], ◌∷◌, length, map, filter, take, drop, slice_get, Option, Some, None, IfNone, IfSome, OnSome}
+use Rattle.std.specs.Prelude.{◌≡◌, ℕ, ◌+◌, ◌<◌, ◌≤◌, ◌==◌, ◌&&◌, ◌||◌, nat_lt, not, Bool, true, false, List, length, map, filter, take, drop, slice_get, Option, Some, IfNone, IfSome, OnSome}
 use Rattle.std.specs.List.{AllPairs, between}
 use Rattle.std.specs.List.Sorted.{IsPermutation}
 use Rattle.std.specs.Option.{option_map_or}
@@ -14,24 +14,10 @@ use Rattle.fsrm_base.specs.Keyed.{has_row}
 use Rattle.fsrm_base.specs.Numbers.{is_in, is_set}
 use Rattle.fsrm_model.specs.Tree.{number, node_of, children_in_order, name_bytes}
 use Rattle.fsrm_model.specs.Valid.{IsVolume}
+pub use Rattle.node_table.specs.Slots.{rows_of, IsSlot, AreSlots}
+use Rattle.node_table.specs.Table.{Table}
 use Rattle.number_set.specs.Numbers.{Numbers}
 use Rattle.volume_tree.specs.Entries.{AreOwn, Sequence}
-
--- the rows that stand in slots
-abbrev pub rows_of : List (Option NodeRow) → List NodeRow
-rows_of [] = []
-rows_of (None ∷ slots) = rows_of slots
-rows_of (Some row ∷ slots) = row ∷ rows_of slots
-
--- a row stands in the slot of its number
-abbrev pub IsSlot : ℕ → Option NodeRow → Type 0
-IsSlot n None = Unit {0}
-IsSlot n (Some row) = row.number ≡ n
-
--- the slots from a number on
-abbrev pub AreSlots : ℕ → List (Option NodeRow) → Type 0
-AreSlots n [] = Unit {0}
-AreSlots n (slot ∷ slots) = IsSlot n slot × AreSlots (suc n) slots
 
 -- all nodes but the root
 abbrev pub inner : List NodeRow → List NodeRow
@@ -77,6 +63,20 @@ pub record IsKept (K : Capacity) (count used : ℕ) (holes : Numbers) (slots : L
   pub order_is : IsOrder (rows_of slots) (entries_of order.runs)
   pub entries_are : AreOwn (rows_of slots) order
   pub room_is : order.room ≡ K.nodes
+
+-- the same, where the slots are those of a table with the volume's bounds
+pub record IsHeld (K : Capacity) (count used : ℕ) (holes : Numbers) (table : Table) (order : Sequence) : Type 0 where
+  pub nodes_are : table.nodes ≡ K.nodes
+  pub names_are : table.names ≡ K.names
+  pub kept : IsKept K count used holes table.slots order
+
+-- a table with the volume's bounds has these rows
+pub record IsFilled (K : Capacity) (rows : List NodeRow) (table : Table) : Type 0 where
+  pub nodes_are : table.nodes ≡ K.nodes
+  pub names_are : table.names ≡ K.names
+  pub slots_are : AreSlots 0 table.slots
+  pub rows_are : rows_of table.slots ≡ rows
+  pub fit : length table.slots ≤ K.nodes
 
 -- a node is there, and has a name
 pub record HasName (nodes : List NodeRow) (n : ℕ) (name : List ℕ) : Type 0 where

@@ -5,7 +5,8 @@ use Rattle.fsrm_model.specs.declared.row.NodeRow.{NodeRow}
 use Rattle.fsrm_base.specs.Keyed.{has_row}
 use Rattle.fsrm_model.specs.Name.{same_name}
 use Rattle.fsrm_model.specs.Tree.{number, node_of, is_folder, is_under, chain_in}
-use Rattle.fsrm_model.specs.Valid.{is_root_node, is_own}
+use Rattle.fsrm_model.specs.Limits.{longest_file}
+use Rattle.fsrm_model.specs.Valid.{is_moment, is_root_node, is_own}
 
 -- numbers ascend from one on, below a bound
 abbrev pub are_from : ℕ → ℕ → List NodeRow → Bool
@@ -15,6 +16,10 @@ are_from n bound (row ∷ rows) = (nat_le n row.number && nat_lt row.number boun
 -- the root, or what another node has, its parent among it, but for the way up and for other children
 abbrev pub is_placed : List NodeRow → NodeRow → Bool
 is_placed nodes node = if node.number == 0 then is_root_node node else (is_own node && is_folder nodes node.parent)
+
+-- a length and moments that are no greater than those of nodes may be
+abbrev pub is_in_range : NodeRow → Bool
+is_in_range node = nat_le node.length longest_file && (is_moment node.created && (is_moment node.modified && is_moment node.accessed))
 
 -- what rows have that are a volume's nodes, but for the bytes of names and for two children of one name
 abbrev pub are_sound : ℕ → List NodeRow → Bool

@@ -9,7 +9,7 @@ use Rattle.fsrm_base.specs.Keyed.{with_row, with_change, without_row}
 use Rattle.fsrm_model.specs.Tree.{number, node_of, name_of, is_under, children, child_number, children_in_order, name_bytes}
 use Rattle.volume_tree.specs.declared.answer.TreeFault.{TreeFault}
 use Rattle.volume_tree.specs.declared.answer.TreeFault.TheVariants.{AlreadyExists, InvalidMove, NotEmpty, VolumeFull, NamesFull, NoMemory}
-use Rattle.volume_tree.specs.declared.answer.NodeView.{NodeView}
+pub use Rattle.node_table.specs.declared.view.NodeView.{NodeView}
 
 -- a tree: how much of it there may be, and its nodes
 pub record Volume : Type 0 where

@@ -39,23 +39,3 @@ pub enum RowsFault {
     /// Memory ran out.
     NoMemory,
 }
-
-/// A node, lent.
-#[derive(Clone, Copy)]
-pub struct NodeView<'a> {
-    /// The root's is 0.
-    pub number: u32,
-    /// The number of its folder. The root names itself.
-    pub parent: u32,
-    /// The root's is empty.
-    pub name: &'a str,
-    pub folder: bool,
-    /// Bytes of a file, up to 17,592,185,978,880. A folder has 0.
-    pub length: u64,
-    /// At least 1.
-    pub owner: u32,
-    /// Seconds since 1970-01-01 00:00:00 UTC, as are the other moments.
-    pub created: u64,
-    pub modified: u64,
-    pub accessed: u64,
-}

@@ -69,11 +69,7 @@ pub fn entry_from(order: &Order, place: Place) -> Place
     ensures index { index_of order.now.runs result ≡ index_of order.now.runs place }
     ensures offset { 0 < result.offset → result.offset < length (run_at order.now.runs result.run) }
 {
-    if place.offset == 0 {
-        return place;
-    }
-    let _runs = order.run_count();
-    if place.offset < order.run(place.run).len() {
+    if place.run >= order.run_count() || place.offset < order.run(place.run).len() {
         return place;
     }
     Place {
@@ -106,16 +102,16 @@ impl<'t> Children<'t> {
             return None;
         }
         let order = self.order;
-        // There are no more runs than can be counted.
-        let _runs = order.run_count();
-        let rest = &order.run(self.place.run)[self.place.offset..];
+        let place = self.place;
+        let rest = &order.run(place.run)[place.offset..];
         let few = rest.len().min(self.left);
-        self.left -= few;
-        self.place = Place {
-            run: self.place.run + 1,
-            offset: 0,
-        };
         steps.count(few);
+        self.left -= few;
+        let end = Place {
+            run: place.run,
+            offset: place.offset + few,
+        };
+        self.place = entry_from(order, end);
         let entries = &rest[..few];
         Some(Siblings { entries })
     }

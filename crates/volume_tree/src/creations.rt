@@ -6,15 +6,18 @@ ghost use Rattle.fsrm_model.specs.Limits.{longest_file, latest_moment};
 ghost use Rattle.fsrm_model.specs.Name.{is_name};
 ghost use Rattle.fsrm_model.specs.Tree.{fresh, is_folder};
 ghost use Rattle.fsrm_model.specs.Valid.{IsVolume};
+ghost use Rattle.node_table.specs.Views.{seen};
 ghost use Rattle.volume_tree.specs.Volume.{IsFault, new_fault, with_node};
 
 use crate::answer::TreeFault;
 use crate::entries::Entry;
+use crate::finger::Finger;
 use crate::order::search;
 use crate::slots;
 use crate::tree::Tree;
-use crate::vacancy::{Vacancy, new_place};
-use fsrm_model::{Ledger, NoMemory, NodeRow, Steps, Text};
+use crate::vacancy::new_place;
+use fsrm_model::{Ledger, NoMemory, Steps};
+use node_table::NodeView;
 
 // What a new node is, beside its place. A folder has no length.
 #[derive(Clone, Copy)]
@@ -26,10 +29,10 @@ struct NewNode {
 }
 
 impl NewNode {
-    fn row(self, number: u32, parent: u32, name: Text) -> NodeRow
-        ensures { result ≡ record { number = number; parent = parent; name = name; folder = self.folder; length = self.length; owner = self.owner; created = self.moment; modified = self.moment; accessed = self.moment } }
+    fn view<'a>(self, number: u32, parent: u32, name: &'a str) -> NodeView<'a>
+        ensures { seen result ≡ record { number = number; parent = parent; name = name.now; folder = self.folder; length = self.length; owner = self.owner; created = self.moment; modified = self.moment; accessed = self.moment } }
     {
-        NodeRow {
+        NodeView {
             number,
             parent,
             name,
@@ -112,7 +115,7 @@ impl Tree {
         folder: u32,
         name: &str,
         steps: &mut Steps<L>,
-    ) -> Result<Vacancy, TreeFault>
+    ) -> Result<Finger, TreeFault>
         ensures may { OnOk result (new_fault self.now folder name.now ≡ None) }
         ensures fault { IfErr result (λ fault. new_fault self.now folder name.now ≡ Some fault) }
         ensures kept { IsVolume self.now.size self.now.nodes }
@@ -130,7 +133,7 @@ impl Tree {
         if self.used as u64 + name.len() as u64 > size.names as u64 {
             return Err(TreeFault::NamesFull);
         }
-        Ok(Vacancy::at(place))
+        Ok(Finger::at(place))
     }
 
     /// The second half of `mkdir`: makes a folder that the tree has nothing against, and gives its number,
@@ -139,7 +142,7 @@ impl Tree {
         &mut self,
         folder: u32,
         name: &str,
-        vacancy: Vacancy,
+        vacancy: Finger,
         owner: u32,
         moment: u64,
         steps: &mut Steps<L>,
@@ -170,7 +173,7 @@ impl Tree {
         &mut self,
         folder: u32,
         name: &str,
-        vacancy: Vacancy,
+        vacancy: Finger,
         length: u64,
         owner: u32,
         moment: u64,
@@ -202,7 +205,7 @@ impl Tree {
         &mut self,
         folder: u32,
         name: &str,
-        vacancy: Vacancy,
+        vacancy: Finger,
         new: NewNode,
         steps: &mut Steps<L>,
     ) -> Result<u32, NoMemory>
@@ -218,13 +221,12 @@ impl Tree {
         ensures kept { IsVolume self.new.size self.new.nodes }
         ensures looks { steps.new ≤ steps.old + 23 }
     {
-        let text = Text::from_str(self.alloc, name)?;
         let near = vacancy.place();
         let place = new_place(&self.slots, &self.order, folder, name, near, steps);
         let number = slots::next_number(&self.slots, &self.holes);
         self.hints.enter(&self.slots, folder, name, number);
         let entry = Entry::at(number, folder, name);
-        slots::put(&mut self.slots, new.row(number, folder, text))?;
+        self.slots.put(&new.view(number, folder, name));
         self.holes.remove(number);
         self.order.insert(place, entry);
         self.count += 1;

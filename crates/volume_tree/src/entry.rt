@@ -14,7 +14,8 @@ ghost use Rattle.volume_tree.specs.Volume.{is_other};
 use crate::entries::{Entry, Order};
 use crate::{order, reads};
 use block_list::Place;
-use fsrm_model::{Ledger, NodeRow, Steps};
+use fsrm_model::{Ledger, Steps};
+use node_table::{NodeTable, NodeView};
 
 /// Whether the node that was found is another one.
 pub fn is_other(order: &Order, found: Result<Place, Place>, node: u32) -> bool
@@ -30,39 +31,39 @@ pub fn is_other(order: &Order, found: Result<Place, Place>, node: u32) -> bool
 
 /// The place in the order of a node, whose row this is. It takes no more than 21 looks.
 pub fn own_place<L: Ledger>(
-    slots: &[Option<NodeRow>],
+    slots: &NodeTable,
     order: &Order,
-    row: &NodeRow,
+    row: &NodeView<'_>,
     steps: &mut Steps<L>,
 ) -> Place
-    requires slots { AreSlots 0 slots.now }
-    requires order { IsOrder (rows_of slots.now) (entries_of order.now.runs) }
-    requires entries { AreOwn (rows_of slots.now) order.now }
+    requires slots { AreSlots 0 slots.now.slots }
+    requires order { IsOrder (rows_of slots.now.slots) (entries_of order.now.runs) }
+    requires entries { AreOwn (rows_of slots.now.slots) order.now }
     requires few { length (entries_of order.now.runs) < most_nodes }
-    requires own { child_number (rows_of slots.now) row.now.parent row.now.name ≡ Some row.now.number }
+    requires own { child_number (rows_of slots.now.slots) row.now.parent row.now.name.now ≡ Some row.now.number }
     ensures entry { IsEntry order.now.runs result }
     ensures place { slice_get (entries_of order.now.runs) (index_of order.now.runs result) ≡ Some row.now.number }
     ensures looks { steps.new ≤ steps.old + 21 }
 {
-    order::search(slots, order, row.parent, row.name.as_str(), steps).unwrap()
+    order::search(slots, order, row.parent, row.name, steps).unwrap()
 }
 
 /// Moves a node's entry, which becomes this one, to the place where a name was searched and not found. If the name was
 /// found, the entry stays. It looks at no more than 22 nodes.
 pub fn reorder<L: Ledger>(
-    slots: &[Option<NodeRow>],
+    slots: &NodeTable,
     order: &mut Order,
     entry: Entry,
     found: Result<Place, Place>,
     steps: &mut Steps<L>,
 )
-    requires slots { AreSlots 0 slots.now }
-    requires order { IsOrder (rows_of slots.now) (entries_of order.old.runs) }
-    requires entries { AreOwn (rows_of slots.now) order.old }
+    requires slots { AreSlots 0 slots.now.slots }
+    requires order { IsOrder (rows_of slots.now.slots) (entries_of order.old.runs) }
+    requires entries { AreOwn (rows_of slots.now.slots) order.old }
     requires few { length (entries_of order.old.runs) < most_nodes }
     requires room { length (entries_of order.old.runs) ≤ order.old.room }
-    requires there { has_row key entry.node (rows_of slots.now) ≡ true }
-    requires own { child_number (rows_of slots.now) (parent_of (rows_of slots.now) entry.node) (name_of (rows_of slots.now) entry.node) ≡ Some entry.node }
+    requires there { has_row key entry.node (rows_of slots.now.slots) ≡ true }
+    requires own { child_number (rows_of slots.now.slots) (parent_of (rows_of slots.now.slots) entry.node) (name_of (rows_of slots.now.slots) entry.node) ≡ Some entry.node }
     requires gap { IfErr found (λ place. IsGap order.old.runs place) }
     ensures room { order.new.room ≡ order.old.room }
     ensures ok { OnOk found (order.new ≡ order.old) }
@@ -71,7 +72,7 @@ pub fn reorder<L: Ledger>(
 {
     if let Err(place) = found {
         let row = reads::node(slots, entry.node, steps);
-        let own = own_place(slots, order, row, steps);
+        let own = own_place(slots, order, &row, steps);
         shift(order, entry, own, place);
     }
 }

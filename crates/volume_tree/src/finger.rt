@@ -2,8 +2,9 @@
 
 use block_list::Place;
 
-/// A place among a volume's nodes that is kept from one search to the next. A search ends at once if the finger is
-/// where it would end; what it finds is the same wherever the finger is.
+/// A place among a volume's nodes that is kept from one call to the next: after the children that were lent, or where
+/// `may_create` found no node of a name. The next search ends at once if it would end there; what it finds is the same
+/// wherever the finger is.
 #[derive(Clone, Copy, Debug, Default, PartialEq, Eq)]
 pub struct Finger {
     run: usize,

@@ -28,8 +28,8 @@ fn leap(entries: &[Entry], from: usize, folder: u64) -> (usize, usize)
     (low, entries.len() - low)
 }
 
-// Where the entries of lower folders than this one end, among so many from one on.
-fn halve(entries: &[Entry], from: usize, count: usize, folder: u64) -> usize
+/// Where the entries of lower folders than this one end, among so many from one on.
+pub fn halve(entries: &[Entry], from: usize, count: usize, folder: u64) -> usize
     requires within { from + count ≤ length entries.now }
     requires other { from + count < length entries.now → folder ≤ parent_at entries.now (from + count) }
     ensures least { from ≤ result }

@@ -1,8 +1,8 @@
 //! Guesses at which node has a name in a folder. A wrong one costs whoever takes it a look, and nothing else; so no
 //! clause tells what is guessed, and nothing of the table has to be kept true.
 
-use fsrm_model::NodeRow;
 use fsrm_model::limits::MOST_NODES;
+use node_table::NodeTable;
 use std::alloc::Global;
 
 // How many slots a bucket has.
@@ -93,7 +93,7 @@ impl Hints {
     }
 
     /// A table of these nodes.
-    pub fn of(alloc: Global, nodes: &[Option<NodeRow>]) -> Hints {
+    pub fn of(alloc: Global, nodes: &NodeTable) -> Hints {
         let mut hints = Hints::new(alloc);
         hints.fit(nodes);
         hints
@@ -132,35 +132,36 @@ impl Hints {
 
     // Sees that there are two slots for each node. If there aren't, it takes eight for each, and notes all nodes anew;
     // if there is no memory for them, the table stays as it is.
-    fn fit(&mut self, nodes: &[Option<NodeRow>]) {
-        if nodes.len() / 4 < self.buckets.len() {
+    fn fit(&mut self, nodes: &NodeTable) {
+        let count = nodes.len() as usize;
+        if count / 4 < self.buckets.len() {
             return;
         }
-        if self.buckets.resize(nodes.len(), [FREE; SLOTS]).is_err() {
+        if self.buckets.resize(count, [FREE; SLOTS]).is_err() {
             return;
         }
         for bucket in &mut self.buckets {
             *bucket = [FREE; SLOTS];
         }
-        for node in nodes {
-            if let Some(row) = node {
-                self.note(row.parent, row.name.as_str(), row.number);
+        for number in 0..nodes.len() {
+            if let Some(node) = nodes.get(number) {
+                self.note(node.parent, node.name, number);
             }
         }
     }
 
     /// Enters a node that comes to stand in a folder under a name, beside these nodes.
-    pub fn enter(&mut self, nodes: &[Option<NodeRow>], folder: u32, name: &str, number: u32) {
+    pub fn enter(&mut self, nodes: &NodeTable, folder: u32, name: &str, number: u32) {
         self.fit(nodes);
         self.note(folder, name, number);
     }
 
     /// Gives up the entry of a node that is to leave its place.
-    pub fn forget(&mut self, nodes: &[Option<NodeRow>], number: u32) {
-        let Some(Some(row)) = nodes.get(number as usize) else {
+    pub fn forget(&mut self, nodes: &NodeTable, number: u32) {
+        let Some(node) = nodes.get(number) else {
             return;
         };
-        let hash = hash(row.parent, row.name.as_str());
+        let hash = hash(node.parent, node.name);
         let entry = mark(hash) | number;
         let home = self.home(hash);
         if let Some(bucket) = self.buckets.get_mut(home) {

@@ -15,6 +15,7 @@
 mod answer;
 mod children;
 mod climb;
+mod compare;
 mod creations;
 mod entries;
 mod entry;
@@ -31,9 +32,9 @@ mod slots;
 mod tree;
 mod vacancy;
 
-pub use answer::{NodeView, RowsFault, TreeFault};
+pub use answer::{RowsFault, TreeFault};
 pub use children::{Children, Siblings};
 pub use finger::Finger;
 pub use moves::ReadyMove;
+pub use node_table::NodeView;
 pub use tree::Tree;
-pub use vacancy::Vacancy;

@@ -11,39 +11,40 @@ use crate::entries::Order;
 use crate::hints::Hints;
 use crate::order::search;
 use crate::slots::row;
-use fsrm_model::{Ledger, NodeRow, Steps};
+use fsrm_model::{Ledger, Steps};
 use name_rules::same_name;
+use node_table::NodeTable;
 
 // Whether a number is that of a node other than the root that has a name in a folder. It takes a look, whether or not
 // there is such a node.
 fn has_name<L: Ledger>(
-    slots: &[Option<NodeRow>],
+    slots: &NodeTable,
     number: u32,
     folder: u32,
     name: &str,
     steps: &mut Steps<L>,
 ) -> bool
-    requires { AreSlots 0 slots.now }
-    ensures value { result ≡ has_name (rows_of slots.now) number folder name.now }
+    requires { AreSlots 0 slots.now.slots }
+    ensures value { result ≡ has_name (rows_of slots.now.slots) number folder name.now }
     ensures count { steps.new ≡ steps.old + 1 }
 {
     steps.tick();
     match row(slots, number) {
-        Some(row) => number != 0 && row.parent == folder && same_name(row.name.as_str(), name),
+        Some(row) => number != 0 && row.parent == folder && same_name(row.name, name),
         None => false,
     }
 }
 
 // The node that is guessed to have a name in a folder, if it has it. It takes a look if one is guessed.
 fn guessed<L: Ledger>(
-    slots: &[Option<NodeRow>],
+    slots: &NodeTable,
     hints: &Hints,
     folder: u32,
     name: &str,
     steps: &mut Steps<L>,
 ) -> Option<u32>
-    requires { AreSlots 0 slots.now }
-    ensures named { IfSome result (λ number. has_name (rows_of slots.now) number folder name.now ≡ true) }
+    requires { AreSlots 0 slots.now.slots }
+    ensures named { IfSome result (λ number. has_name (rows_of slots.now.slots) number folder name.now ≡ true) }
     ensures some { OnSome result (steps.old + 1 ≤ steps.new) }
     ensures least { steps.old ≤ steps.new }
     ensures looks { steps.new ≤ steps.old + 1 }
@@ -58,18 +59,18 @@ fn guessed<L: Ledger>(
 
 /// The number of a folder's child of this name. It takes a look, and no more than 22.
 pub fn child<L: Ledger>(
-    slots: &[Option<NodeRow>],
+    slots: &NodeTable,
     order: &Order,
     hints: &Hints,
     folder: u32,
     name: &str,
     steps: &mut Steps<L>,
 ) -> Option<u32>
-    requires slots { AreSlots 0 slots.now }
-    requires order { IsOrder (rows_of slots.now) (entries_of order.now.runs) }
-    requires entries { AreOwn (rows_of slots.now) order.now }
+    requires slots { AreSlots 0 slots.now.slots }
+    requires order { IsOrder (rows_of slots.now.slots) (entries_of order.now.runs) }
+    requires entries { AreOwn (rows_of slots.now.slots) order.now }
     requires few { length (entries_of order.now.runs) < most_nodes }
-    ensures value { result ≡ child_number (rows_of slots.now) folder name.now }
+    ensures value { result ≡ child_number (rows_of slots.now.slots) folder name.now }
     ensures some { steps.old + 1 ≤ steps.new }
     ensures looks { steps.new ≤ steps.old + 22 }
 {

@@ -126,7 +126,8 @@ impl Tree {
         let bytes = name.as_str().len() as u32;
         self.hints.forget(&self.slots, node);
         self.hints.enter(&self.slots, folder, name.as_str(), node);
-        let old_bytes = slots::set_place(&mut self.slots, node, folder, name, steps);
+        let old_bytes = slots::name_length(&self.slots, node, steps);
+        self.slots.set_place(node, folder, name.as_str());
         self.used = self.used - old_bytes + bytes;
     }
 }

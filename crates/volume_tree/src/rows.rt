@@ -9,45 +9,26 @@ ghost use Rattle.fsrm_model.specs.Tree.{number as key, parent_of, is_folder, is_
 ghost use Rattle.fsrm_model.specs.Valid.{is_tree, is_moment, is_own, is_root_node};
 ghost use Rattle.block_list.specs.Runs.{entries_of};
 ghost use Rattle.volume_tree.specs.Entries.{AreOwn, entry_of};
-ghost use Rattle.volume_tree.specs.Kept.{AreSlots, IsKept, IsOrder, inner, is_before, rows_of};
-ghost use Rattle.volume_tree.specs.Sound.{AreMarks, HasTwins, Reaches, are_from, are_sound, is_placed};
+ghost use Rattle.volume_tree.specs.Kept.{AreSlots, IsFilled, IsHeld, IsOrder, inner, is_before, rows_of};
+ghost use Rattle.volume_tree.specs.Sound.{AreMarks, HasTwins, Reaches, are_from, are_sound, is_in_range, is_placed};
 ghost use Rattle.fsrm_model.specs.Capacities.{is_capacity};
 
 use crate::answer::RowsFault;
 use crate::entries::{Entry, Order};
-use crate::slots::{holes_in, row};
+use crate::slots::{holes_in, is_there, row};
 use fsrm_model::limits::{LATEST_MOMENT, LONGEST_FILE};
-use fsrm_model::{Capacity, Duplicate, Ledger, List, NoMemory, NodeRow, Steps};
+use fsrm_model::{Capacity, NoMemory, NodeRow};
 use name_rules::{fold_cmp, is_name};
+use node_table::{NodeTable, NodeView};
 use number_set::NumberSet;
 use std::alloc::Global;
 use std::cmp::Ordering;
-
-/// Copies of the rows in slots. It takes a look for each.
-pub fn copies<L: Ledger>(
-    slots: &[Option<NodeRow>],
-    alloc: Global,
-    steps: &mut Steps<L>,
-) -> Result<List<NodeRow>, NoMemory>
-    ensures rows { IfOk result (λ rows. rows ≡ rows_of slots.now) }
-    ensures count { OnOk result (steps.new ≡ steps.old + length (rows_of slots.now)) }
-    ensures most { steps.new ≤ steps.old + length (rows_of slots.now) }
-{
-    let mut rows = List::new(alloc);
-    for slot in slots {
-        if let Some(row) = slot {
-            steps.tick();
-            rows.push(row.copy(alloc)?)?;
-        }
-    }
-    Ok(rows)
-}
 
 /// What a tree keeps of its rows.
 #[derive(Drop)]
 pub struct Parts {
     /// Each row in the slot of its number.
-    pub slots: Vec<Option<NodeRow>>,
+    pub slots: NodeTable,
     /// The entries of all rows but the root, by folders and in each by folded names.
     pub order: Order,
     /// How many rows there are, and the bytes of all their names.
@@ -61,15 +42,15 @@ pub struct Parts {
 /// volume of this size.
 pub fn read(alloc: Global, rows: &[NodeRow], size: Capacity) -> Result<Parts, RowsFault>
     requires { is_capacity size ≡ true }
-    ensures kept { IfOk result (λ made. IsKept size made.count made.used made.holes made.slots.items made.order) }
-    ensures nodes { IfOk result (λ made. rows_of made.slots.items ≡ rows.now) }
+    ensures kept { IfOk result (λ made. IsHeld size made.count made.used made.holes made.slots made.order) }
+    ensures nodes { IfOk result (λ made. rows_of made.slots.slots ≡ rows.now) }
     ensures may { OnOk result (is_tree size rows.now ≡ true) }
     ensures bad { IsErrOf result RowsFault.BadRows → is_tree size rows.now ≡ false }
 {
-    let slots = sound_slots(alloc, rows, size.nodes)?;
     let Some(used) = name_bytes(rows, size.names) else {
         return Err(RowsFault::BadRows);
     };
+    let slots = sound_slots(alloc, rows, size)?;
     let order = order_of(alloc, rows, size.nodes)?;
     let holes = match holes_in(alloc, &slots, size.nodes) {
         Ok(holes) => holes,
@@ -84,20 +65,23 @@ pub fn read(alloc: Global, rows: &[NodeRow], size: Capacity) -> Result<Parts, Ro
     })
 }
 
-// Slots with copies of these rows. They are bad exactly if a number, a row by itself, a parent or
-// a way up is.
-fn sound_slots(
-    alloc: Global,
-    rows: &[NodeRow],
-    bound: u32,
-) -> Result<Vec<Option<NodeRow>>, RowsFault>
-    ensures slots { IfOk result (λ slots. AreSlots 0 slots.items) }
-    ensures rows { IfOk result (λ slots. rows_of slots.items ≡ rows.now) }
-    ensures fit { IfOk result (λ slots. length slots.items ≤ bound) }
-    ensures may { OnOk result (are_sound bound rows.now ≡ true) }
-    ensures bad { IsErrOf result RowsFault.BadRows → are_sound bound rows.now ≡ false }
+// A table of these rows. They are bad exactly if a number, a row by itself, a parent or a way up is.
+fn sound_slots(alloc: Global, rows: &[NodeRow], size: Capacity) -> Result<NodeTable, RowsFault>
+    requires names { name_bytes rows.now ≤ size.names }
+    ensures filled { IfOk result (IsFilled size rows.now) }
+    ensures may { OnOk result (are_sound size.nodes rows.now ≡ true) }
+    ensures bad { IsErrOf result RowsFault.BadRows → are_sound size.nodes rows.now ≡ false }
 {
-    let slots = slots_of(alloc, rows, bound)?;
+    if !are_listed(rows, size.nodes) {
+        return Err(RowsFault::BadRows);
+    }
+    if !are_in_range(rows) {
+        return Err(RowsFault::BadRows);
+    }
+    let slots = match filled(alloc, rows, size) {
+        Ok(slots) => slots,
+        Err(NoMemory) => return Err(RowsFault::NoMemory),
+    };
     if !are_nodes(&slots, rows) {
         return Err(RowsFault::BadRows);
     }
@@ -108,70 +92,75 @@ fn sound_slots(
     }
 }
 
-// Slots with copies of these rows. They are bad exactly if their numbers don't ascend below the
-// bound.
-fn slots_of(alloc: Global, rows: &[NodeRow], bound: u32) -> Result<Vec<Option<NodeRow>>, RowsFault>
-    ensures slots { IfOk result (λ slots. AreSlots 0 slots.items) }
-    ensures rows { IfOk result (λ slots. rows_of slots.items ≡ rows.now) }
-    ensures fit { IfOk result (λ slots. length slots.items ≤ bound) }
-    ensures may { OnOk result (are_from 0 bound rows.now ≡ true) }
-    ensures bad { IsErrOf result RowsFault.BadRows → are_from 0 bound rows.now ≡ false }
+// Whether numbers ascend below a bound.
+fn are_listed(rows: &[NodeRow], bound: u32) -> bool
+    ensures { result ≡ are_from 0 bound rows.now }
 {
-    let mut slots = Vec::new(alloc);
+    let mut next = 0;
     for row in rows {
-        if (row.number as usize) < slots.len() || row.number >= bound {
-            return Err(RowsFault::BadRows);
+        if row.number < next || row.number >= bound {
+            return false;
         }
-        match add(alloc, &mut slots, row) {
-            Ok(()) => {}
-            Err(NoMemory) => return Err(RowsFault::NoMemory),
-        }
+        next = row.number + 1;
+    }
+    true
+}
+
+// Whether no length and no moment is greater than those of nodes may be.
+fn are_in_range(rows: &[NodeRow]) -> bool
+    ensures { result ≡ list_all is_in_range rows.now }
+{
+    rows.iter().all(|row| is_in_range(row))
+}
+
+fn is_in_range(row: &NodeRow) -> bool
+    ensures { result ≡ is_in_range row.now }
+{
+    let are_moments = is_moment(row.created) && is_moment(row.modified) && is_moment(row.accessed);
+    row.length <= LONGEST_FILE && are_moments
+}
+
+// A table of rows whose numbers ascend.
+fn filled(alloc: Global, rows: &[NodeRow], size: Capacity) -> Result<NodeTable, NoMemory>
+    requires listed { are_from 0 size.nodes rows.now ≡ true }
+    requires range { list_all is_in_range rows.now ≡ true }
+    requires names { name_bytes rows.now ≤ size.names }
+    ensures { IfOk result (IsFilled size rows.now) }
+{
+    let mut slots = NodeTable::reserve(alloc, size.nodes, size.names)?;
+    for row in rows {
+        slots.put(&NodeView::of(row));
     }
     Ok(slots)
 }
 
-// Adds a copy of a row in the slot of its number, and empty slots before it.
-fn add(alloc: Global, slots: &mut Vec<Option<NodeRow>>, row: &NodeRow) -> Result<(), NoMemory>
-    requires slots { AreSlots 0 slots.old.items }
-    requires later { length slots.old.items ≤ row.now.number }
-    ensures slots { OnOk result (AreSlots 0 slots.new.items) }
-    ensures rows { OnOk result (rows_of slots.new.items ≡ rows_of slots.old.items ++ row.now ∷ []) }
-    ensures len { OnOk result (length slots.new.items ≡ row.now.number + 1) }
-{
-    while slots.len() < row.number as usize {
-        slots.push(None)?;
-    }
-    slots.push(Some(row.copy(alloc)?))?;
-    Ok(())
-}
-
 // Whether one row is the root, and each row is in its place.
-fn are_nodes(slots: &[Option<NodeRow>], rows: &[NodeRow]) -> bool
-    requires slots { AreSlots 0 slots.now }
-    requires rows { rows_of slots.now ≡ rows.now }
+fn are_nodes(slots: &NodeTable, rows: &[NodeRow]) -> bool
+    requires slots { AreSlots 0 slots.now.slots }
+    requires rows { rows_of slots.now.slots ≡ rows.now }
     ensures { result ≡ has_row key 0 rows.now && list_all (is_placed rows.now) rows.now }
 {
     has_root(slots) && are_placed(slots, rows)
 }
 
-fn has_root(slots: &[Option<NodeRow>]) -> bool
-    requires slots { AreSlots 0 slots.now }
-    ensures { result ≡ has_row key 0 (rows_of slots.now) }
+fn has_root(slots: &NodeTable) -> bool
+    requires slots { AreSlots 0 slots.now.slots }
+    ensures { result ≡ has_row key 0 (rows_of slots.now.slots) }
 {
-    row(slots, 0).is_some()
+    is_there(slots, 0)
 }
 
 // Whether each row is the root, or a node with what is its own and a parent that is a folder.
-fn are_placed(slots: &[Option<NodeRow>], rows: &[NodeRow]) -> bool
-    requires slots { AreSlots 0 slots.now }
-    ensures { result ≡ list_all (is_placed (rows_of slots.now)) rows.now }
+fn are_placed(slots: &NodeTable, rows: &[NodeRow]) -> bool
+    requires slots { AreSlots 0 slots.now.slots }
+    ensures { result ≡ list_all (is_placed (rows_of slots.now.slots)) rows.now }
 {
     rows.iter().all(|row| is_placed(slots, row))
 }
 
-fn is_placed(slots: &[Option<NodeRow>], row: &NodeRow) -> bool
-    requires slots { AreSlots 0 slots.now }
-    ensures { result ≡ is_placed (rows_of slots.now) row.now }
+fn is_placed(slots: &NodeTable, row: &NodeRow) -> bool
+    requires slots { AreSlots 0 slots.now.slots }
+    ensures { result ≡ is_placed (rows_of slots.now.slots) row.now }
 {
     if row.number == 0 {
         is_root(row)
@@ -204,9 +193,9 @@ fn is_moment(moment: u64) -> bool
     moment <= LATEST_MOMENT
 }
 
-fn is_folder(slots: &[Option<NodeRow>], number: u32) -> bool
-    requires { AreSlots 0 slots.now }
-    ensures { result ≡ is_folder (rows_of slots.now) number }
+fn is_folder(slots: &NodeTable, number: u32) -> bool
+    requires { AreSlots 0 slots.now.slots }
+    ensures { result ≡ is_folder (rows_of slots.now.slots) number }
 {
     match row(slots, number) {
         Some(row) => row.folder,
@@ -216,14 +205,14 @@ fn is_folder(slots: &[Option<NodeRow>], number: u32) -> bool
 
 // Whether the way up from each row comes to the root. What a way passes is marked, and a later way
 // ends at a mark, so no node is passed more than twice.
-fn are_rooted(alloc: Global, slots: &[Option<NodeRow>], rows: &[NodeRow]) -> Result<bool, NoMemory>
-    requires slots { AreSlots 0 slots.now }
-    requires rows { rows_of slots.now ≡ rows.now }
+fn are_rooted(alloc: Global, slots: &NodeTable, rows: &[NodeRow]) -> Result<bool, NoMemory>
+    requires slots { AreSlots 0 slots.now.slots }
+    requires rows { rows_of slots.now.slots ≡ rows.now }
     requires root { has_row key 0 rows.now ≡ true }
     requires placed { list_all (is_placed rows.now) rows.now ≡ true }
     ensures { IfOk result (λ rooted. rooted ≡ list_all (λ row. is_under rows.now 0 row.number) rows.now) }
 {
-    let mut marks = root_mark(alloc, slots.len())?;
+    let mut marks = root_mark(alloc, slots.len() as usize)?;
     for row in rows {
         if !is_rooted(slots, &marks, rows.len(), row.number) {
             return Ok(false);
@@ -263,9 +252,9 @@ fn mark(marks: &mut [bool], number: u32)
 }
 
 // The parent of a node, 0 if there is no such node.
-fn parent(slots: &[Option<NodeRow>], number: u32) -> u32
-    requires { AreSlots 0 slots.now }
-    ensures { result ≡ parent_of (rows_of slots.now) number }
+fn parent(slots: &NodeTable, number: u32) -> u32
+    requires { AreSlots 0 slots.now.slots }
+    ensures { result ≡ parent_of (rows_of slots.now.slots) number }
 {
     match row(slots, number) {
         Some(row) => row.parent,
@@ -274,11 +263,11 @@ fn parent(slots: &[Option<NodeRow>], number: u32) -> u32
 }
 
 // Whether the way up from a node comes to a mark. No way to the root is longer than there are nodes.
-fn is_rooted(slots: &[Option<NodeRow>], marks: &[bool], most: usize, number: u32) -> bool
-    requires slots { AreSlots 0 slots.now }
-    requires marks { AreMarks (rows_of slots.now) marks.now }
-    requires most { most ≡ length (rows_of slots.now) }
-    ensures { MatchBool result (Reaches (rows_of slots.now) number) (is_under (rows_of slots.now) 0 number ≡ false) }
+fn is_rooted(slots: &NodeTable, marks: &[bool], most: usize, number: u32) -> bool
+    requires slots { AreSlots 0 slots.now.slots }
+    requires marks { AreMarks (rows_of slots.now.slots) marks.now }
+    requires most { most ≡ length (rows_of slots.now.slots) }
+    ensures { MatchBool result (Reaches (rows_of slots.now.slots) number) (is_under (rows_of slots.now.slots) 0 number ≡ false) }
 {
     let mut at = number;
     let mut left = most;
@@ -293,11 +282,11 @@ fn is_rooted(slots: &[Option<NodeRow>], marks: &[bool], most: usize, number: u32
 }
 
 // Marks the way up from a node, up to the first mark.
-fn mark_way(slots: &[Option<NodeRow>], marks: &mut [bool], most: usize, number: u32)
-    requires slots { AreSlots 0 slots.now }
-    requires marks { AreMarks (rows_of slots.now) marks.old }
-    requires rooted { Reaches (rows_of slots.now) number }
-    ensures { AreMarks (rows_of slots.now) marks.new }
+fn mark_way(slots: &NodeTable, marks: &mut [bool], most: usize, number: u32)
+    requires slots { AreSlots 0 slots.now.slots }
+    requires marks { AreMarks (rows_of slots.now.slots) marks.old }
+    requires rooted { Reaches (rows_of slots.now.slots) number }
+    ensures { AreMarks (rows_of slots.now.slots) marks.new }
 {
     let mut at = number;
     let mut left = most;

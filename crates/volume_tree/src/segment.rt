@@ -1,20 +1,16 @@
 //! Where in the order a folder's children stand.
 
-ghost use Rattle.std.specs.Prelude.{◌≡◌, ◌+◌, ◌-◌, ◌<◌, ◌≤◌, true, length, []};
+ghost use Rattle.std.specs.Prelude.{◌≡◌, ℕ, ◌+◌, ◌-◌, ◌<◌, ◌≤◌, true, length};
 ghost use Rattle.fsrm_model.specs.Limits.{most_nodes};
-ghost use Rattle.fsrm_model.specs.Tree.{children};
 ghost use Rattle.block_list.specs.Places.{IsGap, index_of};
-ghost use Rattle.block_list.specs.Runs.{entries_of};
-ghost use Rattle.volume_tree.specs.Entries.{AreOwn, IsLower, IsNotLower};
-ghost use Rattle.volume_tree.specs.Kept.{AreSlots, IsFloor, IsOrder, IsPlace, IsSegment, rows_of};
-ghost use Rattle.volume_tree.specs.Volume.{IsChildAt};
+ghost use Rattle.block_list.specs.Runs.{entries_of, start_of};
+ghost use Rattle.volume_tree.specs.Entries.{IsFirst, IsLower, IsNotLower};
 
 use crate::children::entry_from;
 use crate::entries::Order;
-use crate::gallop::lower_end;
-use crate::order::{entry_at, first_from};
+use crate::gallop::{halve, lower_end};
+use crate::order::{entry_at, halved};
 use block_list::Place;
-use fsrm_model::NodeRow;
 
 // Whether what stands in front of a place is known to be of lower folders than this one: at a place in a run, not at its
 // beginning, or at the first of all.
@@ -49,8 +45,7 @@ fn ends_lower(order: &Order, folder: u64, place: Place) -> bool
 // Whether a place is known to be the one from which the folders have this number or greater ones.
 fn is_first(order: &Order, folder: u64, place: Place) -> bool
     ensures gap { result ≡ true → IsGap order.now.runs place }
-    ensures lower { result ≡ true → 0 < index_of order.now.runs place → IsLower order.now folder (index_of order.now.runs place - 1) }
-    ensures other { result ≡ true → index_of order.now.runs place < length (entries_of order.now.runs) → IsNotLower order.now folder (index_of order.now.runs place) }
+    ensures first { result ≡ true → IsFirst order.now folder (index_of order.now.runs place) }
 {
     if !is_after_lower(order, folder, place) {
         return false;
@@ -76,32 +71,57 @@ fn pass_lower(order: &Order, folder: u64, place: Place) -> Place
     }
 }
 
-// The place from which the folders have this number or greater ones, sought first at another place.
-fn first_near(slots: &[Option<NodeRow>], order: &Order, folder: u64, near: Place) -> Place
-    requires slots { AreSlots 0 slots.now }
-    requires order { IsOrder (rows_of slots.now) (entries_of order.now.runs) }
-    requires entries { AreOwn (rows_of slots.now) order.now }
-    requires few { length (entries_of order.now.runs) < most_nodes }
+// How many runs, from the first one on, begin with an entry of a lower folder than this one.
+fn lower_runs(order: &Order, folder: u64) -> usize
+    ensures within { result ≤ length order.now.runs }
+    ensures lower { (run : ℕ) → run + 1 ≡ result → IsLower order.now folder (start_of order.now.runs run) }
+    ensures other { result < length order.now.runs → IsNotLower order.now folder (start_of order.now.runs result) }
+{
+    let mut low = 0;
+    let mut size = order.run_count();
+    while size > 0 {
+        let entry = order.first(low + size / 2);
+        let (passed, left) = halved(size, u64::from(entry.parent) < folder);
+        low += passed;
+        size = left;
+    }
+    low
+}
+
+/// The place from which the folders have this number or greater ones. It is found by the folders alone that entries
+/// name: no row is read for it, and no name compared.
+pub fn first_from(order: &Order, folder: u64) -> Place
     ensures gap { IsGap order.now.runs result }
-    ensures place { IsPlace (rows_of slots.now) (entries_of order.now.runs) folder [] (index_of order.now.runs result) }
+    ensures first { IsFirst order.now folder (index_of order.now.runs result) }
+{
+    let count = lower_runs(order, folder);
+    if count == 0 {
+        return Place { run: 0, offset: 0 };
+    }
+    let run = count - 1;
+    let entries = order.run(run);
+    let offset = halve(entries, 1, entries.len() - 1, folder);
+    Place { run, offset }
+}
+
+// The place from which the folders have this number or greater ones, sought first at another place.
+fn first_near(order: &Order, folder: u64, near: Place) -> Place
+    ensures gap { IsGap order.now.runs result }
+    ensures first { IsFirst order.now folder (index_of order.now.runs result) }
 {
     if is_first(order, folder, near) {
         return near;
     }
-    first_from(slots, order, folder).0
+    first_from(order, folder)
 }
 
-// The place from which the folders have this number or greater ones, sought from one on that isn't after it. Where it
-// is near, in the same run or the next one, it is found in few steps.
-fn first_after(slots: &[Option<NodeRow>], order: &Order, folder: u64, from: Place) -> Place
-    requires slots { AreSlots 0 slots.now }
-    requires order { IsOrder (rows_of slots.now) (entries_of order.now.runs) }
-    requires entries { AreOwn (rows_of slots.now) order.now }
-    requires few { length (entries_of order.now.runs) < most_nodes }
-    requires from { IsGap order.now.runs from }
-    requires floor { IsFloor (rows_of slots.now) (entries_of order.now.runs) folder [] (index_of order.now.runs from) }
+/// The place from which the folders have this number or greater ones, sought from one on in front of which they are
+/// lower. Where it is near, in the same run or the next one, it is found in few steps.
+pub fn first_after(order: &Order, folder: u64, from: Place) -> Place
+    requires gap { IsGap order.now.runs from }
+    requires lower { 0 < index_of order.now.runs from → IsLower order.now folder (index_of order.now.runs from - 1) }
     ensures gap { IsGap order.now.runs result }
-    ensures place { IsPlace (rows_of slots.now) (entries_of order.now.runs) folder [] (index_of order.now.runs result) }
+    ensures first { IsFirst order.now folder (index_of order.now.runs result) }
 {
     let near = pass_lower(order, folder, from);
     if ends_lower(order, folder, near) {
@@ -114,23 +134,20 @@ fn first_after(slots: &[Option<NodeRow>], order: &Order, folder: u64, from: Plac
             return far;
         }
     }
-    first_from(slots, order, folder).0
+    first_from(order, folder)
 }
 
 /// From where to where in the order a folder's children stand. They are found at once if they begin at the place
 /// where they are sought first, and are few.
-pub fn segment(slots: &[Option<NodeRow>], order: &Order, folder: u32, near: Place) -> (Place, Place)
-    requires slots { AreSlots 0 slots.now }
-    requires order { IsOrder (rows_of slots.now) (entries_of order.now.runs) }
-    requires entries { AreOwn (rows_of slots.now) order.now }
-    requires few { length (entries_of order.now.runs) < most_nodes }
-    ensures first { IsGap order.now.runs result.0 }
-    ensures end { IsGap order.now.runs result.1 }
-    ensures segment { IsSegment (rows_of slots.now) (entries_of order.now.runs) folder (index_of order.now.runs result.0) (index_of order.now.runs result.1) }
+pub fn segment(order: &Order, folder: u32, near: Place) -> (Place, Place)
+    ensures first_gap { IsGap order.now.runs result.0 }
+    ensures end_gap { IsGap order.now.runs result.1 }
+    ensures first { IsFirst order.now folder (index_of order.now.runs result.0) }
+    ensures end { IsFirst order.now (folder + 1) (index_of order.now.runs result.1) }
 {
     let folder = u64::from(folder);
-    let first = first_near(slots, order, folder, near);
-    let end = first_after(slots, order, folder + 1, first);
+    let first = first_near(order, folder, near);
+    let end = first_after(order, folder + 1, first);
     (first, end)
 }
 
@@ -150,31 +167,4 @@ pub fn between(order: &Order, first: Place, end: Place) -> usize
         count += order.run(run).len();
     }
     count - first.offset
-}
-
-/// How many children a folder has.
-pub fn child_count(slots: &[Option<NodeRow>], order: &Order, folder: u32) -> usize
-    requires slots { AreSlots 0 slots.now }
-    requires order { IsOrder (rows_of slots.now) (entries_of order.now.runs) }
-    requires entries { AreOwn (rows_of slots.now) order.now }
-    requires few { length (entries_of order.now.runs) < most_nodes }
-    ensures { result ≡ length (children (rows_of slots.now) folder) }
-{
-    let folder = u64::from(folder);
-    let (first, _) = first_from(slots, order, folder);
-    let end = first_after(slots, order, folder + 1, first);
-    between(order, first, end)
-}
-
-/// The number of the child at a place among a folder's children. It passes each run before it.
-pub fn child_at(slots: &[Option<NodeRow>], order: &Order, folder: u32, place: u32) -> u32
-    requires slots { AreSlots 0 slots.now }
-    requires order { IsOrder (rows_of slots.now) (entries_of order.now.runs) }
-    requires entries { AreOwn (rows_of slots.now) order.now }
-    requires few { length (entries_of order.now.runs) < most_nodes }
-    requires place { place < length (children (rows_of slots.now) folder) }
-    ensures { IsChildAt (rows_of slots.now) folder place result }
-{
-    let (first, _) = first_from(slots, order, u64::from(folder));
-    order.get(order.place_of(order.index_of(first) + place))
 }

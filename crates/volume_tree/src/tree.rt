@@ -14,7 +14,7 @@ ghost use Rattle.fsrm_model.specs.Valid.{is_tree, IsVolume};
 ghost use Rattle.volume_tree.specs.Looks.{passed};
 ghost use Rattle.volume_tree.specs.Volume.{IsFault, IsChildAt, Shows, new_fault, remove_fault, with_node, with_length, with_touch, without_node};
 
-use crate::answer::{NodeView, RowsFault, TreeFault};
+use crate::answer::{RowsFault, TreeFault};
 use crate::children::Children;
 use crate::climb::is_at_or_below;
 use crate::entries::Order;
@@ -23,6 +23,7 @@ use crate::finger::Finger;
 use crate::hints::Hints;
 use crate::{lookup, order, reads, rows, segment, slots};
 use fsrm_model::{Capacity, Ledger, List, Names, NoMemory, NodeRow, Path, Steps, allocated};
+use node_table::{NodeTable, NodeView};
 use number_set::NumberSet;
 use std::alloc::Global;
 use std::marker::Model;
@@ -38,7 +39,7 @@ pub struct Tree {
     pub(crate) count: u32,
     pub(crate) used: u32,
     // Each row stands in the slot of its number.
-    pub(crate) slots: Vec<Option<NodeRow>>,
+    pub(crate) slots: NodeTable,
     // The numbers of the slots that are empty.
     pub(crate) holes: NumberSet,
     // The entries of all nodes but the root, by folders and in each by folded names, with room for all nodes.
@@ -50,13 +51,13 @@ pub struct Tree {
 
 impl Model for Tree {
     ghost use Rattle.volume_tree.specs.Volume.{Volume};
-    ghost use Rattle.volume_tree.specs.Kept.{IsKept, rows_of};
+    ghost use Rattle.volume_tree.specs.Kept.{IsHeld, rows_of};
 
     ghost Value = { Volume };
 
-    ghost view = { λ t. record { size = t.size; nodes = rows_of t.slots.items } };
+    ghost view = { λ t. record { size = t.size; nodes = rows_of t.slots.slots } };
 
-    ghost invariant = { λ t. IsKept t.size t.count t.used t.holes t.slots.items t.order };
+    ghost invariant = { λ t. IsHeld t.size t.count t.used t.holes t.slots t.order };
 }
 
 impl Tree {
@@ -67,7 +68,7 @@ impl Tree {
         ensures ok { IfOk result (λ tree. tree ≡ record { size = size; nodes = root_node ∷ [] }) }
         ensures kept { IfOk result (λ tree. IsVolume tree.size tree.nodes) }
     {
-        let slots = slots::root_alone(alloc)?;
+        let slots = slots::root_alone(alloc, size)?;
         let holes = NumberSet::reserve(alloc, size.nodes)?;
         let order = Order::reserve(alloc, size.nodes)?;
         Ok(Tree {
@@ -117,7 +118,7 @@ impl Tree {
     pub fn live(&self, node: u32) -> bool
         ensures { result ≡ has_row key node self.now.nodes }
     {
-        slots::row(&self.slots, node).is_some()
+        slots::is_there(&self.slots, node)
     }
 
     /// The number of a folder's child of this name. It takes a look, and no more than 22.
@@ -176,7 +177,7 @@ impl Tree {
         ensures short { result.length ≤ longest_file }
         ensures count { steps.new ≡ steps.old + 1 }
     {
-        slots::view(&self.slots, node, steps)
+        reads::node(&self.slots, node, steps)
     }
 
     /// Whether a node is another one or stands below it. It takes a look for each node from it up to that
@@ -196,7 +197,10 @@ impl Tree {
         ensures count { steps.new ≡ steps.old + 1 }
     {
         steps.tick();
-        segment::child_count(&self.slots, &self.order, folder) as u32
+        let folder = u64::from(folder);
+        let first = segment::first_from(&self.order, folder);
+        let end = segment::first_after(&self.order, folder + 1, first);
+        segment::between(&self.order, first, end) as u32
     }
 
     /// The number of the child that stands at a place, from 0 on, among a folder's children in the
@@ -207,7 +211,9 @@ impl Tree {
         ensures count { steps.new ≡ steps.old + 1 }
     {
         steps.tick();
-        segment::child_at(&self.slots, &self.order, folder, place)
+        let first = segment::first_from(&self.order, u64::from(folder));
+        let index = self.order.index_of(first) + place;
+        self.order.get(self.order.place_of(index))
     }
 
     /// The numbers of a folder's children, in the order of their folded names, to be lent a run at a time. It takes a
@@ -225,7 +231,7 @@ impl Tree {
         ensures count { steps.new ≡ steps.old + 1 }
     {
         steps.tick();
-        let (first, end) = segment::segment(&self.slots, &self.order, folder, finger.place());
+        let (first, end) = segment::segment(&self.order, folder, finger.place());
         *finger = Finger::at(end);
         let left = segment::between(&self.order, first, end);
         Children::from(&self.order, first, left)
@@ -241,7 +247,8 @@ impl Tree {
         ensures kept { IsVolume self.new.size self.new.nodes }
         ensures count { steps.new ≡ steps.old + 1 }
     {
-        slots::set_length(&mut self.slots, node, length, moment, steps);
+        steps.tick();
+        self.slots.set_length(node, length, moment);
     }
 
     /// Sets the moment that a file was accessed. It takes one look.
@@ -253,7 +260,8 @@ impl Tree {
         ensures kept { IsVolume self.new.size self.new.nodes }
         ensures count { steps.new ≡ steps.old + 1 }
     {
-        slots::set_accessed(&mut self.slots, node, moment, steps);
+        steps.tick();
+        self.slots.set_accessed(node, moment);
     }
 
     /// Takes away a node other than the root. It takes no more than 22 looks for a file, and 44 for a folder.
@@ -271,15 +279,15 @@ impl Tree {
         ensures file { is_folder self.old.nodes node ≡ false → steps.new ≤ steps.old + 22 }
         ensures looks { steps.new ≤ steps.old + 44 }
     {
-        let nodes = self.slots.as_slice();
+        let nodes = &self.slots;
         let row = reads::node(nodes, node, steps);
-        if order::has_child(nodes, &self.order, row, steps) {
+        if order::has_child(nodes, &self.order, &row, steps) {
             return Err(TreeFault::NotEmpty);
         }
-        let place = own_place(nodes, &self.order, row, steps);
-        let bytes = row.name.as_str().len() as u32;
+        let place = own_place(nodes, &self.order, &row, steps);
+        let bytes = row.name.len() as u32;
         self.hints.forget(&self.slots, node);
-        slots::take_away(&mut self.slots, node);
+        self.slots.take_away(node);
         self.order.remove(place);
         self.count -= 1;
         self.used -= bytes;
@@ -297,7 +305,8 @@ impl Tree {
         ensures count { OnOk result (steps.new ≡ steps.old + length self.now.nodes) }
         ensures most { steps.new ≤ steps.old + length self.now.nodes }
     {
-        rows::copies(&self.slots, alloc, steps)
+        steps.count(self.count as usize);
+        self.slots.to_rows(alloc)
     }
 
     /// The tree of these rows. They are bad exactly if they aren't the nodes of a volume of this

@@ -1,4 +1,4 @@
-//! Where in the order a new node is to stand, kept from the question whether there may be one.
+//! Where in the order a new node is to stand, sought first where the question whether there may be one ended.
 
 ghost use Rattle.std.specs.Prelude.{◌≡◌, ◌+◌, ◌<◌, ◌≤◌, true, length};
 ghost use Rattle.fsrm_model.specs.Limits.{most_nodes};
@@ -8,39 +8,17 @@ ghost use Rattle.name_rules.specs.Prefix.{prefix as prefix_of};
 ghost use Rattle.volume_tree.specs.Entries.{AreOwn};
 ghost use Rattle.volume_tree.specs.Kept.{AreSlots, IsFloor, IsOrder, IsPlace, rows_of};
 
+use crate::compare::is_before;
 use crate::entries::Order;
-use crate::order::{entry_at, is_before, search};
+use crate::order::{entry_at, search};
 use block_list::Place;
-use fsrm_model::{Ledger, NodeRow, Steps};
+use fsrm_model::{Ledger, Steps};
 use name_rules::fold_prefix;
-
-/// A place in the order where a name was sought that a folder hasn't. The entry of a new node of that name is put there
-/// if it is still the name's place, and else the place is searched anew; so what is made doesn't depend on it.
-#[derive(Clone, Copy, Debug, PartialEq, Eq)]
-pub struct Vacancy {
-    run: usize,
-    offset: usize,
-}
-
-impl Vacancy {
-    pub(crate) fn at(place: Place) -> Vacancy {
-        Vacancy {
-            run: place.run,
-            offset: place.offset,
-        }
-    }
-
-    pub(crate) fn place(self) -> Place {
-        Place {
-            run: self.run,
-            offset: self.offset,
-        }
-    }
-}
+use node_table::NodeTable;
 
 // Whether what stands in front of a place is known to come before a name in a folder. It takes a look at most.
 fn is_floor<L: Ledger>(
-    slots: &[Option<NodeRow>],
+    slots: &NodeTable,
     order: &Order,
     folder: u32,
     prefix: u64,
@@ -48,12 +26,12 @@ fn is_floor<L: Ledger>(
     place: Place,
     steps: &mut Steps<L>,
 ) -> bool
-    requires slots { AreSlots 0 slots.now }
-    requires order { IsOrder (rows_of slots.now) (entries_of order.now.runs) }
-    requires entries { AreOwn (rows_of slots.now) order.now }
+    requires slots { AreSlots 0 slots.now.slots }
+    requires order { IsOrder (rows_of slots.now.slots) (entries_of order.now.runs) }
+    requires entries { AreOwn (rows_of slots.now.slots) order.now }
     requires prefix { prefix ≡ prefix_of name.now }
     ensures gap { result ≡ true → IsGap order.now.runs place }
-    ensures floor { result ≡ true → IsFloor (rows_of slots.now) (entries_of order.now.runs) folder name.now (index_of order.now.runs place) }
+    ensures floor { result ≡ true → IsFloor (rows_of slots.now.slots) (entries_of order.now.runs) folder name.now (index_of order.now.runs place) }
     ensures looks { steps.new ≤ steps.old + 1 }
 {
     if place.offset == 0 {
@@ -67,15 +45,13 @@ fn is_floor<L: Ledger>(
         return false;
     }
     let entry = entries[place.offset - 1];
-    let mut looks = 0;
-    let before = is_before(slots, entry, u64::from(folder), prefix, name, &mut looks);
-    steps.count(looks);
+    let before = is_before(slots, entry, u64::from(folder), prefix, name, steps);
     before.unwrap_or(false)
 }
 
 // Whether no entry that comes before the name stands at such a place. It takes a look at most.
 fn is_met<L: Ledger>(
-    slots: &[Option<NodeRow>],
+    slots: &NodeTable,
     order: &Order,
     folder: u32,
     prefix: u64,
@@ -83,20 +59,18 @@ fn is_met<L: Ledger>(
     place: Place,
     steps: &mut Steps<L>,
 ) -> bool
-    requires slots { AreSlots 0 slots.now }
-    requires order { IsOrder (rows_of slots.now) (entries_of order.now.runs) }
-    requires entries { AreOwn (rows_of slots.now) order.now }
+    requires slots { AreSlots 0 slots.now.slots }
+    requires order { IsOrder (rows_of slots.now.slots) (entries_of order.now.runs) }
+    requires entries { AreOwn (rows_of slots.now.slots) order.now }
     requires prefix { prefix ≡ prefix_of name.now }
     requires gap { IsGap order.now.runs place }
-    requires floor { IsFloor (rows_of slots.now) (entries_of order.now.runs) folder name.now (index_of order.now.runs place) }
-    ensures place { result ≡ true → IsPlace (rows_of slots.now) (entries_of order.now.runs) folder name.now (index_of order.now.runs place) }
+    requires floor { IsFloor (rows_of slots.now.slots) (entries_of order.now.runs) folder name.now (index_of order.now.runs place) }
+    ensures place { result ≡ true → IsPlace (rows_of slots.now.slots) (entries_of order.now.runs) folder name.now (index_of order.now.runs place) }
     ensures looks { steps.new ≤ steps.old + 1 }
 {
     match entry_at(order, place) {
         Some(entry) => {
-            let mut looks = 0;
-            let before = is_before(slots, entry, u64::from(folder), prefix, name, &mut looks);
-            steps.count(looks);
+            let before = is_before(slots, entry, u64::from(folder), prefix, name, steps);
             !before.unwrap_or(false)
         }
         None => true,
@@ -105,18 +79,18 @@ fn is_met<L: Ledger>(
 
 // Whether a place is known to be that of a name in a folder. It takes no more than two looks.
 fn is_place<L: Ledger>(
-    slots: &[Option<NodeRow>],
+    slots: &NodeTable,
     order: &Order,
     folder: u32,
     name: &str,
     place: Place,
     steps: &mut Steps<L>,
 ) -> bool
-    requires slots { AreSlots 0 slots.now }
-    requires order { IsOrder (rows_of slots.now) (entries_of order.now.runs) }
-    requires entries { AreOwn (rows_of slots.now) order.now }
+    requires slots { AreSlots 0 slots.now.slots }
+    requires order { IsOrder (rows_of slots.now.slots) (entries_of order.now.runs) }
+    requires entries { AreOwn (rows_of slots.now.slots) order.now }
     ensures gap { result ≡ true → IsGap order.now.runs place }
-    ensures place { result ≡ true → IsPlace (rows_of slots.now) (entries_of order.now.runs) folder name.now (index_of order.now.runs place) }
+    ensures place { result ≡ true → IsPlace (rows_of slots.now.slots) (entries_of order.now.runs) folder name.now (index_of order.now.runs place) }
     ensures looks { steps.new ≤ steps.old + 2 }
 {
     let prefix = fold_prefix(name);
@@ -129,19 +103,19 @@ fn is_place<L: Ledger>(
 /// Where a name of a folder stands in the order, or is to stand. It is sought first at a given place. This looks at no
 /// more than 23 nodes.
 pub fn new_place<L: Ledger>(
-    slots: &[Option<NodeRow>],
+    slots: &NodeTable,
     order: &Order,
     folder: u32,
     name: &str,
     near: Place,
     steps: &mut Steps<L>,
 ) -> Place
-    requires slots { AreSlots 0 slots.now }
-    requires order { IsOrder (rows_of slots.now) (entries_of order.now.runs) }
-    requires entries { AreOwn (rows_of slots.now) order.now }
+    requires slots { AreSlots 0 slots.now.slots }
+    requires order { IsOrder (rows_of slots.now.slots) (entries_of order.now.runs) }
+    requires entries { AreOwn (rows_of slots.now.slots) order.now }
     requires few { length (entries_of order.now.runs) < most_nodes }
     ensures gap { IsGap order.now.runs result }
-    ensures place { IsPlace (rows_of slots.now) (entries_of order.now.runs) folder name.now (index_of order.now.runs result) }
+    ensures place { IsPlace (rows_of slots.now.slots) (entries_of order.now.runs) folder name.now (index_of order.now.runs result) }
     ensures looks { steps.new ≤ steps.old + 23 }
 {
     if is_place(slots, order, folder, name, near, steps) {

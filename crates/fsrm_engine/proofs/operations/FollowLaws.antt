@@ -30,7 +30,7 @@ use Rattle.fsrm_model.proofs.valid.ValidLaws.{folder_has}
 use Rattle.rescan.proofs.followed.FollowLaws.{made_back, made_found}
 use Rattle.scan_queue.specs.Courses.{Course, Scanning, Goes, left}
 use Rattle.scan_queue.proofs.Queues.{left_absent}
-use Rattle.volume_tree.specs.declared.answer.NodeView.{NodeView}
+use Rattle.node_table.specs.declared.view.NodeView.{NodeView}
 use Rattle.volume_tree.specs.Volume.{Volume, Move, Shows, with_node, without_node, with_place}
 use Rattle.fsrm_engine.specs.declared.parts.Parts.{Parts}
 use Rattle.fsrm_engine.specs.Machine.{Does, rows_of, ended}
@@ -61,10 +61,10 @@ option_each f g (Some n) h = h n
 
 -- the answer to an operation that was done, and left the queue as it was
 pub op_done : (p mid new : Parts) (m : ℕ) (op : FileOp) (answer : Answer) (quotas : List QuotaRow) (next : ℕ → List ℕ) → p.last_moment ≤ m → due p m (File op) ≡ None → plain p.tree.nodes op m ≡ mid.tree.nodes → (file_effect (rows_of p) op m).quotas ≡ quotas → (file_effect (rows_of p) op m).queue ≡ p.scans.queue → ((k : ℕ) → unvisited_in (rows_of p) (plain p.tree.nodes op m) op k ≡ next k) → Goes p.scans mid.scans mid.tree next → mid.tree.size ≡ p.tree.size → map (peaked p.tree.size mid.tree.nodes m) mid.objects.quotas ≡ map (peaked p.tree.size mid.tree.nodes m) quotas → new ≡ ended mid m → answer ≡ record { outcome = Done None; lasting = true } → Does p new m (File op) answer
-op_done p mid new m op answer quotas next late none nodes quotas_are queue each goes size raised ends e =
+op_done p mid new m op answer quotas next after none nodes quotas_are queue each goes size raised ends e =
     let R = rows_of p in
     let u = option_map_or (unvisited_in R (plain R.nodes op m) op) (head R.queue) [] in
-    done_as p mid new m (File op) answer quotas p.scans.queue u late none
+    done_as p mid new m (File op) answer quotas p.scans.queue u after none
     (effect_as R op m mid.tree.nodes quotas p.scans.queue nodes quotas_are queue)
     refl refl size raised goes.queue
     (goes.left_is

@@ -85,12 +85,12 @@ rmdir_left s s1 v w n now is turns each =
 
 -- the answer then
 pub rmdir_done : (p mid new : Parts) (s1 : Course) (m : ℕ) (path : List (List ℕ)) (n : ℕ) (answer : Answer) → p.last_moment ≤ m → due p m (File (Remove path)) ≡ None → resolve p.tree.nodes path ≡ Some n → mid.tree ≡ without_node p.tree n → mid.objects.quotas ≡ without_row folder_of n p.objects.quotas → s1.queue ≡ without_number n p.scans.queue → Turns p.scans s1 p.tree → Goes s1 mid.scans mid.tree (λ scanned. without_number n (left p.tree.nodes s1)) → ((f : ℕ) → head s1.queue ≡ Some f → without_number n (folders_under p.tree.nodes f) ≡ folders_under mid.tree.nodes f) → new ≡ ended mid m → answer ≡ record { outcome = Done None; lasting = true } → Does p new m (File (Remove path)) answer
-rmdir_done p mid new s1 m path n answer late none at made taken gone turns goes each ends e =
+rmdir_done p mid new s1 m path n answer after none at made taken gone turns goes each ends e =
     let R = rows_of p in
     let op = Remove path in
     let to = target_is p.tree.nodes path n at in
     let u = option_map_or (unvisited_in R (plain R.nodes op m) op) (head R.queue) [] in
-    done_as p mid new m (File op) answer mid.objects.quotas s1.queue u late none
+    done_as p mid new m (File op) answer mid.objects.quotas s1.queue u after none
     (effect_as R op m mid.tree.nodes mid.objects.quotas s1.queue
     (ap (λ x. without_row number x p.tree.nodes) to ∙ sym (ap (λ (w : Volume). w.nodes) made))
     (ap (λ x. without_row folder_of x p.objects.quotas) to ∙ sym taken)

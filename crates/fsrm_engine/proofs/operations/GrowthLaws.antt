@@ -30,7 +30,7 @@ use Rattle.quota_usage.specs.declared.change.Change.{Change}
 use Rattle.quota_usage.specs.declared.change.Counter.{Counter}
 use Rattle.quota_usage.specs.Charge.{is_above, charged_counter}
 use Rattle.quota_usage.specs.Counters.{counted}
-use Rattle.volume_tree.specs.declared.answer.NodeView.{NodeView}
+use Rattle.node_table.specs.declared.view.NodeView.{NodeView}
 use Rattle.volume_tree.specs.declared.answer.TreeFault.{TreeFault}
 use Rattle.volume_tree.specs.Volume.{Volume, with_length}
 use Rattle.fsrm_engine.specs.Faults.{quota_refusal}

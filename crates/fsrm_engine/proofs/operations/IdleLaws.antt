@@ -35,7 +35,7 @@ use Rattle.quota_usage.specs.declared.change.Change.{Change}
 use Rattle.quota_usage.specs.declared.change.Counter.{Counter}
 use Rattle.quota_usage.specs.Charge.{charged, charged_counter, IsChange, Fits, height}
 use Rattle.quota_usage.specs.Counters.{counted, used_in, without_counter}
-use Rattle.volume_tree.specs.declared.answer.NodeView.{NodeView}
+use Rattle.node_table.specs.declared.view.NodeView.{NodeView}
 use Rattle.volume_tree.specs.declared.answer.TreeFault.TheVariants.{NotEmpty}
 use Rattle.volume_tree.specs.Volume.{Volume, Shows, with_node, with_touch, without_node, remove_fault}
 use Rattle.fsrm_engine.specs.declared.parts.Parts.{Parts}

@@ -19,7 +19,7 @@ use Rattle.fsrm_model.proofs.nodes.Walks.{path_root}
 use Rattle.fsrm_model.proofs.nodes.Resolves.{resolve_root, resolve_child, resolved, some_name}
 use Rattle.fsrm_model.proofs.nodes.Keeps.{found_folder}
 use Rattle.fsrm_model.specs.Name.{is_name}
-use Rattle.volume_tree.specs.declared.answer.NodeView.{NodeView}
+use Rattle.node_table.specs.declared.view.NodeView.{NodeView}
 use Rattle.volume_tree.specs.Volume.{Shows}
 use Rattle.fsrm_engine.specs.Places.{IsPlace, IsFile, IsFolder}
 

@@ -85,19 +85,19 @@ tested p mid k n done sound is h told =
 
 -- the answer to a step with folders left, and to one that finishes the scan
 pub step_passing : (p mid : Parts) (k m n count : ℕ) → p.last_moment ≤ m → head p.scans.queue ≡ Some n → machine_of mid ≡ with_rows (machine_of p) (visited_rows (rows_of p) k) → count ≡ length (rows_of p).unvisited - length (rows_of mid).unvisited → (length (rows_of mid).unvisited == 0) ≡ false → Does p mid m (Step k) (record { outcome = Scanned n count None; lasting = false })
-step_passing p mid k m n count late h is c more =
+step_passing p mid k m n count after h is c more =
     let R = rows_of p in
     let ends : (length (left_after R k) == 0) ≡ false = sym (ap (λ (o : Machine). length o.rows.unvisited == 0) is) ∙ more in
-    passing_as p mid m (Step k) (record { outcome = Scanned n count None; lasting = false }) (visited_rows R k) late (step_checks R n h)
+    passing_as p mid m (Step k) (record { outcome = Scanned n count None; lasting = false }) (visited_rows R k) after (step_checks R n h)
     (ap (λ b. if b then with_state (visited_rows R k) (unwrap_or (head R.queue) 0) Complete else visited_rows R k) ends) ends
     (is ∙ sym (ap (λ b. with_rows (machine_of p) (record R { unvisited = if b then left_after R k else scan_begun R.nodes R.queue })) (same_own R.queue)))
     (ap (λ o. record { outcome = o; lasting = false }) (sym (scanned_is p.tree.size R k n count None false h ends (count_is p mid k count is c) refl)))
 
 pub step_ending : (p mid new : Parts) (k m n count used : ℕ) → p.last_moment ≤ m → head p.scans.queue ≡ Some n → machine_of mid ≡ with_rows (machine_of p) (visited_rows (rows_of p) k) → count ≡ length (rows_of p).unvisited - length (rows_of mid).unvisited → (length (rows_of mid).unvisited == 0) ≡ true → machine_of new ≡ record (machine_of mid) { rows = lasting_rows (machine_of mid) (with_state (rows_of mid) n Complete) m } → used ≡ usage mid.tree.size mid.tree.nodes n → Does p new m (Step k) (record { outcome = Scanned n count (Some used); lasting = true })
-step_ending p mid new k m n count used late h is c none made u =
+step_ending p mid new k m n count used after h is c none made u =
     let R = rows_of p in
     let ends : (length (left_after R k) == 0) ≡ true = sym (ap (λ (o : Machine). length o.rows.unvisited == 0) is) ∙ none in
-    lasting_as p new m (Step k) (record { outcome = Scanned n count (Some used); lasting = true }) (with_state (visited_rows R k) n Complete) late (step_checks R n h)
+    lasting_as p new m (Step k) (record { outcome = Scanned n count (Some used); lasting = true }) (with_state (visited_rows R k) n Complete) after (step_checks R n h)
     (ap (λ b. if b then with_state (visited_rows R k) (unwrap_or (head R.queue) 0) Complete else visited_rows R k) ends ∙ ap (λ o. with_state (visited_rows R k) (unwrap_or o 0) Complete) h) ends
     (made ∙ ap (λ (o : Machine). record o { rows = lasting_rows o (with_state o.rows n Complete) m }) is)
     (ap (λ o. record { outcome = o; lasting = true }) (sym (scanned_is p.tree.size R k n count (Some used) true h ends (count_is p mid k count is c) (ap Some (sym (u ∙ ap (λ (o : Machine). usage o.size o.rows.nodes n) is))))))

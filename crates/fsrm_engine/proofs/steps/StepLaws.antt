@@ -30,24 +30,24 @@ use Rattle.fsrm_engine.specs.declared.parts.Parts.{Parts}
 use Rattle.fsrm_engine.specs.Faults.{refusal_of, refused_answer, answer_of}
 use Rattle.fsrm_engine.specs.Machine.{Machine, Takes, Does, rows_of, machine_of, ended, lasting_rows, settled, with_rows}
 
--- what a command asks of these parts, and the refusal that is due to it if it isn't late
+-- what a command asks of these parts, and the refusal that is due to it if its moment isn't too early
 abbrev pub asked : Parts → ℕ → Deed → Work
 asked p m deed = work p.tree.size (rows_of p) m deed
 
 abbrev pub due : Parts → ℕ → Deed → Option Refusal
 due p m deed = first (asked p m deed).checks
 
-late_test : (last m : ℕ) → last ≤ m → nat_lt m last ≡ false
-late_test last m h = grind (arith, nat_tests)
+after_test : (last m : ℕ) → last ≤ m → nat_lt m last ≡ false
+after_test last m h = grind (arith, nat_tests)
 
--- a command that isn't late may take the looks of its deed
+-- a command whose moment isn't too early may take the looks of its deed
 pub cost_in_time : (R : Rows) (c : Command) → R.last_moment ≤ c.moment → deed_cost R c.deed ≡ cost R c
-cost_in_time R c late = rw (late_test R.last_moment c.moment late) refl
+cost_in_time R c after = rw (after_test R.last_moment c.moment after) refl
 
--- a command that isn't late is decided by its own checks
+-- a command whose moment isn't too early is decided by its own checks
 step_by : (K : Capacity) (R : Rows) (m : ℕ) (deed : Deed) (o : Option Refusal) → R.last_moment ≤ m → first (work K R m deed).checks ≡ o → step K R (record { moment = m; deed = deed }) ≡ decided K R m (work K R m deed) o
-step_by K R m deed o late h =
-    ap (decided K R m (work K R m deed)) (ap (λ b. first ((ClockBack when b) ∷ (work K R m deed).checks)) (late_test R.last_moment m late) ∙ h)
+step_by K R m deed o after h =
+    ap (decided K R m (work K R m deed)) (ap (λ b. first ((ClockBack when b) ∷ (work K R m deed).checks)) (after_test R.last_moment m after) ∙ h)
 
 -- what is known of the step is known of the machine
 by_step : (old new : Machine) (m : ℕ) (deed : Deed) (answer : Answer) (s : Stepped) → step old.size old.rows (record { moment = m; deed = deed }) ≡ s → new.size ≡ old.size → new.rows ≡ s.rows → new.waiting ≡ s.acts → answer ≡ record { outcome = s.outcome; lasting = s.lasting } → Takes old new (step old.size old.rows (record { moment = m; deed = deed })) answer
@@ -62,28 +62,28 @@ by_step old new m deed answer s h size rows acts e =
 
 -- the answer to a command that is refused
 pub refused_as : (p : Parts) (m : ℕ) (deed : Deed) (answer : Answer) (refusal : Refusal) → p.last_moment ≤ m → due p m deed ≡ Some refusal → answer ≡ refused_answer refusal → Does p p m deed answer
-refused_as p m deed answer refusal late h e =
-    by_step (machine_of p) (machine_of p) m deed answer (unlasting (rows_of p) (Refused refusal)) (step_by p.tree.size (rows_of p) m deed (Some refusal) late h) refl refl refl e
+refused_as p m deed answer refusal after h e =
+    by_step (machine_of p) (machine_of p) m deed answer (unlasting (rows_of p) (Refused refusal)) (step_by p.tree.size (rows_of p) m deed (Some refusal) after h) refl refl refl e
 
 accepted_by : (K : Capacity) (R : Rows) (m : ℕ) (w : Work) (b : Bool) → w.lasts ≡ b → accepted K R m w ≡ (if b then lasted K R (unacted (followed R w.effect)) m w.outcome else unlasting (followed R w.effect) w.outcome)
 accepted_by K R m w b h = ap (λ b. if b then lasted K R (unacted (followed R w.effect)) m w.outcome else unlasting (followed R w.effect) w.outcome) h
 
 -- the answer to a command that was done, and lasts
 pub lasting_as : (p new : Parts) (m : ℕ) (deed : Deed) (answer : Answer) (effect : Rows) → p.last_moment ≤ m → due p m deed ≡ None → (asked p m deed).effect ≡ effect → (asked p m deed).lasts ≡ true → machine_of new ≡ record { size = p.tree.size; rows = lasting_rows (machine_of p) effect m; waiting = [] } → answer ≡ record { outcome = (asked p m deed).outcome; lasting = true } → Does p new m deed answer
-lasting_as p new m deed answer effect late none made lasts is e =
+lasting_as p new m deed answer effect after none made lasts is e =
     let R = rows_of p in
     let w = asked p m deed in
     by_step (machine_of p) (machine_of new) m deed answer (lasted p.tree.size R (unacted (followed R w.effect)) m w.outcome)
-    (step_by p.tree.size R m deed None late none ∙ accepted_by p.tree.size R m w true lasts)
+    (step_by p.tree.size R m deed None after none ∙ accepted_by p.tree.size R m w true lasts)
     (ap (λ (o : Machine). o.size) is) (ap (λ (o : Machine). o.rows) is ∙ sym (ap (λ (E : Rows). lasting_rows (machine_of p) E m) made)) (ap (λ (o : Machine). o.waiting) is) e
 
 -- and to one that was done, and doesn't last
 pub passing_as : (p new : Parts) (m : ℕ) (deed : Deed) (answer : Answer) (effect : Rows) → p.last_moment ≤ m → due p m deed ≡ None → (asked p m deed).effect ≡ effect → (asked p m deed).lasts ≡ false → machine_of new ≡ with_rows (machine_of p) (followed (rows_of p) effect) → answer ≡ record { outcome = (asked p m deed).outcome; lasting = false } → Does p new m deed answer
-passing_as p new m deed answer effect late none made lasts is e =
+passing_as p new m deed answer effect after none made lasts is e =
     let R = rows_of p in
     let w = asked p m deed in
     by_step (machine_of p) (machine_of new) m deed answer (unlasting (followed R w.effect) w.outcome)
-    (step_by p.tree.size R m deed None late none ∙ accepted_by p.tree.size R m w false lasts)
+    (step_by p.tree.size R m deed None after none ∙ accepted_by p.tree.size R m w false lasts)
     (ap (λ (o : Machine). o.size) is) (ap (λ (o : Machine). o.rows) is ∙ sym (ap (followed R) made)) (ap (λ (o : Machine). o.waiting) is) e
 
 -- the same head is its own
@@ -93,9 +93,9 @@ same_own (n ∷ queue) = eq_same n
 
 -- the answer to a command that changes nothing and isn't refused
 pub told_as : (p : Parts) (m : ℕ) (deed : Deed) (answer : Answer) → p.last_moment ≤ m → due p m deed ≡ None → (asked p m deed).effect ≡ rows_of p → (asked p m deed).lasts ≡ false → answer ≡ record { outcome = (asked p m deed).outcome; lasting = false } → Does p p m deed answer
-told_as p m deed answer late none made lasts e =
+told_as p m deed answer after none made lasts e =
     let R = rows_of p in
-    passing_as p p m deed answer R late none made lasts
+    passing_as p p m deed answer R after none made lasts
     (sym (ap (λ b. with_rows (machine_of p) (record R { unvisited = if b then R.unvisited else scan_begun R.nodes R.queue })) (same_own R.queue))) e
 
 -- The rows that a command makes of these parts before its end, by what may change in them
@@ -115,15 +115,15 @@ ended_rows p mid m quotas queue unvisited size raised queue_is left_is =
 
 -- the answer to a command that was done, by the parts before its end
 pub done_as : (p mid new : Parts) (m : ℕ) (deed : Deed) (answer : Answer) (quotas : List QuotaRow) (queue unvisited : List ℕ) → p.last_moment ≤ m → due p m deed ≡ None → (asked p m deed).effect ≡ made_rows p mid.tree.nodes quotas queue unvisited → (asked p m deed).outcome ≡ Done None → (asked p m deed).lasts ≡ true → mid.tree.size ≡ p.tree.size → map (peaked p.tree.size mid.tree.nodes m) mid.objects.quotas ≡ map (peaked p.tree.size mid.tree.nodes m) quotas → mid.scans.queue ≡ queue → left mid.tree.nodes mid.scans ≡ (if same_head p.scans.queue queue then unvisited else scan_begun mid.tree.nodes queue) → new ≡ ended mid m → answer ≡ record { outcome = Done None; lasting = true } → Does p new m deed answer
-done_as p mid new m deed answer quotas queue unvisited late none made is lasts size raised queue_is left_is ends e =
-    lasting_as p new m deed answer (made_rows p mid.tree.nodes quotas queue unvisited) late none made lasts
+done_as p mid new m deed answer quotas queue unvisited after none made is lasts size raised queue_is left_is ends e =
+    lasting_as p new m deed answer (made_rows p mid.tree.nodes quotas queue unvisited) after none made lasts
     (ap machine_of ends ∙ ended_rows p mid m quotas queue unvisited size raised queue_is left_is)
     (e ∙ ap (λ o. record { outcome = o; lasting = true }) (sym is))
 
 -- the same by the machine that they are
 pub done_settled : (p mid new : Parts) (m : ℕ) (deed : Deed) (answer : Answer) (effect : Rows) → p.last_moment ≤ m → due p m deed ≡ None → (asked p m deed).effect ≡ effect → (asked p m deed).outcome ≡ Done None → (asked p m deed).lasts ≡ true → machine_of mid ≡ with_rows (machine_of p) (followed (rows_of p) effect) → new ≡ ended mid m → answer ≡ record { outcome = Done None; lasting = true } → Does p new m deed answer
-done_settled p mid new m deed answer effect late none made is lasts settles ends e =
-    lasting_as p new m deed answer effect late none made lasts
+done_settled p mid new m deed answer effect after none made is lasts settles ends e =
+    lasting_as p new m deed answer effect after none made lasts
     (ap machine_of ends ∙ ap (λ (o : Machine). settled o m) settles)
     (e ∙ ap (λ o. record { outcome = o; lasting = true }) (sym is))
 
@@ -169,7 +169,7 @@ is_fault NoMemory o h = tt
 
 -- the answer to a command that the tree refused, if it wasn't for want of memory
 pub refused_by_as : (p : Parts) (m : ℕ) (deed : Deed) (fault : TreeFault) (fault_is : Option TreeFault) (more : Option Refusal) (result : Result Answer Wanting) → p.last_moment ≤ m → due p m deed ≡ tree_first fault_is more → IsFault fault fault_is → IfOk result (λ answer. answer_of fault ≡ Some answer) → IfOk result (λ answer. Does p p m deed answer)
-refused_by_as p m deed fault fault_is more (Err e) late h is given = tt
-refused_by_as p m deed fault fault_is more (Ok answer) late h is given =
+refused_by_as p m deed fault fault_is more (Err e) after h is given = tt
+refused_by_as p m deed fault fault_is more (Ok answer) after h is given =
     let t = told (refusal_of fault) answer given in
-    refused_as p m deed answer t.refusal late (h ∙ fault_due fault fault_is more t.refusal is t.is) t.answer_is
+    refused_as p m deed answer t.refusal after (h ∙ fault_due fault fault_is more t.refusal is t.is) t.answer_is

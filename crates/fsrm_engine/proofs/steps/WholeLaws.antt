@@ -55,4 +55,4 @@ seen_err old new seen (Ok answer) view same = tt
 seen_err old new seen (Err e) view same = ap machine_of same ∙ view
 
 pub seen_cost : (old : Parts) (seen : Machine) (c : Command) → machine_of old ≡ seen → old.last_moment ≤ c.moment → deed_cost (rows_of old) c.deed ≡ cost seen.rows c
-seen_cost old seen c view late = cost_in_time (rows_of old) c late ∙ ap (λ (o : Machine). cost o.rows c) view
+seen_cost old seen c view after = cost_in_time (rows_of old) c after ∙ ap (λ (o : Machine). cost o.rows c) view

@@ -61,9 +61,9 @@ quota_due R path quota o =
 
 -- A command that changes the quota of a folder, and nothing else: what it does, by the row that the change makes of it
 pub changed_as : (p new : Parts) (m : ℕ) (quota : QuotaRow) (deed : Deed) (answer : Answer) (path : List (List ℕ)) (c : QuotaRow → QuotaRow) (tables : Tables) → p.last_moment ≤ m → IsQuotaAt p.tree.nodes p.objects.quotas path quota → asked p m deed ≡ asks (quota_checks (rows_of p) path) (record (rows_of p) { quotas = with_change folder_of (target p.tree.nodes path) c p.objects.quotas }) (Done None) true → tables.quotas ≡ with_change folder_of quota.folder c p.objects.quotas → new ≡ ended (record p { objects = tables }) m → answer ≡ record { outcome = Done None; lasting = true } → Does p new m deed answer
-changed_as p new m quota deed answer path c tables late on is set ends e =
+changed_as p new m quota deed answer path c tables after on is set ends e =
     let R = rows_of p in
-    done_as p (record p { objects = tables }) new m deed answer tables.quotas p.scans.queue R.unvisited late
+    done_as p (record p { objects = tables }) new m deed answer tables.quotas p.scans.queue R.unvisited after
     (ap (λ w. first w.checks) is ∙ quota_due R path quota on)
     (ap (λ w. w.effect) is ∙ ap (λ (qs : List QuotaRow). record R { quotas = qs }) (ap (λ k. with_change folder_of k c p.objects.quotas) (target_is R.nodes path quota.folder on.at.resolved) ∙ sym set))
     (ap (λ w. w.outcome) is) (ap (λ w. w.lasts) is) refl refl refl

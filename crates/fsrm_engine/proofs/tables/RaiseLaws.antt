@@ -12,7 +12,7 @@ use Rattle.fsrm_model.specs.declared.row.NodeRow.{NodeRow}
 use Rattle.fsrm_model.specs.Tree.{parent_of}
 use Rattle.fsrm_base.proofs.EditedRows.{change_absent, absent_later, ascending_tail}
 use Rattle.fsrm_base.proofs.TestLaws.{clash, eq_is, eq_same, not_true, or_later}
-use Rattle.volume_tree.specs.declared.answer.NodeView.{NodeView}
+use Rattle.node_table.specs.declared.view.NodeView.{NodeView}
 use Rattle.volume_tree.specs.Volume.{Shows}
 use Rattle.fsrm_base.proofs.Look.{found_key, is_some-find}
 use Rattle.fsrm_objects.specs.Tables.{peaked_at}

@@ -15,7 +15,7 @@ use Rattle.fsrm_model.proofs.nodes.Keeps.{tree_of}
 use Rattle.fsrm_model.proofs.nodes.Walks.{found_name}
 use Rattle.fsrm_model.proofs.nodes.Climbs.{climb, shorter}
 use Rattle.fsrm_model.proofs.nodes.Resolves.{path_length}
-use Rattle.volume_tree.specs.declared.answer.NodeView.{NodeView}
+use Rattle.node_table.specs.declared.view.NodeView.{NodeView}
 use Rattle.volume_tree.specs.Volume.{Shows}
 use Rattle.fsrm_engine.specs.Walk.{AreThere}
 use Rattle.fsrm_engine.proofs.walks.WalkLaws.{there-append}

@@ -24,7 +24,7 @@ use Rattle.fsrm_model.proofs.valid.CapacityLaws.{nodes_most, alloc_most}
 use Rattle.fsrm_model.proofs.nodes.Keeps.{found_folder}
 use Rattle.fsrm_base.proofs.Look.{has_found}
 use Rattle.fsrm_model.proofs.nodes.UsageLaws.{usage_children, count_children, usage_of_file, count_of_file}
-use Rattle.volume_tree.specs.declared.answer.NodeView.{NodeView}
+use Rattle.node_table.specs.declared.view.NodeView.{NodeView}
 use Rattle.volume_tree.specs.Volume.{Shows}
 use Rattle.fsrm_engine.specs.Walk.{usage_of_all, under_all, AreThere}
 use Rattle.volume_tree.proofs.slotted.FreshLaws.{few_nodes}

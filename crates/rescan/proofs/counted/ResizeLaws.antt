@@ -17,7 +17,7 @@ use Rattle.fsrm_model.proofs.nodes.Climbs.{climb}
 use Rattle.fsrm_model.proofs.nodes.Keeps.{found_folder, tree_of}
 use Rattle.fsrm_base.proofs.Look.{found_has}
 use Rattle.fsrm_base.proofs.EditedRows.{sum_by-without_row}
-use Rattle.volume_tree.specs.declared.answer.NodeView.{NodeView}
+use Rattle.node_table.specs.declared.view.NodeView.{NodeView}
 use Rattle.volume_tree.specs.Volume.{Volume, Shows}
 use Rattle.rescan.specs.declared.standing.Standing.TheVariants.{Outside, Visited, Unvisited}
 use Rattle.rescan.specs.Frontiers.{Front, Stands, Follows, scanned, has_above, unvisited, of_length, sized}

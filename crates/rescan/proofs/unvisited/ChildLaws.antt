@@ -19,7 +19,7 @@ use Rattle.fsrm_model.specs.Valid.{IsVolume}
 use Rattle.fsrm_base.proofs.TestLaws.{both, eq_is, is_false, lt_is}
 use Rattle.fsrm_model.proofs.nodes.Keeps.{folder_found, found_folder, is_child_test}
 use Rattle.fsrm_base.proofs.Look.{found_key}
-use Rattle.volume_tree.specs.declared.answer.NodeView.{NodeView}
+use Rattle.node_table.specs.declared.view.NodeView.{NodeView}
 use Rattle.volume_tree.specs.Volume.{IsChildAt, Shows}
 use Rattle.volume_tree.proofs.ordering.Children.{children_many}
 use Rattle.volume_tree.proofs.ordering.Items.{in_order_moves}

@@ -14,7 +14,7 @@ use Rattle.fsrm_base.proofs.Look.{found_has}
 use Rattle.fsrm_model.specs.Space.{alloc, space}
 use Rattle.fsrm_model.specs.Tree.{number, node_of, is_folder, is_child, children, children_in_order}
 use Rattle.fsrm_model.proofs.nodes.Keeps.{found_folder}
-use Rattle.volume_tree.specs.declared.answer.NodeView.{NodeView}
+use Rattle.node_table.specs.declared.view.NodeView.{NodeView}
 use Rattle.volume_tree.specs.Volume.{Shows}
 use Rattle.volume_tree.proofs.ordering.Entries.{rows_found}
 use Rattle.volume_tree.proofs.ordering.Items.{in_order_moves}

@@ -16,18 +16,19 @@ use Rattle.fsrm_base.proofs.Order.{is_above, join, parts}
 use Rattle.fsrm_base.proofs.TestLaws.{both, both_true, clash, eq_is, eq_same, is_false, lt_is, lt_test, not_true, le_is, le_test}
 use Rattle.fsrm_model.proofs.valid.ValidVolume.{volume_of_tree}
 use Rattle.volume_tree.specs.Kept.{IsOrder, is_before}
-use Rattle.volume_tree.specs.Sound.{HasTwins, are_from, are_sound, is_placed}
+use Rattle.fsrm_model.specs.Limits.{latest_moment, longest_file}
+use Rattle.volume_tree.specs.Sound.{HasTwins, are_from, are_sound, is_in_range, is_placed}
 use Rattle.volume_tree.proofs.ordering.Entries.{entry_of}
 use Rattle.volume_tree.proofs.ordering.Names.{comes_apart}
 use Rattle.fsrm_model.proofs.nodes.Keeps.{same_turned}
 
 -- what numbers that ascend below a bound have
-record From (n bound : ℕ) (row : NodeRow) (rows : List NodeRow) : Type 0 where
-  least : n ≤ row.number
-  below : nat_lt row.number bound ≡ true
-  rest : are_from (suc row.number) bound rows ≡ true
+pub record From (n bound : ℕ) (row : NodeRow) (rows : List NodeRow) : Type 0 where
+  pub least : n ≤ row.number
+  pub below : nat_lt row.number bound ≡ true
+  pub rest : are_from (suc row.number) bound rows ≡ true
 
-from_parts : (n bound : ℕ) (row : NodeRow) (rows : List NodeRow) → are_from n bound (row ∷ rows) ≡ true → From n bound row rows
+pub from_parts : (n bound : ℕ) (row : NodeRow) (rows : List NodeRow) → are_from n bound (row ∷ rows) ≡ true → From n bound row rows
 from_parts n bound row rows h =
     let halves = both (nat_le n row.number && nat_lt row.number bound) (are_from (suc row.number) bound rows) h in
     let first = both (nat_le n row.number) (nat_lt row.number bound) halves.0 in
@@ -96,6 +97,41 @@ sound_of K nodes v =
     (both_true (are_from 0 K.nodes nodes) (has_row number 0 nodes && list_all (is_placed nodes) nodes) (numbers_of K nodes v)
     (both_true (has_row number 0 nodes) (list_all (is_placed nodes) nodes) v.has_root (placed_of K nodes v)))
     (rooted_of K nodes v)
+
+-- what is placed is in range
+placed_range : (nodes : List NodeRow) (node : NodeRow) (b : Bool) → (node.number == 0) ≡ b → cond b (is_root_node node) (is_own node && is_folder nodes node.parent) ≡ true → is_in_range node ≡ true
+placed_range nodes node true e h =
+    let a = both _ _ h in
+    let size = both _ _ (both _ _ a.0).1 in
+    let rest = both _ _ (both _ _ a.1).1 in
+    let last = both _ _ rest.1 in
+    both_true _ _ (zero_in node.length longest_file size.1) (both_true _ _ (zero_in node.created latest_moment rest.0) (both_true _ _ (zero_in node.modified latest_moment last.0) (zero_in node.accessed latest_moment last.1)))
+  where
+    zero_in : (n most : ℕ) → (n == 0) ≡ true → nat_le n most ≡ true
+    zero_in n most z = let is : n ≡ 0 = eq_is n 0 z in le_test n most (omega arith)
+placed_range nodes node false e h =
+    let own = both _ _ (both _ _ (both _ _ h).0).1 in
+    both_true _ _ (short_in node.folder (le_is _ _ own.0)) own.1
+  where
+    short_in : (folder : Bool) → node.length ≤ cond folder 0 longest_file → nat_le node.length longest_file ≡ true
+    short_in true l = le_test node.length longest_file (omega arith)
+    short_in false l = le_test node.length longest_file l
+
+range_from : (nodes rows : List NodeRow) → list_all (is_placed nodes) rows ≡ true → list_all is_in_range rows ≡ true
+range_from nodes [] h = refl
+range_from nodes (row ∷ rows) h =
+    let p = both (is_placed nodes row) (list_all (is_placed nodes) rows) h in
+    both_true (is_in_range row) (list_all is_in_range rows) (placed_range nodes row (row.number == 0) refl p.0) (range_from nodes rows p.1)
+
+-- what isn't listed or not in range isn't sound
+pub bad_listed : (bound : ℕ) (nodes : List NodeRow) → are_from 0 bound nodes ≡ false → are_sound bound nodes ≡ false
+bad_listed bound nodes h = ap (λ b. (b && (has_row number 0 nodes && list_all (is_placed nodes) nodes)) && list_all (λ (r : NodeRow). is_under nodes 0 r.number) nodes) h
+
+pub bad_range : (bound : ℕ) (nodes : List NodeRow) → list_all is_in_range nodes ≡ false → are_sound bound nodes ≡ false
+bad_range bound nodes h =
+    not_true (are_sound bound nodes) (λ s.
+    let parts = both _ _ (both _ _ s).0 in
+    clash (list_all is_in_range nodes) (range_from nodes nodes (both _ _ parts.1).1) h)
 
 -- what fails a part is no tree
 pub bad_sound : (K : Capacity) (nodes : List NodeRow) → are_sound K.nodes nodes ≡ false → is_tree K nodes ≡ false

@@ -20,6 +20,10 @@ pub record IsFew (most size looks : ℕ) : Type 0 where
   pub few : looks ≤ most
   pub left : size < 2 ^ (most - looks)
 
+-- before the first look
+pub few_first : (begun most size : ℕ) → size < 2 ^ most → IsFew (begun + most) size begun
+few_first begun most size l = let is : most ≡ begun + most - begun = omega arith in record { few = omega arith; left = subst (λ n. size < 2 ^ n) is l }
+
 less_left : (size more room : ℕ) → 0 < size → more + more ≤ size → size < 2 ^ room → (0 < room) × (more < 2 ^ (room - 1))
 less_left size more zero s m l = absurd (omega arith)
 less_left size more (suc room) s m l =

@@ -1,5 +1,5 @@
 -- Where the entries of lower folders end.
-use Rattle.std.proofs.Common.{◌≡◌, ℕ, ◌+◌, ◌-◌, ◌<◌, ◌≤◌, nat_lt, true, inl, inr, List, [], length, slice_get, Some, None, sym, ◌∙◌, subst, arith}
+use Rattle.std.proofs.Common.{◌≡◌, ℕ, ◌+◌, ◌-◌, ◌/◌, ◌<◌, ◌≤◌, nat_lt, Bool, true, false, Contains, inl, inr, List, [], length, slice_get, Some, None, sym, ◌∙◌, subst, arith}
 use Rattle.std.proofs.lemmas.Bool.{cases_lt}
 use Rattle.std.proofs.lemmas.Bool.Decides.{nat_tests}
 use Rattle.std.proofs.lemmas.List.Elements.{All-contains}
@@ -7,11 +7,13 @@ use Rattle.std.proofs.lemmas.Option.{slice_get-get_or}
 use Rattle.fsrm_model.specs.declared.row.NodeRow.{NodeRow}
 use Rattle.fsrm_base.specs.Keyed.{is_ascending}
 use Rattle.fsrm_model.specs.Tree.{number}
-use Rattle.block_list.specs.Runs.{entries_of}
-use Rattle.volume_tree.specs.Entries.{AreOwn, IsLower, IsNotLower, IsOwn, Sequence}
-use Rattle.volume_tree.specs.Kept.{IsFloor, IsOrder, IsPlace, is_before}
-use Rattle.volume_tree.proofs.ordering.Halving.{before_empty, lower_before, upper_stays}
-use Rattle.volume_tree.proofs.ordering.Spans.{floor_past, place_none, place_some}
+use Rattle.block_list.specs.Runs.{entries_of, start_of}
+use Rattle.volume_tree.specs.Entries.{AreOwn, IsFirst, IsLower, IsNotLower, IsOwn, Sequence}
+use Rattle.volume_tree.specs.Kept.{IsFloor, IsOrder, IsPlace}
+use Rattle.volume_tree.specs.declared.entries.Entry.{Entry}
+use Rattle.volume_tree.proofs.ordering.Halving.{lower_before, upper_stays}
+use Rattle.volume_tree.proofs.ordering.Narrowed.{Leaves, Passes}
+use Rattle.volume_tree.proofs.ordering.Spans.{floor_first, floor_past, place_none, place_some}
 
 -- after an entry of a lower folder there is a floor
 floor_lower : (nodes : List NodeRow) (order : Sequence) (folder k : ℕ) → is_ascending number nodes ≡ true → IsOrder nodes (entries_of order.runs) → AreOwn nodes order → IsLower order folder k → IsFloor nodes (entries_of order.runs) folder [] (k + 1)
@@ -21,7 +23,7 @@ floor_lower nodes order folder k a h own e =
     let parent = is.parent_is in
     floor_past nodes (entries_of order.runs) folder [] k e.entry.node is.row h a e.at is.found (sym (lower_before is.row folder (omega (arith, less, parent))))
 
-pub floor_on : (nodes : List NodeRow) (order : Sequence) (folder i j : ℕ) → is_ascending number nodes ≡ true → IsOrder nodes (entries_of order.runs) → AreOwn nodes order → IsFloor nodes (entries_of order.runs) folder [] i → i ≤ j → (i < j → IsLower order folder (j - 1)) → IsFloor nodes (entries_of order.runs) folder [] j
+floor_on : (nodes : List NodeRow) (order : Sequence) (folder i j : ℕ) → is_ascending number nodes ≡ true → IsOrder nodes (entries_of order.runs) → AreOwn nodes order → IsFloor nodes (entries_of order.runs) folder [] i → i ≤ j → (i < j → IsLower order folder (j - 1)) → IsFloor nodes (entries_of order.runs) folder [] j
 floor_on nodes order folder i j a h own f l e =
     elim (cases_lt i j) [
       | inl m ↦
@@ -31,7 +33,7 @@ floor_on nodes order folder i j a h own f l e =
     ]
 
 -- it is the place from which the folders are the greater ones, if no lower one stands there
-pub place_on : (nodes : List NodeRow) (order : Sequence) (folder k : ℕ) → is_ascending number nodes ≡ true → IsOrder nodes (entries_of order.runs) → AreOwn nodes order → IsFloor nodes (entries_of order.runs) folder [] k → (k < length (entries_of order.runs) → IsNotLower order folder k) → IsPlace nodes (entries_of order.runs) folder [] k
+place_on : (nodes : List NodeRow) (order : Sequence) (folder k : ℕ) → is_ascending number nodes ≡ true → IsOrder nodes (entries_of order.runs) → AreOwn nodes order → IsFloor nodes (entries_of order.runs) folder [] k → (k < length (entries_of order.runs) → IsNotLower order folder k) → IsPlace nodes (entries_of order.runs) folder [] k
 place_on nodes order folder k a h own f e =
     elim (cases_lt k (length (entries_of order.runs))) [
       | inl m ↦
@@ -43,16 +45,48 @@ place_on nodes order folder k a h own f e =
       | inr m ↦ let within = f.within in place_none nodes (entries_of order.runs) folder [] k f (omega arith)
     ]
 
--- where a folder's children begin there is a floor of the next folder
-pub floor_next : (nodes : List NodeRow) (order : List ℕ) (folder place : ℕ) → IsPlace nodes order folder [] place → IsFloor nodes order (folder + 1) [] place
-floor_next nodes order folder place p =
+-- such a place is that of the empty name
+pub place_first : (nodes : List NodeRow) (order : Sequence) (folder k : ℕ) → is_ascending number nodes ≡ true → IsOrder nodes (entries_of order.runs) → AreOwn nodes order → IsFirst order folder k → IsPlace nodes (entries_of order.runs) folder [] k
+place_first nodes order folder k a h own f =
+    place_on nodes order folder k a h own (floor_on nodes order folder 0 k a h own (floor_first nodes (entries_of order.runs) folder []) (omega arith) f.lower) f.other
+
+-- what is of lower folders than one is of lower ones than the next
+pub lower_next : (order : Sequence) (folder k : ℕ) → IsLower order folder k → IsLower order (folder + 1) k
+lower_next order folder k e = let less = e.lower in record { entry = e.entry; at = e.at; listed = e.listed; lower = omega arith }
+
+-- an entry of a lower folder stands in front of a place, since it does in front of an earlier one or was passed
+pub lower_on : (order : Sequence) (folder i j : ℕ) → i ≤ j → (0 < i → IsLower order folder (i - 1)) → (i < j → IsLower order folder (j - 1)) → 0 < j → IsLower order folder (j - 1)
+lower_on order folder i j l e f s =
+    elim (cases_lt i j) [
+      | inl m ↦ f m
+      | inr m ↦ let is : i ≡ j = omega arith in subst (λ n. IsLower order folder (n - 1)) is (e (omega arith))
+    ]
+
+-- so many runs from one on, in front of which the last run begins with an entry of a lower folder, and after which the next one doesn't
+pub record AreLowerLeft (order : Sequence) (folder low size : ℕ) : Type 0 where
+  pub within : low + size ≤ length order.runs
+  pub lower : (run : ℕ) → run + 1 ≡ low → IsLower order folder (start_of order.runs run)
+  pub other : low + size < length order.runs → IsNotLower order folder (start_of order.runs (low + size))
+
+pub lower_left : (order : Sequence) (folder low size passed left : ℕ) (entry : Entry) (before : Bool) → AreLowerLeft order folder low size → 0 < size → slice_get (entries_of order.runs) (start_of order.runs (low + size / 2)) ≡ Some entry.node → Contains order.entries entry → nat_lt entry.parent folder ≡ before → Passes before size passed → Leaves before size left → AreLowerLeft order folder (low + passed) left
+lower_left order folder low size passed left entry true h s at listed t p l =
+    let same : low + size ≡ low + passed + left = omega (arith, p, l, s) in
+    let less : entry.parent < folder = grind (arith, nat_tests) in
     record {
-      within = p.within;
-      before = λ k n row l e f. sym (lower_before row (folder + 1) (less row (p.before k n row l e f)));
+      within = omega (arith, same, h.within);
+      lower = λ run e.
+          let is : low + size / 2 ≡ run = omega (arith, e, p) in
+          subst (λ i. IsLower order folder (start_of order.runs i)) is (record { entry = entry; at = at; listed = listed; lower = less });
+      other = λ m. subst (λ k. IsNotLower order folder (start_of order.runs k)) same (h.other (omega (arith, m, same)));
     }
-  where
-    less : (row : NodeRow) → is_before row folder [] ≡ true → row.parent < folder + 1
-    less row t = let lower : nat_lt row.parent folder ≡ true = sym (before_empty row folder) ∙ t in grind (arith, nat_tests)
+lower_left order folder low size passed left entry false h s at listed t p l =
+    let same : low + size / 2 ≡ low + passed + left = omega (arith, p, l) in
+    let most : folder ≤ entry.parent = grind (arith, nat_tests) in
+    record {
+      within = omega (arith, same, h.within, s);
+      lower = λ run e. h.lower run (omega (arith, e, p));
+      other = λ m. subst (λ k. IsNotLower order folder (start_of order.runs k)) same (record { entry = entry; at = at; listed = listed; other = most });
+    }
 
 -- something stands before the end
 pub none_past : (xs : List ℕ) (k : ℕ) → slice_get xs k ≡ None → k < length xs → ⊥

@@ -25,54 +25,63 @@ passes_few true size passed s p = omega (arith, p)
 passes_few false size passed s p = omega (arith, p)
 
 -- so many runs from one on, in front of which the runs begin before the name's place, and behind which no entry does
-pub record AreRunsLeft (nodes : List NodeRow) (runs : List (List ℕ)) (folder : ℕ) (name : List ℕ) (low size looks : ℕ) : Type 0 where
+pub record AreRunsLeft (nodes : List NodeRow) (runs : List (List ℕ)) (folder : ℕ) (name : List ℕ) (begun low size looks : ℕ) : Type 0 where
   pub within : low + size ≤ length runs
   pub floor : (run : ℕ) → run + 1 ≡ low → IsFloor nodes (entries_of runs) folder name (start_of runs run + 1)
   pub beyond : IsBeyond nodes (entries_of runs) folder name (start_of runs (low + size))
-  pub few : IsFew 13 size looks
+  pub few : IsFew (begun + 13) size looks
+  pub least : begun ≤ looks
+  pub some : size < length runs → begun + 1 ≤ looks
 
-pub runs_left : (nodes : List NodeRow) (runs : List (List ℕ)) (folder : ℕ) (name : List ℕ) (low size looks passed left n : ℕ) (before : Bool) (row : NodeRow) → is_ascending number nodes ≡ true → IsOrder nodes (entries_of runs) → AreRunsLeft nodes runs folder name low size looks → 0 < size → slice_get (entries_of runs) (start_of runs (low + size / 2)) ≡ Some n → node_of nodes n ≡ Some row → before ≡ is_before row folder name → is_named row folder name ≡ false → Passes before size passed → Leaves before size left → AreRunsLeft nodes runs folder name (low + passed) left (looks + 1)
-runs_left nodes runs folder name low size looks passed left n true row a o h s at found t u p l =
+pub runs_left : (nodes : List NodeRow) (runs : List (List ℕ)) (folder : ℕ) (name : List ℕ) (begun low size looks passed left n : ℕ) (before : Bool) (row : NodeRow) → is_ascending number nodes ≡ true → IsOrder nodes (entries_of runs) → AreRunsLeft nodes runs folder name begun low size looks → 0 < size → slice_get (entries_of runs) (start_of runs (low + size / 2)) ≡ Some n → node_of nodes n ≡ Some row → before ≡ is_before row folder name → is_named row folder name ≡ false → Passes before size passed → Leaves before size left → AreRunsLeft nodes runs folder name begun (low + passed) left (looks + 1)
+runs_left nodes runs folder name begun low size looks passed left n true row a o h s at found t u p l =
     let same : low + size ≡ low + passed + left = omega (arith, p, l, s) in
     record {
       within = omega (arith, same, h.within);
       floor = λ run e. run_past nodes runs folder name (low + size / 2) n row a o at found (sym t) run (omega (arith, e, p));
       beyond = subst (λ k. IsBeyond nodes (entries_of runs) folder name (start_of runs k)) same h.beyond;
-      few = few_halved 13 size looks left true h.few s l;
+      few = few_halved (begun + 13) size looks left true h.few s l;
+      least = omega (arith, h.least);
+      some = λ _. omega (arith, h.least);
     }
-runs_left nodes runs folder name low size looks passed left n false row a o h s at found t u p l =
+runs_left nodes runs folder name begun low size looks passed left n false row a o h s at found t u p l =
     let same : low + size / 2 ≡ low + passed + left = omega (arith, p, l) in
     record {
       within = omega (arith, same, h.within, s);
       floor = λ run e. h.floor run (omega (arith, e, p));
       beyond = subst (λ k. IsBeyond nodes (entries_of runs) folder name (start_of runs k)) same
           (beyond_here nodes (entries_of runs) folder name (start_of runs (low + size / 2)) n row o a at found (sym t) u);
-      few = few_halved 13 size looks left false h.few s l;
+      few = few_halved (begun + 13) size looks left false h.few s l;
+      least = omega (arith, h.least);
+      some = λ _. omega (arith, h.least);
     }
 
 -- so many entries of a run that begins at a place and has so many in all
-pub record AreEntriesLeft (nodes : List NodeRow) (order : List ℕ) (folder : ℕ) (name : List ℕ) (start count low size looks : ℕ) : Type 0 where
+pub record AreEntriesLeft (nodes : List NodeRow) (order : List ℕ) (folder : ℕ) (name : List ℕ) (start count begun low size looks : ℕ) : Type 0 where
   pub within : low + size ≤ count
   pub floor : IsFloor nodes order folder name (start + low)
   pub beyond : IsBeyond nodes order folder name (start + (low + size))
-  pub few : IsFew 8 size looks
+  pub few : IsFew (begun + 8) size looks
+  pub least : begun ≤ looks
 
-pub entries_left : (nodes : List NodeRow) (order : List ℕ) (folder : ℕ) (name : List ℕ) (start count low size looks passed left n : ℕ) (before : Bool) (row : NodeRow) → is_ascending number nodes ≡ true → IsOrder nodes order → AreEntriesLeft nodes order folder name start count low size looks → 0 < size → slice_get order (start + (low + size / 2)) ≡ Some n → node_of nodes n ≡ Some row → before ≡ is_before row folder name → is_named row folder name ≡ false → Passes before size passed → Leaves before size left → AreEntriesLeft nodes order folder name start count (low + passed) left (looks + 1)
-entries_left nodes order folder name start count low size looks passed left n true row a o h s at found t u p l =
+pub entries_left : (nodes : List NodeRow) (order : List ℕ) (folder : ℕ) (name : List ℕ) (start count begun low size looks passed left n : ℕ) (before : Bool) (row : NodeRow) → is_ascending number nodes ≡ true → IsOrder nodes order → AreEntriesLeft nodes order folder name start count begun low size looks → 0 < size → slice_get order (start + (low + size / 2)) ≡ Some n → node_of nodes n ≡ Some row → before ≡ is_before row folder name → is_named row folder name ≡ false → Passes before size passed → Leaves before size left → AreEntriesLeft nodes order folder name start count begun (low + passed) left (looks + 1)
+entries_left nodes order folder name start count begun low size looks passed left n true row a o h s at found t u p l =
     let same : low + size ≡ low + passed + left = omega (arith, p, l, s) in
     let next : start + (low + size / 2) + 1 ≡ start + (low + passed) = omega (arith, p) in
     record {
       within = omega (arith, same, h.within);
       floor = subst (IsFloor nodes order folder name) next (floor_past nodes order folder name (start + (low + size / 2)) n row o a at found (sym t));
       beyond = subst (λ k. IsBeyond nodes order folder name (start + k)) same h.beyond;
-      few = few_halved 8 size looks left true h.few s l;
+      few = few_halved (begun + 8) size looks left true h.few s l;
+      least = omega (arith, h.least);
     }
-entries_left nodes order folder name start count low size looks passed left n false row a o h s at found t u p l =
+entries_left nodes order folder name start count begun low size looks passed left n false row a o h s at found t u p l =
     let same : low + size / 2 ≡ low + passed + left = omega (arith, p, l) in
     let stays : low ≡ low + passed = omega (arith, p) in
     record {
       within = omega (arith, same, h.within, s);
       floor = subst (λ k. IsFloor nodes order folder name (start + k)) stays h.floor;
       beyond = subst (λ k. IsBeyond nodes order folder name (start + k)) same (beyond_here nodes order folder name (start + (low + size / 2)) n row o a at found (sym t) u);
-      few = few_halved 8 size looks left false h.few s l;
+      few = few_halved (begun + 8) size looks left false h.few s l;
+      least = omega (arith, h.least);
     }

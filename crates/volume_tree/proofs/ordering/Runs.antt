@@ -1,8 +1,8 @@
 -- The order in runs.
-use Rattle.std.proofs.Common.{◌≡◌, ℕ, zero, suc, ◌+◌, ◌-◌, ◌<◌, ◌≤◌, ◌==◌, not, true, ◌⊎◌, inl, inr, List, [], ◌∷◌, ◌++◌, length, take, drop, slice_get, Some, None, Result, Ok, Err, refl, sym, ◌∙◌, ap, subst, arith, length-append, length-drop}
+use Rattle.std.proofs.Common.{◌≡◌, ℕ, zero, suc, ◌+◌, ◌-◌, ◌<◌, ◌≤◌, ◌==◌, not, true, inl, inr, List, [], ◌∷◌, ◌++◌, length, take, drop, slice_get, Some, None, Result, Ok, Err, refl, sym, ◌∙◌, ap, subst, arith, length-append, length-drop, take-add}
 use Rattle.std.specs.Prelude.{IfOk, IfErr, min}
 use Rattle.std.proofs.lemmas.Bool.{cases_lt}
-use Rattle.std.proofs.lemmas.List.{take_all}
+use Rattle.std.proofs.lemmas.List.{drop-drop, take-append-le, take_rest}
 use Rattle.std.proofs.lemmas.Option.{slice_get_within, get_or_from_slice_get}
 use Rattle.fsrm_model.specs.declared.row.NodeRow.{NodeRow}
 use Rattle.fsrm_base.specs.Keyed.{is_ascending}
@@ -10,7 +10,7 @@ use Rattle.fsrm_model.specs.Tree.{number, node_of, children}
 use Rattle.block_list.specs.declared.place.Place.{Place}
 use Rattle.block_list.specs.Places.{IsEntry, IsGap, index_of}
 use Rattle.block_list.specs.Runs.{entries_of, run_at, start_of}
-use Rattle.block_list.proofs.Joined.{entries_more, entries_place, run_within}
+use Rattle.block_list.proofs.Joined.{run_within}
 use Rattle.volume_tree.specs.Kept.{IsOrder, IsPlace, IsFloor, IsLeft, is_before, numbers_from}
 use Rattle.volume_tree.proofs.ordering.Children.{has_there}
 use Rattle.volume_tree.proofs.ordering.Spans.{floor_past}
@@ -95,57 +95,35 @@ rest_of (run ∷ runs) (suc i) offset n m within l e f =
     ∙ (rest_of runs i offset (start_of runs i + offset) (start_of runs i + length (run_at runs i)) (omega arith) l refl refl
     ∙ ap (λ ys. drop offset (run_at runs i) ++ ys) (sym (drop_past run (entries_of runs) m (start_of runs i + length (run_at runs i)) (omega (arith, f, size)))))
 
-pub take_both : (xs ys : List ℕ) (n few rest : ℕ) → few ≤ length xs → few + rest ≡ n → ((rest ≡ 0) ⊎ (few ≡ length xs)) → take n (xs ++ ys) ≡ take few xs ++ take rest ys
-take_both [] ys n zero rest l e w = let same : n ≡ rest = omega (arith, e) in ap (λ k. take k ys) same
-take_both [] ys n (suc few) rest l e w = absurd (omega arith)
-take_both (x ∷ xs) ys n zero rest l e (inl z) = let none : n ≡ 0 = omega (arith, e, z) in ap (λ k. take k (x ∷ xs ++ ys)) none ∙ sym (ap (λ k. take k ys) z)
-take_both (x ∷ xs) ys n zero rest l e (inr w) = absurd (omega (arith, w))
-take_both (x ∷ xs) ys zero (suc few) rest l e w = absurd (omega (arith, e))
-take_both (x ∷ xs) ys (suc n) (suc few) rest l e (inl z) = ap (λ zs. x ∷ zs) (take_both xs ys n few rest (omega arith) (omega (arith, e)) (inl z))
-take_both (x ∷ xs) ys (suc n) (suc few) rest l e (inr w) = ap (λ zs. x ∷ zs) (take_both xs ys n few rest (omega arith) (omega (arith, e)) (inr (omega (arith, w))))
-
-pub lent_before : (runs : List (List ℕ)) (place next : Place) (left few rest : ℕ) → place.run < length runs → place.offset ≤ length (run_at runs place.run) → index_of runs next ≡ start_of runs place.run + length (run_at runs place.run) → few + place.offset ≤ length (run_at runs place.run) → few + rest ≡ left → ((rest ≡ 0) ⊎ (few + place.offset ≡ length (run_at runs place.run))) → numbers_from runs place left ≡ take few (drop place.offset (run_at runs place.run)) ++ numbers_from runs next rest
-lent_before runs place next left few rest within l is m e w =
+pub lent_before : (runs : List (List ℕ)) (place next : Place) (left few rest : ℕ) → place.run < length runs → few + place.offset ≤ length (run_at runs place.run) → index_of runs next ≡ index_of runs place + few → few + rest ≡ left → numbers_from runs place left ≡ take few (drop place.offset (run_at runs place.run)) ++ numbers_from runs next rest
+lent_before runs place next left few rest within most is e =
     let run = run_at runs place.run in
-    let size = length-drop place.offset run in
-    let way : (rest ≡ 0) ⊎ (few ≡ length (drop place.offset run)) = elim w [ inl z ↦ inl z | inr f ↦ inr (omega (arith, f, size)) ] in
-    ap (take left) (rest_of runs place.run place.offset (index_of runs place) (index_of runs next) within l refl is)
-    ∙ take_both (drop place.offset run) (drop (index_of runs next) (entries_of runs)) left few rest (omega (arith, m, size)) e way
+    let all = entries_of runs in
+    let at = index_of runs place in
+    let end = start_of runs place.run + length run in
+    let front : take few (drop at all) ≡ take few (drop place.offset run) =
+    ap (take few) (rest_of runs place.run place.offset at end within (omega (arith, most)) refl refl)
+    ∙ take-append-le few (drop place.offset run) (drop end all) (omega (arith, most, length-drop place.offset run)) in
+    let back : drop few (drop at all) ≡ drop (index_of runs next) all = drop-drop few at all ∙ ap (λ k. drop k all) (sym is) in
+    ap (λ k. take k (drop at all)) (sym e)
+    ∙ (take-add few rest (drop at all)
+    ∙ (ap (λ xs. xs ++ take rest (drop few (drop at all))) front
+    ∙ ap (λ xs. take few (drop place.offset run) ++ take rest xs) back))
 
-pub left_after : (runs : List (List ℕ)) (place : Place) (left few rest : ℕ) → IsLeft runs place left → place.run < length runs → place.offset ≤ length (run_at runs place.run) → few + rest ≡ left → ((rest ≡ 0) ⊎ (few + place.offset ≡ length (run_at runs place.run))) → IsLeft runs (record { run = place.run + 1; offset = 0 }) rest
-left_after runs place left few rest h within l e w =
-    let more = entries_more runs place.run within in
-    let most = entries_place runs place.run (length (run_at runs place.run)) within (omega arith) in
-    let fit : start_of runs (place.run + 1) + rest ≤ length (entries_of runs) = elim w [ inl z ↦ omega (arith, more, most, z) | inr f ↦ omega (arith, more, most, f, e, h.within) ] in
+pub left_after : (runs : List (List ℕ)) (place next : Place) (left few rest : ℕ) → IsLeft runs place left → index_of runs next ≡ index_of runs place + few → few + rest ≡ left → (0 < next.offset → next.offset < length (run_at runs next.run)) → IsLeft runs next rest
+left_after runs place next left few rest h is e offset =
+    let fit : index_of runs next + rest ≤ length (entries_of runs) = omega (arith, h.within, is, e) in
     record {
-      within = omega (arith, fit);
-      run = λ some. run_within runs (place.run + 1) (omega (arith, fit, some));
-      offset = λ some none. absurd (omega arith);
+      within = fit;
+      run = λ some. run_within runs next.run (omega (arith, fit, some));
+      offset = λ some l. offset l;
     }
 
 pub offset_within : (runs : List (List ℕ)) (place : Place) (left : ℕ) → IsLeft runs place left → 0 < left → place.offset ≤ length (run_at runs place.run)
 offset_within runs place left h some = elim (cases_lt 0 place.offset) [ inl l ↦ let m = h.offset some l in omega (arith, m) | inr l ↦ omega (arith, l) ]
 
--- as many as are left of a run, or as many as are left in all
-pub record Lent (run all : List ℕ) (place : Place) (left few : ℕ) : Type 0 where
-  pub whole : take (length all - place.offset) (drop place.offset all) ≡ drop place.offset run
-  pub most : few + place.offset ≤ length run
-  pub sum : few + (left - few) ≡ left
-  pub way : (left - few ≡ 0) ⊎ (few + place.offset ≡ length run)
-
-pub lent_parts : (runs : List (List ℕ)) (place : Place) (left few : ℕ) (all : List ℕ) → all ≡ run_at runs place.run → place.offset ≤ length (run_at runs place.run) → few ≡ min (length (take (length all - place.offset) (drop place.offset all))) left → Lent (run_at runs place.run) all place left few
-lent_parts runs place left few all is l f =
-    let size = length-drop place.offset all in
-    let same = ap length is in
-    let rest = take (length all - place.offset) (drop place.offset all) in
-    let own : rest ≡ drop place.offset all = take_all (length all - place.offset) (drop place.offset all) (omega (arith, size)) in
-    let width : length rest ≡ length (run_at runs place.run) - place.offset = omega (arith, ap length own, size, same) in
-    record {
-      whole = own ∙ ap (drop place.offset) is;
-      most = omega (arith, f, width, l);
-      sum = omega (arith, f);
-      way = elim (cases_lt left (length rest)) [
-        | inl m ↦ inl (omega (arith, f, m))
-        | inr m ↦ inr (omega (arith, f, m, width, l))
-      ];
-    }
+-- as many as are left of a run, but no more than are left in all
+pub lent_few : {X : Type 0} (all : List X) (offset left few : ℕ) → offset ≤ length all → few ≡ min (length (take (length all - offset) (drop offset all))) left → (few + offset ≤ length all) × (few + (left - few) ≡ left)
+lent_few all offset left few l f =
+    let size : length (take (length all - offset) (drop offset all)) ≡ length all - offset = ap length (take_rest all offset) ∙ length-drop offset all in
+    (omega (arith, f, size, l), omega (arith, f, size))

@@ -1,55 +1,19 @@
--- Rows and slots: copies of the rows of slots, and slots of the rows that are read.
-use Rattle.std.proofs.Common.{◌≡◌, ℕ, suc, ◌+◌, ◌<◌, ◌≤◌, List, [], ◌∷◌, ◌++◌, length, take, drop, get_or, refl, sym, ◌∙◌, ap, arith, Some, None, Option, Err, Result}
+-- A table of rows that are read one after another.
+use Rattle.std.proofs.Common.{◌≡◌, ℕ, zero, suc, Bool, ◌+◌, ◌<◌, ◌≤◌, true, false, List, [], ◌∷◌, ◌++◌, length, take, drop, get_or, refl, sym, ◌∙◌, ap, arith, Some, None, Option, Err, Result}
+use Rattle.std.specs.List.{list_all}
 use Rattle.std.specs.Result.{IsErrOf}
-use Rattle.std.proofs.lemmas.List.{append-nil, take_more, take-append-drop, length-append}
+use Rattle.std.proofs.lemmas.List.{drop_more, get_or_past, take_more}
+use Rattle.std.proofs.lemmas.List.Sums.{sum_by-take-le, sum_by_push}
+use Rattle.std.specs.Prelude.{is_some}
+use Rattle.fsrm_base.proofs.TestLaws.{both, le_is, lt_is}
 use Rattle.fsrm_model.specs.declared.row.NodeRow.{NodeRow}
-use Rattle.volume_tree.specs.Kept.{AreSlots, rows_of}
-
-pub rows_of-append : (xs ys : List (Option NodeRow)) → rows_of (xs ++ ys) ≡ rows_of xs ++ rows_of ys
-rows_of-append [] ys = refl
-rows_of-append (None ∷ xs) ys = rows_of-append xs ys
-rows_of-append (Some row ∷ xs) ys = ap (λ rows. row ∷ rows) (rows_of-append xs ys)
-
--- an empty slot is added
-empty_from : (m : ℕ) (slots : List (Option NodeRow)) → AreSlots m slots → AreSlots m (slots ++ None ∷ [])
-empty_from m [] a = (tt, tt)
-empty_from m (slot ∷ slots) a = (a.0, empty_from (suc m) slots a.1)
-
-pub empty_slots : (slots : List (Option NodeRow)) → AreSlots 0 slots → AreSlots 0 (slots ++ None ∷ [])
-empty_slots slots a = empty_from 0 slots a
-
-pub empty_rows : (slots : List (Option NodeRow)) → rows_of (slots ++ None ∷ []) ≡ rows_of slots
-empty_rows slots = rows_of-append slots (None ∷ []) ∙ append-nil (rows_of slots)
-
-pub length_more : {X : Type 0} (xs : List X) (x : X) → length (xs ++ x ∷ []) ≡ length xs + 1
-length_more xs x = length-append xs (x ∷ [])
-
--- the rows of one more slot
-pub taken_rows : (slots : List (Option NodeRow)) (i : ℕ) (slot : Option NodeRow) → i < length slots → slot ≡ get_or slots i slot → rows_of (take (i + 1) slots) ≡ rows_of (take i slots) ++ rows_of (slot ∷ [])
-taken_rows slots i slot l e =
-    ap rows_of (take_more slots i slot l) ∙ (ap (λ s. rows_of (take i slots ++ s ∷ [])) (sym e) ∙ rows_of-append (take i slots) (slot ∷ []))
-
--- the first rows are no more than all
-pub few_taken : (slots : List (Option NodeRow)) (i : ℕ) → length (rows_of (take i slots)) ≤ length (rows_of slots)
-few_taken slots i =
-    let e = ap length (ap rows_of (sym (take-append-drop i slots)) ∙ rows_of-append (take i slots) (drop i slots)) in
-    omega (arith, e, length-append (rows_of (take i slots)) (rows_of (drop i slots)))
-
--- one more row is no more than all
-pub one_more : (slots : List (Option NodeRow)) (i : ℕ) (row : NodeRow) (slot : Option NodeRow) → i < length slots → slot ≡ get_or slots i slot → slot ≡ Some row → rows_of (take (i + 1) slots) ≡ rows_of (take i slots) ++ row ∷ []
-one_more slots i row slot l e is = taken_rows slots i slot l e ∙ ap (λ s. rows_of (take i slots) ++ rows_of (s ∷ [])) is
-
-pub still_few : (slots : List (Option NodeRow)) (i : ℕ) (row : NodeRow) (slot : Option NodeRow) → i < length slots → slot ≡ get_or slots i slot → slot ≡ Some row → length (rows_of (take i slots)) + 1 ≤ length (rows_of slots)
-still_few slots i row slot l e is =
-    let m = ap length (one_more slots i row slot l e is) in
-    omega (arith, m, length_more (rows_of (take i slots)) row, few_taken slots (i + 1))
-
-pub none_more : (slots : List (Option NodeRow)) (i : ℕ) (slot : Option NodeRow) → i < length slots → slot ≡ get_or slots i slot → slot ≡ None → rows_of (take (i + 1) slots) ≡ rows_of (take i slots)
-none_more slots i slot l e is = taken_rows slots i slot l e ∙ (ap (λ s. rows_of (take i slots) ++ rows_of (s ∷ [])) is ∙ append-nil (rows_of (take i slots)))
-
-pub is_none : (o : Option NodeRow) → ((row : NodeRow) → o ≡ Some row → ⊥) → o ≡ None
-is_none None h = refl
-is_none (Some row) h = absurd (h row refl)
+use Rattle.fsrm_model.specs.Tree.{name_bytes}
+use Rattle.node_table.specs.Slots.{rows_of, AreSlots, is_taken, with_slot}
+use Rattle.node_table.specs.Views.{IsInRange}
+use Rattle.node_table.proofs.PlaceLaws.{length-with_at}
+use Rattle.volume_tree.specs.Sound.{are_from, is_in_range}
+use Rattle.volume_tree.proofs.kept.Sound.{from_parts}
+use Rattle.volume_tree.proofs.slotted.SlotLaws.{slots_with}
 
 -- an error that is passed on
 pub passed_on : {A B E : Type 0} (r : Result B E) (y fault due : E) → IsErrOf r due → r ≡ Err y → y ≡ fault → IsErrOf {T = A} (Err fault) due
@@ -57,3 +21,57 @@ passed_on {A} {B} {E} r y fault due e h is =
     let same : fault ≡ due = cc in
     let error : E → Result A E = λ f. Err f in
     ap error same
+
+-- a row after all others
+later : (slots : List (Option NodeRow)) (n : ℕ) (row : NodeRow) → length slots ≤ n → rows_of (with_slot slots n (Some row)) ≡ rows_of slots ++ row ∷ []
+later [] zero row h = refl
+later [] (suc n) row h = later [] n row (omega arith)
+later (None ∷ slots) zero row h = absurd (omega arith)
+later (None ∷ slots) (suc n) row h = later slots n row (omega arith)
+later (Some r ∷ slots) zero row h = absurd (omega arith)
+later (Some r ∷ slots) (suc n) row h = ap (λ rows. r ∷ rows) (later slots n row (omega arith))
+
+passes_from : {X : Type 0} (p : X → Bool) (xs : List X) (i : ℕ) (d : X) → i < length xs → list_all p xs ≡ true → p (get_or xs i d) ≡ true
+passes_from p [] i d l h = absurd (omega arith)
+passes_from p (x ∷ xs) zero d l h = (both (p x) (list_all p xs) h).0
+passes_from p (x ∷ xs) (suc i) d l h = passes_from p xs i d (omega arith) (both (p x) (list_all p xs) h).1
+
+-- what is known of the next row, when those before it are in slots
+pub record IsNext (bound names : ℕ) (slots : List (Option NodeRow)) (rows : List NodeRow) (i : ℕ) (row : NodeRow) : Type 0 where
+  pub later_is : length slots ≤ row.number
+  pub below : row.number < bound
+  pub empty : is_taken slots row.number ≡ false
+  pub room : name_bytes (take i rows) + length row.name ≤ names
+  pub range : IsInRange row
+  pub slots_are : AreSlots 0 (with_slot slots row.number (Some row))
+  pub rows_are : rows_of (with_slot slots row.number (Some row)) ≡ take (i + 1) rows
+  pub rest : are_from (length (with_slot slots row.number (Some row))) bound (drop (i + 1) rows) ≡ true
+  pub fit : length (with_slot slots row.number (Some row)) ≤ bound
+
+in_range : (row : NodeRow) → is_in_range row ≡ true → IsInRange row
+in_range row h =
+    let a = both _ _ h in
+    let b = both _ _ a.1 in
+    let d = both _ _ b.1 in
+    record { bytes = le_is _ _ a.0; created_at = le_is _ _ b.0; modified_at = le_is _ _ d.0; accessed_at = le_is _ _ d.1 }
+
+pub next_row : (bound names : ℕ) (slots : List (Option NodeRow)) (rows : List NodeRow) (i : ℕ) (row : NodeRow) → i < length rows → row ≡ get_or rows i row → AreSlots 0 slots → rows_of slots ≡ take i rows → are_from (length slots) bound (drop i rows) ≡ true → list_all is_in_range rows ≡ true → name_bytes rows ≤ names → IsNext bound names slots rows i row
+next_row bound names slots rows i row within is are taken rest range fits =
+    let here : drop i rows ≡ row ∷ drop (i + 1) rows = drop_more rows i row within ∙ ap (λ r. r ∷ drop (i + 1) rows) (sym is) in
+    let parts = from_parts (length slots) bound row (drop (i + 1) rows) (sym (ap (are_from (length slots) bound) here) ∙ rest) in
+    let least = parts.least in
+    let below : row.number < bound = lt_is row.number bound parts.below in
+    let more : take (i + 1) rows ≡ take i rows ++ row ∷ [] = take_more rows i row within ∙ ap (λ r. take i rows ++ r ∷ []) (sym is) in
+    let size : length (with_slot slots row.number (Some row)) ≡ suc row.number = omega (arith, least, length-with_at {X = Option NodeRow} None slots row.number (Some row)) in
+    let bytes = ap name_bytes more in
+    record {
+      later_is = least;
+      below = below;
+      empty = ap is_some (get_or_past slots row.number None least);
+      room = omega (arith, fits, bytes, sum_by_push (λ (r : NodeRow). length r.name) (take i rows) row, sum_by-take-le (λ (r : NodeRow). length r.name) rows (i + 1));
+      range = in_range row (ap is_in_range is ∙ passes_from is_in_range rows i row within range);
+      slots_are = slots_with row.number slots (Some row) are refl;
+      rows_are = later slots row.number row least ∙ (ap (λ rs. rs ++ row ∷ []) taken ∙ sym more);
+      rest = ap (λ n. are_from n bound (drop (i + 1) rows)) size ∙ parts.rest;
+      fit = omega (arith, size, below);
+    }

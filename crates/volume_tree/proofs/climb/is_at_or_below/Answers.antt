@@ -21,36 +21,36 @@ most : (rows : List NodeRow) (node folder begun now : ℕ) → now ≡ begun + p
 most rows node folder begun now h = let l = passed_most node (chain rows folder) in omega (arith, l)
 
 pub returns-then-at-eq0-clause-value : goal.returns-then-at-eq0-clause-value
-returns-then-at-eq0-clause-value g c = at_root (rows_of c.args.slots.now) c.args.node c.loop-at.at c.args.folder c.loop-at-test.true c.if-at-eq0.true c.loop-at.invariant.same
+returns-then-at-eq0-clause-value g c = at_root (rows_of c.args.slots.now.slots) c.args.node c.loop-at.at c.args.folder c.loop-at-test.true c.if-at-eq0.true c.loop-at.invariant.same
 
 pub returns-then-at-eq0-clause-count : goal.returns-then-at-eq0-clause-count
 returns-then-at-eq0-clause-count g c =
-    let rows = rows_of c.args.slots.now in
+    let rows = rows_of c.args.slots.now.slots in
     let one : passed c.args.node (chain rows c.loop-at.at) ≡ 1 = ap (λ (n : ℕ). passed c.args.node (chain rows n)) c.if-at-eq0.true ∙ passed_root rows c.args.node in
     at_end rows c.args.node c.loop-at.at c.args.folder c.args.steps.now c.loop-at.steps one c.loop-at.invariant.looks
 
 pub returns-then-at-eq0-clause-looks : goal.returns-then-at-eq0-clause-looks
-returns-then-at-eq0-clause-looks g c = most (rows_of c.args.slots.now) c.args.node c.args.folder c.args.steps.now c.loop-at.steps (returns-then-at-eq0-clause-count g c)
+returns-then-at-eq0-clause-looks g c = most (rows_of c.args.slots.now.slots) c.args.node c.args.folder c.args.steps.now c.loop-at.steps (returns-then-at-eq0-clause-count g c)
 
 pub returns-clause-value : goal.returns-clause-value
-returns-clause-value g c = at_node (rows_of c.args.slots.now) c.args.node c.loop-at.at c.args.folder c.loop-at-test.false c.loop-at.invariant.same
+returns-clause-value g c = at_node (rows_of c.args.slots.now.slots) c.args.node c.loop-at.at c.args.folder c.loop-at-test.false c.loop-at.invariant.same
 
 pub returns-clause-count : goal.returns-clause-count
 returns-clause-count g c =
-    let rows = rows_of c.args.slots.now in
+    let rows = rows_of c.args.slots.now.slots in
     let one : passed c.args.node (chain rows c.loop-at.at) ≡ 1 = ap (λ (n : ℕ). passed c.args.node (chain rows n)) c.loop-at-test.false ∙ passed_own rows c.args.node in
     at_end rows c.args.node c.loop-at.at c.args.folder c.args.steps.now c.loop-at.steps one c.loop-at.invariant.looks
 
 pub returns-clause-looks : goal.returns-clause-looks
-returns-clause-looks g c = most (rows_of c.args.slots.now) c.args.node c.args.folder c.args.steps.now c.loop-at.steps (returns-clause-count g c)
+returns-clause-looks g c = most (rows_of c.args.slots.now.slots) c.args.node c.args.folder c.args.steps.now c.loop-at.steps (returns-clause-count g c)
 
 pub loop-at-smaller : goal.loop-at-smaller
 loop-at-smaller g c =
-    rw c.parent-at.ensures.parent (shorter (rows_of c.args.slots.now) c.requires.tree _ c.loop-at.invariant.there c.if-at-eq0.false)
+    rw c.parent-at.ensures.parent (shorter (rows_of c.args.slots.now.slots) c.requires.tree _ c.loop-at.invariant.there c.if-at-eq0.false)
 
 pub loop-at-preserved : goal.loop-at-preserved
 loop-at-preserved g c =
-    let rows = rows_of c.args.slots.now in
+    let rows = rows_of c.args.slots.now.slots in
     let up = passed_up rows c.args.node c.loop-at.at c.requires.tree c.loop-at.invariant.there c.if-at-eq0.false c.loop-at-test.true in
     let next : passed c.args.node (chain rows c.parent-at.result) ≡ passed c.args.node (chain rows (parent_of rows c.loop-at.at)) = ap (λ (n : ℕ). passed c.args.node (chain rows n)) c.parent-at.ensures.parent in
     record {

@@ -7,10 +7,10 @@ use Rattle.volume_tree.proofs.climb.is_at_or_below.Given as goal
 
 abbrev pub invariant-loop-at : goal.invariant-loop-at
 invariant-loop-at g l = record {
-  there : has_row number l.at (rows_of l.slots) ≡ true;
-  same : is_under (rows_of l.slots) l.node l.at ≡ is_under (rows_of l.slots) l.node l.folder;
-  looks : l.steps + passed l.node (chain (rows_of l.slots) l.at) ≡ l.fn.steps + passed l.node (chain (rows_of l.slots) l.folder) + 1;
+  there : has_row number l.at (rows_of l.slots.slots) ≡ true;
+  same : is_under (rows_of l.slots.slots) l.node l.at ≡ is_under (rows_of l.slots.slots) l.node l.folder;
+  looks : l.steps + passed l.node (chain (rows_of l.slots.slots) l.at) ≡ l.fn.steps + passed l.node (chain (rows_of l.slots.slots) l.folder) + 1;
 }
 
 abbrev pub decreases-loop-at : goal.decreases-loop-at
-decreases-loop-at g l = length (chain (rows_of l.slots) l.at)
+decreases-loop-at g l = length (chain (rows_of l.slots.slots) l.at)

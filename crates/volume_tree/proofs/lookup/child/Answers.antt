@@ -7,4 +7,4 @@ use Rattle.volume_tree.proofs.lookup.child.Goals as goal
 
 pub returns-in-Some-clause-value : goal.returns-in-Some-clause-value
 returns-in-Some-clause-value g c =
-    sym (has_name_found (rows_of c.args.slots.now) (entries_of c.args.order.now.runs) c.args.folder c.args.name.now c.in-Some.number c.requires.order (slots_ascend c.args.slots.now c.requires.slots) c.in-Some.ensures.named)
+    sym (has_name_found (rows_of c.args.slots.now.slots) (entries_of c.args.order.now.runs) c.args.folder c.args.name.now c.in-Some.number c.requires.order (slots_ascend c.args.slots.now.slots c.requires.slots) c.in-Some.ensures.named)

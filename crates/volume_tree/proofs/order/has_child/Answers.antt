@@ -17,18 +17,18 @@ returns-then-not-row-clause-value g c = ap (λ (rows : List NodeRow). not (lengt
 pub returns-in-None-clause-value : goal.returns-in-None-clause-value
 returns-in-None-clause-value g c =
     let runs = c.args.order.now.runs in
-    let nodes = rows_of c.args.slots.now in
-    let place = c.first_from-looks.ensures.place in
-    childless_end nodes (entries_of runs) c.from.result (index_of runs c.first_from-looks.result.0) c.requires.order (slots_ascend c.args.slots.now c.requires.slots) place (past_end (entries_of runs) (index_of runs c.first_from-looks.result.0) place.within (sym c.in-None.ensures.number))
+    let nodes = rows_of c.args.slots.now.slots in
+    let place = c.first_from-place.ensures.place in
+    childless_end nodes (entries_of runs) c.from.result (index_of runs c.first_from-place.result) c.requires.order (slots_ascend c.args.slots.now.slots c.requires.slots) place (past_end (entries_of runs) (index_of runs c.first_from-place.result) place.within (sym c.in-None.ensures.number))
     ∙ ap (λ (f : ℕ). not (length (children nodes f) == 0)) c.from.ensures
 
 pub returns-in-Some-clause-value : goal.returns-in-Some-clause-value
 returns-in-Some-clause-value g c =
     let runs = c.args.order.now.runs in
-    let nodes = rows_of c.args.slots.now in
+    let nodes = rows_of c.args.slots.now.slots in
     let own = All-contains (IsOwn nodes) c.args.order.now.entries c.in-Some.entry c.requires.entries.each c.in-Some.ensures.listed in
     c.is_child.ensures.value
     ∙ (ap (λ (p : ℕ). p == c.args.row.now.number) own.parent_is
     ∙ (ap (λ (f : ℕ). own.row.parent == f) (sym c.from.ensures)
-    ∙ (has_read nodes (entries_of runs) c.from.result (index_of runs c.first_from-looks.result.0) _ own.row c.requires.order (slots_ascend c.args.slots.now c.requires.slots) c.first_from-looks.ensures.place (sym c.in-Some.ensures.number) own.found
+    ∙ (has_read nodes (entries_of runs) c.from.result (index_of runs c.first_from-place.result) _ own.row c.requires.order (slots_ascend c.args.slots.now.slots c.requires.slots) c.first_from-place.ensures.place (sym c.in-Some.ensures.number) own.found
     ∙ ap (λ (f : ℕ). not (length (children nodes f) == 0)) c.from.ensures)))

@@ -4,6 +4,7 @@ use Rattle.block_list.specs.Runs.{entries_of, start_of}
 use Rattle.volume_tree.specs.Entries.{IsOwn}
 use Rattle.volume_tree.specs.Kept.{IsBeyond, rows_of}
 use Rattle.volume_tree.specs.declared.entries.Entry.{Entry}
+use Rattle.volume_tree.proofs.ordering.Halving.{few_first}
 use Rattle.volume_tree.proofs.ordering.Narrowed.{AreEntriesLeft, entries_left}
 use Rattle.volume_tree.proofs.ordering.Spans.{named_place}
 use Rattle.volume_tree.proofs.slotted.SlotRows.{slots_ascend}
@@ -14,47 +15,48 @@ abbrev none : Entry
 none = record { prefix = 0; parent = 0; node = 0 }
 
 pub loop-size-init : goal.loop-size-init
-loop-size-init c =
+loop-size-init g c =
     let runs = c.args.order.now.runs in
     let count = length c.run-entries.result.now in
     let whole : start_of runs (c.args.run + 1) ≡ start_of runs c.args.run + (1 + (count - 1)) = omega (arith, c.run-entries.ensures.next, c.run-entries.ensures.some) in
     record {
       within = omega (arith, c.run-entries.ensures.some);
       floor = c.requires.floor;
-      beyond = subst (IsBeyond (rows_of c.args.slots.now) (entries_of runs) c.args.folder c.args.name.now) whole c.requires.beyond;
-      few = record { few = omega arith; left = omega (arith, c.run-entries.ensures.most, c.run-entries.ensures.some) };
+      beyond = subst (IsBeyond (rows_of c.args.slots.now.slots) (entries_of runs) c.args.folder c.args.name.now) whole c.requires.beyond;
+      few = few_first c.args.steps.now 8 (count - 1) (omega (arith, c.run-entries.ensures.most, c.run-entries.ensures.some));
+      least = omega arith;
     }
 
 pub is_before-requires-clause-entry : goal.is_before-requires-clause-entry
-is_before-requires-clause-entry c =
+is_before-requires-clause-entry g c =
     let middle = c.loop-size.low + c.loop-size.size / 2 in
-    All-contains (IsOwn (rows_of c.args.slots.now)) c.args.order.now.entries (get_or c.run-entries.result.now middle none) c.requires.entries.each
+    All-contains (IsOwn (rows_of c.args.slots.now.slots)) c.args.order.now.entries (get_or c.run-entries.result.now middle none) c.requires.entries.each
     (c.run-entries.ensures.listed middle none (omega (arith, c.loop-size.invariant.within, c.loop-size-test.true)))
 
 pub loop-size-preserved : goal.loop-size-preserved
-loop-size-preserved c =
+loop-size-preserved g c =
     let runs = c.args.order.now.runs in
     let middle = c.loop-size.low + c.loop-size.size / 2 in
     let at = c.run-entries.ensures.numbers middle none (omega (arith, c.loop-size.invariant.within, c.loop-size-test.true)) in
     let stands = c.in-Some.ensures.stands in
-    subst (AreEntriesLeft (rows_of c.args.slots.now) (entries_of runs) c.args.folder c.args.name.now (start_of runs c.args.run) (length c.run-entries.result.now) (c.loop-size.low + c.halved-passed.result.0) c.halved-passed.result.1) (sym c.in-Some.ensures.count)
-    (entries_left (rows_of c.args.slots.now) (entries_of runs) c.args.folder c.args.name.now (start_of runs c.args.run) (length c.run-entries.result.now) c.loop-size.low c.loop-size.size c.loop-size.looks c.halved-passed.result.0 c.halved-passed.result.1 (get_or c.run-entries.result.now middle none).node c.in-Some.before stands.row
-    (slots_ascend c.args.slots.now c.requires.slots) c.requires.order c.loop-size.invariant c.loop-size-test.true at stands.found stands.before_is stands.other c.halved-passed.ensures.passed c.halved-passed.ensures.left)
+    subst (AreEntriesLeft (rows_of c.args.slots.now.slots) (entries_of runs) c.args.folder c.args.name.now (start_of runs c.args.run) (length c.run-entries.result.now) c.args.steps.now (c.loop-size.low + c.halved-passed.result.0) c.halved-passed.result.1) (sym c.in-Some.ensures.count)
+    (entries_left (rows_of c.args.slots.now.slots) (entries_of runs) c.args.folder c.args.name.now (start_of runs c.args.run) (length c.run-entries.result.now) c.args.steps.now c.loop-size.low c.loop-size.size c.loop-size.steps c.halved-passed.result.0 c.halved-passed.result.1 (get_or c.run-entries.result.now middle none).node c.in-Some.before stands.row
+    (slots_ascend c.args.slots.now.slots c.requires.slots) c.requires.order c.loop-size.invariant c.loop-size-test.true at stands.found stands.before_is stands.other c.halved-passed.ensures.passed c.halved-passed.ensures.left)
 
 pub returns-in_default-clause-named : goal.returns-in_default-clause-named
-returns-in_default-clause-named c =
+returns-in_default-clause-named g c =
     let middle = c.loop-size.low + c.loop-size.size / 2 in
     let at = c.run-entries.ensures.numbers middle none (omega (arith, c.loop-size.invariant.within, c.loop-size-test.true)) in
     let stands = c.in_default.ensures.stands in
     record { number = (get_or c.run-entries.result.now middle none).node; row = stands.row; at = at; found = stands.found; named = stands.named }
 
 pub returns-in_default-clause-taken : goal.returns-in_default-clause-taken
-returns-in_default-clause-taken c =
-    named_place (rows_of c.args.slots.now) (entries_of c.args.order.now.runs) c.args.folder c.args.name.now (start_of c.args.order.now.runs c.args.run + (c.loop-size.low + c.loop-size.size / 2)) c.requires.order (slots_ascend c.args.slots.now c.requires.slots)
-    (returns-in_default-clause-named c)
+returns-in_default-clause-taken g c =
+    named_place (rows_of c.args.slots.now.slots) (entries_of c.args.order.now.runs) c.args.folder c.args.name.now (start_of c.args.order.now.runs c.args.run + (c.loop-size.low + c.loop-size.size / 2)) c.requires.order (slots_ascend c.args.slots.now.slots c.requires.slots)
+    (returns-in_default-clause-named g c)
 
 pub returns-clause-beyond : goal.returns-clause-beyond
-returns-clause-beyond c =
+returns-clause-beyond g c =
     let runs = c.args.order.now.runs in
     let same : c.loop-size.low + c.loop-size.size ≡ c.loop-size.low = omega arith in
-    subst (λ k. IsBeyond (rows_of c.args.slots.now) (entries_of runs) c.args.folder c.args.name.now (start_of runs c.args.run + k)) same c.loop-size.invariant.beyond
+    subst (λ k. IsBeyond (rows_of c.args.slots.now.slots) (entries_of runs) c.args.folder c.args.name.now (start_of runs c.args.run + k)) same c.loop-size.invariant.beyond

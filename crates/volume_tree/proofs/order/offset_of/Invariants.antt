@@ -5,7 +5,7 @@ use Rattle.volume_tree.proofs.ordering.Narrowed.{AreEntriesLeft}
 use Rattle.volume_tree.proofs.order.offset_of.Given as goal
 
 abbrev pub invariant-loop-size : goal.invariant-loop-size
-invariant-loop-size l = AreEntriesLeft (rows_of l.slots) (entries_of l.order.runs) l.folder l.name (start_of l.order.runs l.run) (length l.entries) l.low l.size l.looks
+invariant-loop-size g l = AreEntriesLeft (rows_of l.slots.slots) (entries_of l.order.runs) l.folder l.name (start_of l.order.runs l.run) (length l.entries) l.fn.steps l.low l.size l.steps
 
 abbrev pub decreases-loop-size : goal.decreases-loop-size
-decreases-loop-size l = l.size
+decreases-loop-size g l = l.size

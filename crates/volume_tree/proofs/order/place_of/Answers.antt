@@ -4,8 +4,8 @@ use Rattle.volume_tree.specs.Kept.{IsPlace, rows_of}
 use Rattle.volume_tree.proofs.order.place_of.Goals as goal
 
 pub returns-in-Ok-clause-taken : goal.returns-in-Ok-clause-taken
-returns-in-Ok-clause-taken c =
+returns-in-Ok-clause-taken g c =
     let runs = c.args.order.now.runs in
     let same : start_of runs c.in-Ok.run' ≡ start_of runs c.in-Ok.run' + 0 = omega arith in
-    let taken : IsPlace (rows_of c.args.slots.now) (entries_of runs) c.args.folder c.args.name.now (start_of runs c.in-Ok.run') = search rules in
-    subst (IsPlace (rows_of c.args.slots.now) (entries_of runs) c.args.folder c.args.name.now) same taken
+    let taken : IsPlace (rows_of c.args.slots.now.slots) (entries_of runs) c.args.folder c.args.name.now (start_of runs c.in-Ok.run') = search rules in
+    subst (IsPlace (rows_of c.args.slots.now.slots) (entries_of runs) c.args.folder c.args.name.now) same taken

@@ -3,7 +3,7 @@ use Rattle.volume_tree.proofs.ordering.Narrowed.{AreRunsLeft}
 use Rattle.volume_tree.proofs.order.runs_before.Given as goal
 
 abbrev pub invariant-loop-size : goal.invariant-loop-size
-invariant-loop-size l = AreRunsLeft (rows_of l.slots) l.order.runs l.folder l.name l.low l.size l.looks
+invariant-loop-size g l = AreRunsLeft (rows_of l.slots.slots) l.order.runs l.folder l.name l.fn.steps l.low l.size l.steps
 
 abbrev pub decreases-loop-size : goal.decreases-loop-size
-decreases-loop-size l = l.size
+decreases-loop-size g l = l.size

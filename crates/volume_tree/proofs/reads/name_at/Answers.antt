@@ -1,4 +1,19 @@
+use Rattle.std.proofs.Common.{sym, ◌∙◌, ap}
+use Rattle.std.specs.Prelude.{option_map}
+use Rattle.std.proofs.lemmas.Option.{same_Some}
+use Rattle.fsrm_model.specs.declared.row.NodeRow.{NodeRow}
+use Rattle.volume_tree.proofs.slotted.SlotLaws.{filled, row_is, there_is}
 use Rattle.volume_tree.proofs.reads.name_at.Goals as goal
 
+pub name-requires : goal.name-requires
+name-requires c = there_is c.args.number c.args.slots.now.slots c.requires.slots ∙ c.requires.there
+
 pub returns : goal.returns
-returns c = record { row = c.row_at.result.now; found = c.row_at.ensures; name_is = c.as_str.ensures }
+returns c =
+    let slots = c.args.slots.now.slots in
+    let f = filled slots c.args.number c.requires.slots c.requires.there in
+    record {
+      row = f.row;
+      found = row_is c.args.number slots c.requires.slots ∙ f.at;
+      name_is = sym (same_Some f.row.name c.name.result.now (sym (ap (option_map (λ (row : NodeRow). row.name)) f.at) ∙ c.name.ensures));
+    }

@@ -8,7 +8,7 @@ use Rattle.volume_tree.proofs.rows.is_rooted.Goals as goal
 
 pub loop-left-preserved : goal.loop-left-preserved
 loop-left-preserved c =
-    let rows = rows_of c.args.slots.now in
+    let rows = rows_of c.args.slots.now.slots in
     let at = c.loop-left.at in
     let inner = not_marked rows c.args.marks.now at c.requires.marks (sym c.if-is_marked.ensures) in
     record {

@@ -7,8 +7,8 @@ use Rattle.volume_tree.proofs.rows.is_rooted.Given as goal
 
 abbrev pub invariant-loop-left : goal.invariant-loop-left
 invariant-loop-left l = record {
-  up : Reaches (rows_of l.slots) l.at → Reaches (rows_of l.slots) l.number;
-  same : is_in (chain_in l.left (rows_of l.slots) l.at) 0 ≡ is_under (rows_of l.slots) 0 l.number;
+  up : Reaches (rows_of l.slots.slots) l.at → Reaches (rows_of l.slots.slots) l.number;
+  same : is_in (chain_in l.left (rows_of l.slots.slots) l.at) 0 ≡ is_under (rows_of l.slots.slots) 0 l.number;
 }
 
 abbrev pub decreases-loop-left : goal.decreases-loop-left

@@ -4,8 +4,8 @@ use Rattle.volume_tree.proofs.rows.mark_way.Given as goal
 
 abbrev pub invariant-loop-left : goal.invariant-loop-left
 invariant-loop-left l = record {
-  marks : AreMarks (rows_of l.slots) l.marks;
-  rooted : Reaches (rows_of l.slots) l.at;
+  marks : AreMarks (rows_of l.slots.slots) l.marks;
+  rooted : Reaches (rows_of l.slots.slots) l.at;
 }
 
 abbrev pub decreases-loop-left : goal.decreases-loop-left

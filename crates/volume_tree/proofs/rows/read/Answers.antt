@@ -1,4 +1,4 @@
-use Rattle.std.proofs.Common.{◌<◌, ◌^◌, List, length, Option, sym, ◌∙◌, ap, subst, arith, rules}
+use Rattle.std.proofs.Common.{◌<◌, ◌^◌, List, length, sym, ◌∙◌, ap, subst, arith, rules}
 use Rattle.std.proofs.lemmas.Result.{err_from_is_err_and}
 use Rattle.fsrm_model.specs.declared.row.NodeRow.{NodeRow}
 use Rattle.fsrm_model.specs.Tree.{name_bytes}
@@ -8,7 +8,7 @@ use Rattle.fsrm_model.proofs.valid.ValidVolume.{tree_of_volume}
 use Rattle.volume_tree.specs.declared.answer.RowsFault.TheVariants.{BadRows}
 use Rattle.block_list.specs.Runs.{entries_of}
 use Rattle.volume_tree.specs.Entries.{AreOwn}
-use Rattle.volume_tree.specs.Kept.{AreHoles, IsOrder}
+use Rattle.volume_tree.specs.Kept.{IsOrder}
 use Rattle.volume_tree.proofs.slotted.FreshLaws.{few_nodes}
 use Rattle.volume_tree.proofs.slotted.FromRows.{passed_on}
 use Rattle.volume_tree.proofs.slotted.SlotRows.{rows_fit}
@@ -22,7 +22,7 @@ returns-in_err-slots-clause-bad c =
     bad_sound c.args.size c.args.rows.now (c.in_err-slots.ensures.bad (passed_on c.from_residual.result p.0 c.in_err-slots.field-0.0 BadRows e p.1 p.2))
 
 pub order_of-requires-clause-room : goal.order_of-requires-clause-room
-order_of-requires-clause-room c = omega (arith, rows_fit c.in_ok-slots.slots.items, ap length c.in_ok-slots.ensures.rows, c.in_ok-slots.ensures.fit)
+order_of-requires-clause-room c = omega (arith, rows_fit c.in_ok-slots.slots.slots, ap length c.in_ok-slots.ensures.filled.rows_are, c.in_ok-slots.ensures.filled.fit)
 
 pub order_of-requires-clause-ascending : goal.order_of-requires-clause-ascending
 order_of-requires-clause-ascending c = sound_ascending c.args.size.nodes c.args.rows.now c.in_ok-slots.ensures.may
@@ -44,18 +44,23 @@ overflow_cast-result c =
 pub returns-clause-kept : goal.returns-clause-kept
 returns-clause-kept c =
     let volume = volume_of_parts c.args.size c.args.rows.now (entries_of c.in_ok-order.order.runs) c.in-Some.used c.in_ok-slots.ensures.may c.in-Some.ensures.sum c.in-Some.ensures.within c.in_ok-order.ensures.order in
-    let same = sym c.in_ok-slots.ensures.rows in
+    let filled = c.in_ok-slots.ensures.filled in
+    let same = sym filled.rows_are in
     record {
-      volume = subst (IsVolume c.args.size) same volume;
-      size = c.requires;
-      slots_are = c.in_ok-slots.ensures.slots;
-      count_is = ap length same;
-      used_is = c.in-Some.ensures.sum ∙ ap name_bytes same;
-      bound_is = c.in-Ok.ensures.bound;
-      holes_are = subst (λ (slots : List (Option NodeRow)). AreHoles slots c.in-Ok.holes.members) c.deref.ensures.value c.in-Ok.ensures.holes;
-      order_is = subst (λ (rows : List NodeRow). IsOrder rows (entries_of c.in_ok-order.order.runs)) same c.in_ok-order.ensures.order;
-      entries_are = subst (λ (rows : List NodeRow). AreOwn rows c.in_ok-order.order) same c.in_ok-order.ensures.entries;
-      room_is = c.in_ok-order.ensures.room;
+      nodes_are = filled.nodes_are;
+      names_are = filled.names_are;
+      kept = record {
+        volume = subst (IsVolume c.args.size) same volume;
+        size = c.requires;
+        slots_are = filled.slots_are;
+        count_is = ap length same;
+        used_is = c.in-Some.ensures.sum ∙ ap name_bytes same;
+        bound_is = c.in-Ok.ensures.bound;
+        holes_are = c.in-Ok.ensures.holes;
+        order_is = subst (λ (rows : List NodeRow). IsOrder rows (entries_of c.in_ok-order.order.runs)) same c.in_ok-order.ensures.order;
+        entries_are = subst (λ (rows : List NodeRow). AreOwn rows c.in_ok-order.order) same c.in_ok-order.ensures.entries;
+        room_is = c.in_ok-order.ensures.room;
+      };
     }
 
 pub returns-clause-may : goal.returns-clause-may

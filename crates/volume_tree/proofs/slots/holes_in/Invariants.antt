@@ -5,6 +5,6 @@ use Rattle.volume_tree.proofs.slots.holes_in.Given as goal
 
 abbrev pub invariant-loop-number : goal.invariant-loop-number
 invariant-loop-number l = record {
-  holes : AreBelow (rows_of l.slots) l.number l.holes.members;
+  holes : AreBelow (rows_of l.slots.slots) l.number l.holes.members;
   bound : l.holes.bound ≡ l.bound;
 }

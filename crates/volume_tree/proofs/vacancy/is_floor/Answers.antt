@@ -18,7 +18,7 @@ pub is_before-before-requires-clause-entry : goal.is_before-before-requires-clau
 is_before-before-requires-clause-entry g c =
     let k = c.args.place.offset - 1 in
     let run = c.run-entries.result.now in
-    All-contains (IsOwn (rows_of c.args.slots.now)) c.args.order.now.entries (get_or run k none) c.requires.entries.each
+    All-contains (IsOwn (rows_of c.args.slots.now.slots)) c.args.order.now.entries (get_or run k none) c.requires.entries.each
     (c.run-entries.ensures.listed k none (omega arith))
 
 pub returns-clause-gap : goal.returns-clause-gap
@@ -28,7 +28,7 @@ pub returns-clause-floor : goal.returns-clause-floor
 returns-clause-floor g c =
     λ t.
     let runs = c.args.order.now.runs in
-    let nodes = rows_of c.args.slots.now in
+    let nodes = rows_of c.args.slots.now.slots in
     let name = c.args.name.now in
     let k = c.args.place.offset - 1 in
     let stands = c.is_before-before.ensures.stands in
@@ -36,5 +36,5 @@ returns-clause-floor g c =
     let before : is_before stands.row c.from.result name ≡ true = sym (known_before nodes _ c.from.result name _ stands) ∙ (sym c.unwrap_or.ensures ∙ t) in
     let is : start_of runs c.args.place.run + k + 1 ≡ index_of runs c.args.place = omega arith in
     subst (IsFloor nodes (entries_of runs) c.args.folder name) is
-    (floor_past nodes (entries_of runs) c.args.folder name (start_of runs c.args.place.run + k) _ stands.row c.requires.order (slots_ascend c.args.slots.now c.requires.slots) at stands.found
+    (floor_past nodes (entries_of runs) c.args.folder name (start_of runs c.args.place.run + k) _ stands.row c.requires.order (slots_ascend c.args.slots.now.slots c.requires.slots) at stands.found
     (ap (λ f. is_before stands.row f name) (sym c.from.ensures) ∙ before))

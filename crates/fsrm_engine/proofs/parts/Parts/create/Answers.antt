@@ -31,7 +31,7 @@ returns-in-Err-admit-clause-ok g c =
     let e = c.requires.whole.sound.counted in
     let at = c.in-Ok.ensures.ok in
     let changes = make_changes p.tree.size p.tree.nodes p.objects.quotas c.in-Ok.place.folder c.in-Ok.place.name.now c.args.length c.args.owner c.args.moment c.allocated.result e.volume e.are_quotas at.folder_is c.allocated.ensures.space in
-    refused_as p c.args.moment (File (Create c.args.path.now c.args.length c.args.owner)) _ _ c.requires.late
+    refused_as p c.args.moment (File (Create c.args.path.now c.args.length c.args.owner)) _ _ c.requires.after
     (create_due p c.args.moment c.args.path.now c.args.length c.args.owner c.in-Ok.place.folder c.in-Ok.place.name.now e.volume at
     ∙ due_next (new_fault p.tree c.in-Ok.place.folder c.in-Ok.place.name.now) _ _ c.in-Ok-may_create.ensures.may
     (by_quotas p _ _ _ e changes c.in-Err-admit.ensures.err))
@@ -70,7 +70,7 @@ returns-clause-ok g c =
     let mid = charged_parts (record p { tree = w; scans = c.follow_create.new.self }) change c.args.moment in
     let d = make_done p.tree w p.objects.quotas mid.objects p.usage mid.usage c.in-Ok.place.folder c.in-Ok.place.name.now c.args.length c.args.owner c.args.moment c.allocated.result
     e at.folder_is c.allocated.ensures.space c.in_ok-node.ensures.made c.in_ok-node.ensures.kept c.requires.moment refl refl in
-    op_done p mid c.done.new.self c.args.moment (Create c.args.path.now c.args.length c.args.owner) c.done.result p.objects.quotas _ c.requires.late
+    op_done p mid c.done.new.self c.args.moment (Create c.args.path.now c.args.length c.args.owner) c.done.result p.objects.quotas _ c.requires.after
     (create_due p c.args.moment c.args.path.now c.args.length c.args.owner c.in-Ok.place.folder c.in-Ok.place.name.now e.volume at
     ∙ due_next (new_fault p.tree c.in-Ok.place.folder c.in-Ok.place.name.now) _ _ c.in-Ok-may_create.ensures.may (by_quotas p _ _ _ e changes c.in_default.ensures.ok))
     (ap (λ (w : Volume). w.nodes) (sym (c.in_ok-node.ensures.made ∙ made_is p.tree _ _ _ false c.args.length c.args.owner c.args.moment at)))
@@ -103,7 +103,7 @@ returns-clause-looks g c =
 
 pub returns-in-Err-may_create-clause-ok : goal.returns-in-Err-may_create-clause-ok
 returns-in-Err-may_create-clause-ok g c =
-    refused_by_as c.args.self.now c.args.moment (File (Create c.args.path.now c.args.length c.args.owner)) _ _ _ _ c.requires.late
+    refused_by_as c.args.self.now c.args.moment (File (Create c.args.path.now c.args.length c.args.owner)) _ _ _ _ c.requires.after
     (create_due c.args.self.now c.args.moment c.args.path.now c.args.length c.args.owner _ _ c.requires.whole.sound.counted.volume c.in-Ok.ensures.ok) (is_fault c.in-Err-may_create.fault _ c.in-Err-may_create.ensures.fault) c.refused_by.ensures.ok
 
 pub returns-in-Err-may_create-clause-looks : goal.returns-in-Err-may_create-clause-looks

@@ -13,7 +13,7 @@ use Rattle.fsrm_engine.proofs.parts.Parts.mkdir.Goals as goal
 
 pub returns-in-Err-may_create-clause-ok : goal.returns-in-Err-may_create-clause-ok
 returns-in-Err-may_create-clause-ok g c =
-    refused_by_as c.args.self.now c.args.moment (File (Mkdir c.args.path.now c.args.owner)) _ _ None _ c.requires.late
+    refused_by_as c.args.self.now c.args.moment (File (Mkdir c.args.path.now c.args.owner)) _ _ None _ c.requires.after
     (mkdir_due c.args.self.now c.args.moment _ c.args.owner _ _ c.requires.whole.sound.counted.volume c.in-Ok.ensures.ok) (is_fault c.in-Err-may_create.fault _ c.in-Err-may_create.ensures.fault) c.refused_by.ensures.ok
 
 pub follow_mkdir-requires-clause-there : goal.follow_mkdir-requires-clause-there
@@ -44,7 +44,7 @@ returns-clause-ok g c =
     let w = c.make_folder.new.self in
     let row = made_node p.tree.nodes c.in-Ok.place.folder c.in-Ok.place.name.now true 0 c.args.owner c.args.moment in
     let made = is_made p.tree w c.in_ok-node.node c.in-Ok.place.folder c.in-Ok.place.name.now true 0 c.args.owner c.args.moment c.requires.whole.sound.counted.volume c.in_ok-node.ensures.made c.in_ok-node.ensures.number in
-    op_done p (record p { tree = w; scans = c.follow_mkdir.new.self }) c.done.new.self c.args.moment (Mkdir c.args.path.now c.args.owner) c.done.result p.objects.quotas _ c.requires.late
+    op_done p (record p { tree = w; scans = c.follow_mkdir.new.self }) c.done.new.self c.args.moment (Mkdir c.args.path.now c.args.owner) c.done.result p.objects.quotas _ c.requires.after
     (mkdir_due p c.args.moment _ c.args.owner _ _ c.requires.whole.sound.counted.volume at ∙ ap (λ o. tree_first o None) c.in-Ok-may_create.ensures.may)
     (ap (λ (w : Volume). w.nodes) (sym (c.in_ok-node.ensures.made ∙ made_is p.tree _ _ _ true 0 c.args.owner c.args.moment at)))
     refl refl

@@ -138,19 +138,19 @@ follow_move-requires-clause-apart g c = ready_apart c.args.self.now.tree c.in-So
 
 pub returns-then-node-eq0-clause-ok : goal.returns-then-node-eq0-clause-ok
 returns-then-node-eq0-clause-ok g c =
-    refused_as c.args.self.now c.args.moment (File (Move c.args.from.now c.args.to.now)) _ _ c.requires.late
+    refused_as c.args.self.now c.args.moment (File (Move c.args.from.now c.args.to.now)) _ _ c.requires.after
     (move_root c.args.self.now c.args.moment _ _ _ c.requires.whole.sound.counted.volume (sym c.in-Some.ensures.value) c.if-node-eq0.true)
     c.refused-then-node-eq0.ensures
 
 pub returns-in-Err-clause-ok : goal.returns-in-Err-clause-ok
 returns-in-Err-clause-ok g c =
-    refused_as c.args.self.now c.args.moment (File (Move c.args.from.now c.args.to.now)) _ _ c.requires.late
+    refused_as c.args.self.now c.args.moment (File (Move c.args.from.now c.args.to.now)) _ _ c.requires.after
     (stray_due c.args.self.now c.args.moment _ _ _ _ c.requires.whole.sound.counted.volume (sym c.in-Some.ensures.value) (is_inner _ c.if-node-eq0.false) c.in-Err.ensures.err)
     c.refused-in-Err.ensures
 
 pub returns-in-Err-ready_move-clause-ok : goal.returns-in-Err-ready_move-clause-ok
 returns-in-Err-ready_move-clause-ok g c =
-    refused_by_as c.args.self.now c.args.moment (File (Move c.args.from.now c.args.to.now)) _ _ _ _ c.requires.late
+    refused_by_as c.args.self.now c.args.moment (File (Move c.args.from.now c.args.to.now)) _ _ _ _ c.requires.after
     (move_due c.args.self.now c.args.moment c.args.from.now c.args.to.now c.in-Some.node c.in-Ok.place.folder c.in-Ok.place.name.now c.requires.whole.sound.counted.volume (sym c.in-Some.ensures.value) (is_inner _ c.if-node-eq0.false) c.in-Ok.ensures.ok)
     c.in-Err-ready_move.ensures.refused c.refused_by.ensures.ok
 
@@ -163,7 +163,7 @@ returns-in-Err-admit-clause-ok g c =
     let inner = is_inner _ c.if-node-eq0.false in
     let to = moves_to v.nodes c.in-Some.node c.in-Ok.place.folder c.node.result (is_under v.nodes c.in-Some.node c.in-Ok.place.folder) c.node.ensures.view inner at.folder_is refl (ready_apart v c.in-Some.node c.in-Ok.place.folder c.in-Ok.place.name.now c.in-Ok-ready_move.ensures.may) in
     let changes = move_changes v.size v.nodes p.objects.quotas c.in-Some.node c.in-Ok.place.folder c.in-Ok.place.name.now c.node.result c.in_ok-bytes.bytes e.volume e.are_quotas c.node.ensures.view to c.in_ok-bytes.ensures.bytes in
-    refused_as p c.args.moment (File (Move c.args.from.now c.args.to.now)) _ _ c.requires.late
+    refused_as p c.args.moment (File (Move c.args.from.now c.args.to.now)) _ _ c.requires.after
     (move_due p c.args.moment c.args.from.now c.args.to.now c.in-Some.node c.in-Ok.place.folder c.in-Ok.place.name.now e.volume (sym c.in-Some.ensures.value) inner at
     ∙ due_next (move_fault v c.in-Some.node c.in-Ok.place.folder c.in-Ok.place.name.now) _ _ c.in-Ok-ready_move.ensures.may
     (by_quotas p _ _ _ e changes c.in-Err-admit.ensures.err))
@@ -194,7 +194,7 @@ returns-clause-ok g c =
     let d = move_done v w p.objects.quotas mid.objects p.usage mid.usage c.in-Some.node c.in-Ok.place.folder c.in-Ok.place.name.now c.node.result c.in_ok-bytes.bytes c.args.moment
     e c.node.ensures.view to c.in_ok-bytes.ensures.bytes made c.make_move.ensures.kept c.requires.moment refl refl in
     let nodes = move_nodes v c.args.from.now c.args.to.now c.in-Some.node c.in-Ok.place.folder c.in-Ok.place.name.now c.args.moment from at in
-    op_done p mid c.done.new.self c.args.moment (Move c.args.from.now c.args.to.now) c.done.result p.objects.quotas _ c.requires.late
+    op_done p mid c.done.new.self c.args.moment (Move c.args.from.now c.args.to.now) c.done.result p.objects.quotas _ c.requires.after
     (move_due p c.args.moment c.args.from.now c.args.to.now c.in-Some.node c.in-Ok.place.folder c.in-Ok.place.name.now e.volume from inner at
     ∙ due_next (move_fault v c.in-Some.node c.in-Ok.place.folder c.in-Ok.place.name.now) _ _ c.in-Ok-ready_move.ensures.may (by_quotas p _ _ _ e changes c.in_default-admit.ensures.ok))
     (nodes ∙ sym (ap (λ (u : Volume). u.nodes) made)) refl refl

@@ -23,7 +23,7 @@ returns-then-quota_count-ge-MOST_QUOTAS-clause-ok g c =
     let R = rows_of c.args.self.now in
     let n = c.in-Some.folder in
     let absent = sym (has_lent folder_of n R.quotas c.quota.result c.quota.ensures) ∙ (sym c.is_some.ensures ∙ c.if-is_some.false) in
-    refused_as c.args.self.now c.args.moment (QuotaAdd c.args.path.now c.args.limit c.args.enforce c.args.enabled None [] []) c.refused-then-quota_count-ge-MOST_QUOTAS.result TableFull c.requires.late
+    refused_as c.args.self.now c.args.moment (QuotaAdd c.args.path.now c.args.limit c.args.enforce c.args.enabled None [] []) c.refused-then-quota_count-ge-MOST_QUOTAS.result TableFull c.requires.after
     (add_checks R c.args.path.now n true (λ k. new_quota k (unwrap_or c.args.limit 0) (unwrap_or c.args.enforce true) (if c.args.enabled then start R.nodes k else Disabled) c.args.moment) c.in-Some.ensures.folder absent
     (table_is R.quotas _ c.quota_count.result c.quota_count.ensures c.if-quota_count-ge-MOST_QUOTAS.true))
     c.refused-then-quota_count-ge-MOST_QUOTAS.ensures
@@ -49,7 +49,7 @@ returns-clause-ok g c =
     let n = c.in-Some.folder in
     let at = c.in-Some.ensures.folder in
     let absent = sym (has_lent folder_of n R.quotas c.quota.result c.quota.ensures) ∙ (sym c.is_some.ensures ∙ c.if-is_some.false) in
-    done_settled c.args.self.now c.enlist.new.self c.done.new.self c.args.moment (QuotaAdd c.args.path.now c.args.limit c.args.enforce c.args.enabled None [] []) c.done.result (with_quota R c.new_quota-row.result) c.requires.late
+    done_settled c.args.self.now c.enlist.new.self c.done.new.self c.args.moment (QuotaAdd c.args.path.now c.args.limit c.args.enforce c.args.enabled None [] []) c.done.result (with_quota R c.new_quota-row.result) c.requires.after
     (add_checks R c.args.path.now n false (λ k. new_quota k (unwrap_or c.args.limit 0) (unwrap_or c.args.enforce true) (if c.args.enabled then start R.nodes k else Disabled) c.args.moment) at absent
     (table_has R.quotas _ c.quota_count.result c.quota_count.ensures c.if-quota_count-ge-MOST_QUOTAS.false))
     (ap (λ k. with_quota R (new_quota k (unwrap_or c.args.limit 0) (unwrap_or c.args.enforce true) (if c.args.enabled then start R.nodes k else Disabled) c.args.moment)) (target_is R.nodes c.args.path.now n at.resolved)

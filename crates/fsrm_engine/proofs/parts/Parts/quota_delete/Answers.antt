@@ -13,7 +13,7 @@ use Rattle.fsrm_engine.proofs.parts.Parts.quota_delete.Goals as goal
 
 pub returns-in-Err-clause-ok : goal.returns-in-Err-clause-ok
 returns-in-Err-clause-ok g c =
-    refused_as c.args.self.now c.args.moment (QuotaDelete c.args.path.now) c.refused.result _ c.requires.late c.in-Err.ensures.err c.refused.ensures
+    refused_as c.args.self.now c.args.moment (QuotaDelete c.args.path.now) c.refused.result _ c.requires.after c.in-Err.ensures.err c.refused.ensures
 
 pub returns-clause-ok : goal.returns-clause-ok
 returns-clause-ok g c =
@@ -25,7 +25,7 @@ returns-clause-ok g c =
     let queue = without_number n p.scans.queue in
     let turns = c.leave.ensures.turns p.tree c.requires.whole.sound.scanning in
     let mid = c.take_away.new.self in
-    done_settled p mid c.done.new.self c.args.moment (QuotaDelete c.args.path.now) _ (record R { quotas = after; queue = queue }) c.requires.late
+    done_settled p mid c.done.new.self c.args.moment (QuotaDelete c.args.path.now) _ (record R { quotas = after; queue = queue }) c.requires.after
     (quota_due R _ _ at)
     (ap (λ k. record R { quotas = without_row folder_of k R.quotas; queue = without_number k R.queue }) (target_is R.nodes c.args.path.now n at.at.resolved))
     refl refl

@@ -23,7 +23,7 @@ use Rattle.fsrm_engine.proofs.parts.Parts.quota_modify.Goals as goal
 
 pub returns-in-Err-clause-ok : goal.returns-in-Err-clause-ok
 returns-in-Err-clause-ok g c =
-    refused_as c.args.self.now c.args.moment (QuotaModify c.args.path.now c.args.limit c.args.enforce c.args.enabled [] [] []) c.refused.result _ c.requires.late c.in-Err.ensures.err c.refused.ensures
+    refused_as c.args.self.now c.args.moment (QuotaModify c.args.path.now c.args.limit c.args.enforce c.args.enabled [] [] []) c.refused.result _ c.requires.after c.in-Err.ensures.err c.refused.ensures
 
 pub replace-requires-clause-there : goal.replace-requires-clause-there
 replace-requires-clause-there g c =
@@ -71,7 +71,7 @@ returns-clause-ok g c =
     let at = c.in-Ok.ensures.ok in
     let is : c.in_ok-row.row.folder ≡ n = ap (λ (r : QuotaRow). r.folder) c.in_ok-row.ensures in
     let state = c.state_after-row.result in
-    done_settled c.args.self.now c.replace.new.self c.done.new.self c.args.moment (QuotaModify c.args.path.now c.args.limit c.args.enforce c.args.enabled [] [] []) c.done.result (with_other R (in_state state c.in_ok-row.row)) c.requires.late
+    done_settled c.args.self.now c.replace.new.self c.done.new.self c.args.moment (QuotaModify c.args.path.now c.args.limit c.args.enforce c.args.enabled [] [] []) c.done.result (with_other R (in_state state c.in_ok-row.row)) c.requires.after
     (quota_due R _ _ at)
     (ap (λ k. with_state (record R { quotas = with_change folder_of k (modified c.args.limit c.args.enforce) R.quotas }) k (state_after R k c.args.enabled)) (target_is R.nodes c.args.path.now n at.at.resolved)
     ∙ (ap (λ s. with_state (record R { quotas = with_change folder_of n (modified c.args.limit c.args.enforce) R.quotas }) n s) (sym c.state_after-row.ensures.state)

@@ -26,14 +26,14 @@ done-requires-clause-counted g c =
 
 pub returns-in-Err-clause-ok : goal.returns-in-Err-clause-ok
 returns-in-Err-clause-ok g c =
-    refused_as c.args.self.now c.args.moment (QuotaResetpeak c.args.path.now) c.refused.result _ c.requires.late c.in-Err.ensures.err c.refused.ensures
+    refused_as c.args.self.now c.args.moment (QuotaResetpeak c.args.path.now) c.refused.result _ c.requires.after c.in-Err.ensures.err c.refused.ensures
 
 pub returns-clause-ok : goal.returns-clause-ok
 returns-clause-ok g c =
     let p = c.args.self.now in
     let is = ap (λ (t : Tables). t.quotas) c.set_peak.ensures
     ∙ reset_is p c.args.moment c.in-Ok.quota.now.folder _ c.requires.whole.sound.counted (c.unwrap_or-used.ensures ∙ ap (λ o. unwrap_or o 0) c.used.ensures) in
-    changed_as p c.done.new.self c.args.moment c.in-Ok.quota.now (QuotaResetpeak c.args.path.now) _ c.args.path.now (reset p.tree.size (rows_of p) c.args.moment) c.set_peak.new.self c.requires.late
+    changed_as p c.done.new.self c.args.moment c.in-Ok.quota.now (QuotaResetpeak c.args.path.now) _ c.args.path.now (reset p.tree.size (rows_of p) c.args.moment) c.set_peak.new.self c.requires.after
     c.in-Ok.ensures.ok refl is c.done.ensures.ended c.done.ensures.answer
 
 pub returns-clause-sound : goal.returns-clause-sound

@@ -18,13 +18,13 @@ use Rattle.fsrm_engine.proofs.parts.Parts.quota_scan.Goals as goal
 pub returns-in-Err-clause-ok : goal.returns-in-Err-clause-ok
 returns-in-Err-clause-ok g c =
     let R = rows_of c.args.self.now in
-    refused_as c.args.self.now c.args.moment (QuotaScan c.args.path.now) c.refused.result _ c.requires.late
+    refused_as c.args.self.now c.args.moment (QuotaScan c.args.path.now) c.refused.result _ c.requires.after
     (quota_first R c.args.path.now _ _ c.in-Err.ensures.err) c.refused.ensures
 
 pub returns-then-is_disabled-clause-ok : goal.returns-then-is_disabled-clause-ok
 returns-then-is_disabled-clause-ok g c =
     let R = rows_of c.args.self.now in
-    refused_as c.args.self.now c.args.moment (QuotaScan c.args.path.now) c.refused-then-is_disabled.result InvalidCombination c.requires.late
+    refused_as c.args.self.now c.args.moment (QuotaScan c.args.path.now) c.refused-then-is_disabled.result InvalidCombination c.requires.after
     (checked R c.args.path.now c.in-Ok.quota.now.folder false (λ k. (InvalidCombination when is_disabled (state_of R k)) ∷ []) c.in-Ok.ensures.ok.at (ap is_none c.in-Ok.ensures.ok.found)
     ∙ ap (λ b. first ((InvalidCombination when b) ∷ [])) (ap (λ o. is_disabled (option_map_or (λ quota. quota.state) o Disabled)) c.in-Ok.ensures.ok.found ∙ (sym c.is_disabled.ensures ∙ c.if-is_disabled.true)))
     c.refused-then-is_disabled.ensures
@@ -40,7 +40,7 @@ returns-then-counts-clause-ok g c =
     let n = c.in-Ok.quota.now.folder in
     let at = c.in-Ok.ensures.ok in
     let to = target_is R.nodes c.args.path.now n at.at.resolved in
-    done_settled c.args.self.now c.rebuild.new.self c.done.new.self c.args.moment (QuotaScan c.args.path.now) c.done.result (with_state R n Rebuilding) c.requires.late
+    done_settled c.args.self.now c.rebuild.new.self c.done.new.self c.args.moment (QuotaScan c.args.path.now) c.done.result (with_state R n Rebuilding) c.requires.after
     (checked R c.args.path.now n false (λ k. (InvalidCombination when is_disabled (state_of R k)) ∷ []) at.at (ap is_none at.found)
     ∙ ap (λ b. first ((InvalidCombination when b) ∷ [])) (ap (λ o. is_disabled (option_map_or (λ quota. quota.state) o Disabled)) c.in-Ok.ensures.ok.found ∙ (sym c.is_disabled.ensures ∙ c.if-is_disabled.false)))
     (ap (λ k. with_state R k Rebuilding) to) refl
@@ -53,7 +53,7 @@ returns-clause-ok g c =
     let n = c.in-Ok.quota.now.folder in
     let at = c.in-Ok.ensures.ok in
     let to = target_is R.nodes c.args.path.now n at.at.resolved in
-    passing_as c.args.self.now c.rebuild.new.self c.args.moment (QuotaScan c.args.path.now) _ (with_state R n Rebuilding) c.requires.late
+    passing_as c.args.self.now c.rebuild.new.self c.args.moment (QuotaScan c.args.path.now) _ (with_state R n Rebuilding) c.requires.after
     (checked R c.args.path.now n false (λ k. (InvalidCombination when is_disabled (state_of R k)) ∷ []) at.at (ap is_none at.found)
     ∙ ap (λ b. first ((InvalidCombination when b) ∷ [])) (ap (λ o. is_disabled (option_map_or (λ quota. quota.state) o Disabled)) c.in-Ok.ensures.ok.found ∙ (sym c.is_disabled.ensures ∙ c.if-is_disabled.false)))
     (ap (λ k. with_state R k Rebuilding) to)

@@ -33,7 +33,7 @@ returns-clause-ok g c =
     let goes = goes_to _ _ c.remove.new.self _ _ made (c.follow_rmdir.ensures.follows (volume_is _ _ made c.remove.ensures.kept)) in
     let absent = left_queue c.args.node p.scans.queue c.leave.new.self.queue c.leave.ensures.queue in
     let row = folder_found p.tree.nodes c.args.node c.requires.kind in
-    rmdir_done p (record p { tree = c.remove.new.self; scans = c.follow_rmdir.new.self; usage = c.drop_quota.new.usage; objects = c.drop_quota.new.objects }) c.done.new.self c.leave.new.self c.args.moment c.args.path.now c.args.node c.done.result c.requires.late
+    rmdir_done p (record p { tree = c.remove.new.self; scans = c.follow_rmdir.new.self; usage = c.drop_quota.new.usage; objects = c.drop_quota.new.objects }) c.done.new.self c.leave.new.self c.args.moment c.args.path.now c.args.node c.done.result c.requires.after
     (remove_due p c.args.moment _ _ k at c.requires.inner ∙ ap (λ o. tree_first o None) (when_ok _ _ c.unwrap.ensures c.remove.ensures.may))
     at made (ap (λ (t : Tables). t.quotas) c.drop_quota.ensures.objects) c.leave.ensures.queue turns goes
     (next_without p.tree c.remove.new.self c.leave.new.self c.args.node row.row turns.scanning absent made c.remove.ensures.kept row.found row.folder)
@@ -52,7 +52,7 @@ unwrap-requires g c = goes_well c.args.self.now.tree c.args.node c.remove.result
 pub returns-then-child_count-gt0-clause-ok : goal.returns-then-child_count-gt0-clause-ok
 returns-then-child_count-gt0-clause-ok g c =
     let p = c.args.self.now in
-    refused_as p c.args.moment (File (Remove c.args.path.now)) _ _ c.requires.late
+    refused_as p c.args.moment (File (Remove c.args.path.now)) _ _ c.requires.after
     (remove_due p c.args.moment _ _ c.requires.whole.sound.counted.volume c.requires.resolved c.requires.inner
     ∙ ap (λ o. tree_first o None) (full_fault p.tree c.args.node c.child_count.result c.child_count.ensures.value c.if-child_count-gt0.true))
     c.refused.ensures

@@ -38,7 +38,7 @@ returns-in-Err-clause-ok g c =
     let e = c.requires.whole.sound.counted in
     let f = c.in-Some.ensures.file in
     let changes = resize_changes p.tree.size p.tree.nodes p.objects.quotas c.args.path.now c.in-Some.file c.args.length c.args.moment c.allocated.result c.allocated-2.result e.volume e.are_quotas f c.allocated.ensures.space c.allocated-2.ensures.space in
-    refused_as p c.args.moment (File (Resize c.args.path.now c.args.length)) _ _ c.requires.late
+    refused_as p c.args.moment (File (Resize c.args.path.now c.args.length)) _ _ c.requires.after
     (resize_due p c.args.moment c.args.path.now c.in-Some.file c.args.length e.volume f
     ∙ by_quotas p _ _ _ e changes c.in-Err.ensures.err)
     c.refused-in-Err.ensures
@@ -79,7 +79,7 @@ returns-clause-ok g c =
     let mid = charged_parts (record p { tree = w; scans = c.follow_resize.new.self }) change c.args.moment in
     let d = resize_done p.tree w p.objects.quotas mid.objects p.usage mid.usage c.args.path.now c.in-Some.file c.args.length c.args.moment c.allocated.result c.allocated-2.result
     e f c.allocated.ensures.space c.allocated-2.ensures.space made c.resize.ensures.kept c.requires.moment refl refl in
-    op_done p mid c.done.new.self c.args.moment (Resize c.args.path.now c.args.length) c.done.result p.objects.quotas _ c.requires.late
+    op_done p mid c.done.new.self c.args.moment (Resize c.args.path.now c.args.length) c.done.result p.objects.quotas _ c.requires.after
     (resize_due p c.args.moment c.args.path.now c.in-Some.file c.args.length e.volume f ∙ by_quotas p _ _ _ e changes c.in_default-admit.ensures.ok)
     (ap (λ n. with_change number n (resized c.args.length c.args.moment) p.tree.nodes) (target_is p.tree.nodes c.args.path.now _ f.resolved) ∙ sym (ap (λ (u : Volume). u.nodes) made))
     refl refl (λ k. refl)

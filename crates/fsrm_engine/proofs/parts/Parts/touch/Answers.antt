@@ -21,7 +21,7 @@ returns-clause-ok g c =
     let p = c.args.self.now in
     let f = c.in-Some.ensures.file in
     let made = c.touch.ensures.made in
-    op_done p (record p { tree = c.touch.new.self }) c.done.new.self c.args.moment (Touch c.args.path.now) c.done.result p.objects.quotas _ c.requires.late
+    op_done p (record p { tree = c.touch.new.self }) c.done.new.self c.args.moment (Touch c.args.path.now) c.done.result p.objects.quotas _ c.requires.after
     (touch_due p c.args.moment _ _ f)
     (ap (λ n. with_change number n (touched c.args.moment) p.tree.nodes) (target_is p.tree.nodes c.args.path.now _ f.resolved) ∙ sym (ap (λ (w : Volume). w.nodes) made))
     refl refl (λ k. refl)

@@ -1,5 +1,4 @@
-use Rattle.std.proofs.Common.{◌≡◌, Some, List, Option, slice_get, slice_index, sym, ◌∙◌, ap}
-use Rattle.fsrm_model.specs.declared.row.NodeRow.{NodeRow}
+use Rattle.std.proofs.Common.{◌≡◌, Some, slice_get, slice_index, sym, ◌∙◌, ap}
 use Rattle.fsrm_model.specs.Tree.{child_number}
 use Rattle.block_list.specs.Places.{index_of}
 use Rattle.block_list.specs.Runs.{entries_of}
@@ -11,7 +10,7 @@ use Rattle.volume_tree.proofs.kept.MakeLaws.{taken_first}
 use Rattle.volume_tree.proofs.tree.Tree.may_create.Goals as goal
 
 pub search-requires-clause-few : goal.search-requires-clause-few
-search-requires-clause-few g c = few_order _ _ _ _ _ _ c.self.invariant
+search-requires-clause-few g c = few_order _ _ _ _ _ _ c.self.invariant.kept
 
 pub returns-in-Ok-clause-fault : goal.returns-in-Ok-clause-fault
 returns-in-Ok-clause-fault g c =
@@ -21,7 +20,7 @@ returns-in-Ok-clause-fault g c =
     let k = index_of runs place in
     let there = c.in-Ok.ensures.entry in
     let read : slice_get (entries_of runs) k ≡ Some (slice_index (entries_of runs) k) = get_index (entries_of runs) k (entries_before runs place.run place.offset there.run there.offset) in
-    let found : child_number (rows_of i.slots.items) c.args.folder c.args.name.now ≡ Some (slice_index (entries_of runs) k) =
-    ap (λ (slots : List (Option NodeRow)). child_number (rows_of slots) c.args.folder c.args.name.now) (sym c.deref.ensures.value) ∙ (c.in-Ok.ensures.found ∙ read) in
+    let found : child_number (rows_of i.slots.slots) c.args.folder c.args.name.now ≡ Some (slice_index (entries_of runs) k) =
+    c.in-Ok.ensures.found ∙ read in
     ap (λ (v : Volume). new_fault v c.args.folder c.args.name.now) (sym c.self.view_is)
-    ∙ taken_first (record { size = i.size; nodes = rows_of i.slots.items }) c.args.folder c.args.name.now _ found
+    ∙ taken_first (record { size = i.size; nodes = rows_of i.slots.slots }) c.args.folder c.args.name.now _ found

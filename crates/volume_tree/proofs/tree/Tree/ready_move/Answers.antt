@@ -1,11 +1,9 @@
-use Rattle.std.proofs.Common.{◌≡◌, ◌+◌, ◌≤◌, true, false, length, List, Option, refl, sym, ◌∙◌, ap, subst, arith}
-use Rattle.fsrm_model.specs.declared.row.NodeRow.{NodeRow}
+use Rattle.std.proofs.Common.{◌≡◌, ◌+◌, ◌≤◌, true, false, length, refl, sym, ◌∙◌, ap, subst, arith}
 use Rattle.fsrm_model.specs.FileOps.{placed}
 use Rattle.fsrm_base.specs.Keyed.{has_row, with_change}
 use Rattle.fsrm_model.specs.Tree.{number, name_of, is_folder, is_under, name_bytes}
 use Rattle.fsrm_model.specs.Valid.{IsVolume}
 use Rattle.fsrm_model.proofs.valid.CapacityLaws.{names_most}
-use Rattle.fsrm_model.proofs.nodes.ChainLaws.{IsTree}
 use Rattle.fsrm_model.proofs.nodes.Keeps.{tree_of}
 use Rattle.fsrm_model.proofs.valid.ValidLaws.{folder_has}
 use Rattle.volume_tree.specs.Kept.{rows_of}
@@ -14,43 +12,40 @@ use Rattle.volume_tree.proofs.kept.KeptLaws.{few_order, name_fits, sought_in, so
 use Rattle.volume_tree.proofs.tree.Tree.ready_move.Goals as goal
 
 pub is_at_or_below-requires-clause-tree : goal.is_at_or_below-requires-clause-tree
-is_at_or_below-requires-clause-tree g c = subst (λ (slots : List (Option NodeRow)). IsTree (rows_of slots)) (sym c.deref.ensures.value) (tree_of c.self.inside.size _ c.self.invariant.volume)
+is_at_or_below-requires-clause-tree g c = tree_of c.self.inside.size _ c.self.invariant.kept.volume
 
 pub is_at_or_below-requires-clause-there : goal.is_at_or_below-requires-clause-there
 is_at_or_below-requires-clause-there g c =
-    folder_has (rows_of c.deref.result.now) c.args.folder
-    (ap (λ (slots : List (Option NodeRow)). is_folder (rows_of slots) c.args.folder) c.deref.ensures.value
-    ∙ (ap (λ (v : Volume). is_folder v.nodes c.args.folder) c.self.view_is ∙ c.requires.folder))
+    folder_has (rows_of c.self.inside.slots.slots) c.args.folder (ap (λ (v : Volume). is_folder v.nodes c.args.folder) c.self.view_is ∙ c.requires.folder)
 
 pub search-found-requires-clause-few : goal.search-found-requires-clause-few
-search-found-requires-clause-few g c = few_order _ _ _ _ _ _ c.self.invariant
+search-found-requires-clause-few g c = few_order _ _ _ _ _ _ c.self.invariant.kept
 
 pub name_length-old_bytes-requires-clause-short : goal.name_length-old_bytes-requires-clause-short
 name_length-old_bytes-requires-clause-short g c =
-    let has : has_row number c.args.node (rows_of c.self.inside.slots.items) ≡ true = ap (λ (v : Volume). has_row number c.args.node v.nodes) c.self.view_is ∙ c.requires.there in
-    let fit = name_fits c.self.inside.size _ c.args.node c.self.invariant.volume has in
-    let same : length (name_of (rows_of c.deref-3.result.now) c.args.node) ≡ length (name_of (rows_of c.self.inside.slots.items) c.args.node) = ap (λ (slots : List (Option NodeRow)). length (name_of (rows_of slots) c.args.node)) c.deref-3.ensures.value in
-    let names = c.self.invariant.volume.names in
-    let most = names_most c.self.inside.size c.self.invariant.size in
-    omega (arith, fit, same, names, most)
+    let has : has_row number c.args.node (rows_of c.self.inside.slots.slots) ≡ true = ap (λ (v : Volume). has_row number c.args.node v.nodes) c.self.view_is ∙ c.requires.there in
+    let fit = name_fits c.self.inside.size _ c.args.node c.self.invariant.kept.volume has in
+    let names = c.self.invariant.kept.volume.names in
+    let most = names_most c.self.inside.size c.self.invariant.kept.size in
+    omega (arith, fit, names, most)
 
 pub returns-clause-volume : goal.returns-clause-volume
 returns-clause-volume g c =
     let i = c.self.inside in
-    let slots = i.slots.items in
+    let slots = i.slots.slots in
     let runs = i.order.runs in
     let node = c.args.node in
     let folder = c.args.folder in
     let name = c.args.name.now in
     let has : has_row number node (rows_of slots) ≡ true = ap (λ (v : Volume). has_row number node v.nodes) c.self.view_is ∙ c.requires.there in
-    let apart : is_under (rows_of slots) node folder ≡ false = ap (λ (read : List (Option NodeRow)). is_under (rows_of read) node folder) (sym c.deref.ensures.value) ∙ (sym c.is_at_or_below.ensures.value ∙ c.if-is_at_or_below.false) in
+    let apart : is_under (rows_of slots) node folder ≡ false = sym c.is_at_or_below.ensures.value ∙ c.if-is_at_or_below.false in
     let search = c.search-found.ensures in
-    let sought = sought_in slots c.deref-2.result.now runs folder name name c.search-found.result c.deref-2.ensures.value refl
+    let sought = sought_in slots slots runs folder name name c.search-found.result refl refl
     (record { free = search.free; taken = search.found; none = search.none }) in
     let alone = sought_alone (rows_of slots) runs node folder name c.search-found.result c.is_other.result sought c.is_other.ensures.ok c.if-is_other.false in
-    let bytes : c.name_length-old_bytes.result ≡ length (name_of (rows_of slots) node) = c.name_length-old_bytes.ensures.bytes ∙ ap (λ (read : List (Option NodeRow)). length (name_of (rows_of read) node)) c.deref-3.ensures.value in
-    let used = c.self.invariant.used_is in
+    let bytes : c.name_length-old_bytes.result ≡ length (name_of (rows_of slots) node) = c.name_length-old_bytes.ensures.bytes in
+    let used = c.self.invariant.kept.used_is in
     let room : name_bytes (rows_of slots) + length name ≤ i.size.names + length (name_of (rows_of slots) node) = omega (arith, bytes, used) in
     subst (λ (v : Volume). IsVolume v.size (with_change number node (placed folder name) v.nodes)) c.self.view_is
-    (volume_placed i.size (rows_of slots) node folder name c.self.invariant.volume has c.requires.inner
+    (volume_placed i.size (rows_of slots) node folder name c.self.invariant.kept.volume has c.requires.inner
     (ap (λ (v : Volume). is_folder v.nodes folder) c.self.view_is ∙ c.requires.folder) c.requires.name apart alone room)

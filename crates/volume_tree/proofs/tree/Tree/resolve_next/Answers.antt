@@ -14,7 +14,7 @@ next-name-requires g c =
     subst (λ (names : List (List ℕ)). 0 < length names) (sym c.loop-place.invariant.rest) (some_at (left c.args.names.now) c.loop-place._place c.args.count c.loop-place-test.true c.requires.count)
 
 pub child-requires-clause-few : goal.child-requires-clause-few
-child-requires-clause-few g c = few_order _ _ _ _ _ _ c.self.invariant
+child-requires-clause-few g c = few_order _ _ _ _ _ _ c.self.invariant.kept
 
 pub returns-in-None-clause-value : goal.returns-in-None-clause-value
 returns-in-None-clause-value g c =
@@ -22,10 +22,10 @@ returns-in-None-clause-value g c =
     let names = left c.args.names.now in
     let path = take c.args.count names in
     let next = sym c.loop-place.invariant.rest ∙ c.next-name.ensures in
-    let rows : rows_of c.deref.result.now ≡ nodes = ap rows_of c.deref.ensures.value ∙ ap (λ (v : Volume). v.nodes) c.self.view_is in
+    let rows : rows_of c.self.inside.slots.slots ≡ nodes = ap (λ (v : Volume). v.nodes) c.self.view_is in
     let child : child_number nodes c.loop-place.at c.next-name.result.now ≡ None = ap (λ (ns : List NodeRow). child_number ns c.loop-place.at c.next-name.result.now) (sym rows) ∙ sym c.in-None.ensures.value in
     let name : slice_get path c.loop-place._place ≡ Some c.next-name.result.now = get_take names c.args.count c.loop-place._place c.next-name.result.now c.loop-place-test.true (name_at names c.loop-place._place c.next-name.result.now (left c.next-name.new.self) next) in
-    resolves c.self.inside.size (rows_of c.self.inside.slots.items) c.args.self.now path None c.self.invariant.volume c.self.view_is
+    resolves c.self.inside.size (rows_of c.self.inside.slots.slots) c.args.self.now path None c.self.invariant.kept.volume c.self.view_is
     (sym c.loop-place.invariant.way ∙ walk_next nodes c.loop-place.at c.loop-place._place path c.next-name.result.now None name child)
 
 pub loop-place-preserved : goal.loop-place-preserved
@@ -34,7 +34,7 @@ loop-place-preserved g c =
     let names = left c.args.names.now in
     let path = take c.args.count names in
     let next = sym c.loop-place.invariant.rest ∙ c.next-name.ensures in
-    let rows : rows_of c.deref.result.now ≡ nodes = ap rows_of c.deref.ensures.value ∙ ap (λ (v : Volume). v.nodes) c.self.view_is in
+    let rows : rows_of c.self.inside.slots.slots ≡ nodes = ap (λ (v : Volume). v.nodes) c.self.view_is in
     let child : child_number nodes c.loop-place.at c.next-name.result.now ≡ Some c.in-Some.child = ap (λ (ns : List NodeRow). child_number ns c.loop-place.at c.next-name.result.now) (sym rows) ∙ sym c.in-Some.ensures.value in
     let name : slice_get path c.loop-place._place ≡ Some c.next-name.result.now = get_take names c.args.count c.loop-place._place c.next-name.result.now c.loop-place-test.true (name_at names c.loop-place._place c.next-name.result.now (left c.next-name.new.self) next) in
     let looks = c.in-Some.ensures.looks in
@@ -49,7 +49,7 @@ loop-place-preserved g c =
 pub returns-clause-value : goal.returns-clause-value
 returns-clause-value g c =
     let most : c.args.count ≤ c.loop-place._place = omega arith in
-    resolves c.self.inside.size (rows_of c.self.inside.slots.items) c.args.self.now (take c.args.count (left c.args.names.now)) (Some c.loop-place.at) c.self.invariant.volume c.self.view_is
+    resolves c.self.inside.size (rows_of c.self.inside.slots.slots) c.args.self.now (take c.args.count (left c.args.names.now)) (Some c.loop-place.at) c.self.invariant.kept.volume c.self.view_is
     (sym c.loop-place.invariant.way ∙ walk_end c.args.self.now.nodes c.loop-place.at c.loop-place._place c.args.count (left c.args.names.now) most)
 
 pub returns-clause-rest : goal.returns-clause-rest
