@@ -3,7 +3,7 @@
 ghost use Rattle.std.specs.Prelude.{◌≡◌, ◌∷◌, [], IfOk};
 
 use crate::values::one;
-use file_groups::{GroupFault, Groups, Pattern};
+use file_groups::{Groups, Pattern};
 use fsrm_model::{GroupRow, List, Text};
 use name_rules::NameFault;
 use std::alloc::Global;
@@ -12,11 +12,15 @@ use std::test::Fail;
 #[test]
 fn names_match_a_pattern(rt: HostRuntime) -> Result<(), Fail> {
     let pattern = Pattern::read(rt.alloc(), "*ab*?D")?;
-    assert_eq!(rt; pattern.as_str(), "*ab*?D");
-    assert!(rt; pattern.matches("xababéd") && !pattern.matches("xabd"));
-    let fault = Pattern::read(rt.alloc(), "..").err();
-    assert_eq!(rt; fault, Some(NameFault::InvalidName));
+    assert!(rt; pattern.matches("xababéd"));
+    assert!(rt; !pattern.matches("xabd"));
     Ok(())
+}
+
+#[test]
+fn a_pattern_is_part_of_a_name(rt: HostRuntime) {
+    let fault = Pattern::read(rt.alloc(), "..").err();
+    assert!(rt; matches!(fault, Some(NameFault::InvalidName)));
 }
 
 fn patterns(alloc: Global, text: &str) -> Result<List<Pattern>, Fail>
@@ -25,41 +29,54 @@ fn patterns(alloc: Global, text: &str) -> Result<List<Pattern>, Fail>
     one(alloc, Pattern::read(alloc, text)?)
 }
 
-#[test]
-fn a_group_comes_changes_and_goes(rt: HostRuntime) -> Result<(), Fail> {
-    let alloc = rt.alloc();
+fn office(alloc: Global) -> Result<Groups, Fail> {
     let mut groups = Groups::new(alloc);
-    let office = groups.add(
-        "Office",
-        patterns(alloc, "*.doc")?,
-        patterns(alloc, "~*")?,
-        13,
-    );
-    assert_eq!(rt; office, Ok(0));
-    assert_eq!(rt; groups.find("OFFICE"), Some(0));
-    assert!(rt; groups.in_group(0, "a.DOC") && !groups.in_group(0, "~a.doc"));
-    let changed = groups.modify(0, None, Some(List::new(alloc)), 0);
-    assert_eq!(rt; changed, Ok(()));
-    assert!(rt; groups.texts() == 11 && groups.find("office") == Some(0));
-    assert_eq!(rt; groups.group(0).non_members.len(), 0);
-    groups.delete(0);
-    assert_eq!(rt; groups.count(), 0);
-    Ok(())
+    let members = patterns(alloc, "*.doc")?;
+    let non_members = patterns(alloc, "~*")?;
+    groups.add("Office", members, non_members, 13)?;
+    Ok(groups)
+}
+
+fn in_office(groups: &Groups, name: &str) -> bool {
+    match groups.find("OFFICE") {
+        Some(group) => groups.in_group(group, name),
+        None => false,
+    }
+}
+
+fn leave_no_one_out(groups: &mut Groups, alloc: Global) -> bool {
+    match groups.find("office") {
+        Some(group) => groups
+            .modify(group, None, Some(List::new(alloc)), 0)
+            .is_ok(),
+        None => false,
+    }
 }
 
 #[test]
-fn a_stored_group_keeps_its_number(rt: HostRuntime) -> Result<(), Fail> {
-    let alloc = rt.alloc();
+fn a_group_comes_and_changes(rt: HostRuntime) -> Result<(), Fail> {
+    let mut groups = office(rt.alloc())?;
+    assert!(rt; in_office(&groups, "a.DOC"));
+    assert!(rt; !in_office(&groups, "~a.doc"));
+    assert!(rt; leave_no_one_out(&mut groups, rt.alloc()));
+    assert!(rt; in_office(&groups, "~a.doc"));
+    Ok(())
+}
+
+fn late(alloc: Global) -> Result<Groups, Fail> {
     let mut groups = Groups::new(alloc);
-    let late = GroupRow {
+    let row = GroupRow {
         number: 1_023,
         name: Text::from_str(alloc, "Late")?,
         members: one(alloc, Text::from_str(alloc, "*")?)?,
         non_members: List::new(alloc),
     };
-    assert_eq!(rt; groups.put(late, 5), Ok(()));
-    assert!(rt; groups.count() == 1 && groups.at(0).number == 1_023);
-    let again = groups.add("LATE", patterns(alloc, "*")?, List::new(alloc), 0);
-    assert_eq!(rt; again, Err(GroupFault::DuplicateName));
+    groups.put(row, 5)?;
+    Ok(groups)
+}
+
+#[test]
+fn a_stored_group_keeps_its_number(rt: HostRuntime) -> Result<(), Fail> {
+    assert!(rt; late(rt.alloc())?.find("LATE") == Some(1_023));
     Ok(())
 }

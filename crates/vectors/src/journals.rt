@@ -2,6 +2,7 @@
 
 use fsrm_journal::{Journal, JournalFault};
 use fsrm_outside::{MemoryOutside, Part};
+use std::alloc::Global;
 use std::test::Fail;
 
 // Generation 1, version 2, 65,536 nodes, 4,194,304 bytes of names, clusters of 4,096 bytes, an image of three bytes, and
@@ -13,20 +14,50 @@ const HALF: [u8; 59] = [
     1, 2, 3, 1, 2, 0, 0, 0, b'h', b'i', 0, // image, record, closed gate
 ];
 
-#[test]
-fn a_half_is_read(rt: HostRuntime) -> Result<(), Fail> {
-    let alloc = rt.alloc();
+fn image(journal: &mut Journal, disk: &mut MemoryOutside) -> Result<usize, JournalFault> {
+    let mut image = [0u8; 8];
+    journal.read_image(disk, &mut image)
+}
+
+// Whether the next record is found at byte 56, has two bytes, and begins with `h`.
+fn record_is_read(
+    alloc: Global,
+    journal: &mut Journal,
+    disk: &mut MemoryOutside,
+) -> Result<bool, Fail> {
+    let mut body = vec![in alloc; 0u8; 131_072]?;
+    let found = journal.next(disk, &mut body)?;
+    Ok(found == Some((56, 2)) && body[0] == b'h')
+}
+
+fn is_at_its_end(
+    alloc: Global,
+    journal: &mut Journal,
+    disk: &mut MemoryOutside,
+) -> Result<bool, Fail> {
+    let mut body = vec![in alloc; 0u8; 131_072]?;
+    Ok(journal.next(disk, &mut body)?.is_none())
+}
+
+fn is_read(alloc: Global, journal: &mut Journal, disk: &mut MemoryOutside) -> Result<bool, Fail> {
+    Ok(
+        image(journal, disk)? == 3
+            && image(journal, disk)? == 0
+            && record_is_read(alloc, journal, disk)?
+            && is_at_its_end(alloc, journal, disk)?,
+    )
+}
+
+fn half_is_read(alloc: Global) -> Result<bool, Fail> {
     let mut disk = MemoryOutside::with_parts(alloc, &HALF, &[0], &[], [].as_slice())?;
     let (mut journal, head) = Journal::open_at(alloc, &mut disk)?;
-    assert_eq!(rt; head.generation, 1);
-    assert_eq!(rt; head.size.cluster, 4_096);
-    let mut image = [0u8; 8];
-    assert_eq!(rt; journal.read_image(&mut disk, &mut image), Ok(3));
-    assert_eq!(rt; journal.read_image(&mut disk, &mut image), Ok(0));
-    let mut body = vec![in alloc; 0u8; 131_072]?;
-    assert_eq!(rt; journal.next(&mut disk, &mut body), Ok(Some((56, 2))));
-    assert_eq!(rt; body[0], b'h');
-    assert_eq!(rt; journal.next(&mut disk, &mut body), Ok(None));
+    let is_head = head.generation == 1 && head.size.cluster == 4_096;
+    Ok(is_head && is_read(alloc, &mut journal, &mut disk)?)
+}
+
+#[test]
+fn a_half_is_read(rt: HostRuntime) -> Result<(), Fail> {
+    assert!(rt; half_is_read(rt.alloc())?);
     Ok(())
 }
 
@@ -75,14 +106,17 @@ const DAMAGED: [(usize, u8, JournalFault); 6] = [
     ),
 ];
 
+fn refusal(alloc: Global, half: &[u8; 59]) -> Result<Option<JournalFault>, Fail> {
+    let mut disk = MemoryOutside::with_parts(alloc, half, &[0], &[], [].as_slice())?;
+    Ok(Journal::open_at(alloc, &mut disk).err())
+}
+
 #[test]
 fn a_wrong_head_is_told(rt: HostRuntime) -> Result<(), Fail> {
-    let alloc = rt.alloc();
     for (place, byte, fault) in DAMAGED {
         let mut half = HALF;
         half[place % 59] = byte;
-        let mut disk = MemoryOutside::with_parts(alloc, &half, &[0], &[], [].as_slice())?;
-        assert_eq!(rt; Journal::open_at(alloc, &mut disk).err(), Some(fault));
+        assert!(rt; refusal(rt.alloc(), &half)? == Some(fault));
     }
     Ok(())
 }

@@ -2,6 +2,10 @@
 //! definitions say what was meant where no script can show it. A crate with tests is proved twice, and each statement
 //! of a test is proved too: so the tests of all crates stand here, and are short. Tables of cases that a script can
 //! state are scripts (`.ci/scripts`).
+//!
+//! What a check of a function costs grows with its statements times the values that it owns times the size of their
+//! types. So a function that owns an engine or a tree only makes it and lends it to one that owns nothing, a row is made
+//! in a function of its own, and `assert!(rt; a == b)` stands for `assert_eq!`.
 #![tactic(auto)]
 
 #[cfg(test)]

@@ -1,32 +1,12 @@
-//! Rows, lists, texts and paths are copied.
+//! Rows are copied, and the lists and texts in them.
 
 use crate::values::{one, quota, text};
 use fsrm_model::{
     ActRow, Action, ActionKind, AuditRow, AutoRow, Duplicate, ExceptRow, Filter, GroupRow, JobRow,
     List, NodeRow, ReportKind, ScreenRow, TemplateRow, Threshold,
 };
-use name_rules::read_path;
 use std::alloc::Global;
 use std::test::Fail;
-
-#[test]
-fn a_path_has_its_parts(rt: HostRuntime) -> Result<(), Fail> {
-    let alloc = rt.alloc();
-    let path = read_path(alloc, "D:\\text")?;
-    assert_eq!(rt; path.depth(), 1);
-    assert_eq!(rt; path.names().next(), "text");
-    assert_eq!(rt; path.copy(alloc)?.depth(), 1);
-    Ok(())
-}
-
-#[test]
-fn a_list_has_its_items(rt: HostRuntime) -> Result<(), Fail> {
-    let alloc = rt.alloc();
-    let list = one(alloc, text(alloc)?)?.copy(alloc)?;
-    assert!(rt; list.len() == 1 && !list.is_empty() && list.get(1).is_none());
-    assert_eq!(rt; list.get(0).map(|text| text.as_str()), Some("text"));
-    Ok(())
-}
 
 fn actions(alloc: Global) -> Result<List<Action>, Fail> {
     let action = Action {
@@ -46,91 +26,119 @@ fn thresholds(alloc: Global) -> Result<List<Threshold>, Fail> {
     one(alloc, threshold)
 }
 
-fn copy_once<T: Duplicate>(alloc: Global, row: T) -> Result<(), Fail> {
-    row.copy(alloc)?;
+fn copied<T: Duplicate>(alloc: Global, row: Result<T, Fail>) -> Result<(), Fail> {
+    row?.copy(alloc)?;
     Ok(())
 }
 
-#[test]
-fn nodes_and_logs_are_copied(rt: HostRuntime) -> Result<(), Fail> {
-    let alloc = rt.alloc();
-    let node = NodeRow {
+fn node(alloc: Global) -> Result<NodeRow, Fail> {
+    let name = text(alloc)?;
+    Ok(NodeRow {
         number: 1,
         parent: 0,
-        name: text(alloc)?,
+        name,
         folder: false,
         length: 2,
         owner: 3,
         created: 4,
         modified: 5,
         accessed: 6,
-    };
-    copy_once(alloc, node)?;
-    let act = ActRow {
+    })
+}
+
+fn act() -> ActRow {
+    ActRow {
         moment: 1,
         folder: 2,
         percent: 85,
         kind: ActionKind::Event,
-    };
-    copy_once(alloc, act)?;
-    let audit = AuditRow {
+    }
+}
+
+fn audit(alloc: Global) -> Result<AuditRow, Fail> {
+    let name = text(alloc)?;
+    Ok(AuditRow {
         moment: 1,
         active: true,
         owner: 2,
         folder: 3,
         screen: 4,
-        name: text(alloc)?,
-    };
-    copy_once(alloc, audit)
+        name,
+    })
+}
+
+#[test]
+fn nodes_and_logs_are_copied(rt: HostRuntime) -> Result<(), Fail> {
+    copied(rt.alloc(), node(rt.alloc()))?;
+    copied(rt.alloc(), Ok(act()))?;
+    copied(rt.alloc(), audit(rt.alloc()))
+}
+
+fn template(alloc: Global) -> Result<TemplateRow, Fail> {
+    let name = text(alloc)?;
+    let thresholds = thresholds(alloc)?;
+    Ok(TemplateRow {
+        number: 1,
+        name,
+        limit: 1_024,
+        enforce: false,
+        thresholds,
+    })
+}
+
+fn auto(alloc: Global) -> Result<AutoRow, Fail> {
+    let excluded = one(alloc, text(alloc)?)?;
+    Ok(AutoRow {
+        folder: 1,
+        template: 2,
+        excluded,
+    })
 }
 
 #[test]
 fn quotas_and_templates_are_copied(rt: HostRuntime) -> Result<(), Fail> {
-    let alloc = rt.alloc();
-    copy_once(alloc, quota(alloc, 1, 1_024))?;
-    let template = TemplateRow {
+    copied(rt.alloc(), Ok(quota(rt.alloc(), 1, 1_024)))?;
+    copied(rt.alloc(), template(rt.alloc()))?;
+    copied(rt.alloc(), auto(rt.alloc()))
+}
+
+fn group(alloc: Global) -> Result<GroupRow, Fail> {
+    let name = text(alloc)?;
+    let members = one(alloc, text(alloc)?)?;
+    Ok(GroupRow {
         number: 1,
-        name: text(alloc)?,
-        limit: 1_024,
-        enforce: false,
-        thresholds: thresholds(alloc)?,
-    };
-    copy_once(alloc, template)?;
-    let auto = AutoRow {
+        name,
+        members,
+        non_members: List::new(alloc),
+    })
+}
+
+fn screen(alloc: Global) -> Result<ScreenRow, Fail> {
+    let groups = one(alloc, 2)?;
+    let actions = actions(alloc)?;
+    Ok(ScreenRow {
         folder: 1,
-        template: 2,
-        excluded: one(alloc, text(alloc)?)?,
-    };
-    copy_once(alloc, auto)
+        active: true,
+        groups,
+        actions,
+    })
+}
+
+fn exception(alloc: Global) -> Result<ExceptRow, Fail> {
+    let groups = one(alloc, 2)?;
+    Ok(ExceptRow { folder: 1, groups })
 }
 
 #[test]
 fn groups_and_screens_are_copied(rt: HostRuntime) -> Result<(), Fail> {
-    let alloc = rt.alloc();
-    let group = GroupRow {
-        number: 1,
-        name: text(alloc)?,
-        members: one(alloc, text(alloc)?)?,
-        non_members: List::new(alloc),
-    };
-    copy_once(alloc, group)?;
-    let screen = ScreenRow {
-        folder: 1,
-        active: true,
-        groups: one(alloc, 2)?,
-        actions: actions(alloc)?,
-    };
-    copy_once(alloc, screen)?;
-    let except = ExceptRow {
-        folder: 1,
-        groups: one(alloc, 2)?,
-    };
-    copy_once(alloc, except)
+    copied(rt.alloc(), group(rt.alloc()))?;
+    copied(rt.alloc(), screen(rt.alloc()))?;
+    copied(rt.alloc(), exception(rt.alloc()))
 }
 
-#[test]
-fn jobs_are_copied(rt: HostRuntime) -> Result<(), Fail> {
-    let alloc = rt.alloc();
+fn job(alloc: Global) -> Result<JobRow, Fail> {
+    let name = text(alloc)?;
+    let schedule = text(alloc)?;
     let filter = Filter {
         owner: Some(1),
         pattern: Some(text(alloc)?),
@@ -139,15 +147,19 @@ fn jobs_are_copied(rt: HostRuntime) -> Result<(), Fail> {
         min_use: None,
         max: 4,
     };
-    let job = JobRow {
+    Ok(JobRow {
         number: 1,
-        name: text(alloc)?,
+        name,
         kind: ReportKind::LargeFiles,
         scope: 2,
         filter,
-        schedule: text(alloc)?,
+        schedule,
         made: 3,
         last_run: None,
-    };
-    copy_once(alloc, job)
+    })
+}
+
+#[test]
+fn jobs_are_copied(rt: HostRuntime) -> Result<(), Fail> {
+    copied(rt.alloc(), job(rt.alloc()))
 }

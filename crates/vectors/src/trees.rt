@@ -1,12 +1,13 @@
-//! The tree of a volume: the order of children, moves in two halves and copies of its rows, which no reply shows.
+//! The tree of a volume: the order of children and the owners and moments of files, and the calls that the
+//! program doesn't make: whole creations and moves, and copies of its rows.
 
-ghost use Rattle.std.specs.Prelude.{◌≡◌, true};
+ghost use Rattle.std.specs.Prelude.{◌≡◌, ◌==◌, true, false};
+ghost use Rattle.fsrm_model.specs.Capacities.{is_capacity};
 ghost use Rattle.fsrm_model.specs.Name.{is_name};
 ghost use Rattle.fsrm_model.specs.Tree.{is_folder as is_folder_of};
 
 use crate::values::{SMALL, TINY, folder, one};
-use fsrm_model::{Ledger, List, NodeRow, Steps, Weightless};
-use name_rules::read_path;
+use fsrm_model::{Capacity, Ledger, List, NodeRow, Steps, Weightless};
 use std::alloc::Global;
 use std::marker::Brand;
 use std::process::Abort;
@@ -24,66 +25,58 @@ pub fn is_folder<L: Ledger>(tree: &Tree, node: u32, steps: &mut Steps<L>) -> boo
 fn mkdir<L: Ledger>(
     tree: &mut Tree,
     end: &impl Abort,
-    folder: u32,
     name: &str,
     steps: &mut Steps<L>,
 ) -> Result<u32, TreeFault>
     requires { is_name name.now ≡ true }
 {
-    assert!(end; is_folder(tree, folder, steps));
-    tree.mkdir(folder, name, 3, 7, steps)
+    assert!(end; is_folder(tree, 0, steps));
+    tree.mkdir(0, name, 3, 7, steps)
 }
 
 // A file of five bytes.
 fn create<L: Ledger>(
     tree: &mut Tree,
     end: &impl Abort,
-    folder: u32,
     name: &str,
     steps: &mut Steps<L>,
 ) -> Result<u32, TreeFault>
     requires { is_name name.now ≡ true }
 {
-    assert!(end; is_folder(tree, folder, steps));
-    tree.create(folder, name, 5, 3, 7, steps)
+    assert!(end; is_folder(tree, 0, steps));
+    tree.create(0, name, 5, 3, 7, steps)
 }
 
-fn files_change<L: Ledger>(
-    alloc: Global,
+// Makes four nodes in the root: file 1, folder 2, and files 3 and 4.
+fn fill<L: Ledger>(
+    tree: &mut Tree,
     end: &impl Abort,
     steps: &mut Steps<L>,
-) -> Result<(), Fail> {
-    let mut tree = Tree::reserve(alloc, SMALL)?;
-    assert_eq!(end; create(&mut tree, end, 0, "a", steps), Ok(1));
-    assert!(end; tree.live(1) && !is_folder(&tree, 1, steps));
-    tree.resize(1, 6, 8, steps);
-    assert!(end; tree.live(1) && !is_folder(&tree, 1, steps));
-    tree.touch(1, 9, steps);
-    assert!(end; tree.live(1));
-    let file = tree.node(1, steps);
-    assert_eq!(end;
-        (file.number, file.parent, file.name, file.length),
-        (1, 0, "a", 6)
-    );
-    assert_eq!(end;
-        (file.owner, file.created, file.modified, file.accessed),
-        (3, 7, 8, 9)
-    );
+) -> Result<(), TreeFault> {
+    create(tree, end, "B", steps)?;
+    mkdir(tree, end, "É", steps)?;
+    create(tree, end, "a", steps)?;
+    create(tree, end, "_", steps)?;
     Ok(())
 }
 
-// Four nodes in the root.
-fn some_children<L: Ledger>(
-    alloc: Global,
-    end: &impl Abort,
-    steps: &mut Steps<L>,
-) -> Result<Tree, Fail> {
-    let mut tree = Tree::reserve(alloc, SMALL)?;
-    assert_eq!(end; create(&mut tree, end, 0, "B", steps), Ok(1));
-    assert_eq!(end; create(&mut tree, end, 0, "a", steps), Ok(2));
-    assert_eq!(end; mkdir(&mut tree, end, 0, "É", steps), Ok(3));
-    assert_eq!(end; create(&mut tree, end, 0, "_", steps), Ok(4));
-    Ok(tree)
+fn resize<L: Ledger>(tree: &mut Tree, end: &impl Abort, steps: &mut Steps<L>) {
+    assert!(end; tree.live(1));
+    assert!(end; !is_folder(tree, 1, steps));
+    tree.resize(1, 6, 8, steps);
+}
+
+fn touch<L: Ledger>(tree: &mut Tree, end: &impl Abort, steps: &mut Steps<L>) {
+    assert!(end; tree.live(1));
+    assert!(end; !is_folder(tree, 1, steps));
+    tree.touch(1, 9, steps);
+}
+
+fn is_changed<L: Ledger>(tree: &Tree, end: &impl Abort, steps: &mut Steps<L>) -> bool {
+    assert!(end; tree.live(1));
+    let file = tree.node(1, steps);
+    let is_made = file.length == 6 && file.owner == 3 && file.created == 7;
+    is_made && file.modified == 8 && file.accessed == 9
 }
 
 fn numbers(alloc: Global, siblings: Option<Siblings<'_>>) -> Result<Vec<u32>, Fail> {
@@ -96,58 +89,79 @@ fn numbers(alloc: Global, siblings: Option<Siblings<'_>>) -> Result<Vec<u32>, Fa
     Ok(numbers)
 }
 
-fn children_are_ordered<L: Ledger>(
-    alloc: Global,
-    end: &impl Abort,
-    steps: &mut Steps<L>,
-) -> Result<(), Fail> {
-    let tree = some_children(alloc, end, steps)?;
-    // Wherever the finger is: at the front, and after them.
+fn are_ordered<L: Ledger>(tree: &Tree, alloc: Global, steps: &mut Steps<L>) -> Result<bool, Fail> {
     let mut finger = Finger::default();
-    let first = numbers(alloc, tree.children(0, &mut finger, steps).next(steps))?;
-    assert_eq!(end; first.as_slice(), [4, 2, 1, 3].as_slice());
-    let again = numbers(alloc, tree.children(0, &mut finger, steps).next(steps))?;
-    assert_eq!(end; again.as_slice(), [4, 2, 1, 3].as_slice());
-    assert!(end; 1 < tree.child_count(0, steps));
-    assert_eq!(end; tree.child_at(0, 1, steps), 2);
-    assert_eq!(end; tree.child(0, "é", steps), Some(3));
-    assert_eq!(end; tree.resolve(&read_path(alloc, "D:\\b")?, steps), Some(1));
-    Ok(())
+    let numbers = numbers(alloc, tree.children(0, &mut finger, steps).next(steps))?;
+    Ok(numbers.as_slice() == [4, 3, 1, 2].as_slice())
+}
+
+fn move_into_folder<L: Ledger>(
+    tree: &mut Tree,
+    end: &impl Abort,
+    node: u32,
+    name: &str,
+    steps: &mut Steps<L>,
+) -> Result<(), TreeFault>
+    requires inner { (node == 0) ≡ false }
+    requires name { is_name name.now ≡ true }
+{
+    assert!(end; tree.live(node));
+    assert!(end; is_folder(tree, 2, steps));
+    tree.move_node(node, 2, name, steps)
 }
 
 fn nodes_move<L: Ledger>(
-    alloc: Global,
+    tree: &mut Tree,
     end: &impl Abort,
     steps: &mut Steps<L>,
 ) -> Result<(), Fail> {
-    let mut tree = some_children(alloc, end, steps)?;
-    assert!(end; tree.live(1) && is_folder(&tree, 3, steps));
-    let ready = tree.ready_move(1, 3, "c", steps)?;
-    tree.make_move(ready, steps);
-    assert!(end; tree.live(2) && is_folder(&tree, 3, steps));
-    assert_eq!(end;
-        tree.move_node(2, 3, "C", steps),
-        Err(TreeFault::AlreadyExists)
-    );
-    assert!(end; tree.live(1));
-    assert!(end; tree.is_at_or_below(3, 1, steps));
-    assert_eq!(end; tree.remove(1, steps), Ok(()));
-    assert_eq!(end; (tree.count(), tree.name_bytes()), (4, 4));
+    move_into_folder(tree, end, 1, "c", steps)?;
+    let again = move_into_folder(tree, end, 3, "C", steps);
+    assert!(end; matches!(again, Err(TreeFault::AlreadyExists)));
     Ok(())
 }
 
+fn fault(alloc: Global, rows: &List<NodeRow>, size: Capacity) -> Option<RowsFault>
+    requires { is_capacity size ≡ true }
+{
+    Tree::from_rows(alloc, rows, size).err()
+}
+
+fn is_bad(alloc: Global, rows: &List<NodeRow>, size: Capacity) -> bool
+    requires { is_capacity size ≡ true }
+{
+    matches!(fault(alloc, rows, size), Some(RowsFault::BadRows))
+}
+
 fn rows_go_round<L: Ledger>(
+    tree: &Tree,
+    alloc: Global,
+    steps: &mut Steps<L>,
+) -> Result<bool, Fail> {
+    let rows = tree.to_rows(alloc, steps)?;
+    Ok(fault(alloc, &rows, SMALL).is_none() && is_bad(alloc, &rows, TINY))
+}
+
+fn changes<L: Ledger>(
+    tree: &mut Tree,
     alloc: Global,
     end: &impl Abort,
     steps: &mut Steps<L>,
 ) -> Result<(), Fail> {
-    let tree = some_children(alloc, end, steps)?;
-    let rows = tree.to_rows(alloc, steps)?;
-    let again = Tree::from_rows(alloc, &rows, SMALL)?;
-    assert_eq!(end; (again.count(), again.capacity()), (5, SMALL));
-    let fault = Tree::from_rows(alloc, &rows, TINY).err();
-    assert_eq!(end; fault, Some(RowsFault::BadRows));
+    fill(tree, end, steps)?;
+    resize(tree, end, steps);
+    touch(tree, end, steps);
+    assert!(end; is_changed(tree, end, steps));
+    assert!(end; are_ordered(tree, alloc, steps)?);
+    nodes_move(tree, end, steps)?;
+    assert!(end; rows_go_round(tree, alloc, steps)?);
     Ok(())
+}
+
+// A function that owns a tree is dear to prove by each of its statements, so this one has two.
+fn new_tree<L: Ledger>(alloc: Global, end: &impl Abort, steps: &mut Steps<L>) -> Result<(), Fail> {
+    let mut tree = Tree::reserve(alloc, SMALL)?;
+    changes(&mut tree, alloc, end, steps)
 }
 
 fn trees<N: Named>(rt: &HostRuntime, end: &impl Abort, blank: Blank) -> Result<(), Fail>
@@ -156,33 +170,34 @@ fn trees<N: Named>(rt: &HostRuntime, end: &impl Abort, blank: Blank) -> Result<(
     requires one { blank.parts ≡ 1 }
 {
     let mut steps = Steps::new(rt, Weightless::<N>::of(blank));
-    files_change(rt.alloc(), end, &mut steps)?;
-    children_are_ordered(rt.alloc(), end, &mut steps)?;
-    nodes_move(rt.alloc(), end, &mut steps)?;
-    rows_go_round(rt.alloc(), end, &mut steps)
+    new_tree(rt.alloc(), end, &mut steps)
 }
 
 #[test]
-fn nodes_are_made_moved_and_removed(rt: HostRuntime) -> Result<(), Fail> {
+fn nodes_are_made_and_moved(rt: HostRuntime) -> Result<(), Fail> {
     trees::<Brand>(&rt, &rt, Blank::new(1))
 }
 
-// The root, and folders of these parents and names, numbered from 1 on.
-fn folders(alloc: Global, others: &[(u32, &str)]) -> Result<List<NodeRow>, Fail> {
+// The root, and folders 1 and 2 with these parents and names.
+fn folders(alloc: Global, first: (u32, &str), second: (u32, &str)) -> Result<List<NodeRow>, Fail> {
     let mut rows = one(alloc, folder(alloc, 0, 0, "")?)?;
-    for (number, (parent, name)) in (1..9).zip(others) {
-        rows.push(folder(alloc, number, *parent, name)?)?;
-    }
+    rows.push(folder(alloc, 1, first.0, first.1)?)?;
+    rows.push(folder(alloc, 2, second.0, second.1)?)?;
     Ok(rows)
 }
 
+fn are_bad(alloc: Global, first: (u32, &str), second: (u32, &str)) -> Result<bool, Fail> {
+    Ok(is_bad(alloc, &folders(alloc, first, second)?, SMALL))
+}
+
 #[test]
-fn rows_that_are_no_tree_are_bad(rt: HostRuntime) -> Result<(), Fail> {
-    let twins: &[(u32, &str)] = &[(0, "a"), (0, "b"), (0, "A")];
-    let ring: &[(u32, &str)] = &[(0, "a"), (3, "b"), (2, "c")];
-    for others in [twins, ring] {
-        let fault = Tree::from_rows(rt.alloc(), &folders(rt.alloc(), others)?, SMALL).err();
-        assert_eq!(rt; fault, Some(RowsFault::BadRows));
-    }
+fn twins_are_bad(rt: HostRuntime) -> Result<(), Fail> {
+    assert!(rt; are_bad(rt.alloc(), (0, "a"), (0, "A"))?);
+    Ok(())
+}
+
+#[test]
+fn a_ring_is_bad(rt: HostRuntime) -> Result<(), Fail> {
+    assert!(rt; are_bad(rt.alloc(), (2, "b"), (1, "c"))?);
     Ok(())
 }

@@ -1,4 +1,4 @@
-use Rattle.vectors.proofs.trees.nodes_are_made_moved_and_removed.Given as goal
+use Rattle.vectors.proofs.trees.nodes_are_made_and_moved.Given as goal
 
 -- the ledger is that of the blank
 abbrev pub ghosts-trees : goal.ghosts-trees

@@ -1,4 +1,4 @@
-use Rattle.vectors.proofs.scans.a_scan_counts_each_file_once.Given as goal
+use Rattle.vectors.proofs.scans.a_scan_has_its_folder_to_visit.Given as goal
 
 -- the ledger is that of the blank
 abbrev pub ghosts-scans : goal.ghosts-scans

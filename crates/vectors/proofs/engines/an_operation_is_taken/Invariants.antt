@@ -1,4 +1,4 @@
-use Rattle.vectors.proofs.engines.commands_are_taken_and_answered.Given as goal
+use Rattle.vectors.proofs.engines.an_operation_is_taken.Given as goal
 
 -- the ledger is that of the blank
 abbrev pub ghosts-engines : goal.ghosts-engines
