@@ -3,3 +3,4 @@ pub mod Order
 pub mod Places
 pub mod Numbers
 pub mod Causes
+pub mod Lends

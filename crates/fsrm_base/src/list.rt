@@ -1,6 +1,6 @@
 //! An owned list.
 
-ghost use Rattle.std.specs.Prelude.{◌≡◌, ◌==◌, ◌∷◌, [], ◌++◌, OnOk, OnErr, length, slice_get};
+ghost use Rattle.std.specs.Prelude.{◌≡◌, ◌==◌, ◌≤◌, ◌∷◌, [], ◌++◌, OnOk, OnErr, insert, length, slice_get};
 ghost use Rattle.std.specs.Option.{option_copied};
 
 use crate::memory::{Duplicate, NoMemory};
@@ -60,6 +60,20 @@ impl<T> List<T> {
     }
 }
 
+impl<T> List<T> {
+    ghost use Rattle.std.specs.Borrow.{sem};
+    ghost use Rattle.std.specs.Option.{option_copied_mut};
+    ghost use Rattle.fsrm_base.specs.Lends.{lends_item};
+
+    /// The item at a place, from 0, lent to be changed. None exactly past the end.
+    pub fn get_mut(&mut self, place: usize) -> Option<&mut T>
+        ensures* writes_back { sem 𝓛 (lends_item T.row self.entry place result) }
+        ensures value { option_copied_mut result ≡ slice_get self.old place }
+    {
+        self.inner.get_mut(place)
+    }
+}
+
 impl<T: Drop> List<T> {
     /// Adds an item at the end. If memory runs out the item is dropped and the list stays.
     pub fn push(&mut self, item: T) -> Result<(), NoMemory>
@@ -67,6 +81,17 @@ impl<T: Drop> List<T> {
         ensures err { OnErr result (self.new ≡ self.old) }
     {
         self.inner.push(item)?;
+        Ok(())
+    }
+
+    /// Puts an item to a place, from 0, before the item that stands there. If memory runs out the item is
+    /// dropped and the list stays.
+    pub fn insert(&mut self, place: usize, item: T) -> Result<(), NoMemory>
+        requires { place ≤ length self.old }
+        ensures ok { OnOk result (self.new ≡ insert self.old place item) }
+        ensures err { OnErr result (self.new ≡ self.old) }
+    {
+        self.inner.insert(place, item)?;
         Ok(())
     }
 }

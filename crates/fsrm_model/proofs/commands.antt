@@ -1,3 +1,4 @@
+pub mod AdminCommands
 pub mod EachCommand
 pub mod Ends
 pub mod FileCommands
@@ -8,3 +9,4 @@ pub mod OrderlyLaws
 pub mod QuotaCommands
 pub mod QuotaLaws
 pub mod ScanCommands
+pub mod StepActs

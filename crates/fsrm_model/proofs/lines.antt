@@ -1,3 +1,4 @@
+pub mod ActionLaws
 pub mod CommandLaws
 pub mod LineRefusals
 pub mod LineValues

@@ -3,8 +3,9 @@ use Rattle.std.specs.Prelude.{nat_lt, length, Option}
 use Rattle.fsrm_model.specs.declared.row.Capacity.{Capacity}
 use Rattle.fsrm_model.specs.declared.row.Rows.{Rows}
 use Rattle.fsrm_model.specs.declared.command.Refusal.{Refusal}
-use Rattle.fsrm_model.specs.declared.command.Refusal.TheVariants.{VolumeFull, NamesFull, TableFull}
-use Rattle.fsrm_model.specs.Limits.{most_quotas}
+use Rattle.fsrm_model.specs.declared.command.Refusal.TheVariants.{VolumeFull, NamesFull, TableFull, TextsFull}
+use Rattle.fsrm_model.specs.Limits.{most_quotas, most_text_bytes}
+use Rattle.fsrm_model.specs.Texts.{object_texts}
 use Rattle.fsrm_model.specs.Tree.{name_bytes}
 pub use Rattle.fsrm_base.specs.Causes.{◌when◌, first}
 
@@ -21,3 +22,6 @@ names_full K after = NamesFull when nat_lt K.names (name_bytes after.nodes)
 
 abbrev pub table_full : Rows → Check
 table_full after = TableFull when nat_lt most_quotas (length after.quotas)
+
+abbrev pub texts_full : Rows → Check
+texts_full after = TextsFull when nat_lt most_text_bytes (object_texts after)

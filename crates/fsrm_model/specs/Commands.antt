@@ -1,24 +1,26 @@
 -- What there is to say of each command by itself: its paths and its other values, its entry in a journal, its work, and the
 -- looks that it may take.
 use Rattle.std.specs.Prelude.{ℕ, ◌+◌, ◌*◌, ◌&&◌, nat_le, Bool, true, false, List, [], ◌∷◌, length, sum_by, Option, Some, None, option_map, option_to_list, is_none, if◌then◌else◌}
+use Rattle.std.specs.List.{list_all}
 use Rattle.std.specs.Option.{option_map_or}
 use Rattle.fsrm_model.specs.declared.row.Capacity.{Capacity}
 use Rattle.fsrm_model.specs.declared.row.NodeRow.{NodeRow}
 use Rattle.fsrm_model.specs.declared.row.Rows.{Rows}
 use Rattle.fsrm_model.specs.declared.command.Deed.{Deed}
-use Rattle.fsrm_model.specs.declared.command.Deed.TheVariants.{File, Usage, Step, QuotaAdd, QuotaModify, QuotaDelete, QuotaScan, QuotaResetpeak, QuotaList}
+use Rattle.fsrm_model.specs.declared.command.Deed.TheVariants.{File, Usage, Step, QuotaAdd, QuotaModify, QuotaDelete, QuotaScan, QuotaResetpeak, QuotaList, AdminOptions, AdminList, AdminLog}
 use Rattle.fsrm_model.specs.declared.command.FileOp.{FileOp}
 use Rattle.fsrm_model.specs.declared.command.FileOp.TheVariants.{Mkdir, Create, Resize, Touch, Move, Remove}
+use Rattle.fsrm_model.specs.AdminWork.{options_work, settings_work, log_work}
 use Rattle.fsrm_model.specs.Entry.{Path, number_bytes, choice_bytes, text_bytes, path_bytes, optional, counted, notice_bytes}
 use Rattle.fsrm_model.specs.FileOps.{target}
 use Rattle.fsrm_model.specs.FileWork.{file_work, usage_work}
 use Rattle.fsrm_model.specs.Leads.{leads, leads_to_folder}
-use Rattle.fsrm_model.specs.Limits.{longest_file, last_owner, most_visits}
+use Rattle.fsrm_model.specs.Limits.{longest_file, last_owner, most_visits, most_minutes}
 use Rattle.fsrm_model.specs.Quota.{is_limit}
 use Rattle.fsrm_model.specs.QuotaWork.{add_work, modify_work, delete_work, reset_work, list_work}
 use Rattle.fsrm_model.specs.ScanWork.{scan_work, step_work}
+use Rattle.fsrm_model.specs.Thresholds.{is_percent, is_notice}
 use Rattle.fsrm_model.specs.Tree.{under}
-use Rattle.fsrm_model.specs.Valid.{is_empty}
 use Rattle.fsrm_model.specs.Work.{Work}
 
 -- the paths of a command
@@ -40,6 +42,9 @@ paths (QuotaDelete path) = path ∷ []
 paths (QuotaScan path) = path ∷ []
 paths (QuotaResetpeak path) = path ∷ []
 paths (QuotaList path) = option_to_list path
+paths (AdminOptions minutes) = []
+paths AdminList = []
+paths AdminLog = []
 
 abbrev pub is_owner : ℕ → Bool
 is_owner owner = nat_le 1 owner && nat_le owner last_owner
@@ -56,19 +61,22 @@ has_values_of_op (Touch path) = true
 has_values_of_op (Move from to) = true
 has_values_of_op (Remove path) = true
 
--- a new quota must have a limit. Neither templates nor thresholds can be given yet
+-- a new quota must have a limit. No template can be given yet
 abbrev pub has_values : Deed → Bool
 has_values (File op) = has_values_of_op op
 has_values (Usage path) = true
 has_values (Step n) = nat_le 1 n && nat_le n most_visits
 has_values (QuotaAdd path limit enforce enabled template percents notices) =
-    option_map_or is_limit limit false && (is_none template && (is_empty percents && is_empty notices))
+    option_map_or is_limit limit false && (is_none template && (list_all is_percent percents && list_all is_notice notices))
 has_values (QuotaModify path limit enforce enabled removed percents notices) =
-    option_map_or is_limit limit true && (is_empty removed && (is_empty percents && is_empty notices))
+    option_map_or is_limit limit true && (list_all is_percent removed && (list_all is_percent percents && list_all is_notice notices))
 has_values (QuotaDelete path) = true
 has_values (QuotaScan path) = true
 has_values (QuotaResetpeak path) = true
 has_values (QuotaList path) = true
+has_values (AdminOptions minutes) = nat_le minutes most_minutes
+has_values AdminList = true
+has_values AdminLog = true
 
 -- a command without its values: two deeds are of the same command if they are the same but for these
 abbrev pub emptied_op : FileOp → FileOp
@@ -89,6 +97,9 @@ emptied (QuotaDelete path) = QuotaDelete []
 emptied (QuotaScan path) = QuotaScan []
 emptied (QuotaResetpeak path) = QuotaResetpeak []
 emptied (QuotaList path) = QuotaList None
+emptied (AdminOptions minutes) = AdminOptions 0
+emptied AdminList = AdminList
+emptied AdminLog = AdminLog
 
 -- The kind of a command's entry, by which a reader of the journal knows the command: no two commands have the same one. A
 -- command that never lasts has none, nor has a step of a scan: what is kept of it is that the scan was finished
@@ -110,6 +121,9 @@ kind (QuotaDelete path) = Some 12
 kind (QuotaScan path) = Some 13
 kind (QuotaResetpeak path) = Some 14
 kind (QuotaList path) = None
+kind (AdminOptions minutes) = Some 35
+kind AdminList = None
+kind AdminLog = None
 
 -- all values of a command but its paths
 abbrev pub more_bytes_of_op : FileOp → ℕ
@@ -134,6 +148,9 @@ more_bytes (QuotaDelete path) = 0
 more_bytes (QuotaScan path) = 0
 more_bytes (QuotaResetpeak path) = 0
 more_bytes (QuotaList path) = 0
+more_bytes (AdminOptions minutes) = number_bytes
+more_bytes AdminList = 0
+more_bytes AdminLog = 0
 
 -- how many bytes the entry of a command has, if it has one
 abbrev pub entry_bytes : Deed → Option ℕ
@@ -144,12 +161,17 @@ abbrev pub work : Capacity → Rows → ℕ → Deed → Work
 work K R moment (File op) = file_work K R op moment
 work K R moment (Usage path) = usage_work K R path
 work K R moment (Step n) = step_work K R n
-work K R moment (QuotaAdd path limit enforce enabled template percents notices) = add_work R moment path limit enforce enabled
-work K R moment (QuotaModify path limit enforce enabled removed percents notices) = modify_work R path limit enforce enabled
+work K R moment (QuotaAdd path limit enforce enabled template percents notices) =
+    add_work R moment path limit enforce enabled percents notices
+work K R moment (QuotaModify path limit enforce enabled removed percents notices) =
+    modify_work R path limit enforce enabled removed percents notices
 work K R moment (QuotaDelete path) = delete_work R path
 work K R moment (QuotaScan path) = scan_work R path
 work K R moment (QuotaResetpeak path) = reset_work K R moment path
 work K R moment (QuotaList path) = list_work R path
+work K R moment (AdminOptions minutes) = options_work R minutes
+work K R moment AdminList = settings_work R
+work K R moment AdminLog = log_work R
 
 -- a folder that moves is looked through up to 8 times, a node that is summed up to 4 times
 abbrev pub op_cost : List NodeRow → FileOp → ℕ
@@ -171,3 +193,6 @@ more_cost nodes (QuotaDelete path) = 0
 more_cost nodes (QuotaScan path) = 0
 more_cost nodes (QuotaResetpeak path) = 0
 more_cost nodes (QuotaList path) = 0
+more_cost nodes (AdminOptions minutes) = 0
+more_cost nodes AdminList = 0
+more_cost nodes AdminLog = 0

@@ -2,15 +2,17 @@
 use Rattle.std.specs.Prelude.{ℕ, ◌+◌, ◌*◌, nat_lt, List, length, sum_by, Some, if◌then◌else◌}
 use Rattle.fsrm_model.specs.declared.row.NodeRow.{NodeRow}
 use Rattle.fsrm_model.specs.declared.row.Rows.{Rows}
+use Rattle.fsrm_model.specs.declared.command.Act.{Act}
 use Rattle.fsrm_model.specs.declared.command.Command.{Command}
 use Rattle.fsrm_model.specs.declared.command.Deed.{Deed}
 use Rattle.fsrm_model.specs.declared.command.Deed.TheVariants.{Step}
 use Rattle.fsrm_model.specs.declared.command.Outcome.{Outcome}
 use Rattle.fsrm_model.specs.declared.command.Ask.{Ask}
-use Rattle.fsrm_model.specs.declared.command.Ask.TheVariants.{Quotas}
+use Rattle.fsrm_model.specs.declared.command.Ask.TheVariants.{Quotas, Settings, Acts}
 use Rattle.fsrm_model.specs.declared.command.Outcome.TheVariants.{Done, Sum, Listing, Scanned, Refused}
 use Rattle.fsrm_model.specs.declared.command.Refusal.TheVariants.{QuotaExceeded}
 use Rattle.fsrm_base.specs.Numbers.{without_numbers}
+use Rattle.fsrm_model.specs.Acts.{folder_in}
 pub use Rattle.fsrm_model.specs.Commands.{op_cost, more_cost}
 use Rattle.fsrm_model.specs.Commands.{paths}
 use Rattle.fsrm_model.specs.Scan.{visits}
@@ -44,8 +46,10 @@ path_cost nodes n = 4 * (length (path_of nodes n) + 1)
 -- the looks at all paths of a list
 abbrev pub list_cost : Rows → Ask → ℕ
 list_cost R (Quotas folder) = sum_by (λ quota. path_cost R.nodes quota.folder) (asked folder R.quotas)
+list_cost R Settings = 0
+list_cost R Acts = 0
 
--- the looks at all paths of a reply
+-- the looks at all paths of a reply but those of its acts
 abbrev pub print_cost : Rows → Outcome → ℕ
 print_cost R (Done (Some screen)) = path_cost R.nodes screen
 print_cost R (Sum node bytes) = path_cost R.nodes node
@@ -53,3 +57,7 @@ print_cost R (Listing ask) = list_cost R ask
 print_cost R (Scanned folder visited used) = path_cost R.nodes folder
 print_cost R (Refused (QuotaExceeded folder would limit)) = path_cost R.nodes folder
 print_cost R other = 0
+
+-- the looks at the paths of acts
+abbrev pub acts_cost : List NodeRow → List Act → ℕ
+acts_cost nodes acts = sum_by (λ act. path_cost nodes (folder_in act.subject)) acts

@@ -47,7 +47,11 @@ greatest_limit = 2 ^ 60
 abbrev pub most_quotas : ℕ
 most_quotas = 4096
 
--- how many thresholds a quota may have, how many actions each of them, and the bytes of the longest text of an action
+-- the greatest percentage of a threshold, how many thresholds a quota may have, how many actions each of them, and the bytes
+-- of the longest text of an action
+abbrev pub greatest_percent : ℕ
+greatest_percent = 250
+
 abbrev pub most_thresholds : ℕ
 most_thresholds = 16
 
@@ -71,6 +75,10 @@ most_visits = 1000000
 -- the bytes of all texts of objects: names of templates, groups and jobs, patterns, texts of actions, and the like
 abbrev pub most_text_bytes : ℕ
 most_text_bytes = 4194304
+
+-- how many entries the log of actions keeps, and as many that of audits
+abbrev pub most_entries : ℕ
+most_entries = 1024
 
 -- the greatest run limit of actions, in minutes
 abbrev pub most_minutes : ℕ

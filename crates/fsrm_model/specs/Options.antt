@@ -1,11 +1,14 @@
 -- The options of the tools' commands: words of the form /Name:value, in any order. Each may be given once, or any
 -- number of times if it may repeat.
-use Rattle.std.specs.Prelude.{ℕ, ◌==◌, ◌||◌, not, Bool, false, List, [], ◌∷◌, ◌++◌, find, codes, Ok, Option, Some, None, is_some, if◌then◌else◌}
+use Rattle.std.specs.Prelude.{ℕ, ◌==◌, ◌||◌, not, Bool, true, false, List, [], ◌∷◌, ◌++◌, find, filter_map, codes, Ok, Option, Some, None, is_some, if◌then◌else◌}
 use Rattle.std.specs.List.{list_any, before_first, after_first}
 use Rattle.std.specs.Option.{option_or}
 use Rattle.std.specs.Str.{str_eq_ignore_ascii_case}
+use Rattle.fsrm_model.specs.declared.command.Added.{Added}
 use Rattle.fsrm_model.specs.declared.command.Refusal.TheVariants.{BadLine}
-use Rattle.fsrm_model.specs.Reading.{Read, ◌>>=◌, guarded, known, path_from, limit_from, choice_from}
+use Rattle.fsrm_model.specs.ActionWords.{percent_from, notice_from}
+use Rattle.fsrm_model.specs.Limits.{most_minutes}
+use Rattle.fsrm_model.specs.Reading.{Read, ◌>>=◌, guarded, known, number_from, path_from, limit_from, choice_from}
 use Rattle.fsrm_model.specs.Words.{Word}
 
 -- which option it is
@@ -14,6 +17,10 @@ pub data Key : Type 0 where
   TheLimit : Key
   TheType : Key
   TheStatus : Key
+  TheRemoval : Key
+  ThePercent : Key
+  TheNotice : Key
+  TheRunLimit : Key
 
 -- its name, which is read without regard to the case of ASCII letters
 abbrev pub key_name : Key → List ℕ
@@ -21,6 +28,10 @@ key_name ThePath = codes "/Path"
 key_name TheLimit = codes "/Limit"
 key_name TheType = codes "/Type"
 key_name TheStatus = codes "/Status"
+key_name TheRemoval = codes "/Remove-Threshold"
+key_name ThePercent = codes "/Add-Threshold"
+key_name TheNotice = codes "/Add-Notification"
+key_name TheRunLimit = codes "/RunLimitInterval"
 
 -- whether it may be given more than once
 abbrev pub may_repeat : Key → Bool
@@ -28,6 +39,10 @@ may_repeat ThePath = false
 may_repeat TheLimit = false
 may_repeat TheType = false
 may_repeat TheStatus = false
+may_repeat TheRemoval = true
+may_repeat ThePercent = true
+may_repeat TheNotice = true
+may_repeat TheRunLimit = false
 
 -- an option that is given, with its value
 pub data Given : Type 0 where
@@ -35,12 +50,20 @@ pub data Given : Type 0 where
   LimitIs : (limit : ℕ) → Given
   TypeIs : (enforce : Bool) → Given
   StatusIs : (enabled : Bool) → Given
+  RemovalIs : (percent : ℕ) → Given
+  PercentIs : (percent : ℕ) → Given
+  NoticeIs : (notice : Added) → Given
+  RunLimitIs : (minutes : ℕ) → Given
 
 abbrev pub key_of : Given → Key
 key_of (PathIs path) = ThePath
 key_of (LimitIs limit) = TheLimit
 key_of (TypeIs enforce) = TheType
 key_of (StatusIs enabled) = TheStatus
+key_of (RemovalIs percent) = TheRemoval
+key_of (PercentIs percent) = ThePercent
+key_of (NoticeIs notice) = TheNotice
+key_of (RunLimitIs minutes) = TheRunLimit
 
 -- the value that a text of a word at this column gives an option
 abbrev pub value_from : Key → ℕ → List ℕ → Read Given
@@ -48,6 +71,10 @@ value_from ThePath column text = path_from text >>= λ path. Ok (PathIs path)
 value_from TheLimit column text = limit_from column text >>= λ limit. Ok (LimitIs limit)
 value_from TheType column text = choice_from (codes "hard") (codes "soft") column text >>= λ enforce. Ok (TypeIs enforce)
 value_from TheStatus column text = choice_from (codes "enabled") (codes "disabled") column text >>= λ enabled. Ok (StatusIs enabled)
+value_from TheRemoval column text = percent_from column text >>= λ percent. Ok (RemovalIs percent)
+value_from ThePercent column text = percent_from column text >>= λ percent. Ok (PercentIs percent)
+value_from TheNotice column text = notice_from column text >>= λ notice. Ok (NoticeIs notice)
+value_from TheRunLimit column text = number_from 0 most_minutes column text >>= λ minutes. Ok (RunLimitIs minutes)
 
 -- the value, if it is that of the option
 abbrev pub path_in : Given → Option (List (List ℕ))
@@ -66,17 +93,41 @@ abbrev pub status_in : Given → Option Bool
 status_in (StatusIs enabled) = Some enabled
 status_in other = None
 
+abbrev pub removal_in : Given → Option ℕ
+removal_in (RemovalIs percent) = Some percent
+removal_in other = None
+
+abbrev pub percent_in : Given → Option ℕ
+percent_in (PercentIs percent) = Some percent
+percent_in other = None
+
+abbrev pub notice_in : Given → Option Added
+notice_in (NoticeIs notice) = Some notice
+notice_in other = None
+
+abbrev pub run_limit_in : Given → Option ℕ
+run_limit_in (RunLimitIs minutes) = Some minutes
+run_limit_in other = None
+
 -- whether it is the option of a key
 abbrev pub is_of : Key → Given → Bool
 is_of ThePath given = is_some (path_in given)
 is_of TheLimit given = is_some (limit_in given)
 is_of TheType given = is_some (type_in given)
 is_of TheStatus given = is_some (status_in given)
+is_of TheRemoval given = is_some (removal_in given)
+is_of ThePercent given = is_some (percent_in given)
+is_of TheNotice given = is_some (notice_in given)
+is_of TheRunLimit given = is_some (run_limit_in given)
 
 -- the first value of an option among those that were given
 abbrev pub one : {X : Type 0} → (Given → Option X) → List Given → Option X
 one value [] = None
 one value (given ∷ more) = option_or (value given) (one value more)
+
+-- all values of an option that may repeat, in the order in which they were given
+abbrev pub each_of : {X : Type 0} → (Given → Option X) → List Given → List X
+each_of value given = filter_map value given
 
 abbrev pub is_colon : ℕ → Bool
 is_colon b = b == 58

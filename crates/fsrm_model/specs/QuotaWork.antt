@@ -1,19 +1,23 @@
 -- The commands on quotas: their refusals in order, and what they do.
-use Rattle.std.specs.Prelude.{ℕ, Bool, true, false, not, is_some, is_none, List, [], ◌∷◌, Option, Some, None, unwrap_or, if◌then◌else◌}
+use Rattle.std.specs.Prelude.{ℕ, Bool, true, false, not, is_some, is_none, List, [], ◌∷◌, ◌++◌, Option, Some, None, unwrap_or, if◌then◌else◌}
+use Rattle.std.specs.Option.{option_map_or}
+use Rattle.fsrm_model.specs.declared.command.Added.{Added}
 use Rattle.fsrm_model.specs.declared.command.Ask.TheVariants.{Quotas}
 use Rattle.fsrm_model.specs.declared.command.Outcome.TheVariants.{Done, Listing}
-use Rattle.fsrm_model.specs.declared.command.Refusal.TheVariants.{PathNotFound, NotFound, AlreadyExists}
+use Rattle.fsrm_model.specs.declared.command.Refusal.TheVariants.{PathNotFound, NotFound, AlreadyExists, OutOfRange}
 use Rattle.fsrm_model.specs.declared.row.Capacity.{Capacity}
 use Rattle.fsrm_model.specs.declared.row.QuotaRow.{QuotaRow}
 use Rattle.fsrm_model.specs.declared.row.QuotaState.{QuotaState}
 use Rattle.fsrm_model.specs.declared.row.QuotaState.TheVariants.{Disabled}
 use Rattle.fsrm_model.specs.declared.row.Rows.{Rows}
-use Rattle.fsrm_model.specs.Check.{Check, ◌when◌, table_full}
+use Rattle.fsrm_model.specs.declared.row.Threshold.{Threshold}
+use Rattle.fsrm_model.specs.Check.{Check, ◌when◌, table_full, texts_full}
 use Rattle.fsrm_model.specs.FileOps.{target}
 use Rattle.fsrm_base.specs.Keyed.{with_change}
 use Rattle.fsrm_model.specs.Leads.{leads_to_folder}
 use Rattle.fsrm_model.specs.Quota.{folder_of, quota_of, counts}
 use Rattle.fsrm_model.specs.QuotaStates.{start, state_after, with_quota, with_state, without_quota}
+use Rattle.fsrm_model.specs.Thresholds.{are_too_many, may_be_removed, changed_thresholds}
 use Rattle.fsrm_model.specs.Tree.{usage}
 use Rattle.fsrm_model.specs.Work.{Work, asks}
 
@@ -36,26 +40,41 @@ new_quota folder limit enforce state moment =
       peak_at = moment;
     }
 
+-- a quota with other thresholds
+abbrev pub remarked : List ℕ → List ℕ → List Added → QuotaRow → QuotaRow
+remarked removed percents notices quota = record quota { thresholds = changed_thresholds removed percents notices quota.thresholds }
+
 -- a valid command gives a limit. The quota is hard if no type is given
-abbrev pub add_work : Rows → ℕ → List (List ℕ) → Option ℕ → Option Bool → Bool → Work
-add_work R moment path limit enforce enabled =
+abbrev pub add_work : Rows → ℕ → List (List ℕ) → Option ℕ → Option Bool → Bool → List ℕ → List Added → Work
+add_work R moment path limit enforce enabled percents notices =
     let folder = target R.nodes path in
     let state = if enabled then start R.nodes folder else Disabled in
-    let after = with_quota R (new_quota folder (unwrap_or limit 0) (unwrap_or enforce true) state moment) in
+    let quota = remarked [] percents notices (new_quota folder (unwrap_or limit 0) (unwrap_or enforce true) state moment) in
+    let after = with_quota R quota in
     asks
-    ((PathNotFound when not (leads_to_folder R.nodes path)) ∷ (AlreadyExists when is_some (quota_of R folder)) ∷ table_full after ∷ [])
+    ((PathNotFound when not (leads_to_folder R.nodes path)) ∷ (AlreadyExists when is_some (quota_of R folder))
+    ∷ (OutOfRange when are_too_many quota.thresholds) ∷ table_full after ∷ texts_full after ∷ [])
     after (Done None) true
 
 -- a quota with another limit, or of another type, if these are given. All else of it stays
 abbrev pub modified : Option ℕ → Option Bool → QuotaRow → QuotaRow
 modified limit enforce quota = record quota { limit = unwrap_or limit quota.limit; enforce = unwrap_or enforce quota.enforce }
 
--- the limit first, then the type, then the status
-abbrev pub modify_work : Rows → List (List ℕ) → Option ℕ → Option Bool → Option Bool → Work
-modify_work R path limit enforce enabled =
+-- the thresholds of a folder's quota
+abbrev pub thresholds_of : Rows → ℕ → List Threshold
+thresholds_of R folder = option_map_or (λ quota. quota.thresholds) (quota_of R folder) []
+
+-- the limit first, then the type, then the thresholds, then the status
+abbrev pub modify_work : Rows → List (List ℕ) → Option ℕ → Option Bool → Option Bool → List ℕ → List ℕ → List Added → Work
+modify_work R path limit enforce enabled removed percents notices =
     let folder = target R.nodes path in
-    let changed = record R { quotas = with_change folder_of folder (modified limit enforce) R.quotas } in
-    asks (quota_checks R path) (with_state changed folder (state_after R folder enabled)) (Done None) true
+    let thresholds = thresholds_of R folder in
+    let changed = record R { quotas = with_change folder_of folder (λ quota. remarked removed percents notices (modified limit enforce quota)) R.quotas } in
+    let after = with_state changed folder (state_after R folder enabled) in
+    asks
+    (quota_checks R path ++ (NotFound when not (may_be_removed removed thresholds))
+    ∷ (OutOfRange when are_too_many (changed_thresholds removed percents notices thresholds)) ∷ texts_full after ∷ [])
+    after (Done None) true
 
 abbrev pub delete_work : Rows → List (List ℕ) → Work
 delete_work R path =

@@ -8,8 +8,9 @@ use Rattle.fsrm_model.specs.declared.command.Outcome.TheVariants.{Refused}
 use Rattle.fsrm_model.specs.Reading.{Read}
 use Rattle.fsrm_model.specs.Line.{read_line}
 use Rattle.fsrm_model.specs.Step.{step}
-use Rattle.fsrm_model.specs.Cost.{cost, print_cost}
-use Rattle.fsrm_model.specs.Text.{reply, act_lines}
+use Rattle.fsrm_model.specs.ActText.{act_lines}
+use Rattle.fsrm_model.specs.Cost.{cost, print_cost, acts_cost}
+use Rattle.fsrm_model.specs.Text.{reply}
 
 -- the byte that ends a line, LF
 abbrev pub is_end : ℕ → Bool
@@ -78,7 +79,7 @@ fold_script K R script j = fold_from K R 1 (take j (lines script))
 abbrev pub read_cost : Capacity → Rows → Option (Read Command) → ℕ
 read_cost K R None = 0
 read_cost K R (Some (Err refusal)) = 0
-read_cost K R (Some (Ok c)) = let s = step K R c in cost R c + print_cost s.rows s.outcome
+read_cost K R (Some (Ok c)) = let s = step K R c in cost R c + (print_cost s.rows s.outcome + acts_cost s.rows.nodes s.acts)
 
 -- the same of a line of these bytes
 unfoldable pub line_cost : Capacity → Rows → List ℕ → ℕ

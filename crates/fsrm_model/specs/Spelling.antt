@@ -1,19 +1,23 @@
 -- Which lines spell which commands, apart from any reader.
-use Rattle.std.specs.Prelude.{◌≡◌, ℕ, ◌*◌, ◌≤◌, ◌<◌, ◌⊎◌, List, [], ◌∷◌, ◌++◌, codes, count_by, length, Bool, true, false, Some}
+use Rattle.std.specs.Prelude.{◌≡◌, ℕ, ◌*◌, ◌≤◌, ◌<◌, ◌⊎◌, List, [], ◌∷◌, ◌++◌, codes, count_by, length, Bool, true, false, ℤ, pos, negsuc, Some, None}
 use Rattle.std.specs.Char.{is_ascii_digit}
 use Rattle.std.specs.List.{list_all, list_any, join_with_byte}
 use Rattle.std.specs.Str.{is_utf8, str_eq_ignore_ascii_case}
 use Rattle.std.specs.Str.Parse.{digits_value}
+use Rattle.fsrm_model.specs.declared.command.Added.{Added}
 use Rattle.fsrm_model.specs.declared.command.Command.{Command}
 use Rattle.fsrm_model.specs.declared.command.Deed.{Deed}
 use Rattle.fsrm_model.specs.declared.command.Deed.TheVariants.{File, Usage, Step}
 use Rattle.fsrm_model.specs.declared.command.FileOp.{FileOp}
 use Rattle.fsrm_model.specs.declared.command.FileOp.TheVariants.{Mkdir, Create, Resize, Touch, Move, Remove}
-use Rattle.fsrm_model.specs.Limits.{latest_moment, longest_file, longest_line, last_owner, most_visits}
+use Rattle.fsrm_model.specs.declared.row.Action.{Action}
+use Rattle.fsrm_model.specs.ActionWords.{kind_word}
+use Rattle.fsrm_model.specs.Limits.{latest_moment, longest_file, longest_line, last_owner, most_visits, greatest_percent, most_minutes}
 use Rattle.fsrm_model.specs.Name.{is_name}
-use Rattle.fsrm_model.specs.Options.{Key, Given, PathIs, LimitIs, TypeIs, StatusIs, key_of, may_repeat, is_of, is_colon, key_named}
+use Rattle.fsrm_model.specs.Options.{Key, Given, PathIs, LimitIs, TypeIs, StatusIs, RemovalIs, PercentIs, NoticeIs, RunLimitIs, key_of, may_repeat, is_of, is_colon, key_named}
 use Rattle.fsrm_model.specs.Quota.{is_limit}
 use Rattle.fsrm_model.specs.Reading.{is_number, unit_bytes}
+use Rattle.fsrm_model.specs.Thresholds.{is_action_text}
 use Rattle.fsrm_model.specs.Tools.{Names, named, ToolCommand, tools}
 use Rattle.fsrm_model.specs.Words.{is_blank, is_quote}
 
@@ -101,12 +105,39 @@ abbrev pub WritesStatus : List ℕ → Bool → Type 0
 WritesStatus text true = IsNamed (codes "enabled") text
 WritesStatus text false = IsNamed (codes "disabled") text
 
+-- a number of minutes, or -1
+abbrev pub WritesMinutes : List ℕ → ℤ → Type 0
+WritesMinutes text (pos minutes) = Writes 0 most_minutes text minutes
+WritesMinutes text (negsuc n) = (n ≡ 0) × (text ≡ codes "-1")
+
+-- the letter of a kind, minutes and a text, parted by commas: an action that never ran
+pub record WritesAction (text : List ℕ) (action : Action) : Type 0 where
+  pub kind : List ℕ
+  pub minutes : List ℕ
+  pub text_is : text ≡ kind ++ 44 ∷ (minutes ++ 44 ∷ action.text)
+  pub kind_is : IsNamed (kind_word action.kind) kind
+  pub minutes_are : WritesMinutes minutes action.minutes
+  pub legal : is_action_text action.text ≡ true
+  pub new : action.last_run ≡ None
+
+-- a percentage, a comma and an action
+pub record WritesNotice (text : List ℕ) (notice : Added) : Type 0 where
+  pub percent : List ℕ
+  pub action : List ℕ
+  pub text_is : text ≡ percent ++ 44 ∷ action
+  pub percent_is : Writes 1 greatest_percent percent notice.percent
+  pub action_is : WritesAction action notice.action
+
 -- a text writes an option's value
 abbrev pub WritesValue : List ℕ → Given → Type 0
 WritesValue text (PathIs path) = WritesPath text path
 WritesValue text (LimitIs limit) = WritesLimit text limit
 WritesValue text (TypeIs enforce) = WritesType text enforce
 WritesValue text (StatusIs enabled) = WritesStatus text enabled
+WritesValue text (RemovalIs percent) = Writes 1 greatest_percent text percent
+WritesValue text (PercentIs percent) = Writes 1 greatest_percent text percent
+WritesValue text (NoticeIs notice) = WritesNotice text notice
+WritesValue text (RunLimitIs minutes) = Writes 0 most_minutes text minutes
 
 -- a word is the name of an option that a command takes, a colon, and the option's value
 abbrev pub SpellsOption : List Key → List ℕ → Given → Type 0

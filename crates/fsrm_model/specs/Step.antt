@@ -7,10 +7,11 @@ use Rattle.fsrm_model.specs.declared.command.Command.{Command}
 use Rattle.fsrm_model.specs.declared.command.Outcome.{Outcome}
 use Rattle.fsrm_model.specs.declared.command.Outcome.TheVariants.{Refused}
 use Rattle.fsrm_model.specs.declared.command.Refusal.{Refusal}
-use Rattle.fsrm_model.specs.declared.command.Refusal.TheVariants.{ClockBack}
+use Rattle.fsrm_model.specs.declared.command.Refusal.TheVariants.{ClockBack, QuotaExceeded}
 pub use Rattle.fsrm_model.specs.Commands.{work}
 use Rattle.fsrm_model.specs.Check.{◌when◌, first}
-use Rattle.fsrm_model.specs.Due.{due}
+use Rattle.fsrm_model.specs.DueActions.{due, due_refused}
+use Rattle.fsrm_model.specs.Runs.{ran}
 use Rattle.fsrm_model.specs.Work.{Work, Judged}
 use Rattle.fsrm_model.specs.Quota.{peaks}
 use Rattle.fsrm_model.specs.QuotaStates.{followed}
@@ -35,11 +36,16 @@ unacted R = record { rows = R; acts = [] }
 abbrev pub screened : Rows → ℕ → Option Judged → Acted
 screened after moment judged = unacted after
 
+-- rows after acts ran at a moment, and these acts
+abbrev pub acted : ℕ → List Act → Rows → Acted
+acted moment acts R = record { rows = ran moment acts R; acts = acts }
+
 -- the end of a command that lasts: peaks are raised, then the actions run that are due, and its moment becomes the last one
 abbrev pub concluded : Capacity → Rows → Acted → ℕ → Acted
 concluded K before after moment =
     let peaked = peaks K after.rows moment in
-    record { rows = record peaked { last_moment = moment }; acts = after.acts ++ due K before peaked moment }
+    let end = acted moment (due K before peaked moment) peaked in
+    record { rows = record end.rows { last_moment = moment }; acts = after.acts ++ end.acts }
 
 -- what a command leaves that lasts
 abbrev pub lasted : Capacity → Rows → Acted → ℕ → Outcome → Stepped
@@ -51,9 +57,16 @@ lasted K before after moment outcome =
 abbrev pub unlasting : Rows → Outcome → Stepped
 unlasting R outcome = record { rows = R; outcome = outcome; lasting = false; acts = [] }
 
--- what a refusal leaves, if it leaves something. So far none does
+-- the rows after these acts ran, and the acts. None if there is no act
+abbrev pub ran_if_any : ℕ → List Act → Rows → Option Acted
+ran_if_any moment [] R = None
+ran_if_any moment (act ∷ acts) R = Some (acted moment (act ∷ acts) R)
+
+-- what a refused command changes all the same, or None if it changes nothing: when a quota refuses, the actions that are then
+-- due have run
 abbrev pub left_by : Capacity → Rows → ℕ → Work → Refusal → Option Acted
-left_by K R moment w refusal = None
+left_by K R moment w (QuotaExceeded folder would limit) = ran_if_any moment (due_refused K R w.effect.nodes moment) R
+left_by K R moment w other = None
 
 abbrev pub refused_leaving : Capacity → Rows → ℕ → Refusal → Option Acted → Stepped
 refused_leaving K R moment refusal None = unlasting R (Refused refusal)

@@ -1,32 +1,23 @@
 -- The texts of replies.
 use Rattle.std.specs.Prelude.{ℕ, ◌==◌, Bool, true, false, List, [], ◌∷◌, ◌++◌, filter, flat_map, decimal, codes, Option, Some, None, if◌then◌else◌}
-use Rattle.std.specs.List.{join_with_byte}
 use Rattle.fsrm_model.specs.declared.row.Capacity.{Capacity}
 use Rattle.fsrm_model.specs.declared.row.NodeRow.{NodeRow}
 use Rattle.fsrm_model.specs.declared.row.QuotaRow.{QuotaRow}
 use Rattle.fsrm_model.specs.declared.row.QuotaState.{QuotaState}
 use Rattle.fsrm_model.specs.declared.row.QuotaState.TheVariants.{Complete, Disabled, Rebuilding, Incomplete}
 use Rattle.fsrm_model.specs.declared.row.Rows.{Rows}
-use Rattle.fsrm_model.specs.declared.command.Act.{Act}
 use Rattle.fsrm_model.specs.declared.command.Ask.{Ask}
-use Rattle.fsrm_model.specs.declared.command.Ask.TheVariants.{Quotas}
+use Rattle.fsrm_model.specs.declared.command.Ask.TheVariants.{Quotas, Settings, Acts}
 use Rattle.fsrm_model.specs.declared.command.Refusal.{Refusal}
-use Rattle.fsrm_model.specs.declared.command.Refusal.TheVariants.{BadLine, LineTooLong, InvalidPath, InvalidName, OutOfRange, InvalidLimit, ClockBack, PathNotFound, NotFound, AlreadyExists, InvalidCombination, NotEmpty, InvalidMove, NothingToScan, VolumeFull, NamesFull, TableFull, QuotaExceeded}
+use Rattle.fsrm_model.specs.declared.command.Refusal.TheVariants.{BadLine, LineTooLong, InvalidPath, InvalidName, OutOfRange, InvalidLimit, ClockBack, PathNotFound, NotFound, AlreadyExists, InvalidCombination, NotEmpty, InvalidMove, NothingToScan, VolumeFull, NamesFull, TableFull, TextsFull, QuotaExceeded}
 use Rattle.fsrm_model.specs.declared.command.Outcome.{Outcome}
 use Rattle.fsrm_model.specs.declared.command.Outcome.TheVariants.{Done, Sum, Listing, Scanned, Refused}
-use Rattle.fsrm_model.specs.Tree.{path_of, usage}
+use Rattle.fsrm_model.specs.ActText.{threshold_lines, log_lines}
+use Rattle.fsrm_model.specs.SettingsText.{settings_lines}
+use Rattle.fsrm_model.specs.Tree.{usage}
 use Rattle.fsrm_model.specs.Quota.{folder_of, counts}
 use Rattle.fsrm_model.specs.Date.{date_text}
-
--- words joined by spaces, and the end of the line
-abbrev pub line_of : List (List ℕ) → List ℕ
-line_of [] = 10 ∷ []
-line_of (word ∷ []) = word ++ 10 ∷ []
-line_of (word ∷ next ∷ words) = word ++ 32 ∷ line_of (next ∷ words)
-
--- the volume, and the names from the root down to a node
-abbrev pub path_text : List NodeRow → ℕ → List ℕ
-path_text nodes n = codes "D:\\" ++ join_with_byte 92 (path_of nodes n)
+pub use Rattle.fsrm_model.specs.Printed.{line_of, body_line, path_text}
 
 -- a refusal's name, and what it carries
 abbrev pub refusal_words : List NodeRow → Refusal → List (List ℕ)
@@ -47,6 +38,7 @@ refusal_words nodes NothingToScan = codes "NothingToScan" ∷ []
 refusal_words nodes VolumeFull = codes "VolumeFull" ∷ []
 refusal_words nodes NamesFull = codes "NamesFull" ∷ []
 refusal_words nodes TableFull = codes "TableFull" ∷ []
+refusal_words nodes TextsFull = codes "TextsFull" ∷ []
 refusal_words nodes (QuotaExceeded folder would limit) =
     codes "QuotaExceeded" ∷ decimal would ∷ decimal limit ∷ path_text nodes folder ∷ []
 
@@ -73,10 +65,6 @@ head_words nodes (Refused refusal) = codes "refused" ∷ refusal_words nodes ref
 abbrev pub head_line : List NodeRow → ℕ → Outcome → List ℕ
 head_line nodes line outcome = line_of (decimal line ∷ head_words nodes outcome)
 
--- a line of a body is set in by two spaces
-abbrev pub body_line : List (List ℕ) → List ℕ
-body_line words = 32 ∷ 32 ∷ line_of words
-
 -- the folder of a passive screen that reports the operation, if there is one
 abbrev pub passive_line : List NodeRow → Option ℕ → List ℕ
 passive_line nodes None = []
@@ -96,6 +84,10 @@ quota_line K nodes quota =
     ∷ (if counts quota then decimal (usage K nodes quota.folder) else codes "-")
     ∷ decimal quota.peak ∷ date_text quota.peak_at ∷ path_text nodes quota.folder ∷ [])
 
+-- and, below it, its thresholds
+abbrev pub quota_lines : Capacity → List NodeRow → QuotaRow → List ℕ
+quota_lines K nodes quota = quota_line K nodes quota ++ threshold_lines quota.thresholds
+
 -- the quotas that are asked for: that of a folder, or all
 abbrev pub asked : Option ℕ → List QuotaRow → List QuotaRow
 asked None quotas = quotas
@@ -103,7 +95,9 @@ asked (Some folder) quotas = filter (λ quota. folder_of quota == folder) quotas
 
 -- the lines of a list
 abbrev pub list_lines : Capacity → Rows → Ask → List ℕ
-list_lines K R (Quotas folder) = flat_map (quota_line K R.nodes) (asked folder R.quotas)
+list_lines K R (Quotas folder) = flat_map (quota_lines K R.nodes) (asked folder R.quotas)
+list_lines K R Settings = settings_lines K R
+list_lines K R Acts = log_lines R.acts
 
 -- whether the reply shows the rows of a report, which are handed to its writer as a table. So far no command makes one
 abbrev pub is_report : Outcome → Bool
@@ -124,10 +118,3 @@ body K R moment (Refused refusal) = []
 -- the head and the body of the reply to a line, in the rows after it
 abbrev pub reply : Capacity → Rows → ℕ → ℕ → Outcome → List ℕ
 reply K R moment line outcome = head_line R.nodes line outcome ++ body K R moment outcome
-
--- the lines of the actions that a command ran. So far none runs, and no line is written
-abbrev pub act_line : Rows → Act → List ℕ
-act_line R act = []
-
-abbrev pub act_lines : Rows → List Act → List ℕ
-act_lines R acts = flat_map (act_line R) acts

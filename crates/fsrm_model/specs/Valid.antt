@@ -2,16 +2,18 @@
 -- it a record of the same parts.
 use Rattle.std.specs.Prelude.{◌≡◌, ℕ, ◌≤◌, ◌==◌, ◌&&◌, ◌||◌, nat_lt, nat_le, not, Bool, true, false, List, [], ◌∷◌, length, is_none, Some, if◌then◌else◌}
 use Rattle.std.specs.List.{list_all}
+use Rattle.fsrm_model.specs.declared.row.ActRow.{ActRow}
 use Rattle.fsrm_model.specs.declared.row.Capacity.{Capacity}
 use Rattle.fsrm_model.specs.declared.row.NodeRow.{NodeRow}
 use Rattle.fsrm_model.specs.declared.row.QuotaRow.{QuotaRow}
 use Rattle.fsrm_model.specs.declared.row.Rows.{Rows}
 use Rattle.fsrm_base.specs.Keyed.{row_of, is_ascending, has_row}
-use Rattle.fsrm_model.specs.Limits.{latest_moment, longest_file, most_minutes, most_quotas, most_text_bytes}
+use Rattle.fsrm_model.specs.Limits.{latest_moment, longest_file, most_entries, most_minutes, most_quotas, most_text_bytes}
 use Rattle.fsrm_model.specs.Name.{is_name, same_name}
 use Rattle.fsrm_model.specs.Quota.{folder_of, is_limit}
 use Rattle.fsrm_model.specs.QuotaStates.{head}
 use Rattle.fsrm_model.specs.Texts.{object_texts}
+use Rattle.fsrm_model.specs.Thresholds.{are_thresholds}
 use Rattle.fsrm_model.specs.Tree.{number, node_of, is_folder, is_child, is_under, name_bytes}
 use Rattle.fsrm_model.specs.ValidScans.{is_queue, IsQueue, are_left, AreLeft}
 
@@ -66,7 +68,7 @@ pub record IsVolume (K : Capacity) (nodes : List NodeRow) : Type 0 where
 -- a quota's folder is there, and its values are in their ranges
 abbrev pub is_sound_quota : List NodeRow → QuotaRow → Bool
 is_sound_quota nodes quota =
-    is_folder nodes quota.folder && (is_limit quota.limit && is_moment quota.peak_at)
+    is_folder nodes quota.folder && (is_limit quota.limit && (are_thresholds quota.thresholds && is_moment quota.peak_at))
 
 -- the quotas of a store with these nodes: in the order of their folders' numbers, each on another folder
 abbrev pub are_quotas : List NodeRow → List QuotaRow → Bool
@@ -79,21 +81,22 @@ pub record AreQuotas (nodes : List NodeRow) (quotas : List QuotaRow) : Type 0 wh
   pub few : length quotas ≤ most_quotas
   pub folders : (folder : ℕ) (quota : QuotaRow) → row_of folder_of folder quotas ≡ Some quota → is_folder nodes folder ≡ true
   pub limits : (folder : ℕ) (quota : QuotaRow) → row_of folder_of folder quotas ≡ Some quota → is_limit quota.limit ≡ true
+  pub thresholds : (folder : ℕ) (quota : QuotaRow) → row_of folder_of folder quotas ≡ Some quota → are_thresholds quota.thresholds ≡ true
   pub moments : (folder : ℕ) (quota : QuotaRow) → row_of folder_of folder quotas ≡ Some quota → is_moment quota.peak_at ≡ true
 
 abbrev pub is_empty : {X : Type 0} → List X → Bool
 is_empty [] = true
 is_empty (x ∷ xs) = false
 
--- What no command fills so far is empty: a quota's thresholds and its template, the other tables, the logs
+-- What no command fills so far is empty: a quota's template, the other tables, the log of audits
 abbrev pub is_plain : QuotaRow → Bool
-is_plain quota = is_empty quota.thresholds && is_none quota.template
+is_plain quota = is_none quota.template
 
 abbrev pub are_tables : Rows → Bool
 are_tables R =
     list_all is_plain R.quotas
     && ((is_empty R.templates && (is_empty R.autos && is_empty R.groups))
-    && ((is_empty R.screens && (is_empty R.excepts && is_empty R.jobs)) && (is_empty R.acts && is_empty R.audits)))
+    && ((is_empty R.screens && (is_empty R.excepts && is_empty R.jobs)) && is_empty R.audits))
 
 pub record AreTables (R : Rows) : Type 0 where
   pub plain : list_all is_plain R.quotas ≡ true
@@ -103,14 +106,17 @@ pub record AreTables (R : Rows) : Type 0 where
   pub screens : R.screens ≡ []
   pub excepts : R.excepts ≡ []
   pub jobs : R.jobs ≡ []
-  pub acts : R.acts ≡ []
   pub audits : R.audits ≡ []
+
+-- the log of actions: its last 1,024 entries, each of a moment. What they name may be gone
+abbrev pub are_entries : List ActRow → Bool
+are_entries log = nat_le (length log) most_entries && list_all (λ entry. is_moment entry.moment) log
 
 -- the rows of a store of this size
 abbrev pub is_valid : Capacity → Rows → Bool
 is_valid K R =
     (is_tree K R.nodes && (are_quotas R.nodes R.quotas && are_tables R))
-    && ((nat_le (object_texts R) most_text_bytes && (nat_le R.run_limit most_minutes && is_moment R.last_moment))
+    && ((nat_le (object_texts R) most_text_bytes && (are_entries R.acts && (nat_le R.run_limit most_minutes && is_moment R.last_moment)))
     && (is_queue R.quotas R.queue && are_left R.nodes (head R.queue) R.unvisited))
 
 pub record IsValid (K : Capacity) (R : Rows) : Type 0 where
@@ -118,6 +124,7 @@ pub record IsValid (K : Capacity) (R : Rows) : Type 0 where
   pub quotas : AreQuotas R.nodes R.quotas
   pub tables : AreTables R
   pub texts : object_texts R ≤ most_text_bytes
+  pub log : are_entries R.acts ≡ true
   pub run_limit : R.run_limit ≤ most_minutes
   pub last_moment : R.last_moment ≤ latest_moment
   pub queue : IsQueue R.quotas R.queue

@@ -1,13 +1,17 @@
 -- Worked examples of which rows are those of a store.
-use Rattle.std.specs.Prelude.{◌≡◌, ℕ, ◌+◌, ◌∷◌, [], true, false, List, map, Some, Bool, codes}
+use Rattle.std.specs.Prelude.{◌≡◌, ℕ, ◌+◌, ℤ, pos, negsuc, ◌∷◌, [], true, false, List, map, replicate, Option, Some, None, Bool, codes}
+use Rattle.std.specs.List.{range_with_len}
+use Rattle.fsrm_model.specs.declared.row.ActRow.{ActRow}
+use Rattle.fsrm_model.specs.declared.row.Action.{Action}
 use Rattle.fsrm_model.specs.declared.row.ActionKind.TheVariants.{Event}
 use Rattle.fsrm_model.specs.declared.row.NodeRow.{NodeRow}
 use Rattle.fsrm_model.specs.declared.row.QuotaRow.{QuotaRow}
 use Rattle.fsrm_model.specs.declared.row.QuotaState.{QuotaState}
 use Rattle.fsrm_model.specs.declared.row.QuotaState.TheVariants.{Complete, Rebuilding}
 use Rattle.fsrm_model.specs.declared.row.Rows.{Rows}
+use Rattle.fsrm_model.specs.declared.row.Threshold.{Threshold}
 use Rattle.fsrm_model.specs.Fresh.{default_capacity, new_rows, root_node, rows_of_nodes}
-use Rattle.fsrm_model.specs.Limits.{latest_moment, most_minutes}
+use Rattle.fsrm_model.specs.Limits.{latest_moment, longest_action_text, most_entries, most_minutes}
 use Rattle.fsrm_model.specs.QuotaWork.{new_quota}
 use Rattle.fsrm_model.specs.Valid.{is_valid}
 
@@ -53,7 +57,7 @@ wrong_nodes =
     ≡ false ∷ false ∷ false ∷ false ∷ false ∷ []
 
 -- with a quota: it is on a file, it stands after one of a greater number, it is there twice, its limit is too small or
--- too great, its peak is of a later moment, it has a threshold, it has a template
+-- too great, its peak is of a later moment, it has a template
 abbrev pub wrong_quotas : Type 0
 wrong_quotas =
     are_valid (map (λ quotas. record scanning { quotas = quotas }) (
@@ -63,10 +67,54 @@ wrong_quotas =
     ∷ (record (on 0 Complete) { limit = 1023 } ∷ on 1 Rebuilding ∷ [])
     ∷ (record (on 0 Complete) { limit = 1152921504606846977 } ∷ on 1 Rebuilding ∷ [])
     ∷ (record (on 0 Complete) { peak_at = latest_moment + 1 } ∷ on 1 Rebuilding ∷ [])
-    ∷ (record (on 0 Complete) { thresholds = record { percent = 85; actions = [] } ∷ [] } ∷ on 1 Rebuilding ∷ [])
     ∷ (record (on 0 Complete) { template = Some 0 } ∷ on 1 Rebuilding ∷ [])
     ∷ []))
-    ≡ false ∷ false ∷ false ∷ false ∷ false ∷ false ∷ false ∷ false ∷ []
+    ≡ false ∷ false ∷ false ∷ false ∷ false ∷ false ∷ false ∷ []
+
+-- ---- thresholds of the root's quota
+abbrev pub action : ℤ → List ℕ → Option ℕ → Action
+action minutes text last_run = record { kind = Event; minutes = minutes; text = text; last_run = last_run }
+
+-- at each of these percentages these actions
+abbrev pub thresholds_at : List ℕ → List Action → List Threshold
+thresholds_at percents actions = map (λ percent. record { percent = percent; actions = actions }) percents
+
+abbrev pub acting : List Threshold → Rows
+acting thresholds = record scanning { quotas = record (on 0 Complete) { thresholds = thresholds } ∷ on 1 Rebuilding ∷ [] }
+
+abbrev pub entry : ActRow
+entry = record { moment = latest_moment; folder = 1; percent = 85; kind = Event }
+
+-- these are valid: as many thresholds, actions, minutes, bytes of a text and entries of the log as there may be
+abbrev pub valid_thresholds : Type 0
+valid_thresholds =
+    are_valid (
+    acting (thresholds_at (range_with_len 1 16) [])
+    ∷ acting (thresholds_at (1 ∷ 250 ∷ []) (replicate 8 (action (pos most_minutes) [] None)))
+    ∷ acting (thresholds_at (85 ∷ []) (action (negsuc 0) (replicate longest_action_text 32) (Some latest_moment) ∷ []))
+    ∷ record scanning { acts = replicate most_entries entry }
+    ∷ [])
+    ≡ true ∷ true ∷ true ∷ true ∷ []
+
+-- in each of these one thing is wrong: a percentage is 0 or 251, percentages descend, or one is there twice, there are 17
+-- thresholds, or 9 actions, minutes are -2 or too many, a text is too long, or has a control character, a last run is too late
+abbrev pub wrong_thresholds : Type 0
+wrong_thresholds =
+    are_valid (map acting (
+    (thresholds_at (0 ∷ []) [])
+    ∷ (thresholds_at (251 ∷ []) [])
+    ∷ (thresholds_at (86 ∷ 85 ∷ []) [])
+    ∷ (thresholds_at (85 ∷ 85 ∷ []) [])
+    ∷ (thresholds_at (range_with_len 1 17) [])
+    ∷ (thresholds_at (85 ∷ []) (replicate 9 (action (pos 0) [] None)))
+    ∷ (thresholds_at (85 ∷ []) (action (negsuc 1) [] None ∷ []))
+    ∷ (thresholds_at (85 ∷ []) (action (pos (most_minutes + 1)) [] None ∷ []))
+    ∷ (thresholds_at (85 ∷ []) (action (pos 0) (replicate (longest_action_text + 1) 32) None ∷ []))
+    ∷ (thresholds_at (85 ∷ []) (action (pos 0) (31 ∷ []) None ∷ []))
+    ∷ (thresholds_at (85 ∷ []) (action (pos 0) (127 ∷ []) None ∷ []))
+    ∷ (thresholds_at (85 ∷ []) (action (pos 0) [] (Some (latest_moment + 1)) ∷ []))
+    ∷ []))
+    ≡ replicate 12 false
 
 -- with a table, a log, the run limit or the last moment
 abbrev pub wrong_tables : Type 0
@@ -77,12 +125,13 @@ wrong_tables =
     ∷ record scanning { groups = record { number = 0; name = codes "g"; members = codes "*" ∷ []; non_members = [] } ∷ [] }
     ∷ record scanning { screens = record { folder = 1; active = true; groups = 0 ∷ []; actions = [] } ∷ [] }
     ∷ record scanning { excepts = record { folder = 1; groups = 0 ∷ [] } ∷ [] }
-    ∷ record scanning { acts = record { moment = 0; folder = 1; percent = 85; kind = Event } ∷ [] }
+    ∷ record scanning { acts = record entry { moment = latest_moment + 1 } ∷ [] }
+    ∷ record scanning { acts = replicate (most_entries + 1) entry }
     ∷ record scanning { audits = record { moment = 0; active = true; owner = 1; folder = 1; screen = 1; name = codes "n" } ∷ [] }
     ∷ record scanning { run_limit = most_minutes + 1 }
     ∷ record scanning { last_moment = latest_moment + 1 }
     ∷ [])
-    ≡ false ∷ false ∷ false ∷ false ∷ false ∷ false ∷ false ∷ false ∷ false ∷ []
+    ≡ false ∷ false ∷ false ∷ false ∷ false ∷ false ∷ false ∷ false ∷ false ∷ false ∷ []
 
 -- with the queue: it has a folder twice, lacks that of the rebuilding quota, has that of another quota, or one without
 abbrev pub wrong_queues : Type 0

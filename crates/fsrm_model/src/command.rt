@@ -1,11 +1,14 @@
 //! Commands and what becomes of them.
 
+ghost use Rattle.std.specs.Prelude.{◌≡◌};
+ghost use Rattle.fsrm_model.specs.Acts.{folder_in, percent_in};
+
 use crate::path::Path;
 use crate::row::{Action, ActionKind};
 use fsrm_base::{List, Text};
 
-/// Why a command is refused. A refused command changes nothing. The refusals up to `InvalidLimit` come
-/// from reading the line alone.
+/// Why a command is refused. A refused command changes nothing, but that a file operation that a quota refuses may have
+/// actions that are due. The refusals up to `InvalidLimit` come from reading the line, `OutOfRange` from the tables too.
 #[derive(Clone, Copy, Debug, PartialEq, Eq)]
 pub enum Refusal {
     /// A word of the line hasn't its form, or is missing. The column counts bytes from 1.
@@ -16,7 +19,8 @@ pub enum Refusal {
     InvalidPath,
     /// A name isn't one (MS-FSRM, FSRM_E_INVALID_NAME).
     InvalidName,
-    /// A number isn't in its range (MS-FSRM, FSRM_E_OUT_OF_RANGE).
+    /// A number isn't in its range, or a quota would have more than 16 thresholds or a threshold more than 8 actions
+    /// (MS-FSRM, FSRM_E_OUT_OF_RANGE).
     OutOfRange,
     /// A quota's limit is below 1,024 bytes or above 2^60 (MS-FSRM, FSRM_E_INVALID_LIMIT).
     InvalidLimit,
@@ -25,7 +29,7 @@ pub enum Refusal {
     /// A path, or the folder that it names a node in, leads to nothing of the kind that is asked
     /// for (MS-FSRM, FSRM_E_PATH_NOT_FOUND).
     PathNotFound,
-    /// The folder has no quota (MS-FSRM, FSRM_E_NOT_FOUND).
+    /// The folder has no quota, or the quota not the threshold that is to be removed (MS-FSRM, FSRM_E_NOT_FOUND).
     NotFound,
     /// The place is taken, or the folder has a quota (MS-FSRM, FSRM_E_ALREADY_EXISTS).
     AlreadyExists,
@@ -43,6 +47,8 @@ pub enum Refusal {
     NamesFull,
     /// There are 4,096 quotas.
     TableFull,
+    /// The texts of all objects would have more than 4,194,304 bytes.
+    TextsFull,
     /// The usage of a folder with a hard quota would rise, and above the limit. It is the deepest such
     /// folder. `would` is what the files at and below it would take, in bytes.
     QuotaExceeded { folder: u32, would: u64, limit: u64 },
@@ -87,8 +93,8 @@ pub enum Deed {
         n: u32,
     },
     /// Limits what the files at and below a folder take, in bytes (MS-FSRM, IFsrmQuota). A hard quota is
-    /// enforced, a soft one only watches. It is hard if its type isn't given. No line gives a template or
-    /// thresholds so far.
+    /// enforced, a soft one only watches. It is hard if its type isn't given. Its thresholds are the percentages
+    /// that are added, and those that are given an action. No line gives a template so far.
     QuotaAdd {
         path: Path,
         limit: Option<u64>,
@@ -98,8 +104,8 @@ pub enum Deed {
         add_threshold: List<u16>,
         add_notification: List<Added>,
     },
-    /// Gives a quota another limit, makes it hard or soft, enables or disables it. Its thresholds and its template
-    /// stay. No line gives thresholds so far.
+    /// Gives a quota another limit, makes it hard or soft, enables or disables it. Of its thresholds some are removed,
+    /// then percentages are added, and then actions. Its template stays.
     QuotaModify {
         path: Path,
         limit: Option<u64>,
@@ -126,6 +132,15 @@ pub enum Deed {
     QuotaList {
         path: Option<Path>,
     },
+    /// Sets how many minutes pass at least between two runs of an action that has none of its own (MS-FSRM,
+    /// IFsrmSetting, SetActionRunLimitInterval).
+    AdminOptions {
+        run_limit: u32,
+    },
+    /// Shows the settings, and how full the store is.
+    AdminList,
+    /// Lists the log of actions.
+    AdminLog,
 }
 
 /// A command, at its moment.
@@ -140,6 +155,10 @@ pub struct Command {
 pub enum Ask {
     /// The quota of a folder, or all quotas.
     Quotas(Option<u32>),
+    /// The run limit, the scans that wait, and how full the store is.
+    Settings,
+    /// The log of actions.
+    Acts,
 }
 
 /// What a command comes to.
@@ -179,6 +198,28 @@ pub enum Subject {
     Quota { folder: u32, percent: u16 },
     /// The screen on a folder.
     Screen { folder: u32 },
+}
+
+impl Subject {
+    /// The folder of the quota or of the screen.
+    pub fn folder(self) -> u32
+        ensures { result ≡ folder_in self }
+    {
+        match self {
+            Subject::Quota { folder, .. } => folder,
+            Subject::Screen { folder } => folder,
+        }
+    }
+
+    /// The percentage of the quota's threshold. A screen has none: 0.
+    pub fn percent(self) -> u16
+        ensures { result ≡ percent_in self }
+    {
+        match self {
+            Subject::Quota { percent, .. } => percent,
+            Subject::Screen { .. } => 0,
+        }
+    }
 }
 
 /// An action that runs.

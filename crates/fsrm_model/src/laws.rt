@@ -1,8 +1,10 @@
 //! Laws of the definitions, and worked examples.
 
-ghost use Rattle.std.specs.Prelude.{◌≡◌, ◌↔◌, ℕ, ◌+◌, ◌<◌, ◌≤◌, List, [], ◌∷◌, ◌++◌, ◌⊎◌, true, false, Option, Some, None, Ok, Err, sum_by, pos};
-ghost use Rattle.std.specs.List.{list_any};
+ghost use Rattle.std.specs.Prelude.{◌≡◌, ◌↔◌, ℕ, ◌+◌, ◌*◌, ◌<◌, ◌≤◌, ◌==◌, ◌&&◌, ◌||◌, not, nat_le, List, [], ◌∷◌, ◌++◌, ◌⊎◌, true, false, Option, Some, None, Ok, Err, if◌then◌else◌, filter, length, option_map, slice_get, sum_by, pos};
+ghost use Rattle.std.specs.List.{list_all, list_any, AllByRecursion};
 ghost use Rattle.jiff_core.specs.Calendar.{days_from_civil};
+ghost use Rattle.fsrm_model.specs.declared.command.Act.{Act};
+ghost use Rattle.fsrm_model.specs.declared.command.Added.{Added};
 ghost use Rattle.fsrm_model.specs.declared.command.Command.{Command};
 ghost use Rattle.fsrm_model.specs.declared.command.Deed.{Deed};
 ghost use Rattle.fsrm_model.specs.declared.command.Deed.TheVariants.{File};
@@ -10,29 +12,44 @@ ghost use Rattle.fsrm_model.specs.declared.command.FileOp.{FileOp};
 ghost use Rattle.fsrm_model.specs.declared.command.Outcome.TheVariants.{Refused, Sum};
 ghost use Rattle.fsrm_model.specs.declared.command.Refusal.{Refusal};
 ghost use Rattle.fsrm_model.specs.declared.command.Refusal.TheVariants.{QuotaExceeded};
+ghost use Rattle.fsrm_model.specs.declared.command.Subject.{Subject};
+ghost use Rattle.fsrm_model.specs.declared.command.Subject.TheVariants.{Quota};
+ghost use Rattle.fsrm_model.specs.declared.row.ActRow.{ActRow};
+ghost use Rattle.fsrm_model.specs.declared.row.Action.{Action};
 ghost use Rattle.fsrm_model.specs.declared.row.Capacity.{Capacity};
 ghost use Rattle.fsrm_model.specs.declared.row.NodeRow.{NodeRow};
 ghost use Rattle.fsrm_model.specs.declared.row.QuotaRow.{QuotaRow};
 ghost use Rattle.fsrm_model.specs.declared.row.Rows.{Rows};
+ghost use Rattle.fsrm_model.specs.declared.row.Threshold.{Threshold};
+ghost use Rattle.fsrm_model.specs.Acts.{has_act, actions_of, is_of_quota, are_in_order, IsAct};
 ghost use Rattle.fsrm_model.specs.Date.{date_of};
 ghost use Rattle.fsrm_model.specs.Commands.{kind, emptied};
+ghost use Rattle.fsrm_model.specs.DueActions.{minutes_of, ready, quota_acts, due, due_refused};
 ghost use Rattle.fsrm_model.specs.Exceeds.{Exceeds};
-ghost use Rattle.fsrm_model.specs.Exceptions.{MayLeave};
+ghost use Rattle.fsrm_model.specs.Exceptions.{MayLeave, run_by_refusal, left_after};
 ghost use Rattle.fsrm_model.specs.FileOps.{plain};
 ghost use Rattle.fsrm_model.specs.Fresh.{new_rows};
-ghost use Rattle.fsrm_base.specs.Keyed.{is_ascending};
+ghost use Rattle.fsrm_base.specs.Keyed.{has_row, is_ascending};
+ghost use Rattle.fsrm_base.specs.Numbers.{is_in};
+ghost use Rattle.fsrm_model.specs.Limits.{most_entries};
 ghost use Rattle.fsrm_model.specs.Line.{read_line, is_line_refusal};
 ghost use Rattle.fsrm_model.specs.Quota.{folder_of, quota_of, counts, exceeded};
+ghost use Rattle.fsrm_model.specs.Raises.{are_ascending, Raises, RaisesRefused};
+ghost use Rattle.fsrm_model.specs.Reached.{reached, IsReached, crossed};
+ghost use Rattle.fsrm_model.specs.Runs.{run_quota, last_entries, ran};
 ghost use Rattle.fsrm_model.specs.Script.{is_end, lines, spelled_lines, AreLines, without_cr, replied, text, text_from};
 ghost use Rattle.fsrm_model.specs.Space.{space};
 ghost use Rattle.fsrm_model.specs.Spelling.{Spells, Skips};
 ghost use Rattle.fsrm_model.specs.Step.{step, work};
-ghost use Rattle.fsrm_model.specs.Text.{reply, act_lines};
+ghost use Rattle.fsrm_model.specs.ActText.{act_lines};
+ghost use Rattle.fsrm_model.specs.Text.{reply};
+ghost use Rattle.fsrm_model.specs.Thresholds.{percent_of, actions_at, is_percent, is_notice, are_too_many, are_thresholds, actions_given, changed_thresholds};
 ghost use Rattle.fsrm_model.specs.Tree.{number, under, usage};
-ghost use Rattle.fsrm_model.specs.Valid.{is_tree, IsVolume, are_quotas, AreQuotas, are_tables, AreTables, is_valid, IsValid};
-ghost use Rattle.fsrm_model.specs.ValidRows.{valid_rows, wrong_nodes, wrong_quotas, wrong_tables, wrong_queues, wrong_unvisited};
+ghost use Rattle.fsrm_model.specs.Valid.{is_tree, IsVolume, are_quotas, AreQuotas, are_tables, AreTables, is_empty, is_valid, IsValid};
+ghost use Rattle.fsrm_model.specs.ValidRows.{valid_rows, wrong_nodes, wrong_quotas, valid_thresholds, wrong_thresholds, wrong_tables, wrong_queues, wrong_unvisited};
 ghost use Rattle.fsrm_model.specs.Valued.{is_command};
 ghost use Rattle.fsrm_model.specs.ValidScans.{is_queue, IsQueue, are_left, AreLeft};
+ghost use Rattle.fsrm_model.specs.WorkedThresholds.{run_limit, scan_ends_above, refused_writes, refused_below, refused_above, refused_move, acts_in_order, changed_quotas, run_limit_setting, threshold_options, threshold_values, long_lists, refused_then};
 ghost use Rattle.fsrm_model.specs.WorkedRows.{nothing_done, first_files, clock, moves, bad_lines, words_apart, root_and_places, few_nodes, few_name_bytes, folded_names, rounded_usage, large_clusters, small_clusters, nested_quotas, up_to_the_limit, above_the_limit, move_below_a_quota, scan_in_steps, visited_again, out_and_back, out_for_good, scan_refusals, scans_in_turn, quota_options, quota_limits, quota_peaks, quotas_gone};
 
 /// The plain machine's text of worked scripts.
@@ -66,6 +83,23 @@ pub fn worked_rows()
     ensures quotas_gone { quotas_gone }
 {}
 
+/// The plain machine's text of worked scripts, of thresholds and the actions that run.
+pub fn worked_thresholds()
+    ensures run_limit { run_limit }
+    ensures scan_ends_above { scan_ends_above }
+    ensures refused_writes { refused_writes }
+    ensures refused_below { refused_below }
+    ensures refused_above { refused_above }
+    ensures refused_move { refused_move }
+    ensures acts_in_order { acts_in_order }
+    ensures changed_quotas { changed_quotas }
+    ensures run_limit_setting { run_limit_setting }
+    ensures threshold_options { threshold_options }
+    ensures threshold_values { threshold_values }
+    ensures long_lists { long_lists }
+    ensures refused_then { refused_then }
+{}
+
 /// What a line is read as is what it spells, and a line that spells a command is read as it. The command is valid.
 /// Exactly those lines are skipped that have nothing but blanks, or whose first byte that is no blank is a `#`. Each
 /// other line is refused, by a refusal that comes from reading alone.
@@ -97,9 +131,12 @@ pub fn plain_machine()
     // A line that is refused as it is read changes nothing.
     ensures unread_rows { (K : Capacity) (R : Rows) (n : ℕ) (line : List ℕ) (refusal : Refusal) → read_line (without_cr line) ≡ Some (Err refusal) → (replied K R n line).rows ≡ R }
     ensures unread_text { (K : Capacity) (R : Rows) (n : ℕ) (line : List ℕ) (refusal : Refusal) → read_line (without_cr line) ≡ Some (Err refusal) → (replied K R n line).text ≡ reply K R 0 n (Refused refusal) }
-    // A command that is refused changes nothing, with two exceptions that can't come so far.
+    // A command that is refused changes nothing, unless a quota refuses it and actions are due.
     ensures refused { (K : Capacity) (R : Rows) (c : Command) (refusal : Refusal) → (step K R c).outcome ≡ Refused refusal → ((step K R c).rows ≡ R) ⊎ MayLeave K R c.moment (work K R c.moment c.deed) refusal }
-    ensures no_exception { (K : Capacity) (R : Rows) (moment : ℕ) (deed : Deed) (refusal : Refusal) → MayLeave K R moment (work K R moment deed) refusal → ⊥ }
+    // Then these have run, and nothing else is left but their entries, the moment, and peaks that were too low.
+    ensures left { (K : Capacity) (R : Rows) (c : Command) (refusal : Refusal) → (step K R c).outcome ≡ Refused refusal → (step K R c).rows ≡ left_after K R c.moment (run_by_refusal K R c.moment (work K R c.moment c.deed) refusal) }
+    // They are its acts, and it lasts exactly if there are any.
+    ensures runs { (K : Capacity) (R : Rows) (c : Command) (refusal : Refusal) → (step K R c).outcome ≡ Refused refusal → ((step K R c).acts ≡ run_by_refusal K R c.moment (work K R c.moment c.deed) refusal) × ((step K R c).lasting ≡ not (is_empty (step K R c).acts)) }
     // A sum is made afresh from the tree: the space of all files at and below the folder.
     ensures sum { (K : Capacity) (R : Rows) (c : Command) (folder bytes : ℕ) → (step K R c).outcome ≡ Sum folder bytes → bytes ≡ sum_by (space K) (under R.nodes folder) }
 {}
@@ -116,6 +153,56 @@ pub fn quotas()
     ensures limits { (K : Capacity) (R : Rows) (c : Command) (folder : ℕ) (quota : QuotaRow) → IsValid K R → quota_of R folder ≡ Some quota → counts quota ≡ true → quota.enforce ≡ true → usage K R.nodes folder < usage K (step K R c).rows.nodes folder → usage K (step K R c).rows.nodes folder ≤ quota.limit }
     // A command that lasts leaves no counting quota whose peak is below its usage.
     ensures peaks { (K : Capacity) (R : Rows) (c : Command) (folder : ℕ) (quota : QuotaRow) → (step K R c).lasting ≡ true → quota_of (step K R c).rows folder ≡ Some quota → counts quota ≡ true → usage K (step K R c).rows.nodes folder ≤ quota.peak }
+{}
+
+/// What a command makes of the thresholds of a quota. It removes percentages, adds some, and gives some an action each.
+pub fn thresholds()
+    ensures ascending { (removed percents : List ℕ) (notices : List Added) (thresholds : List Threshold) → is_ascending percent_of thresholds ≡ true → is_ascending percent_of (changed_thresholds removed percents notices thresholds) ≡ true }
+    // A percentage is there that was given an action or was added, or that was there and wasn't removed.
+    ensures there { (removed percents : List ℕ) (notices : List Added) (thresholds : List Threshold) (percent : ℕ) → has_row percent_of percent (changed_thresholds removed percents notices thresholds) ≡ (list_any (λ notice. notice.percent == percent) notices || (is_in percents percent || (not (is_in removed percent) && has_row percent_of percent thresholds))) }
+    // If it wasn't removed it keeps its actions with their last runs. Those that it was given come after them.
+    ensures actions { (removed percents : List ℕ) (notices : List Added) (thresholds : List Threshold) (percent : ℕ) → actions_at (changed_thresholds removed percents notices thresholds) percent ≡ (if is_in removed percent then [] else actions_at thresholds percent) ++ actions_given notices percent }
+    // They are those of a quota if they aren't too many.
+    ensures kept { (removed percents : List ℕ) (notices : List Added) (thresholds : List Threshold) → are_thresholds thresholds ≡ true → list_all is_percent percents ≡ true → list_all is_notice notices ≡ true → are_too_many (changed_thresholds removed percents notices thresholds) ≡ false → are_thresholds (changed_thresholds removed percents notices thresholds) ≡ true }
+{}
+
+/// Which actions are due: of a command that leaves other rows, and of an operation that a quota refuses.
+pub fn due_actions()
+    ensures reached { (K : Capacity) (R : Rows) (folder percent : ℕ) → (reached K R folder percent ≡ true) ↔ IsReached K R folder percent }
+    ensures due { (K : Capacity) (before after : Rows) (moment folder percent place : ℕ) → are_ascending after.quotas ≡ true → (has_act (due K before after moment) (Quota folder percent) place ≡ true) ↔ Raises K before after moment folder percent place }
+    ensures refused { (K : Capacity) (R : Rows) (nodes : List NodeRow) (moment folder percent place : ℕ) → are_ascending R.quotas ≡ true → (has_act (due_refused K R nodes moment) (Quota folder percent) place ≡ true) ↔ RaisesRefused K R nodes moment folder percent place }
+    // They stand in the order of folders, percentages and places, each once.
+    ensures order { (K : Capacity) (before after : Rows) (moment : ℕ) → are_ascending after.quotas ≡ true → are_in_order (due K before after moment) ≡ true }
+    ensures refused_order { (K : Capacity) (R : Rows) (nodes : List NodeRow) (moment : ℕ) → are_ascending R.quotas ≡ true → are_in_order (due_refused K R nodes moment) ≡ true }
+    // Each names an action that is there, and its kind.
+    ensures there { (K : Capacity) (before after : Rows) (moment : ℕ) → are_ascending after.quotas ≡ true → AllByRecursion (IsAct after) (due K before after moment) }
+    ensures refused_there { (K : Capacity) (R : Rows) (nodes : List NodeRow) (moment : ℕ) → are_ascending R.quotas ≡ true → AllByRecursion (IsAct R) (due_refused K R nodes moment) }
+    // None is due if no threshold is crossed, as when the rows stay.
+    ensures none { (K : Capacity) (before after : Rows) (moment : ℕ) → ((folder percent : ℕ) → crossed K before after folder percent ≡ false) → due K before after moment ≡ [] }
+    ensures same { (K : Capacity) (R : Rows) (moment : ℕ) → due K R R moment ≡ [] }
+{}
+
+/// The acts of a command: those of quotas come in the order of folders, percentages and places, each once, and each act
+/// names an action that is there in the rows after it.
+pub fn acts()
+    ensures order { (K : Capacity) (R : Rows) (c : Command) → IsValid K R → is_command c ≡ true → are_in_order (filter (λ act. is_of_quota act.subject) (step K R c).acts) ≡ true }
+    ensures there { (K : Capacity) (R : Rows) (c : Command) → IsValid K R → is_command c ≡ true → AllByRecursion (IsAct (step K R c).rows) (step K R c).acts }
+{}
+
+/// What is left when actions ran at a moment.
+pub fn runs()
+    // Each keeps its place, and has the moment as its last run exactly if it is among those that ran.
+    ensures actions { (moment : ℕ) (acts : List Act) (R : Rows) (subject : Subject) (place : ℕ) → slice_get (actions_of (ran moment acts R) subject) place ≡ option_map (λ action. if has_act acts subject place then record action { last_run = Some moment } else action) (slice_get (actions_of R subject) place) }
+    // Of all acts that are due only its own matter to a quota.
+    ensures own { (K : Capacity) (before after : Rows) (moment : ℕ) (quota : QuotaRow) → are_ascending after.quotas ≡ true → is_ascending percent_of quota.thresholds ≡ true → quota_of after quota.folder ≡ Some quota → run_quota moment (due K before after moment) quota ≡ run_quota moment (quota_acts (crossed K before after quota.folder) after.run_limit moment quota) quota }
+    // An action may run again once its minutes are over, and no sooner.
+    ensures again { (run_limit moment later : ℕ) (action : Action) → ready run_limit later (record action { last_run = Some moment }) ≡ nat_le (moment + 60 * minutes_of run_limit action.minutes) later }
+    // What is reached stays reached.
+    ensures reached { (K : Capacity) (moment : ℕ) (acts : List Act) (R : Rows) (folder percent : ℕ) → reached K (ran moment acts R) folder percent ≡ reached K R folder percent }
+    // The log has 1,024 entries at most. While there is room it loses none.
+    ensures few { (moment : ℕ) (acts : List Act) (R : Rows) → length (ran moment acts R).acts ≤ most_entries }
+    ensures short { (log : List ActRow) → length log ≤ most_entries → last_entries log ≡ log }
+    ensures none { (moment : ℕ) (R : Rows) → length R.acts ≤ most_entries → ran moment [] R ≡ R }
 {}
 
 /// Which rows are those of a store, as a test and part by part; and that they stay such.
@@ -143,6 +230,8 @@ pub fn valid_rows()
     ensures valid { valid_rows }
     ensures nodes { wrong_nodes }
     ensures quotas { wrong_quotas }
+    ensures thresholds { valid_thresholds }
+    ensures wrong_thresholds { wrong_thresholds }
     ensures tables { wrong_tables }
     ensures queues { wrong_queues }
     ensures unvisited { wrong_unvisited }

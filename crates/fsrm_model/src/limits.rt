@@ -2,7 +2,7 @@
 //! definitions.
 
 ghost use Rattle.std.specs.Prelude.{◌≡◌};
-ghost use Rattle.fsrm_model.specs.Limits.{latest_moment, longest_file, last_owner, longest_line, longest_entry, longest_script, longest_name, most_nodes, most_names, least_limit, greatest_limit, most_quotas, most_thresholds, most_actions, most_groups, most_text_bytes, most_visits};
+ghost use Rattle.fsrm_model.specs.Limits.{latest_moment, longest_file, last_owner, longest_line, longest_entry, longest_script, longest_name, most_nodes, most_names, least_limit, greatest_limit, most_quotas, greatest_percent, most_thresholds, most_actions, longest_action_text, most_minutes, most_entries, most_groups, most_text_bytes, most_visits};
 
 /// The greatest moment: 2099-12-31 23:59:59 UTC, in seconds since 1970-01-01 00:00:00 UTC.
 pub const LATEST_MOMENT: u64 = 4_102_444_799;
@@ -40,6 +40,9 @@ pub const GREATEST_LIMIT: u64 = 1_152_921_504_606_846_976;
 /// How many quotas there may be.
 pub const MOST_QUOTAS: usize = 4_096;
 
+/// The greatest percentage of a threshold.
+pub const GREATEST_PERCENT: u16 = 250;
+
 /// How many thresholds a quota may have.
 pub const MOST_THRESHOLDS: usize = 16;
 
@@ -48,6 +51,15 @@ pub const MOST_ACTIONS: usize = 8;
 
 /// How many file groups there may be.
 pub const MOST_GROUPS: usize = 1_024;
+
+/// The bytes of the longest text of an action.
+pub const LONGEST_ACTION_TEXT: usize = 1_024;
+
+/// The greatest run limit of actions, in minutes.
+pub const MOST_MINUTES: u32 = 525_600;
+
+/// How many entries the log of actions keeps.
+pub const MOST_ENTRIES: usize = 1_024;
 
 /// The bytes of all texts of objects.
 pub const MOST_TEXT_BYTES: u32 = 4_194_304;
@@ -69,8 +81,12 @@ pub fn limits()
     ensures least_limit { LEAST_LIMIT ≡ least_limit }
     ensures greatest_limit { GREATEST_LIMIT ≡ greatest_limit }
     ensures most_quotas { MOST_QUOTAS ≡ most_quotas }
+    ensures greatest_percent { GREATEST_PERCENT ≡ greatest_percent }
     ensures most_thresholds { MOST_THRESHOLDS ≡ most_thresholds }
     ensures most_actions { MOST_ACTIONS ≡ most_actions }
+    ensures longest_action_text { LONGEST_ACTION_TEXT ≡ longest_action_text }
+    ensures most_minutes { MOST_MINUTES ≡ most_minutes }
+    ensures most_entries { MOST_ENTRIES ≡ most_entries }
     ensures most_groups { MOST_GROUPS ≡ most_groups }
     ensures most_text_bytes { MOST_TEXT_BYTES ≡ most_text_bytes }
     ensures most_visits { MOST_VISITS ≡ most_visits }

@@ -1,7 +1,7 @@
 //! Paths of the volume, by their names.
 
-ghost use Rattle.std.specs.Prelude.{◌≡◌, ◌<◌, ◌∷◌, true, length, take, drop};
-ghost use Rattle.std.specs.List.{list_all, position_or_len};
+ghost use Rattle.std.specs.Prelude.{◌≡◌, ◌<◌, ◌∷◌, true, length, position, take, drop};
+ghost use Rattle.std.specs.List.{list_all};
 ghost use Rattle.std.specs.Str.{IsCharBoundary};
 ghost use Rattle.std.specs.String.{string_bytes};
 ghost use Rattle.fsrm_model.specs.Name.{is_name};
@@ -81,16 +81,42 @@ pub struct Names<'a> {
     rest: &'a str,
 }
 
-// How many bytes a text has before its first backslash. Most names are too short for a search of many bytes at once.
-fn first_len(text: &[u8]) -> usize
-    ensures { result ≡ position_or_len is_backslash text.now }
-{
-    for (place, byte) in text.iter().enumerate() {
-        if *byte == b'\\' {
-            return place;
+impl<'a> Iterator for Names<'a> {
+    ghost use Rattle.std.specs.Iterator.{YieldsFirstRef, item_count};
+    ghost use Rattle.fsrm_model.specs.PathNames.{left};
+
+    type Item = &'a str;
+
+    ghost next_gives = { YieldsFirstRef left };
+
+    ghost remaining = { item_count left };
+
+    fn next(&mut self) -> Option<&'a str> {
+        if self.rest.is_empty() {
+            return None;
         }
+        let (name, rest) = first_name(self.rest);
+        self.rest = rest;
+        Some(name)
     }
-    text.len()
+}
+
+// The first name that a text has, and what stands after the backslash that ends it.
+fn first_name(text: &str) -> (&str, &str)
+    requires { 0 < length text.now }
+    ensures { parts_of text.now ≡ result.0.now ∷ parts_of result.1.now }
+{
+    match first_backslash(text.as_bytes()) {
+        Some(end) => (before(text, end), after(text, end + 1)),
+        None => (text, ""),
+    }
+}
+
+// Where the first backslash of a text is. Most names are too short for a search of many bytes at once.
+fn first_backslash(text: &[u8]) -> Option<usize>
+    ensures { result ≡ position is_backslash text.now }
+{
+    text.iter().position(|byte| *byte == b'\\')
 }
 
 fn before(text: &str, place: usize) -> &str
@@ -105,28 +131,4 @@ fn after(text: &str, place: usize) -> &str
     ensures { result.now ≡ drop place text.now }
 {
     &text[place..]
-}
-
-// The first name that a text has, and what stands after the backslash that ends it.
-fn first_name(text: &str) -> (&str, &str)
-    requires { 0 < length (parts_of text.now) }
-    ensures { parts_of text.now ≡ result.0.now ∷ parts_of result.1.now }
-{
-    let end = first_len(text.as_bytes());
-    if end == text.len() {
-        return (text, "");
-    }
-    (before(text, end), after(text, end + 1))
-}
-
-impl<'a> Names<'a> {
-    /// Takes the next name. One has to be left.
-    pub fn next(&mut self) -> &'a str
-        requires { 0 < length (left self.old) }
-        ensures { left self.old ≡ result.now ∷ left self.new }
-    {
-        let (name, rest) = first_name(self.rest);
-        self.rest = rest;
-        name
-    }
 }

@@ -3,7 +3,7 @@
 use Rattle.std.proofs.Common.{◌≡◌, ℕ, ◌<◌, ◌≤◌, ◌⊎◌, inl, inr, true, List, false, refl, sym, ap, ◌∙◌, Some, None, Option, nat_lt, subst}
 use Rattle.fsrm_model.specs.declared.command.Command.{Command}
 use Rattle.fsrm_model.specs.declared.command.Deed.{Deed}
-use Rattle.fsrm_model.specs.declared.command.Deed.TheVariants.{File, Usage, Step, QuotaAdd, QuotaModify, QuotaDelete, QuotaScan, QuotaResetpeak, QuotaList}
+use Rattle.fsrm_model.specs.declared.command.Deed.TheVariants.{File, Usage, Step, QuotaAdd, QuotaModify, QuotaDelete, QuotaScan, QuotaResetpeak, QuotaList, AdminOptions, AdminList, AdminLog}
 use Rattle.fsrm_model.specs.declared.command.FileOp.{FileOp}
 use Rattle.fsrm_model.specs.declared.command.FileOp.TheVariants.{Mkdir, Create, Resize, Touch, Move, Remove}
 use Rattle.fsrm_model.specs.declared.command.Outcome.TheVariants.{Refused}
@@ -20,7 +20,7 @@ use Rattle.fsrm_model.specs.declared.row.QuotaRow.{QuotaRow}
 use Rattle.fsrm_model.specs.declared.row.Rows.{Rows}
 use Rattle.fsrm_model.specs.Commands.{emptied, kind}
 use Rattle.fsrm_model.specs.Exceeds.{Exceeds}
-use Rattle.fsrm_model.specs.Exceptions.{MayLeave}
+use Rattle.fsrm_model.specs.Exceptions.{MayLeave, run_by_refusal}
 use Rattle.fsrm_model.specs.FileOps.{plain}
 use Rattle.fsrm_model.specs.Lasting.{lasting}
 use Rattle.fsrm_model.specs.Named.{IsNamed}
@@ -29,14 +29,17 @@ use Rattle.fsrm_model.specs.Quota.{quota_of, counts, is_limit}
 use Rattle.fsrm_model.specs.Space.{space}
 use Rattle.fsrm_model.specs.Step.{step, work}
 use Rattle.fsrm_model.specs.Tree.{usage, under}
-use Rattle.fsrm_model.specs.Valid.{is_moment, is_empty, IsValid}
+use Rattle.fsrm_model.specs.Valid.{is_moment, IsValid}
 use Rattle.fsrm_model.specs.Valued.{is_path, is_deed, is_short, is_command}
 use Rattle.fsrm_model.specs.Work.{Work}
+use Rattle.fsrm_model.specs.Thresholds.{is_percent, is_notice}
+use Rattle.fsrm_model.proofs.commands.AdminCommands.{options_still, options_kept, settings_still, log_still}
 use Rattle.fsrm_model.proofs.commands.Ends.{effect_nodes}
 use Rattle.fsrm_model.proofs.commands.FileCommands.{file_orderly, file_limits, usage_still, file_kept}
 use Rattle.fsrm_model.proofs.commands.Orderly.{IsOrderly, IsStill, KeepsLimits, KeepsValid, still_limits}
-use Rattle.fsrm_model.proofs.commands.OrderlyLaws.{verdict, refused_kept, nothing_left, refused_by, sum_afresh, refusal_exceeds, still_unexceeded, limits_hold, outcome_named, unlasting_kept, valid_kept}
+use Rattle.fsrm_model.proofs.commands.OrderlyLaws.{LeavesRuns, verdict, refused_kept, same_or_some, refused_by, sum_afresh, refusal_exceeds, still_unexceeded, limits_hold, outcome_named, unlasting_kept, valid_kept}
 use Rattle.fsrm_model.proofs.commands.QuotaCommands.{add_kept, modify_kept, delete_kept, reset_kept, list_kept, add_still, modify_still, delete_still, reset_still, list_still}
+use Rattle.fsrm_model.proofs.commands.StepActs.{AreActs, decided_acts}
 use Rattle.fsrm_model.proofs.valid.RowsKept.{nothing_followed}
 use Rattle.fsrm_model.proofs.commands.ScanCommands.{scan_kept, step_kept, scan_still, step_still}
 use Rattle.fsrm_base.proofs.TestLaws.{both, le_is}
@@ -69,32 +72,39 @@ certified K R moment (File op) =
 certified K R moment (Usage path) = still (usage_still K R path) (λ late legal store h. nothing_followed K R store)
 certified K R moment (Step n) = still (step_still K R n) (λ late legal. step_kept K R n)
 certified K R moment (QuotaAdd path limit enforce enabled template percents notices) =
-    still (add_still K R moment path limit enforce enabled) (λ late legal.
-    let values : (list_all is_path (path ∷ []) ≡ true) × ((option_map_or is_limit limit false && (is_none template && (is_empty percents && is_empty notices))) ≡ true) = both _ _ legal in
-    add_kept K R moment path limit enforce enabled (both (option_map_or is_limit limit false) _ values.1).0 late)
+    still (add_still K R moment path limit enforce enabled percents notices) (λ late legal.
+    let values : (list_all is_path (path ∷ []) ≡ true) × ((option_map_or is_limit limit false && (is_none template && (list_all is_percent percents && list_all is_notice notices))) ≡ true) = both _ _ legal in
+    let size : (option_map_or is_limit limit false ≡ true) × ((is_none template && (list_all is_percent percents && list_all is_notice notices)) ≡ true) = both _ _ values.1 in
+    let plain : (is_none template ≡ true) × ((list_all is_percent percents && list_all is_notice notices) ≡ true) = both _ _ size.1 in
+    let marks : (list_all is_percent percents ≡ true) × (list_all is_notice notices ≡ true) = both _ _ plain.1 in
+    add_kept K R moment path limit enforce enabled percents notices size.0 marks.0 marks.1 late)
 certified K R moment (QuotaModify path limit enforce enabled removed percents notices) =
-    still (modify_still K R path limit enforce enabled) (λ late legal.
-    let values : (list_all is_path (path ∷ []) ≡ true) × ((option_map_or is_limit limit true && (is_empty removed && (is_empty percents && is_empty notices))) ≡ true) = both _ _ legal in
-    modify_kept K R path limit enforce enabled (both (option_map_or is_limit limit true) _ values.1).0)
+    still (modify_still K R path limit enforce enabled removed percents notices) (λ late legal.
+    let values : (list_all is_path (path ∷ []) ≡ true) × ((option_map_or is_limit limit true && (list_all is_percent removed && (list_all is_percent percents && list_all is_notice notices))) ≡ true) = both _ _ legal in
+    let size : (option_map_or is_limit limit true ≡ true) × ((list_all is_percent removed && (list_all is_percent percents && list_all is_notice notices)) ≡ true) = both _ _ values.1 in
+    let gone : (list_all is_percent removed ≡ true) × ((list_all is_percent percents && list_all is_notice notices) ≡ true) = both _ _ size.1 in
+    let marks : (list_all is_percent percents ≡ true) × (list_all is_notice notices ≡ true) = both _ _ gone.1 in
+    modify_kept K R path limit enforce enabled removed percents notices size.0 marks.0 marks.1)
 certified K R moment (QuotaDelete path) = still (delete_still K R path) (λ late legal. delete_kept K R path)
 certified K R moment (QuotaScan path) = still (scan_still K R path) (λ late legal. scan_kept K R path)
 certified K R moment (QuotaResetpeak path) = still (reset_still K R moment path) (λ late legal. reset_kept K R moment path late)
 certified K R moment (QuotaList path) = still (list_still K R path) (λ late legal. list_kept K R path)
+certified K R moment (AdminOptions minutes) = still (options_still K R minutes) (λ late legal. options_kept K R minutes legal)
+certified K R moment AdminList = still (settings_still K R) (λ late legal store h. nothing_followed K R store)
+certified K R moment AdminLog = still (log_still K R) (λ late legal store h. nothing_followed K R store)
 
 pub orderly : (K : Capacity) (R : Rows) (moment : ℕ) (deed : Deed) → IsOrderly K R (work K R moment deed)
 orderly K R moment deed = (certified K R moment deed).orderly
 
--- so far a refusal changes nothing; one that does is an exception, and none is one
-pub refused_same : (K : Capacity) (R : Rows) (c : Command) (refusal : Refusal) → (step K R c).outcome ≡ Refused refusal → (step K R c).rows ≡ R
-refused_same K R c refusal h =
+-- a refusal changes nothing, but for the actions that run all the same
+pub refused_leaves : (K : Capacity) (R : Rows) (c : Command) (refusal : Refusal) → (step K R c).outcome ≡ Refused refusal → LeavesRuns K R c.moment (work K R c.moment c.deed) refusal (step K R c)
+refused_leaves K R c refusal h =
     let w = work K R c.moment c.deed in
     refused_kept K R c.moment w (orderly K R c.moment c.deed) (verdict (nat_lt c.moment R.last_moment) w) refusal h
 
 pub refused_or_exception : (K : Capacity) (R : Rows) (c : Command) (refusal : Refusal) → (step K R c).outcome ≡ Refused refusal → ((step K R c).rows ≡ R) ⊎ MayLeave K R c.moment (work K R c.moment c.deed) refusal
-refused_or_exception K R c refusal h = inl (refused_same K R c refusal h)
-
-pub no_exception : (K : Capacity) (R : Rows) (moment : ℕ) (deed : Deed) (refusal : Refusal) → MayLeave K R moment (work K R moment deed) refusal → ⊥
-no_exception K R moment deed refusal may = nothing_left K R moment (work K R moment deed) refusal (orderly K R moment deed) may
+refused_or_exception K R c refusal h =
+    same_or_some K R (step K R c).rows c.moment (run_by_refusal K R c.moment (work K R c.moment c.deed) refusal) (refused_leaves K R c refusal h).rows_are
 
 pub sum_fresh : (K : Capacity) (R : Rows) (c : Command) (folder bytes : ℕ) → (step K R c).outcome ≡ Sum folder bytes → bytes ≡ sum_by (space K) (under R.nodes folder)
 sum_fresh K R c folder bytes h =
@@ -154,12 +164,28 @@ step_valid K R c store legal =
     let deed : (is_deed c.deed ≡ true) × (is_short c.deed ≡ true) = both _ _ values.1 in
     deed_valid K R c.moment c.deed store (le_is c.moment latest_moment values.0) deed.0
 
+-- its acts stand in order, and name actions that are there
+pub kept_acts : (K : Capacity) (R : Rows) (moment : ℕ) (deed : Deed) → IsValid K R → moment ≤ latest_moment → KeepsValid K R (work K R moment deed) → AreActs (step K R (record { moment = moment; deed = deed }))
+kept_acts K R moment deed store legal kept =
+    let w = work K R moment deed in
+    let late = nat_lt moment R.last_moment in
+    decided_acts K R moment late w kept store legal (verdict late w) refl
+
+pub deed_acts : (K : Capacity) (R : Rows) (moment : ℕ) (deed : Deed) → IsValid K R → moment ≤ latest_moment → is_deed deed ≡ true → AreActs (step K R (record { moment = moment; deed = deed }))
+deed_acts K R moment deed store late legal = kept_acts K R moment deed store late ((certified K R moment deed).kept late legal)
+
+pub step_acts : (K : Capacity) (R : Rows) (c : Command) → IsValid K R → is_command c ≡ true → AreActs (step K R c)
+step_acts K R c store legal =
+    let values : (is_moment c.moment ≡ true) × ((is_deed c.deed && is_short c.deed) ≡ true) = both _ _ legal in
+    let deed : (is_deed c.deed ≡ true) × (is_short c.deed ≡ true) = both _ _ values.1 in
+    deed_acts K R c.moment c.deed store (le_is c.moment latest_moment values.0) deed.0
+
 -- the commands whose entries have a kind, without their values
 abbrev kinds : List Deed
 kinds =
     File (Mkdir [] 0) ∷ File (Create [] 0 0) ∷ File (Resize [] 0) ∷ File (Touch []) ∷ File (Move [] []) ∷ File (Remove [])
     ∷ QuotaAdd [] None None false None [] [] ∷ QuotaModify [] None None None [] [] [] ∷ QuotaDelete [] ∷ QuotaScan []
-    ∷ QuotaResetpeak [] ∷ []
+    ∷ QuotaResetpeak [] ∷ AdminOptions 0 ∷ []
 
 -- the first of them that has this kind
 abbrev of_kind : ℕ → Option Deed
@@ -180,6 +206,9 @@ of_kind_is (QuotaDelete path) k h = ap of_kind (sym (same_Some _ _ h))
 of_kind_is (QuotaScan path) k h = ap of_kind (sym (same_Some _ _ h))
 of_kind_is (QuotaResetpeak path) k h = ap of_kind (sym (same_Some _ _ h))
 of_kind_is (QuotaList path) k h = absurd (cc h)
+of_kind_is (AdminOptions minutes) k h = ap of_kind (sym (same_Some _ _ h))
+of_kind_is AdminList k h = absurd (cc h)
+of_kind_is AdminLog k h = absurd (cc h)
 
 -- so the kind tells the command
 pub same_kind : (one other : Deed) (k : ℕ) → kind one ≡ Some k → kind other ≡ Some k → emptied one ≡ emptied other

@@ -1,8 +1,12 @@
 -- What a command that no check refuses answers, and the nodes that it leaves: those of its work.
-use Rattle.std.proofs.Common.{◌≡◌, ℕ, ◌==◌, Bool, true, false, length, refl, ◌∙◌}
+use Rattle.std.proofs.Common.{◌≡◌, ℕ, ◌==◌, Bool, true, false, List, [], ◌∷◌, length, refl, ◌∙◌}
 use Rattle.std.specs.Prelude.{None, unwrap_or, if◌then◌else◌}
+use Rattle.fsrm_model.specs.declared.command.Act.{Act}
 use Rattle.fsrm_model.specs.declared.command.FileOp.{FileOp}
 use Rattle.fsrm_model.specs.declared.command.FileOp.TheVariants.{Mkdir, Create, Resize, Touch, Move, Remove}
+use Rattle.fsrm_model.specs.declared.command.Outcome.TheVariants.{Refused}
+use Rattle.fsrm_model.specs.declared.command.Refusal.{Refusal}
+use Rattle.fsrm_model.specs.declared.command.Refusal.TheVariants.{QuotaExceeded}
 use Rattle.fsrm_model.specs.declared.row.Capacity.{Capacity}
 use Rattle.fsrm_model.specs.declared.row.QuotaState.TheVariants.{Complete}
 use Rattle.fsrm_model.specs.declared.row.Rows.{Rows}
@@ -11,8 +15,18 @@ use Rattle.fsrm_model.specs.FileWork.{file_effect, file_work}
 use Rattle.fsrm_model.specs.QuotaStates.{followed, with_state, head}
 use Rattle.fsrm_model.specs.Scan.{visits}
 use Rattle.fsrm_model.specs.ScanWork.{step_work}
-use Rattle.fsrm_model.specs.Step.{decided, lasted, unlasting, unacted}
+use Rattle.fsrm_model.specs.DueActions.{due_refused}
+use Rattle.fsrm_model.specs.Step.{Stepped, acted, ran_if_any, refused_leaving, refused, decided, lasted, unlasting, unacted}
 use Rattle.fsrm_model.specs.Work.{Work}
+
+-- what is known of a refusal: it leaves nothing, or what actions leave that ran
+pub refused_cases : (K : Capacity) (R : Rows) (moment : ℕ) (w : Work) (refusal : Refusal) (P : Stepped → Type 0) → P (unlasting R (Refused refusal)) → ((acts : List Act) → P (lasted K R (acted moment acts R) moment (Refused refusal))) → P (refused K R moment w refusal)
+refused_cases K R moment w (QuotaExceeded folder would limit) P nothing some = at (due_refused K R w.effect.nodes moment)
+  where
+    at : (acts : List Act) → P (refused_leaving K R moment (QuotaExceeded folder would limit) (ran_if_any moment acts R))
+    at [] = nothing
+    at (act ∷ acts) = some (act ∷ acts)
+refused_cases K R moment w other P nothing some = nothing
 
 pub outcome_kept : (K : Capacity) (R : Rows) (moment : ℕ) (w : Work) → (decided K R moment w None).outcome ≡ w.outcome
 outcome_kept K R moment w = by w.lasts

@@ -35,6 +35,9 @@ use Rattle.fsrm_base.proofs.Order.{least_free_is, length-with_row}
 use Rattle.fsrm_model.proofs.nodes.OwnLaws.{own_parts, own_joined, own_named, own_new, file_inner, file_short}
 use Rattle.fsrm_model.proofs.valid.QueueKept.{queue_without}
 use Rattle.fsrm_model.proofs.valid.QuotasKept.{quotas_stay, quotas-without}
+use Rattle.fsrm_model.specs.Quota.{folder_of}
+use Rattle.fsrm_model.specs.Texts.{quota_bytes}
+use Rattle.fsrm_model.proofs.thresholds.KeptLaws.{fewer_texts, sum_by-less}
 use Rattle.fsrm_model.proofs.valid.RowsKept.{plain-without, valid_with, same_heads, left_followed, left_after, head_folder}
 use Rattle.fsrm_model.proofs.nodes.Sizes.{name_bytes-new, name_bytes-placed}
 use Rattle.fsrm_base.proofs.TestLaws.{both, not_true, clash, eq_is, le_is, le_test, lt_test}
@@ -77,7 +80,7 @@ nodes_followed : (K : Capacity) (R : Rows) (new : List NodeRow) (after : ℕ →
 nodes_followed K R new after s volume folders unvisited =
     let left = option_map_or after (head R.queue) [] in
     valid_with K R new R.quotas R.queue (if same_head R.queue R.queue then left else scan_begun new R.queue) R.last_moment s volume
-    (quotas_stay R.nodes new R.quotas s.quotas (λ f q found is. folders f is)) s.tables.plain s.queue
+    (quotas_stay R.nodes new R.quotas s.quotas (λ f q found is. folders f is)) s.tables.plain s.texts s.queue
     (left_followed K new R.queue R.queue left volume (λ same. left_after R.nodes new (head R.queue) R.unvisited after s.unvisited unvisited))
     s.last_moment
 
@@ -215,6 +218,7 @@ remove_kept K R path moment s h =
     let apart : (f == x) ≡ false = not_true (f == x) (λ e. clash _ (subst (λ k. has_row folder_of k quotas ≡ true) (eq_is f x e) (found_has folder_of f quotas q found)) (has_row-without folder_of x R.quotas)) in
     ap (λ o. option_map_or (λ node. node.folder) o false) (row_of-without number x f R.nodes apart) ∙ is))
     (plain-without x R.quotas s.tables.plain)
+    (fewer_texts R quotas (sum_by-less quota_bytes (λ q. not (folder_of q == x)) R.quotas) s.texts)
     (queue_without R.quotas R.queue x s.queue)
     (left_followed K new R.queue queue left volume (λ same. subst (λ (o : Option ℕ). AreLeft new o left) (same_heads R.queue queue same) stays))
     s.last_moment

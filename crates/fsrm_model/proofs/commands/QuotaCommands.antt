@@ -1,22 +1,29 @@
 -- The commands on quotas: each one's work is orderly, and leaves the rows of a store if no check refuses.
-use Rattle.std.proofs.Common.{◌≡◌, ℕ, ◌==◌, Bool, true, false, not, List, [], ◌∷◌, refl, sym, ◌∙◌, Some, None, Option, ◌≤◌, length, arith, nat_lt}
+use Rattle.std.proofs.Common.{◌≡◌, ℕ, ◌==◌, Bool, true, false, not, List, [], ◌∷◌, ◌++◌, refl, sym, ◌∙◌, ap, subst, cond, Some, None, Option, ◌≤◌, length, arith, nat_lt}
 use Rattle.std.specs.Prelude.{is_some, is_none, unwrap_or, if◌then◌else◌}
-use Rattle.fsrm_model.specs.declared.command.Refusal.TheVariants.{PathNotFound, NotFound, AlreadyExists, TableFull}
+use Rattle.std.specs.List.{list_all}
+use Rattle.fsrm_model.specs.declared.command.Added.{Added}
+use Rattle.fsrm_model.specs.declared.command.Refusal.TheVariants.{PathNotFound, NotFound, AlreadyExists, OutOfRange, TableFull, TextsFull}
 use Rattle.fsrm_model.specs.declared.row.Capacity.{Capacity}
 use Rattle.fsrm_model.specs.declared.row.QuotaRow.{QuotaRow}
 use Rattle.fsrm_model.specs.declared.row.Rows.{Rows}
-use Rattle.fsrm_model.specs.Check.{first, ◌when◌, table_full}
+use Rattle.fsrm_model.specs.declared.row.Threshold.{Threshold}
+use Rattle.fsrm_model.specs.Check.{first, ◌when◌, table_full, texts_full}
 use Rattle.fsrm_model.specs.FileOps.{target}
 use Rattle.fsrm_base.specs.Keyed.{has_row, with_row, with_change, without_row}
 use Rattle.fsrm_model.specs.Leads.{leads_to_folder}
 use Rattle.fsrm_model.specs.Quota.{folder_of, quota_of, is_limit}
-use Rattle.fsrm_model.specs.QuotaWork.{quota_checks, add_work, modify_work, delete_work, reset_work, list_work, new_quota, modified, reset}
+use Rattle.fsrm_model.specs.QuotaWork.{quota_checks, add_work, modify_work, delete_work, reset_work, list_work, new_quota, modified, remarked, thresholds_of, reset}
 use Rattle.fsrm_base.proofs.Look.{is_some-find, has_row-change}
 use Rattle.fsrm_model.proofs.commands.Orderly.{IsStill, change_still, show_still, bare, first_none, when_none, KeepsValid}
 use Rattle.std.specs.Option.{option_map_or}
 use Rattle.fsrm_model.specs.declared.row.QuotaState.{QuotaState}
 use Rattle.fsrm_model.specs.declared.row.QuotaState.TheVariants.{Disabled}
-use Rattle.fsrm_model.specs.Limits.{latest_moment, most_quotas}
+use Rattle.fsrm_model.specs.Limits.{latest_moment, most_quotas, most_text_bytes}
+use Rattle.fsrm_model.specs.Texts.{quota_bytes, object_texts}
+use Rattle.fsrm_model.specs.Thresholds.{is_percent, is_notice, are_too_many, may_be_removed, changed_thresholds}
+use Rattle.fsrm_model.proofs.thresholds.KeptLaws.{fewer_texts, same_texts, sum_by-same, sum_by-less}
+use Rattle.fsrm_model.proofs.thresholds.ThresholdLaws.{changed_kept}
 use Rattle.fsrm_base.specs.Numbers.{without_number}
 use Rattle.fsrm_model.specs.QuotaStates.{start, state_after, queued, in_state, with_quota}
 use Rattle.fsrm_model.specs.Valid.{AreQuotas}
@@ -27,12 +34,13 @@ use Rattle.fsrm_model.proofs.valid.QuotasKept.{quota_at, quotas-new, quotas-chan
 use Rattle.fsrm_model.proofs.valid.RowsKept.{plain-new, plain-change, plain-without, quotas_followed, nothing_followed}
 use Rattle.fsrm_base.proofs.TestLaws.{ge_is, le_test}
 
-pub add_still : (K : Capacity) (R : Rows) (moment : ℕ) (path : List (List ℕ)) (limit : Option ℕ) (enforce : Option Bool) (enabled : Bool) → IsStill K R (add_work R moment path limit enforce enabled)
-add_still K R moment path limit enforce enabled =
-    change_still K R _ _ (bare _ _ refl, (bare _ _ refl, (bare _ _ refl, tt))) refl
+pub add_still : (K : Capacity) (R : Rows) (moment : ℕ) (path : List (List ℕ)) (limit : Option ℕ) (enforce : Option Bool) (enabled : Bool) (percents : List ℕ) (notices : List Added) → IsStill K R (add_work R moment path limit enforce enabled percents notices)
+add_still K R moment path limit enforce enabled percents notices =
+    change_still K R _ _ (bare _ _ refl, (bare _ _ refl, (bare _ _ refl, (bare _ _ refl, (bare _ _ refl, tt))))) refl
 
-pub modify_still : (K : Capacity) (R : Rows) (path : List (List ℕ)) (limit : Option ℕ) (enforce enabled : Option Bool) → IsStill K R (modify_work R path limit enforce enabled)
-modify_still K R path limit enforce enabled = change_still K R _ _ (bare _ _ refl, (bare _ _ refl, tt)) refl
+pub modify_still : (K : Capacity) (R : Rows) (path : List (List ℕ)) (limit : Option ℕ) (enforce enabled : Option Bool) (removed percents : List ℕ) (notices : List Added) → IsStill K R (modify_work R path limit enforce enabled removed percents notices)
+modify_still K R path limit enforce enabled removed percents notices =
+    change_still K R _ _ (bare _ _ refl, (bare _ _ refl, (bare _ _ refl, (bare _ _ refl, (bare _ _ refl, tt))))) refl
 
 pub delete_still : (K : Capacity) (R : Rows) (path : List (List ℕ)) → IsStill K R (delete_work R path)
 delete_still K R path = change_still K R _ _ (bare _ _ refl, (bare _ _ refl, tt)) refl
@@ -61,21 +69,32 @@ limit_given : (limit : Option ℕ) → option_map_or is_limit limit false ≡ tr
 limit_given None legal = cc
 limit_given (Some limit) legal = legal
 
-pub add_kept : (K : Capacity) (R : Rows) (moment : ℕ) (path : List (List ℕ)) (limit : Option ℕ) (enforce : Option Bool) (enabled : Bool) → option_map_or is_limit limit false ≡ true → moment ≤ latest_moment → KeepsValid K R (add_work R moment path limit enforce enabled)
-add_kept K R moment path limit enforce enabled legal late s h =
+pub add_kept : (K : Capacity) (R : Rows) (moment : ℕ) (path : List (List ℕ)) (limit : Option ℕ) (enforce : Option Bool) (enabled : Bool) (percents : List ℕ) (notices : List Added) → option_map_or is_limit limit false ≡ true → list_all is_percent percents ≡ true → list_all is_notice notices ≡ true → moment ≤ latest_moment → KeepsValid K R (add_work R moment path limit enforce enabled percents notices)
+add_kept K R moment path limit enforce enabled percents notices legal legal_percents legal_notices late s h =
     let folder = target R.nodes path in
-    let quota = new_quota folder (unwrap_or limit 0) (unwrap_or enforce true) (if enabled then start R.nodes folder else Disabled) moment in
+    let quota = remarked [] percents notices (new_quota folder (unwrap_or limit 0) (unwrap_or enforce true) (if enabled then start R.nodes folder else Disabled) moment) in
+    let quotas = with_row folder_of quota R.quotas in
+    let many = OutOfRange when are_too_many quota.thresholds in
     let full = table_full (with_quota R quota) in
+    let long = texts_full (with_quota R quota) in
     let taken = is_some (quota_of R folder) in
-    let a = first_none (PathNotFound when not (leads_to_folder R.nodes path)) ((AlreadyExists when taken) ∷ full ∷ []) h in
-    let b = first_none (AlreadyExists when taken) (full ∷ []) a.1 in
-    let c = first_none full [] b.1 in
+    let a = first_none (PathNotFound when not (leads_to_folder R.nodes path)) ((AlreadyExists when taken) ∷ many ∷ full ∷ long ∷ []) h in
+    let b = first_none (AlreadyExists when taken) (many ∷ full ∷ long ∷ []) a.1 in
+    let c = first_none many (full ∷ long ∷ []) b.1 in
+    let d = first_none full (long ∷ []) c.1 in
+    let e = first_none long [] d.1 in
     let absent : has_row folder_of folder R.quotas ≡ false = sym (is_some-find (λ q. folder_of q == folder) R.quotas) ∙ when_none AlreadyExists taken b.0 in
-    let few : length (with_row folder_of quota R.quotas) ≤ most_quotas = ge_is _ _ (when_none TableFull (nat_lt most_quotas (length (with_row folder_of quota R.quotas))) c.0) in
-    quotas_followed K R (with_row folder_of quota R.quotas) (queued R.queue folder quota.state) s
+    let few : length quotas ≤ most_quotas = ge_is _ _ (when_none TableFull (nat_lt most_quotas (length quotas)) d.0) in
+    let texts : object_texts (record R { quotas = quotas }) ≤ most_text_bytes = ge_is _ _ (when_none TextsFull (nat_lt most_text_bytes (object_texts (record R { quotas = quotas }))) e.0) in
+    quotas_followed K R quotas (queued R.queue folder quota.state) s
     (quotas-new R.nodes R.quotas quota s.quotas absent (omega (arith, length-with_row folder_of quota R.quotas, few)) (folder_at R.nodes path a.0)
-    (record { limit = limit_given limit legal; moment = le_test moment latest_moment late }))
+    (record {
+      limit = limit_given limit legal;
+      thresholds = changed_kept [] percents notices [] refl legal_percents legal_notices (when_none OutOfRange (are_too_many quota.thresholds) c.0);
+      moment = le_test moment latest_moment late;
+    }))
     (plain-new quota R.quotas refl s.tables.plain)
+    texts
     (queue_added R.quotas R.queue quota s.queue absent)
 
 -- another limit is one
@@ -83,34 +102,83 @@ limit_kept : (limit : Option ℕ) (old : ℕ) → option_map_or is_limit limit t
 limit_kept None old legal was = was
 limit_kept (Some limit) old legal was = legal
 
+-- quotas of which one changed and kept its texts
+changed_texts : (R : Rows) (folder : ℕ) (change : QuotaRow → QuotaRow) → ((q : QuotaRow) → quota_bytes (change q) ≡ quota_bytes q) → object_texts R ≤ most_text_bytes → object_texts (record R { quotas = with_change folder_of folder change R.quotas }) ≤ most_text_bytes
+changed_texts R folder change same few =
+    same_texts R (with_change folder_of folder change R.quotas) (sum_by-same quota_bytes (λ q. if folder_of q == folder then change q else q) (λ q. at q (folder_of q == folder)) R.quotas) few
+  where
+    at : (q : QuotaRow) (b : Bool) → quota_bytes (cond b (change q) q) ≡ quota_bytes q
+    at q true = same q
+    at q false = refl
+
 -- a quota in another state
 pub state_quotas : (K : Capacity) (R : Rows) (folder : ℕ) (state : QuotaState) (quotas : List QuotaRow) → AreQuotas R.nodes quotas → AreQuotas R.nodes (with_change folder_of folder (in_state state) quotas)
 state_quotas K R folder state quotas a =
     quotas-change R.nodes quotas folder (in_state state) a (λ q. refl) (λ q found.
     let is = quota_at R.nodes quotas folder q a found in
-    record { limit = is.limit; moment = is.moment })
+    record { limit = is.limit; thresholds = is.thresholds; moment = is.moment })
 
-pub modify_kept : (K : Capacity) (R : Rows) (path : List (List ℕ)) (limit : Option ℕ) (enforce enabled : Option Bool) → option_map_or is_limit limit true ≡ true → KeepsValid K R (modify_work R path limit enforce enabled)
-modify_kept K R path limit enforce enabled legal s h =
+-- has the same texts
+pub state_texts : (R : Rows) (folder : ℕ) (state : QuotaState) → object_texts R ≤ most_text_bytes → object_texts (record R { quotas = with_change folder_of folder (in_state state) R.quotas }) ≤ most_text_bytes
+state_texts R folder state few = changed_texts R folder (in_state state) (λ q. refl) few
+
+-- the thresholds of a folder's quota
+own_thresholds : (R : Rows) (folder : ℕ) (quota : QuotaRow) → quota_of R folder ≡ Some quota → thresholds_of R folder ≡ quota.thresholds
+own_thresholds R folder quota there = ap (λ o. option_map_or (λ (q : QuotaRow). q.thresholds) o []) there
+
+-- what the checks of a change let pass
+record Unrefused (R : Rows) (path : List (List ℕ)) (thresholds : List Threshold) (after : Rows) : Type 0 where
+  there : has_row folder_of (target R.nodes path) R.quotas ≡ true
+  few : are_too_many thresholds ≡ false
+  short : object_texts after ≤ most_text_bytes
+
+unrefused : (R : Rows) (path : List (List ℕ)) (missing : Bool) (thresholds : List Threshold) (after : Rows) → first (quota_checks R path ++ (NotFound when missing) ∷ (OutOfRange when are_too_many thresholds) ∷ texts_full after ∷ []) ≡ None → Unrefused R path thresholds after
+unrefused R path missing thresholds after h =
     let folder = target R.nodes path in
-    let there = quota_there R path h in
-    let change : QuotaRow → QuotaRow = modified limit enforce in
+    let lost = (PathNotFound when not (leads_to_folder R.nodes path)) in
+    let none = (NotFound when is_none (quota_of R folder)) in
+    let gone = (NotFound when missing) in
+    let many = (OutOfRange when are_too_many thresholds) in
+    let long = texts_full after in
+    let a = first_none lost (none ∷ gone ∷ many ∷ long ∷ []) h in
+    let b = first_none none (gone ∷ many ∷ long ∷ []) a.1 in
+    let c = first_none gone (many ∷ long ∷ []) b.1 in
+    let d = first_none many (long ∷ []) c.1 in
+    let e = first_none long [] d.1 in
+    record {
+      there = quota_there R path (rw (a.0, b.0) refl);
+      few = when_none OutOfRange (are_too_many thresholds) d.0;
+      short = ge_is _ _ (when_none TextsFull (nat_lt most_text_bytes (object_texts after)) e.0);
+    }
+
+pub modify_kept : (K : Capacity) (R : Rows) (path : List (List ℕ)) (limit : Option ℕ) (enforce enabled : Option Bool) (removed percents : List ℕ) (notices : List Added) → option_map_or is_limit limit true ≡ true → list_all is_percent percents ≡ true → list_all is_notice notices ≡ true → KeepsValid K R (modify_work R path limit enforce enabled removed percents notices)
+modify_kept K R path limit enforce enabled removed percents notices legal legal_percents legal_notices s h =
+    let folder = target R.nodes path in
+    let change : QuotaRow → QuotaRow = λ quota. remarked removed percents notices (modified limit enforce quota) in
     let quotas = with_change folder_of folder change R.quotas in
     let state = state_after R folder enabled in
+    let new = with_change folder_of folder (in_state state) quotas in
+    let u = unrefused R path (not (may_be_removed removed (thresholds_of R folder))) (changed_thresholds removed percents notices (thresholds_of R folder)) (record R { quotas = new; queue = queued R.queue folder state }) h in
     let are = quotas-change R.nodes R.quotas folder change s.quotas (λ q. refl) (λ q found.
     let is = quota_at R.nodes R.quotas folder q s.quotas found in
-    record { limit = limit_kept limit q.limit legal is.limit; moment = is.moment }) in
-    quotas_followed K R (with_change folder_of folder (in_state state) quotas) (queued R.queue folder state) s
+    record {
+      limit = limit_kept limit q.limit legal is.limit;
+      thresholds = changed_kept removed percents notices q.thresholds is.thresholds legal_percents legal_notices (subst (λ ts. are_too_many (changed_thresholds removed percents notices ts) ≡ false) (own_thresholds R folder q found) u.few);
+      moment = is.moment;
+    }) in
+    quotas_followed K R new (queued R.queue folder state) s
     (state_quotas K R folder state quotas are)
     (plain-change folder (in_state state) quotas (λ q is. is) (plain-change folder change R.quotas (λ q is. is) s.tables.plain))
+    u.short
     (queue_changed quotas R.queue folder state (in_state state) (queue_same R.quotas R.queue folder change (λ q. refl) (λ q. refl) s.queue)
-    (has_row-change folder_of folder change (λ q. refl) folder R.quotas ∙ there) (λ q. refl) (λ q. refl))
+    (has_row-change folder_of folder change (λ q. refl) folder R.quotas ∙ u.there) (λ q. refl) (λ q. refl))
 
 pub delete_kept : (K : Capacity) (R : Rows) (path : List (List ℕ)) → KeepsValid K R (delete_work R path)
 delete_kept K R path s h =
     let folder = target R.nodes path in
     quotas_followed K R (without_row folder_of folder R.quotas) (without_number folder R.queue) s
-    (quotas-without R.nodes R.quotas folder s.quotas) (plain-without folder R.quotas s.tables.plain) (queue_without R.quotas R.queue folder s.queue)
+    (quotas-without R.nodes R.quotas folder s.quotas) (plain-without folder R.quotas s.tables.plain)
+    (fewer_texts R (without_row folder_of folder R.quotas) (sum_by-less quota_bytes (λ q. not (folder_of q == folder)) R.quotas) s.texts) (queue_without R.quotas R.queue folder s.queue)
 
 pub reset_kept : (K : Capacity) (R : Rows) (moment : ℕ) (path : List (List ℕ)) → moment ≤ latest_moment → KeepsValid K R (reset_work K R moment path)
 reset_kept K R moment path late s h =
@@ -118,8 +186,9 @@ reset_kept K R moment path late s h =
     quotas_followed K R (with_change folder_of folder (reset K R moment) R.quotas) R.queue s
     (quotas-change R.nodes R.quotas folder (reset K R moment) s.quotas (λ q. refl) (λ q found.
     let is = quota_at R.nodes R.quotas folder q s.quotas found in
-    record { limit = is.limit; moment = le_test moment latest_moment late }))
+    record { limit = is.limit; thresholds = is.thresholds; moment = le_test moment latest_moment late }))
     (plain-change folder (reset K R moment) R.quotas (λ q is. is) s.tables.plain)
+    (changed_texts R folder (reset K R moment) (λ q. refl) s.texts)
     (queue_same R.quotas R.queue folder (reset K R moment) (λ q. refl) (λ q. refl) s.queue)
 
 -- a list leaves them as they are

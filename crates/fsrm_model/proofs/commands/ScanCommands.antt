@@ -28,7 +28,7 @@ use Rattle.fsrm_base.proofs.RowLaws.{change_same, change_none}
 use Rattle.fsrm_model.proofs.valid.ValidLaws.{folder_has}
 use Rattle.fsrm_model.specs.ValidScans.{AreLeft}
 use Rattle.fsrm_model.proofs.valid.QueueKept.{queue_changed}
-use Rattle.fsrm_model.proofs.commands.QuotaCommands.{state_quotas, quota_there}
+use Rattle.fsrm_model.proofs.commands.QuotaCommands.{state_quotas, state_texts, quota_there}
 use Rattle.fsrm_model.proofs.valid.RowsKept.{plain-change, valid_with, same_heads, left_followed, left_visits, quotas_followed, head_in}
 
 -- what is kept of quotas, if the state of one became another that is kept as the same
@@ -134,6 +134,7 @@ scan_kept K R path s h =
     quotas_followed K R (with_change folder_of folder (in_state Rebuilding) R.quotas) (queued R.queue folder Rebuilding) s
     (state_quotas K R folder Rebuilding R.quotas s.quotas)
     (plain-change folder (in_state Rebuilding) R.quotas (λ q is. is) s.tables.plain)
+    (state_texts R folder Rebuilding s.texts)
     (queue_changed R.quotas R.queue folder Rebuilding (in_state Rebuilding) s.queue (scan_there R path h) (λ q. refl) (λ q. refl))
 
 -- if scans wait, one is the first
@@ -167,10 +168,11 @@ step_kept K R n s h =
         valid_with K R R.nodes (with_change folder_of scanned (in_state Complete) R.quotas) queue (if same_head R.queue queue then left else scan_begun R.nodes queue) R.last_moment s s.volume
         (state_quotas K R scanned Complete R.quotas s.quotas)
         (plain-change scanned (in_state Complete) R.quotas (λ q is. is) s.tables.plain)
+        (state_texts R scanned Complete s.texts)
         (queue_changed R.quotas R.queue scanned Complete (in_state Complete) s.queue there (λ q. refl) (λ q. refl))
         (left_followed K R.nodes R.queue queue left s.volume (still queue))
         s.last_moment
     by false there =
-        valid_with K R R.nodes R.quotas R.queue (if same_head R.queue R.queue then left else scan_begun R.nodes R.queue) R.last_moment s s.volume s.quotas s.tables.plain s.queue
+        valid_with K R R.nodes R.quotas R.queue (if same_head R.queue R.queue then left else scan_begun R.nodes R.queue) R.last_moment s s.volume s.quotas s.tables.plain s.texts s.queue
         (left_followed K R.nodes R.queue R.queue left s.volume (still R.queue))
         s.last_moment

@@ -6,13 +6,16 @@ use Rattle.std.proofs.lemmas.Bool.{or_parts, cases_Bool, true≢false}
 use Rattle.std.proofs.lemmas.List.{append-nil}
 use Rattle.std.proofs.lemmas.List.Sums.{sum_by-append, sum_by-cons}
 use Rattle.fsrm_model.specs.declared.command.Refusal.TheVariants.{BadLine}
-use Rattle.fsrm_model.specs.Options.{Key, ThePath, TheLimit, TheType, TheStatus, may_repeat, Given, PathIs, LimitIs, TypeIs, StatusIs, key_of, value_from, is_of, is_colon, key_named, word_key, with_option, options}
-use Rattle.fsrm_model.specs.Reading.{Read, ◌>>=◌, guarded, known, path_from, limit_from, choice_from}
+use Rattle.fsrm_model.specs.Options.{Key, ThePath, TheLimit, TheType, TheStatus, TheRemoval, ThePercent, TheNotice, TheRunLimit, may_repeat, Given, PathIs, LimitIs, TypeIs, StatusIs, RemovalIs, PercentIs, NoticeIs, RunLimitIs, key_of, value_from, is_of, is_colon, key_named, word_key, with_option, options}
+use Rattle.fsrm_model.specs.ActionWords.{percent_from, notice_from}
+use Rattle.fsrm_model.specs.Limits.{greatest_percent, most_minutes}
+use Rattle.fsrm_model.specs.Reading.{Read, ◌>>=◌, guarded, known, number_from, path_from, limit_from, choice_from}
 use Rattle.fsrm_model.specs.Spelling.{WritesValue, SpellsEach, AreOnce, SpellsOptions}
 use Rattle.fsrm_model.specs.Words.{Word}
-use Rattle.fsrm_model.proofs.lines.LineValues.{AsLine, then_line, guarded_line, known_line, path_line, limit_line, choice_line}
+use Rattle.fsrm_model.proofs.lines.LineValues.{AsLine, then_line, guarded_line, known_line, number_line, path_line, limit_line, choice_line}
 use Rattle.fsrm_model.proofs.lines.PathLaws.{path_writes, path_reads}
-use Rattle.fsrm_model.proofs.lines.ReadLaws.{then_ok, both_ok, guarded_then}
+use Rattle.fsrm_model.proofs.lines.ReadLaws.{then_ok, both_ok, guarded_then, number_writes, number_reads}
+use Rattle.fsrm_model.proofs.lines.ActionLaws.{notice_writes, notice_reads, notice_line}
 use Rattle.fsrm_model.proofs.lines.ValueLaws.{colon_parts, colon_before, colon_after, colon_there, before_plain, known_ok, limit_writes, limit_reads, type_writes, type_reads, status_writes, status_reads}
 use Rattle.fsrm_model.proofs.lines.WordLaws.{texts}
 
@@ -36,6 +39,10 @@ is_option ThePath = option_of ThePath (λ column text. path_from text) PathIs (�
 is_option TheLimit = option_of TheLimit limit_from LimitIs (λ column text. refl) (λ column text x h. (refl, limit_writes column text x h)) limit_line
 is_option TheType = option_of TheType (choice_from (codes "hard") (codes "soft")) TypeIs (λ column text. refl) (λ column text x h. (refl, type_writes column text x h)) (choice_line (codes "hard") (codes "soft"))
 is_option TheStatus = option_of TheStatus (choice_from (codes "enabled") (codes "disabled")) StatusIs (λ column text. refl) (λ column text x h. (refl, status_writes column text x h)) (choice_line (codes "enabled") (codes "disabled"))
+is_option TheRemoval = option_of TheRemoval percent_from RemovalIs (λ column text. refl) (λ column text x h. (refl, number_writes 1 greatest_percent column text x h)) (number_line 1 greatest_percent)
+is_option ThePercent = option_of ThePercent percent_from PercentIs (λ column text. refl) (λ column text x h. (refl, number_writes 1 greatest_percent column text x h)) (number_line 1 greatest_percent)
+is_option TheNotice = option_of TheNotice notice_from NoticeIs (λ column text. refl) (λ column text x h. (refl, notice_writes column text x h)) notice_line
+is_option TheRunLimit = option_of TheRunLimit (number_from 0 most_minutes) RunLimitIs (λ column text. refl) (λ column text x h. (refl, number_writes 0 most_minutes column text x h)) (number_line 0 most_minutes)
 
 -- a value that is written is read
 value_reads : (column : ℕ) (text : List ℕ) (given : Given) → WritesValue text given → value_from (key_of given) column text ≡ Ok given
@@ -43,6 +50,10 @@ value_reads column text (PathIs path) w = then_ok (path_from text) path (λ x. O
 value_reads column text (LimitIs limit) w = then_ok (limit_from column text) limit (λ x. Ok (LimitIs x)) (limit_reads column text limit w)
 value_reads column text (TypeIs enforce) w = then_ok (choice_from (codes "hard") (codes "soft") column text) enforce (λ x. Ok (TypeIs x)) (type_reads column text enforce w)
 value_reads column text (StatusIs enabled) w = then_ok (choice_from (codes "enabled") (codes "disabled") column text) enabled (λ x. Ok (StatusIs x)) (status_reads column text enabled w)
+value_reads column text (RemovalIs percent) w = then_ok (percent_from column text) percent (λ x. Ok (RemovalIs x)) (number_reads 1 greatest_percent column text percent w)
+value_reads column text (PercentIs percent) w = then_ok (percent_from column text) percent (λ x. Ok (PercentIs x)) (number_reads 1 greatest_percent column text percent w)
+value_reads column text (NoticeIs notice) w = then_ok (notice_from column text) notice (λ x. Ok (NoticeIs x)) (notice_reads column text notice w)
+value_reads column text (RunLimitIs minutes) w = then_ok (number_from 0 most_minutes column text) minutes (λ x. Ok (RunLimitIs x)) (number_reads 0 most_minutes column text minutes w)
 
 -- an option is that of its own key, and of no other
 is_own : (given : Given) → is_of (key_of given) given ≡ true
@@ -50,12 +61,20 @@ is_own (PathIs path) = refl
 is_own (LimitIs limit) = refl
 is_own (TypeIs enforce) = refl
 is_own (StatusIs enabled) = refl
+is_own (RemovalIs percent) = refl
+is_own (PercentIs percent) = refl
+is_own (NoticeIs notice) = refl
+is_own (RunLimitIs minutes) = refl
 
 pub own_key : (key : Key) (given : Given) → is_of key given ≡ true → key ≡ key_of given
 own_key ThePath (PathIs path) h = refl
 own_key TheLimit (LimitIs limit) h = refl
 own_key TheType (TypeIs enforce) h = refl
 own_key TheStatus (StatusIs enabled) h = refl
+own_key TheRemoval (RemovalIs percent) h = refl
+own_key ThePercent (PercentIs percent) h = refl
+own_key TheNotice (NoticeIs notice) h = refl
+own_key TheRunLimit (RunLimitIs minutes) h = refl
 own_key key other h = absurd (cc h)
 
 -- A word that gives an option is its name, a colon and a value

@@ -1,26 +1,32 @@
 -- A line spells only valid commands: their values have their forms and ranges, and an entry has few more bytes than the line.
-use Rattle.std.proofs.Common.{◌≡◌, ℕ, ◌+◌, ◌≤◌, List, [], ◌∷◌, ◌++◌, Bool, true, length, refl, sym, ◌∙◌, ap, subst, inl, inr, arith}
-use Rattle.std.specs.Prelude.{◌&&◌, ◌⊎◌, ◌<◌, codes, sum_by, nat_le, unwrap_or, Option, Some, None, option_map, option_and_then}
-use Rattle.std.specs.List.{AllByRecursion, join_with_byte, list_all}
+use Rattle.std.proofs.Common.{◌≡◌, ℕ, ◌+◌, ◌≤◌, ℤ, pos, negsuc, ◌==◌, List, [], ◌∷◌, ◌++◌, Bool, true, length, refl, sym, ◌∙◌, ap, subst, inl, inr, arith}
+use Rattle.std.specs.Prelude.{◌&&◌, ◌⊎◌, ◌<◌, codes, sum_by, nat_le, is_none, unwrap_or, Option, Some, None, option_map, option_and_then}
+use Rattle.std.specs.Char.{to_ascii_lowercase}
+use Rattle.std.specs.List.{AllByRecursion, cons_option, join_with_byte, list_all}
 use Rattle.std.specs.Option.{option_or, option_map_or}
 use Rattle.std.proofs.lemmas.Bool.{le-leb}
-use Rattle.std.proofs.lemmas.List.{length-append}
+use Rattle.std.specs.Str.{str_eq_ignore_ascii_case}
+use Rattle.std.proofs.lemmas.List.{length-append, length-map}
 use Rattle.std.proofs.lemmas.List.Sums.{sum_by-cons}
+use Rattle.fsrm_model.specs.declared.command.Added.{Added}
 use Rattle.fsrm_model.specs.declared.command.Command.{Command}
 use Rattle.fsrm_model.specs.declared.command.Deed.{Deed}
-use Rattle.fsrm_model.specs.declared.command.Deed.TheVariants.{File, Usage, Step, QuotaAdd, QuotaModify, QuotaDelete, QuotaScan, QuotaResetpeak, QuotaList}
+use Rattle.fsrm_model.specs.declared.command.Deed.TheVariants.{File, Usage, Step, QuotaAdd, QuotaModify, QuotaDelete, QuotaScan, QuotaResetpeak, QuotaList, AdminOptions, AdminList, AdminLog}
 use Rattle.fsrm_model.specs.declared.command.FileOp.TheVariants.{Mkdir, Create, Resize, Touch, Move, Remove}
 use Rattle.fsrm_model.specs.Commands.{paths, is_owner, is_length, has_values, kind, more_bytes}
-use Rattle.fsrm_model.specs.Entry.{number_bytes, choice_bytes, path_bytes, optional}
-use Rattle.fsrm_model.specs.Limits.{latest_moment, longest_line, longest_file, longest_entry, last_owner, most_visits}
-use Rattle.fsrm_model.specs.Options.{Key, Given, PathIs, LimitIs, TypeIs, StatusIs, path_in, limit_in, type_in, status_in, one}
+use Rattle.fsrm_model.specs.Entry.{number_bytes, choice_bytes, path_bytes, optional, notice_bytes}
+use Rattle.fsrm_model.specs.Limits.{latest_moment, longest_line, longest_file, longest_entry, last_owner, most_visits, greatest_percent, most_minutes}
+use Rattle.fsrm_model.specs.Options.{Key, key_name, Given, PathIs, LimitIs, TypeIs, StatusIs, RemovalIs, PercentIs, NoticeIs, RunLimitIs, key_of, key_named, path_in, limit_in, type_in, status_in, removal_in, percent_in, notice_in, run_limit_in, one, each_of}
 use Rattle.fsrm_model.specs.Quota.{is_limit}
-use Rattle.fsrm_model.specs.Spelling.{Piece, Plain, Quoted, spelled_pieces, text_of_pieces, SpellsWords, Writes, WritesPath, WritesValue, SpellsEach, SpellsTool, SpellsPlaced, SpellsDeed, Spells}
-use Rattle.fsrm_model.specs.Tools.{Names, ToolCommand, needs, of_path, quota_add, quota_modify, quota_list, quota_commands, dirquota, tools}
+use Rattle.fsrm_model.specs.Spelling.{Piece, Plain, Quoted, spelled_pieces, text_of_pieces, SpellsWords, Writes, WritesPath, WritesMinutes, WritesNotice, WritesValue, SpellsEach, SpellsTool, SpellsPlaced, SpellsDeed, Spells}
+use Rattle.fsrm_model.specs.Tools.{Names, ToolCommand, needs, of_path, quota_add, quota_modify, quota_list, quota_commands, admin_options, alone as without_options, admin_commands, dirquota, tools}
+use Rattle.fsrm_model.specs.Thresholds.{is_percent, are_minutes, is_action_text, is_action, is_new_action, is_notice}
 use Rattle.fsrm_model.specs.Valued.{is_path, is_deed, is_short, is_command}
 use Rattle.fsrm_model.specs.Valid.{is_moment}
 use Rattle.fsrm_model.proofs.lines.CommandLaws.{named_each}
+use Rattle.fsrm_base.proofs.Look.{found_passes}
 use Rattle.fsrm_base.proofs.TestLaws.{both_true}
+use Rattle.fsrm_model.proofs.lines.ValueLaws.{named_lower}
 
 abbrev Path : Type 0
 Path = List (List ℕ)
@@ -108,56 +114,183 @@ placed_sound words (Usage path) s =
 placed_sound words (Step n) s = record { valued = within 1 most_visits s.1 n s.4; bytes = omega arith }
 placed_sound words other s = absurd s
 
--- the options of a tool's command
-abbrev IsSoundGiven : ℕ → Given → Type 0
-IsSoundGiven L (PathIs path) = IsSoundPath L path
-IsSoundGiven L (LimitIs limit) = is_limit limit ≡ true
-IsSoundGiven L (TypeIs enforce) = Unit {0}
-IsSoundGiven L (StatusIs enabled) = Unit {0}
+-- the options of a tool's command: the value of each, and the bytes that it has in an entry
+abbrev IsSoundGiven : Given → Type 0
+IsSoundGiven (PathIs path) = is_path path ≡ true
+IsSoundGiven (LimitIs limit) = is_limit limit ≡ true
+IsSoundGiven (TypeIs enforce) = Unit {0}
+IsSoundGiven (StatusIs enabled) = Unit {0}
+IsSoundGiven (RemovalIs percent) = is_percent percent ≡ true
+IsSoundGiven (PercentIs percent) = is_percent percent ≡ true
+IsSoundGiven (NoticeIs notice) = is_notice notice ≡ true
+IsSoundGiven (RunLimitIs minutes) = nat_le minutes most_minutes ≡ true
 
-value_sound : (L : ℕ) (text : List ℕ) (given : Given) → length text ≤ L → WritesValue text given → IsSoundGiven L given
-value_sound L text (PathIs path) fits w = path_sound L text path fits w
-value_sound L text (LimitIs limit) fits w = w.legal
-value_sound L text (TypeIs enforce) fits w = tt
-value_sound L text (StatusIs enabled) fits w = tt
+abbrev weight : Given → ℕ
+weight (PathIs path) = path_bytes path
+weight (LimitIs limit) = 0
+weight (TypeIs enforce) = 0
+weight (StatusIs enabled) = 0
+weight (RemovalIs percent) = number_bytes
+weight (PercentIs percent) = number_bytes
+weight (NoticeIs notice) = notice_bytes notice
+weight (RunLimitIs minutes) = 0
 
-abbrev AreSound : ℕ → List Given → Type 0
-AreSound L given = AllByRecursion (IsSoundGiven L) given
+minutes_sound : (text : List ℕ) (minutes : ℤ) → WritesMinutes text minutes → are_minutes minutes ≡ true
+minutes_sound text (pos n) w = le-leb n most_minutes w.most
+minutes_sound text (negsuc n) w = ap (λ k. k == 0) w.0
+
+notice_sound : (text : List ℕ) (notice : Added) → WritesNotice text notice → is_notice notice ≡ true
+notice_sound text notice w =
+    let a = w.action_is in
+    both_true (is_percent notice.percent) (is_new_action notice.action) (within 1 greatest_percent w.percent notice.percent w.percent_is)
+    (both_true (is_action notice.action) (is_none notice.action.last_run)
+    (both_true (are_minutes notice.action.minutes) (is_action_text notice.action.text) (minutes_sound a.minutes notice.action.minutes a.minutes_are) a.legal)
+    (ap is_none a.new))
+
+value_sound : (text : List ℕ) (given : Given) → WritesValue text given → IsSoundGiven given
+value_sound text (PathIs path) w = (path_sound (length text) text path (omega arith) w).named
+value_sound text (LimitIs limit) w = w.legal
+value_sound text (TypeIs enforce) w = tt
+value_sound text (StatusIs enabled) w = tt
+value_sound text (RemovalIs percent) w = within 1 greatest_percent text percent w
+value_sound text (PercentIs percent) w = within 1 greatest_percent text percent w
+value_sound text (NoticeIs notice) w = notice_sound text notice w
+value_sound text (RunLimitIs minutes) w = le-leb minutes most_minutes w.most
+
+-- the name of an option has as many bytes, however it is spelled
+name_length : (keys : List Key) (name : List ℕ) (key : Key) → key_named keys name ≡ Some key → length name ≡ length (key_name key)
+name_length keys name key h =
+    let named = named_lower (key_name key) name (found_passes (λ key. str_eq_ignore_ascii_case (key_name key) name) keys key h) in
+    sym (length-map name to_ascii_lowercase) ∙ (ap length (sym named) ∙ length-map (key_name key) to_ascii_lowercase)
+
+notice_fits : (text : List ℕ) (notice : Added) → WritesNotice text notice → notice_bytes notice ≤ length text + 16
+notice_fits text notice w =
+    let a = w.action_is in
+    omega (arith, ap length w.text_is, length-append w.percent (44 ∷ w.action), ap length a.text_is, length-append a.kind (44 ∷ (a.minutes ++ 44 ∷ notice.action.text)), length-append a.minutes (44 ∷ notice.action.text))
+
+-- no option has more bytes in an entry than its word has in the line
+value_fits : (text : List ℕ) (given : Given) → WritesValue text given → weight given ≤ length text + length (key_name (key_of given)) + 1
+value_fits text (PathIs path) w = let p = path_sound (length text) text path (omega arith) w in omega (arith, p.bytes)
+value_fits text (LimitIs limit) w = omega arith
+value_fits text (TypeIs enforce) w = omega arith
+value_fits text (StatusIs enabled) w = omega arith
+value_fits text (RemovalIs percent) w = omega arith
+value_fits text (PercentIs percent) w = omega arith
+value_fits text (NoticeIs notice) w = omega (arith, notice_fits text notice w)
+value_fits text (RunLimitIs minutes) w = omega arith
+
+record AreSound (L : ℕ) (given : List Given) : Type 0 where
+  each : AllByRecursion IsSoundGiven given
+  bytes : sum_by weight given ≤ L
 
 each_sound : (L : ℕ) (keys : List Key) (words : List (List ℕ)) (given : List Given) → SpellsEach keys words given → sum_by length words ≤ L → AreSound L given
-each_sound L keys [] [] s fits = tt
-each_sound L keys [] (next ∷ given) s fits = absurd s
-each_sound L keys (word ∷ words) [] s fits = absurd s
-each_sound L keys (word ∷ words) (next ∷ given) s fits =
-    let o = s.0 in
-    let split = sum_by-cons length word words in
-    let here : length o.1 ≤ L = omega (arith, fits, split, ap length o.3, length-append o.0 (58 ∷ o.1)) in (
-      value_sound L o.1 next here o.5,
-      each_sound L keys words given s.1 (omega (arith, fits, split)),
-    )
+each_sound L keys words given s fits =
+    let f = weights keys words given s in
+    record { each = values keys words given s; bytes = omega (arith, f, fits) }
+  where
+    values : (keys : List Key) (words : List (List ℕ)) (given : List Given) → SpellsEach keys words given → AllByRecursion IsSoundGiven given
+    values keys [] [] s = tt
+    values keys [] (next ∷ given) s = absurd s
+    values keys (word ∷ words) [] s = absurd s
+    values keys (word ∷ words) (next ∷ given) s = (value_sound s.0.1 next s.0.5, values keys words given s.1)
+
+    weights : (keys : List Key) (words : List (List ℕ)) (given : List Given) → SpellsEach keys words given → sum_by weight given ≤ sum_by length words
+    weights keys [] [] s = omega arith
+    weights keys [] (next ∷ given) s = absurd s
+    weights keys (word ∷ words) [] s = absurd s
+    weights keys (word ∷ words) (next ∷ given) s =
+        let o = s.0 in
+        omega (
+          arith,
+          sum_by-cons length word words,
+          sum_by-cons weight next given,
+          ap length o.3,
+          length-append o.0 (58 ∷ o.1),
+          name_length keys o.0 (key_of next) o.4,
+          value_fits o.1 next o.5,
+          weights keys words given s.1,
+        )
 
 -- what was given is sound
-one_sound : {X : Type 0} (P : X → Type 0) (L : ℕ) (value : Given → Option X) → ((g : Given) (x : X) → IsSoundGiven L g → value g ≡ Some x → P x) → (given : List Given) (x : X) → AreSound L given → one value given ≡ Some x → P x
-one_sound P L value each [] x s e = absurd (cc e)
-one_sound {X} P L value each (g ∷ given) x s e = at (value g) refl (one_sound P L value each given x s.1) e
+one_sound : {X : Type 0} (P : X → Type 0) (value : Given → Option X) → ((g : Given) (x : X) → IsSoundGiven g → value g ≡ Some x → P x) → (given : List Given) (x : X) → AllByRecursion IsSoundGiven given → one value given ≡ Some x → P x
+one_sound P value each [] x s e = absurd (cc e)
+one_sound {X} P value each (g ∷ given) x s e = at (value g) refl (one_sound P value each given x s.1) e
   where
     at : (o : Option X) → value g ≡ o → (one value given ≡ Some x → P x) → option_or o (one value given) ≡ Some x → P x
     at None is rest e = rest e
     at (Some y) is rest e = each g x s.0 (is ∙ e)
 
-given_path : (L : ℕ) (given : List Given) (path : Path) → AreSound L given → one path_in given ≡ Some path → IsSoundPath L path
-given_path L given path s e = one_sound (IsSoundPath L) L path_in by given path s e
+each_of_sound : {X : Type 0} (p : X → Bool) (value : Given → Option X) → ((g : Given) (x : X) → IsSoundGiven g → value g ≡ Some x → p x ≡ true) → (given : List Given) → AllByRecursion IsSoundGiven given → list_all p (each_of value given) ≡ true
+each_of_sound p value each [] s = refl
+each_of_sound {X} p value each (g ∷ given) s = at (value g) refl (each_of_sound p value each given s.1)
   where
-    by : (g : Given) (path : Path) → IsSoundGiven L g → path_in g ≡ Some path → IsSoundPath L path
-    by (PathIs own) path s e = let same : own ≡ path = cc e in subst (IsSoundPath L) same s
+    at : (o : Option X) → value g ≡ o → list_all p (each_of value given) ≡ true → list_all p (cons_option o (each_of value given)) ≡ true
+    at None is rest = rest
+    at (Some x) is rest = both_true (p x) (list_all p (each_of value given)) (each g x s.0 is) rest
+
+-- the bytes of a path that was given, and of all thresholds
+all_weights : (given : List Given) → option_map_or path_bytes (one path_in given) 0 + (sum_by (λ (n : ℕ). number_bytes) (each_of removal_in given) + (sum_by (λ (n : ℕ). number_bytes) (each_of percent_in given) + sum_by notice_bytes (each_of notice_in given))) ≤ sum_by weight given
+all_weights [] = omega arith
+all_weights (PathIs path ∷ given) = omega (arith, all_weights given, sum_by-cons weight (PathIs path) given)
+all_weights (LimitIs limit ∷ given) = omega (arith, all_weights given, sum_by-cons weight (LimitIs limit) given)
+all_weights (TypeIs enforce ∷ given) = omega (arith, all_weights given, sum_by-cons weight (TypeIs enforce) given)
+all_weights (StatusIs enabled ∷ given) = omega (arith, all_weights given, sum_by-cons weight (StatusIs enabled) given)
+all_weights (RemovalIs percent ∷ given) = omega (arith, all_weights given, sum_by-cons weight (RemovalIs percent) given, sum_by-cons (λ (n : ℕ). number_bytes) percent (each_of removal_in given))
+all_weights (PercentIs percent ∷ given) = omega (arith, all_weights given, sum_by-cons weight (PercentIs percent) given, sum_by-cons (λ (n : ℕ). number_bytes) percent (each_of percent_in given))
+all_weights (NoticeIs notice ∷ given) = omega (arith, all_weights given, sum_by-cons weight (NoticeIs notice) given, sum_by-cons notice_bytes notice (each_of notice_in given))
+all_weights (RunLimitIs minutes ∷ given) = omega (arith, all_weights given, sum_by-cons weight (RunLimitIs minutes) given)
+
+-- a command's path, and the bytes that are left for its thresholds
+record HasPath (L : ℕ) (given : List Given) (path : Path) : Type 0 where
+  named : is_path path ≡ true
+  bytes : path_bytes path + (sum_by (λ (n : ℕ). number_bytes) (each_of removal_in given) + (sum_by (λ (n : ℕ). number_bytes) (each_of percent_in given) + sum_by notice_bytes (each_of notice_in given))) ≤ L
+
+has_path : (L : ℕ) (given : List Given) (path : Path) → AreSound L given → one path_in given ≡ Some path → HasPath L given path
+has_path L given path s e =
+    let own : option_map_or path_bytes (one path_in given) 0 ≡ path_bytes path = ap (λ (o : Option Path). option_map_or path_bytes o 0) e in
+    record { named = one_sound (λ (path : Path). is_path path ≡ true) path_in by given path s.each e; bytes = omega (arith, all_weights given, own, s.bytes) }
+  where
+    by : (g : Given) (path : Path) → IsSoundGiven g → path_in g ≡ Some path → is_path path ≡ true
+    by (PathIs own) path s e = let same : own ≡ path = cc e in subst (λ (path : Path). is_path path ≡ true) same s
     by other path s e = absurd (cc e)
 
+given_path : (L : ℕ) (given : List Given) (path : Path) → AreSound L given → one path_in given ≡ Some path → IsSoundPath L path
+given_path L given path s e = let p = has_path L given path s e in record { named = p.named; bytes = omega (arith, p.bytes) }
+
 given_limit : (L : ℕ) (given : List Given) (limit : ℕ) → AreSound L given → one limit_in given ≡ Some limit → is_limit limit ≡ true
-given_limit L given limit s e = one_sound (λ (n : ℕ). is_limit n ≡ true) L limit_in by given limit s e
+given_limit L given limit s e = one_sound (λ (n : ℕ). is_limit n ≡ true) limit_in by given limit s.each e
   where
-    by : (g : Given) (limit : ℕ) → IsSoundGiven L g → limit_in g ≡ Some limit → is_limit limit ≡ true
+    by : (g : Given) (limit : ℕ) → IsSoundGiven g → limit_in g ≡ Some limit → is_limit limit ≡ true
     by (LimitIs own) limit s e = let same : own ≡ limit = cc e in subst (λ (n : ℕ). is_limit n ≡ true) same s
     by other limit s e = absurd (cc e)
+
+given_run_limit : (L : ℕ) (given : List Given) (minutes : ℕ) → AreSound L given → one run_limit_in given ≡ Some minutes → nat_le minutes most_minutes ≡ true
+given_run_limit L given minutes s e = one_sound (λ (n : ℕ). nat_le n most_minutes ≡ true) run_limit_in by given minutes s.each e
+  where
+    by : (g : Given) (minutes : ℕ) → IsSoundGiven g → run_limit_in g ≡ Some minutes → nat_le minutes most_minutes ≡ true
+    by (RunLimitIs own) minutes s e = let same : own ≡ minutes = cc e in subst (λ (n : ℕ). nat_le n most_minutes ≡ true) same s
+    by other minutes s e = absurd (cc e)
+
+given_removals : (given : List Given) → AllByRecursion IsSoundGiven given → list_all is_percent (each_of removal_in given) ≡ true
+given_removals given s = each_of_sound is_percent removal_in by given s
+  where
+    by : (g : Given) (percent : ℕ) → IsSoundGiven g → removal_in g ≡ Some percent → is_percent percent ≡ true
+    by (RemovalIs own) percent s e = let same : own ≡ percent = cc e in subst (λ (n : ℕ). is_percent n ≡ true) same s
+    by other percent s e = absurd (cc e)
+
+given_percents : (given : List Given) → AllByRecursion IsSoundGiven given → list_all is_percent (each_of percent_in given) ≡ true
+given_percents given s = each_of_sound is_percent percent_in by given s
+  where
+    by : (g : Given) (percent : ℕ) → IsSoundGiven g → percent_in g ≡ Some percent → is_percent percent ≡ true
+    by (PercentIs own) percent s e = let same : own ≡ percent = cc e in subst (λ (n : ℕ). is_percent n ≡ true) same s
+    by other percent s e = absurd (cc e)
+
+given_notices : (given : List Given) → AllByRecursion IsSoundGiven given → list_all is_notice (each_of notice_in given) ≡ true
+given_notices given s = each_of_sound is_notice notice_in by given s
+  where
+    by : (g : Given) (notice : Added) → IsSoundGiven g → notice_in g ≡ Some notice → is_notice notice ≡ true
+    by (NoticeIs own) notice s e = let same : own ≡ notice = cc e in subst (λ (n : Added). is_notice n ≡ true) same s
+    by other notice s e = absurd (cc e)
 
 -- an option that is required is there
 needed : {X : Type 0} (value : Given → Option X) (given : List Given) (deed : X → Option Deed) (d : Deed) → needs value given deed ≡ Some d → (x : X) × (one value given ≡ Some x) × (deed x ≡ Some d)
@@ -193,12 +326,17 @@ add_sound : IsSoundCommand (codes "add", quota_add)
 add_sound =
     record {
       sound = λ L given d s h.
-          let path = needed path_in given (λ path. needs limit_in given (λ limit. Some (QuotaAdd path (Some limit) (one type_in given) (unwrap_or (one status_in given) true) None [] []))) d h in
-          let limit = needed limit_in given (λ limit. Some (QuotaAdd path.0 (Some limit) (one type_in given) (unwrap_or (one status_in given) true) None [] [])) d path.2 in
-          let made : QuotaAdd path.0 (Some limit.0) (one type_in given) (unwrap_or (one status_in given) true) None [] [] ≡ d = cc limit.2 in
-          let p = given_path L given path.0 s path.1 in
+          let percents = each_of percent_in given in
+          let notices = each_of notice_in given in
+          let make : Path → ℕ → Deed = λ path limit. QuotaAdd path (Some limit) (one type_in given) (unwrap_or (one status_in given) true) None percents notices in
+          let path = needed path_in given (λ path. needs limit_in given (λ limit. Some (make path limit))) d h in
+          let limit = needed limit_in given (λ limit. Some (make path.0 limit)) d path.2 in
+          let made : make path.0 limit.0 ≡ d = cc limit.2 in
+          let p = has_path L given path.0 s path.1 in
           subst (IsSound L) made (record {
-            valued = both_true (is_path path.0 && true) (is_limit limit.0 && true) (one_true (is_path path.0) p.named) (one_true (is_limit limit.0) (given_limit L given limit.0 s limit.1));
+            valued = both_true (is_path path.0 && true) (is_limit limit.0 && (list_all is_percent percents && list_all is_notice notices)) (one_true (is_path path.0) p.named)
+                (both_true (is_limit limit.0) (list_all is_percent percents && list_all is_notice notices) (given_limit L given limit.0 s limit.1)
+                (both_true (list_all is_percent percents) (list_all is_notice notices) (given_percents given s.each) (given_notices given s.each)));
             bytes = omega (arith, p.bytes, optional_fits choice_bytes (one type_in given));
           });
     }
@@ -207,13 +345,40 @@ modify_sound : IsSoundCommand (codes "modify", quota_modify)
 modify_sound =
     record {
       sound = λ L given d s h.
-          let path = needed path_in given (λ path. Some (QuotaModify path (one limit_in given) (one type_in given) (one status_in given) [] [] [])) d h in
-          let made : QuotaModify path.0 (one limit_in given) (one type_in given) (one status_in given) [] [] [] ≡ d = cc path.2 in
-          let p = given_path L given path.0 s path.1 in
+          let removed = each_of removal_in given in
+          let percents = each_of percent_in given in
+          let notices = each_of notice_in given in
+          let make : Path → Deed = λ path. QuotaModify path (one limit_in given) (one type_in given) (one status_in given) removed percents notices in
+          let path = needed path_in given (λ path. Some (make path)) d h in
+          let made : make path.0 ≡ d = cc path.2 in
+          let p = has_path L given path.0 s path.1 in
+          let size = option_map_or is_limit (one limit_in given) true in
           subst (IsSound L) made (record {
-            valued = both_true (is_path path.0 && true) (option_map_or is_limit (one limit_in given) true && true) (one_true (is_path path.0) p.named) (one_true (option_map_or is_limit (one limit_in given) true) (limit_or L given (one limit_in given) s refl));
+            valued = both_true (is_path path.0 && true) (size && (list_all is_percent removed && (list_all is_percent percents && list_all is_notice notices))) (one_true (is_path path.0) p.named)
+                (both_true size (list_all is_percent removed && (list_all is_percent percents && list_all is_notice notices)) (limit_or L given (one limit_in given) s refl)
+                (both_true (list_all is_percent removed) (list_all is_percent percents && list_all is_notice notices) (given_removals given s.each)
+                (both_true (list_all is_percent percents) (list_all is_notice notices) (given_percents given s.each) (given_notices given s.each))));
             bytes = omega (arith, p.bytes, optional_fits number_bytes (one limit_in given), optional_fits choice_bytes (one type_in given), optional_fits choice_bytes (one status_in given));
           });
+    }
+
+options_sound : IsSoundCommand (codes "options", admin_options)
+options_sound =
+    record {
+      sound = λ L given d s h.
+          let minutes = needed run_limit_in given (λ minutes. Some (AdminOptions minutes)) d h in
+          let made : AdminOptions minutes.0 ≡ d = cc minutes.2 in
+          subst (IsSound L) made (record { valued = given_run_limit L given minutes.0 s minutes.1; bytes = omega arith });
+    }
+
+alone_sound : (name : List ℕ) (deed : Deed) → paths deed ≡ [] → has_values deed ≡ true → more_bytes deed ≡ 0 → IsSoundCommand (name, without_options deed)
+alone_sound name deed none valued bytes =
+    record {
+      sound = λ L given d s h.
+          let made : deed ≡ d = cc h in
+          let size : sum_by path_bytes (paths deed) ≡ 0 = ap (sum_by path_bytes) none in
+          let named : list_all is_path (paths deed) ≡ true = ap (list_all is_path) none in
+          subst (IsSound L) made (record { valued = both_true (list_all is_path (paths deed)) (has_values deed) named valued; bytes = omega (arith, size, bytes) });
     }
 
 list_sound : IsSoundCommand (codes "list", quota_list)
@@ -244,6 +409,9 @@ quota_commands_sound = (
   ),
 )
 
+admin_commands_sound : AllByRecursion IsSoundCommand admin_commands
+admin_commands_sound = (options_sound, (alone_sound (codes "list") AdminList refl refl refl, (alone_sound (codes "log") AdminLog refl refl refl, tt)))
+
 abbrev AreSoundCommands : List ℕ × Names ToolCommand → Type 0
 AreSoundCommands object = AllByRecursion IsSoundCommand object.1
 
@@ -251,7 +419,7 @@ abbrev IsSoundTool : List ℕ × Names (Names ToolCommand) → Type 0
 IsSoundTool tool = AllByRecursion AreSoundCommands tool.1
 
 dirquota_sound : AllByRecursion AreSoundCommands dirquota
-dirquota_sound = (quota_commands_sound, tt)
+dirquota_sound = (quota_commands_sound, (admin_commands_sound, tt))
 
 tools_sound : AllByRecursion IsSoundTool tools
 tools_sound = (dirquota_sound, tt)

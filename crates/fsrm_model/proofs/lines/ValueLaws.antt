@@ -1,6 +1,6 @@
 -- Limits, types and states are read exactly as they are written, and a word is parted at its first colon.
 use Rattle.std.proofs.Common.{◌≡◌, ℕ, ◌+◌, ◌<◌, List, [], ◌∷◌, ◌++◌, Bool, true, false, length, take, drop, refl, sym, ◌∙◌, ap, subst, inl, inr, arith}
-use Rattle.std.specs.Prelude.{Ok, Err, ◌*◌, ◌||◌, not, nat_lt, codes, Option, Some, None, find, option_map, if◌then◌else◌}
+use Rattle.std.specs.Prelude.{Ok, Err, ◌*◌, ◌==◌, ◌||◌, not, nat_lt, codes, Option, Some, None, find, option_map, if◌then◌else◌}
 use Rattle.std.specs.Char.{is_ascii_digit, to_ascii_lowercase}
 use Rattle.std.specs.List.{list_all, list_any, prefix_len, position_or_len, before_first, after_first, take_while}
 use Rattle.std.specs.Str.{str_eq_ignore_ascii_case, str_to_ascii_lowercase, bytes_eq}
@@ -29,7 +29,7 @@ pub name_same : (row name word : List ℕ) → IsNamed name word → str_eq_igno
 name_same row name word named = ap (bytes_eq (str_to_ascii_lowercase row)) (sym (named_lower name word named))
 
 -- a test of bytes to which both cases of a letter are one
-abbrev IsCaseless : (ℕ → Bool) → Type 0
+abbrev pub IsCaseless : (ℕ → Bool) → Type 0
 IsCaseless test = (b : ℕ) → test (to_ascii_lowercase b) ≡ test b
 
 any_lower : (test : ℕ → Bool) (word : List ℕ) → IsCaseless test → list_any test (str_to_ascii_lowercase word) ≡ list_any test word
@@ -37,7 +37,7 @@ any_lower test [] caseless = refl
 any_lower test (b ∷ word) caseless =
     ap (λ (c : Bool). c || list_any test (str_to_ascii_lowercase word)) (caseless b) ∙ ap (λ (c : Bool). test b || c) (any_lower test word caseless)
 
-named_any : (test : ℕ → Bool) (name word : List ℕ) → IsCaseless test → IsNamed name word → list_any test word ≡ list_any test name
+pub named_any : (test : ℕ → Bool) (name word : List ℕ) → IsCaseless test → IsNamed name word → list_any test word ≡ list_any test name
 named_any test name word caseless named =
     sym (any_lower test word caseless) ∙ ap (list_any test) (sym (named_lower name word named)) ∙ any_lower test name caseless
 
@@ -52,23 +52,40 @@ found_within p (x ∷ xs) h = elim (cases_Bool (p x)) [
   | inr other ↦ let more = rw other at h in let below : position_or_len p xs < length xs = found_within p xs more in rw other (omega (arith, below))
 ]
 
-pub colon_parts : (text : List ℕ) → list_any is_colon text ≡ true → text ≡ before_first is_colon text ++ 58 ∷ after_first is_colon text
-colon_parts text h =
-    let within = found_within is_colon text h in
-    subst (λ (b : ℕ). text ≡ before_first is_colon text ++ b ∷ after_first is_colon text) (eqb-true _ 58 (passes_at_first is_colon text 0 within)) (split_at_first is_colon text 0 within)
+-- a text is parted at its first byte of a mark
+abbrev pub is_mark : ℕ → ℕ → Bool
+is_mark mark b = b == mark
 
-position_seam : (front rest : List ℕ) → list_any is_colon front ≡ false → position_or_len is_colon (front ++ 58 ∷ rest) ≡ length front
-position_seam [] rest h = refl
-position_seam (b ∷ front) rest h =
-    let tests = or_parts (is_colon b) (list_any is_colon front) h in
-    let more : position_or_len is_colon (front ++ 58 ∷ rest) ≡ length front = position_seam front rest tests.1 in
+pub mark_parts : (mark : ℕ) (text : List ℕ) → list_any (is_mark mark) text ≡ true → text ≡ before_first (is_mark mark) text ++ mark ∷ after_first (is_mark mark) text
+mark_parts mark text h =
+    let within = found_within (is_mark mark) text h in
+    subst (λ (b : ℕ). text ≡ before_first (is_mark mark) text ++ b ∷ after_first (is_mark mark) text) (eqb-true _ mark (passes_at_first (is_mark mark) text 0 within)) (split_at_first (is_mark mark) text 0 within)
+
+position_seam : (mark : ℕ) (front rest : List ℕ) → list_any (is_mark mark) front ≡ false → position_or_len (is_mark mark) (front ++ mark ∷ rest) ≡ length front
+position_seam mark [] rest h = rw (own mark) refl
+  where
+    own : (n : ℕ) → (n == n) ≡ true
+    own n = grind (arith, nat_tests)
+position_seam mark (b ∷ front) rest h =
+    let tests = or_parts (is_mark mark b) (list_any (is_mark mark) front) h in
+    let more : position_or_len (is_mark mark) (front ++ mark ∷ rest) ≡ length front = position_seam mark front rest tests.1 in
     rw tests.0 (omega (arith, more))
 
+pub mark_before : (mark : ℕ) (front rest : List ℕ) → list_any (is_mark mark) front ≡ false → before_first (is_mark mark) (front ++ mark ∷ rest) ≡ front
+mark_before mark front rest h = ap (λ (n : ℕ). take n (front ++ mark ∷ rest)) (position_seam mark front rest h) ∙ take-append_seam front (mark ∷ rest)
+
+pub mark_after : (mark : ℕ) (front rest : List ℕ) → list_any (is_mark mark) front ≡ false → after_first (is_mark mark) (front ++ mark ∷ rest) ≡ rest
+mark_after mark front rest h = ap (λ (n : ℕ). drop (n + 1) (front ++ mark ∷ rest)) (position_seam mark front rest h) ∙ drop-append-add front (mark ∷ rest) 1
+
+-- at its first colon
+pub colon_parts : (text : List ℕ) → list_any is_colon text ≡ true → text ≡ before_first is_colon text ++ 58 ∷ after_first is_colon text
+colon_parts text h = mark_parts 58 text h
+
 pub colon_before : (front rest : List ℕ) → list_any is_colon front ≡ false → before_first is_colon (front ++ 58 ∷ rest) ≡ front
-colon_before front rest h = ap (λ (n : ℕ). take n (front ++ 58 ∷ rest)) (position_seam front rest h) ∙ take-append_seam front (58 ∷ rest)
+colon_before front rest h = mark_before 58 front rest h
 
 pub colon_after : (front rest : List ℕ) → list_any is_colon front ≡ false → after_first is_colon (front ++ 58 ∷ rest) ≡ rest
-colon_after front rest h = ap (λ (n : ℕ). drop (n + 1) (front ++ 58 ∷ rest)) (position_seam front rest h) ∙ drop-append-add front (58 ∷ rest) 1
+colon_after front rest h = mark_after 58 front rest h
 
 pub colon_there : (front rest : List ℕ) → list_any is_colon (front ++ 58 ∷ rest) ≡ true
 colon_there [] rest = refl
@@ -86,7 +103,7 @@ front_passes p (x ∷ xs) = elim (cases_Bool (p x)) [
   | inr other ↦ ap (list_all p) (take_while-cons p x xs) ∙ rw other refl
 ]
 
-all_other : {X : Type 0} (p : X → Bool) (xs : List X) → list_all (λ x. not (p x)) xs ≡ true → list_any p xs ≡ false
+pub all_other : {X : Type 0} (p : X → Bool) (xs : List X) → list_all (λ x. not (p x)) xs ≡ true → list_any p xs ≡ false
 all_other p [] h = refl
 all_other p (x ∷ xs) h = let tests = and_parts (not (p x)) (list_all (λ x. not (p x)) xs) h in rw (is_false (p x) tests.0) (all_other p xs tests.1)
   where
@@ -96,6 +113,9 @@ all_other p (x ∷ xs) h = let tests = and_parts (not (p x)) (list_all (λ x. no
 
 pub before_plain : (text : List ℕ) → list_any is_colon (before_first is_colon text) ≡ false
 before_plain text = all_other is_colon (before_first is_colon text) (front_passes (λ b. not (is_colon b)) text)
+
+pub mark_plain : (mark : ℕ) (text : List ℕ) → list_any (is_mark mark) (before_first (is_mark mark) text) ≡ false
+mark_plain mark text = all_other (is_mark mark) (before_first (is_mark mark) text) (front_passes (λ b. not (is_mark mark b)) text)
 
 digits_seam : (digits unit : List ℕ) → list_all is_ascii_digit digits ≡ true → list_any is_ascii_digit unit ≡ false → prefix_len is_ascii_digit (digits ++ unit) ≡ length digits
 digits_seam [] [] each none = refl

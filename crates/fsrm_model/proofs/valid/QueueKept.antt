@@ -139,30 +139,33 @@ peaked_state K nodes m q = at (counts q && nat_lt q.peak (usage K nodes q.folder
     at true = refl
     at false = refl
 
-pub queue_peaked : (K : Capacity) (nodes : List NodeRow) (m : ℕ) (quotas : List QuotaRow) (queue : List ℕ) → IsQueue quotas queue → IsQueue (map (peaked K nodes m) quotas) queue
-queue_peaked K nodes m quotas queue k =
+-- beside quotas that keep their folders and states
+pub queue_mapped : (g : QuotaRow → QuotaRow) (quotas : List QuotaRow) (queue : List ℕ) → ((q : QuotaRow) → (g q).folder ≡ q.folder) → ((q : QuotaRow) → (g q).state ≡ q.state) → IsQueue quotas queue → IsQueue (map g quotas) queue
+queue_mapped g quotas queue folder state k =
     record {
       once = k.once;
       queued = λ f h. has f ∙ k.queued f h;
       rebuilding = λ f q found. by_row f q (row_of folder_of f quotas) refl (sym (finds f) ∙ found);
     }
   where
-    finds : (f : ℕ) → row_of folder_of f (map (peaked K nodes m) quotas) ≡ option_map (peaked K nodes m) (row_of folder_of f quotas)
-    finds f = find-map (λ q. folder_of q == f) (peaked K nodes m) (λ q. ap (λ n. n == f) (peaked_folder K nodes m q)) quotas
+    finds : (f : ℕ) → row_of folder_of f (map g quotas) ≡ option_map g (row_of folder_of f quotas)
+    finds f = find-map (λ q. folder_of q == f) g (λ q. ap (λ n. n == f) (folder q)) quotas
 
-    mapped : (o : Option QuotaRow) → is_some (option_map (peaked K nodes m) o) ≡ is_some o
+    mapped : (o : Option QuotaRow) → is_some (option_map g o) ≡ is_some o
     mapped None = refl
     mapped (Some q) = refl
 
-    has : (f : ℕ) → has_row folder_of f (map (peaked K nodes m) quotas) ≡ has_row folder_of f quotas
+    has : (f : ℕ) → has_row folder_of f (map g quotas) ≡ has_row folder_of f quotas
     has f =
-        sym (is_some-find (λ q. folder_of q == f) (map (peaked K nodes m) quotas))
+        sym (is_some-find (λ q. folder_of q == f) (map g quotas))
         ∙ (ap is_some (finds f) ∙ (mapped (row_of folder_of f quotas) ∙ is_some-find (λ q. folder_of q == f) quotas))
 
-    by_row : (f : ℕ) (q : QuotaRow) (o : Option QuotaRow) → row_of folder_of f quotas ≡ o → option_map (peaked K nodes m) o ≡ Some q → is_in queue f ≡ is_rebuilding q.state
+    by_row : (f : ℕ) (q : QuotaRow) (o : Option QuotaRow) → row_of folder_of f quotas ≡ o → option_map g o ≡ Some q → is_in queue f ≡ is_rebuilding q.state
     by_row f q None h e = cc
-    by_row f q (Some r) h e =
-        k.rebuilding f r h ∙ ap is_rebuilding (sym (peaked_state K nodes m r) ∙ ap (λ (q : QuotaRow). q.state) (same_Some (peaked K nodes m r) q e))
+    by_row f q (Some r) h e = k.rebuilding f r h ∙ ap is_rebuilding (sym (state r) ∙ ap (λ (q : QuotaRow). q.state) (same_Some (g r) q e))
+
+pub queue_peaked : (K : Capacity) (nodes : List NodeRow) (m : ℕ) (quotas : List QuotaRow) (queue : List ℕ) → IsQueue quotas queue → IsQueue (map (peaked K nodes m) quotas) queue
+queue_peaked K nodes m quotas queue k = queue_mapped (peaked K nodes m) quotas queue (peaked_folder K nodes m) (peaked_state K nodes m) k
 
 -- the queue without a folder whose quota is gone
 apart_in : (n f : ℕ) (queue : List ℕ) → is_in (without_number n queue) f ≡ true → ((f == n) ≡ false) × (is_in queue f ≡ true)

@@ -3,27 +3,32 @@ use Rattle.std.proofs.Common.{◌≡◌, ℕ, ◌<◌, ◌≤◌, ◌==◌, Bool
 use Rattle.std.proofs.lemmas.List.{length-map}
 use Rattle.std.proofs.lemmas.Option.{same_Some}
 use Rattle.std.specs.Prelude.{filter, map, nat_lt, option_map}
+use Rattle.fsrm_model.specs.declared.command.Act.{Act}
 use Rattle.fsrm_model.specs.declared.row.Capacity.{Capacity}
 use Rattle.fsrm_model.specs.declared.row.NodeRow.{NodeRow}
 use Rattle.fsrm_model.specs.declared.row.QuotaRow.{QuotaRow}
 use Rattle.fsrm_base.specs.Keyed.{row_of, has_row, is_ascending, with_row, with_change, without_row}
-use Rattle.fsrm_model.specs.Limits.{most_quotas}
+use Rattle.fsrm_model.specs.Limits.{latest_moment, most_quotas}
 use Rattle.fsrm_model.specs.Quota.{folder_of, is_limit, counts, peaked}
+use Rattle.fsrm_model.specs.Thresholds.{are_thresholds}
 use Rattle.fsrm_model.specs.Tree.{is_folder, usage}
+use Rattle.fsrm_model.specs.Runs.{run_quota}
 use Rattle.fsrm_model.specs.Valid.{is_moment, AreQuotas}
 use Rattle.fsrm_base.proofs.Look.{new_found, changed_found, row_of-without, has_row-without, found_has, find-map}
 use Rattle.fsrm_base.proofs.Order.{ascending-with_row, ascending-change, ascending-filter, ascending-map, length-with_row, length-change}
 use Rattle.fsrm_model.proofs.commands.QuotaLaws.{peaked_folder}
+use Rattle.fsrm_model.proofs.thresholds.KeptLaws.{thresholds_run}
 use Rattle.fsrm_base.proofs.TestLaws.{is_or_not, clash, eq_is}
 
 -- what a quota has by itself
 pub record IsQuota (quota : QuotaRow) : Type 0 where
   pub limit : is_limit quota.limit ≡ true
+  pub thresholds : are_thresholds quota.thresholds ≡ true
   pub moment : is_moment quota.peak_at ≡ true
 
 pub quota_at : (nodes : List NodeRow) (quotas : List QuotaRow) (folder : ℕ) (quota : QuotaRow) → AreQuotas nodes quotas → row_of folder_of folder quotas ≡ Some quota → IsQuota quota
 quota_at nodes quotas folder quota a found =
-    record { limit = a.limits folder quota found; moment = a.moments folder quota found }
+    record { limit = a.limits folder quota found; thresholds = a.thresholds folder quota found; moment = a.moments folder quota found }
 
 quotas_of : (nodes : List NodeRow) (quotas : List QuotaRow) → is_ascending folder_of quotas ≡ true → length quotas ≤ most_quotas → ((folder : ℕ) (quota : QuotaRow) → row_of folder_of folder quotas ≡ Some quota → (is_folder nodes folder ≡ true) × IsQuota quota) → AreQuotas nodes quotas
 quotas_of nodes quotas asc few each =
@@ -32,6 +37,7 @@ quotas_of nodes quotas asc few each =
       few = few;
       folders = λ f q found. (each f q found).0;
       limits = λ f q found. (each f q found).1.limit;
+      thresholds = λ f q found. (each f q found).1.thresholds;
       moments = λ f q found. (each f q found).1.moment;
     }
 
@@ -87,7 +93,7 @@ peaked_is : (K : Capacity) (nodes : List NodeRow) (m : ℕ) (q : QuotaRow) → i
 peaked_is K nodes m q late is = at (counts q && nat_lt q.peak (usage K nodes q.folder))
   where
     at : (b : Bool) → IsQuota (cond b (record q { peak = usage K nodes q.folder; peak_at = m }) q)
-    at true = record { limit = is.limit; moment = late }
+    at true = record { limit = is.limit; thresholds = is.thresholds; moment = late }
     at false = is
 
 pub quotas-peaked : (K : Capacity) (nodes : List NodeRow) (quotas : List QuotaRow) (m : ℕ) → AreQuotas nodes quotas → is_moment m ≡ true → AreQuotas nodes (map (peaked K nodes m) quotas)
@@ -96,6 +102,14 @@ quotas-peaked K nodes quotas m a late =
     let finds = find-map (λ q. folder_of q == f) (peaked K nodes m) (λ q. ap (λ n. n == f) (peaked_folder K nodes m q)) quotas in
     let was = mapped (peaked K nodes m) (row_of folder_of f quotas) q (sym finds ∙ found) in
     (a.folders f was.0 was.1, subst IsQuota was.2 (peaked_is K nodes m was.0 late (quota_at nodes quotas f was.0 a was.1))))
+
+-- whose actions ran
+pub quotas-ran : (nodes : List NodeRow) (quotas : List QuotaRow) (m : ℕ) (acts : List Act) → AreQuotas nodes quotas → m ≤ latest_moment → AreQuotas nodes (map (run_quota m acts) quotas)
+quotas-ran nodes quotas m acts a late =
+    quotas_of nodes (map (run_quota m acts) quotas) (ascending-map folder_of (run_quota m acts) (λ q. refl) quotas a.ascending) (let few = a.few in omega (arith, length-map quotas (run_quota m acts))) (λ f q found.
+    let was = mapped (run_quota m acts) (row_of folder_of f quotas) q (sym (find-map (λ q. folder_of q == f) (run_quota m acts) (λ q. refl) quotas) ∙ found) in
+    let is = quota_at nodes quotas f was.0 a was.1 in
+    (a.folders f was.0 was.1, subst IsQuota was.2 (record { limit = is.limit; thresholds = thresholds_run m acts was.0.folder was.0.thresholds late is.thresholds; moment = is.moment })))
 
 -- on folders that are kept
 pub quotas_stay : (nodes new : List NodeRow) (quotas : List QuotaRow) → AreQuotas nodes quotas → ((f : ℕ) (q : QuotaRow) → row_of folder_of f quotas ≡ Some q → is_folder nodes f ≡ true → is_folder new f ≡ true) → AreQuotas new quotas

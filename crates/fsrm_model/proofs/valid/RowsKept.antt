@@ -1,59 +1,33 @@
 -- Rows stay those of a store if their nodes, quotas and scans do: over what a command makes of them, and over its end.
 use Rattle.std.proofs.Common.{◌≡◌, ℕ, zero, suc, ◌≤◌, ◌==◌, Bool, true, false, cond, not, ◌||◌, ◌&&◌, List, [], ◌∷◌, refl, ◌∙◌, ap, subst, arith, Some, None, Option}
-use Rattle.std.proofs.lemmas.List.Sums.{sum_by-cons}
-use Rattle.std.specs.Prelude.{is_none, map, sum_by, nat_lt, if◌then◌else◌}
+use Rattle.std.specs.Prelude.{map, sum_by, nat_lt, if◌then◌else◌}
 use Rattle.std.specs.List.{list_all}
 use Rattle.std.specs.Option.{option_map_or}
+use Rattle.fsrm_model.specs.declared.command.Act.{Act}
 use Rattle.fsrm_model.specs.declared.row.Capacity.{Capacity}
 use Rattle.fsrm_model.specs.declared.row.NodeRow.{NodeRow}
-use Rattle.fsrm_model.specs.declared.row.AutoRow.{AutoRow}
 use Rattle.fsrm_model.specs.declared.row.QuotaRow.{QuotaRow}
 use Rattle.fsrm_model.specs.declared.row.Rows.{Rows}
 use Rattle.fsrm_model.specs.declared.row.ScreenRow.{ScreenRow}
-use Rattle.fsrm_model.specs.declared.row.Threshold.{Threshold}
 use Rattle.fsrm_base.specs.Keyed.{with_row, with_change, without_row}
-use Rattle.fsrm_model.specs.Limits.{latest_moment}
+use Rattle.fsrm_model.specs.Limits.{latest_moment, most_minutes, most_text_bytes}
 use Rattle.fsrm_base.specs.Numbers.{is_in}
 use Rattle.fsrm_model.specs.Quota.{folder_of, counts, peaked, peaks}
 use Rattle.fsrm_model.specs.QuotaStates.{head, same_head, scan_begun, followed}
+use Rattle.fsrm_model.specs.Runs.{run_quota, run_screen, ran}
 use Rattle.fsrm_model.specs.Scan.{AreUnvisited, folders_under, visits}
-use Rattle.fsrm_model.specs.Texts.{texts_bytes, action_bytes, threshold_bytes, quota_bytes, template_bytes, group_bytes, job_bytes, object_texts}
+use Rattle.fsrm_model.specs.Texts.{action_bytes, quota_bytes, object_texts}
 use Rattle.fsrm_model.specs.Tree.{is_folder, usage}
-use Rattle.fsrm_model.specs.Valid.{is_empty, is_plain, IsVolume, AreQuotas, AreTables, IsValid}
+use Rattle.fsrm_model.specs.Valid.{is_plain, IsVolume, AreQuotas, AreTables, IsValid}
 use Rattle.fsrm_model.specs.ValidScans.{IsQueue, AreLeft}
 use Rattle.fsrm_base.proofs.Look.{has_found}
-use Rattle.fsrm_model.proofs.valid.QueueKept.{queue_peaked}
-use Rattle.fsrm_model.proofs.valid.QuotasKept.{quotas-peaked}
+use Rattle.fsrm_model.proofs.valid.QueueKept.{queue_peaked, queue_mapped}
+use Rattle.fsrm_model.proofs.valid.QuotasKept.{quotas-peaked, quotas-ran}
+use Rattle.fsrm_model.proofs.thresholds.KeptLaws.{sum_by-same, same_texts, bytes_run, log_run}
 use Rattle.fsrm_base.proofs.TestLaws.{both, both_true, eq_is, eq_same, le_test}
 use Rattle.fsrm_model.proofs.valid.UnvisitedKept.{unvisited_begun, unvisited_visits}
 
--- so far no object has a text
-plain_bytes : (quota : QuotaRow) → is_plain quota ≡ true → quota_bytes quota ≡ 0
-plain_bytes quota h = at quota.thresholds (is_none quota.template) h
-  where
-    at : (thresholds : List Threshold) (b : Bool) → (is_empty thresholds && b) ≡ true → threshold_bytes thresholds ≡ 0
-    at [] b h = refl
-    at (t ∷ thresholds) b h = absurd (cc h)
-
-no_bytes : (quotas : List QuotaRow) → list_all is_plain quotas ≡ true → sum_by quota_bytes quotas ≡ 0
-no_bytes [] h = refl
-no_bytes (quota ∷ quotas) h =
-    let parts : (is_plain quota ≡ true) × (list_all is_plain quotas ≡ true) = both _ _ h in
-    omega (arith, sum_by-cons quota_bytes quota quotas, plain_bytes quota parts.0, no_bytes quotas parts.1)
-
-no_texts : (R : Rows) → AreTables R → object_texts R ≡ 0
-no_texts R t =
-    omega (
-      arith,
-      no_bytes R.quotas t.plain,
-      ap (sum_by template_bytes) t.templates,
-      ap (sum_by (λ (auto : AutoRow). texts_bytes auto.excluded)) t.autos,
-      ap (sum_by group_bytes) t.groups,
-      ap (sum_by (λ (screen : ScreenRow). action_bytes screen.actions)) t.screens,
-      ap (sum_by job_bytes) t.jobs,
-    )
-
--- and a quota that comes or changes has none
+-- so far no quota has a template
 pub plain-new : (quota : QuotaRow) (quotas : List QuotaRow) → is_plain quota ≡ true → list_all is_plain quotas ≡ true → list_all is_plain (with_row folder_of quota quotas) ≡ true
 plain-new quota [] is h = both_true (is_plain quota) true is refl
 plain-new quota (q ∷ quotas) is h =
@@ -95,8 +69,8 @@ plain_peaked K nodes m quota h = at (counts quota && nat_lt quota.peak (usage K 
     at false = h
 
 -- other nodes, quotas and scans, and another last moment
-pub valid_with : (K : Capacity) (R : Rows) (nodes : List NodeRow) (quotas : List QuotaRow) (queue unvisited : List ℕ) (last : ℕ) → IsValid K R → IsVolume K nodes → AreQuotas nodes quotas → list_all is_plain quotas ≡ true → IsQueue quotas queue → AreLeft nodes (head queue) unvisited → last ≤ latest_moment → IsValid K (record R { nodes = nodes; quotas = quotas; queue = queue; unvisited = unvisited; last_moment = last })
-valid_with K R nodes quotas queue unvisited last s volume are plain waits left late =
+pub valid_with : (K : Capacity) (R : Rows) (nodes : List NodeRow) (quotas : List QuotaRow) (queue unvisited : List ℕ) (last : ℕ) → IsValid K R → IsVolume K nodes → AreQuotas nodes quotas → list_all is_plain quotas ≡ true → object_texts (record R { quotas = quotas }) ≤ most_text_bytes → IsQueue quotas queue → AreLeft nodes (head queue) unvisited → last ≤ latest_moment → IsValid K (record R { nodes = nodes; quotas = quotas; queue = queue; unvisited = unvisited; last_moment = last })
+valid_with K R nodes quotas queue unvisited last s volume are plain few waits left late =
     let E : Rows = record R { nodes = nodes; quotas = quotas; queue = queue; unvisited = unvisited; last_moment = last } in
     let t : AreTables E = record {
       plain = plain;
@@ -106,14 +80,14 @@ valid_with K R nodes quotas queue unvisited last s volume are plain waits left l
       screens = s.tables.screens;
       excepts = s.tables.excepts;
       jobs = s.tables.jobs;
-      acts = s.tables.acts;
       audits = s.tables.audits;
     } in
     record {
       volume = volume;
       quotas = are;
       tables = t;
-      texts = omega (arith, no_texts E t);
+      texts = few;
+      log = s.log;
       run_limit = s.run_limit;
       last_moment = late;
       queue = waits;
@@ -152,32 +126,93 @@ left_visits k nodes None left a = ap (visits k nodes) a ∙ none_visited k nodes
 left_visits k nodes (Some n) left a = unvisited_visits k nodes n left a
 
 -- a command changes quotas and the queue
-pub quotas_followed : (K : Capacity) (R : Rows) (quotas : List QuotaRow) (queue : List ℕ) → IsValid K R → AreQuotas R.nodes quotas → list_all is_plain quotas ≡ true → IsQueue quotas queue → IsValid K (followed R (record R { quotas = quotas; queue = queue }))
-quotas_followed K R quotas queue s are plain waits =
-    valid_with K R R.nodes quotas queue (if same_head R.queue queue then R.unvisited else scan_begun R.nodes queue) R.last_moment s s.volume are plain waits
+pub quotas_followed : (K : Capacity) (R : Rows) (quotas : List QuotaRow) (queue : List ℕ) → IsValid K R → AreQuotas R.nodes quotas → list_all is_plain quotas ≡ true → object_texts (record R { quotas = quotas }) ≤ most_text_bytes → IsQueue quotas queue → IsValid K (followed R (record R { quotas = quotas; queue = queue }))
+quotas_followed K R quotas queue s are plain few waits =
+    valid_with K R R.nodes quotas queue (if same_head R.queue queue then R.unvisited else scan_begun R.nodes queue) R.last_moment s s.volume are plain few waits
     (left_followed K R.nodes R.queue queue R.unvisited s.volume (λ same. subst (λ (o : Option ℕ). AreLeft R.nodes o R.unvisited) (same_heads R.queue queue same) s.unvisited))
     s.last_moment
 
 -- or nothing
 pub nothing_followed : (K : Capacity) (R : Rows) → IsValid K R → IsValid K (followed R R)
-nothing_followed K R s = quotas_followed K R R.quotas R.queue s s.quotas s.tables.plain s.queue
+nothing_followed K R s = quotas_followed K R R.quotas R.queue s s.quotas s.tables.plain s.texts s.queue
 
--- the end of a command that lasts
-pub valid_ended : (K : Capacity) (R : Rows) (moment : ℕ) → IsValid K R → moment ≤ latest_moment → IsValid K (record (peaks K R moment) { last_moment = moment })
-valid_ended K R moment s late =
+-- peaks that are raised, and another last moment
+peaked_bytes : (K : Capacity) (nodes : List NodeRow) (m : ℕ) (quota : QuotaRow) → quota_bytes (peaked K nodes m quota) ≡ quota_bytes quota
+peaked_bytes K nodes m quota = at (counts quota && nat_lt quota.peak (usage K nodes quota.folder))
+  where
+    at : (b : Bool) → quota_bytes (cond b (record quota { peak = usage K nodes quota.folder; peak_at = m }) quota) ≡ quota_bytes quota
+    at true = refl
+    at false = refl
+
+pub valid_peaked : (K : Capacity) (R : Rows) (moment : ℕ) → IsValid K R → moment ≤ latest_moment → IsValid K (record (peaks K R moment) { last_moment = moment })
+valid_peaked K R moment s late =
     valid_with K R R.nodes (peaks K R moment).quotas R.queue R.unvisited moment s s.volume
     (quotas-peaked K R.nodes R.quotas moment s.quotas (le_test moment latest_moment late))
     (plain-map (peaked K R.nodes moment) R.quotas (plain_peaked K R.nodes moment) s.tables.plain)
+    (same_texts R (peaks K R moment).quotas (sum_by-same quota_bytes (peaked K R.nodes moment) (peaked_bytes K R.nodes moment) R.quotas) s.texts)
     (queue_peaked K R.nodes moment R.quotas R.queue s.queue) s.unvisited late
+
+-- actions that ran
+pub valid_ran : (K : Capacity) (R : Rows) (moment : ℕ) (acts : List Act) → IsValid K R → moment ≤ latest_moment → IsValid K (ran moment acts R)
+valid_ran K R moment acts s late =
+    record {
+      volume = s.volume;
+      quotas = quotas-ran R.nodes R.quotas moment acts s.quotas late;
+      tables = record {
+        plain = plain-map (run_quota moment acts) R.quotas (λ q is. is) s.tables.plain;
+        templates = s.tables.templates;
+        autos = s.tables.autos;
+        groups = s.tables.groups;
+        screens = ap (map (run_screen moment acts)) s.tables.screens;
+        excepts = s.tables.excepts;
+        jobs = s.tables.jobs;
+        audits = s.tables.audits;
+      };
+      texts = omega (arith, s.texts, sum_by-same quota_bytes (run_quota moment acts) (bytes_run moment acts) R.quotas, ap (λ screens. sum_by (λ (screen : ScreenRow). action_bytes screen.actions) (map (run_screen moment acts) screens)) s.tables.screens);
+      log = log_run moment acts R late s.log;
+      run_limit = s.run_limit;
+      last_moment = s.last_moment;
+      queue = queue_mapped (run_quota moment acts) R.quotas R.queue (λ q. refl) (λ q. refl) s.queue;
+      unvisited = s.unvisited;
+    }
+
+-- the end of a command that lasts
+pub valid_ended : (K : Capacity) (R : Rows) (moment : ℕ) (acts : List Act) → IsValid K R → moment ≤ latest_moment → IsValid K (record (ran moment acts (peaks K R moment)) { last_moment = moment })
+valid_ended K R moment acts s late = valid_ran K (record (peaks K R moment) { last_moment = moment }) moment acts (valid_peaked K R moment s late) late
+
+-- another run limit alone
+pub run_limit_followed : (K : Capacity) (R : Rows) (minutes : ℕ) → IsValid K R → minutes ≤ most_minutes → IsValid K (followed R (record R { run_limit = minutes }))
+run_limit_followed K R minutes s few =
+    let v = nothing_followed K R s in
+    record {
+      volume = v.volume;
+      quotas = v.quotas;
+      tables = record {
+        plain = v.tables.plain;
+        templates = v.tables.templates;
+        autos = v.tables.autos;
+        groups = v.tables.groups;
+        screens = v.tables.screens;
+        excepts = v.tables.excepts;
+        jobs = v.tables.jobs;
+        audits = v.tables.audits;
+      };
+      texts = v.texts;
+      log = v.log;
+      run_limit = few;
+      last_moment = v.last_moment;
+      queue = v.queue;
+      unvisited = v.unvisited;
+    }
 
 -- another last moment alone
 pub valid_at : (K : Capacity) (R : Rows) (moment : ℕ) → IsValid K R → moment ≤ latest_moment → IsValid K (record R { last_moment = moment })
-valid_at K R moment s late = valid_with K R R.nodes R.quotas R.queue R.unvisited moment s s.volume s.quotas s.tables.plain s.queue s.unvisited late
+valid_at K R moment s late = valid_with K R R.nodes R.quotas R.queue R.unvisited moment s s.volume s.quotas s.tables.plain s.texts s.queue s.unvisited late
 
 -- visits alone
 pub valid_visited : (K : Capacity) (R : Rows) (n : ℕ) → IsValid K R → IsValid K (record R { unvisited = visits n R.nodes R.unvisited })
 valid_visited K R n s =
-    valid_with K R R.nodes R.quotas R.queue (visits n R.nodes R.unvisited) R.last_moment s s.volume s.quotas s.tables.plain s.queue
+    valid_with K R R.nodes R.quotas R.queue (visits n R.nodes R.unvisited) R.last_moment s s.volume s.quotas s.tables.plain s.texts s.queue
     (left_visits n R.nodes (head R.queue) R.unvisited s.unvisited) s.last_moment
 
 -- the folder of the active scan

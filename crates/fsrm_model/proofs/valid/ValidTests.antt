@@ -14,8 +14,9 @@ use Rattle.fsrm_model.specs.Quota.{folder_of, is_limit}
 use Rattle.fsrm_model.specs.QuotaStates.{is_rebuilding, head}
 use Rattle.fsrm_model.specs.Scan.{are_unvisited, AreUnvisited}
 use Rattle.fsrm_model.specs.Texts.{object_texts}
+use Rattle.fsrm_model.specs.Thresholds.{are_thresholds}
 use Rattle.fsrm_model.specs.Tree.{number, is_folder, is_under}
-use Rattle.fsrm_model.specs.Valid.{is_moment, is_tree, is_empty, is_plain, is_sound_quota, are_quotas, AreQuotas, are_tables, AreTables, is_valid, IsValid}
+use Rattle.fsrm_model.specs.Valid.{is_moment, is_tree, is_empty, is_plain, is_sound_quota, are_quotas, AreQuotas, are_tables, AreTables, are_entries, is_valid, IsValid}
 use Rattle.fsrm_model.specs.ValidScans.{is_waiting, is_queue, IsQueue, are_left, AreLeft}
 use Rattle.fsrm_model.proofs.nodes.Keeps.{folder_found, found_folder}
 use Rattle.fsrm_base.proofs.Look.{found_key, found_has, has_found}
@@ -44,13 +45,15 @@ all_by p (k ∷ ns) h =
 record QuotaParts (nodes : List NodeRow) (quota : QuotaRow) : Type 0 where
   folder : is_folder nodes quota.folder ≡ true
   limit : is_limit quota.limit ≡ true
+  thresholds : are_thresholds quota.thresholds ≡ true
   moment : is_moment quota.peak_at ≡ true
 
 quota_parts : (nodes : List NodeRow) (quota : QuotaRow) → is_sound_quota nodes quota ≡ true → QuotaParts nodes quota
 quota_parts nodes quota h =
-    let place : (is_folder nodes quota.folder ≡ true) × ((is_limit quota.limit && is_moment quota.peak_at) ≡ true) = both _ _ h in
-    let values : (is_limit quota.limit ≡ true) × (is_moment quota.peak_at ≡ true) = both _ _ place.1 in
-    record { folder = place.0; limit = values.0; moment = values.1 }
+    let place : (is_folder nodes quota.folder ≡ true) × ((is_limit quota.limit && (are_thresholds quota.thresholds && is_moment quota.peak_at)) ≡ true) = both _ _ h in
+    let values : (is_limit quota.limit ≡ true) × ((are_thresholds quota.thresholds && is_moment quota.peak_at) ≡ true) = both _ _ place.1 in
+    let more : (are_thresholds quota.thresholds ≡ true) × (is_moment quota.peak_at ≡ true) = both _ _ values.1 in
+    record { folder = place.0; limit = values.0; thresholds = more.0; moment = more.1 }
 
 pub quotas_by_test : (nodes : List NodeRow) (quotas : List QuotaRow) → are_quotas nodes quotas ≡ true → AreQuotas nodes quotas
 quotas_by_test nodes quotas h =
@@ -62,6 +65,7 @@ quotas_by_test nodes quotas h =
       few = le_is _ _ table.1;
       folders = λ f q found. subst (λ n. is_folder nodes n ≡ true) (found_key folder_of f quotas q found) (parts f q found).folder;
       limits = λ f q found. (parts f q found).limit;
+      thresholds = λ f q found. (parts f q found).thresholds;
       moments = λ f q found. (parts f q found).moment;
     }
 
@@ -70,8 +74,9 @@ test_by_quotas nodes quotas a =
     both_true (is_ascending folder_of quotas && nat_le (length quotas) most_quotas) (list_all (is_sound_quota nodes) quotas)
     (both_true (is_ascending folder_of quotas) (nat_le (length quotas) most_quotas) a.ascending (le_test _ _ a.few))
     (all_pass folder_of (is_sound_quota nodes) quotas a.ascending (λ q own.
-    both_true (is_folder nodes q.folder) (is_limit q.limit && is_moment q.peak_at) (a.folders q.folder q own)
-    (both_true (is_limit q.limit) (is_moment q.peak_at) (a.limits q.folder q own) (a.moments q.folder q own))))
+    both_true (is_folder nodes q.folder) (is_limit q.limit && (are_thresholds q.thresholds && is_moment q.peak_at)) (a.folders q.folder q own)
+    (both_true (is_limit q.limit) (are_thresholds q.thresholds && is_moment q.peak_at) (a.limits q.folder q own)
+    (both_true (are_thresholds q.thresholds) (is_moment q.peak_at) (a.thresholds q.folder q own) (a.moments q.folder q own)))))
 
 -- the queue
 waiting_has : (quotas : List QuotaRow) (folder : ℕ) (o : Option QuotaRow) → row_of folder_of folder quotas ≡ o → option_map_or (λ quota. is_rebuilding quota.state) o false ≡ true → has_row folder_of folder quotas ≡ true
@@ -163,15 +168,13 @@ pub tables_by_test : (R : Rows) → are_tables R ≡ true → AreTables R
 tables_by_test R h =
     let three = is_empty R.templates && (is_empty R.autos && is_empty R.groups) in
     let six = is_empty R.screens && (is_empty R.excepts && is_empty R.jobs) in
-    let both_logs = is_empty R.acts && is_empty R.audits in
-    let quotas : (list_all is_plain R.quotas ≡ true) × ((three && (six && both_logs)) ≡ true) = both _ _ h in
-    let halves : (three ≡ true) × ((six && both_logs) ≡ true) = both _ _ quotas.1 in
+    let quotas : (list_all is_plain R.quotas ≡ true) × ((three && (six && is_empty R.audits)) ≡ true) = both _ _ h in
+    let halves : (three ≡ true) × ((six && is_empty R.audits) ≡ true) = both _ _ quotas.1 in
     let one : (is_empty R.templates ≡ true) × ((is_empty R.autos && is_empty R.groups) ≡ true) = both _ _ halves.0 in
     let two : (is_empty R.autos ≡ true) × (is_empty R.groups ≡ true) = both _ _ one.1 in
-    let rest : (six ≡ true) × (both_logs ≡ true) = both _ _ halves.1 in
+    let rest : (six ≡ true) × (is_empty R.audits ≡ true) = both _ _ halves.1 in
     let four : (is_empty R.screens ≡ true) × ((is_empty R.excepts && is_empty R.jobs) ≡ true) = both _ _ rest.0 in
     let five : (is_empty R.excepts ≡ true) × (is_empty R.jobs ≡ true) = both _ _ four.1 in
-    let logs : (is_empty R.acts ≡ true) × (is_empty R.audits ≡ true) = both _ _ rest.1 in
     record {
       plain = quotas.0;
       templates = empty_is R.templates one.0;
@@ -180,30 +183,31 @@ tables_by_test R h =
       screens = empty_is R.screens four.0;
       excepts = empty_is R.excepts five.0;
       jobs = empty_is R.jobs five.1;
-      acts = empty_is R.acts logs.0;
-      audits = empty_is R.audits logs.1;
+      audits = empty_is R.audits rest.1;
     }
 
 pub test_by_tables : (R : Rows) → AreTables R → are_tables R ≡ true
-test_by_tables R t = rw (t.plain, t.templates, t.autos, t.groups, t.screens, t.excepts, t.jobs, t.acts, t.audits) refl
+test_by_tables R t = rw (t.plain, t.templates, t.autos, t.groups, t.screens, t.excepts, t.jobs, t.audits) refl
 
 -- all of it
 pub valid_by_test : (K : Capacity) (R : Rows) → is_valid K R ≡ true → IsValid K R
 valid_by_test K R h =
     let scans = is_queue R.quotas R.queue && are_left R.nodes (head R.queue) R.unvisited in
-    let settings = nat_le R.run_limit most_minutes && is_moment R.last_moment in
+    let settings = are_entries R.acts && (nat_le R.run_limit most_minutes && is_moment R.last_moment) in
     let halves : ((is_tree K R.nodes && (are_quotas R.nodes R.quotas && are_tables R)) ≡ true) × (((nat_le (object_texts R) most_text_bytes && settings) && scans) ≡ true) = both _ _ h in
     let nodes : (is_tree K R.nodes ≡ true) × ((are_quotas R.nodes R.quotas && are_tables R) ≡ true) = both _ _ halves.0 in
     let objects : (are_quotas R.nodes R.quotas ≡ true) × (are_tables R ≡ true) = both _ _ nodes.1 in
     let rest : ((nat_le (object_texts R) most_text_bytes && settings) ≡ true) × (scans ≡ true) = both _ _ halves.1 in
     let sizes : (nat_le (object_texts R) most_text_bytes ≡ true) × (settings ≡ true) = both _ _ rest.0 in
-    let set : (nat_le R.run_limit most_minutes ≡ true) × (is_moment R.last_moment ≡ true) = both _ _ sizes.1 in
+    let logged : (are_entries R.acts ≡ true) × ((nat_le R.run_limit most_minutes && is_moment R.last_moment) ≡ true) = both _ _ sizes.1 in
+    let set : (nat_le R.run_limit most_minutes ≡ true) × (is_moment R.last_moment ≡ true) = both _ _ logged.1 in
     let waits : (is_queue R.quotas R.queue ≡ true) × (are_left R.nodes (head R.queue) R.unvisited ≡ true) = both _ _ rest.1 in
     record {
       volume = volume_of_tree K R.nodes nodes.0;
       quotas = quotas_by_test R.nodes R.quotas objects.0;
       tables = tables_by_test R objects.1;
       texts = le_is _ _ sizes.0;
+      log = logged.0;
       run_limit = le_is _ _ set.0;
       last_moment = le_is _ _ set.1;
       queue = queue_by_test R.quotas R.queue waits.0;
@@ -212,18 +216,19 @@ valid_by_test K R h =
 
 pub test_by_valid : (K : Capacity) (R : Rows) → IsValid K R → is_valid K R ≡ true
 test_by_valid K R s =
-    joined (is_tree K R.nodes) (are_quotas R.nodes R.quotas) (are_tables R) (nat_le (object_texts R) most_text_bytes) (nat_le R.run_limit most_minutes) (is_moment R.last_moment) (is_queue R.quotas R.queue) (are_left R.nodes (head R.queue) R.unvisited)
+    joined (is_tree K R.nodes) (are_quotas R.nodes R.quotas) (are_tables R) (nat_le (object_texts R) most_text_bytes) (are_entries R.acts) (nat_le R.run_limit most_minutes) (is_moment R.last_moment) (is_queue R.quotas R.queue) (are_left R.nodes (head R.queue) R.unvisited)
     (tree_of_volume K R.nodes s.volume)
     (test_by_quotas R.nodes R.quotas s.quotas)
     (test_by_tables R s.tables)
     (le_test _ _ s.texts)
+    s.log
     (le_test _ _ s.run_limit)
     (le_test _ _ s.last_moment)
     (test_by_queue R.quotas R.queue s.quotas.ascending s.queue)
     (test_by_left R.nodes (head R.queue) R.unvisited s.volume.ascending s.unvisited)
   where
-    joined : (a b c d e f g i : Bool) → a ≡ true → b ≡ true → c ≡ true → d ≡ true → e ≡ true → f ≡ true → g ≡ true → i ≡ true → ((a && (b && c)) && ((d && (e && f)) && (g && i))) ≡ true
-    joined a b c d e f g i ha hb hc hd he hf hg hi = rw (ha, hb, hc, hd, he, hf, hg, hi) refl
+    joined : (a b c d l e f g i : Bool) → a ≡ true → b ≡ true → c ≡ true → d ≡ true → l ≡ true → e ≡ true → f ≡ true → g ≡ true → i ≡ true → ((a && (b && c)) && ((d && (l && (e && f))) && (g && i))) ≡ true
+    joined a b c d l e f g i ha hb hc hd hl he hf hg hi = rw (ha, hb, hc, hd, hl, he, hf, hg, hi) refl
 
 -- the rows of a new store are valid
 pub new_valid : (K : Capacity) → 0 < K.nodes → IsValid K new_rows

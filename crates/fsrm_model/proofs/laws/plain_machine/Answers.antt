@@ -1,7 +1,7 @@
 use Rattle.std.proofs.Common.{ap, Some, None}
 use Rattle.std.specs.Prelude.{Err, Ok}
 use Rattle.fsrm_model.specs.Script.{Replied, without_cr}
-use Rattle.fsrm_model.proofs.commands.EachCommand.{refused_or_exception, no_exception, sum_fresh}
+use Rattle.fsrm_model.proofs.commands.EachCommand.{refused_or_exception, refused_leaves, sum_fresh}
 use Rattle.fsrm_model.proofs.lines.PlainMachine.{replied-read}
 use Rattle.fsrm_model.proofs.lines.SpellingLaws.{spelled_reads, skips_read}
 use Rattle.fsrm_model.proofs.laws.plain_machine.Goals as goal
@@ -15,8 +15,11 @@ returns-clause-unread_text c = λ K R n line refusal e. ap (λ (r : Replied). r.
 pub returns-clause-refused : goal.returns-clause-refused
 returns-clause-refused c = refused_or_exception
 
-pub returns-clause-no_exception : goal.returns-clause-no_exception
-returns-clause-no_exception c = no_exception
+pub returns-clause-left : goal.returns-clause-left
+returns-clause-left c = λ K R command refusal h. (refused_leaves K R command refusal h).rows_are
+
+pub returns-clause-runs : goal.returns-clause-runs
+returns-clause-runs c = λ K R command refusal h. let left = refused_leaves K R command refusal h in (left.acts_are, left.lasts)
 
 pub returns-clause-sum : goal.returns-clause-sum
 returns-clause-sum c = sum_fresh

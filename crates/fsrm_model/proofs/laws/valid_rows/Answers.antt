@@ -30,3 +30,11 @@ returns-clause-queues c = refl
 pub returns-clause-unvisited : goal.returns-clause-unvisited
 unfolding simple_folding simple_folding_rows value_in chars is_utf8 utf8_valid_len lib.Utf8.encode
 returns-clause-unvisited c = refl
+
+pub returns-clause-thresholds : goal.returns-clause-thresholds
+unfolding simple_folding simple_folding_rows value_in chars is_utf8 utf8_valid_len lib.Utf8.encode
+returns-clause-thresholds c = refl
+
+pub returns-clause-wrong_thresholds : goal.returns-clause-wrong_thresholds
+unfolding simple_folding simple_folding_rows value_in chars is_utf8 utf8_valid_len lib.Utf8.encode
+returns-clause-wrong_thresholds c = refl
