@@ -1,2 +1,3 @@
 pub mod QuotaRows
 pub mod FaultLaws
+pub mod RunRows

@@ -13,6 +13,7 @@ use Rattle.fsrm_base.specs.Places.{IsAt, IsGap}
 use Rattle.fsrm_model.specs.Limits.{most_quotas, longest_action_text}
 use Rattle.fsrm_model.specs.Quota.{folder_of}
 use Rattle.fsrm_model.specs.Texts.{action_bytes, quota_bytes}
+use Rattle.fsrm_model.specs.Thresholds.{are_too_many, is_crowded}
 use Rattle.fsrm_base.proofs.EditedRows.{sum_by-with_row, sum_by-with_change, sum_by-without_row}
 use Rattle.fsrm_base.proofs.EditedTests.{list_all-with_row, list_all-with_change, list_all-filter}
 use Rattle.fsrm_base.proofs.Look.{none_row, is_some-find}
@@ -21,7 +22,7 @@ use Rattle.fsrm_base.proofs.SortedRows.{row_found, set_found, remove_found, inse
 use Rattle.fsrm_base.proofs.Sums.{sum_by_within}
 use Rattle.fsrm_base.proofs.TestLaws.{both, both_true, ge_is, le_is, le_test, neither}
 use Rattle.fsrm_objects.specs.Kept.{AreCounted, AreSmallQuotas, is_small, most_quota_bytes}
-use Rattle.fsrm_objects.specs.Tables.{Tables, has_long_list, has_short_texts, is_crowded, is_short, quota_texts}
+use Rattle.fsrm_objects.specs.Tables.{Tables, has_short_texts, is_short, quota_texts}
 
 -- ---- a quota whose lists and texts aren't too long is small
 actions_small : (actions : List Action) → length actions ≤ 8 → list_all is_short actions ≡ true → action_bytes actions ≤ 8192
@@ -34,7 +35,7 @@ each_small (threshold ∷ thresholds) few short =
     let texts = both (list_all is_short threshold.actions) _ short in
     both_true _ _ (le_test _ 8192 (actions_small threshold.actions (ge_is 8 (length threshold.actions) its.0) texts.0)) (each_small thresholds its.1 texts.1)
 
-pub quota_small : (row : QuotaRow) → has_long_list row ≡ false → has_short_texts row ≡ true → is_small row ≡ true
+pub quota_small : (row : QuotaRow) → are_too_many row.thresholds ≡ false → has_short_texts row ≡ true → is_small row ≡ true
 quota_small row few short =
     let its = neither _ (list_any is_crowded row.thresholds) few in
     let least : length row.thresholds ≤ 16 = ge_is 16 (length row.thresholds) its.0 in

@@ -1,17 +1,18 @@
 -- The tables of objects, and why a row is refused.
-use Rattle.std.specs.Prelude.{◌≡◌, ℕ, ◌+◌, ◌||◌, nat_lt, nat_le, Bool, List, [], ◌∷◌, length, sum_by, Option, Some, None}
-use Rattle.std.specs.List.{list_all, list_any}
+use Rattle.std.specs.Prelude.{◌≡◌, ℕ, zero, suc, ◌+◌, ◌<◌, nat_lt, nat_le, Bool, true, List, [], ◌∷◌, length, sum_by, Option, Some, None}
+use Rattle.std.specs.List.{list_all}
 use Rattle.std.specs.Option.{option_map_or}
 use Rattle.fsrm_base.specs.Causes.{◌when◌, first}
-use Rattle.fsrm_base.specs.Keyed.{has_row, row_of, with_row, with_change, without_row}
+use Rattle.fsrm_base.specs.Keyed.{has_row, row_of, is_ascending, with_row, with_change, without_row}
 use Rattle.fsrm_model.specs.declared.row.Action.{Action}
 use Rattle.fsrm_model.specs.declared.row.QuotaRow.{QuotaRow}
 use Rattle.fsrm_model.specs.declared.row.QuotaState.{QuotaState}
 use Rattle.fsrm_model.specs.declared.row.Threshold.{Threshold}
-use Rattle.fsrm_model.specs.Limits.{most_quotas, most_thresholds, most_actions, longest_action_text}
+use Rattle.fsrm_model.specs.Limits.{most_quotas, longest_action_text}
 use Rattle.fsrm_model.specs.Quota.{folder_of}
 use Rattle.fsrm_model.specs.QuotaStates.{in_state}
 use Rattle.fsrm_model.specs.Texts.{quota_bytes}
+use Rattle.fsrm_model.specs.Thresholds.{percent_of, actions_at, are_too_many}
 use Rattle.fsrm_objects.specs.declared.answer.ObjectFault.{ObjectFault}
 use Rattle.fsrm_objects.specs.declared.answer.ObjectFault.TheVariants.{AlreadyExists, OutOfRange, TableFull, TextsFull, NoMemory}
 
@@ -35,13 +36,6 @@ IsFault TableFull due = due ≡ Some TableFull
 IsFault TextsFull due = due ≡ Some TextsFull
 IsFault NoMemory due = due ≡ None
 
--- whether a list of a quota is longer than it may be
-abbrev pub is_crowded : Threshold → Bool
-is_crowded threshold = nat_lt most_actions (length threshold.actions)
-
-abbrev pub has_long_list : QuotaRow → Bool
-has_long_list row = nat_lt most_thresholds (length row.thresholds) || list_any is_crowded row.thresholds
-
 -- whether no text of a quota's actions is longer than it may be
 abbrev pub is_short : Action → Bool
 is_short action = nat_le (length action.text) longest_action_text
@@ -53,7 +47,7 @@ has_short_texts row = list_all (λ threshold. list_all is_short threshold.action
 abbrev pub quota_fault : Tables → QuotaRow → ℕ → Option ObjectFault
 quota_fault tables row room =
     first ((AlreadyExists when has_row folder_of row.folder tables.quotas)
-    ∷ (OutOfRange when has_long_list row)
+    ∷ (OutOfRange when are_too_many row.thresholds)
     ∷ (TableFull when nat_le most_quotas (length tables.quotas))
     ∷ (TextsFull when nat_lt room (quota_bytes row)) ∷ [])
 
@@ -64,7 +58,7 @@ texts_at tables folder = option_map_or quota_bytes (row_of folder_of folder tabl
 -- why a quota can't take the place of its folder's, whose texts it replaces
 abbrev pub other_fault : Tables → QuotaRow → ℕ → Option ObjectFault
 other_fault tables row room =
-    first ((OutOfRange when has_long_list row)
+    first ((OutOfRange when are_too_many row.thresholds)
     ∷ (TextsFull when nat_lt (room + texts_at tables row.folder) (quota_bytes row)) ∷ [])
 
 -- ---- edits
@@ -86,3 +80,27 @@ with_state tables folder state = record tables { quotas = with_change folder_of 
 
 abbrev pub without_quota : Tables → ℕ → Tables
 without_quota tables folder = record tables { quotas = without_row folder_of folder tables.quotas }
+
+-- actions of which the one at a place ran at a moment, and a quota of which the one at a place of a percentage did
+abbrev pub ran_at : ℕ → ℕ → List Action → List Action
+ran_at moment place [] = []
+ran_at moment zero (action ∷ actions) = record action { last_run = Some moment } ∷ actions
+ran_at moment (suc place) (action ∷ actions) = action ∷ ran_at moment place actions
+
+abbrev pub run_threshold_at : ℕ → ℕ → Threshold → Threshold
+run_threshold_at moment place threshold = record threshold { actions = ran_at moment place threshold.actions }
+
+abbrev pub run_quota_at : ℕ → ℕ → ℕ → QuotaRow → QuotaRow
+run_quota_at moment percent place quota =
+    record quota { thresholds = with_change percent_of percent (run_threshold_at moment place) quota.thresholds }
+
+abbrev pub with_run : Tables → ℕ → ℕ → ℕ → ℕ → Tables
+with_run tables folder percent place moment =
+    record tables { quotas = with_change folder_of folder (run_quota_at moment percent place) tables.quotas }
+
+-- a folder has a quota whose percentages ascend, and one of these has an action at a place
+pub record HasAction (tables : Tables) (folder percent place : ℕ) : Type 0 where
+  pub quota : QuotaRow
+  pub is_there : row_of folder_of folder tables.quotas ≡ Some quota
+  pub ascending : is_ascending percent_of quota.thresholds ≡ true
+  pub within : place < length (actions_at quota.thresholds percent)

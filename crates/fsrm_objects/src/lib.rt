@@ -6,7 +6,9 @@
 
 mod answer;
 mod objects;
+mod runs;
 mod texts;
 
 pub use answer::ObjectFault;
 pub use objects::Objects;
+pub use runs::ByPercent;

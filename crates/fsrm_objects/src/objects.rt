@@ -1,14 +1,16 @@
 //! The tables of objects.
 
-ghost use Rattle.std.specs.Prelude.{◌≡◌, ◌<◌, IfOk, IfErr, MatchOption, OnOk, OnErr, [], None, Some, true, false, length, slice_get};
+ghost use Rattle.std.specs.Prelude.{◌≡◌, ◌<◌, ◌≤◌, IfOk, IfErr, MatchOption, OnOk, OnErr, [], None, Some, true, false, length, slice_get};
 ghost use Rattle.std.specs.Option.{option_copied};
 ghost use Rattle.fsrm_base.specs.Keyed.{row_of, has_row};
+ghost use Rattle.fsrm_model.specs.Limits.{most_quotas};
 ghost use Rattle.fsrm_model.specs.Quota.{folder_of};
 ghost use Rattle.fsrm_model.specs.Texts.{quota_bytes};
 ghost use Rattle.fsrm_base.specs.Places.{IsAt};
-ghost use Rattle.fsrm_objects.specs.Tables.{IsFault, has_short_texts, other_fault, quota_fault, texts_in, with_quota, with_other, with_peak, with_state, without_quota};
+ghost use Rattle.fsrm_objects.specs.Tables.{IsFault, has_short_texts, HasAction, other_fault, quota_fault, texts_in, with_quota, with_other, with_peak, with_run, with_state, without_quota};
 
 use crate::answer::ObjectFault;
+use crate::runs::note_run;
 use crate::texts::{has_long_list, left_of_quota, texts_of};
 use fsrm_model::limits::MOST_QUOTAS;
 use fsrm_model::{QuotaRow, QuotaState};
@@ -113,17 +115,31 @@ impl Objects {
         ensures refused { IfErr result (λ fault. other_fault self.old row room ≡ Some fault) }
         ensures err { OnErr result (self.new ≡ self.old) }
     {
-        if has_long_list(&row) {
+        self.may_set(&row, room)?;
+        let place = self.place(row.folder).unwrap();
+        let replaced = texts_of(&self.quotas[place]);
+        let bytes = texts_of(&row);
+        self.texts = self.texts - replaced + bytes;
+        self.quotas[place] = row;
+        Ok(())
+    }
+
+    /// Whether a folder's quota may get this one in its place, as `set_quota` judges it.
+    pub fn may_set(&self, row: &QuotaRow, room: u32) -> Result<(), ObjectFault>
+        requires there { has_row folder_of row.now.folder self.now.quotas ≡ true }
+        requires texts { has_short_texts row.now ≡ true }
+        ensures may { OnOk result (other_fault self.now row.now room ≡ None) }
+        ensures refused { IfErr result (λ fault. other_fault self.now row.now room ≡ Some fault) }
+    {
+        if has_long_list(row) {
             return Err(ObjectFault::OutOfRange);
         }
         let place = self.place(row.folder).unwrap();
         let replaced = texts_of(&self.quotas[place]);
-        let bytes = texts_of(&row);
+        let bytes = texts_of(row);
         if bytes.saturating_sub(replaced) > room {
             return Err(ObjectFault::TextsFull);
         }
-        self.texts = self.texts - replaced + bytes;
-        self.quotas[place] = row;
         Ok(())
     }
 
@@ -158,6 +174,17 @@ impl Objects {
         self.quotas[place].state = state;
     }
 
+    /// Notes that an action of a folder's quota ran at a moment: the one at a place, from 0, of the
+    /// threshold of a percentage.
+    pub fn set_run(&mut self, folder: u32, percent: u16, place: u16, moment: u64)
+        requires { HasAction self.old folder percent place }
+        ensures { self.new ≡ with_run self.old folder percent place moment }
+    {
+        let at = self.place(folder).unwrap();
+        let quota = &mut self.quotas[at];
+        note_run(&mut quota.thresholds, percent, place, moment);
+    }
+
     /// A folder's quota.
     pub fn quota(&self, folder: u32) -> Option<&QuotaRow>
         ensures { option_copied result ≡ row_of folder_of folder self.now.quotas }
@@ -178,6 +205,15 @@ impl Objects {
         ensures { result ≡ length self.now.quotas }
     {
         self.quotas.len() as u32
+    }
+
+    /// The place of a folder's quota, from 0, in the order of the folders' numbers: below 4,096.
+    pub fn quota_place(&self, folder: u32) -> Option<u32>
+        ensures place { MatchOption result (has_row folder_of folder self.now.quotas ≡ false) (IsAt folder_of folder self.now.quotas) }
+        ensures few { length self.now.quotas ≤ most_quotas }
+    {
+        let place = self.places.place(folder)?;
+        Some(place as u32)
     }
 
     /// The quota at a place, from 0, in the order of the folders' numbers.

@@ -3,7 +3,7 @@
 ghost use Rattle.std.specs.Prelude.{◌≡◌, ◌+◌, ◌<◌, ◌^◌, MatchOption};
 ghost use Rattle.std.specs.List.{list_any};
 ghost use Rattle.fsrm_model.specs.Texts.{action_bytes, quota_bytes};
-ghost use Rattle.fsrm_objects.specs.Tables.{has_long_list, is_crowded};
+ghost use Rattle.fsrm_model.specs.Thresholds.{are_too_many, is_crowded};
 
 use fsrm_base::room::left_of_text;
 use fsrm_model::limits::{MOST_ACTIONS, MOST_THRESHOLDS};
@@ -11,7 +11,7 @@ use fsrm_model::{Action, List, QuotaRow, Threshold};
 
 /// Whether a quota has more thresholds, or one of them more actions, than it may.
 pub fn has_long_list(row: &QuotaRow) -> bool
-    ensures { result ≡ has_long_list row.now }
+    ensures { result ≡ are_too_many row.now.thresholds }
 {
     row.thresholds.len() > MOST_THRESHOLDS || some_is_crowded(&row.thresholds)
 }

@@ -149,7 +149,7 @@ impl Tree {
         steps.tick();
         let mut at = 0;
         for _place in 0..count {
-            let name = names.next();
+            let name = names.next()?;
             match lookup::child(&self.slots, &self.order, &self.hints, at, name, steps) {
                 Some(child) => at = child,
                 None => return None,

@@ -1,29 +1,19 @@
-use Rattle.std.proofs.Common.{◌≡◌, ◌+◌, ◌<◌, ◌≤◌, true, refl, sym, ◌∙◌, ap, arith}
+use Rattle.std.proofs.Common.{◌≡◌, ◌≤◌, true, refl, sym, ◌∙◌, ap, arith}
 use Rattle.std.specs.Prelude.{slice_set}
 use Rattle.fsrm_model.specs.Quota.{folder_of}
 use Rattle.fsrm_model.specs.Texts.{quota_bytes}
 use Rattle.fsrm_objects.specs.Kept.{AreSmallQuotas, is_small}
-use Rattle.fsrm_objects.specs.Tables.{Tables, other_fault, with_other}
-use Rattle.fsrm_objects.proofs.FaultLaws.{replaced_due, replaced_fits}
-use Rattle.fsrm_objects.proofs.QuotaRows.{at_place, change_kept, change_texts, less_texts, quota_small, read_found, small_fits, tables_of, texts_most}
+use Rattle.fsrm_objects.specs.Tables.{Tables, with_other}
+use Rattle.fsrm_objects.proofs.FaultLaws.{short_other}
+use Rattle.fsrm_objects.proofs.QuotaRows.{at_place, change_kept, change_texts, less_texts, quota_small, small_fits, tables_of, texts_most}
 use Rattle.fsrm_base.proofs.SortedRows.{set_found}
 use Rattle.place_table.proofs.RowPlaces.{numbers_set}
 use Rattle.fsrm_objects.proofs.objects.Objects.set_quota.Goals as goal
 
 pub texts_of-bytes-requires : goal.texts_of-bytes-requires
 texts_of-bytes-requires c =
-    let its : quota_bytes c.args.row ≤ 131072 = small_fits c.args.row (quota_small c.args.row (sym c.has_long_list.ensures ∙ c.if-has_long_list.false) c.requires.texts) in
+    let its : quota_bytes c.args.row ≤ 131072 = small_fits c.args.row (quota_small c.args.row (short_other c.args.self.now c.args.row c.args.room c.in_ok-may_set.ensures.may) c.requires.texts) in
     omega arith
-
-pub returns-then-saturating_sub-room-clause-refused :
-    goal.returns-then-saturating_sub-room-clause-refused
-returns-then-saturating_sub-room-clause-refused c =
-    let quotas = c.self.inside.quotas.items in
-    let old = c.index.result.now in
-    let at = at_place quotas c.args.self.now c.args.row.folder c.unwrap-place.result c.place.result c.self.view_is c.unwrap-place.ensures c.place.ensures in
-    let long : c.args.room + quota_bytes old < quota_bytes c.args.row = omega arith in
-    ap (λ (tables : Tables). other_fault tables c.args.row c.args.room) (sym c.self.view_is)
-    ∙ replaced_due (tables_of quotas) c.args.row old c.args.room (read_found quotas c.args.row.folder c.unwrap-place.result old at c.index.ensures) (sym c.has_long_list.ensures ∙ c.if-has_long_list.false) long
 
 pub overflow_add-self : goal.overflow_add-self
 overflow_add-self c =
@@ -32,7 +22,7 @@ overflow_add-self c =
     let folder = c.args.row.folder in
     let place = c.unwrap-place.result in
     let at = at_place quotas c.args.self.now folder place c.place.result c.self.view_is c.unwrap-place.ensures c.place.ensures in
-    let small : is_small c.args.row ≡ true = quota_small c.args.row (sym c.has_long_list.ensures ∙ c.if-has_long_list.false) c.requires.texts in
+    let small : is_small c.args.row ≡ true = quota_small c.args.row (short_other c.args.self.now c.args.row c.args.room c.in_ok-may_set.ensures.may) c.requires.texts in
     let kept : AreSmallQuotas (slice_set quotas place c.args.row) = change_kept quotas folder place (λ q. c.args.row) old (λ q is. refl) c.self.invariant.counted.are at c.index.ensures (λ q is. small) in
     omega (
       arith,
@@ -52,7 +42,7 @@ invariant_of-self c =
     let folder = c.args.row.folder in
     let place = c.unwrap-place.result in
     let at = at_place quotas c.args.self.now folder place c.place.result c.self.view_is c.unwrap-place.ensures c.place.ensures in
-    let small : is_small c.args.row ≡ true = quota_small c.args.row (sym c.has_long_list.ensures ∙ c.if-has_long_list.false) c.requires.texts in
+    let small : is_small c.args.row ≡ true = quota_small c.args.row (short_other c.args.self.now c.args.row c.args.room c.in_ok-may_set.ensures.may) c.requires.texts in
     record {
       counted = record {
         are = change_kept quotas folder place (λ q. c.args.row) old (λ q is. refl) c.self.invariant.counted.are at c.index.ensures (λ q is. small);
@@ -75,12 +65,3 @@ returns-clause-ok c =
     let at = at_place quotas c.args.self.now c.args.row.folder place c.place.result c.self.view_is c.unwrap-place.ensures c.place.ensures in
     ap tables_of (set_found folder_of c.args.row.folder (λ q. c.args.row) quotas place c.index_mut.result.now c.self.invariant.counted.are.ascending at c.index_mut.ensures.value)
     ∙ ap (λ (tables : Tables). with_other tables c.args.row) c.self.view_is
-
-pub returns-clause-may : goal.returns-clause-may
-returns-clause-may c =
-    let quotas = c.self.inside.quotas.items in
-    let old = c.index.result.now in
-    let at = at_place quotas c.args.self.now c.args.row.folder c.unwrap-place.result c.place.result c.self.view_is c.unwrap-place.ensures c.place.ensures in
-    let fits : quota_bytes c.args.row ≤ c.args.room + quota_bytes old = omega arith in
-    ap (λ (tables : Tables). other_fault tables c.args.row c.args.room) (sym c.self.view_is)
-    ∙ replaced_fits (tables_of quotas) c.args.row old c.args.room (read_found quotas c.args.row.folder c.unwrap-place.result old at c.index.ensures) (sym c.has_long_list.ensures ∙ c.if-has_long_list.false) fits

@@ -9,9 +9,11 @@ use Rattle.volume_tree.proofs.kept.KeptLaws.{few_order}
 use Rattle.volume_tree.proofs.kept.WalkLaws.{get_take, name_at, more_at, some_at, walk_next, walk_end, resolves}
 use Rattle.volume_tree.proofs.tree.Tree.resolve_next.Goals as goal
 
-pub next-name-requires : goal.next-name-requires
-next-name-requires g c =
-    subst (λ (names : List (List ℕ)). 0 < length names) (sym c.loop-place.invariant.rest) (some_at (left c.args.names.now) c.loop-place._place c.args.count c.loop-place-test.true c.requires.count)
+-- one more name is left
+pub returns-in_err-name-clause-value : goal.returns-in_err-name-clause-value
+returns-in_err-name-clause-value g c =
+    let some = some_at (left c.args.names.now) c.loop-place._place c.args.count c.loop-place-test.true c.requires.count in
+    absurd (omega (arith, some, ap length (sym c.loop-place.invariant.rest ∙ c.in_err-name.ensures.steps.0)))
 
 pub child-requires-clause-few : goal.child-requires-clause-few
 child-requires-clause-few g c = few_order _ _ _ _ _ _ c.self.invariant.kept
@@ -21,27 +23,27 @@ returns-in-None-clause-value g c =
     let nodes = c.args.self.now.nodes in
     let names = left c.args.names.now in
     let path = take c.args.count names in
-    let next = sym c.loop-place.invariant.rest ∙ c.next-name.ensures in
+    let next = sym c.loop-place.invariant.rest ∙ c.in_ok-name.ensures.steps in
     let rows : rows_of c.self.inside.slots.slots ≡ nodes = ap (λ (v : Volume). v.nodes) c.self.view_is in
-    let child : child_number nodes c.loop-place.at c.next-name.result.now ≡ None = ap (λ (ns : List NodeRow). child_number ns c.loop-place.at c.next-name.result.now) (sym rows) ∙ sym c.in-None.ensures.value in
-    let name : slice_get path c.loop-place._place ≡ Some c.next-name.result.now = get_take names c.args.count c.loop-place._place c.next-name.result.now c.loop-place-test.true (name_at names c.loop-place._place c.next-name.result.now (left c.next-name.new.self) next) in
+    let child : child_number nodes c.loop-place.at c.in_ok-name.name.now ≡ None = ap (λ (ns : List NodeRow). child_number ns c.loop-place.at c.in_ok-name.name.now) (sym rows) ∙ sym c.in-None.ensures.value in
+    let name : slice_get path c.loop-place._place ≡ Some c.in_ok-name.name.now = get_take names c.args.count c.loop-place._place c.in_ok-name.name.now c.loop-place-test.true (name_at names c.loop-place._place c.in_ok-name.name.now (left c.next.new.self) next) in
     resolves c.self.inside.size (rows_of c.self.inside.slots.slots) c.args.self.now path None c.self.invariant.kept.volume c.self.view_is
-    (sym c.loop-place.invariant.way ∙ walk_next nodes c.loop-place.at c.loop-place._place path c.next-name.result.now None name child)
+    (sym c.loop-place.invariant.way ∙ walk_next nodes c.loop-place.at c.loop-place._place path c.in_ok-name.name.now None name child)
 
 pub loop-place-preserved : goal.loop-place-preserved
 loop-place-preserved g c =
     let nodes = c.args.self.now.nodes in
     let names = left c.args.names.now in
     let path = take c.args.count names in
-    let next = sym c.loop-place.invariant.rest ∙ c.next-name.ensures in
+    let next = sym c.loop-place.invariant.rest ∙ c.in_ok-name.ensures.steps in
     let rows : rows_of c.self.inside.slots.slots ≡ nodes = ap (λ (v : Volume). v.nodes) c.self.view_is in
-    let child : child_number nodes c.loop-place.at c.next-name.result.now ≡ Some c.in-Some.child = ap (λ (ns : List NodeRow). child_number ns c.loop-place.at c.next-name.result.now) (sym rows) ∙ sym c.in-Some.ensures.value in
-    let name : slice_get path c.loop-place._place ≡ Some c.next-name.result.now = get_take names c.args.count c.loop-place._place c.next-name.result.now c.loop-place-test.true (name_at names c.loop-place._place c.next-name.result.now (left c.next-name.new.self) next) in
+    let child : child_number nodes c.loop-place.at c.in_ok-name.name.now ≡ Some c.in-Some.child = ap (λ (ns : List NodeRow). child_number ns c.loop-place.at c.in_ok-name.name.now) (sym rows) ∙ sym c.in-Some.ensures.value in
+    let name : slice_get path c.loop-place._place ≡ Some c.in_ok-name.name.now = get_take names c.args.count c.loop-place._place c.in_ok-name.name.now c.loop-place-test.true (name_at names c.loop-place._place c.in_ok-name.name.now (left c.next.new.self) next) in
     let looks = c.in-Some.ensures.looks in
     let some = c.in-Some.ensures.some in
     record {
-      way = sym (walk_next nodes c.loop-place.at c.loop-place._place path c.next-name.result.now (Some c.in-Some.child) name child) ∙ c.loop-place.invariant.way;
-      rest = more_at names c.loop-place._place c.next-name.result.now (left c.next-name.new.self) next;
+      way = sym (walk_next nodes c.loop-place.at c.loop-place._place path c.in_ok-name.name.now (Some c.in-Some.child) name child) ∙ c.loop-place.invariant.way;
+      rest = more_at names c.loop-place._place c.in_ok-name.name.now (left c.next.new.self) next;
       looks = omega (arith, looks);
       each = omega (arith, some, c.loop-place.invariant.each);
     }

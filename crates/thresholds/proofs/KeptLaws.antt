@@ -1,0 +1,41 @@
+-- How marks are held after a number came or went, and after an entry.
+use Rattle.std.proofs.Common.{◌≡◌, ℕ, ◌≤◌, List, [], ◌∷◌, ◌++◌, length, sym, ◌∙◌, ap, subst}
+use Rattle.circular_buffer.specs.Buffer.{Buffer, buffer, keep_last}
+use Rattle.fsrm_base.specs.Numbers.{is_set, with_number, without_number}
+use Rattle.fsrm_base.proofs.NumberLaws.{set_with, set_without}
+use Rattle.fsrm_model.specs.declared.row.ActRow.{ActRow}
+use Rattle.fsrm_model.specs.Limits.{most_entries}
+use Rattle.fsrm_model.specs.Runs.{last_entries}
+use Rattle.fsrm_model.proofs.thresholds.RunLaws.{few_entries}
+use Rattle.number_set.specs.Numbers.{Numbers}
+use Rattle.thresholds.specs.Kept.{IsKept}
+
+-- ---- an entry more
+module _ (log longer : Buffer ActRow) (row : ActRow) (room : log.capacity ≡ most_entries) (pushed : longer ≡ buffer (keep_last log.capacity (log.items ++ row ∷ [])) log.capacity) where
+  pub pushed_items : longer.items ≡ last_entries (log.items ++ row ∷ [])
+  pushed_items = ap (λ (b : Buffer ActRow). b.items) pushed ∙ ap (λ n. keep_last n (log.items ++ row ∷ [])) room
+
+  pub entry_kept : (numbers : Numbers) → IsKept numbers log → IsKept numbers longer
+  entry_kept numbers kept = record {
+    bound = kept.bound;
+    ascending = kept.ascending;
+    capacity = ap (λ (b : Buffer ActRow). b.capacity) pushed ∙ room;
+    few = subst (λ (items : List ActRow). length items ≤ most_entries) (sym pushed_items) (few_entries (log.items ++ row ∷ []));
+  }
+
+-- ---- a number more, or less
+pub number_kept : (numbers more : Numbers) (log : Buffer ActRow) (n : ℕ) → more ≡ record numbers { members = with_number n numbers.members } → IsKept numbers log → IsKept more log
+number_kept numbers more log n is kept = record {
+  bound = ap (λ (s : Numbers). s.bound) is ∙ kept.bound;
+  ascending = ap (λ (s : Numbers). is_set s.members) is ∙ set_with n numbers.members kept.ascending;
+  capacity = kept.capacity;
+  few = kept.few;
+}
+
+pub less_kept : (numbers less : Numbers) (log : Buffer ActRow) (n : ℕ) → less ≡ record numbers { members = without_number n numbers.members } → IsKept numbers log → IsKept less log
+less_kept numbers less log n is kept = record {
+  bound = ap (λ (s : Numbers). s.bound) is ∙ kept.bound;
+  ascending = ap (λ (s : Numbers). is_set s.members) is ∙ set_without n numbers.members kept.ascending;
+  capacity = kept.capacity;
+  few = kept.few;
+}

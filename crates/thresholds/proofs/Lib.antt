@@ -1,0 +1,9 @@
+pub mod RunLaws
+pub mod Decoded
+pub mod WaitingLaws
+pub mod SettleLaws
+pub mod RunSteps
+pub mod KeptLaws
+pub mod ListLaws
+pub mod OrderLaws
+pub mod Steps

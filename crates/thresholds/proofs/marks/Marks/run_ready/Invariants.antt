@@ -1,0 +1,12 @@
+use Rattle.std.proofs.Common.{◌≡◌, true}
+use Rattle.fsrm_base.specs.Numbers.{is_set}
+use Rattle.thresholds.specs.Settled.{Settles}
+use Rattle.thresholds.proofs.Steps.{ready_upto}
+use Rattle.thresholds.proofs.marks.Marks.run_ready.Given as goal
+
+-- the first of its actions were settled
+abbrev pub invariant-loop-place : goal.invariant-loop-place
+invariant-loop-place l = record {
+  settled : Settles l.fn.self l.self l.fn.objects l.objects l.moment (ready_upto l.fn.objects.quotas l.quota l.threshold l.run_limit l.moment l.place);
+  sorted : is_set l.self.numbers ≡ true;
+}
