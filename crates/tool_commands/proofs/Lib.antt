@@ -10,3 +10,4 @@ pub mod LimitWords
 pub mod OptionLaws
 pub mod NamedWords
 pub mod Taken
+pub mod CommaLaws

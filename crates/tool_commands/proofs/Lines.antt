@@ -108,3 +108,25 @@ valid_of line (Err fault) read = tt
 pub faults_of : (line text : List ℕ) (result : Result (Option Command) LineFault) → text ≡ line → read_line line ≡ Some (read_words line) → ReadsWords result (read_words text) → IfErr result (λ fault. IsFault fault (read_line line))
 faults_of line text (Ok read) same reads words = tt
 faults_of line text (Err fault) same reads words = fault_of line text fault same reads words
+
+-- a line that the words alone show not to be skipped
+pub not_skipped : (line : List ℕ) → length line ≤ 65536 → is_skipped line ≡ false → read_line line ≡ None → ⊥
+not_skipped line short skipped none = at (is_utf8 line) refl
+  where
+    at : (b : Bool) → is_utf8 line ≡ b → ⊥
+    at true e = let some : read_line line ≡ Some (read_words line) = by_words line short (IsUtf8-from_is_utf8 line e) skipped in absurd (cc (some, none))
+    at false e =
+        let never : IsUtf8 line → ⊥ = λ utf8. let is : is_utf8 line ≡ true = is_utf8-from_IsUtf8 line utf8 in absurd (cc (e, is)) in
+        let some : read_line line ≡ Some (Err (BadLine (utf8_valid_len line + 1))) = not_text line short never in
+        absurd (cc (some, none))
+
+-- a line of which only the bytes are in question
+pub skipped_exactly : (line : List ℕ) (test : Bool) → length line ≤ 65536 → is_skipped line ≡ true → ((test ≡ true → IsUtf8 line) × (IsUtf8 line → test ≡ true)) → (test ≡ true → read_line line ≡ None) × (read_line line ≡ None → test ≡ true)
+skipped_exactly line test short skipped exactly = (λ t. passed_over line short (exactly.0 t) skipped, at test refl)
+  where
+    at : (b : Bool) → test ≡ b → read_line line ≡ None → test ≡ true
+    at true e none = e
+    at false e none =
+        let never : IsUtf8 line → ⊥ = λ utf8. let is : test ≡ true = exactly.1 utf8 in absurd (cc (e, is)) in
+        let some : read_line line ≡ Some (Err (BadLine (utf8_valid_len line + 1))) = not_text line short never in
+        absurd (cc (some, none))

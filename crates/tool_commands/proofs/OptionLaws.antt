@@ -1,14 +1,16 @@
 -- Which option a word names, and what one option more comes to.
 use Rattle.std.proofs.Common.{◌≡◌, ℕ, suc, ◌+◌, ◌<◌, Bool, true, false, cond, List, [], ◌∷◌, ◌++◌, length, Some, None, refl, sym, ◌∙◌, ap, subst, arith}
 use Rattle.std.specs.Prelude.{◌||◌, not, Option, Result, Ok, Err, map, find, option_map, is_some}
-use Rattle.std.specs.List.{list_any, position_or_len, before_first, after_first}
+use Rattle.std.specs.List.{cons_option, filter_map, list_any, position_or_len, before_first, after_first}
 use Rattle.std.specs.Option.{option_or}
+use Rattle.std.proofs.lemmas.List.{append-nil}
+use Rattle.std.proofs.lemmas.List.Elements.{filter_map-append}
 use Rattle.fsrm_model.specs.declared.command.Refusal.TheVariants.{BadLine}
-use Rattle.fsrm_model.specs.Options.{Key, ThePath, TheLimit, TheType, TheStatus, may_repeat, Given, key_of, value_from, path_in, limit_in, type_in, status_in, is_of, one, key_named, word_key, is_colon, with_option, options}
+use Rattle.fsrm_model.specs.Options.{Key, ThePath, TheLimit, TheType, TheStatus, TheRunLimit, may_repeat, Given, key_of, value_from, path_in, limit_in, type_in, status_in, removal_in, percent_in, notice_in, run_limit_in, is_of, one, each_of, key_named, word_key, is_colon, with_option, options}
 use Rattle.fsrm_model.specs.Reading.{Read, ◌>>=◌, guarded, known}
 use Rattle.fsrm_model.specs.Words.{Word}
 use Rattle.fsrm_model.proofs.lines.OptionLaws.{own_key}
-use Rattle.tool_commands.specs.OptionWords.{Holds, KeepsOnce, option_word, Adds}
+use Rattle.tool_commands.specs.OptionWords.{Holds, KeepsOnce, KeepsMore, option_word, Adds}
 use Rattle.tool_commands.specs.LineFaults.{Reads}
 use Rattle.tool_commands.specs.declared.options.Given.{Given as Held}
 use Rattle.tool_commands.specs.declared.reading.LineFault.{LineFault}
@@ -23,7 +25,7 @@ find_image {X} {Y} f p (x ∷ xs) = at (p (f x)) (find_image f p xs)
     at true ih = refl
     at false ih = ih
 
-none_passes : {X : Type 0} (p : X → Bool) (xs : List X) → position_or_len p xs ≡ length xs → list_any p xs ≡ false
+pub none_passes : {X : Type 0} (p : X → Bool) (xs : List X) → position_or_len p xs ≡ length xs → list_any p xs ≡ false
 none_passes p [] e = refl
 none_passes {X} p (x ∷ xs) e = at (p x) e (none_passes p xs)
   where
@@ -35,7 +37,7 @@ none_passes {X} p (x ∷ xs) e = at (p x) e (none_passes p xs)
 pub no_key : (keys : List Key) (text : List ℕ) → position_or_len is_colon text ≡ length text → word_key keys text ≡ None
 no_key keys text none = rw (none_passes is_colon text none) refl
 
-one_passes : {X : Type 0} (p : X → Bool) (xs : List X) → position_or_len p xs < length xs → list_any p xs ≡ true
+pub one_passes : {X : Type 0} (p : X → Bool) (xs : List X) → position_or_len p xs < length xs → list_any p xs ≡ true
 one_passes p [] short = absurd (omega arith)
 one_passes {X} p (x ∷ xs) short = at (p x) short (one_passes p xs)
   where
@@ -90,7 +92,30 @@ add_once {X} key column text make value read single has is place given result ol
         subst (λ (done : Result (Unit {0}) LineFault). Adds done (place slot) (with_option key column text given)) (sym k) made
     at None (Err NoMemory) k r e = subst (λ (done : Result (Unit {0}) LineFault). Adds done (place slot) (with_option key column text given)) (sym k) tt
 
--- What is held with one option more, which wasn't given before
+-- an option that may repeat
+pub add_again : {X : Type 0} (key : Key) (column : ℕ) (text : List ℕ) (make : X → Given) (read : Read X) → may_repeat key ≡ true → value_from key column text ≡ (read >>= λ x. Ok (make x)) → (place : List X → Held) (given : List Given) (result : Result (Unit {0}) LineFault) (old new : List X) (code : Result X LineFault) → KeepsMore result old new code → Reads code read → ((x : X) → Holds (place (old ++ x ∷ [])) (given ++ make x ∷ [])) → Adds result (place new) (with_option key column text given)
+add_again {X} key column text make read many is place given result old new code keeps reads next = at result code keeps reads
+  where
+    with_is : with_option key column text given ≡ ((read >>= λ x. Ok (make x)) >>= λ x. Ok (given ++ x ∷ []))
+    with_is =
+        ap (λ (a : Bool). guarded (a || not (list_any (is_of key) given)) (BadLine column) key >>= λ fresh. value_from fresh column text >>= λ x. Ok (given ++ x ∷ [])) many
+        ∙ ap (λ (r : Read Given). r >>= λ x. Ok (given ++ x ∷ [])) is
+
+    made : (code : Read X) → read ≡ code → with_option key column text given ≡ ((code >>= λ x. Ok (make x)) >>= λ x. Ok (given ++ x ∷ []))
+    made code r = with_is ∙ ap (λ (r : Read X). (r >>= λ x. Ok (make x)) >>= λ x. Ok (given ++ x ∷ [])) r
+
+    at : (result : Result (Unit {0}) LineFault) (code : Result X LineFault) → KeepsMore result old new code → Reads code read → Adds result (place new) (with_option key column text given)
+    at (Ok done) (Ok x) k r = (given ++ make x ∷ [], made (Ok x) r, subst (λ (list : List X). Holds (place list) (given ++ make x ∷ [])) (sym k) (next x))
+    at (Ok done) (Err fault) k r = absurd k
+    at (Err fault) (Ok x) k r = subst (λ (f : LineFault). Adds (Err f) (place new) (with_option key column text given)) (sym k) tt
+    at (Err fault) (Err (Refused refusal)) k r = subst (λ (f : LineFault). Adds (Err f) (place new) (with_option key column text given)) (sym k) (made (Err refusal) r)
+    at (Err fault) (Err NoMemory) k r = subst (λ (f : LineFault). Adds (Err f) (place new) (with_option key column text given)) (sym k) tt
+
+-- What is held with one option more. If it may not repeat it wasn't given before
+abbrev longer : {X : Type 0} → List X → Option X → List X
+longer old None = old
+longer old (Some x) = old ++ x ∷ []
+
 abbrev newer : {X : Type 0} → Option X → Option X → Option X
 newer old None = old
 newer old (Some x) = Some x
@@ -102,10 +127,21 @@ with_more held next =
       limit = newer held.limit (limit_in next);
       enforce = newer held.enforce (type_in next);
       enabled = newer held.enabled (status_in next);
+      removed = longer held.removed (removal_in next);
+      added = longer held.added (percent_in next);
+      notices = longer held.notices (notice_in next);
+      run_limit = newer held.run_limit (run_limit_in next);
     }
 
-one_newer : {X : Type 0} (value : Given → Option X) (key : Key) (held : Option X) (given : List Given) (next : Given) → ((g : Given) → is_of key g ≡ is_some (value g)) → held ≡ one value given → list_any (is_of (key_of next)) given ≡ false → newer held (value next) ≡ one value (given ++ next ∷ [])
-one_newer {X} value key held given next of h free = at (value next) refl
+each_longer : {X : Type 0} (value : Given → Option X) (held : List X) (given : List Given) (next : Given) → held ≡ each_of value given → longer held (value next) ≡ each_of value (given ++ next ∷ [])
+each_longer {X} value held given next h = at (value next) ∙ sym (filter_map-append value given (next ∷ []))
+  where
+    at : (o : Option X) → longer held o ≡ each_of value given ++ cons_option o []
+    at None = h ∙ sym (append-nil (each_of value given))
+    at (Some x) = ap (λ (list : List X). list ++ x ∷ []) h
+
+one_newer : {X : Type 0} (value : Given → Option X) (key : Key) (held : Option X) (given : List Given) (next : Given) → may_repeat key ≡ false → ((g : Given) → is_of key g ≡ is_some (value g)) → held ≡ one value given → (may_repeat (key_of next) ≡ false → list_any (is_of (key_of next)) given ≡ false) → newer held (value next) ≡ one value (given ++ next ∷ [])
+one_newer {X} value key held given next single of h free = at (value next) refl
   where
     any_of : (xs : List Given) → list_any (is_of key) xs ≡ is_some (one value xs)
     any_of xs = any_same xs ∙ any_one value xs
@@ -122,16 +158,20 @@ one_newer {X} value key held given next of h free = at (value next) refl
     at None e = h ∙ sym (one_more value given next ∙ ap (option_or (one value given)) e ∙ or_none (one value given))
     at (Some x) e =
         let own : key ≡ key_of next = own_key key next (of next ∙ ap is_some e) in
-        let none : one value given ≡ None = none_there (one value given) (sym (any_of given) ∙ ap (λ (k : Key). list_any (is_of k) given) own ∙ free) in
+        let none : one value given ≡ None = none_there (one value given) (sym (any_of given) ∙ ap (λ (k : Key). list_any (is_of k) given) own ∙ free (ap may_repeat (sym own) ∙ single)) in
         sym (one_more value given next ∙ ap (λ (o : Option X). option_or o (value next)) none ∙ e)
 
-pub held_more : (held : Held) (given : List Given) (next : Given) → Holds held given → list_any (is_of (key_of next)) given ≡ false → Holds (with_more held next) (given ++ next ∷ [])
+pub held_more : (held : Held) (given : List Given) (next : Given) → Holds held given → (may_repeat (key_of next) ≡ false → list_any (is_of (key_of next)) given ≡ false) → Holds (with_more held next) (given ++ next ∷ [])
 held_more held given next h free =
     record {
-      path = one_newer path_in ThePath held.path given next (λ g. refl) h.path free;
-      limit = one_newer limit_in TheLimit held.limit given next (λ g. refl) h.limit free;
-      enforce = one_newer type_in TheType held.enforce given next (λ g. refl) h.enforce free;
-      enabled = one_newer status_in TheStatus held.enabled given next (λ g. refl) h.enabled free;
+      path = one_newer path_in ThePath held.path given next refl (λ g. refl) h.path free;
+      limit = one_newer limit_in TheLimit held.limit given next refl (λ g. refl) h.limit free;
+      enforce = one_newer type_in TheType held.enforce given next refl (λ g. refl) h.enforce free;
+      enabled = one_newer status_in TheStatus held.enabled given next refl (λ g. refl) h.enabled free;
+      removed = each_longer removal_in held.removed given next h.removed;
+      added = each_longer percent_in held.added given next h.added;
+      notices = each_longer notice_in held.notices given next h.notices;
+      run_limit = one_newer run_limit_in TheRunLimit held.run_limit given next refl (λ g. refl) h.run_limit free;
     }
 
 -- one more word

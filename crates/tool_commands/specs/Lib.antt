@@ -2,4 +2,5 @@ pub mod LineFaults
 pub mod Lengths
 pub mod Taking
 pub mod OptionWords
+pub mod ActionParts
 pub mod Numerals

@@ -1,15 +1,15 @@
 -- What options come to, as lines have them.
-use Rattle.std.specs.Prelude.{◌≡◌, ℕ, List, Option, Some, None, Result, Ok, Err}
+use Rattle.std.specs.Prelude.{◌≡◌, ℕ, List, [], ◌∷◌, ◌++◌, Option, Some, None, Result, Ok, Err}
 use Rattle.std.specs.List.{after_first}
 use Rattle.fsrm_model.specs.declared.command.Refusal.TheVariants.{BadLine}
-use Rattle.fsrm_model.specs.Options.{Key as LineKey, ThePath, TheLimit, TheType, TheStatus, Given as LineGiven, path_in, limit_in, type_in, status_in, one, word_key, is_colon, with_option}
+use Rattle.fsrm_model.specs.Options.{Key as LineKey, ThePath, TheLimit, TheType, TheStatus, TheRemoval, ThePercent, TheNotice, TheRunLimit, Given as LineGiven, path_in, limit_in, type_in, status_in, removal_in, percent_in, notice_in, run_limit_in, one, each_of, word_key, is_colon, with_option}
 use Rattle.fsrm_model.specs.Reading.{Read, ◌>>=◌, known}
 use Rattle.fsrm_model.specs.Words.{Word as LineWord}
 use Rattle.tool_commands.specs.declared.options.Given.{Given}
 use Rattle.tool_commands.specs.declared.options.Key.{Key}
-use Rattle.tool_commands.specs.declared.options.Key.TheVariants.{Path, Limit, Enforce, Enabled}
+use Rattle.tool_commands.specs.declared.options.Key.TheVariants.{Path, Limit, Enforce, Enabled, RemoveThreshold, AddThreshold, AddNotification, RunLimit}
 use Rattle.tool_commands.specs.declared.reading.LineFault.{LineFault}
-use Rattle.tool_commands.specs.declared.reading.LineFault.TheVariants.{Refused}
+use Rattle.tool_commands.specs.declared.reading.LineFault.TheVariants.{Refused, NoMemory}
 use Rattle.tool_commands.specs.LineFaults.{Reads}
 
 -- an option as lines have it
@@ -18,6 +18,10 @@ line_key Path = ThePath
 line_key Limit = TheLimit
 line_key Enforce = TheType
 line_key Enabled = TheStatus
+line_key RemoveThreshold = TheRemoval
+line_key AddThreshold = ThePercent
+line_key AddNotification = TheNotice
+line_key RunLimit = TheRunLimit
 
 -- the values of options that were given
 pub record Holds (held : Given) (given : List LineGiven) : Type 0 where
@@ -25,12 +29,23 @@ pub record Holds (held : Given) (given : List LineGiven) : Type 0 where
   pub limit : held.limit ≡ one limit_in given
   pub enforce : held.enforce ≡ one type_in given
   pub enabled : held.enabled ≡ one status_in given
+  pub removed : held.removed ≡ each_of removal_in given
+  pub added : held.added ≡ each_of percent_in given
+  pub notices : held.notices ≡ each_of notice_in given
+  pub run_limit : held.run_limit ≡ one run_limit_in given
 
 -- a value is kept if none was kept before, and else refused before it is judged
 abbrev pub KeepsOnce : {X : Type 0} → Result (Unit {0}) LineFault → Option X → Option X → ℕ → Result X LineFault → Type 0
 KeepsOnce result (Some old) new column value = result ≡ Err (Refused (BadLine column))
 KeepsOnce result None new column (Ok x) = (result ≡ Ok tt) × (new ≡ Some x)
 KeepsOnce result None new column (Err fault) = result ≡ Err fault
+
+-- one more value is kept, after those that were
+abbrev pub KeepsMore : {X : Type 0} → Result (Unit {0}) LineFault → List X → List X → Result X LineFault → Type 0
+KeepsMore (Ok done) old new (Ok x) = new ≡ old ++ x ∷ []
+KeepsMore (Ok done) old new (Err fault) = ⊥
+KeepsMore (Err fault) old new (Ok x) = fault ≡ NoMemory
+KeepsMore (Err fault) old new (Err other) = fault ≡ other
 
 -- one more option, of those that a command takes
 abbrev pub option_word : List LineKey → LineWord → List LineGiven → Read (List LineGiven)

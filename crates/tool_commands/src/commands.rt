@@ -6,7 +6,7 @@ ghost use Rattle.fsrm_model.specs.Tools.{dirquota};
 ghost use Rattle.tool_commands.specs.LineFaults.{IsLast, ReadsWords, at_moment};
 ghost use Rattle.tool_commands.specs.Taking.{left, end, lent_word, named_by};
 
-use crate::quotas::dirquota;
+use crate::admin::dirquota;
 use crate::reading::LineFault;
 use crate::values::is_named;
 use crate::words::{LentWord, Words};

@@ -4,6 +4,8 @@
 //! first refusal, or nothing for a line that is skipped.
 #![tactic(auto)]
 
+mod actions;
+mod admin;
 mod commands;
 mod limits;
 mod options;
@@ -12,4 +14,4 @@ mod reading;
 mod values;
 mod words;
 
-pub use reading::{LineFault, read_line};
+pub use reading::{LineFault, is_skipped_line, read_line};

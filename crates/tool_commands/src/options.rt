@@ -3,14 +3,15 @@
 ghost use Rattle.std.specs.Prelude.{◌≡◌, ◌≤◌, List, [], map, option_map, IfSome};
 ghost use Rattle.std.specs.List.{after_first};
 ghost use Rattle.fsrm_model.specs.Options.{Given as LineGiven, key_name, key_named, word_key, is_colon, with_option, options};
-ghost use Rattle.tool_commands.specs.OptionWords.{line_key, option_word, KeepsOnce, Holds, Adds, ReadsGiven};
+ghost use Rattle.tool_commands.specs.OptionWords.{line_key, option_word, KeepsOnce, KeepsMore, Holds, Adds, ReadsGiven};
 ghost use Rattle.tool_commands.specs.Taking.{left, end, line_word};
 
+use crate::actions::{read_notice, read_percent, read_run_limit};
 use crate::limits::read_limit;
 use crate::reading::LineFault;
 use crate::values::{is_named, read_choice, read_path_word};
 use crate::words::{Word, Words};
-use fsrm_model::Path;
+use fsrm_model::{Added, List, NoMemory, Path};
 use std::alloc::Global;
 
 /// Which option it is.
@@ -20,6 +21,10 @@ pub enum Key {
     Limit,
     Enforce,
     Enabled,
+    RemoveThreshold,
+    AddThreshold,
+    AddNotification,
+    RunLimit,
 }
 
 impl Key {
@@ -31,6 +36,10 @@ impl Key {
             Key::Limit => "/Limit",
             Key::Enforce => "/Type",
             Key::Enabled => "/Status",
+            Key::RemoveThreshold => "/Remove-Threshold",
+            Key::AddThreshold => "/Add-Threshold",
+            Key::AddNotification => "/Add-Notification",
+            Key::RunLimit => "/RunLimitInterval",
         }
     }
 }
@@ -61,6 +70,13 @@ pub struct Given {
     /// Whether a quota is hard.
     pub enforce: Option<bool>,
     pub enabled: Option<bool>,
+    /// The percentages of thresholds that are to go, in the order of the words.
+    pub removed: List<u16>,
+    /// Those that are to come.
+    pub added: List<u16>,
+    pub notices: List<Added>,
+    /// In minutes.
+    pub run_limit: Option<u32>,
 }
 
 // Keeps the value of an option that may be given once. That it is given again is judged before its value.
@@ -79,8 +95,18 @@ fn once<T: Drop>(
     Ok(())
 }
 
+// Keeps one more value of an option that may repeat.
+fn again<T: Drop>(list: &mut List<T>, value: Result<T, LineFault>) -> Result<(), LineFault>
+    ensures { KeepsMore result list.old list.new value }
+{
+    match list.push(value?) {
+        Ok(()) => Ok(()),
+        Err(NoMemory) => Err(LineFault::NoMemory),
+    }
+}
+
 impl Given {
-    fn nothing() -> Given
+    fn nothing(alloc: Global) -> Given
         ensures { Holds result [] }
     {
         Given {
@@ -88,6 +114,10 @@ impl Given {
             limit: None,
             enforce: None,
             enabled: None,
+            removed: List::new(alloc),
+            added: List::new(alloc),
+            notices: List::new(alloc),
+            run_limit: None,
         }
     }
 
@@ -107,6 +137,10 @@ impl Given {
                 let enabled = read_choice("enabled", "disabled", value, column);
                 once(&mut self.enabled, column, enabled)
             }
+            Key::RemoveThreshold => again(&mut self.removed, read_percent(value, column)),
+            Key::AddThreshold => again(&mut self.added, read_percent(value, column)),
+            Key::AddNotification => again(&mut self.notices, read_notice(alloc, value, column)),
+            Key::RunLimit => once(&mut self.run_limit, column, read_run_limit(value, column)),
         }
     }
 
@@ -126,7 +160,7 @@ pub fn read_options(alloc: Global, keys: &[Key], words: &mut Words<'_>) -> Resul
     ensures read { ReadsGiven result (options (map line_key keys.now) (left words.old) []) }
     ensures end { end words.new ≡ end words.old }
 {
-    let mut given = Given::nothing();
+    let mut given = Given::nothing(alloc);
     while let Some(word) = words.next_left(alloc)? {
         given.add_word(alloc, keys, &word)?;
     }

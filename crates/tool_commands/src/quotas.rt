@@ -2,8 +2,8 @@
 
 ghost use Rattle.std.specs.Prelude.{◌≡◌};
 ghost use Rattle.fsrm_model.specs.declared.command.Deed.TheVariants.{QuotaDelete, QuotaScan, QuotaResetpeak};
-ghost use Rattle.fsrm_model.specs.Line.{option_words, named_word, tool_words};
-ghost use Rattle.fsrm_model.specs.Tools.{of_path, quota_add, quota_modify, quota_list, quota_commands, dirquota};
+ghost use Rattle.fsrm_model.specs.Line.{option_words, named_word};
+ghost use Rattle.fsrm_model.specs.Tools.{of_path, quota_add, quota_modify, quota_list, quota_commands};
 ghost use Rattle.tool_commands.specs.LineFaults.{Reads};
 ghost use Rattle.tool_commands.specs.Taking.{left, end, line_word, named_by};
 
@@ -11,16 +11,34 @@ use crate::options::{Key, read_options};
 use crate::reading::LineFault;
 use crate::values::is_named;
 use crate::words::{Word, Words};
-use fsrm_model::{Deed, List};
+use fsrm_model::Deed;
 use std::alloc::Global;
 
-/// What may be given of a quota.
-const ALL_KEYS: [Key; 4] = [Key::Path, Key::Limit, Key::Enforce, Key::Enabled];
+/// What may be given of a new quota.
+const ADD_KEYS: [Key; 6] = [
+    Key::Path,
+    Key::Limit,
+    Key::Enforce,
+    Key::Enabled,
+    Key::AddThreshold,
+    Key::AddNotification,
+];
+
+/// What may be given of one that is there.
+const MODIFY_KEYS: [Key; 7] = [
+    Key::Path,
+    Key::Limit,
+    Key::Enforce,
+    Key::Enabled,
+    Key::RemoveThreshold,
+    Key::AddThreshold,
+    Key::AddNotification,
+];
 
 fn add(alloc: Global, words: &mut Words<'_>) -> Result<Deed, LineFault>
     ensures { Reads result (option_words quota_add (end words.old) (left words.old)) }
 {
-    let given = read_options(alloc, &ALL_KEYS, words)?;
+    let given = read_options(alloc, &ADD_KEYS, words)?;
     let missing = LineFault::bad_line(words.end());
     let path = given.path.ok_or(missing)?;
     let limit = given.limit.ok_or(missing)?;
@@ -30,24 +48,24 @@ fn add(alloc: Global, words: &mut Words<'_>) -> Result<Deed, LineFault>
         enforce: given.enforce,
         enabled: given.enabled.unwrap_or(true),
         source_template: None,
-        add_threshold: List::new(alloc),
-        add_notification: List::new(alloc),
+        add_threshold: given.added,
+        add_notification: given.notices,
     })
 }
 
 fn modify(alloc: Global, words: &mut Words<'_>) -> Result<Deed, LineFault>
     ensures { Reads result (option_words quota_modify (end words.old) (left words.old)) }
 {
-    let given = read_options(alloc, &ALL_KEYS, words)?;
+    let given = read_options(alloc, &MODIFY_KEYS, words)?;
     let path = given.path.ok_or(LineFault::bad_line(words.end()))?;
     Ok(Deed::QuotaModify {
         path,
         limit: given.limit,
         enforce: given.enforce,
         enabled: given.enabled,
-        remove_threshold: List::new(alloc),
-        add_threshold: List::new(alloc),
-        add_notification: List::new(alloc),
+        remove_threshold: given.removed,
+        add_threshold: given.added,
+        add_notification: given.notices,
     })
 }
 
@@ -107,21 +125,10 @@ fn deed(alloc: Global, name: &Word<'_>, words: &mut Words<'_>) -> Result<Deed, L
     Err(LineFault::bad_line(name.column))
 }
 
-fn quota(alloc: Global, words: &mut Words<'_>) -> Result<Deed, LineFault>
+/// What the words after `dirquota quota` spell.
+pub fn quota(alloc: Global, words: &mut Words<'_>) -> Result<Deed, LineFault>
     ensures { Reads result (named_word quota_commands (end words.old) (left words.old) (λ command more. option_words command (end words.old) more)) }
 {
     let name = words.next(alloc)?;
     deed(alloc, &name, words)
-}
-
-/// What the words after `dirquota` spell.
-#[inline(never)]
-pub fn dirquota(alloc: Global, words: &mut Words<'_>) -> Result<Deed, LineFault>
-    ensures { Reads result (tool_words dirquota (end words.old) (left words.old)) }
-{
-    let name = words.next(alloc)?;
-    if is_named("quota", name.text.as_str()) {
-        return quota(alloc, words);
-    }
-    Err(LineFault::bad_line(name.column))
 }

@@ -101,8 +101,8 @@ fn in_range(low: u64, high: u64, number: u64) -> Result<u64, LineFault>
     Ok(number)
 }
 
-// The number from low to high that a word at this column is.
-fn read_number(text: &str, column: usize, low: u64, high: u64) -> Result<u64, LineFault>
+/// The number from low to high that a text of a word at this column is.
+pub fn read_number(text: &str, column: usize, low: u64, high: u64) -> Result<u64, LineFault>
     requires column { column ≤ 65537 }
     requires high { high < greatest_number }
     ensures read { Reads result (number_from low high column text.now) }

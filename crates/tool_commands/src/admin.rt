@@ -1,0 +1,78 @@
+//! The commands on the settings of the service and on the log of actions, and which commands a tool has.
+
+ghost use Rattle.std.specs.Prelude.{[]};
+ghost use Rattle.fsrm_model.specs.declared.command.Deed.TheVariants.{AdminList, AdminLog};
+ghost use Rattle.fsrm_model.specs.Line.{option_words, named_word, tool_words};
+ghost use Rattle.fsrm_model.specs.Tools.{admin_commands, admin_options, alone, dirquota};
+ghost use Rattle.tool_commands.specs.LineFaults.{Reads};
+ghost use Rattle.tool_commands.specs.Taking.{left, end, line_word, named_by};
+
+use crate::options::{Key, read_options};
+use crate::quotas::quota;
+use crate::reading::LineFault;
+use crate::values::is_named;
+use crate::words::{Word, Words};
+use fsrm_model::Deed;
+use std::alloc::Global;
+
+fn options(alloc: Global, words: &mut Words<'_>) -> Result<Deed, LineFault>
+    ensures { Reads result (option_words admin_options (end words.old) (left words.old)) }
+{
+    let given = read_options(alloc, &[Key::RunLimit], words)?;
+    let run_limit = given.run_limit.ok_or(LineFault::bad_line(words.end()))?;
+    Ok(Deed::AdminOptions { run_limit })
+}
+
+// A command without options.
+fn list(alloc: Global, words: &mut Words<'_>) -> Result<Deed, LineFault>
+    ensures { Reads result (option_words (alone AdminList) (end words.old) (left words.old)) }
+{
+    read_options(alloc, &[], words)?;
+    Ok(Deed::AdminList)
+}
+
+fn log(alloc: Global, words: &mut Words<'_>) -> Result<Deed, LineFault>
+    ensures { Reads result (option_words (alone AdminLog) (end words.old) (left words.old)) }
+{
+    read_options(alloc, &[], words)?;
+    Ok(Deed::AdminLog)
+}
+
+fn deed(alloc: Global, name: &Word<'_>, words: &mut Words<'_>) -> Result<Deed, LineFault>
+    ensures { Reads result (named_by admin_commands (line_word name.now) (λ command. option_words command (end words.old) (left words.old))) }
+{
+    let word = name.text.as_str();
+    if is_named("options", word) {
+        return options(alloc, words);
+    }
+    if is_named("list", word) {
+        return list(alloc, words);
+    }
+    if is_named("log", word) {
+        return log(alloc, words);
+    }
+    Err(LineFault::bad_line(name.column))
+}
+
+fn admin(alloc: Global, words: &mut Words<'_>) -> Result<Deed, LineFault>
+    ensures { Reads result (named_word admin_commands (end words.old) (left words.old) (λ command more. option_words command (end words.old) more)) }
+{
+    let name = words.next(alloc)?;
+    deed(alloc, &name, words)
+}
+
+/// What the words after `dirquota` spell.
+#[inline(never)]
+pub fn dirquota(alloc: Global, words: &mut Words<'_>) -> Result<Deed, LineFault>
+    ensures { Reads result (tool_words dirquota (end words.old) (left words.old)) }
+{
+    let name = words.next(alloc)?;
+    let word = name.text.as_str();
+    if is_named("quota", word) {
+        return quota(alloc, words);
+    }
+    if is_named("admin", word) {
+        return admin(alloc, words);
+    }
+    Err(LineFault::bad_line(name.column))
+}
