@@ -2,3 +2,4 @@ pub mod operations
 pub mod steps
 pub mod tables
 pub mod walks
+pub mod settling

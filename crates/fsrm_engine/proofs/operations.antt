@@ -10,3 +10,5 @@ pub mod FollowLaws
 pub mod IdleLaws
 pub mod FitLaws
 pub mod OverLaws
+pub mod ChargedLaws
+pub mod GoneLaws

@@ -1,4 +1,5 @@
 pub mod StepLaws
 pub mod WholeLaws
+pub mod ActLaws
 pub mod PlaceLaws
 pub mod ScanSteps

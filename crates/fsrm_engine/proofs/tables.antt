@@ -2,8 +2,11 @@ pub mod QuotaLaws
 pub mod CountingLaws
 pub mod PeakLaws
 pub mod RaiseLaws
+pub mod RanLaws
 pub mod SumLaws
 pub mod StateLaws
 pub mod TurnLaws
 pub mod QueueLaws
 pub mod RoomLaws
+pub mod ModifyLaws
+pub mod ListLaws

@@ -1,9 +1,13 @@
--- A tree's fault as the refusal of a command.
-use Rattle.std.specs.Prelude.{false, Option, Some, None, option_map}
+-- Faults of the tree and of the tables as refusals of a command.
+use Rattle.std.specs.Prelude.{ℕ, ◌-◌, false, Option, Some, None, option_map}
 use Rattle.fsrm_model.specs.declared.command.Answer.{Answer}
 use Rattle.fsrm_model.specs.declared.command.Outcome.TheVariants.{Refused}
 use Rattle.fsrm_model.specs.declared.command.Refusal.{Refusal}
 use Rattle.fsrm_model.specs.declared.command.Refusal.TheVariants as refusal
+use Rattle.fsrm_model.specs.Limits.{most_text_bytes}
+use Rattle.fsrm_objects.specs.declared.answer.ObjectFault.{ObjectFault}
+use Rattle.fsrm_objects.specs.declared.answer.ObjectFault.TheVariants as object
+use Rattle.fsrm_objects.specs.Tables.{texts_in}
 use Rattle.quota_usage.specs.declared.change.Change.{Change}
 use Rattle.quota_usage.specs.declared.change.Exceeded.{Exceeded}
 use Rattle.quota_usage.specs.Charge.{exceeded_by}
@@ -28,6 +32,22 @@ refused_answer refusal = record { outcome = Refused refusal; lasting = false }
 abbrev pub answer_of : TreeFault → Option Answer
 answer_of fault = option_map refused_answer (refusal_of fault)
 
+-- ---- the same of the tables
+abbrev pub table_refusal : ObjectFault → Option Refusal
+table_refusal object.AlreadyExists = Some refusal.AlreadyExists
+table_refusal object.OutOfRange = Some refusal.OutOfRange
+table_refusal object.TableFull = Some refusal.TableFull
+table_refusal object.TextsFull = Some refusal.TextsFull
+table_refusal object.NoMemory = None
+
+abbrev pub table_answer : ObjectFault → Option Answer
+table_answer fault = option_map refused_answer (table_refusal fault)
+
+-- how many bytes of texts may still come
+abbrev pub text_room : Parts → ℕ
+text_room parts = most_text_bytes - texts_in parts.objects
+
+-- ---- and of a quota
 -- the refusal by a quota
 abbrev pub exceeded_refusal : Exceeded → Refusal
 exceeded_refusal exceeded = refusal.QuotaExceeded exceeded.folder exceeded.would exceeded.limit

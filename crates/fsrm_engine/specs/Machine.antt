@@ -3,22 +3,28 @@ use Rattle.std.specs.Prelude.{◌≡◌, ℕ, ◌≤◌, Bool, true, List, [], m
 use Rattle.fsrm_model.specs.declared.command.Act.{Act}
 use Rattle.fsrm_model.specs.declared.command.Answer.{Answer}
 use Rattle.fsrm_model.specs.declared.command.Deed.{Deed}
+use Rattle.fsrm_model.specs.declared.command.Subject.{Subject}
 use Rattle.fsrm_model.specs.declared.row.Capacity.{Capacity}
 use Rattle.fsrm_model.specs.declared.row.NodeRow.{NodeRow}
 use Rattle.fsrm_model.specs.declared.row.QuotaRow.{QuotaRow}
 use Rattle.fsrm_model.specs.declared.row.Rows.{Rows}
+use Rattle.fsrm_model.specs.Acts.{has_act}
 use Rattle.fsrm_model.specs.Capacities.{is_capacity}
 use Rattle.fsrm_model.specs.Fresh.{rows_of_nodes}
-use Rattle.fsrm_base.specs.Keyed.{row_of, with_change}
-use Rattle.fsrm_model.specs.Quota.{folder_of, counts, peaked, peaks}
-use Rattle.fsrm_model.specs.QuotaStates.{followed, queued}
+use Rattle.fsrm_base.specs.Keyed.{row_of}
+use Rattle.fsrm_base.specs.Numbers.{is_set}
+use Rattle.fsrm_model.specs.Limits.{most_quotas}
+use Rattle.fsrm_model.specs.Quota.{folder_of, counts, peaked}
 use Rattle.fsrm_model.specs.Step.{Stepped, step}
 use Rattle.fsrm_model.specs.Tree.{usage}
 use Rattle.fsrm_model.specs.Valid.{IsVolume, AreQuotas, IsValid}
+use Rattle.number_set.specs.Numbers.{no_numbers}
 use Rattle.quota_usage.specs.declared.change.Change.{Change}
 use Rattle.quota_usage.specs.declared.change.Counter.{Counter}
 use Rattle.quota_usage.specs.Charge.{charged_counter}
-use Rattle.scan_queue.specs.Courses.{Scanning, left}
+use Rattle.scan_queue.specs.Courses.{Scanning, Turns, left}
+use Rattle.thresholds.specs.Marked.{waiting, are_there}
+use Rattle.thresholds.specs.Settled.{Settles}
 use Rattle.fsrm_engine.specs.declared.parts.Parts.{Parts}
 use Rattle.fsrm_engine.specs.Peaks.{raised_above}
 
@@ -41,20 +47,19 @@ abbrev pub rows_of : Parts → Rows
 rows_of parts =
     record (rows_of_nodes parts.tree.nodes) {
       quotas = parts.objects.quotas;
+      acts = parts.marks.log;
       queue = parts.scans.queue;
       unvisited = left parts.tree.nodes parts.scans;
+      run_limit = parts.run_limit;
       last_moment = parts.last_moment;
     }
 
--- the machine that an engine's parts make up. No act waits
+-- the machine that an engine's parts make up
 abbrev pub machine_of : Parts → Machine
-machine_of parts = record { size = parts.tree.size; rows = rows_of parts; waiting = [] }
+machine_of parts =
+    record { size = parts.tree.size; rows = rows_of parts; waiting = waiting parts.objects.quotas parts.marks.numbers }
 
--- the parts did what the plain machine does at this deed of this moment
-abbrev pub Does : Parts → Parts → ℕ → Deed → Answer → Type 0
-Does old new moment deed answer =
-    Takes (machine_of old) (machine_of new) (step old.tree.size (rows_of old) (record { moment = moment; deed = deed })) answer
-
+-- ---- what is known of the parts
 -- what the files at and below a quota's folder take
 abbrev pub counter_of : Capacity → List NodeRow → QuotaRow → Counter
 counter_of K nodes quota = record { folder = quota.folder; bytes = usage K nodes quota.folder }
@@ -79,15 +84,54 @@ pub record IsSound (parts : Parts) : Type 0 where
   pub counted : AreCounted parts
   pub scanning : Scanning parts.tree parts.scans
 
--- beside, the rows are those of a store
+-- no action waits
+pub record IsIdle (parts : Parts) : Type 0 where
+  pub numbers : parts.marks.numbers ≡ []
+  pub crossing : parts.crossing ≡ no_numbers most_quotas
+
+-- exactly the actions wait that these acts name, and they are there
+pub record AreMarked (parts : Parts) (acts : List Act) : Type 0 where
+  pub there : are_there parts.objects.quotas parts.marks.numbers ≡ true
+  pub set : is_set parts.marks.numbers ≡ true
+  pub are : (subject : Subject) (place : ℕ) → has_act (waiting parts.objects.quotas parts.marks.numbers) subject place ≡ has_act acts subject place
+  pub crossing : parts.crossing ≡ no_numbers most_quotas
+
+-- the parts are sound, their rows are those of a store, the actions that wait are there, and no crossing is left to be settled
 pub record IsWhole (parts : Parts) : Type 0 where
   pub sound : IsSound parts
   pub valid : IsValid parts.tree.size (rows_of parts)
+  pub there : are_there parts.objects.quotas parts.marks.numbers ≡ true
+  pub crossing : parts.crossing ≡ no_numbers most_quotas
+
+-- ---- what is done with them
+-- the plain machine's step at a deed of this moment
+abbrev pub step_of : Parts → ℕ → Deed → Stepped
+step_of parts moment deed = step parts.tree.size (rows_of parts) (record { moment = moment; deed = deed })
+
+-- the parts did what the plain machine does at this deed of this moment
+pub record Does (old new : Parts) (moment : ℕ) (deed : Deed) (answer : Answer) : Type 0 where
+  pub size_is : new.tree.size ≡ old.tree.size
+  pub rows_are : rows_of new ≡ (step_of old moment deed).rows
+  pub acts_are : AreMarked new (step_of old moment deed).acts
+  pub outcome_is : answer.outcome ≡ (step_of old moment deed).outcome
+  pub lasting_is : answer.lasting ≡ (step_of old moment deed).lasting
+
+-- acts ran at a moment, and are marked: nothing else changed
+pub record Ran (old new : Parts) (moment : ℕ) (acts : List Act) : Type 0 where
+  pub parts_are : new ≡ record old { objects = new.objects; marks = new.marks }
+  pub settles : Settles old.marks new.marks old.objects new.objects moment acts
+  pub set : is_set new.marks.numbers ≡ true
 
 -- parts with these quotas, and with their counters
 abbrev pub recounted : Parts → List QuotaRow → Parts
 recounted parts quotas =
     record parts { objects = record parts.objects { quotas = quotas }; usage = sums_of parts.tree.size parts.tree.nodes quotas }
+
+-- the quotas became these with their counters, and the queue of scans turned: nothing else changed
+pub record Turned (old new : Parts) (quotas : List QuotaRow) (queue : List ℕ) : Type 0 where
+  pub parts_are : new ≡ recounted (record old { scans = new.scans }) quotas
+  pub queue_is : new.scans.queue ≡ queue
+  pub turns : Turns old.scans new.scans old.tree
 
 -- parts whose counters were changed so at this moment, with the peaks raised of the folders that gained
 abbrev pub charged_parts : Parts → Change → ℕ → Parts
@@ -106,20 +150,3 @@ ended parts moment =
       level = true;
       last_moment = moment;
     }
-
--- the rows after a command of this moment that makes such rows of a machine's, and lasts
-abbrev pub lasting_rows : Machine → Rows → ℕ → Rows
-lasting_rows machine effect moment = record (peaks machine.size (followed machine.rows effect) moment) { last_moment = moment }
-
--- a machine after such a command
-abbrev pub settled : Machine → ℕ → Machine
-settled machine moment = record machine { rows = record (peaks machine.size machine.rows moment) { last_moment = moment } }
-
--- a machine with other rows
-abbrev pub with_rows : Machine → Rows → Machine
-with_rows machine rows = record machine { rows = rows }
-
--- rows with another quota in the place of its folder's
-abbrev pub with_other : Rows → QuotaRow → Rows
-with_other rows quota =
-    record rows { quotas = with_change folder_of quota.folder (λ old. quota) rows.quotas; queue = queued rows.queue quota.folder quota.state }

@@ -5,7 +5,7 @@ ghost use Rattle.fsrm_model.specs.declared.command.Deed.TheVariants.{File};
 ghost use Rattle.fsrm_model.specs.declared.command.FileOp.TheVariants.{Resize, Touch};
 ghost use Rattle.fsrm_model.specs.Cost.{deed_cost};
 ghost use Rattle.fsrm_model.specs.Limits.{latest_moment, longest_file};
-ghost use Rattle.fsrm_engine.specs.Machine.{Does, IsSound, IsWhole, rows_of};
+ghost use Rattle.fsrm_engine.specs.Machine.{Does, IsIdle, IsSound, IsWhole, rows_of};
 
 use crate::exits::refused;
 use crate::parts::Parts;
@@ -23,6 +23,7 @@ impl Parts {
         steps: &mut Steps<L>,
     ) -> Answer
         requires whole { IsWhole self.old }
+        requires idle { IsIdle self.old }
         requires length { length ≤ longest_file }
         requires moment { moment ≤ latest_moment }
         requires after { self.old.last_moment ≤ moment }
@@ -41,8 +42,8 @@ impl Parts {
             minus: self.tree.allocated(old),
             plus: self.tree.allocated(length),
         };
-        if let Err(refusal) = self.admit(&change, steps) {
-            return refused(refusal);
+        if let Err(exceeded) = self.admit(&change, steps) {
+            return self.refuse(exceeded, moment);
         }
         self.scans
             .follow_resize(&self.tree, node, old, length, steps);
@@ -59,6 +60,7 @@ impl Parts {
         steps: &mut Steps<L>,
     ) -> Answer
         requires whole { IsWhole self.old }
+        requires idle { IsIdle self.old }
         requires moment { moment ≤ latest_moment }
         requires after { self.old.last_moment ≤ moment }
         ensures ok { Does self.old self.new moment (File (Touch path.now)) result }

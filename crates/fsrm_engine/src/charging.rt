@@ -1,17 +1,22 @@
-//! What file operations do to counters and peaks.
+//! What file operations do to counters and peaks, and which quotas cross a threshold then.
 
-ghost use Rattle.std.specs.Prelude.{◌≡◌, ◌+◌, ◌≤◌, true, map, length, if◌then◌else◌};
+ghost use Rattle.std.specs.Prelude.{◌≡◌, ◌+◌, ◌<◌, ◌≤◌, ◌==◌, ◌&&◌, true, map, length, if◌then◌else◌};
+ghost use Rattle.fsrm_base.specs.Numbers.{with_number};
 ghost use Rattle.fsrm_base.specs.Keyed.{has_row, is_ascending, with_change};
+ghost use Rattle.fsrm_model.specs.Limits.{most_quotas};
 ghost use Rattle.fsrm_model.specs.Quota.{folder_of};
 ghost use Rattle.fsrm_model.specs.Tree.{number as key, chain, is_under};
 ghost use Rattle.fsrm_model.specs.Valid.{IsVolume};
 ghost use Rattle.fsrm_objects.specs.Tables.{without_quota};
 ghost use Rattle.quota_usage.specs.Counters.{without_counter};
+ghost use Rattle.fsrm_engine.specs.Crossing.{crosses_some, is_crossing, used_before, Drops, Notes};
 ghost use Rattle.fsrm_engine.specs.Peaks.{raised};
 
-use fsrm_model::{Ledger, Steps};
+use fsrm_model::{Ledger, QuotaRow, Steps};
 use fsrm_objects::Objects;
+use number_set::NumberSet;
 use quota_usage::Usage;
+use thresholds::reached;
 use volume_tree::Tree;
 
 /// Raises the peak of a folder's quota to what is used, if that is more.
@@ -30,24 +35,121 @@ pub fn raise_peak(usage: &Usage, objects: &mut Objects, folder: u32, moment: u64
     }
 }
 
+// Whether a quota that used so much before and uses so much now crosses one of its thresholds.
+fn crosses_some(quota: &QuotaRow, before: u64, now: u64) -> bool
+    ensures { result ≡ crosses_some quota.now before now }
+{
+    quota.thresholds.as_slice().iter().any(|threshold| {
+        reached(quota.limit, threshold.percent, Some(now))
+            && !reached(quota.limit, threshold.percent, Some(before))
+    })
+}
+
+/// What was used before `minus` bytes were taken, and then `plus` were given.
+pub fn used_before(minus: u64, plus: u64, now: u64) -> u64
+    ensures { result ≡ used_before minus plus now }
+{
+    now.saturating_sub(plus).saturating_add(minus)
+}
+
+// Notes a quota's place if it crosses a threshold.
+fn note_if(crossing: &mut NumberSet, place: u32, crosses: bool)
+    requires { place < crossing.old.bound }
+    ensures { crossing.new ≡ (if crosses then record crossing.old { members = with_number place crossing.old.members } else crossing.old) }
+{
+    if crosses {
+        crossing.insert(place);
+    }
+}
+
+// Raises the peak of a folder's quota to what is used, if that is more, and notes the quota's place if it crosses a
+// threshold. The folder lost `minus` bytes, and then gained `plus`.
+fn gain(
+    usage: &Usage,
+    objects: &mut Objects,
+    crossing: &mut NumberSet,
+    folder: u32,
+    minus: u64,
+    plus: u64,
+    moment: u64,
+)
+    requires ascending { is_ascending folder_of objects.old.quotas ≡ true }
+    requires bound { crossing.old.bound ≡ most_quotas }
+    ensures raised { objects.new ≡ record { quotas = with_change folder_of folder (raised usage.now moment) objects.old.quotas } }
+    ensures noted { Notes crossing.old crossing.new objects.old.quotas (λ quota. (quota.folder == folder) && is_crossing usage.now minus plus quota) }
+{
+    let Some(now) = usage.used(folder) else {
+        return;
+    };
+    let Some(place) = objects.quota_place(folder) else {
+        return;
+    };
+    let quota = objects.quota_at(place);
+    let crosses = crosses_some(quota, used_before(minus, plus, now), now);
+    note_if(crossing, place, crosses);
+    if quota.peak < now {
+        objects.set_peak(folder, now, moment);
+    }
+}
+
 /// The same of a folder and each above it.
 pub fn raise_above<L: Ledger>(
     tree: &Tree,
     usage: &Usage,
     objects: &mut Objects,
+    crossing: &mut NumberSet,
     folder: u32,
+    minus: u64,
+    plus: u64,
     moment: u64,
     steps: &mut Steps<L>,
 )
     requires volume { IsVolume tree.now.size tree.now.nodes }
     requires there { has_row key folder tree.now.nodes ≡ true }
     requires ascending { is_ascending folder_of objects.old.quotas ≡ true }
+    requires bound { crossing.old.bound ≡ most_quotas }
     ensures quotas { objects.new ≡ record { quotas = map (λ quota. if is_under tree.now.nodes quota.folder folder then raised usage.now moment quota else quota) objects.old.quotas } }
+    ensures noted { Notes crossing.old crossing.new objects.old.quotas (λ quota. is_under tree.now.nodes quota.folder folder && is_crossing usage.now minus plus quota) }
     ensures looks { steps.new ≤ steps.old + length (chain tree.now.nodes folder) }
 {
     let mut at = folder;
     loop {
-        raise_peak(usage, objects, at, moment);
+        gain(usage, objects, crossing, at, minus, plus, moment);
+        if at == 0 {
+            return;
+        }
+        at = tree.node(at, steps).parent;
+    }
+}
+
+// Notes a folder's quota no longer.
+fn drop_noted(objects: &Objects, crossing: &mut NumberSet, folder: u32)
+    requires { is_ascending folder_of objects.now.quotas ≡ true }
+    ensures { Drops crossing.old crossing.new objects.now.quotas (λ quota. quota.folder == folder) }
+{
+    let Some(place) = objects.quota_place(folder) else {
+        return;
+    };
+    crossing.remove(place);
+}
+
+/// The same of a folder's quota and of those above it.
+pub fn drop_above<L: Ledger>(
+    tree: &Tree,
+    objects: &Objects,
+    crossing: &mut NumberSet,
+    folder: u32,
+    steps: &mut Steps<L>,
+)
+    requires volume { IsVolume tree.now.size tree.now.nodes }
+    requires there { has_row key folder tree.now.nodes ≡ true }
+    requires ascending { is_ascending folder_of objects.now.quotas ≡ true }
+    ensures dropped { Drops crossing.old crossing.new objects.now.quotas (λ quota. is_under tree.now.nodes quota.folder folder) }
+    ensures looks { steps.new ≤ steps.old + length (chain tree.now.nodes folder) }
+{
+    let mut at = folder;
+    loop {
+        drop_noted(objects, crossing, at);
         if at == 0 {
             return;
         }

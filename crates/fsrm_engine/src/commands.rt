@@ -5,9 +5,10 @@ ghost use Rattle.fsrm_model.specs.declared.command.Deed.TheVariants.{File};
 ghost use Rattle.fsrm_model.specs.Cost.{deed_cost};
 ghost use Rattle.fsrm_model.specs.Limits.{latest_moment};
 ghost use Rattle.fsrm_model.specs.Valued.{is_op, is_command};
-ghost use Rattle.fsrm_engine.specs.Machine.{Does, IsSound, IsWhole, rows_of};
+ghost use Rattle.fsrm_engine.specs.Machine.{Does, IsIdle, IsSound, IsWhole, rows_of};
 
 use crate::parts::Parts;
+use crate::threshold_lists::ThresholdChange;
 use fsrm_model::{Answer, Command, Deed, FileOp, Ledger, NoMemory, Steps};
 use std::alloc::Global;
 
@@ -21,6 +22,7 @@ impl Parts {
         steps: &mut Steps<L>,
     ) -> Result<Answer, NoMemory>
         requires whole { IsWhole self.old }
+        requires idle { IsIdle self.old }
         requires valid { is_op op.now ≡ true }
         requires moment { moment ≤ latest_moment }
         requires after { self.old.last_moment ≤ moment }
@@ -52,6 +54,7 @@ impl Parts {
         steps: &mut Steps<L>,
     ) -> Result<Answer, NoMemory>
         requires whole { IsWhole self.old }
+        requires idle { IsIdle self.old }
         requires valid { is_op op.now ≡ true }
         requires moment { moment ≤ latest_moment }
         requires after { self.old.last_moment ≤ moment }
@@ -71,6 +74,7 @@ impl Parts {
         steps: &mut Steps<L>,
     ) -> Result<Answer, NoMemory>
         requires whole { IsWhole self.old }
+        requires idle { IsIdle self.old }
         requires valid { is_command command.now ≡ true }
         requires after { self.old.last_moment ≤ command.now.moment }
         ensures ok { IfOk result (λ answer. Does self.old self.new command.now.moment command.now.deed answer) }
@@ -88,19 +92,36 @@ impl Parts {
                 limit,
                 enforce,
                 enabled,
+                add_threshold: percents,
+                add_notification: notices,
                 ..
-            } => self.quota_add(alloc, path, *limit, *enforce, *enabled, moment, steps),
+            } => {
+                let change = ThresholdChange::adding(percents, notices);
+                self.quota_add(
+                    alloc, path, *limit, *enforce, *enabled, &change, moment, steps,
+                )
+            }
             Deed::QuotaModify {
                 path,
                 limit,
                 enforce,
                 enabled,
-                ..
-            } => self.quota_modify(alloc, path, *limit, *enforce, *enabled, moment, steps),
+                remove_threshold: removed,
+                add_threshold: percents,
+                add_notification: notices,
+            } => {
+                let change = ThresholdChange::new(removed, percents, notices);
+                self.quota_modify(
+                    alloc, path, *limit, *enforce, *enabled, &change, moment, steps,
+                )
+            }
             Deed::QuotaDelete { path } => Ok(self.quota_delete(path, moment, steps)),
             Deed::QuotaScan { path } => self.quota_scan(path, moment, steps),
             Deed::QuotaResetpeak { path } => Ok(self.quota_resetpeak(path, moment, steps)),
             Deed::QuotaList { path } => Ok(self.quota_list(path, moment, steps)),
+            Deed::AdminOptions { run_limit } => Ok(self.set_options(*run_limit, moment)),
+            Deed::AdminList => Ok(self.show_settings(moment)),
+            Deed::AdminLog => Ok(self.show_log(moment)),
         }
     }
 
@@ -112,6 +133,7 @@ impl Parts {
         steps: &mut Steps<L>,
     ) -> Result<Answer, NoMemory>
         requires whole { IsWhole self.old }
+        requires idle { IsIdle self.old }
         requires valid { is_command command.now ≡ true }
         requires after { self.old.last_moment ≤ command.now.moment }
         ensures ok { IfOk result (λ answer. Does self.old self.new command.now.moment command.now.deed answer) }

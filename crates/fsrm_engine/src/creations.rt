@@ -5,7 +5,7 @@ ghost use Rattle.fsrm_model.specs.declared.command.Deed.TheVariants.{File};
 ghost use Rattle.fsrm_model.specs.declared.command.FileOp.TheVariants.{Mkdir, Create};
 ghost use Rattle.fsrm_model.specs.Cost.{deed_cost};
 ghost use Rattle.fsrm_model.specs.Limits.{latest_moment, longest_file};
-ghost use Rattle.fsrm_engine.specs.Machine.{Does, IsSound, IsWhole, rows_of};
+ghost use Rattle.fsrm_engine.specs.Machine.{Does, IsIdle, IsSound, IsWhole, rows_of};
 
 use crate::exits::{refused, refused_by};
 use crate::parts::Parts;
@@ -23,6 +23,7 @@ impl Parts {
         steps: &mut Steps<L>,
     ) -> Result<Answer, NoMemory>
         requires whole { IsWhole self.old }
+        requires idle { IsIdle self.old }
         requires owner { 1 ≤ owner }
         requires moment { moment ≤ latest_moment }
         requires after { self.old.last_moment ≤ moment }
@@ -56,6 +57,7 @@ impl Parts {
         steps: &mut Steps<L>,
     ) -> Result<Answer, NoMemory>
         requires whole { IsWhole self.old }
+        requires idle { IsIdle self.old }
         requires length { length ≤ longest_file }
         requires owner { 1 ≤ owner }
         requires moment { moment ≤ latest_moment }
@@ -79,8 +81,8 @@ impl Parts {
             minus: 0,
             plus: self.tree.allocated(length),
         };
-        if let Err(refusal) = self.admit(&change, steps) {
-            return Ok(refused(refusal));
+        if let Err(exceeded) = self.admit(&change, steps) {
+            return Ok(self.refuse(exceeded, moment));
         }
         let node = self.tree.make_file(
             place.folder,

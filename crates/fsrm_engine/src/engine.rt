@@ -1,7 +1,9 @@
 //! The machine that takes commands.
 
-ghost use Rattle.std.specs.Prelude.{◌≡◌, ◌+◌, ◌≤◌, [], true, length, IfOk, OnErr};
+ghost use Rattle.std.specs.Prelude.{◌≡◌, ◌+◌, ◌≤◌, [], ◌∷◌, None, true, length, IfOk, IfSome, MatchOption, OnErr};
 ghost use Rattle.fsrm_model.specs.declared.command.Deed.TheVariants.{File, Step};
+ghost use Rattle.fsrm_model.specs.ActText.{text_of};
+ghost use Rattle.fsrm_model.specs.Acts.{IsAct};
 ghost use Rattle.fsrm_model.specs.Capacities.{is_capacity};
 ghost use Rattle.fsrm_model.specs.Cost.{cost};
 ghost use Rattle.fsrm_model.specs.Fresh.{new_rows};
@@ -13,12 +15,14 @@ ghost use Rattle.fsrm_model.specs.Valid.{IsVolume, IsValid};
 ghost use Rattle.fsrm_model.specs.Valued.{is_op, is_command};
 ghost use Rattle.fsrm_engine.specs.Machine.{Takes};
 
+use crate::acts::text_of;
 use crate::exits::refused;
 use crate::parts::Parts;
-use fsrm_model::{Answer, Capacity, Command, FileOp, Ledger, NoMemory, Refusal, Steps};
+use fsrm_model::{Act, Answer, Capacity, Command, FileOp, Ledger, NoMemory, Refusal, Steps};
 use fsrm_objects::Objects;
 use std::alloc::Global;
 use std::marker::Model;
+use thresholds::Marks;
 use volume_tree::Tree;
 
 /// What an engine is set to, and how far it has come.
@@ -33,8 +37,6 @@ pub struct Settings {
     /// The bytes of a cluster.
     pub cluster: u32,
 }
-
-const RUN_LIMIT: u32 = 60;
 
 /// The machine that takes commands, in memory. Contracts see it as how much it may hold, its rows,
 /// and the acts that wait to be handed out.
@@ -81,6 +83,14 @@ impl Engine {
         &self.parts.objects
     }
 
+    /// The actions that wait, and the log of those that ran, lent.
+    pub fn marks(&self) -> &Marks
+        ensures log { result.now.log ≡ self.now.rows.acts }
+        ensures store { IsValid self.now.size self.now.rows }
+    {
+        &self.parts.marks
+    }
+
     /// What the files at and below a folder with a counting quota take, in bytes. None for every other
     /// folder. It is kept with every command, and is the sum over the tree.
     pub fn used(&self, folder: u32) -> Option<u64>
@@ -97,15 +107,35 @@ impl Engine {
         ensures cluster { result.cluster ≡ self.now.size.cluster }
     {
         Settings {
-            run_limit: RUN_LIMIT,
+            run_limit: self.parts.run_limit,
             scans: self.parts.scans.count() as u32,
             last_moment: self.parts.last_moment,
             cluster: self.parts.tree.capacity().cluster,
         }
     }
 
-    /// Takes a command: the answer is the plain machine's, and so are the rows and the acts that are
-    /// left. The nodes and quotas that it names are there. An `Err` changes nothing.
+    /// Hands out the first act that waits, which waits no longer: they come in the order of folders, percentages
+    /// and places. None exactly if none waits. The action that it names is there.
+    pub fn next_act(&mut self) -> Option<Act>
+        ensures handed_out { MatchOption result (self.old.waiting ≡ []) (λ act. self.old.waiting ≡ act ∷ self.new.waiting) }
+        ensures named { IfSome result (λ act. IsAct self.new.rows act) }
+        ensures none { result ≡ None → self.new ≡ self.old }
+        ensures size { self.new.size ≡ self.old.size }
+        ensures rows { self.new.rows ≡ self.old.rows }
+    {
+        self.parts.marks.next(&self.parts.objects)
+    }
+
+    /// The text of the action that an act names.
+    pub fn act_text(&self, act: &Act) -> &str
+        requires { IsAct self.now.rows act.now }
+        ensures { result.now ≡ text_of self.now.rows act.now }
+    {
+        text_of(&self.parts.objects, act)
+    }
+
+    /// Takes a command, when no act waits: the answer is the plain machine's, and so are the rows that are left and
+    /// the acts that wait then. The nodes and quotas that it names are there. An `Err` changes nothing.
     pub fn apply<L: Ledger>(
         &mut self,
         alloc: Global,
@@ -126,8 +156,8 @@ impl Engine {
         self.parts.take(alloc, command, steps)
     }
 
-    /// Takes a file operation at this moment, in seconds since 1970-01-01 00:00:00 UTC. What its answer
-    /// names is there. An `Err` changes nothing.
+    /// Takes a file operation at this moment, in seconds since 1970-01-01 00:00:00 UTC, when no act waits. What its
+    /// answer names is there. An `Err` changes nothing.
     pub fn file_op<L: Ledger>(
         &mut self,
         alloc: Global,
@@ -150,10 +180,10 @@ impl Engine {
         self.parts.file_op(alloc, op, moment, steps)
     }
 
-    /// Goes on with the active scan, at a moment in seconds since 1970-01-01 00:00:00 UTC: visits at most
-    /// `n` folders. If none is left then, the scan is finished: its quota is complete, and the
-    /// next scan begins. It is refused if the moment is before that of the last command that lasts
-    /// (ClockBack), else if no scan is active (NothingToScan). It takes no memory.
+    /// Goes on with the active scan, at a moment in seconds since 1970-01-01 00:00:00 UTC, when no act waits: visits
+    /// at most `n` folders. If none is left then, the scan is finished: its quota is complete, its thresholds may
+    /// have been reached, and the next scan begins. It is refused if the moment is before that of the last command
+    /// that lasts (ClockBack), else if no scan is active (NothingToScan). It takes no memory.
     pub fn scan_step<L: Ledger>(&mut self, n: u32, moment: u64, steps: &mut Steps<L>) -> Answer
         requires moment { moment ≤ latest_moment }
         requires idle { self.old.waiting ≡ [] }

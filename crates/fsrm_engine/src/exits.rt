@@ -1,9 +1,11 @@
 //! The answers of commands that don't last, and of refused ones.
 
 ghost use Rattle.std.specs.Prelude.{◌≡◌, false, IfOk, OnErr, Some, None};
-ghost use Rattle.fsrm_engine.specs.Faults.{answer_of, refused_answer, exceeded_refusal};
+ghost use Rattle.fsrm_model.specs.declared.command.Outcome.TheVariants.{Listing};
+ghost use Rattle.fsrm_engine.specs.Faults.{answer_of, refused_answer, table_answer, exceeded_refusal};
 
-use fsrm_model::{Answer, NoMemory, Outcome, Refusal};
+use fsrm_model::{Answer, Ask, NoMemory, Outcome, Refusal};
+use fsrm_objects::ObjectFault;
 use quota_usage::Exceeded;
 use volume_tree::TreeFault;
 
@@ -15,6 +17,13 @@ pub fn passing(outcome: Outcome) -> Answer
         outcome,
         lasting: false,
     }
+}
+
+/// The answer of a command that lists something.
+pub fn listing(ask: Ask) -> Answer
+    ensures { result ≡ record { outcome = Listing ask; lasting = false } }
+{
+    passing(Outcome::Listing(ask))
 }
 
 /// The answer of a refused command, which never lasts.
@@ -36,6 +45,21 @@ pub fn refused_by(fault: TreeFault) -> Result<Answer, NoMemory>
         TreeFault::VolumeFull => Refusal::VolumeFull,
         TreeFault::NamesFull => Refusal::NamesFull,
         TreeFault::NoMemory => return Err(NoMemory),
+    };
+    Ok(refused(refusal))
+}
+
+/// The same if the tables refused.
+pub fn refused_for(fault: ObjectFault) -> Result<Answer, NoMemory>
+    ensures ok { IfOk result (λ answer. table_answer fault ≡ Some answer) }
+    ensures err { OnErr result (table_answer fault ≡ None) }
+{
+    let refusal = match fault {
+        ObjectFault::AlreadyExists => Refusal::AlreadyExists,
+        ObjectFault::OutOfRange => Refusal::OutOfRange,
+        ObjectFault::TableFull => Refusal::TableFull,
+        ObjectFault::TextsFull => Refusal::TextsFull,
+        ObjectFault::NoMemory => return Err(NoMemory),
     };
     Ok(refused(refusal))
 }

@@ -6,7 +6,7 @@ ghost use Rattle.fsrm_model.specs.declared.command.FileOp.TheVariants.{Move};
 ghost use Rattle.fsrm_model.specs.Capacities.{is_capacity};
 ghost use Rattle.fsrm_model.specs.Cost.{deed_cost};
 ghost use Rattle.fsrm_model.specs.Limits.{latest_moment, longest_file};
-ghost use Rattle.fsrm_engine.specs.Machine.{Does, IsSound, IsWhole, rows_of};
+ghost use Rattle.fsrm_engine.specs.Machine.{Does, IsIdle, IsSound, IsWhole, rows_of};
 ghost use Rattle.fsrm_base.specs.Keyed.{has_row};
 ghost use Rattle.fsrm_model.specs.Tree.{number as key, under};
 ghost use Rattle.fsrm_model.specs.Valid.{IsVolume};
@@ -53,6 +53,7 @@ impl Parts {
         steps: &mut Steps<L>,
     ) -> Result<Answer, NoMemory>
         requires whole { IsWhole self.old }
+        requires idle { IsIdle self.old }
         requires moment { moment ≤ latest_moment }
         requires after { self.old.last_moment ≤ moment }
         ensures ok { IfOk result (λ answer. Does self.old self.new moment (File (Move from.now to.now)) answer) }
@@ -81,8 +82,8 @@ impl Parts {
             minus: bytes,
             plus: bytes,
         };
-        if let Err(refusal) = self.admit(&change, steps) {
-            return Ok(refused(refusal));
+        if let Err(exceeded) = self.admit(&change, steps) {
+            return Ok(self.refuse(exceeded, moment));
         }
         self.scans
             .follow_move(&self.tree, node, place.folder, steps);

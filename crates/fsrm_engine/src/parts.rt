@@ -1,28 +1,28 @@
 //! What an engine is made of, and what commands of all kinds do with it.
 
-ghost use Rattle.std.specs.Prelude.{◌≡◌, ◌+◌, ◌*◌, ◌≤◌, [], true, map, IfOk, IfErr, OnOk, Some};
-ghost use Rattle.fsrm_base.specs.Keyed.{is_ascending};
+ghost use Rattle.std.specs.Prelude.{◌≡◌, ◌+◌, ◌*◌, ◌≤◌, [], IfOk, IfErr, OnOk, Some, None, true};
 ghost use Rattle.fsrm_model.specs.Capacities.{is_capacity};
 ghost use Rattle.fsrm_model.specs.Fresh.{new_rows};
 ghost use Rattle.fsrm_model.specs.Limits.{latest_moment};
-ghost use Rattle.fsrm_model.specs.Quota.{folder_of};
-ghost use Rattle.fsrm_model.specs.Valid.{IsVolume};
 ghost use Rattle.fsrm_model.specs.declared.command.Outcome.TheVariants.{Done};
-ghost use Rattle.std.specs.Prelude.{None};
-ghost use Rattle.quota_usage.specs.Charge.{IsChange, Fits, height};
-ghost use Rattle.fsrm_engine.specs.Faults.{quota_refusal};
-ghost use Rattle.fsrm_engine.specs.Machine.{rows_of, machine_of, charged_parts, ended, AreCounted, IsWhole};
+ghost use Rattle.quota_usage.specs.Charge.{IsChange, Fits, exceeded_by, height};
+ghost use Rattle.fsrm_engine.specs.Machine.{machine_of, ended, AreCounted, IsWhole};
 
-use crate::charging::{raise_above, raise_all};
-use crate::exits::exceeded_by;
-use fsrm_model::{Answer, Capacity, Ledger, NoMemory, Outcome, Refusal, Steps};
+use crate::charging::raise_all;
+use fsrm_model::limits::MOST_QUOTAS;
+use fsrm_model::{Answer, Capacity, Ledger, NoMemory, Outcome, Steps};
 use fsrm_objects::Objects;
-use quota_usage::{Change, Usage};
+use number_set::NumberSet;
+use quota_usage::{Change, Exceeded, Usage};
 use scan_queue::Scans;
 use std::alloc::Global;
+use thresholds::Marks;
 use volume_tree::Tree;
 
-/// The tree, the objects on it, what is used below each quota that counts, and the scans.
+// What a new engine is set to, in minutes.
+const RUN_LIMIT: u32 = 60;
+
+/// The tree, the objects on it, what is used below each quota that counts, the scans, and the actions that wait.
 #[derive(Drop)]
 pub struct Parts {
     pub(crate) tree: Tree,
@@ -30,6 +30,12 @@ pub struct Parts {
     // What is used below each counting quota.
     pub(crate) usage: Usage,
     pub(crate) scans: Scans,
+    // Which actions ran and wait to be handed out, and the log of those that ran.
+    pub(crate) marks: Marks,
+    // The places of the quotas that a command has cross a threshold, until they are settled: between commands there is none.
+    pub(crate) crossing: NumberSet,
+    // Minutes: what an action's -1 stands for.
+    pub(crate) run_limit: u32,
     pub(crate) last_moment: u64,
     // Whether it is known that no counting quota's peak is below what is used. It needn't be so of rows from outside.
     pub(crate) level: bool,
@@ -45,11 +51,16 @@ impl Parts {
         let tree = Tree::reserve(alloc, size)?;
         let usage = Usage::reserve(alloc)?;
         let scans = Scans::reserve(alloc, size.nodes, size.cluster)?;
+        let marks = Marks::new(alloc)?;
+        let crossing = NumberSet::reserve(alloc, MOST_QUOTAS as u32)?;
         Ok(Parts {
             tree,
             objects: Objects::new(alloc),
             usage,
             scans,
+            marks,
+            crossing,
+            run_limit: RUN_LIMIT,
             last_moment: 0,
             level: false,
         })
@@ -60,40 +71,15 @@ impl Parts {
         &self,
         change: &Change,
         steps: &mut Steps<L>,
-    ) -> Result<(), Refusal>
+    ) -> Result<(), Exceeded>
         requires counted { AreCounted self.now }
         requires change { IsChange self.now.tree.nodes change.now }
         requires fits { Fits self.now.tree.nodes self.now.usage change.now }
-        ensures ok { OnOk result (quota_refusal self.now change.now ≡ None) }
-        ensures err { IfErr result (λ refusal. quota_refusal self.now change.now ≡ Some refusal) }
+        ensures ok { OnOk result (exceeded_by self.now.tree.nodes self.now.objects.quotas self.now.usage change.now ≡ None) }
+        ensures err { IfErr result (λ exceeded. exceeded_by self.now.tree.nodes self.now.objects.quotas self.now.usage change.now ≡ Some exceeded) }
         ensures looks { steps.new ≤ steps.old + 2 * (height self.now.tree.nodes change.now.from + height self.now.tree.nodes change.now.to) }
     {
-        match self.usage.admit(&self.tree, &self.objects, change, steps) {
-            Ok(()) => Ok(()),
-            Err(exceeded) => Err(exceeded_by(exceeded)),
-        }
-    }
-
-    /// Makes a change of the counters, and raises the peaks of the folders that gained.
-    pub(crate) fn charge<L: Ledger>(&mut self, change: &Change, moment: u64, steps: &mut Steps<L>)
-        requires volume { IsVolume self.old.tree.size self.old.tree.nodes }
-        requires ascending { is_ascending folder_of self.old.objects.quotas ≡ true }
-        requires change { IsChange self.old.tree.nodes change.now }
-        requires fits { Fits self.old.tree.nodes self.old.usage change.now }
-        ensures charged { self.new ≡ charged_parts self.old change.now moment }
-        ensures looks { steps.new ≤ steps.old + (2 * height self.old.tree.nodes change.now.from + 3 * height self.old.tree.nodes change.now.to) }
-    {
-        self.usage.charge(&self.tree, change, steps);
-        if let Some(folder) = change.to {
-            raise_above(
-                &self.tree,
-                &self.usage,
-                &mut self.objects,
-                folder,
-                moment,
-                steps,
-            );
-        }
+        self.usage.admit(&self.tree, &self.objects, change, steps)
     }
 
     // Raises each peak that is below what is used.

@@ -41,7 +41,7 @@ pub fn place_at<'a, L: Ledger>(
     }
     Ok(Place {
         folder,
-        name: names.next(),
+        name: names.next().unwrap(),
     })
 }
 

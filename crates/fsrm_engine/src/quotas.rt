@@ -1,49 +1,51 @@
 //! The commands on quotas.
 
 ghost use Rattle.std.specs.Prelude.{◌≡◌, ◌+◌, ◌*◌, ◌≤◌, [], true, false, length, IfOk, OnErr, Some, None};
+ghost use Rattle.std.specs.List.{list_all};
 ghost use Rattle.std.specs.Option.{option_map_or};
-ghost use Rattle.fsrm_model.specs.declared.command.Ask.TheVariants.{Quotas};
+ghost use Rattle.fsrm_base.specs.Keyed.{is_ascending};
 ghost use Rattle.fsrm_model.specs.declared.command.Deed.TheVariants.{QuotaAdd, QuotaModify, QuotaDelete, QuotaScan, QuotaResetpeak, QuotaList};
-ghost use Rattle.fsrm_model.specs.declared.command.Outcome.TheVariants.{Listing};
 ghost use Rattle.fsrm_model.specs.Cost.{deed_cost};
 ghost use Rattle.fsrm_model.specs.Limits.{latest_moment};
 ghost use Rattle.fsrm_model.specs.Quota.{is_limit};
 ghost use Rattle.fsrm_model.specs.QuotaStates.{is_disabled};
-ghost use Rattle.fsrm_model.specs.QuotaWork.{new_quota, modified};
-ghost use Rattle.fsrm_engine.specs.Machine.{Does, IsSound, IsWhole, rows_of};
+ghost use Rattle.fsrm_model.specs.QuotaWork.{new_quota, modified, remarked};
+ghost use Rattle.fsrm_model.specs.Thresholds.{is_notice, is_percent, percent_of};
+ghost use Rattle.fsrm_engine.specs.Machine.{Does, IsIdle, IsSound, IsWhole, rows_of};
 
-use crate::exits::{passing, refused};
+use crate::exits::{listing, passing, refused, refused_for};
 use crate::parts::Parts;
 use crate::places::folder_at;
 use crate::states::first_state;
-use fsrm_model::limits::MOST_QUOTAS;
+use crate::threshold_lists::{ThresholdChange, may_be_removed};
 use fsrm_model::{
     Answer, Ask, Duplicate, Ledger, List, NoMemory, Outcome, Path, QuotaRow, QuotaState, Refusal,
     Steps,
 };
 use std::alloc::Global;
 
-// A new quota.
+// A new quota, with the thresholds that a command gives it.
 fn new_quota(
     alloc: Global,
     folder: u32,
     limit: u64,
     enforce: bool,
     state: QuotaState,
+    change: &ThresholdChange<'_>,
     moment: u64,
-) -> QuotaRow
-    ensures { result ≡ new_quota folder limit enforce state moment }
+) -> Result<QuotaRow, NoMemory>
+    ensures { IfOk result (λ row. row ≡ remarked change.now.removed.now change.now.percents.now change.now.notices.now (new_quota folder limit enforce state moment)) }
 {
-    QuotaRow {
+    Ok(QuotaRow {
         folder,
         limit,
         enforce,
         state,
-        thresholds: List::new(alloc),
+        thresholds: change.changed(alloc, &List::new(alloc))?,
         template: None,
         peak: 0,
         peak_at: moment,
-    }
+    })
 }
 
 // Whether a quota of this state is disabled.
@@ -53,30 +55,31 @@ fn is_disabled(state: QuotaState) -> bool
     state == QuotaState::Disabled
 }
 
-// The answer to a list.
-fn listing(folder: Option<u32>) -> Answer
-    ensures { result ≡ record { outcome = Listing (Quotas folder); lasting = false } }
-{
-    passing(Outcome::Listing(Ask::Quotas(folder)))
-}
-
-// A quota with another limit, or of another type, if these are given.
+// A quota with another limit, or of another type, if these are given, and with changed thresholds.
 fn modified(
     alloc: Global,
     quota: &QuotaRow,
     limit: Option<u64>,
     enforce: Option<bool>,
+    change: &ThresholdChange<'_>,
 ) -> Result<QuotaRow, NoMemory>
-    ensures { IfOk result (λ row. row ≡ modified limit enforce quota.now) }
+    requires { is_ascending percent_of quota.now.thresholds ≡ true }
+    ensures { IfOk result (λ row. row ≡ remarked change.now.removed.now change.now.percents.now change.now.notices.now (modified limit enforce quota.now)) }
 {
-    let mut row = quota.copy(alloc)?;
-    row.limit = limit.unwrap_or(row.limit);
-    row.enforce = enforce.unwrap_or(row.enforce);
-    Ok(row)
+    Ok(QuotaRow {
+        folder: quota.folder,
+        limit: limit.unwrap_or(quota.limit),
+        enforce: enforce.unwrap_or(quota.enforce),
+        state: quota.state,
+        thresholds: change.changed(alloc, &quota.thresholds)?,
+        template: quota.template,
+        peak: quota.peak,
+        peak_at: quota.peak_at,
+    })
 }
 
 impl Parts {
-    /// Makes a quota.
+    /// Makes a quota. It crosses no threshold: if it counts nothing is used.
     pub(crate) fn quota_add<L: Ledger>(
         &mut self,
         alloc: Global,
@@ -84,37 +87,38 @@ impl Parts {
         limit: Option<u64>,
         enforce: Option<bool>,
         enabled: bool,
+        change: &ThresholdChange<'_>,
         moment: u64,
         steps: &mut Steps<L>,
     ) -> Result<Answer, NoMemory>
         requires whole { IsWhole self.old }
+        requires idle { IsIdle self.old }
         requires limit { option_map_or is_limit limit false ≡ true }
+        requires removed { change.now.removed.now ≡ [] }
+        requires percents { list_all is_percent change.now.percents.now ≡ true }
+        requires notices { list_all is_notice change.now.notices.now ≡ true }
         requires moment { moment ≤ latest_moment }
         requires after { self.old.last_moment ≤ moment }
-        ensures ok { IfOk result (λ answer. Does self.old self.new moment (QuotaAdd path.now limit enforce enabled None [] []) answer) }
+        ensures ok { IfOk result (λ answer. Does self.old self.new moment (QuotaAdd path.now limit enforce enabled None change.now.percents.now change.now.notices.now) answer) }
         ensures err { OnErr result (self.new ≡ self.old) }
         ensures sound { IsSound self.new }
-        ensures looks { steps.new ≤ steps.old + deed_cost (rows_of self.old) (QuotaAdd path.now limit enforce enabled None [] []) }
+        ensures looks { steps.new ≤ steps.old + deed_cost (rows_of self.old) (QuotaAdd path.now limit enforce enabled None change.now.percents.now change.now.notices.now) }
     {
         let Some(folder) = folder_at(&self.tree, path, steps) else {
             return Ok(refused(Refusal::PathNotFound));
         };
-        if self.objects.quota(folder).is_some() {
-            return Ok(refused(Refusal::AlreadyExists));
-        }
-        if self.objects.quota_count() as usize >= MOST_QUOTAS {
-            return Ok(refused(Refusal::TableFull));
-        }
         let state = first_state(&self.tree, folder, enabled, steps);
         // A command gives a limit, and a quota is hard if its type isn't given.
         let limit = limit.unwrap();
         let enforce = enforce.unwrap_or(true);
-        let row = new_quota(alloc, folder, limit, enforce, state, moment);
-        self.enlist(row)?;
-        Ok(self.done(moment))
+        let row = new_quota(alloc, folder, limit, enforce, state, change, moment)?;
+        match self.enlist(row) {
+            Ok(()) => Ok(self.done(moment)),
+            Err(fault) => refused_for(fault),
+        }
     }
 
-    /// Changes what is given of a quota: its limit, its type, its status.
+    /// Changes what is given of a quota: its limit, its type, its thresholds, its status.
     pub(crate) fn quota_modify<L: Ledger>(
         &mut self,
         alloc: Global,
@@ -122,25 +126,38 @@ impl Parts {
         limit: Option<u64>,
         enforce: Option<bool>,
         enabled: Option<bool>,
+        change: &ThresholdChange<'_>,
         moment: u64,
         steps: &mut Steps<L>,
     ) -> Result<Answer, NoMemory>
         requires whole { IsWhole self.old }
+        requires idle { IsIdle self.old }
         requires limit { option_map_or is_limit limit true ≡ true }
+        requires percents { list_all is_percent change.now.percents.now ≡ true }
+        requires notices { list_all is_notice change.now.notices.now ≡ true }
         requires moment { moment ≤ latest_moment }
         requires after { self.old.last_moment ≤ moment }
-        ensures ok { IfOk result (λ answer. Does self.old self.new moment (QuotaModify path.now limit enforce enabled [] [] []) answer) }
+        ensures ok { IfOk result (λ answer. Does self.old self.new moment (QuotaModify path.now limit enforce enabled change.now.removed.now change.now.percents.now change.now.notices.now) answer) }
         ensures err { OnErr result (self.new ≡ self.old) }
         ensures sound { IsSound self.new }
-        ensures looks { steps.new ≤ steps.old + deed_cost (rows_of self.old) (QuotaModify path.now limit enforce enabled [] [] []) }
+        ensures looks { steps.new ≤ steps.old + deed_cost (rows_of self.old) (QuotaModify path.now limit enforce enabled change.now.removed.now change.now.percents.now change.now.notices.now) }
     {
         let quota = match self.quota_at(path, steps) {
             Ok(quota) => quota,
             Err(refusal) => return Ok(refused(refusal)),
         };
-        let mut row = modified(alloc, quota, limit, enforce)?;
-        row.state = self.state_after(quota.folder, quota.state, enabled, steps);
+        if !may_be_removed(change.removed, quota.thresholds.as_slice()) {
+            return Ok(refused(Refusal::NotFound));
+        }
+        let before = quota.copy(alloc)?;
+        let mut row = modified(alloc, &before, limit, enforce, change)?;
+        row.state = self.state_after(before.folder, before.state, enabled, steps);
+        if let Err(fault) = self.may_put(&row) {
+            return refused_for(fault);
+        }
+        let used = self.usage.used(before.folder);
         self.replace(row)?;
+        self.settle_quota(before.folder, Some(&before), used, moment);
         Ok(self.done(moment))
     }
 
@@ -152,6 +169,7 @@ impl Parts {
         steps: &mut Steps<L>,
     ) -> Answer
         requires whole { IsWhole self.old }
+        requires idle { IsIdle self.old }
         requires moment { moment ≤ latest_moment }
         requires after { self.old.last_moment ≤ moment }
         ensures ok { Does self.old self.new moment (QuotaDelete path.now) result }
@@ -175,6 +193,7 @@ impl Parts {
         steps: &mut Steps<L>,
     ) -> Result<Answer, NoMemory>
         requires whole { IsWhole self.old }
+        requires idle { IsIdle self.old }
         requires moment { moment ≤ latest_moment }
         requires after { self.old.last_moment ≤ moment }
         ensures ok { IfOk result (λ answer. Does self.old self.new moment (QuotaScan path.now) answer) }
@@ -206,6 +225,7 @@ impl Parts {
         steps: &mut Steps<L>,
     ) -> Answer
         requires whole { IsWhole self.old }
+        requires idle { IsIdle self.old }
         requires moment { moment ≤ latest_moment }
         requires after { self.old.last_moment ≤ moment }
         ensures ok { Does self.old self.new moment (QuotaResetpeak path.now) result }
@@ -224,6 +244,7 @@ impl Parts {
     // Lists a folder's quota.
     fn list_one<L: Ledger>(&self, path: &Path, moment: u64, steps: &mut Steps<L>) -> Answer
         requires whole { IsWhole self.now }
+        requires idle { IsIdle self.now }
         requires after { self.now.last_moment ≤ moment }
         ensures ok { Does self.now self.now moment (QuotaList (Some path.now)) result }
         ensures looks { steps.new ≤ steps.old + (22 * length path.now + 2) }
@@ -232,7 +253,7 @@ impl Parts {
             Ok(quota) => quota.folder,
             Err(refusal) => return refused(refusal),
         };
-        listing(Some(folder))
+        listing(Ask::Quotas(Some(folder)))
     }
 
     /// Lists one quota, or all of them.
@@ -243,13 +264,14 @@ impl Parts {
         steps: &mut Steps<L>,
     ) -> Answer
         requires whole { IsWhole self.now }
+        requires idle { IsIdle self.now }
         requires after { self.now.last_moment ≤ moment }
         ensures ok { Does self.now self.now moment (QuotaList path.now) result }
         ensures looks { steps.new ≤ steps.old + deed_cost (rows_of self.now) (QuotaList path.now) }
     {
         match path {
             Some(path) => self.list_one(path, moment, steps),
-            None => listing(None),
+            None => listing(Ask::Quotas(None)),
         }
     }
 }

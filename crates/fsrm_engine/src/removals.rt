@@ -6,7 +6,7 @@ ghost use Rattle.fsrm_model.specs.declared.command.FileOp.TheVariants.{Remove};
 ghost use Rattle.fsrm_model.specs.Cost.{deed_cost};
 ghost use Rattle.fsrm_model.specs.Limits.{latest_moment};
 ghost use Rattle.fsrm_model.specs.Tree.{resolve, is_folder};
-ghost use Rattle.fsrm_engine.specs.Machine.{Does, IsSound, IsWhole, rows_of};
+ghost use Rattle.fsrm_engine.specs.Machine.{Does, IsIdle, IsSound, IsWhole, rows_of};
 
 use crate::charging::drop_quota;
 use crate::exits::refused;
@@ -23,6 +23,7 @@ impl Parts {
         steps: &mut Steps<L>,
     ) -> Answer
         requires whole { IsWhole self.old }
+        requires idle { IsIdle self.old }
         requires moment { moment ≤ latest_moment }
         requires after { self.old.last_moment ≤ moment }
         ensures ok { Does self.old self.new moment (File (Remove path.now)) result }
@@ -62,6 +63,7 @@ impl Parts {
         steps: &mut Steps<L>,
     ) -> Answer
         requires whole { IsWhole self.old }
+        requires idle { IsIdle self.old }
         requires moment { moment ≤ latest_moment }
         requires after { self.old.last_moment ≤ moment }
         requires resolved { resolve self.old.tree.nodes path.now ≡ Some node }

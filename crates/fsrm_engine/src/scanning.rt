@@ -2,13 +2,13 @@
 
 ghost use Rattle.std.specs.Prelude.{◌≡◌, ◌+◌, ◌-◌, ◌==◌, ◌≤◌, true, Some, is_some, length};
 ghost use Rattle.fsrm_model.specs.declared.command.Deed.TheVariants.{Step};
-ghost use Rattle.fsrm_model.specs.declared.row.QuotaState.TheVariants.{Complete};
 ghost use Rattle.fsrm_model.specs.Cost.{deed_cost, step_cost};
 ghost use Rattle.fsrm_model.specs.Limits.{latest_moment};
-ghost use Rattle.fsrm_model.specs.QuotaStates.{head, with_state};
+ghost use Rattle.fsrm_model.specs.QuotaStates.{head};
 ghost use Rattle.fsrm_model.specs.Scan.{visits};
 ghost use Rattle.fsrm_model.specs.Tree.{usage};
-ghost use Rattle.fsrm_engine.specs.Machine.{Does, IsSound, IsWhole, machine_of, rows_of, lasting_rows, with_rows};
+ghost use Rattle.fsrm_engine.specs.Due.{Finishes};
+ghost use Rattle.fsrm_engine.specs.Machine.{Does, IsIdle, IsSound, IsWhole, rows_of};
 
 use crate::exits::{passing, refused};
 use crate::parts::Parts;
@@ -18,6 +18,7 @@ impl Parts {
     /// Goes on with the active scan, at a moment that isn't before the last one.
     pub(crate) fn go_on<L: Ledger>(&mut self, n: u32, moment: u64, steps: &mut Steps<L>) -> Answer
         requires whole { IsWhole self.old }
+        requires idle { IsIdle self.old }
         requires moment { moment ≤ latest_moment }
         requires after { self.old.last_moment ≤ moment }
         ensures ok { Does self.old self.new moment (Step n) result }
@@ -50,7 +51,8 @@ impl Parts {
     fn visit<L: Ledger>(&mut self, n: u32, steps: &mut Steps<L>) -> u32
         requires whole { IsWhole self.old }
         requires active { is_some (head self.old.scans.queue) ≡ true }
-        ensures left { machine_of self.new ≡ with_rows (machine_of self.old) (record (rows_of self.old) { unvisited = visits n (rows_of self.old).nodes (rows_of self.old).unvisited }) }
+        ensures kept { self.new ≡ record self.old { scans = self.new.scans } }
+        ensures left { rows_of self.new ≡ record (rows_of self.old) { unvisited = visits n (rows_of self.old).nodes (rows_of self.old).unvisited } }
         ensures visited { result ≡ length (rows_of self.old).unvisited - length (rows_of self.new).unvisited }
         ensures whole { IsWhole self.new }
         ensures looks { steps.new ≤ steps.old + step_cost (rows_of self.old) n }
@@ -58,15 +60,16 @@ impl Parts {
         self.scans.visit(&self.tree, n, steps)
     }
 
-    // Ends the active scan, which has nothing more to visit: its quota counts from now on, and the next
-    // scan begins. It gives what the quota's folder uses.
+    // Ends the active scan, which has nothing more to visit: its quota counts from now on, and the next scan begins. The
+    // quota may have reached thresholds. It gives what the quota's folder uses.
     fn finish(&mut self, folder: u32, moment: u64) -> u64
         requires whole { IsWhole self.old }
+        requires idle { IsIdle self.old }
         requires moment { moment ≤ latest_moment }
         requires active { head self.old.scans.queue ≡ Some folder }
         requires done { length (rows_of self.old).unvisited ≡ 0 }
         ensures used { result ≡ usage self.old.tree.size self.old.tree.nodes folder }
-        ensures ended { machine_of self.new ≡ record (machine_of self.old) { rows = lasting_rows (machine_of self.old) (with_state (rows_of self.old) folder Complete) moment } }
+        ensures finished { Finishes self.old self.new folder moment }
         ensures sound { IsSound self.new }
     {
         let used = self.scans.finish();

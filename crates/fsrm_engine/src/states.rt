@@ -1,20 +1,24 @@
 //! The states of quotas, and the queue of those that wait for a scan.
 
-ghost use Rattle.std.specs.Prelude.{◌≡◌, ◌+◌, ◌≤◌, ◌<◌, [], if◌then◌else◌, true, false, length, OnOk, OnErr, Some};
+ghost use Rattle.std.specs.Prelude.{◌≡◌, ◌+◌, ◌≤◌, ◌<◌, if◌then◌else◌, true, false, IfErr, OnOk, OnErr, Some, None};
+ghost use Rattle.std.specs.List.{list_all};
 ghost use Rattle.fsrm_model.specs.declared.row.QuotaRow.{QuotaRow};
 ghost use Rattle.fsrm_model.specs.declared.row.QuotaState.TheVariants.{Disabled, Rebuilding};
-ghost use Rattle.fsrm_base.specs.Keyed.{has_row, row_of};
-ghost use Rattle.fsrm_model.specs.Limits.{most_quotas};
+ghost use Rattle.fsrm_base.specs.Keyed.{has_row, is_ascending, row_of, with_row, with_change};
 ghost use Rattle.fsrm_model.specs.Quota.{folder_of, counts, is_limit};
-ghost use Rattle.fsrm_model.specs.QuotaStates.{start, queued, state_of, state_after, followed, with_quota, with_state};
+ghost use Rattle.fsrm_model.specs.QuotaStates.{start, queued, state_of, state_after, in_state};
+ghost use Rattle.fsrm_model.specs.Thresholds.{are_thresholds, is_threshold, percent_of};
 ghost use Rattle.fsrm_model.specs.Tree.{is_folder, usage};
 ghost use Rattle.fsrm_model.specs.Valid.{IsVolume, is_moment};
 ghost use Rattle.scan_queue.specs.Courses.{Scanning, Turns};
 ghost use Rattle.volume_tree.specs.Volume.{Volume};
-ghost use Rattle.fsrm_engine.specs.Machine.{IsSound, IsWhole, machine_of, rows_of, with_rows, with_other};
+ghost use Rattle.fsrm_objects.specs.Tables.{IsFault, other_fault, quota_fault};
+ghost use Rattle.fsrm_engine.specs.Faults.{text_room};
+ghost use Rattle.fsrm_engine.specs.Machine.{IsSound, IsWhole, Turned, rows_of};
 
 use crate::parts::Parts;
 use fsrm_model::{Ledger, NoMemory, QuotaRow, QuotaState, Steps};
+use fsrm_objects::ObjectFault;
 use scan_queue::Scans;
 use volume_tree::Tree;
 
@@ -93,16 +97,17 @@ impl Parts {
 
     /// Puts a quota on a folder that has none, and its scan into the queue if it is rebuilding. If it counts, nothing
     /// may be used yet. An `Err` changes nothing.
-    pub(crate) fn enlist(&mut self, row: QuotaRow) -> Result<(), NoMemory>
+    pub(crate) fn enlist(&mut self, row: QuotaRow) -> Result<(), ObjectFault>
         requires sound { IsSound self.old }
-        requires absent { has_row folder_of row.folder self.old.objects.quotas ≡ false }
-        requires room { length self.old.objects.quotas < most_quotas }
         requires folder { is_folder self.old.tree.nodes row.folder ≡ true }
         requires limit { is_limit row.limit ≡ true }
+        requires ascending { is_ascending percent_of row.thresholds ≡ true }
+        requires thresholds { list_all is_threshold row.thresholds ≡ true }
         requires moment { is_moment row.peak_at ≡ true }
-        requires plain { row.thresholds ≡ [] }
         requires nothing { counts row ≡ true → usage self.old.tree.size self.old.tree.nodes row.folder ≡ 0 }
-        ensures listed { OnOk result (machine_of self.new ≡ with_rows (machine_of self.old) (followed (rows_of self.old) (with_quota (rows_of self.old) row))) }
+        ensures listed { OnOk result (Turned self.old self.new (with_row folder_of row self.old.objects.quotas) (queued self.old.scans.queue row.folder row.state)) }
+        ensures may { OnOk result (quota_fault self.old.objects row (text_room self.old) ≡ None) }
+        ensures refused { IfErr result (λ fault. IsFault fault (quota_fault self.old.objects row (text_room self.old))) }
         ensures err { OnErr result (self.new ≡ self.old) }
         ensures sound { IsSound self.new }
     {
@@ -111,7 +116,7 @@ impl Parts {
         self.add(row)?;
         let Ok(()) = requeue(&mut self.scans, folder, state) else {
             self.take_away(folder);
-            return Err(NoMemory);
+            return Err(ObjectFault::NoMemory);
         };
         Ok(())
     }
@@ -123,11 +128,12 @@ impl Parts {
         requires there { has_row folder_of row.folder self.old.objects.quotas ≡ true }
         requires folder { is_folder self.old.tree.nodes row.folder ≡ true }
         requires limit { is_limit row.limit ≡ true }
+        requires thresholds { are_thresholds row.thresholds ≡ true }
         requires moment { is_moment row.peak_at ≡ true }
         requires peak { (quota : QuotaRow) → row_of folder_of row.folder self.old.objects.quotas ≡ Some quota → row.peak ≡ quota.peak }
-        requires plain { row.thresholds ≡ [] }
         requires nothing { (quota : QuotaRow) → row_of folder_of row.folder self.old.objects.quotas ≡ Some quota → counts quota ≡ false → counts row ≡ true → usage self.old.tree.size self.old.tree.nodes row.folder ≡ 0 }
-        ensures replaced { OnOk result (machine_of self.new ≡ with_rows (machine_of self.old) (followed (rows_of self.old) (with_other (rows_of self.old) row))) }
+        requires may { other_fault self.old.objects row (text_room self.old) ≡ None }
+        ensures replaced { OnOk result (Turned self.old self.new (with_change folder_of row.folder (λ old. row) self.old.objects.quotas) (queued self.old.scans.queue row.folder row.state)) }
         ensures err { OnErr result (self.new ≡ self.old) }
         ensures sound { IsSound self.new }
     {
@@ -141,7 +147,7 @@ impl Parts {
         requires sound { IsSound self.old }
         requires there { has_row folder_of folder self.old.objects.quotas ≡ true }
         requires folder { is_folder self.old.tree.nodes folder ≡ true }
-        ensures rebuilt { OnOk result (machine_of self.new ≡ with_rows (machine_of self.old) (followed (rows_of self.old) (with_state (rows_of self.old) folder Rebuilding))) }
+        ensures rebuilt { OnOk result (Turned self.old self.new (with_change folder_of folder (in_state Rebuilding) self.old.objects.quotas) (queued self.old.scans.queue folder Rebuilding)) }
         ensures err { OnErr result (self.new ≡ self.old) }
         ensures sound { IsSound self.new }
     {

@@ -7,7 +7,7 @@ ghost use Rattle.fsrm_model.specs.Cost.{deed_cost};
 ghost use Rattle.fsrm_base.specs.Keyed.{has_row};
 ghost use Rattle.fsrm_model.specs.Tree.{number as key, children_in_order, usage, under};
 ghost use Rattle.fsrm_model.specs.Valid.{IsVolume};
-ghost use Rattle.fsrm_engine.specs.Machine.{Does, IsWhole, rows_of};
+ghost use Rattle.fsrm_engine.specs.Machine.{Does, IsIdle, IsWhole, rows_of};
 ghost use Rattle.fsrm_engine.specs.Walk.{usage_of_all, under_all, AreThere};
 
 use crate::exits::{passing, refused};
@@ -103,6 +103,7 @@ impl Parts {
         steps: &mut Steps<L>,
     ) -> Result<Answer, NoMemory>
         requires whole { IsWhole self.now }
+        requires idle { IsIdle self.now }
         requires after { self.now.last_moment ≤ moment }
         ensures ok { IfOk result (λ answer. Does self.now self.now moment (Usage path.now) answer) }
         ensures looks { steps.new ≤ steps.old + deed_cost (rows_of self.now) (Usage path.now) }

@@ -34,6 +34,7 @@ use Rattle.fsrm_base.proofs.Sums.{sum_by_most}
 -- what a change of nodes makes of the usage of the quotas' folders, and of the ways up from the folders of the change
 pub record Changes (K : Capacity) (nodes new : List NodeRow) (quotas : List QuotaRow) (change : Change) : Type 0 where
   pub after : (f : ℕ) (q : QuotaRow) → row_of folder_of f quotas ≡ Some q → usage K new f ≡ charged nodes change f (usage K nodes f)
+  pub held : (f : ℕ) (q : QuotaRow) → row_of folder_of f quotas ≡ Some q → is_above nodes change.from f ≡ true → change.minus ≤ usage K nodes f
   pub from_same : (f : ℕ) → is_above new change.from f ≡ is_above nodes change.from f
   pub to_same : (f : ℕ) → is_above new change.to f ≡ is_above nodes change.to f
   pub up_same : (f g : ℕ) → Has nodes g → is_above nodes change.to g ≡ true → is_under new f g ≡ is_under nodes f g
@@ -52,6 +53,7 @@ changes_made K nodes quotas d name bytes owner m v qs folder =
       after = λ f q found.
           let sum : usage K (with_row number node nodes) f ≡ usage K nodes f + cond (is_under nodes f d) (space K node) 0 = usage-new K nodes t node s.0 s.1 free hd f (folder_has nodes f (qs.folders f q found)) in
           omega (arith, sum);
+      held = λ f q found on. cc on;
       from_same = λ f. refl;
       to_same = λ f. ap (λ ns. is_in ns f) (chain-new_other nodes t node free d hd);
       up_same = λ f g h on. ap (λ ns. is_in ns f) (chain-new_other nodes t node free g h);
@@ -96,6 +98,7 @@ changes_resized K nodes quotas x c row v qs k found file inner =
           let eq : usage K new f + cond (is_under nodes f p) (space K row) 0 ≡ usage K nodes f + cond (is_under nodes f p) (space K (c row)) 0 =
           subst (λ b. usage K new f + cond b (space K row) 0 ≡ usage K nodes f + cond b (space K (c row)) 0) same (usage-change K nodes x c k v.ascending row found f) in
           after_resize (usage K nodes f) (usage K new f) (space K row) (space K (c row)) (is_under nodes f p) (λ a. space-above K nodes f x row found (up ∙ a)) eq;
+      held = λ f q g on. space-above K nodes f x row found (file_up K nodes x f v hx file (qs.folders f q g) inner ∙ on);
       from_same = λ f. same_up f p;
       to_same = λ f. same_up f p;
       up_same = λ f g h on. same_up f g;
@@ -180,6 +183,13 @@ moved_usage K nodes x d name v m f hf =
           after_outside (usage K nodes f) (usage K new f) u (is_under nodes f d) (is_under nodes f p) (λ a. usage-above K nodes t f x hx (up ∙ a)) eq'
     ]
 
+-- a folder above that of a node, and not at or below the node, has at least the node's usage
+moved_held : (K : Capacity) (nodes : List NodeRow) (x f : ℕ) → IsTree nodes → (x == 0) ≡ false → Has nodes x → Has nodes f → is_under nodes f (parent_of nodes x) ≡ true → usage K nodes x ≤ usage K nodes f
+moved_held K nodes x f t inner hx hf on =
+    let apart : is_under nodes x f ≡ false = not_true _ (λ below. clash _ (above_all nodes t x f (parent_of nodes x) inner hf (t.closed x hx) on below) (not_above nodes t x hx inner)) in
+    let other : (x ≡ f → ⊥) = λ s. clash (is_under nodes x f) (subst (λ j. is_under nodes x j ≡ true) s (under_own nodes x)) apart in
+    usage-above K nodes t f x hx (under_up nodes t f x hx (not_zero x inner) other ∙ on)
+
 -- a node moves
 pub changes_moved : (K : Capacity) (nodes : List NodeRow) (quotas : List QuotaRow) (x d : ℕ) (name : List ℕ) (bytes : ℕ) → IsVolume K nodes → AreQuotas nodes quotas → MovesTo nodes x d → IsMoved K nodes quotas x bytes →
     Changes K nodes (with_change number x (placed d name) nodes) quotas (record { from = Some (parent_of nodes x); to = Some d; minus = bytes; plus = bytes })
@@ -195,6 +205,7 @@ changes_moved K nodes quotas x d name bytes v qs m moved =
       after = λ f q found.
           subst (λ u. usage K new f ≡ usage K nodes f - cond (is_under nodes f p) u 0 + cond (is_under nodes f d) u 0) (sym (moved.all f q found))
           (moved_usage K nodes x d name v m f (folder_has nodes f (qs.folders f q found)));
+      held = λ f q found on. subst (λ u. u ≤ usage K nodes f) (sym (moved.all f q found)) (moved_held K nodes x f t m.inner hx (folder_has nodes f (qs.folders f q found)) on);
       from_same = λ f. other p (not_above nodes t x hx m.inner) f;
       to_same = λ f. other d m.apart f;
       up_same = λ f g h on. other g (not_true _ (λ a. clash _ (above_all nodes t x g d m.inner h hd on a) m.apart)) f;
@@ -230,6 +241,7 @@ changes_removed K nodes quotas x row v qs m found file =
           let own : share K nodes f row ≡ cond (is_under nodes f p) (space K row) 0 = ap (λ b. cond b (space K row) 0) (ap (is_under nodes f) (found_key number x nodes row found) ∙ up) in
           let eq : usage K new f + cond (is_under nodes f p) (space K row) 0 ≡ usage K nodes f = subst (λ s. usage K new f + s ≡ usage K nodes f) own (usage-removed K nodes x r v.ascending row found f) in
           after_removal (usage K nodes f) (usage K new f) (space K row) (is_under nodes f p) eq;
+      held = λ f q g on. space-above K nodes f x row found (file_up K nodes x f v hx file (qs.folders f q g) (not_zero x m.inner) ∙ on);
       from_same = λ f. ap (λ ns. is_in ns f) (removed_chain nodes new x r p hp);
       to_same = λ f. refl;
       up_same = λ f g h on. absurd cc;

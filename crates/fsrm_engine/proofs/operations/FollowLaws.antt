@@ -3,12 +3,10 @@ use Rattle.std.proofs.Common.{◌≡◌, ℕ, suc, length, ◌==◌, ◌≤◌, 
 use Rattle.std.proofs.lemmas.Option.{same_Some}
 use Rattle.std.specs.Prelude.{Result, Ok, Err, OnOk, map, if◌then◌else◌}
 use Rattle.std.specs.Option.{option_map_or}
-use Rattle.fsrm_model.specs.declared.command.Answer.{Answer}
 use Rattle.fsrm_model.specs.declared.command.Deed.TheVariants.{File}
 use Rattle.fsrm_model.specs.declared.command.FileOp.{FileOp}
 use Rattle.fsrm_model.specs.declared.command.FileOp.TheVariants as op
 use Rattle.fsrm_model.specs.declared.command.FileOp.TheVariants.{Mkdir, Create, Resize, Touch, Remove}
-use Rattle.fsrm_model.specs.declared.command.Outcome.TheVariants.{Done}
 use Rattle.fsrm_model.specs.declared.row.NodeRow.{NodeRow}
 use Rattle.fsrm_model.specs.declared.row.QuotaRow.{QuotaRow}
 use Rattle.fsrm_model.specs.declared.row.Rows.{Rows}
@@ -33,10 +31,10 @@ use Rattle.scan_queue.proofs.Queues.{left_absent}
 use Rattle.node_table.specs.declared.view.NodeView.{NodeView}
 use Rattle.volume_tree.specs.Volume.{Volume, Move, Shows, with_node, without_node, with_place}
 use Rattle.fsrm_engine.specs.declared.parts.Parts.{Parts}
-use Rattle.fsrm_engine.specs.Machine.{Does, rows_of, ended}
+use Rattle.fsrm_engine.specs.Machine.{IsIdle, rows_of}
 use Rattle.fsrm_engine.specs.Places.{IsPlace}
 use Rattle.fsrm_engine.proofs.steps.PlaceLaws.{target_is}
-use Rattle.fsrm_engine.proofs.steps.StepLaws.{due, done_as, same_own}
+use Rattle.fsrm_engine.proofs.steps.StepLaws.{Accepts, Keeps, asked, due, followed_rows, same_own, still_idle}
 
 -- the rows that a file operation leaves, table by table
 effect_is : (R : Rows) (op : FileOp) (m : ℕ) → file_effect R op m ≡ record R { nodes = plain R.nodes op m; quotas = (file_effect R op m).quotas; queue = (file_effect R op m).queue; unvisited = option_map_or (unvisited_in R (plain R.nodes op m) op) (head R.queue) [] }
@@ -59,18 +57,25 @@ option_each : (f g : ℕ → List ℕ) (o : Option ℕ) → ((n : ℕ) → f n �
 option_each f g None h = refl
 option_each f g (Some n) h = h n
 
--- the answer to an operation that was done, and left the queue as it was
-pub op_done : (p mid new : Parts) (m : ℕ) (op : FileOp) (answer : Answer) (quotas : List QuotaRow) (next : ℕ → List ℕ) → p.last_moment ≤ m → due p m (File op) ≡ None → plain p.tree.nodes op m ≡ mid.tree.nodes → (file_effect (rows_of p) op m).quotas ≡ quotas → (file_effect (rows_of p) op m).queue ≡ p.scans.queue → ((k : ℕ) → unvisited_in (rows_of p) (plain p.tree.nodes op m) op k ≡ next k) → Goes p.scans mid.scans mid.tree next → mid.tree.size ≡ p.tree.size → map (peaked p.tree.size mid.tree.nodes m) mid.objects.quotas ≡ map (peaked p.tree.size mid.tree.nodes m) quotas → new ≡ ended mid m → answer ≡ record { outcome = Done None; lasting = true } → Does p new m (File op) answer
-op_done p mid new m op answer quotas next after none nodes quotas_are queue each goes size raised ends e =
+-- an operation is taken that leaves the queue as it was, if no check refuses it
+pub op_accepts : (p mid : Parts) (m : ℕ) (op : FileOp) (quotas : List QuotaRow) (next : ℕ → List ℕ) → IsIdle p → p.last_moment ≤ m → due p m (File op) ≡ None → plain p.tree.nodes op m ≡ mid.tree.nodes → (file_effect (rows_of p) op m).quotas ≡ quotas → (file_effect (rows_of p) op m).queue ≡ p.scans.queue → ((k : ℕ) → unvisited_in (rows_of p) (plain p.tree.nodes op m) op k ≡ next k) → Goes p.scans mid.scans mid.tree next → Keeps p mid → map (peaked p.tree.size mid.tree.nodes m) mid.objects.quotas ≡ map (peaked p.tree.size mid.tree.nodes m) quotas → Accepts p mid m (File op)
+op_accepts p mid m op quotas next idle after none nodes quotas_are queue each goes kept raised =
     let R = rows_of p in
     let u = option_map_or (unvisited_in R (plain R.nodes op m) op) (head R.queue) [] in
-    done_as p mid new m (File op) answer quotas p.scans.queue u after none
-    (effect_as R op m mid.tree.nodes quotas p.scans.queue nodes quotas_are queue)
-    refl refl size raised goes.queue
-    (goes.left_is
-    ∙ (sym (option_each (unvisited_in R (plain R.nodes op m) op) next (head R.queue) each)
-    ∙ sym (ap (λ b. if b then u else scan_begun mid.tree.nodes p.scans.queue) (same_own p.scans.queue))))
-    ends e
+    record {
+      quotas = quotas;
+      after = after;
+      none = none;
+      lasts = refl;
+      size = kept.size;
+      idle = still_idle p mid kept idle;
+      made = followed_rows p mid (asked p m (File op)).effect quotas p.scans.queue u kept
+          (effect_as R op m mid.tree.nodes quotas p.scans.queue nodes quotas_are queue) goes.queue
+          (goes.left_is
+          ∙ (sym (option_each (unvisited_in R (plain R.nodes op m) op) next (head R.queue) each)
+          ∙ sym (ap (λ b. if b then u else scan_begun mid.tree.nodes p.scans.queue) (same_own p.scans.queue))));
+      raised = raised;
+    }
 
 -- a node that was made
 pub record IsMade (v w : Volume) (n : ℕ) (row : NodeRow) : Type 0 where

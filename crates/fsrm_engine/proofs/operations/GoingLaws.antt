@@ -4,10 +4,8 @@ use Rattle.std.specs.Prelude.{Result, Ok, Err, IfErr, IsErrOf, if◌then◌else�
 use Rattle.std.specs.Result.{IsOk}
 use Rattle.std.specs.Option.{option_map_or}
 use Rattle.fsrm_base.specs.Causes.{◌when◌}
-use Rattle.fsrm_model.specs.declared.command.Answer.{Answer}
 use Rattle.fsrm_model.specs.declared.command.Deed.TheVariants.{File}
 use Rattle.fsrm_model.specs.declared.command.FileOp.TheVariants.{Remove}
-use Rattle.fsrm_model.specs.declared.command.Outcome.TheVariants.{Done}
 use Rattle.fsrm_model.specs.declared.row.NodeRow.{NodeRow}
 use Rattle.fsrm_model.specs.FileOps.{plain}
 use Rattle.fsrm_model.specs.FileWork.{unvisited_in}
@@ -33,10 +31,10 @@ use Rattle.volume_tree.specs.declared.answer.TreeFault.{TreeFault}
 use Rattle.volume_tree.specs.declared.answer.TreeFault.TheVariants.{AlreadyExists, InvalidMove, NotEmpty, VolumeFull, NamesFull, NoMemory}
 use Rattle.volume_tree.specs.Volume.{Volume, IsFault, remove_fault, without_node}
 use Rattle.fsrm_engine.specs.declared.parts.Parts.{Parts}
-use Rattle.fsrm_engine.specs.Machine.{Does, rows_of, ended}
+use Rattle.fsrm_engine.specs.Machine.{IsIdle, rows_of}
 use Rattle.fsrm_engine.proofs.operations.FollowLaws.{remove_queue, volume_is, effect_as}
 use Rattle.fsrm_engine.proofs.steps.PlaceLaws.{target_is}
-use Rattle.fsrm_engine.proofs.steps.StepLaws.{due, done_as}
+use Rattle.fsrm_engine.proofs.steps.StepLaws.{Accepts, Keeps, asked, due, followed_rows, still_idle}
 
 -- a node without children can be removed
 pub no_fault : (v : Volume) (n : ℕ) → length (children v.nodes n) ≡ 0 → remove_fault v n ≡ None
@@ -83,22 +81,30 @@ rmdir_left s s1 v w n now is turns each =
         ap (λ ns. option_map_or (λ (scanned : ℕ). without_number n ns) (head s1.queue) []) was
         ∙ next_begun v.nodes w.nodes n s1.queue each
 
--- the answer then
-pub rmdir_done : (p mid new : Parts) (s1 : Course) (m : ℕ) (path : List (List ℕ)) (n : ℕ) (answer : Answer) → p.last_moment ≤ m → due p m (File (Remove path)) ≡ None → resolve p.tree.nodes path ≡ Some n → mid.tree ≡ without_node p.tree n → mid.objects.quotas ≡ without_row folder_of n p.objects.quotas → s1.queue ≡ without_number n p.scans.queue → Turns p.scans s1 p.tree → Goes s1 mid.scans mid.tree (λ scanned. without_number n (left p.tree.nodes s1)) → ((f : ℕ) → head s1.queue ≡ Some f → without_number n (folders_under p.tree.nodes f) ≡ folders_under mid.tree.nodes f) → new ≡ ended mid m → answer ≡ record { outcome = Done None; lasting = true } → Does p new m (File (Remove path)) answer
-rmdir_done p mid new s1 m path n answer after none at made taken gone turns goes each ends e =
+-- so the removal is taken
+pub rmdir_accepts : (p mid : Parts) (s1 : Course) (m : ℕ) (path : List (List ℕ)) (n : ℕ) → IsIdle p → p.last_moment ≤ m → due p m (File (Remove path)) ≡ None → resolve p.tree.nodes path ≡ Some n → mid.tree ≡ without_node p.tree n → mid.objects.quotas ≡ without_row folder_of n p.objects.quotas → s1.queue ≡ without_number n p.scans.queue → Turns p.scans s1 p.tree → Goes s1 mid.scans mid.tree (λ scanned. without_number n (left p.tree.nodes s1)) → ((f : ℕ) → head s1.queue ≡ Some f → without_number n (folders_under p.tree.nodes f) ≡ folders_under mid.tree.nodes f) → Keeps p mid → Accepts p mid m (File (Remove path))
+rmdir_accepts p mid s1 m path n idle after none at made taken gone turns goes each kept =
     let R = rows_of p in
     let op = Remove path in
     let to = target_is p.tree.nodes path n at in
     let u = option_map_or (unvisited_in R (plain R.nodes op m) op) (head R.queue) [] in
-    done_as p mid new m (File op) answer mid.objects.quotas s1.queue u after none
-    (effect_as R op m mid.tree.nodes mid.objects.quotas s1.queue
-    (ap (λ x. without_row number x p.tree.nodes) to ∙ sym (ap (λ (w : Volume). w.nodes) made))
-    (ap (λ x. without_row folder_of x p.objects.quotas) to ∙ sym taken)
-    (remove_queue p m path n at ∙ sym gone))
-    refl refl (ap (λ (w : Volume). w.size) made) refl goes.queue
-    (rmdir_left p.scans s1 p.tree mid.tree n (left mid.tree.nodes mid.scans) goes.left_is turns each
-    ∙ ap (λ x. if same_head p.scans.queue s1.queue then option_map_or (λ (scanned : ℕ). without_number x (left p.tree.nodes p.scans)) (head p.scans.queue) [] else scan_begun mid.tree.nodes s1.queue) (sym to))
-    ends e
+    record {
+      quotas = mid.objects.quotas;
+      after = after;
+      none = none;
+      lasts = refl;
+      size = kept.size;
+      idle = still_idle p mid kept idle;
+      made = followed_rows p mid (asked p m (File op)).effect mid.objects.quotas s1.queue u kept
+          (effect_as R op m mid.tree.nodes mid.objects.quotas s1.queue
+          (ap (λ x. without_row number x p.tree.nodes) to ∙ sym (ap (λ (w : Volume). w.nodes) made))
+          (ap (λ x. without_row folder_of x p.objects.quotas) to ∙ sym taken)
+          (remove_queue p m path n at ∙ sym gone))
+          goes.queue
+          (rmdir_left p.scans s1 p.tree mid.tree n (left mid.tree.nodes mid.scans) goes.left_is turns each
+          ∙ ap (λ x. if same_head p.scans.queue s1.queue then option_map_or (λ (scanned : ℕ). without_number x (left p.tree.nodes p.scans)) (head p.scans.queue) [] else scan_begun mid.tree.nodes s1.queue) (sym to));
+      raised = refl;
+    }
 
 -- the folders at and below another one, without a folder that goes
 begun_without : (v : Volume) (n f : ℕ) (row : NodeRow) → IsVolume v.size v.nodes → IsVolume v.size (without_node v n).nodes → node_of v.nodes n ≡ Some row → row.folder ≡ true → is_folder v.nodes f ≡ true → (n == f) ≡ false → without_number n (folders_under v.nodes f) ≡ folders_under (without_node v n).nodes f

@@ -1,6 +1,6 @@
 -- The refusal by sums over the tree is the one by counters.
-use Rattle.std.proofs.Common.{◌≡◌, ℕ, Bool, true, false, cond, ◌&&◌, List, Option, Some, None, nat_lt, refl, ap, sym, ◌∙◌}
-use Rattle.std.specs.Prelude.{option_map, unwrap_or}
+use Rattle.std.proofs.Common.{◌≡◌, ℕ, Bool, true, false, cond, ◌&&◌, List, [], Option, Some, None, nat_lt, refl, ap, sym, ◌∙◌}
+use Rattle.std.specs.Prelude.{Result, Ok, Err, OnOk, option_map, unwrap_or}
 use Rattle.std.specs.Option.{option_map_or}
 use Rattle.std.specs.List.{AllByRecursion, list_all}
 use Rattle.fsrm_model.specs.declared.command.Refusal.TheVariants.{QuotaExceeded}
@@ -16,6 +16,7 @@ use Rattle.fsrm_base.proofs.TestLaws.{both}
 use Rattle.fsrm_model.proofs.valid.ValidLaws.{folder_has}
 use Rattle.quota_usage.specs.declared.change.Change.{Change}
 use Rattle.quota_usage.specs.declared.change.Counter.{Counter}
+use Rattle.quota_usage.specs.declared.change.Exceeded.{Exceeded}
 use Rattle.quota_usage.specs.Charge.{is_above, charged, refuses_change, over_by, told_of, exceeded_by}
 use Rattle.quota_usage.specs.Counters.{used_in}
 use Rattle.fsrm_engine.specs.Faults.{exceeded_refusal}
@@ -86,3 +87,8 @@ exceeded_is K R new change counters sums qs c =
     ∙ (same_told K R.nodes new R.quotas change xs (deepest R.nodes xs) all refl
     ∙ (ap (λ ys. option_map exceeded_refusal (option_map (told_of R.nodes (sums_of K R.nodes R.quotas) change) (deepest R.nodes ys))) (sym (over_same K R new change qs.ascending c))
     ∙ ap (λ cs. option_map exceeded_refusal (exceeded_by R.nodes R.quotas cs change)) (sym sums)))
+
+-- what no quota refuses isn't refused
+pub none_over : (nodes : List NodeRow) (quotas : List QuotaRow) (counters : List Counter) (change : Change) (r : Result (Unit {0}) Exceeded) → OnOk r (over_by nodes quotas counters change ≡ []) → OnOk r (exceeded_by nodes quotas counters change ≡ None)
+none_over nodes quotas counters change (Ok u) h = ap (λ over. option_map (told_of nodes counters change) (deepest nodes over)) h
+none_over nodes quotas counters change (Err e) h = tt

@@ -1,16 +1,19 @@
 -- What a path leads to, by what was found.
-use Rattle.std.proofs.Common.{◌≡◌, ℕ, suc, ◌+◌, ◌-◌, ◌≤◌, ◌==◌, true, false, List, [], ◌∷◌, length, take, Some, ap, sym, ◌∙◌, subst, arith}
+use Rattle.std.proofs.Common.{◌≡◌, ℕ, suc, ◌+◌, ◌-◌, ◌≤◌, ◌==◌, true, false, List, [], ◌∷◌, length, take, Some, refl, ap, sym, ◌∙◌, subst, arith}
 use Rattle.std.proofs.lemmas.Option.{same_Some, get_or_from_slice_get}
 use Rattle.std.proofs.lemmas.Bool.Decides.{nat_tests}
 use Rattle.std.proofs.lemmas.List.{length-take-le}
 use Rattle.std.specs.Prelude.{is_some, slice_get, unwrap_or, slice_index_or}
 use Rattle.std.specs.Option.{option_map_or}
+use Rattle.fsrm_model.specs.declared.command.Refusal.{Refusal}
+use Rattle.fsrm_model.specs.declared.command.Refusal.TheVariants.{QuotaExceeded}
 use Rattle.fsrm_model.specs.declared.row.Capacity.{Capacity}
 use Rattle.fsrm_model.specs.declared.row.NodeRow.{NodeRow}
 use Rattle.fsrm_model.specs.Limits.{longest_file}
 use Rattle.fsrm_model.specs.FileOps.{target}
 use Rattle.fsrm_base.specs.Keyed.{has_row}
 use Rattle.fsrm_model.specs.Leads.{is_root, leads, leads_to_folder}
+use Rattle.fsrm_model.specs.Text.{is_bare}
 use Rattle.fsrm_model.specs.Tree.{number, is_folder, child_number, chain, path_of, resolve, folder_part, last_name}
 use Rattle.fsrm_model.specs.Valid.{IsVolume}
 use Rattle.fsrm_base.proofs.Look.{found_key}
@@ -21,7 +24,7 @@ use Rattle.fsrm_model.proofs.nodes.Keeps.{found_folder}
 use Rattle.fsrm_model.specs.Name.{is_name}
 use Rattle.node_table.specs.declared.view.NodeView.{NodeView}
 use Rattle.volume_tree.specs.Volume.{Shows}
-use Rattle.fsrm_engine.specs.Places.{IsPlace, IsFile, IsFolder}
+use Rattle.fsrm_engine.specs.Places.{IsPlace, IsFile, IsFolder, IsRefusedPlace}
 
 -- a path's last name is its part at the last place
 pub last_name_is : (path : List (List ℕ)) (last depth : ℕ) (name : List ℕ) → depth ≡ length path → last + 1 ≡ depth → slice_get path last ≡ Some name → last_name path ≡ name
@@ -111,3 +114,8 @@ place_found nodes path depth at d name view deep at_is h s f part valid =
       name_is = last_name_is path at depth name deep next part;
       valid = valid;
     }
+
+-- a place is refused by no quota
+pub place_bare : (nodes : List NodeRow) (path : List (List ℕ)) (refusal : Refusal) → IsRefusedPlace nodes path refusal → is_bare refusal ≡ true
+place_bare nodes path (QuotaExceeded folder would limit) h = absurd h
+place_bare nodes path other h = refl

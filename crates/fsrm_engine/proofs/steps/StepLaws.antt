@@ -1,34 +1,49 @@
 -- What an engine's parts do is the plain machine's step.
-use Rattle.std.proofs.Common.{◌≡◌, ℕ, ◌≤◌, Bool, true, false, List, [], ◌∷◌, Option, Some, None, Result, Ok, Err, nat_lt, refl, ap, sym, ◌∙◌, arith}
+use Rattle.std.proofs.Common.{◌≡◌, ℕ, ◌≤◌, Bool, true, false, List, [], ◌∷◌, length, Option, Some, None, Result, Ok, Err, nat_lt, refl, ap, sym, ◌∙◌, subst, arith}
 use Rattle.std.proofs.lemmas.Bool.Decides.{nat_tests}
 use Rattle.std.proofs.lemmas.Option.{same_Some}
 use Rattle.std.specs.Prelude.{option_map, map, IfOk, if◌then◌else◌}
 use Rattle.std.specs.Option.{option_and_then}
+use Rattle.fsrm_model.specs.declared.command.Act.{Act}
 use Rattle.fsrm_model.specs.declared.command.Answer.{Answer}
 use Rattle.fsrm_model.specs.declared.command.Command.{Command}
 use Rattle.fsrm_model.specs.declared.command.Deed.{Deed}
-use Rattle.fsrm_model.specs.declared.command.Outcome.TheVariants.{Refused, Done}
+use Rattle.fsrm_model.specs.declared.command.Outcome.TheVariants.{Refused}
 use Rattle.fsrm_model.specs.declared.command.Refusal.{Refusal}
-use Rattle.fsrm_model.specs.declared.command.Refusal.TheVariants.{ClockBack}
+use Rattle.fsrm_model.specs.declared.command.Refusal.TheVariants.{ClockBack, QuotaExceeded}
 use Rattle.fsrm_base.specs.declared.memory.NoMemory.{NoMemory as Wanting}
+use Rattle.fsrm_model.specs.declared.row.ActRow.{ActRow}
 use Rattle.fsrm_model.specs.declared.row.Capacity.{Capacity}
 use Rattle.fsrm_model.specs.declared.row.NodeRow.{NodeRow}
 use Rattle.fsrm_model.specs.declared.row.QuotaRow.{QuotaRow}
 use Rattle.fsrm_model.specs.declared.row.Rows.{Rows}
 use Rattle.fsrm_model.specs.Check.{◌when◌, first}
 use Rattle.fsrm_model.specs.Cost.{cost, deed_cost}
-use Rattle.fsrm_model.specs.Quota.{peaked}
+use Rattle.fsrm_model.specs.DueActions.{due as due_acts, due_refused}
+use Rattle.fsrm_model.specs.Fresh.{rows_of_nodes}
+use Rattle.fsrm_model.specs.Limits.{most_entries}
+use Rattle.fsrm_model.specs.Quota.{peaked, peaks}
 use Rattle.fsrm_model.specs.QuotaStates.{followed, same_head, scan_begun}
-use Rattle.fsrm_model.specs.Step.{Stepped, step, work, decided, accepted, lasted, unacted, unlasting}
+use Rattle.fsrm_model.specs.Runs.{ran}
+use Rattle.fsrm_model.specs.Step.{Stepped, step, work, decided, accepted, acted, lasted, left_by, ran_if_any, refused_leaving, unacted, unlasting}
+use Rattle.fsrm_model.specs.Text.{is_bare}
 use Rattle.fsrm_model.specs.Work.{Work}
+use Rattle.fsrm_model.proofs.commands.OrderlyLaws.{left_is, acts_left}
 use Rattle.fsrm_base.proofs.TestLaws.{eq_same}
-use Rattle.scan_queue.specs.Courses.{left}
+use Rattle.quota_usage.specs.declared.change.Exceeded.{Exceeded}
+use Rattle.scan_queue.specs.Courses.{Course, left}
+use Rattle.fsrm_objects.specs.Tables.{Tables}
+use Rattle.quota_usage.specs.declared.change.Counter.{Counter}
+use Rattle.thresholds.specs.Marked.{Marked}
 use Rattle.volume_tree.specs.declared.answer.TreeFault.{TreeFault}
 use Rattle.volume_tree.specs.declared.answer.TreeFault.TheVariants.{AlreadyExists, InvalidMove, NotEmpty, VolumeFull, NamesFull, NoMemory}
-use Rattle.volume_tree.specs.Volume.{IsFault}
+use Rattle.volume_tree.specs.Volume.{Volume, IsFault}
 use Rattle.fsrm_engine.specs.declared.parts.Parts.{Parts}
-use Rattle.fsrm_engine.specs.Faults.{refusal_of, refused_answer, answer_of}
-use Rattle.fsrm_engine.specs.Machine.{Machine, Takes, Does, rows_of, machine_of, ended, lasting_rows, settled, with_rows}
+use Rattle.fsrm_engine.specs.Due.{LeavesActs, Refuses, refused_acts}
+use Rattle.fsrm_engine.specs.Faults.{refusal_of, refused_answer, answer_of, exceeded_refusal}
+use Rattle.fsrm_engine.specs.Machine.{AreMarked, Does, IsIdle, Ran, rows_of, step_of, ended}
+use Rattle.fsrm_engine.proofs.settling.EndLaws.{due_made, due_of, ended_rows, left_rows, unran}
+use Rattle.fsrm_engine.proofs.settling.MarkLaws.{idle_marked, marked_ended}
 
 -- what a command asks of these parts, and the refusal that is due to it if its moment isn't too early
 abbrev pub asked : Parts → ℕ → Deed → Work
@@ -45,95 +60,176 @@ pub cost_in_time : (R : Rows) (c : Command) → R.last_moment ≤ c.moment → d
 cost_in_time R c after = rw (after_test R.last_moment c.moment after) refl
 
 -- a command whose moment isn't too early is decided by its own checks
-step_by : (K : Capacity) (R : Rows) (m : ℕ) (deed : Deed) (o : Option Refusal) → R.last_moment ≤ m → first (work K R m deed).checks ≡ o → step K R (record { moment = m; deed = deed }) ≡ decided K R m (work K R m deed) o
-step_by K R m deed o after h =
-    ap (decided K R m (work K R m deed)) (ap (λ b. first ((ClockBack when b) ∷ (work K R m deed).checks)) (after_test R.last_moment m after) ∙ h)
+step_by : (p : Parts) (m : ℕ) (deed : Deed) (o : Option Refusal) → p.last_moment ≤ m → due p m deed ≡ o → step_of p m deed ≡ decided p.tree.size (rows_of p) m (asked p m deed) o
+step_by p m deed o after h =
+    ap (decided p.tree.size (rows_of p) m (asked p m deed)) (ap (λ b. first ((ClockBack when b) ∷ (asked p m deed).checks)) (after_test p.last_moment m after) ∙ h)
 
--- what is known of the step is known of the machine
-by_step : (old new : Machine) (m : ℕ) (deed : Deed) (answer : Answer) (s : Stepped) → step old.size old.rows (record { moment = m; deed = deed }) ≡ s → new.size ≡ old.size → new.rows ≡ s.rows → new.waiting ≡ s.acts → answer ≡ record { outcome = s.outcome; lasting = s.lasting } → Takes old new (step old.size old.rows (record { moment = m; deed = deed })) answer
-by_step old new m deed answer s h size rows acts e =
+-- what is known of the step is known of the parts
+does_by : (p new : Parts) (m : ℕ) (deed : Deed) (answer : Answer) (s : Stepped) → step_of p m deed ≡ s → new.tree.size ≡ p.tree.size → rows_of new ≡ s.rows → AreMarked new s.acts → answer ≡ record { outcome = s.outcome; lasting = s.lasting } → Does p new m deed answer
+does_by p new m deed answer s h size rows acts e =
     record {
       size_is = size;
       rows_are = rows ∙ sym (ap (λ (s : Stepped). s.rows) h);
-      acts_are = acts ∙ sym (ap (λ (s : Stepped). s.acts) h);
+      acts_are = subst (λ (s : Stepped). AreMarked new s.acts) (sym h) acts;
       outcome_is = ap (λ (a : Answer). a.outcome) e ∙ sym (ap (λ (s : Stepped). s.outcome) h);
       lasting_is = ap (λ (a : Answer). a.lasting) e ∙ sym (ap (λ (s : Stepped). s.lasting) h);
     }
 
--- the answer to a command that is refused
-pub refused_as : (p : Parts) (m : ℕ) (deed : Deed) (answer : Answer) (refusal : Refusal) → p.last_moment ≤ m → due p m deed ≡ Some refusal → answer ≡ refused_answer refusal → Does p p m deed answer
-refused_as p m deed answer refusal after h e =
-    by_step (machine_of p) (machine_of p) m deed answer (unlasting (rows_of p) (Refused refusal)) (step_by p.tree.size (rows_of p) m deed (Some refusal) after h) refl refl refl e
+-- ---- refusals
+-- the answer to a command that is refused, and not by a quota
+bare_leaves : (K : Capacity) (R : Rows) (m : ℕ) (w : Work) (refusal : Refusal) → is_bare refusal ≡ true → left_by K R m w refusal ≡ None
+bare_leaves K R m w (QuotaExceeded folder would limit) h = cc h
+bare_leaves K R m w other h = refl
+
+pub refused_as : (p : Parts) (m : ℕ) (deed : Deed) (answer : Answer) (refusal : Refusal) → IsIdle p → p.last_moment ≤ m → due p m deed ≡ Some refusal → is_bare refusal ≡ true → answer ≡ refused_answer refusal → Does p p m deed answer
+refused_as p m deed answer refusal idle after h bare e =
+    let K = p.tree.size in
+    let R = rows_of p in
+    does_by p p m deed answer (unlasting R (Refused refusal))
+    (step_by p m deed (Some refusal) after h ∙ ap (refused_leaving K R m refusal) (bare_leaves K R m (asked p m deed) refusal bare))
+    refl refl (idle_marked p idle) e
+
+-- the answer to one that a quota refuses
+pub refused_with : (p new : Parts) (m : ℕ) (deed : Deed) (answer : Answer) (exceeded : Exceeded) → IsIdle p → p.last_moment ≤ m → due p m deed ≡ Some (exceeded_refusal exceeded) → refused_acts p exceeded m ≡ due_refused p.tree.size (rows_of p) (asked p m deed).effect.nodes m → Refuses p new m exceeded answer → Does p new m deed answer
+refused_with p new m deed answer exceeded idle after h due_is r = at (refused_acts p exceeded m) due_is r.ran r.leaves
+  where
+    K : Capacity
+    K = p.tree.size
+
+    R : Rows
+    R = rows_of p
+
+    refusal : Refusal
+    refusal = exceeded_refusal exceeded
+
+    leaving : (acts : List Act) → acts ≡ due_refused K R (asked p m deed).effect.nodes m → step_of p m deed ≡ refused_leaving K R m refusal (ran_if_any m acts R)
+    leaving acts is = step_by p m deed (Some refusal) after h ∙ ap (λ (acts : List Act). refused_leaving K R m refusal (ran_if_any m acts R)) (sym is)
+
+    at : (acts : List Act) → acts ≡ due_refused K R (asked p m deed).effect.nodes m → Ran p r.run m acts → LeavesActs acts p r.run new m exceeded answer → Does p new m deed answer
+    at [] is run leaves =
+        subst (λ (q : Parts). Does p q m deed answer) (sym leaves.0)
+        (does_by p p m deed answer (unlasting R (Refused refusal)) (leaving [] is) refl refl (idle_marked p idle) leaves.1)
+    at (act ∷ acts) is run leaves =
+        subst (λ (q : Parts). Does p q m deed answer) (sym leaves.0)
+        (does_by p (ended r.run m) m deed answer (lasted K R (acted m (act ∷ acts) R) m (Refused refusal)) (leaving (act ∷ acts) is)
+        (ap (λ (q : Parts). q.tree.size) run.parts_are)
+        (left_rows p r.run m (act ∷ acts) run ∙ sym (left_is K R m (act ∷ acts) (Refused refusal)))
+        (subst (AreMarked (ended r.run m)) (sym (acts_left K R m (act ∷ acts) (Refused refusal))) (marked_ended p r.run m (act ∷ acts) idle run))
+        leaves.1)
+
+-- ---- commands that last
+-- what stays of parts until the end of a command
+pub record Keeps (p mid : Parts) : Type 0 where
+  pub size : mid.tree.size ≡ p.tree.size
+  pub marks : mid.marks ≡ p.marks
+  pub crossing : mid.crossing ≡ p.crossing
+  pub run_limit : mid.run_limit ≡ p.run_limit
+  pub last_moment : mid.last_moment ≡ p.last_moment
+
+pub keeps : (p : Parts) (tree : Volume) (objects : Tables) (usage : List Counter) (scans : Course) (level : Bool) → tree.size ≡ p.tree.size → Keeps p (record p { tree = tree; objects = objects; usage = usage; scans = scans; level = level })
+keeps p tree objects usage scans level size =
+    record { size = size; marks = refl; crossing = refl; run_limit = refl; last_moment = refl }
+
+pub still_idle : (p mid : Parts) → Keeps p mid → IsIdle p → IsIdle mid
+still_idle p mid k i =
+    record { numbers = ap (λ (m : Marked). m.numbers) k.marks ∙ i.numbers; crossing = k.crossing ∙ i.crossing }
+
+pub still_few : (p mid : Parts) → Keeps p mid → length p.marks.log ≤ most_entries → length mid.marks.log ≤ most_entries
+still_few p mid k few = subst (λ (m : Marked). length m.log ≤ most_entries) (sym k.marks) few
+
+-- the parts before the end of a command that lasts: no check refuses it, and these are the rows that it makes. Some peaks
+-- may have been raised already
+pub record Accepts (p mid : Parts) (m : ℕ) (deed : Deed) : Type 0 where
+  pub quotas : List QuotaRow
+  pub after : p.last_moment ≤ m
+  pub none : due p m deed ≡ None
+  pub lasts : (asked p m deed).lasts ≡ true
+  pub size : mid.tree.size ≡ p.tree.size
+  pub idle : IsIdle mid
+  pub made : followed (rows_of p) (asked p m deed).effect ≡ record (rows_of mid) { quotas = quotas }
+  pub raised : map (peaked p.tree.size mid.tree.nodes m) mid.objects.quotas ≡ map (peaked p.tree.size mid.tree.nodes m) quotas
 
 accepted_by : (K : Capacity) (R : Rows) (m : ℕ) (w : Work) (b : Bool) → w.lasts ≡ b → accepted K R m w ≡ (if b then lasted K R (unacted (followed R w.effect)) m w.outcome else unlasting (followed R w.effect) w.outcome)
 accepted_by K R m w b h = ap (λ b. if b then lasted K R (unacted (followed R w.effect)) m w.outcome else unlasting (followed R w.effect) w.outcome) h
 
--- the answer to a command that was done, and lasts
-pub lasting_as : (p new : Parts) (m : ℕ) (deed : Deed) (answer : Answer) (effect : Rows) → p.last_moment ≤ m → due p m deed ≡ None → (asked p m deed).effect ≡ effect → (asked p m deed).lasts ≡ true → machine_of new ≡ record { size = p.tree.size; rows = lasting_rows (machine_of p) effect m; waiting = [] } → answer ≡ record { outcome = (asked p m deed).outcome; lasting = true } → Does p new m deed answer
-lasting_as p new m deed answer effect after none made lasts is e =
+-- the answer to a command that was done, and whose acts ran
+pub done_with : (p mid run new : Parts) (m : ℕ) (deed : Deed) (answer : Answer) (acts : List Act) → Accepts p mid m deed → Ran mid run m acts → acts ≡ due_of p mid m → new ≡ ended run m → answer ≡ record { outcome = (asked p m deed).outcome; lasting = true } → Does p new m deed answer
+done_with p mid run new m deed answer acts a r due_is ends e =
+    let K = p.tree.size in
     let R = rows_of p in
     let w = asked p m deed in
-    by_step (machine_of p) (machine_of new) m deed answer (lasted p.tree.size R (unacted (followed R w.effect)) m w.outcome)
-    (step_by p.tree.size R m deed None after none ∙ accepted_by p.tree.size R m w true lasts)
-    (ap (λ (o : Machine). o.size) is) (ap (λ (o : Machine). o.rows) is ∙ sym (ap (λ (E : Rows). lasting_rows (machine_of p) E m) made)) (ap (λ (o : Machine). o.waiting) is) e
+    let E = followed R w.effect in
+    let D = due_acts K R (peaks K E m) m in
+    let raised : map (peaked mid.tree.size mid.tree.nodes m) mid.objects.quotas ≡ map (peaked mid.tree.size mid.tree.nodes m) a.quotas =
+    subst (λ (K : Capacity). map (peaked K mid.tree.nodes m) mid.objects.quotas ≡ map (peaked K mid.tree.nodes m) a.quotas) (sym a.size) a.raised in
+    let are : acts ≡ D = due_is ∙ sym (due_made p mid E a.quotas m a.made a.raised) in
+    let after : Capacity → Rows → List Act → Rows = λ K E acts. record (ran m acts (peaks K E m)) { last_moment = m } in
+    does_by p new m deed answer (lasted K R (unacted E) m w.outcome)
+    (step_by p m deed None a.after a.none ∙ accepted_by K R m w true a.lasts)
+    (ap (λ (q : Parts). q.tree.size) ends ∙ (ap (λ (q : Parts). q.tree.size) r.parts_are ∙ a.size))
+    (ap rows_of ends
+    ∙ (ended_rows mid run m acts a.quotas r raised
+    ∙ (ap (λ (K : Capacity). after K (record (rows_of mid) { quotas = a.quotas }) acts) a.size
+    ∙ (ap (λ (E : Rows). after K E acts) (sym a.made) ∙ ap (after K E) are))))
+    (subst (λ (q : Parts). AreMarked q D) (sym ends) (subst (AreMarked (ended run m)) are (marked_ended mid run m acts a.idle r)))
+    e
 
--- and to one that was done, and doesn't last
-pub passing_as : (p new : Parts) (m : ℕ) (deed : Deed) (answer : Answer) (effect : Rows) → p.last_moment ≤ m → due p m deed ≡ None → (asked p m deed).effect ≡ effect → (asked p m deed).lasts ≡ false → machine_of new ≡ with_rows (machine_of p) (followed (rows_of p) effect) → answer ≡ record { outcome = (asked p m deed).outcome; lasting = false } → Does p new m deed answer
-passing_as p new m deed answer effect after none made lasts is e =
-    let R = rows_of p in
-    let w = asked p m deed in
-    by_step (machine_of p) (machine_of new) m deed answer (unlasting (followed R w.effect) w.outcome)
-    (step_by p.tree.size R m deed None after none ∙ accepted_by p.tree.size R m w false lasts)
-    (ap (λ (o : Machine). o.size) is) (ap (λ (o : Machine). o.rows) is ∙ sym (ap (followed R) made)) (ap (λ (o : Machine). o.waiting) is) e
-
--- the same head is its own
-pub same_own : (queue : List ℕ) → same_head queue queue ≡ true
-same_own [] = refl
-same_own (n ∷ queue) = eq_same n
-
--- the answer to a command that changes nothing and isn't refused
-pub told_as : (p : Parts) (m : ℕ) (deed : Deed) (answer : Answer) → p.last_moment ≤ m → due p m deed ≡ None → (asked p m deed).effect ≡ rows_of p → (asked p m deed).lasts ≡ false → answer ≡ record { outcome = (asked p m deed).outcome; lasting = false } → Does p p m deed answer
-told_as p m deed answer after none made lasts e =
-    let R = rows_of p in
-    passing_as p p m deed answer R after none made lasts
-    (sym (ap (λ b. with_rows (machine_of p) (record R { unvisited = if b then R.unvisited else scan_begun R.nodes R.queue })) (same_own R.queue))) e
+-- the same if no act is due
+pub done_as : (p mid new : Parts) (m : ℕ) (deed : Deed) (answer : Answer) → Accepts p mid m deed → length mid.marks.log ≤ most_entries → due_of p mid m ≡ [] → new ≡ ended mid m → answer ≡ record { outcome = (asked p m deed).outcome; lasting = true } → Does p new m deed answer
+done_as p mid new m deed answer a few calm ends e = done_with p mid mid new m deed answer [] a (unran mid m a.idle few) (sym calm) ends e
 
 -- The rows that a command makes of these parts before its end, by what may change in them
 abbrev pub made_rows : Parts → List NodeRow → List QuotaRow → List ℕ → List ℕ → Rows
 made_rows p nodes quotas queue unvisited =
     record (rows_of p) { nodes = nodes; quotas = quotas; queue = queue; unvisited = unvisited }
 
--- the rows of parts that were changed so and then ended. Some peaks may have been raised already
-pub ended_rows : (p mid : Parts) (m : ℕ) (quotas : List QuotaRow) (queue unvisited : List ℕ) → mid.tree.size ≡ p.tree.size → map (peaked p.tree.size mid.tree.nodes m) mid.objects.quotas ≡ map (peaked p.tree.size mid.tree.nodes m) quotas → mid.scans.queue ≡ queue → left mid.tree.nodes mid.scans ≡ (if same_head p.scans.queue queue then unvisited else scan_begun mid.tree.nodes queue) → machine_of (ended mid m) ≡ record { size = p.tree.size; rows = lasting_rows (machine_of p) (made_rows p mid.tree.nodes quotas queue unvisited) m; waiting = [] }
-ended_rows p mid m quotas queue unvisited size raised queue_is left_is =
+pub followed_rows : (p mid : Parts) (effect : Rows) (quotas : List QuotaRow) (queue unvisited : List ℕ) → Keeps p mid → effect ≡ made_rows p mid.tree.nodes quotas queue unvisited → mid.scans.queue ≡ queue → left mid.tree.nodes mid.scans ≡ (if same_head p.scans.queue queue then unvisited else scan_begun mid.tree.nodes queue) → followed (rows_of p) effect ≡ record (rows_of mid) { quotas = quotas }
+followed_rows p mid effect quotas queue unvisited k made queue_is left_is =
     let nodes = mid.tree.nodes in
-    let of : Capacity → List QuotaRow → List ℕ → List ℕ → Machine = λ K qs q u. record { size = K; rows = record (made_rows p nodes qs q u) { last_moment = m }; waiting = [] } in
-    ap (λ (K : Capacity). of K (map (peaked K nodes m) mid.objects.quotas) mid.scans.queue (left nodes mid.scans)) size
-    ∙ (ap (λ (qs : List QuotaRow). of p.tree.size qs mid.scans.queue (left nodes mid.scans)) raised
-    ∙ (ap (λ q. of p.tree.size (map (peaked p.tree.size nodes m) quotas) q (left nodes mid.scans)) queue_is
-    ∙ ap (λ u. of p.tree.size (map (peaked p.tree.size nodes m) quotas) queue u) left_is))
+    let u = if same_head p.scans.queue queue then unvisited else scan_begun nodes queue in
+    let of : List ActRow → List ℕ → List ℕ → ℕ → ℕ → Rows =
+    λ log q u limit last. record (rows_of_nodes nodes) { quotas = quotas; acts = log; queue = q; unvisited = u; run_limit = limit; last_moment = last } in
+    ap (followed (rows_of p)) made
+    ∙ (ap (λ (x : Marked). of x.log queue u p.run_limit p.last_moment) (sym k.marks)
+    ∙ (ap (λ q. of mid.marks.log q u p.run_limit p.last_moment) (sym queue_is)
+    ∙ (ap (λ u. of mid.marks.log mid.scans.queue u p.run_limit p.last_moment) (sym left_is)
+    ∙ (ap (λ n. of mid.marks.log mid.scans.queue (left nodes mid.scans) n p.last_moment) (sym k.run_limit)
+    ∙ ap (of mid.marks.log mid.scans.queue (left nodes mid.scans) mid.run_limit) (sym k.last_moment)))))
 
--- the answer to a command that was done, by the parts before its end
-pub done_as : (p mid new : Parts) (m : ℕ) (deed : Deed) (answer : Answer) (quotas : List QuotaRow) (queue unvisited : List ℕ) → p.last_moment ≤ m → due p m deed ≡ None → (asked p m deed).effect ≡ made_rows p mid.tree.nodes quotas queue unvisited → (asked p m deed).outcome ≡ Done None → (asked p m deed).lasts ≡ true → mid.tree.size ≡ p.tree.size → map (peaked p.tree.size mid.tree.nodes m) mid.objects.quotas ≡ map (peaked p.tree.size mid.tree.nodes m) quotas → mid.scans.queue ≡ queue → left mid.tree.nodes mid.scans ≡ (if same_head p.scans.queue queue then unvisited else scan_begun mid.tree.nodes queue) → new ≡ ended mid m → answer ≡ record { outcome = Done None; lasting = true } → Does p new m deed answer
-done_as p mid new m deed answer quotas queue unvisited after none made is lasts size raised queue_is left_is ends e =
-    lasting_as p new m deed answer (made_rows p mid.tree.nodes quotas queue unvisited) after none made lasts
-    (ap machine_of ends ∙ ended_rows p mid m quotas queue unvisited size raised queue_is left_is)
-    (e ∙ ap (λ o. record { outcome = o; lasting = true }) (sym is))
+-- ---- commands that don't
+-- the answer to a command that was done, and doesn't last
+pub passing_as : (p new : Parts) (m : ℕ) (deed : Deed) (answer : Answer) (effect : Rows) → IsIdle new → p.last_moment ≤ m → due p m deed ≡ None → (asked p m deed).effect ≡ effect → (asked p m deed).lasts ≡ false → new.tree.size ≡ p.tree.size → rows_of new ≡ followed (rows_of p) effect → answer ≡ record { outcome = (asked p m deed).outcome; lasting = false } → Does p new m deed answer
+passing_as p new m deed answer effect idle after none made lasts size rows e =
+    let R = rows_of p in
+    let w = asked p m deed in
+    does_by p new m deed answer (unlasting (followed R w.effect) w.outcome)
+    (step_by p m deed None after none ∙ accepted_by p.tree.size R m w false lasts)
+    size (rows ∙ sym (ap (followed R) made)) (idle_marked new idle) e
 
--- the same by the machine that they are
-pub done_settled : (p mid new : Parts) (m : ℕ) (deed : Deed) (answer : Answer) (effect : Rows) → p.last_moment ≤ m → due p m deed ≡ None → (asked p m deed).effect ≡ effect → (asked p m deed).outcome ≡ Done None → (asked p m deed).lasts ≡ true → machine_of mid ≡ with_rows (machine_of p) (followed (rows_of p) effect) → new ≡ ended mid m → answer ≡ record { outcome = Done None; lasting = true } → Does p new m deed answer
-done_settled p mid new m deed answer effect after none made is lasts settles ends e =
-    lasting_as p new m deed answer effect after none made lasts
-    (ap machine_of ends ∙ ap (λ (o : Machine). settled o m) settles)
-    (e ∙ ap (λ o. record { outcome = o; lasting = true }) (sym is))
+-- the same head is its own
+pub same_own : (queue : List ℕ) → same_head queue queue ≡ true
+same_own [] = refl
+same_own (n ∷ queue) = eq_same n
 
+-- where the queue stays no scan begins
+pub followed_own : (R : Rows) → followed R R ≡ R
+followed_own R = ap (λ b. record R { unvisited = if b then R.unvisited else scan_begun R.nodes R.queue }) (same_own R.queue)
+
+-- the answer to a command that changes nothing and isn't refused
+pub told_as : (p : Parts) (m : ℕ) (deed : Deed) (answer : Answer) → IsIdle p → p.last_moment ≤ m → due p m deed ≡ None → (asked p m deed).effect ≡ rows_of p → (asked p m deed).lasts ≡ false → answer ≡ record { outcome = (asked p m deed).outcome; lasting = false } → Does p p m deed answer
+told_as p m deed answer idle after none made lasts e =
+    let R = rows_of p in
+    passing_as p p m deed answer R idle after none made lasts refl
+    (sym (followed_own R)) e
+
+-- ---- the tree's refusals
 -- the refusal that an answer tells
-record Told (o : Option Refusal) (answer : Answer) : Type 0 where
-  refusal : Refusal
-  is : o ≡ Some refusal
-  answer_is : answer ≡ refused_answer refusal
+pub record Told (o : Option Refusal) (answer : Answer) : Type 0 where
+  pub refusal : Refusal
+  pub is : o ≡ Some refusal
+  pub answer_is : answer ≡ refused_answer refusal
 
-told : (o : Option Refusal) (answer : Answer) → option_map refused_answer o ≡ Some answer → Told o answer
+pub told : (o : Option Refusal) (answer : Answer) → option_map refused_answer o ≡ Some answer → Told o answer
 told None answer h = cc
 told (Some refusal) answer h = record { refusal = refusal; is = refl; answer_is = sym (same_Some (refused_answer refusal) answer h) }
 
@@ -167,9 +263,18 @@ is_fault VolumeFull o h = h
 is_fault NamesFull o h = h
 is_fault NoMemory o h = tt
 
+-- none of these is by a quota
+tree_bare : (fault : TreeFault) (refusal : Refusal) → refusal_of fault ≡ Some refusal → is_bare refusal ≡ true
+tree_bare AlreadyExists refusal h = sym (ap is_bare (same_Some _ refusal h))
+tree_bare InvalidMove refusal h = sym (ap is_bare (same_Some _ refusal h))
+tree_bare NotEmpty refusal h = sym (ap is_bare (same_Some _ refusal h))
+tree_bare VolumeFull refusal h = sym (ap is_bare (same_Some _ refusal h))
+tree_bare NamesFull refusal h = sym (ap is_bare (same_Some _ refusal h))
+tree_bare NoMemory refusal h = cc h
+
 -- the answer to a command that the tree refused, if it wasn't for want of memory
-pub refused_by_as : (p : Parts) (m : ℕ) (deed : Deed) (fault : TreeFault) (fault_is : Option TreeFault) (more : Option Refusal) (result : Result Answer Wanting) → p.last_moment ≤ m → due p m deed ≡ tree_first fault_is more → IsFault fault fault_is → IfOk result (λ answer. answer_of fault ≡ Some answer) → IfOk result (λ answer. Does p p m deed answer)
-refused_by_as p m deed fault fault_is more (Err e) after h is given = tt
-refused_by_as p m deed fault fault_is more (Ok answer) after h is given =
+pub refused_by_as : (p : Parts) (m : ℕ) (deed : Deed) (fault : TreeFault) (fault_is : Option TreeFault) (more : Option Refusal) (result : Result Answer Wanting) → IsIdle p → p.last_moment ≤ m → due p m deed ≡ tree_first fault_is more → IsFault fault fault_is → IfOk result (λ answer. answer_of fault ≡ Some answer) → IfOk result (λ answer. Does p p m deed answer)
+refused_by_as p m deed fault fault_is more (Err e) idle after h is given = tt
+refused_by_as p m deed fault fault_is more (Ok answer) idle after h is given =
     let t = told (refusal_of fault) answer given in
-    refused_as p m deed answer t.refusal after (h ∙ fault_due fault fault_is more t.refusal is t.is) t.answer_is
+    refused_as p m deed answer t.refusal idle after (h ∙ fault_due fault fault_is more t.refusal is t.is) (tree_bare fault t.refusal t.is) t.answer_is

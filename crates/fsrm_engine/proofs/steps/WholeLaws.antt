@@ -1,20 +1,26 @@
 -- After a command an engine's parts are whole.
-use Rattle.std.proofs.Common.{◌≡◌, ℕ, ◌≤◌, ap, sym, ◌∙◌, subst}
+use Rattle.std.proofs.Common.{◌≡◌, ℕ, ◌≤◌, [], ap, sym, ◌∙◌, subst}
 use Rattle.std.specs.Prelude.{Result, Ok, Err, IfOk, OnErr}
+use Rattle.std.specs.List.{AllByRecursion}
 use Rattle.fsrm_base.specs.declared.memory.NoMemory.{NoMemory as Wanting}
 use Rattle.fsrm_model.specs.declared.command.Answer.{Answer}
 use Rattle.fsrm_model.specs.declared.command.Command.{Command}
 use Rattle.fsrm_model.specs.declared.command.Deed.{Deed}
 use Rattle.fsrm_model.specs.declared.row.Capacity.{Capacity}
 use Rattle.fsrm_model.specs.declared.row.Rows.{Rows}
+use Rattle.fsrm_model.specs.Acts.{IsAct}
 use Rattle.fsrm_model.specs.Cost.{cost, deed_cost}
 use Rattle.fsrm_model.specs.Named.{IsNamed}
 use Rattle.fsrm_model.specs.Step.{step}
-use Rattle.fsrm_model.specs.Valid.{IsValid}
+use Rattle.fsrm_model.specs.Valid.{AreQuotas, IsValid}
 use Rattle.fsrm_model.proofs.commands.EachCommand.{named}
+use Rattle.fsrm_model.proofs.commands.StepActs.{AreActs}
 use Rattle.scan_queue.specs.Courses.{Scanning}
 use Rattle.fsrm_engine.specs.declared.parts.Parts.{Parts}
-use Rattle.fsrm_engine.specs.Machine.{Machine, Takes, Does, IsSound, IsWhole, AreCounted, machine_of, rows_of, ended}
+use Rattle.fsrm_engine.specs.Machine.{Machine, Takes, Does, IsIdle, IsSound, IsWhole, AreCounted, machine_of, rows_of, step_of, ended}
+use Rattle.fsrm_engine.proofs.settling.MarkLaws.{idle_whole}
+use Rattle.fsrm_engine.proofs.settling.OrderedActs.{waits_as}
+use Rattle.fsrm_engine.proofs.settling.OrderlyQuotas.{quotas_orderly}
 use Rattle.fsrm_engine.proofs.steps.StepLaws.{cost_in_time}
 
 -- parts after their end are sound
@@ -23,17 +29,31 @@ sound_ended mid new m is counted scanning =
     record { counted = counted; scanning = subst (λ (p : Parts). Scanning p.tree p.scans) (sym is) scanning }
 
 -- the rows of a step are valid, and so are those of the parts that did it
-pub whole_after : (old new : Parts) (m : ℕ) (deed : Deed) (answer : Answer) → Does old new m deed answer → IsSound new → IsValid old.tree.size (step old.tree.size (rows_of old) (record { moment = m; deed = deed })).rows → IsWhole new
+pub whole_after : (old new : Parts) (m : ℕ) (deed : Deed) (answer : Answer) → Does old new m deed answer → IsSound new → IsValid old.tree.size (step_of old m deed).rows → IsWhole new
 whole_after old new m deed answer does sound valid =
     record {
       sound = sound;
-      valid = subst (IsValid new.tree.size) (sym does.rows_are) (subst (λ (K : Capacity). IsValid K (step old.tree.size (rows_of old) (record { moment = m; deed = deed })).rows) (sym does.size_is) valid);
+      valid = subst (IsValid new.tree.size) (sym does.rows_are) (subst (λ (K : Capacity). IsValid K (step_of old m deed).rows) (sym does.size_is) valid);
+      there = does.acts_are.there;
+      crossing = does.acts_are.crossing;
     }
 
 -- also if memory ran out
-pub result_whole : (old new : Parts) (m : ℕ) (deed : Deed) (result : Result Answer Wanting) → IsWhole old → IfOk result (λ answer. Does old new m deed answer) → OnErr result (new ≡ old) → IsSound new → IsValid old.tree.size (step old.tree.size (rows_of old) (record { moment = m; deed = deed })).rows → IsWhole new
+pub result_whole : (old new : Parts) (m : ℕ) (deed : Deed) (result : Result Answer Wanting) → IsWhole old → IfOk result (λ answer. Does old new m deed answer) → OnErr result (new ≡ old) → IsSound new → IsValid old.tree.size (step_of old m deed).rows → IsWhole new
 result_whole old new m deed (Ok answer) whole does same sound valid = whole_after old new m deed answer does sound valid
 result_whole old new m deed (Err e) whole does same sound valid = subst IsWhole (sym same) whole
+
+-- the acts that wait are the step's
+pub takes : (old new : Parts) (m : ℕ) (deed : Deed) (answer : Answer) → Does old new m deed answer → AreQuotas new.tree.nodes new.objects.quotas → AreActs (step_of old m deed) → Takes (machine_of old) (machine_of new) (step_of old m deed) answer
+takes old new m deed answer does quotas acts =
+    record {
+      size_is = does.size_is;
+      rows_are = does.rows_are;
+      acts_are = waits_as (rows_of new) new.marks.numbers (step_of old m deed).acts (quotas_orderly new.tree.nodes new.objects.quotas quotas) does.acts_are.set acts.in_order
+          (subst (λ (R : Rows). AllByRecursion (IsAct R) (step_of old m deed).acts) (sym does.rows_are) acts.there) does.acts_are.are;
+      outcome_is = does.outcome_is;
+      lasting_is = does.lasting_is;
+    }
 
 -- What an answer names is there
 pub takes_named : (old new : Machine) (c : Command) (answer : Answer) → Takes old new (step old.size old.rows c) answer → IsValid old.size old.rows → IsNamed new.rows answer.outcome
@@ -46,9 +66,17 @@ result_named old new c (Ok answer) t store = takes_named old new c answer t stor
 result_named old new c (Err e) t store = tt
 
 -- What is known of the parts is known of the machine that is seen
-pub seen_ok : (old new : Parts) (seen : Machine) (c : Command) (result : Result Answer Wanting) → machine_of old ≡ seen → IfOk result (λ answer. Does old new c.moment c.deed answer) → IfOk result (λ answer. Takes seen (machine_of new) (step seen.size seen.rows c) answer)
-seen_ok old new seen c (Ok answer) view does = subst (λ (o : Machine). Takes o (machine_of new) (step o.size o.rows c) answer) view does
-seen_ok old new seen c (Err e) view does = tt
+pub seen_takes : (old new : Parts) (seen : Machine) (c : Command) (answer : Answer) → machine_of old ≡ seen → Does old new c.moment c.deed answer → AreQuotas new.tree.nodes new.objects.quotas → AreActs (step_of old c.moment c.deed) → Takes seen (machine_of new) (step seen.size seen.rows c) answer
+seen_takes old new seen c answer view does quotas acts =
+    subst (λ (o : Machine). Takes o (machine_of new) (step o.size o.rows c) answer) view (takes old new c.moment c.deed answer does quotas acts)
+
+pub seen_ok : (old new : Parts) (seen : Machine) (c : Command) (result : Result Answer Wanting) → machine_of old ≡ seen → IfOk result (λ answer. Does old new c.moment c.deed answer) → AreQuotas new.tree.nodes new.objects.quotas → AreActs (step_of old c.moment c.deed) → IfOk result (λ answer. Takes seen (machine_of new) (step seen.size seen.rows c) answer)
+seen_ok old new seen c (Ok answer) view does quotas acts = seen_takes old new seen c answer view does quotas acts
+seen_ok old new seen c (Err e) view does quotas acts = tt
+
+-- no act waits of parts that are seen so
+pub seen_idle : (p : Parts) (seen : Machine) → IsWhole p → machine_of p ≡ seen → seen.waiting ≡ [] → IsIdle p
+seen_idle p seen whole view none = idle_whole p whole (ap (λ (o : Machine). o.waiting) view ∙ none)
 
 pub seen_err : (old new : Parts) (seen : Machine) (result : Result Answer Wanting) → machine_of old ≡ seen → OnErr result (new ≡ old) → OnErr result (machine_of new ≡ seen)
 seen_err old new seen (Ok answer) view same = tt

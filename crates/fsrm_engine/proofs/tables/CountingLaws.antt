@@ -12,6 +12,7 @@ use Rattle.fsrm_base.specs.Keyed.{row_of, has_row, is_ascending, with_row, with_
 use Rattle.fsrm_model.specs.Limits.{latest_moment, most_quotas}
 use Rattle.fsrm_model.specs.Quota.{folder_of, counts, is_complete, is_limit, peaked}
 use Rattle.fsrm_model.specs.QuotaStates.{in_state}
+use Rattle.fsrm_model.specs.Thresholds.{are_thresholds}
 use Rattle.fsrm_model.specs.Tree.{is_folder, usage}
 use Rattle.fsrm_model.specs.Valid.{AreQuotas, is_moment}
 use Rattle.fsrm_base.proofs.EditedRows.{absent_later, ascending_tail, change_absent, without_absent}
@@ -23,7 +24,7 @@ use Rattle.quota_usage.specs.Counters.{counted, used_in, with_counter, without_c
 use Rattle.fsrm_objects.specs.Tables.{Tables}
 use Rattle.fsrm_engine.specs.declared.parts.Parts.{Parts}
 use Rattle.fsrm_model.proofs.valid.QuotasKept.{without_found, filter_few, quotas-new, quotas-change, quotas-without}
-use Rattle.fsrm_engine.specs.Machine.{counter_of, sums_of, IsCounted, recounted, ended}
+use Rattle.fsrm_engine.specs.Machine.{counter_of, sums_of, IsCounted, recounted}
 use Rattle.fsrm_engine.specs.Peaks.{raised}
 use Rattle.fsrm_engine.proofs.tables.PeakLaws.{peak_stays, raised_is, some_settled, counted_raised}
 use Rattle.fsrm_base.proofs.RowLaws.{change_same, each_found, map_same}
@@ -110,12 +111,12 @@ of_new quota P f quotas r absent new old h =
       | inr later ↦ old r later.1
     ]
 
-pub counted_with : {level : Bool} (K : Capacity) (nodes : List NodeRow) (quotas : List QuotaRow) (counters made : List Counter) (quota : QuotaRow) → IsCounted K nodes quotas counters level → has_row folder_of quota.folder quotas ≡ false → length quotas < most_quotas → is_folder nodes quota.folder ≡ true → is_limit quota.limit ≡ true → is_moment quota.peak_at ≡ true → (counts quota ≡ true → usage K nodes quota.folder ≤ quota.peak) → made ≡ sums_of K nodes (with_row folder_of quota quotas) → IsCounted K nodes (with_row folder_of quota quotas) made level
-counted_with K nodes quotas counters made quota e absent room folder limit moment peak sums =
+pub counted_with : {level : Bool} (K : Capacity) (nodes : List NodeRow) (quotas : List QuotaRow) (counters made : List Counter) (quota : QuotaRow) → IsCounted K nodes quotas counters level → has_row folder_of quota.folder quotas ≡ false → length quotas < most_quotas → is_folder nodes quota.folder ≡ true → is_limit quota.limit ≡ true → are_thresholds quota.thresholds ≡ true → is_moment quota.peak_at ≡ true → (counts quota ≡ true → usage K nodes quota.folder ≤ quota.peak) → made ≡ sums_of K nodes (with_row folder_of quota quotas) → IsCounted K nodes (with_row folder_of quota quotas) made level
+counted_with K nodes quotas counters made quota e absent room folder limit thresholds moment peak sums =
     record {
       volume = e.volume;
       legal = e.legal;
-      are_quotas = quotas-new nodes quotas quota e.are_quotas absent room folder (record { limit = limit; moment = moment });
+      are_quotas = quotas-new nodes quotas quota e.are_quotas absent room folder (record { limit = limit; thresholds = thresholds; moment = moment });
       sums = sums;
       peaks = λ l f r h. of_new quota (λ f r. counts r ≡ true → usage K nodes f ≤ r.peak) f quotas r absent peak (e.peaks l f) h;
     }
@@ -141,12 +142,12 @@ of_changed n c P k f quotas r old h =
     at true e r p = p.0 (eq_is f n e)
     at false e r p = p.1
 
-pub counted_changed : {level : Bool} (K : Capacity) (nodes : List NodeRow) (quotas : List QuotaRow) (counters made : List Counter) (n : ℕ) (c : QuotaRow → QuotaRow) → IsCounted K nodes quotas counters level → ((r : QuotaRow) → (c r).folder ≡ r.folder) → ((r : QuotaRow) → row_of folder_of n quotas ≡ Some r → is_limit (c r).limit ≡ true) → ((r : QuotaRow) → row_of folder_of n quotas ≡ Some r → is_moment (c r).peak_at ≡ true) → (level ≡ true → (r : QuotaRow) → row_of folder_of n quotas ≡ Some r → counts (c r) ≡ true → usage K nodes n ≤ (c r).peak) → made ≡ sums_of K nodes (with_change folder_of n c quotas) → IsCounted K nodes (with_change folder_of n c quotas) made level
-counted_changed K nodes quotas counters made n c e k limit moment peak sums =
+pub counted_changed : {level : Bool} (K : Capacity) (nodes : List NodeRow) (quotas : List QuotaRow) (counters made : List Counter) (n : ℕ) (c : QuotaRow → QuotaRow) → IsCounted K nodes quotas counters level → ((r : QuotaRow) → (c r).folder ≡ r.folder) → ((r : QuotaRow) → row_of folder_of n quotas ≡ Some r → is_limit (c r).limit ≡ true) → ((r : QuotaRow) → row_of folder_of n quotas ≡ Some r → are_thresholds (c r).thresholds ≡ true) → ((r : QuotaRow) → row_of folder_of n quotas ≡ Some r → is_moment (c r).peak_at ≡ true) → (level ≡ true → (r : QuotaRow) → row_of folder_of n quotas ≡ Some r → counts (c r) ≡ true → usage K nodes n ≤ (c r).peak) → made ≡ sums_of K nodes (with_change folder_of n c quotas) → IsCounted K nodes (with_change folder_of n c quotas) made level
+counted_changed K nodes quotas counters made n c e k limit thresholds moment peak sums =
     record {
       volume = e.volume;
       legal = e.legal;
-      are_quotas = quotas-change nodes quotas n c e.are_quotas k (λ r found. record { limit = limit r found; moment = moment r found });
+      are_quotas = quotas-change nodes quotas n c e.are_quotas k (λ r found. record { limit = limit r found; thresholds = thresholds r found; moment = moment r found });
       sums = sums;
       peaks = λ l f r h. of_changed n c (λ r. counts r ≡ true → usage K nodes f ≤ r.peak) k f quotas r (λ r found. (
         λ same t. subst (λ m. usage K nodes m ≤ (c r).peak) (sym same) (peak l r (subst (λ m. row_of folder_of m quotas ≡ Some r) same found) t),
@@ -162,11 +163,11 @@ pub put_is : (quota : QuotaRow) (quotas : List QuotaRow) → is_ascending folder
 put_is quota quotas asc =
     change_same folder_of quota.folder (λ old. quota) (put_in quota) quotas asc (λ r found. ap (λ n. record quota { folder = n }) (sym (found_key folder_of quota.folder quotas r found)))
 
-pub counted_put : {level : Bool} (K : Capacity) (nodes : List NodeRow) (quotas : List QuotaRow) (counters made : List Counter) (quota : QuotaRow) → IsCounted K nodes quotas counters level → is_limit quota.limit ≡ true → is_moment quota.peak_at ≡ true → (level ≡ true → counts quota ≡ true → usage K nodes quota.folder ≤ quota.peak) → made ≡ sums_of K nodes (with_change folder_of quota.folder (λ old. quota) quotas) → IsCounted K nodes (with_change folder_of quota.folder (λ old. quota) quotas) made level
-counted_put {level} K nodes quotas counters made quota e limit moment peak sums =
+pub counted_put : {level : Bool} (K : Capacity) (nodes : List NodeRow) (quotas : List QuotaRow) (counters made : List Counter) (quota : QuotaRow) → IsCounted K nodes quotas counters level → is_limit quota.limit ≡ true → are_thresholds quota.thresholds ≡ true → is_moment quota.peak_at ≡ true → (level ≡ true → counts quota ≡ true → usage K nodes quota.folder ≤ quota.peak) → made ≡ sums_of K nodes (with_change folder_of quota.folder (λ old. quota) quotas) → IsCounted K nodes (with_change folder_of quota.folder (λ old. quota) quotas) made level
+counted_put {level} K nodes quotas counters made quota e limit thresholds moment peak sums =
     let is = put_is quota quotas e.are_quotas.ascending in
     subst (λ (qs : List QuotaRow). IsCounted K nodes qs made level) (sym is)
-    (counted_changed K nodes quotas counters made quota.folder (put_in quota) e (λ r. refl) (λ r found. limit) (λ r found. moment) (λ l r found. peak l)
+    (counted_changed K nodes quotas counters made quota.folder (put_in quota) e (λ r. refl) (λ r found. limit) (λ r found. thresholds) (λ r found. moment) (λ l r found. peak l)
     (sums ∙ ap (sums_of K nodes) is))
 
 -- and counts as the old one did
@@ -226,10 +227,10 @@ pub record Recounted (counters made : List Counter) (n : ℕ) (counting : Bool) 
   pub held : counting ≡ true → has_row counted n counters ≡ true → made ≡ counters
 
 -- A quota was put on a folder
-pub added : {level : Bool} (K : Capacity) (nodes : List NodeRow) (quotas set : List QuotaRow) (counters made : List Counter) (quota : QuotaRow) (counting : Bool) → IsCounted K nodes quotas counters level → has_row folder_of quota.folder quotas ≡ false → length quotas < most_quotas → is_folder nodes quota.folder ≡ true → is_limit quota.limit ≡ true → is_moment quota.peak_at ≡ true → (counts quota ≡ true → usage K nodes quota.folder ≡ 0) → counting ≡ counts quota → Recounted counters made quota.folder counting → set ≡ with_row folder_of quota quotas → IsCounted K nodes set made level
-added {level} K nodes quotas set counters made quota counting e absent room folder limit moment nothing c m s =
+pub added : {level : Bool} (K : Capacity) (nodes : List NodeRow) (quotas set : List QuotaRow) (counters made : List Counter) (quota : QuotaRow) (counting : Bool) → IsCounted K nodes quotas counters level → has_row folder_of quota.folder quotas ≡ false → length quotas < most_quotas → is_folder nodes quota.folder ≡ true → is_limit quota.limit ≡ true → are_thresholds quota.thresholds ≡ true → is_moment quota.peak_at ≡ true → (counts quota ≡ true → usage K nodes quota.folder ≡ 0) → counting ≡ counts quota → Recounted counters made quota.folder counting → set ≡ with_row folder_of quota quotas → IsCounted K nodes set made level
+added {level} K nodes quotas set counters made quota counting e absent room folder limit thresholds moment nothing c m s =
     subst (λ (qs : List QuotaRow). IsCounted K nodes qs made level) (sym s)
-    (counted_with K nodes quotas counters made quota e absent room folder limit moment (λ t. small (usage K nodes quota.folder) quota.peak (nothing t)) (sums counting c m))
+    (counted_with K nodes quotas counters made quota e absent room folder limit thresholds moment (λ t. small (usage K nodes quota.folder) quota.peak (nothing t)) (sums counting c m))
   where
     small : (u p : ℕ) → u ≡ 0 → u ≤ p
     small u p h = omega arith
@@ -280,10 +281,10 @@ put_sums K nodes quotas counters made quota old e found nothing m =
         m.held c (counter ∙ was)
         ∙ (e.sums ∙ sums_held K nodes quotas quota old asc found (complete_is quota.state c ∙ sym (complete_is old.state was)))
 
-pub quota_put : {level : Bool} (K : Capacity) (nodes : List NodeRow) (quotas set : List QuotaRow) (counters made : List Counter) (quota : QuotaRow) (counting : Bool) → IsCounted K nodes quotas counters level → has_row folder_of quota.folder quotas ≡ true → is_limit quota.limit ≡ true → is_moment quota.peak_at ≡ true → ((old : QuotaRow) → row_of folder_of quota.folder quotas ≡ Some old → quota.peak ≡ old.peak) → ((old : QuotaRow) → row_of folder_of quota.folder quotas ≡ Some old → counts old ≡ false → counts quota ≡ true → usage K nodes quota.folder ≡ 0) → counting ≡ counts quota → Recounted counters made quota.folder counting → set ≡ with_change folder_of quota.folder (λ old. quota) quotas → IsCounted K nodes set made level
-quota_put {level} K nodes quotas set counters made quota counting e there limit moment peak nothing c m s =
+pub quota_put : {level : Bool} (K : Capacity) (nodes : List NodeRow) (quotas set : List QuotaRow) (counters made : List Counter) (quota : QuotaRow) (counting : Bool) → IsCounted K nodes quotas counters level → has_row folder_of quota.folder quotas ≡ true → is_limit quota.limit ≡ true → are_thresholds quota.thresholds ≡ true → is_moment quota.peak_at ≡ true → ((old : QuotaRow) → row_of folder_of quota.folder quotas ≡ Some old → quota.peak ≡ old.peak) → ((old : QuotaRow) → row_of folder_of quota.folder quotas ≡ Some old → counts old ≡ false → counts quota ≡ true → usage K nodes quota.folder ≡ 0) → counting ≡ counts quota → Recounted counters made quota.folder counting → set ≡ with_change folder_of quota.folder (λ old. quota) quotas → IsCounted K nodes set made level
+quota_put {level} K nodes quotas set counters made quota counting e there limit thresholds moment peak nothing c m s =
     subst (λ (qs : List QuotaRow). IsCounted K nodes qs made level) (sym s)
-    (counted_put K nodes quotas counters made quota e limit moment (λ l t. enough l (counts f.row) t refl)
+    (counted_put K nodes quotas counters made quota e limit thresholds moment (λ l t. enough l (counts f.row) t refl)
     (put_sums K nodes quotas counters made quota f.row e f.is (nothing f.row f.is) (subst (λ b. Recounted counters made quota.folder b) c m)))
   where
     f : FoundRow (row_of folder_of quota.folder quotas)
@@ -303,14 +304,14 @@ rebuilt {level} K nodes quotas set counters made n e there m s =
     let quota = in_state Rebuilding f.row in
     let k : f.row.folder ≡ n = found_key folder_of n quotas f.row f.is in
     subst (λ (qs : List QuotaRow). IsCounted K nodes qs made level) (sym s)
-    (counted_changed K nodes quotas counters made n (in_state Rebuilding) e (λ r. refl) (λ r found. e.are_quotas.limits n r found) (λ r found. e.are_quotas.moments n r found) (λ l r found c. cc)
+    (counted_changed K nodes quotas counters made n (in_state Rebuilding) e (λ r. refl) (λ r found. e.are_quotas.limits n r found) (λ r found. e.are_quotas.thresholds n r found) (λ r found. e.are_quotas.moments n r found) (λ l r found c. cc)
     (m ∙ (ap (without_row counted n) e.sums
     ∙ sym (ap (sums_of K nodes) (state_is Rebuilding n quotas f.row e.are_quotas.ascending f.is) ∙ sums_ended K nodes n quota quotas e.are_quotas.ascending k there refl))))
 
 -- A quota that counts from now on
 pub completed_are : (K : Capacity) (nodes : List NodeRow) (quotas : List QuotaRow) (n : ℕ) → AreQuotas nodes quotas → AreQuotas nodes (with_change folder_of n (in_state Complete) quotas)
 completed_are K nodes quotas n q =
-    quotas-change nodes quotas n (in_state Complete) q (λ r. refl) (λ r found. record { limit = q.limits n r found; moment = q.moments n r found })
+    quotas-change nodes quotas n (in_state Complete) q (λ r. refl) (λ r found. record { limit = q.limits n r found; thresholds = q.thresholds n r found; moment = q.moments n r found })
 
 completed_sums : {level : Bool} (K : Capacity) (nodes : List NodeRow) (quotas : List QuotaRow) (counters made : List Counter) (n used : ℕ) (q : QuotaRow) → IsCounted K nodes quotas counters level → row_of folder_of n quotas ≡ Some q → counts q ≡ false → used ≡ usage K nodes n → made ≡ with_counter counters n used → made ≡ sums_of K nodes (with_change folder_of n (in_state Complete) quotas)
 completed_sums K nodes quotas counters made n used q e found c u m =
@@ -343,12 +344,12 @@ completed_peaks K nodes quotas counters made m n e sums =
     at r found false t = sym (peak_stays K nodes m r (of_changed n (in_state Complete) (λ q. counts q ≡ true → usage K nodes r.folder ≤ q.peak) (λ r. refl) (folder_of r) quotas r (λ q was. (λ same. absurd (clash _ (ap (λ k. k == n) same ∙ eq_same n) t), e.peaks refl (folder_of r) q was)) found))
 
 -- what is kept when it counts
-pub record Completes (K : Capacity) (nodes : List NodeRow) (quotas set : List QuotaRow) (made : List Counter) (m n : ℕ) (level : Bool) : Type 0 where
+pub record IsCompleted (K : Capacity) (nodes : List NodeRow) (quotas set : List QuotaRow) (made : List Counter) (m n : ℕ) (level : Bool) : Type 0 where
   pub quotas_are : map (peaked K nodes m) set ≡ map (peaked K nodes m) (with_change folder_of n (in_state Complete) quotas)
   pub sums : made ≡ sums_of K nodes (with_change folder_of n (in_state Complete) quotas)
   pub engine : IsCounted K nodes set made level
 
-pub completes : {level : Bool} (K : Capacity) (nodes : List NodeRow) (quotas in_it set : List QuotaRow) (counters made : List Counter) (m n used : ℕ) → IsCounted K nodes quotas counters level → m ≤ latest_moment → has_row folder_of n quotas ≡ true → ((q : QuotaRow) → row_of folder_of n quotas ≡ Some q → counts q ≡ false) → used ≡ usage K nodes n → made ≡ with_counter counters n used → in_it ≡ with_change folder_of n (in_state Complete) quotas → set ≡ with_change folder_of n (raised made m) in_it → Completes K nodes quotas set made m n level
+pub completes : {level : Bool} (K : Capacity) (nodes : List NodeRow) (quotas in_it set : List QuotaRow) (counters made : List Counter) (m n used : ℕ) → IsCounted K nodes quotas counters level → m ≤ latest_moment → has_row folder_of n quotas ≡ true → ((q : QuotaRow) → row_of folder_of n quotas ≡ Some q → counts q ≡ false) → used ≡ usage K nodes n → made ≡ with_counter counters n used → in_it ≡ with_change folder_of n (in_state Complete) quotas → set ≡ with_change folder_of n (raised made m) in_it → IsCompleted K nodes quotas set made m n level
 completes {level} K nodes quotas in_it set counters made m n used e late there uncounted u begun state raises =
     let f = has_found folder_of n quotas there in
     let after = with_change folder_of n (in_state Complete) quotas in
@@ -368,9 +369,3 @@ pub recounted_as : (p : Parts) (tables : Tables) (counters : List Counter) (quot
 recounted_as p tables counters quotas is e =
     ap (λ (cs : List Counter). record p { objects = tables; usage = cs }) e.sums
     ∙ ap (λ (t : Tables). record p { objects = t; usage = sums_of p.tree.size p.tree.nodes t.quotas }) is
-
-pub completed_as : (p : Parts) (tables : Tables) (counters : List Counter) (n m : ℕ) → Completes p.tree.size p.tree.nodes p.objects.quotas tables.quotas counters m n p.level → ended (record p { objects = tables; usage = counters }) m ≡ ended (recounted p (with_change folder_of n (in_state Complete) p.objects.quotas)) m
-completed_as p tables counters n m done =
-    let after = with_change folder_of n (in_state Complete) p.objects.quotas in
-    ap (λ (cs : List Counter). record p { objects = record p.objects { quotas = map (peaked p.tree.size p.tree.nodes m) tables.quotas }; usage = cs; level = true; last_moment = m }) done.sums
-    ∙ ap (λ (qs : List QuotaRow). record p { objects = record p.objects { quotas = qs }; usage = sums_of p.tree.size p.tree.nodes after; level = true; last_moment = m }) done.quotas_are

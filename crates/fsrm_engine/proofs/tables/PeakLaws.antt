@@ -11,6 +11,7 @@ use Rattle.fsrm_model.specs.declared.row.QuotaRow.{QuotaRow}
 use Rattle.fsrm_base.specs.Keyed.{row_of, is_ascending}
 use Rattle.fsrm_model.specs.Capacities.{is_capacity}
 use Rattle.fsrm_model.specs.Quota.{folder_of, counts, is_limit, peaked}
+use Rattle.fsrm_model.specs.Thresholds.{are_thresholds}
 use Rattle.fsrm_model.specs.Tree.{usage}
 use Rattle.fsrm_model.specs.Valid.{IsVolume, AreQuotas, is_moment}
 use Rattle.fsrm_base.proofs.Look.{find-map, found_key}
@@ -50,6 +51,13 @@ peaked_limit K nodes m q = peak_case (λ q. q.limit) K nodes m by_case q
     by_case q true = refl
     by_case q false = refl
 
+peaked_thresholds : (K : Capacity) (nodes : List NodeRow) (m : ℕ) (q : QuotaRow) → (peaked K nodes m q).thresholds ≡ q.thresholds
+peaked_thresholds K nodes m q = peak_case (λ q. q.thresholds) K nodes m by_case q
+  where
+    by_case : (q : QuotaRow) (b : Bool) → (cond b (record q { peak = usage K nodes q.folder; peak_at = m }) q).thresholds ≡ q.thresholds
+    by_case q true = refl
+    by_case q false = refl
+
 peaked_moment : (K : Capacity) (nodes : List NodeRow) (m : ℕ) (q : QuotaRow) → is_moment m ≡ true → is_moment q.peak_at ≡ true → is_moment (peaked K nodes m q).peak_at ≡ true
 peaked_moment K nodes m q new old = by_case (counts q && nat_lt q.peak (usage K nodes q.folder))
   where
@@ -85,16 +93,16 @@ peaks_stay K nodes m quotas asc h =
     sym (map_id (peaked K nodes m) quotas (each_found folder_of _ quotas asc (λ q found. peak_stays K nodes m q (h q found))))
 
 -- a row that is found after rows were changed
-record Was (g : QuotaRow → QuotaRow) (f : ℕ) (quotas : List QuotaRow) (q : QuotaRow) : Type 0 where
-  old : QuotaRow
-  found : row_of folder_of f quotas ≡ Some old
-  is : q ≡ g old
+pub record Was (g : QuotaRow → QuotaRow) (f : ℕ) (quotas : List QuotaRow) (q : QuotaRow) : Type 0 where
+  pub old : QuotaRow
+  pub found : row_of folder_of f quotas ≡ Some old
+  pub is : q ≡ g old
 
-mapped_some : (g : QuotaRow → QuotaRow) (o : Option QuotaRow) (q : QuotaRow) → option_map g o ≡ Some q → (r : QuotaRow) × (o ≡ Some r) × (q ≡ g r)
+pub mapped_some : (g : QuotaRow → QuotaRow) (o : Option QuotaRow) (q : QuotaRow) → option_map g o ≡ Some q → (r : QuotaRow) × (o ≡ Some r) × (q ≡ g r)
 mapped_some g None q h = cc
 mapped_some g (Some r) q h = (r, refl, sym (same_Some (g r) q h))
 
-was : (g : QuotaRow → QuotaRow) → ((q : QuotaRow) → (g q).folder ≡ q.folder) → (f : ℕ) (quotas : List QuotaRow) (q : QuotaRow) → row_of folder_of f (map g quotas) ≡ Some q → Was g f quotas q
+pub was : (g : QuotaRow → QuotaRow) → ((q : QuotaRow) → (g q).folder ≡ q.folder) → (f : ℕ) (quotas : List QuotaRow) (q : QuotaRow) → row_of folder_of f (map g quotas) ≡ Some q → Was g f quotas q
 was g folder f quotas q h =
     let w = mapped_some g (row_of folder_of f quotas) q (sym (find-map (λ q. folder_of q == f) g (λ q. ap (λ n. n == f) (folder q)) quotas) ∙ h) in
     record { old = w.0; found = w.1; is = w.2 }
@@ -103,13 +111,14 @@ found_folder_is : (f : ℕ) (quotas : List QuotaRow) (q : QuotaRow) → row_of f
 found_folder_is f quotas q h = found_key folder_of f quotas q h
 
 -- quotas of which nothing but peaks changes
-pub quotas_mapped : (nodes : List NodeRow) (g : QuotaRow → QuotaRow) (quotas : List QuotaRow) → ((q : QuotaRow) → (g q).folder ≡ q.folder) → ((q : QuotaRow) → (g q).limit ≡ q.limit) → ((q : QuotaRow) → is_moment q.peak_at ≡ true → is_moment (g q).peak_at ≡ true) → AreQuotas nodes quotas → AreQuotas nodes (map g quotas)
-quotas_mapped nodes g quotas folder limit moment qs =
+pub quotas_mapped : (nodes : List NodeRow) (g : QuotaRow → QuotaRow) (quotas : List QuotaRow) → ((q : QuotaRow) → (g q).folder ≡ q.folder) → ((q : QuotaRow) → (g q).limit ≡ q.limit) → ((q : QuotaRow) → (g q).thresholds ≡ q.thresholds) → ((q : QuotaRow) → is_moment q.peak_at ≡ true → is_moment (g q).peak_at ≡ true) → AreQuotas nodes quotas → AreQuotas nodes (map g quotas)
+quotas_mapped nodes g quotas folder limit thresholds moment qs =
     record {
       ascending = ascending-map folder_of g folder quotas qs.ascending;
       few = omega (arith, length-map quotas g, qs.few);
       folders = λ f q h. let w = was g folder f quotas q h in qs.folders f w.old w.found;
       limits = λ f q h. let w = was g folder f quotas q h in ap (λ (q : QuotaRow). is_limit q.limit) w.is ∙ (ap is_limit (limit w.old) ∙ qs.limits f w.old w.found);
+      thresholds = λ f q h. let w = was g folder f quotas q h in ap (λ (q : QuotaRow). are_thresholds q.thresholds) w.is ∙ (ap are_thresholds (thresholds w.old) ∙ qs.thresholds f w.old w.found);
       moments = λ f q h. let w = was g folder f quotas q h in ap (λ (q : QuotaRow). is_moment q.peak_at) w.is ∙ moment w.old (qs.moments f w.old w.found);
     }
 
@@ -119,7 +128,7 @@ counted_peaked K nodes quotas counters m v legal qs moment sums =
     record {
       volume = v;
       legal = legal;
-      are_quotas = quotas_mapped nodes (peaked K nodes m) quotas (peaked_folder K nodes m) (peaked_limit K nodes m) (λ q. peaked_moment K nodes m q moment) qs;
+      are_quotas = quotas_mapped nodes (peaked K nodes m) quotas (peaked_folder K nodes m) (peaked_limit K nodes m) (peaked_thresholds K nodes m) (λ q. peaked_moment K nodes m q moment) qs;
       sums = sums ∙ sym (sums_kept K nodes (peaked K nodes m) (peaked_folder K nodes m) (peaked_counts K nodes m) quotas);
       peaks = λ l f q h c.
           let w = was (peaked K nodes m) (peaked_folder K nodes m) f quotas q h in
@@ -160,7 +169,7 @@ peaked_twice K nodes m q =
 abbrev pub raised_some : (QuotaRow → Bool) → List Counter → ℕ → QuotaRow → QuotaRow
 raised_some p counters m q = if p q then raised counters m q else q
 
-raised_case : (P : QuotaRow → Type 0) (counters : List Counter) (m : ℕ) (q : QuotaRow) → P q → ((used : ℕ) → P (record q { peak = used; peak_at = m })) → (b : Bool) → P (cond b (raised counters m q) q)
+pub raised_case : (P : QuotaRow → Type 0) (counters : List Counter) (m : ℕ) (q : QuotaRow) → P q → ((used : ℕ) → P (record q { peak = used; peak_at = m })) → (b : Bool) → P (cond b (raised counters m q) q)
 raised_case P counters m q old new false = old
 raised_case P counters m q old new true = at (used_in counters q.folder)
   where
@@ -172,14 +181,17 @@ raised_case P counters m q old new true = at (used_in counters q.folder)
     at None = old
     at (Some used) = by used (nat_lt q.peak used)
 
-some_folder : (p : QuotaRow → Bool) (counters : List Counter) (m : ℕ) (q : QuotaRow) → (raised_some p counters m q).folder ≡ q.folder
+pub some_folder : (p : QuotaRow → Bool) (counters : List Counter) (m : ℕ) (q : QuotaRow) → (raised_some p counters m q).folder ≡ q.folder
 some_folder p counters m q = raised_case (λ r. r.folder ≡ q.folder) counters m q refl (λ used. refl) (p q)
 
 some_counts : (p : QuotaRow → Bool) (counters : List Counter) (m : ℕ) (q : QuotaRow) → counts (raised_some p counters m q) ≡ counts q
 some_counts p counters m q = raised_case (λ r. counts r ≡ counts q) counters m q refl (λ used. refl) (p q)
 
-some_limit : (p : QuotaRow → Bool) (counters : List Counter) (m : ℕ) (q : QuotaRow) → (raised_some p counters m q).limit ≡ q.limit
+pub some_limit : (p : QuotaRow → Bool) (counters : List Counter) (m : ℕ) (q : QuotaRow) → (raised_some p counters m q).limit ≡ q.limit
 some_limit p counters m q = raised_case (λ r. r.limit ≡ q.limit) counters m q refl (λ used. refl) (p q)
+
+pub some_thresholds : (p : QuotaRow → Bool) (counters : List Counter) (m : ℕ) (q : QuotaRow) → (raised_some p counters m q).thresholds ≡ q.thresholds
+some_thresholds p counters m q = raised_case (λ r. r.thresholds ≡ q.thresholds) counters m q refl (λ used. refl) (p q)
 
 -- where peaks of some quotas were raised, raising all of them leaves the same as at once
 pub some_settled : (K : Capacity) (nodes : List NodeRow) (p : QuotaRow → Bool) (quotas : List QuotaRow) (counters : List Counter) (m : ℕ) → is_ascending folder_of quotas ≡ true → counters ≡ sums_of K nodes quotas → map (peaked K nodes m) (map (raised_some p counters m) quotas) ≡ map (peaked K nodes m) quotas
@@ -201,7 +213,7 @@ counted_raised {level} K nodes p quotas counters m v legal qs moment sums all =
     record {
       volume = v;
       legal = legal;
-      are_quotas = quotas_mapped nodes (raised_some p counters m) quotas (some_folder p counters m) (some_limit p counters m)
+      are_quotas = quotas_mapped nodes (raised_some p counters m) quotas (some_folder p counters m) (some_limit p counters m) (some_thresholds p counters m)
           (λ q old. raised_case (λ r. is_moment r.peak_at ≡ true) counters m q old (λ used. moment) (p q)) qs;
       sums = sums ∙ sym (sums_kept K nodes (raised_some p counters m) (some_folder p counters m) (some_counts p counters m) quotas);
       peaks = λ l f q h c.

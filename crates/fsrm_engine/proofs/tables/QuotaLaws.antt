@@ -1,9 +1,10 @@
 -- What the commands on quotas keep.
 use Rattle.std.proofs.Common.{◌≡◌, ℕ, ◌≤◌, ◌==◌, Bool, true, false, cond, not, List, [], ◌∷◌, Some, None, refl, ap, sym, ◌∙◌, subst, arith}
+use Rattle.std.proofs.lemmas.Option.{same_Some}
 use Rattle.std.specs.Prelude.{is_none, unwrap_or, if◌then◌else◌}
-use Rattle.fsrm_model.specs.declared.command.Answer.{Answer}
 use Rattle.fsrm_model.specs.declared.command.Deed.{Deed}
 use Rattle.fsrm_model.specs.declared.command.Outcome.TheVariants.{Done}
+use Rattle.fsrm_model.specs.declared.command.Refusal.{Refusal}
 use Rattle.fsrm_model.specs.declared.command.Refusal.TheVariants.{PathNotFound, NotFound}
 use Rattle.fsrm_model.specs.declared.row.Capacity.{Capacity}
 use Rattle.fsrm_model.specs.declared.row.NodeRow.{NodeRow}
@@ -17,6 +18,8 @@ use Rattle.fsrm_model.specs.Limits.{latest_moment}
 use Rattle.fsrm_model.specs.Quota.{folder_of, counts, is_limit}
 use Rattle.fsrm_model.specs.QuotaWork.{quota_checks, reset}
 use Rattle.fsrm_model.specs.QuotaStates.{scan_begun}
+use Rattle.fsrm_model.specs.Text.{is_bare}
+use Rattle.fsrm_model.specs.Thresholds.{are_thresholds}
 use Rattle.fsrm_model.specs.Tree.{usage}
 use Rattle.fsrm_model.specs.Valid.{is_moment}
 use Rattle.fsrm_model.specs.Work.{asks}
@@ -25,11 +28,11 @@ use Rattle.fsrm_objects.specs.Tables.{Tables, peaked_at}
 use Rattle.quota_usage.specs.declared.change.Counter.{Counter}
 use Rattle.quota_usage.specs.Counters.{used_in}
 use Rattle.fsrm_engine.specs.declared.parts.Parts.{Parts}
-use Rattle.fsrm_engine.specs.Machine.{Does, rows_of, ended, IsCounted, AreCounted}
+use Rattle.fsrm_engine.specs.Machine.{rows_of, IsCounted, IsIdle, AreCounted}
 use Rattle.fsrm_engine.specs.Places.{IsFolder, IsQuotaAt}
 use Rattle.scan_queue.specs.Courses.{left}
 use Rattle.fsrm_engine.proofs.steps.PlaceLaws.{target_is, leads_to_folder_is}
-use Rattle.fsrm_engine.proofs.steps.StepLaws.{asked, done_as, same_own}
+use Rattle.fsrm_engine.proofs.steps.StepLaws.{Accepts, asked, followed_rows, keeps, same_own, still_idle}
 use Rattle.fsrm_base.proofs.RowLaws.{change_same}
 use Rattle.fsrm_engine.proofs.tables.SumLaws.{used_found, sums_kept}
 use Rattle.fsrm_engine.proofs.tables.CountingLaws.{is_moment_of, counted_changed}
@@ -59,23 +62,40 @@ quota_due R path quota o =
     at true false a b = refl
     at false b a e = cc
 
+-- and these are by no quota
+pub first_bare : (R : Rows) (path : List (List ℕ)) (refusal : Refusal) → first (quota_checks R path) ≡ Some refusal → is_bare refusal ≡ true
+first_bare R path refusal h = at (not (leads_to_folder R.nodes path)) (is_none (row_of folder_of (target R.nodes path) R.quotas)) h
+  where
+    at : (a b : Bool) → first ((PathNotFound when a) ∷ (NotFound when b) ∷ []) ≡ Some refusal → is_bare refusal ≡ true
+    at true b h = sym (ap is_bare (same_Some PathNotFound refusal h))
+    at false true h = sym (ap is_bare (same_Some NotFound refusal h))
+    at false false h = cc h
+
 -- A command that changes the quota of a folder, and nothing else: what it does, by the row that the change makes of it
-pub changed_as : (p new : Parts) (m : ℕ) (quota : QuotaRow) (deed : Deed) (answer : Answer) (path : List (List ℕ)) (c : QuotaRow → QuotaRow) (tables : Tables) → p.last_moment ≤ m → IsQuotaAt p.tree.nodes p.objects.quotas path quota → asked p m deed ≡ asks (quota_checks (rows_of p) path) (record (rows_of p) { quotas = with_change folder_of (target p.tree.nodes path) c p.objects.quotas }) (Done None) true → tables.quotas ≡ with_change folder_of quota.folder c p.objects.quotas → new ≡ ended (record p { objects = tables }) m → answer ≡ record { outcome = Done None; lasting = true } → Does p new m deed answer
-changed_as p new m quota deed answer path c tables after on is set ends e =
+pub changed_as : (p : Parts) (m : ℕ) (quota : QuotaRow) (deed : Deed) (path : List (List ℕ)) (c : QuotaRow → QuotaRow) (tables : Tables) → IsIdle p → p.last_moment ≤ m → IsQuotaAt p.tree.nodes p.objects.quotas path quota → asked p m deed ≡ asks (quota_checks (rows_of p) path) (record (rows_of p) { quotas = with_change folder_of (target p.tree.nodes path) c p.objects.quotas }) (Done None) true → tables.quotas ≡ with_change folder_of quota.folder c p.objects.quotas → Accepts p (record p { objects = tables }) m deed
+changed_as p m quota deed path c tables idle after on is set =
     let R = rows_of p in
-    done_as p (record p { objects = tables }) new m deed answer tables.quotas p.scans.queue R.unvisited after
-    (ap (λ w. first w.checks) is ∙ quota_due R path quota on)
-    (ap (λ w. w.effect) is ∙ ap (λ (qs : List QuotaRow). record R { quotas = qs }) (ap (λ k. with_change folder_of k c p.objects.quotas) (target_is R.nodes path quota.folder on.at.resolved) ∙ sym set))
-    (ap (λ w. w.outcome) is) (ap (λ w. w.lasts) is) refl refl refl
-    (sym (ap (λ b. if b then left p.tree.nodes p.scans else scan_begun p.tree.nodes p.scans.queue) (same_own p.scans.queue)))
-    ends e
+    let mid : Parts = record p { objects = tables } in
+    let kept = keeps p p.tree tables p.usage p.scans p.level refl in
+    record {
+      quotas = tables.quotas;
+      after = after;
+      none = ap (λ w. first w.checks) is ∙ quota_due R path quota on;
+      lasts = ap (λ w. w.lasts) is;
+      size = refl;
+      idle = still_idle p mid kept idle;
+      made = followed_rows p mid (asked p m deed).effect tables.quotas p.scans.queue R.unvisited kept
+          (ap (λ w. w.effect) is ∙ ap (λ (qs : List QuotaRow). record R { quotas = qs }) (ap (λ k. with_change folder_of k c p.objects.quotas) (target_is R.nodes path quota.folder on.at.resolved) ∙ sym set))
+          refl (sym (ap (λ b. if b then left p.tree.nodes p.scans else scan_begun p.tree.nodes p.scans.queue) (same_own p.scans.queue)));
+      raised = refl;
+    }
 
 -- its counters stay, if the quota counts as before
-pub counted_kept : (p : Parts) (n : ℕ) (c : QuotaRow → QuotaRow) → AreCounted p → ((r : QuotaRow) → (c r).folder ≡ r.folder) → ((r : QuotaRow) → counts (c r) ≡ counts r) → ((r : QuotaRow) → row_of folder_of n p.objects.quotas ≡ Some r → is_limit (c r).limit ≡ true) → ((r : QuotaRow) → row_of folder_of n p.objects.quotas ≡ Some r → is_moment (c r).peak_at ≡ true) → (p.level ≡ true → (r : QuotaRow) → row_of folder_of n p.objects.quotas ≡ Some r → counts (c r) ≡ true → usage p.tree.size p.tree.nodes n ≤ (c r).peak) → IsCounted p.tree.size p.tree.nodes (with_change folder_of n c p.objects.quotas) p.usage p.level
-counted_kept p n c e folder counting limit moment peak =
+pub counted_kept : (p : Parts) (n : ℕ) (c : QuotaRow → QuotaRow) → AreCounted p → ((r : QuotaRow) → (c r).folder ≡ r.folder) → ((r : QuotaRow) → counts (c r) ≡ counts r) → ((r : QuotaRow) → row_of folder_of n p.objects.quotas ≡ Some r → is_limit (c r).limit ≡ true) → ((r : QuotaRow) → row_of folder_of n p.objects.quotas ≡ Some r → are_thresholds (c r).thresholds ≡ true) → ((r : QuotaRow) → row_of folder_of n p.objects.quotas ≡ Some r → is_moment (c r).peak_at ≡ true) → (p.level ≡ true → (r : QuotaRow) → row_of folder_of n p.objects.quotas ≡ Some r → counts (c r) ≡ true → usage p.tree.size p.tree.nodes n ≤ (c r).peak) → IsCounted p.tree.size p.tree.nodes (with_change folder_of n c p.objects.quotas) p.usage p.level
+counted_kept p n c e folder counting limit thresholds moment peak =
     let K = p.tree.size in
     let nodes = p.tree.nodes in
-    counted_changed K nodes p.objects.quotas p.usage p.usage n c e folder limit moment peak
+    counted_changed K nodes p.objects.quotas p.usage p.usage n c e folder limit thresholds moment peak
     (e.sums
     ∙ sym (sums_kept K nodes (λ r. if folder_of r == n then c r else r) (λ r. changed_key folder_of n c folder (folder_of r == n) r) (λ r. same (folder_of r == n) r) p.objects.quotas))
   where
@@ -86,7 +106,7 @@ counted_kept p n c e folder counting limit moment peak =
 -- with the peak that is used now
 pub counted_reset : (p : Parts) (m n : ℕ) → AreCounted p → m ≤ latest_moment → IsCounted p.tree.size p.tree.nodes (with_change folder_of n (reset p.tree.size (rows_of p) m) p.objects.quotas) p.usage p.level
 counted_reset p m n e late =
-    counted_kept p n c e (λ r. refl) (λ r. refl) (λ r found. e.are_quotas.limits n r found) (λ r found. is_moment_of m late)
+    counted_kept p n c e (λ r. refl) (λ r. refl) (λ r found. e.are_quotas.limits n r found) (λ r found. e.are_quotas.thresholds n r found) (λ r found. is_moment_of m late)
     (λ l r found t. subst (λ k. usage K nodes k ≤ (c r).peak) (found_key folder_of n p.objects.quotas r found) (at r (counts r) t))
   where
     K : Capacity
@@ -115,3 +135,17 @@ reset_is p m n used e h =
     at : (b : Bool) (u : ℕ) → unwrap_or (cond b (Some u) None) 0 ≡ cond b u 0
     at true u = refl
     at false u = refl
+
+-- all but its peak stays
+module _ (p : Parts) (m : ℕ) where
+  pub reset_folder : (b : Bool) (q : QuotaRow) → (cond b (reset p.tree.size (rows_of p) m q) q).folder ≡ q.folder
+  reset_folder true q = refl
+  reset_folder false q = refl
+
+  pub reset_limit : (b : Bool) (q : QuotaRow) → (cond b (reset p.tree.size (rows_of p) m q) q).limit ≡ q.limit
+  reset_limit true q = refl
+  reset_limit false q = refl
+
+  pub reset_thresholds : (b : Bool) (q : QuotaRow) → (cond b (reset p.tree.size (rows_of p) m q) q).thresholds ≡ q.thresholds
+  reset_thresholds true q = refl
+  reset_thresholds false q = refl

@@ -15,9 +15,10 @@ use Rattle.fsrm_base.proofs.TestLaws.{clash, eq_is, eq_same, not_true, or_later}
 use Rattle.node_table.specs.declared.view.NodeView.{NodeView}
 use Rattle.volume_tree.specs.Volume.{Shows}
 use Rattle.fsrm_base.proofs.Look.{found_key, is_some-find}
-use Rattle.fsrm_objects.specs.Tables.{peaked_at}
+use Rattle.fsrm_objects.specs.Tables.{Tables, peaked_at}
 use Rattle.quota_usage.specs.declared.change.Counter.{Counter}
 use Rattle.quota_usage.specs.Counters.{used_in}
+use Rattle.fsrm_engine.specs.Crossing.{crosses_some, is_crossing, used_before}
 use Rattle.fsrm_engine.specs.Peaks.{raised, raised_above}
 use Rattle.fsrm_base.proofs.RowLaws.{change_same, change_none}
 use Rattle.fsrm_model.proofs.valid.ValidLaws.{found_parent}
@@ -144,3 +145,14 @@ raised_whole raise old now place end r =
     empty : (rows : List QuotaRow) → length rows ≤ 0 → rows ≡ []
     empty [] h = refl
     empty (x ∷ rows) h = absurd (omega arith)
+
+-- tables with these quotas
+pub tables_as : (t : Tables) (quotas : List QuotaRow) → t.quotas ≡ quotas → t ≡ record { quotas = quotas }
+tables_as t quotas is = ap (λ (qs : List QuotaRow). record t { quotas = qs }) is
+
+-- whether a quota crosses a threshold, by its counter
+pub crossing_none : (counters : List Counter) (minus plus : ℕ) (q : QuotaRow) → used_in counters q.folder ≡ None → is_crossing counters minus plus q ≡ false
+crossing_none counters minus plus q h = ap (λ o. option_map_or (λ now. crosses_some q (used_before minus plus now) now) o false) h
+
+pub crossing_some : (counters : List Counter) (minus plus : ℕ) (q : QuotaRow) (now : ℕ) → used_in counters q.folder ≡ Some now → is_crossing counters minus plus q ≡ crosses_some q (used_before minus plus now) now
+crossing_some counters minus plus q now h = ap (λ o. option_map_or (λ now. crosses_some q (used_before minus plus now) now) o false) h

@@ -1,49 +1,207 @@
--- A row without thresholds has no texts, so nothing but its folder and the table's length can refuse it.
-use Rattle.std.proofs.Common.{◌≡◌, ℕ, ◌+◌, ◌<◌, true, false, ◌||◌, List, [], ◌∷◌, Option, Some, None, length, refl, ap, sym, ◌∙◌, arith}
+-- What the tables refuse of a row, as the refusals of a command.
+use Rattle.std.proofs.Common.{◌≡◌, ℕ, suc, ◌+◌, ◌-◌, ◌≤◌, ◌==◌, Bool, true, false, not, ◌&&◌, List, [], ◌∷◌, Option, Some, None, length, nat_lt, nat_le, refl, ap, sym, ◌∙◌, arith}
 use Rattle.std.proofs.lemmas.Bool.Decides.{nat_tests}
-use Rattle.std.specs.Prelude.{is_none, nat_lt, nat_le, Result, Ok, Err, IfErr}
+use Rattle.std.specs.Prelude.{is_some, is_none, unwrap_or, Result, Ok, Err, IfOk, IfErr, if◌then◌else◌}
 use Rattle.std.specs.Result.{IsOk}
-use Rattle.std.specs.List.{list_all, list_any}
-use Rattle.fsrm_base.specs.Keyed.{has_row}
+use Rattle.std.specs.List.{list_all}
+use Rattle.std.specs.Option.{option_and_then, option_map_or}
+use Rattle.fsrm_base.specs.declared.memory.NoMemory.{NoMemory as Wanting}
+use Rattle.fsrm_base.specs.Causes.{◌when◌, first}
+use Rattle.fsrm_base.specs.Keyed.{has_row, is_ascending, with_row, with_change}
+use Rattle.fsrm_base.proofs.EditedRows.{sum_by-with_row, sum_by-with_change}
+use Rattle.fsrm_base.proofs.Look.{is_some-find}
+use Rattle.fsrm_base.proofs.Order.{length-with_row}
+use Rattle.fsrm_base.proofs.TestLaws.{both, both_true}
+use Rattle.fsrm_model.specs.declared.command.Added.{Added}
+use Rattle.fsrm_model.specs.declared.command.Answer.{Answer}
+use Rattle.fsrm_model.specs.declared.command.Deed.{Deed}
+use Rattle.fsrm_model.specs.declared.command.Deed.TheVariants.{QuotaAdd, QuotaModify}
+use Rattle.fsrm_model.specs.declared.command.Refusal.{Refusal}
+use Rattle.fsrm_model.specs.declared.command.Refusal.TheVariants as refusal
+use Rattle.fsrm_model.specs.declared.row.Action.{Action}
 use Rattle.fsrm_model.specs.declared.row.QuotaRow.{QuotaRow}
+use Rattle.fsrm_model.specs.declared.row.QuotaState.{QuotaState}
+use Rattle.fsrm_model.specs.declared.row.QuotaState.TheVariants.{Disabled}
+use Rattle.fsrm_model.specs.declared.row.Rows.{Rows}
 use Rattle.fsrm_model.specs.declared.row.Threshold.{Threshold}
-use Rattle.fsrm_model.specs.Limits.{most_quotas, most_thresholds}
-use Rattle.fsrm_model.specs.Quota.{folder_of}
-use Rattle.fsrm_model.specs.Texts.{quota_bytes, threshold_bytes}
-use Rattle.fsrm_model.specs.Valid.{is_empty, is_plain}
-use Rattle.fsrm_base.proofs.TestLaws.{both}
+use Rattle.fsrm_model.specs.Check.{Check, table_full, texts_full}
+use Rattle.fsrm_model.specs.Limits.{most_quotas, most_text_bytes, longest_action_text}
+use Rattle.fsrm_model.specs.Quota.{folder_of, quota_of}
+use Rattle.fsrm_model.specs.QuotaStates.{in_state, start, state_after, with_quota, with_state}
+use Rattle.fsrm_model.specs.QuotaWork.{modified, new_quota, remarked, thresholds_of}
+use Rattle.fsrm_model.specs.Text.{is_bare}
+use Rattle.fsrm_model.specs.Texts.{object_texts, quota_bytes}
+use Rattle.fsrm_model.specs.Thresholds.{are_minutes, are_thresholds, are_too_many, changed_thresholds, is_action, is_action_text, is_kept_action, is_percent, is_printing, is_threshold, may_be_removed, percent_of}
 use Rattle.fsrm_objects.specs.declared.answer.ObjectFault.{ObjectFault}
-use Rattle.fsrm_objects.specs.Tables.{Tables, is_crowded, is_short, has_long_list, has_short_texts, quota_fault, other_fault, texts_at}
+use Rattle.fsrm_objects.specs.declared.answer.ObjectFault.TheVariants as object
+use Rattle.fsrm_objects.specs.Tables.{IsFault, is_short, other_fault, quota_fault, quota_texts}
+use Rattle.fsrm_engine.specs.declared.parts.Parts.{Parts}
+use Rattle.fsrm_engine.specs.Faults.{table_answer, table_refusal, text_room}
+use Rattle.fsrm_engine.specs.Machine.{Does, IsIdle, IsWhole, rows_of}
+use Rattle.fsrm_engine.specs.Places.{IsFolder, IsQuotaAt}
+use Rattle.fsrm_engine.proofs.steps.StepLaws.{due, refused_as, told}
+use Rattle.fsrm_engine.proofs.tables.StateLaws.{checked, modified_to, on_folder}
 
-pub no_thresholds : (row : QuotaRow) → is_plain row ≡ true → row.thresholds ≡ []
-no_thresholds row h = empty row.thresholds (both (is_empty row.thresholds) (is_none row.template) h).0
-  where
-    empty : (thresholds : List Threshold) → is_empty thresholds ≡ true → thresholds ≡ []
-    empty [] h = refl
-    empty (t ∷ thresholds) h = cc
+-- ---- what a legal row is to the tables
+short_action : (action : Action) → is_kept_action action ≡ true → is_short action ≡ true
+short_action action h =
+    let kept = both (is_action action) _ h in
+    let text = both (are_minutes action.minutes) (is_action_text action.text) kept.0 in
+    (both (nat_le (length action.text) longest_action_text) (list_all is_printing action.text) text.1).0
 
-pub plain_short : (row : QuotaRow) → row.thresholds ≡ [] → has_short_texts row ≡ true
-plain_short row h = ap (λ thresholds. list_all (λ threshold. list_all is_short threshold.actions) thresholds) h
+short_actions : (actions : List Action) → list_all is_kept_action actions ≡ true → list_all is_short actions ≡ true
+short_actions [] h = refl
+short_actions (action ∷ actions) h =
+    let parts = both (is_kept_action action) (list_all is_kept_action actions) h in
+    both_true (is_short action) (list_all is_short actions) (short_action action parts.0) (short_actions actions parts.1)
 
-plain_long : (row : QuotaRow) → row.thresholds ≡ [] → has_long_list row ≡ false
-plain_long row h = ap (λ thresholds. nat_lt most_thresholds (length thresholds) || list_any is_crowded thresholds) h
+pub short_texts : (thresholds : List Threshold) → list_all is_threshold thresholds ≡ true → list_all (λ threshold. list_all is_short threshold.actions) thresholds ≡ true
+short_texts [] h = refl
+short_texts (t ∷ thresholds) h =
+    let parts = both (is_threshold t) (list_all is_threshold thresholds) h in
+    both_true (list_all is_short t.actions) (list_all (λ threshold. list_all is_short threshold.actions) thresholds)
+    (short_actions t.actions (both (is_percent t.percent) (list_all is_kept_action t.actions) parts.0).1) (short_texts thresholds parts.1)
 
-plain_bytes : (row : QuotaRow) (room : ℕ) → row.thresholds ≡ [] → nat_lt room (quota_bytes row) ≡ false
-plain_bytes row room h = ap (λ thresholds. nat_lt room (threshold_bytes thresholds)) h ∙ none room
-  where
-    none : (n : ℕ) → nat_lt n 0 ≡ false
-    none n = grind (arith, nat_tests)
+pub each_threshold : (thresholds : List Threshold) → are_thresholds thresholds ≡ true → list_all is_threshold thresholds ≡ true
+each_threshold thresholds h = (both (is_ascending percent_of thresholds && not (are_too_many thresholds)) (list_all is_threshold thresholds) h).1
 
-pub plain_fault : (tables : Tables) (row : QuotaRow) (room : ℕ) → has_row folder_of row.folder tables.quotas ≡ false → length tables.quotas < most_quotas → row.thresholds ≡ [] → quota_fault tables row room ≡ None
-plain_fault tables row room absent few h = rw (absent, plain_long row h, has_place (length tables.quotas) few, plain_bytes row room h) refl
-  where
-    has_place : (n : ℕ) → n < most_quotas → nat_le most_quotas n ≡ false
-    has_place n l = grind (arith, nat_tests)
+pub percents_ascend : (thresholds : List Threshold) → are_thresholds thresholds ≡ true → is_ascending percent_of thresholds ≡ true
+percents_ascend thresholds h =
+    (both (is_ascending percent_of thresholds) (not (are_too_many thresholds)) (both (is_ascending percent_of thresholds && not (are_too_many thresholds)) (list_all is_threshold thresholds) h).0).0
 
-pub plain_other : (tables : Tables) (row : QuotaRow) (room : ℕ) → row.thresholds ≡ [] → other_fault tables row room ≡ None
-plain_other tables row room h = rw (plain_long row h, plain_bytes row (room + texts_at tables row.folder) h) refl
+pub legal_thresholds : (thresholds : List Threshold) → is_ascending percent_of thresholds ≡ true → are_too_many thresholds ≡ false → list_all is_threshold thresholds ≡ true → are_thresholds thresholds ≡ true
+legal_thresholds thresholds ascending short each =
+    both_true (is_ascending percent_of thresholds && not (are_too_many thresholds)) (list_all is_threshold thresholds)
+    (both_true (is_ascending percent_of thresholds) (not (are_too_many thresholds)) ascending (ap not short)) each
 
 -- what has no cause to be refused isn't
 pub goes_in : (due : Option ObjectFault) (result : Result (Unit {0}) ObjectFault) → due ≡ None → IfErr result (λ fault. due ≡ Some fault) → IsOk result
 goes_in due (Ok u) none refused = refl
 goes_in due (Err fault) none refused = let e = sym none ∙ refused in absurd (cc e)
+
+-- ---- room for texts
+-- all texts are those of quotas
+all_texts : (p : Parts) (quotas : List QuotaRow) → object_texts (record (rows_of p) { quotas = quotas }) ≡ quota_texts quotas
+all_texts p quotas = omega arith
+
+room_test : (most bytes new : ℕ) → bytes ≤ most → nat_lt most (new + bytes) ≡ nat_lt (most - bytes) new
+room_test most bytes new few = grind (arith, nat_tests)
+
+room_other : (most bytes less new all : ℕ) → bytes ≤ most → all + less ≡ bytes + new → nat_lt most all ≡ nat_lt (most - bytes + less) new
+room_other most bytes less new all few is = grind (arith, nat_tests)
+
+few_texts : (p : Parts) → IsWhole p → quota_texts p.objects.quotas ≤ most_text_bytes
+few_texts p w = omega (arith, w.valid.texts, all_texts p p.objects.quotas)
+
+full_test : (most n m : ℕ) → m ≡ suc n → nat_lt most m ≡ nat_le most n
+full_test most n m h = grind (arith, nat_tests)
+
+-- ---- a new quota
+four : (a b c d : Bool) → first ((refusal.AlreadyExists when a) ∷ (refusal.OutOfRange when b) ∷ (refusal.TableFull when c) ∷ (refusal.TextsFull when d) ∷ []) ≡ option_and_then table_refusal (first ((object.AlreadyExists when a) ∷ (object.OutOfRange when b) ∷ (object.TableFull when c) ∷ (object.TextsFull when d) ∷ []))
+four true b c d = refl
+four false true c d = refl
+four false false true d = refl
+four false false false true = refl
+four false false false false = refl
+
+abbrev new_checks : Rows → QuotaRow → List Check
+new_checks R row =
+    (refusal.AlreadyExists when is_some (quota_of R row.folder)) ∷ (refusal.OutOfRange when are_too_many row.thresholds)
+    ∷ table_full (with_quota R row) ∷ texts_full (with_quota R row) ∷ []
+
+new_is : (p : Parts) (row : QuotaRow) → IsWhole p → first (new_checks (rows_of p) row) ≡ option_and_then table_refusal (quota_fault p.objects row (text_room p))
+new_is p row w =
+    let quotas = p.objects.quotas in
+    let test : Bool → Bool → Bool → Option Refusal =
+    λ a c d. first ((refusal.AlreadyExists when a) ∷ (refusal.OutOfRange when are_too_many row.thresholds) ∷ (refusal.TableFull when c) ∷ (refusal.TextsFull when d) ∷ []) in
+    let taken : is_some (quota_of (rows_of p) row.folder) ≡ has_row folder_of row.folder quotas = is_some-find (λ q. folder_of q == row.folder) quotas in
+    let full : nat_lt most_quotas (length (with_row folder_of row quotas)) ≡ nat_le most_quotas (length quotas) =
+    full_test most_quotas (length quotas) (length (with_row folder_of row quotas)) (length-with_row folder_of row quotas) in
+    let bytes : nat_lt most_text_bytes (object_texts (with_quota (rows_of p) row)) ≡ nat_lt (text_room p) (quota_bytes row) =
+    ap (nat_lt most_text_bytes) (with_texts (with_row folder_of row quotas) ∙ sum_by-with_row folder_of quota_bytes row quotas)
+    ∙ room_test most_text_bytes (quota_texts quotas) (quota_bytes row) (few_texts p w) in
+    ap (λ a. test a (nat_lt most_quotas (length (with_row folder_of row quotas))) (nat_lt most_text_bytes (object_texts (with_quota (rows_of p) row)))) taken
+    ∙ (ap (λ c. test (has_row folder_of row.folder quotas) c (nat_lt most_text_bytes (object_texts (with_quota (rows_of p) row)))) full
+    ∙ (ap (test (has_row folder_of row.folder quotas) (nat_le most_quotas (length quotas))) bytes
+    ∙ four (has_row folder_of row.folder quotas) (are_too_many row.thresholds) (nat_le most_quotas (length quotas)) (nat_lt (text_room p) (quota_bytes row))))
+  where
+    with_texts : (qs : List QuotaRow) → object_texts (record (with_quota (rows_of p) row) { quotas = qs }) ≡ quota_texts qs
+    with_texts qs = omega arith
+
+pub add_due : (p : Parts) (m : ℕ) (path : List (List ℕ)) (limit : Option ℕ) (enforce : Option Bool) (enabled : Bool) (percents : List ℕ) (notices : List Added) (n : ℕ) (row : QuotaRow) → IsWhole p → IsFolder p.tree.nodes path n → row ≡ remarked [] percents notices (new_quota n (unwrap_or limit 0) (unwrap_or enforce true) (if enabled then start p.tree.nodes n else Disabled) m) → due p m (QuotaAdd path limit enforce enabled None percents notices) ≡ option_and_then table_refusal (quota_fault p.objects row (text_room p))
+add_due p m path limit enforce enabled percents notices n row w at is =
+    let R = rows_of p in
+    on_folder R path n (λ k. new_checks R (remarked [] percents notices (new_quota k (unwrap_or limit 0) (unwrap_or enforce true) (if enabled then start R.nodes k else Disabled) m))) at
+    ∙ (ap (λ r. first (new_checks R r)) (sym is) ∙ new_is p row w)
+
+-- ---- another one in its place
+two : (a b : Bool) → first ((refusal.OutOfRange when a) ∷ (refusal.TextsFull when b) ∷ []) ≡ option_and_then table_refusal (first ((object.OutOfRange when a) ∷ (object.TextsFull when b) ∷ []))
+two true b = refl
+two false true = refl
+two false false = refl
+
+abbrev other_checks : List ℕ → List Threshold → List Threshold → Rows → List Check
+other_checks removed thresholds changed after =
+    (refusal.NotFound when not (may_be_removed removed thresholds)) ∷ (refusal.OutOfRange when are_too_many changed) ∷ texts_full after ∷ []
+
+module _ (p : Parts) (m : ℕ) (path : List (List ℕ)) (limit : Option ℕ) (enforce enabled : Option Bool) (removed percents : List ℕ) (notices : List Added) (q : QuotaRow) (at : IsQuotaAt p.tree.nodes p.objects.quotas path q) where
+  abbrev change : QuotaRow → QuotaRow
+  change quota = remarked removed percents notices (modified limit enforce quota)
+
+  abbrev after : ℕ → Rows
+  after k = with_state (record (rows_of p) { quotas = with_change folder_of k change p.objects.quotas }) k (state_after (rows_of p) k enabled)
+
+  own : due p m (QuotaModify path limit enforce enabled removed percents notices) ≡ first (other_checks removed q.thresholds (changed_thresholds removed percents notices q.thresholds) (after q.folder))
+  own =
+      checked (rows_of p) path q.folder false (λ k. other_checks removed (thresholds_of (rows_of p) k) (changed_thresholds removed percents notices (thresholds_of (rows_of p) k)) (after k)) at.at (ap is_none at.found)
+      ∙ ap (λ o. first (other_checks removed (option_map_or (λ (r : QuotaRow). r.thresholds) o []) (changed_thresholds removed percents notices (option_map_or (λ (r : QuotaRow). r.thresholds) o [])) (after q.folder))) at.found
+
+  pub modify_missing : may_be_removed removed q.thresholds ≡ false → due p m (QuotaModify path limit enforce enabled removed percents notices) ≡ Some refusal.NotFound
+  modify_missing h =
+      own ∙ ap (λ b. first ((refusal.NotFound when not b) ∷ (refusal.OutOfRange when are_too_many (changed_thresholds removed percents notices q.thresholds)) ∷ texts_full (after q.folder) ∷ [])) h
+
+  pub modify_due : (state : QuotaState) (row : QuotaRow) → IsWhole p → may_be_removed removed q.thresholds ≡ true → state ≡ state_after (rows_of p) q.folder enabled → row ≡ in_state state (change q) → due p m (QuotaModify path limit enforce enabled removed percents notices) ≡ option_and_then table_refusal (other_fault p.objects row (text_room p))
+  modify_due state row w may state_is is =
+      let n = q.folder in
+      let quotas = p.objects.quotas in
+      let asc = w.sound.counted.are_quotas.ascending in
+      let b = q.thresholds in
+      let changed = changed_thresholds removed percents notices b in
+      let test : Bool → Option Refusal = λ c. first ((refusal.OutOfRange when are_too_many changed) ∷ (refusal.TextsFull when c) ∷ []) in
+      let put : List QuotaRow = with_change folder_of n (λ old. in_state state (change q)) quotas in
+      let put_is : (after n).quotas ≡ put =
+      ap (λ s. with_change folder_of n (in_state s) (with_change folder_of n change quotas)) (sym state_is) ∙ modified_to (rows_of p) n change (λ r. refl) state q asc at.found in
+      let bytes : nat_lt most_text_bytes (object_texts (after n)) ≡ nat_lt (text_room p + quota_bytes q) (quota_bytes (in_state state (change q))) =
+      ap (nat_lt most_text_bytes) (with_texts n (after n).quotas ∙ ap quota_texts put_is)
+      ∙ room_other most_text_bytes (quota_texts quotas) (quota_bytes q) (quota_bytes (in_state state (change q))) (quota_texts put) (few_texts p w)
+      (sum_by-with_change folder_of quota_bytes n (λ old. in_state state (change q)) q quotas asc at.found) in
+      own
+      ∙ (ap (λ c. first ((refusal.NotFound when not c) ∷ (refusal.OutOfRange when are_too_many changed) ∷ texts_full (after n) ∷ [])) may
+      ∙ (ap test bytes
+      ∙ (two (are_too_many changed) (nat_lt (text_room p + quota_bytes q) (quota_bytes (in_state state (change q))))
+      ∙ (ap (λ o. option_and_then table_refusal (first ((object.OutOfRange when are_too_many changed) ∷ (object.TextsFull when nat_lt (text_room p + option_map_or quota_bytes o 0) (quota_bytes (in_state state (change q)))) ∷ []))) (sym at.found)
+      ∙ ap (λ r. option_and_then table_refusal (other_fault p.objects r (text_room p))) (sym is)))))
+    where
+      with_texts : (k : ℕ) (qs : List QuotaRow) → object_texts (record (after k) { quotas = qs }) ≡ quota_texts qs
+      with_texts k qs = omega arith
+
+-- ---- the answer
+table_bare : (fault : ObjectFault) (r : Refusal) → table_refusal fault ≡ Some r → is_bare r ≡ true
+table_bare object.AlreadyExists r h = cc h
+table_bare object.OutOfRange r h = cc h
+table_bare object.TableFull r h = cc h
+table_bare object.TextsFull r h = cc h
+table_bare object.NoMemory r h = cc h
+
+pub fault_refusal : (fault : ObjectFault) (o : Option ObjectFault) → IsFault fault o → option_and_then table_refusal o ≡ table_refusal fault
+fault_refusal object.AlreadyExists o h = ap (option_and_then table_refusal) h
+fault_refusal object.OutOfRange o h = ap (option_and_then table_refusal) h
+fault_refusal object.TableFull o h = ap (option_and_then table_refusal) h
+fault_refusal object.TextsFull o h = ap (option_and_then table_refusal) h
+fault_refusal object.NoMemory o h = ap (option_and_then table_refusal) h
+
+pub refused_for_as : (p : Parts) (m : ℕ) (deed : Deed) (fault : ObjectFault) (result : Result Answer Wanting) → IsIdle p → p.last_moment ≤ m → due p m deed ≡ table_refusal fault → IfOk result (λ answer. table_answer fault ≡ Some answer) → IfOk result (λ answer. Does p p m deed answer)
+refused_for_as p m deed fault (Err e) idle after h given = tt
+refused_for_as p m deed fault (Ok answer) idle after h given =
+    let t = told (table_refusal fault) answer given in
+    refused_as p m deed answer t.refusal idle after (h ∙ t.is) (table_bare fault t.refusal t.is) t.answer_is

@@ -1,11 +1,10 @@
 -- The commands that give a quota its state.
-use Rattle.std.proofs.Common.{◌≡◌, ℕ, suc, ◌<◌, ◌≤◌, ◌==◌, Bool, true, false, cond, not, List, [], ◌∷◌, ◌++◌, length, Option, Some, None, nat_lt, refl, ap, sym, ◌∙◌, subst, arith}
-use Rattle.std.proofs.lemmas.Bool.Decides.{nat_tests}
+use Rattle.std.proofs.Common.{◌≡◌, ℕ, ◌<◌, ◌≤◌, ◌==◌, Bool, true, false, cond, not, List, [], ◌∷◌, ◌++◌, length, Option, Some, None, refl, ap, sym, ◌∙◌, arith}
 use Rattle.std.proofs.lemmas.Option.{same_Some}
-use Rattle.std.specs.Prelude.{sum_by, is_some, is_none, if◌then◌else◌}
+use Rattle.std.specs.Prelude.{sum_by, is_none, if◌then◌else◌}
 use Rattle.std.specs.Option.{option_map_or}
 use Rattle.fsrm_model.specs.declared.command.Refusal.{Refusal}
-use Rattle.fsrm_model.specs.declared.command.Refusal.TheVariants.{PathNotFound, NotFound, AlreadyExists, TableFull}
+use Rattle.fsrm_model.specs.declared.command.Refusal.TheVariants.{PathNotFound, NotFound}
 use Rattle.fsrm_model.specs.declared.row.Capacity.{Capacity}
 use Rattle.fsrm_model.specs.declared.row.NodeRow.{NodeRow}
 use Rattle.fsrm_model.specs.declared.row.QuotaRow.{QuotaRow}
@@ -14,17 +13,15 @@ use Rattle.fsrm_model.specs.declared.row.QuotaState.TheVariants.{Complete, Disab
 use Rattle.fsrm_model.specs.declared.row.Rows.{Rows}
 use Rattle.fsrm_model.specs.Check.{Check, ◌when◌, first}
 use Rattle.fsrm_model.specs.FileOps.{target}
-use Rattle.fsrm_base.specs.Keyed.{has_row, is_ascending, with_row, with_change}
+use Rattle.fsrm_base.specs.Keyed.{is_ascending, with_change}
 use Rattle.fsrm_model.specs.Leads.{leads_to_folder}
-use Rattle.fsrm_model.specs.Limits.{most_quotas}
 use Rattle.fsrm_model.specs.Quota.{folder_of, quota_of, is_complete}
 use Rattle.fsrm_model.specs.QuotaStates.{start, state_of, state_after, is_disabled, in_state}
-use Rattle.fsrm_model.specs.QuotaWork.{quota_checks, modified}
+use Rattle.fsrm_model.specs.QuotaWork.{quota_checks}
 use Rattle.fsrm_model.specs.Space.{space}
 use Rattle.fsrm_model.specs.Tree.{node_of, is_folder, children, usage}
 use Rattle.fsrm_model.specs.Valid.{IsVolume}
 use Rattle.fsrm_base.proofs.Look.{is_some-find}
-use Rattle.fsrm_base.proofs.Order.{length-with_row}
 use Rattle.fsrm_base.proofs.TestLaws.{clash, eq_is}
 use Rattle.fsrm_model.proofs.nodes.UsageLaws.{usage_children}
 use Rattle.fsrm_engine.specs.Places.{IsFolder}
@@ -95,33 +92,9 @@ empty_folder K nodes n v f h =
         let none : sum_by (λ c. usage K nodes c.number) (children nodes n) ≡ 0 = ap (sum_by (λ c. usage K nodes c.number)) (no_length (children nodes n) h) in
         omega (arith, usage_children K nodes n r v is, nothing, none)
 
--- whether there is room for one more quota
-pub table_is : (quotas : List QuotaRow) (row : QuotaRow) (count : ℕ) → count ≡ length quotas → most_quotas ≤ count → nat_lt most_quotas (length (with_row folder_of row quotas)) ≡ true
-table_is quotas row count h l = ap (nat_lt most_quotas) (length-with_row folder_of row quotas) ∙ at (length quotas) (subst (λ k. most_quotas ≤ k) h l)
-  where
-    at : (k : ℕ) → most_quotas ≤ k → nat_lt most_quotas (suc k) ≡ true
-    at k l = grind (arith, nat_tests)
-
-pub table_has : (quotas : List QuotaRow) (row : QuotaRow) (count : ℕ) → count ≡ length quotas → count < most_quotas → nat_lt most_quotas (length (with_row folder_of row quotas)) ≡ false
-table_has quotas row count h l = ap (nat_lt most_quotas) (length-with_row folder_of row quotas) ∙ at (length quotas) (subst (λ k. k < most_quotas) h l)
-  where
-    at : (k : ℕ) → k < most_quotas → nat_lt most_quotas (suc k) ≡ false
-    at k l = grind (arith, nat_tests)
-
--- the refusals of a new quota
-pub add_checks : (R : Rows) (path : List (List ℕ)) (n : ℕ) (b : Bool) (row : ℕ → QuotaRow) → IsFolder R.nodes path n → has_row folder_of n R.quotas ≡ false → nat_lt most_quotas (length (with_row folder_of (row n) R.quotas)) ≡ b → first ((PathNotFound when not (leads_to_folder R.nodes path)) ∷ (AlreadyExists when is_some (quota_of R (target R.nodes path))) ∷ (TableFull when nat_lt most_quotas (length (with_row folder_of (row (target R.nodes path)) R.quotas))) ∷ []) ≡ (if b then Some TableFull else None)
-add_checks R path n b row at absent full =
-    on_folder R path n (λ k. (AlreadyExists when is_some (quota_of R k)) ∷ (TableFull when nat_lt most_quotas (length (with_row folder_of (row k) R.quotas))) ∷ []) at
-    ∙ (ap (λ c. first ((AlreadyExists when c) ∷ (TableFull when nat_lt most_quotas (length (with_row folder_of (row n) R.quotas))) ∷ [])) (is_some-find (λ q. folder_of q == n) R.quotas ∙ absent)
-    ∙ (ap (λ c. first ((TableFull when c) ∷ [])) full ∙ by_case b))
-  where
-    by_case : (b : Bool) → first ((TableFull when b) ∷ []) ≡ (if b then Some TableFull else None)
-    by_case true = refl
-    by_case false = refl
-
--- a quota that was modified, and then has its state, is another one in its place
-pub modified_to : (R : Rows) (n : ℕ) (limit : Option ℕ) (enforce : Option Bool) (state : QuotaState) (q : QuotaRow) → is_ascending folder_of R.quotas ≡ true → quota_of R n ≡ Some q → with_change folder_of n (in_state state) (with_change folder_of n (modified limit enforce) R.quotas) ≡ with_change folder_of n (λ old. in_state state (modified limit enforce q)) R.quotas
-modified_to R n limit enforce state q asc found =
-    change_twice folder_of n (modified limit enforce) (in_state state) (λ r. refl) R.quotas
-    ∙ change_same folder_of n (λ r. in_state state (modified limit enforce r)) (λ old. in_state state (modified limit enforce q)) R.quotas asc
-    (λ r h. ap (λ x. in_state state (modified limit enforce x)) (same_Some r q (sym h ∙ found)))
+-- a quota that was changed, and then has its state, is another one in its place
+pub modified_to : (R : Rows) (n : ℕ) (change : QuotaRow → QuotaRow) → ((r : QuotaRow) → (change r).folder ≡ r.folder) → (state : QuotaState) (q : QuotaRow) → is_ascending folder_of R.quotas ≡ true → quota_of R n ≡ Some q → with_change folder_of n (in_state state) (with_change folder_of n change R.quotas) ≡ with_change folder_of n (λ old. in_state state (change q)) R.quotas
+modified_to R n change same state q asc found =
+    change_twice folder_of n change (in_state state) same R.quotas
+    ∙ change_same folder_of n (λ r. in_state state (change r)) (λ old. in_state state (change q)) R.quotas asc
+    (λ r h. ap (λ x. in_state state (change x)) (same_Some r q (sym h ∙ found)))

@@ -1,4 +1,4 @@
-use Rattle.std.proofs.Common.{◌≡◌, ℕ, true, sym, ap, ◌∙◌, subst, arith, List}
+use Rattle.std.proofs.Common.{◌≡◌, ℕ, true, ◌&&◌, sym, ap, ◌∙◌, subst, arith, List}
 use Rattle.fsrm_model.specs.declared.row.QuotaRow.{QuotaRow}
 use Rattle.fsrm_base.specs.Keyed.{is_ascending, with_change}
 use Rattle.fsrm_model.specs.Quota.{folder_of}
@@ -7,9 +7,11 @@ use Rattle.fsrm_model.proofs.nodes.Climbs.{under_own}
 use Rattle.fsrm_model.proofs.nodes.Keeps.{tree_of}
 use Rattle.fsrm_base.proofs.Order.{ascending-change}
 use Rattle.fsrm_objects.specs.Tables.{Tables}
+use Rattle.fsrm_engine.specs.Crossing.{is_crossing}
 use Rattle.fsrm_engine.specs.Peaks.{raised}
 use Rattle.fsrm_model.proofs.nodes.ClimbRows.{passed_rows, passed_none, climbed_step, climbed_root}
 use Rattle.quota_usage.proofs.ClimbLaws.{step_up}
+use Rattle.fsrm_engine.proofs.settling.ClimbNotes.{climb_begun, climb_ended, climb_next}
 use Rattle.fsrm_engine.proofs.tables.RaiseLaws.{raised_keeps, up_is}
 use Rattle.fsrm_engine.proofs.charging.raise_above.Goals as goal
 
@@ -19,11 +21,16 @@ loop-at-init g c = record {
   on = under_own c.args.tree.now.nodes c.args.folder;
   passed = sym (passed_none folder_of c.args.tree.now.nodes c.args.folder (raised c.args.usage.now c.args.moment) c.args.objects.now.quotas);
   ascending = c.requires.ascending;
+  bound = c.requires.bound;
+  noted = climb_begun c.args.tree.now.nodes c.args.folder c.args.usage.now c.args.minus c.args.plus c.args.crossing.now c.args.objects.now.quotas;
   looks = omega arith;
 }
 
-pub raise_peak-requires : goal.raise_peak-requires
-raise_peak-requires g c = c.loop-at.invariant.ascending
+pub gain-requires-clause-ascending : goal.gain-requires-clause-ascending
+gain-requires-clause-ascending g c = c.loop-at.invariant.ascending
+
+pub gain-requires-clause-bound : goal.gain-requires-clause-bound
+gain-requires-clause-bound g c = c.loop-at.invariant.bound
 
 pub node-at-requires : goal.node-at-requires
 node-at-requires g c = c.loop-at.invariant.here
@@ -32,11 +39,16 @@ pub returns-then-at-eq0-clause-quotas : goal.returns-then-at-eq0-clause-quotas
 returns-then-at-eq0-clause-quotas g c =
     let nodes = c.args.tree.now.nodes in
     let raise = raised c.args.usage.now c.args.moment in
-    c.raise_peak.ensures
+    c.gain.ensures.raised
     ∙ ap (λ (quotas : List QuotaRow). record { quotas = quotas })
     (ap (with_change folder_of c.loop-at.at raise) c.loop-at.invariant.passed
     ∙ (ap (λ (n : ℕ). with_change folder_of n raise (passed_rows folder_of nodes c.args.folder n raise c.args.objects.now.quotas)) c.if-at-eq0.true
     ∙ climbed_root folder_of nodes c.args.folder raise (raised_keeps c.args.usage.now c.args.moment) (subst (λ (n : ℕ). is_under nodes n c.args.folder ≡ true) c.if-at-eq0.true c.loop-at.invariant.on) c.args.objects.now.quotas))
+
+pub returns-then-at-eq0-clause-noted : goal.returns-then-at-eq0-clause-noted
+returns-then-at-eq0-clause-noted g c =
+    climb_ended c.args.tree.now.nodes c.args.folder c.loop-at.at c.args.moment c.args.usage.now c.args.minus c.args.plus c.args.crossing.now c.loop-at.crossing c.gain.new.crossing c.args.objects.now.quotas c.loop-at.objects.quotas
+    c.loop-at.invariant.on c.if-at-eq0.true c.loop-at.invariant.passed c.loop-at.invariant.noted c.gain.ensures.noted
 
 pub returns-then-at-eq0-clause-looks : goal.returns-then-at-eq0-clause-looks
 returns-then-at-eq0-clause-looks g c = omega (arith, c.loop-at.invariant.looks)
@@ -60,10 +72,14 @@ loop-at-preserved g c =
       here = step.there;
       on = step.on c.args.folder c.requires.there c.loop-at.invariant.on;
       passed =
-          ap (λ (t : Tables). t.quotas) c.raise_peak.ensures
+          ap (λ (t : Tables). t.quotas) c.gain.ensures.raised
           ∙ (ap (with_change folder_of c.loop-at.at raise) c.loop-at.invariant.passed
           ∙ (climbed_step folder_of nodes c.args.folder c.loop-at.at raise t kept c.loop-at.invariant.here c.loop-at.invariant.on c.if-at-eq0.false c.args.objects.now.quotas
           ∙ ap (λ (n : ℕ). passed_rows folder_of nodes c.args.folder n raise c.args.objects.now.quotas) up));
-      ascending = subst (λ (t : Tables). is_ascending folder_of t.quotas ≡ true) (sym c.raise_peak.ensures) (ascending-change folder_of c.loop-at.at raise kept c.loop-at.objects.quotas c.loop-at.invariant.ascending);
+      ascending = subst (λ (t : Tables). is_ascending folder_of t.quotas ≡ true) (sym c.gain.ensures.raised) (ascending-change folder_of c.loop-at.at raise kept c.loop-at.objects.quotas c.loop-at.invariant.ascending);
+      bound = c.gain.ensures.noted.bound ∙ c.loop-at.invariant.bound;
+      noted =
+          climb_next nodes c.args.folder c.loop-at.at c.node-at.result.parent c.args.moment c.args.usage.now c.args.minus c.args.plus c.args.crossing.now c.loop-at.crossing c.gain.new.crossing c.args.objects.now.quotas c.loop-at.objects.quotas
+          t c.loop-at.invariant.here c.loop-at.invariant.on c.if-at-eq0.false up c.loop-at.invariant.passed c.loop-at.invariant.noted c.gain.ensures.noted;
       looks = omega (arith, c.loop-at.invariant.looks, c.node-at.ensures.count, step.lower);
     }

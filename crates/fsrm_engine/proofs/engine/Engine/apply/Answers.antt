@@ -1,14 +1,24 @@
-use Rattle.std.proofs.Common.{arith}
-use Rattle.fsrm_engine.specs.Machine.{machine_of}
-use Rattle.fsrm_engine.proofs.steps.WholeLaws.{result_named, seen_ok, seen_err, seen_cost}
+use Rattle.std.proofs.Common.{refl, arith}
+use Rattle.fsrm_model.proofs.commands.EachCommand.{step_acts}
+use Rattle.fsrm_engine.specs.Machine.{machine_of, rows_of}
+use Rattle.fsrm_engine.proofs.steps.WholeLaws.{result_named, seen_cost, seen_err, seen_idle, seen_ok}
 use Rattle.fsrm_engine.proofs.engine.Engine.apply.Goals as goal
 
+pub take-requires-clause-idle : goal.take-requires-clause-idle
+take-requires-clause-idle g c = seen_idle c.self.inside.parts c.args.self.now c.self.invariant c.self.view_is c.requires.idle
+
 pub returns-clause-ok : goal.returns-clause-ok
-returns-clause-ok g c = seen_ok c.self.inside.parts c.take.new.self c.args.self.now c.args.command.now c.take.result c.self.view_is c.take.ensures.ok
+returns-clause-ok g c =
+    let p = c.self.inside.parts in
+    seen_ok p c.take.new.self c.args.self.now c.args.command.now c.take.result c.self.view_is c.take.ensures.ok c.take.ensures.whole.valid.quotas
+    (step_acts p.tree.size (rows_of p) c.args.command.now c.self.invariant.valid c.requires.valid)
 
 pub returns-clause-named : goal.returns-clause-named
 returns-clause-named g c =
-    result_named (machine_of c.self.inside.parts) (machine_of c.take.new.self) c.args.command.now c.take.result c.take.ensures.ok c.self.invariant.valid
+    let p = c.self.inside.parts in
+    result_named (machine_of p) (machine_of c.take.new.self) c.args.command.now c.take.result
+    (seen_ok p c.take.new.self (machine_of p) c.args.command.now c.take.result refl c.take.ensures.ok c.take.ensures.whole.valid.quotas
+    (step_acts p.tree.size (rows_of p) c.args.command.now c.self.invariant.valid c.requires.valid)) c.self.invariant.valid
 
 pub returns-clause-err : goal.returns-clause-err
 returns-clause-err g c = seen_err c.self.inside.parts c.take.new.self c.args.self.now c.take.result c.self.view_is c.take.ensures.err

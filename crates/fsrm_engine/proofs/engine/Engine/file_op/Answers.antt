@@ -1,15 +1,28 @@
-use Rattle.std.proofs.Common.{arith}
+use Rattle.std.proofs.Common.{refl, arith}
+use Rattle.fsrm_model.specs.declared.command.Command.{Command}
 use Rattle.fsrm_model.specs.declared.command.Deed.TheVariants.{File}
-use Rattle.fsrm_engine.specs.Machine.{machine_of}
-use Rattle.fsrm_engine.proofs.steps.WholeLaws.{result_named, seen_ok, seen_err, seen_cost}
+use Rattle.fsrm_model.proofs.commands.EachCommand.{deed_acts}
+use Rattle.fsrm_engine.specs.Machine.{machine_of, rows_of}
+use Rattle.fsrm_engine.proofs.steps.WholeLaws.{result_named, seen_cost, seen_err, seen_idle, seen_ok}
 use Rattle.fsrm_engine.proofs.engine.Engine.file_op.Goals as goal
 
+pub file_op-requires-clause-idle : goal.file_op-requires-clause-idle
+file_op-requires-clause-idle g c = seen_idle c.self.inside.parts c.args.self.now c.self.invariant c.self.view_is c.requires.idle
+
 pub returns-clause-ok : goal.returns-clause-ok
-returns-clause-ok g c = seen_ok c.self.inside.parts c.file_op.new.self c.args.self.now (record { moment = c.args.moment; deed = File c.args.op.now }) c.file_op.result c.self.view_is c.file_op.ensures.ok
+returns-clause-ok g c =
+    let p = c.self.inside.parts in
+    let command : Command = record { moment = c.args.moment; deed = File c.args.op.now } in
+    seen_ok p c.file_op.new.self c.args.self.now command c.file_op.result c.self.view_is c.file_op.ensures.ok c.file_op.ensures.whole.valid.quotas
+    (deed_acts p.tree.size (rows_of p) c.args.moment (File c.args.op.now) c.self.invariant.valid c.requires.moment c.requires.valid)
 
 pub returns-clause-named : goal.returns-clause-named
 returns-clause-named g c =
-    result_named (machine_of c.self.inside.parts) (machine_of c.file_op.new.self) (record { moment = c.args.moment; deed = File c.args.op.now }) c.file_op.result c.file_op.ensures.ok c.self.invariant.valid
+    let p = c.self.inside.parts in
+    let command : Command = record { moment = c.args.moment; deed = File c.args.op.now } in
+    result_named (machine_of p) (machine_of c.file_op.new.self) command c.file_op.result
+    (seen_ok p c.file_op.new.self (machine_of p) command c.file_op.result refl c.file_op.ensures.ok c.file_op.ensures.whole.valid.quotas
+    (deed_acts p.tree.size (rows_of p) c.args.moment (File c.args.op.now) c.self.invariant.valid c.requires.moment c.requires.valid)) c.self.invariant.valid
 
 pub returns-clause-err : goal.returns-clause-err
 returns-clause-err g c = seen_err c.self.inside.parts c.file_op.new.self c.args.self.now c.file_op.result c.self.view_is c.file_op.ensures.err

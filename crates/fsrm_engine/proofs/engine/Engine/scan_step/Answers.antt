@@ -1,11 +1,14 @@
-use Rattle.std.proofs.Common.{subst, arith}
+use Rattle.std.proofs.Common.{refl, arith}
+use Rattle.fsrm_model.specs.declared.command.Command.{Command}
 use Rattle.fsrm_model.specs.declared.command.Deed.TheVariants.{Step}
-use Rattle.fsrm_model.specs.Step.{step}
-use Rattle.fsrm_model.proofs.commands.EachCommand.{kept_valid}
+use Rattle.fsrm_model.proofs.commands.EachCommand.{kept_acts, kept_valid}
 use Rattle.fsrm_model.proofs.commands.ScanCommands.{step_kept}
-use Rattle.fsrm_engine.specs.Machine.{Machine, Takes, machine_of, rows_of}
-use Rattle.fsrm_engine.proofs.steps.WholeLaws.{takes_named, whole_after, seen_cost}
+use Rattle.fsrm_engine.specs.Machine.{machine_of, rows_of}
+use Rattle.fsrm_engine.proofs.steps.WholeLaws.{seen_cost, seen_idle, seen_takes, takes_named, whole_after}
 use Rattle.fsrm_engine.proofs.engine.Engine.scan_step.Goals as goal
+
+pub go_on-requires-clause-idle : goal.go_on-requires-clause-idle
+go_on-requires-clause-idle g c = seen_idle c.self.inside.parts c.args.self.now c.self.invariant c.self.view_is c.requires.idle
 
 pub invariant_of-self : goal.invariant_of-self
 invariant_of-self g c =
@@ -15,11 +18,19 @@ invariant_of-self g c =
 
 pub returns-clause-ok : goal.returns-clause-ok
 returns-clause-ok g c =
-    subst (λ (o : Machine). Takes o (machine_of c.go_on.new.self) (step o.size o.rows (record { moment = c.args.moment; deed = Step c.args.n })) c.go_on.result) c.self.view_is c.go_on.ensures.ok
+    let p = c.self.inside.parts in
+    let command : Command = record { moment = c.args.moment; deed = Step c.args.n } in
+    seen_takes p c.go_on.new.self c.args.self.now command c.go_on.result c.self.view_is c.go_on.ensures.ok (invariant_of-self g c).valid.quotas
+    (kept_acts p.tree.size (rows_of p) c.args.moment (Step c.args.n) c.self.invariant.valid c.requires.moment (step_kept p.tree.size (rows_of p) c.args.n))
 
 pub returns-clause-named : goal.returns-clause-named
 returns-clause-named g c =
-    takes_named (machine_of c.self.inside.parts) (machine_of c.go_on.new.self) (record { moment = c.args.moment; deed = Step c.args.n }) c.go_on.result c.go_on.ensures.ok c.self.invariant.valid
+    let p = c.self.inside.parts in
+    let command : Command = record { moment = c.args.moment; deed = Step c.args.n } in
+    takes_named (machine_of p) (machine_of c.go_on.new.self) command c.go_on.result
+    (seen_takes p c.go_on.new.self (machine_of p) command c.go_on.result refl c.go_on.ensures.ok (invariant_of-self g c).valid.quotas
+    (kept_acts p.tree.size (rows_of p) c.args.moment (Step c.args.n) c.self.invariant.valid c.requires.moment (step_kept p.tree.size (rows_of p) c.args.n)))
+    c.self.invariant.valid
 
 pub returns-clause-kept : goal.returns-clause-kept
 returns-clause-kept g c = (invariant_of-self g c).valid

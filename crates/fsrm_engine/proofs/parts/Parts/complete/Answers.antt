@@ -1,9 +1,16 @@
-use Rattle.std.proofs.Common.{ap, ◌∙◌}
-use Rattle.fsrm_base.specs.Keyed.{is_ascending}
-use Rattle.fsrm_base.proofs.Look.{has_found}
+use Rattle.std.proofs.Common.{List, refl, ap, ◌∙◌}
+use Rattle.fsrm_base.specs.Keyed.{has_row, is_ascending, with_change}
+use Rattle.fsrm_base.proofs.Look.{has_found, has_row-change}
+use Rattle.fsrm_model.specs.declared.row.QuotaState.TheVariants.{Complete}
 use Rattle.fsrm_model.specs.Quota.{folder_of}
+use Rattle.fsrm_model.specs.QuotaStates.{in_state}
 use Rattle.fsrm_objects.specs.Tables.{Tables}
-use Rattle.fsrm_engine.proofs.tables.CountingLaws.{has_counter, room_for, completed_are, completes, completed_as}
+use Rattle.quota_usage.specs.declared.change.Counter.{Counter}
+use Rattle.fsrm_engine.specs.Due.{with_complete}
+use Rattle.fsrm_engine.specs.Machine.{recounted}
+use Rattle.fsrm_engine.specs.Peaks.{raised}
+use Rattle.fsrm_engine.proofs.tables.CountingLaws.{has_counter, room_for, completed_are, completes}
+use Rattle.fsrm_engine.proofs.tables.RaiseLaws.{raised_keeps}
 use Rattle.fsrm_engine.proofs.parts.Parts.complete.Goals as goal
 
 pub begin-requires-clause-free : goal.begin-requires-clause-free
@@ -23,16 +30,35 @@ raise_peak-requires c =
     ap (λ (t : Tables). is_ascending folder_of t.quotas) c.set_state.ensures
     ∙ (completed_are p.tree.size p.tree.nodes p.objects.quotas c.args.folder c.requires.counted.are_quotas).ascending
 
-pub settle-requires-clause-counted : goal.settle-requires-clause-counted
-settle-requires-clause-counted c =
+pub settle_quota-requires-clause-counted : goal.settle_quota-requires-clause-counted
+settle_quota-requires-clause-counted c =
     let p = c.args.self.now in
     (completes p.tree.size p.tree.nodes p.objects.quotas c.set_state.new.self.quotas c.raise_peak.new.objects.quotas p.usage c.begin.new.self c.args.moment c.args.folder c.args.used c.requires.counted c.requires.moment
     c.requires.there c.requires.uncounted c.requires.used c.begin.ensures (ap (λ (t : Tables). t.quotas) c.set_state.ensures) (ap (λ (t : Tables). t.quotas) c.raise_peak.ensures)).engine
 
+pub settle_quota-requires-clause-there : goal.settle_quota-requires-clause-there
+settle_quota-requires-clause-there c =
+    ap (λ (t : Tables). has_row folder_of c.args.folder t.quotas) (c.raise_peak.ensures ∙ ap (λ (t : Tables). record { quotas = with_change folder_of c.args.folder (raised c.begin.new.self c.args.moment) t.quotas }) c.set_state.ensures)
+    ∙ (has_row-change folder_of c.args.folder (raised c.begin.new.self c.args.moment) (raised_keeps c.begin.new.self c.args.moment) c.args.folder _
+    ∙ (has_row-change folder_of c.args.folder (in_state Complete) (λ r. refl) c.args.folder c.args.self.now.objects.quotas ∙ c.requires.there))
+
+pub settle_quota-requires-clause-idle : goal.settle_quota-requires-clause-idle
+settle_quota-requires-clause-idle c = record { numbers = c.requires.idle.numbers; crossing = c.requires.idle.crossing }
+
 pub returns-clause-completed : goal.returns-clause-completed
 returns-clause-completed c =
     let p = c.args.self.now in
-    c.settle.ensures.ended
-    ∙ completed_as p c.raise_peak.new.objects c.begin.new.self c.args.folder c.args.moment
-    (completes p.tree.size p.tree.nodes p.objects.quotas c.set_state.new.self.quotas c.raise_peak.new.objects.quotas p.usage c.begin.new.self c.args.moment c.args.folder c.args.used c.requires.counted c.requires.moment
-    c.requires.there c.requires.uncounted c.requires.used c.begin.ensures (ap (λ (t : Tables). t.quotas) c.set_state.ensures) (ap (λ (t : Tables). t.quotas) c.raise_peak.ensures))
+    let after = with_complete c.args.folder p.objects.quotas in
+    let done = completes p.tree.size p.tree.nodes p.objects.quotas c.set_state.new.self.quotas c.raise_peak.new.objects.quotas p.usage c.begin.new.self c.args.moment c.args.folder c.args.used c.requires.counted c.requires.moment
+    c.requires.there c.requires.uncounted c.requires.used c.begin.ensures (ap (λ (t : Tables). t.quotas) c.set_state.ensures) (ap (λ (t : Tables). t.quotas) c.raise_peak.ensures) in
+    let rows = ap (λ (t : Tables). t.quotas) c.raise_peak.ensures ∙ ap (λ (t : Tables). with_change folder_of c.args.folder (raised c.begin.new.self c.args.moment) t.quotas) c.set_state.ensures in
+    record {
+      counting = record p { objects = c.raise_peak.new.objects; usage = c.begin.new.self };
+      run = c.settle_quota.new.self;
+      parts_are = ap (λ (cs : List Counter). record (recounted p after) { objects = c.raise_peak.new.objects; usage = cs }) done.sums;
+      quotas_are = rows;
+      peaks_are = done.quotas_are;
+      counted = done.engine;
+      ran = c.settle_quota.ensures.settled;
+      ends = c.settle.ensures.ended;
+    }

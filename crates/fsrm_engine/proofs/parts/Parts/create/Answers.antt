@@ -4,16 +4,22 @@ use Rattle.fsrm_model.specs.declared.command.FileOp.TheVariants.{Create}
 use Rattle.fsrm_model.proofs.valid.ValidLaws.{folder_has}
 use Rattle.volume_tree.specs.Volume.{Volume, new_fault}
 use Rattle.quota_usage.specs.declared.change.Change.{Change}
-use Rattle.fsrm_engine.specs.declared.parts.Parts.{Parts}
-use Rattle.fsrm_engine.specs.Machine.{charged_parts, ended, AreCounted, IsSound}
-use Rattle.fsrm_engine.proofs.steps.StepLaws.{is_fault, refused_as, refused_by_as}
+use Rattle.std.specs.Prelude.{option_map}
+use Rattle.fsrm_engine.specs.Crossing.{IsCovered}
+use Rattle.fsrm_engine.specs.Faults.{exceeded_refusal}
+use Rattle.fsrm_engine.specs.Machine.{charged_parts, IsSound}
+use Rattle.fsrm_engine.proofs.steps.StepLaws.{done_with, is_fault, refused_by_as}
 use Rattle.fsrm_engine.proofs.steps.PlaceLaws.{place_depth}
 use Rattle.fsrm_engine.proofs.operations.NewLaws.{create_due, made_is}
 use Rattle.fsrm_engine.proofs.operations.FitLaws.{fits_plus}
 use Rattle.fsrm_engine.proofs.operations.GrowthLaws.{by_quotas, due_next}
 use Rattle.fsrm_engine.proofs.operations.MakeLaws.{make_changes, make_done, made_height, there_made}
-use Rattle.fsrm_engine.proofs.operations.FollowLaws.{is_made, back_scans, left_back, made_length, made_chain, op_done}
-use Rattle.fsrm_engine.proofs.steps.WholeLaws.{sound_ended}
+use Rattle.fsrm_engine.proofs.operations.FollowLaws.{is_made, back_scans, left_back, made_length, made_chain, op_accepts}
+use Rattle.fsrm_engine.proofs.operations.ChargedLaws.{charged_due, covered_by, refused_op}
+use Rattle.fsrm_engine.proofs.settling.EndLaws.{few_log}
+use Rattle.fsrm_engine.proofs.settling.OrderlyQuotas.{quotas_orderly}
+use Rattle.fsrm_engine.proofs.settling.RefuseLaws.{refused_sound, refuser_of}
+use Rattle.fsrm_engine.proofs.tables.RanLaws.{counted_run, sound_run}
 use Rattle.fsrm_engine.proofs.parts.Parts.create.Goals as goal
 
 pub admit-requires-clause-change : goal.admit-requires-clause-change
@@ -31,11 +37,24 @@ returns-in-Err-admit-clause-ok g c =
     let e = c.requires.whole.sound.counted in
     let at = c.in-Ok.ensures.ok in
     let changes = make_changes p.tree.size p.tree.nodes p.objects.quotas c.in-Ok.place.folder c.in-Ok.place.name.now c.args.length c.args.owner c.args.moment c.allocated.result e.volume e.are_quotas at.folder_is c.allocated.ensures.space in
-    refused_as p c.args.moment (File (Create c.args.path.now c.args.length c.args.owner)) _ _ c.requires.after
+    refused_op p c.refuse.new.self c.args.moment (File (Create c.args.path.now c.args.length c.args.owner)) c.refuse.result _ _ c.in-Err-admit.exceeded e c.requires.idle c.requires.after
     (create_due p c.args.moment c.args.path.now c.args.length c.args.owner c.in-Ok.place.folder c.in-Ok.place.name.now e.volume at
-    ∙ due_next (new_fault p.tree c.in-Ok.place.folder c.in-Ok.place.name.now) _ _ c.in-Ok-may_create.ensures.may
-    (by_quotas p _ _ _ e changes c.in-Err-admit.ensures.err))
-    c.refused-in-Err-admit.ensures
+    ∙ due_next (new_fault p.tree c.in-Ok.place.folder c.in-Ok.place.name.now) _ _ c.in-Ok-may_create.ensures.may refl)
+    (ap (λ (w : Volume). w.nodes) (made_is p.tree c.args.path.now c.in-Ok.place.folder c.in-Ok.place.name.now false c.args.length c.args.owner c.args.moment at))
+    changes c.in-Err-admit.ensures.err c.refuse.ensures.refused
+
+pub returns-in-Err-admit-clause-sound : goal.returns-in-Err-admit-clause-sound
+returns-in-Err-admit-clause-sound g c =
+    refused_sound c.args.self.now c.refuse.new.self c.args.moment c.in-Err-admit.exceeded c.refuse.result c.refuse.ensures.refused c.refuse.ensures.counted c.requires.whole.sound.scanning
+
+pub refuse-requires-clause-there : goal.refuse-requires-clause-there
+refuse-requires-clause-there g c = (refuser_of c.args.self.now (record { from = None; to = Some c.in-Ok.place.folder; minus = 0; plus = c.allocated.result }) c.in-Err-admit.exceeded c.requires.whole.sound.counted c.in-Err-admit.ensures.err).there
+
+pub refuse-requires-clause-counting : goal.refuse-requires-clause-counting
+refuse-requires-clause-counting g c = (refuser_of c.args.self.now (record { from = None; to = Some c.in-Ok.place.folder; minus = 0; plus = c.allocated.result }) c.in-Err-admit.exceeded c.requires.whole.sound.counted c.in-Err-admit.ensures.err).counting
+
+pub refuse-requires-clause-log : goal.refuse-requires-clause-log
+refuse-requires-clause-log g c = few_log c.args.self.now c.requires.whole
 
 pub returns-in-Err-admit-clause-looks : goal.returns-in-Err-admit-clause-looks
 returns-in-Err-admit-clause-looks g c =
@@ -51,12 +70,32 @@ charge-requires-clause-fits g c =
     let e = c.requires.whole.sound.counted in
     fits_plus p.tree.size p.tree.nodes c.make_file.new.self.nodes p.objects.quotas p.usage _ e.volume e.legal e.are_quotas e.sums c.allocated.ensures.small
 
+pub charge-requires-clause-quotas : goal.charge-requires-clause-quotas
+charge-requires-clause-quotas g c = let p = c.args.self.now in quotas_orderly p.tree.nodes p.objects.quotas c.requires.whole.sound.counted.are_quotas
+
+pub charge-requires-clause-covered : goal.charge-requires-clause-covered
+charge-requires-clause-covered g c =
+    let p = c.args.self.now in
+    let e = c.requires.whole.sound.counted in
+    let change : Change = record { from = None; to = Some c.in-Ok.place.folder; minus = 0; plus = c.allocated.result } in
+    subst (λ (w : Volume). IsCovered w.nodes p.usage change) (sym c.in_ok-node.ensures.made)
+    (covered_by p _ change e
+    (make_changes p.tree.size p.tree.nodes p.objects.quotas c.in-Ok.place.folder c.in-Ok.place.name.now c.args.length c.args.owner c.args.moment c.allocated.result e.volume e.are_quotas c.in-Ok.ensures.ok.folder_is c.allocated.ensures.space)
+    (λ from to given at other. absurd (cc given)))
+
+pub charge-requires-clause-idle : goal.charge-requires-clause-idle
+charge-requires-clause-idle g c = record { numbers = c.requires.idle.numbers; crossing = c.requires.idle.crossing }
+
+pub charge-requires-clause-log : goal.charge-requires-clause-log
+charge-requires-clause-log g c = few_log c.args.self.now c.requires.whole
+
 pub done-requires-clause-counted : goal.done-requires-clause-counted
 done-requires-clause-counted g c =
     let p = c.args.self.now in
-    subst (λ (q : Parts). AreCounted q) (sym c.charge.ensures.charged)
+    counted_run _ c.charge.new.self c.args.moment _ c.requires.moment
     (make_done p.tree c.make_file.new.self p.objects.quotas _ p.usage _ c.in-Ok.place.folder c.in-Ok.place.name.now c.args.length c.args.owner c.args.moment c.allocated.result
     c.requires.whole.sound.counted c.in-Ok.ensures.ok.folder_is c.allocated.ensures.space c.in_ok-node.ensures.made c.in_ok-node.ensures.kept c.requires.moment refl refl).engine
+    c.charge.ensures.charged
 
 pub returns-clause-ok : goal.returns-clause-ok
 returns-clause-ok g c =
@@ -70,18 +109,21 @@ returns-clause-ok g c =
     let mid = charged_parts (record p { tree = w; scans = c.follow_create.new.self }) change c.args.moment in
     let d = make_done p.tree w p.objects.quotas mid.objects p.usage mid.usage c.in-Ok.place.folder c.in-Ok.place.name.now c.args.length c.args.owner c.args.moment c.allocated.result
     e at.folder_is c.allocated.ensures.space c.in_ok-node.ensures.made c.in_ok-node.ensures.kept c.requires.moment refl refl in
-    op_done p mid c.done.new.self c.args.moment (Create c.args.path.now c.args.length c.args.owner) c.done.result p.objects.quotas _ c.requires.after
+    let size = ap (λ (w : Volume). w.size) c.in_ok-node.ensures.made in
+    done_with p mid c.charge.new.self c.done.new.self c.args.moment (File (Create c.args.path.now c.args.length c.args.owner)) c.done.result _
+    (op_accepts p mid c.args.moment (Create c.args.path.now c.args.length c.args.owner) p.objects.quotas _ c.requires.idle c.requires.after
     (create_due p c.args.moment c.args.path.now c.args.length c.args.owner c.in-Ok.place.folder c.in-Ok.place.name.now e.volume at
-    ∙ due_next (new_fault p.tree c.in-Ok.place.folder c.in-Ok.place.name.now) _ _ c.in-Ok-may_create.ensures.may (by_quotas p _ _ _ e changes c.in_default.ensures.ok))
+    ∙ due_next (new_fault p.tree c.in-Ok.place.folder c.in-Ok.place.name.now) _ _ c.in-Ok-may_create.ensures.may (by_quotas p _ _ _ e changes (ap (option_map exceeded_refusal) c.in_default.ensures.ok)))
     (ap (λ (w : Volume). w.nodes) (sym (c.in_ok-node.ensures.made ∙ made_is p.tree _ _ _ false c.args.length c.args.owner c.args.moment at)))
     refl refl (λ k. left_back p w c.in_ok-node.node made.back)
-    c.follow_create.ensures.follows (ap (λ (w : Volume). w.size) c.in_ok-node.ensures.made) d.raised_are (c.done.ensures.ended ∙ ap (λ (q : Parts). ended q c.args.moment) c.charge.ensures.charged) c.done.ensures.answer
+    c.follow_create.ensures.follows (record { size = size; marks = refl; crossing = refl; run_limit = refl; last_moment = refl }) d.raised_are)
+    c.charge.ensures.charged (charged_due p w c.follow_create.new.self change c.args.moment size e d.engine) c.done.ensures.ended c.done.ensures.answer
 
 pub returns-clause-sound : goal.returns-clause-sound
 returns-clause-sound g c =
     let change : Change = record { from = None; to = Some c.in-Ok.place.folder; minus = 0; plus = c.allocated.result } in
-    sound_ended (charged_parts (record c.args.self.now { tree = c.make_file.new.self; scans = c.follow_create.new.self }) change c.args.moment) c.done.new.self c.args.moment
-    (c.done.ensures.ended ∙ ap (λ (q : Parts). ended q c.args.moment) c.charge.ensures.charged) c.done.ensures.counted c.follow_create.ensures.follows.scanning
+    sound_run (charged_parts (record c.args.self.now { tree = c.make_file.new.self; scans = c.follow_create.new.self }) change c.args.moment) c.charge.new.self c.done.new.self c.args.moment _
+    c.charge.ensures.charged c.done.ensures.ended c.done.ensures.counted c.follow_create.ensures.follows.scanning
 
 pub returns-clause-looks : goal.returns-clause-looks
 returns-clause-looks g c =
@@ -103,7 +145,7 @@ returns-clause-looks g c =
 
 pub returns-in-Err-may_create-clause-ok : goal.returns-in-Err-may_create-clause-ok
 returns-in-Err-may_create-clause-ok g c =
-    refused_by_as c.args.self.now c.args.moment (File (Create c.args.path.now c.args.length c.args.owner)) _ _ _ _ c.requires.after
+    refused_by_as c.args.self.now c.args.moment (File (Create c.args.path.now c.args.length c.args.owner)) _ _ _ _ c.requires.idle c.requires.after
     (create_due c.args.self.now c.args.moment c.args.path.now c.args.length c.args.owner _ _ c.requires.whole.sound.counted.volume c.in-Ok.ensures.ok) (is_fault c.in-Err-may_create.fault _ c.in-Err-may_create.ensures.fault) c.refused_by.ensures.ok
 
 pub returns-in-Err-may_create-clause-looks : goal.returns-in-Err-may_create-clause-looks

@@ -1,12 +1,22 @@
-use Rattle.std.proofs.Common.{ap, sym, ◌∙◌, subst}
+use Rattle.std.proofs.Common.{◌<◌, ap, sym, ◌∙◌, subst}
 use Rattle.fsrm_base.specs.Keyed.{with_row, without_row}
 use Rattle.fsrm_model.specs.Quota.{folder_of}
 use Rattle.fsrm_model.specs.QuotaStates.{queued}
+use Rattle.fsrm_objects.proofs.FaultLaws.{admitted}
+use Rattle.rescan.proofs.unvisited.FindLaws.{folder_low}
 use Rattle.scan_queue.specs.Courses.{Course}
 use Rattle.fsrm_engine.specs.declared.parts.Parts.{Parts}
+use Rattle.fsrm_engine.specs.Faults.{text_room}
 use Rattle.fsrm_engine.specs.Machine.{IsSound, recounted}
 use Rattle.fsrm_engine.proofs.tables.TurnLaws.{turned, turned_sound, turned_from, taken_back}
 use Rattle.fsrm_engine.proofs.parts.Parts.enlist.Goals as goal
+
+pub requeue-requires : goal.requeue-requires
+requeue-requires c =
+    let p = c.args.self.now in
+    let s = c.requires.sound.scanning in
+    let same = ap (λ (q : Parts). q.scans) c.in_ok-add.ensures.added in
+    record { room = subst (λ (t : Course). c.args.row.folder < t.front.room.nodes) (sym same) (folder_low p.tree p.scans.front c.args.row.folder s.volume s.fits c.requires.folder) }
 
 pub returns-clause-listed : goal.returns-clause-listed
 returns-clause-listed c =
@@ -36,7 +46,7 @@ returns-in_default-clause-err c =
     c.take_away.ensures.taken
     ∙ (ap (λ (s : Course). recounted (record c.add.new.self { scans = s }) (without_row folder_of row.folder c.add.new.self.objects.quotas)) c.in_default.ensures.err
     ∙ (ap (λ (q : Parts). recounted q (without_row folder_of row.folder q.objects.quotas)) c.in_ok-add.ensures.added
-    ∙ taken_back p row c.requires.sound.counted c.requires.absent))
+    ∙ taken_back p row c.requires.sound.counted (admitted p.objects row (text_room p) c.in_ok-add.ensures.may).free))
 
 pub returns-in_default-clause-sound : goal.returns-in_default-clause-sound
 returns-in_default-clause-sound c = subst IsSound (sym (returns-in_default-clause-err c)) c.requires.sound

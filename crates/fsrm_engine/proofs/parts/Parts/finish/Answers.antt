@@ -1,7 +1,7 @@
 use Rattle.std.proofs.Common.{ap, ◌∙◌}
 use Rattle.std.specs.Prelude.{unwrap_or}
 use Rattle.fsrm_model.specs.Tree.{usage}
-use Rattle.fsrm_engine.proofs.steps.ScanSteps.{head_quota, head_uncounted, finished, finished_sound}
+use Rattle.fsrm_engine.proofs.steps.ScanSteps.{head_quota, head_uncounted, next_queue, finished_sound}
 use Rattle.fsrm_engine.proofs.parts.Parts.finish.Goals as goal
 
 pub complete-requires-clause-there : goal.complete-requires-clause-there
@@ -23,14 +23,18 @@ returns-clause-used c =
     c.finish-used.ensures.used p.tree c.requires.whole.sound.scanning
     ∙ ap (λ o. usage p.tree.size p.tree.nodes (unwrap_or o 0)) c.requires.active
 
-pub returns-clause-ended : goal.returns-clause-ended
-returns-clause-ended c =
+pub complete-requires-clause-idle : goal.complete-requires-clause-idle
+complete-requires-clause-idle c = record { numbers = c.requires.idle.numbers; crossing = c.requires.idle.crossing }
+
+pub returns-clause-finished : goal.returns-clause-finished
+returns-clause-finished c =
     let p = c.args.self.now in
-    finished p c.complete.new.self c.finish-used.new.self c.args.folder c.args.moment c.requires.active
-    (c.finish-used.ensures.turns p.tree c.requires.whole.sound.scanning) c.finish-used.ensures.queue c.complete.ensures.completed
+    record {
+      scans = c.finish-used.new.self;
+      queue_is = next_queue p.scans c.finish-used.new.self c.args.folder c.requires.active c.finish-used.ensures.queue;
+      turns = c.finish-used.ensures.turns p.tree c.requires.whole.sound.scanning;
+      completes = c.complete.ensures.completed;
+    }
 
 pub returns-clause-sound : goal.returns-clause-sound
-returns-clause-sound c =
-    let p = c.args.self.now in
-    finished_sound p c.complete.new.self c.finish-used.new.self c.args.folder c.args.moment
-    (c.finish-used.ensures.turns p.tree c.requires.whole.sound.scanning) c.complete.ensures.completed c.complete.ensures.counted
+returns-clause-sound c = finished_sound c.args.self.now c.complete.new.self c.args.folder c.args.moment (returns-clause-finished c) c.complete.ensures.counted

@@ -3,17 +3,20 @@ use Rattle.fsrm_model.specs.declared.command.Deed.TheVariants.{File}
 use Rattle.fsrm_model.specs.declared.command.FileOp.TheVariants.{Mkdir}
 use Rattle.fsrm_model.specs.FileOps.{made_node, plain}
 use Rattle.volume_tree.specs.Volume.{Volume}
+use Rattle.fsrm_engine.specs.declared.parts.Parts.{Parts}
 use Rattle.fsrm_engine.specs.Machine.{IsSound}
 use Rattle.fsrm_engine.proofs.operations.IdleLaws.{idle_made}
-use Rattle.fsrm_engine.proofs.steps.StepLaws.{is_fault, refused_by_as, tree_first}
+use Rattle.fsrm_engine.proofs.steps.StepLaws.{done_as, is_fault, refused_by_as, tree_first}
 use Rattle.fsrm_engine.proofs.operations.NewLaws.{mkdir_due, made_is}
-use Rattle.fsrm_engine.proofs.operations.FollowLaws.{is_made, back_scans, mkdir_next, op_done}
+use Rattle.fsrm_engine.proofs.operations.FollowLaws.{is_made, back_scans, mkdir_next, op_accepts}
+use Rattle.fsrm_engine.proofs.settling.CalmLaws.{calm_same}
+use Rattle.fsrm_engine.proofs.settling.EndLaws.{few_log}
 use Rattle.fsrm_engine.proofs.steps.WholeLaws.{sound_ended}
 use Rattle.fsrm_engine.proofs.parts.Parts.mkdir.Goals as goal
 
 pub returns-in-Err-may_create-clause-ok : goal.returns-in-Err-may_create-clause-ok
 returns-in-Err-may_create-clause-ok g c =
-    refused_by_as c.args.self.now c.args.moment (File (Mkdir c.args.path.now c.args.owner)) _ _ None _ c.requires.after
+    refused_by_as c.args.self.now c.args.moment (File (Mkdir c.args.path.now c.args.owner)) _ _ None _ c.requires.idle c.requires.after
     (mkdir_due c.args.self.now c.args.moment _ c.args.owner _ _ c.requires.whole.sound.counted.volume c.in-Ok.ensures.ok) (is_fault c.in-Err-may_create.fault _ c.in-Err-may_create.ensures.fault) c.refused_by.ensures.ok
 
 pub follow_mkdir-requires-clause-there : goal.follow_mkdir-requires-clause-there
@@ -44,12 +47,17 @@ returns-clause-ok g c =
     let w = c.make_folder.new.self in
     let row = made_node p.tree.nodes c.in-Ok.place.folder c.in-Ok.place.name.now true 0 c.args.owner c.args.moment in
     let made = is_made p.tree w c.in_ok-node.node c.in-Ok.place.folder c.in-Ok.place.name.now true 0 c.args.owner c.args.moment c.requires.whole.sound.counted.volume c.in_ok-node.ensures.made c.in_ok-node.ensures.number in
-    op_done p (record p { tree = w; scans = c.follow_mkdir.new.self }) c.done.new.self c.args.moment (Mkdir c.args.path.now c.args.owner) c.done.result p.objects.quotas _ c.requires.after
+    let mid : Parts = record p { tree = w; scans = c.follow_mkdir.new.self } in
+    let size = ap (λ (w : Volume). w.size) c.in_ok-node.ensures.made in
+    done_as p mid c.done.new.self c.args.moment (File (Mkdir c.args.path.now c.args.owner)) c.done.result
+    (op_accepts p mid c.args.moment (Mkdir c.args.path.now c.args.owner) p.objects.quotas _ c.requires.idle c.requires.after
     (mkdir_due p c.args.moment _ c.args.owner _ _ c.requires.whole.sound.counted.volume at ∙ ap (λ o. tree_first o None) c.in-Ok-may_create.ensures.may)
     (ap (λ (w : Volume). w.nodes) (sym (c.in_ok-node.ensures.made ∙ made_is p.tree _ _ _ true 0 c.args.owner c.args.moment at)))
     refl refl
     (mkdir_next p w c.args.path.now c.in-Ok.place.folder c.in-Ok.place.name.now c.args.owner c.args.moment c.in_ok-node.node (plain p.tree.nodes (Mkdir c.args.path.now c.args.owner) c.args.moment) at made.back)
-    (c.follow_mkdir.ensures.follows row made.found) (ap (λ (w : Volume). w.size) c.in_ok-node.ensures.made) refl c.done.ensures.ended c.done.ensures.answer
+    (c.follow_mkdir.ensures.follows row made.found) (record { size = size; marks = refl; crossing = refl; run_limit = refl; last_moment = refl }) refl)
+    (few_log p c.requires.whole) (calm_same p mid c.args.moment c.requires.whole.sound.counted (idle_made p.tree w p.objects.quotas p.usage c.in-Ok.place.folder c.in-Ok.place.name.now c.args.owner c.args.moment c.requires.whole.sound.counted at.folder_is c.in_ok-node.ensures.made c.in_ok-node.ensures.kept) size refl refl)
+    c.done.ensures.ended c.done.ensures.answer
 
 pub returns-clause-sound : goal.returns-clause-sound
 returns-clause-sound g c =

@@ -1,4 +1,5 @@
 use Rattle.std.proofs.Common.{◌≡◌, ◌==◌, true, false, None, refl, sym, ap, ◌∙◌, subst, arith}
+use Rattle.std.specs.Prelude.{option_map}
 use Rattle.fsrm_model.specs.declared.command.Deed.TheVariants.{File}
 use Rattle.fsrm_model.specs.declared.command.FileOp.TheVariants.{Move}
 use Rattle.fsrm_base.specs.Keyed.{has_row}
@@ -8,15 +9,20 @@ use Rattle.fsrm_base.proofs.TestLaws.{is_inner}
 use Rattle.fsrm_model.proofs.nodes.Resolves.{resolved}
 use Rattle.fsrm_model.proofs.valid.ValidLaws.{folder_has}
 use Rattle.volume_tree.specs.Volume.{Volume, Move as Moving, move_fault}
-use Rattle.fsrm_engine.specs.declared.parts.Parts.{Parts}
-use Rattle.fsrm_engine.specs.Machine.{charged_parts, ended, AreCounted}
-use Rattle.fsrm_engine.proofs.steps.StepLaws.{refused_as, refused_by_as}
-use Rattle.fsrm_engine.proofs.steps.PlaceLaws.{place_depth, has_resolved}
+use Rattle.fsrm_engine.specs.Crossing.{IsCovered}
+use Rattle.fsrm_engine.specs.Faults.{exceeded_refusal}
+use Rattle.fsrm_engine.specs.Machine.{charged_parts}
+use Rattle.fsrm_engine.proofs.steps.StepLaws.{done_with, refused_as, refused_by_as}
+use Rattle.fsrm_engine.proofs.steps.PlaceLaws.{place_bare, place_depth, has_resolved}
 use Rattle.fsrm_engine.proofs.operations.MoveLaws.{move_due, move_root, stray_due}
 use Rattle.fsrm_engine.proofs.operations.GrowthLaws.{by_quotas, due_next}
 use Rattle.fsrm_engine.proofs.operations.MoveKept.{move_change, moves_to, move_changes, move_done, ready_apart, from_height, to_height, left_height, parent_there, there_moved, move_room, move_fits, moved_fits}
-use Rattle.fsrm_engine.proofs.operations.FollowLaws.{goes_to, volume_is, made_ready, move_next, move_nodes, op_done}
-use Rattle.fsrm_engine.proofs.steps.WholeLaws.{sound_ended}
+use Rattle.fsrm_engine.proofs.operations.FollowLaws.{goes_to, volume_is, made_ready, move_next, move_nodes, op_accepts}
+use Rattle.fsrm_engine.proofs.operations.ChargedLaws.{charged_due, covered_by, refused_op}
+use Rattle.fsrm_engine.proofs.settling.EndLaws.{few_log}
+use Rattle.fsrm_engine.proofs.settling.OrderlyQuotas.{quotas_orderly}
+use Rattle.fsrm_engine.proofs.settling.RefuseLaws.{refused_sound, refuser_of}
+use Rattle.fsrm_engine.proofs.tables.RanLaws.{counted_run, sound_run}
 use Rattle.fsrm_engine.proofs.parts.Parts.move_path.Goals as goal
 
 pub moved_bytes-requires-clause-there : goal.moved_bytes-requires-clause-there
@@ -138,19 +144,19 @@ follow_move-requires-clause-apart g c = ready_apart c.args.self.now.tree c.in-So
 
 pub returns-then-node-eq0-clause-ok : goal.returns-then-node-eq0-clause-ok
 returns-then-node-eq0-clause-ok g c =
-    refused_as c.args.self.now c.args.moment (File (Move c.args.from.now c.args.to.now)) _ _ c.requires.after
-    (move_root c.args.self.now c.args.moment _ _ _ c.requires.whole.sound.counted.volume (sym c.in-Some.ensures.value) c.if-node-eq0.true)
+    refused_as c.args.self.now c.args.moment (File (Move c.args.from.now c.args.to.now)) _ _ c.requires.idle c.requires.after
+    (move_root c.args.self.now c.args.moment _ _ _ c.requires.whole.sound.counted.volume (sym c.in-Some.ensures.value) c.if-node-eq0.true) refl
     c.refused-then-node-eq0.ensures
 
 pub returns-in-Err-clause-ok : goal.returns-in-Err-clause-ok
 returns-in-Err-clause-ok g c =
-    refused_as c.args.self.now c.args.moment (File (Move c.args.from.now c.args.to.now)) _ _ c.requires.after
-    (stray_due c.args.self.now c.args.moment _ _ _ _ c.requires.whole.sound.counted.volume (sym c.in-Some.ensures.value) (is_inner _ c.if-node-eq0.false) c.in-Err.ensures.err)
+    refused_as c.args.self.now c.args.moment (File (Move c.args.from.now c.args.to.now)) _ _ c.requires.idle c.requires.after
+    (stray_due c.args.self.now c.args.moment _ _ _ _ c.requires.whole.sound.counted.volume (sym c.in-Some.ensures.value) (is_inner _ c.if-node-eq0.false) c.in-Err.ensures.err) (place_bare c.args.self.now.tree.nodes c.args.to.now _ c.in-Err.ensures.err)
     c.refused-in-Err.ensures
 
 pub returns-in-Err-ready_move-clause-ok : goal.returns-in-Err-ready_move-clause-ok
 returns-in-Err-ready_move-clause-ok g c =
-    refused_by_as c.args.self.now c.args.moment (File (Move c.args.from.now c.args.to.now)) _ _ _ _ c.requires.after
+    refused_by_as c.args.self.now c.args.moment (File (Move c.args.from.now c.args.to.now)) _ _ _ _ c.requires.idle c.requires.after
     (move_due c.args.self.now c.args.moment c.args.from.now c.args.to.now c.in-Some.node c.in-Ok.place.folder c.in-Ok.place.name.now c.requires.whole.sound.counted.volume (sym c.in-Some.ensures.value) (is_inner _ c.if-node-eq0.false) c.in-Ok.ensures.ok)
     c.in-Err-ready_move.ensures.refused c.refused_by.ensures.ok
 
@@ -163,20 +169,55 @@ returns-in-Err-admit-clause-ok g c =
     let inner = is_inner _ c.if-node-eq0.false in
     let to = moves_to v.nodes c.in-Some.node c.in-Ok.place.folder c.node.result (is_under v.nodes c.in-Some.node c.in-Ok.place.folder) c.node.ensures.view inner at.folder_is refl (ready_apart v c.in-Some.node c.in-Ok.place.folder c.in-Ok.place.name.now c.in-Ok-ready_move.ensures.may) in
     let changes = move_changes v.size v.nodes p.objects.quotas c.in-Some.node c.in-Ok.place.folder c.in-Ok.place.name.now c.node.result c.in_ok-bytes.bytes e.volume e.are_quotas c.node.ensures.view to c.in_ok-bytes.ensures.bytes in
-    refused_as p c.args.moment (File (Move c.args.from.now c.args.to.now)) _ _ c.requires.after
+    refused_op p c.refuse.new.self c.args.moment (File (Move c.args.from.now c.args.to.now)) c.refuse.result _ _ c.in-Err-admit.exceeded e c.requires.idle c.requires.after
     (move_due p c.args.moment c.args.from.now c.args.to.now c.in-Some.node c.in-Ok.place.folder c.in-Ok.place.name.now e.volume (sym c.in-Some.ensures.value) inner at
-    ∙ due_next (move_fault v c.in-Some.node c.in-Ok.place.folder c.in-Ok.place.name.now) _ _ c.in-Ok-ready_move.ensures.may
-    (by_quotas p _ _ _ e changes c.in-Err-admit.ensures.err))
-    c.refused-in-Err-admit.ensures
+    ∙ due_next (move_fault v c.in-Some.node c.in-Ok.place.folder c.in-Ok.place.name.now) _ _ c.in-Ok-ready_move.ensures.may refl)
+    (sym (move_nodes v c.args.from.now c.args.to.now c.in-Some.node c.in-Ok.place.folder c.in-Ok.place.name.now c.args.moment (sym c.in-Some.ensures.value) at))
+    changes c.in-Err-admit.ensures.err c.refuse.ensures.refused
+
+pub returns-in-Err-admit-clause-sound : goal.returns-in-Err-admit-clause-sound
+returns-in-Err-admit-clause-sound g c =
+    refused_sound c.args.self.now c.refuse.new.self c.args.moment c.in-Err-admit.exceeded c.refuse.result c.refuse.ensures.refused c.refuse.ensures.counted c.requires.whole.sound.scanning
+
+pub refuse-requires-clause-there : goal.refuse-requires-clause-there
+refuse-requires-clause-there g c = (refuser_of c.args.self.now (move_change c.node.result.parent c.in-Ok.place.folder c.in_ok-bytes.bytes) c.in-Err-admit.exceeded c.requires.whole.sound.counted c.in-Err-admit.ensures.err).there
+
+pub refuse-requires-clause-counting : goal.refuse-requires-clause-counting
+refuse-requires-clause-counting g c = (refuser_of c.args.self.now (move_change c.node.result.parent c.in-Ok.place.folder c.in_ok-bytes.bytes) c.in-Err-admit.exceeded c.requires.whole.sound.counted c.in-Err-admit.ensures.err).counting
+
+pub refuse-requires-clause-log : goal.refuse-requires-clause-log
+refuse-requires-clause-log g c = few_log c.args.self.now c.requires.whole
+
+pub charge-requires-clause-quotas : goal.charge-requires-clause-quotas
+charge-requires-clause-quotas g c = let p = c.args.self.now in quotas_orderly p.tree.nodes p.objects.quotas c.requires.whole.sound.counted.are_quotas
+
+pub charge-requires-clause-covered : goal.charge-requires-clause-covered
+charge-requires-clause-covered g c =
+    let p = c.args.self.now in
+    let v = p.tree in
+    let e = c.requires.whole.sound.counted in
+    let to = moves_to v.nodes c.in-Some.node c.in-Ok.place.folder c.node.result (is_under v.nodes c.in-Some.node c.in-Ok.place.folder) c.node.ensures.view (is_inner _ c.if-node-eq0.false) c.in-Ok.ensures.ok.folder_is refl (ready_apart v c.in-Some.node c.in-Ok.place.folder c.in-Ok.place.name.now c.in-Ok-ready_move.ensures.may) in
+    let change = move_change c.node.result.parent c.in-Ok.place.folder c.in_ok-bytes.bytes in
+    subst (λ (w : Volume). IsCovered w.nodes p.usage change) (sym (made_ready _ _ _ _ _ _ c.in-Ok-ready_move.ensures.ready c.make_move.ensures.made))
+    (covered_by p _ change e
+    (move_changes v.size v.nodes p.objects.quotas c.in-Some.node c.in-Ok.place.folder c.in-Ok.place.name.now c.node.result c.in_ok-bytes.bytes e.volume e.are_quotas c.node.ensures.view to c.in_ok-bytes.ensures.bytes)
+    (λ from to given at other. omega arith))
+
+pub charge-requires-clause-idle : goal.charge-requires-clause-idle
+charge-requires-clause-idle g c = record { numbers = c.requires.idle.numbers; crossing = c.requires.idle.crossing }
+
+pub charge-requires-clause-log : goal.charge-requires-clause-log
+charge-requires-clause-log g c = few_log c.args.self.now c.requires.whole
 
 pub done-requires-clause-counted : goal.done-requires-clause-counted
 done-requires-clause-counted g c =
     let p = c.args.self.now in
     let v = p.tree in
     let to = moves_to v.nodes c.in-Some.node c.in-Ok.place.folder c.node.result (is_under v.nodes c.in-Some.node c.in-Ok.place.folder) c.node.ensures.view (is_inner _ c.if-node-eq0.false) c.in-Ok.ensures.ok.folder_is refl (ready_apart v c.in-Some.node c.in-Ok.place.folder c.in-Ok.place.name.now c.in-Ok-ready_move.ensures.may) in
-    subst (λ (q : Parts). AreCounted q) (sym c.charge.ensures.charged)
+    counted_run _ c.charge.new.self c.args.moment _ c.requires.moment
     (move_done v c.make_move.new.self p.objects.quotas _ p.usage _ c.in-Some.node c.in-Ok.place.folder c.in-Ok.place.name.now c.node.result c.in_ok-bytes.bytes c.args.moment
     c.requires.whole.sound.counted c.node.ensures.view to c.in_ok-bytes.ensures.bytes (made_ready _ _ _ _ _ _ c.in-Ok-ready_move.ensures.ready c.make_move.ensures.made) c.make_move.ensures.kept c.requires.moment refl refl).engine
+    c.charge.ensures.charged
 
 pub returns-clause-ok : goal.returns-clause-ok
 returns-clause-ok g c =
@@ -190,21 +231,25 @@ returns-clause-ok g c =
     let made = made_ready _ _ _ _ _ _ c.in-Ok-ready_move.ensures.ready c.make_move.ensures.made in
     let to = moves_to v.nodes c.in-Some.node c.in-Ok.place.folder c.node.result (is_under v.nodes c.in-Some.node c.in-Ok.place.folder) c.node.ensures.view inner at.folder_is refl (ready_apart v c.in-Some.node c.in-Ok.place.folder c.in-Ok.place.name.now c.in-Ok-ready_move.ensures.may) in
     let changes = move_changes v.size v.nodes p.objects.quotas c.in-Some.node c.in-Ok.place.folder c.in-Ok.place.name.now c.node.result c.in_ok-bytes.bytes e.volume e.are_quotas c.node.ensures.view to c.in_ok-bytes.ensures.bytes in
-    let mid = charged_parts (record p { tree = w; scans = c.follow_move.new.self }) (move_change c.node.result.parent c.in-Ok.place.folder c.in_ok-bytes.bytes) c.args.moment in
+    let change = move_change c.node.result.parent c.in-Ok.place.folder c.in_ok-bytes.bytes in
+    let mid = charged_parts (record p { tree = w; scans = c.follow_move.new.self }) change c.args.moment in
     let d = move_done v w p.objects.quotas mid.objects p.usage mid.usage c.in-Some.node c.in-Ok.place.folder c.in-Ok.place.name.now c.node.result c.in_ok-bytes.bytes c.args.moment
     e c.node.ensures.view to c.in_ok-bytes.ensures.bytes made c.make_move.ensures.kept c.requires.moment refl refl in
     let nodes = move_nodes v c.args.from.now c.args.to.now c.in-Some.node c.in-Ok.place.folder c.in-Ok.place.name.now c.args.moment from at in
-    op_done p mid c.done.new.self c.args.moment (Move c.args.from.now c.args.to.now) c.done.result p.objects.quotas _ c.requires.after
+    let size = ap (λ (u : Volume). u.size) made in
+    done_with p mid c.charge.new.self c.done.new.self c.args.moment (File (Move c.args.from.now c.args.to.now)) c.done.result _
+    (op_accepts p mid c.args.moment (Move c.args.from.now c.args.to.now) p.objects.quotas _ c.requires.idle c.requires.after
     (move_due p c.args.moment c.args.from.now c.args.to.now c.in-Some.node c.in-Ok.place.folder c.in-Ok.place.name.now e.volume from inner at
-    ∙ due_next (move_fault v c.in-Some.node c.in-Ok.place.folder c.in-Ok.place.name.now) _ _ c.in-Ok-ready_move.ensures.may (by_quotas p _ _ _ e changes c.in_default-admit.ensures.ok))
+    ∙ due_next (move_fault v c.in-Some.node c.in-Ok.place.folder c.in-Ok.place.name.now) _ _ c.in-Ok-ready_move.ensures.may (by_quotas p _ _ _ e changes (ap (option_map exceeded_refusal) c.in_default-admit.ensures.ok)))
     (nodes ∙ sym (ap (λ (u : Volume). u.nodes) made)) refl refl
     (move_next p c.args.from.now c.args.to.now c.in-Some.node c.in-Ok.place.folder c.in-Ok.place.name.now _ from at nodes)
     (goes_to _ _ w _ _ made (c.follow_move.ensures.follows c.in-Ok.place.name.now (volume_is _ _ made c.make_move.ensures.kept)))
-    (ap (λ (u : Volume). u.size) made) d.raised_are (c.done.ensures.ended ∙ ap (λ (q : Parts). ended q c.args.moment) c.charge.ensures.charged) c.done.ensures.answer
+    (record { size = size; marks = refl; crossing = refl; run_limit = refl; last_moment = refl }) d.raised_are)
+    c.charge.ensures.charged (charged_due p w c.follow_move.new.self change c.args.moment size e d.engine) c.done.ensures.ended c.done.ensures.answer
 
 pub returns-clause-sound : goal.returns-clause-sound
 returns-clause-sound g c =
     let made = made_ready _ _ _ _ _ _ c.in-Ok-ready_move.ensures.ready c.make_move.ensures.made in
     let goes = goes_to _ _ c.make_move.new.self _ _ made (c.follow_move.ensures.follows c.in-Ok.place.name.now (volume_is _ _ made c.make_move.ensures.kept)) in
-    sound_ended (charged_parts (record c.args.self.now { tree = c.make_move.new.self; scans = c.follow_move.new.self }) (move_change c.node.result.parent c.in-Ok.place.folder c.in_ok-bytes.bytes) c.args.moment) c.done.new.self c.args.moment
-    (c.done.ensures.ended ∙ ap (λ (q : Parts). ended q c.args.moment) c.charge.ensures.charged) c.done.ensures.counted goes.scanning
+    sound_run (charged_parts (record c.args.self.now { tree = c.make_move.new.self; scans = c.follow_move.new.self }) (move_change c.node.result.parent c.in-Ok.place.folder c.in_ok-bytes.bytes) c.args.moment) c.charge.new.self c.done.new.self c.args.moment _
+    c.charge.ensures.charged c.done.ensures.ended c.done.ensures.counted goes.scanning

@@ -1,13 +1,17 @@
 use Rattle.std.proofs.Common.{rules, ◌≡◌, List, [], ◌∷◌, false, refl, sym, subst, arith}
 use Rattle.fsrm_model.specs.Fresh.{new_rows, root_node}
+use Rattle.fsrm_model.specs.Limits.{most_quotas}
 use Rattle.fsrm_model.specs.Valid.{IsValid, IsVolume}
 use Rattle.fsrm_model.proofs.valid.ValidTests.{new_valid}
 use Rattle.fsrm_base.proofs.TestLaws.{lt_is}
 use Rattle.fsrm_objects.specs.Tables.{Tables}
+use Rattle.number_set.specs.Numbers.{Numbers, no_numbers}
 use Rattle.quota_usage.specs.declared.change.Counter.{Counter}
 use Rattle.rescan.specs.Frontiers.{idle}
 use Rattle.scan_queue.specs.Courses.{Course}
+use Rattle.thresholds.specs.Marked.{Marked}
 use Rattle.volume_tree.specs.Volume.{Volume}
+use Rattle.fsrm_engine.specs.declared.parts.Parts.{Parts}
 use Rattle.fsrm_engine.specs.Machine.{IsWhole, rows_of}
 use Rattle.fsrm_engine.proofs.parts.Parts.new.Goals as goal
 
@@ -17,17 +21,24 @@ returns-clause-whole c =
     let tree : Volume = record { size = K; nodes = root_node ∷ [] } in
     let objects : Tables = record { quotas = [] } in
     let scans : Course = record { queue = []; front = idle (record { nodes = K.nodes; cluster = K.cluster }) } in
+    let marks : Marked = record { numbers = []; log = [] } in
+    let of : Volume → Tables → List Counter → Course → Marked → Numbers → Parts =
+    λ t o u s k n. record { tree = t; objects = o; usage = u; scans = s; marks = k; crossing = n; run_limit = 60; last_moment = 0; level = false } in
     let volume : IsVolume K (root_node ∷ []) = subst (λ (v : Volume). IsVolume v.size v.nodes) c.in_ok-tree.ensures.ok c.in_ok-tree.ensures.kept in
     let valid = new_valid K (lt_is 0 K.nodes (volume.below 0 root_node refl)) in
-    let same : rows_of (record { tree = tree; objects = objects; usage = []; scans = scans; last_moment = 0; level = false }) ≡ new_rows = search rules in
-    subst (λ (t : Volume). IsWhole (record { tree = t; objects = c.new.result; usage = c.in_ok-usage.usage; scans = c.in_ok-scans.scans; last_moment = 0; level = false })) (sym c.in_ok-tree.ensures.ok)
-    (subst (λ (o : Tables). IsWhole (record { tree = tree; objects = o; usage = c.in_ok-usage.usage; scans = c.in_ok-scans.scans; last_moment = 0; level = false })) (sym c.new.ensures)
-    (subst (λ (u : List Counter). IsWhole (record { tree = tree; objects = objects; usage = u; scans = c.in_ok-scans.scans; last_moment = 0; level = false })) (sym c.in_ok-usage.ensures)
-    (subst (λ (s : Course). IsWhole (record { tree = tree; objects = objects; usage = []; scans = s; last_moment = 0; level = false })) (sym c.in_ok-scans.ensures)
+    let same : rows_of (of tree objects [] scans marks (no_numbers most_quotas)) ≡ new_rows = search rules in
+    subst (λ (t : Volume). IsWhole (of t c.new-2.result c.in_ok-usage.usage c.in_ok-scans.scans c.in_ok-marks.marks c.in_ok-crossing.crossing)) (sym c.in_ok-tree.ensures.ok)
+    (subst (λ (o : Tables). IsWhole (of tree o c.in_ok-usage.usage c.in_ok-scans.scans c.in_ok-marks.marks c.in_ok-crossing.crossing)) (sym c.new-2.ensures)
+    (subst (λ (u : List Counter). IsWhole (of tree objects u c.in_ok-scans.scans c.in_ok-marks.marks c.in_ok-crossing.crossing)) (sym c.in_ok-usage.ensures)
+    (subst (λ (s : Course). IsWhole (of tree objects [] s c.in_ok-marks.marks c.in_ok-crossing.crossing)) (sym c.in_ok-scans.ensures)
+    (subst (λ (k : Marked). IsWhole (of tree objects [] scans k c.in_ok-crossing.crossing)) (sym c.in_ok-marks.ensures)
+    (subst (λ (n : Numbers). IsWhole (of tree objects [] scans marks n)) (sym c.in_ok-crossing.ensures)
     (record {
       sound = record {
         counted = record { volume = volume; legal = c.requires; are_quotas = valid.quotas; sums = refl; peaks = λ h. cc };
         scanning = record { volume = volume; fits = record { nodes = omega arith; cluster = refl }; folders = λ folder h. cc; active = refl; stands = λ h. cc; idle = λ h. refl };
       };
       valid = subst (IsValid K) (sym same) valid;
-    }))))
+      there = refl;
+      crossing = refl;
+    }))))))

@@ -1,66 +1,76 @@
-use Rattle.std.proofs.Common.{◌≡◌, ℕ, Bool, Option, true, false, refl, ap, sym, ◌∙◌, subst, None, []}
-use Rattle.std.specs.Prelude.{unwrap_or, if◌then◌else◌}
+use Rattle.std.proofs.Common.{ℕ, None, ap, sym, ◌∙◌, subst}
+use Rattle.std.specs.Prelude.{IfOk}
 use Rattle.fsrm_model.specs.declared.command.Deed.TheVariants.{QuotaAdd}
-use Rattle.fsrm_model.specs.declared.command.Refusal.TheVariants.{TableFull}
 use Rattle.fsrm_model.specs.declared.row.QuotaRow.{QuotaRow}
-use Rattle.fsrm_model.specs.declared.row.QuotaState.TheVariants.{Disabled}
-use Rattle.fsrm_base.specs.Keyed.{has_row}
-use Rattle.fsrm_model.specs.Quota.{folder_of, counts, is_complete}
-use Rattle.fsrm_model.specs.QuotaStates.{start, with_quota}
-use Rattle.fsrm_model.specs.QuotaWork.{new_quota}
-use Rattle.fsrm_model.specs.Tree.{usage}
-use Rattle.fsrm_base.proofs.SortedRows.{has_lent}
-use Rattle.fsrm_engine.specs.Machine.{rows_of}
-use Rattle.fsrm_engine.proofs.steps.PlaceLaws.{target_is}
-use Rattle.fsrm_engine.proofs.tables.StateLaws.{add_checks, table_is, table_has, first_empty, empty_folder}
-use Rattle.fsrm_engine.proofs.steps.StepLaws.{refused_as, done_settled}
+use Rattle.fsrm_model.specs.Tree.{is_folder}
+use Rattle.fsrm_objects.specs.Tables.{quota_fault}
+use Rattle.fsrm_engine.specs.declared.parts.Parts.{Parts}
+use Rattle.fsrm_engine.specs.Faults.{text_room}
+use Rattle.fsrm_engine.specs.Machine.{Does}
 use Rattle.fsrm_engine.proofs.steps.WholeLaws.{sound_ended}
+use Rattle.fsrm_engine.proofs.tables.ModifyLaws.{added_as, added_each, added_limit, added_percents, added_row, added_thresholds, added_unused}
+use Rattle.fsrm_engine.proofs.tables.RoomLaws.{add_due, fault_refusal, refused_for_as}
 use Rattle.fsrm_engine.proofs.parts.Parts.quota_add.Goals as goal
 
-pub returns-then-quota_count-ge-MOST_QUOTAS-clause-ok :
-    goal.returns-then-quota_count-ge-MOST_QUOTAS-clause-ok
-returns-then-quota_count-ge-MOST_QUOTAS-clause-ok g c =
-    let R = rows_of c.args.self.now in
-    let n = c.in-Some.folder in
-    let absent = sym (has_lent folder_of n R.quotas c.quota.result c.quota.ensures) ∙ (sym c.is_some.ensures ∙ c.if-is_some.false) in
-    refused_as c.args.self.now c.args.moment (QuotaAdd c.args.path.now c.args.limit c.args.enforce c.args.enabled None [] []) c.refused-then-quota_count-ge-MOST_QUOTAS.result TableFull c.requires.after
-    (add_checks R c.args.path.now n true (λ k. new_quota k (unwrap_or c.args.limit 0) (unwrap_or c.args.enforce true) (if c.args.enabled then start R.nodes k else Disabled) c.args.moment) c.in-Some.ensures.folder absent
-    (table_is R.quotas _ c.quota_count.result c.quota_count.ensures c.if-quota_count-ge-MOST_QUOTAS.true))
-    c.refused-then-quota_count-ge-MOST_QUOTAS.ensures
+pub enlist-requires-clause-folder : goal.enlist-requires-clause-folder
+enlist-requires-clause-folder g c =
+    ap (λ (q : QuotaRow). is_folder c.args.self.now.tree.nodes q.folder) c.in_ok-row.ensures ∙ c.in-Some.ensures.folder.folder
 
-pub enlist-requires-clause-absent : goal.enlist-requires-clause-absent
-enlist-requires-clause-absent g c =
-    let R = rows_of c.args.self.now in
-    ap (λ (q : QuotaRow). has_row folder_of q.folder R.quotas) c.new_quota-row.ensures
-    ∙ (sym (has_lent folder_of c.in-Some.folder R.quotas c.quota.result c.quota.ensures) ∙ (sym c.is_some.ensures ∙ c.if-is_some.false))
+pub enlist-requires-clause-limit : goal.enlist-requires-clause-limit
+enlist-requires-clause-limit g c =
+    let change = c.args.change.now in
+    added_limit change.removed.now change.percents.now change.notices.now c.in-Some.folder c.unwrap-limit.result c.args.moment c.unwrap_or-enforce.result c.first_state-state.result c.in_ok-row.row c.in_ok-row.ensures c.args.limit c.unwrap-limit.ensures c.requires.limit
+
+pub enlist-requires-clause-ascending : goal.enlist-requires-clause-ascending
+enlist-requires-clause-ascending g c =
+    let change = c.args.change.now in
+    added_percents change.removed.now change.percents.now change.notices.now c.in-Some.folder c.unwrap-limit.result c.args.moment c.unwrap_or-enforce.result c.first_state-state.result c.in_ok-row.row c.in_ok-row.ensures
+
+pub enlist-requires-clause-thresholds : goal.enlist-requires-clause-thresholds
+enlist-requires-clause-thresholds g c =
+    let change = c.args.change.now in
+    added_each change.removed.now change.percents.now change.notices.now c.in-Some.folder c.unwrap-limit.result c.args.moment c.unwrap_or-enforce.result c.first_state-state.result c.in_ok-row.row c.in_ok-row.ensures c.requires.percents c.requires.notices
 
 pub enlist-requires-clause-nothing : goal.enlist-requires-clause-nothing
 enlist-requires-clause-nothing g c =
-    let R = rows_of c.args.self.now in
-    let K = c.args.self.now.tree.size in
+    let p = c.args.self.now in
+    let change = c.args.change.now in
+    added_unused change.removed.now change.percents.now change.notices.now c.in-Some.folder c.unwrap-limit.result c.args.moment c.unwrap_or-enforce.result c.first_state-state.result c.in_ok-row.row c.in_ok-row.ensures
+    p.tree.size p.tree.nodes c.args.enabled c.requires.whole.sound.counted.volume c.in-Some.ensures.folder.folder c.first_state-state.ensures.state
+
+pub returns-in-Ok-clause-ok : goal.returns-in-Ok-clause-ok
+returns-in-Ok-clause-ok g c =
+    let p = c.args.self.now in
+    let change = c.args.change.now in
     let n = c.in-Some.folder in
-    subst (λ (q : QuotaRow). counts q ≡ true → usage K R.nodes q.folder ≡ 0) (sym c.new_quota-row.ensures)
-    (λ t. empty_folder K R.nodes n c.requires.whole.sound.counted.volume c.in-Some.ensures.folder.folder
-    (first_empty R.nodes n c.args.enabled (sym (ap is_complete c.first_state-state.ensures.state) ∙ t)))
+    let l = c.unwrap-limit.result in
+    let m = c.args.moment in
+    let e = c.unwrap_or-enforce.result in
+    let state = c.first_state-state.result in
+    let row = c.in_ok-row.row in
+    let is = c.in_ok-row.ensures in
+    added_as p c.enlist.new.self c.done.new.self m c.args.path.now c.args.limit c.args.enforce c.args.enabled change.percents.now change.notices.now n row c.in-Some.ensures.folder c.done.result
+    (added_row change.removed.now change.percents.now change.notices.now n m c.args.limit c.args.enforce l e state _ row is c.requires.removed c.unwrap-limit.ensures c.unwrap_or-enforce.ensures c.first_state-state.ensures.state)
+    c.requires.whole c.requires.idle c.requires.after c.in-Ok.ensures.may c.in-Ok.ensures.listed
+    (added_thresholds change.removed.now change.percents.now change.notices.now n l m e state row is p.objects (text_room p) c.requires.percents c.requires.notices c.in-Ok.ensures.may)
+    (added_limit change.removed.now change.percents.now change.notices.now n l m e state row is c.args.limit c.unwrap-limit.ensures c.requires.limit)
+    (added_unused change.removed.now change.percents.now change.notices.now n l m e state row is p.tree.size p.tree.nodes c.args.enabled c.requires.whole.sound.counted.volume c.in-Some.ensures.folder.folder c.first_state-state.ensures.state)
+    c.done.ensures.ended c.done.ensures.answer
 
-pub returns-clause-ok : goal.returns-clause-ok
-returns-clause-ok g c =
-    let R = rows_of c.args.self.now in
+pub returns-in-Ok-clause-sound : goal.returns-in-Ok-clause-sound
+returns-in-Ok-clause-sound g c = sound_ended c.enlist.new.self c.done.new.self c.args.moment c.done.ensures.ended c.done.ensures.counted c.enlist.ensures.sound.scanning
+
+pub returns-in-Err-clause-ok : goal.returns-in-Err-clause-ok
+returns-in-Err-clause-ok g c =
+    let p = c.args.self.now in
+    let change = c.args.change.now in
     let n = c.in-Some.folder in
-    let at = c.in-Some.ensures.folder in
-    let absent = sym (has_lent folder_of n R.quotas c.quota.result c.quota.ensures) ∙ (sym c.is_some.ensures ∙ c.if-is_some.false) in
-    done_settled c.args.self.now c.enlist.new.self c.done.new.self c.args.moment (QuotaAdd c.args.path.now c.args.limit c.args.enforce c.args.enabled None [] []) c.done.result (with_quota R c.new_quota-row.result) c.requires.after
-    (add_checks R c.args.path.now n false (λ k. new_quota k (unwrap_or c.args.limit 0) (unwrap_or c.args.enforce true) (if c.args.enabled then start R.nodes k else Disabled) c.args.moment) at absent
-    (table_has R.quotas _ c.quota_count.result c.quota_count.ensures c.if-quota_count-ge-MOST_QUOTAS.false))
-    (ap (λ k. with_quota R (new_quota k (unwrap_or c.args.limit 0) (unwrap_or c.args.enforce true) (if c.args.enabled then start R.nodes k else Disabled) c.args.moment)) (target_is R.nodes c.args.path.now n at.resolved)
-    ∙ (ap (λ s. with_quota R (new_quota n (unwrap_or c.args.limit 0) (unwrap_or c.args.enforce true) s c.args.moment)) (sym c.first_state-state.ensures.state)
-    ∙ (ap (λ (l : ℕ). with_quota R (new_quota n l (unwrap_or c.args.enforce true) c.first_state-state.result c.args.moment)) (ap (λ (l : Option ℕ). unwrap_or l 0) c.unwrap-limit.ensures)
-    ∙ (ap (λ (e : Bool). with_quota R (new_quota n c.unwrap-limit.result e c.first_state-state.result c.args.moment)) (sym c.unwrap_or-enforce.ensures)
-    ∙ ap (with_quota R) (sym c.new_quota-row.ensures)))))
-    refl refl c.in_ok-enlist.ensures.listed c.done.ensures.ended c.done.ensures.answer
-
-pub returns-clause-sound : goal.returns-clause-sound
-returns-clause-sound g c = sound_ended c.enlist.new.self c.done.new.self c.args.moment c.done.ensures.ended c.done.ensures.counted c.enlist.ensures.sound.scanning
-
-pub enlist-requires-clause-plain : goal.enlist-requires-clause-plain
-enlist-requires-clause-plain g c = ap (λ (q : QuotaRow). q.thresholds) c.new_quota-row.ensures
+    let m = c.args.moment in
+    let row = c.in_ok-row.row in
+    let fault = c.in-Err.fault in
+    let made = added_row change.removed.now change.percents.now change.notices.now n m c.args.limit c.args.enforce c.unwrap-limit.result c.unwrap_or-enforce.result c.first_state-state.result _ row c.in_ok-row.ensures c.requires.removed c.unwrap-limit.ensures c.unwrap_or-enforce.ensures c.first_state-state.ensures.state in
+    let deed = QuotaAdd c.args.path.now c.args.limit c.args.enforce c.args.enabled None change.percents.now change.notices.now in
+    subst (λ (q : Parts). IfOk c.refused_for.result (λ answer. Does p q m deed answer)) (sym c.in-Err.ensures.err)
+    (refused_for_as p m deed fault c.refused_for.result c.requires.idle c.requires.after
+    (add_due p m c.args.path.now c.args.limit c.args.enforce c.args.enabled change.percents.now change.notices.now n row c.requires.whole c.in-Some.ensures.folder made
+    ∙ fault_refusal fault (quota_fault p.objects row (text_room p)) c.in-Err.ensures.refused) c.refused_for.ensures.ok)

@@ -5,15 +5,17 @@ use Rattle.fsrm_base.specs.Numbers.{without_number}
 use Rattle.fsrm_model.specs.Quota.{folder_of}
 use Rattle.fsrm_engine.specs.Machine.{rows_of}
 use Rattle.fsrm_engine.proofs.steps.PlaceLaws.{target_is}
-use Rattle.fsrm_engine.proofs.tables.QuotaLaws.{quota_due}
-use Rattle.fsrm_engine.proofs.steps.StepLaws.{refused_as, done_settled}
-use Rattle.fsrm_engine.proofs.tables.TurnLaws.{turned, turned_sound}
+use Rattle.fsrm_engine.proofs.tables.QuotaLaws.{first_bare, quota_due}
+use Rattle.fsrm_engine.proofs.steps.StepLaws.{done_as, refused_as, still_few}
+use Rattle.fsrm_engine.proofs.tables.TurnLaws.{turned, turned_accepts, turned_keeps, turned_sound}
+use Rattle.fsrm_engine.proofs.settling.EndLaws.{few_log}
+use Rattle.fsrm_engine.proofs.settling.TurnedCalm.{calm_deleted}
 use Rattle.fsrm_engine.proofs.steps.WholeLaws.{sound_ended}
 use Rattle.fsrm_engine.proofs.parts.Parts.quota_delete.Goals as goal
 
 pub returns-in-Err-clause-ok : goal.returns-in-Err-clause-ok
 returns-in-Err-clause-ok g c =
-    refused_as c.args.self.now c.args.moment (QuotaDelete c.args.path.now) c.refused.result _ c.requires.after c.in-Err.ensures.err c.refused.ensures
+    refused_as c.args.self.now c.args.moment (QuotaDelete c.args.path.now) c.refused.result _ c.requires.idle c.requires.after c.in-Err.ensures.err (first_bare (rows_of c.args.self.now) c.args.path.now _ c.in-Err.ensures.err) c.refused.ensures
 
 pub returns-clause-ok : goal.returns-clause-ok
 returns-clause-ok g c =
@@ -25,12 +27,12 @@ returns-clause-ok g c =
     let queue = without_number n p.scans.queue in
     let turns = c.leave.ensures.turns p.tree c.requires.whole.sound.scanning in
     let mid = c.take_away.new.self in
-    done_settled p mid c.done.new.self c.args.moment (QuotaDelete c.args.path.now) _ (record R { quotas = after; queue = queue }) c.requires.after
-    (quota_due R _ _ at)
-    (ap (λ k. record R { quotas = without_row folder_of k R.quotas; queue = without_number k R.queue }) (target_is R.nodes c.args.path.now n at.at.resolved))
-    refl refl
-    (turned p mid c.leave.new.self after queue c.take_away.ensures.taken turns c.leave.ensures.queue)
-    c.done.ensures.ended c.done.ensures.answer
+    let t = turned p mid c.leave.new.self after queue c.take_away.ensures.taken turns c.leave.ensures.queue in
+    done_as p mid c.done.new.self c.args.moment (QuotaDelete c.args.path.now) _
+    (turned_accepts p mid c.args.moment (QuotaDelete c.args.path.now) after queue c.requires.idle c.requires.after (quota_due R _ _ at)
+    (ap (λ k. record R { quotas = without_row folder_of k R.quotas; queue = without_number k R.queue }) (target_is R.nodes c.args.path.now n at.at.resolved)) refl t)
+    (still_few p mid (turned_keeps p mid after queue t) (few_log p c.requires.whole))
+    (calm_deleted p mid c.args.moment n queue t) c.done.ensures.ended c.done.ensures.answer
 
 pub returns-clause-sound : goal.returns-clause-sound
 returns-clause-sound g c =

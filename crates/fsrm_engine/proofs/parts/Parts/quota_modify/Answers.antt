@@ -1,92 +1,96 @@
-use Rattle.std.proofs.Common.{◌==◌, ◌≡◌, refl, ap, sym, ◌∙◌, [], Option, List}
-use Rattle.std.proofs.lemmas.Option.{same_Some}
-use Rattle.std.specs.Option.{option_map_or}
+use Rattle.std.proofs.Common.{◌≡◌, true, false, ap, sym, ◌∙◌}
+use Rattle.std.specs.Option.{option_and_then}
+use Rattle.fsrm_base.specs.Keyed.{is_ascending}
 use Rattle.fsrm_model.specs.declared.command.Deed.TheVariants.{QuotaModify}
+use Rattle.fsrm_model.specs.declared.command.Refusal.TheVariants.{NotFound}
 use Rattle.fsrm_model.specs.declared.row.QuotaRow.{QuotaRow}
-use Rattle.fsrm_model.specs.declared.row.QuotaState.TheVariants.{Disabled}
-use Rattle.fsrm_base.specs.Keyed.{has_row, row_of, with_change}
-use Rattle.fsrm_model.specs.Quota.{folder_of, is_complete}
-use Rattle.fsrm_model.specs.QuotaStates.{in_state, queued, state_after, with_state}
-use Rattle.fsrm_model.specs.QuotaWork.{modified}
-use Rattle.fsrm_model.specs.Tree.{is_folder, usage}
-use Rattle.fsrm_base.proofs.Look.{found_has}
-use Rattle.fsrm_model.specs.Valid.{is_plain}
-use Rattle.fsrm_base.proofs.Members.{all_found}
-use Rattle.fsrm_engine.proofs.tables.RoomLaws.{no_thresholds}
-use Rattle.fsrm_engine.specs.Machine.{rows_of, with_other}
-use Rattle.fsrm_engine.proofs.steps.PlaceLaws.{target_is}
-use Rattle.fsrm_engine.proofs.tables.StateLaws.{after_empty, empty_folder, modified_to}
-use Rattle.fsrm_engine.proofs.tables.QuotaLaws.{quota_due}
-use Rattle.fsrm_engine.proofs.steps.StepLaws.{refused_as, done_settled}
-use Rattle.fsrm_engine.proofs.steps.WholeLaws.{sound_ended}
+use Rattle.fsrm_model.specs.QuotaStates.{in_state, state_after}
+use Rattle.fsrm_model.specs.Thresholds.{may_be_removed, percent_of}
+use Rattle.fsrm_engine.specs.Faults.{table_refusal, text_room}
+use Rattle.fsrm_engine.specs.Machine.{rows_of}
+use Rattle.fsrm_engine.proofs.steps.StepLaws.{refused_as}
+use Rattle.fsrm_engine.proofs.tables.ModifyLaws.{changed_legal, changed_row, changed_still, changed_there, changed_unused, changed_whole, modified_as, ran_by}
+use Rattle.fsrm_engine.proofs.tables.QuotaLaws.{first_bare}
+use Rattle.fsrm_engine.proofs.tables.RanLaws.{sound_run}
+use Rattle.fsrm_engine.proofs.tables.RoomLaws.{modify_due, modify_missing, percents_ascend, refused_for_as}
+use Rattle.fsrm_engine.proofs.tables.StateLaws.{quota_first}
 use Rattle.fsrm_engine.proofs.parts.Parts.quota_modify.Goals as goal
 
 pub returns-in-Err-clause-ok : goal.returns-in-Err-clause-ok
 returns-in-Err-clause-ok g c =
-    refused_as c.args.self.now c.args.moment (QuotaModify c.args.path.now c.args.limit c.args.enforce c.args.enabled [] [] []) c.refused.result _ c.requires.after c.in-Err.ensures.err c.refused.ensures
+    let R = rows_of c.args.self.now in
+    refused_as c.args.self.now c.args.moment (QuotaModify c.args.path.now c.args.limit c.args.enforce c.args.enabled c.args.change.now.removed.now c.args.change.now.percents.now c.args.change.now.notices.now) c.refused.result _ c.requires.idle c.requires.after
+    (quota_first R c.args.path.now _ _ c.in-Err.ensures.err) (first_bare R c.args.path.now _ c.in-Err.ensures.err) c.refused.ensures
+
+pub modified-requires : goal.modified-requires
+modified-requires g c =
+    let q = c.in-Ok.quota.now in
+    ap (λ (r : QuotaRow). is_ascending percent_of r.thresholds) c.in_ok-before.ensures
+    ∙ percents_ascend q.thresholds (c.requires.whole.sound.counted.are_quotas.thresholds q.folder q c.in-Ok.ensures.ok.found)
+
+pub may_put-requires-clause-there : goal.may_put-requires-clause-there
+may_put-requires-clause-there g c =
+    let change = c.args.change.now in
+    changed_there change.removed.now change.percents.now change.notices.now c.args.limit c.args.enforce c.in-Ok.quota.now c.in_ok-before.before c.in_ok-row.row c.in_ok-before.ensures c.in_ok-row.ensures c.args.self.now.objects.quotas c.in-Ok.ensures.ok.found
+
+pub may_put-requires-clause-thresholds : goal.may_put-requires-clause-thresholds
+may_put-requires-clause-thresholds g c =
+    let change = c.args.change.now in
+    let q = c.in-Ok.quota.now in
+    changed_legal change.removed.now change.percents.now change.notices.now c.args.limit c.args.enforce q c.in_ok-before.before c.in_ok-row.row c.in_ok-before.ensures c.in_ok-row.ensures
+    (c.requires.whole.sound.counted.are_quotas.thresholds q.folder q c.in-Ok.ensures.ok.found) c.requires.percents c.requires.notices
+
+pub returns-in-Err-may_put-clause-ok : goal.returns-in-Err-may_put-clause-ok
+returns-in-Err-may_put-clause-ok g c =
+    let p = c.args.self.now in
+    let change = c.args.change.now in
+    let q = c.in-Ok.quota.now in
+    let state = c.state_after-row.result in
+    let may : may_be_removed change.removed.now q.thresholds ≡ true = ap (may_be_removed change.removed.now) (sym c.as_slice.ensures) ∙ (sym c.may_be_removed.ensures ∙ c.if-not-may_be_removed.false) in
+    refused_for_as p c.args.moment (QuotaModify c.args.path.now c.args.limit c.args.enforce c.args.enabled change.removed.now change.percents.now change.notices.now) c.in-Err-may_put.fault c.refused_for.result c.requires.idle c.requires.after
+    (modify_due p c.args.moment c.args.path.now c.args.limit c.args.enforce c.args.enabled change.removed.now change.percents.now change.notices.now q c.in-Ok.ensures.ok state (in_state state c.in_ok-row.row) c.requires.whole may
+    (c.state_after-row.ensures.state ∙ ap (λ (r : QuotaRow). state_after (rows_of p) r.folder c.args.enabled) c.in_ok-before.ensures)
+    (changed_row change.removed.now change.percents.now change.notices.now c.args.limit c.args.enforce q c.in_ok-before.before c.in_ok-row.row c.in_ok-before.ensures c.in_ok-row.ensures state)
+    ∙ ap (option_and_then table_refusal) c.in-Err-may_put.ensures.refused) c.refused_for.ensures.ok
 
 pub replace-requires-clause-there : goal.replace-requires-clause-there
 replace-requires-clause-there g c =
-    let R = rows_of c.args.self.now in
-    let q = c.in-Ok.quota.now in
-    let n = q.folder in
-    let is : c.in_ok-row.row.folder ≡ n = ap (λ (r : QuotaRow). r.folder) c.in_ok-row.ensures in
-    ap (λ k. has_row folder_of k R.quotas) is ∙ found_has folder_of n R.quotas q c.in-Ok.ensures.ok.found
+    let change = c.args.change.now in
+    changed_there change.removed.now change.percents.now change.notices.now c.args.limit c.args.enforce c.in-Ok.quota.now c.in_ok-before.before c.in_ok-row.row c.in_ok-before.ensures c.in_ok-row.ensures c.args.self.now.objects.quotas c.in-Ok.ensures.ok.found
 
-pub replace-requires-clause-folder : goal.replace-requires-clause-folder
-replace-requires-clause-folder g c =
-    let R = rows_of c.args.self.now in
+pub replace-requires-clause-thresholds : goal.replace-requires-clause-thresholds
+replace-requires-clause-thresholds g c =
+    let p = c.args.self.now in
+    let change = c.args.change.now in
     let q = c.in-Ok.quota.now in
-    let n = q.folder in
-    let is : c.in_ok-row.row.folder ≡ n = ap (λ (r : QuotaRow). r.folder) c.in_ok-row.ensures in
-    ap (λ k. is_folder R.nodes k) is ∙ c.in-Ok.ensures.ok.at.folder
-
-pub replace-requires-clause-peak : goal.replace-requires-clause-peak
-replace-requires-clause-peak g c quota found =
-    let R = rows_of c.args.self.now in
-    let q = c.in-Ok.quota.now in
-    let n = q.folder in
-    let is : c.in_ok-row.row.folder ≡ n = ap (λ (r : QuotaRow). r.folder) c.in_ok-row.ensures in
-    ap (λ (r : QuotaRow). r.peak) c.in_ok-row.ensures
-    ∙ ap (λ (r : QuotaRow). r.peak) (same_Some q quota (sym c.in-Ok.ensures.ok.found ∙ (ap (λ k. row_of folder_of k R.quotas) (sym is) ∙ found)))
+    changed_whole change.removed.now change.percents.now change.notices.now c.args.limit c.args.enforce q c.in_ok-before.before c.in_ok-row.row c.in_ok-before.ensures c.in_ok-row.ensures
+    p.objects (text_room p) c.state_after-row.result (c.requires.whole.sound.counted.are_quotas.thresholds q.folder q c.in-Ok.ensures.ok.found) c.requires.percents c.requires.notices c.in_default.ensures.may
 
 pub replace-requires-clause-nothing : goal.replace-requires-clause-nothing
-replace-requires-clause-nothing g c quota found was t =
-    let R = rows_of c.args.self.now in
-    let K = c.args.self.now.tree.size in
-    let q = c.in-Ok.quota.now in
-    let n = q.folder in
-    let is : c.in_ok-row.row.folder ≡ n = ap (λ (r : QuotaRow). r.folder) c.in_ok-row.ensures in
-    ap (λ k. usage K R.nodes k) is
-    ∙ empty_folder K R.nodes n c.requires.whole.sound.counted.volume c.in-Ok.ensures.ok.at.folder
-    (after_empty R n c.args.enabled
-    (ap (λ (o : Option QuotaRow). is_complete (option_map_or (λ quota. quota.state) o Disabled)) (ap (λ k. row_of folder_of k R.quotas) (sym is) ∙ found) ∙ was)
-    (sym (ap is_complete c.state_after-row.ensures.state) ∙ t))
+replace-requires-clause-nothing g c old found was t =
+    let p = c.args.self.now in
+    let change = c.args.change.now in
+    changed_unused change.removed.now change.percents.now change.notices.now c.args.limit c.args.enforce c.in-Ok.quota.now c.in_ok-before.before c.in_ok-row.row c.in_ok-before.ensures c.in_ok-row.ensures
+    p c.state_after-row.result c.args.enabled old c.requires.whole.sound.counted.volume c.in-Ok.ensures.ok.at.folder
+    (c.state_after-row.ensures.state ∙ ap (λ (r : QuotaRow). state_after (rows_of p) r.folder c.args.enabled) c.in_ok-before.ensures) found was t
+
+pub settle_quota-requires-clause-there : goal.settle_quota-requires-clause-there
+settle_quota-requires-clause-there g c =
+    let p = c.args.self.now in
+    let change = c.args.change.now in
+    changed_still change.removed.now change.percents.now change.notices.now c.args.limit c.args.enforce c.in-Ok.quota.now c.in_ok-before.before c.in_ok-row.row c.in_ok-before.ensures c.in_ok-row.ensures
+    p c.replace.new.self c.state_after-row.result _ c.in_ok-replace.ensures.replaced c.requires.whole.sound.counted.are_quotas.ascending c.in-Ok.ensures.ok.found
 
 pub returns-clause-ok : goal.returns-clause-ok
 returns-clause-ok g c =
-    let R = rows_of c.args.self.now in
+    let p = c.args.self.now in
+    let mid = c.replace.new.self in
+    let change = c.args.change.now in
     let q = c.in-Ok.quota.now in
-    let n = q.folder in
-    let at = c.in-Ok.ensures.ok in
-    let is : c.in_ok-row.row.folder ≡ n = ap (λ (r : QuotaRow). r.folder) c.in_ok-row.ensures in
     let state = c.state_after-row.result in
-    done_settled c.args.self.now c.replace.new.self c.done.new.self c.args.moment (QuotaModify c.args.path.now c.args.limit c.args.enforce c.args.enabled [] [] []) c.done.result (with_other R (in_state state c.in_ok-row.row)) c.requires.after
-    (quota_due R _ _ at)
-    (ap (λ k. with_state (record R { quotas = with_change folder_of k (modified c.args.limit c.args.enforce) R.quotas }) k (state_after R k c.args.enabled)) (target_is R.nodes c.args.path.now n at.at.resolved)
-    ∙ (ap (λ s. with_state (record R { quotas = with_change folder_of n (modified c.args.limit c.args.enforce) R.quotas }) n s) (sym c.state_after-row.ensures.state)
-    ∙ (ap (λ (qs : List QuotaRow). record R { quotas = qs; queue = queued R.queue n state }) (modified_to R n c.args.limit c.args.enforce state q c.requires.whole.sound.counted.are_quotas.ascending at.found)
-    ∙ (ap (λ (r : QuotaRow). record R { quotas = with_change folder_of n (λ old. in_state state r) R.quotas; queue = queued R.queue n state }) (sym c.in_ok-row.ensures)
-    ∙ ap (λ k. record R { quotas = with_change folder_of k (λ old. in_state state c.in_ok-row.row) R.quotas; queue = queued R.queue k state }) (sym is)))))
-    refl refl c.in_ok-replace.ensures.replaced c.done.ensures.ended c.done.ensures.answer
-
-pub returns-clause-sound : goal.returns-clause-sound
-returns-clause-sound g c = sound_ended c.replace.new.self c.done.new.self c.args.moment c.done.ensures.ended c.done.ensures.counted c.replace.ensures.sound.scanning
-
-pub replace-requires-clause-plain : goal.replace-requires-clause-plain
-replace-requires-clause-plain g c =
-    let R = rows_of c.args.self.now in
-    let q = c.in-Ok.quota.now in
-    let n = q.folder in
-    ap (λ (r : QuotaRow). r.thresholds) c.in_ok-row.ensures
-    ∙ no_thresholds q (all_found is_plain (λ r. folder_of r == n) R.quotas q c.requires.whole.valid.tables.plain c.in-Ok.ensures.ok.found)
+    let may : may_be_removed change.removed.now q.thresholds ≡ true = ap (may_be_removed change.removed.now) (sym c.as_slice.ensures) ∙ (sym c.may_be_removed.ensures ∙ c.if-not-may_be_removed.false) in
+    modified_as p mid c.settle_quota.new.self c.done.new.self c.args.moment c.args.path.now c.args.limit c.args.enforce c.args.enabled change.removed.now change.percents.now change.notices.now q (in_state state c.in_ok-row.row) state c.in-Ok.ensures.ok c.done.result
+    (changed_row change.removed.now change.percents.now change.notices.now c.args.limit c.args.enforce q c.in_ok-before.before c.in_ok-row.row c.in_ok-before.ensures c.in_ok-row.ensures state)
+    (c.state_after-row.ensures.state ∙ ap (λ (r : QuotaRow). state_after (rows_of p) r.folder c.args.enabled) c.in_ok-before.ensures)
+    may c.requires.whole c.requires.idle c.requires.after c.in_default.ensures.may c.in_ok-replace.ensures.replaced c.replace.ensures.sound.counted
+    (ran_by p mid c.settle_quota.new.self c.args.moment q c.in_ok-before.before c.used-used.result c.in_ok-before.ensures c.used-used.ensures c.settle_quota.ensures.settled) c.done.ensures.ended c.done.ensures.answer

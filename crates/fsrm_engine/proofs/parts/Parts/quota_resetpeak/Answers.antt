@@ -1,13 +1,16 @@
-use Rattle.std.proofs.Common.{refl, ap, ◌∙◌}
-use Rattle.std.specs.Prelude.{unwrap_or}
+use Rattle.std.proofs.Common.{◌==◌, refl, ap, ◌∙◌}
+use Rattle.std.specs.Prelude.{unwrap_or, if◌then◌else◌}
 use Rattle.fsrm_model.specs.declared.command.Deed.TheVariants.{QuotaResetpeak}
 use Rattle.fsrm_model.specs.Quota.{folder_of}
 use Rattle.fsrm_model.specs.QuotaWork.{reset}
 use Rattle.fsrm_base.proofs.Look.{found_has}
 use Rattle.fsrm_objects.specs.Tables.{Tables}
+use Rattle.fsrm_engine.specs.declared.parts.Parts.{Parts}
 use Rattle.fsrm_engine.specs.Machine.{rows_of}
-use Rattle.fsrm_engine.proofs.tables.QuotaLaws.{counted_same, counted_reset, reset_is, changed_as}
-use Rattle.fsrm_engine.proofs.steps.StepLaws.{refused_as}
+use Rattle.fsrm_engine.proofs.tables.QuotaLaws.{counted_same, counted_reset, first_bare, reset_folder, reset_is, reset_limit, reset_thresholds, changed_as}
+use Rattle.fsrm_engine.proofs.steps.StepLaws.{done_as, refused_as}
+use Rattle.fsrm_engine.proofs.settling.CalmLaws.{calm_mapped}
+use Rattle.fsrm_engine.proofs.settling.EndLaws.{few_log}
 use Rattle.fsrm_engine.proofs.steps.WholeLaws.{sound_ended}
 use Rattle.fsrm_engine.proofs.parts.Parts.quota_resetpeak.Goals as goal
 
@@ -26,15 +29,21 @@ done-requires-clause-counted g c =
 
 pub returns-in-Err-clause-ok : goal.returns-in-Err-clause-ok
 returns-in-Err-clause-ok g c =
-    refused_as c.args.self.now c.args.moment (QuotaResetpeak c.args.path.now) c.refused.result _ c.requires.after c.in-Err.ensures.err c.refused.ensures
+    refused_as c.args.self.now c.args.moment (QuotaResetpeak c.args.path.now) c.refused.result _ c.requires.idle c.requires.after c.in-Err.ensures.err (first_bare (rows_of c.args.self.now) c.args.path.now _ c.in-Err.ensures.err) c.refused.ensures
 
 pub returns-clause-ok : goal.returns-clause-ok
 returns-clause-ok g c =
     let p = c.args.self.now in
     let is = ap (λ (t : Tables). t.quotas) c.set_peak.ensures
     ∙ reset_is p c.args.moment c.in-Ok.quota.now.folder _ c.requires.whole.sound.counted (c.unwrap_or-used.ensures ∙ ap (λ o. unwrap_or o 0) c.used.ensures) in
-    changed_as p c.done.new.self c.args.moment c.in-Ok.quota.now (QuotaResetpeak c.args.path.now) _ c.args.path.now (reset p.tree.size (rows_of p) c.args.moment) c.set_peak.new.self c.requires.after
-    c.in-Ok.ensures.ok refl is c.done.ensures.ended c.done.ensures.answer
+    let n = c.in-Ok.quota.now.folder in
+    let mid : Parts = record p { objects = c.set_peak.new.self } in
+    done_as p mid c.done.new.self c.args.moment (QuotaResetpeak c.args.path.now) c.done.result
+    (changed_as p c.args.moment c.in-Ok.quota.now (QuotaResetpeak c.args.path.now) c.args.path.now (reset p.tree.size (rows_of p) c.args.moment) c.set_peak.new.self c.requires.idle c.requires.after c.in-Ok.ensures.ok refl is)
+    (few_log p c.requires.whole)
+    (calm_mapped p mid c.args.moment (λ q. if folder_of q == n then reset p.tree.size (rows_of p) c.args.moment q else q) c.requires.whole.sound.counted (counted_same p.tree.size p.tree.nodes p.usage _ c.set_peak.new.self.quotas is (counted_reset p c.args.moment n c.requires.whole.sound.counted c.requires.moment)) refl is refl
+    (λ q. reset_folder p c.args.moment (folder_of q == n) q) (λ q. reset_limit p c.args.moment (folder_of q == n) q) (λ q. reset_thresholds p c.args.moment (folder_of q == n) q))
+    c.done.ensures.ended c.done.ensures.answer
 
 pub returns-clause-sound : goal.returns-clause-sound
 returns-clause-sound g c =

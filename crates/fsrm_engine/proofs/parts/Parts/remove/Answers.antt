@@ -7,20 +7,23 @@ use Rattle.fsrm_base.proofs.TestLaws.{is_inner}
 use Rattle.fsrm_model.specs.Quota.{folder_of}
 use Rattle.fsrm_model.specs.Tree.{number}
 use Rattle.volume_tree.specs.Volume.{Volume}
+use Rattle.fsrm_engine.specs.declared.parts.Parts.{Parts}
 use Rattle.scan_queue.proofs.Leaving.{file_children}
-use Rattle.fsrm_engine.proofs.operations.IdleLaws.{may_go, file_goes, idle_charged, looks_at_file}
+use Rattle.fsrm_engine.proofs.operations.IdleLaws.{may_go, file_goes, gone_change, idle_charged, looks_at_file}
 use Rattle.fsrm_engine.proofs.steps.PlaceLaws.{has_resolved, shown_folder, target_is}
 use Rattle.fsrm_engine.proofs.operations.RemoveLaws.{remove_due, remove_root}
 use Rattle.fsrm_engine.proofs.operations.GoingLaws.{no_fault, goes_well}
-use Rattle.fsrm_engine.proofs.steps.StepLaws.{refused_as, tree_first}
-use Rattle.fsrm_engine.proofs.operations.FollowLaws.{goes_to, volume_is, shown_length, when_ok, file_absent, remove_queue, remove_next, op_done}
+use Rattle.fsrm_engine.proofs.steps.StepLaws.{done_as, refused_as, tree_first}
+use Rattle.fsrm_engine.proofs.operations.FollowLaws.{goes_to, volume_is, shown_length, when_ok, file_absent, remove_queue, remove_next, op_accepts}
+use Rattle.fsrm_engine.proofs.operations.GoneLaws.{calm_gone}
+use Rattle.fsrm_engine.proofs.settling.EndLaws.{few_log}
 use Rattle.fsrm_engine.proofs.steps.WholeLaws.{sound_ended}
 use Rattle.fsrm_engine.proofs.parts.Parts.remove.Goals as goal
 
 pub returns-then-node-eq0-clause-ok : goal.returns-then-node-eq0-clause-ok
 returns-then-node-eq0-clause-ok g c =
-    refused_as c.args.self.now c.args.moment (File (Remove c.args.path.now)) _ _ c.requires.after
-    (remove_root c.args.self.now c.args.moment _ _ c.requires.whole.sound.counted.volume (sym c.in-Some.ensures.value) c.if-node-eq0.true)
+    refused_as c.args.self.now c.args.moment (File (Remove c.args.path.now)) _ _ c.requires.idle c.requires.after
+    (remove_root c.args.self.now c.args.moment _ _ c.requires.whole.sound.counted.volume (sym c.in-Some.ensures.value) c.if-node-eq0.true) refl
     c.refused-then-node-eq0.ensures
 
 pub node-view-requires : goal.node-view-requires
@@ -82,14 +85,20 @@ returns-clause-ok g c =
     let may = may_go p.tree n inner (has_resolved _ _ _ _ e.volume at) fault in
     let made = when_ok _ _ c.unwrap.ensures c.remove.ensures.made in
     let goes = file_goes p.tree c.remove.new.self p.objects.quotas p.usage n c.allocated.result c.node-view.result e may file made c.remove.ensures.kept c.node-view.ensures.view c.allocated.ensures.space in
-    op_done p (record p { tree = c.remove.new.self; scans = c.follow_remove.new.self; usage = c.charge.new.self }) c.done.new.self c.args.moment (Remove c.args.path.now) c.done.result p.objects.quotas _ c.requires.after
+    let gone = gone_change c.node-view.result.parent c.allocated.result in
+    let mid : Parts = record p { tree = c.remove.new.self; scans = c.follow_remove.new.self; usage = c.charge.new.self } in
+    let size = ap (λ (w : Volume). w.size) made in
+    done_as p mid c.done.new.self c.args.moment (File (Remove c.args.path.now)) c.done.result
+    (op_accepts p mid c.args.moment (Remove c.args.path.now) p.objects.quotas _ c.requires.idle c.requires.after
     (remove_due p c.args.moment _ _ e.volume at inner ∙ ap (λ o. tree_first o None) fault)
     (ap (λ n. without_row number n p.tree.nodes) to ∙ sym (ap (λ (w : Volume). w.nodes) made))
     (ap (λ n. without_row folder_of n p.objects.quotas) to ∙ goes.no_quota)
     (remove_queue p c.args.moment c.args.path.now n at ∙ file_absent p.tree p.scans n c.requires.whole.sound.scanning file)
     (remove_next p c.args.path.now n (plain p.tree.nodes (Remove c.args.path.now) c.args.moment) at)
     (goes_to _ _ c.remove.new.self _ _ made (c.follow_remove.ensures.follows (volume_is _ _ made c.remove.ensures.kept)))
-    (ap (λ (w : Volume). w.size) made) refl c.done.ensures.ended c.done.ensures.answer
+    (record { size = size; marks = refl; crossing = refl; run_limit = refl; last_moment = refl }) refl)
+    (few_log p c.requires.whole) (calm_gone p c.remove.new.self c.follow_remove.new.self c.charge.new.self gone c.args.moment refl c.charge.ensures.made size e (idle_charged c.remove.new.self p.objects.quotas p.usage c.charge.new.self n gone goes c.charge.ensures.made))
+    c.done.ensures.ended c.done.ensures.answer
 
 pub returns-clause-sound : goal.returns-clause-sound
 returns-clause-sound g c =

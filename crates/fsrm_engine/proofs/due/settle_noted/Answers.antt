@@ -1,0 +1,55 @@
+use Rattle.std.proofs.Common.{◌≡◌, rules, refl, ap, sym, ◌∙◌, subst}
+use Rattle.std.specs.Prelude.{option_map}
+use Rattle.number_set.specs.Numbers.{Numbers, no_numbers}
+use Rattle.fsrm_engine.specs.Crossing.{gained_acts, used_before}
+use Rattle.fsrm_engine.proofs.settling.SettledLaws.{Settled, at_place_has, gained_used, least_in, less_left, none_least, settled_all, settled_next, settled_none}
+use Rattle.fsrm_engine.proofs.due.settle_noted.Goals as goal
+
+pub loop-place-init : goal.loop-place-init
+loop-place-init c = record {
+  settled = settled_none (gained_acts c.args.usage.now c.args.minus c.args.plus c.args.run_limit c.args.moment) c.args.moment c.args.marks.now c.args.objects.now c.args.crossing.now.members c.requires.log c.requires.marked c.requires.noted c.requires.orderly c.requires.within;
+  sorted = c.requires.sorted;
+  bound = refl;
+}
+
+pub quota_at-requires : goal.quota_at-requires
+quota_at-requires c = c.loop-place.invariant.settled.within c.in-Some.place (least_in c.loop-place.crossing.members c.in-Some.place (sym c.least.ensures ∙ c.in-Some.is))
+
+pub settle-requires-clause-quota : goal.settle-requires-clause-quota
+settle-requires-clause-quota c = at_place_has c.loop-place.objects.quotas c.in-Some.place c.quota_at.result.now c.loop-place.invariant.settled.orderly_now c.quota_at.ensures
+
+pub settle-requires-clause-orderly : goal.settle-requires-clause-orderly
+settle-requires-clause-orderly c = c.loop-place.invariant.settled.orderly_now
+
+pub settle-requires-clause-marked : goal.settle-requires-clause-marked
+settle-requires-clause-marked c = c.loop-place.invariant.settled.settles.there
+
+pub loop-place-smaller : goal.loop-place-smaller
+loop-place-smaller c =
+    less_left c.loop-place.crossing.members c.remove.new.self.members c.in-Some.place (sym c.least.ensures ∙ c.in-Some.is) (ap (λ (n : Numbers). n.members) c.remove.ensures)
+
+pub loop-place-preserved : goal.loop-place-preserved
+loop-place-preserved c =
+    let f = gained_acts c.args.usage.now c.args.minus c.args.plus c.args.run_limit c.args.moment in
+    let q = c.quota_at.result.now in
+    let before : c.map-before.result ≡ option_map (used_before c.args.minus c.args.plus) c.used-used.result = search rules in
+    let is = gained_used c.args.usage.now c.args.minus c.args.plus c.args.run_limit c.args.moment q c.map-before.result c.used-used.result c.used-used.ensures before in
+    record {
+      settled = subst (Settled f c.args.moment c.args.marks.now c.settle.new.self c.args.objects.now c.settle.new.objects c.args.crossing.now.members) (sym (ap (λ (n : Numbers). n.members) c.remove.ensures))
+          (settled_next f c.args.moment c.args.marks.now c.loop-place.marks c.settle.new.self c.args.objects.now c.loop-place.objects c.settle.new.objects c.args.crossing.now.members c.loop-place.crossing.members c.in-Some.place q
+          c.loop-place.invariant.settled (sym c.least.ensures ∙ c.in-Some.is) c.quota_at.ensures c.map-before.result c.used-used.result c.args.run_limit is c.settle.ensures.settled);
+      sorted = c.settle.ensures.sorted;
+      bound = ap (λ (n : Numbers). n.bound) c.remove.ensures ∙ c.loop-place.invariant.bound;
+    }
+
+pub returns-clause-settled : goal.returns-clause-settled
+returns-clause-settled c =
+    settled_all (gained_acts c.args.usage.now c.args.minus c.args.plus c.args.run_limit c.args.moment) c.args.moment c.args.marks.now c.loop-place.marks c.args.objects.now c.loop-place.objects c.args.crossing.now.members c.loop-place.crossing.members c.loop-place.invariant.settled
+    (none_least c.loop-place.crossing.members (sym c.least.ensures ∙ c.in_default.is))
+
+pub returns-clause-sorted : goal.returns-clause-sorted
+returns-clause-sorted c = c.loop-place.invariant.sorted
+
+pub returns-clause-none : goal.returns-clause-none
+returns-clause-none c =
+    ap (λ ns. record c.loop-place.crossing { members = ns }) (none_least c.loop-place.crossing.members (sym c.least.ensures ∙ c.in_default.is)) ∙ ap no_numbers c.loop-place.invariant.bound

@@ -1,0 +1,51 @@
+-- What goes makes nothing due.
+use Rattle.std.proofs.Common.{◌≡◌, ℕ, ◌+◌, ◌-◌, ◌≤◌, cond, List, [], Option, Some, None, refl, ap, sym, ◌∙◌, subst, arith}
+use Rattle.std.specs.Prelude.{map, option_map}
+use Rattle.fsrm_base.specs.Keyed.{row_of, without_row}
+use Rattle.fsrm_base.proofs.Look.{row_of-without}
+use Rattle.fsrm_model.specs.declared.row.QuotaRow.{QuotaRow}
+use Rattle.fsrm_model.specs.Quota.{folder_of}
+use Rattle.quota_usage.specs.declared.change.Change.{Change}
+use Rattle.quota_usage.specs.declared.change.Counter.{Counter}
+use Rattle.quota_usage.specs.Charge.{charged, charged_counter, is_above}
+use Rattle.quota_usage.specs.Counters.{counted, used_in, without_counter}
+use Rattle.scan_queue.specs.Courses.{Course}
+use Rattle.volume_tree.specs.Volume.{Volume}
+use Rattle.fsrm_engine.specs.declared.parts.Parts.{Parts}
+use Rattle.fsrm_engine.specs.Machine.{AreCounted}
+use Rattle.fsrm_engine.proofs.operations.IdleLaws.{left_found}
+use Rattle.fsrm_engine.proofs.settling.CalmLaws.{AtMost, at_most_own, calm_less}
+use Rattle.fsrm_engine.proofs.settling.EndLaws.{due_of}
+use Rattle.fsrm_engine.proofs.settling.GainLaws.{used_charged}
+
+-- a file, which gives bytes to no folder
+pub calm_gone : (p : Parts) (w : Volume) (s : Course) (counters : List Counter) (change : Change) (m : ℕ) → change.to ≡ None → counters ≡ map (charged_counter w.nodes change) p.usage → w.size ≡ p.tree.size → AreCounted p → AreCounted (record p { tree = w; scans = s; usage = counters }) → due_of p (record p { tree = w; scans = s; usage = counters }) m ≡ []
+calm_gone p w s counters change m none made size c d =
+    calm_less p (record p { tree = w; scans = s; usage = counters }) m c d size
+    (λ q found. record { old = q; found = found; limit = refl; thresholds = refl })
+    (λ q found. subst (λ (cs : List Counter). AtMost (used_in cs q.folder) (used_in p.usage q.folder)) (sym made)
+    (subst (λ o. AtMost o (used_in p.usage q.folder)) (sym (used_charged w.nodes change p.usage q.folder)) (at q.folder (used_in p.usage q.folder))))
+  where
+    less : (f b : ℕ) → charged w.nodes change f b ≤ b
+    less f b =
+        let nothing = ap (λ o. cond (is_above w.nodes o f) change.plus 0) none in
+        omega (arith, nothing)
+
+    at : (f : ℕ) (o : Option ℕ) → AtMost (option_map (charged w.nodes change f) o) o
+    at f None = tt
+    at f (Some b) = less f b
+
+-- a folder with its quota
+pub calm_without : (p mid : Parts) (m n : ℕ) → AreCounted p → AreCounted mid → mid.tree.size ≡ p.tree.size → mid.objects.quotas ≡ without_row folder_of n p.objects.quotas → mid.usage ≡ without_counter p.usage n → due_of p mid m ≡ []
+calm_without p mid m n c d size quotas counters =
+    calm_less p mid m c d size
+    (λ q found. record { old = q; found = (left_found folder_of n q.folder p.objects.quotas q (now q found)).found; limit = refl; thresholds = refl })
+    (λ q found. subst (λ o. AtMost o (used_in p.usage q.folder)) (sym (same q found)) (at_most_own (used_in p.usage q.folder)))
+  where
+    now : (q : QuotaRow) → row_of folder_of q.folder mid.objects.quotas ≡ Some q → row_of folder_of q.folder (without_row folder_of n p.objects.quotas) ≡ Some q
+    now q found = subst (λ (qs : List QuotaRow). row_of folder_of q.folder qs ≡ Some q) quotas found
+
+    same : (q : QuotaRow) → row_of folder_of q.folder mid.objects.quotas ≡ Some q → used_in mid.usage q.folder ≡ used_in p.usage q.folder
+    same q found =
+        ap (λ cs. used_in cs q.folder) counters
+        ∙ ap (option_map (λ (r : Counter). r.bytes)) (row_of-without counted n q.folder p.usage (left_found folder_of n q.folder p.objects.quotas q (now q found)).other)

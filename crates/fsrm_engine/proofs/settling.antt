@@ -1,0 +1,16 @@
+pub mod OrderlyQuotas
+pub mod OrderedActs
+pub mod MarkLaws
+pub mod EndLaws
+pub mod DueLaws
+pub mod CalmLaws
+pub mod ChangedDue
+pub mod RefuseLaws
+pub mod PlaceLaws
+pub mod GainLaws
+pub mod NoteLaws
+pub mod ChargeLaws
+pub mod ClimbNotes
+pub mod SettledLaws
+pub mod TurnedCalm
+pub mod ActTexts

@@ -1,0 +1,26 @@
+-- The quotas of a store are in order.
+use Rattle.std.proofs.Common.{◌≡◌, true, ◌&&◌, not, nat_le, List, length}
+use Rattle.std.specs.List.{list_all}
+use Rattle.fsrm_base.specs.Keyed.{is_ascending}
+use Rattle.fsrm_base.proofs.Members.{all_pass}
+use Rattle.fsrm_base.proofs.TestLaws.{both, both_true, le_test}
+use Rattle.fsrm_model.specs.declared.row.NodeRow.{NodeRow}
+use Rattle.fsrm_model.specs.declared.row.QuotaRow.{QuotaRow}
+use Rattle.fsrm_model.specs.Limits.{most_quotas}
+use Rattle.fsrm_model.specs.Quota.{folder_of}
+use Rattle.fsrm_model.specs.Raises.{are_ascending}
+use Rattle.fsrm_model.specs.Thresholds.{percent_of, are_too_many, is_threshold}
+use Rattle.fsrm_model.specs.Valid.{AreQuotas}
+use Rattle.thresholds.specs.Settled.{are_orderly, has_orderly_lists}
+
+pub quotas_orderly : (nodes : List NodeRow) (quotas : List QuotaRow) → AreQuotas nodes quotas → are_orderly quotas ≡ true
+quotas_orderly nodes quotas a =
+    both_true (is_ascending folder_of quotas && nat_le (length quotas) most_quotas) (list_all has_orderly_lists quotas)
+    (both_true (is_ascending folder_of quotas) (nat_le (length quotas) most_quotas) a.ascending (le_test (length quotas) most_quotas a.few))
+    (all_pass folder_of has_orderly_lists quotas a.ascending (λ q own. (both (has_orderly_lists q) (list_all is_threshold q.thresholds) (a.thresholds q.folder q own)).0))
+
+pub quotas_ascending : (nodes : List NodeRow) (quotas : List QuotaRow) → AreQuotas nodes quotas → are_ascending quotas ≡ true
+quotas_ascending nodes quotas a =
+    both_true (is_ascending folder_of quotas) (list_all (λ quota. is_ascending percent_of quota.thresholds) quotas) a.ascending
+    (all_pass folder_of (λ quota. is_ascending percent_of quota.thresholds) quotas a.ascending
+    (λ q own. (both (is_ascending percent_of q.thresholds) (not (are_too_many q.thresholds)) (both (has_orderly_lists q) (list_all is_threshold q.thresholds) (a.thresholds q.folder q own)).0).0))

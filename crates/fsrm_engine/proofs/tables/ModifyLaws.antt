@@ -1,0 +1,170 @@
+-- Quotas that commands make and change.
+use Rattle.std.proofs.Common.{◌≡◌, ℕ, ◌≤◌, ◌==◌, Bool, true, false, List, [], Option, Some, None, refl, ap, sym, ◌∙◌, subst}
+use Rattle.std.specs.Prelude.{unwrap_or, Result, IfOk, if◌then◌else◌}
+use Rattle.std.specs.List.{list_all}
+use Rattle.std.specs.Option.{option_and_then, option_map_or}
+use Rattle.fsrm_base.specs.declared.memory.NoMemory.{NoMemory as Wanting}
+use Rattle.fsrm_base.specs.Keyed.{has_row, is_ascending, row_of, with_row, with_change}
+use Rattle.fsrm_base.proofs.Look.{found_has, has_row-change}
+use Rattle.fsrm_model.specs.declared.command.Added.{Added}
+use Rattle.fsrm_model.specs.declared.command.Answer.{Answer}
+use Rattle.fsrm_model.specs.declared.command.Deed.{Deed}
+use Rattle.fsrm_model.specs.declared.command.Deed.TheVariants.{QuotaAdd, QuotaModify}
+use Rattle.fsrm_model.specs.declared.command.Outcome.TheVariants.{Done}
+use Rattle.fsrm_model.specs.declared.row.Capacity.{Capacity}
+use Rattle.fsrm_model.specs.declared.row.NodeRow.{NodeRow}
+use Rattle.fsrm_model.specs.declared.row.QuotaRow.{QuotaRow}
+use Rattle.fsrm_model.specs.declared.row.QuotaState.{QuotaState}
+use Rattle.fsrm_model.specs.declared.row.QuotaState.TheVariants.{Disabled}
+use Rattle.fsrm_model.specs.Quota.{folder_of, counts, is_complete, is_limit}
+use Rattle.fsrm_model.specs.QuotaStates.{in_state, queued, start, state_after, with_quota, with_state}
+use Rattle.fsrm_model.specs.QuotaWork.{modified, new_quota, remarked}
+use Rattle.fsrm_model.specs.Thresholds.{are_thresholds, changed_thresholds, is_notice, is_percent, is_threshold, may_be_removed, percent_of}
+use Rattle.fsrm_model.specs.Tree.{is_folder, usage}
+use Rattle.fsrm_model.specs.Valid.{IsVolume}
+use Rattle.fsrm_model.proofs.thresholds.ThresholdLaws.{changed_ascending, changed_each}
+use Rattle.fsrm_objects.specs.Tables.{Tables, other_fault, quota_fault}
+use Rattle.fsrm_objects.proofs.FaultLaws.{admitted, short_other}
+use Rattle.quota_usage.specs.Counters.{used_in}
+use Rattle.thresholds.specs.Settled.{due_in}
+use Rattle.fsrm_engine.specs.declared.parts.Parts.{Parts}
+use Rattle.fsrm_engine.specs.Faults.{table_refusal, text_room}
+use Rattle.fsrm_engine.specs.Machine.{AreCounted, Does, IsIdle, IsWhole, Ran, Turned, ended, rows_of}
+use Rattle.fsrm_engine.specs.Places.{IsFolder, IsQuotaAt}
+use Rattle.fsrm_engine.proofs.settling.ChangedDue.{due_changed}
+use Rattle.fsrm_engine.proofs.settling.EndLaws.{few_log}
+use Rattle.fsrm_engine.proofs.settling.TurnedCalm.{calm_added, others_same, turned_nodes, turned_quotas}
+use Rattle.fsrm_engine.proofs.steps.PlaceLaws.{target_is}
+use Rattle.fsrm_engine.proofs.steps.StepLaws.{done_as, done_with, still_few}
+use Rattle.fsrm_engine.proofs.tables.CountingLaws.{put_in, put_is}
+use Rattle.fsrm_engine.proofs.tables.RoomLaws.{add_due, each_threshold, legal_thresholds, modify_due, percents_ascend}
+use Rattle.fsrm_engine.proofs.tables.StateLaws.{after_empty, empty_folder, first_empty, modified_to}
+use Rattle.fsrm_engine.proofs.tables.TurnLaws.{turned_accepts, turned_keeps}
+
+-- ---- a new quota
+-- the row that was made is the one that the command asks for
+pub added_row : (removed percents : List ℕ) (notices : List Added) (n m : ℕ) (limit : Option ℕ) (enforce : Option Bool) (l : ℕ) (e : Bool) (own state : QuotaState) (row : QuotaRow) → row ≡ remarked removed percents notices (new_quota n l e own m) → removed ≡ [] → limit ≡ Some l → e ≡ unwrap_or enforce true → own ≡ state → row ≡ remarked [] percents notices (new_quota n (unwrap_or limit 0) (unwrap_or enforce true) state m)
+added_row removed percents notices n m limit enforce l e own state row is none given enforced same =
+    is
+    ∙ (ap (λ r. remarked r percents notices (new_quota n l e own m)) none
+    ∙ (ap (λ k. remarked [] percents notices (new_quota n k e own m)) (sym (ap (λ (o : Option ℕ). unwrap_or o 0) given))
+    ∙ (ap (λ b. remarked [] percents notices (new_quota n (unwrap_or limit 0) b own m)) enforced
+    ∙ ap (λ s. remarked [] percents notices (new_quota n (unwrap_or limit 0) (unwrap_or enforce true) s m)) same)))
+
+-- what is known of it
+module _ (removed percents : List ℕ) (notices : List Added) (n l m : ℕ) (e : Bool) (state : QuotaState) (row : QuotaRow) (is : row ≡ remarked removed percents notices (new_quota n l e state m)) where
+  pub added_percents : is_ascending percent_of row.thresholds ≡ true
+  added_percents = ap (λ (q : QuotaRow). is_ascending percent_of q.thresholds) is ∙ changed_ascending removed percents notices [] refl
+
+  pub added_each : list_all is_percent percents ≡ true → list_all is_notice notices ≡ true → list_all is_threshold row.thresholds ≡ true
+  added_each percents_are notices_are =
+      ap (λ (q : QuotaRow). list_all is_threshold q.thresholds) is ∙ changed_each removed percents notices [] refl percents_are notices_are
+
+  pub added_thresholds : (tables : Tables) (room : ℕ) → list_all is_percent percents ≡ true → list_all is_notice notices ≡ true → quota_fault tables row room ≡ None → are_thresholds row.thresholds ≡ true
+  added_thresholds tables room percents_are notices_are may =
+      legal_thresholds row.thresholds added_percents (admitted tables row room may).short (added_each percents_are notices_are)
+
+  pub added_limit : (limit : Option ℕ) → limit ≡ Some l → option_map_or is_limit limit false ≡ true → is_limit row.limit ≡ true
+  added_limit limit given legal = ap (λ (q : QuotaRow). is_limit q.limit) is ∙ (sym (ap (λ (o : Option ℕ). option_map_or is_limit o false) given) ∙ legal)
+
+  pub added_unused : (K : Capacity) (nodes : List NodeRow) (enabled : Bool) → IsVolume K nodes → is_folder nodes n ≡ true → state ≡ (if enabled then start nodes n else Disabled) → counts row ≡ true → usage K nodes row.folder ≡ 0
+  added_unused K nodes enabled volume folder state_is =
+      subst (λ (q : QuotaRow). counts q ≡ true → usage K nodes q.folder ≡ 0) (sym is)
+      (λ t. empty_folder K nodes n volume folder (first_empty nodes n enabled (sym (ap is_complete state_is) ∙ t)))
+
+module _ (p mid new : Parts) (m : ℕ) (path : List (List ℕ)) (limit : Option ℕ) (enforce : Option Bool) (enabled : Bool) (percents : List ℕ) (notices : List Added) (n : ℕ) (row : QuotaRow) (at : IsFolder p.tree.nodes path n) where
+  abbrev made_at : ℕ → QuotaRow
+  made_at k = remarked [] percents notices (new_quota k (unwrap_or limit 0) (unwrap_or enforce true) (if enabled then start p.tree.nodes k else Disabled) m)
+
+  pub added_as : (answer : Answer) → row ≡ made_at n → IsWhole p → IsIdle p → p.last_moment ≤ m → quota_fault p.objects row (text_room p) ≡ None → Turned p mid (with_row folder_of row p.objects.quotas) (queued p.scans.queue row.folder row.state) → are_thresholds row.thresholds ≡ true → is_limit row.limit ≡ true → (counts row ≡ true → usage p.tree.size p.tree.nodes row.folder ≡ 0) → new ≡ ended mid m → answer ≡ record { outcome = Done None; lasting = true } → Does p new m (QuotaAdd path limit enforce enabled None percents notices) answer
+  added_as answer is w idle after may t thresholds limits nothing ends e =
+      let R = rows_of p in
+      let deed = QuotaAdd path limit enforce enabled None percents notices in
+      let quotas = with_row folder_of row p.objects.quotas in
+      let queue = queued p.scans.queue row.folder row.state in
+      done_as p mid new m deed answer
+      (turned_accepts p mid m deed quotas queue idle after
+      (add_due p m path limit enforce enabled percents notices n row w at is ∙ ap (option_and_then table_refusal) may)
+      (ap (λ k. with_quota R (made_at k)) (target_is R.nodes path n at.resolved) ∙ ap (with_quota R) (sym is)) refl t)
+      (still_few p mid (turned_keeps p mid quotas queue t) (few_log p w))
+      (calm_added p mid m row queue t (admitted p.objects row (text_room p) may).free thresholds limits nothing) ends e
+
+-- ---- a changed one
+-- what is known of the row that was made of a copy
+module _ (removed percents : List ℕ) (notices : List Added) (limit : Option ℕ) (enforce : Option Bool) (q before row : QuotaRow) (same : before ≡ q) (is : row ≡ remarked removed percents notices (modified limit enforce before)) where
+  pub changed_row : (state : QuotaState) → in_state state row ≡ in_state state (remarked removed percents notices (modified limit enforce q))
+  changed_row state = ap (in_state state) is ∙ ap (λ (r : QuotaRow). in_state state (remarked removed percents notices (modified limit enforce r))) same
+
+  pub changed_folder : row.folder ≡ q.folder
+  changed_folder = ap (λ (r : QuotaRow). r.folder) is ∙ ap (λ (r : QuotaRow). r.folder) same
+
+  pub changed_there : (quotas : List QuotaRow) → row_of folder_of q.folder quotas ≡ Some q → has_row folder_of row.folder quotas ≡ true
+  changed_there quotas found = ap (λ (k : ℕ). has_row folder_of k quotas) changed_folder ∙ found_has folder_of q.folder quotas q found
+
+  pub changed_legal : are_thresholds q.thresholds ≡ true → list_all is_percent percents ≡ true → list_all is_notice notices ≡ true → list_all is_threshold row.thresholds ≡ true
+  changed_legal are percents_are notices_are =
+      ap (λ (r : QuotaRow). list_all is_threshold r.thresholds) is
+      ∙ (ap (λ (r : QuotaRow). list_all is_threshold (changed_thresholds removed percents notices r.thresholds)) same
+      ∙ changed_each removed percents notices q.thresholds (each_threshold q.thresholds are) percents_are notices_are)
+
+  pub changed_whole : (tables : Tables) (room : ℕ) (state : QuotaState) → are_thresholds q.thresholds ≡ true → list_all is_percent percents ≡ true → list_all is_notice notices ≡ true → other_fault tables (in_state state row) room ≡ None → are_thresholds row.thresholds ≡ true
+  changed_whole tables room state are percents_are notices_are may =
+      legal_thresholds row.thresholds
+      (ap (λ (r : QuotaRow). is_ascending percent_of r.thresholds) is
+      ∙ (ap (λ (r : QuotaRow). is_ascending percent_of (changed_thresholds removed percents notices r.thresholds)) same
+      ∙ changed_ascending removed percents notices q.thresholds (percents_ascend q.thresholds are)))
+      (short_other tables (in_state state row) room may) (changed_legal are percents_are notices_are)
+
+  pub changed_unused : (p : Parts) (state : QuotaState) (enabled : Option Bool) (old : QuotaRow) → IsVolume p.tree.size p.tree.nodes → is_folder p.tree.nodes q.folder ≡ true → state ≡ state_after (rows_of p) q.folder enabled → row_of folder_of row.folder p.objects.quotas ≡ Some old → counts old ≡ false → is_complete state ≡ true → usage p.tree.size p.tree.nodes row.folder ≡ 0
+  changed_unused p state enabled old volume folder state_is found was t =
+      ap (usage p.tree.size p.tree.nodes) changed_folder
+      ∙ empty_folder p.tree.size p.tree.nodes q.folder volume folder
+      (after_empty (rows_of p) q.folder enabled
+      (ap (λ (o : Option QuotaRow). is_complete (option_map_or (λ (r : QuotaRow). r.state) o Disabled)) (ap (λ (k : ℕ). row_of folder_of k p.objects.quotas) (sym changed_folder) ∙ found) ∙ was)
+      (sym (ap is_complete state_is) ∙ t))
+
+  -- its folder has a quota still
+  pub changed_still : (p mid : Parts) (state : QuotaState) (queue : List ℕ) → Turned p mid (with_change folder_of row.folder (λ old. in_state state row) p.objects.quotas) queue → is_ascending folder_of p.objects.quotas ≡ true → row_of folder_of q.folder p.objects.quotas ≡ Some q → has_row folder_of before.folder mid.objects.quotas ≡ true
+  changed_still p mid state queue t asc found =
+      ap (λ (r : QuotaRow). has_row folder_of r.folder mid.objects.quotas) same
+      ∙ (ap (has_row folder_of q.folder) (turned_quotas p mid (with_change folder_of row.folder (λ old. in_state state row) p.objects.quotas) queue t ∙ put_is (in_state state row) p.objects.quotas asc)
+      ∙ (has_row-change folder_of row.folder (put_in (in_state state row)) (λ r. refl) q.folder p.objects.quotas ∙ found_has folder_of q.folder p.objects.quotas q found))
+
+-- the acts that ran by a copy of the row that it was
+pub ran_by : (p mid run : Parts) (m : ℕ) (q before : QuotaRow) (used : Option ℕ) → before ≡ q → used ≡ used_in p.usage before.folder → Ran mid run m (due_in mid.objects (Some before) used (used_in mid.usage before.folder) mid.run_limit m before.folder) → Ran mid run m (due_in mid.objects (Some q) (used_in p.usage q.folder) (used_in mid.usage q.folder) mid.run_limit m q.folder)
+ran_by p mid run m q before used same is ran =
+    subst (λ (r : QuotaRow). Ran mid run m (due_in mid.objects (Some r) (used_in p.usage r.folder) (used_in mid.usage r.folder) mid.run_limit m r.folder)) same
+    (subst (λ (o : Option ℕ). Ran mid run m (due_in mid.objects (Some before) o (used_in mid.usage before.folder) mid.run_limit m before.folder)) is ran)
+
+module _ (p mid run new : Parts) (m : ℕ) (path : List (List ℕ)) (limit : Option ℕ) (enforce enabled : Option Bool) (removed percents : List ℕ) (notices : List Added) (q row : QuotaRow) (state : QuotaState) (at : IsQuotaAt p.tree.nodes p.objects.quotas path q) where
+  abbrev change : QuotaRow → QuotaRow
+  change quota = remarked removed percents notices (modified limit enforce quota)
+
+  pub modified_as : (answer : Answer) → row ≡ in_state state (change q) → state ≡ state_after (rows_of p) q.folder enabled → may_be_removed removed q.thresholds ≡ true → IsWhole p → IsIdle p → p.last_moment ≤ m → other_fault p.objects row (text_room p) ≡ None → Turned p mid (with_change folder_of row.folder (λ old. row) p.objects.quotas) (queued p.scans.queue row.folder row.state) → AreCounted mid → Ran mid run m (due_in mid.objects (Some q) (used_in p.usage q.folder) (used_in mid.usage q.folder) mid.run_limit m q.folder) → new ≡ ended run m → answer ≡ record { outcome = Done None; lasting = true } → Does p new m (QuotaModify path limit enforce enabled removed percents notices) answer
+  modified_as answer is state_is may w idle after room t counted ran ends e =
+      let R = rows_of p in
+      let n = q.folder in
+      let asc = w.sound.counted.are_quotas.ascending in
+      let deed = QuotaModify path limit enforce enabled removed percents notices in
+      let quotas = with_change folder_of row.folder (λ old. row) p.objects.quotas in
+      let queue = queued p.scans.queue row.folder row.state in
+      let folder_is : row.folder ≡ n = ap (λ (r : QuotaRow). r.folder) is in
+      let keeps = turned_keeps p mid quotas queue t in
+      let accepts = turned_accepts p mid m deed quotas queue idle after
+      (modify_due p m path limit enforce enabled removed percents notices q at state row w may state_is is ∙ ap (option_and_then table_refusal) room)
+      (ap (λ k. with_state (record R { quotas = with_change folder_of k change R.quotas }) k (state_after R k enabled)) (target_is R.nodes path n at.at.resolved)
+      ∙ (ap (λ s. with_state (record R { quotas = with_change folder_of n change R.quotas }) n s) (sym state_is)
+      ∙ (ap (λ (qs : List QuotaRow). record R { quotas = qs; queue = queued R.queue n state }) (modified_to R n change (λ r. refl) state q asc at.found)
+      ∙ ap (λ (r : QuotaRow). record R { quotas = with_change folder_of r.folder (λ old. r) R.quotas; queue = queued R.queue r.folder r.state }) (sym is)))) refl t in
+      done_with p mid run new m deed answer _ accepts ran
+      (sym (due_changed p mid m n q w.sound.counted counted keeps.size (turned_nodes p mid quotas queue t)
+      (λ folder off. ap (row_of folder_of folder) (turned_quotas p mid quotas queue t ∙ put_is row p.objects.quotas asc)
+      ∙ others_same (put_in row) row.folder p.objects.quotas (λ r. refl) folder (ap (λ k. folder == k) folder_is ∙ off)) at.found)) ends e
+
+-- it is done under the name of the deed, whose lists were lent
+pub modified_named : (old new : Parts) (m : ℕ) (deed : Deed) (result : Result Answer Wanting) (path : List (List ℕ)) (limit : Option ℕ) (enforce enabled : Option Bool) (removed percents r s : List ℕ) (notices t : List Added) → deed ≡ QuotaModify path limit enforce enabled removed percents notices → r ≡ removed → s ≡ percents → t ≡ notices → IfOk result (λ answer. Does old new m (QuotaModify path limit enforce enabled r s t) answer) → IfOk result (λ answer. Does old new m deed answer)
+modified_named old new m deed result path limit enforce enabled removed percents r s notices t is e f h done =
+    subst (λ (d : Deed). IfOk result (λ answer. Does old new m d answer))
+    (ap (λ (ns : List ℕ). QuotaModify path limit enforce enabled ns s t) e
+    ∙ (ap (λ (ns : List ℕ). QuotaModify path limit enforce enabled removed ns t) f
+    ∙ (ap (QuotaModify path limit enforce enabled removed percents) h ∙ sym is))) done

@@ -1,0 +1,73 @@
+-- The acts that commands make due, as the engine finds them, and what is left when they ran.
+use Rattle.std.specs.Prelude.{◌≡◌, ℕ, ◌==◌, ◌&&◌, not, Bool, true, false, List, [], ◌∷◌, map, None, unwrap_or}
+use Rattle.std.specs.Option.{option_map_or}
+use Rattle.fsrm_base.specs.Keyed.{with_change}
+use Rattle.fsrm_model.specs.declared.command.Act.{Act}
+use Rattle.fsrm_model.specs.declared.command.Answer.{Answer}
+use Rattle.fsrm_model.specs.declared.command.Outcome.TheVariants.{Refused}
+use Rattle.fsrm_model.specs.declared.row.NodeRow.{NodeRow}
+use Rattle.fsrm_model.specs.declared.row.QuotaRow.{QuotaRow}
+use Rattle.fsrm_model.specs.declared.row.QuotaState.TheVariants.{Complete}
+use Rattle.fsrm_model.specs.Quota.{folder_of, peaked}
+use Rattle.fsrm_model.specs.QuotaStates.{in_state, queued}
+use Rattle.fsrm_model.specs.Tree.{is_under}
+use Rattle.quota_usage.specs.declared.change.Change.{Change}
+use Rattle.quota_usage.specs.declared.change.Exceeded.{Exceeded}
+use Rattle.quota_usage.specs.Counters.{used_in}
+use Rattle.scan_queue.specs.Courses.{Course, Turns}
+use Rattle.thresholds.specs.Settled.{due_in, refused_in}
+use Rattle.fsrm_engine.specs.declared.parts.Parts.{Parts}
+use Rattle.fsrm_engine.specs.Crossing.{counted_acts}
+use Rattle.fsrm_engine.specs.Faults.{exceeded_refusal, refused_answer}
+use Rattle.fsrm_engine.specs.Machine.{charged_parts, ended, recounted, AreCounted, Ran}
+use Rattle.fsrm_engine.specs.Peaks.{raised}
+
+-- whether a folder lost what a change gave it: it is at or above another folder from which bytes were taken
+abbrev pub is_kept : List NodeRow → Change → ℕ → QuotaRow → Bool
+is_kept nodes change to quota = option_map_or (λ from. not (from == to) && is_under nodes quota.folder from) change.from false
+
+-- the acts that are due after a change of the counters, of quotas whose peaks were raised
+abbrev pub charged_acts : Parts → Change → ℕ → List Act
+charged_acts parts change moment =
+    let charged = charged_parts parts change moment in
+    counted_acts parts.usage charged.usage parts.run_limit moment charged.objects.quotas
+
+-- the acts that are due when a quota refuses
+abbrev pub refused_acts : Parts → Exceeded → ℕ → List Act
+refused_acts parts exceeded moment =
+    refused_in parts.objects exceeded.would (unwrap_or (used_in parts.usage exceeded.folder) 0) parts.run_limit moment exceeded.folder
+
+-- what a refusal leaves: nothing, or, if acts ran, that
+abbrev pub LeavesActs : List Act → Parts → Parts → Parts → ℕ → Exceeded → Answer → Type 0
+LeavesActs [] old run new moment exceeded answer = (new ≡ old) × (answer ≡ refused_answer (exceeded_refusal exceeded))
+LeavesActs (act ∷ acts) old run new moment exceeded answer =
+    (new ≡ ended run moment) × (answer ≡ record { outcome = Refused (exceeded_refusal exceeded); lasting = true })
+
+-- a quota refuses at this moment
+pub record Refuses (old new : Parts) (moment : ℕ) (exceeded : Exceeded) (answer : Answer) : Type 0 where
+  pub run : Parts
+  pub ran : Ran old run moment (refused_acts old exceeded moment)
+  pub leaves : LeavesActs (refused_acts old exceeded moment) old run new moment exceeded answer
+
+-- ---- scans that finish
+-- the quotas once a folder's is complete
+abbrev pub with_complete : ℕ → List QuotaRow → List QuotaRow
+with_complete folder quotas = with_change folder_of folder (in_state Complete) quotas
+
+-- A folder's quota counts from now on. Its peak may rise, the actions run of the thresholds that it reaches, and the command ends
+pub record Completes (old new : Parts) (folder moment : ℕ) : Type 0 where
+  pub counting : Parts
+  pub run : Parts
+  pub parts_are : counting ≡ record (recounted old (with_complete folder old.objects.quotas)) { objects = counting.objects }
+  pub quotas_are : counting.objects.quotas ≡ with_change folder_of folder (raised counting.usage moment) (with_complete folder old.objects.quotas)
+  pub peaks_are : map (peaked old.tree.size old.tree.nodes moment) counting.objects.quotas ≡ map (peaked old.tree.size old.tree.nodes moment) (with_complete folder old.objects.quotas)
+  pub counted : AreCounted counting
+  pub ran : Ran counting run moment (due_in counting.objects None None (used_in counting.usage folder) old.run_limit moment folder)
+  pub ends : new ≡ ended run moment
+
+-- the scan of a folder is finished, and the next one begins
+pub record Finishes (old new : Parts) (folder moment : ℕ) : Type 0 where
+  pub scans : Course
+  pub queue_is : scans.queue ≡ queued old.scans.queue folder Complete
+  pub turns : Turns old.scans scans old.tree
+  pub completes : Completes (record old { scans = scans }) new folder moment

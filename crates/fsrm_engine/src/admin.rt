@@ -1,0 +1,43 @@
+//! The commands on the settings and on the log of actions.
+
+ghost use Rattle.std.specs.Prelude.{◌≡◌, ◌≤◌};
+ghost use Rattle.fsrm_model.specs.declared.command.Deed.TheVariants.{AdminOptions, AdminList, AdminLog};
+ghost use Rattle.fsrm_model.specs.Limits.{latest_moment};
+ghost use Rattle.fsrm_engine.specs.Machine.{Does, IsIdle, IsSound, IsWhole};
+
+use crate::exits::listing;
+use crate::parts::Parts;
+use fsrm_model::{Answer, Ask};
+
+impl Parts {
+    /// Sets how many minutes pass at least between two runs of an action that has none of its own.
+    pub(crate) fn set_options(&mut self, run_limit: u32, moment: u64) -> Answer
+        requires whole { IsWhole self.old }
+        requires idle { IsIdle self.old }
+        requires moment { moment ≤ latest_moment }
+        requires after { self.old.last_moment ≤ moment }
+        ensures ok { Does self.old self.new moment (AdminOptions run_limit) result }
+        ensures sound { IsSound self.new }
+    {
+        self.run_limit = run_limit;
+        self.done(moment)
+    }
+
+    /// Shows the settings.
+    pub(crate) fn show_settings(&self, moment: u64) -> Answer
+        requires idle { IsIdle self.now }
+        requires after { self.now.last_moment ≤ moment }
+        ensures { Does self.now self.now moment AdminList result }
+    {
+        listing(Ask::Settings)
+    }
+
+    /// Shows the log of actions.
+    pub(crate) fn show_log(&self, moment: u64) -> Answer
+        requires idle { IsIdle self.now }
+        requires after { self.now.last_moment ≤ moment }
+        ensures { Does self.now self.now moment AdminLog result }
+    {
+        listing(Ask::Acts)
+    }
+}

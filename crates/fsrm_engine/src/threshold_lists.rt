@@ -1,0 +1,191 @@
+//! What a command makes of the thresholds of a quota.
+
+ghost use Rattle.std.specs.Prelude.{◌≡◌, ◌++◌, ◌∷◌, [], IfOk, OnOk, fold, true};
+ghost use Rattle.std.specs.List.{list_all};
+ghost use Rattle.fsrm_base.specs.Keyed.{has_row, is_ascending};
+ghost use Rattle.fsrm_base.specs.Numbers.{each_once};
+ghost use Rattle.fsrm_base.specs.Places.{IsAt};
+ghost use Rattle.fsrm_model.specs.Thresholds.{changed_thresholds, may_be_removed, percent_of, with_notice, with_threshold, without_thresholds};
+
+use fsrm_base::places::search;
+use fsrm_model::{Action, Added, Duplicate, List, NoMemory, Threshold};
+use fsrm_objects::ByPercent;
+use std::alloc::Global;
+
+// Whether a percentage is among the thresholds.
+fn has_percent(thresholds: &[Threshold], percent: u16) -> bool
+    ensures { result ≡ has_row percent_of percent thresholds.now }
+{
+    thresholds
+        .iter()
+        .any(|threshold| threshold.percent == percent)
+}
+
+// Whether each percentage is among the thresholds.
+fn are_there(percents: &[u16], thresholds: &[Threshold]) -> bool
+    ensures { result ≡ list_all (λ percent. has_row percent_of percent thresholds.now) percents.now }
+{
+    percents
+        .iter()
+        .all(|percent| has_percent(thresholds, *percent))
+}
+
+fn each_once(percents: &[u16]) -> bool
+    ensures { result ≡ each_once percents.now }
+{
+    let mut rest = percents;
+    while let Some((percent, later)) = rest.split_first() {
+        if later.contains(percent) {
+            return false;
+        }
+        rest = later;
+    }
+    true
+}
+
+/// Whether percentages may be removed: each of them is there, and named once.
+pub fn may_be_removed(percents: &[u16], thresholds: &[Threshold]) -> bool
+    ensures { result ≡ may_be_removed percents.now thresholds.now }
+{
+    are_there(percents, thresholds) && each_once(percents)
+}
+
+// A copy of thresholds without some percentages.
+fn without(
+    alloc: Global,
+    removed: &[u16],
+    thresholds: &[Threshold],
+) -> Result<List<Threshold>, NoMemory>
+    ensures { IfOk result (λ kept. kept ≡ without_thresholds removed.now thresholds.now) }
+{
+    let mut kept = List::new(alloc);
+    for threshold in thresholds {
+        if !removed.contains(&threshold.percent) {
+            kept.push(threshold.copy(alloc)?)?;
+        }
+    }
+    Ok(kept)
+}
+
+// The place of a percentage, which comes without actions if it wasn't there.
+fn place_of(
+    alloc: Global,
+    thresholds: &mut List<Threshold>,
+    percent: u16,
+) -> Result<usize, NoMemory>
+    requires { is_ascending percent_of thresholds.old ≡ true }
+    ensures with { OnOk result (thresholds.new ≡ with_threshold thresholds.old percent) }
+    ensures place { IfOk result (IsAt percent_of percent thresholds.new) }
+{
+    match search::<ByPercent>(thresholds.as_slice(), u32::from(percent)) {
+        Ok(place) => Ok(place),
+        Err(place) => {
+            let threshold = Threshold {
+                percent,
+                actions: List::new(alloc),
+            };
+            thresholds.insert(place, threshold)?;
+            Ok(place)
+        }
+    }
+}
+
+// Puts a copy of an action after others.
+fn append(alloc: Global, actions: &mut List<Action>, action: &Action) -> Result<(), NoMemory>
+    ensures { OnOk result (actions.new ≡ actions.old ++ action.now ∷ []) }
+{
+    actions.push(action.copy(alloc)?)
+}
+
+// Gives a percentage one more action.
+fn add_notice(
+    alloc: Global,
+    thresholds: &mut List<Threshold>,
+    notice: &Added,
+) -> Result<(), NoMemory>
+    requires { is_ascending percent_of thresholds.old ≡ true }
+    ensures { OnOk result (thresholds.new ≡ with_notice thresholds.old notice.now) }
+{
+    let place = place_of(alloc, thresholds, notice.percent)?;
+    let threshold = thresholds.get_mut(place).unwrap();
+    append(alloc, &mut threshold.actions, &notice.action)
+}
+
+fn add_percents(
+    alloc: Global,
+    thresholds: &mut List<Threshold>,
+    percents: &[u16],
+) -> Result<(), NoMemory>
+    requires { is_ascending percent_of thresholds.old ≡ true }
+    ensures { OnOk result (thresholds.new ≡ fold with_threshold thresholds.old percents.now) }
+{
+    for percent in percents {
+        place_of(alloc, thresholds, *percent)?;
+    }
+    Ok(())
+}
+
+fn add_notices(
+    alloc: Global,
+    thresholds: &mut List<Threshold>,
+    notices: &[Added],
+) -> Result<(), NoMemory>
+    requires { is_ascending percent_of thresholds.old ≡ true }
+    ensures { OnOk result (thresholds.new ≡ fold with_notice thresholds.old notices.now) }
+{
+    for notice in notices {
+        add_notice(alloc, thresholds, notice)?;
+    }
+    Ok(())
+}
+
+/// What a command does to the thresholds of a quota: some percentages are removed, then some are added, and then some are
+/// given an action each.
+#[derive(Clone, Copy)]
+pub struct ThresholdChange<'a> {
+    pub removed: &'a [u16],
+    pub percents: &'a [u16],
+    pub notices: &'a [Added],
+}
+
+impl<'a> ThresholdChange<'a> {
+    pub fn new(removed: &'a List<u16>, percents: &'a List<u16>, notices: &'a List<Added>) -> Self
+        ensures removed { result.removed.now ≡ removed.now }
+        ensures percents { result.percents.now ≡ percents.now }
+        ensures notices { result.notices.now ≡ notices.now }
+    {
+        ThresholdChange {
+            removed: removed.as_slice(),
+            percents: percents.as_slice(),
+            notices: notices.as_slice(),
+        }
+    }
+
+    /// One that removes nothing.
+    pub fn adding(percents: &'a List<u16>, notices: &'a List<Added>) -> Self
+        ensures removed { result.removed.now ≡ [] }
+        ensures percents { result.percents.now ≡ percents.now }
+        ensures notices { result.notices.now ≡ notices.now }
+    {
+        ThresholdChange {
+            removed: &[],
+            percents: percents.as_slice(),
+            notices: notices.as_slice(),
+        }
+    }
+
+    /// What it makes of thresholds.
+    pub fn changed(
+        &self,
+        alloc: Global,
+        thresholds: &List<Threshold>,
+    ) -> Result<List<Threshold>, NoMemory>
+        requires { is_ascending percent_of thresholds.now ≡ true }
+        ensures { IfOk result (λ changed. changed ≡ changed_thresholds self.now.removed.now self.now.percents.now self.now.notices.now thresholds.now) }
+    {
+        let mut changed = without(alloc, self.removed, thresholds.as_slice())?;
+        add_percents(alloc, &mut changed, self.percents)?;
+        add_notices(alloc, &mut changed, self.notices)?;
+        Ok(changed)
+    }
+}
