@@ -11,3 +11,4 @@ pub mod Waiting
 pub mod Whole
 pub mod Words
 pub mod Endings
+pub mod Handing

@@ -1,22 +1,18 @@
 -- What the machine's steps come to, and what is shown of it.
-use Rattle.std.proofs.Common.{◌≡◌, ℕ, ◌+◌, Bool, true, false, List, [], ◌∷◌, ◌++◌, refl, sym, ap, ◌∙◌, subst, append-nil}
-use Rattle.std.specs.Prelude.{if◌then◌else◌, Option, Some, None, option_map, Result, Ok, Err, OnOk, OnErr, nat_lt}
+use Rattle.std.proofs.Common.{◌≡◌, ℕ, true, List, [], refl, sym, ap, ◌∙◌, subst, append-nil}
+use Rattle.std.specs.Prelude.{Option, Some, None, option_map, Result, Ok, Err, OnOk, OnErr}
 use Rattle.fsrm_model.specs.declared.command.Command.{Command}
 use Rattle.fsrm_model.specs.declared.command.Outcome.{Outcome}
 use Rattle.fsrm_model.specs.declared.command.Outcome.TheVariants.{Refused}
 use Rattle.fsrm_model.specs.declared.command.Refusal.{Refusal}
-use Rattle.fsrm_model.specs.declared.command.Refusal.TheVariants.{BadLine, LineTooLong, InvalidPath, InvalidName, OutOfRange, InvalidLimit, ClockBack, PathNotFound, NotFound, AlreadyExists, InvalidCombination, NotEmpty, InvalidMove, NothingToScan, VolumeFull, NamesFull, TableFull, QuotaExceeded}
+use Rattle.fsrm_model.specs.declared.command.Refusal.TheVariants.{BadLine, LineTooLong, InvalidPath, InvalidName, OutOfRange, InvalidLimit, ClockBack, PathNotFound, NotFound, AlreadyExists, InvalidCombination, NotEmpty, InvalidMove, NothingToScan, VolumeFull, NamesFull, TableFull, TextsFull, QuotaExceeded}
 use Rattle.fsrm_model.specs.declared.row.Capacity.{Capacity}
 use Rattle.fsrm_model.specs.declared.row.Rows.{Rows}
-use Rattle.fsrm_model.specs.Check.{◌when◌, first}
-use Rattle.fsrm_model.specs.Cost.{cost, print_cost}
 use Rattle.fsrm_model.specs.Line.{read_line, is_line_refusal}
-use Rattle.fsrm_model.specs.QuotaStates.{followed}
 use Rattle.fsrm_model.specs.Reading.{Read}
-use Rattle.fsrm_model.specs.Script.{Replied, without_cr, replied, replied_to, line_cost}
-use Rattle.fsrm_model.specs.Step.{step, work, decided, accepted, lasted, unacted, unlasting}
-use Rattle.fsrm_model.specs.Text.{is_bare, head_line, reply, act_lines}
-use Rattle.fsrm_model.specs.Work.{Work}
+use Rattle.fsrm_model.specs.Script.{Replied, without_cr, replied, replied_to, read_cost, line_cost}
+use Rattle.fsrm_model.specs.Step.{step}
+use Rattle.fsrm_model.specs.Text.{is_bare, head_line, reply}
 use Rattle.fsrm_model.proofs.lines.LineRefusals.{line_refusal}
 use Rattle.fsrm_model.proofs.lines.PlainMachine.{replied-read, line_cost-read}
 use Rattle.fsrm_outside.specs.Shown.{ShowsFront}
@@ -42,22 +38,7 @@ always_err (Err e) p = p
 pub nothing_shown : (shown : Option (List ℕ)) (text : List ℕ) → ShowsFront shown shown text
 nothing_shown shown text = record { front = []; shown = sym (append_known-nil shown); is_front = (text, refl) }
 
--- no command that is built runs an action
-accepted_acts : (K : Capacity) (R : Rows) (moment : ℕ) (w : Work) → (accepted K R moment w).acts ≡ []
-accepted_acts K R moment w = by w.lasts
-  where
-    by : (lasts : Bool) → (if lasts then lasted K R (unacted (followed R w.effect)) moment w.outcome else unlasting (followed R w.effect) w.outcome).acts ≡ []
-    by true = refl
-    by false = refl
-
-pub acts_none : (K : Capacity) (R : Rows) (c : Command) → (step K R c).acts ≡ []
-acts_none K R c = by (first ((ClockBack when nat_lt c.moment R.last_moment) ∷ (work K R c.moment c.deed).checks))
-  where
-    by : (o : Option Refusal) → (decided K R c.moment (work K R c.moment c.deed) o).acts ≡ []
-    by (Some r) = refl
-    by None = accepted_acts K R c.moment (work K R c.moment c.deed)
-
--- the text of its reply
+-- the reply to a command, without its acts
 pub step_reply : (K size : Capacity) (R rows : Rows) (c : Command) (outcome : Outcome) (moment n : ℕ) → size ≡ K → rows ≡ (step K R c).rows → outcome ≡ (step K R c).outcome → reply size rows moment n outcome ≡ reply K (step K R c).rows moment n (step K R c).outcome
 step_reply K size R rows c outcome moment n e r o =
     ap (λ (k : Capacity). reply k rows moment n outcome) e
@@ -75,17 +56,13 @@ pub was_refused : (read : Option (Read Command)) (fault : LineFault) (refusal : 
 was_refused read fault refusal e is = subst (λ (f : LineFault). IsFault f read) is e
 
 -- what was done for a line that reads as a command, that is skipped, and that is refused
-pub rows_read : (K : Capacity) (R rows : Rows) (n : ℕ) (line text : List ℕ) (c : Command) → text ≡ without_cr line → read_line text ≡ Some (Ok c) → rows ≡ (step K R c).rows → rows ≡ (replied K R n line).rows
+pub rows_read : (K : Capacity) (R rows : Rows) (n : ℕ) (line text : List ℕ) (c : Command) → text ≡ without_cr line → read_line text ≡ Some (Ok c) → rows ≡ (replied_to K R n (Some (Ok c))).rows → rows ≡ (replied K R n line).rows
 rows_read K R rows n line text c cr e h = h ∙ sym (ap (λ (r : Replied). r.rows) (replied-read K R n line (Some (Ok c)) (sym (ap read_line cr) ∙ e)))
 
-pub text_read : (K : Capacity) (R : Rows) (n : ℕ) (line text : List ℕ) (c : Command) → text ≡ without_cr line → read_line text ≡ Some (Ok c) → reply K (step K R c).rows c.moment n (step K R c).outcome ≡ (replied K R n line).text
-text_read K R n line text c cr e =
-    let s = step K R c in
-    let shown = reply K s.rows c.moment n s.outcome in
-    let whole : shown ++ act_lines s.rows s.acts ≡ shown = ap (λ acts. shown ++ act_lines s.rows acts) (acts_none K R c) ∙ append-nil shown in
-    sym (ap (λ (r : Replied). r.text) (replied-read K R n line (Some (Ok c)) (sym (ap read_line cr) ∙ e)) ∙ whole)
+pub text_read : (K : Capacity) (R : Rows) (n : ℕ) (line text : List ℕ) (c : Command) → text ≡ without_cr line → read_line text ≡ Some (Ok c) → (replied_to K R n (Some (Ok c))).text ≡ (replied K R n line).text
+text_read K R n line text c cr e = sym (ap (λ (r : Replied). r.text) (replied-read K R n line (Some (Ok c)) (sym (ap read_line cr) ∙ e)))
 
-pub cost_read : (K : Capacity) (R : Rows) (line text : List ℕ) (c : Command) → text ≡ without_cr line → read_line text ≡ Some (Ok c) → line_cost K R line ≡ cost R c + print_cost (step K R c).rows (step K R c).outcome
+pub cost_read : (K : Capacity) (R : Rows) (line text : List ℕ) (c : Command) → text ≡ without_cr line → read_line text ≡ Some (Ok c) → line_cost K R line ≡ read_cost K R (Some (Ok c))
 cost_read K R line text c cr e = line_cost-read K R line (Some (Ok c)) (sym (ap read_line cr) ∙ e)
 
 pub rows_skipped : (K : Capacity) (R : Rows) (n : ℕ) (line text : List ℕ) → text ≡ without_cr line → read_line text ≡ None → R ≡ (replied K R n line).rows
@@ -124,6 +101,7 @@ line_bare NothingToScan h = refl
 line_bare VolumeFull h = refl
 line_bare NamesFull h = refl
 line_bare TableFull h = refl
+line_bare TextsFull h = refl
 
 pub bare_refusal : (text : List ℕ) (refusal : Refusal) → read_line text ≡ Some (Err refusal) → is_bare refusal ≡ true
 bare_refusal text refusal e = line_bare refusal (line_refusal text refusal e)

@@ -1,10 +1,10 @@
 //! Does what a line asks for, and writes the reply.
 
-ghost use Rattle.std.specs.Prelude.{◌≡◌, ◌≤◌, ◌+◌, [], true, OnOk, IsErrOf};
-ghost use Rattle.fsrm_model.specs.Cost.{cost, print_cost};
-ghost use Rattle.fsrm_model.specs.Script.{without_cr, replied, line_cost};
-ghost use Rattle.fsrm_model.specs.Step.{step};
-ghost use Rattle.fsrm_model.specs.Text.{reply};
+ghost use Rattle.std.specs.Prelude.{◌≡◌, ◌≤◌, ◌+◌, [], true, Some, Ok, OnOk, IsErrOf};
+ghost use Rattle.fsrm_model.specs.ActText.{act_lines};
+ghost use Rattle.fsrm_model.specs.Cost.{acts_cost};
+ghost use Rattle.fsrm_model.specs.Script.{without_cr, replied, replied_to, read_cost, line_cost};
+ghost use Rattle.fsrm_model.specs.Valid.{IsValid};
 ghost use Rattle.fsrm_model.specs.Valued.{is_command};
 ghost use Rattle.fsrm_outside.specs.Causes.{Rose};
 ghost use Rattle.reply_text.specs.Writes.{KeepsCount, Sends};
@@ -12,9 +12,9 @@ ghost use Rattle.reply_text.specs.Writes.{KeepsCount, Sends};
 use fsrm_engine::Engine;
 use fsrm_model::{Command, Ledger, Steps};
 use fsrm_outside::Sink;
-use reply_text::{TextFault, write_answer, write_head};
+use reply_text::{TextFault, write_act, write_answer, write_head};
 use std::alloc::Global;
-use tool_commands::{LineFault, read_line};
+use tool_commands::{LineFault, is_skipped_line, read_line};
 
 const CARRIAGE_RETURN: &[u8] = b"\r";
 
@@ -28,7 +28,31 @@ fn without_cr(line: &[u8]) -> &[u8]
     }
 }
 
-// Takes a command, and writes the reply.
+// Writes the line of each act that waits, in their order.
+fn write_acts<S: Sink, L: Ledger>(
+    engine: &mut Engine,
+    alloc: Global,
+    sink: &mut S,
+    steps: &mut Steps<L>,
+) -> Result<(), TextFault>
+    requires { IsValid engine.old.size engine.old.rows }
+    ensures size { engine.new.size ≡ engine.old.size }
+    ensures rows { engine.new.rows ≡ engine.old.rows }
+    ensures idle { OnOk result (engine.new.waiting ≡ []) }
+    ensures text { Sends result (S.shown sink.old) (S.shown sink.new) (act_lines engine.old.rows engine.old.waiting) }
+    ensures fault { IsErrOf result TextFault.WriteFault → Rose (S.write_faults sink.old) (S.write_faults sink.new) }
+    ensures later { S.write_faults sink.old ≤ S.write_faults sink.new }
+    ensures same { KeepsCount result (S.write_faults sink.old) (S.write_faults sink.new) }
+    ensures by { S.by_write sink.old sink.new }
+    ensures looks { steps.new ≤ steps.old + acts_cost engine.old.rows.nodes engine.old.waiting }
+{
+    while let Some(act) = engine.next_act() {
+        write_act(alloc, sink, &act, engine, steps)?;
+    }
+    Ok(())
+}
+
+// Takes a command, and writes the reply and the acts that it sets off.
 fn take<S: Sink, L: Ledger>(
     engine: &mut Engine,
     alloc: Global,
@@ -40,17 +64,18 @@ fn take<S: Sink, L: Ledger>(
     requires valid { is_command command.now ≡ true }
     requires idle { engine.old.waiting ≡ [] }
     ensures size { engine.new.size ≡ engine.old.size }
-    ensures idle { engine.new.waiting ≡ [] }
-    ensures rows { OnOk result (engine.new.rows ≡ (step engine.old.size engine.old.rows command.now).rows) }
-    ensures text { Sends result (S.shown sink.old) (S.shown sink.new) (reply engine.old.size (step engine.old.size engine.old.rows command.now).rows command.now.moment number (step engine.old.size engine.old.rows command.now).outcome) }
+    ensures idle { OnOk result (engine.new.waiting ≡ []) }
+    ensures rows { OnOk result (engine.new.rows ≡ (replied_to engine.old.size engine.old.rows number (Some (Ok command.now))).rows) }
+    ensures text { Sends result (S.shown sink.old) (S.shown sink.new) (replied_to engine.old.size engine.old.rows number (Some (Ok command.now))).text }
     ensures fault { IsErrOf result TextFault.WriteFault → Rose (S.write_faults sink.old) (S.write_faults sink.new) }
     ensures later { S.write_faults sink.old ≤ S.write_faults sink.new }
     ensures same { KeepsCount result (S.write_faults sink.old) (S.write_faults sink.new) }
     ensures by { S.by_write sink.old sink.new }
-    ensures looks { steps.new ≤ steps.old + (cost engine.old.rows command.now + print_cost (step engine.old.size engine.old.rows command.now).rows (step engine.old.size engine.old.rows command.now).outcome) }
+    ensures looks { steps.new ≤ steps.old + read_cost engine.old.size engine.old.rows (Some (Ok command.now)) }
 {
     let answer = engine.apply(alloc, command, steps)?;
-    write_answer(alloc, sink, number, &answer, None, engine, steps)
+    write_answer(alloc, sink, number, &answer, None, engine, steps)?;
+    write_acts(engine, alloc, sink, steps)
 }
 
 // Takes a command that a line spells, and drops it. That is done here, so that other lines don't pay for it.
@@ -66,20 +91,21 @@ fn take_read<S: Sink, L: Ledger>(
     requires valid { is_command command ≡ true }
     requires idle { engine.old.waiting ≡ [] }
     ensures size { engine.new.size ≡ engine.old.size }
-    ensures idle { engine.new.waiting ≡ [] }
-    ensures rows { OnOk result (engine.new.rows ≡ (step engine.old.size engine.old.rows command).rows) }
-    ensures text { Sends result (S.shown sink.old) (S.shown sink.new) (reply engine.old.size (step engine.old.size engine.old.rows command).rows command.moment number (step engine.old.size engine.old.rows command).outcome) }
+    ensures idle { OnOk result (engine.new.waiting ≡ []) }
+    ensures rows { OnOk result (engine.new.rows ≡ (replied_to engine.old.size engine.old.rows number (Some (Ok command))).rows) }
+    ensures text { Sends result (S.shown sink.old) (S.shown sink.new) (replied_to engine.old.size engine.old.rows number (Some (Ok command))).text }
     ensures fault { IsErrOf result TextFault.WriteFault → Rose (S.write_faults sink.old) (S.write_faults sink.new) }
     ensures later { S.write_faults sink.old ≤ S.write_faults sink.new }
     ensures same { KeepsCount result (S.write_faults sink.old) (S.write_faults sink.new) }
     ensures by { S.by_write sink.old sink.new }
-    ensures looks { steps.new ≤ steps.old + (cost engine.old.rows command + print_cost (step engine.old.size engine.old.rows command).rows (step engine.old.size engine.old.rows command).outcome) }
+    ensures looks { steps.new ≤ steps.old + read_cost engine.old.size engine.old.rows (Some (Ok command)) }
 {
     take(engine, alloc, sink, number, &command, steps)
 }
 
-/// Does what a line asks for, and writes the reply. A line that is skipped has none.
-pub fn answer<S: Sink, L: Ledger>(
+// Reads a line, and does what it asks for. It stands apart, so that a line that is skipped needs no room for a command.
+#[inline(never)]
+fn answer_words<S: Sink, L: Ledger>(
     engine: &mut Engine,
     alloc: Global,
     sink: &mut S,
@@ -89,7 +115,7 @@ pub fn answer<S: Sink, L: Ledger>(
 ) -> Result<(), TextFault>
     requires idle { engine.old.waiting ≡ [] }
     ensures size { engine.new.size ≡ engine.old.size }
-    ensures idle { engine.new.waiting ≡ [] }
+    ensures idle { OnOk result (engine.new.waiting ≡ []) }
     ensures rows { OnOk result (engine.new.rows ≡ (replied engine.old.size engine.old.rows number line.now).rows) }
     ensures text { Sends result (S.shown sink.old) (S.shown sink.new) (replied engine.old.size engine.old.rows number line.now).text }
     ensures fault { IsErrOf result TextFault.WriteFault → Rose (S.write_faults sink.old) (S.write_faults sink.new) }
@@ -104,4 +130,31 @@ pub fn answer<S: Sink, L: Ledger>(
         Err(LineFault::Refused(refusal)) => write_head(alloc, sink, number, &refusal),
         Err(LineFault::NoMemory) => Err(TextFault::NoMemory),
     }
+}
+
+/// Does what a line asks for, and writes the reply and its acts. A line that is skipped has none. After an `Err` some
+/// acts may still wait.
+pub fn answer<S: Sink, L: Ledger>(
+    engine: &mut Engine,
+    alloc: Global,
+    sink: &mut S,
+    number: u64,
+    line: &[u8],
+    steps: &mut Steps<L>,
+) -> Result<(), TextFault>
+    requires idle { engine.old.waiting ≡ [] }
+    ensures size { engine.new.size ≡ engine.old.size }
+    ensures idle { OnOk result (engine.new.waiting ≡ []) }
+    ensures rows { OnOk result (engine.new.rows ≡ (replied engine.old.size engine.old.rows number line.now).rows) }
+    ensures text { Sends result (S.shown sink.old) (S.shown sink.new) (replied engine.old.size engine.old.rows number line.now).text }
+    ensures fault { IsErrOf result TextFault.WriteFault → Rose (S.write_faults sink.old) (S.write_faults sink.new) }
+    ensures later { S.write_faults sink.old ≤ S.write_faults sink.new }
+    ensures same { KeepsCount result (S.write_faults sink.old) (S.write_faults sink.new) }
+    ensures by { S.by_write sink.old sink.new }
+    ensures looks { steps.new ≤ steps.old + line_cost engine.old.size engine.old.rows line.now }
+{
+    if is_skipped_line(without_cr(line)) {
+        return Ok(());
+    }
+    answer_words(engine, alloc, sink, number, line, steps)
 }

@@ -39,7 +39,7 @@ fn answer_piece<S: Sink, L: Ledger>(
     ensures err { OnErr result (FeedsBroken (state_of session.old steps.old) steps.new piece.now (S.shown sink.old) (S.shown sink.new)) }
     ensures number { OnOk result (session.new.line ≤ session.old.line + length piece.now) }
     ensures written { OnOk result (replies.new.items ≡ []) }
-    ensures idle { session.new.engine.waiting ≡ [] }
+    ensures idle { OnOk result (session.new.engine.waiting ≡ []) }
     ensures fault { IsErrOf result TextFault.WriteFault → Rose (S.write_faults sink.old) (S.write_faults sink.new) }
     ensures later { S.write_faults sink.old ≤ S.write_faults sink.new }
     ensures same { KeepsCount result (S.write_faults sink.old) (S.write_faults sink.new) }
@@ -74,7 +74,7 @@ fn pass<O: Outside, L: Ledger>(
     ensures end { IfOk result (λ count. count ≡ 0 → IsAtEnd (O.left outside.new)) }
     ensures number { IfOk result (λ count. session.new.line ≤ session.old.line + count) }
     ensures written { OnOk result (replies.new.items ≡ []) }
-    ensures idle { session.new.engine.waiting ≡ [] }
+    ensures idle { OnOk result (session.new.engine.waiting ≡ []) }
     ensures stops { IfErr result (λ status. Stops status (state_of session.old steps.old) (state_of session.new steps.new) (O.left outside.old) (O.left outside.new) (O.shown outside.old) (O.shown outside.new) 0) }
     ensures taken { IfErr result (λ status. TakenMost (O.left outside.old) (O.left outside.new) (most_taken status - taken)) }
     ensures full { IsErrOf result Status.TooLong → taken ≡ longest_script }
@@ -102,7 +102,7 @@ fn read_all<O: Outside, L: Ledger>(
     requires idle { session.old.engine.waiting ≡ [] }
     ensures reads { OnOk result (Reads (state_of session.old steps.old) (state_of session.new steps.new) (O.left outside.old) (O.left outside.new) (O.shown outside.old) (O.shown outside.new)) }
     ensures written { OnOk result (replies.new.items ≡ []) }
-    ensures idle { session.new.engine.waiting ≡ [] }
+    ensures idle { OnOk result (session.new.engine.waiting ≡ []) }
     ensures stops { IfErr result (λ status. StopsAt status (state_of session.old steps.old) (state_of session.new steps.new) (O.left outside.old) (O.left outside.new) (O.shown outside.old) (O.shown outside.new)) }
     ensures taken { IfErr result (λ status. TakenMost (O.left outside.old) (O.left outside.new) (most_taken status)) }
     ensures read_later { O.read_faults outside.old ≤ O.read_faults outside.new }

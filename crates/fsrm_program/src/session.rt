@@ -88,7 +88,7 @@ fn answer_line<S: Sink, L: Ledger>(
     ensures ok { OnOk result (Feeds (state_of session.old steps.old) (state_of session.new steps.new) (rest.now ++ 10 ∷ []) (S.shown sink.old) (S.shown sink.new)) }
     ensures err { OnErr result (FeedsBroken (state_of session.old steps.old) steps.new (rest.now ++ 10 ∷ []) (S.shown sink.old) (S.shown sink.new)) }
     ensures number { OnOk result (session.new.line ≡ session.old.line + 1) }
-    ensures idle { session.new.engine.waiting ≡ [] }
+    ensures idle { OnOk result (session.new.engine.waiting ≡ []) }
     ensures fault { IsErrOf result TextFault.WriteFault → Rose (S.write_faults sink.old) (S.write_faults sink.new) }
     ensures later { S.write_faults sink.old ≤ S.write_faults sink.new }
     ensures same { KeepsCount result (S.write_faults sink.old) (S.write_faults sink.new) }
@@ -132,7 +132,7 @@ pub fn feed<S: Sink, L: Ledger>(
     ensures ok { OnOk result (Feeds (state_of session.old steps.old) (state_of session.new steps.new) piece.now (S.shown sink.old) (S.shown sink.new)) }
     ensures err { OnErr result (FeedsBroken (state_of session.old steps.old) steps.new piece.now (S.shown sink.old) (S.shown sink.new)) }
     ensures number { OnOk result (session.new.line ≤ session.old.line + length piece.now) }
-    ensures idle { session.new.engine.waiting ≡ [] }
+    ensures idle { OnOk result (session.new.engine.waiting ≡ []) }
     ensures fault { IsErrOf result TextFault.WriteFault → Rose (S.write_faults sink.old) (S.write_faults sink.new) }
     ensures later { S.write_faults sink.old ≤ S.write_faults sink.new }
     ensures same { KeepsCount result (S.write_faults sink.old) (S.write_faults sink.new) }

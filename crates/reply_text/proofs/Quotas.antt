@@ -1,6 +1,6 @@
 -- The lines of quotas.
 use Rattle.std.proofs.Common.{◌≡◌, ℕ, zero, suc, ◌+◌, ◌<◌, ◌≤◌, ◌==◌, Bool, true, false, cond, List, [], ◌∷◌, ◌++◌, take, refl, sym, ap, subst, append_assoc, rules, Bor, ◌∙◌, arith}
-use Rattle.std.specs.Prelude.{Option, Some, None, is_some, decimal, codes, filter, find, flat_map, sum_by}
+use Rattle.std.specs.Prelude.{Option, Some, None, Result, is_some, decimal, codes, filter, find, flat_map, sum_by}
 use Rattle.std.specs.List.{slice_get}
 use Rattle.std.specs.Option.{option_copied, IsSome}
 use Rattle.std.proofs.lemmas.Bool.Decides.{nat_tests}
@@ -8,15 +8,17 @@ use Rattle.std.proofs.lemmas.List.{append-nil}
 use Rattle.std.proofs.lemmas.List.Sums.{sum_by_more}
 use Rattle.std.proofs.lemmas.Option.{get_or_from_slice_get, slice_get_within}
 use Rattle.fsrm_model.specs.declared.row.Capacity.{Capacity}
+use Rattle.fsrm_model.specs.declared.row.NodeRow.{NodeRow}
 use Rattle.fsrm_model.specs.declared.row.QuotaRow.{QuotaRow}
 use Rattle.fsrm_model.specs.declared.row.Rows.{Rows}
+use Rattle.fsrm_model.specs.declared.row.Threshold.{Threshold}
 use Rattle.fsrm_model.specs.Date.{date_text}
 use Rattle.fsrm_base.specs.Keyed.{row_of, has_row, is_ascending}
 use Rattle.fsrm_model.specs.Limits.{latest_moment}
 use Rattle.fsrm_model.specs.Quota.{folder_of, counts, used_of}
 use Rattle.fsrm_model.specs.Cost.{path_cost, list_cost}
 use Rattle.fsrm_model.specs.declared.command.Ask.TheVariants.{Quotas}
-use Rattle.fsrm_model.specs.Text.{body_line, list_lines, path_text, quota_line, state_word}
+use Rattle.fsrm_model.specs.Text.{body_line, list_lines, path_text, quota_lines, state_word}
 use Rattle.fsrm_model.specs.Tree.{number, usage}
 use Rattle.fsrm_model.specs.Valid.{IsValid}
 use Rattle.fsrm_model.proofs.nodes.Keeps.{folder_found}
@@ -24,7 +26,11 @@ use Rattle.fsrm_base.proofs.Look.{found_has, found_key, is_some-find}
 use Rattle.fsrm_base.proofs.Members.{filter_none}
 use Rattle.fsrm_base.proofs.Order.{parts}
 use Rattle.fsrm_base.proofs.TestLaws.{lt_is, eq_is, eq_same, eq_below, le_is}
-use Rattle.reply_text.specs.Lines.{moment_text, line_text, used_word, mode_word, quota_text}
+use Rattle.fsrm_outside.specs.Shown.{ShowsFront}
+use Rattle.std.specs.Io.KnownBytes.{append_known}
+use Rattle.reply_text.proofs.Sent.{front_more, sends_then}
+use Rattle.reply_text.specs.Lines.{moment_text, line_text, lines_text, threshold_text, used_word, mode_word, quota_text}
+use Rattle.reply_text.specs.Writes.{Sends}
 
 -- a quota of a store: its folder is there, and its peak's moment is one
 pub is_node : (K : Capacity) (R : Rows) (quota : QuotaRow) → IsValid K R → row_of folder_of quota.folder R.quotas ≡ Some quota → has_row number quota.folder R.nodes ≡ true
@@ -112,14 +118,30 @@ own_row rows folder quota h =
     let same : quota.folder ≡ folder = found_key folder_of folder rows quota h in
     ap (λ n. row_of folder_of n rows) same ∙ h
 
-pub all_lines : (K : Capacity) (R : Rows) → flat_map (line_text K R.nodes) R.quotas ≡ list_lines K R (Quotas None)
-unfolding line_text
+-- ---- the lines of a quota
+lines_parts : (K : Capacity) (nodes : List NodeRow) (quota : QuotaRow) → line_text K nodes quota ++ flat_map threshold_text quota.thresholds ≡ lines_text K nodes quota
+unfolding line_text lines_text threshold_text
+lines_parts K nodes quota = refl
+
+-- a front of the first
+pub row_front : (K : Capacity) (nodes : List NodeRow) (quota : QuotaRow) (row : List ℕ) (a b : Option (List ℕ)) → row ≡ line_text K nodes quota → ShowsFront a b row → ShowsFront a b (lines_text K nodes quota)
+row_front K nodes quota row a b e h =
+    subst (ShowsFront a b) (lines_parts K nodes quota) (front_more a b (line_text K nodes quota) (flat_map threshold_text quota.thresholds) (subst (ShowsFront a b) e h))
+
+-- the first, and then the others
+pub row_then : {T E : Type 0} (r : Result T E) (K : Capacity) (nodes : List NodeRow) (quota : QuotaRow) (row : List ℕ) (thresholds : List Threshold) (a b c : Option (List ℕ)) → row ≡ line_text K nodes quota → thresholds ≡ quota.thresholds → b ≡ append_known a row → Sends r b c (flat_map threshold_text thresholds) → Sends r a c (lines_text K nodes quota)
+row_then r K nodes quota row thresholds a b c e same p h =
+    subst (Sends r a c) (ap (λ (ts : List Threshold). line_text K nodes quota ++ flat_map threshold_text ts) same ∙ lines_parts K nodes quota)
+    (sends_then r a b c (line_text K nodes quota) (flat_map threshold_text thresholds) (p ∙ ap (append_known a) e) h)
+
+pub all_lines : (K : Capacity) (R : Rows) → flat_map (lines_text K R.nodes) R.quotas ≡ list_lines K R (Quotas None)
+unfolding lines_text
 all_lines K R = refl
 
-pub one_line : (K : Capacity) (R : Rows) (folder : ℕ) (quota : QuotaRow) → IsValid K R → row_of folder_of folder R.quotas ≡ Some quota → line_text K R.nodes quota ≡ list_lines K R (Quotas (Some folder))
-unfolding line_text
+pub one_line : (K : Capacity) (R : Rows) (folder : ℕ) (quota : QuotaRow) → IsValid K R → row_of folder_of folder R.quotas ≡ Some quota → lines_text K R.nodes quota ≡ list_lines K R (Quotas (Some folder))
+unfolding lines_text
 one_line K R folder quota store h =
-    sym (ap (flat_map (quota_line K R.nodes)) (only_one folder_of folder R.quotas quota store.quotas.ascending h) ∙ append-nil (quota_line K R.nodes quota))
+    sym (ap (flat_map (quota_lines K R.nodes)) (only_one folder_of folder R.quotas quota store.quotas.ascending h) ∙ append-nil (quota_lines K R.nodes quota))
 
 pub one_cost : (K : Capacity) (R : Rows) (folder : ℕ) (quota : QuotaRow) → IsValid K R → row_of folder_of folder R.quotas ≡ Some quota → path_cost R.nodes quota.folder ≡ list_cost R (Quotas (Some folder))
 one_cost K R folder quota store h =

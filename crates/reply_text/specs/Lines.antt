@@ -1,13 +1,20 @@
--- Parts of lines. A moment's text and a quota's line are opaque here, so that goals that carry them stay small.
-use Rattle.std.specs.Prelude.{ℕ, Bool, true, false, List, [], ◌∷◌, codes, decimal, Option, Some, None, if◌then◌else◌}
+-- Parts of lines. Those that are marked unfoldable are opaque, so that goals that carry them stay small.
+use Rattle.std.specs.Prelude.{ℕ, Bool, true, false, List, [], ◌∷◌, ◌++◌, codes, decimal, Option, Some, None, if◌then◌else◌}
+use Rattle.fsrm_model.specs.declared.row.ActRow.{ActRow}
+use Rattle.fsrm_model.specs.declared.row.Action.{Action}
 use Rattle.fsrm_model.specs.declared.row.Capacity.{Capacity}
 use Rattle.fsrm_model.specs.declared.row.NodeRow.{NodeRow}
 use Rattle.fsrm_model.specs.declared.row.QuotaRow.{QuotaRow}
+use Rattle.fsrm_model.specs.declared.row.Threshold.{Threshold}
+use Rattle.fsrm_model.specs.declared.command.Act.{Act}
 use Rattle.fsrm_model.specs.declared.command.Outcome.{Outcome}
 use Rattle.fsrm_model.specs.declared.command.Refusal.{Refusal}
 use Rattle.fsrm_model.specs.declared.command.Refusal.TheVariants.{BadLine}
 use Rattle.fsrm_model.specs.declared.command.Outcome.TheVariants.{Listing}
-use Rattle.fsrm_model.specs.Text.{body_line, quota_line, state_word}
+use Rattle.fsrm_model.specs.ActText.{at_lines, entry_line, subject_words}
+use Rattle.fsrm_model.specs.ActionWords.{action_words, kind_word}
+use Rattle.fsrm_model.specs.Printed.{deep_line}
+use Rattle.fsrm_model.specs.Text.{body_line, quota_line, quota_lines, state_word}
 use Rattle.fsrm_model.specs.Date.{date_text}
 
 unfoldable pub moment_text : ℕ → List ℕ
@@ -15,6 +22,24 @@ moment_text moment = date_text moment
 
 unfoldable pub line_text : Capacity → List NodeRow → QuotaRow → List ℕ
 line_text K nodes quota = quota_line K nodes quota
+
+-- the same with the lines of its thresholds
+unfoldable pub lines_text : Capacity → List NodeRow → QuotaRow → List ℕ
+lines_text K nodes quota = quota_lines K nodes quota
+
+unfoldable pub action_line : ℕ → Action → List ℕ
+action_line percent action = deep_line (codes "at" ∷ decimal percent ∷ action_words action)
+
+unfoldable pub threshold_text : Threshold → List ℕ
+threshold_text threshold = at_lines (decimal threshold.percent) threshold.actions
+
+unfoldable pub entry_text : ActRow → List ℕ
+entry_text entry = entry_line entry
+
+-- the line of an act, whose folder has this path, and whose action this text
+abbrev pub act_text : Act → List ℕ → List ℕ → List ℕ
+act_text act path text =
+    body_line (codes "act" ∷ subject_words act.subject ++ kind_word act.kind ∷ (path ++ codes "|" ++ text) ∷ [])
 
 -- a quota that doesn't count shows no bytes that are used
 abbrev pub used_word : Option ℕ → List ℕ

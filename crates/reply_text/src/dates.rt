@@ -7,6 +7,9 @@ ghost use Rattle.fsrm_model.specs.Date.{day_text};
 
 use jiff_core::civil::Date;
 
+/// The seconds of a day.
+pub const SECONDS_OF_A_DAY: u64 = 86_400;
+
 // The days from -9999-01-01 to 1970-01-01.
 const DAYS_TO_1970: u32 = 4_371_587;
 

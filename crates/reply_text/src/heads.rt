@@ -160,6 +160,7 @@ fn text_of(refusal: Refusal) -> &'static [u8]
         Refusal::VolumeFull => b" refused VolumeFull\n",
         Refusal::NamesFull => b" refused NamesFull\n",
         Refusal::TableFull => b" refused TableFull\n",
+        Refusal::TextsFull => b" refused TextsFull\n",
         Refusal::BadLine { .. } => unreachable!(),
         Refusal::QuotaExceeded { .. } => unreachable!(),
     }

@@ -5,6 +5,8 @@
 //! (`same`).
 #![tactic(auto)]
 
+mod actions;
+mod acts;
 mod dates;
 mod fault;
 mod heads;
@@ -12,6 +14,7 @@ mod lists;
 mod replies;
 mod sending;
 
+pub use acts::write_act;
 pub use fault::TextFault;
 pub use heads::write_head;
 pub use lists::write_list;

@@ -1,7 +1,7 @@
 //! Writes the lines of a list.
 
 ghost use Rattle.std.specs.Prelude.{◌≡◌, ◌++◌, ◌∷◌, ◌+◌, ◌≤◌, IsErrOf, Some, flat_map, sum_by};
-ghost use Rattle.fsrm_model.specs.declared.command.Ask.TheVariants.{Quotas};
+ghost use Rattle.fsrm_model.specs.declared.command.Ask.TheVariants.{Acts, Quotas, Settings};
 ghost use Rattle.fsrm_model.specs.declared.command.Outcome.TheVariants.{Listing};
 ghost use Rattle.fsrm_model.specs.Cost.{list_cost, path_cost};
 ghost use Rattle.fsrm_base.specs.Keyed.{has_row, row_of};
@@ -12,19 +12,19 @@ ghost use Rattle.fsrm_model.specs.Text as Words;
 ghost use Rattle.fsrm_model.specs.Text.{list_lines};
 ghost use Rattle.fsrm_model.specs.Valid.{IsValid};
 ghost use Rattle.fsrm_outside.specs.Causes.{Rose};
-ghost use Rattle.reply_text.specs.Lines.{mode_word, moment_text, used_word, quota_text, line_text};
+ghost use Rattle.reply_text.specs.Lines.{mode_word, moment_text, used_word, quota_text, lines_text};
 ghost use Rattle.reply_text.specs.Parts.{part_text};
 ghost use Rattle.reply_text.specs.Writes.{KeepsCount, Sends};
 
-use crate::dates::{date_text, time_text};
+use crate::actions::write_thresholds;
+use crate::acts::write_log;
+use crate::dates::{SECONDS_OF_A_DAY, date_text, time_text};
 use crate::fault::TextFault;
 use crate::sending::{Part, send};
 use fsrm_engine::Engine;
 use fsrm_model::{Ask, Ledger, QuotaRow, QuotaState, Steps};
 use fsrm_outside::Sink;
 use std::alloc::Global;
-
-const SECONDS_OF_A_DAY: u64 = 86_400;
 
 fn mode_word(enforce: bool) -> &'static [u8]
     ensures { result.now ≡ mode_word enforce }
@@ -112,7 +112,7 @@ fn write_row<S: Sink>(
     write_line(sink, quota, used, &date, &time, path)
 }
 
-// Writes the line of a quota.
+// Writes the lines of a quota.
 fn write_quota<S: Sink, L: Ledger>(
     alloc: Global,
     sink: &mut S,
@@ -122,7 +122,7 @@ fn write_quota<S: Sink, L: Ledger>(
 ) -> Result<(), TextFault>
     requires store { IsValid engine.now.size engine.now.rows }
     requires own { row_of folder_of quota.now.folder engine.now.rows.quotas ≡ Some quota.now }
-    ensures text { Sends result (S.shown sink.old) (S.shown sink.new) (line_text engine.now.size engine.now.rows.nodes quota.now) }
+    ensures text { Sends result (S.shown sink.old) (S.shown sink.new) (lines_text engine.now.size engine.now.rows.nodes quota.now) }
     ensures fault { IsErrOf result TextFault.WriteFault → Rose (S.write_faults sink.old) (S.write_faults sink.new) }
     ensures later { S.write_faults sink.old ≤ S.write_faults sink.new }
     ensures same { KeepsCount result (S.write_faults sink.old) (S.write_faults sink.new) }
@@ -131,7 +131,8 @@ fn write_quota<S: Sink, L: Ledger>(
 {
     let path = engine.path_text(alloc, quota.folder, steps)?;
     let used = engine.used(quota.folder);
-    write_row(sink, quota, used, path.as_str())
+    write_row(sink, quota, used, path.as_str())?;
+    write_thresholds(sink, quota.thresholds.as_slice())
 }
 
 // Writes the lines of all quotas.
@@ -141,7 +142,7 @@ fn write_quotas<S: Sink, L: Ledger>(
     engine: &Engine,
     steps: &mut Steps<L>,
 ) -> Result<(), TextFault>
-    ensures text { Sends result (S.shown sink.old) (S.shown sink.new) (flat_map (line_text engine.now.size engine.now.rows.nodes) engine.now.rows.quotas) }
+    ensures text { Sends result (S.shown sink.old) (S.shown sink.new) (flat_map (lines_text engine.now.size engine.now.rows.nodes) engine.now.rows.quotas) }
     ensures fault { IsErrOf result TextFault.WriteFault → Rose (S.write_faults sink.old) (S.write_faults sink.new) }
     ensures later { S.write_faults sink.old ≤ S.write_faults sink.new }
     ensures same { KeepsCount result (S.write_faults sink.old) (S.write_faults sink.new) }
@@ -155,7 +156,7 @@ fn write_quotas<S: Sink, L: Ledger>(
     Ok(())
 }
 
-// Writes the line of a folder's quota, or those of all quotas.
+// Writes the lines of a folder's quota, or those of all quotas.
 fn write_asked<S: Sink, L: Ledger>(
     alloc: Global,
     sink: &mut S,
@@ -180,6 +181,37 @@ fn write_asked<S: Sink, L: Ledger>(
     }
 }
 
+// Writes what the engine is set to, how many scans wait, and how full the store is.
+fn write_settings<S: Sink>(sink: &mut S, engine: &Engine) -> Result<(), TextFault>
+    ensures text { Sends result (S.shown sink.old) (S.shown sink.new) (list_lines engine.now.size engine.now.rows Settings) }
+    ensures fault { IsErrOf result TextFault.WriteFault → Rose (S.write_faults sink.old) (S.write_faults sink.new) }
+    ensures later { S.write_faults sink.old ≤ S.write_faults sink.new }
+    ensures same { KeepsCount result (S.write_faults sink.old) (S.write_faults sink.new) }
+    ensures by { S.by_write sink.old sink.new }
+{
+    let settings = engine.settings();
+    let tree = engine.tree();
+    let size = tree.capacity();
+    send(
+        sink,
+        &[
+            Part::Text(b"  runlimit "),
+            Part::Number(u64::from(settings.run_limit)),
+            Part::Text(b"\n  scans "),
+            Part::Number(u64::from(settings.scans)),
+            Part::Text(b"\n  nodes "),
+            Part::Number(u64::from(tree.count())),
+            Part::Text(b" "),
+            Part::Number(u64::from(size.nodes)),
+            Part::Text(b"\n  names "),
+            Part::Number(u64::from(tree.name_bytes())),
+            Part::Text(b" "),
+            Part::Number(u64::from(size.names)),
+            Part::Text(b"\n"),
+        ],
+    )
+}
+
 /// Writes the lines of a list.
 pub fn write_list<S: Sink, L: Ledger>(
     alloc: Global,
@@ -198,5 +230,7 @@ pub fn write_list<S: Sink, L: Ledger>(
 {
     match *ask {
         Ask::Quotas(folder) => write_asked(alloc, sink, folder, engine, steps),
+        Ask::Settings => write_settings(sink, engine),
+        Ask::Acts => write_log(sink, engine.marks()),
     }
 }

@@ -30,7 +30,7 @@ pieces-preserved g c =
       within = c.in-Ok.ensures.within;
       number = omega (arith, kept.number, c.in-Ok.ensures.number);
       written = c.in-Ok.ensures.written;
-      idle = c.pass.ensures.idle;
+      idle = c.in-Ok.ensures.idle;
       reads_kept = c.in-Ok.ensures.reads_kept ∙ kept.reads_kept;
       writes_kept = c.in-Ok.ensures.writes_kept ∙ kept.writes_kept;
     }

@@ -24,7 +24,7 @@ lines-preserved g c =
         cut = cut_more c.args.piece.now done c.lines.rest.now line c.in-Some.after.now kept.cut c.in-Some.ensures;
         fed = feeds_then start now next done (line ++ 10 ∷ []) (sink.shown c.args.sink.now) (sink.shown c.lines.sink) (sink.shown c.answer_line.new.sink) kept.fed c.in_ok-answer_line.ensures.ok;
         number = omega (arith, kept.number, c.in_ok-answer_line.ensures.number, length-append done (line ++ 10 ∷ []), length-append line (10 ∷ []));
-        idle = c.answer_line.ensures.idle;
+        idle = c.in_ok-answer_line.ensures.idle;
         same = c.in_ok-answer_line.ensures.same ∙ kept.same;
         by = g.met.S.Sink.write_then c.args.sink.now c.lines.sink c.answer_line.new.sink kept.by c.in_ok-answer_line.ensures.by;
       },
@@ -87,9 +87,6 @@ answer_line-requires-clause-idle g c = c.lines.invariant.1.idle
 
 pub returns-clause-idle : goal.returns-clause-idle
 returns-clause-idle g c = c.hold_rest.ensures.idle ∙ c.lines.invariant.1.idle
-
-pub returns-in_err-hold_rest-clause-idle : goal.returns-in_err-hold_rest-clause-idle
-returns-in_err-hold_rest-clause-idle g c = c.hold_rest.ensures.idle ∙ c.lines.invariant.1.idle
 
 pub returns-clause-same : goal.returns-clause-same
 returns-clause-same g c = c.lines.invariant.1.same

@@ -4,7 +4,7 @@ use Rattle.std.proofs.lemmas.List.Sums.{sum_by-take-le}
 use Rattle.fsrm_model.specs.declared.row.QuotaRow.{QuotaRow}
 use Rattle.fsrm_model.specs.Cost.{path_cost}
 use Rattle.fsrm_model.specs.Quota.{folder_of}
-use Rattle.reply_text.specs.Lines.{line_text}
+use Rattle.reply_text.specs.Lines.{lines_text}
 use Rattle.reply_text.proofs.Each.{shows_one, shows_one_front}
 use Rattle.reply_text.proofs.Sent.{sends_front}
 use Rattle.reply_text.proofs.Quotas.{at_place, sum_more}
@@ -20,7 +20,7 @@ returns-in_err-write_quota-clause-text g c =
     let sink = g.S.Sink in
     let engine = c.args.engine.now in
     sends_front c.from_residual.result _ _ _ c.from_residual.ensures.0
-    (shows_one_front (line_text engine.size engine.rows.nodes) engine.rows.quotas c.loop-place.place c.quota_at.result.now (sink.shown c.args.sink.now) (sink.shown c.loop-place.sink) (sink.shown c.write_quota.new.sink) (rw c.objects-objects.ensures.quotas at c.quota_at.ensures) c.loop-place.invariant.shown c.in_err-write_quota.ensures.text)
+    (shows_one_front (lines_text engine.size engine.rows.nodes) engine.rows.quotas c.loop-place.place c.quota_at.result.now (sink.shown c.args.sink.now) (sink.shown c.loop-place.sink) (sink.shown c.write_quota.new.sink) (rw c.objects-objects.ensures.quotas at c.quota_at.ensures) c.loop-place.invariant.shown c.in_err-write_quota.ensures.text)
 
 pub returns-in_err-write_quota-clause-looks : goal.returns-in_err-write_quota-clause-looks
 returns-in_err-write_quota-clause-looks g c =
@@ -35,7 +35,7 @@ loop-place-preserved g c =
     let nodes = c.args.engine.now.rows.nodes in
     let quotas = c.args.engine.now.rows.quotas in
     record {
-      shown = shows_one (line_text engine.size nodes) quotas c.loop-place.place c.quota_at.result.now (sink.shown c.args.sink.now) (sink.shown c.loop-place.sink) (sink.shown c.write_quota.new.sink) (rw c.objects-objects.ensures.quotas at c.quota_at.ensures) c.loop-place.invariant.shown c.in_ok-write_quota.ensures.text;
+      shown = shows_one (lines_text engine.size nodes) quotas c.loop-place.place c.quota_at.result.now (sink.shown c.args.sink.now) (sink.shown c.loop-place.sink) (sink.shown c.write_quota.new.sink) (rw c.objects-objects.ensures.quotas at c.quota_at.ensures) c.loop-place.invariant.shown c.in_ok-write_quota.ensures.text;
       same = c.in_ok-write_quota.ensures.same ∙ c.loop-place.invariant.same;
       by = g.met.S.Sink.write_then c.args.sink.now c.loop-place.sink c.write_quota.new.sink c.loop-place.invariant.by c.in_ok-write_quota.ensures.by;
       looks = omega (arith, c.loop-place.invariant.looks, c.in_ok-write_quota.ensures.looks, sum_more (λ quota. path_cost nodes quota.folder) quotas c.loop-place.place c.quota_at.result.now (rw c.objects-objects.ensures.quotas at c.quota_at.ensures));

@@ -1,0 +1,97 @@
+-- Acts that are handed out and written one by one, after the reply to their command.
+use Rattle.std.proofs.Common.{◌≡◌, ℕ, ◌+◌, ◌≤◌, List, [], ◌∷◌, ◌++◌, sym, ap, ◌∙◌, subst, arith, append_assoc}
+use Rattle.std.specs.Prelude.{Option, Some, Result, Ok}
+use Rattle.std.specs.Io.KnownBytes.{append_known}
+use Rattle.std.proofs.lemmas.Grind.{flat_map-append}
+use Rattle.std.proofs.lemmas.List.{append-nil}
+use Rattle.std.proofs.lemmas.List.Sums.{sum_by-append}
+use Rattle.fsrm_model.specs.declared.command.Act.{Act}
+use Rattle.fsrm_model.specs.declared.command.Command.{Command}
+use Rattle.fsrm_model.specs.declared.command.Outcome.{Outcome}
+use Rattle.fsrm_model.specs.declared.row.Capacity.{Capacity}
+use Rattle.fsrm_model.specs.declared.row.NodeRow.{NodeRow}
+use Rattle.fsrm_model.specs.declared.row.Rows.{Rows}
+use Rattle.fsrm_model.specs.Acts.{folder_in}
+use Rattle.fsrm_model.specs.ActText.{act_line, act_lines}
+use Rattle.fsrm_model.specs.Cost.{acts_cost, cost, path_cost, print_cost}
+use Rattle.fsrm_model.specs.Script.{replied_to, read_cost}
+use Rattle.fsrm_model.specs.Step.{step}
+use Rattle.fsrm_model.specs.Text.{reply}
+use Rattle.fsrm_model.specs.Valid.{IsValid}
+use Rattle.fsrm_outside.specs.Shown.{ShowsFront}
+use Rattle.fsrm_outside.proofs.Shown.{shows_then, shows_then_front}
+use Rattle.reply_text.specs.Writes.{Sends}
+use Rattle.reply_text.proofs.Sent.{front_more, sends_then}
+
+-- ---- one act after others
+pub one_handed : (all done waiting rest : List Act) (act : Act) → all ≡ done ++ waiting → waiting ≡ act ∷ rest → all ≡ (done ++ act ∷ []) ++ rest
+one_handed all done waiting rest act e h = e ∙ ap (λ (acts : List Act). done ++ acts) h ∙ sym (append_assoc done (act ∷ []) rest)
+
+pub all_handed : (all done waiting : List Act) → all ≡ done ++ waiting → waiting ≡ [] → done ≡ all
+all_handed all done waiting e none = sym (e ∙ ap (λ (acts : List Act). done ++ acts) none ∙ append-nil done)
+
+lines_more : (R : Rows) (done : List Act) (act : Act) → act_lines R done ++ act_line R act ≡ act_lines R (done ++ act ∷ [])
+lines_more R done act =
+    ap (λ (xs : List ℕ). act_lines R done ++ xs) (sym (append-nil (act_line R act))) ∙ sym (flat_map-append (act_line R) done (act ∷ []))
+
+-- the rows stay while acts are handed out
+pub line_shown : (R S : Rows) (done : List Act) (act : Act) (a b c : Option (List ℕ)) → S ≡ R → b ≡ append_known a (act_lines R done) → c ≡ append_known b (act_line S act) → c ≡ append_known a (act_lines R (done ++ act ∷ []))
+line_shown R S done act a b c same p q =
+    shows_then a b c (act_lines R done) (act_line R act) p (q ∙ ap (λ (T : Rows). append_known b (act_line T act)) same) ∙ ap (append_known a) (lines_more R done act)
+
+pub line_broken : (R S : Rows) (all done rest : List Act) (act : Act) (a b c : Option (List ℕ)) → S ≡ R → all ≡ (done ++ act ∷ []) ++ rest → b ≡ append_known a (act_lines R done) → ShowsFront b c (act_line S act) → ShowsFront a c (act_lines R all)
+line_broken R S all done rest act a b c same e p q =
+    let own : ShowsFront b c (act_line R act) = subst (λ (T : Rows). ShowsFront b c (act_line T act)) same q in
+    let these : ShowsFront a c (act_lines R (done ++ act ∷ [])) = subst (ShowsFront a c) (lines_more R done act) (shows_then_front a b c (act_lines R done) (act_line R act) p own) in
+    subst (ShowsFront a c) (sym (flat_map-append (act_line R) (done ++ act ∷ []) rest) ∙ sym (ap (act_lines R) e)) (front_more a c (act_lines R (done ++ act ∷ [])) (act_lines R rest) these)
+
+-- their looks
+cost_more : (nodes : List NodeRow) (done : List Act) (act : Act) → acts_cost nodes (done ++ act ∷ []) ≡ acts_cost nodes done + path_cost nodes (folder_in act.subject)
+cost_more nodes done act =
+    let split = sum_by-append (λ (act : Act). path_cost nodes (folder_in act.subject)) done (act ∷ []) in
+    omega (arith, split)
+
+pub looks_more : (R S : Rows) (done : List Act) (act : Act) (first now next : ℕ) → S ≡ R → now ≤ first + acts_cost R.nodes done → next ≤ now + path_cost S.nodes (folder_in act.subject) → next ≤ first + acts_cost R.nodes (done ++ act ∷ [])
+looks_more R S done act first now next same p q =
+    let own : path_cost S.nodes (folder_in act.subject) ≡ path_cost R.nodes (folder_in act.subject) = ap (λ (T : Rows). path_cost T.nodes (folder_in act.subject)) same in
+    omega (arith, p, q, own, cost_more R.nodes done act)
+
+pub looks_broken : (R : Rows) (all done rest : List Act) (first now : ℕ) → all ≡ done ++ rest → now ≤ first + acts_cost R.nodes done → now ≤ first + acts_cost R.nodes all
+looks_broken R all done rest first now e p =
+    let split = sum_by-append (λ (act : Act). path_cost R.nodes (folder_in act.subject)) done rest in
+    let whole : acts_cost R.nodes all ≡ acts_cost R.nodes (done ++ rest) = ap (acts_cost R.nodes) e in
+    omega (arith, p, split, whole)
+
+pub valid_still : (K L : Capacity) (R S : Rows) → L ≡ K → S ≡ R → IsValid K R → IsValid L S
+valid_still K L R S size rows h = subst (λ (T : Rows). IsValid L T) (sym rows) (subst (λ (M : Capacity). IsValid M R) (sym size) h)
+
+-- ---- a reply, and then its acts
+pub reply_front : (K : Capacity) (R : Rows) (c : Command) (n : ℕ) (text : List ℕ) (a b : Option (List ℕ)) → text ≡ reply K (step K R c).rows c.moment n (step K R c).outcome → ShowsFront a b text → ShowsFront a b (replied_to K R n (Some (Ok c))).text
+reply_front K R c n text a b e h =
+    let s = step K R c in
+    front_more a b (reply K s.rows c.moment n s.outcome) (act_lines s.rows s.acts) (subst (ShowsFront a b) e h)
+
+pub reply_then : {T E : Type 0} (r : Result T E) (K : Capacity) (R rows : Rows) (c : Command) (n : ℕ) (text : List ℕ) (acts : List Act) (first mid last : Option (List ℕ)) → text ≡ reply K (step K R c).rows c.moment n (step K R c).outcome
+    → rows ≡ (step K R c).rows → acts ≡ (step K R c).acts → mid ≡ append_known first text → Sends r mid last (act_lines rows acts) → Sends r first last (replied_to K R n (Some (Ok c))).text
+reply_then r K R rows c n text acts first mid last e same these p h =
+    let s = step K R c in
+    sends_then r first mid last (reply K s.rows c.moment n s.outcome) (act_lines s.rows s.acts) (p ∙ ap (append_known first) e)
+    (subst (Sends r mid last) (ap (λ (T : Rows). act_lines T acts) same ∙ ap (act_lines s.rows) these) h)
+
+pub looks_of_all : (K : Capacity) (R rows : Rows) (c : Command) (outcome : Outcome) (acts : List Act) (first taken written last : ℕ) → rows ≡ (step K R c).rows → outcome ≡ (step K R c).outcome → acts ≡ (step K R c).acts
+    → taken ≤ first + cost R c → written ≤ taken + print_cost rows outcome → last ≤ written + acts_cost rows.nodes acts → last ≤ first + read_cost K R (Some (Ok c))
+looks_of_all K R rows c outcome acts first taken written last same is these p q r =
+    let s = step K R c in
+    let printed : print_cost rows outcome ≡ print_cost s.rows s.outcome = ap (λ (T : Rows). print_cost T outcome) same ∙ ap (print_cost s.rows) is in
+    let acted : acts_cost rows.nodes acts ≡ acts_cost s.rows.nodes s.acts = ap (λ (T : Rows). acts_cost T.nodes acts) same ∙ ap (acts_cost s.rows.nodes) these in
+    omega (arith, p, q, r, printed, acted)
+
+pub looks_of_reply : (K : Capacity) (R rows : Rows) (c : Command) (outcome : Outcome) (first taken written : ℕ) → rows ≡ (step K R c).rows → outcome ≡ (step K R c).outcome
+    → taken ≤ first + cost R c → written ≤ taken + print_cost rows outcome → written ≤ first + read_cost K R (Some (Ok c))
+looks_of_reply K R rows c outcome first taken written same is p q =
+    let s = step K R c in
+    let printed : print_cost rows outcome ≡ print_cost s.rows s.outcome = ap (λ (T : Rows). print_cost T outcome) same ∙ ap (print_cost s.rows) is in
+    omega (arith, p, q, printed)
+
+pub looks_of_step : (K : Capacity) (R : Rows) (c : Command) (first taken : ℕ) → taken ≤ first + cost R c → taken ≤ first + read_cost K R (Some (Ok c))
+looks_of_step K R c first taken p = omega (arith, p)

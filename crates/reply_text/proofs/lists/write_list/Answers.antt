@@ -1,0 +1,17 @@
+use Rattle.std.proofs.Common.{◌∙◌, ap, sym}
+use Rattle.fsrm_model.specs.Text.{list_lines}
+use Rattle.fsrm_model.specs.Valid.{are_entries}
+use Rattle.reply_text.proofs.ActLines.{all_entries}
+use Rattle.reply_text.proofs.Sent.{sent}
+use Rattle.reply_text.proofs.lists.write_list.Goals as goal
+
+pub write_log-requires : goal.write_log-requires
+write_log-requires g c = ap are_entries c.marks.ensures.log ∙ c.marks.ensures.store.log
+
+pub returns-in-Acts-clause-text : goal.returns-in-Acts-clause-text
+returns-in-Acts-clause-text g c =
+    let sink = g.S.Sink in
+    let engine = c.args.engine.now in
+    sent c.write_log.result (sink.shown c.args.sink.now) (sink.shown c.write_log.new.sink) _ _
+    (all_entries engine.size engine.rows c.marks.result.now.log c.marks.ensures.log ∙ ap (list_lines engine.size engine.rows) (sym c.in-Acts.is))
+    c.write_log.ensures.text

@@ -1,0 +1,124 @@
+//! Writes the lines of a quota's thresholds.
+
+ghost use Rattle.std.specs.Prelude.{◌≡◌, ◌≤◌, ◌++◌, ◌∷◌, [], IsErrOf, decimal, flat_map, codes};
+ghost use Rattle.fsrm_model.specs.ActionWords.{kind_word, minutes_word};
+ghost use Rattle.fsrm_model.specs.Printed.{deep_line};
+ghost use Rattle.fsrm_outside.specs.Causes.{Rose};
+ghost use Rattle.reply_text.specs.Lines.{action_line, threshold_text};
+ghost use Rattle.reply_text.specs.Parts.{part_text};
+ghost use Rattle.reply_text.specs.Writes.{KeepsCount, Sends};
+
+use crate::fault::TextFault;
+use crate::sending::{Part, send};
+use fsrm_model::{Action, ActionKind, Threshold};
+use fsrm_outside::Sink;
+
+/// The letter of a kind.
+pub fn kind_word(kind: ActionKind) -> &'static [u8]
+    ensures { result.now ≡ kind_word kind }
+{
+    match kind {
+        ActionKind::Event => b"e",
+        ActionKind::Mail => b"m",
+        ActionKind::Program => b"c",
+        ActionKind::Report => b"r",
+    }
+}
+
+// The sign of minutes, and their digits.
+fn minutes_parts<'a>(minutes: i32) -> (Part<'a>, Part<'a>)
+    ensures { part_text result.0 ++ part_text result.1 ≡ minutes_word minutes }
+{
+    let digits = Part::Number(u64::from(minutes.unsigned_abs()));
+    if minutes < 0 {
+        (Part::Text(b"-"), digits)
+    } else {
+        (Part::Text(b""), digits)
+    }
+}
+
+// Writes the line of a threshold without actions.
+fn write_bare<S: Sink>(sink: &mut S, percent: u16) -> Result<(), TextFault>
+    ensures text { Sends result (S.shown sink.old) (S.shown sink.new) (deep_line (codes "at" ∷ decimal percent ∷ [])) }
+    ensures fault { IsErrOf result TextFault.WriteFault → Rose (S.write_faults sink.old) (S.write_faults sink.new) }
+    ensures later { S.write_faults sink.old ≤ S.write_faults sink.new }
+    ensures same { KeepsCount result (S.write_faults sink.old) (S.write_faults sink.new) }
+    ensures by { S.by_write sink.old sink.new }
+{
+    send(
+        sink,
+        &[
+            Part::Text(b"    at "),
+            Part::Number(u64::from(percent)),
+            Part::Text(b"\n"),
+        ],
+    )
+}
+
+// Writes the line of an action of a threshold.
+fn write_action<S: Sink>(sink: &mut S, percent: u16, action: &Action) -> Result<(), TextFault>
+    ensures text { Sends result (S.shown sink.old) (S.shown sink.new) (action_line percent action.now) }
+    ensures fault { IsErrOf result TextFault.WriteFault → Rose (S.write_faults sink.old) (S.write_faults sink.new) }
+    ensures later { S.write_faults sink.old ≤ S.write_faults sink.new }
+    ensures same { KeepsCount result (S.write_faults sink.old) (S.write_faults sink.new) }
+    ensures by { S.by_write sink.old sink.new }
+{
+    let (sign, digits) = minutes_parts(action.minutes);
+    send(
+        sink,
+        &[
+            Part::Text(b"    at "),
+            Part::Number(u64::from(percent)),
+            Part::Text(b" "),
+            Part::Text(kind_word(action.kind)),
+            Part::Text(b" "),
+            sign,
+            digits,
+            Part::Text(b" "),
+            Part::Text(action.text.as_str().as_bytes()),
+            Part::Text(b"\n"),
+        ],
+    )
+}
+
+// Writes the lines of a threshold's actions.
+fn write_actions<S: Sink>(sink: &mut S, percent: u16, actions: &[Action]) -> Result<(), TextFault>
+    ensures text { Sends result (S.shown sink.old) (S.shown sink.new) (flat_map (action_line percent) actions.now) }
+    ensures fault { IsErrOf result TextFault.WriteFault → Rose (S.write_faults sink.old) (S.write_faults sink.new) }
+    ensures later { S.write_faults sink.old ≤ S.write_faults sink.new }
+    ensures same { KeepsCount result (S.write_faults sink.old) (S.write_faults sink.new) }
+    ensures by { S.by_write sink.old sink.new }
+{
+    for action in actions {
+        write_action(sink, percent, action)?;
+    }
+    Ok(())
+}
+
+// Writes the lines of a threshold: one, or one for each of its actions.
+fn write_threshold<S: Sink>(sink: &mut S, threshold: &Threshold) -> Result<(), TextFault>
+    ensures text { Sends result (S.shown sink.old) (S.shown sink.new) (threshold_text threshold.now) }
+    ensures fault { IsErrOf result TextFault.WriteFault → Rose (S.write_faults sink.old) (S.write_faults sink.new) }
+    ensures later { S.write_faults sink.old ≤ S.write_faults sink.new }
+    ensures same { KeepsCount result (S.write_faults sink.old) (S.write_faults sink.new) }
+    ensures by { S.by_write sink.old sink.new }
+{
+    if threshold.actions.is_empty() {
+        return write_bare(sink, threshold.percent);
+    }
+    write_actions(sink, threshold.percent, threshold.actions.as_slice())
+}
+
+/// Writes the lines of a quota's thresholds.
+pub fn write_thresholds<S: Sink>(sink: &mut S, thresholds: &[Threshold]) -> Result<(), TextFault>
+    ensures text { Sends result (S.shown sink.old) (S.shown sink.new) (flat_map threshold_text thresholds.now) }
+    ensures fault { IsErrOf result TextFault.WriteFault → Rose (S.write_faults sink.old) (S.write_faults sink.new) }
+    ensures later { S.write_faults sink.old ≤ S.write_faults sink.new }
+    ensures same { KeepsCount result (S.write_faults sink.old) (S.write_faults sink.new) }
+    ensures by { S.by_write sink.old sink.new }
+{
+    for threshold in thresholds {
+        write_threshold(sink, threshold)?;
+    }
+    Ok(())
+}

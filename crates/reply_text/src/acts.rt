@@ -1,0 +1,168 @@
+//! Writes the lines of the log of actions, and those of actions that run.
+
+ghost use Rattle.std.specs.Prelude.{◌≡◌, ◌+◌, ◌≤◌, ◌++◌, ◌∷◌, IsErrOf, flat_map, true};
+ghost use Rattle.fsrm_model.specs.ActText.{act_line};
+ghost use Rattle.fsrm_model.specs.Acts.{IsAct, folder_in};
+ghost use Rattle.fsrm_model.specs.Cost.{path_cost};
+ghost use Rattle.fsrm_model.specs.Limits.{latest_moment};
+ghost use Rattle.fsrm_model.specs.Valid.{IsValid, are_entries};
+ghost use Rattle.fsrm_outside.specs.Causes.{Rose};
+ghost use Rattle.reply_text.specs.Lines.{act_text, entry_text, moment_text};
+ghost use Rattle.reply_text.specs.Parts.{part_text};
+ghost use Rattle.reply_text.specs.Writes.{KeepsCount, Sends};
+
+use crate::actions::kind_word;
+use crate::dates::{SECONDS_OF_A_DAY, date_text, time_text};
+use crate::fault::TextFault;
+use crate::sending::{Part, send};
+use fsrm_engine::Engine;
+use fsrm_model::{Act, ActRow, Ledger, Steps, Subject};
+use fsrm_outside::Sink;
+use std::alloc::Global;
+use thresholds::Marks;
+
+// Writes the line of an entry, of which these are the date and the time.
+fn write_dated<'a, S: Sink>(
+    sink: &mut S,
+    entry: &ActRow,
+    date: &'a [u8],
+    time: &'a [u8],
+) -> Result<(), TextFault>
+    requires { moment_text entry.now.moment ≡ date.now ++ 32 ∷ time.now }
+    ensures text { Sends result (S.shown sink.old) (S.shown sink.new) (entry_text entry.now) }
+    ensures fault { IsErrOf result TextFault.WriteFault → Rose (S.write_faults sink.old) (S.write_faults sink.new) }
+    ensures later { S.write_faults sink.old ≤ S.write_faults sink.new }
+    ensures same { KeepsCount result (S.write_faults sink.old) (S.write_faults sink.new) }
+    ensures by { S.by_write sink.old sink.new }
+{
+    let kind = kind_word(entry.kind);
+    if entry.percent == 0 {
+        return send(
+            sink,
+            &[
+                Part::Text(b"  "),
+                Part::Text(date),
+                Part::Text(b" "),
+                Part::Text(time),
+                Part::Text(b" screen "),
+                Part::Number(u64::from(entry.folder)),
+                Part::Text(b" "),
+                Part::Text(kind),
+                Part::Text(b"\n"),
+            ],
+        );
+    }
+    send(
+        sink,
+        &[
+            Part::Text(b"  "),
+            Part::Text(date),
+            Part::Text(b" "),
+            Part::Text(time),
+            Part::Text(b" quota "),
+            Part::Number(u64::from(entry.folder)),
+            Part::Text(b" "),
+            Part::Number(u64::from(entry.percent)),
+            Part::Text(b" "),
+            Part::Text(kind),
+            Part::Text(b"\n"),
+        ],
+    )
+}
+
+// Writes the line of an entry of the log.
+fn write_entry<S: Sink>(sink: &mut S, entry: &ActRow) -> Result<(), TextFault>
+    requires { entry.now.moment ≤ latest_moment }
+    ensures text { Sends result (S.shown sink.old) (S.shown sink.new) (entry_text entry.now) }
+    ensures fault { IsErrOf result TextFault.WriteFault → Rose (S.write_faults sink.old) (S.write_faults sink.new) }
+    ensures later { S.write_faults sink.old ≤ S.write_faults sink.new }
+    ensures same { KeepsCount result (S.write_faults sink.old) (S.write_faults sink.new) }
+    ensures by { S.by_write sink.old sink.new }
+{
+    let date = date_text((entry.moment / SECONDS_OF_A_DAY) as u32);
+    let time = time_text((entry.moment % SECONDS_OF_A_DAY) as u32);
+    write_dated(sink, entry, &date, &time)
+}
+
+/// Writes the lines of the log of actions, the oldest entry first. The moments of its entries are at most
+/// 4,102,444,799.
+pub fn write_log<S: Sink>(sink: &mut S, marks: &Marks) -> Result<(), TextFault>
+    requires { are_entries marks.now.log ≡ true }
+    ensures text { Sends result (S.shown sink.old) (S.shown sink.new) (flat_map entry_text marks.now.log) }
+    ensures fault { IsErrOf result TextFault.WriteFault → Rose (S.write_faults sink.old) (S.write_faults sink.new) }
+    ensures later { S.write_faults sink.old ≤ S.write_faults sink.new }
+    ensures same { KeepsCount result (S.write_faults sink.old) (S.write_faults sink.new) }
+    ensures by { S.by_write sink.old sink.new }
+{
+    for place in 0..marks.log_len() {
+        write_entry(sink, &marks.log_at(place))?;
+    }
+    Ok(())
+}
+
+// Writes the line of an act, with the path of its folder and the text of its action.
+fn write_line<'a, S: Sink>(
+    sink: &mut S,
+    act: &Act,
+    path: &'a str,
+    text: &'a str,
+) -> Result<(), TextFault>
+    ensures text { Sends result (S.shown sink.old) (S.shown sink.new) (act_text act.now path.now text.now) }
+    ensures fault { IsErrOf result TextFault.WriteFault → Rose (S.write_faults sink.old) (S.write_faults sink.new) }
+    ensures later { S.write_faults sink.old ≤ S.write_faults sink.new }
+    ensures same { KeepsCount result (S.write_faults sink.old) (S.write_faults sink.new) }
+    ensures by { S.by_write sink.old sink.new }
+{
+    let kind = kind_word(act.kind);
+    let (path, text) = (path.as_bytes(), text.as_bytes());
+    match act.subject {
+        Subject::Quota { percent, .. } => send(
+            sink,
+            &[
+                Part::Text(b"  act quota "),
+                Part::Number(u64::from(percent)),
+                Part::Text(b" "),
+                Part::Text(kind),
+                Part::Text(b" "),
+                Part::Text(path),
+                Part::Text(b"|"),
+                Part::Text(text),
+                Part::Text(b"\n"),
+            ],
+        ),
+        Subject::Screen { .. } => send(
+            sink,
+            &[
+                Part::Text(b"  act screen "),
+                Part::Text(kind),
+                Part::Text(b" "),
+                Part::Text(path),
+                Part::Text(b"|"),
+                Part::Text(text),
+                Part::Text(b"\n"),
+            ],
+        ),
+    }
+}
+
+/// Writes the line of an act, whose action is there: what it belongs to, the letter of its kind, the path of its folder
+/// and its text.
+pub fn write_act<S: Sink, L: Ledger>(
+    alloc: Global,
+    sink: &mut S,
+    act: &Act,
+    engine: &Engine,
+    steps: &mut Steps<L>,
+) -> Result<(), TextFault>
+    requires store { IsValid engine.now.size engine.now.rows }
+    requires named { IsAct engine.now.rows act.now }
+    ensures text { Sends result (S.shown sink.old) (S.shown sink.new) (act_line engine.now.rows act.now) }
+    ensures fault { IsErrOf result TextFault.WriteFault → Rose (S.write_faults sink.old) (S.write_faults sink.new) }
+    ensures later { S.write_faults sink.old ≤ S.write_faults sink.new }
+    ensures same { KeepsCount result (S.write_faults sink.old) (S.write_faults sink.new) }
+    ensures by { S.by_write sink.old sink.new }
+    ensures looks { steps.new ≤ steps.old + path_cost engine.now.rows.nodes (folder_in act.now.subject) }
+{
+    let path = engine.path_text(alloc, act.subject.folder(), steps)?;
+    write_line(sink, act, path.as_str(), engine.act_text(act))
+}
