@@ -17,7 +17,7 @@ fn has_names(path: &Path) -> bool {
         return false;
     }
     let mut names = path.names();
-    names.next() == "a" && names.next() == "b c"
+    names.next() == Some("a") && names.next() == Some("b c") && names.next().is_none()
 }
 
 #[test]

@@ -1,4 +1,4 @@
-//! A quota with a threshold, which no command makes yet. All else of quotas and their counters is shown by scripts.
+//! The texts of the actions of a quota. All else of quotas and their counters is shown by scripts.
 
 ghost use Rattle.std.specs.Prelude.{◌≡◌, IfOk, true};
 ghost use Rattle.fsrm_objects.specs.Tables.{has_short_texts};
