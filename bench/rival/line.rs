@@ -1,5 +1,6 @@
 // Lines, read as commands. Words are lent from the line; only one with quotes in its midst is copied.
 use crate::text;
+use crate::thresholds::{Action, Notice};
 use std::borrow::Cow;
 use std::ops::RangeInclusive;
 
@@ -8,8 +9,19 @@ const LENGTHS: RangeInclusive<u64> = 0..=(1 << 44) - (1 << 16);
 const OWNERS: RangeInclusive<u64> = 1..=u32::MAX as u64;
 const LIMITS: RangeInclusive<u64> = 1_024..=1 << 60;
 const VISITS: RangeInclusive<u64> = 1..=1_000_000;
+const PERCENTS: RangeInclusive<u64> = 1..=250;
+const MINUTES: RangeInclusive<u64> = 0..=525_600;
 const LONGEST_NAME: usize = 255;
 const LONGEST_NUMBER: usize = 20;
+const LONGEST_TEXT: usize = 1_024;
+// the bytes of the longest words of commands, and of the names of options
+const LONGEST_WORD: usize = 17;
+
+// The options that commands take.
+const OF_PATH: [&[u8]; 1] = [b"/path"];
+const OF_ADD: [&[u8]; 6] = [b"/path", b"/limit", b"/type", b"/status", b"/add-threshold", b"/add-notification"];
+const OF_MODIFY: [&[u8]; 7] =
+    [b"/path", b"/limit", b"/type", b"/status", b"/add-threshold", b"/add-notification", b"/remove-threshold"];
 
 pub enum Refusal {
     BadLine(usize),
@@ -32,8 +44,11 @@ pub enum Command<'a> {
     Usage { path: Path<'a> },
     Step { visits: u64 },
     ListAll,
-    AddQuota { path: Path<'a>, limit: u64, settings: Settings },
-    OfQuota { verb: Verb, path: Path<'a>, settings: Settings },
+    AddQuota { path: Path<'a>, limit: u64, settings: Box<Settings> },
+    OfQuota { verb: Verb, path: Path<'a>, settings: Box<Settings> },
+    SetRunLimit { minutes: u64 },
+    ListSettings,
+    ListLog,
 }
 
 // The commands on a quota that is there.
@@ -45,12 +60,16 @@ pub enum Verb {
     List,
 }
 
-// What the options of a quota say.
+// What options say beside the path.
 #[derive(Default)]
 pub struct Settings {
     pub limit: Option<u64>,
     pub hard: Option<bool>,
     pub enabled: Option<bool>,
+    pub removed: Vec<u64>,
+    pub percents: Vec<u64>,
+    pub notices: Vec<Notice>,
+    run_limit: Option<u64>,
 }
 
 pub struct Words<'a> {
@@ -95,8 +114,8 @@ fn unquoted(word: &[u8]) -> Cow<'_, [u8]> {
     }
 }
 
-// A word in small letters, if it is as short as those of commands are.
-fn small<'a>(word: &[u8], letters: &'a mut [u8; 12]) -> &'a [u8] {
+// A word in small letters, if it is as short as those of commands and options are.
+fn small<'a>(word: &[u8], letters: &'a mut [u8; LONGEST_WORD]) -> &'a [u8] {
     let Some(letters) = letters.get_mut(..word.len()) else { return &[] };
     letters.copy_from_slice(word);
     letters.make_ascii_lowercase();
@@ -106,6 +125,12 @@ fn small<'a>(word: &[u8], letters: &'a mut [u8; 12]) -> &'a [u8] {
 fn number(word: &[u8]) -> Option<u64> {
     let digits = (1..=LONGEST_NUMBER).contains(&word.len()) && word.iter().all(u8::is_ascii_digit);
     digits.then(|| value(word))
+}
+
+// A number of this range, in a word at this column.
+fn within(word: &[u8], range: RangeInclusive<u64>, column: usize) -> Result<u64, Refusal> {
+    let number = number(word).ok_or(BadLine(column))?;
+    range.contains(&number).then_some(number).ok_or(Named("OutOfRange"))
 }
 
 // What digits say, or the greatest number if that is more.
@@ -139,7 +164,7 @@ fn path<'a>(word: Cow<'a, [u8]>) -> Result<Path<'a>, Refusal> {
 
 fn limit(word: &[u8], column: usize) -> Result<u64, Refusal> {
     let (digits, unit) = word.split_at(word.iter().take_while(|byte| byte.is_ascii_digit()).count());
-    let unit = match small(unit, &mut [0; 12]) {
+    let unit = match small(unit, &mut [0; LONGEST_WORD]) {
         _ if digits.is_empty() => return Err(BadLine(column)),
         [] if unit.is_empty() => 1,
         b"kb" => 1 << 10,
@@ -166,12 +191,7 @@ impl<'a> Words<'a> {
 
     fn number(&mut self, range: RangeInclusive<u64>) -> Result<u64, Refusal> {
         let word = self.word()?;
-        let number = number(&word.text).ok_or(BadLine(word.column))?;
-        if range.contains(&number) {
-            Ok(number)
-        } else {
-            Err(Named("OutOfRange"))
-        }
+        within(&word.text, range, word.column)
     }
 
     fn owner(&mut self) -> Result<u32, Refusal> {
@@ -186,7 +206,7 @@ impl<'a> Words<'a> {
     pub fn command(&mut self) -> Result<(u32, Command<'a>), Refusal> {
         let moment = self.number(0..=LAST_MOMENT)? as u32;
         let name = self.word()?;
-        let command = match small(&name.text, &mut [0; 12]) {
+        let command = match small(&name.text, &mut [0; LONGEST_WORD]) {
             b"mkdir" => Command::Mkdir { path: self.path()?, owner: self.owner()? },
             b"create" => Command::Create { path: self.path()?, length: self.number(LENGTHS)?, owner: self.owner()? },
             b"resize" => Command::Resize { path: self.path()?, length: self.number(LENGTHS)? },
@@ -195,7 +215,7 @@ impl<'a> Words<'a> {
             b"remove" => Command::Remove { path: self.path()? },
             b"usage" => Command::Usage { path: self.path()? },
             b"step" => Command::Step { visits: self.number(VISITS)? },
-            b"dirquota" => self.quota_command()?,
+            b"dirquota" => self.tool_command()?,
             _ => return Err(BadLine(name.column)),
         };
         match self.next() {
@@ -204,15 +224,20 @@ impl<'a> Words<'a> {
         }
     }
 
-    fn quota_command(&mut self) -> Result<Command<'a>, Refusal> {
-        let family = self.word()?;
-        if small(&family.text, &mut [0; 12]) != b"quota" {
-            return Err(BadLine(family.column));
+    fn tool_command(&mut self) -> Result<Command<'a>, Refusal> {
+        let object = self.word()?;
+        match small(&object.text, &mut [0; LONGEST_WORD]) {
+            b"quota" => self.quota_command(),
+            b"admin" => self.admin_command(),
+            _ => Err(BadLine(object.column)),
         }
+    }
+
+    fn quota_command(&mut self) -> Result<Command<'a>, Refusal> {
         let name = self.word()?;
-        let verb = match small(&name.text, &mut [0; 12]) {
+        let verb = match small(&name.text, &mut [0; LONGEST_WORD]) {
             b"add" => {
-                let (path, settings) = self.options(true)?;
+                let (path, settings) = self.options(&OF_ADD)?;
                 let (path, limit) = path.zip(settings.limit).ok_or(self.missing())?;
                 return Ok(Command::AddQuota { path, limit, settings });
             }
@@ -223,18 +248,34 @@ impl<'a> Words<'a> {
             b"list" => Verb::List,
             _ => return Err(BadLine(name.column)),
         };
-        match (self.options(matches!(verb, Verb::Modify))?, verb) {
+        let takes: &[&[u8]] = if matches!(verb, Verb::Modify) { &OF_MODIFY } else { &OF_PATH };
+        match (self.options(takes)?, verb) {
             ((None, _), Verb::List) => Ok(Command::ListAll),
             ((path, settings), verb) => Ok(Command::OfQuota { verb, path: path.ok_or(self.missing())?, settings }),
         }
     }
 
-    fn options(&mut self, takes_all: bool) -> Result<(Option<Path<'a>>, Settings), Refusal> {
-        let (mut path_given, mut given) = (None, Settings::default());
+    fn admin_command(&mut self) -> Result<Command<'a>, Refusal> {
+        let name = self.word()?;
+        match small(&name.text, &mut [0; LONGEST_WORD]) {
+            b"options" => {
+                let (_, settings) = self.options(&[b"/runlimitinterval"])?;
+                Ok(Command::SetRunLimit { minutes: settings.run_limit.ok_or(self.missing())? })
+            }
+            b"list" => self.options(&[]).map(|_| Command::ListSettings),
+            b"log" => self.options(&[]).map(|_| Command::ListLog),
+            _ => Err(BadLine(name.column)),
+        }
+    }
+
+    // What all words that are left say, each of which is one of the options that a command takes.
+    fn options(&mut self, takes: &[&[u8]]) -> Result<(Option<Path<'a>>, Box<Settings>), Refusal> {
+        let (mut path_given, mut given) = (None, Box::<Settings>::default());
         for Word { text, column } in self.by_ref() {
             let colon = text.iter().position(|byte| *byte == b':').ok_or(BadLine(column))?;
-            let (name, value) = (&text[..colon], &text[colon + 1..]);
-            match small(name, &mut [0; 12]) {
+            let (mut letters, value) = ([0; LONGEST_WORD], &text[colon + 1..]);
+            match small(&text[..colon], &mut letters) {
+                name if !takes.contains(&name) => return Err(BadLine(column)),
                 b"/path" if path_given.is_none() => {
                     let value = match text {
                         Cow::Borrowed(text) => Cow::Borrowed(&text[colon + 1..]),
@@ -242,12 +283,16 @@ impl<'a> Words<'a> {
                     };
                     path_given = Some(path(value)?);
                 }
-                b"/limit" if takes_all && given.limit.is_none() => given.limit = Some(limit(value, column)?),
-                b"/type" if takes_all && given.hard.is_none() => {
-                    given.hard = Some(either(value, b"hard", b"soft", column)?);
-                }
-                b"/status" if takes_all && given.enabled.is_none() => {
+                b"/limit" if given.limit.is_none() => given.limit = Some(limit(value, column)?),
+                b"/type" if given.hard.is_none() => given.hard = Some(either(value, b"hard", b"soft", column)?),
+                b"/status" if given.enabled.is_none() => {
                     given.enabled = Some(either(value, b"enabled", b"disabled", column)?);
+                }
+                b"/remove-threshold" => given.removed.push(within(value, PERCENTS, column)?),
+                b"/add-threshold" => given.percents.push(within(value, PERCENTS, column)?),
+                b"/add-notification" => given.notices.push(notice(value, column)?),
+                b"/runlimitinterval" if given.run_limit.is_none() => {
+                    given.run_limit = Some(within(value, MINUTES, column)?);
                 }
                 _ => return Err(BadLine(column)),
             }
@@ -263,4 +308,23 @@ fn either(word: &[u8], yes: &[u8], no: &[u8], column: usize) -> Result<bool, Ref
     } else {
         Err(BadLine(column))
     }
+}
+
+// A percentage, a kind, minutes and a text. The text may have commas, too.
+fn notice(value: &[u8], column: usize) -> Result<Notice, Refusal> {
+    let parts: Vec<&[u8]> = value.splitn(4, |byte| *byte == b',').collect();
+    let [percent, kind, minutes, text] = parts[..] else { return Err(BadLine(column)) };
+    let percent = within(percent, PERCENTS, column)?;
+    let kind = match kind {
+        [letter] if b"emcr".contains(&letter.to_ascii_lowercase()) => letter.to_ascii_lowercase(),
+        _ => return Err(BadLine(column)),
+    };
+    let minutes = match minutes {
+        b"-1" => None,
+        minutes => Some(within(minutes, MINUTES, column)?),
+    };
+    if text.len() > LONGEST_TEXT || text.iter().any(u8::is_ascii_control) {
+        return Err(Named("InvalidName"));
+    }
+    Ok(Notice { percent, action: Action { kind, minutes, text: text.to_vec(), last_run: None } })
 }

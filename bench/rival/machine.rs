@@ -1,8 +1,9 @@
 // What each command does.
-use crate::line::Refusal::{self, Named};
+use crate::line::Refusal::{self, Exceeded, Named};
 use crate::line::{Command, Settings, Verb};
 use crate::quotas::{Quota, Quotas, State};
 use crate::scans::Scans;
+use crate::thresholds;
 use crate::volume::{allocated, Folder, Node, Volume, NOWHERE, ROOT};
 
 pub enum Answer {
@@ -11,13 +12,20 @@ pub enum Answer {
     Visited { folders: u64, scanned: u32, used: Option<u64> },
     // the folders whose quotas are to be shown
     Quotas(Vec<u32>),
+    Settings,
+    Log,
 }
 
 pub struct Machine {
     pub volume: Volume,
-    quotas: Quotas,
-    scans: Scans,
+    pub quotas: Quotas,
+    pub scans: Scans,
     last: u32,
+}
+
+// The quota of a folder that has one.
+fn quota_of(volume: &mut Volume, folder: u32) -> &mut Quota {
+    volume.folder_mut(folder).quota.as_mut().expect("a quota")
 }
 
 impl Machine {
@@ -29,6 +37,23 @@ impl Machine {
         if moment < self.last {
             return Err(Named("ClockBack"));
         }
+        let answer = self.carry_out(moment, command);
+        if let Err(Exceeded { would, folder, .. }) = answer {
+            self.warn(folder, would, moment);
+        }
+        answer
+    }
+
+    // Has the actions run of the thresholds that a refused operation would have reached. Then it lasts.
+    fn warn(&mut self, folder: u32, would: u64, moment: u32) {
+        let quota = quota_of(&mut self.volume, folder);
+        quota.cross(folder, quota.used, would, moment, &mut self.quotas.runs);
+        if !self.quotas.runs.acts.is_empty() {
+            self.last = moment;
+        }
+    }
+
+    fn carry_out(&mut self, moment: u32, command: &Command) -> Result<Answer, Refusal> {
         match command {
             Command::Mkdir { path, owner } => self.mkdir(path, *owner, moment)?,
             Command::Create { path, length, owner } => self.create(path, *length, *owner, moment)?,
@@ -51,6 +76,9 @@ impl Machine {
                 self.volume.folder(folder).quota.as_ref().ok_or(Named("NotFound"))?;
                 return self.change_quota(folder, verb, settings, moment);
             }
+            Command::SetRunLimit { minutes } => self.quotas.runs.run_limit = *minutes,
+            Command::ListSettings => return Ok(Answer::Settings),
+            Command::ListLog => return Ok(Answer::Log),
         }
         self.last = moment;
         Ok(Answer::Done)
@@ -183,17 +211,11 @@ impl Machine {
         let folders = (0..visits).take_while(|_| self.scans.visit(&mut self.volume)).count() as u64;
         let used = self.scans.is_finished().then_some(self.scans.counted);
         if let Some(used) = used {
-            let quota = self.quota(scanned);
-            (quota.state, quota.used) = (State::Complete, used);
-            quota.raise_peak(moment);
+            quota_of(&mut self.volume, scanned).complete(scanned, used, moment, &mut self.quotas.runs);
             self.scans.leave(scanned);
             self.last = moment;
         }
         Ok(Answer::Visited { folders, scanned, used })
-    }
-
-    fn quota(&mut self, folder: u32) -> &mut Quota {
-        self.volume.folder_mut(folder).quota.as_mut().expect("a quota")
     }
 
     fn add_quota(&mut self, path: &[u8], limit: u64, given: &Settings, moment: u32) -> Result<(), Refusal> {
@@ -201,25 +223,48 @@ impl Machine {
         if self.volume.folder(folder).quota.is_some() {
             return Err(Named("AlreadyExists"));
         }
+        let thresholds = thresholds::changed(&[], given);
+        if thresholds::are_too_many(&thresholds) {
+            return Err(Named("OutOfRange"));
+        }
         if self.quotas.is_full() {
             return Err(Named("TableFull"));
         }
-        let hard = given.hard.unwrap_or(true);
-        let quota = Quota { limit, hard, state: State::Disabled, used: 0, peak: 0, peak_at: moment };
+        if !self.quotas.have_room_for(&thresholds, &[]) {
+            return Err(Named("TextsFull"));
+        }
+        let quota = Quota::new(limit, given.hard.unwrap_or(true), thresholds, moment);
         self.quotas.add(&mut self.volume, folder, quota);
         self.set_enabled(folder, given.enabled.unwrap_or(true));
         Ok(())
     }
 
+    fn modify_quota(&mut self, folder: u32, given: &Settings, moment: u32) -> Result<(), Refusal> {
+        let quota = quota_of(&mut self.volume, folder);
+        if !thresholds::may_remove(&quota.thresholds, &given.removed) {
+            return Err(Named("NotFound"));
+        }
+        let changed = thresholds::changed(&quota.thresholds, given);
+        if thresholds::are_too_many(&changed) {
+            return Err(Named("OutOfRange"));
+        }
+        if !self.quotas.have_room_for(&changed, &quota.thresholds) {
+            return Err(Named("TextsFull"));
+        }
+        let (reached, enabled) = (quota.reached(), quota.state != State::Disabled);
+        quota.limit = given.limit.unwrap_or(quota.limit);
+        quota.hard = given.hard.unwrap_or(quota.hard);
+        self.quotas.replace(quota, changed);
+        self.set_enabled(folder, given.enabled.unwrap_or(enabled));
+        quota_of(&mut self.volume, folder).settle(folder, &reached, moment, &mut self.quotas.runs);
+        Ok(())
+    }
+
     // Takes a command on the quota that a folder has.
     fn change_quota(&mut self, folder: u32, verb: &Verb, given: &Settings, moment: u32) -> Result<Answer, Refusal> {
-        let quota = self.quota(folder);
+        let quota = quota_of(&mut self.volume, folder);
         match (verb, quota.state) {
-            (Verb::Modify, state) => {
-                quota.limit = given.limit.unwrap_or(quota.limit);
-                quota.hard = given.hard.unwrap_or(quota.hard);
-                self.set_enabled(folder, given.enabled.unwrap_or(state != State::Disabled));
-            }
+            (Verb::Modify, _) => self.modify_quota(folder, given, moment)?,
             (Verb::ResetPeak, _) => quota.reset_peak(moment),
             (Verb::Scan, State::Complete) => self.queue_scan(folder),
             (Verb::Scan, State::Disabled) => return Err(Named("InvalidCombination")),
@@ -234,12 +279,12 @@ impl Machine {
     // A quota that is enabled counts at once if its folder is empty, and else waits for its scan.
     fn set_enabled(&mut self, folder: u32, enabled: bool) {
         let empty = self.volume.folder(folder).children.is_empty();
-        let quota = self.quota(folder);
+        let quota = quota_of(&mut self.volume, folder);
         match (quota.state == State::Disabled, enabled) {
-            (true, true) if empty => quota.state = State::Complete,
+            (true, true) if empty => quota.enter(State::Complete),
             (true, true) => self.queue_scan(folder),
             (false, false) => {
-                (quota.state, quota.used) = (State::Disabled, 0);
+                quota.enter(State::Disabled);
                 self.scans.leave(folder);
             }
             _ => {}
@@ -247,8 +292,8 @@ impl Machine {
     }
 
     fn queue_scan(&mut self, folder: u32) {
-        let quota = self.quota(folder);
-        (quota.state, quota.used) = (State::Rebuilding, 0);
+        let quota = quota_of(&mut self.volume, folder);
+        quota.enter(State::Rebuilding);
         self.scans.join(folder);
     }
 

@@ -3,8 +3,9 @@
 //
 // The script is read in blocks, and words are lent from its lines. Nodes stand in a list by their numbers, their names
 // in one list, and a hash table finds a node by its folder and its folded name. Quotas stand in their folders; each
-// change of a file climbs to the root and keeps what they have used. Children are listed by their folder, so that sums
-// and scans visit them one after another. Replies are gathered, and written once for each block.
+// change of a file climbs to the root and keeps what they have used. A quota keeps the bounds between which that crosses
+// no threshold. Children are listed by their folder, so that sums and scans visit them one after another. Replies are
+// gathered, and written once for each block.
 //
 // Its replies are those of docs/FORMATS.md, but for letters that this compiler's Unicode doesn't have yet: it doesn't
 // fold them. It takes no words, its exit status is 0 or 1, and a script may be of any length.
@@ -17,6 +18,7 @@ mod quotas;
 mod replies;
 mod scans;
 mod text;
+mod thresholds;
 mod volume;
 
 use line::Refusal::{self, BadLine, Named};
@@ -61,7 +63,8 @@ impl Session {
     fn take(&mut self, line: &Line) {
         self.lines += 1;
         if let Some(reply) = answer(&mut self.machine, line).transpose() {
-            replies::write_reply(&mut self.replies, self.lines, &reply, &self.machine.volume);
+            replies::write_reply(&mut self.replies, self.lines, &reply, &self.machine);
+            self.machine.quotas.runs.acts.clear();
         }
     }
 

@@ -1,9 +1,12 @@
 // The quotas on folders, and what is used there.
 use crate::line::Refusal;
 use crate::numbers::Numbers;
+use crate::thresholds::{text_bytes, Runs, Threshold};
 use crate::volume::{Folder, Volume, NOWHERE};
+use std::ops::Range;
 
 const MOST_QUOTAS: usize = 4_096;
+const MOST_TEXT_BYTES: usize = 4_194_304;
 
 #[derive(Clone, Copy, PartialEq)]
 pub enum State {
@@ -20,9 +23,21 @@ pub struct Quota {
     pub used: u64,
     pub peak: u64,
     pub peak_at: u32,
+    // in the order of their percentages
+    pub thresholds: Vec<Threshold>,
+    // as long as what is used is among these, no other thresholds are reached than now
+    calm: Range<u64>,
 }
 
 impl Quota {
+    // One that is disabled.
+    pub fn new(limit: u64, hard: bool, thresholds: Vec<Threshold>, moment: u32) -> Quota {
+        let (state, calm) = (State::Disabled, 0..0);
+        let mut quota = Quota { limit, hard, state, used: 0, peak: 0, peak_at: moment, thresholds, calm };
+        quota.calm_down();
+        quota
+    }
+
     pub fn reset_peak(&mut self, moment: u32) {
         (self.peak, self.peak_at) = (self.used, moment);
     }
@@ -32,12 +47,67 @@ impl Quota {
             self.reset_peak(moment);
         }
     }
+
+    // Counts, or no longer. Nothing is used then.
+    pub fn enter(&mut self, state: State) {
+        (self.state, self.used) = (state, 0);
+        self.calm_down();
+    }
+
+    // Counts from now on, with so many bytes.
+    pub fn complete(&mut self, folder: u32, used: u64, moment: u32, runs: &mut Runs) {
+        (self.state, self.used) = (State::Complete, used);
+        self.raise_peak(moment);
+        self.cross(folder, 0, used, moment, runs);
+    }
+
+    fn calm_down(&mut self) {
+        self.calm = 0..u64::MAX;
+        for threshold in &self.thresholds {
+            let bytes = threshold.bytes(self.limit);
+            if bytes > self.used {
+                self.calm.end = bytes;
+                return;
+            }
+            self.calm.start = bytes;
+        }
+    }
+
+    // Has the actions run of the thresholds that `now` bytes reach and `before` don't. No threshold is reached by 0.
+    pub fn cross(&mut self, folder: u32, before: u64, now: u64, moment: u32, runs: &mut Runs) {
+        for (place, threshold) in self.thresholds.iter_mut().enumerate() {
+            let bytes = threshold.bytes(self.limit);
+            if before < bytes && bytes <= now {
+                runs.run(folder, place, threshold, moment);
+            }
+        }
+        self.calm_down();
+    }
+
+    // The percentages that are reached.
+    pub fn reached(&self) -> Vec<u64> {
+        let is_reached = |threshold: &&Threshold| threshold.bytes(self.limit) <= self.used;
+        self.thresholds.iter().filter(is_reached).map(|threshold| threshold.percent).collect()
+    }
+
+    // Has the actions run of the thresholds that are reached and weren't before.
+    pub fn settle(&mut self, folder: u32, reached_before: &[u64], moment: u32, runs: &mut Runs) {
+        for (place, threshold) in self.thresholds.iter_mut().enumerate() {
+            if threshold.bytes(self.limit) <= self.used && !reached_before.contains(&threshold.percent) {
+                runs.run(folder, place, threshold, moment);
+            }
+        }
+        self.calm_down();
+    }
 }
 
 // The folders that have a quota. Each quota stands in its folder.
 pub struct Quotas {
     folders: Numbers,
     count: usize,
+    // so many bytes have the texts of their actions
+    texts: usize,
+    pub runs: Runs,
 }
 
 fn counting(folder: &Folder) -> Option<&Quota> {
@@ -50,7 +120,7 @@ fn counting_mut(folder: &mut Folder) -> Option<&mut Quota> {
 
 impl Quotas {
     pub fn new() -> Quotas {
-        Quotas { folders: Numbers::new(), count: 0 }
+        Quotas { folders: Numbers::new(), count: 0, texts: 0, runs: Runs::new() }
     }
 
     pub fn is_empty(&self) -> bool {
@@ -61,11 +131,17 @@ impl Quotas {
         self.count == MOST_QUOTAS
     }
 
+    // Whether the texts of these thresholds fit, if those of others are given back first.
+    pub fn have_room_for(&self, thresholds: &[Threshold], replaced: &[Threshold]) -> bool {
+        self.texts - text_bytes(replaced) + text_bytes(thresholds) <= MOST_TEXT_BYTES
+    }
+
     pub fn folders(&self) -> impl Iterator<Item = u32> + '_ {
         self.folders.iter()
     }
 
     pub fn add(&mut self, volume: &mut Volume, folder: u32, quota: Quota) {
+        self.texts += text_bytes(&quota.thresholds);
         volume.folder_mut(folder).quota = Some(quota);
         self.folders.insert(folder);
         self.count += 1;
@@ -74,14 +150,21 @@ impl Quotas {
     // Takes away the quota of a folder, if there is one, and tells whether it waited for a scan.
     pub fn delete(&mut self, volume: &mut Volume, folder: u32) -> bool {
         volume.folder_mut(folder).quota.take().is_some_and(|quota| {
+            self.texts -= text_bytes(&quota.thresholds);
             self.folders.remove(folder);
             self.count -= 1;
             quota.state == State::Rebuilding
         })
     }
 
+    // Gives a quota these thresholds in place of its own.
+    pub fn replace(&mut self, quota: &mut Quota, thresholds: Vec<Threshold>) {
+        self.texts = self.texts - text_bytes(&quota.thresholds) + text_bytes(&thresholds);
+        quota.thresholds = thresholds;
+    }
+
     // Gives bytes to a folder and to those above it, up to another one; or the deepest quota refuses that does.
-    pub fn gain(&self, volume: &mut Volume, from: u32, until: u32, bytes: u64, moment: u32) -> Result<(), Refusal> {
+    pub fn gain(&mut self, volume: &mut Volume, from: u32, until: u32, bytes: u64, moment: u32) -> Result<(), Refusal> {
         if self.is_empty() || bytes == 0 {
             return Ok(());
         }
@@ -93,15 +176,29 @@ impl Quotas {
                 }
             }
         }
-        let mut at = from;
+        let (mut at, mut crossing) = (from, Vec::new());
         while at != until {
             if let Some(quota) = counting_mut(volume.folder_mut(at)) {
                 quota.used += bytes;
                 quota.raise_peak(moment);
+                if quota.used >= quota.calm.end {
+                    crossing.push(at);
+                }
             }
             at = volume.node(at).parent;
         }
+        self.warn(volume, crossing, bytes, moment);
         Ok(())
+    }
+
+    // Has the actions run of the folders that have gained so many bytes, and thereby reached a threshold.
+    fn warn(&mut self, volume: &mut Volume, mut crossing: Vec<u32>, bytes: u64, moment: u32) {
+        crossing.sort_unstable();
+        for folder in crossing {
+            if let Some(quota) = counting_mut(volume.folder_mut(folder)) {
+                quota.cross(folder, quota.used - bytes, quota.used, moment, &mut self.runs);
+            }
+        }
     }
 
     pub fn lose(&self, volume: &mut Volume, from: u32, until: u32, bytes: u64) {
@@ -112,19 +209,22 @@ impl Quotas {
         while at != until {
             if let Some(quota) = counting_mut(volume.folder_mut(at)) {
                 quota.used -= bytes;
+                if quota.used < quota.calm.start {
+                    quota.calm_down();
+                }
             }
             at = volume.node(at).parent;
         }
     }
 
     // A file of the folder gets another size.
-    pub fn resize(&self, volume: &mut Volume, folder: u32, old: u64, new: u64, moment: u32) -> Result<(), Refusal> {
+    pub fn resize(&mut self, volume: &mut Volume, folder: u32, old: u64, new: u64, moment: u32) -> Result<(), Refusal> {
         self.lose(volume, folder, NOWHERE, old.saturating_sub(new));
         self.gain(volume, folder, NOWHERE, new.saturating_sub(old), moment)
     }
 
     // Something goes from one folder into another. From where their ways up meet nothing changes.
-    pub fn carry(&self, volume: &mut Volume, node: u32, to: u32, moment: u32) -> Result<(), Refusal> {
+    pub fn carry(&mut self, volume: &mut Volume, node: u32, to: u32, moment: u32) -> Result<(), Refusal> {
         let from = volume.node(node).parent;
         if self.is_empty() || from == to {
             return Ok(());

@@ -1,26 +1,31 @@
 // The text of replies.
 use crate::line::Refusal;
-use crate::machine::Answer;
+use crate::machine::{Answer, Machine};
 use crate::quotas::{Quota, State};
-use crate::volume::{Volume, ROOT};
+use crate::thresholds::{Act, Entry, Threshold};
+use crate::volume::{Volume, MOST_NAMES, MOST_NODES, ROOT};
 
-// Writes the reply to the line of this number.
-pub fn write_reply(out: &mut Vec<u8>, line: u64, reply: &Result<Answer, Refusal>, volume: &Volume) {
+// Writes the reply to the line of this number, and the acts that its command set off.
+pub fn write_reply(out: &mut Vec<u8>, line: u64, reply: &Result<Answer, Refusal>, machine: &Machine) {
     write_number(out, line);
     match reply {
         Ok(answer) => {
             out.extend_from_slice(b" ok");
-            write_answer(out, answer, volume);
+            write_answer(out, answer, machine);
         }
         Err(refusal) => {
             out.extend_from_slice(b" refused ");
-            write_refusal(out, refusal, volume);
+            write_refusal(out, refusal, &machine.volume);
         }
+    }
+    for act in &machine.quotas.runs.acts {
+        write_act(out, act, &machine.volume);
     }
     out.push(b'\n');
 }
 
-fn write_answer(out: &mut Vec<u8>, answer: &Answer, volume: &Volume) {
+fn write_answer(out: &mut Vec<u8>, answer: &Answer, machine: &Machine) {
+    let volume = &machine.volume;
     match answer {
         Answer::Done => {}
         Answer::Usage { node, used } => {
@@ -41,12 +46,19 @@ fn write_answer(out: &mut Vec<u8>, answer: &Answer, volume: &Volume) {
         }
         Answer::Quotas(folders) => {
             for folder in folders {
-                let quota = volume.folder(*folder).quota.as_ref().expect("a quota");
+                let quota = quota_of(*folder, volume);
                 write_quota(out, quota);
                 write_path(out, *folder, volume);
+                quota.thresholds.iter().for_each(|threshold| write_threshold(out, threshold));
             }
         }
+        Answer::Settings => write_settings(out, machine),
+        Answer::Log => machine.quotas.runs.log.iter().for_each(|entry| write_entry(out, entry)),
     }
+}
+
+fn quota_of(folder: u32, volume: &Volume) -> &Quota {
+    volume.folder(folder).quota.as_ref().expect("a quota")
 }
 
 fn write_refusal(out: &mut Vec<u8>, refusal: &Refusal, volume: &Volume) {
@@ -82,6 +94,53 @@ fn write_quota(out: &mut Vec<u8>, quota: &Quota) {
     out.push(b' ');
     write_number(out, quota.peak);
     out.extend_from_slice(date(quota.peak_at).as_bytes());
+}
+
+// A line for each action, or one if there is none.
+fn write_threshold(out: &mut Vec<u8>, threshold: &Threshold) {
+    if threshold.actions.is_empty() {
+        out.extend_from_slice(b"\n    at ");
+        write_number(out, threshold.percent);
+    }
+    for action in &threshold.actions {
+        out.extend_from_slice(b"\n    at ");
+        write_number(out, threshold.percent);
+        out.extend_from_slice(&[b' ', action.kind, b' ']);
+        match action.minutes {
+            Some(minutes) => write_number(out, minutes),
+            None => out.extend_from_slice(b"-1"),
+        }
+        out.push(b' ');
+        out.extend_from_slice(&action.text);
+    }
+}
+
+fn write_settings(out: &mut Vec<u8>, machine: &Machine) {
+    let (minutes, scans) = (machine.quotas.runs.run_limit, machine.scans.waiting());
+    let (nodes, names) = (machine.volume.node_count(), machine.volume.name_bytes());
+    out.extend_from_slice(format!("\n  runlimit {minutes}\n  scans {scans}").as_bytes());
+    out.extend_from_slice(format!("\n  nodes {nodes} {MOST_NODES}\n  names {names} {MOST_NAMES}").as_bytes());
+}
+
+fn write_entry(out: &mut Vec<u8>, entry: &Entry) {
+    out.extend_from_slice(b"\n ");
+    out.extend_from_slice(date(entry.moment).as_bytes());
+    out.extend_from_slice(b"quota ");
+    write_number(out, entry.folder as u64);
+    out.push(b' ');
+    write_number(out, entry.percent);
+    out.extend_from_slice(&[b' ', entry.kind]);
+}
+
+fn write_act(out: &mut Vec<u8>, act: &Act, volume: &Volume) {
+    let threshold = &quota_of(act.folder, volume).thresholds[act.threshold];
+    let action = &threshold.actions[act.action];
+    out.extend_from_slice(b"\n  act quota ");
+    write_number(out, threshold.percent);
+    out.extend_from_slice(&[b' ', action.kind, b' ']);
+    write_path(out, act.folder, volume);
+    out.push(b'|');
+    out.extend_from_slice(&action.text);
 }
 
 fn write_number(out: &mut Vec<u8>, number: u64) {

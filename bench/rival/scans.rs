@@ -24,6 +24,11 @@ impl Scans {
         self.queue.front().copied()
     }
 
+    // How many folders wait, the scanned one among them.
+    pub fn waiting(&self) -> usize {
+        self.queue.len()
+    }
+
     pub fn is_finished(&self) -> bool {
         self.topmost.least().is_none()
     }

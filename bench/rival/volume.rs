@@ -8,8 +8,8 @@ use crate::text;
 pub const ROOT: u32 = 0;
 // the root's parent
 pub const NOWHERE: u32 = u32::MAX;
-const MOST_NODES: usize = 65_536;
-const MOST_NAMES: usize = 4_194_304;
+pub const MOST_NODES: usize = 65_536;
+pub const MOST_NAMES: usize = 4_194_304;
 const CLUSTER: u64 = 4_096;
 
 #[derive(Default)]
@@ -137,6 +137,14 @@ impl Volume {
             (one, other) = (self.node(one).parent, self.node(other).parent);
         }
         one
+    }
+
+    pub fn node_count(&self) -> usize {
+        self.nodes.len() - self.free.iter().count()
+    }
+
+    pub fn name_bytes(&self) -> usize {
+        self.named
     }
 
     pub fn has_room(&self) -> bool {

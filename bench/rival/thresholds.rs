@@ -1,0 +1,121 @@
+// The thresholds of quotas: percentages of the limit, and the actions that run when what is used comes up to them.
+use crate::line::Settings;
+use std::collections::VecDeque;
+
+const MOST_THRESHOLDS: usize = 16;
+const MOST_ACTIONS: usize = 8;
+const MOST_ENTRIES: usize = 1_024;
+const RUN_LIMIT: u64 = 60;
+
+#[derive(Clone)]
+pub struct Threshold {
+    pub percent: u64,
+    pub actions: Vec<Action>,
+}
+
+#[derive(Clone)]
+pub struct Action {
+    pub kind: u8,
+    // none stands for the setting
+    pub minutes: Option<u64>,
+    pub text: Vec<u8>,
+    pub last_run: Option<u32>,
+}
+
+// One more action of a threshold.
+pub struct Notice {
+    pub percent: u64,
+    pub action: Action,
+}
+
+// An entry of the log.
+pub struct Entry {
+    pub moment: u32,
+    pub folder: u32,
+    pub percent: u64,
+    pub kind: u8,
+}
+
+// An action that ran: its quota's folder, and the places of its threshold and of itself.
+pub struct Act {
+    pub folder: u32,
+    pub threshold: usize,
+    pub action: usize,
+}
+
+pub struct Runs {
+    pub run_limit: u64,
+    pub log: VecDeque<Entry>,
+    // those of the last command
+    pub acts: Vec<Act>,
+}
+
+impl Threshold {
+    // How many bytes reach it.
+    pub fn bytes(&self, limit: u64) -> u64 {
+        limit / 100 * self.percent + (limit % 100 * self.percent).div_ceil(100)
+    }
+}
+
+impl Runs {
+    pub fn new() -> Runs {
+        Runs { run_limit: RUN_LIMIT, log: VecDeque::new(), acts: Vec::new() }
+    }
+
+    // Has those actions of a threshold run that may. It stands at this place among those of the folder's quota.
+    pub fn run(&mut self, folder: u32, place: usize, threshold: &mut Threshold, moment: u32) {
+        for (at, action) in threshold.actions.iter_mut().enumerate() {
+            let seconds = 60 * action.minutes.unwrap_or(self.run_limit);
+            if action.last_run.is_some_and(|run| u64::from(moment) < u64::from(run) + seconds) {
+                continue;
+            }
+            action.last_run = Some(moment);
+            if self.log.len() == MOST_ENTRIES {
+                self.log.pop_front();
+            }
+            self.log.push_back(Entry { moment, folder, percent: threshold.percent, kind: action.kind });
+            self.acts.push(Act { folder, threshold: place, action: at });
+        }
+    }
+}
+
+fn place(thresholds: &[Threshold], percent: u64) -> Result<usize, usize> {
+    thresholds.binary_search_by_key(&percent, |threshold| threshold.percent)
+}
+
+// Whether these percentages are there, and each is named once.
+pub fn may_remove(thresholds: &[Threshold], percents: &[u64]) -> bool {
+    let is_named_before = |at: usize| percents[..at].contains(&percents[at]);
+    (0..percents.len()).all(|at| place(thresholds, percents[at]).is_ok() && !is_named_before(at))
+}
+
+// What a command makes of thresholds.
+pub fn changed(thresholds: &[Threshold], given: &Settings) -> Vec<Threshold> {
+    let stays = |threshold: &&Threshold| !given.removed.contains(&threshold.percent);
+    let mut changed: Vec<Threshold> = thresholds.iter().filter(stays).cloned().collect();
+    for percent in &given.percents {
+        add(&mut changed, *percent);
+    }
+    for notice in &given.notices {
+        add(&mut changed, notice.percent).actions.push(notice.action.clone());
+    }
+    changed
+}
+
+// The threshold of a percentage. It comes if it wasn't there.
+fn add(thresholds: &mut Vec<Threshold>, percent: u64) -> &mut Threshold {
+    let at = place(thresholds, percent).unwrap_or_else(|at| {
+        thresholds.insert(at, Threshold { percent, actions: Vec::new() });
+        at
+    });
+    &mut thresholds[at]
+}
+
+pub fn are_too_many(thresholds: &[Threshold]) -> bool {
+    thresholds.len() > MOST_THRESHOLDS || thresholds.iter().any(|threshold| threshold.actions.len() > MOST_ACTIONS)
+}
+
+// How many bytes the texts of all actions have.
+pub fn text_bytes(thresholds: &[Threshold]) -> usize {
+    thresholds.iter().flat_map(|threshold| &threshold.actions).map(|action| action.text.len()).sum()
+}
