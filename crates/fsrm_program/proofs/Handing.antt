@@ -1,6 +1,6 @@
 -- Acts that are handed out and written one by one, after the reply to their command.
-use Rattle.std.proofs.Common.{◌≡◌, ℕ, ◌+◌, ◌≤◌, List, [], ◌∷◌, ◌++◌, sym, ap, ◌∙◌, subst, arith, append_assoc}
-use Rattle.std.specs.Prelude.{Option, Some, Result, Ok}
+use Rattle.std.proofs.Common.{◌≡◌, ℕ, ◌+◌, ◌≤◌, Bool, true, false, refl, List, [], ◌∷◌, ◌++◌, sym, ap, ◌∙◌, subst, arith, append_assoc}
+use Rattle.std.specs.Prelude.{Option, Some, None, Result, Ok, if◌then◌else◌, nat_lt}
 use Rattle.std.specs.Io.KnownBytes.{append_known}
 use Rattle.std.proofs.lemmas.Grind.{flat_map-append}
 use Rattle.std.proofs.lemmas.List.{append-nil}
@@ -15,7 +15,12 @@ use Rattle.fsrm_model.specs.Acts.{folder_in}
 use Rattle.fsrm_model.specs.ActText.{act_line, act_lines}
 use Rattle.fsrm_model.specs.Cost.{acts_cost, cost, path_cost, print_cost}
 use Rattle.fsrm_model.specs.Script.{replied_to, read_cost}
-use Rattle.fsrm_model.specs.Step.{step}
+use Rattle.fsrm_model.specs.declared.command.Refusal.{Refusal}
+use Rattle.fsrm_model.specs.declared.command.Refusal.TheVariants.{ClockBack}
+use Rattle.fsrm_model.specs.Check.{◌when◌, first}
+use Rattle.fsrm_model.specs.QuotaStates.{followed}
+use Rattle.fsrm_model.specs.Work.{Work}
+use Rattle.fsrm_model.specs.Step.{Acted, Stepped, decided, lasted, left_by, refused_leaving, screened, step, unlasting, work}
 use Rattle.fsrm_model.specs.Text.{reply}
 use Rattle.fsrm_model.specs.Valid.{IsValid}
 use Rattle.fsrm_outside.specs.Shown.{ShowsFront}
@@ -95,3 +100,31 @@ looks_of_reply K R rows c outcome first taken written same is p q =
 
 pub looks_of_step : (K : Capacity) (R : Rows) (c : Command) (first taken : ℕ) → taken ≤ first + cost R c → taken ≤ first + read_cost K R (Some (Ok c))
 looks_of_step K R c first taken p = omega (arith, p)
+
+-- ---- a command that doesn't last has no action run
+calm_left : (K : Capacity) (R : Rows) (m : ℕ) (refusal : Refusal) (left : Option Acted) → (refused_leaving K R m refusal left).lasting ≡ false → (refused_leaving K R m refusal left).acts ≡ []
+calm_left K R m refusal None still = refl
+calm_left K R m refusal (Some after) still = absurd (cc still)
+
+calm_choice : (b : Bool) (x y : Stepped) → x.lasting ≡ true → y.acts ≡ [] → (if b then x else y).lasting ≡ false → (if b then x else y).acts ≡ []
+calm_choice true x y lasts calm still = absurd (cc (lasts, still))
+calm_choice false x y lasts calm still = calm
+
+calm_decided : (K : Capacity) (R : Rows) (m : ℕ) (w : Work) (first : Option Refusal) → (decided K R m w first).lasting ≡ false → (decided K R m w first).acts ≡ []
+calm_decided K R m w (Some refusal) still = calm_left K R m refusal (left_by K R m w refusal) still
+calm_decided K R m w None still =
+    let after = followed R w.effect in
+    calm_choice w.lasts (lasted K R (screened after m w.judged) m w.outcome) (unlasting after w.outcome) refl refl still
+
+pub calm_step : (K : Capacity) (R : Rows) (c : Command) → (step K R c).lasting ≡ false → (step K R c).acts ≡ []
+calm_step K R c still =
+    let w = work K R c.moment c.deed in
+    calm_decided K R c.moment w (first ((ClockBack when nat_lt c.moment R.last_moment) ∷ w.checks)) still
+
+pub reply_alone : (K : Capacity) (R : Rows) (c : Command) (n : ℕ) (text : List ℕ) (first mid : Option (List ℕ)) → text ≡ reply K (step K R c).rows c.moment n (step K R c).outcome → (step K R c).lasting ≡ false → mid ≡ append_known first text → mid ≡ append_known first (replied_to K R n (Some (Ok c))).text
+reply_alone K R c n text first mid e still p =
+    let s = step K R c in
+    let none : act_lines s.rows s.acts ≡ [] = ap (act_lines s.rows) (calm_step K R c still) in
+    let whole : text ≡ reply K s.rows c.moment n s.outcome ++ act_lines s.rows s.acts =
+    e ∙ (sym (append-nil (reply K s.rows c.moment n s.outcome)) ∙ ap (λ (lines : List ℕ). reply K s.rows c.moment n s.outcome ++ lines) (sym none)) in
+    p ∙ ap (append_known first) whole

@@ -75,6 +75,10 @@ fn take<S: Sink, L: Ledger>(
 {
     let answer = engine.apply(alloc, command, steps)?;
     write_answer(alloc, sink, number, &answer, None, engine, steps)?;
+    // A command that doesn't last has no action run.
+    if !answer.lasting {
+        return Ok(());
+    }
     write_acts(engine, alloc, sink, steps)
 }
 
@@ -134,6 +138,7 @@ fn answer_words<S: Sink, L: Ledger>(
 
 /// Does what a line asks for, and writes the reply and its acts. A line that is skipped has none. After an `Err` some
 /// acts may still wait.
+#[inline]
 pub fn answer<S: Sink, L: Ledger>(
     engine: &mut Engine,
     alloc: Global,

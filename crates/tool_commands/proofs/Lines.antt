@@ -1,7 +1,8 @@
 -- What a line reads as, by the stage at which that is settled.
 use Rattle.std.proofs.Common.{◌≡◌, ℕ, ◌+◌, ◌<◌, ◌≤◌, Bool, true, false, cond, List, [], ◌∷◌, length, get_or, drop, Some, None, refl, sym, ap, ◌∙◌, arith, suc}
-use Rattle.std.specs.Prelude.{nat_lt, nat_eq, Result, Ok, Err, IfOk, IfErr, Option, option_map, ◌||◌}
+use Rattle.std.specs.Prelude.{nat_lt, nat_eq, Result, Ok, Err, IfOk, IfErr, MatchResult, Option, option_map, ◌||◌}
 use Rattle.std.specs.List.{prefix_len}
+use Rattle.std.specs.Result.{is_ok}
 use Rattle.std.specs.Str.{IsUtf8, is_utf8}
 use Rattle.std.specs.Str.Lossy.{utf8_valid_len}
 use Rattle.std.proofs.Math.ListN.{drop_of_length-le}
@@ -130,3 +131,8 @@ skipped_exactly line test short skipped exactly = (λ t. passed_over line short 
         let never : IsUtf8 line → ⊥ = λ utf8. let is : test ≡ true = exactly.1 utf8 in absurd (cc (e, is)) in
         let some : read_line line ≡ Some (Err (BadLine (utf8_valid_len line + 1))) = not_text line short never in
         absurd (cc (some, none))
+
+-- bytes are UTF-8 exactly if they can be taken as a text
+pub utf8_exactly : {A E : Type 0} (line : List ℕ) (r : Result A E) (P : A → Type 0) (Q : E → Type 0) (test : Bool) → test ≡ is_ok r → MatchResult r (λ s. P s × IsUtf8 line) (λ e. (IsUtf8 line → ⊥) × Q e) → (test ≡ true → IsUtf8 line) × (IsUtf8 line → test ≡ true)
+utf8_exactly line (Ok s) P Q test e h = (λ _. h.1, λ _. e)
+utf8_exactly line (Err x) P Q test e h = (λ t. absurd (cc (e, t)), λ utf8. absurd (h.0 utf8))

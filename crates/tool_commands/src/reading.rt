@@ -2,7 +2,6 @@
 
 ghost use Rattle.std.specs.Prelude.{◌≡◌, ◌≤◌, ◌↔◌, IsTrue, IfOk, IfErr, IfSome, Ok, Some, None, true, length, option_map, if◌then◌else◌};
 ghost use Rattle.std.specs.List.{list_any};
-ghost use Rattle.std.specs.Str.{IsUtf8};
 ghost use Rattle.fsrm_model.specs.declared.command.Command.{Command};
 ghost use Rattle.fsrm_model.specs.declared.command.Refusal.TheVariants.{BadLine};
 ghost use Rattle.fsrm_model.specs.Line.{read_line, read_words, is_skipped};
@@ -104,13 +103,6 @@ fn read_words(alloc: Global, line: &str) -> Result<Option<Command>, LineFault>
     }
 }
 
-// Whether bytes are UTF-8. Most lines are ASCII, which is known sooner.
-fn is_text(bytes: &[u8]) -> bool
-    ensures { IsTrue result ↔ IsUtf8 bytes.now }
-{
-    bytes.is_ascii() || str::from_utf8(bytes).is_ok()
-}
-
 /// Whether a line is skipped, as [`read_line`] says it too. It needs no room for a command.
 pub fn is_skipped_line(line: &[u8]) -> bool
     ensures { IsTrue result ↔ (read_line line.now ≡ None) }
@@ -118,7 +110,7 @@ pub fn is_skipped_line(line: &[u8]) -> bool
     if line.len() > LONGEST_LINE {
         return false;
     }
-    is_skipped(line) && is_text(line)
+    is_skipped(line) && str::from_utf8(line).is_ok()
 }
 
 /// The command that a line spells, without the LF or CR LF that ends it. None exactly if the line is skipped: it has

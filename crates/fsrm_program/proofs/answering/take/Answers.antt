@@ -1,6 +1,6 @@
-use Rattle.std.proofs.Common.{◌∙◌}
+use Rattle.std.proofs.Common.{◌∙◌, sym}
 use Rattle.reply_text.proofs.Sent.{sends_front}
-use Rattle.fsrm_program.proofs.Handing.{reply_front, reply_then, looks_of_all, looks_of_reply, looks_of_step}
+use Rattle.fsrm_program.proofs.Handing.{calm_step, reply_alone, reply_front, reply_then, looks_of_all, looks_of_reply, looks_of_step}
 use Rattle.fsrm_program.proofs.Outcomes.{always_ok, step_reply, nothing_shown}
 use Rattle.fsrm_program.proofs.answering.take.Goals as goal
 
@@ -52,3 +52,19 @@ returns-clause-looks g c =
     let took = c.in_ok-answer.ensures.ok in
     looks_of_all e.size e.rows now.rows c.args.command.now c.in_ok-answer.answer.outcome now.waiting c.args.steps.now c.apply.new.steps c.write_answer.new.steps c.write_acts.new.steps took.rows_are took.outcome_is took.acts_are
     c.apply.ensures.looks c.in_ok-write_answer.ensures.looks c.write_acts.ensures.looks
+
+pub returns-then-not-answer-clause-idle : goal.returns-then-not-answer-clause-idle
+returns-then-not-answer-clause-idle g c =
+    let took = c.in_ok-answer.ensures.ok in
+    took.acts_are ∙ calm_step c.args.engine.now.size c.args.engine.now.rows c.args.command.now (sym took.lasting_is ∙ c.if-not-answer.true)
+
+pub returns-then-not-answer-clause-text : goal.returns-then-not-answer-clause-text
+returns-then-not-answer-clause-text g c =
+    let shown = g.S.Sink.shown in
+    let e = c.args.engine.now in
+    let now = c.apply.new.self in
+    let took = c.in_ok-answer.ensures.ok in
+    let command = c.args.command.now in
+    reply_alone e.size e.rows command c.args.number _ (shown c.args.sink.now) (shown c.write_answer.new.sink)
+    (step_reply e.size now.size e.rows now.rows command c.in_ok-answer.answer.outcome command.moment c.args.number took.size_is took.rows_are took.outcome_is)
+    (sym took.lasting_is ∙ c.if-not-answer.true) (c.in_ok-write_answer.ensures.text command.moment)
