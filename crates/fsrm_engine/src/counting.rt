@@ -46,7 +46,7 @@ impl Parts {
         MOST_TEXT_BYTES.saturating_sub(self.objects.texts())
     }
 
-    /// Puts a quota on a folder that has none. If it counts, nothing may be used yet. An `Err` changes nothing.
+    /// Puts a quota on a folder. If it counts, nothing may be used yet. An `Err` changes nothing.
     pub(crate) fn add(&mut self, row: QuotaRow) -> Result<(), ObjectFault>
         requires counted { AreCounted self.old }
         requires folder { is_folder self.old.tree.nodes row.folder ≡ true }

@@ -26,7 +26,7 @@ pub fn listing(ask: Ask) -> Answer
     passing(Outcome::Listing(ask))
 }
 
-/// The answer of a refused command, which never lasts.
+/// The answer of a refused command that doesn't last.
 pub fn refused(refusal: Refusal) -> Answer
     ensures { result ≡ refused_answer refusal }
 {

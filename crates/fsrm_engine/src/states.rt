@@ -95,7 +95,7 @@ impl Parts {
         }
     }
 
-    /// Puts a quota on a folder that has none, and its scan into the queue if it is rebuilding. If it counts, nothing
+    /// Puts a quota on a folder, and its scan into the queue if it is rebuilding. If it counts, nothing
     /// may be used yet. An `Err` changes nothing.
     pub(crate) fn enlist(&mut self, row: QuotaRow) -> Result<(), ObjectFault>
         requires sound { IsSound self.old }

@@ -2,6 +2,7 @@
 use Rattle.std.proofs.Common.{◌≡◌, ℕ, zero, suc, ◌+◌, ◌*◌, ◌/◌, ◌%◌, ◌<◌, ◌≤◌, ◌==◌, Bool, true, false, cond, not, ◌||◌, ◌&&◌, List, [], ◌∷◌, length, get_or, replicate, Option, Some, None, refl, sym, ◌∙◌, ap, subst, inl, inr, arith}
 use Rattle.std.proofs.lemmas.Bool.{cases_lt}
 use Rattle.std.proofs.lemmas.List.{get_or_past, get_or-replicate, length-replicate}
+use Rattle.std.proofs.lemmas.List.FromFn.{length-range_with_len}
 use Rattle.std.proofs.lemmas.Nat.Bits.{bit_at-zero}
 use Rattle.std.specs.Int.{bit_at}
 use Rattle.std.specs.List.{range_with_len}
@@ -232,6 +233,19 @@ pub least_above_none : (up : Numbers) (words : List ℕ) → Marks up words → 
 least_above_none up words m is =
     sym (ap (λ ms. slice_get ms 0) (none_of words (λ n. no_bit words n (sym (m.members (n / 64)) ∙ ap (λ ms. is_in ms (n / 64)) (no_first up.members is)))))
 
+one_more : (b : Bool) (k : ℕ) (ns ms : List ℕ) → length ms ≤ length ns → length (cond b (k ∷ ms) ms) ≤ length (k ∷ ns)
+one_more true k ns ms h = omega arith
+one_more false k ns ms h = omega arith
+
+kept : (p : ℕ → Bool) (ns : List ℕ) → length (filter p ns) ≤ length ns
+kept p [] = omega arith
+kept p (k ∷ ns) = one_more (p k) k ns (filter p ns) (kept p ns)
+
+-- no more members than bits
+pub few_numbers : (words : List ℕ) → length (numbers_of words) ≤ 64 * length words
+unfolding numbers_of
+few_numbers words = omega (arith, kept (has_bit words) (range_with_len 0 (64 * length words)), length-range_with_len 0 (64 * length words))
+
 -- without its first member a set has fewer
 pub without_first : (n : ℕ) (ns : List ℕ) → Some n ≡ slice_get ns 0 → length (without_number n ns) < length ns
 without_first n [] h = cc
@@ -239,14 +253,6 @@ without_first n (k ∷ ns) h =
     let is : n ≡ k = cc in
     let gone : without_number n (k ∷ ns) ≡ without_number n ns = ap (λ b. cond (not b) (k ∷ without_number n ns) (without_number n ns)) (eq_test k n (sym is)) in
     omega (arith, ap length gone, kept (λ j. not (j == n)) ns)
-  where
-    one_more : (b : Bool) (k : ℕ) (ns ms : List ℕ) → length ms ≤ length ns → length (cond b (k ∷ ms) ms) ≤ length (k ∷ ns)
-    one_more true k ns ms h = omega arith
-    one_more false k ns ms h = omega arith
-
-    kept : (p : ℕ → Bool) (ns : List ℕ) → length (filter p ns) ≤ length ns
-    kept p [] = omega arith
-    kept p (k ∷ ns) = one_more (p k) k ns (filter p ns) (kept p ns)
 
 pub least_is : (words : List ℕ) (place : ℕ) (r : Option ℕ) → IsFirstWord words place → MatchOption r (is_occupied words place ≡ false) (λ n. IsLeastIn words place n) → r ≡ slice_get (numbers_of words) 0
 least_is words place None f h = least_none words place f h

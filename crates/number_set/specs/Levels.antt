@@ -1,7 +1,7 @@
 -- The words of a set, and the levels above them.
 use Rattle.std.specs.Prelude.{◌≡◌, ℕ, ◌+◌, ◌/◌, ◌<◌, List, length}
-use Rattle.number_set.specs.declared.set.Above.{Above}
-use Rattle.number_set.specs.declared.set.Above.TheVariants.{Nothing, Level}
+use Rattle.number_set.specs.declared.levels.Above.{Above}
+use Rattle.number_set.specs.declared.levels.Above.TheVariants.{Nothing, Level}
 use Rattle.number_set.specs.Words.{Marks}
 
 -- one word needs no level above it

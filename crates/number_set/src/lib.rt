@@ -4,6 +4,7 @@
 //! Contracts see a set as its members in their order.
 #![tactic(auto)]
 
+mod levels;
 mod set;
 mod words;
 

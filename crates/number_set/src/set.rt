@@ -1,33 +1,21 @@
 //! A set of numbers.
 
-ghost use Rattle.std.specs.Prelude.{◌≡◌, ◌<◌, ◌==◌, IfOk, length};
-ghost use Rattle.std.specs.Prelude.{slice_get};
+ghost use Rattle.std.specs.Prelude.{◌≡◌, ◌<◌, ◌==◌, IfOk, length, slice_get};
 ghost use Rattle.fsrm_base.specs.Numbers.{is_in, with_number, without_number};
 ghost use Rattle.number_set.specs.Numbers.{no_numbers};
 
-use crate::words::{WORD, clear_bit, empty_words, has_bit, least_in, set_bit};
+use crate::levels::Levels;
 use fsrm_base::NoMemory;
 use std::alloc::Global;
 use std::marker::Model;
 
 /// A set of numbers below a bound, in memory that is reserved once. Contracts see the bound and the
 /// members, ascending.
-// Each member is a bit of the words. The level above is the set of the places of the words that have
-// a bit, so six levels at most, of a word each, lead to the least member.
-#[cycle(levels)]
 #[derive(Drop)]
 pub struct NumberSet {
-    bound: u32,
-    words: Vec<u64>,
-    above: Above,
-}
-
-#[cycle(levels)]
-#[derive(Drop)]
-enum Above {
-    // One word is all there is.
-    Nothing,
-    Level(Box<NumberSet>),
+    levels: Levels,
+    // How many members there are: an empty set is known without a walk down the levels.
+    count: u64,
 }
 
 impl Model for NumberSet {
@@ -35,18 +23,11 @@ impl Model for NumberSet {
 
     ghost Value = { Numbers };
 
-    ghost use Rattle.number_set.specs.Levels.{IsLevel};
-    ghost use Rattle.number_set.specs.Words.{numbers_of};
+    ghost use Rattle.std.specs.Prelude.{◌≡◌, length};
 
-    ghost view = { λ s. record { bound = s.bound; members = numbers_of s.words.items } };
+    ghost view = { λ s. s.levels };
 
-    ghost invariant = { λ s. IsLevel s.bound s.words.items s.above };
-
-    ghost size = { λ v. v.bound };
-
-    ghost use Rattle.number_set.specs.Smaller.{depth_le_bound};
-
-    ghost size_decreases = { λ s h. depth_le_bound s.bound s.words.items s.above h };
+    ghost invariant = { λ s. s.count ≡ length s.levels.members };
 }
 
 impl NumberSet {
@@ -54,36 +35,22 @@ impl NumberSet {
     pub fn reserve(alloc: Global, bound: u32) -> Result<NumberSet, NoMemory>
         ensures { IfOk result (λ set. set ≡ no_numbers bound) }
     {
-        let count = bound / WORD + 1;
-        let words = empty_words(alloc, count)?;
-        if count == 1 {
-            return Ok(NumberSet {
-                bound,
-                words,
-                above: Above::Nothing,
-            });
-        }
-        let above = NumberSet::reserve(alloc, count)?;
-        let above = Above::Level(Box::new(alloc, above)?);
-        Ok(NumberSet {
-            bound,
-            words,
-            above,
-        })
+        let levels = Levels::reserve(alloc, bound)?;
+        Ok(NumberSet { levels, count: 0 })
     }
 
     /// The bound that all members are below.
     pub fn bound(&self) -> u32
         ensures { result ≡ self.now.bound }
     {
-        self.bound
+        self.levels.bound()
     }
 
     /// Whether a number is a member.
     pub fn contains(&self, number: u32) -> bool
         ensures { result ≡ is_in self.now.members number }
     {
-        has_bit(&self.words, number)
+        self.levels.contains(number)
     }
 
     /// Puts a number into the set.
@@ -91,51 +58,41 @@ impl NumberSet {
         requires { number < self.old.bound }
         ensures { self.new ≡ record self.old { members = with_number number self.old.members } }
     {
-        let was_empty = set_bit(&mut self.words, number);
-        match &mut self.above {
-            Above::Nothing => {}
-            Above::Level(above) => {
-                if was_empty {
-                    above.insert(number / WORD);
-                }
-            }
+        self.levels.kept();
+        if self.levels.contains(number) {
+            return;
         }
+        self.levels.insert(number);
+        self.count += 1;
     }
 
     /// Takes a number out of the set.
     pub fn remove(&mut self, number: u32)
         ensures { self.new ≡ record self.old { members = without_number number self.old.members } }
     {
-        if !self.contains(number) {
+        self.levels.kept();
+        if !self.levels.contains(number) {
             return;
         }
-        let is_empty = clear_bit(&mut self.words, number);
-        match &mut self.above {
-            Above::Nothing => {}
-            Above::Level(above) => {
-                if is_empty {
-                    above.remove(number / WORD);
-                }
-            }
-        }
+        self.levels.remove(number);
+        self.count -= 1;
     }
 
     /// The least member.
     pub fn least(&self) -> Option<u32>
         ensures { result ≡ slice_get self.now.members 0 }
     {
-        let place = match &self.above {
-            Above::Nothing => 0,
-            Above::Level(above) => above.least()?,
-        };
-        least_in(&self.words, place)
+        if self.count == 0 {
+            return None;
+        }
+        self.levels.least()
     }
 
     /// Whether there is no member.
     pub fn is_empty(&self) -> bool
         ensures { result ≡ (length self.now.members == 0) }
     {
-        self.least().is_none()
+        self.count == 0
     }
 
     /// Takes all members out. Its time is in proportion to how many there are.

@@ -216,7 +216,7 @@ impl Marks {
         *self.log.get(place as usize).unwrap()
     }
 
-    /// Adds an entry to the log, which then keeps its last 1,024. No action is marked.
+    /// Adds an entry to the log, which then keeps its last 1,024. It marks no action.
     pub fn keep(&mut self, row: ActRow)
         ensures { self.new ≡ record self.old { log = last_entries (self.old.log ++ row ∷ []) } }
     {

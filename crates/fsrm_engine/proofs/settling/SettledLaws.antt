@@ -2,7 +2,7 @@
 use Rattle.std.proofs.Common.{◌≡◌, ℕ, ◌<◌, ◌≤◌, ◌==◌, ◌&&◌, ◌||◌, Bool, true, false, cond, not, List, [], ◌∷◌, ◌++◌, append_assoc, length, Option, Some, None, slice_get, refl, ap, sym, ◌∙◌, subst, arith}
 use Rattle.std.proofs.lemmas.List.{append-nil, length-map}
 use Rattle.std.proofs.lemmas.Option.{same_Some, slice_get-map}
-use Rattle.std.specs.Prelude.{option_map, IsSomeAnd, MatchOption}
+use Rattle.std.specs.Prelude.{option_map}
 use Rattle.std.specs.Option.{option_map_or}
 use Rattle.fsrm_base.specs.Keyed.{has_row, is_ascending}
 use Rattle.fsrm_base.specs.Numbers.{is_in, is_set, without_number}
@@ -133,12 +133,6 @@ settled_all f m old now before after places rest s none =
     subst (Settles old now before after m) (sym (s.whole ∙ (ap (λ ns. s.acts ++ acts_at f before.quotas ns) none ∙ append-nil s.acts))) s.settles
 
 -- ---- a quota that lost bytes and then gained others
--- what was used before is told by what is used now
-pub mapped_is : (f : ℕ → ℕ) (o r : Option ℕ) (P : ℕ → ℕ → Type 0) → MatchOption o (r ≡ None) (λ x. IsSomeAnd r (P x)) → ((x y : ℕ) → P x y → y ≡ f x) → r ≡ option_map f o
-mapped_is f None r P h is = h
-mapped_is f (Some x) None P h is = absurd h
-mapped_is f (Some x) (Some y) P h is = ap Some (is x y h)
-
 -- its acts by both
 pub gained_used : (counters : List Counter) (minus plus run_limit m : ℕ) (q : QuotaRow) (before now : Option ℕ) → now ≡ used_in counters q.folder → before ≡ option_map (used_before minus plus) now → gained_acts counters minus plus run_limit m q ≡ used_acts before now run_limit m q
 gained_used counters minus plus run_limit m q before now is earlier =

@@ -5,8 +5,8 @@ use Rattle.number_set.specs.Numbers.{Numbers}
 use Rattle.number_set.specs.Levels.{IsAbove}
 use Rattle.number_set.specs.Words.{is_occupied, IsLeastIn}
 use Rattle.number_set.proofs.LevelLaws.{IsFirstWord, only_word, first_word, least_is, least_above_none}
-use Rattle.number_set.proofs.set.NumberSet.+least.Goals as goal
-use Rattle.number_set.proofs.set.NumberSet.+least.Goals.{Joined-self, in-Nothing, in-Level+in_ok-place-in-Level}
+use Rattle.number_set.proofs.levels.Levels.+least.Goals as goal
+use Rattle.number_set.proofs.levels.Levels.+least.Goals.{Joined-self, in-Nothing, in-Level+in_ok-place-in-Level}
 
 pub returns-in_err-place-in-Level : goal.returns-in_err-place-in-Level
 returns-in_err-place-in-Level t c =

@@ -3,7 +3,7 @@ use Rattle.fsrm_base.specs.Numbers.{is_in}
 use Rattle.number_set.specs.Numbers.{Numbers}
 use Rattle.number_set.specs.Words.{has_bit}
 use Rattle.number_set.proofs.LevelLaws.{in_numbers_of}
-use Rattle.number_set.proofs.set.NumberSet.contains.Goals as goal
+use Rattle.number_set.proofs.levels.Levels.contains.Goals as goal
 
 pub returns : goal.returns
 returns c =

@@ -3,13 +3,13 @@ use Rattle.std.proofs.Common.{◌≡◌, ℕ, ◌==◌, ◌||◌, not, ◌∙◌
 use Rattle.std.proofs.lemmas.List.{with_items_is}
 use Rattle.fsrm_base.specs.Numbers.{with_number}
 use Rattle.number_set.specs.Numbers.{Numbers}
-use Rattle.number_set.specs.declared.set.Above.{Above}
-use Rattle.number_set.specs.declared.set.NumberSet.TheInside.{Inside}
+use Rattle.number_set.specs.declared.levels.Above.{Above}
+use Rattle.number_set.specs.declared.levels.Levels.TheInside.{Inside}
 use Rattle.number_set.specs.Levels.{IsAbove, IsLevel}
 use Rattle.number_set.specs.Words.{is_occupied, numbers_of}
 use Rattle.number_set.proofs.LevelLaws.{view_with, marks_with, marks_stay, absorbed_place}
-use Rattle.number_set.proofs.set.NumberSet.+insert.Goals as goal
-use Rattle.number_set.proofs.set.NumberSet.+insert.Goals.{in-Nothing, in-Level+then-was_empty, in-Level+else-was_empty}
+use Rattle.number_set.proofs.levels.Levels.+insert.Goals as goal
+use Rattle.number_set.proofs.levels.Levels.+insert.Goals.{in-Nothing, in-Level+then-was_empty, in-Level+else-was_empty}
 
 pub invariant_of-self : goal.invariant_of-self
 invariant_of-self t c =

@@ -3,13 +3,13 @@ use Rattle.std.proofs.Common.{◌≡◌, ℕ, ◌==◌, ◌&&◌, true, not, ◌
 use Rattle.std.proofs.lemmas.List.{with_items_is}
 use Rattle.fsrm_base.specs.Numbers.{is_in, is_set, without_number}
 use Rattle.number_set.specs.Numbers.{Numbers}
-use Rattle.number_set.specs.declared.set.Above.{Above}
-use Rattle.number_set.specs.declared.set.NumberSet.TheInside.{Inside}
+use Rattle.number_set.specs.declared.levels.Above.{Above}
+use Rattle.number_set.specs.declared.levels.Levels.TheInside.{Inside}
 use Rattle.number_set.specs.Levels.{IsAbove, IsLevel}
 use Rattle.number_set.specs.Words.{is_occupied, numbers_of}
 use Rattle.number_set.proofs.LevelLaws.{view_without, marks_without, marks_stay, without_absent, set_numbers_of, inside_words}
-use Rattle.number_set.proofs.set.NumberSet.+remove.Goals as goal
-use Rattle.number_set.proofs.set.NumberSet.+remove.Goals.{in-Nothing, in-Level+then-is_empty, in-Level+else-is_empty}
+use Rattle.number_set.proofs.levels.Levels.+remove.Goals as goal
+use Rattle.number_set.proofs.levels.Levels.+remove.Goals.{in-Nothing, in-Level+then-is_empty, in-Level+else-is_empty}
 
 pub returns-then-not-contains : goal.returns-then-not-contains
 returns-then-not-contains t c =

@@ -1,7 +1,7 @@
 use Rattle.std.proofs.Common.{◌+◌, ◌/◌, ◌∙◌, ap, length, arith}
 use Rattle.std.proofs.lemmas.List.{length-replicate}
 use Rattle.number_set.proofs.LevelLaws.{new_view, new_level}
-use Rattle.number_set.proofs.set.NumberSet.+reserve.Goals as goal
+use Rattle.number_set.proofs.levels.Levels.+reserve.Goals as goal
 
 pub returns-then-count-eq1 : goal.returns-then-count-eq1
 returns-then-count-eq1 t c = new_view c.args.bound (c.args.bound / 64 + 1) c.in_ok-words.words.items c.in_ok-words.ensures

@@ -1,4 +1,4 @@
-use Rattle.number_set.proofs.set.NumberSet.+reserve.Given as goal
+use Rattle.number_set.proofs.levels.Levels.+reserve.Given as goal
 
 abbrev pub decreases-reserve : goal.decreases-reserve
 decreases-reserve l = l.bound
