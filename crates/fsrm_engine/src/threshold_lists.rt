@@ -11,15 +11,7 @@ use fsrm_base::places::search;
 use fsrm_model::{Action, Added, Duplicate, List, NoMemory, Threshold};
 use fsrm_objects::ByPercent;
 use std::alloc::Global;
-
-// Whether a percentage is among the thresholds.
-fn has_percent(thresholds: &[Threshold], percent: u16) -> bool
-    ensures { result ≡ has_row percent_of percent thresholds.now }
-{
-    thresholds
-        .iter()
-        .any(|threshold| threshold.percent == percent)
-}
+use thresholds::has_percent;
 
 // Whether each percentage is among the thresholds.
 fn are_there(percents: &[u16], thresholds: &[Threshold]) -> bool

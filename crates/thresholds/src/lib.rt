@@ -10,4 +10,4 @@ mod marks;
 mod rules;
 
 pub use marks::Marks;
-pub use rules::{crosses, reached, ready};
+pub use rules::{crosses, has_percent, reached, ready};

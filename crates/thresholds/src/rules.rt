@@ -8,7 +8,7 @@ ghost use Rattle.fsrm_model.specs.Reached.{reaches, has_reached};
 ghost use Rattle.fsrm_model.specs.Thresholds.{percent_of};
 ghost use Rattle.thresholds.specs.Settled.{crosses};
 
-use fsrm_model::{Action, List, QuotaRow, Threshold};
+use fsrm_model::{Action, QuotaRow, Threshold};
 
 /// Whether what is used comes up to a percentage of a limit; both in bytes. None, which a quota uses that doesn't count,
 /// comes up to none.
@@ -49,14 +49,14 @@ fn minutes(own: i32, run_limit: u32) -> u32
 fn has_reached(quota: &QuotaRow, percent: u16, used: Option<u64>) -> bool
     ensures { result ≡ has_reached quota.now percent used }
 {
-    has_percent(&quota.thresholds, percent) && reached(quota.limit, percent, used)
+    has_percent(quota.thresholds.as_slice(), percent) && reached(quota.limit, percent, used)
 }
 
-fn has_percent(thresholds: &List<Threshold>, percent: u16) -> bool
+/// Whether a percentage is among the thresholds.
+pub fn has_percent(thresholds: &[Threshold], percent: u16) -> bool
     ensures { result ≡ has_row percent_of percent thresholds.now }
 {
     thresholds
-        .as_slice()
         .iter()
         .any(|threshold| threshold.percent == percent)
 }
