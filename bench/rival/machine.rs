@@ -1,17 +1,26 @@
 // What each command does.
-use crate::line::Refusal::{self, Exceeded, Named};
-use crate::line::{Command, Settings, Verb};
+use crate::groups::Groups;
+use crate::line::Refusal::{self, Blocked, Exceeded, Named};
+use crate::line::{Command, Verb};
+use crate::options::Settings;
 use crate::quotas::{Quota, Quotas, State};
+use crate::room::Room;
 use crate::scans::Scans;
-use crate::thresholds;
+use crate::screens::{Audit, Screens};
+use crate::thresholds::{self, text_bytes};
 use crate::volume::{allocated, Folder, Node, Volume, NOWHERE, ROOT};
 
 pub enum Answer {
     Done,
+    // done, and reported by the screen of this folder
+    Reported(u32),
     Usage { node: u32, used: u64 },
     Visited { folders: u64, scanned: u32, used: Option<u64> },
     // the folders whose quotas are to be shown
     Quotas(Vec<u32>),
+    Groups,
+    Screens,
+    Exceptions,
     Settings,
     Log,
 }
@@ -20,6 +29,9 @@ pub struct Machine {
     pub volume: Volume,
     pub quotas: Quotas,
     pub scans: Scans,
+    pub groups: Groups,
+    pub screens: Screens,
+    pub room: Room,
     last: u32,
 }
 
@@ -30,7 +42,9 @@ fn quota_of(volume: &mut Volume, folder: u32) -> &mut Quota {
 
 impl Machine {
     pub fn new() -> Machine {
-        Machine { volume: Volume::new(), quotas: Quotas::new(), scans: Scans::new(), last: 0 }
+        let (volume, quotas, scans) = (Volume::new(), Quotas::new(), Scans::new());
+        let (groups, screens, room) = (Groups::new(), Screens::new(), Room::new());
+        Machine { volume, quotas, scans, groups, screens, room, last: 0 }
     }
 
     pub fn take(&mut self, moment: u32, command: &Command) -> Result<Answer, Refusal> {
@@ -38,8 +52,10 @@ impl Machine {
             return Err(Named("ClockBack"));
         }
         let answer = self.carry_out(moment, command);
-        if let Err(Exceeded { would, folder, .. }) = answer {
-            self.warn(folder, would, moment);
+        match answer {
+            Err(Exceeded { would, folder, .. }) => self.warn(folder, would, moment),
+            Err(Blocked(_)) => self.last = moment,
+            _ => {}
         }
         answer
     }
@@ -56,13 +72,13 @@ impl Machine {
     fn carry_out(&mut self, moment: u32, command: &Command) -> Result<Answer, Refusal> {
         match command {
             Command::Mkdir { path, owner } => self.mkdir(path, *owner, moment)?,
-            Command::Create { path, length, owner } => self.create(path, *length, *owner, moment)?,
+            Command::Create { path, length, owner } => return self.create(path, *length, *owner, moment),
             Command::Resize { path, length } => self.resize(path, *length, moment)?,
             Command::Touch { path } => {
                 let file = self.find_file(path)?;
                 self.volume.node_mut(file).stamps.accessed = moment;
             }
-            Command::Move { path, to } => self.relocate(path, to, moment)?,
+            Command::Move { path, to } => return self.relocate(path, to, moment),
             Command::Remove { path } => self.remove(path)?,
             Command::Usage { path } => {
                 let node = self.find(path)?;
@@ -76,6 +92,25 @@ impl Machine {
                 self.volume.folder(folder).quota.as_ref().ok_or(Named("NotFound"))?;
                 return self.change_quota(folder, verb, settings, moment);
             }
+            Command::OfGroup { verb, name, settings } => self.change_group(name, *verb, settings)?,
+            Command::OfScreen { verb, path, settings } => {
+                let folder = self.find_folder(path)?;
+                match verb {
+                    Verb::Add => self.add_screen(folder, settings)?,
+                    Verb::Modify => self.modify_screen(folder, settings)?,
+                    _ => self.delete_screen(folder)?,
+                }
+            }
+            Command::OfException { verb, path, settings } => {
+                let folder = self.find_folder(path)?;
+                match verb {
+                    Verb::Add => self.add_exception(folder, settings)?,
+                    _ => self.delete_exception(folder)?,
+                }
+            }
+            Command::ListGroups => return Ok(Answer::Groups),
+            Command::ListScreens => return Ok(Answer::Screens),
+            Command::ListExceptions => return Ok(Answer::Exceptions),
             Command::SetRunLimit { minutes } => self.quotas.runs.run_limit = *minutes,
             Command::ListSettings => return Ok(Answer::Settings),
             Command::ListLog => return Ok(Answer::Log),
@@ -135,14 +170,39 @@ impl Machine {
         Ok(())
     }
 
-    fn create(&mut self, path: &[u8], length: u64, owner: u32, moment: u32) -> Result<(), Refusal> {
+    // What is answered to an operation on a file that is done: the screen of this folder may report it.
+    fn done(&mut self, reporting: Option<u32>, moment: u32) -> Result<Answer, Refusal> {
+        self.last = moment;
+        Ok(reporting.map_or(Answer::Done, Answer::Reported))
+    }
+
+    // Blocks a file's name, or tells what a passive screen reports of it, if one does.
+    fn judge(&mut self, folder: u32, name: &[u8], owner: u32, moment: u32) -> Result<Option<Audit>, Refusal> {
+        let judge = self.screens.judge(&self.volume, &mut self.groups, folder, name);
+        let Some((screen, active)) = judge else { return Ok(None) };
+        let audit = Audit { moment, active, owner, folder, screen, name: name.to_vec() };
+        if active {
+            self.note(audit);
+            return Err(Blocked(screen));
+        }
+        Ok(Some(audit))
+    }
+
+    fn create(&mut self, path: &[u8], length: u64, owner: u32, moment: u32) -> Result<Answer, Refusal> {
         let (parent, name) = self.new_place(path)?;
+        let report = if self.screens.is_empty() { None } else { self.judge(parent, name, owner, moment)? };
+        let reporting = report.as_ref().map(|audit| audit.screen);
+        if let Some(audit) = report {
+            // the screen's actions run before those of quotas, and don't if a quota refuses
+            self.quotas.judge(&self.volume, parent, NOWHERE, allocated(length))?;
+            self.note(audit);
+        }
         self.quotas.gain(&mut self.volume, parent, NOWHERE, allocated(length), moment)?;
         if self.scans.has_visited(&self.volume, parent) {
             self.scans.counted += allocated(length);
         }
         self.volume.make(parent, name, Node::new_file(length, owner, moment));
-        Ok(())
+        self.done(reporting, moment)
     }
 
     fn resize(&mut self, path: &[u8], length: u64, moment: u32) -> Result<(), Refusal> {
@@ -158,7 +218,7 @@ impl Machine {
         Ok(())
     }
 
-    fn relocate(&mut self, path: &[u8], to: &[u8], moment: u32) -> Result<(), Refusal> {
+    fn relocate(&mut self, path: &[u8], to: &[u8], moment: u32) -> Result<Answer, Refusal> {
         let number = self.find(path)?;
         if number == ROOT {
             return Err(Named("InvalidMove"));
@@ -174,7 +234,14 @@ impl Machine {
         if !self.volume.has_room_for(name, self.volume.name(node).len()) {
             return Err(Named("NamesFull"));
         }
-        let parent = node.parent;
+        let (parent, owner, is_file) = (node.parent, node.stamps.owner, node.folder.is_none());
+        let is_judged = is_file && !self.screens.is_empty();
+        let report = if is_judged { self.judge(folder, name, owner, moment)? } else { None };
+        let reporting = report.as_ref().map(|audit| audit.screen);
+        if let Some(audit) = report {
+            self.quotas.judge_move(&self.volume, number, folder)?;
+            self.note(audit);
+        }
         self.quotas.carry(&mut self.volume, number, folder, moment)?;
         let visited = |folder| self.scans.has_visited(&self.volume, folder);
         let (was_visited, is_visited) = (visited(parent), visited(folder));
@@ -184,7 +251,7 @@ impl Machine {
             (false, true) => self.scans.meet(number, self.volume.node(number)),
             _ => {}
         }
-        Ok(())
+        self.done(reporting, moment)
     }
 
     fn remove(&mut self, path: &[u8]) -> Result<(), Refusal> {
@@ -196,7 +263,10 @@ impl Machine {
         let (parent, bytes) = (node.parent, node.allocated());
         match &node.folder {
             Some(folder) if !folder.children.is_empty() => return Err(Named("NotEmpty")),
-            Some(_) => self.delete_quota(number),
+            Some(_) => {
+                self.delete_quota(number);
+                self.delete_guard(number);
+            }
             None => self.quotas.lose(&mut self.volume, parent, NOWHERE, bytes),
         }
         if self.scans.has_visited(&self.volume, parent) {
@@ -230,9 +300,7 @@ impl Machine {
         if self.quotas.is_full() {
             return Err(Named("TableFull"));
         }
-        if !self.quotas.have_room_for(&thresholds, &[]) {
-            return Err(Named("TextsFull"));
-        }
+        self.room.replace(0, text_bytes(&thresholds))?;
         let quota = Quota::new(limit, given.hard.unwrap_or(true), thresholds, moment);
         self.quotas.add(&mut self.volume, folder, quota);
         self.set_enabled(folder, given.enabled.unwrap_or(true));
@@ -248,13 +316,11 @@ impl Machine {
         if thresholds::are_too_many(&changed) {
             return Err(Named("OutOfRange"));
         }
-        if !self.quotas.have_room_for(&changed, &quota.thresholds) {
-            return Err(Named("TextsFull"));
-        }
+        self.room.replace(text_bytes(&quota.thresholds), text_bytes(&changed))?;
         let (reached, enabled) = (quota.reached(), quota.state != State::Disabled);
         quota.limit = given.limit.unwrap_or(quota.limit);
         quota.hard = given.hard.unwrap_or(quota.hard);
-        self.quotas.replace(quota, changed);
+        quota.thresholds = changed;
         self.set_enabled(folder, given.enabled.unwrap_or(enabled));
         quota_of(&mut self.volume, folder).settle(folder, &reached, moment, &mut self.quotas.runs);
         Ok(())
@@ -264,6 +330,7 @@ impl Machine {
     fn change_quota(&mut self, folder: u32, verb: &Verb, given: &Settings, moment: u32) -> Result<Answer, Refusal> {
         let quota = quota_of(&mut self.volume, folder);
         match (verb, quota.state) {
+            (Verb::Add, _) => return Err(Named("AlreadyExists")),
             (Verb::Modify, _) => self.modify_quota(folder, given, moment)?,
             (Verb::ResetPeak, _) => quota.reset_peak(moment),
             (Verb::Scan, State::Complete) => self.queue_scan(folder),
@@ -298,8 +365,19 @@ impl Machine {
     }
 
     fn delete_quota(&mut self, folder: u32) {
-        if self.quotas.delete(&mut self.volume, folder) {
-            self.scans.leave(folder);
+        if let Some(quota) = self.quotas.delete(&mut self.volume, folder) {
+            self.room.give_back(text_bytes(&quota.thresholds));
+            if quota.state == State::Rebuilding {
+                self.scans.leave(folder);
+            }
+        }
+    }
+
+    fn change_group(&mut self, name: &[u8], verb: Verb, given: &Settings) -> Result<(), Refusal> {
+        match verb {
+            Verb::Add => self.groups.add(name, given, &mut self.room),
+            Verb::Modify => self.groups.modify(self.groups.find(name)?, given, &mut self.room),
+            _ => self.groups.delete(self.groups.find(name)?, &mut self.room),
         }
     }
 }

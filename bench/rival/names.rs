@@ -44,6 +44,18 @@ fn folded(name: &[u8]) -> impl Iterator<Item = char> + '_ {
     str::from_utf8(name).expect("a line is text").chars().map(fold)
 }
 
+// Folds a text, and puts it behind another one.
+pub fn fold_into(text: &[u8], out: &mut Vec<u8>) {
+    if text.is_ascii() {
+        let start = out.len();
+        out.extend_from_slice(text);
+        out[start..].make_ascii_lowercase();
+    } else {
+        let mut bytes = [0; 4];
+        folded(text).for_each(|letter| out.extend_from_slice(letter.encode_utf8(&mut bytes).as_bytes()));
+    }
+}
+
 // The hash of these bytes with small letters, and all their words in one, which tells whether they are ASCII.
 fn hash_bytes(folder: u32, name: &[u8]) -> (u32, u64) {
     const MULTIPLIER: u64 = 0x9e37_79b9_7f4a_7c15;

@@ -1,4 +1,5 @@
-// Which node has which place: a hash table with open addresses, whose keys are hashes of a folder and a name.
+// Which node has which place: a hash table with open addresses, whose keys are hashes of a folder and a name. Groups
+// have such tables too, for their names and endings.
 pub struct Places {
     slots: Vec<Slot>,
     taken: usize,
@@ -42,6 +43,17 @@ impl Places {
             }
             if slot.hash == hash && is_it(slot.node) {
                 return Some(slot.node);
+            }
+            at = self.next(at);
+        }
+    }
+
+    // Shows all that have this hash.
+    pub fn each(&self, hash: u32, mut show: impl FnMut(u32)) {
+        let mut at = self.start(hash);
+        while !self.slots[at].is_empty() {
+            if self.slots[at].hash == hash {
+                show(self.slots[at].node);
             }
             at = self.next(at);
         }

@@ -1,12 +1,11 @@
 // The quotas on folders, and what is used there.
 use crate::line::Refusal;
 use crate::numbers::Numbers;
-use crate::thresholds::{text_bytes, Runs, Threshold};
+use crate::thresholds::{Runs, Threshold};
 use crate::volume::{Folder, Volume, NOWHERE};
 use std::ops::Range;
 
 const MOST_QUOTAS: usize = 4_096;
-const MOST_TEXT_BYTES: usize = 4_194_304;
 
 #[derive(Clone, Copy, PartialEq)]
 pub enum State {
@@ -105,8 +104,6 @@ impl Quota {
 pub struct Quotas {
     folders: Numbers,
     count: usize,
-    // so many bytes have the texts of their actions
-    texts: usize,
     pub runs: Runs,
 }
 
@@ -120,7 +117,7 @@ fn counting_mut(folder: &mut Folder) -> Option<&mut Quota> {
 
 impl Quotas {
     pub fn new() -> Quotas {
-        Quotas { folders: Numbers::new(), count: 0, texts: 0, runs: Runs::new() }
+        Quotas { folders: Numbers::new(), count: 0, runs: Runs::new() }
     }
 
     pub fn is_empty(&self) -> bool {
@@ -131,40 +128,27 @@ impl Quotas {
         self.count == MOST_QUOTAS
     }
 
-    // Whether the texts of these thresholds fit, if those of others are given back first.
-    pub fn have_room_for(&self, thresholds: &[Threshold], replaced: &[Threshold]) -> bool {
-        self.texts - text_bytes(replaced) + text_bytes(thresholds) <= MOST_TEXT_BYTES
-    }
-
     pub fn folders(&self) -> impl Iterator<Item = u32> + '_ {
         self.folders.iter()
     }
 
     pub fn add(&mut self, volume: &mut Volume, folder: u32, quota: Quota) {
-        self.texts += text_bytes(&quota.thresholds);
         volume.folder_mut(folder).quota = Some(quota);
         self.folders.insert(folder);
         self.count += 1;
     }
 
-    // Takes away the quota of a folder, if there is one, and tells whether it waited for a scan.
-    pub fn delete(&mut self, volume: &mut Volume, folder: u32) -> bool {
-        volume.folder_mut(folder).quota.take().is_some_and(|quota| {
-            self.texts -= text_bytes(&quota.thresholds);
-            self.folders.remove(folder);
-            self.count -= 1;
-            quota.state == State::Rebuilding
-        })
+    // Takes away the quota of a folder, if there is one.
+    pub fn delete(&mut self, volume: &mut Volume, folder: u32) -> Option<Quota> {
+        let quota = volume.folder_mut(folder).quota.take()?;
+        self.folders.remove(folder);
+        self.count -= 1;
+        Some(quota)
     }
 
-    // Gives a quota these thresholds in place of its own.
-    pub fn replace(&mut self, quota: &mut Quota, thresholds: Vec<Threshold>) {
-        self.texts = self.texts - text_bytes(&quota.thresholds) + text_bytes(&thresholds);
-        quota.thresholds = thresholds;
-    }
-
-    // Gives bytes to a folder and to those above it, up to another one; or the deepest quota refuses that does.
-    pub fn gain(&mut self, volume: &mut Volume, from: u32, until: u32, bytes: u64, moment: u32) -> Result<(), Refusal> {
+    // Whether bytes may be given to a folder and to those above it, up to another one. The deepest quota refuses that
+    // does.
+    pub fn judge(&self, volume: &Volume, from: u32, until: u32, bytes: u64) -> Result<(), Refusal> {
         if self.is_empty() || bytes == 0 {
             return Ok(());
         }
@@ -176,6 +160,15 @@ impl Quotas {
                 }
             }
         }
+        Ok(())
+    }
+
+    // Gives them.
+    pub fn gain(&mut self, volume: &mut Volume, from: u32, until: u32, bytes: u64, moment: u32) -> Result<(), Refusal> {
+        if self.is_empty() || bytes == 0 {
+            return Ok(());
+        }
+        self.judge(volume, from, until, bytes)?;
         let (mut at, mut crossing) = (from, Vec::new());
         while at != until {
             if let Some(quota) = counting_mut(volume.folder_mut(at)) {
@@ -221,6 +214,15 @@ impl Quotas {
     pub fn resize(&mut self, volume: &mut Volume, folder: u32, old: u64, new: u64, moment: u32) -> Result<(), Refusal> {
         self.lose(volume, folder, NOWHERE, old.saturating_sub(new));
         self.gain(volume, folder, NOWHERE, new.saturating_sub(old), moment)
+    }
+
+    // Whether a node may go into another folder.
+    pub fn judge_move(&self, volume: &Volume, node: u32, to: u32) -> Result<(), Refusal> {
+        let from = volume.node(node).parent;
+        if self.is_empty() || from == to {
+            return Ok(());
+        }
+        self.judge(volume, to, volume.meeting(from, to), volume.usage(node))
     }
 
     // Something goes from one folder into another. From where their ways up meet nothing changes.

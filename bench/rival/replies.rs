@@ -1,8 +1,11 @@
 // The text of replies.
+use crate::groups::Group;
 use crate::line::Refusal;
 use crate::machine::{Answer, Machine};
+use crate::patterns::Pattern;
 use crate::quotas::{Quota, State};
-use crate::thresholds::{Act, Entry, Threshold};
+use crate::screens::{exception_of, screen_of, Screen};
+use crate::thresholds::{Act, Action, Cause, Entry, Threshold};
 use crate::volume::{Volume, MOST_NAMES, MOST_NODES, ROOT};
 
 // Writes the reply to the line of this number, and the acts that its command set off.
@@ -34,6 +37,10 @@ fn write_answer(out: &mut Vec<u8>, answer: &Answer, machine: &Machine) {
             out.push(b' ');
             write_path(out, *node, volume);
         }
+        Answer::Reported(screen) => {
+            out.extend_from_slice(b"\n  passive ");
+            write_path(out, *screen, volume);
+        }
         Answer::Visited { folders, scanned, used } => {
             out.extend_from_slice(b" visited ");
             write_number(out, *folders);
@@ -52,6 +59,19 @@ fn write_answer(out: &mut Vec<u8>, answer: &Answer, machine: &Machine) {
                 quota.thresholds.iter().for_each(|threshold| write_threshold(out, threshold));
             }
         }
+        Answer::Groups => machine.groups.iter().for_each(|group| write_group(out, group)),
+        Answer::Screens => {
+            for folder in machine.screens.screens.folders() {
+                write_screen(out, folder, screen_in(folder, volume), machine);
+            }
+        }
+        Answer::Exceptions => {
+            for folder in machine.screens.exceptions.folders() {
+                out.extend_from_slice(b"\n  ");
+                write_path(out, folder, volume);
+                write_groups(out, exception_of(volume, folder).expect("an exception"), machine);
+            }
+        }
         Answer::Settings => write_settings(out, machine),
         Answer::Log => machine.quotas.runs.log.iter().for_each(|entry| write_entry(out, entry)),
     }
@@ -61,12 +81,20 @@ fn quota_of(folder: u32, volume: &Volume) -> &Quota {
     volume.folder(folder).quota.as_ref().expect("a quota")
 }
 
+fn screen_in(folder: u32, volume: &Volume) -> &Screen {
+    screen_of(volume, folder).expect("a screen")
+}
+
 fn write_refusal(out: &mut Vec<u8>, refusal: &Refusal, volume: &Volume) {
     match refusal {
         Refusal::Named(name) => out.extend_from_slice(name.as_bytes()),
         Refusal::BadLine(column) => {
             out.extend_from_slice(b"BadLine ");
             write_number(out, *column as u64);
+        }
+        Refusal::Blocked(screen) => {
+            out.extend_from_slice(b"ScreenBlocked ");
+            write_path(out, *screen, volume);
         }
         Refusal::Exceeded { would, limit, folder } => {
             out.extend_from_slice(b"QuotaExceeded ");
@@ -105,13 +133,48 @@ fn write_threshold(out: &mut Vec<u8>, threshold: &Threshold) {
     for action in &threshold.actions {
         out.extend_from_slice(b"\n    at ");
         write_number(out, threshold.percent);
-        out.extend_from_slice(&[b' ', action.kind, b' ']);
-        match action.minutes {
-            Some(minutes) => write_number(out, minutes),
-            None => out.extend_from_slice(b"-1"),
+        write_action(out, action);
+    }
+}
+
+// Its kind, minutes and text.
+fn write_action(out: &mut Vec<u8>, action: &Action) {
+    out.extend_from_slice(&[b' ', action.kind, b' ']);
+    match action.minutes {
+        Some(minutes) => write_number(out, minutes),
+        None => out.extend_from_slice(b"-1"),
+    }
+    out.push(b' ');
+    out.extend_from_slice(&action.text);
+}
+
+fn write_group(out: &mut Vec<u8>, group: &Group) {
+    out.extend_from_slice(b"\n  ");
+    out.extend_from_slice(&group.name);
+    let mut write_all = |kind: &[u8], patterns: &[Pattern]| {
+        for pattern in patterns {
+            out.extend_from_slice(kind);
+            out.extend_from_slice(&pattern.text);
         }
-        out.push(b' ');
-        out.extend_from_slice(&action.text);
+    };
+    write_all(b"\n    member ", &group.members);
+    write_all(b"\n    nonmember ", &group.non_members);
+}
+
+fn write_screen(out: &mut Vec<u8>, folder: u32, screen: &Screen, machine: &Machine) {
+    out.extend_from_slice(if screen.active { b"\n  active " } else { b"\n  passive " });
+    write_path(out, folder, &machine.volume);
+    write_groups(out, &screen.groups, machine);
+    for action in &screen.actions {
+        out.extend_from_slice(b"\n    do");
+        write_action(out, action);
+    }
+}
+
+fn write_groups(out: &mut Vec<u8>, numbers: &[usize], machine: &Machine) {
+    for number in numbers {
+        out.extend_from_slice(b"\n    group ");
+        out.extend_from_slice(&machine.groups.group(*number).name);
     }
 }
 
@@ -125,18 +188,31 @@ fn write_settings(out: &mut Vec<u8>, machine: &Machine) {
 fn write_entry(out: &mut Vec<u8>, entry: &Entry) {
     out.extend_from_slice(b"\n ");
     out.extend_from_slice(date(entry.moment).as_bytes());
-    out.extend_from_slice(b"quota ");
+    out.extend_from_slice(match entry.cause {
+        Cause::Threshold { .. } => b"quota ",
+        Cause::Screen => b"screen ",
+    });
     write_number(out, entry.folder as u64);
-    out.push(b' ');
-    write_number(out, entry.percent);
+    if let Cause::Threshold { percent, .. } = entry.cause {
+        out.push(b' ');
+        write_number(out, percent);
+    }
     out.extend_from_slice(&[b' ', entry.kind]);
 }
 
 fn write_act(out: &mut Vec<u8>, act: &Act, volume: &Volume) {
-    let threshold = &quota_of(act.folder, volume).thresholds[act.threshold];
-    let action = &threshold.actions[act.action];
-    out.extend_from_slice(b"\n  act quota ");
-    write_number(out, threshold.percent);
+    let actions = match act.cause {
+        Cause::Threshold { place, percent } => {
+            out.extend_from_slice(b"\n  act quota ");
+            write_number(out, percent);
+            &quota_of(act.folder, volume).thresholds[place].actions
+        }
+        Cause::Screen => {
+            out.extend_from_slice(b"\n  act screen");
+            &screen_in(act.folder, volume).actions
+        }
+    };
+    let action = &actions[act.action];
     out.extend_from_slice(&[b' ', action.kind, b' ']);
     write_path(out, act.folder, volume);
     out.push(b'|');

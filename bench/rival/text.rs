@@ -85,6 +85,10 @@ pub fn may_name(name: &[u8]) -> bool {
     !name.iter().any(|byte| NEVER_IN_NAMES[*byte as usize])
 }
 
+pub fn may_be_pattern(text: &[u8]) -> bool {
+    !text.iter().any(|byte| NEVER_IN_NAMES[*byte as usize] && !matches!(byte, b'*' | b'?'))
+}
+
 // What stands between the \ of a path.
 pub fn parts(path: &[u8]) -> impl Iterator<Item = &[u8]> {
     path.split(|byte| *byte == b'\\')

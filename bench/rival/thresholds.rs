@@ -1,9 +1,10 @@
-// The thresholds of quotas: percentages of the limit, and the actions that run when what is used comes up to them.
-use crate::line::Settings;
+// The thresholds of quotas: percentages of the limit, and the actions that run when what is used comes up to them. The
+// actions of screens run as these do.
+use crate::options::Settings;
 use std::collections::VecDeque;
 
 const MOST_THRESHOLDS: usize = 16;
-const MOST_ACTIONS: usize = 8;
+pub const MOST_ACTIONS: usize = 8;
 const MOST_ENTRIES: usize = 1_024;
 const RUN_LIMIT: u64 = 60;
 
@@ -28,18 +29,25 @@ pub struct Notice {
     pub action: Action,
 }
 
+// What has an action run: a threshold at this place among those of the folder's quota, or the folder's screen.
+#[derive(Clone, Copy)]
+pub enum Cause {
+    Threshold { place: usize, percent: u64 },
+    Screen,
+}
+
 // An entry of the log.
 pub struct Entry {
     pub moment: u32,
     pub folder: u32,
-    pub percent: u64,
+    pub cause: Cause,
     pub kind: u8,
 }
 
-// An action that ran: its quota's folder, and the places of its threshold and of itself.
+// An action that ran, by its place.
 pub struct Act {
     pub folder: u32,
-    pub threshold: usize,
+    pub cause: Cause,
     pub action: usize,
 }
 
@@ -62,9 +70,14 @@ impl Runs {
         Runs { run_limit: RUN_LIMIT, log: VecDeque::new(), acts: Vec::new() }
     }
 
-    // Has those actions of a threshold run that may. It stands at this place among those of the folder's quota.
+    // Has those actions of a threshold run that may.
     pub fn run(&mut self, folder: u32, place: usize, threshold: &mut Threshold, moment: u32) {
-        for (at, action) in threshold.actions.iter_mut().enumerate() {
+        let cause = Cause::Threshold { place, percent: threshold.percent };
+        self.run_actions(folder, cause, &mut threshold.actions, moment);
+    }
+
+    pub fn run_actions(&mut self, folder: u32, cause: Cause, actions: &mut [Action], moment: u32) {
+        for (at, action) in actions.iter_mut().enumerate() {
             let seconds = 60 * action.minutes.unwrap_or(self.run_limit);
             if action.last_run.is_some_and(|run| u64::from(moment) < u64::from(run) + seconds) {
                 continue;
@@ -73,8 +86,8 @@ impl Runs {
             if self.log.len() == MOST_ENTRIES {
                 self.log.pop_front();
             }
-            self.log.push_back(Entry { moment, folder, percent: threshold.percent, kind: action.kind });
-            self.acts.push(Act { folder, threshold: place, action: at });
+            self.log.push_back(Entry { moment, folder, cause, kind: action.kind });
+            self.acts.push(Act { folder, cause, action: at });
         }
     }
 }
@@ -117,5 +130,9 @@ pub fn are_too_many(thresholds: &[Threshold]) -> bool {
 
 // How many bytes the texts of all actions have.
 pub fn text_bytes(thresholds: &[Threshold]) -> usize {
-    thresholds.iter().flat_map(|threshold| &threshold.actions).map(|action| action.text.len()).sum()
+    thresholds.iter().map(|threshold| action_bytes(&threshold.actions)).sum()
+}
+
+pub fn action_bytes(actions: &[Action]) -> usize {
+    actions.iter().map(|action| action.text.len()).sum()
 }

@@ -3,6 +3,7 @@ use crate::names;
 use crate::numbers::Numbers;
 use crate::places::Places;
 use crate::quotas::Quota;
+use crate::screens::Guard;
 use crate::text;
 
 pub const ROOT: u32 = 0;
@@ -41,6 +42,7 @@ pub struct Folder {
     // the number of the scan that visited it, or of an older one
     pub visited_by: u32,
     pub quota: Option<Quota>,
+    pub guard: Option<Box<Guard>>,
 }
 
 pub struct Volume {

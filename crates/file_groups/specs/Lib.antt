@@ -1,3 +1,4 @@
 pub mod Heads
+pub mod Folded
 pub mod Kept
 pub mod Faults

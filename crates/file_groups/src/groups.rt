@@ -1,12 +1,14 @@
 //! The table of file groups.
 
-ghost use Rattle.std.specs.Prelude.{◌≡◌, ◌<◌, ◌≤◌, IfOk, IfErr, IfSome, OnOk, OnErr, [], None, Some, true, false, is_none, length, slice_get};
+ghost use Rattle.std.specs.Prelude.{◌≡◌, ℕ, ◌<◌, ◌≤◌, List as Items, IfOk, IfErr, IfSome, OnOk, OnErr, [], None, Some, true, false, is_none, length, slice_get};
 ghost use Rattle.fsrm_base.specs.Keyed.{row_of, has_row};
+ghost use Rattle.fsrm_model.specs.Name.{folded};
 ghost use Rattle.fsrm_model.specs.Patterns.{group_number, in_group_of, is_group, is_object_name, new_group, number_named, with_group, with_patterns, without_group};
 ghost use Rattle.file_groups.specs.Faults.{IsFault, group_fault, new_fault, patterns_fault};
 ghost use Rattle.file_groups.specs.Kept.{AreGroups, AreMembers, AreNonMembers, group_texts};
 
 use crate::answer::GroupFault;
+use crate::folded::FoldedName;
 use crate::pattern::Pattern;
 use crate::rows;
 use crate::rows::ByNumber;
@@ -201,6 +203,15 @@ impl Groups {
     {
         let place = search::<ByNumber>(&self.groups, group).unwrap();
         rows::is_in(&self.groups[place], name)
+    }
+
+    /// Whether a name that was folded once is in a group that is there. It takes no memory.
+    pub fn has(&self, group: u32, name: &FoldedName) -> bool
+        requires { has_row group_number group self.now ≡ true }
+        ensures { (text : Items ℕ) → folded text ≡ name.now → result ≡ in_group_of self.now group text }
+    {
+        let place = search::<ByNumber>(&self.groups, group).unwrap();
+        rows::has(&self.groups[place], name)
     }
 
     /// The bytes of all names and patterns.

@@ -44,8 +44,8 @@ fn heads_of<'a>(pattern: &'a str, name: &'a str) -> Heads<'a>
     }
 }
 
-// A text's first character, and what is after it.
-fn first(text: &str) -> Option<(char, &str)>
+/// A text's first character, and what is after it.
+pub fn first(text: &str) -> Option<(char, &str)>
     ensures { MatchOption result (chars text.now ≡ []) (λ cut. BeginsWith text.now cut.0 cut.1.now) }
 {
     let mut characters = text.chars();

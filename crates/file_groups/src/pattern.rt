@@ -69,7 +69,8 @@ impl AsStr for Pattern {
     }
 }
 
-fn is_pattern(text: &str) -> bool
+/// Whether a text is a pattern: 1 to 255 bytes, those of a name, `*` and `?`; neither `.` nor `..`.
+pub fn is_pattern(text: &str) -> bool
     ensures { result ≡ is_pattern text.now }
 {
     let bytes = text.as_bytes();

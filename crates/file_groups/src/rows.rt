@@ -7,8 +7,10 @@ ghost use Rattle.fsrm_base.specs.Keyed.{least_free};
 ghost use Rattle.fsrm_model.specs.Limits.{most_groups};
 ghost use Rattle.fsrm_model.specs.Patterns.{group_number, in_group, is_group, is_pattern, number_named, pattern_matches, regrouped};
 ghost use Rattle.fsrm_model.specs.Texts.{group_bytes, texts_bytes};
+ghost use Rattle.file_groups.specs.Folded.{in_group_folded, pattern_matches_folded};
 ghost use Rattle.file_groups.specs.Kept.{AreMembers, AreNonMembers};
 
+use crate::folded::FoldedName;
 use crate::matching::matches;
 use crate::pattern::Pattern;
 use fsrm_base::places::Key;
@@ -62,6 +64,22 @@ pub fn is_in(group: &GroupRow, name: &str) -> bool
     ensures { result ≡ in_group group.now name.now }
 {
     some_matches(&group.members, name) && !some_matches(&group.non_members, name)
+}
+
+/// Whether a name that was folded once is in a group.
+pub fn has(group: &GroupRow, name: &FoldedName) -> bool
+    ensures { result ≡ in_group_folded group.now name.now }
+{
+    has_match(&group.members, name) && !has_match(&group.non_members, name)
+}
+
+fn has_match(patterns: &List<Text>, name: &FoldedName) -> bool
+    ensures { result ≡ list_any (pattern_matches_folded name.now) patterns.now }
+{
+    patterns
+        .as_slice()
+        .iter()
+        .any(|pattern| name.matches(pattern.as_str()))
 }
 
 fn some_matches(patterns: &List<Text>, name: &str) -> bool

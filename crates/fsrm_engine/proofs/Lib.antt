@@ -3,3 +3,4 @@ pub mod steps
 pub mod tables
 pub mod walks
 pub mod settling
+pub mod judging

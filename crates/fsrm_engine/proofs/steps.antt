@@ -3,3 +3,4 @@ pub mod WholeLaws
 pub mod ActLaws
 pub mod PlaceLaws
 pub mod ScanSteps
+pub mod KindLaws

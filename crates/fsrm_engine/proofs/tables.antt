@@ -10,3 +10,6 @@ pub mod QueueLaws
 pub mod RoomLaws
 pub mod ModifyLaws
 pub mod ListLaws
+pub mod GroupListLaws
+pub mod GroupLaws
+pub mod ScreenLaws

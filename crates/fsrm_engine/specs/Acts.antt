@@ -1,4 +1,4 @@
--- The actions that acts name, among the quotas of the tables.
+-- The actions that acts name, among the quotas and screens of the tables.
 use Rattle.std.specs.Prelude.{◌≡◌, ℕ, List, [], slice_get, Some}
 use Rattle.std.specs.Option.{option_map_or}
 use Rattle.fsrm_base.specs.Keyed.{row_of}
@@ -7,13 +7,14 @@ use Rattle.fsrm_model.specs.declared.command.Subject.{Subject}
 use Rattle.fsrm_model.specs.declared.command.Subject.TheVariants.{Quota, Screen}
 use Rattle.fsrm_model.specs.declared.row.Action.{Action}
 use Rattle.fsrm_model.specs.Quota.{folder_of}
+use Rattle.fsrm_model.specs.Screens.{screen_folder}
 use Rattle.fsrm_model.specs.Thresholds.{actions_at}
 use Rattle.fsrm_objects.specs.Tables.{Tables}
 
--- the actions of a subject. There are no screens
+-- the actions of a subject
 abbrev pub actions_in : Tables → Subject → List Action
 actions_in tables (Quota folder percent) = option_map_or (λ quota. actions_at quota.thresholds percent) (row_of folder_of folder tables.quotas) []
-actions_in tables (Screen folder) = []
+actions_in tables (Screen folder) = option_map_or (λ screen. screen.actions) (row_of screen_folder folder tables.screens) []
 
 -- an act's action is there
 pub record IsActOf (tables : Tables) (act : Act) : Type 0 where

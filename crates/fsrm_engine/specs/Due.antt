@@ -59,7 +59,7 @@ pub record Completes (old new : Parts) (folder moment : ℕ) : Type 0 where
   pub counting : Parts
   pub run : Parts
   pub parts_are : counting ≡ record (recounted old (with_complete folder old.objects.quotas)) { objects = counting.objects }
-  pub quotas_are : counting.objects.quotas ≡ with_change folder_of folder (raised counting.usage moment) (with_complete folder old.objects.quotas)
+  pub objects_are : counting.objects ≡ record old.objects { quotas = with_change folder_of folder (raised counting.usage moment) (with_complete folder old.objects.quotas) }
   pub peaks_are : map (peaked old.tree.size old.tree.nodes moment) counting.objects.quotas ≡ map (peaked old.tree.size old.tree.nodes moment) (with_complete folder old.objects.quotas)
   pub counted : AreCounted counting
   pub ran : Ran counting run moment (due_in counting.objects None None (used_in counting.usage folder) old.run_limit moment folder)

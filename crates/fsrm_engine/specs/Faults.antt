@@ -1,5 +1,8 @@
 -- Faults of the tree and of the tables as refusals of a command.
-use Rattle.std.specs.Prelude.{ℕ, ◌-◌, false, Option, Some, None, option_map}
+use Rattle.std.specs.Prelude.{ℕ, ◌+◌, ◌-◌, false, Option, Some, None, option_map}
+use Rattle.file_groups.specs.declared.answer.GroupFault.{GroupFault}
+use Rattle.file_groups.specs.declared.answer.GroupFault.TheVariants as group
+use Rattle.file_groups.specs.Kept.{group_texts}
 use Rattle.fsrm_model.specs.declared.command.Answer.{Answer}
 use Rattle.fsrm_model.specs.declared.command.Outcome.TheVariants.{Refused}
 use Rattle.fsrm_model.specs.declared.command.Refusal.{Refusal}
@@ -24,7 +27,7 @@ refusal_of VolumeFull = Some refusal.VolumeFull
 refusal_of NamesFull = Some refusal.NamesFull
 refusal_of NoMemory = None
 
--- the answer of a refused command, which never lasts
+-- the answer of a refused command that leaves nothing
 abbrev pub refused_answer : Refusal → Answer
 refused_answer refusal = record { outcome = Refused refusal; lasting = false }
 
@@ -35,6 +38,7 @@ answer_of fault = option_map refused_answer (refusal_of fault)
 -- ---- the same of the tables
 abbrev pub table_refusal : ObjectFault → Option Refusal
 table_refusal object.AlreadyExists = Some refusal.AlreadyExists
+table_refusal object.InvalidCombination = Some refusal.InvalidCombination
 table_refusal object.OutOfRange = Some refusal.OutOfRange
 table_refusal object.TableFull = Some refusal.TableFull
 table_refusal object.TextsFull = Some refusal.TextsFull
@@ -43,9 +47,19 @@ table_refusal object.NoMemory = None
 abbrev pub table_answer : ObjectFault → Option Answer
 table_answer fault = option_map refused_answer (table_refusal fault)
 
+-- ---- and of the table of groups
+abbrev pub group_refusal : GroupFault → Option Refusal
+group_refusal group.DuplicateName = Some refusal.DuplicateName
+group_refusal group.TableFull = Some refusal.TableFull
+group_refusal group.TextsFull = Some refusal.TextsFull
+group_refusal group.NoMemory = None
+
+abbrev pub group_answer : GroupFault → Option Answer
+group_answer fault = option_map refused_answer (group_refusal fault)
+
 -- how many bytes of texts may still come
 abbrev pub text_room : Parts → ℕ
-text_room parts = most_text_bytes - texts_in parts.objects
+text_room parts = most_text_bytes - (texts_in parts.objects + group_texts parts.groups)
 
 -- ---- and of a quota
 -- the refusal by a quota

@@ -4,5 +4,8 @@ pub mod Peaks
 pub mod Crossing
 pub mod Due
 pub mod Faults
+pub mod Kinds
 pub mod Places
+pub mod Screening
+pub mod Reporting
 pub mod Walk

@@ -8,7 +8,7 @@ use Rattle.fsrm_model.specs.declared.row.Capacity.{Capacity}
 use Rattle.fsrm_model.specs.declared.row.NodeRow.{NodeRow}
 use Rattle.fsrm_model.specs.declared.row.QuotaRow.{QuotaRow}
 use Rattle.fsrm_model.specs.declared.row.Rows.{Rows}
-use Rattle.fsrm_model.specs.Acts.{has_act}
+use Rattle.fsrm_model.specs.Acts.{has_act, of_quotas, of_screens}
 use Rattle.fsrm_model.specs.Capacities.{is_capacity}
 use Rattle.fsrm_model.specs.Fresh.{rows_of_nodes}
 use Rattle.fsrm_base.specs.Keyed.{row_of}
@@ -23,7 +23,7 @@ use Rattle.quota_usage.specs.declared.change.Change.{Change}
 use Rattle.quota_usage.specs.declared.change.Counter.{Counter}
 use Rattle.quota_usage.specs.Charge.{charged_counter}
 use Rattle.scan_queue.specs.Courses.{Scanning, Turns, left}
-use Rattle.thresholds.specs.Marked.{waiting, are_there}
+use Rattle.thresholds.specs.Marked.{waiting, are_there, all_waiting, screen_waiting, are_screen_acts}
 use Rattle.thresholds.specs.Settled.{Settles}
 use Rattle.fsrm_engine.specs.declared.parts.Parts.{Parts}
 use Rattle.fsrm_engine.specs.Peaks.{raised_above}
@@ -46,7 +46,11 @@ pub record Takes (old new : Machine) (stepped : Stepped) (answer : Answer) : Typ
 abbrev pub rows_of : Parts → Rows
 rows_of parts =
     record (rows_of_nodes parts.tree.nodes) {
+      groups = parts.groups;
       quotas = parts.objects.quotas;
+      screens = parts.objects.screens;
+      excepts = parts.objects.excepts;
+      audits = parts.audit;
       acts = parts.marks.log;
       queue = parts.scans.queue;
       unvisited = left parts.tree.nodes parts.scans;
@@ -57,7 +61,7 @@ rows_of parts =
 -- the machine that an engine's parts make up
 abbrev pub machine_of : Parts → Machine
 machine_of parts =
-    record { size = parts.tree.size; rows = rows_of parts; waiting = waiting parts.objects.quotas parts.marks.numbers }
+    record { size = parts.tree.size; rows = rows_of parts; waiting = all_waiting parts.objects parts.marks }
 
 -- ---- what is known of the parts
 -- what the files at and below a quota's folder take
@@ -84,16 +88,24 @@ pub record IsSound (parts : Parts) : Type 0 where
   pub counted : AreCounted parts
   pub scanning : Scanning parts.tree parts.scans
 
+-- no action of a quota waits
+pub record IsCalm (parts : Parts) : Type 0 where
+  pub numbers : parts.marks.numbers ≡ []
+  pub crossing : parts.crossing ≡ no_numbers most_quotas
+
 -- no action waits
 pub record IsIdle (parts : Parts) : Type 0 where
   pub numbers : parts.marks.numbers ≡ []
+  pub places : parts.marks.places ≡ []
   pub crossing : parts.crossing ≡ no_numbers most_quotas
 
 -- exactly the actions wait that these acts name, and they are there
 pub record AreMarked (parts : Parts) (acts : List Act) : Type 0 where
   pub there : are_there parts.objects.quotas parts.marks.numbers ≡ true
+  pub places : are_screen_acts parts.objects.screens parts.marks ≡ true
   pub set : is_set parts.marks.numbers ≡ true
-  pub are : (subject : Subject) (place : ℕ) → has_act (waiting parts.objects.quotas parts.marks.numbers) subject place ≡ has_act acts subject place
+  pub are : (subject : Subject) (place : ℕ) → has_act (waiting parts.objects.quotas parts.marks.numbers) subject place ≡ has_act (of_quotas acts) subject place
+  pub screens : screen_waiting parts.objects.screens parts.marks ≡ of_screens acts
   pub crossing : parts.crossing ≡ no_numbers most_quotas
 
 -- the parts are sound, their rows are those of a store, the actions that wait are there, and no crossing is left to be settled
@@ -101,6 +113,7 @@ pub record IsWhole (parts : Parts) : Type 0 where
   pub sound : IsSound parts
   pub valid : IsValid parts.tree.size (rows_of parts)
   pub there : are_there parts.objects.quotas parts.marks.numbers ≡ true
+  pub screens : are_screen_acts parts.objects.screens parts.marks ≡ true
   pub crossing : parts.crossing ≡ no_numbers most_quotas
 
 -- ---- what is done with them
@@ -116,7 +129,7 @@ pub record Does (old new : Parts) (moment : ℕ) (deed : Deed) (answer : Answer)
   pub outcome_is : answer.outcome ≡ (step_of old moment deed).outcome
   pub lasting_is : answer.lasting ≡ (step_of old moment deed).lasting
 
--- acts ran at a moment, and are marked: nothing else changed
+-- acts of quotas ran at a moment, and are marked: nothing else changed
 pub record Ran (old new : Parts) (moment : ℕ) (acts : List Act) : Type 0 where
   pub parts_are : new ≡ record old { objects = new.objects; marks = new.marks }
   pub settles : Settles old.marks new.marks old.objects new.objects moment acts

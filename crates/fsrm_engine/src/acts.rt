@@ -1,12 +1,13 @@
 //! The actions that acts name.
 
-ghost use Rattle.std.specs.Prelude.{◌≡◌, ◌<◌, length, slice_get};
+ghost use Rattle.std.specs.Prelude.{◌≡◌, ◌<◌, true, false, length, slice_get};
 ghost use Rattle.std.specs.Option.{option_copied, option_map_or};
 ghost use Rattle.fsrm_base.specs.Keyed.{row_of};
+ghost use Rattle.fsrm_model.specs.Acts.{is_of_quota};
 ghost use Rattle.fsrm_model.specs.Thresholds.{actions_at, percent_of};
 ghost use Rattle.fsrm_engine.specs.Acts.{text_in, IsActOf};
 
-use fsrm_model::{Act, Threshold};
+use fsrm_model::{Act, Subject, Threshold};
 use fsrm_objects::Objects;
 
 // The threshold of a percentage.
@@ -18,13 +19,36 @@ fn threshold_of(thresholds: &[Threshold], percent: u16) -> Option<&Threshold>
         .find(|threshold| threshold.percent == percent)
 }
 
-/// The text of the action that an act names, which is one of a quota's.
-pub fn text_of<'a>(objects: &'a Objects, act: &Act) -> &'a str
-    requires { IsActOf objects.now act.now }
+// The text of the action that an act of a quota names.
+fn quota_text<'a>(objects: &'a Objects, act: &Act) -> &'a str
+    requires quota { is_of_quota act.now.subject ≡ true }
+    requires there { IsActOf objects.now act.now }
     ensures { result.now ≡ text_in objects.now act.now }
 {
     let quota = objects.quota(act.subject.folder()).unwrap();
     let threshold = threshold_of(quota.thresholds.as_slice(), act.subject.percent()).unwrap();
     let action = threshold.actions.get(usize::from(act.place)).unwrap();
     action.text.as_str()
+}
+
+// The same of a screen.
+fn screen_text<'a>(objects: &'a Objects, act: &Act) -> &'a str
+    requires screen { is_of_quota act.now.subject ≡ false }
+    requires there { IsActOf objects.now act.now }
+    ensures { result.now ≡ text_in objects.now act.now }
+{
+    let screen = objects.screen(act.subject.folder()).unwrap();
+    let action = screen.actions.get(usize::from(act.place)).unwrap();
+    action.text.as_str()
+}
+
+/// The text of the action that an act names.
+pub fn text_of<'a>(objects: &'a Objects, act: &Act) -> &'a str
+    requires { IsActOf objects.now act.now }
+    ensures { result.now ≡ text_in objects.now act.now }
+{
+    match act.subject {
+        Subject::Quota { .. } => quota_text(objects, act),
+        Subject::Screen { .. } => screen_text(objects, act),
+    }
 }

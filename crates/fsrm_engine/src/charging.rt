@@ -22,7 +22,7 @@ use volume_tree::Tree;
 /// Raises the peak of a folder's quota to what is used, if that is more.
 pub fn raise_peak(usage: &Usage, objects: &mut Objects, folder: u32, moment: u64)
     requires { is_ascending folder_of objects.old.quotas ≡ true }
-    ensures { objects.new ≡ record { quotas = with_change folder_of folder (raised usage.now moment) objects.old.quotas } }
+    ensures { objects.new ≡ record objects.old { quotas = with_change folder_of folder (raised usage.now moment) objects.old.quotas } }
 {
     let Some(used) = usage.used(folder) else {
         return;
@@ -75,7 +75,7 @@ fn gain(
 )
     requires ascending { is_ascending folder_of objects.old.quotas ≡ true }
     requires bound { crossing.old.bound ≡ most_quotas }
-    ensures raised { objects.new ≡ record { quotas = with_change folder_of folder (raised usage.now moment) objects.old.quotas } }
+    ensures raised { objects.new ≡ record objects.old { quotas = with_change folder_of folder (raised usage.now moment) objects.old.quotas } }
     ensures noted { Notes crossing.old crossing.new objects.old.quotas (λ quota. (quota.folder == folder) && is_crossing usage.now minus plus quota) }
 {
     let Some(now) = usage.used(folder) else {
@@ -108,7 +108,7 @@ pub fn raise_above<L: Ledger>(
     requires there { has_row key folder tree.now.nodes ≡ true }
     requires ascending { is_ascending folder_of objects.old.quotas ≡ true }
     requires bound { crossing.old.bound ≡ most_quotas }
-    ensures quotas { objects.new ≡ record { quotas = map (λ quota. if is_under tree.now.nodes quota.folder folder then raised usage.now moment quota else quota) objects.old.quotas } }
+    ensures quotas { objects.new ≡ record objects.old { quotas = map (λ quota. if is_under tree.now.nodes quota.folder folder then raised usage.now moment quota else quota) objects.old.quotas } }
     ensures noted { Notes crossing.old crossing.new objects.old.quotas (λ quota. is_under tree.now.nodes quota.folder folder && is_crossing usage.now minus plus quota) }
     ensures looks { steps.new ≤ steps.old + length (chain tree.now.nodes folder) }
 {
@@ -160,7 +160,7 @@ pub fn drop_above<L: Ledger>(
 /// Raises the peak of each folder's quota to what is used, if that is more.
 pub fn raise_all(usage: &Usage, objects: &mut Objects, moment: u64)
     requires { is_ascending folder_of objects.old.quotas ≡ true }
-    ensures { objects.new ≡ record { quotas = map (raised usage.now moment) objects.old.quotas } }
+    ensures { objects.new ≡ record objects.old { quotas = map (raised usage.now moment) objects.old.quotas } }
 {
     for place in 0..objects.quota_count() {
         let folder = objects.quota_at(place).folder;

@@ -4,7 +4,8 @@ ghost use Rattle.std.specs.Prelude.{◌≡◌, ◌+◌, ◌≤◌, true, IfOk, O
 ghost use Rattle.fsrm_model.specs.declared.command.Deed.TheVariants.{File};
 ghost use Rattle.fsrm_model.specs.Cost.{deed_cost};
 ghost use Rattle.fsrm_model.specs.Limits.{latest_moment};
-ghost use Rattle.fsrm_model.specs.Valued.{is_op, is_command};
+ghost use Rattle.fsrm_model.specs.Valued.{is_op, is_deed, is_command};
+ghost use Rattle.fsrm_engine.specs.Kinds.{is_of_screens, is_of_groups, is_of_objects};
 ghost use Rattle.fsrm_engine.specs.Machine.{Does, IsIdle, IsSound, IsWhole, rows_of};
 
 use crate::parts::Parts;
@@ -66,27 +67,106 @@ impl Parts {
         self.operate(alloc, op, moment, steps)
     }
 
-    // A command.
-    fn carry_out<L: Ledger>(
+    // A command on screens or exceptions.
+    fn on_screens<L: Ledger>(
         &mut self,
         alloc: Global,
-        command: &Command,
+        deed: &Deed,
+        moment: u64,
         steps: &mut Steps<L>,
     ) -> Result<Answer, NoMemory>
         requires whole { IsWhole self.old }
         requires idle { IsIdle self.old }
-        requires valid { is_command command.now ≡ true }
-        requires after { self.old.last_moment ≤ command.now.moment }
-        ensures ok { IfOk result (λ answer. Does self.old self.new command.now.moment command.now.deed answer) }
+        requires valid { is_deed deed.now ≡ true }
+        requires moment { moment ≤ latest_moment }
+        requires after { self.old.last_moment ≤ moment }
+        requires kind { is_of_screens deed.now ≡ true }
+        ensures ok { IfOk result (λ answer. Does self.old self.new moment deed.now answer) }
         ensures err { OnErr result (self.new ≡ self.old) }
         ensures sound { IsSound self.new }
-        ensures looks { steps.new ≤ steps.old + deed_cost (rows_of self.old) command.now.deed }
+        ensures looks { steps.new ≤ steps.old + deed_cost (rows_of self.old) deed.now }
     {
-        let moment = command.moment;
-        match &command.deed {
-            Deed::File(op) => self.operate(alloc, op, moment, steps),
-            Deed::Usage { path } => self.sum(alloc, path, moment, steps),
-            Deed::Step { n } => Ok(self.go_on(*n, moment, steps)),
+        match deed {
+            Deed::ScreenAdd {
+                path,
+                active,
+                add_filegroup: names,
+                add_notification: actions,
+            } => self.screen_add(alloc, path, *active, names, actions, moment, steps),
+            Deed::ScreenModify {
+                path,
+                active,
+                remove_filegroup: removed,
+                add_filegroup: added,
+            } => self.screen_modify(alloc, path, *active, removed, added, moment, steps),
+            Deed::ScreenDelete { path } => Ok(self.screen_delete(path, moment, steps)),
+            Deed::ScreenList => Ok(self.list_screens(moment)),
+            Deed::ExceptionAdd {
+                path,
+                add_filegroup: names,
+            } => self.except_add(alloc, path, names, moment, steps),
+            Deed::ExceptionDelete { path } => Ok(self.except_delete(path, moment, steps)),
+            Deed::ExceptionList => Ok(self.list_excepts(moment)),
+            _ => unreachable!(),
+        }
+    }
+
+    // One on file groups, or on screens or exceptions.
+    fn on_groups<L: Ledger>(
+        &mut self,
+        alloc: Global,
+        deed: &Deed,
+        moment: u64,
+        steps: &mut Steps<L>,
+    ) -> Result<Answer, NoMemory>
+        requires whole { IsWhole self.old }
+        requires idle { IsIdle self.old }
+        requires valid { is_deed deed.now ≡ true }
+        requires moment { moment ≤ latest_moment }
+        requires after { self.old.last_moment ≤ moment }
+        requires kind { is_of_groups deed.now ≡ true }
+        ensures ok { IfOk result (λ answer. Does self.old self.new moment deed.now answer) }
+        ensures err { OnErr result (self.new ≡ self.old) }
+        ensures sound { IsSound self.new }
+        ensures looks { steps.new ≤ steps.old + deed_cost (rows_of self.old) deed.now }
+    {
+        match deed {
+            Deed::FilegroupAdd {
+                filegroup: name,
+                members,
+                non_members: others,
+            } => self.group_add(alloc, name, members, others, moment),
+            Deed::FilegroupModify {
+                filegroup: name,
+                members,
+                non_members: others,
+            } => self.group_modify(alloc, name, members.as_ref(), others.as_ref(), moment),
+            Deed::FilegroupDelete { filegroup: name } => Ok(self.group_delete(name, moment)),
+            Deed::FilegroupList => Ok(self.list_groups(moment)),
+            _ => self.on_screens(alloc, deed, moment, steps),
+        }
+    }
+
+    // One on quotas, file groups, screens or exceptions.
+    fn on_objects<L: Ledger>(
+        &mut self,
+        alloc: Global,
+        deed: &Deed,
+        moment: u64,
+        steps: &mut Steps<L>,
+    ) -> Result<Answer, NoMemory>
+        requires whole { IsWhole self.old }
+        requires idle { IsIdle self.old }
+        requires valid { is_deed deed.now ≡ true }
+        requires moment { moment ≤ latest_moment }
+        requires after { self.old.last_moment ≤ moment }
+        requires kind { is_of_objects deed.now ≡ true }
+        ensures ok { IfOk result (λ answer. Does self.old self.new moment deed.now answer) }
+        ensures err { OnErr result (self.new ≡ self.old) }
+        ensures sound { IsSound self.new }
+        ensures looks { steps.new ≤ steps.old + deed_cost (rows_of self.old) deed.now }
+    {
+        match deed {
             Deed::QuotaAdd {
                 path,
                 limit,
@@ -119,9 +199,35 @@ impl Parts {
             Deed::QuotaScan { path } => self.quota_scan(path, moment, steps),
             Deed::QuotaResetpeak { path } => Ok(self.quota_resetpeak(path, moment, steps)),
             Deed::QuotaList { path } => Ok(self.quota_list(path, moment, steps)),
+            _ => self.on_groups(alloc, deed, moment, steps),
+        }
+    }
+
+    // A command.
+    fn carry_out<L: Ledger>(
+        &mut self,
+        alloc: Global,
+        command: &Command,
+        steps: &mut Steps<L>,
+    ) -> Result<Answer, NoMemory>
+        requires whole { IsWhole self.old }
+        requires idle { IsIdle self.old }
+        requires valid { is_command command.now ≡ true }
+        requires after { self.old.last_moment ≤ command.now.moment }
+        ensures ok { IfOk result (λ answer. Does self.old self.new command.now.moment command.now.deed answer) }
+        ensures err { OnErr result (self.new ≡ self.old) }
+        ensures sound { IsSound self.new }
+        ensures looks { steps.new ≤ steps.old + deed_cost (rows_of self.old) command.now.deed }
+    {
+        let moment = command.moment;
+        match &command.deed {
+            Deed::File(op) => self.operate(alloc, op, moment, steps),
+            Deed::Usage { path } => self.sum(alloc, path, moment, steps),
+            Deed::Step { n } => Ok(self.go_on(*n, moment, steps)),
             Deed::AdminOptions { run_limit } => Ok(self.set_options(*run_limit, moment)),
             Deed::AdminList => Ok(self.show_settings(moment)),
             Deed::AdminLog => Ok(self.show_log(moment)),
+            deed => self.on_objects(alloc, deed, moment, steps),
         }
     }
 

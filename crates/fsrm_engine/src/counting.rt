@@ -39,11 +39,13 @@ fn recount(usage: &mut Usage, folder: u32, counting: bool)
 }
 
 impl Parts {
-    // The bytes of object texts that are left.
-    fn room(&self) -> u32
+    /// The bytes of object texts that are left.
+    pub(crate) fn room(&self) -> u32
         ensures { result ≡ text_room self.now }
     {
-        MOST_TEXT_BYTES.saturating_sub(self.objects.texts())
+        MOST_TEXT_BYTES
+            .saturating_sub(self.objects.texts())
+            .saturating_sub(self.groups.texts())
     }
 
     /// Puts a quota on a folder. If it counts, nothing may be used yet. An `Err` changes nothing.

@@ -10,6 +10,7 @@ ghost use Rattle.fsrm_engine.specs.Machine.{Does, IsIdle, IsSound, IsWhole, rows
 use crate::exits::{refused, refused_by};
 use crate::parts::Parts;
 use crate::places::place_at;
+use crate::screening::blocking;
 use fsrm_model::{Answer, Ledger, NoMemory, Path, Steps};
 use quota_usage::Change;
 
@@ -47,7 +48,7 @@ impl Parts {
         Ok(self.done(moment))
     }
 
-    /// Makes a file, if no quota refuses that.
+    /// Makes a file, if no screen blocks its name and no quota refuses it.
     pub(crate) fn create<L: Ledger>(
         &mut self,
         path: &Path,
@@ -75,6 +76,10 @@ impl Parts {
             Ok(vacancy) => vacancy,
             Err(fault) => return refused_by(fault),
         };
+        let judged = self.judge(place.folder, place.name, steps);
+        if let Some(active) = blocking(judged) {
+            return Ok(self.block(active, owner, place.folder, place.name, moment));
+        }
         let change = Change {
             from: None,
             to: Some(place.folder),
@@ -94,7 +99,8 @@ impl Parts {
             steps,
         )?;
         self.scans.follow_create(&self.tree, node, length, steps);
+        self.report(judged, owner, place.folder, place.name, moment);
         self.charge(&change, moment, steps);
-        Ok(self.done(moment))
+        Ok(self.done_under(judged, moment))
     }
 }

@@ -14,7 +14,7 @@ ghost use Rattle.thresholds.specs.Marked.{are_there};
 ghost use Rattle.thresholds.specs.Settled.{Settles, are_orderly, due_in};
 ghost use Rattle.fsrm_engine.specs.Crossing.{acts_at, gained_acts, lost_by, Drops, IsCovered};
 ghost use Rattle.fsrm_engine.specs.Due.{charged_acts, is_kept, refused_acts, Refuses};
-ghost use Rattle.fsrm_engine.specs.Machine.{charged_parts, AreCounted, IsIdle, Ran};
+ghost use Rattle.fsrm_engine.specs.Machine.{charged_parts, AreCounted, IsCalm, IsIdle, Ran};
 
 use crate::charging::{drop_above, raise_above, used_before};
 use crate::exits::{exceeded_by, refused};
@@ -67,7 +67,7 @@ fn settle_noted(
 }
 
 impl Parts {
-    // Notes no longer the quotas from which a change took what it gave them: they use as much as before.
+    // A quota uses as much as before if a change gave it what it took from it: it is noted no longer.
     fn drop_kept<L: Ledger>(&mut self, change: &Change, to: u32, steps: &mut Steps<L>)
         requires volume { IsVolume self.old.tree.size self.old.tree.nodes }
         requires change { IsChange self.old.tree.nodes change.now }
@@ -94,7 +94,7 @@ impl Parts {
         requires change { IsChange self.old.tree.nodes change.now }
         requires fits { Fits self.old.tree.nodes self.old.usage change.now }
         requires covered { IsCovered self.old.tree.nodes self.old.usage change.now }
-        requires idle { IsIdle self.old }
+        requires idle { IsCalm self.old }
         requires log { length self.old.marks.log ≤ most_entries }
         ensures charged { Ran (charged_parts self.old change.now moment) self.new moment (charged_acts self.old change.now moment) }
         ensures looks { steps.new ≤ steps.old + 3 * (height self.old.tree.nodes change.now.from + height self.old.tree.nodes change.now.to) }

@@ -18,6 +18,8 @@ ghost use Rattle.fsrm_engine.specs.Machine.{Takes};
 use crate::acts::text_of;
 use crate::exits::refused;
 use crate::parts::Parts;
+use file_groups::Groups;
+use file_screens::Audit;
 use fsrm_model::{Act, Answer, Capacity, Command, FileOp, Ledger, NoMemory, Refusal, Steps};
 use fsrm_objects::Objects;
 use std::alloc::Global;
@@ -75,15 +77,33 @@ impl Engine {
         &self.parts.tree
     }
 
-    /// The quotas, lent.
+    /// The quotas, the screens and their exceptions, lent.
     pub fn objects(&self) -> &Objects
         ensures quotas { result.now.quotas ≡ self.now.rows.quotas }
+        ensures screens { result.now.screens ≡ self.now.rows.screens }
+        ensures excepts { result.now.excepts ≡ self.now.rows.excepts }
         ensures store { IsValid self.now.size self.now.rows }
     {
         &self.parts.objects
     }
 
-    /// The actions that wait, and the log of those that ran, lent.
+    /// The file groups, lent.
+    pub fn groups(&self) -> &Groups
+        ensures groups { result.now ≡ self.now.rows.groups }
+        ensures store { IsValid self.now.size self.now.rows }
+    {
+        &self.parts.groups
+    }
+
+    /// The log of the names that screens judged, lent.
+    pub fn audit(&self) -> &Audit
+        ensures log { result.now ≡ self.now.rows.audits }
+        ensures store { IsValid self.now.size self.now.rows }
+    {
+        &self.parts.audit
+    }
+
+    /// The log of the actions that ran, lent.
     pub fn marks(&self) -> &Marks
         ensures log { result.now.log ≡ self.now.rows.acts }
         ensures store { IsValid self.now.size self.now.rows }
@@ -114,8 +134,9 @@ impl Engine {
         }
     }
 
-    /// Hands out the first act that waits, which waits no longer: they come in the order of folders, percentages
-    /// and places. None exactly if none waits. The action that it names is there.
+    /// Hands out the first act that waits, which waits no longer: those of a screen come first, in the order of their
+    /// places, and then those of quotas, in the order of folders, percentages and places. None exactly if none waits. The
+    /// action that it names is there.
     pub fn next_act(&mut self) -> Option<Act>
         ensures handed_out { MatchOption result (self.old.waiting ≡ []) (λ act. self.old.waiting ≡ act ∷ self.new.waiting) }
         ensures named { IfSome result (λ act. IsAct self.new.rows act) }

@@ -2,8 +2,9 @@
 
 ghost use Rattle.std.specs.Prelude.{◌≡◌, false, IfOk, OnErr, Some, None};
 ghost use Rattle.fsrm_model.specs.declared.command.Outcome.TheVariants.{Listing};
-ghost use Rattle.fsrm_engine.specs.Faults.{answer_of, refused_answer, table_answer, exceeded_refusal};
+ghost use Rattle.fsrm_engine.specs.Faults.{answer_of, refused_answer, table_answer, group_answer, exceeded_refusal};
 
+use file_groups::GroupFault;
 use fsrm_model::{Answer, Ask, NoMemory, Outcome, Refusal};
 use fsrm_objects::ObjectFault;
 use quota_usage::Exceeded;
@@ -56,10 +57,25 @@ pub fn refused_for(fault: ObjectFault) -> Result<Answer, NoMemory>
 {
     let refusal = match fault {
         ObjectFault::AlreadyExists => Refusal::AlreadyExists,
+        ObjectFault::InvalidCombination => Refusal::InvalidCombination,
         ObjectFault::OutOfRange => Refusal::OutOfRange,
         ObjectFault::TableFull => Refusal::TableFull,
         ObjectFault::TextsFull => Refusal::TextsFull,
         ObjectFault::NoMemory => return Err(NoMemory),
+    };
+    Ok(refused(refusal))
+}
+
+/// The same if the table of groups refused.
+pub fn refused_by_groups(fault: GroupFault) -> Result<Answer, NoMemory>
+    ensures ok { IfOk result (λ answer. group_answer fault ≡ Some answer) }
+    ensures err { OnErr result (group_answer fault ≡ None) }
+{
+    let refusal = match fault {
+        GroupFault::DuplicateName => Refusal::DuplicateName,
+        GroupFault::TableFull => Refusal::TableFull,
+        GroupFault::TextsFull => Refusal::TextsFull,
+        GroupFault::NoMemory => return Err(NoMemory),
     };
     Ok(refused(refusal))
 }

@@ -1,4 +1,5 @@
-//! The machine that takes commands: a tree, the tables of objects, their counters and their scans.
+//! The machine that takes commands: a tree, the tables of objects, their counters and their scans, file groups and the
+//! log of judged names.
 //!
 //! `Engine::apply` and `Engine::file_op` have one clause for all commands, `ok`: the answer is the plain machine's, and
 //! so are the rows that are left and the acts that wait. `err` says that nothing has changed if memory ran out, `kept`
@@ -6,8 +7,8 @@
 //! most. `scan_step` is the step of a scan alone, under the same clauses but `err`: it takes no memory. `used` is what
 //! a counting quota's counter holds, and its clause says that this is the sum over the tree.
 //!
-//! A command may leave acts that wait: actions of thresholds that ran. `next_act` hands them out one by one, and the
-//! next command is taken once none waits.
+//! A command may leave acts that wait: actions of a screen and of thresholds that ran. `next_act` hands them out one by
+//! one, and the next command is taken once none waits.
 //!
 //! In every command what can refuse or take memory comes first, and then what can't fail.
 #![tactic(auto)]
@@ -22,6 +23,8 @@ mod creations;
 mod due;
 mod engine;
 mod exits;
+mod group_lists;
+mod groups;
 mod moves;
 mod parts;
 mod path_text;
@@ -29,6 +32,8 @@ mod places;
 mod quotas;
 mod removals;
 mod scanning;
+mod screening;
+mod screens;
 mod states;
 mod threshold_lists;
 mod usage;

@@ -15,6 +15,7 @@ ghost use Rattle.fsrm_engine.specs.Places.{IsMoved};
 use crate::exits::{refused, refused_by};
 use crate::parts::Parts;
 use crate::places::place_at;
+use crate::screening::blocking;
 use crate::usage::usage_of;
 use fsrm_model::{Answer, Ledger, NoMemory, Path, Refusal, Steps};
 use fsrm_objects::Objects;
@@ -43,7 +44,7 @@ fn moved_bytes<L: Ledger>(
 }
 
 impl Parts {
-    /// Moves a file, or a folder with all that is in it, if no quota refuses that.
+    /// Moves a file, or a folder with all that is in it, if no screen blocks the file's new name and no quota refuses it.
     pub(crate) fn move_path<L: Ledger>(
         &mut self,
         alloc: Global,
@@ -75,9 +76,15 @@ impl Parts {
             Ok(ready) => ready,
             Err(fault) => return refused_by(fault),
         };
+        let view = self.tree.node(node, steps);
+        let (owner, parent, is_folder) = (view.owner, view.parent, view.folder);
+        let judged = self.judge_moved(is_folder, place.folder, place.name, steps);
+        if let Some(active) = blocking(judged) {
+            return Ok(self.block(active, owner, place.folder, place.name, moment));
+        }
         let bytes = moved_bytes(&self.tree, &self.objects, alloc, node, steps)?;
         let change = Change {
-            from: Some(self.tree.node(node, steps).parent),
+            from: Some(parent),
             to: Some(place.folder),
             minus: bytes,
             plus: bytes,
@@ -88,7 +95,8 @@ impl Parts {
         self.scans
             .follow_move(&self.tree, node, place.folder, steps);
         self.tree.make_move(ready, steps);
+        self.report(judged, owner, place.folder, place.name, moment);
         self.charge(&change, moment, steps);
-        Ok(self.done(moment))
+        Ok(self.done_under(judged, moment))
     }
 }

@@ -1,6 +1,6 @@
 //! What an engine is made of, and what commands of all kinds do with it.
 
-ghost use Rattle.std.specs.Prelude.{◌≡◌, ◌+◌, ◌*◌, ◌≤◌, [], IfOk, IfErr, OnOk, Some, None, true};
+ghost use Rattle.std.specs.Prelude.{◌≡◌, ◌+◌, ◌*◌, ◌≤◌, [], IfOk, IfErr, OnOk, Some, None, option_map, true};
 ghost use Rattle.fsrm_model.specs.Capacities.{is_capacity};
 ghost use Rattle.fsrm_model.specs.Fresh.{new_rows};
 ghost use Rattle.fsrm_model.specs.Limits.{latest_moment};
@@ -9,6 +9,8 @@ ghost use Rattle.quota_usage.specs.Charge.{IsChange, Fits, exceeded_by, height};
 ghost use Rattle.fsrm_engine.specs.Machine.{machine_of, ended, AreCounted, IsWhole};
 
 use crate::charging::raise_all;
+use file_groups::Groups;
+use file_screens::{Audit, Blocked};
 use fsrm_model::limits::MOST_QUOTAS;
 use fsrm_model::{Answer, Capacity, Ledger, NoMemory, Outcome, Steps};
 use fsrm_objects::Objects;
@@ -22,17 +24,20 @@ use volume_tree::Tree;
 // What a new engine is set to, in minutes.
 const RUN_LIMIT: u32 = 60;
 
-/// The tree, the objects on it, what is used below each quota that counts, the scans, and the actions that wait.
+/// The tree, the objects on it, the file groups, what is used below each quota that counts, the scans, the actions that wait,
+/// and the log of the names that screens judged.
 #[derive(Drop)]
 pub struct Parts {
     pub(crate) tree: Tree,
     pub(crate) objects: Objects,
+    pub(crate) groups: Groups,
     // What is used below each counting quota.
     pub(crate) usage: Usage,
     pub(crate) scans: Scans,
     // Which actions ran and wait to be handed out, and the log of those that ran.
     pub(crate) marks: Marks,
-    // The places of the quotas that a command has cross a threshold, until they are settled: between commands there is none.
+    pub(crate) audit: Audit,
+    // The places of the quotas that cross a threshold in a command, until they are settled: between commands there is none.
     pub(crate) crossing: NumberSet,
     // Minutes: what an action's -1 stands for.
     pub(crate) run_limit: u32,
@@ -52,13 +57,16 @@ impl Parts {
         let usage = Usage::reserve(alloc)?;
         let scans = Scans::reserve(alloc, size.nodes, size.cluster)?;
         let marks = Marks::new(alloc)?;
+        let audit = Audit::new(alloc)?;
         let crossing = NumberSet::reserve(alloc, MOST_QUOTAS as u32)?;
         Ok(Parts {
             tree,
             objects: Objects::new(alloc),
+            groups: Groups::new(alloc),
             usage,
             scans,
             marks,
+            audit,
             crossing,
             run_limit: RUN_LIMIT,
             last_moment: 0,
@@ -106,6 +114,23 @@ impl Parts {
         self.last_moment = moment;
     }
 
+    /// The answer to a file operation of this moment that was done. A passive screen may report it.
+    pub(crate) fn done_under(&mut self, judged: Option<Blocked>, moment: u64) -> Answer
+        requires counted { AreCounted self.old }
+        requires moment { moment ≤ latest_moment }
+        ensures ended { self.new ≡ ended self.old moment }
+        ensures counted { AreCounted self.new }
+        ensures answer { result ≡ record { outcome = Done (option_map (λ judged. judged.screen) judged); lasting = true } }
+    {
+        self.settle(moment);
+        Answer {
+            outcome: Outcome::Done {
+                passive: judged.map(|judged| judged.screen),
+            },
+            lasting: true,
+        }
+    }
+
     /// The answer to a command of this moment that was done.
     pub(crate) fn done(&mut self, moment: u64) -> Answer
         requires counted { AreCounted self.old }
@@ -114,10 +139,6 @@ impl Parts {
         ensures counted { AreCounted self.new }
         ensures answer { result ≡ record { outcome = Done None; lasting = true } }
     {
-        self.settle(moment);
-        Answer {
-            outcome: Outcome::Done { passive: None },
-            lasting: true,
-        }
+        self.done_under(None, moment)
     }
 }

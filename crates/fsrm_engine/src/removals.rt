@@ -6,13 +6,41 @@ ghost use Rattle.fsrm_model.specs.declared.command.FileOp.TheVariants.{Remove};
 ghost use Rattle.fsrm_model.specs.Cost.{deed_cost};
 ghost use Rattle.fsrm_model.specs.Limits.{latest_moment};
 ghost use Rattle.fsrm_model.specs.Tree.{resolve, is_folder};
+ghost use Rattle.fsrm_objects.specs.Tables.{without_except, without_screen};
 ghost use Rattle.fsrm_engine.specs.Machine.{Does, IsIdle, IsSound, IsWhole, rows_of};
 
 use crate::charging::drop_quota;
 use crate::exits::refused;
 use crate::parts::Parts;
 use fsrm_model::{Answer, Ledger, Path, Refusal, Steps};
+use fsrm_objects::Objects;
 use quota_usage::Change;
+
+// Takes a folder's screen away, if it has one.
+fn drop_screen(objects: &mut Objects, folder: u32)
+    ensures { objects.new ≡ without_screen objects.old folder }
+{
+    if objects.screen(folder).is_some() {
+        objects.drop_screen(folder);
+    }
+}
+
+// Takes a folder's exception away, if it has one.
+fn drop_except(objects: &mut Objects, folder: u32)
+    ensures { objects.new ≡ without_except objects.old folder }
+{
+    if objects.except(folder).is_some() {
+        objects.drop_except(folder);
+    }
+}
+
+// Takes a folder's screen and its exception away, if it has one.
+fn drop_screens(objects: &mut Objects, folder: u32)
+    ensures { objects.new ≡ without_except (without_screen objects.old folder) folder }
+{
+    drop_screen(objects, folder);
+    drop_except(objects, folder);
+}
 
 impl Parts {
     /// Removes a file, or a folder in which nothing is.
@@ -54,7 +82,7 @@ impl Parts {
         self.done(moment)
     }
 
-    // Removes a folder, and with it its quota, and its scan.
+    // Removes a folder, and with it its quota and its scan, its screen and its exception.
     fn remove_folder<L: Ledger>(
         &mut self,
         path: &Path,
@@ -80,6 +108,7 @@ impl Parts {
         self.scans.follow_rmdir(&self.tree, node);
         self.tree.remove(node, steps).unwrap();
         drop_quota(&mut self.usage, &mut self.objects, node);
+        drop_screens(&mut self.objects, node);
         self.done(moment)
     }
 }

@@ -1,4 +1,6 @@
 pub mod AdminCommands
+pub mod GroupCommands
+pub mod ScreenCommands
 pub mod EachCommand
 pub mod Ends
 pub mod FileCommands

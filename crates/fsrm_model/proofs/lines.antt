@@ -1,5 +1,6 @@
 pub mod ActionLaws
 pub mod CommandLaws
+pub mod GroupWordLaws
 pub mod LineRefusals
 pub mod LineValues
 pub mod OptionLaws

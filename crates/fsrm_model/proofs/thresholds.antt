@@ -6,3 +6,4 @@ pub mod ReachedLaws
 pub mod RunLaws
 pub mod SettleLaws
 pub mod ThresholdLaws
+pub mod UnrunLaws

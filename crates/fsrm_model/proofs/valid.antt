@@ -2,6 +2,7 @@ pub mod CapacityLaws
 pub mod QueueKept
 pub mod QuotasKept
 pub mod RowsKept
+pub mod ScreensKept
 pub mod UnvisitedKept
 pub mod ValidLaws
 pub mod ValidTests

@@ -1,5 +1,5 @@
 -- Acts, each of which names an action that runs: one of a quota's threshold, or one of a screen (MS-FSRM, IFsrmAction).
-use Rattle.std.specs.Prelude.{◌≡◌, ℕ, ◌==◌, ◌&&◌, ◌||◌, nat_lt, Bool, true, false, List, [], ◌∷◌, slice_get, Option, Some}
+use Rattle.std.specs.Prelude.{◌≡◌, ℕ, ◌==◌, ◌&&◌, ◌||◌, not, nat_lt, Bool, true, false, List, [], ◌∷◌, filter, slice_get, Option, Some}
 use Rattle.std.specs.List.{list_all, list_any}
 use Rattle.std.specs.Option.{option_map_or}
 use Rattle.fsrm_model.specs.declared.command.Act.{Act}
@@ -24,6 +24,13 @@ abbrev pub is_of_quota : Subject → Bool
 is_of_quota (Quota folder percent) = true
 is_of_quota (Screen folder) = false
 
+-- of acts, those of screens and those of quotas
+abbrev pub of_screens : List Act → List Act
+of_screens acts = filter (λ act. not (is_of_quota act.subject)) acts
+
+abbrev pub of_quotas : List Act → List Act
+of_quotas acts = filter (λ act. is_of_quota act.subject) acts
+
 abbrev pub same_subject : Subject → Subject → Bool
 same_subject (Quota folder percent) (Quota other its) = (folder == other) && (percent == its)
 same_subject (Screen folder) (Screen other) = folder == other
@@ -47,7 +54,8 @@ pub record IsAct (R : Rows) (act : Act) : Type 0 where
   pub there : action_at R act ≡ Some action
   pub kind_is : act.kind ≡ action.kind
 
--- the order of the acts of quotas: by folder, percentage and place
+-- the order of the acts of quotas: by folder, percentage and place. Those of one screen have one folder and no percentage, so that
+-- they stand in the order of their places
 abbrev pub act_before : Act → Act → Bool
 act_before a b =
     nat_lt (folder_in a.subject) (folder_in b.subject)

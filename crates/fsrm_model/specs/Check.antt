@@ -4,7 +4,7 @@ use Rattle.fsrm_model.specs.declared.row.Capacity.{Capacity}
 use Rattle.fsrm_model.specs.declared.row.Rows.{Rows}
 use Rattle.fsrm_model.specs.declared.command.Refusal.{Refusal}
 use Rattle.fsrm_model.specs.declared.command.Refusal.TheVariants.{VolumeFull, NamesFull, TableFull, TextsFull}
-use Rattle.fsrm_model.specs.Limits.{most_quotas, most_text_bytes}
+use Rattle.fsrm_model.specs.Limits.{most_quotas, most_groups, most_screens, most_excepts, most_text_bytes}
 use Rattle.fsrm_model.specs.Texts.{object_texts}
 use Rattle.fsrm_model.specs.Tree.{name_bytes}
 pub use Rattle.fsrm_base.specs.Causes.{◌when◌, first}
@@ -22,6 +22,15 @@ names_full K after = NamesFull when nat_lt K.names (name_bytes after.nodes)
 
 abbrev pub table_full : Rows → Check
 table_full after = TableFull when nat_lt most_quotas (length after.quotas)
+
+abbrev pub groups_full : Rows → Check
+groups_full after = TableFull when nat_lt most_groups (length after.groups)
+
+abbrev pub screens_full : Rows → Check
+screens_full after = TableFull when nat_lt most_screens (length after.screens)
+
+abbrev pub excepts_full : Rows → Check
+excepts_full after = TableFull when nat_lt most_excepts (length after.excepts)
 
 abbrev pub texts_full : Rows → Check
 texts_full after = TextsFull when nat_lt most_text_bytes (object_texts after)

@@ -1,25 +1,28 @@
 -- What there is to say of each command by itself: its paths and its other values, its entry in a journal, its work, and the
 -- looks that it may take.
-use Rattle.std.specs.Prelude.{ℕ, ◌+◌, ◌*◌, ◌&&◌, nat_le, Bool, true, false, List, [], ◌∷◌, length, sum_by, Option, Some, None, option_map, option_to_list, is_none, if◌then◌else◌}
+use Rattle.std.specs.Prelude.{ℕ, ◌+◌, ◌*◌, ◌&&◌, nat_lt, nat_le, Bool, true, false, List, [], ◌∷◌, length, sum_by, Option, Some, None, option_map, option_to_list, is_none, if◌then◌else◌}
 use Rattle.std.specs.List.{list_all}
 use Rattle.std.specs.Option.{option_map_or}
 use Rattle.fsrm_model.specs.declared.row.Capacity.{Capacity}
 use Rattle.fsrm_model.specs.declared.row.NodeRow.{NodeRow}
 use Rattle.fsrm_model.specs.declared.row.Rows.{Rows}
 use Rattle.fsrm_model.specs.declared.command.Deed.{Deed}
-use Rattle.fsrm_model.specs.declared.command.Deed.TheVariants.{File, Usage, Step, QuotaAdd, QuotaModify, QuotaDelete, QuotaScan, QuotaResetpeak, QuotaList, AdminOptions, AdminList, AdminLog}
+use Rattle.fsrm_model.specs.declared.command.Deed.TheVariants.{File, Usage, Step, QuotaAdd, QuotaModify, QuotaDelete, QuotaScan, QuotaResetpeak, QuotaList, AdminOptions, AdminList, AdminLog, FilegroupAdd, FilegroupModify, FilegroupDelete, FilegroupList, ScreenAdd, ScreenModify, ScreenDelete, ScreenList, ExceptionAdd, ExceptionDelete, ExceptionList}
 use Rattle.fsrm_model.specs.declared.command.FileOp.{FileOp}
 use Rattle.fsrm_model.specs.declared.command.FileOp.TheVariants.{Mkdir, Create, Resize, Touch, Move, Remove}
 use Rattle.fsrm_model.specs.AdminWork.{options_work, settings_work, log_work}
-use Rattle.fsrm_model.specs.Entry.{Path, number_bytes, choice_bytes, text_bytes, path_bytes, optional, counted, notice_bytes}
+use Rattle.fsrm_model.specs.Entry.{Path, number_bytes, choice_bytes, text_bytes, path_bytes, optional, counted, notice_bytes, screen_notice_bytes}
 use Rattle.fsrm_model.specs.FileOps.{target}
 use Rattle.fsrm_model.specs.FileWork.{file_work, usage_work}
+use Rattle.fsrm_model.specs.GroupWork.{group_add_work, group_modify_work, group_delete_work, group_list_work}
 use Rattle.fsrm_model.specs.Leads.{leads, leads_to_folder}
 use Rattle.fsrm_model.specs.Limits.{longest_file, last_owner, most_visits, most_minutes}
+use Rattle.fsrm_model.specs.Patterns.{is_object_name, are_members, are_non_members}
 use Rattle.fsrm_model.specs.Quota.{is_limit}
 use Rattle.fsrm_model.specs.QuotaWork.{add_work, modify_work, delete_work, reset_work, list_work}
 use Rattle.fsrm_model.specs.ScanWork.{scan_work, step_work}
-use Rattle.fsrm_model.specs.Thresholds.{is_percent, is_notice}
+use Rattle.fsrm_model.specs.ScreenWork.{screen_add_work, screen_modify_work, screen_delete_work, screen_list_work, except_add_work, except_delete_work, except_list_work}
+use Rattle.fsrm_model.specs.Thresholds.{is_percent, is_new_action, is_notice}
 use Rattle.fsrm_model.specs.Tree.{under}
 use Rattle.fsrm_model.specs.Work.{Work}
 
@@ -45,6 +48,17 @@ paths (QuotaList path) = option_to_list path
 paths (AdminOptions minutes) = []
 paths AdminList = []
 paths AdminLog = []
+paths (FilegroupAdd name members non_members) = []
+paths (FilegroupModify name members non_members) = []
+paths (FilegroupDelete name) = []
+paths FilegroupList = []
+paths (ScreenAdd path active groups actions) = path ∷ []
+paths (ScreenModify path active removed groups) = path ∷ []
+paths (ScreenDelete path) = path ∷ []
+paths ScreenList = []
+paths (ExceptionAdd path groups) = path ∷ []
+paths (ExceptionDelete path) = path ∷ []
+paths ExceptionList = []
 
 abbrev pub is_owner : ℕ → Bool
 is_owner owner = nat_le 1 owner && nat_le owner last_owner
@@ -61,7 +75,11 @@ has_values_of_op (Touch path) = true
 has_values_of_op (Move from to) = true
 has_values_of_op (Remove path) = true
 
--- a new quota must have a limit. No template can be given yet
+-- one name of a group at least
+abbrev pub are_some_names : List (List ℕ) → Bool
+are_some_names names = nat_lt 0 (length names) && list_all is_object_name names
+
+-- a new quota must have a limit. No template can be given yet. A new screen and a new exception must have a group
 abbrev pub has_values : Deed → Bool
 has_values (File op) = has_values_of_op op
 has_values (Usage path) = true
@@ -77,6 +95,17 @@ has_values (QuotaList path) = true
 has_values (AdminOptions minutes) = nat_le minutes most_minutes
 has_values AdminList = true
 has_values AdminLog = true
+has_values (FilegroupAdd name members non_members) = is_object_name name && (are_members members && are_non_members non_members)
+has_values (FilegroupModify name members non_members) = is_object_name name && (option_map_or are_members members true && option_map_or are_non_members non_members true)
+has_values (FilegroupDelete name) = is_object_name name
+has_values FilegroupList = true
+has_values (ScreenAdd path active groups actions) = are_some_names groups && list_all is_new_action actions
+has_values (ScreenModify path active removed groups) = list_all is_object_name removed && list_all is_object_name groups
+has_values (ScreenDelete path) = true
+has_values ScreenList = true
+has_values (ExceptionAdd path groups) = are_some_names groups
+has_values (ExceptionDelete path) = true
+has_values ExceptionList = true
 
 -- a command without its values: two deeds are of the same command if they are the same but for these
 abbrev pub emptied_op : FileOp → FileOp
@@ -100,6 +129,17 @@ emptied (QuotaList path) = QuotaList None
 emptied (AdminOptions minutes) = AdminOptions 0
 emptied AdminList = AdminList
 emptied AdminLog = AdminLog
+emptied (FilegroupAdd name members non_members) = FilegroupAdd [] [] []
+emptied (FilegroupModify name members non_members) = FilegroupModify [] None None
+emptied (FilegroupDelete name) = FilegroupDelete []
+emptied FilegroupList = FilegroupList
+emptied (ScreenAdd path active groups actions) = ScreenAdd [] false [] []
+emptied (ScreenModify path active removed groups) = ScreenModify [] None [] []
+emptied (ScreenDelete path) = ScreenDelete []
+emptied ScreenList = ScreenList
+emptied (ExceptionAdd path groups) = ExceptionAdd [] []
+emptied (ExceptionDelete path) = ExceptionDelete []
+emptied ExceptionList = ExceptionList
 
 -- The kind of a command's entry, by which a reader of the journal knows the command: no two commands have the same one. A
 -- command that never lasts has none, nor has a step of a scan: what is kept of it is that the scan was finished
@@ -124,6 +164,17 @@ kind (QuotaList path) = None
 kind (AdminOptions minutes) = Some 35
 kind AdminList = None
 kind AdminLog = None
+kind (FilegroupAdd name members non_members) = Some 40
+kind (FilegroupModify name members non_members) = Some 41
+kind (FilegroupDelete name) = Some 42
+kind FilegroupList = None
+kind (ScreenAdd path active groups actions) = Some 50
+kind (ScreenModify path active removed groups) = Some 51
+kind (ScreenDelete path) = Some 52
+kind ScreenList = None
+kind (ExceptionAdd path groups) = Some 60
+kind (ExceptionDelete path) = Some 61
+kind ExceptionList = None
 
 -- all values of a command but its paths
 abbrev pub more_bytes_of_op : FileOp → ℕ
@@ -151,6 +202,17 @@ more_bytes (QuotaList path) = 0
 more_bytes (AdminOptions minutes) = number_bytes
 more_bytes AdminList = 0
 more_bytes AdminLog = 0
+more_bytes (FilegroupAdd name members non_members) = text_bytes name + (counted text_bytes members + counted text_bytes non_members)
+more_bytes (FilegroupModify name members non_members) = text_bytes name + (optional (counted text_bytes) members + optional (counted text_bytes) non_members)
+more_bytes (FilegroupDelete name) = text_bytes name
+more_bytes FilegroupList = 0
+more_bytes (ScreenAdd path active groups actions) = choice_bytes + (counted text_bytes groups + counted screen_notice_bytes actions)
+more_bytes (ScreenModify path active removed groups) = optional (λ b. choice_bytes) active + (counted text_bytes removed + counted text_bytes groups)
+more_bytes (ScreenDelete path) = 0
+more_bytes ScreenList = 0
+more_bytes (ExceptionAdd path groups) = counted text_bytes groups
+more_bytes (ExceptionDelete path) = 0
+more_bytes ExceptionList = 0
 
 -- how many bytes the entry of a command has, if it has one
 abbrev pub entry_bytes : Deed → Option ℕ
@@ -172,6 +234,17 @@ work K R moment (QuotaList path) = list_work R path
 work K R moment (AdminOptions minutes) = options_work R minutes
 work K R moment AdminList = settings_work R
 work K R moment AdminLog = log_work R
+work K R moment (FilegroupAdd name members non_members) = group_add_work R name members non_members
+work K R moment (FilegroupModify name members non_members) = group_modify_work R name members non_members
+work K R moment (FilegroupDelete name) = group_delete_work R name
+work K R moment FilegroupList = group_list_work R
+work K R moment (ScreenAdd path active groups actions) = screen_add_work R path active groups actions
+work K R moment (ScreenModify path active removed groups) = screen_modify_work R path active removed groups
+work K R moment (ScreenDelete path) = screen_delete_work R path
+work K R moment ScreenList = screen_list_work R
+work K R moment (ExceptionAdd path groups) = except_add_work R path groups
+work K R moment (ExceptionDelete path) = except_delete_work R path
+work K R moment ExceptionList = except_list_work R
 
 -- a folder that moves is looked through up to 8 times, a node that is summed up to 4 times
 abbrev pub op_cost : List NodeRow → FileOp → ℕ
@@ -196,3 +269,14 @@ more_cost nodes (QuotaList path) = 0
 more_cost nodes (AdminOptions minutes) = 0
 more_cost nodes AdminList = 0
 more_cost nodes AdminLog = 0
+more_cost nodes (FilegroupAdd name members non_members) = 0
+more_cost nodes (FilegroupModify name members non_members) = 0
+more_cost nodes (FilegroupDelete name) = 0
+more_cost nodes FilegroupList = 0
+more_cost nodes (ScreenAdd path active groups actions) = 0
+more_cost nodes (ScreenModify path active removed groups) = 0
+more_cost nodes (ScreenDelete path) = 0
+more_cost nodes ScreenList = 0
+more_cost nodes (ExceptionAdd path groups) = 0
+more_cost nodes (ExceptionDelete path) = 0
+more_cost nodes ExceptionList = 0

@@ -8,9 +8,9 @@ use Rattle.fsrm_model.specs.declared.command.Deed.{Deed}
 use Rattle.fsrm_model.specs.declared.command.Deed.TheVariants.{Step}
 use Rattle.fsrm_model.specs.declared.command.Outcome.{Outcome}
 use Rattle.fsrm_model.specs.declared.command.Ask.{Ask}
-use Rattle.fsrm_model.specs.declared.command.Ask.TheVariants.{Quotas, Settings, Acts}
+use Rattle.fsrm_model.specs.declared.command.Ask.TheVariants.{Quotas, Groups, Screens, Excepts, Settings, Acts}
 use Rattle.fsrm_model.specs.declared.command.Outcome.TheVariants.{Done, Sum, Listing, Scanned, Refused}
-use Rattle.fsrm_model.specs.declared.command.Refusal.TheVariants.{QuotaExceeded}
+use Rattle.fsrm_model.specs.declared.command.Refusal.TheVariants.{ScreenBlocked, QuotaExceeded}
 use Rattle.fsrm_base.specs.Numbers.{without_numbers}
 use Rattle.fsrm_model.specs.Acts.{folder_in}
 pub use Rattle.fsrm_model.specs.Commands.{op_cost, more_cost}
@@ -46,6 +46,9 @@ path_cost nodes n = 4 * (length (path_of nodes n) + 1)
 -- the looks at all paths of a list
 abbrev pub list_cost : Rows → Ask → ℕ
 list_cost R (Quotas folder) = sum_by (λ quota. path_cost R.nodes quota.folder) (asked folder R.quotas)
+list_cost R Groups = 0
+list_cost R Screens = sum_by (λ screen. path_cost R.nodes screen.folder) R.screens
+list_cost R Excepts = sum_by (λ except. path_cost R.nodes except.folder) R.excepts
 list_cost R Settings = 0
 list_cost R Acts = 0
 
@@ -55,6 +58,7 @@ print_cost R (Done (Some screen)) = path_cost R.nodes screen
 print_cost R (Sum node bytes) = path_cost R.nodes node
 print_cost R (Listing ask) = list_cost R ask
 print_cost R (Scanned folder visited used) = path_cost R.nodes folder
+print_cost R (Refused (ScreenBlocked screen)) = path_cost R.nodes screen
 print_cost R (Refused (QuotaExceeded folder would limit)) = path_cost R.nodes folder
 print_cost R other = 0
 

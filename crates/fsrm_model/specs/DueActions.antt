@@ -1,16 +1,17 @@
--- The actions that are due: those of the thresholds that a command crosses, as far as their run limits let them run (MS-FSRM,
--- IFsrmAction, RunLimitInterval).
+-- The actions that are due: those of the thresholds that a command crosses, and of the screen that judges a name, as far as
+-- their run limits let them run (MS-FSRM, IFsrmAction, RunLimitInterval).
 use Rattle.std.specs.Prelude.{ℕ, ◌+◌, ◌*◌, nat_le, Bool, true, false, ℤ, pos, negsuc, List, [], map, filter, flat_map, slice_get}
 use Rattle.std.specs.List.{enumerate_from}
 use Rattle.std.specs.Option.{option_map_or}
 use Rattle.fsrm_model.specs.declared.command.Act.{Act}
 use Rattle.fsrm_model.specs.declared.command.Subject.{Subject}
-use Rattle.fsrm_model.specs.declared.command.Subject.TheVariants.{Quota}
+use Rattle.fsrm_model.specs.declared.command.Subject.TheVariants.{Quota, Screen}
 use Rattle.fsrm_model.specs.declared.row.Action.{Action}
 use Rattle.fsrm_model.specs.declared.row.Capacity.{Capacity}
 use Rattle.fsrm_model.specs.declared.row.NodeRow.{NodeRow}
 use Rattle.fsrm_model.specs.declared.row.QuotaRow.{QuotaRow}
 use Rattle.fsrm_model.specs.declared.row.Rows.{Rows}
+use Rattle.fsrm_model.specs.declared.row.ScreenRow.{ScreenRow}
 use Rattle.fsrm_model.specs.Quota.{over, deepest}
 use Rattle.fsrm_model.specs.Reached.{crossed}
 
@@ -54,3 +55,7 @@ abbrev pub due_refused : Capacity → Rows → List NodeRow → ℕ → List Act
 due_refused K R nodes moment =
     option_map_or (λ quota. quota_acts (crossed K R (record R { nodes = nodes }) quota.folder) R.run_limit moment quota)
     (deepest nodes (over K R nodes)) []
+
+-- the acts that are due when a screen judges a name: its actions that may run
+abbrev pub due_screen : ℕ → ℕ → ScreenRow → List Act
+due_screen run_limit moment screen = ready_acts run_limit moment (Screen screen.folder) screen.actions

@@ -4,6 +4,7 @@ use Rattle.std.specs.Prelude.{ℕ, ◌+◌, List, length, sum_by, Option}
 use Rattle.std.specs.List.{join_with_byte}
 use Rattle.std.specs.Option.{option_map_or}
 use Rattle.fsrm_model.specs.declared.command.Added.{Added}
+use Rattle.fsrm_model.specs.declared.row.Action.{Action}
 
 abbrev pub Path : Type 0
 Path = List (List ℕ)
@@ -33,3 +34,7 @@ counted bytes values = 2 + sum_by bytes values
 -- a threshold, and its action's kind, minutes and text
 abbrev pub notice_bytes : Added → ℕ
 notice_bytes notice = number_bytes + (choice_bytes + (number_bytes + text_bytes notice.action.text))
+
+-- an action of a screen: its kind, minutes and text
+abbrev pub screen_notice_bytes : Action → ℕ
+screen_notice_bytes action = choice_bytes + (number_bytes + text_bytes action.text)

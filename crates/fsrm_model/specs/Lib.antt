@@ -6,6 +6,9 @@ pub mod Tree
 pub mod Fresh
 pub mod FileOps
 pub mod Texts
+pub mod Patterns
+pub mod Screens
+pub mod Judges
 pub mod Valid
 pub mod Entry
 pub mod ValidScans
@@ -21,11 +24,14 @@ pub mod FileWork
 pub mod QuotaWork
 pub mod ScanWork
 pub mod AdminWork
+pub mod GroupWork
+pub mod ScreenWork
 pub mod Thresholds
 pub mod Acts
 pub mod Reached
 pub mod DueActions
 pub mod Runs
+pub mod Audits
 pub mod Raises
 pub mod Commands
 pub mod Step
@@ -37,10 +43,12 @@ pub mod Printed
 pub mod ActionWords
 pub mod ActText
 pub mod SettingsText
+pub mod ScreenText
 pub mod Text
 pub mod Reading
 pub mod PathNames
 pub mod Words
+pub mod GroupWords
 pub mod Options
 pub mod Tools
 pub mod Line
@@ -48,6 +56,6 @@ pub mod Spelling
 pub mod Script
 pub mod WorkedRows
 pub mod WorkedThresholds
+pub mod WorkedScreens
 pub mod ValidRows
-pub mod Patterns
 pub mod Lasting

@@ -47,8 +47,8 @@ greatest_limit = 2 ^ 60
 abbrev pub most_quotas : ℕ
 most_quotas = 4096
 
--- the greatest percentage of a threshold, how many thresholds a quota may have, how many actions each of them, and the bytes
--- of the longest text of an action
+-- the greatest percentage of a threshold, how many thresholds a quota may have, how many actions each of them or a screen, and
+-- the bytes of the longest text of an action
 abbrev pub greatest_percent : ℕ
 greatest_percent = 250
 
@@ -67,6 +67,16 @@ most_groups = 1024
 
 abbrev pub most_patterns : ℕ
 most_patterns = 64
+
+-- how many screens and exceptions there may be, and how many groups each of them may have
+abbrev pub most_screens : ℕ
+most_screens = 4096
+
+abbrev pub most_excepts : ℕ
+most_excepts = 4096
+
+abbrev pub most_screen_groups : ℕ
+most_screen_groups = 16
 
 -- how many visits one step of a scan may make
 abbrev pub most_visits : ℕ

@@ -6,7 +6,9 @@ use Rattle.std.specs.Option.{option_or}
 use Rattle.std.specs.Str.{str_eq_ignore_ascii_case}
 use Rattle.fsrm_model.specs.declared.command.Added.{Added}
 use Rattle.fsrm_model.specs.declared.command.Refusal.TheVariants.{BadLine}
-use Rattle.fsrm_model.specs.ActionWords.{percent_from, notice_from}
+use Rattle.fsrm_model.specs.declared.row.Action.{Action}
+use Rattle.fsrm_model.specs.ActionWords.{percent_from, action_from, notice_from}
+use Rattle.fsrm_model.specs.GroupWords.{object_from, patterns_from, non_members_from}
 use Rattle.fsrm_model.specs.Limits.{most_minutes}
 use Rattle.fsrm_model.specs.Reading.{Read, ◌>>=◌, guarded, known, number_from, path_from, limit_from, choice_from}
 use Rattle.fsrm_model.specs.Words.{Word}
@@ -21,8 +23,16 @@ pub data Key : Type 0 where
   ThePercent : Key
   TheNotice : Key
   TheRunLimit : Key
+  TheGroup : Key
+  TheMembers : Key
+  TheNonMembers : Key
+  TheMode : Key
+  TheGroupRemoval : Key
+  TheGroupAddition : Key
+  TheScreenNotice : Key
 
--- its name, which is read without regard to the case of ASCII letters
+-- Its name, which is read without regard to the case of ASCII letters. What /Type and /Add-Notification give is another thing of
+-- a quota than of a screen
 abbrev pub key_name : Key → List ℕ
 key_name ThePath = codes "/Path"
 key_name TheLimit = codes "/Limit"
@@ -32,6 +42,13 @@ key_name TheRemoval = codes "/Remove-Threshold"
 key_name ThePercent = codes "/Add-Threshold"
 key_name TheNotice = codes "/Add-Notification"
 key_name TheRunLimit = codes "/RunLimitInterval"
+key_name TheGroup = codes "/Filegroup"
+key_name TheMembers = codes "/Members"
+key_name TheNonMembers = codes "/NonMembers"
+key_name TheMode = codes "/Type"
+key_name TheGroupRemoval = codes "/Remove-Filegroup"
+key_name TheGroupAddition = codes "/Add-Filegroup"
+key_name TheScreenNotice = codes "/Add-Notification"
 
 -- whether it may be given more than once
 abbrev pub may_repeat : Key → Bool
@@ -43,6 +60,13 @@ may_repeat TheRemoval = true
 may_repeat ThePercent = true
 may_repeat TheNotice = true
 may_repeat TheRunLimit = false
+may_repeat TheGroup = false
+may_repeat TheMembers = false
+may_repeat TheNonMembers = false
+may_repeat TheMode = false
+may_repeat TheGroupRemoval = true
+may_repeat TheGroupAddition = true
+may_repeat TheScreenNotice = true
 
 -- an option that is given, with its value
 pub data Given : Type 0 where
@@ -54,6 +78,13 @@ pub data Given : Type 0 where
   PercentIs : (percent : ℕ) → Given
   NoticeIs : (notice : Added) → Given
   RunLimitIs : (minutes : ℕ) → Given
+  GroupIs : (name : List ℕ) → Given
+  MembersAre : (patterns : List (List ℕ)) → Given
+  NonMembersAre : (patterns : List (List ℕ)) → Given
+  ModeIs : (active : Bool) → Given
+  GroupRemovalIs : (name : List ℕ) → Given
+  GroupAdditionIs : (name : List ℕ) → Given
+  ScreenNoticeIs : (action : Action) → Given
 
 abbrev pub key_of : Given → Key
 key_of (PathIs path) = ThePath
@@ -64,6 +95,13 @@ key_of (RemovalIs percent) = TheRemoval
 key_of (PercentIs percent) = ThePercent
 key_of (NoticeIs notice) = TheNotice
 key_of (RunLimitIs minutes) = TheRunLimit
+key_of (GroupIs name) = TheGroup
+key_of (MembersAre patterns) = TheMembers
+key_of (NonMembersAre patterns) = TheNonMembers
+key_of (ModeIs active) = TheMode
+key_of (GroupRemovalIs name) = TheGroupRemoval
+key_of (GroupAdditionIs name) = TheGroupAddition
+key_of (ScreenNoticeIs action) = TheScreenNotice
 
 -- the value that a text of a word at this column gives an option
 abbrev pub value_from : Key → ℕ → List ℕ → Read Given
@@ -75,6 +113,13 @@ value_from TheRemoval column text = percent_from column text >>= λ percent. Ok 
 value_from ThePercent column text = percent_from column text >>= λ percent. Ok (PercentIs percent)
 value_from TheNotice column text = notice_from column text >>= λ notice. Ok (NoticeIs notice)
 value_from TheRunLimit column text = number_from 0 most_minutes column text >>= λ minutes. Ok (RunLimitIs minutes)
+value_from TheGroup column text = object_from text >>= λ name. Ok (GroupIs name)
+value_from TheMembers column text = patterns_from text >>= λ patterns. Ok (MembersAre patterns)
+value_from TheNonMembers column text = non_members_from text >>= λ patterns. Ok (NonMembersAre patterns)
+value_from TheMode column text = choice_from (codes "active") (codes "passive") column text >>= λ active. Ok (ModeIs active)
+value_from TheGroupRemoval column text = object_from text >>= λ name. Ok (GroupRemovalIs name)
+value_from TheGroupAddition column text = object_from text >>= λ name. Ok (GroupAdditionIs name)
+value_from TheScreenNotice column text = action_from column text >>= λ action. Ok (ScreenNoticeIs action)
 
 -- the value, if it is that of the option
 abbrev pub path_in : Given → Option (List (List ℕ))
@@ -109,6 +154,34 @@ abbrev pub run_limit_in : Given → Option ℕ
 run_limit_in (RunLimitIs minutes) = Some minutes
 run_limit_in other = None
 
+abbrev pub group_in : Given → Option (List ℕ)
+group_in (GroupIs name) = Some name
+group_in other = None
+
+abbrev pub members_in : Given → Option (List (List ℕ))
+members_in (MembersAre patterns) = Some patterns
+members_in other = None
+
+abbrev pub non_members_in : Given → Option (List (List ℕ))
+non_members_in (NonMembersAre patterns) = Some patterns
+non_members_in other = None
+
+abbrev pub mode_in : Given → Option Bool
+mode_in (ModeIs active) = Some active
+mode_in other = None
+
+abbrev pub group_removal_in : Given → Option (List ℕ)
+group_removal_in (GroupRemovalIs name) = Some name
+group_removal_in other = None
+
+abbrev pub group_addition_in : Given → Option (List ℕ)
+group_addition_in (GroupAdditionIs name) = Some name
+group_addition_in other = None
+
+abbrev pub screen_notice_in : Given → Option Action
+screen_notice_in (ScreenNoticeIs action) = Some action
+screen_notice_in other = None
+
 -- whether it is the option of a key
 abbrev pub is_of : Key → Given → Bool
 is_of ThePath given = is_some (path_in given)
@@ -119,6 +192,13 @@ is_of TheRemoval given = is_some (removal_in given)
 is_of ThePercent given = is_some (percent_in given)
 is_of TheNotice given = is_some (notice_in given)
 is_of TheRunLimit given = is_some (run_limit_in given)
+is_of TheGroup given = is_some (group_in given)
+is_of TheMembers given = is_some (members_in given)
+is_of TheNonMembers given = is_some (non_members_in given)
+is_of TheMode given = is_some (mode_in given)
+is_of TheGroupRemoval given = is_some (group_removal_in given)
+is_of TheGroupAddition given = is_some (group_addition_in given)
+is_of TheScreenNotice given = is_some (screen_notice_in given)
 
 -- the first value of an option among those that were given
 abbrev pub one : {X : Type 0} → (Given → Option X) → List Given → Option X

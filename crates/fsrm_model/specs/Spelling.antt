@@ -12,9 +12,10 @@ use Rattle.fsrm_model.specs.declared.command.FileOp.{FileOp}
 use Rattle.fsrm_model.specs.declared.command.FileOp.TheVariants.{Mkdir, Create, Resize, Touch, Move, Remove}
 use Rattle.fsrm_model.specs.declared.row.Action.{Action}
 use Rattle.fsrm_model.specs.ActionWords.{kind_word}
-use Rattle.fsrm_model.specs.Limits.{latest_moment, longest_file, longest_line, last_owner, most_visits, greatest_percent, most_minutes}
+use Rattle.fsrm_model.specs.Limits.{latest_moment, longest_file, longest_line, last_owner, most_visits, greatest_percent, most_minutes, most_patterns}
 use Rattle.fsrm_model.specs.Name.{is_name}
-use Rattle.fsrm_model.specs.Options.{Key, Given, PathIs, LimitIs, TypeIs, StatusIs, RemovalIs, PercentIs, NoticeIs, RunLimitIs, key_of, may_repeat, is_of, is_colon, key_named}
+use Rattle.fsrm_model.specs.Options.{Key, Given, PathIs, LimitIs, TypeIs, StatusIs, RemovalIs, PercentIs, NoticeIs, RunLimitIs, GroupIs, MembersAre, NonMembersAre, ModeIs, GroupRemovalIs, GroupAdditionIs, ScreenNoticeIs, key_of, may_repeat, is_of, is_colon, key_named}
+use Rattle.fsrm_model.specs.Patterns.{is_object_name, is_pattern}
 use Rattle.fsrm_model.specs.Quota.{is_limit}
 use Rattle.fsrm_model.specs.Reading.{is_number, unit_bytes}
 use Rattle.fsrm_model.specs.Thresholds.{is_action_text}
@@ -128,6 +129,23 @@ pub record WritesNotice (text : List ℕ) (notice : Added) : Type 0 where
   pub percent_is : Writes 1 greatest_percent percent notice.percent
   pub action_is : WritesAction action notice.action
 
+-- the name of an object is written as it is
+pub record WritesObject (text name : List ℕ) : Type 0 where
+  pub text_is : text ≡ name
+  pub legal : is_object_name name ≡ true
+
+-- patterns, so many at least, parted by bars
+pub record WritesPatterns (least : ℕ) (text : List ℕ) (patterns : List (List ℕ)) : Type 0 where
+  pub text_is : text ≡ join_with_byte 124 patterns
+  pub each : list_all is_pattern patterns ≡ true
+  pub some : least ≤ length patterns
+  pub few : length patterns ≤ most_patterns
+
+-- active or passive
+abbrev pub WritesMode : List ℕ → Bool → Type 0
+WritesMode text true = IsNamed (codes "active") text
+WritesMode text false = IsNamed (codes "passive") text
+
 -- a text writes an option's value
 abbrev pub WritesValue : List ℕ → Given → Type 0
 WritesValue text (PathIs path) = WritesPath text path
@@ -138,6 +156,13 @@ WritesValue text (RemovalIs percent) = Writes 1 greatest_percent text percent
 WritesValue text (PercentIs percent) = Writes 1 greatest_percent text percent
 WritesValue text (NoticeIs notice) = WritesNotice text notice
 WritesValue text (RunLimitIs minutes) = Writes 0 most_minutes text minutes
+WritesValue text (GroupIs name) = WritesObject text name
+WritesValue text (MembersAre patterns) = WritesPatterns 1 text patterns
+WritesValue text (NonMembersAre patterns) = WritesPatterns 0 text patterns
+WritesValue text (ModeIs active) = WritesMode text active
+WritesValue text (GroupRemovalIs name) = WritesObject text name
+WritesValue text (GroupAdditionIs name) = WritesObject text name
+WritesValue text (ScreenNoticeIs action) = WritesAction text action
 
 -- a word is the name of an option that a command takes, a colon, and the option's value
 abbrev pub SpellsOption : List Key → List ℕ → Given → Type 0

@@ -1,5 +1,5 @@
 -- One command: the machine's step.
-use Rattle.std.specs.Prelude.{ℕ, nat_lt, Bool, true, false, List, [], ◌∷◌, ◌++◌, Option, Some, None, if◌then◌else◌}
+use Rattle.std.specs.Prelude.{ℕ, nat_lt, Bool, true, false, List, [], ◌∷◌, ◌++◌, Option, Some, None, option_map, if◌then◌else◌}
 use Rattle.fsrm_model.specs.declared.row.Capacity.{Capacity}
 use Rattle.fsrm_model.specs.declared.row.Rows.{Rows}
 use Rattle.fsrm_model.specs.declared.command.Act.{Act}
@@ -7,10 +7,11 @@ use Rattle.fsrm_model.specs.declared.command.Command.{Command}
 use Rattle.fsrm_model.specs.declared.command.Outcome.{Outcome}
 use Rattle.fsrm_model.specs.declared.command.Outcome.TheVariants.{Refused}
 use Rattle.fsrm_model.specs.declared.command.Refusal.{Refusal}
-use Rattle.fsrm_model.specs.declared.command.Refusal.TheVariants.{ClockBack, QuotaExceeded}
+use Rattle.fsrm_model.specs.declared.command.Refusal.TheVariants.{ClockBack, ScreenBlocked, QuotaExceeded}
+use Rattle.fsrm_model.specs.Audits.{audited}
 pub use Rattle.fsrm_model.specs.Commands.{work}
 use Rattle.fsrm_model.specs.Check.{◌when◌, first}
-use Rattle.fsrm_model.specs.DueActions.{due, due_refused}
+use Rattle.fsrm_model.specs.DueActions.{due, due_refused, due_screen}
 use Rattle.fsrm_model.specs.Runs.{ran}
 use Rattle.fsrm_model.specs.Work.{Work, Judged}
 use Rattle.fsrm_model.specs.Quota.{peaks}
@@ -32,13 +33,18 @@ pub record Acted : Type 0 where
 abbrev pub unacted : Rows → Acted
 unacted R = record { rows = R; acts = [] }
 
--- what follows if a screen judged a name: its entry in the audit log, and the screen's actions. So far nothing
-abbrev pub screened : Rows → ℕ → Option Judged → Acted
-screened after moment judged = unacted after
-
 -- rows after acts ran at a moment, and these acts
 abbrev pub acted : ℕ → List Act → Rows → Acted
 acted moment acts R = record { rows = ran moment acts R; acts = acts }
+
+-- what a name leaves that a screen judges: its entry in the audit log, and the runs of the screen's actions that are due
+abbrev pub screened_by : Rows → ℕ → Judged → Acted
+screened_by R moment judged = acted moment (due_screen R.run_limit moment judged.screen) (audited moment judged R)
+
+-- the same if a screen judges a name, and else nothing
+abbrev pub screened : Rows → ℕ → Option Judged → Acted
+screened after moment None = unacted after
+screened after moment (Some judged) = screened_by after moment judged
 
 -- the end of a command that lasts: peaks are raised, then the actions run that are due, and its moment becomes the last one
 abbrev pub concluded : Capacity → Rows → Acted → ℕ → Acted
@@ -62,9 +68,10 @@ abbrev pub ran_if_any : ℕ → List Act → Rows → Option Acted
 ran_if_any moment [] R = None
 ran_if_any moment (act ∷ acts) R = Some (acted moment (act ∷ acts) R)
 
--- what a refused command changes all the same, or None if it changes nothing: when a quota refuses, the actions that are then
--- due have run
+-- what a refused command changes all the same, or None if it changes nothing: when a screen blocks the name, what that leaves;
+-- when a quota refuses, the actions that are then due have run
 abbrev pub left_by : Capacity → Rows → ℕ → Work → Refusal → Option Acted
+left_by K R moment w (ScreenBlocked screen) = option_map (screened_by R moment) w.judged
 left_by K R moment w (QuotaExceeded folder would limit) = ran_if_any moment (due_refused K R w.effect.nodes moment) R
 left_by K R moment w other = None
 

@@ -7,12 +7,13 @@ use Rattle.fsrm_model.specs.declared.row.QuotaState.{QuotaState}
 use Rattle.fsrm_model.specs.declared.row.QuotaState.TheVariants.{Complete, Disabled, Rebuilding, Incomplete}
 use Rattle.fsrm_model.specs.declared.row.Rows.{Rows}
 use Rattle.fsrm_model.specs.declared.command.Ask.{Ask}
-use Rattle.fsrm_model.specs.declared.command.Ask.TheVariants.{Quotas, Settings, Acts}
+use Rattle.fsrm_model.specs.declared.command.Ask.TheVariants.{Quotas, Groups, Screens, Excepts, Settings, Acts}
 use Rattle.fsrm_model.specs.declared.command.Refusal.{Refusal}
-use Rattle.fsrm_model.specs.declared.command.Refusal.TheVariants.{BadLine, LineTooLong, InvalidPath, InvalidName, OutOfRange, InvalidLimit, ClockBack, PathNotFound, NotFound, AlreadyExists, InvalidCombination, NotEmpty, InvalidMove, NothingToScan, VolumeFull, NamesFull, TableFull, TextsFull, QuotaExceeded}
+use Rattle.fsrm_model.specs.declared.command.Refusal.TheVariants.{BadLine, LineTooLong, InvalidPath, InvalidName, OutOfRange, InvalidLimit, ClockBack, PathNotFound, NotFound, AlreadyExists, DuplicateName, InUse, InvalidCombination, NotEmpty, InvalidMove, NothingToScan, VolumeFull, NamesFull, TableFull, TextsFull, ScreenBlocked, QuotaExceeded}
 use Rattle.fsrm_model.specs.declared.command.Outcome.{Outcome}
 use Rattle.fsrm_model.specs.declared.command.Outcome.TheVariants.{Done, Sum, Listing, Scanned, Refused}
 use Rattle.fsrm_model.specs.ActText.{threshold_lines, log_lines}
+use Rattle.fsrm_model.specs.ScreenText.{group_lines, screen_lines, except_lines}
 use Rattle.fsrm_model.specs.SettingsText.{settings_lines}
 use Rattle.fsrm_model.specs.Tree.{usage}
 use Rattle.fsrm_model.specs.Quota.{folder_of, counts}
@@ -31,6 +32,8 @@ refusal_words nodes ClockBack = codes "ClockBack" ∷ []
 refusal_words nodes PathNotFound = codes "PathNotFound" ∷ []
 refusal_words nodes NotFound = codes "NotFound" ∷ []
 refusal_words nodes AlreadyExists = codes "AlreadyExists" ∷ []
+refusal_words nodes DuplicateName = codes "DuplicateName" ∷ []
+refusal_words nodes InUse = codes "InUse" ∷ []
 refusal_words nodes InvalidCombination = codes "InvalidCombination" ∷ []
 refusal_words nodes NotEmpty = codes "NotEmpty" ∷ []
 refusal_words nodes InvalidMove = codes "InvalidMove" ∷ []
@@ -39,11 +42,13 @@ refusal_words nodes VolumeFull = codes "VolumeFull" ∷ []
 refusal_words nodes NamesFull = codes "NamesFull" ∷ []
 refusal_words nodes TableFull = codes "TableFull" ∷ []
 refusal_words nodes TextsFull = codes "TextsFull" ∷ []
+refusal_words nodes (ScreenBlocked screen) = codes "ScreenBlocked" ∷ path_text nodes screen ∷ []
 refusal_words nodes (QuotaExceeded folder would limit) =
     codes "QuotaExceeded" ∷ decimal would ∷ decimal limit ∷ path_text nodes folder ∷ []
 
 -- whether it carries no path
 abbrev pub is_bare : Refusal → Bool
+is_bare (ScreenBlocked screen) = false
 is_bare (QuotaExceeded folder would limit) = false
 is_bare other = true
 
@@ -96,6 +101,9 @@ asked (Some folder) quotas = filter (λ quota. folder_of quota == folder) quotas
 -- the lines of a list
 abbrev pub list_lines : Capacity → Rows → Ask → List ℕ
 list_lines K R (Quotas folder) = flat_map (quota_lines K R.nodes) (asked folder R.quotas)
+list_lines K R Groups = flat_map group_lines R.groups
+list_lines K R Screens = flat_map (screen_lines R.nodes R.groups) R.screens
+list_lines K R Excepts = flat_map (except_lines R.nodes R.groups) R.excepts
 list_lines K R Settings = settings_lines K R
 list_lines K R Acts = log_lines R.acts
 

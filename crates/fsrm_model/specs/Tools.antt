@@ -2,8 +2,8 @@
 use Rattle.std.specs.Prelude.{ℕ, true, List, [], ◌∷◌, codes, Option, Some, None, unwrap_or, option_and_then, if◌then◌else◌}
 use Rattle.std.specs.Str.{str_eq_ignore_ascii_case}
 use Rattle.fsrm_model.specs.declared.command.Deed.{Deed}
-use Rattle.fsrm_model.specs.declared.command.Deed.TheVariants.{QuotaAdd, QuotaModify, QuotaDelete, QuotaScan, QuotaResetpeak, QuotaList, AdminOptions, AdminList, AdminLog}
-use Rattle.fsrm_model.specs.Options.{Key, ThePath, TheLimit, TheType, TheStatus, TheRemoval, ThePercent, TheNotice, TheRunLimit, Given, path_in, limit_in, type_in, status_in, removal_in, percent_in, notice_in, run_limit_in, one, each_of}
+use Rattle.fsrm_model.specs.declared.command.Deed.TheVariants.{QuotaAdd, QuotaModify, QuotaDelete, QuotaScan, QuotaResetpeak, QuotaList, AdminOptions, AdminList, AdminLog, FilegroupAdd, FilegroupModify, FilegroupDelete, FilegroupList, ScreenAdd, ScreenModify, ScreenDelete, ScreenList, ExceptionAdd, ExceptionDelete, ExceptionList}
+use Rattle.fsrm_model.specs.Options.{Key, ThePath, TheLimit, TheType, TheStatus, TheRemoval, ThePercent, TheNotice, TheRunLimit, TheGroup, TheMembers, TheNonMembers, TheMode, TheGroupRemoval, TheGroupAddition, TheScreenNotice, Given, path_in, limit_in, type_in, status_in, removal_in, percent_in, notice_in, run_limit_in, group_in, members_in, non_members_in, mode_in, group_removal_in, group_addition_in, screen_notice_in, one, each_of}
 
 -- names, each with what it stands for. They are read without regard to the case of ASCII letters
 abbrev pub Names : Type 0 → Type 0
@@ -65,9 +65,74 @@ alone deed = record { keys = []; deed = λ given. Some deed }
 abbrev pub admin_commands : Names ToolCommand
 admin_commands = (codes "options", admin_options) ∷ (codes "list", alone AdminList) ∷ (codes "log", alone AdminLog) ∷ []
 
+-- ---- file groups, screens and exceptions
+-- a group may have no non-members
+abbrev pub group_add : ToolCommand
+group_add =
+    record {
+      keys = TheGroup ∷ TheMembers ∷ TheNonMembers ∷ [];
+      deed = λ given.
+          needs group_in given (λ name.
+          needs members_in given (λ members.
+          Some (FilegroupAdd name members (unwrap_or (one non_members_in given) []))));
+    }
+
+abbrev pub group_modify : ToolCommand
+group_modify =
+    record {
+      keys = TheGroup ∷ TheMembers ∷ TheNonMembers ∷ [];
+      deed = λ given. needs group_in given (λ name. Some (FilegroupModify name (one members_in given) (one non_members_in given)));
+    }
+
+abbrev pub group_delete : ToolCommand
+group_delete = record { keys = TheGroup ∷ []; deed = λ given. needs group_in given (λ name. Some (FilegroupDelete name)) }
+
+abbrev pub group_commands : Names ToolCommand
+group_commands =
+    (codes "add", group_add) ∷ (codes "modify", group_modify) ∷ (codes "delete", group_delete) ∷ (codes "list", alone FilegroupList) ∷ []
+
+-- a screen is active if nothing else is given. It must have a group
+abbrev pub screen_add : ToolCommand
+screen_add =
+    record {
+      keys = ThePath ∷ TheMode ∷ TheGroupAddition ∷ TheScreenNotice ∷ [];
+      deed = λ given.
+          needs path_in given (λ path.
+          needs group_addition_in given (λ first.
+          Some (ScreenAdd path (unwrap_or (one mode_in given) true) (each_of group_addition_in given) (each_of screen_notice_in given))));
+    }
+
+abbrev pub screen_modify : ToolCommand
+screen_modify =
+    record {
+      keys = ThePath ∷ TheMode ∷ TheGroupRemoval ∷ TheGroupAddition ∷ [];
+      deed = λ given.
+          needs path_in given (λ path.
+          Some (ScreenModify path (one mode_in given) (each_of group_removal_in given) (each_of group_addition_in given)));
+    }
+
+abbrev pub screen_commands : Names ToolCommand
+screen_commands =
+    (codes "add", screen_add) ∷ (codes "modify", screen_modify) ∷ (codes "delete", of_path ScreenDelete) ∷ (codes "list", alone ScreenList) ∷ []
+
+abbrev pub except_add : ToolCommand
+except_add =
+    record {
+      keys = ThePath ∷ TheGroupAddition ∷ [];
+      deed = λ given.
+          needs path_in given (λ path.
+          needs group_addition_in given (λ first. Some (ExceptionAdd path (each_of group_addition_in given))));
+    }
+
+abbrev pub except_commands : Names ToolCommand
+except_commands = (codes "add", except_add) ∷ (codes "delete", of_path ExceptionDelete) ∷ (codes "list", alone ExceptionList) ∷ []
+
 -- what each tool manages, with the commands for it
 abbrev pub dirquota : Names (Names ToolCommand)
 dirquota = (codes "quota", quota_commands) ∷ (codes "admin", admin_commands) ∷ []
 
+abbrev pub filescrn : Names (Names ToolCommand)
+filescrn = (codes "filegroup", group_commands) ∷ (codes "screen", screen_commands) ∷ (codes "exception", except_commands) ∷ []
+
 abbrev pub tools : Names (Names (Names ToolCommand))
-tools = (codes "dirquota", dirquota) ∷ []
+tools = (codes "dirquota", dirquota) ∷ (codes "filescrn", filescrn) ∷ []

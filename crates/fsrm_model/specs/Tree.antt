@@ -13,8 +13,8 @@ use Rattle.fsrm_model.specs.Space.{space}
 abbrev pub number : NodeRow → ℕ
 number node = node.number
 
--- the node of a number; its parent, its name, and whether it is a folder. If no node has the number: None,
--- 0, no bytes and false
+-- the node of a number; its parent, its name, whether it is a folder, and its owner. If no node has the number: None,
+-- 0, no bytes, false and 0
 abbrev pub node_of : List NodeRow → ℕ → Option NodeRow
 node_of nodes n = row_of number n nodes
 
@@ -26,6 +26,9 @@ name_of nodes n = option_map_or (λ node. node.name) (node_of nodes n) []
 
 abbrev pub is_folder : List NodeRow → ℕ → Bool
 is_folder nodes n = option_map_or (λ node. node.folder) (node_of nodes n) false
+
+abbrev pub owner_of : List NodeRow → ℕ → ℕ
+owner_of nodes n = option_map_or (λ node. node.owner) (node_of nodes n) 0
 
 -- the number of a new node: the least that is free
 abbrev pub fresh : List NodeRow → ℕ

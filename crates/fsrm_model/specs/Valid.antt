@@ -3,17 +3,25 @@
 use Rattle.std.specs.Prelude.{◌≡◌, ℕ, ◌≤◌, ◌==◌, ◌&&◌, ◌||◌, nat_lt, nat_le, not, Bool, true, false, List, [], ◌∷◌, length, is_none, Some, if◌then◌else◌}
 use Rattle.std.specs.List.{list_all}
 use Rattle.fsrm_model.specs.declared.row.ActRow.{ActRow}
+use Rattle.fsrm_model.specs.declared.row.Action.{Action}
+use Rattle.fsrm_model.specs.declared.row.AuditRow.{AuditRow}
 use Rattle.fsrm_model.specs.declared.row.Capacity.{Capacity}
+use Rattle.fsrm_model.specs.declared.row.ExceptRow.{ExceptRow}
+use Rattle.fsrm_model.specs.declared.row.GroupRow.{GroupRow}
 use Rattle.fsrm_model.specs.declared.row.NodeRow.{NodeRow}
 use Rattle.fsrm_model.specs.declared.row.QuotaRow.{QuotaRow}
 use Rattle.fsrm_model.specs.declared.row.Rows.{Rows}
+use Rattle.fsrm_model.specs.declared.row.ScreenRow.{ScreenRow}
 use Rattle.fsrm_base.specs.Keyed.{row_of, is_ascending, has_row}
-use Rattle.fsrm_model.specs.Limits.{latest_moment, longest_file, most_entries, most_minutes, most_quotas, most_text_bytes}
+use Rattle.fsrm_base.specs.Numbers.{each_once}
+use Rattle.fsrm_model.specs.Limits.{latest_moment, longest_file, most_actions, most_entries, most_excepts, most_groups, most_minutes, most_quotas, most_screen_groups, most_screens, most_text_bytes}
 use Rattle.fsrm_model.specs.Name.{is_name, same_name}
+use Rattle.fsrm_model.specs.Patterns.{group_number, is_group, are_apart}
 use Rattle.fsrm_model.specs.Quota.{folder_of, is_limit}
 use Rattle.fsrm_model.specs.QuotaStates.{head}
+use Rattle.fsrm_model.specs.Screens.{screen_folder, except_folder}
 use Rattle.fsrm_model.specs.Texts.{object_texts}
-use Rattle.fsrm_model.specs.Thresholds.{are_thresholds}
+use Rattle.fsrm_model.specs.Thresholds.{is_kept_action, are_thresholds}
 use Rattle.fsrm_model.specs.Tree.{number, node_of, is_folder, is_child, is_under, name_bytes}
 use Rattle.fsrm_model.specs.ValidScans.{is_queue, IsQueue, are_left, AreLeft}
 
@@ -88,25 +96,64 @@ abbrev pub is_empty : {X : Type 0} → List X → Bool
 is_empty [] = true
 is_empty (x ∷ xs) = false
 
--- What no command fills so far is empty: a quota's template, the other tables, the log of audits
+-- What no command fills so far is empty: a quota's template, and the tables of templates, of auto-apply quotas and of jobs
 abbrev pub is_plain : QuotaRow → Bool
 is_plain quota = is_none quota.template
 
+-- file groups, in the order of their numbers, no two with one name
+abbrev pub are_groups : List GroupRow → Bool
+are_groups groups =
+    (is_ascending group_number groups && nat_le (length groups) most_groups) && (list_all is_group groups && are_apart groups)
+
+-- the groups that a screen or an exception names: 1 to 16, each once, and each is there
+abbrev pub are_group_numbers : List GroupRow → List ℕ → Bool
+are_group_numbers groups numbers =
+    (nat_lt 0 (length numbers) && nat_le (length numbers) most_screen_groups)
+    && (each_once numbers && list_all (λ n. has_row group_number n groups) numbers)
+
+-- the actions of a screen: at most 8
+abbrev pub are_screen_actions : List Action → Bool
+are_screen_actions actions = nat_le (length actions) most_actions && list_all is_kept_action actions
+
+-- a screen's folder is there, and has no exception
+abbrev pub is_sound_screen : List NodeRow → List GroupRow → List ExceptRow → ScreenRow → Bool
+is_sound_screen nodes groups excepts screen =
+    (is_folder nodes screen.folder && not (has_row except_folder screen.folder excepts))
+    && (are_group_numbers groups screen.groups && are_screen_actions screen.actions)
+
+abbrev pub are_screens : List NodeRow → List GroupRow → List ExceptRow → List ScreenRow → Bool
+are_screens nodes groups excepts screens =
+    (is_ascending screen_folder screens && nat_le (length screens) most_screens) && list_all (is_sound_screen nodes groups excepts) screens
+
+abbrev pub is_sound_except : List NodeRow → List GroupRow → ExceptRow → Bool
+is_sound_except nodes groups except = is_folder nodes except.folder && are_group_numbers groups except.groups
+
+abbrev pub are_excepts : List NodeRow → List GroupRow → List ExceptRow → Bool
+are_excepts nodes groups excepts =
+    (is_ascending except_folder excepts && nat_le (length excepts) most_excepts) && list_all (is_sound_except nodes groups) excepts
+
+-- the audit log: its last 1,024 entries, each of a moment and a name. What they name else may be gone
+abbrev pub is_audit : AuditRow → Bool
+is_audit entry = is_moment entry.moment && is_name entry.name
+
+abbrev pub are_audits : List AuditRow → Bool
+are_audits log = nat_le (length log) most_entries && list_all is_audit log
+
 abbrev pub are_tables : Rows → Bool
 are_tables R =
-    list_all is_plain R.quotas
-    && ((is_empty R.templates && (is_empty R.autos && is_empty R.groups))
-    && ((is_empty R.screens && (is_empty R.excepts && is_empty R.jobs)) && is_empty R.audits))
+    (list_all is_plain R.quotas && (is_empty R.templates && (is_empty R.autos && is_empty R.jobs)))
+    && ((are_groups R.groups && are_screens R.nodes R.groups R.excepts R.screens)
+    && (are_excepts R.nodes R.groups R.excepts && are_audits R.audits))
 
 pub record AreTables (R : Rows) : Type 0 where
   pub plain : list_all is_plain R.quotas ≡ true
   pub templates : R.templates ≡ []
   pub autos : R.autos ≡ []
-  pub groups : R.groups ≡ []
-  pub screens : R.screens ≡ []
-  pub excepts : R.excepts ≡ []
   pub jobs : R.jobs ≡ []
-  pub audits : R.audits ≡ []
+  pub groups : are_groups R.groups ≡ true
+  pub screens : are_screens R.nodes R.groups R.excepts R.screens ≡ true
+  pub excepts : are_excepts R.nodes R.groups R.excepts ≡ true
+  pub audits : are_audits R.audits ≡ true
 
 -- the log of actions: its last 1,024 entries, each of a moment. What they name may be gone
 abbrev pub are_entries : List ActRow → Bool

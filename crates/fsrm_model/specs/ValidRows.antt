@@ -1,14 +1,18 @@
 -- Worked examples of which rows are those of a store.
-use Rattle.std.specs.Prelude.{◌≡◌, ℕ, ◌+◌, ℤ, pos, negsuc, ◌∷◌, [], true, false, List, map, replicate, Option, Some, None, Bool, codes}
+use Rattle.std.specs.Prelude.{◌≡◌, ℕ, ◌+◌, ◌++◌, ℤ, pos, negsuc, ◌∷◌, [], true, false, List, map, replicate, Option, Some, None, Bool, codes}
 use Rattle.std.specs.List.{range_with_len}
 use Rattle.fsrm_model.specs.declared.row.ActRow.{ActRow}
 use Rattle.fsrm_model.specs.declared.row.Action.{Action}
 use Rattle.fsrm_model.specs.declared.row.ActionKind.TheVariants.{Event}
+use Rattle.fsrm_model.specs.declared.row.AuditRow.{AuditRow}
+use Rattle.fsrm_model.specs.declared.row.ExceptRow.{ExceptRow}
+use Rattle.fsrm_model.specs.declared.row.GroupRow.{GroupRow}
 use Rattle.fsrm_model.specs.declared.row.NodeRow.{NodeRow}
 use Rattle.fsrm_model.specs.declared.row.QuotaRow.{QuotaRow}
 use Rattle.fsrm_model.specs.declared.row.QuotaState.{QuotaState}
 use Rattle.fsrm_model.specs.declared.row.QuotaState.TheVariants.{Complete, Rebuilding}
 use Rattle.fsrm_model.specs.declared.row.Rows.{Rows}
+use Rattle.fsrm_model.specs.declared.row.ScreenRow.{ScreenRow}
 use Rattle.fsrm_model.specs.declared.row.Threshold.{Threshold}
 use Rattle.fsrm_model.specs.Fresh.{default_capacity, new_rows, root_node, rows_of_nodes}
 use Rattle.fsrm_model.specs.Limits.{latest_moment, longest_action_text, most_entries, most_minutes}
@@ -116,22 +120,98 @@ wrong_thresholds =
     ∷ []))
     ≡ replicate 12 false
 
+-- ---- file groups, screens, exceptions and the audit log
+abbrev pub group : ℕ → List ℕ → GroupRow
+group number name = record { number = number; name = name; members = codes "*.x" ∷ []; non_members = [] }
+
+abbrev pub screen : ℕ → List ℕ → ScreenRow
+screen folder groups = record { folder = folder; active = true; groups = groups; actions = [] }
+
+abbrev pub lifted : ℕ → List ℕ → ExceptRow
+lifted folder groups = record { folder = folder; groups = groups }
+
+abbrev pub reported : List ℕ → AuditRow
+reported name = record { moment = latest_moment; active = true; owner = 1; folder = 9; screen = 9; name = name }
+
+-- the root and the folder have a screen, another folder has an exception
+abbrev pub screening : Rows
+screening =
+    record scanning {
+      groups = group 0 (codes "g") ∷ group 2 (codes "h") ∷ [];
+      screens = screen 0 (2 ∷ 0 ∷ []) ∷ screen 1 (0 ∷ []) ∷ [];
+      excepts = lifted 3 (2 ∷ []) ∷ [];
+    }
+
+-- these are valid: an exception may stand alone, and the folders of an entry of the audit log may be gone
+abbrev pub valid_screens : Type 0
+valid_screens =
+    are_valid (
+    screening
+    ∷ record screening { screens = [] }
+    ∷ record screening { screens = record (screen 1 (0 ∷ [])) { active = false; actions = replicate 8 (action (pos 0) [] (Some latest_moment)) } ∷ [] }
+    ∷ record screening { audits = reported (codes "n.x") ∷ [] }
+    ∷ [])
+    ≡ true ∷ true ∷ true ∷ true ∷ []
+
+-- in each of these one thing is wrong with the groups: numbers descend, a name is another's, there is no member, a member has
+-- a `/`, a number is too great
+abbrev pub groups_wrong : List Rows
+groups_wrong =
+    map (λ groups. record scanning { groups = groups }) (
+    (group 2 (codes "h") ∷ group 0 (codes "g") ∷ [])
+    ∷ (group 0 (codes "g") ∷ group 2 (codes "G") ∷ [])
+    ∷ (record (group 0 (codes "g")) { members = [] } ∷ [])
+    ∷ (record (group 0 (codes "g")) { members = codes "a/b" ∷ [] } ∷ [])
+    ∷ (group 1024 (codes "g") ∷ [])
+    ∷ [])
+
+-- with a screen: it is on a file, it is there twice, its folder has an exception, it has no group, a group twice, one that isn't
+-- there, or 9 actions
+abbrev pub screens_wrong : List Rows
+screens_wrong =
+    map (λ screens. record screening { screens = screens }) (
+    (screen 2 (0 ∷ []) ∷ [])
+    ∷ (screen 1 (0 ∷ []) ∷ screen 1 (0 ∷ []) ∷ [])
+    ∷ (screen 3 (0 ∷ []) ∷ [])
+    ∷ (screen 1 [] ∷ [])
+    ∷ (screen 1 (0 ∷ 0 ∷ []) ∷ [])
+    ∷ (screen 1 (1 ∷ []) ∷ [])
+    ∷ (record (screen 1 (0 ∷ [])) { actions = replicate 9 (action (pos 0) [] None) } ∷ [])
+    ∷ [])
+
+-- with an exception: it is on a file, it has no group, or one that isn't there
+abbrev pub excepts_wrong : List Rows
+excepts_wrong =
+    map (λ excepts. record screening { excepts = excepts }) (
+    (lifted 2 (0 ∷ []) ∷ [])
+    ∷ (lifted 3 [] ∷ [])
+    ∷ (lifted 3 (1 ∷ []) ∷ [])
+    ∷ [])
+
+-- with the audit log: it has a later moment, what is no name, or an entry too many
+abbrev pub audits_wrong : List Rows
+audits_wrong =
+    map (λ audits. record screening { audits = audits }) (
+    (record (reported (codes "n.x")) { moment = latest_moment + 1 } ∷ [])
+    ∷ (reported (codes "a/b") ∷ [])
+    ∷ replicate (most_entries + 1) (reported (codes "n.x"))
+    ∷ [])
+
+abbrev pub wrong_screens : Type 0
+wrong_screens = are_valid (groups_wrong ++ (screens_wrong ++ (excepts_wrong ++ audits_wrong))) ≡ replicate 18 false
+
 -- with a table, a log, the run limit or the last moment
 abbrev pub wrong_tables : Type 0
 wrong_tables =
     are_valid (
     record scanning { templates = record { number = 0; name = codes "t"; limit = 1024; enforce = true; thresholds = [] } ∷ [] }
     ∷ record scanning { autos = record { folder = 1; template = 0; excluded = [] } ∷ [] }
-    ∷ record scanning { groups = record { number = 0; name = codes "g"; members = codes "*" ∷ []; non_members = [] } ∷ [] }
-    ∷ record scanning { screens = record { folder = 1; active = true; groups = 0 ∷ []; actions = [] } ∷ [] }
-    ∷ record scanning { excepts = record { folder = 1; groups = 0 ∷ [] } ∷ [] }
     ∷ record scanning { acts = record entry { moment = latest_moment + 1 } ∷ [] }
     ∷ record scanning { acts = replicate (most_entries + 1) entry }
-    ∷ record scanning { audits = record { moment = 0; active = true; owner = 1; folder = 1; screen = 1; name = codes "n" } ∷ [] }
     ∷ record scanning { run_limit = most_minutes + 1 }
     ∷ record scanning { last_moment = latest_moment + 1 }
     ∷ [])
-    ≡ false ∷ false ∷ false ∷ false ∷ false ∷ false ∷ false ∷ false ∷ false ∷ false ∷ []
+    ≡ false ∷ false ∷ false ∷ false ∷ false ∷ false ∷ []
 
 -- with the queue: it has a folder twice, lacks that of the rebuilding quota, has that of another quota, or one without
 abbrev pub wrong_queues : Type 0

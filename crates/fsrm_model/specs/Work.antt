@@ -20,9 +20,9 @@ pub record Work : Type 0 where
   pub outcome : Outcome
   -- whether it lasts if it is accepted
   pub lasts : Bool
-  -- what a screen judges; so far nothing
+  -- the name that it gives a file, if a screen judges that
   pub judged : Option Judged
 
--- the one way to make a command's work
+-- the one way to make a command's work. It gives no file a name
 abbrev pub asks : List Check → Rows → Outcome → Bool → Work
 asks checks effect outcome lasts = record { checks = checks; effect = effect; outcome = outcome; lasts = lasts; judged = None }

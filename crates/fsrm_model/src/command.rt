@@ -7,7 +7,8 @@ use crate::path::Path;
 use crate::row::{Action, ActionKind};
 use fsrm_base::{List, Text};
 
-/// Why a command is refused. A refused command changes nothing, but that a file operation that a quota refuses may have
+/// Why a command is refused. A refused command changes nothing, with two exceptions. A name that a screen blocks leaves its
+/// entry in the audit log and has the screen's actions run that are due. A file operation that a quota refuses may have
 /// actions that are due. The refusals up to `InvalidLimit` come from reading the line, `OutOfRange` from the tables too.
 #[derive(Clone, Copy, Debug, PartialEq, Eq)]
 pub enum Refusal {
@@ -19,8 +20,9 @@ pub enum Refusal {
     InvalidPath,
     /// A name isn't one (MS-FSRM, FSRM_E_INVALID_NAME).
     InvalidName,
-    /// A number isn't in its range, or a quota would have more than 16 thresholds or a threshold more than 8 actions
-    /// (MS-FSRM, FSRM_E_OUT_OF_RANGE).
+    /// A number isn't in its range, or a list would be too long: a quota has at most 16 thresholds, a threshold or a
+    /// screen at most 8 actions, a list of patterns at most 64 of them, and a screen or an exception at most 16 file
+    /// groups (MS-FSRM, FSRM_E_OUT_OF_RANGE).
     OutOfRange,
     /// A quota's limit is below 1,024 bytes or above 2^60 (MS-FSRM, FSRM_E_INVALID_LIMIT).
     InvalidLimit,
@@ -29,11 +31,17 @@ pub enum Refusal {
     /// A path, or the folder that it names a node in, leads to nothing of the kind that is asked
     /// for (MS-FSRM, FSRM_E_PATH_NOT_FOUND).
     PathNotFound,
-    /// The folder has no quota, or the quota not the threshold that is to be removed (MS-FSRM, FSRM_E_NOT_FOUND).
+    /// The folder has no such object, the quota not the threshold or the screen not the file group that is to be
+    /// removed, or no file group has the name (MS-FSRM, FSRM_E_NOT_FOUND).
     NotFound,
-    /// The place is taken, or the folder has a quota (MS-FSRM, FSRM_E_ALREADY_EXISTS).
+    /// The place is taken, or the folder has such an object (MS-FSRM, FSRM_E_ALREADY_EXISTS).
     AlreadyExists,
-    /// A quota that is disabled isn't scanned (MS-FSRM, FSRM_E_INVALID_COMBINATION).
+    /// A file group has the name, in some spelling (MS-FSRM, FSRM_E_DUPLICATE_NAME).
+    DuplicateName,
+    /// A screen or an exception names the file group.
+    InUse,
+    /// A quota that is disabled isn't scanned. A folder doesn't have both a screen and an exception, and a screen has at
+    /// least one file group (MS-FSRM, FSRM_E_INVALID_COMBINATION).
     InvalidCombination,
     /// The folder has a child.
     NotEmpty,
@@ -45,10 +53,13 @@ pub enum Refusal {
     VolumeFull,
     /// The names of all nodes would have more bytes than the store holds.
     NamesFull,
-    /// There are 4,096 quotas.
+    /// There are 4,096 quotas, screens or exceptions, or 1,024 file groups.
     TableFull,
     /// The texts of all objects would have more than 4,194,304 bytes.
     TextsFull,
+    /// The file would get a name that a screen blocks. `screen` is the screen's folder. It is the nearest active screen
+    /// that applies to the name.
+    ScreenBlocked { screen: u32 },
     /// The usage of a folder with a hard quota would rise, and above the limit. It is the deepest such
     /// folder. `would` is what the files at and below it would take, in bytes.
     QuotaExceeded { folder: u32, would: u64, limit: u64 },
@@ -141,6 +152,58 @@ pub enum Deed {
     AdminList,
     /// Lists the log of actions.
     AdminLog,
+    /// Makes a file group: the names that match one of its members and none of its non-members (MS-FSRM,
+    /// IFsrmFileGroup). It has 1 to 64 members and at most 64 non-members.
+    FilegroupAdd {
+        filegroup: Text,
+        members: List<Text>,
+        non_members: List<Text>,
+    },
+    /// Gives a file group other members, other non-members, or both.
+    FilegroupModify {
+        filegroup: Text,
+        members: Option<List<Text>>,
+        non_members: Option<List<Text>>,
+    },
+    /// Takes a file group away that no screen and no exception names.
+    FilegroupDelete {
+        filegroup: Text,
+    },
+    /// Lists all file groups.
+    FilegroupList,
+    /// Keeps the names of file groups out of a folder and of all that is below it (MS-FSRM, IFsrmFileScreen). An active
+    /// screen blocks them, a passive one reports them. A group that is named twice is kept once.
+    ScreenAdd {
+        path: Path,
+        active: bool,
+        add_filegroup: List<Text>,
+        add_notification: List<Action>,
+    },
+    /// Makes a screen active or passive. Of its groups some are removed, and then groups are added. Its actions stay.
+    ScreenModify {
+        path: Path,
+        active: Option<bool>,
+        remove_filegroup: List<Text>,
+        add_filegroup: List<Text>,
+    },
+    /// Takes a folder's screen away.
+    ScreenDelete {
+        path: Path,
+    },
+    /// Lists all screens.
+    ScreenList,
+    /// Lets the names of file groups pass the screens of the folders above this one, in it and in all that is below it
+    /// (MS-FSRM, IFsrmFileScreenException).
+    ExceptionAdd {
+        path: Path,
+        add_filegroup: List<Text>,
+    },
+    /// Takes a folder's exception away.
+    ExceptionDelete {
+        path: Path,
+    },
+    /// Lists all exceptions.
+    ExceptionList,
 }
 
 /// A command, at its moment.
@@ -155,6 +218,12 @@ pub struct Command {
 pub enum Ask {
     /// The quota of a folder, or all quotas.
     Quotas(Option<u32>),
+    /// All file groups.
+    Groups,
+    /// All screens.
+    Screens,
+    /// All exceptions.
+    Excepts,
     /// The run limit, the scans that wait, and how full the store is.
     Settings,
     /// The log of actions.

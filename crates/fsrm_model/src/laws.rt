@@ -9,9 +9,9 @@ ghost use Rattle.fsrm_model.specs.declared.command.Command.{Command};
 ghost use Rattle.fsrm_model.specs.declared.command.Deed.{Deed};
 ghost use Rattle.fsrm_model.specs.declared.command.Deed.TheVariants.{File};
 ghost use Rattle.fsrm_model.specs.declared.command.FileOp.{FileOp};
-ghost use Rattle.fsrm_model.specs.declared.command.Outcome.TheVariants.{Refused, Sum};
+ghost use Rattle.fsrm_model.specs.declared.command.Outcome.TheVariants.{Done, Refused, Sum};
 ghost use Rattle.fsrm_model.specs.declared.command.Refusal.{Refusal};
-ghost use Rattle.fsrm_model.specs.declared.command.Refusal.TheVariants.{QuotaExceeded};
+ghost use Rattle.fsrm_model.specs.declared.command.Refusal.TheVariants.{ScreenBlocked, QuotaExceeded};
 ghost use Rattle.fsrm_model.specs.declared.command.Subject.{Subject};
 ghost use Rattle.fsrm_model.specs.declared.command.Subject.TheVariants.{Quota};
 ghost use Rattle.fsrm_model.specs.declared.row.ActRow.{ActRow};
@@ -20,17 +20,21 @@ ghost use Rattle.fsrm_model.specs.declared.row.Capacity.{Capacity};
 ghost use Rattle.fsrm_model.specs.declared.row.NodeRow.{NodeRow};
 ghost use Rattle.fsrm_model.specs.declared.row.QuotaRow.{QuotaRow};
 ghost use Rattle.fsrm_model.specs.declared.row.Rows.{Rows};
+ghost use Rattle.fsrm_model.specs.declared.row.ScreenRow.{ScreenRow};
 ghost use Rattle.fsrm_model.specs.declared.row.Threshold.{Threshold};
-ghost use Rattle.fsrm_model.specs.Acts.{has_act, actions_of, is_of_quota, are_in_order, IsAct};
+ghost use Rattle.fsrm_model.specs.Acts.{has_act, actions_of, is_of_quota, of_screens, of_quotas, are_in_order, IsAct};
+ghost use Rattle.fsrm_model.specs.Audits.{audit_of, with_audit, tells_of_screen};
 ghost use Rattle.fsrm_model.specs.Date.{date_of};
 ghost use Rattle.fsrm_model.specs.Commands.{kind, emptied};
 ghost use Rattle.fsrm_model.specs.DueActions.{minutes_of, ready, quota_acts, due, due_refused};
 ghost use Rattle.fsrm_model.specs.Exceeds.{Exceeds};
-ghost use Rattle.fsrm_model.specs.Exceptions.{MayLeave, run_by_refusal, left_after};
+ghost use Rattle.fsrm_model.specs.Exceptions.{may_leave, run_by_refusal, left_after};
 ghost use Rattle.fsrm_model.specs.FileOps.{plain};
+ghost use Rattle.fsrm_model.specs.FileWork.{judged_name};
 ghost use Rattle.fsrm_model.specs.Fresh.{new_rows};
 ghost use Rattle.fsrm_base.specs.Keyed.{has_row, is_ascending};
 ghost use Rattle.fsrm_base.specs.Numbers.{is_in};
+ghost use Rattle.fsrm_model.specs.Lasting.{lasting};
 ghost use Rattle.fsrm_model.specs.Limits.{most_entries};
 ghost use Rattle.fsrm_model.specs.Line.{read_line, is_line_refusal};
 ghost use Rattle.fsrm_model.specs.Quota.{folder_of, quota_of, counts, exceeded};
@@ -38,6 +42,8 @@ ghost use Rattle.fsrm_model.specs.Raises.{are_ascending, Raises, RaisesRefused};
 ghost use Rattle.fsrm_model.specs.Reached.{reached, IsReached, crossed};
 ghost use Rattle.fsrm_model.specs.Runs.{run_quota, last_entries, ran};
 ghost use Rattle.fsrm_model.specs.Script.{is_end, lines, spelled_lines, AreLines, without_cr, replied, text, text_from};
+ghost use Rattle.fsrm_model.specs.Judges.{Applies, Judges};
+ghost use Rattle.fsrm_model.specs.Screens.{judging};
 ghost use Rattle.fsrm_model.specs.Space.{space};
 ghost use Rattle.fsrm_model.specs.Spelling.{Spells, Skips};
 ghost use Rattle.fsrm_model.specs.Step.{step, work};
@@ -46,10 +52,12 @@ ghost use Rattle.fsrm_model.specs.Text.{reply};
 ghost use Rattle.fsrm_model.specs.Thresholds.{percent_of, actions_at, is_percent, is_notice, are_too_many, are_thresholds, actions_given, changed_thresholds};
 ghost use Rattle.fsrm_model.specs.Tree.{number, under, usage};
 ghost use Rattle.fsrm_model.specs.Valid.{is_tree, IsVolume, are_quotas, AreQuotas, are_tables, AreTables, is_empty, is_valid, IsValid};
-ghost use Rattle.fsrm_model.specs.ValidRows.{valid_rows, wrong_nodes, wrong_quotas, valid_thresholds, wrong_thresholds, wrong_tables, wrong_queues, wrong_unvisited};
+ghost use Rattle.fsrm_model.specs.ValidRows.{valid_rows, wrong_nodes, wrong_quotas, valid_thresholds, wrong_thresholds, valid_screens, wrong_screens, wrong_tables, wrong_queues, wrong_unvisited};
 ghost use Rattle.fsrm_model.specs.Valued.{is_command};
 ghost use Rattle.fsrm_model.specs.ValidScans.{is_queue, IsQueue, are_left, AreLeft};
 ghost use Rattle.fsrm_model.specs.WorkedThresholds.{run_limit, scan_ends_above, refused_writes, refused_below, refused_above, refused_move, acts_in_order, changed_quotas, run_limit_setting, threshold_options, threshold_values, long_lists, refused_then};
+ghost use Rattle.fsrm_model.specs.Work.{Judged};
+ghost use Rattle.fsrm_model.specs.WorkedScreens.{members_and_others, blocked_entry, exceptions, exception_above, beside_quotas, nearest_screens, screens_and_quotas, reported_entries, moves_judged, move_entries, groups_and_lists, screens_gone, screen_words, many_patterns, folded_patterns};
 ghost use Rattle.fsrm_model.specs.WorkedRows.{nothing_done, first_files, clock, moves, bad_lines, words_apart, root_and_places, few_nodes, few_name_bytes, folded_names, rounded_usage, large_clusters, small_clusters, nested_quotas, up_to_the_limit, above_the_limit, move_below_a_quota, scan_in_steps, visited_again, out_and_back, out_for_good, scan_refusals, scans_in_turn, quota_options, quota_limits, quota_peaks, quotas_gone};
 
 /// The plain machine's text of worked scripts.
@@ -100,6 +108,40 @@ pub fn worked_thresholds()
     ensures refused_then { refused_then }
 {}
 
+/// The plain machine's text of worked scripts, and the audit log, of file groups, screens and exceptions.
+pub fn worked_screens()
+    ensures members { members_and_others }
+    ensures blocked_entry { blocked_entry }
+    ensures exceptions { exceptions }
+    ensures exception_above { exception_above }
+    ensures beside_quotas { beside_quotas }
+    ensures nearest { nearest_screens }
+    ensures and_quotas { screens_and_quotas }
+    ensures reported_entries { reported_entries }
+    ensures moves { moves_judged }
+    ensures move_entries { move_entries }
+    ensures lists { groups_and_lists }
+    ensures gone { screens_gone }
+    ensures words { screen_words }
+    ensures many_patterns { many_patterns }
+    ensures folding { folded_patterns }
+{}
+
+/// Which screen judges a name that a file is given in a folder, which one blocks or reports it, and what that leaves in the audit
+/// log.
+pub fn screens()
+    // It is one that applies; an active one if any active one applies; and no other such one is nearer.
+    ensures judges { (R : Rows) (folder : ℕ) (name : List ℕ) (screen : ScreenRow) → judging R folder name ≡ Some screen → Judges R folder name screen }
+    ensures none { (R : Rows) (folder : ℕ) (name : List ℕ) → judging R folder name ≡ None → (screen : ScreenRow) → Applies R folder name screen → ⊥ }
+    // Only a file operation is refused by a screen, and only by an active one that judges the name it gives a file.
+    ensures blocks { (K : Capacity) (R : Rows) (c : Command) (folder : ℕ) → (step K R c).outcome ≡ Refused (ScreenBlocked folder) → (op : FileOp) × (judged : Judged) × (c.deed ≡ File op) × (judged_name R op ≡ Some judged) × (judged.screen.active ≡ true) × (judged.screen.folder ≡ folder) }
+    // Only a file operation is reported, and only by a passive screen that judges the name.
+    ensures reports { (K : Capacity) (R : Rows) (c : Command) (folder : ℕ) → (step K R c).outcome ≡ Done (Some folder) → (op : FileOp) × (judged : Judged) × (c.deed ≡ File op) × (judged_name R op ≡ Some judged) × (judged.screen.active ≡ false) × (judged.screen.folder ≡ folder) }
+    // Either leaves an entry of the name, and no other command does.
+    ensures noted { (K : Capacity) (R : Rows) (c : Command) (judged : Judged) → (work K R c.moment c.deed).judged ≡ Some judged → tells_of_screen (step K R c).outcome ≡ true → (step K R c).rows.audits ≡ with_audit (audit_of c.moment judged) R.audits }
+    ensures unnoted { (K : Capacity) (R : Rows) (c : Command) → tells_of_screen (step K R c).outcome ≡ false → (step K R c).rows.audits ≡ R.audits }
+{}
+
 /// What a line is read as is what it spells, and a line that spells a command is read as it. The command is valid.
 /// Exactly those lines are skipped that have nothing but blanks, or whose first byte that is no blank is a `#`. Each
 /// other line is refused, by a refusal that comes from reading alone.
@@ -131,12 +173,15 @@ pub fn plain_machine()
     // A line that is refused as it is read changes nothing.
     ensures unread_rows { (K : Capacity) (R : Rows) (n : ℕ) (line : List ℕ) (refusal : Refusal) → read_line (without_cr line) ≡ Some (Err refusal) → (replied K R n line).rows ≡ R }
     ensures unread_text { (K : Capacity) (R : Rows) (n : ℕ) (line : List ℕ) (refusal : Refusal) → read_line (without_cr line) ≡ Some (Err refusal) → (replied K R n line).text ≡ reply K R 0 n (Refused refusal) }
-    // A command that is refused changes nothing, unless a quota refuses it and actions are due.
-    ensures refused { (K : Capacity) (R : Rows) (c : Command) (refusal : Refusal) → (step K R c).outcome ≡ Refused refusal → ((step K R c).rows ≡ R) ⊎ MayLeave K R c.moment (work K R c.moment c.deed) refusal }
-    // Then these have run, and nothing else is left but their entries, the moment, and peaks that were too low.
-    ensures left { (K : Capacity) (R : Rows) (c : Command) (refusal : Refusal) → (step K R c).outcome ≡ Refused refusal → (step K R c).rows ≡ left_after K R c.moment (run_by_refusal K R c.moment (work K R c.moment c.deed) refusal) }
-    // They are its acts, and it lasts exactly if there are any.
-    ensures runs { (K : Capacity) (R : Rows) (c : Command) (refusal : Refusal) → (step K R c).outcome ≡ Refused refusal → ((step K R c).acts ≡ run_by_refusal K R c.moment (work K R c.moment c.deed) refusal) × ((step K R c).lasting ≡ not (is_empty (step K R c).acts)) }
+    // A command that is refused changes nothing, unless a screen blocks a name, or a quota refuses it and actions are due.
+    ensures refused { (K : Capacity) (R : Rows) (c : Command) (refusal : Refusal) → (step K R c).outcome ≡ Refused refusal → ((step K R c).rows ≡ R) ⊎ (may_leave K R c.moment (work K R c.moment c.deed) refusal ≡ true) }
+    // Then these have run, and nothing else is left but their entries, that of the blocked name, the moment, and peaks that were
+    // too low.
+    ensures left { (K : Capacity) (R : Rows) (c : Command) (refusal : Refusal) → (step K R c).outcome ≡ Refused refusal → (step K R c).rows ≡ left_after K R c.moment (work K R c.moment c.deed) refusal }
+    // They are its acts, and it lasts exactly if it leaves something.
+    ensures runs { (K : Capacity) (R : Rows) (c : Command) (refusal : Refusal) → (step K R c).outcome ≡ Refused refusal → ((step K R c).acts ≡ run_by_refusal K R c.moment (work K R c.moment c.deed) refusal) × ((step K R c).lasting ≡ may_leave K R c.moment (work K R c.moment c.deed) refusal) }
+    // A command that doesn't last leaves all that a store keeps.
+    ensures passing { (K : Capacity) (R : Rows) (c : Command) → IsValid K R → (step K R c).lasting ≡ false → lasting (step K R c).rows ≡ lasting R }
     // A sum is made afresh from the tree: the space of all files at and below the folder.
     ensures sum { (K : Capacity) (R : Rows) (c : Command) (folder bytes : ℕ) → (step K R c).outcome ≡ Sum folder bytes → bytes ≡ sum_by (space K) (under R.nodes folder) }
 {}
@@ -182,9 +227,11 @@ pub fn due_actions()
     ensures same { (K : Capacity) (R : Rows) (moment : ℕ) → due K R R moment ≡ [] }
 {}
 
-/// The acts of a command: those of quotas come in the order of folders, percentages and places, each once, and each act
-/// names an action that is there in the rows after it.
+/// The acts of a command: first those of the screen that judges a name, in the order of their places, and then those of quotas in
+/// the order of folders, percentages and places, each once. Each act names an action that is there in the rows after it.
 pub fn acts()
+    ensures first { (K : Capacity) (R : Rows) (c : Command) → IsValid K R → is_command c ≡ true → (step K R c).acts ≡ of_screens (step K R c).acts ++ of_quotas (step K R c).acts }
+    ensures places { (K : Capacity) (R : Rows) (c : Command) → IsValid K R → is_command c ≡ true → are_in_order (of_screens (step K R c).acts) ≡ true }
     ensures order { (K : Capacity) (R : Rows) (c : Command) → IsValid K R → is_command c ≡ true → are_in_order (filter (λ act. is_of_quota act.subject) (step K R c).acts) ≡ true }
     ensures there { (K : Capacity) (R : Rows) (c : Command) → IsValid K R → is_command c ≡ true → AllByRecursion (IsAct (step K R c).rows) (step K R c).acts }
 {}
@@ -232,6 +279,8 @@ pub fn valid_rows()
     ensures quotas { wrong_quotas }
     ensures thresholds { valid_thresholds }
     ensures wrong_thresholds { wrong_thresholds }
+    ensures screens { valid_screens }
+    ensures wrong_screens { wrong_screens }
     ensures tables { wrong_tables }
     ensures queues { wrong_queues }
     ensures unvisited { wrong_unvisited }

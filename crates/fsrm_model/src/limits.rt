@@ -2,7 +2,7 @@
 //! definitions.
 
 ghost use Rattle.std.specs.Prelude.{◌≡◌};
-ghost use Rattle.fsrm_model.specs.Limits.{latest_moment, longest_file, last_owner, longest_line, longest_entry, longest_script, longest_name, most_nodes, most_names, least_limit, greatest_limit, most_quotas, greatest_percent, most_thresholds, most_actions, longest_action_text, most_minutes, most_entries, most_groups, most_text_bytes, most_visits};
+ghost use Rattle.fsrm_model.specs.Limits.{latest_moment, longest_file, last_owner, longest_line, longest_entry, longest_script, longest_name, most_nodes, most_names, least_limit, greatest_limit, most_quotas, greatest_percent, most_thresholds, most_actions, longest_action_text, most_minutes, most_entries, most_groups, most_patterns, most_screens, most_excepts, most_screen_groups, most_text_bytes, most_visits};
 
 /// The greatest moment: 2099-12-31 23:59:59 UTC, in seconds since 1970-01-01 00:00:00 UTC.
 pub const LATEST_MOMENT: u64 = 4_102_444_799;
@@ -46,11 +46,23 @@ pub const GREATEST_PERCENT: u16 = 250;
 /// How many thresholds a quota may have.
 pub const MOST_THRESHOLDS: usize = 16;
 
-/// How many actions a threshold may have.
+/// How many actions a threshold may have, and how many a screen.
 pub const MOST_ACTIONS: usize = 8;
 
 /// How many file groups there may be.
 pub const MOST_GROUPS: usize = 1_024;
+
+/// How many members a file group may have, and how many non-members.
+pub const MOST_PATTERNS: usize = 64;
+
+/// How many screens there may be.
+pub const MOST_SCREENS: usize = 4_096;
+
+/// How many exceptions there may be.
+pub const MOST_EXCEPTS: usize = 4_096;
+
+/// How many file groups a screen may have, and how many an exception.
+pub const MOST_SCREEN_GROUPS: usize = 16;
 
 /// The bytes of the longest text of an action.
 pub const LONGEST_ACTION_TEXT: usize = 1_024;
@@ -58,7 +70,7 @@ pub const LONGEST_ACTION_TEXT: usize = 1_024;
 /// The greatest run limit of actions, in minutes.
 pub const MOST_MINUTES: u32 = 525_600;
 
-/// How many entries the log of actions keeps.
+/// How many entries the log of actions keeps, and as many that of audits.
 pub const MOST_ENTRIES: usize = 1_024;
 
 /// The bytes of all texts of objects.
@@ -88,6 +100,10 @@ pub fn limits()
     ensures most_minutes { MOST_MINUTES ≡ most_minutes }
     ensures most_entries { MOST_ENTRIES ≡ most_entries }
     ensures most_groups { MOST_GROUPS ≡ most_groups }
+    ensures most_patterns { MOST_PATTERNS ≡ most_patterns }
+    ensures most_screens { MOST_SCREENS ≡ most_screens }
+    ensures most_excepts { MOST_EXCEPTS ≡ most_excepts }
+    ensures most_screen_groups { MOST_SCREEN_GROUPS ≡ most_screen_groups }
     ensures most_text_bytes { MOST_TEXT_BYTES ≡ most_text_bytes }
     ensures most_visits { MOST_VISITS ≡ most_visits }
 {}

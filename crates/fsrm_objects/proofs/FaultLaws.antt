@@ -1,25 +1,21 @@
 -- Which fault is due.
-use Rattle.std.proofs.Common.{◌≡◌, ℕ, ◌+◌, ◌<◌, ◌≤◌, nat_lt, nat_le, Bool, true, false, [], ◌∷◌, length, Option, Some, None, MatchOption, refl}
-use Rattle.std.specs.Prelude.{is_some}
+use Rattle.std.proofs.Common.{◌≡◌, ℕ, ◌+◌, ◌<◌, ◌≤◌, ◌==◌, ◌||◌, nat_lt, nat_le, Bool, true, false, [], ◌∷◌, length, Some, None, refl}
+use Rattle.fsrm_model.specs.declared.row.ExceptRow.{ExceptRow}
 use Rattle.fsrm_model.specs.declared.row.QuotaRow.{QuotaRow}
+use Rattle.fsrm_model.specs.declared.row.ScreenRow.{ScreenRow}
 use Rattle.fsrm_base.specs.Causes.{◌when◌, first}
 use Rattle.fsrm_base.specs.Keyed.{has_row, row_of}
-use Rattle.fsrm_base.specs.Places.{IsAt}
-use Rattle.fsrm_model.specs.Limits.{most_quotas}
+use Rattle.fsrm_model.specs.Limits.{most_quotas, most_screens, most_excepts, most_screen_groups}
 use Rattle.fsrm_model.specs.Quota.{folder_of}
+use Rattle.fsrm_model.specs.Screens.{screen_folder, except_folder}
 use Rattle.fsrm_model.specs.Texts.{quota_bytes}
 use Rattle.fsrm_model.specs.Thresholds.{are_too_many}
-use Rattle.fsrm_base.proofs.SortedRows.{row_found}
 use Rattle.fsrm_base.proofs.TestLaws.{gt_is, lt_test, not_lt}
-use Rattle.fsrm_objects.specs.declared.answer.ObjectFault.TheVariants.{AlreadyExists, OutOfRange, TableFull, TextsFull}
-use Rattle.fsrm_objects.specs.Tables.{Tables, other_fault, quota_fault, texts_at}
+use Rattle.fsrm_objects.specs.declared.answer.ObjectFault.TheVariants.{AlreadyExists, InvalidCombination, OutOfRange, TableFull, TextsFull}
+use Rattle.fsrm_objects.specs.Tables.{Tables, except_fault, is_long_screen, other_fault, other_screen_fault, quota_fault, screen_bytes, screen_fault, screen_texts_at, texts_at}
 
--- whether a folder has a quota
-pub is_taken : (tables : Tables) (folder : ℕ) (o : Option ℕ) → MatchOption o (has_row folder_of folder tables.quotas ≡ false) (IsAt folder_of folder tables.quotas) → has_row folder_of folder tables.quotas ≡ is_some o
-is_taken tables folder None absent = absent
-is_taken tables folder (Some p) at = (row_found folder_of folder tables.quotas p at).has
-
--- one that has gets no other
+-- ---- quotas
+-- a folder that has one gets no other
 pub taken_due : (tables : Tables) (row : QuotaRow) (room : ℕ) → has_row folder_of row.folder tables.quotas ≡ true → quota_fault tables row room ≡ Some AlreadyExists
 taken_due tables row room has = rw has refl
 
@@ -55,3 +51,57 @@ module _ (tables : Tables) (row old : QuotaRow) (room : ℕ) (found : row_of fol
 
   pub replaced_fits : quota_bytes row ≤ room + quota_bytes old → other_fault tables row room ≡ None
   replaced_fits fits = rw (short, found, not_lt (room + quota_bytes old) (quota_bytes row) fits) refl
+
+-- ---- screens
+-- if no fault is due, the folder has no screen, no list is too long, and there is a place for one more row
+pub record ScreenAdmitted (tables : Tables) (row : ScreenRow) : Type 0 where
+  pub free : has_row screen_folder row.folder tables.screens ≡ false
+  pub short : is_long_screen row ≡ false
+  pub few : length tables.screens < most_screens
+
+four_pass : (taken invalid long full more : Bool) → first ((AlreadyExists when taken) ∷ (InvalidCombination when invalid) ∷ (OutOfRange when long) ∷ (TableFull when full) ∷ (TextsFull when more) ∷ []) ≡ None → (taken ≡ false) × (long ≡ false) × (full ≡ false)
+four_pass false false false false more h = (refl, refl, refl)
+four_pass false false false true more h = cc
+four_pass false false true full more h = cc
+four_pass false true long full more h = cc
+four_pass true invalid long full more h = cc
+
+pub screen_admitted : (tables : Tables) (row : ScreenRow) (room : ℕ) → screen_fault tables row room ≡ None → ScreenAdmitted tables row
+screen_admitted tables row room h =
+    let pass = four_pass (has_row screen_folder row.folder tables.screens) (has_row except_folder row.folder tables.excepts || (length row.groups == 0)) (is_long_screen row) (nat_le most_screens (length tables.screens)) (nat_lt room (screen_bytes row)) h in
+    record { free = pass.0; short = pass.1; few = gt_is _ _ pass.2 }
+
+-- the same of one in the place of another
+short_pass : (bare long more : Bool) → first ((InvalidCombination when bare) ∷ (OutOfRange when long) ∷ (TextsFull when more) ∷ []) ≡ None → long ≡ false
+short_pass false false more h = refl
+short_pass false true more h = cc
+short_pass true long more h = cc
+
+pub short_screen : (tables : Tables) (row : ScreenRow) (room : ℕ) → other_screen_fault tables row room ≡ None → is_long_screen row ≡ false
+short_screen tables row room h = short_pass (length row.groups == 0) (is_long_screen row) (nat_lt (room + screen_texts_at tables row.folder) (screen_bytes row)) h
+
+-- which is due of one in the place of another
+module _ (tables : Tables) (row old : ScreenRow) (room : ℕ) (found : row_of screen_folder row.folder tables.screens ≡ Some old) (filled : (length row.groups == 0) ≡ false) (short : is_long_screen row ≡ false) where
+  pub screen_replaced_due : room + screen_bytes old < screen_bytes row → other_screen_fault tables row room ≡ Some TextsFull
+  screen_replaced_due long = rw (filled, short, found, lt_test (room + screen_bytes old) (screen_bytes row) long) refl
+
+  pub screen_replaced_fits : screen_bytes row ≤ room + screen_bytes old → other_screen_fault tables row room ≡ None
+  screen_replaced_fits fits = rw (filled, short, found, not_lt (room + screen_bytes old) (screen_bytes row) fits) refl
+
+-- ---- exceptions
+-- if no fault is due, the folder has none, and there is a place for one more row
+pub record ExceptAdmitted (tables : Tables) (row : ExceptRow) : Type 0 where
+  pub free : has_row except_folder row.folder tables.excepts ≡ false
+  pub few : length tables.excepts < most_excepts
+
+all_pass : (taken invalid long full : Bool) → first ((AlreadyExists when taken) ∷ (InvalidCombination when invalid) ∷ (OutOfRange when long) ∷ (TableFull when full) ∷ []) ≡ None → (taken ≡ false) × (full ≡ false)
+all_pass false false false false h = (refl, refl)
+all_pass false false false true h = cc
+all_pass false false true full h = cc
+all_pass false true long full h = cc
+all_pass true invalid long full h = cc
+
+pub except_admitted : (tables : Tables) (row : ExceptRow) → except_fault tables row ≡ None → ExceptAdmitted tables row
+except_admitted tables row h =
+    let pass = all_pass (has_row except_folder row.folder tables.excepts) (has_row screen_folder row.folder tables.screens || (length row.groups == 0)) (nat_lt most_screen_groups (length row.groups)) (nat_le most_excepts (length tables.excepts)) h in
+    record { free = pass.0; few = gt_is _ _ pass.1 }

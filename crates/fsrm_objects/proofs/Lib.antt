@@ -1,3 +1,5 @@
+pub mod HeldRows
 pub mod QuotaRows
 pub mod FaultLaws
 pub mod RunRows
+pub mod ScreenRows

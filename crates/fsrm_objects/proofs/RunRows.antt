@@ -1,21 +1,17 @@
--- Quotas of which an action ran: what is found of them, and the bytes of their texts.
-use Rattle.std.proofs.Common.{◌≡◌, ℕ, zero, suc, ◌+◌, ◌<◌, ◌==◌, Bool, true, false, cond, List, [], ◌∷◌, length, Option, Some, None, refl, sym, ◌∙◌, ap, arith, rules, get_or}
+-- Actions of which one ran, and the bytes of their texts.
+use Rattle.std.proofs.Common.{◌≡◌, ℕ, zero, suc, ◌+◌, ◌<◌, ◌==◌, Bool, true, false, cond, List, [], ◌∷◌, length, Option, Some, None, refl, sym, ◌∙◌, ap, arith}
 use Rattle.std.proofs.lemmas.List.Sums.{sum_by-cons}
 use Rattle.std.proofs.lemmas.Option.{same_Some}
-use Rattle.std.specs.Prelude.{slice_get, slice_set, IsSome, MatchOption}
+use Rattle.std.specs.Prelude.{slice_get, slice_set}
 use Rattle.std.specs.Option.{option_map_or}
 use Rattle.fsrm_base.specs.Keyed.{has_row, row_of, with_change}
-use Rattle.fsrm_base.specs.Places.{IsAt}
 use Rattle.fsrm_base.proofs.Look.{found_has}
-use Rattle.fsrm_base.proofs.TestLaws.{clash}
 use Rattle.fsrm_model.specs.declared.row.Action.{Action}
 use Rattle.fsrm_model.specs.declared.row.QuotaRow.{QuotaRow}
 use Rattle.fsrm_model.specs.declared.row.Threshold.{Threshold}
-use Rattle.fsrm_model.specs.Quota.{folder_of}
 use Rattle.fsrm_model.specs.Texts.{action_bytes, quota_bytes, threshold_bytes}
 use Rattle.fsrm_model.specs.Thresholds.{actions_at, percent_of}
-use Rattle.fsrm_objects.specs.Tables.{Tables, ran_at, run_threshold_at, run_quota_at}
-use Rattle.fsrm_objects.proofs.QuotaRows.{read_found, tables_of}
+use Rattle.fsrm_objects.specs.Tables.{ran_at, run_threshold_at, run_quota_at}
 
 -- the action at a place, changed there
 pub set_ran : (moment place : ℕ) (actions : List Action) (action : Action) → slice_get actions place ≡ Some action → slice_set actions place (record action { last_run = Some moment }) ≡ ran_at moment place actions
@@ -24,7 +20,7 @@ set_ran moment zero (a ∷ actions) action is = ap (λ (x : Action). record x { 
 set_ran moment (suc place) (a ∷ actions) action is = ap (λ more. a ∷ more) (set_ran moment place actions action is)
 
 -- ---- a run changes no text
-action_run : (moment place : ℕ) (actions : List Action) → action_bytes (ran_at moment place actions) ≡ action_bytes actions
+pub action_run : (moment place : ℕ) (actions : List Action) → action_bytes (ran_at moment place actions) ≡ action_bytes actions
 action_run moment place [] = refl
 action_run moment zero (action ∷ actions) =
     sum_by-cons (λ (a : Action). length a.text) (record action { last_run = Some moment }) actions
@@ -55,14 +51,3 @@ has_actions thresholds percent place h = at (row_of percent_of percent threshold
     at : (o : Option Threshold) → row_of percent_of percent thresholds ≡ o → place < length (option_map_or (λ (t : Threshold). t.actions) o []) → has_row percent_of percent thresholds ≡ true
     at None e h = absurd (omega (arith, h))
     at (Some t) e h = found_has percent_of percent thresholds t e
-
--- ---- the quota of a folder whose action ran
--- its place is found
-pub has_place : (quotas : List QuotaRow) (folder : ℕ) (quota : QuotaRow) (o : Option ℕ) → row_of folder_of folder quotas ≡ Some quota → MatchOption o (has_row folder_of folder quotas ≡ false) (IsAt folder_of folder quotas) → IsSome o
-has_place quotas folder quota None is absent = absurd (clash _ (found_has folder_of folder quotas quota is) absent)
-has_place quotas folder quota (Some place) is at = search rules
-
--- and it is what is read there
-pub read_own : (quotas : List QuotaRow) (tables : Tables) (folder place : ℕ) (quota read : QuotaRow) → tables_of quotas ≡ tables → row_of folder_of folder tables.quotas ≡ Some quota → IsAt folder_of folder quotas place → read ≡ get_or quotas place read → read ≡ quota
-read_own quotas tables folder place quota read same is at h =
-    same_Some read quota (sym (read_found quotas folder place read at h) ∙ (ap (λ (t : Tables). row_of folder_of folder t.quotas) same ∙ is))

@@ -1,32 +1,48 @@
 -- How the tables of objects are held.
-use Rattle.std.specs.Prelude.{◌≡◌, ℕ, ◌≤◌, ◌*◌, nat_le, Bool, true, List, length, map}
+use Rattle.std.specs.Prelude.{◌≡◌, ℕ, ◌+◌, ◌≤◌, ◌*◌, nat_le, true, List, length, map}
 use Rattle.std.specs.List.{list_all}
+use Rattle.fsrm_model.specs.declared.row.ExceptRow.{ExceptRow}
 use Rattle.fsrm_model.specs.declared.row.QuotaRow.{QuotaRow}
+use Rattle.fsrm_model.specs.declared.row.ScreenRow.{ScreenRow}
 use Rattle.fsrm_base.specs.Keyed.{is_ascending}
-use Rattle.fsrm_model.specs.Limits.{most_quotas, most_thresholds, most_actions, longest_action_text}
+use Rattle.fsrm_model.specs.Limits.{most_quotas, most_screens, most_excepts, most_thresholds, most_actions, longest_action_text}
 use Rattle.fsrm_model.specs.Quota.{folder_of}
+use Rattle.fsrm_model.specs.Screens.{screen_folder, except_folder}
 use Rattle.fsrm_model.specs.Texts.{quota_bytes}
-use Rattle.fsrm_objects.specs.Tables.{quota_texts}
+use Rattle.fsrm_objects.specs.Tables.{Tables, quota_texts, screen_bytes, screen_texts}
 
--- the bytes of the texts of a quota whose lists and texts are as long as they may be
+-- the bytes of the texts of a quota and of a screen whose lists and texts are as long as they may be
 abbrev pub most_quota_bytes : ℕ
 most_quota_bytes = most_thresholds * (most_actions * longest_action_text)
 
-abbrev pub is_small : QuotaRow → Bool
-is_small quota = nat_le (quota_bytes quota) most_quota_bytes
+abbrev pub most_screen_bytes : ℕ
+most_screen_bytes = most_actions * longest_action_text
 
--- Each folder has at most one quota, there are no more than may be, and each is small. So the bytes of all texts fit a u32
-pub record AreSmallQuotas (quotas : List QuotaRow) : Type 0 where
-  pub ascending : is_ascending folder_of quotas ≡ true
-  pub few : length quotas ≤ most_quotas
-  pub small : list_all is_small quotas ≡ true
+-- each folder has at most one row, and there are no more than may be
+pub record AreHeld {X : Type 0} (key : X → ℕ) (most : ℕ) (rows : List X) : Type 0 where
+  pub ascending : is_ascending key rows ≡ true
+  pub few : length rows ≤ most
 
--- and the bytes of their texts are counted
-pub record AreCounted (quotas : List QuotaRow) (texts : ℕ) : Type 0 where
-  pub are : AreSmallQuotas quotas
-  pub texts_are : texts ≡ quota_texts quotas
+-- and each has no more bytes of texts than it may. So the bytes of all texts fit a u32
+pub record AreSmall {X : Type 0} (key bytes : X → ℕ) (most most_bytes : ℕ) (rows : List X) : Type 0 where
+  pub held : AreHeld key most rows
+  pub small : list_all (λ row. nat_le (bytes row) most_bytes) rows ≡ true
 
--- and the table of places has their folders
-pub record IsKept (quotas : List QuotaRow) (numbers : List ℕ) (texts : ℕ) : Type 0 where
-  pub counted : AreCounted quotas texts
-  pub placed : numbers ≡ map folder_of quotas
+abbrev pub AreSmallQuotas : List QuotaRow → Type 0
+AreSmallQuotas quotas = AreSmall folder_of quota_bytes most_quotas most_quota_bytes quotas
+
+abbrev pub AreSmallScreens : List ScreenRow → Type 0
+AreSmallScreens screens = AreSmall screen_folder screen_bytes most_screens most_screen_bytes screens
+
+abbrev pub AreHeldExcepts : List ExceptRow → Type 0
+AreHeldExcepts excepts = AreHeld except_folder most_excepts excepts
+
+-- The rows of each table are so, the tables of places have their folders, and the bytes of all texts are counted
+pub record IsKept (tables : Tables) (places screen_places except_places : List ℕ) (texts : ℕ) : Type 0 where
+  pub quotas : AreSmallQuotas tables.quotas
+  pub quotas_placed : places ≡ map folder_of tables.quotas
+  pub screens : AreSmallScreens tables.screens
+  pub screens_placed : screen_places ≡ map screen_folder tables.screens
+  pub excepts : AreHeldExcepts tables.excepts
+  pub excepts_placed : except_places ≡ map except_folder tables.excepts
+  pub texts_are : texts ≡ quota_texts tables.quotas + screen_texts tables.screens

@@ -1,36 +1,48 @@
 -- The tables of objects, and why a row is refused.
-use Rattle.std.specs.Prelude.{◌≡◌, ℕ, zero, suc, ◌+◌, ◌<◌, nat_lt, nat_le, Bool, true, List, [], ◌∷◌, length, sum_by, Option, Some, None}
+use Rattle.std.specs.Prelude.{◌≡◌, ℕ, zero, suc, ◌+◌, ◌<◌, ◌==◌, ◌||◌, nat_lt, nat_le, Bool, true, List, [], ◌∷◌, length, sum_by, Option, Some, None}
 use Rattle.std.specs.List.{list_all}
 use Rattle.std.specs.Option.{option_map_or}
 use Rattle.fsrm_base.specs.Causes.{◌when◌, first}
 use Rattle.fsrm_base.specs.Keyed.{has_row, row_of, is_ascending, with_row, with_change, without_row}
 use Rattle.fsrm_model.specs.declared.row.Action.{Action}
+use Rattle.fsrm_model.specs.declared.row.ExceptRow.{ExceptRow}
 use Rattle.fsrm_model.specs.declared.row.QuotaRow.{QuotaRow}
 use Rattle.fsrm_model.specs.declared.row.QuotaState.{QuotaState}
+use Rattle.fsrm_model.specs.declared.row.ScreenRow.{ScreenRow}
 use Rattle.fsrm_model.specs.declared.row.Threshold.{Threshold}
-use Rattle.fsrm_model.specs.Limits.{most_quotas, longest_action_text}
+use Rattle.fsrm_model.specs.Limits.{most_quotas, most_screens, most_excepts, most_screen_groups, most_actions, longest_action_text}
 use Rattle.fsrm_model.specs.Quota.{folder_of}
 use Rattle.fsrm_model.specs.QuotaStates.{in_state}
-use Rattle.fsrm_model.specs.Texts.{quota_bytes}
+use Rattle.fsrm_model.specs.Screens.{screen_folder, except_folder}
+use Rattle.fsrm_model.specs.Texts.{action_bytes, quota_bytes}
 use Rattle.fsrm_model.specs.Thresholds.{percent_of, actions_at, are_too_many}
 use Rattle.fsrm_objects.specs.declared.answer.ObjectFault.{ObjectFault}
-use Rattle.fsrm_objects.specs.declared.answer.ObjectFault.TheVariants.{AlreadyExists, OutOfRange, TableFull, TextsFull, NoMemory}
+use Rattle.fsrm_objects.specs.declared.answer.ObjectFault.TheVariants.{AlreadyExists, InvalidCombination, OutOfRange, TableFull, TextsFull, NoMemory}
 
 -- the rows of each table
 pub record Tables : Type 0 where
   pub quotas : List QuotaRow
+  pub screens : List ScreenRow
+  pub excepts : List ExceptRow
 
--- the bytes of the texts that quotas hold, and of those of all tables
+-- the bytes of the texts that quotas and screens hold, and of those of all tables
 abbrev pub quota_texts : List QuotaRow → ℕ
 quota_texts quotas = sum_by quota_bytes quotas
 
+abbrev pub screen_bytes : ScreenRow → ℕ
+screen_bytes screen = action_bytes screen.actions
+
+abbrev pub screen_texts : List ScreenRow → ℕ
+screen_texts screens = sum_by screen_bytes screens
+
 abbrev pub texts_in : Tables → ℕ
-texts_in tables = quota_texts tables.quotas
+texts_in tables = quota_texts tables.quotas + screen_texts tables.screens
 
 -- ---- refusals
 -- a fault is the one that is due; it is for want of memory only if none is due
 abbrev pub IsFault : ObjectFault → Option ObjectFault → Type 0
 IsFault AlreadyExists due = due ≡ Some AlreadyExists
+IsFault InvalidCombination due = due ≡ Some InvalidCombination
 IsFault OutOfRange due = due ≡ Some OutOfRange
 IsFault TableFull due = due ≡ Some TableFull
 IsFault TextsFull due = due ≡ Some TextsFull
@@ -104,3 +116,68 @@ pub record HasAction (tables : Tables) (folder percent place : ℕ) : Type 0 whe
   pub is_there : row_of folder_of folder tables.quotas ≡ Some quota
   pub ascending : is_ascending percent_of quota.thresholds ≡ true
   pub within : place < length (actions_at quota.thresholds percent)
+
+-- ---- screens and exceptions
+abbrev pub has_short_actions : ScreenRow → Bool
+has_short_actions row = list_all is_short row.actions
+
+-- the lists of a screen that are too long
+abbrev pub is_long_screen : ScreenRow → Bool
+is_long_screen row = nat_lt most_screen_groups (length row.groups) || nat_lt most_actions (length row.actions)
+
+-- why a screen can't be added, if so many bytes of texts may still come
+abbrev pub screen_fault : Tables → ScreenRow → ℕ → Option ObjectFault
+screen_fault tables row room =
+    first ((AlreadyExists when has_row screen_folder row.folder tables.screens)
+    ∷ (InvalidCombination when (has_row except_folder row.folder tables.excepts || (length row.groups == 0)))
+    ∷ (OutOfRange when is_long_screen row)
+    ∷ (TableFull when nat_le most_screens (length tables.screens))
+    ∷ (TextsFull when nat_lt room (screen_bytes row)) ∷ [])
+
+abbrev pub screen_texts_at : Tables → ℕ → ℕ
+screen_texts_at tables folder = option_map_or screen_bytes (row_of screen_folder folder tables.screens) 0
+
+-- why a screen can't take the place of its folder's, whose texts it replaces
+abbrev pub other_screen_fault : Tables → ScreenRow → ℕ → Option ObjectFault
+other_screen_fault tables row room =
+    first ((InvalidCombination when (length row.groups == 0))
+    ∷ (OutOfRange when is_long_screen row)
+    ∷ (TextsFull when nat_lt (room + screen_texts_at tables row.folder) (screen_bytes row)) ∷ [])
+
+-- why an exception can't be added
+abbrev pub except_fault : Tables → ExceptRow → Option ObjectFault
+except_fault tables row =
+    first ((AlreadyExists when has_row except_folder row.folder tables.excepts)
+    ∷ (InvalidCombination when (has_row screen_folder row.folder tables.screens || (length row.groups == 0)))
+    ∷ (OutOfRange when nat_lt most_screen_groups (length row.groups))
+    ∷ (TableFull when nat_le most_excepts (length tables.excepts)) ∷ [])
+
+-- tables with one more screen, with another row for a folder, without a folder's screen, with a run of one of its actions
+abbrev pub with_screen : Tables → ScreenRow → Tables
+with_screen tables row = record tables { screens = with_row screen_folder row tables.screens }
+
+abbrev pub with_other_screen : Tables → ScreenRow → Tables
+with_other_screen tables row = record tables { screens = with_change screen_folder row.folder (λ old. row) tables.screens }
+
+abbrev pub without_screen : Tables → ℕ → Tables
+without_screen tables folder = record tables { screens = without_row screen_folder folder tables.screens }
+
+abbrev pub run_screen_at : ℕ → ℕ → ScreenRow → ScreenRow
+run_screen_at moment place screen = record screen { actions = ran_at moment place screen.actions }
+
+abbrev pub with_screen_run : Tables → ℕ → ℕ → ℕ → Tables
+with_screen_run tables folder place moment =
+    record tables { screens = with_change screen_folder folder (run_screen_at moment place) tables.screens }
+
+-- with one more exception, and without a folder's
+abbrev pub with_except : Tables → ExceptRow → Tables
+with_except tables row = record tables { excepts = with_row except_folder row tables.excepts }
+
+abbrev pub without_except : Tables → ℕ → Tables
+without_except tables folder = record tables { excepts = without_row except_folder folder tables.excepts }
+
+-- a folder has a screen that has an action at a place
+pub record HasScreenAction (tables : Tables) (folder place : ℕ) : Type 0 where
+  pub screen : ScreenRow
+  pub is_there : row_of screen_folder folder tables.screens ≡ Some screen
+  pub within : place < length screen.actions

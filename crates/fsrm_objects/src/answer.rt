@@ -10,7 +10,10 @@ use std::alloc::AllocError;
 pub enum ObjectFault {
     /// The folder has such an object.
     AlreadyExists,
-    /// A list of the row is too long: a quota has at most 16 thresholds, and a threshold at most 8 actions.
+    /// A screen meets an exception on one folder, or has no file group, or an exception has none.
+    InvalidCombination,
+    /// A list of the row is too long: a quota has at most 16 thresholds, a threshold or a screen at most 8 actions, a
+    /// screen or an exception at most 16 file groups.
     OutOfRange,
     /// The table has as many rows as it may.
     TableFull,

@@ -1,12 +1,15 @@
-//! The tables of a store's objects: so far its quotas (MS-FSRM, IFsrmQuota), ascending by their folders.
+//! The tables of a store's objects: its quotas (MS-FSRM, IFsrmQuota), its file screens (IFsrmFileScreen) and their
+//! exceptions (IFsrmFileScreenException), each ascending by their folders.
 //!
 //! Each call leaves exactly the rows that the definitions give. It refuses exactly for the first cause that holds,
 //! in the order of `ObjectFault`, and then the tables are as they were. NoMemory comes only if nothing else refuses.
 #![tactic(auto)]
 
 mod answer;
+mod excepts;
 mod objects;
 mod runs;
+mod screens;
 mod texts;
 
 pub use answer::ObjectFault;

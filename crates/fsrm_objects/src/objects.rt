@@ -13,7 +13,7 @@ use crate::answer::ObjectFault;
 use crate::runs::note_run;
 use crate::texts::{has_long_list, left_of_quota, texts_of};
 use fsrm_model::limits::MOST_QUOTAS;
-use fsrm_model::{QuotaRow, QuotaState};
+use fsrm_model::{ExceptRow, QuotaRow, QuotaState, ScreenRow};
 use place_table::PlaceTable;
 use std::alloc::Global;
 use std::marker::Model;
@@ -26,7 +26,13 @@ pub struct Objects {
     // Where each folder's quota stands.
     places: PlaceTable,
     // The bytes of all texts.
-    texts: u32,
+    pub(crate) texts: u32,
+    pub(crate) screens: Vec<ScreenRow>,
+    // Where each folder's screen stands.
+    pub(crate) screen_places: PlaceTable,
+    pub(crate) excepts: Vec<ExceptRow>,
+    // Where each folder's exception stands.
+    pub(crate) except_places: PlaceTable,
 }
 
 impl Model for Objects {
@@ -35,20 +41,26 @@ impl Model for Objects {
 
     ghost Value = { Tables };
 
-    ghost view = { λ o. record { quotas = o.quotas.items } };
+    ghost view = { λ o. record { quotas = o.quotas.items; screens = o.screens.items; excepts = o.excepts.items } };
 
-    ghost invariant = { λ o. IsKept o.quotas.items o.places.numbers o.texts };
+    ghost invariant = { λ o.
+        IsKept (record { quotas = o.quotas.items; screens = o.screens.items; excepts = o.excepts.items })
+        o.places.numbers o.screen_places.numbers o.except_places.numbers o.texts };
 }
 
 impl Objects {
     /// Tables without rows. It takes no memory.
     pub fn new(alloc: Global) -> Objects
-        ensures { result ≡ record { quotas = [] } }
+        ensures { result ≡ record { quotas = []; screens = []; excepts = [] } }
     {
         Objects {
             quotas: Vec::new(alloc),
             places: PlaceTable::new(alloc),
             texts: 0,
+            screens: Vec::new(alloc),
+            screen_places: PlaceTable::new(alloc),
+            excepts: Vec::new(alloc),
+            except_places: PlaceTable::new(alloc),
         }
     }
 

@@ -1,4 +1,4 @@
-//! The last runs of a quota's actions.
+//! The last runs of actions.
 
 ghost use Rattle.std.specs.Prelude.{◌≡◌, ◌<◌, true, length};
 ghost use Rattle.fsrm_base.specs.Keyed.{has_row, is_ascending, with_change};
@@ -33,7 +33,8 @@ fn place_of(thresholds: &List<Threshold>, percent: u16) -> usize
     search::<ByPercent>(thresholds.as_slice(), u32::from(percent)).unwrap()
 }
 
-fn note_last(actions: &mut List<Action>, place: u16, moment: u64)
+/// Notes that the action at a place ran at a moment.
+pub fn note_last(actions: &mut List<Action>, place: u16, moment: u64)
     requires { place < length actions.old }
     ensures { actions.new ≡ ran_at moment place actions.old }
 {

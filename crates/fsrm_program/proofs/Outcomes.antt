@@ -5,7 +5,7 @@ use Rattle.fsrm_model.specs.declared.command.Command.{Command}
 use Rattle.fsrm_model.specs.declared.command.Outcome.{Outcome}
 use Rattle.fsrm_model.specs.declared.command.Outcome.TheVariants.{Refused}
 use Rattle.fsrm_model.specs.declared.command.Refusal.{Refusal}
-use Rattle.fsrm_model.specs.declared.command.Refusal.TheVariants.{BadLine, LineTooLong, InvalidPath, InvalidName, OutOfRange, InvalidLimit, ClockBack, PathNotFound, NotFound, AlreadyExists, InvalidCombination, NotEmpty, InvalidMove, NothingToScan, VolumeFull, NamesFull, TableFull, TextsFull, QuotaExceeded}
+use Rattle.fsrm_model.specs.declared.command.Refusal.TheVariants.{BadLine, LineTooLong, InvalidPath, InvalidName, OutOfRange, InvalidLimit, ClockBack, PathNotFound, NotFound, AlreadyExists, DuplicateName, InUse, InvalidCombination, NotEmpty, InvalidMove, NothingToScan, VolumeFull, NamesFull, TableFull, TextsFull, ScreenBlocked, QuotaExceeded}
 use Rattle.fsrm_model.specs.declared.row.Capacity.{Capacity}
 use Rattle.fsrm_model.specs.declared.row.Rows.{Rows}
 use Rattle.fsrm_model.specs.Line.{read_line, is_line_refusal}
@@ -83,6 +83,7 @@ text_refused K R n line text refusal cr e =
 
 -- the refusal of a line carries no path
 line_bare : (refusal : Refusal) → is_line_refusal refusal ≡ true → is_bare refusal ≡ true
+line_bare (ScreenBlocked screen) h = absurd cc
 line_bare (QuotaExceeded folder would limit) h = absurd cc
 line_bare (BadLine column) h = refl
 line_bare LineTooLong h = refl
@@ -94,6 +95,8 @@ line_bare ClockBack h = refl
 line_bare PathNotFound h = refl
 line_bare NotFound h = refl
 line_bare AlreadyExists h = refl
+line_bare DuplicateName h = refl
+line_bare InUse h = refl
 line_bare InvalidCombination h = refl
 line_bare NotEmpty h = refl
 line_bare InvalidMove h = refl

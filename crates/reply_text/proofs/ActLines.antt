@@ -1,10 +1,10 @@
 -- The lines of the log of actions, and of acts.
 use Rattle.std.proofs.Common.{◌≡◌, ℕ, zero, suc, ◌≤◌, List, [], ◌∷◌, ◌++◌, length, refl, sym, ap, ◌∙◌, subst, append_assoc}
-use Rattle.std.specs.Prelude.{◌==◌, nat_le, Bool, true, false, decimal, codes, flat_map, Option, Some, None, slice_get}
+use Rattle.std.specs.Prelude.{◌==◌, nat_le, Bool, true, false, decimal, codes, flat_map, Option, Some, None, slice_get, if◌then◌else◌}
 use Rattle.std.specs.List.{list_all}
 use Rattle.std.specs.Option.{option_map_or}
-use Rattle.fsrm_base.specs.Keyed.{row_of, has_row}
-use Rattle.fsrm_base.proofs.Look.{found_has}
+use Rattle.fsrm_base.specs.Keyed.{has_row}
+use Rattle.fsrm_base.proofs.Look.{found_key}
 use Rattle.fsrm_base.proofs.TestLaws.{both, le_is}
 use Rattle.fsrm_model.specs.declared.command.Act.{Act}
 use Rattle.fsrm_model.specs.declared.command.Ask.TheVariants.{Acts}
@@ -22,54 +22,47 @@ use Rattle.fsrm_model.specs.Acts.{IsAct, actions_of, folder_in}
 use Rattle.fsrm_model.specs.Limits.{latest_moment, most_entries}
 use Rattle.fsrm_model.specs.Printed.{body_line, path_text}
 use Rattle.fsrm_model.specs.Quota.{quota_of}
+use Rattle.fsrm_model.specs.Screens.{screen_folder, screen_of}
 use Rattle.fsrm_model.specs.Text.{list_lines}
 use Rattle.fsrm_model.specs.Thresholds.{actions_at}
 use Rattle.fsrm_model.specs.Tree.{number}
 use Rattle.fsrm_model.specs.Valid.{IsValid, are_entries, is_moment}
-use Rattle.fsrm_model.proofs.nodes.Keeps.{folder_found}
-use Rattle.reply_text.specs.Lines.{act_text, entry_text, moment_text}
+use Rattle.fsrm_model.proofs.valid.ScreensKept.{screen_at}
+use Rattle.reply_text.specs.Lines.{act_text, entry_text, moment_text, subject_text}
+use Rattle.reply_text.proofs.Nodes.{is_node}
 
 -- ---- entries of the log
 abbrev dated_line : List ℕ → List (List ℕ) → List ℕ → List ℕ
 dated_line moment words kind = body_line (moment ∷ words ++ kind ∷ [])
 
-dated : (entry : ActRow) (date time tail : List ℕ) → moment_text entry.moment ≡ date ++ 32 ∷ time → 32 ∷ 32 ∷ (date ++ 32 ∷ (time ++ tail)) ≡ 32 ∷ 32 ∷ (moment_text entry.moment ++ tail)
-dated entry date time tail h =
-    ap (λ (xs : List ℕ). 32 ∷ 32 ∷ xs) (sym (append_assoc date (32 ∷ time) tail) ∙ ap (λ (xs : List ℕ). xs ++ tail) (sym h))
+-- its words, as they are sent
+sent_words : (moment folder percent : ℕ) (kind : List ℕ) (b : Bool) → 32 ∷ 32 ∷ (moment_text moment ++ ((if b then codes " screen " ++ decimal folder else codes " quota " ++ (decimal folder ++ 32 ∷ decimal percent)) ++ 32 ∷ (kind ++ 10 ∷ [])))
+    ≡ dated_line (moment_text moment) (if b then codes "screen" ∷ decimal folder ∷ [] else codes "quota" ∷ decimal folder ∷ decimal percent ∷ []) kind
+sent_words moment folder percent kind true =
+    ap (λ (xs : List ℕ). 32 ∷ 32 ∷ (moment_text moment ++ (codes " screen " ++ xs))) (append_assoc [] (decimal folder) (32 ∷ (kind ++ 10 ∷ [])))
+sent_words moment folder percent kind false =
+    ap (λ (xs : List ℕ). 32 ∷ 32 ∷ (moment_text moment ++ (codes " quota " ++ xs))) (append_assoc (decimal folder) (32 ∷ decimal percent) (32 ∷ (kind ++ 10 ∷ [])))
 
 entry_same : (entry : ActRow) → dated_line (moment_text entry.moment) (entry_words entry) (kind_word entry.kind) ≡ entry_text entry
 unfolding moment_text entry_text
 entry_same entry = refl
 
-screen_words : (entry : ActRow) → (entry.percent == 0) ≡ true → codes "screen" ∷ decimal entry.folder ∷ [] ≡ entry_words entry
-screen_words entry h = rw h refl
+-- texts that are joined before another one
+four_texts : (a b c d tail : List ℕ) → a ++ (b ++ (c ++ (d ++ tail))) ≡ (a ++ (b ++ (c ++ d))) ++ tail
+four_texts a b c d tail = simp append_assoc
 
-quota_words : (entry : ActRow) → (entry.percent == 0) ≡ false → codes "quota" ∷ decimal entry.folder ∷ decimal entry.percent ∷ [] ≡ entry_words entry
-quota_words entry h = rw h refl
-
-pub screen_entry : (entry : ActRow) (date time kind : List ℕ) (folder : ℕ) → (entry.percent == 0) ≡ true → moment_text entry.moment ≡ date ++ 32 ∷ time → folder ≡ entry.folder → kind ≡ kind_word entry.kind
-    → 32 ∷ 32 ∷ (date ++ 32 ∷ (time ++ 32 ∷ 115 ∷ 99 ∷ 114 ∷ 101 ∷ 101 ∷ 110 ∷ 32 ∷ (decimal folder ++ 32 ∷ (kind ++ 10 ∷ [])))) ≡ entry_text entry
-screen_entry entry date time kind folder none h folders kinds =
-    let moment = moment_text entry.moment in
-    dated entry date time (32 ∷ 115 ∷ 99 ∷ 114 ∷ 101 ∷ 101 ∷ 110 ∷ 32 ∷ (decimal folder ++ 32 ∷ (kind ++ 10 ∷ []))) h
-    ∙ ap (λ n. dated_line moment (codes "screen" ∷ decimal n ∷ []) kind) folders
-    ∙ ap (λ words. dated_line moment words kind) (screen_words entry none)
-    ∙ ap (dated_line moment (entry_words entry)) kinds
-    ∙ entry_same entry
-
-pub quota_entry : (entry : ActRow) (date time kind : List ℕ) (folder percent : ℕ) → (entry.percent == 0) ≡ false → moment_text entry.moment ≡ date ++ 32 ∷ time → folder ≡ entry.folder → percent ≡ entry.percent → kind ≡ kind_word entry.kind
-    → 32 ∷ 32 ∷ (date ++ 32 ∷ (time ++ 32 ∷ 113 ∷ 117 ∷ 111 ∷ 116 ∷ 97 ∷ 32 ∷ (decimal folder ++ 32 ∷ (decimal percent ++ 32 ∷ (kind ++ 10 ∷ []))))) ≡ entry_text entry
-quota_entry entry date time kind folder percent some h folders percents kinds =
-    let moment = moment_text entry.moment in
-    dated entry date time (32 ∷ 113 ∷ 117 ∷ 111 ∷ 116 ∷ 97 ∷ 32 ∷ (decimal folder ++ 32 ∷ (decimal percent ++ 32 ∷ (kind ++ 10 ∷ [])))) h
-    ∙ ap (λ n. dated_line moment (codes "quota" ∷ decimal n ∷ decimal percent ∷ []) kind) folders
-    ∙ ap (λ n. dated_line moment (codes "quota" ∷ decimal entry.folder ∷ decimal n ∷ []) kind) percents
-    ∙ ap (λ words. dated_line moment words kind) (quota_words entry some)
-    ∙ ap (dated_line moment (entry_words entry)) kinds
+pub entry_shown : (entry : ActRow) (moment subject space percent kind : List ℕ) (folder : ℕ) → moment ≡ moment_text entry.moment → ((folder : ℕ) → subject ++ (decimal folder ++ (space ++ percent)) ≡ subject_text entry.percent folder) → folder ≡ entry.folder → kind ≡ kind_word entry.kind
+    → 32 ∷ 32 ∷ (moment ++ (subject ++ (decimal folder ++ (space ++ (percent ++ 32 ∷ (kind ++ 10 ∷ [])))))) ≡ entry_text entry
+entry_shown entry moment subject space percent kind folder moments subjects folders kinds =
+    let tail : List ℕ = 32 ∷ (kind ++ 10 ∷ []) in
+    ap (λ (xs : List ℕ). 32 ∷ 32 ∷ (xs ++ (subject ++ (decimal folder ++ (space ++ (percent ++ tail)))))) moments
+    ∙ ap (λ (xs : List ℕ). 32 ∷ 32 ∷ (moment_text entry.moment ++ xs)) (four_texts subject (decimal folder) space percent tail ∙ ap (λ (xs : List ℕ). xs ++ tail) (subjects folder ∙ ap (subject_text entry.percent) folders))
+    ∙ sent_words entry.moment entry.folder entry.percent kind (entry.percent == 0)
+    ∙ ap (dated_line (moment_text entry.moment) (entry_words entry)) kinds
     ∙ entry_same entry
 
 -- each has a moment
-all_at : {X : Type 0} (p : X → Bool) (xs : List X) (k : ℕ) (x : X) → list_all p xs ≡ true → slice_get xs k ≡ Some x → p x ≡ true
+pub all_at : {X : Type 0} (p : X → Bool) (xs : List X) (k : ℕ) (x : X) → list_all p xs ≡ true → slice_get xs k ≡ Some x → p x ≡ true
 all_at p [] k x all h = absurd (cc h)
 all_at p (y ∷ ys) zero x all h = let same : y ≡ x = cc h in ap p (sym same) ∙ (both (p y) (list_all p ys) all).0
 all_at p (y ∷ ys) (suc k) x all h = all_at p ys k x (both (p y) (list_all p ys) all).1 h
@@ -119,22 +112,25 @@ act_same R act path text paths texts =
 none_at : {X : Type 0} (k : ℕ) (x : X) → slice_get [] k ≡ Some x → ⊥
 none_at k x h = cc h
 
-quota_node : (K : Capacity) (R : Rows) (folder percent place : ℕ) (action : Action) → IsValid K R → slice_get (actions_of R (Quota folder percent)) place ≡ Some action → has_row number folder R.nodes ≡ true
-quota_node K R folder percent place action store h = at (quota_of R folder) refl h
+quota_is_on : (K : Capacity) (R : Rows) (folder percent place : ℕ) (action : Action) → IsValid K R → slice_get (actions_of R (Quota folder percent)) place ≡ Some action → has_row number folder R.nodes ≡ true
+quota_is_on K R folder percent place action store h = at (quota_of R folder) refl h
   where
     at : (found : Option QuotaRow) → quota_of R folder ≡ found → slice_get (option_map_or (λ quota. actions_at quota.thresholds percent) found []) place ≡ Some action → has_row number folder R.nodes ≡ true
     at None e h = absurd (none_at place action h)
-    at (Some quota) e h =
-        let found = folder_found R.nodes folder (store.quotas.folders folder quota e) in
-        found_has number folder R.nodes found.row found.found
+    at (Some quota) e h = is_node R.nodes folder (store.quotas.folders folder quota e)
 
-no_screen : (K : Capacity) (R : Rows) (folder place : ℕ) (action : Action) → IsValid K R → slice_get (actions_of R (Screen folder)) place ≡ Some action → ⊥
-no_screen K R folder place action store h =
-    none_at place action (subst (λ (screens : List ScreenRow). slice_get (option_map_or (λ screen. screen.actions) (row_of (λ screen. screen.folder) folder screens) []) place ≡ Some action) store.tables.screens h)
+screen_is_on : (K : Capacity) (R : Rows) (folder place : ℕ) (action : Action) → IsValid K R → slice_get (actions_of R (Screen folder)) place ≡ Some action → has_row number folder R.nodes ≡ true
+screen_is_on K R folder place action store h = at (screen_of R folder) refl h
+  where
+    at : (found : Option ScreenRow) → screen_of R folder ≡ found → slice_get (option_map_or (λ screen. screen.actions) found []) place ≡ Some action → has_row number folder R.nodes ≡ true
+    at None e h = absurd (none_at place action h)
+    at (Some screen) e h =
+        subst (λ n. has_row number n R.nodes ≡ true) (found_key screen_folder folder R.screens screen e)
+        (is_node R.nodes screen.folder (screen_at R.nodes R.groups R.excepts R.screens folder screen store.tables.screens e).folder)
 
 pub act_node : (K : Capacity) (R : Rows) (act : Act) → IsValid K R → IsAct R act → has_row number (folder_in act.subject) R.nodes ≡ true
 act_node K R act store is = at act.subject is.there
   where
     at : (subject : Subject) → slice_get (actions_of R subject) act.place ≡ Some is.action → has_row number (folder_in subject) R.nodes ≡ true
-    at (Quota folder percent) h = quota_node K R folder percent act.place is.action store h
-    at (Screen folder) h = absurd (no_screen K R folder act.place is.action store h)
+    at (Quota folder percent) h = quota_is_on K R folder percent act.place is.action store h
+    at (Screen folder) h = screen_is_on K R folder act.place is.action store h

@@ -1,4 +1,4 @@
--- The lines of thresholds and of their actions.
+-- The lines of thresholds, and those of actions.
 use Rattle.std.proofs.Common.{◌≡◌, ℕ, ◌+◌, List, [], ◌∷◌, ◌++◌, length, refl, sym, ap, ◌∙◌, arith, append_assoc, ℤ, pos, negsuc, unsigned_abs, ltb-true, true≢false}
 use Rattle.std.specs.Prelude.{◌==◌, true, false, decimal, codes, flat_map, int_lt}
 use Rattle.fsrm_base.proofs.TestLaws.{eq_is}
@@ -7,7 +7,7 @@ use Rattle.fsrm_model.specs.declared.row.Threshold.{Threshold}
 use Rattle.fsrm_model.specs.ActText.{at_lines}
 use Rattle.fsrm_model.specs.ActionWords.{kind_word, minutes_word}
 use Rattle.fsrm_model.specs.Printed.{deep_line}
-use Rattle.reply_text.specs.Lines.{action_line, threshold_text}
+use Rattle.reply_text.specs.Lines.{action_line, do_text, threshold_text}
 
 -- ---- minutes, by their sign and their digits
 pub negative_word : (minutes : ℤ) (n : ℕ) → int_lt minutes (pos 0) ≡ true → n ≡ unsigned_abs minutes → codes "-" ++ decimal n ≡ minutes_word minutes
@@ -48,3 +48,16 @@ actions_shown threshold actions some same = ap (flat_map (action_line threshold.
     at : (actions : List Action) → (length actions == 0) ≡ false → flat_map (action_line threshold.percent) actions ≡ at_lines (decimal threshold.percent) actions
     at [] some = absurd (true≢false some)
     at (action ∷ actions) some = refl
+
+-- ---- an action of a screen
+abbrev done_line : List ℕ → List ℕ → List ℕ → List ℕ
+done_line kind minutes text = deep_line (codes "do" ∷ kind ∷ minutes ∷ text ∷ [])
+
+pub do_shown : (action : Action) (kind sign digits text : List ℕ) → kind ≡ kind_word action.kind → sign ++ digits ≡ minutes_word action.minutes → text ≡ action.text
+    → 32 ∷ 32 ∷ 32 ∷ 32 ∷ 100 ∷ 111 ∷ 32 ∷ (kind ++ 32 ∷ (sign ++ (digits ++ 32 ∷ (text ++ 10 ∷ [])))) ≡ do_text action
+unfolding do_text
+do_shown action kind sign digits text kinds minutes texts =
+    ap (λ (tail : List ℕ). 32 ∷ 32 ∷ 32 ∷ 32 ∷ 100 ∷ 111 ∷ 32 ∷ (kind ++ 32 ∷ tail)) (sym (append_assoc sign digits (32 ∷ (text ++ 10 ∷ []))))
+    ∙ ap (λ k. done_line k (sign ++ digits) text) kinds
+    ∙ ap (λ m. done_line (kind_word action.kind) m text) minutes
+    ∙ ap (done_line (kind_word action.kind) (minutes_word action.minutes)) texts

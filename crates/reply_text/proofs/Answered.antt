@@ -7,7 +7,7 @@ use Rattle.fsrm_model.specs.declared.command.Ask.{Ask}
 use Rattle.fsrm_model.specs.declared.command.Outcome.{Outcome}
 use Rattle.fsrm_model.specs.declared.command.Outcome.TheVariants.{Done, Sum, Listing, Scanned, Refused}
 use Rattle.fsrm_model.specs.declared.command.Refusal.{Refusal}
-use Rattle.fsrm_model.specs.declared.command.Refusal.TheVariants.{QuotaExceeded}
+use Rattle.fsrm_model.specs.declared.command.Refusal.TheVariants.{ScreenBlocked, QuotaExceeded}
 use Rattle.fsrm_model.specs.declared.row.Capacity.{Capacity}
 use Rattle.fsrm_model.specs.declared.row.NodeRow.{NodeRow}
 use Rattle.fsrm_model.specs.declared.row.Rows.{Rows}
@@ -42,6 +42,11 @@ refused_text K R moment line refusal outcome is = sym (append-nil (head_line R.n
 pub exceeded_text : (nodes : List NodeRow) (line folder would limit : ℕ) (refusal : Refusal) (path : List ℕ) → refusal ≡ QuotaExceeded folder would limit → path ≡ path_text nodes folder → line_of (decimal line ∷ codes "refused" ∷ codes "QuotaExceeded" ∷ decimal would ∷ decimal limit ∷ path ∷ []) ≡ head_line nodes line (Refused refusal)
 exceeded_text nodes line folder would limit refusal path is same =
     ap (λ (xs : List ℕ). line_of (decimal line ∷ codes "refused" ∷ codes "QuotaExceeded" ∷ decimal would ∷ decimal limit ∷ xs ∷ [])) same
+    ∙ ap (λ r. head_line nodes line (Refused r)) (sym is)
+
+pub blocked_text : (nodes : List NodeRow) (line screen : ℕ) (refusal : Refusal) (path : List ℕ) → refusal ≡ ScreenBlocked screen → path ≡ path_text nodes screen → line_of (decimal line ∷ codes "refused" ∷ codes "ScreenBlocked" ∷ path ∷ []) ≡ head_line nodes line (Refused refusal)
+blocked_text nodes line screen refusal path is same =
+    ap (λ (xs : List ℕ). line_of (decimal line ∷ codes "refused" ∷ codes "ScreenBlocked" ∷ xs ∷ [])) same
     ∙ ap (λ r. head_line nodes line (Refused r)) (sym is)
 
 -- nothing was shown

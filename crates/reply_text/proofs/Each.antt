@@ -1,10 +1,10 @@
 -- Texts of a list, one item after another.
-use Rattle.std.proofs.Common.{◌≡◌, ℕ, ◌+◌, List, [], ◌∷◌, ◌++◌, get_or, take, drop, sym, ap, ◌∙◌}
+use Rattle.std.proofs.Common.{◌≡◌, ℕ, ◌+◌, ◌≤◌, List, [], ◌∷◌, ◌++◌, length, get_or, take, drop, sym, ap, ◌∙◌}
 use Rattle.std.specs.Prelude.{Option, Some, flat_map}
 use Rattle.std.specs.List.{slice_get}
 use Rattle.std.specs.Io.KnownBytes.{append_known}
 use Rattle.std.proofs.lemmas.Grind.{flat_map-append}
-use Rattle.std.proofs.lemmas.List.{take_more, take-append-drop, append-nil}
+use Rattle.std.proofs.lemmas.List.{take_all, take_more, take-append-drop, append-nil}
 use Rattle.std.proofs.lemmas.Option.{get_or_from_slice_get, slice_get_within}
 use Rattle.fsrm_outside.specs.Shown.{ShowsFront}
 use Rattle.fsrm_outside.proofs.Shown.{shows_then, shows_then_front}
@@ -29,3 +29,7 @@ shows_one_front f items k x a b c h p r =
     let these = shows_then_front a b c (flat_map f (take k items)) (f x) p r in
     let those : ShowsFront a c (flat_map f (take (k + 1) items)) = rw (flat_more f items k x h) these in
     rw (whole_is f items (k + 1)) at (front_more a c (flat_map f (take (k + 1) items)) (flat_map f (drop (k + 1) items)) those)
+
+-- all texts, once no place is left
+pub shows_all : {X : Type 0} (f : X → List ℕ) (items : List X) (k : ℕ) (whole : List ℕ) (a b : Option (List ℕ)) → flat_map f items ≡ whole → length items ≤ k → b ≡ append_known a (flat_map f (take k items)) → b ≡ append_known a whole
+shows_all f items k whole a b e within p = p ∙ ap (append_known a) (ap (flat_map f) (take_all k items within) ∙ e)

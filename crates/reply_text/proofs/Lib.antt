@@ -1,8 +1,10 @@
 pub mod Each
 pub mod Moments
 pub mod Sent
+pub mod Nodes
 pub mod Quotas
 pub mod Answered
 pub mod ActionLines
 pub mod ActLines
 pub mod Settings
+pub mod ScreenLines

@@ -1,5 +1,5 @@
 -- The lines of quotas.
-use Rattle.std.proofs.Common.{◌≡◌, ℕ, zero, suc, ◌+◌, ◌<◌, ◌≤◌, ◌==◌, Bool, true, false, cond, List, [], ◌∷◌, ◌++◌, take, refl, sym, ap, subst, append_assoc, rules, Bor, ◌∙◌, arith}
+use Rattle.std.proofs.Common.{◌≡◌, ℕ, zero, suc, ◌+◌, ◌<◌, ◌≤◌, ◌==◌, Bool, true, false, cond, List, [], ◌∷◌, ◌++◌, take, refl, sym, ap, subst, rules, Bor, ◌∙◌, arith}
 use Rattle.std.specs.Prelude.{Option, Some, None, Result, is_some, decimal, codes, filter, find, flat_map, sum_by}
 use Rattle.std.specs.List.{slice_get}
 use Rattle.std.specs.Option.{option_copied, IsSome}
@@ -19,10 +19,9 @@ use Rattle.fsrm_model.specs.Quota.{folder_of, counts, used_of}
 use Rattle.fsrm_model.specs.Cost.{path_cost, list_cost}
 use Rattle.fsrm_model.specs.declared.command.Ask.TheVariants.{Quotas}
 use Rattle.fsrm_model.specs.Text.{body_line, list_lines, path_text, quota_lines, state_word}
-use Rattle.fsrm_model.specs.Tree.{number, usage}
+use Rattle.fsrm_model.specs.Tree.{usage}
 use Rattle.fsrm_model.specs.Valid.{IsValid}
-use Rattle.fsrm_model.proofs.nodes.Keeps.{folder_found}
-use Rattle.fsrm_base.proofs.Look.{found_has, found_key, is_some-find}
+use Rattle.fsrm_base.proofs.Look.{found_key, is_some-find}
 use Rattle.fsrm_base.proofs.Members.{filter_none}
 use Rattle.fsrm_base.proofs.Order.{parts}
 use Rattle.fsrm_base.proofs.TestLaws.{lt_is, eq_is, eq_same, eq_below, le_is}
@@ -32,12 +31,7 @@ use Rattle.reply_text.proofs.Sent.{front_more, sends_then}
 use Rattle.reply_text.specs.Lines.{moment_text, line_text, lines_text, threshold_text, used_word, mode_word, quota_text}
 use Rattle.reply_text.specs.Writes.{Sends}
 
--- a quota of a store: its folder is there, and its peak's moment is one
-pub is_node : (K : Capacity) (R : Rows) (quota : QuotaRow) → IsValid K R → row_of folder_of quota.folder R.quotas ≡ Some quota → has_row number quota.folder R.nodes ≡ true
-is_node K R quota store h =
-    let found = folder_found R.nodes quota.folder (store.quotas.folders quota.folder quota h) in
-    found_has number quota.folder R.nodes found.row found.found
-
+-- the moment of a peak is one
 pub in_time : (K : Capacity) (R : Rows) (quota : QuotaRow) → IsValid K R → row_of folder_of quota.folder R.quotas ≡ Some quota → quota.peak_at ≤ latest_moment
 in_time K R quota store h = le_is quota.peak_at latest_moment (store.quotas.moments quota.folder quota h)
 
@@ -75,7 +69,7 @@ at_place key (x ∷ xs) zero q a h =
 at_place key (x ∷ xs) (suc k) q a h =
     rw (eq_below (key x) (key q) (later_key key x q xs k a h)) (at_place key xs k q (parts key x xs a).rest h)
 
-pub sum_more : (f : QuotaRow → ℕ) (rows : List QuotaRow) (k : ℕ) (q : QuotaRow) → slice_get rows k ≡ Some q → sum_by f (take (k + 1) rows) ≡ sum_by f (take k rows) + f q
+pub sum_more : {X : Type 0} (f : X → ℕ) (rows : List X) (k : ℕ) (q : X) → slice_get rows k ≡ Some q → sum_by f (take (k + 1) rows) ≡ sum_by f (take k rows) + f q
 sum_more f rows k q h =
     sum_by_more f rows k q (slice_get_within rows k q h) ∙ ap (λ r. sum_by f (take k rows) + f r) (get_or_from_slice_get rows k q q h)
 
@@ -149,8 +143,6 @@ one_cost K R folder quota store h =
     omega (arith, e)
 
 -- the line of a quota, from its parts
-pub row_shown : (quota : QuotaRow) (used : Option ℕ) (path bytes state mode shown day time : List ℕ) → mode ≡ mode_word quota.enforce → state ≡ state_word quota.state → shown ≡ used_word used → moment_text quota.peak_at ≡ day ++ 32 ∷ time → bytes ≡ path
-    → 32 ∷ 32 ∷ (decimal quota.limit ++ 32 ∷ (mode ++ 32 ∷ (state ++ 32 ∷ (shown ++ 32 ∷ (decimal quota.peak ++ 32 ∷ (day ++ 32 ∷ (time ++ 32 ∷ (bytes ++ 10 ∷ [])))))))) ≡ quota_text quota used path
-row_shown quota used path bytes state mode shown day time modes states shows moment same =
-    let tail : (day ++ 32 ∷ time) ++ 32 ∷ (path ++ 10 ∷ []) ≡ day ++ 32 ∷ (time ++ 32 ∷ (path ++ 10 ∷ [])) = append_assoc day (32 ∷ time) (32 ∷ (path ++ 10 ∷ [])) in
-    rw (same, modes, states, shows) (rw (moment, tail) refl)
+pub row_shown : (quota : QuotaRow) (used : Option ℕ) (path bytes state mode shown moment : List ℕ) → mode ≡ mode_word quota.enforce → state ≡ state_word quota.state → shown ≡ used_word used → moment ≡ moment_text quota.peak_at → bytes ≡ path
+    → 32 ∷ 32 ∷ (decimal quota.limit ++ 32 ∷ (mode ++ 32 ∷ (state ++ 32 ∷ (shown ++ 32 ∷ (decimal quota.peak ++ 32 ∷ (moment ++ 32 ∷ (bytes ++ 10 ∷ []))))))) ≡ quota_text quota used path
+row_shown quota used path bytes state mode shown moment modes states shows moments same = rw (same, modes, states, shows, moments) refl

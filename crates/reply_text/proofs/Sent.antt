@@ -25,3 +25,17 @@ front_more a b xs ys h = record {
 pub sends_front : {T E : Type 0} (r : Result T E) (a b : Option (List ℕ)) (t : List ℕ) → IsErr r → ShowsFront a b t → Sends r a b t
 sends_front (Ok x) a b t e h = absurd (cc)
 sends_front (Err x) a b t e h = h
+
+-- ---- a text in two or three parts
+pub front_first : (a b : Option (List ℕ)) (t rest whole : List ℕ) → t ++ rest ≡ whole → ShowsFront a b t → ShowsFront a b whole
+front_first a b t rest whole e h = subst (ShowsFront a b) e (front_more a b t rest h)
+
+pub front_second : (a b c : Option (List ℕ)) (t u rest whole : List ℕ) → t ++ (u ++ rest) ≡ whole → b ≡ append_known a t → ShowsFront b c u → ShowsFront a c whole
+front_second a b c t u rest whole e p h =
+    subst (ShowsFront a c) (append_assoc t u rest ∙ e) (front_more a c (t ++ u) rest (shows_then_front a b c t u p h))
+
+pub sends_second : {T E : Type 0} (r : Result T E) (a b c : Option (List ℕ)) (t u whole : List ℕ) → t ++ u ≡ whole → b ≡ append_known a t → Sends r b c u → Sends r a c whole
+sends_second r a b c t u whole e p h = sent r a c (t ++ u) whole e (sends_then r a b c t u p h)
+
+pub sends_third : {T E : Type 0} (r : Result T E) (a b c d : Option (List ℕ)) (t u v whole : List ℕ) → t ++ (u ++ v) ≡ whole → b ≡ append_known a t → c ≡ append_known b u → Sends r c d v → Sends r a d whole
+sends_third r a b c d t u v whole e p q h = sends_second r a b d t (u ++ v) whole e p (sends_then r b c d u v q h)

@@ -1,10 +1,13 @@
 -- Parts of lines. Those that are marked unfoldable are opaque, so that goals that carry them stay small.
-use Rattle.std.specs.Prelude.{ℕ, Bool, true, false, List, [], ◌∷◌, ◌++◌, codes, decimal, Option, Some, None, if◌then◌else◌}
+use Rattle.std.specs.Prelude.{ℕ, ◌==◌, Bool, true, false, List, [], ◌∷◌, ◌++◌, codes, decimal, Option, Some, None, if◌then◌else◌}
 use Rattle.fsrm_model.specs.declared.row.ActRow.{ActRow}
 use Rattle.fsrm_model.specs.declared.row.Action.{Action}
 use Rattle.fsrm_model.specs.declared.row.Capacity.{Capacity}
+use Rattle.fsrm_model.specs.declared.row.ExceptRow.{ExceptRow}
+use Rattle.fsrm_model.specs.declared.row.GroupRow.{GroupRow}
 use Rattle.fsrm_model.specs.declared.row.NodeRow.{NodeRow}
 use Rattle.fsrm_model.specs.declared.row.QuotaRow.{QuotaRow}
+use Rattle.fsrm_model.specs.declared.row.ScreenRow.{ScreenRow}
 use Rattle.fsrm_model.specs.declared.row.Threshold.{Threshold}
 use Rattle.fsrm_model.specs.declared.command.Act.{Act}
 use Rattle.fsrm_model.specs.declared.command.Outcome.{Outcome}
@@ -14,6 +17,7 @@ use Rattle.fsrm_model.specs.declared.command.Outcome.TheVariants.{Listing}
 use Rattle.fsrm_model.specs.ActText.{at_lines, entry_line, subject_words}
 use Rattle.fsrm_model.specs.ActionWords.{action_words, kind_word}
 use Rattle.fsrm_model.specs.Printed.{deep_line}
+use Rattle.fsrm_model.specs.ScreenText.{do_line, except_lines, group_lines, named_line, pattern_line, screen_lines}
 use Rattle.fsrm_model.specs.Text.{body_line, quota_line, quota_lines, state_word}
 use Rattle.fsrm_model.specs.Date.{date_text}
 
@@ -35,6 +39,32 @@ threshold_text threshold = at_lines (decimal threshold.percent) threshold.action
 
 unfoldable pub entry_text : ActRow → List ℕ
 entry_text entry = entry_line entry
+
+-- what an entry of this percentage and this folder belongs to, after its moment
+abbrev pub subject_text : ℕ → ℕ → List ℕ
+subject_text percent folder =
+    if percent == 0 then codes " screen " ++ decimal folder else codes " quota " ++ (decimal folder ++ 32 ∷ decimal percent)
+
+-- the lines of a group, and that of one of its patterns
+unfoldable pub pattern_text : List ℕ → List ℕ → List ℕ
+pattern_text word pattern = pattern_line word pattern
+
+unfoldable pub group_text : GroupRow → List ℕ
+group_text group = group_lines group
+
+-- the line of a group that is named by its number
+unfoldable pub named_text : List GroupRow → ℕ → List ℕ
+named_text groups number = named_line groups number
+
+-- the lines of a screen, and that of one of its actions
+unfoldable pub do_text : Action → List ℕ
+do_text action = do_line action
+
+unfoldable pub screen_text : List NodeRow → List GroupRow → ScreenRow → List ℕ
+screen_text nodes groups screen = screen_lines nodes groups screen
+
+unfoldable pub except_text : List NodeRow → List GroupRow → ExceptRow → List ℕ
+except_text nodes groups except = except_lines nodes groups except
 
 -- the line of an act, whose folder has this path, and whose action this text
 abbrev pub act_text : Act → List ℕ → List ℕ → List ℕ

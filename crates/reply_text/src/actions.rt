@@ -1,10 +1,10 @@
-//! Writes the lines of a quota's thresholds.
+//! Writes the lines of a quota's thresholds, and those of a screen's actions.
 
 ghost use Rattle.std.specs.Prelude.{◌≡◌, ◌≤◌, ◌++◌, ◌∷◌, [], IsErrOf, decimal, flat_map, codes};
 ghost use Rattle.fsrm_model.specs.ActionWords.{kind_word, minutes_word};
 ghost use Rattle.fsrm_model.specs.Printed.{deep_line};
 ghost use Rattle.fsrm_outside.specs.Causes.{Rose};
-ghost use Rattle.reply_text.specs.Lines.{action_line, threshold_text};
+ghost use Rattle.reply_text.specs.Lines.{action_line, do_text, threshold_text};
 ghost use Rattle.reply_text.specs.Parts.{part_text};
 ghost use Rattle.reply_text.specs.Writes.{KeepsCount, Sends};
 
@@ -119,6 +119,44 @@ pub fn write_thresholds<S: Sink>(sink: &mut S, thresholds: &[Threshold]) -> Resu
 {
     for threshold in thresholds {
         write_threshold(sink, threshold)?;
+    }
+    Ok(())
+}
+
+// Writes the line of an action of a screen.
+fn write_do<S: Sink>(sink: &mut S, action: &Action) -> Result<(), TextFault>
+    ensures text { Sends result (S.shown sink.old) (S.shown sink.new) (do_text action.now) }
+    ensures fault { IsErrOf result TextFault.WriteFault → Rose (S.write_faults sink.old) (S.write_faults sink.new) }
+    ensures later { S.write_faults sink.old ≤ S.write_faults sink.new }
+    ensures same { KeepsCount result (S.write_faults sink.old) (S.write_faults sink.new) }
+    ensures by { S.by_write sink.old sink.new }
+{
+    let (sign, digits) = minutes_parts(action.minutes);
+    send(
+        sink,
+        &[
+            Part::Text(b"    do "),
+            Part::Text(kind_word(action.kind)),
+            Part::Text(b" "),
+            sign,
+            digits,
+            Part::Text(b" "),
+            Part::Text(action.text.as_str().as_bytes()),
+            Part::Text(b"\n"),
+        ],
+    )
+}
+
+/// Writes the lines of a screen's actions.
+pub fn write_dos<S: Sink>(sink: &mut S, actions: &[Action]) -> Result<(), TextFault>
+    ensures text { Sends result (S.shown sink.old) (S.shown sink.new) (flat_map do_text actions.now) }
+    ensures fault { IsErrOf result TextFault.WriteFault → Rose (S.write_faults sink.old) (S.write_faults sink.new) }
+    ensures later { S.write_faults sink.old ≤ S.write_faults sink.new }
+    ensures same { KeepsCount result (S.write_faults sink.old) (S.write_faults sink.new) }
+    ensures by { S.by_write sink.old sink.new }
+{
+    for action in actions {
+        write_do(sink, action)?;
     }
     Ok(())
 }

@@ -1,18 +1,18 @@
 //! Writes the lines of the log of actions, and those of actions that run.
 
-ghost use Rattle.std.specs.Prelude.{◌≡◌, ◌+◌, ◌≤◌, ◌++◌, ◌∷◌, IsErrOf, flat_map, true};
+ghost use Rattle.std.specs.Prelude.{◌≡◌, ℕ, ◌+◌, ◌≤◌, ◌++◌, IsErrOf, decimal, flat_map, true};
 ghost use Rattle.fsrm_model.specs.ActText.{act_line};
 ghost use Rattle.fsrm_model.specs.Acts.{IsAct, folder_in};
 ghost use Rattle.fsrm_model.specs.Cost.{path_cost};
 ghost use Rattle.fsrm_model.specs.Limits.{latest_moment};
 ghost use Rattle.fsrm_model.specs.Valid.{IsValid, are_entries};
 ghost use Rattle.fsrm_outside.specs.Causes.{Rose};
-ghost use Rattle.reply_text.specs.Lines.{act_text, entry_text, moment_text};
+ghost use Rattle.reply_text.specs.Lines.{act_text, entry_text, moment_text, subject_text};
 ghost use Rattle.reply_text.specs.Parts.{part_text};
 ghost use Rattle.reply_text.specs.Writes.{KeepsCount, Sends};
 
 use crate::actions::kind_word;
-use crate::dates::{SECONDS_OF_A_DAY, date_text, time_text};
+use crate::dates::moment_text;
 use crate::fault::TextFault;
 use crate::sending::{Part, send};
 use fsrm_engine::Engine;
@@ -21,50 +21,39 @@ use fsrm_outside::Sink;
 use std::alloc::Global;
 use thresholds::Marks;
 
-// Writes the line of an entry, of which these are the date and the time.
-fn write_dated<'a, S: Sink>(
-    sink: &mut S,
-    entry: &ActRow,
-    date: &'a [u8],
-    time: &'a [u8],
-) -> Result<(), TextFault>
-    requires { moment_text entry.now.moment ≡ date.now ++ 32 ∷ time.now }
+// What an entry of this percentage belongs to, and, of a quota, what stands after its folder: a space and the percentage.
+fn subject_parts<'a>(percent: u16) -> (Part<'a>, Part<'a>, Part<'a>)
+    ensures { (folder : ℕ) → part_text result.0 ++ (decimal folder ++ (part_text result.1 ++ part_text result.2)) ≡ subject_text percent folder }
+{
+    if percent == 0 {
+        (Part::Text(b" screen "), Part::Text(b""), Part::Text(b""))
+    } else {
+        let percent = Part::Number(u64::from(percent));
+        (Part::Text(b" quota "), Part::Text(b" "), percent)
+    }
+}
+
+// Writes the line of an entry, whose moment has this text.
+fn write_dated<S: Sink>(sink: &mut S, entry: &ActRow, moment: &[u8]) -> Result<(), TextFault>
+    requires { moment.now ≡ moment_text entry.now.moment }
     ensures text { Sends result (S.shown sink.old) (S.shown sink.new) (entry_text entry.now) }
     ensures fault { IsErrOf result TextFault.WriteFault → Rose (S.write_faults sink.old) (S.write_faults sink.new) }
     ensures later { S.write_faults sink.old ≤ S.write_faults sink.new }
     ensures same { KeepsCount result (S.write_faults sink.old) (S.write_faults sink.new) }
     ensures by { S.by_write sink.old sink.new }
 {
-    let kind = kind_word(entry.kind);
-    if entry.percent == 0 {
-        return send(
-            sink,
-            &[
-                Part::Text(b"  "),
-                Part::Text(date),
-                Part::Text(b" "),
-                Part::Text(time),
-                Part::Text(b" screen "),
-                Part::Number(u64::from(entry.folder)),
-                Part::Text(b" "),
-                Part::Text(kind),
-                Part::Text(b"\n"),
-            ],
-        );
-    }
+    let (subject, space, percent) = subject_parts(entry.percent);
     send(
         sink,
         &[
             Part::Text(b"  "),
-            Part::Text(date),
-            Part::Text(b" "),
-            Part::Text(time),
-            Part::Text(b" quota "),
+            Part::Text(moment),
+            subject,
             Part::Number(u64::from(entry.folder)),
+            space,
+            percent,
             Part::Text(b" "),
-            Part::Number(u64::from(entry.percent)),
-            Part::Text(b" "),
-            Part::Text(kind),
+            Part::Text(kind_word(entry.kind)),
             Part::Text(b"\n"),
         ],
     )
@@ -79,9 +68,7 @@ fn write_entry<S: Sink>(sink: &mut S, entry: &ActRow) -> Result<(), TextFault>
     ensures same { KeepsCount result (S.write_faults sink.old) (S.write_faults sink.new) }
     ensures by { S.by_write sink.old sink.new }
 {
-    let date = date_text((entry.moment / SECONDS_OF_A_DAY) as u32);
-    let time = time_text((entry.moment % SECONDS_OF_A_DAY) as u32);
-    write_dated(sink, entry, &date, &time)
+    write_dated(sink, entry, &moment_text(entry.moment))
 }
 
 /// Writes the lines of the log of actions, the oldest entry first. The moments of its entries are at most

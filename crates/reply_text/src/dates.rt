@@ -4,11 +4,18 @@ ghost use Rattle.std.specs.Prelude.{◌≡◌, ◌+◌, ◌<◌, ◌≤◌, pos}
 ghost use Rattle.jiff_core.specs.Date.{epoch_day};
 ghost use Rattle.fsrm_model.specs.Date as Dates;
 ghost use Rattle.fsrm_model.specs.Date.{day_text};
+ghost use Rattle.fsrm_model.specs.Limits.{latest_moment};
+ghost use Rattle.reply_text.specs.Lines.{moment_text};
 
 use jiff_core::civil::Date;
 
-/// The seconds of a day.
-pub const SECONDS_OF_A_DAY: u64 = 86_400;
+const SECONDS_OF_A_DAY: u64 = 86_400;
+
+// The bytes of a date.
+const DATE_BYTES: usize = 10;
+
+// The bytes of a date, a space and a time.
+const MOMENT_BYTES: usize = 19;
 
 // The days from -9999-01-01 to 1970-01-01.
 const DAYS_TO_1970: u32 = 4_371_587;
@@ -28,8 +35,8 @@ fn digit(value: u32) -> u8
     b'0' + value as u8
 }
 
-/// The date of a day since 1970-01-01 as YYYY-MM-DD, in ASCII. The day is at most 47,481, that is, 2099-12-31.
-pub fn date_text(day: u32) -> [u8; 10]
+// The date of a day since 1970-01-01 as YYYY-MM-DD, in ASCII. The day is at most 47,481, that is, 2099-12-31.
+fn date_text(day: u32) -> [u8; DATE_BYTES]
     requires { day ≤ 47481 }
     ensures { result ≡ day_text (Dates.date_of day) }
 {
@@ -53,8 +60,8 @@ pub fn date_text(day: u32) -> [u8; 10]
     ]
 }
 
-/// A second of a day as hh:mm:ss, in ASCII. It is below 86,400.
-pub fn time_text(second: u32) -> [u8; 8]
+// A second of a day as hh:mm:ss, in ASCII. It is below 86,400.
+fn time_text(second: u32) -> [u8; 8]
     requires { second < 86400 }
     ensures { result ≡ Dates.time_text second }
 {
@@ -69,4 +76,18 @@ pub fn time_text(second: u32) -> [u8; 8]
         digit(seconds / 10),
         digit(seconds % 10),
     ]
+}
+
+/// The date and the time of a moment as YYYY-MM-DD hh:mm:ss, in ASCII. The moment is in seconds since 1970-01-01
+/// 00:00:00 UTC, at most 4,102,444,799.
+pub fn moment_text(moment: u64) -> [u8; MOMENT_BYTES]
+    requires { moment ≤ latest_moment }
+    ensures { result ≡ moment_text moment }
+{
+    let date = date_text((moment / SECONDS_OF_A_DAY) as u32);
+    let time = time_text((moment % SECONDS_OF_A_DAY) as u32);
+    let mut text = [b' '; MOMENT_BYTES];
+    text[..DATE_BYTES].copy_from_slice(&date);
+    text[DATE_BYTES + 1..].copy_from_slice(&time);
+    text
 }

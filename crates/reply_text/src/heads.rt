@@ -96,6 +96,25 @@ pub fn write_visited<S: Sink>(
     }
 }
 
+/// Writes the reply to a line whose name a screen blocks, by the path of the screen's folder.
+pub fn write_blocked<S: Sink>(sink: &mut S, line: u64, path: &str) -> Result<(), TextFault>
+    ensures text { Sends result (S.shown sink.old) (S.shown sink.new) (line_of (decimal line ∷ codes "refused" ∷ codes "ScreenBlocked" ∷ path.now ∷ [])) }
+    ensures fault { IsErrOf result TextFault.WriteFault → Rose (S.write_faults sink.old) (S.write_faults sink.new) }
+    ensures later { S.write_faults sink.old ≤ S.write_faults sink.new }
+    ensures same { KeepsCount result (S.write_faults sink.old) (S.write_faults sink.new) }
+    ensures by { S.by_write sink.old sink.new }
+{
+    send(
+        sink,
+        &[
+            Part::Number(line),
+            Part::Text(b" refused ScreenBlocked "),
+            Part::Text(path.as_bytes()),
+            Part::Text(b"\n"),
+        ],
+    )
+}
+
 /// Writes the reply to a line that would take a folder, by its path, above its limit, in bytes.
 pub fn write_exceeded<S: Sink>(
     sink: &mut S,
@@ -153,6 +172,8 @@ fn text_of(refusal: Refusal) -> &'static [u8]
         Refusal::PathNotFound => b" refused PathNotFound\n",
         Refusal::NotFound => b" refused NotFound\n",
         Refusal::AlreadyExists => b" refused AlreadyExists\n",
+        Refusal::DuplicateName => b" refused DuplicateName\n",
+        Refusal::InUse => b" refused InUse\n",
         Refusal::InvalidCombination => b" refused InvalidCombination\n",
         Refusal::NotEmpty => b" refused NotEmpty\n",
         Refusal::InvalidMove => b" refused InvalidMove\n",
@@ -162,6 +183,7 @@ fn text_of(refusal: Refusal) -> &'static [u8]
         Refusal::TableFull => b" refused TableFull\n",
         Refusal::TextsFull => b" refused TextsFull\n",
         Refusal::BadLine { .. } => unreachable!(),
+        Refusal::ScreenBlocked { .. } => unreachable!(),
         Refusal::QuotaExceeded { .. } => unreachable!(),
     }
 }

@@ -9,9 +9,11 @@ mod actions;
 mod acts;
 mod dates;
 mod fault;
+mod groups;
 mod heads;
 mod lists;
 mod replies;
+mod screens;
 mod sending;
 
 pub use acts::write_act;

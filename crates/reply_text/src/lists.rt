@@ -1,6 +1,6 @@
 //! Writes the lines of a list.
 
-ghost use Rattle.std.specs.Prelude.{◌≡◌, ◌++◌, ◌∷◌, ◌+◌, ◌≤◌, IsErrOf, Some, flat_map, sum_by};
+ghost use Rattle.std.specs.Prelude.{◌≡◌, ◌+◌, ◌≤◌, IsErrOf, Some, flat_map, sum_by};
 ghost use Rattle.fsrm_model.specs.declared.command.Ask.TheVariants.{Acts, Quotas, Settings};
 ghost use Rattle.fsrm_model.specs.declared.command.Outcome.TheVariants.{Listing};
 ghost use Rattle.fsrm_model.specs.Cost.{list_cost, path_cost};
@@ -18,8 +18,10 @@ ghost use Rattle.reply_text.specs.Writes.{KeepsCount, Sends};
 
 use crate::actions::write_thresholds;
 use crate::acts::write_log;
-use crate::dates::{SECONDS_OF_A_DAY, date_text, time_text};
+use crate::dates::moment_text;
 use crate::fault::TextFault;
+use crate::groups::write_groups;
+use crate::screens::{write_excepts, write_screens};
 use crate::sending::{Part, send};
 use fsrm_engine::Engine;
 use fsrm_model::{Ask, Ledger, QuotaRow, QuotaState, Steps};
@@ -53,16 +55,15 @@ fn used_part<'a>(used: Option<u64>) -> Part<'a>
     }
 }
 
-// Writes the line of a quota whose folder has this usage and this path. These are the date and the time of its peak.
+// Writes the line of a quota. Its folder has this usage and this path, and the moment of its peak has this text.
 fn write_line<'a, S: Sink>(
     sink: &mut S,
     quota: &QuotaRow,
     used: Option<u64>,
-    date: &'a [u8],
-    time: &'a [u8],
+    peak_at: &'a [u8],
     path: &'a str,
 ) -> Result<(), TextFault>
-    requires { moment_text quota.now.peak_at ≡ date.now ++ 32 ∷ time.now }
+    requires { peak_at.now ≡ moment_text quota.now.peak_at }
     ensures text { Sends result (S.shown sink.old) (S.shown sink.new) (quota_text quota.now used path.now) }
     ensures fault { IsErrOf result TextFault.WriteFault → Rose (S.write_faults sink.old) (S.write_faults sink.new) }
     ensures later { S.write_faults sink.old ≤ S.write_faults sink.new }
@@ -83,9 +84,7 @@ fn write_line<'a, S: Sink>(
             Part::Text(b" "),
             Part::Number(quota.peak),
             Part::Text(b" "),
-            Part::Text(date),
-            Part::Text(b" "),
-            Part::Text(time),
+            Part::Text(peak_at),
             Part::Text(b" "),
             Part::Text(path.as_bytes()),
             Part::Text(b"\n"),
@@ -107,9 +106,7 @@ fn write_row<S: Sink>(
     ensures same { KeepsCount result (S.write_faults sink.old) (S.write_faults sink.new) }
     ensures by { S.by_write sink.old sink.new }
 {
-    let date = date_text((quota.peak_at / SECONDS_OF_A_DAY) as u32);
-    let time = time_text((quota.peak_at % SECONDS_OF_A_DAY) as u32);
-    write_line(sink, quota, used, &date, &time, path)
+    write_line(sink, quota, used, &moment_text(quota.peak_at), path)
 }
 
 // Writes the lines of a quota.
@@ -230,6 +227,9 @@ pub fn write_list<S: Sink, L: Ledger>(
 {
     match *ask {
         Ask::Quotas(folder) => write_asked(alloc, sink, folder, engine, steps),
+        Ask::Groups => write_groups(sink, engine),
+        Ask::Screens => write_screens(alloc, sink, engine, steps),
+        Ask::Excepts => write_excepts(alloc, sink, engine, steps),
         Ask::Settings => write_settings(sink, engine),
         Ask::Acts => write_log(sink, engine.marks()),
     }

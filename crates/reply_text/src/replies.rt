@@ -10,7 +10,9 @@ ghost use Rattle.reply_text.specs.Lines.{is_listing};
 ghost use Rattle.reply_text.specs.Writes.{KeepsCount, Sends};
 
 use crate::fault::TextFault;
-use crate::heads::{write_exceeded, write_head, write_ok, write_passive, write_sum, write_visited};
+use crate::heads::{
+    write_blocked, write_exceeded, write_head, write_ok, write_passive, write_sum, write_visited,
+};
 use crate::lists::write_list;
 use fsrm_engine::Engine;
 use fsrm_model::{Answer, Ledger, Outcome, Refusal, Steps, Table};
@@ -35,6 +37,10 @@ fn write_refusal<S: Sink, L: Ledger>(
     ensures looks { steps.new ≤ steps.old + print_cost engine.now.rows (Refused refusal.now) }
 {
     match refusal {
+        Refusal::ScreenBlocked { screen } => {
+            let path = engine.path_text(alloc, *screen, steps)?;
+            write_blocked(sink, line, path.as_str())
+        }
         Refusal::QuotaExceeded {
             folder,
             would,

@@ -15,27 +15,33 @@ module _ (log longer : Buffer ActRow) (row : ActRow) (room : log.capacity ≡ mo
   pub pushed_items : longer.items ≡ last_entries (log.items ++ row ∷ [])
   pushed_items = ap (λ (b : Buffer ActRow). b.items) pushed ∙ ap (λ n. keep_last n (log.items ++ row ∷ [])) room
 
-  pub entry_kept : (numbers : Numbers) → IsKept numbers log → IsKept numbers longer
-  entry_kept numbers kept = record {
+  pub entry_kept : (numbers : Numbers) (places : Buffer ℕ) → IsKept numbers log places → IsKept numbers longer places
+  entry_kept numbers places kept = record {
     bound = kept.bound;
     ascending = kept.ascending;
     capacity = ap (λ (b : Buffer ActRow). b.capacity) pushed ∙ room;
     few = subst (λ (items : List ActRow). length items ≤ most_entries) (sym pushed_items) (few_entries (log.items ++ row ∷ []));
+    room = kept.room;
+    short = kept.short;
   }
 
 -- ---- a number more, or less
-pub number_kept : (numbers more : Numbers) (log : Buffer ActRow) (n : ℕ) → more ≡ record numbers { members = with_number n numbers.members } → IsKept numbers log → IsKept more log
-number_kept numbers more log n is kept = record {
+pub number_kept : (numbers more : Numbers) (log : Buffer ActRow) (places : Buffer ℕ) (n : ℕ) → more ≡ record numbers { members = with_number n numbers.members } → IsKept numbers log places → IsKept more log places
+number_kept numbers more log places n is kept = record {
   bound = ap (λ (s : Numbers). s.bound) is ∙ kept.bound;
   ascending = ap (λ (s : Numbers). is_set s.members) is ∙ set_with n numbers.members kept.ascending;
   capacity = kept.capacity;
   few = kept.few;
+  room = kept.room;
+  short = kept.short;
 }
 
-pub less_kept : (numbers less : Numbers) (log : Buffer ActRow) (n : ℕ) → less ≡ record numbers { members = without_number n numbers.members } → IsKept numbers log → IsKept less log
-less_kept numbers less log n is kept = record {
+pub less_kept : (numbers less : Numbers) (log : Buffer ActRow) (places : Buffer ℕ) (n : ℕ) → less ≡ record numbers { members = without_number n numbers.members } → IsKept numbers log places → IsKept less log places
+less_kept numbers less log places n is kept = record {
   bound = ap (λ (s : Numbers). s.bound) is ∙ kept.bound;
   ascending = ap (λ (s : Numbers). is_set s.members) is ∙ set_without n numbers.members kept.ascending;
   capacity = kept.capacity;
   few = kept.few;
+  room = kept.room;
+  short = kept.short;
 }

@@ -7,3 +7,4 @@ pub mod KeptLaws
 pub mod ListLaws
 pub mod OrderLaws
 pub mod Steps
+pub mod ScreenLaws

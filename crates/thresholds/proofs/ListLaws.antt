@@ -21,6 +21,11 @@ take_next (y ∷ xs) (suc k) x h = ap (λ n. take n (y ∷ xs)) (next k) ∙ ap 
     next : (k : ℕ) → suc k + 1 ≡ suc (k + 1)
     next k = omega arith
 
+pub taken : {X : Type 0} (xs : List X) (j : ℕ) (x : X) → slice_get xs j ≡ Some x → length (take j xs) ≡ j
+taken [] j x e = cc
+taken (y ∷ xs) zero x e = refl
+taken (y ∷ xs) (suc j) x e = ap suc (taken xs j x e)
+
 -- ---- actions
 enumerated-append : {X : Type 0} (n : ℕ) (xs : List X) (x : X) → enumerate_from n (xs ++ x ∷ []) ≡ enumerate_from n xs ++ (n + length xs, x) ∷ []
 enumerated-append n [] x = ap (λ m. (m, x) ∷ []) (start n)

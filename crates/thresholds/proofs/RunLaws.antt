@@ -69,7 +69,7 @@ by_both moment p q n (action ∷ actions) =
 abbrev is_of : Subject → ℕ → Act → Bool
 is_of subject place act = same_subject act.subject subject && (act.place == place)
 
-run_both : (moment : ℕ) (one other : List Act) (subject : Subject) (actions : List Action) → run_actions moment other subject (run_actions moment one subject actions) ≡ run_actions moment (one ++ other) subject actions
+pub run_both : (moment : ℕ) (one other : List Act) (subject : Subject) (actions : List Action) → run_actions moment other subject (run_actions moment one subject actions) ≡ run_actions moment (one ++ other) subject actions
 run_both moment one other subject actions =
     by_both moment (has_act one subject) (has_act other subject) 0 actions
     ∙ by_same moment (λ k. has_act one subject k || has_act other subject k) (has_act (one ++ other) subject)
@@ -96,10 +96,10 @@ pub quotas_none : (moment : ℕ) (quotas : List QuotaRow) → map (run_quota mom
 quotas_none moment quotas = map_id (run_quota moment []) quotas (each (λ q. run_quota moment [] q ≡ q) (unrun_quota moment) quotas)
 
 -- ---- one act
-eq_sym : (a b : ℕ) → (a == b) ≡ (b == a)
+pub eq_sym : (a b : ℕ) → (a == b) ≡ (b == a)
 eq_sym a b = same_tests (a == b) (b == a) (λ h. eq_test b a (sym (eq_is a b h))) (λ h. eq_test a b (sym (eq_is b a h)))
 
-or_nothing : (b : Bool) → (b || false) ≡ b
+pub or_nothing : (b : Bool) → (b || false) ≡ b
 or_nothing true = refl
 or_nothing false = refl
 

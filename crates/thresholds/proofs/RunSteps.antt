@@ -65,15 +65,15 @@ module _ (tables : Tables) (number : ℕ) (act : Act) (orderly_are : are_orderly
       (ap (λ quotas. record tables { quotas = quotas }) (quotas_one moment own.quota.folder own.threshold.percent (action_place number) own.action.kind tables.quotas))
 
   -- it is settled
-  pub ran_one : (old new : Marked) (after : Tables) (moment folder percent : ℕ) → are_there tables.quotas old.numbers ≡ true → folder ≡ folder_in act.subject → percent ≡ percent_in act.subject → after ≡ with_run tables folder percent act.place moment → new.log ≡ last_entries (old.log ++ record { moment = moment; folder = folder; percent = percent; kind = act.kind } ∷ []) → new.numbers ≡ with_number number old.numbers → Settles old new tables after moment (waiting tables.quotas (number ∷ []))
-  ran_one old new after moment folder percent there f p tables_are log numbers =
+  pub ran_one : (old new : Marked) (after : Tables) (moment folder percent : ℕ) → are_there tables.quotas old.numbers ≡ true → folder ≡ folder_in act.subject → percent ≡ percent_in act.subject → after ≡ with_run tables folder percent act.place moment → new.log ≡ last_entries (old.log ++ record { moment = moment; folder = folder; percent = percent; kind = act.kind } ∷ []) → new.numbers ≡ with_number number old.numbers → new.folder ≡ old.folder → new.places ≡ old.places → Settles old new tables after moment (waiting tables.quotas (number ∷ []))
+  ran_one old new after moment folder percent there f p tables_are log numbers marked_folder places =
       settles_one old new tables after moment number act is there
       (tables_are
       ∙ (ap (λ n. with_run tables n percent act.place moment) f ∙ (ap (λ n. with_run tables (folder_in act.subject) n act.place moment) p ∙ left_by_run moment)))
       (log
       ∙ (ap (λ n. last_entries (old.log ++ record { moment = moment; folder = n; percent = percent; kind = act.kind } ∷ [])) f
       ∙ ap (λ n. last_entries (old.log ++ record { moment = moment; folder = folder_in act.subject; percent = n; kind = act.kind } ∷ [])) p))
-      numbers
+      numbers marked_folder places
 
 -- ---- what stays of quotas of which actions ran
 lists_run : (moment : ℕ) (acts : List Act) (quota : QuotaRow) → has_orderly_lists quota ≡ true → has_orderly_lists (run_quota moment acts quota) ≡ true

@@ -39,6 +39,8 @@ settles_none marks tables moment few there = record {
   log = sym (ap last_entries (append-nil marks.log) ∙ short_log marks.log few);
   there = there;
   marked = λ subject place. alone (has_act (waiting tables.quotas marks.numbers) subject place);
+  folder = refl;
+  places = refl;
 }
   where
     alone : (b : Bool) → b ≡ (b || false)
@@ -60,6 +62,8 @@ settles_both a b c r s t moment one other first second = record {
       ∙ (ap (λ b. b || has_act other subject place) (first.marked subject place)
       ∙ (or_assoc (has_act (waiting r.quotas a.numbers) subject place) (has_act one subject place) (has_act other subject place)
       ∙ ap (λ b. has_act (waiting r.quotas a.numbers) subject place || b) (sym (list_any-append _ one other))));
+  folder = second.folder ∙ first.folder;
+  places = second.places ∙ first.places;
 }
   where
     or_assoc : (x y z : Bool) → ((x || y) || z) ≡ (x || (y || z))
@@ -68,8 +72,8 @@ settles_both a b c r s t moment one other first second = record {
 
 -- ---- one act
 -- of an action that is there
-pub settles_one : (old new : Marked) (before after : Tables) (moment number : ℕ) (act : Act) → act_at before.quotas number ≡ Some act → are_there before.quotas old.numbers ≡ true → after ≡ ran_in moment (act ∷ []) before → new.log ≡ last_entries (old.log ++ entry_of moment act ∷ []) → new.numbers ≡ with_number number old.numbers → Settles old new before after moment (waiting before.quotas (number ∷ []))
-settles_one old new before after moment number act is there tables log numbers = record {
+pub settles_one : (old new : Marked) (before after : Tables) (moment number : ℕ) (act : Act) → act_at before.quotas number ≡ Some act → are_there before.quotas old.numbers ≡ true → after ≡ ran_in moment (act ∷ []) before → new.log ≡ last_entries (old.log ++ entry_of moment act ∷ []) → new.numbers ≡ with_number number old.numbers → new.folder ≡ old.folder → new.places ≡ old.places → Settles old new before after moment (waiting before.quotas (number ∷ []))
+settles_one old new before after moment number act is there tables log numbers folder places = record {
   tables = tables ∙ ap (λ acts. ran_in moment acts before) own;
   log = log ∙ ap (λ acts. last_entries (old.log ++ map (entry_of moment) acts)) own;
   there =
@@ -79,6 +83,8 @@ settles_one old new before after moment number act is there tables log numbers =
       ap (λ (t : Tables). has_act (waiting t.quotas new.numbers) subject place) tables
       ∙ (ap (λ acts. has_act acts subject place) (waiting_run moment (act ∷ []) before.quotas new.numbers)
       ∙ (ap (λ ns. has_act (waiting before.quotas ns) subject place) numbers ∙ has-with before.quotas number old.numbers subject place));
+  folder = folder;
+  places = places;
 }
   where
     own : act ∷ [] ≡ waiting before.quotas (number ∷ [])

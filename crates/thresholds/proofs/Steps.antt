@@ -29,7 +29,7 @@ use Rattle.fsrm_objects.specs.Tables.{Tables}
 use Rattle.thresholds.specs.Marked.{act_at, action_at, waiting, quota_place, threshold_place, action_place}
 use Rattle.thresholds.specs.Settled.{crosses, due_in, are_orderly, has_orderly_lists, ready_in, IsThreshold}
 use Rattle.thresholds.proofs.Decoded.{Found, found_is, found_action, earlier, quota_digit, threshold_digit, action_digit}
-use Rattle.thresholds.proofs.ListLaws.{take_next, ready_acts-append, acts_of, acts_of_threshold, acts_of-append}
+use Rattle.thresholds.proofs.ListLaws.{take_next, taken, ready_acts-append, acts_of, acts_of_threshold, acts_of-append}
 use Rattle.thresholds.proofs.OrderLaws.{orderly, at_passes}
 use Rattle.thresholds.proofs.RunLaws.{run_none}
 use Rattle.thresholds.proofs.WaitingLaws.{waiting_run}
@@ -145,11 +145,6 @@ module _ (quotas : List QuotaRow) (place threshold run_limit moment k : ℕ) (qu
       ∙ (ready_acts-append run_limit moment own (take k t.actions) action
       ∙ (ap (λ n. ready_acts run_limit moment own (take k t.actions) ++ cond (ready run_limit moment action) (act_of own (n, action) ∷ []) []) (taken t.actions k action in_threshold)
       ∙ ap (λ acts. acts ++ cond (ready run_limit moment action) (act_of own (k, action) ∷ []) []) (sym (upto k)))))
-    where
-      taken : {X : Type 0} (xs : List X) (j : ℕ) (x : X) → slice_get xs j ≡ Some x → length (take j xs) ≡ j
-      taken [] j x e = cc
-      taken (y ∷ xs) zero x e = refl
-      taken (y ∷ xs) (suc j) x e = ap suc (taken xs j x e)
 
   pub ready_more : ready run_limit moment action ≡ true → ready_upto quotas place threshold run_limit moment k ++ waiting (map (run_quota moment (ready_upto quotas place threshold run_limit moment k)) quotas) (number ∷ []) ≡ ready_upto quotas place threshold run_limit moment (k + 1)
   ready_more may =
@@ -162,7 +157,7 @@ module _ (quotas : List QuotaRow) (place threshold run_limit moment k : ℕ) (qu
       sym (append-nil acts) ∙ (ap (λ b. acts ++ cond b (act_of own (k, action) ∷ []) []) (sym may) ∙ sym more)
 
 -- none yet
-none_taken : {X : Type 0} (xs : List X) → take 0 xs ≡ []
+pub none_taken : {X : Type 0} (xs : List X) → take 0 xs ≡ []
 none_taken [] = refl
 none_taken (x ∷ xs) = refl
 
@@ -173,7 +168,7 @@ ready_none quotas place threshold run_limit moment quota t s =
     ∙ ap (ready_acts run_limit moment (Quota quota.folder t.percent)) (none_taken t.actions))
 
 -- all of them
-whole : {X : Type 0} (xs : List X) → take (length xs) xs ≡ xs
+pub whole : {X : Type 0} (xs : List X) → take (length xs) xs ≡ xs
 whole [] = refl
 whole (x ∷ xs) = ap (λ more. x ∷ more) (whole xs)
 

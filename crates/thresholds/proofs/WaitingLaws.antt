@@ -92,7 +92,7 @@ pub there-with : (quotas : List QuotaRow) (n : ℕ) (numbers : List ℕ) → is_
 there-with quotas n numbers own h = all-with (λ m. is_some (act_at quotas m)) n numbers own h
 
 -- ---- a run changes no act
-same_kind : (moment : ℕ) (b : Bool) (action : Action) → (with_run moment b action).kind ≡ action.kind
+pub same_kind : (moment : ℕ) (b : Bool) (action : Action) → (with_run moment b action).kind ≡ action.kind
 same_kind moment true action = refl
 same_kind moment false action = refl
 

@@ -1,4 +1,4 @@
--- What it is to settle a quota: its actions that are due run, and are marked.
+-- What it is to settle a quota or a screen: its actions that are due run, and are marked.
 use Rattle.std.specs.Prelude.{◌≡◌, ℕ, ◌<◌, ◌||◌, ◌&&◌, not, nat_le, Bool, true, List, [], ◌++◌, map, length, slice_get, Option, Some, None, unwrap_or}
 use Rattle.std.specs.List.{list_all}
 use Rattle.std.specs.Option.{option_map_or}
@@ -9,14 +9,15 @@ use Rattle.fsrm_model.specs.declared.command.Subject.TheVariants.{Quota}
 use Rattle.fsrm_model.specs.declared.row.QuotaRow.{QuotaRow}
 use Rattle.fsrm_model.specs.declared.row.Threshold.{Threshold}
 use Rattle.fsrm_model.specs.Acts.{has_act}
-use Rattle.fsrm_model.specs.DueActions.{ready_acts, quota_acts}
+use Rattle.fsrm_model.specs.DueActions.{due_screen, ready_acts, quota_acts}
 use Rattle.fsrm_model.specs.Limits.{most_quotas}
 use Rattle.fsrm_model.specs.Quota.{folder_of}
 use Rattle.fsrm_model.specs.Reached.{has_reached}
-use Rattle.fsrm_model.specs.Runs.{run_quota, last_entries, entry_of}
+use Rattle.fsrm_model.specs.Runs.{run_quota, run_screen, last_entries, entry_of}
+use Rattle.fsrm_model.specs.Screens.{screen_folder}
 use Rattle.fsrm_model.specs.Thresholds.{percent_of, are_too_many}
 use Rattle.fsrm_objects.specs.Tables.{Tables}
-use Rattle.thresholds.specs.Marked.{Marked, waiting, are_there}
+use Rattle.thresholds.specs.Marked.{Marked, are_screen_acts, are_there, screen_waiting, waiting}
 
 -- quotas as a store holds them, as far as their actions are told by numbers: in the order of their folders, none too many, each
 -- with its thresholds in the order of their percentages, and none too many either
@@ -56,14 +57,28 @@ pub record IsThreshold (quotas : List QuotaRow) (place threshold : ℕ) : Type 0
   pub is_there : slice_get quotas place ≡ Some quota
   pub within : threshold < length quota.thresholds
 
+-- the acts of a folder's screen that may run
+abbrev pub screen_due : Tables → ℕ → ℕ → ℕ → List Act
+screen_due tables run_limit moment folder = option_map_or (due_screen run_limit moment) (row_of screen_folder folder tables.screens) []
+
 -- ---- what is left
--- tables after acts ran
+-- tables after acts of quotas ran
 abbrev pub ran_in : ℕ → List Act → Tables → Tables
 ran_in moment acts tables = record tables { quotas = map (run_quota moment acts) tables.quotas }
 
--- Acts ran at a moment, and are marked beside those that were
+-- acts of quotas ran at a moment, and are marked beside those that were
 pub record Settles (old new : Marked) (before after : Tables) (moment : ℕ) (acts : List Act) : Type 0 where
   pub tables : after ≡ ran_in moment acts before
   pub log : new.log ≡ last_entries (old.log ++ map (entry_of moment) acts)
   pub there : are_there after.quotas new.numbers ≡ true
   pub marked : (subject : Subject) (place : ℕ) → has_act (waiting after.quotas new.numbers) subject place ≡ (has_act (waiting before.quotas old.numbers) subject place || has_act acts subject place)
+  pub folder : new.folder ≡ old.folder
+  pub places : new.places ≡ old.places
+
+-- acts of one screen ran at a moment, and they alone of all screens' wait
+pub record SettlesScreen (old new : Marked) (before after : Tables) (moment : ℕ) (acts : List Act) : Type 0 where
+  pub tables : after ≡ record before { screens = map (run_screen moment acts) before.screens }
+  pub log : new.log ≡ last_entries (old.log ++ map (entry_of moment) acts)
+  pub numbers : new.numbers ≡ old.numbers
+  pub there : are_screen_acts after.screens new ≡ true
+  pub waiting : screen_waiting after.screens new ≡ acts

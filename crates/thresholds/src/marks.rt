@@ -1,15 +1,15 @@
 //! The actions that ran and are to be handed out, and their log.
 
-ghost use Rattle.std.specs.Prelude.{◌≡◌, ◌==◌, ◌+◌, ◌<◌, ◌≤◌, IfOk, IfSome, MatchOption, [], ◌∷◌, ◌++◌, Some, None, true, false, is_some, length, slice_get};
+ghost use Rattle.std.specs.Prelude.{◌≡◌, ◌==◌, ◌+◌, ◌<◌, ◌≤◌, ◌&&◌, IfOk, IfSome, MatchOption, [], ◌∷◌, ◌++◌, Some, None, true, false, is_some, length, slice_get};
 ghost use Rattle.std.specs.List.{list_all};
 ghost use Rattle.std.specs.Option.{option_copied};
 ghost use Rattle.fsrm_base.specs.Keyed.{has_row};
 ghost use Rattle.fsrm_base.specs.Numbers.{is_set};
-ghost use Rattle.fsrm_model.specs.Acts.{act_before};
+ghost use Rattle.fsrm_model.specs.Acts.{act_before, is_of_quota};
 ghost use Rattle.fsrm_model.specs.Limits.{most_entries};
 ghost use Rattle.fsrm_model.specs.Quota.{folder_of};
 ghost use Rattle.fsrm_model.specs.Runs.{last_entries};
-ghost use Rattle.thresholds.specs.Marked.{act_at, action_at, are_there, most_marks, waiting};
+ghost use Rattle.thresholds.specs.Marked.{act_at, action_at, all_waiting, are_screen_acts, are_there, most_marks, waiting};
 ghost use Rattle.thresholds.specs.Settled.{Settles, are_orderly, due_in, ready_in, IsThreshold, refused_in};
 
 use crate::rules::{crosses, ready};
@@ -28,14 +28,18 @@ const PER_QUOTA: u32 = MOST_THRESHOLDS as u32 * PER_THRESHOLD;
 
 const MOST_MARKS: u32 = MOST_QUOTAS as u32 * PER_QUOTA;
 
-/// The actions of quotas that ran and weren't handed out yet, and the log of those that ran, its last 1,024 entries. All is in
-/// memory that is reserved once. Contracts see the numbers of the marked actions, ascending, and the log, oldest first.
+/// The actions of quotas and of a screen that ran and weren't handed out yet, and the log of those that ran, its last 1,024
+/// entries. All is in memory that is reserved once. Contracts see the numbers of the marked actions of quotas, ascending, the
+/// log, oldest first, and the places of the marked actions of one folder's screen, ascending.
 #[derive(Drop)]
 pub struct Marks {
     // An action's number is made of the places of its quota, of its threshold, and of its own. So numbers ascend as acts do,
     // and the least number is that of the act that comes next.
     numbers: NumberSet,
-    log: HeapCircularBuffer<ActRow>,
+    pub(crate) log: HeapCircularBuffer<ActRow>,
+    // A command is judged by one screen at most: its folder, and the places of those of its actions that are marked.
+    pub(crate) folder: u32,
+    pub(crate) places: HeapCircularBuffer<u16>,
 }
 
 impl Model for Marks {
@@ -45,19 +49,25 @@ impl Model for Marks {
 
     ghost use Rattle.thresholds.specs.Kept.{IsKept};
 
-    ghost view = { λ m. record { numbers = m.numbers.members; log = m.log.items } };
+    ghost view = { λ m. record { numbers = m.numbers.members; log = m.log.items; folder = m.folder; places = m.places.items } };
 
-    ghost invariant = { λ m. IsKept m.numbers m.log };
+    ghost invariant = { λ m. IsKept m.numbers m.log m.places };
 }
 
 impl Marks {
     /// No action is marked, and the log is empty. There is room for as many as there may be of both.
     pub fn new(alloc: Global) -> Result<Marks, NoMemory>
-        ensures { IfOk result (λ marks. marks ≡ record { numbers = []; log = [] }) }
+        ensures { IfOk result (λ marks. marks ≡ record { numbers = []; log = []; folder = 0; places = [] }) }
     {
         let numbers = NumberSet::reserve(alloc, MOST_MARKS)?;
         let log = HeapCircularBuffer::with_capacity(alloc, MOST_ENTRIES)?;
-        Ok(Marks { numbers, log })
+        let places = HeapCircularBuffer::with_capacity(alloc, MOST_ACTIONS)?;
+        Ok(Marks {
+            numbers,
+            log,
+            folder: 0,
+            places,
+        })
     }
 
     /// Settles a folder's quota at a moment: of the thresholds that it reaches and didn't reach before, the actions that may run
@@ -129,7 +139,7 @@ impl Marks {
         let _log = &self.log;
     }
 
-    // Has the actions of a threshold run that may. The quota and its threshold are named by their places.
+    // Runs those actions of a threshold that may run. The quota and its threshold are named by their places.
     fn run_ready(
         &mut self,
         objects: &mut Objects,
@@ -177,16 +187,34 @@ impl Marks {
         objects.set_run(folder, percent, act.place, moment);
     }
 
-    /// Hands out the act of a marked action, which is marked no longer: the first in the order of folders, percentages and
-    /// places. None exactly if none is marked.
+    /// Hands out the act of a marked action, which is marked no longer: first those of the screen, by their places, then those of
+    /// quotas, in the order of folders, percentages and places. None exactly if none is marked.
     pub fn next(&mut self, objects: &Objects) -> Option<Act>
+        requires orderly { are_orderly objects.now.quotas ≡ true }
+        requires marked { are_there objects.now.quotas self.old.numbers ≡ true }
+        requires screen { are_screen_acts objects.now.screens self.old ≡ true }
+        ensures handed_out { MatchOption result (all_waiting objects.now self.old ≡ []) (λ act. all_waiting objects.now self.old ≡ act ∷ all_waiting objects.now self.new) }
+        ensures first { IfSome result (λ act. is_of_quota act.subject ≡ true → list_all (act_before act) (waiting objects.now.quotas self.new.numbers) ≡ true) }
+        ensures none { result ≡ None → self.new ≡ self.old }
+        ensures marked { are_there objects.now.quotas self.new.numbers ≡ true }
+        ensures screen { are_screen_acts objects.now.screens self.new ≡ true }
+        ensures log { self.new.log ≡ self.old.log }
+    {
+        if let Some(act) = self.next_of_screen(objects) {
+            return Some(act);
+        }
+        self.next_of_quota(objects)
+    }
+
+    // The same for the actions of quotas alone.
+    fn next_of_quota(&mut self, objects: &Objects) -> Option<Act>
         requires orderly { are_orderly objects.now.quotas ≡ true }
         requires marked { are_there objects.now.quotas self.old.numbers ≡ true }
         ensures handed_out { MatchOption result (waiting objects.now.quotas self.old.numbers ≡ []) (λ act. waiting objects.now.quotas self.old.numbers ≡ act ∷ waiting objects.now.quotas self.new.numbers) }
         ensures first { IfSome result (λ act. list_all (act_before act) (waiting objects.now.quotas self.new.numbers) ≡ true) }
         ensures none { result ≡ None → self.new ≡ self.old }
         ensures marked { are_there objects.now.quotas self.new.numbers ≡ true }
-        ensures log { self.new.log ≡ self.old.log }
+        ensures others { self.new ≡ record self.old { numbers = self.new.numbers } }
     {
         let number = self.numbers.least()?;
         self.numbers.remove(number);
@@ -195,9 +223,9 @@ impl Marks {
 
     /// Whether no action is marked.
     pub fn is_empty(&self) -> bool
-        ensures { result ≡ (length self.now.numbers == 0) }
+        ensures { result ≡ ((length self.now.numbers == 0) && (length self.now.places == 0)) }
     {
-        self.numbers.is_empty()
+        self.numbers.is_empty() && self.places.is_empty()
     }
 
     /// How many entries the log has, at most 1,024.

@@ -1,5 +1,5 @@
 -- Actions and notifications by what stands between their commas.
-use Rattle.std.proofs.Common.{◌≡◌, ℕ, ◌+◌, ◌<◌, ◌≤◌, ◌&&◌, Bool, true, false, List, length, Option, Some, None, MatchOption, Ok, Err, refl, sym, ◌∙◌, ap, arith}
+use Rattle.std.proofs.Common.{◌≡◌, ℕ, ◌<◌, ◌≤◌, ◌&&◌, Bool, true, false, List, length, Option, Some, None, MatchOption, Ok, Err, refl, sym, ◌∙◌, ap, arith}
 use Rattle.std.specs.Borrow.{Bor}
 use Rattle.std.specs.List.{after_first, before_first, list_any, position_or_len}
 use Rattle.fsrm_base.proofs.TestLaws.{le_test, not_le}
@@ -48,8 +48,11 @@ many_commas n column text next many = ap (λ b. guarded b (BadLine column) text 
 abbrev action_next : ℕ → List ℕ → Read Action
 action_next column given = action_of column (before_first is_comma given) (before_first is_comma (after_first is_comma given)) (after_first is_comma (after_first is_comma given))
 
-action_whole : (column : ℕ) (text kind minutes words : List ℕ) → AreParts text kind minutes words → action_from column text ≡ action_of column kind minutes words
-action_whole column text kind minutes words parts =
+pub short_action : (column : ℕ) (text : List ℕ) → has_action_commas text ≡ false → action_from column text ≡ Err (BadLine column)
+short_action column text few = few_commas 2 column text (action_next column) (few_more text few)
+
+pub whole_action : (column : ℕ) (text kind minutes words : List ℕ) → AreParts text kind minutes words → action_from column text ≡ action_of column kind minutes words
+whole_action column text kind minutes words parts =
     let there = both_there text kind minutes words parts in
     let rest : after_first is_comma text ≡ parts.rest = sym parts.first.rest_is in
     many_commas 2 column text (action_next column) (omega (arith, one_counted text there.0, one_counted (after_first is_comma text) there.1))
@@ -78,4 +81,4 @@ whole_notice column text percent action kind minutes words first parts =
     many_commas 3 column text (notice_next column)
     (omega (arith, one_counted text first.some, one_counted (after_first is_comma text) one, one_counted (after_first is_comma (after_first is_comma text)) two))
     ∙ (ap (λ p. percent_from column p >>= λ percent. action_from column (after_first is_comma text) >>= λ action. Ok (record { percent = percent; action = action })) (sym first.front_is)
-    ∙ ap (λ (r : Read Action). percent_from column percent >>= λ percent. r >>= λ action. Ok (record { percent = percent; action = action })) (ap (action_from column) rest ∙ action_whole column action kind minutes words parts))
+    ∙ ap (λ (r : Read Action). percent_from column percent >>= λ percent. r >>= λ action. Ok (record { percent = percent; action = action })) (ap (action_from column) rest ∙ whole_action column action kind minutes words parts))

@@ -11,3 +11,5 @@ pub mod OptionLaws
 pub mod NamedWords
 pub mod Taken
 pub mod CommaLaws
+pub mod PatternLaws
+pub mod ScreenOptions

@@ -1,12 +1,12 @@
 -- Which option a word names, and what one option more comes to.
 use Rattle.std.proofs.Common.{◌≡◌, ℕ, suc, ◌+◌, ◌<◌, Bool, true, false, cond, List, [], ◌∷◌, ◌++◌, length, Some, None, refl, sym, ◌∙◌, ap, subst, arith}
 use Rattle.std.specs.Prelude.{◌||◌, not, Option, Result, Ok, Err, map, find, option_map, is_some}
-use Rattle.std.specs.List.{cons_option, filter_map, list_any, position_or_len, before_first, after_first}
+use Rattle.std.specs.List.{cons_option, list_any, position_or_len, before_first, after_first}
 use Rattle.std.specs.Option.{option_or}
 use Rattle.std.proofs.lemmas.List.{append-nil}
 use Rattle.std.proofs.lemmas.List.Elements.{filter_map-append}
 use Rattle.fsrm_model.specs.declared.command.Refusal.TheVariants.{BadLine}
-use Rattle.fsrm_model.specs.Options.{Key, ThePath, TheLimit, TheType, TheStatus, TheRunLimit, may_repeat, Given, key_of, value_from, path_in, limit_in, type_in, status_in, removal_in, percent_in, notice_in, run_limit_in, is_of, one, each_of, key_named, word_key, is_colon, with_option, options}
+use Rattle.fsrm_model.specs.Options.{Key, ThePath, TheLimit, TheType, TheStatus, TheRunLimit, TheGroup, TheMembers, TheNonMembers, TheMode, may_repeat, Given, key_of, value_from, path_in, limit_in, type_in, status_in, removal_in, percent_in, notice_in, run_limit_in, group_in, members_in, non_members_in, mode_in, group_removal_in, group_addition_in, screen_notice_in, is_of, one, each_of, key_named, word_key, is_colon, with_option, options}
 use Rattle.fsrm_model.specs.Reading.{Read, ◌>>=◌, guarded, known}
 use Rattle.fsrm_model.specs.Words.{Word}
 use Rattle.fsrm_model.proofs.lines.OptionLaws.{own_key}
@@ -131,6 +131,13 @@ with_more held next =
       added = longer held.added (percent_in next);
       notices = longer held.notices (notice_in next);
       run_limit = newer held.run_limit (run_limit_in next);
+      group = newer held.group (group_in next);
+      members = newer held.members (members_in next);
+      non_members = newer held.non_members (non_members_in next);
+      active = newer held.active (mode_in next);
+      removed_groups = longer held.removed_groups (group_removal_in next);
+      added_groups = longer held.added_groups (group_addition_in next);
+      actions = longer held.actions (screen_notice_in next);
     }
 
 each_longer : {X : Type 0} (value : Given → Option X) (held : List X) (given : List Given) (next : Given) → held ≡ each_of value given → longer held (value next) ≡ each_of value (given ++ next ∷ [])
@@ -172,6 +179,13 @@ held_more held given next h free =
       added = each_longer percent_in held.added given next h.added;
       notices = each_longer notice_in held.notices given next h.notices;
       run_limit = one_newer run_limit_in TheRunLimit held.run_limit given next refl (λ g. refl) h.run_limit free;
+      group = one_newer group_in TheGroup held.group given next refl (λ g. refl) h.group free;
+      members = one_newer members_in TheMembers held.members given next refl (λ g. refl) h.members free;
+      non_members = one_newer non_members_in TheNonMembers held.non_members given next refl (λ g. refl) h.non_members free;
+      active = one_newer mode_in TheMode held.active given next refl (λ g. refl) h.active free;
+      removed_groups = each_longer group_removal_in held.removed_groups given next h.removed_groups;
+      added_groups = each_longer group_addition_in held.added_groups given next h.added_groups;
+      actions = each_longer screen_notice_in held.actions given next h.actions;
     }
 
 -- one more word

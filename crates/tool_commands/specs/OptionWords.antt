@@ -2,12 +2,12 @@
 use Rattle.std.specs.Prelude.{◌≡◌, ℕ, List, [], ◌∷◌, ◌++◌, Option, Some, None, Result, Ok, Err}
 use Rattle.std.specs.List.{after_first}
 use Rattle.fsrm_model.specs.declared.command.Refusal.TheVariants.{BadLine}
-use Rattle.fsrm_model.specs.Options.{Key as LineKey, ThePath, TheLimit, TheType, TheStatus, TheRemoval, ThePercent, TheNotice, TheRunLimit, Given as LineGiven, path_in, limit_in, type_in, status_in, removal_in, percent_in, notice_in, run_limit_in, one, each_of, word_key, is_colon, with_option}
+use Rattle.fsrm_model.specs.Options.{Key as LineKey, ThePath, TheLimit, TheType, TheStatus, TheRemoval, ThePercent, TheNotice, TheRunLimit, TheGroup, TheMembers, TheNonMembers, TheMode, TheGroupRemoval, TheGroupAddition, TheScreenNotice, Given as LineGiven, path_in, limit_in, type_in, status_in, removal_in, percent_in, notice_in, run_limit_in, group_in, members_in, non_members_in, mode_in, group_removal_in, group_addition_in, screen_notice_in, one, each_of, word_key, is_colon, with_option}
 use Rattle.fsrm_model.specs.Reading.{Read, ◌>>=◌, known}
 use Rattle.fsrm_model.specs.Words.{Word as LineWord}
 use Rattle.tool_commands.specs.declared.options.Given.{Given}
 use Rattle.tool_commands.specs.declared.options.Key.{Key}
-use Rattle.tool_commands.specs.declared.options.Key.TheVariants.{Path, Limit, Enforce, Enabled, RemoveThreshold, AddThreshold, AddNotification, RunLimit}
+use Rattle.tool_commands.specs.declared.options.Key.TheVariants.{Path, Limit, Enforce, Enabled, RemoveThreshold, AddThreshold, AddNotification, RunLimit, Group, Members, NonMembers, Active, RemoveGroup, AddGroup, AddAction}
 use Rattle.tool_commands.specs.declared.reading.LineFault.{LineFault}
 use Rattle.tool_commands.specs.declared.reading.LineFault.TheVariants.{Refused, NoMemory}
 use Rattle.tool_commands.specs.LineFaults.{Reads}
@@ -22,6 +22,13 @@ line_key RemoveThreshold = TheRemoval
 line_key AddThreshold = ThePercent
 line_key AddNotification = TheNotice
 line_key RunLimit = TheRunLimit
+line_key Group = TheGroup
+line_key Members = TheMembers
+line_key NonMembers = TheNonMembers
+line_key Active = TheMode
+line_key RemoveGroup = TheGroupRemoval
+line_key AddGroup = TheGroupAddition
+line_key AddAction = TheScreenNotice
 
 -- the values of options that were given
 pub record Holds (held : Given) (given : List LineGiven) : Type 0 where
@@ -33,6 +40,13 @@ pub record Holds (held : Given) (given : List LineGiven) : Type 0 where
   pub added : held.added ≡ each_of percent_in given
   pub notices : held.notices ≡ each_of notice_in given
   pub run_limit : held.run_limit ≡ one run_limit_in given
+  pub group : held.group ≡ one group_in given
+  pub members : held.members ≡ one members_in given
+  pub non_members : held.non_members ≡ one non_members_in given
+  pub active : held.active ≡ one mode_in given
+  pub removed_groups : held.removed_groups ≡ each_of group_removal_in given
+  pub added_groups : held.added_groups ≡ each_of group_addition_in given
+  pub actions : held.actions ≡ each_of screen_notice_in given
 
 -- a value is kept if none was kept before, and else refused before it is judged
 abbrev pub KeepsOnce : {X : Type 0} → Result (Unit {0}) LineFault → Option X → Option X → ℕ → Result X LineFault → Type 0

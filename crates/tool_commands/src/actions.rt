@@ -1,8 +1,8 @@
-//! The thresholds of quotas and their actions, in the values of options.
+//! The thresholds of quotas and the actions of quotas and screens, in the values of options.
 
 ghost use Rattle.std.specs.Prelude.{◌≡◌, ◌≤◌, false, IfOk, MatchOption};
 ghost use Rattle.std.specs.List.{list_all, list_any};
-ghost use Rattle.fsrm_model.specs.ActionWords.{is_comma, kind_named, minutes_from, notice_from, percent_from};
+ghost use Rattle.fsrm_model.specs.ActionWords.{action_from, is_comma, kind_named, minutes_from, notice_from, percent_from};
 ghost use Rattle.fsrm_model.specs.declared.command.Refusal.TheVariants.{InvalidName};
 ghost use Rattle.fsrm_model.specs.Limits.{most_minutes};
 ghost use Rattle.fsrm_model.specs.Reading.{guarded, number_from};
@@ -162,4 +162,16 @@ pub fn read_notice(alloc: Global, text: &str, column: usize) -> Result<Added, Li
         return Err(LineFault::bad_line(column));
     };
     read_added(alloc, percent, &action, column)
+}
+
+/// The action of a screen that a text of a word at this column is: the letter of a kind, minutes and a text, with commas
+/// between them. Both commas are looked for before any part is judged.
+pub fn read_screen_action(alloc: Global, text: &str, column: usize) -> Result<Action, LineFault>
+    requires { column ≤ 65537 }
+    ensures { Reads result (action_from column text.now) }
+{
+    let Some(parts) = action_parts(text) else {
+        return Err(LineFault::bad_line(column));
+    };
+    read_action(alloc, &parts, column)
 }

@@ -2,12 +2,13 @@
 
 ghost use Rattle.std.specs.Prelude.{◌≡◌, Ok, Some};
 ghost use Rattle.fsrm_model.specs.Line.{mkdir_words, create_words, resize_words, touch_words, move_words, remove_words, usage_words, step_words, readers, deed_words, tool_words};
-ghost use Rattle.fsrm_model.specs.Tools.{dirquota};
+ghost use Rattle.fsrm_model.specs.Tools.{dirquota, filescrn};
 ghost use Rattle.tool_commands.specs.LineFaults.{IsLast, ReadsWords, at_moment};
 ghost use Rattle.tool_commands.specs.Taking.{left, end, lent_word, named_by};
 
 use crate::admin::dirquota;
 use crate::reading::LineFault;
+use crate::screens::filescrn;
 use crate::values::is_named;
 use crate::words::{LentWord, Words};
 use fsrm_model::{Command, Deed, FileOp};
@@ -108,12 +109,21 @@ fn step(alloc: Global, moment: u64, words: &mut Words<'_>) -> Result<Option<Comm
     at(moment, Deed::Step { n })
 }
 
-// What the words after a tool's name spell. It stands apart, since these commands take more room than the others.
+// What the words after the name of the quotas' tool spell. It stands apart, since these commands take more room than the
+// others.
 #[inline(never)]
-fn tool(alloc: Global, moment: u64, words: &mut Words<'_>) -> Result<Option<Command>, LineFault>
+fn quotas(alloc: Global, moment: u64, words: &mut Words<'_>) -> Result<Option<Command>, LineFault>
     ensures { ReadsWords result (at_moment moment (tool_words dirquota (end words.old) (left words.old))) }
 {
     at(moment, dirquota(alloc, words)?)
+}
+
+// What the words after the name of the screens' tool spell.
+#[inline(never)]
+fn screens(alloc: Global, moment: u64, words: &mut Words<'_>) -> Result<Option<Command>, LineFault>
+    ensures { ReadsWords result (at_moment moment (tool_words filescrn (end words.old) (left words.old))) }
+{
+    at(moment, filescrn(alloc, words)?)
 }
 
 /// What a command's name and the words after it spell, at its moment.
@@ -154,7 +164,10 @@ pub fn deed(
         return step(alloc, moment, words);
     }
     if is_named("dirquota", word) {
-        return tool(alloc, moment, words);
+        return quotas(alloc, moment, words);
+    }
+    if is_named("filescrn", word) {
+        return screens(alloc, moment, words);
     }
     Err(LineFault::bad_line(name.column))
 }

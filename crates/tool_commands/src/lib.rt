@@ -7,10 +7,14 @@
 mod actions;
 mod admin;
 mod commands;
+mod exceptions;
+mod groups;
 mod limits;
 mod options;
+mod patterns;
 mod quotas;
 mod reading;
+mod screens;
 mod values;
 mod words;
 

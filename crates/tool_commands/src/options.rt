@@ -6,12 +6,13 @@ ghost use Rattle.fsrm_model.specs.Options.{Given as LineGiven, key_name, key_nam
 ghost use Rattle.tool_commands.specs.OptionWords.{line_key, option_word, KeepsOnce, KeepsMore, Holds, Adds, ReadsGiven};
 ghost use Rattle.tool_commands.specs.Taking.{left, end, line_word};
 
-use crate::actions::{read_notice, read_percent, read_run_limit};
+use crate::actions::{read_notice, read_percent, read_run_limit, read_screen_action};
 use crate::limits::read_limit;
+use crate::patterns::{read_non_members, read_object_name, read_patterns};
 use crate::reading::LineFault;
 use crate::values::{is_named, read_choice, read_path_word};
 use crate::words::{Word, Words};
-use fsrm_model::{Added, List, NoMemory, Path};
+use fsrm_model::{Action, Added, List, NoMemory, Path, Text};
 use std::alloc::Global;
 
 /// Which option it is.
@@ -25,6 +26,13 @@ pub enum Key {
     AddThreshold,
     AddNotification,
     RunLimit,
+    Group,
+    Members,
+    NonMembers,
+    Active,
+    RemoveGroup,
+    AddGroup,
+    AddAction,
 }
 
 impl Key {
@@ -40,6 +48,13 @@ impl Key {
             Key::AddThreshold => "/Add-Threshold",
             Key::AddNotification => "/Add-Notification",
             Key::RunLimit => "/RunLimitInterval",
+            Key::Group => "/Filegroup",
+            Key::Members => "/Members",
+            Key::NonMembers => "/NonMembers",
+            Key::Active => "/Type",
+            Key::RemoveGroup => "/Remove-Filegroup",
+            Key::AddGroup => "/Add-Filegroup",
+            Key::AddAction => "/Add-Notification",
         }
     }
 }
@@ -77,6 +92,19 @@ pub struct Given {
     pub notices: List<Added>,
     /// In minutes.
     pub run_limit: Option<u32>,
+    /// The name of a file group.
+    pub group: Option<Text>,
+    /// The patterns of its members.
+    pub members: Option<List<Text>>,
+    pub non_members: Option<List<Text>>,
+    /// Whether a screen is active.
+    pub active: Option<bool>,
+    /// The names of file groups that are to go, in the order of the words.
+    pub removed_groups: List<Text>,
+    /// Those that are to come.
+    pub added_groups: List<Text>,
+    /// The actions of a screen.
+    pub actions: List<Action>,
 }
 
 // Keeps the value of an option that may be given once. That it is given again is judged before its value.
@@ -118,6 +146,13 @@ impl Given {
             added: List::new(alloc),
             notices: List::new(alloc),
             run_limit: None,
+            group: None,
+            members: None,
+            non_members: None,
+            active: None,
+            removed_groups: List::new(alloc),
+            added_groups: List::new(alloc),
+            actions: List::new(alloc),
         }
     }
 
@@ -141,6 +176,20 @@ impl Given {
             Key::AddThreshold => again(&mut self.added, read_percent(value, column)),
             Key::AddNotification => again(&mut self.notices, read_notice(alloc, value, column)),
             Key::RunLimit => once(&mut self.run_limit, column, read_run_limit(value, column)),
+            Key::Group => once(&mut self.group, column, read_object_name(alloc, value)),
+            Key::Members => once(&mut self.members, column, read_patterns(alloc, value)),
+            Key::NonMembers => once(
+                &mut self.non_members,
+                column,
+                read_non_members(alloc, value),
+            ),
+            Key::Active => {
+                let active = read_choice("active", "passive", value, column);
+                once(&mut self.active, column, active)
+            }
+            Key::RemoveGroup => again(&mut self.removed_groups, read_object_name(alloc, value)),
+            Key::AddGroup => again(&mut self.added_groups, read_object_name(alloc, value)),
+            Key::AddAction => again(&mut self.actions, read_screen_action(alloc, value, column)),
         }
     }
 

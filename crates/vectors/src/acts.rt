@@ -38,8 +38,13 @@ fn is_done<L: Ledger>(
     }
 }
 
-// Whether the command that a line spells is done.
-fn does<L: Ledger>(engine: &mut Engine, alloc: Global, line: &[u8], steps: &mut Steps<L>) -> bool
+/// Whether the command that a line spells is done.
+pub fn does<L: Ledger>(
+    engine: &mut Engine,
+    alloc: Global,
+    line: &[u8],
+    steps: &mut Steps<L>,
+) -> bool
     requires { engine.old.waiting ≡ [] }
 {
     match read_line(alloc, line) {

@@ -1,4 +1,4 @@
-//! File groups: which names match a pattern, and the table of groups. No command makes a group yet.
+//! File groups: which names match a pattern, and the table of groups.
 
 ghost use Rattle.std.specs.Prelude.{◌≡◌, ◌∷◌, [], IfOk};
 

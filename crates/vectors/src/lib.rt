@@ -11,6 +11,8 @@
 #[cfg(test)]
 mod acts;
 #[cfg(test)]
+mod audits;
+#[cfg(test)]
 mod commands;
 #[cfg(test)]
 mod devices;

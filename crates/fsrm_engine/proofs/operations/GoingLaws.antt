@@ -14,6 +14,7 @@ use Rattle.fsrm_base.specs.Keyed.{without_row}
 use Rattle.fsrm_base.specs.Numbers.{is_in, without_number}
 use Rattle.fsrm_model.specs.QuotaStates.{head, same_head, scan_begun}
 use Rattle.fsrm_model.specs.Scan.{folders_under}
+use Rattle.fsrm_model.specs.Screens.{screen_folder, except_folder}
 use Rattle.fsrm_model.specs.Tree.{number, node_of, is_folder, children, resolve}
 use Rattle.fsrm_model.specs.Valid.{IsVolume}
 use Rattle.std.proofs.lemmas.Bool.Decides.{nat_tests}
@@ -24,6 +25,7 @@ use Rattle.rescan.specs.Frontiers.{Room, unvisited}
 use Rattle.rescan.proofs.followed.ChangeLaws.{removed}
 use Rattle.rescan.proofs.followed.FollowLaws.{folder_stands}
 use Rattle.rescan.proofs.followed.FrontierLaws.{begun, begun_unvisited, begins}
+use Rattle.fsrm_objects.specs.Tables.{Tables, without_except, without_quota, without_screen}
 use Rattle.scan_queue.proofs.Following.{absent_apart}
 use Rattle.scan_queue.proofs.Queues.{first_in}
 use Rattle.scan_queue.specs.Courses.{Course, Scanning, Goes, Turns, left}
@@ -81,8 +83,12 @@ rmdir_left s s1 v w n now is turns each =
         ap (λ ns. option_map_or (λ (scanned : ℕ). without_number n ns) (head s1.queue) []) was
         ∙ next_begun v.nodes w.nodes n s1.queue each
 
+-- the objects without those of the folder
+abbrev pub without_objects : Tables → ℕ → Tables
+without_objects tables n = without_except (without_screen (without_quota tables n) n) n
+
 -- so the removal is taken
-pub rmdir_accepts : (p mid : Parts) (s1 : Course) (m : ℕ) (path : List (List ℕ)) (n : ℕ) → IsIdle p → p.last_moment ≤ m → due p m (File (Remove path)) ≡ None → resolve p.tree.nodes path ≡ Some n → mid.tree ≡ without_node p.tree n → mid.objects.quotas ≡ without_row folder_of n p.objects.quotas → s1.queue ≡ without_number n p.scans.queue → Turns p.scans s1 p.tree → Goes s1 mid.scans mid.tree (λ scanned. without_number n (left p.tree.nodes s1)) → ((f : ℕ) → head s1.queue ≡ Some f → without_number n (folders_under p.tree.nodes f) ≡ folders_under mid.tree.nodes f) → Keeps p mid → Accepts p mid m (File (Remove path))
+pub rmdir_accepts : (p mid : Parts) (s1 : Course) (m : ℕ) (path : List (List ℕ)) (n : ℕ) → IsIdle p → p.last_moment ≤ m → due p m (File (Remove path)) ≡ None → resolve p.tree.nodes path ≡ Some n → mid.tree ≡ without_node p.tree n → mid.objects ≡ without_objects p.objects n → s1.queue ≡ without_number n p.scans.queue → Turns p.scans s1 p.tree → Goes s1 mid.scans mid.tree (λ scanned. without_number n (left p.tree.nodes s1)) → ((f : ℕ) → head s1.queue ≡ Some f → without_number n (folders_under p.tree.nodes f) ≡ folders_under mid.tree.nodes f) → Keeps p mid → Accepts p mid m (File (Remove path))
 rmdir_accepts p mid s1 m path n idle after none at made taken gone turns goes each kept =
     let R = rows_of p in
     let op = Remove path in
@@ -96,9 +102,13 @@ rmdir_accepts p mid s1 m path n idle after none at made taken gone turns goes ea
       size = kept.size;
       idle = still_idle p mid kept idle;
       made = followed_rows p mid (asked p m (File op)).effect mid.objects.quotas s1.queue u kept
-          (effect_as R op m mid.tree.nodes mid.objects.quotas s1.queue
+          (effect_as R op m mid.tree.nodes mid.objects.quotas mid.objects s1.queue
           (ap (λ x. without_row number x p.tree.nodes) to ∙ sym (ap (λ (w : Volume). w.nodes) made))
-          (ap (λ x. without_row folder_of x p.objects.quotas) to ∙ sym taken)
+          (record {
+            quotas_are = ap (λ x. without_row folder_of x p.objects.quotas) to ∙ sym (ap (λ (t : Tables). t.quotas) taken);
+            screens_are = ap (λ x. without_row screen_folder x p.objects.screens) to ∙ sym (ap (λ (t : Tables). t.screens) taken);
+            excepts_are = ap (λ x. without_row except_folder x p.objects.excepts) to ∙ sym (ap (λ (t : Tables). t.excepts) taken);
+          })
           (remove_queue p m path n at ∙ sym gone))
           goes.queue
           (rmdir_left p.scans s1 p.tree mid.tree n (left mid.tree.nodes mid.scans) goes.left_is turns each

@@ -1,10 +1,19 @@
 -- What goes makes nothing due.
-use Rattle.std.proofs.Common.{◌≡◌, ℕ, ◌+◌, ◌-◌, ◌≤◌, cond, List, [], Option, Some, None, refl, ap, sym, ◌∙◌, subst, arith}
+use Rattle.std.proofs.Common.{◌≡◌, ℕ, ◌-◌, ◌≤◌, ◌==◌, Bool, true, false, cond, List, [], Option, Some, None, refl, ap, sym, ◌∙◌, subst, arith}
 use Rattle.std.specs.Prelude.{map, option_map}
-use Rattle.fsrm_base.specs.Keyed.{row_of, without_row}
-use Rattle.fsrm_base.proofs.Look.{row_of-without}
+use Rattle.fsrm_base.specs.Keyed.{has_row, row_of, without_row}
+use Rattle.fsrm_base.proofs.EditedRows.{without_absent}
+use Rattle.fsrm_base.proofs.Look.{found_key, has_found, row_of-without}
+use Rattle.fsrm_base.proofs.Members.{all_found}
+use Rattle.fsrm_base.proofs.TestLaws.{both, clash, not_true}
 use Rattle.fsrm_model.specs.declared.row.QuotaRow.{QuotaRow}
+use Rattle.fsrm_model.specs.Limits.{most_excepts}
 use Rattle.fsrm_model.specs.Quota.{folder_of}
+use Rattle.fsrm_model.specs.Screens.{screen_folder, except_folder}
+use Rattle.fsrm_model.specs.Tree.{is_folder}
+use Rattle.fsrm_model.specs.Valid.{are_group_numbers, is_sound_except}
+use Rattle.fsrm_model.proofs.valid.RowsKept.{screens_folder}
+use Rattle.fsrm_model.proofs.valid.ScreensKept.{table_parts}
 use Rattle.quota_usage.specs.declared.change.Change.{Change}
 use Rattle.quota_usage.specs.declared.change.Counter.{Counter}
 use Rattle.quota_usage.specs.Charge.{charged, charged_counter, is_above}
@@ -12,7 +21,7 @@ use Rattle.quota_usage.specs.Counters.{counted, used_in, without_counter}
 use Rattle.scan_queue.specs.Courses.{Course}
 use Rattle.volume_tree.specs.Volume.{Volume}
 use Rattle.fsrm_engine.specs.declared.parts.Parts.{Parts}
-use Rattle.fsrm_engine.specs.Machine.{AreCounted}
+use Rattle.fsrm_engine.specs.Machine.{AreCounted, IsWhole, rows_of}
 use Rattle.fsrm_engine.proofs.operations.IdleLaws.{left_found}
 use Rattle.fsrm_engine.proofs.settling.CalmLaws.{AtMost, at_most_own, calm_less}
 use Rattle.fsrm_engine.proofs.settling.EndLaws.{due_of}
@@ -49,3 +58,21 @@ calm_without p mid m n c d size quotas counters =
     same q found =
         ap (λ cs. used_in cs q.folder) counters
         ∙ ap (option_map (λ (r : Counter). r.bytes)) (row_of-without counted n q.folder p.usage (left_found folder_of n q.folder p.objects.quotas q (now q found)).other)
+
+-- ---- a file is the folder of no object
+unfoldered : {X : Type 0} (key : X → ℕ) (rows : List X) (folders : ℕ → Bool) (n : ℕ) → (has_row key n rows ≡ true → folders n ≡ true) → folders n ≡ false → without_row key n rows ≡ rows
+unfoldered key rows folders n on file = without_absent key n rows (not_true (has_row key n rows) (λ h. clash (folders n) (on h) file))
+
+pub no_screen : (p : Parts) (n : ℕ) → IsWhole p → is_folder p.tree.nodes n ≡ false → without_row screen_folder n p.objects.screens ≡ p.objects.screens
+no_screen p n w file = unfoldered screen_folder p.objects.screens (is_folder p.tree.nodes) n (screens_folder (rows_of p) n w.valid.tables.screens) file
+
+pub no_except : (p : Parts) (n : ℕ) → IsWhole p → is_folder p.tree.nodes n ≡ false → without_row except_folder n p.objects.excepts ≡ p.objects.excepts
+no_except p n w file = unfoldered except_folder p.objects.excepts (is_folder p.tree.nodes) n there file
+  where
+    there : has_row except_folder n p.objects.excepts ≡ true → is_folder p.tree.nodes n ≡ true
+    there h =
+        let found = has_found except_folder n p.objects.excepts h in
+        let table = table_parts except_folder most_excepts (is_sound_except p.tree.nodes p.groups) p.objects.excepts w.valid.tables.excepts in
+        let own = all_found (is_sound_except p.tree.nodes p.groups) (λ e. except_folder e == n) p.objects.excepts found.row table.each found.is in
+        ap (is_folder p.tree.nodes) (sym (found_key except_folder n p.objects.excepts found.row found.is))
+        ∙ (both (is_folder p.tree.nodes found.row.folder) (are_group_numbers p.groups found.row.groups) own).0

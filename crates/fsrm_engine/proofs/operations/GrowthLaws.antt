@@ -25,7 +25,6 @@ use Rattle.fsrm_base.proofs.Look.{has_row-change}
 use Rattle.fsrm_model.proofs.nodes.Keeps.{tree_of, found_folder, folder-new, folder-change}
 use Rattle.fsrm_base.proofs.Order.{least_free_is}
 use Rattle.fsrm_base.proofs.TestLaws.{clash, both}
-use Rattle.fsrm_objects.specs.Tables.{Tables}
 use Rattle.quota_usage.specs.declared.change.Change.{Change}
 use Rattle.quota_usage.specs.declared.change.Counter.{Counter}
 use Rattle.quota_usage.specs.Charge.{is_above, charged_counter}
@@ -35,7 +34,7 @@ use Rattle.volume_tree.specs.declared.answer.TreeFault.{TreeFault}
 use Rattle.volume_tree.specs.Volume.{Volume, with_length}
 use Rattle.fsrm_engine.specs.Faults.{quota_refusal}
 use Rattle.fsrm_engine.specs.declared.parts.Parts.{Parts}
-use Rattle.fsrm_engine.specs.Machine.{rows_of, sums_of, charged_parts, IsCounted, AreCounted}
+use Rattle.fsrm_engine.specs.Machine.{rows_of, sums_of, IsCounted, AreCounted}
 use Rattle.fsrm_engine.specs.Peaks.{raised_above}
 use Rattle.fsrm_engine.specs.Places.{IsFile}
 use Rattle.fsrm_engine.proofs.steps.StepLaws.{due, tree_first, last_check}
@@ -134,12 +133,6 @@ by_quotas p new change o e c h = exceeded_is p.tree.size (rows_of p) new change 
 pub due_next : (o : Option TreeFault) (more refusal : Option Refusal) → o ≡ None → more ≡ refusal → tree_first o more ≡ refusal
 due_next o more refusal h is = ap (λ o. tree_first o more) h ∙ is
 
--- parts that were charged, by what is new in them
-pub charged_is : (p : Parts) (change : Change) (m : ℕ) (counters : List Counter) (tables : Tables) → counters ≡ map (charged_counter p.tree.nodes change) p.usage → tables ≡ record { quotas = map (raised_above p.tree.nodes change.to counters m) p.objects.quotas } → record p { objects = tables; usage = counters } ≡ charged_parts p change m
-charged_is p change m counters tables charging raising =
-    ap (λ (t : Tables). record p { objects = t; usage = counters }) raising
-    ∙ ap (λ (cs : List Counter). record p { objects = record { quotas = map (raised_above p.tree.nodes change.to cs m) p.objects.quotas }; usage = cs }) charging
-
 -- the folders of quotas stay folders
 pub resized_folder : (nodes : List NodeRow) (x bytes m f : ℕ) → is_folder nodes f ≡ true → is_folder (with_change number x (resized bytes m) nodes) f ≡ true
 resized_folder nodes x bytes m f h = folder-change nodes x f (resized bytes m) (λ r. refl) (λ r. refl) ∙ h
@@ -161,11 +154,11 @@ pub record ChargedTo (v w : Volume) (quotas raised : List QuotaRow) (counters : 
   pub engine : IsCounted w.size w.nodes raised counters level
   pub raised_are : map (peaked v.size w.nodes m) raised ≡ map (peaked v.size w.nodes m) quotas
 
-pub charged_at : {level : Bool} (v w : Volume) (new : List NodeRow) (quotas : List QuotaRow) (tables : Tables) (counters charged_are : List Counter) (change : Change) (m : ℕ) → w ≡ record { size = v.size; nodes = new } → IsCounted v.size v.nodes quotas counters level → IsVolume w.size w.nodes → ((f : ℕ) (q : QuotaRow) → row_of folder_of f quotas ≡ Some q → is_folder v.nodes f ≡ true → is_folder new f ≡ true) → Changes v.size v.nodes new quotas change → m ≤ 4102444799 → charged_are ≡ map (charged_counter w.nodes change) counters → tables ≡ record { quotas = map (raised_above w.nodes change.to charged_are m) quotas } → ChargedTo v w quotas tables.quotas charged_are m level
-charged_at {level} v w new quotas tables counters charged_are change m is e kept folders c late charging raising =
-    subst (λ (u : Volume). IsVolume u.size u.nodes → charged_are ≡ map (charged_counter u.nodes change) counters → tables ≡ record { quotas = map (raised_above u.nodes change.to charged_are m) quotas } → ChargedTo v u quotas tables.quotas charged_are m level) (sym is)
+pub charged_at : {level : Bool} (v w : Volume) (new : List NodeRow) (quotas raised : List QuotaRow) (counters charged_are : List Counter) (change : Change) (m : ℕ) → w ≡ record { size = v.size; nodes = new } → IsCounted v.size v.nodes quotas counters level → IsVolume w.size w.nodes → ((f : ℕ) (q : QuotaRow) → row_of folder_of f quotas ≡ Some q → is_folder v.nodes f ≡ true → is_folder new f ≡ true) → Changes v.size v.nodes new quotas change → m ≤ 4102444799 → charged_are ≡ map (charged_counter w.nodes change) counters → raised ≡ map (raised_above w.nodes change.to charged_are m) quotas → ChargedTo v w quotas raised charged_are m level
+charged_at {level} v w new quotas raised counters charged_are change m is e kept folders c late charging raising =
+    subst (λ (u : Volume). IsVolume u.size u.nodes → charged_are ≡ map (charged_counter u.nodes change) counters → raised ≡ map (raised_above u.nodes change.to charged_are m) quotas → ChargedTo v u quotas raised charged_are m level) (sym is)
     (λ volume charging raising.
-    let d = charged_done v.size v.nodes new quotas tables.quotas counters charged_are change m e volume folders c (moment_is m late) charging (ap (λ (t : Tables). t.quotas) raising) in
+    let d = charged_done v.size v.nodes new quotas raised counters charged_are change m e volume folders c (moment_is m late) charging raising in
     record { engine = d.engine; raised_are = d.raised_are })
     kept charging raising
 
@@ -189,9 +182,9 @@ there_resized v w n bytes m p made h =
     ap (λ (u : Volume). has_row number p u.nodes) made ∙ (has_row-change number n (resized bytes m) (λ r. refl) p v.nodes ∙ h)
 
 -- what is kept where a file got another length
-pub resize_done : {level : Bool} (v w : Volume) (quotas : List QuotaRow) (tables : Tables) (counters charged_are : List Counter) (path : List (List ℕ)) (view : NodeView) (bytes m minus plus : ℕ) → IsCounted v.size v.nodes quotas counters level → IsFile v.nodes path view → minus ≡ alloc v.size view.length → plus ≡ alloc v.size bytes → w ≡ with_length v view.number bytes m → IsVolume w.size w.nodes → m ≤ 4102444799 →
-    charged_are ≡ map (charged_counter w.nodes (record { from = Some view.parent; to = Some view.parent; minus = minus; plus = plus })) counters → tables ≡ record { quotas = map (raised_above w.nodes (Some view.parent) charged_are m) quotas } → ChargedTo v w quotas tables.quotas charged_are m level
-resize_done v w quotas tables counters charged_are path view bytes m minus plus e f less more made kept late charging raising =
-    charged_at v w (with_change number view.number (resized bytes m) v.nodes) quotas tables counters charged_are (record { from = Some view.parent; to = Some view.parent; minus = minus; plus = plus }) m made e kept
+pub resize_done : {level : Bool} (v w : Volume) (quotas raised : List QuotaRow) (counters charged_are : List Counter) (path : List (List ℕ)) (view : NodeView) (bytes m minus plus : ℕ) → IsCounted v.size v.nodes quotas counters level → IsFile v.nodes path view → minus ≡ alloc v.size view.length → plus ≡ alloc v.size bytes → w ≡ with_length v view.number bytes m → IsVolume w.size w.nodes → m ≤ 4102444799 →
+    charged_are ≡ map (charged_counter w.nodes (record { from = Some view.parent; to = Some view.parent; minus = minus; plus = plus })) counters → raised ≡ map (raised_above w.nodes (Some view.parent) charged_are m) quotas → ChargedTo v w quotas raised charged_are m level
+resize_done v w quotas raised counters charged_are path view bytes m minus plus e f less more made kept late charging raising =
+    charged_at v w (with_change number view.number (resized bytes m) v.nodes) quotas raised counters charged_are (record { from = Some view.parent; to = Some view.parent; minus = minus; plus = plus }) m made e kept
     (λ f q found folder. resized_folder v.nodes view.number bytes m f folder)
     (resize_changes v.size v.nodes quotas path view bytes m minus plus e.volume e.are_quotas f less more) late charging raising

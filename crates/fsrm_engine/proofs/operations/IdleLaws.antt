@@ -10,12 +10,15 @@ use Rattle.fsrm_model.specs.declared.command.Refusal.TheVariants.{PathNotFound}
 use Rattle.fsrm_model.specs.declared.row.Capacity.{Capacity}
 use Rattle.fsrm_model.specs.declared.row.NodeRow.{NodeRow}
 use Rattle.fsrm_model.specs.declared.row.QuotaRow.{QuotaRow}
+use Rattle.fsrm_model.specs.declared.row.ScreenRow.{ScreenRow}
+use Rattle.fsrm_model.specs.declared.row.ExceptRow.{ExceptRow}
 use Rattle.fsrm_model.specs.Capacities.{is_capacity}
 use Rattle.fsrm_model.specs.Check.{◌when◌, first}
 use Rattle.fsrm_model.specs.FileOps.{made_node, touched}
 use Rattle.fsrm_base.specs.Keyed.{row_of, has_row, is_ascending, with_row, with_change, without_row}
 use Rattle.fsrm_model.specs.Limits.{longest_file}
 use Rattle.fsrm_model.specs.Quota.{folder_of, counts, used_of}
+use Rattle.fsrm_model.specs.Screens.{screen_folder, except_folder}
 use Rattle.fsrm_model.specs.Space.{alloc, space}
 use Rattle.fsrm_model.specs.Tree.{number, parent_of, fresh, is_folder, is_under, is_child, children, resolve, chain, usage}
 use Rattle.fsrm_model.specs.Valid.{IsVolume}
@@ -30,7 +33,7 @@ use Rattle.fsrm_base.proofs.EditedRows.{without_absent}
 use Rattle.fsrm_model.proofs.nodes.Resolves.{resolved}
 use Rattle.fsrm_base.proofs.TestLaws.{eq_is, clash, not_true}
 use Rattle.fsrm_model.proofs.valid.ValidLaws.{folder_has, found_parent}
-use Rattle.fsrm_objects.specs.Tables.{Tables, without_quota}
+use Rattle.fsrm_objects.specs.Tables.{Tables, without_except, without_quota, without_screen}
 use Rattle.quota_usage.specs.declared.change.Change.{Change}
 use Rattle.quota_usage.specs.declared.change.Counter.{Counter}
 use Rattle.quota_usage.specs.Charge.{charged, charged_counter, IsChange, Fits, height}
@@ -84,14 +87,27 @@ copied : {X : Type 0} (o : Option (Bor X)) → is_some (option_copied o) ≡ is_
 copied None = refl
 copied (Some x) = refl
 
-quota_test : (quotas : List QuotaRow) (n : ℕ) (o : Option (Bor QuotaRow)) → option_copied o ≡ row_of folder_of n quotas → has_row folder_of n quotas ≡ is_some o
-quota_test quotas n o e = sym (sym (copied o) ∙ (ap is_some e ∙ is_some-find (λ q. folder_of q == n) quotas))
+row_test : {X : Type 0} (key : X → ℕ) (rows : List X) (n : ℕ) (o : Option (Bor X)) → option_copied o ≡ row_of key n rows → has_row key n rows ≡ is_some o
+row_test key rows n o e = sym (sym (copied o) ∙ (ap is_some e ∙ is_some-find (λ r. key r == n) rows))
 
 pub quota_there : (quotas : List QuotaRow) (n : ℕ) (o : Option (Bor QuotaRow)) → option_copied o ≡ row_of folder_of n quotas → is_some o ≡ true → has_row folder_of n quotas ≡ true
-quota_there quotas n o e h = quota_test quotas n o e ∙ h
+quota_there quotas n o e h = row_test folder_of quotas n o e ∙ h
 
 pub quota_absent : (tables : Tables) (n : ℕ) (o : Option (Bor QuotaRow)) → option_copied o ≡ row_of folder_of n tables.quotas → is_some o ≡ false → tables ≡ without_quota tables n
-quota_absent tables n o e h = ap (λ qs. record tables { quotas = qs }) (sym (without_absent folder_of n tables.quotas (quota_test tables.quotas n o e ∙ h)))
+quota_absent tables n o e h = ap (λ qs. record tables { quotas = qs }) (sym (without_absent folder_of n tables.quotas (row_test folder_of tables.quotas n o e ∙ h)))
+
+-- and screens and exceptions
+pub screen_there : (screens : List ScreenRow) (n : ℕ) (o : Option (Bor ScreenRow)) → option_copied o ≡ row_of screen_folder n screens → is_some o ≡ true → has_row screen_folder n screens ≡ true
+screen_there screens n o e h = row_test screen_folder screens n o e ∙ h
+
+pub screen_absent : (tables : Tables) (n : ℕ) (o : Option (Bor ScreenRow)) → option_copied o ≡ row_of screen_folder n tables.screens → is_some o ≡ false → tables ≡ without_screen tables n
+screen_absent tables n o e h = ap (λ ss. record tables { screens = ss }) (sym (without_absent screen_folder n tables.screens (row_test screen_folder tables.screens n o e ∙ h)))
+
+pub except_there : (excepts : List ExceptRow) (n : ℕ) (o : Option (Bor ExceptRow)) → option_copied o ≡ row_of except_folder n excepts → is_some o ≡ true → has_row except_folder n excepts ≡ true
+except_there excepts n o e h = row_test except_folder excepts n o e ∙ h
+
+pub except_absent : (tables : Tables) (n : ℕ) (o : Option (Bor ExceptRow)) → option_copied o ≡ row_of except_folder n tables.excepts → is_some o ≡ false → tables ≡ without_except tables n
+except_absent tables n o e h = ap (λ es. record tables { excepts = es }) (sym (without_absent except_folder n tables.excepts (row_test except_folder tables.excepts n o e ∙ h)))
 
 sums_same : (K : Capacity) (nodes new : List NodeRow) (quotas : List QuotaRow) → is_ascending folder_of quotas ≡ true → ((f : ℕ) (q : QuotaRow) → row_of folder_of f quotas ≡ Some q → usage K new f ≡ usage K nodes f) → sums_of K nodes quotas ≡ sums_of K new quotas
 sums_same K nodes new quotas asc same =

@@ -13,7 +13,6 @@ use Rattle.fsrm_model.proofs.nodes.ChainLaws.{chain-new_other}
 use Rattle.fsrm_model.proofs.nodes.Keeps.{tree_of}
 use Rattle.fsrm_base.proofs.Order.{least_free_is}
 use Rattle.fsrm_model.proofs.valid.ValidLaws.{folder_has}
-use Rattle.fsrm_objects.specs.Tables.{Tables}
 use Rattle.quota_usage.specs.declared.change.Counter.{Counter}
 use Rattle.quota_usage.specs.Charge.{charged_counter}
 use Rattle.volume_tree.specs.Volume.{Volume, with_node}
@@ -31,10 +30,10 @@ make_changes K nodes quotas d name bytes owner m plus v qs folder is =
     subst (λ (s : ℕ). Changes K nodes (made_nodes nodes d name bytes owner m) quotas (record { from = None; to = Some d; minus = 0; plus = s })) (sym is)
     (changes_made K nodes quotas d name bytes owner m v qs folder)
 
-pub make_done : {level : Bool} (v w : Volume) (quotas : List QuotaRow) (tables : Tables) (counters charged_are : List Counter) (d : ℕ) (name : List ℕ) (bytes owner m plus : ℕ) → IsCounted v.size v.nodes quotas counters level → is_folder v.nodes d ≡ true → plus ≡ alloc v.size bytes → w ≡ with_node v (made_node v.nodes d name false bytes owner m) → IsVolume w.size w.nodes → m ≤ 4102444799 →
-    charged_are ≡ map (charged_counter w.nodes (record { from = None; to = Some d; minus = 0; plus = plus })) counters → tables ≡ record { quotas = map (raised_above w.nodes (Some d) charged_are m) quotas } → ChargedTo v w quotas tables.quotas charged_are m level
-make_done v w quotas tables counters charged_are d name bytes owner m plus e folder is made kept late charging raising =
-    charged_at v w (made_nodes v.nodes d name bytes owner m) quotas tables counters charged_are (record { from = None; to = Some d; minus = 0; plus = plus }) m made e kept
+pub make_done : {level : Bool} (v w : Volume) (quotas raised : List QuotaRow) (counters charged_are : List Counter) (d : ℕ) (name : List ℕ) (bytes owner m plus : ℕ) → IsCounted v.size v.nodes quotas counters level → is_folder v.nodes d ≡ true → plus ≡ alloc v.size bytes → w ≡ with_node v (made_node v.nodes d name false bytes owner m) → IsVolume w.size w.nodes → m ≤ 4102444799 →
+    charged_are ≡ map (charged_counter w.nodes (record { from = None; to = Some d; minus = 0; plus = plus })) counters → raised ≡ map (raised_above w.nodes (Some d) charged_are m) quotas → ChargedTo v w quotas raised charged_are m level
+make_done v w quotas raised counters charged_are d name bytes owner m plus e folder is made kept late charging raising =
+    charged_at v w (made_nodes v.nodes d name bytes owner m) quotas raised counters charged_are (record { from = None; to = Some d; minus = 0; plus = plus }) m made e kept
     (λ f q found was. made_folder v.size v.nodes d name false bytes owner m f e.volume was)
     (make_changes v.size v.nodes quotas d name bytes owner m plus e.volume e.are_quotas folder is) late charging raising
 

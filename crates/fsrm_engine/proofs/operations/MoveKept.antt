@@ -17,7 +17,6 @@ use Rattle.fsrm_model.proofs.nodes.Keeps.{tree_of}
 use Rattle.fsrm_base.proofs.Look.{has_row-change, found_has, has_found}
 use Rattle.fsrm_model.proofs.nodes.Resolves.{resolved}
 use Rattle.fsrm_model.proofs.nodes.UsageLaws.{count_of_file}
-use Rattle.fsrm_objects.specs.Tables.{Tables}
 use Rattle.quota_usage.specs.declared.change.Change.{Change}
 use Rattle.quota_usage.specs.declared.change.Counter.{Counter}
 use Rattle.quota_usage.specs.Charge.{charged_counter, Fits}
@@ -51,10 +50,10 @@ move_changes K nodes quotas x d name view bytes v qs s m moved =
     subst (λ (p : ℕ). Changes K nodes (moved_nodes nodes x d name) quotas (move_change p d bytes)) (found_parent nodes x s.row s.found ∙ sym s.is.parent)
     (changes_moved K nodes quotas x d name bytes v qs m moved)
 
-pub move_done : {level : Bool} (v w : Volume) (quotas : List QuotaRow) (tables : Tables) (counters charged_are : List Counter) (x d : ℕ) (name : List ℕ) (view : NodeView) (bytes m : ℕ) → IsCounted v.size v.nodes quotas counters level → Shows view v.nodes x → MovesTo v.nodes x d → IsMoved v.size v.nodes quotas x bytes → w ≡ with_place v x d name → IsVolume w.size w.nodes → m ≤ 4102444799 →
-    charged_are ≡ map (charged_counter w.nodes (move_change view.parent d bytes)) counters → tables ≡ record { quotas = map (raised_above w.nodes (Some d) charged_are m) quotas } → ChargedTo v w quotas tables.quotas charged_are m level
-move_done v w quotas tables counters charged_are x d name view bytes m e s to moved made kept late charging raising =
-    charged_at v w (moved_nodes v.nodes x d name) quotas tables counters charged_are (move_change view.parent d bytes) m made e kept
+pub move_done : {level : Bool} (v w : Volume) (quotas raised : List QuotaRow) (counters charged_are : List Counter) (x d : ℕ) (name : List ℕ) (view : NodeView) (bytes m : ℕ) → IsCounted v.size v.nodes quotas counters level → Shows view v.nodes x → MovesTo v.nodes x d → IsMoved v.size v.nodes quotas x bytes → w ≡ with_place v x d name → IsVolume w.size w.nodes → m ≤ 4102444799 →
+    charged_are ≡ map (charged_counter w.nodes (move_change view.parent d bytes)) counters → raised ≡ map (raised_above w.nodes (Some d) charged_are m) quotas → ChargedTo v w quotas raised charged_are m level
+move_done v w quotas raised counters charged_are x d name view bytes m e s to moved made kept late charging raising =
+    charged_at v w (moved_nodes v.nodes x d name) quotas raised counters charged_are (move_change view.parent d bytes) m made e kept
     (λ f q found was. placed_folder v.nodes x d name f was)
     (move_changes v.size v.nodes quotas x d name view bytes e.volume e.are_quotas s to moved) late charging raising
 

@@ -11,6 +11,7 @@ use Rattle.fsrm_model.specs.declared.row.NodeRow.{NodeRow}
 use Rattle.fsrm_model.specs.Check.{Check, ◌when◌, first}
 use Rattle.fsrm_model.specs.Quota.{exceeded}
 use Rattle.fsrm_model.specs.FileOps.{target, target_folder, placed}
+use Rattle.fsrm_model.specs.FileWork.{blocked, judged_name}
 use Rattle.fsrm_base.specs.Keyed.{has_row, with_change}
 use Rattle.fsrm_model.specs.Leads.{is_root, leads, leads_to_folder, leads_to_other}
 use Rattle.fsrm_model.specs.Tree.{number, name_of, is_folder, is_under, resolve, folder_part, last_name, child_number, name_bytes}
@@ -23,7 +24,8 @@ use Rattle.volume_tree.specs.Volume.{Volume, is_other, move_fault, with_place}
 use Rattle.fsrm_engine.specs.declared.parts.Parts.{Parts}
 use Rattle.fsrm_engine.specs.Machine.{rows_of}
 use Rattle.fsrm_engine.specs.Places.{IsPlace, IsRefusedPlace}
-use Rattle.fsrm_engine.proofs.steps.StepLaws.{due, tree_first, last_check}
+use Rattle.fsrm_engine.proofs.operations.NewLaws.{two_checks}
+use Rattle.fsrm_engine.proofs.steps.StepLaws.{due, or_else, tree_first}
 use Rattle.fsrm_engine.proofs.steps.PlaceLaws.{root_is, has_resolved, leads_is, target_is, leads_to_folder_is, place_leads, place_folder}
 
 -- the checks that the tree makes too
@@ -64,7 +66,7 @@ bytes_moved v from to n d name k h p =
     ∙ name_bytes-placed v.nodes n d name k.ascending (has_resolved v.size v.nodes from n k h)
 
 -- the refusal that is due to a move to a place
-pub move_due : (p : Parts) (m : ℕ) (from to : List (List ℕ)) (n d : ℕ) (name : List ℕ) → IsVolume p.tree.size p.tree.nodes → resolve p.tree.nodes from ≡ Some n → (n == 0) ≡ false → IsPlace p.tree.nodes to d name → due p m (File (Move from to)) ≡ tree_first (move_fault p.tree n d name) (exceeded p.tree.size (rows_of p) (with_place p.tree n d name).nodes)
+pub move_due : (p : Parts) (m : ℕ) (from to : List (List ℕ)) (n d : ℕ) (name : List ℕ) → IsVolume p.tree.size p.tree.nodes → resolve p.tree.nodes from ≡ Some n → (n == 0) ≡ false → IsPlace p.tree.nodes to d name → due p m (File (Move from to)) ≡ tree_first (move_fault p.tree n d name) (or_else (blocked (judged_name (rows_of p) (Move from to))) (exceeded p.tree.size (rows_of p) (with_place p.tree n d name).nodes))
 move_due p m from to n d name k h inner place =
     let v = p.tree in
     let nodes = v.nodes in
@@ -72,9 +74,10 @@ move_due p m from to n d name k h inner place =
     let on = target_is nodes from n h in
     let at = target_is nodes (folder_part to) d place.resolved in
     let dir = leads_to_folder_is nodes from n h in
+    let by = blocked (judged_name (rows_of p) (Move from to)) in
     let over = exceeded v.size (rows_of p) new in
     listed_at (leads nodes from) (is_root from) (is_root to) (leads_to_folder nodes (folder_part to)) (leads_to_folder nodes from && is_under nodes (target nodes from) (target_folder nodes to)) (leads_to_other nodes to (target nodes from)) (nat_lt v.size.names (name_bytes new))
-    (is_under nodes n d) (is_other (child_number nodes d name) n) (nat_lt (v.size.names + length (name_of nodes n)) (name_bytes nodes + length name)) (over ∷ [])
+    (is_under nodes n d) (is_other (child_number nodes d name) n) (nat_lt (v.size.names + length (name_of nodes n)) (name_bytes nodes + length name)) (by ∷ over ∷ [])
     (leads_is nodes from n h) (root_is v.size nodes from n k h ∙ inner) place.inner (place_folder nodes to d name place)
     (ap (λ b. b && is_under nodes (target nodes from) (target_folder nodes to)) dir
     ∙ (ap (λ x. is_folder nodes n && is_under nodes x (target_folder nodes to)) on
@@ -82,8 +85,8 @@ move_due p m from to n d name k h inner place =
     ∙ under_is v.size nodes n d k (has_resolved v.size nodes (folder_part to) d k place.resolved) place.folder_is)))
     (ap (leads_to_other nodes to) on ∙ ap (λ o. is_other o n) (place_leads v.size nodes to d name k place))
     (bytes_test v.size.names (name_bytes nodes) (name_bytes new) (length (name_of nodes n)) (length name) (bytes_moved v from to n d name k h place))
-    ∙ ap (tree_first (move_fault v n d name)) (last_check over
-    ∙ ap (λ (w : Volume). exceeded v.size (rows_of p) w.nodes) (sym (moved_is v from to n d name h place)))
+    ∙ ap (tree_first (move_fault v n d name)) (two_checks by over
+    ∙ ap (λ (w : Volume). or_else by (exceeded v.size (rows_of p) w.nodes)) (sym (moved_is v from to n d name h place)))
 
 -- the root isn't moved
 first_move : (there root : Bool) (more : List Check) → there ≡ true → root ≡ true → first ((PathNotFound when not there) ∷ (InvalidMove when root) ∷ more) ≡ Some InvalidMove

@@ -28,11 +28,11 @@ use Rattle.thresholds.proofs.SettleLaws.{settles_none}
 use Rattle.fsrm_engine.specs.declared.parts.Parts.{Parts}
 use Rattle.fsrm_engine.specs.Crossing.{Drops, IsCovered, Notes, acts_at, counted_acts, gained_acts, is_crossing, lost_by, used_acts}
 use Rattle.fsrm_engine.specs.Due.{charged_acts, is_kept}
-use Rattle.fsrm_engine.specs.Machine.{IsIdle, Ran, charged_parts}
+use Rattle.fsrm_engine.specs.Machine.{IsCalm, Ran, charged_parts}
 use Rattle.fsrm_engine.specs.Peaks.{raised_above}
 use Rattle.fsrm_engine.proofs.settling.CalmLaws.{AtMost, none_crosses}
 use Rattle.fsrm_engine.proofs.settling.GainLaws.{gained_are, others_none, used_charged}
-use Rattle.fsrm_engine.proofs.settling.MarkLaws.{idle_marked}
+use Rattle.fsrm_engine.proofs.settling.MarkLaws.{calm_set, calm_there}
 use Rattle.fsrm_engine.proofs.settling.PlaceLaws.{by_places}
 use Rattle.quota_usage.specs.Counters.{used_in}
 use Rattle.fsrm_engine.proofs.tables.PeakLaws.{mapped_some, raised_case}
@@ -64,7 +64,7 @@ module _ (nodes : List NodeRow) (place : Option ℕ) (counters : List Counter) (
       (ap (λ n. nat_le n most_quotas) (length-map quotas raise_quota) ∙ le_test (length quotas) most_quotas o.few))
       (all_stay quotas ∙ o.lists)
 
-  pub tables_orderly : (old new : Tables) → new ≡ record { quotas = map raise_quota old.quotas } → are_orderly old.quotas ≡ true → are_orderly new.quotas ≡ true
+  pub tables_orderly : (old new : Tables) → new ≡ record old { quotas = map raise_quota old.quotas } → are_orderly old.quotas ≡ true → are_orderly new.quotas ≡ true
   tables_orderly old new raising ordered = ap (λ (t : Tables). are_orderly t.quotas) raising ∙ raised_orderly old.quotas ordered
 
 -- ---- what is left of the notes
@@ -131,7 +131,7 @@ module _ (nodes : List NodeRow) (counters : List Counter) (change : Change) (to 
 
 -- ---- the whole charge
 -- what its steps left: counters, quotas whose peaks were raised, places that were noted, and those of them that are left
-module _ (p mid : Parts) (change : Change) (to minus m : ℕ) (counters : List Counter) (tables : Tables) (noted : Numbers) (gives : change.to ≡ Some to) (loses : minus ≡ lost_by change to) (idle : IsIdle p) (made : counters ≡ map (charged_counter p.tree.nodes change) p.usage) (raising : tables ≡ record { quotas = map (raised_above p.tree.nodes (Some to) counters m) p.objects.quotas }) (notes : Notes p.crossing noted p.objects.quotas (λ q. is_under p.tree.nodes q.folder to && is_crossing counters minus change.plus q)) (kept : mid ≡ record (record p { usage = counters; objects = tables; crossing = noted }) { crossing = mid.crossing }) (drops : Drops noted mid.crossing tables.quotas (is_kept p.tree.nodes change to)) where
+module _ (p mid : Parts) (change : Change) (to minus m : ℕ) (counters : List Counter) (tables : Tables) (noted : Numbers) (gives : change.to ≡ Some to) (loses : minus ≡ lost_by change to) (idle : IsCalm p) (made : counters ≡ map (charged_counter p.tree.nodes change) p.usage) (raising : tables ≡ record p.objects { quotas = map (raised_above p.tree.nodes (Some to) counters m) p.objects.quotas }) (notes : Notes p.crossing noted p.objects.quotas (λ q. is_under p.tree.nodes q.folder to && is_crossing counters minus change.plus q)) (kept : mid ≡ record (record p { usage = counters; objects = tables; crossing = noted }) { crossing = mid.crossing }) (drops : Drops noted mid.crossing tables.quotas (is_kept p.tree.nodes change to)) where
   abbrev charged : Parts
   charged = charged_parts p change m
 
@@ -154,7 +154,9 @@ module _ (p mid : Parts) (change : Change) (to minus m : ℕ) (counters : List C
   objects_are = ap (λ (q : Parts). q.objects) kept
 
   charged_objects : charged.objects ≡ tables
-  charged_objects = ap (λ (qs : List QuotaRow). record p.objects { quotas = qs }) (sym known.raised_are)
+  charged_objects =
+      let with_quotas : List QuotaRow → Tables = λ qs. record p.objects { quotas = qs } in
+      ap with_quotas (sym known.raised_are) ∙ (ap with_quotas (ap (λ (t : Tables). t.quotas) raising) ∙ sym raising)
 
   pub still_set : is_set mid.crossing.members ≡ true
   still_set = left_set p.tree.nodes p.usage change to m p.objects.quotas tables.quotas p.crossing noted mid.crossing known
@@ -218,7 +220,7 @@ none_gain p change m none = at (charged_parts p change m).objects.quotas
     at [] = refl
     at (q ∷ quotas) = ap (λ acts. acts ++ flat_map own quotas) (quiet q) ∙ at quotas
 
-pub charge_none : (p : Parts) (change : Change) (m : ℕ) (counters : List Counter) → change.to ≡ None → IsIdle p → length p.marks.log ≤ most_entries → counters ≡ map (charged_counter p.tree.nodes change) p.usage → Ran (charged_parts p change m) (record p { usage = counters }) m (charged_acts p change m)
+pub charge_none : (p : Parts) (change : Change) (m : ℕ) (counters : List Counter) → change.to ≡ None → IsCalm p → length p.marks.log ≤ most_entries → counters ≡ map (charged_counter p.tree.nodes change) p.usage → Ran (charged_parts p change m) (record p { usage = counters }) m (charged_acts p change m)
 charge_none p change m counters none idle few made =
     let charged = charged_parts p change m in
     let same : p.objects ≡ charged.objects =
@@ -227,6 +229,6 @@ charge_none p change m counters none idle few made =
       parts_are = ap (λ (cs : List Counter). record p { usage = cs }) made;
       settles =
           subst (λ (t : Tables). Settles p.marks p.marks t p.objects m (charged_acts p change m)) same
-          (subst (Settles p.marks p.marks p.objects p.objects m) (sym (none_gain p change m none)) (settles_none p.marks p.objects m few (idle_marked p idle).there));
-      set = (idle_marked p idle).set;
+          (subst (Settles p.marks p.marks p.objects p.objects m) (sym (none_gain p change m none)) (settles_none p.marks p.objects m few (calm_there p idle)));
+      set = calm_set p idle;
     }

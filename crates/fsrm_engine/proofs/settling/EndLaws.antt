@@ -1,6 +1,7 @@
 -- What is left when actions ran and the command has ended.
 use Rattle.std.proofs.Common.{◌≡◌, ℕ, ◌≤◌, Bool, true, false, cond, ◌&&◌, ◌++◌, not, List, [], ◌∷◌, length, nat_lt, refl, ap, sym, ◌∙◌}
 use Rattle.std.specs.Prelude.{map, filter, flat_map}
+use Rattle.std.specs.List.{AllByRecursion}
 use Rattle.fsrm_base.proofs.TestLaws.{both, le_is}
 use Rattle.fsrm_model.specs.declared.command.Act.{Act}
 use Rattle.fsrm_model.specs.declared.row.ActRow.{ActRow}
@@ -8,6 +9,7 @@ use Rattle.fsrm_model.specs.declared.row.Capacity.{Capacity}
 use Rattle.fsrm_model.specs.declared.row.NodeRow.{NodeRow}
 use Rattle.fsrm_model.specs.declared.row.QuotaRow.{QuotaRow}
 use Rattle.fsrm_model.specs.declared.row.Rows.{Rows}
+use Rattle.fsrm_model.specs.declared.row.ScreenRow.{ScreenRow}
 use Rattle.fsrm_model.specs.declared.row.Threshold.{Threshold}
 use Rattle.fsrm_model.specs.declared.command.Subject.TheVariants.{Quota}
 use Rattle.fsrm_model.specs.DueActions.{due, quota_acts, ready_acts}
@@ -17,12 +19,14 @@ use Rattle.fsrm_model.specs.Quota.{counts, peaked, peaks}
 use Rattle.fsrm_model.specs.Reached.{crossed, reached}
 use Rattle.fsrm_model.specs.Runs.{run_quota, last_entries, entry_of, ran}
 use Rattle.fsrm_model.specs.Tree.{usage}
+use Rattle.fsrm_model.proofs.thresholds.ActLaws.{IsOfQuota}
 use Rattle.fsrm_model.proofs.thresholds.ReachedLaws.{reached_peaked}
+use Rattle.fsrm_model.proofs.thresholds.UnrunLaws.{screens_unrun}
 use Rattle.fsrm_objects.specs.Tables.{Tables}
 use Rattle.thresholds.proofs.SettleLaws.{settles_none}
 use Rattle.fsrm_engine.specs.declared.parts.Parts.{Parts}
 use Rattle.fsrm_engine.specs.Machine.{IsIdle, IsWhole, Ran, ended, rows_of}
-use Rattle.fsrm_engine.proofs.settling.MarkLaws.{idle_marked}
+use Rattle.fsrm_engine.proofs.settling.MarkLaws.{calm_of, calm_set, calm_there}
 
 -- ---- peaks and runs don't touch each other
 peaked_run : (K : Capacity) (nodes : List NodeRow) (m : ℕ) (acts : List Act) (q : QuotaRow) → peaked K nodes m (run_quota m acts q) ≡ run_quota m acts (peaked K nodes m q)
@@ -39,32 +43,35 @@ peaked_runs K nodes m acts (q ∷ quotas) =
     ∙ ap (λ rs. run_quota m acts (peaked K nodes m q) ∷ rs) (peaked_runs K nodes m acts quotas)
 
 -- the rows of parts whose actions ran, at their end. Some peaks may have been raised before
-pub ended_rows : (mid run : Parts) (m : ℕ) (acts : List Act) (quotas : List QuotaRow) → Ran mid run m acts → map (peaked mid.tree.size mid.tree.nodes m) mid.objects.quotas ≡ map (peaked mid.tree.size mid.tree.nodes m) quotas → rows_of (ended run m) ≡ record (ran m acts (peaks mid.tree.size (record (rows_of mid) { quotas = quotas }) m)) { last_moment = m }
-ended_rows mid run m acts quotas r raised =
+pub ended_rows : (mid run : Parts) (m : ℕ) (acts : List Act) (quotas : List QuotaRow) → AllByRecursion IsOfQuota acts → Ran mid run m acts → map (peaked mid.tree.size mid.tree.nodes m) mid.objects.quotas ≡ map (peaked mid.tree.size mid.tree.nodes m) quotas → rows_of (ended run m) ≡ record (ran m acts (peaks mid.tree.size (record (rows_of mid) { quotas = quotas }) m)) { last_moment = m }
+ended_rows mid run m acts quotas own r raised =
     let K = mid.tree.size in
     let nodes = mid.tree.nodes in
     let of : List QuotaRow → List ActRow → Rows = λ qs log. record (rows_of mid) { quotas = qs; acts = log; last_moment = m } in
+    let log : List ActRow = last_entries (mid.marks.log ++ map (entry_of m) acts) in
     ap (λ (q : Parts). rows_of (ended q m)) r.parts_are
-    ∙ (ap (λ (t : Tables). of (map (peaked K nodes m) t.quotas) run.marks.log) r.settles.tables
+    ∙ (ap (λ (t : Tables). record (of (map (peaked K nodes m) t.quotas) run.marks.log) { screens = t.screens; excepts = t.excepts }) r.settles.tables
     ∙ (ap (of (map (peaked K nodes m) (map (run_quota m acts) mid.objects.quotas))) r.settles.log
-    ∙ ap (λ qs. of qs (last_entries (mid.marks.log ++ map (entry_of m) acts))) (peaked_runs K nodes m acts mid.objects.quotas ∙ ap (map (run_quota m acts)) raised)))
+    ∙ (ap (λ qs. of qs log) (peaked_runs K nodes m acts mid.objects.quotas ∙ ap (map (run_quota m acts)) raised)
+    ∙ ap (λ (screens : List ScreenRow). record (of (map (run_quota m acts) (map (peaked K nodes m) quotas)) log) { screens = screens }) (sym (screens_unrun m acts mid.objects.screens own)))))
 
 -- and if no peak is looked at before they ran
-pub left_rows : (mid run : Parts) (m : ℕ) (acts : List Act) → Ran mid run m acts → rows_of (ended run m) ≡ left_with mid.tree.size (rows_of mid) m acts
-left_rows mid run m acts r =
+pub left_rows : (mid run : Parts) (m : ℕ) (acts : List Act) → AllByRecursion IsOfQuota acts → Ran mid run m acts → rows_of (ended run m) ≡ left_with mid.tree.size (rows_of mid) m acts
+left_rows mid run m acts own r =
     let K = mid.tree.size in
     let nodes = mid.tree.nodes in
     let of : List QuotaRow → List ActRow → Rows = λ qs log. record (rows_of mid) { quotas = qs; acts = log; last_moment = m } in
     ap (λ (q : Parts). rows_of (ended q m)) r.parts_are
-    ∙ (ap (λ (t : Tables). of (map (peaked K nodes m) t.quotas) run.marks.log) r.settles.tables
-    ∙ ap (of (map (peaked K nodes m) (map (run_quota m acts) mid.objects.quotas))) r.settles.log)
+    ∙ (ap (λ (t : Tables). record (of (map (peaked K nodes m) t.quotas) run.marks.log) { screens = t.screens; excepts = t.excepts }) r.settles.tables
+    ∙ (ap (of (map (peaked K nodes m) (map (run_quota m acts) mid.objects.quotas))) r.settles.log
+    ∙ ap (λ (screens : List ScreenRow). record (of (map (peaked K nodes m) (map (run_quota m acts) mid.objects.quotas)) (last_entries (mid.marks.log ++ map (entry_of m) acts))) { screens = screens }) (sym (screens_unrun m acts mid.objects.screens own))))
 
 -- ---- no action ran
 pub few_log : (p : Parts) → IsWhole p → length p.marks.log ≤ most_entries
 few_log p w = le_is (length p.marks.log) most_entries (both _ _ w.valid.log).0
 
 pub unran : (p : Parts) (m : ℕ) → IsIdle p → length p.marks.log ≤ most_entries → Ran p p m []
-unran p m i few = record { parts_are = refl; settles = settles_none p.marks p.objects m few (idle_marked p i).there; set = (idle_marked p i).set }
+unran p m i few = record { parts_are = refl; settles = settles_none p.marks p.objects m few (calm_there p (calm_of p i)); set = calm_set p (calm_of p i) }
 
 -- ---- which actions are due, by what two parts are
 abbrev pub due_of : Parts → Parts → ℕ → List Act

@@ -1,5 +1,5 @@
 -- What is left when a quota refuses: nothing if no act is due, and else the acts.
-use Rattle.std.proofs.Common.{◌≡◌, ℕ, ◌==◌, ◌≤◌, true, false, ◌||◌, ◌++◌, List, [], ◌∷◌, length, Option, Some, None, is_some, refl, ap, sym, ◌∙◌, subst}
+use Rattle.std.proofs.Common.{◌≡◌, ℕ, ◌==◌, ◌≤◌, Bool, true, false, ◌&&◌, ◌||◌, ◌++◌, List, [], ◌∷◌, length, Option, Some, None, is_some, refl, ap, sym, ◌∙◌, subst}
 use Rattle.std.proofs.lemmas.List.{append-nil}
 use Rattle.std.specs.Prelude.{option_map}
 use Rattle.std.specs.List.{AllByRecursion, cons_option}
@@ -31,7 +31,7 @@ use Rattle.fsrm_engine.specs.declared.parts.Parts.{Parts}
 use Rattle.fsrm_engine.specs.Due.{LeavesActs, Refuses, refused_acts}
 use Rattle.fsrm_engine.specs.Faults.{exceeded_refusal, refused_answer}
 use Rattle.fsrm_engine.specs.Machine.{AreCounted, IsIdle, IsSound, Ran, ended}
-use Rattle.fsrm_engine.proofs.settling.MarkLaws.{marked_run}
+use Rattle.fsrm_engine.proofs.settling.MarkLaws.{calm_of, ran_marked}
 use Rattle.fsrm_engine.proofs.settling.OrderedActs.{has_first}
 use Rattle.fsrm_engine.proofs.tables.RanLaws.{sound_run}
 
@@ -40,15 +40,24 @@ no_numbers_left : (numbers : List ℕ) → (length numbers == 0) ≡ true → nu
 no_numbers_left [] h = refl
 no_numbers_left (n ∷ numbers) h = absurd (clash (length (n ∷ numbers) == 0) h (suc_apart (length numbers)))
 
+-- no action of a screen is marked, so that this tells of those of quotas
+pub numbers_tell : (p run : Parts) (m : ℕ) (acts : List Act) (none : Bool) → IsIdle p → Ran p run m acts → none ≡ ((length run.marks.numbers == 0) && (length run.marks.places == 0)) → (length run.marks.numbers == 0) ≡ none
+numbers_tell p run m acts none idle r h =
+    sym (h ∙ (ap (λ (ns : List ℕ). (length run.marks.numbers == 0) && (length ns == 0)) (r.settles.places ∙ idle.places) ∙ and_true (length run.marks.numbers == 0)))
+  where
+    and_true : (b : Bool) → (b && true) ≡ b
+    and_true true = refl
+    and_true false = refl
+
 pub none_ran : (p run : Parts) (m : ℕ) (acts : List Act) → IsIdle p → Ran p run m acts → (length run.marks.numbers == 0) ≡ true → acts ≡ []
-none_ran p run m acts idle r h = at acts (λ subject place. sym ((marked_run p run m acts idle r).are subject place) ∙ ap (λ ns. has_act (waiting run.objects.quotas ns) subject place) (no_numbers_left run.marks.numbers h))
+none_ran p run m acts idle r h = at acts (λ subject place. sym (ran_marked p run m acts (calm_of p idle) r subject place) ∙ ap (λ ns. has_act (waiting run.objects.quotas ns) subject place) (no_numbers_left run.marks.numbers h))
   where
     at : (acts : List Act) → ((subject : Subject) (place : ℕ) → has_act acts subject place ≡ false) → acts ≡ []
     at [] none = refl
     at (act ∷ acts) none = absurd (clash (has_act (act ∷ acts) act.subject act.place) (has_first act acts) (none act.subject act.place))
 
 pub some_ran : (p run : Parts) (m : ℕ) (acts : List Act) → IsIdle p → Ran p run m acts → (length run.marks.numbers == 0) ≡ false → acts ≡ [] → ⊥
-some_ran p run m acts idle r h none = at run.marks.numbers h r.settles.there (λ subject place. (marked_run p run m acts idle r).are subject place ∙ ap (λ acts. has_act acts subject place) none)
+some_ran p run m acts idle r h none = at run.marks.numbers h r.settles.there (λ subject place. ran_marked p run m acts (calm_of p idle) r subject place ∙ ap (λ acts. has_act acts subject place) none)
   where
     at : (numbers : List ℕ) → (length numbers == 0) ≡ false → are_there run.objects.quotas numbers ≡ true → ((subject : Subject) (place : ℕ) → has_act (waiting run.objects.quotas numbers) subject place ≡ false) → ⊥
     at [] h there none = clash (length {A = ℕ} [] == 0) refl h
@@ -64,7 +73,11 @@ still p run m idle few r h =
     let objects : run.objects ≡ p.objects = r.settles.tables ∙ ap (λ (qs : List QuotaRow). record p.objects { quotas = qs }) (quotas_none m p.objects.quotas) in
     let log : run.marks.log ≡ p.marks.log = r.settles.log ∙ (ap last_entries (append-nil p.marks.log) ∙ short_log p.marks.log few) in
     let numbers : run.marks.numbers ≡ p.marks.numbers = no_numbers_left run.marks.numbers h ∙ sym idle.numbers in
-    let marks : run.marks ≡ p.marks = ap (λ ns. record run.marks { numbers = ns }) numbers ∙ ap (λ (acts : List ActRow). record p.marks { log = acts }) log in
+    let marks : run.marks ≡ p.marks =
+    ap (λ ns. record run.marks { numbers = ns }) numbers
+    ∙ (ap (λ (acts : List ActRow). record run.marks { numbers = p.marks.numbers; log = acts }) log
+    ∙ (ap (λ n. record p.marks { folder = n; places = run.marks.places }) r.settles.folder
+    ∙ ap (λ ns. record p.marks { places = ns }) r.settles.places)) in
     r.parts_are
     ∙ (ap (λ (t : Tables). record p { objects = t; marks = run.marks }) objects
     ∙ ap (λ (k : Marked). record p { marks = k }) marks)

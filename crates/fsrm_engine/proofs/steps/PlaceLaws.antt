@@ -6,7 +6,7 @@ use Rattle.std.proofs.lemmas.List.{length-take-le}
 use Rattle.std.specs.Prelude.{is_some, slice_get, unwrap_or, slice_index_or}
 use Rattle.std.specs.Option.{option_map_or}
 use Rattle.fsrm_model.specs.declared.command.Refusal.{Refusal}
-use Rattle.fsrm_model.specs.declared.command.Refusal.TheVariants.{QuotaExceeded}
+use Rattle.fsrm_model.specs.declared.command.Refusal.TheVariants.{QuotaExceeded, ScreenBlocked}
 use Rattle.fsrm_model.specs.declared.row.Capacity.{Capacity}
 use Rattle.fsrm_model.specs.declared.row.NodeRow.{NodeRow}
 use Rattle.fsrm_model.specs.Limits.{longest_file}
@@ -115,7 +115,8 @@ place_found nodes path depth at d name view deep at_is h s f part valid =
       valid = valid;
     }
 
--- a place is refused by no quota
+-- a place is refused by no screen and by no quota
 pub place_bare : (nodes : List NodeRow) (path : List (List ℕ)) (refusal : Refusal) → IsRefusedPlace nodes path refusal → is_bare refusal ≡ true
+place_bare nodes path (ScreenBlocked screen) h = absurd h
 place_bare nodes path (QuotaExceeded folder would limit) h = absurd h
 place_bare nodes path other h = refl

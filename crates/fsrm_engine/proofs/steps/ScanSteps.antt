@@ -20,6 +20,7 @@ use Rattle.fsrm_model.specs.ScanWork.{step_work}
 use Rattle.fsrm_model.specs.Tree.{usage}
 use Rattle.fsrm_model.specs.ValidScans.{IsQueue}
 use Rattle.fsrm_base.proofs.TestLaws.{suc_apart}
+use Rattle.fsrm_objects.specs.Tables.{Tables}
 use Rattle.quota_usage.specs.Counters.{used_in}
 use Rattle.scan_queue.specs.Courses.{Course, Scanning, left}
 use Rattle.thresholds.specs.Settled.{due_in}
@@ -105,7 +106,7 @@ step_passing p s k m n count idle after h is c more =
     let R = rows_of p in
     let ends : (length (left_after R k) == 0) ≡ false = sym (ap (λ (R : Rows). length R.unvisited == 0) is) ∙ more in
     passing_as p (record p { scans = s }) m (Step k) (record { outcome = Scanned n count None; lasting = false }) (visited_rows R k)
-    (record { numbers = idle.numbers; crossing = idle.crossing }) after (step_checks R n h)
+    (record { numbers = idle.numbers; places = idle.places; crossing = idle.crossing }) after (step_checks R n h)
     (ap (λ b. if b then with_state (visited_rows R k) (unwrap_or (head R.queue) 0) Complete else visited_rows R k) ends) ends refl
     (is ∙ sym (ap (λ b. record R { unvisited = if b then left_after R k else scan_begun R.nodes R.queue }) (same_own R.queue)))
     (ap (λ o. record { outcome = o; lasting = false }) (sym (scanned_is p.tree.size R k n count None false h ends (count_is p s k count is c) refl)))
@@ -123,12 +124,13 @@ module _ (p new : Parts) (s : Course) (m n : ℕ) (f : Finishes (record p { scan
   finished_rows =
       let of : List ℕ → List ℕ → Rows = λ queue unvisited. record (rows_of p) { quotas = complete; queue = queue; unvisited = unvisited } in
       ap (λ (q : Parts). record (rows_of q) { quotas = complete }) f.completes.parts_are
+      ∙ (ap (λ (t : Tables). record (of f.scans.queue (left p.tree.nodes f.scans)) { screens = t.screens; excepts = t.excepts }) f.completes.objects_are
       ∙ (ap (of f.scans.queue) f.turns.left_is
-      ∙ ap (λ q. of q (if same_head s.queue q then left p.tree.nodes s else scan_begun p.tree.nodes q)) f.queue_is)
+      ∙ ap (λ q. of q (if same_head s.queue q then left p.tree.nodes s else scan_begun p.tree.nodes q)) f.queue_is))
 
   others : (folder : ℕ) → (folder == n) ≡ false → row_of folder_of folder counting.objects.quotas ≡ row_of folder_of folder p.objects.quotas
   others folder e =
-      ap (row_of folder_of folder) f.completes.quotas_are
+      ap (λ (t : Tables). row_of folder_of folder t.quotas) f.completes.objects_are
       ∙ (others_same (raised counting.usage m) n complete (raised_keeps counting.usage m) folder e ∙ others_same (in_state Complete) n p.objects.quotas (λ r. refl) folder e)
 
   pub finished_due : (old : QuotaRow) → row_of folder_of n p.objects.quotas ≡ Some old → counts old ≡ false → due_in counting.objects None None (used_in counting.usage n) p.run_limit m n ≡ due_of p counting m
@@ -147,6 +149,7 @@ module _ (p new : Parts) (s : Course) (m n : ℕ) (f : Finishes (record p { scan
         size = ap (λ (q : Parts). q.tree.size) f.completes.parts_are;
         idle = record {
           numbers = ap (λ (q : Parts). q.marks.numbers) f.completes.parts_are ∙ idle.numbers;
+          places = ap (λ (q : Parts). q.marks.places) f.completes.parts_are ∙ idle.places;
           crossing = ap (λ (q : Parts). q.crossing) f.completes.parts_are ∙ idle.crossing;
         };
         made =
@@ -162,7 +165,7 @@ step_ending p new s k m n count used old f idle after h found uncounted is c non
     let R = rows_of p in
     let ends : (length (left_after R k) == 0) ≡ true = sym (ap (λ (R : Rows). length R.unvisited == 0) is) ∙ none in
     done_with p f.completes.counting f.completes.run new m (Step k) (record { outcome = Scanned n count (Some used); lasting = true }) _
-    (finished_accepts p new s m n f k idle after h is ends) f.completes.ran (finished_due p new s m n f old found uncounted) f.completes.ends
+    (finished_accepts p new s m n f k idle after h is ends) refl f.completes.ran (finished_due p new s m n f old found uncounted) f.completes.ends
     (ap (λ o. record { outcome = o; lasting = true }) (sym (scanned_is p.tree.size R k n count (Some used) true h ends (count_is p s k count is c) (ap Some (sym u)))))
 
 -- the parts are sound after it

@@ -3,6 +3,7 @@ use Rattle.std.proofs.Common.{◌≡◌, ℕ, ◌≤◌, Bool, true, false, List
 use Rattle.std.proofs.lemmas.Bool.Decides.{nat_tests}
 use Rattle.std.proofs.lemmas.Option.{same_Some}
 use Rattle.std.specs.Prelude.{option_map, map, IfOk, if◌then◌else◌}
+use Rattle.std.specs.List.{AllByRecursion}
 use Rattle.std.specs.Option.{option_and_then}
 use Rattle.fsrm_model.specs.declared.command.Act.{Act}
 use Rattle.fsrm_model.specs.declared.command.Answer.{Answer}
@@ -10,10 +11,12 @@ use Rattle.fsrm_model.specs.declared.command.Command.{Command}
 use Rattle.fsrm_model.specs.declared.command.Deed.{Deed}
 use Rattle.fsrm_model.specs.declared.command.Outcome.TheVariants.{Refused}
 use Rattle.fsrm_model.specs.declared.command.Refusal.{Refusal}
-use Rattle.fsrm_model.specs.declared.command.Refusal.TheVariants.{ClockBack, QuotaExceeded}
+use Rattle.fsrm_model.specs.declared.command.Refusal.TheVariants.{ClockBack, QuotaExceeded, ScreenBlocked}
 use Rattle.fsrm_base.specs.declared.memory.NoMemory.{NoMemory as Wanting}
 use Rattle.fsrm_model.specs.declared.row.ActRow.{ActRow}
+use Rattle.fsrm_model.specs.declared.row.AuditRow.{AuditRow}
 use Rattle.fsrm_model.specs.declared.row.Capacity.{Capacity}
+use Rattle.fsrm_model.specs.declared.row.GroupRow.{GroupRow}
 use Rattle.fsrm_model.specs.declared.row.NodeRow.{NodeRow}
 use Rattle.fsrm_model.specs.declared.row.QuotaRow.{QuotaRow}
 use Rattle.fsrm_model.specs.declared.row.Rows.{Rows}
@@ -25,10 +28,11 @@ use Rattle.fsrm_model.specs.Limits.{most_entries}
 use Rattle.fsrm_model.specs.Quota.{peaked, peaks}
 use Rattle.fsrm_model.specs.QuotaStates.{followed, same_head, scan_begun}
 use Rattle.fsrm_model.specs.Runs.{ran}
-use Rattle.fsrm_model.specs.Step.{Stepped, step, work, decided, accepted, acted, lasted, left_by, ran_if_any, refused_leaving, unacted, unlasting}
+use Rattle.fsrm_model.specs.Step.{Stepped, step, work, decided, accepted, acted, lasted, left_by, ran_if_any, refused_leaving, screened, unacted, unlasting}
 use Rattle.fsrm_model.specs.Text.{is_bare}
 use Rattle.fsrm_model.specs.Work.{Work}
-use Rattle.fsrm_model.proofs.commands.OrderlyLaws.{left_is, acts_left}
+use Rattle.fsrm_model.proofs.commands.OrderlyLaws.{left_is, acts_left, itself_same}
+use Rattle.fsrm_model.proofs.thresholds.ActLaws.{IsOfQuota, of_quota_due, of_quota_refused}
 use Rattle.fsrm_base.proofs.TestLaws.{eq_same}
 use Rattle.quota_usage.specs.declared.change.Exceeded.{Exceeded}
 use Rattle.scan_queue.specs.Courses.{Course, left}
@@ -60,12 +64,12 @@ pub cost_in_time : (R : Rows) (c : Command) → R.last_moment ≤ c.moment → d
 cost_in_time R c after = rw (after_test R.last_moment c.moment after) refl
 
 -- a command whose moment isn't too early is decided by its own checks
-step_by : (p : Parts) (m : ℕ) (deed : Deed) (o : Option Refusal) → p.last_moment ≤ m → due p m deed ≡ o → step_of p m deed ≡ decided p.tree.size (rows_of p) m (asked p m deed) o
+pub step_by : (p : Parts) (m : ℕ) (deed : Deed) (o : Option Refusal) → p.last_moment ≤ m → due p m deed ≡ o → step_of p m deed ≡ decided p.tree.size (rows_of p) m (asked p m deed) o
 step_by p m deed o after h =
     ap (decided p.tree.size (rows_of p) m (asked p m deed)) (ap (λ b. first ((ClockBack when b) ∷ (asked p m deed).checks)) (after_test p.last_moment m after) ∙ h)
 
 -- what is known of the step is known of the parts
-does_by : (p new : Parts) (m : ℕ) (deed : Deed) (answer : Answer) (s : Stepped) → step_of p m deed ≡ s → new.tree.size ≡ p.tree.size → rows_of new ≡ s.rows → AreMarked new s.acts → answer ≡ record { outcome = s.outcome; lasting = s.lasting } → Does p new m deed answer
+pub does_by : (p new : Parts) (m : ℕ) (deed : Deed) (answer : Answer) (s : Stepped) → step_of p m deed ≡ s → new.tree.size ≡ p.tree.size → rows_of new ≡ s.rows → AreMarked new s.acts → answer ≡ record { outcome = s.outcome; lasting = s.lasting } → Does p new m deed answer
 does_by p new m deed answer s h size rows acts e =
     record {
       size_is = size;
@@ -76,8 +80,9 @@ does_by p new m deed answer s h size rows acts e =
     }
 
 -- ---- refusals
--- the answer to a command that is refused, and not by a quota
+-- the answer to a command that is refused, and neither by a screen nor by a quota
 bare_leaves : (K : Capacity) (R : Rows) (m : ℕ) (w : Work) (refusal : Refusal) → is_bare refusal ≡ true → left_by K R m w refusal ≡ None
+bare_leaves K R m w (ScreenBlocked screen) h = cc h
 bare_leaves K R m w (QuotaExceeded folder would limit) h = cc h
 bare_leaves K R m w other h = refl
 
@@ -105,6 +110,9 @@ refused_with p new m deed answer exceeded idle after h due_is r = at (refused_ac
     leaving : (acts : List Act) → acts ≡ due_refused K R (asked p m deed).effect.nodes m → step_of p m deed ≡ refused_leaving K R m refusal (ran_if_any m acts R)
     leaving acts is = step_by p m deed (Some refusal) after h ∙ ap (λ (acts : List Act). refused_leaving K R m refusal (ran_if_any m acts R)) (sym is)
 
+    own : (acts : List Act) → acts ≡ due_refused K R (asked p m deed).effect.nodes m → AllByRecursion IsOfQuota acts
+    own acts is = subst (AllByRecursion IsOfQuota) (sym is) (of_quota_refused K R (asked p m deed).effect.nodes m)
+
     at : (acts : List Act) → acts ≡ due_refused K R (asked p m deed).effect.nodes m → Ran p r.run m acts → LeavesActs acts p r.run new m exceeded answer → Does p new m deed answer
     at [] is run leaves =
         subst (λ (q : Parts). Does p q m deed answer) (sym leaves.0)
@@ -113,8 +121,8 @@ refused_with p new m deed answer exceeded idle after h due_is r = at (refused_ac
         subst (λ (q : Parts). Does p q m deed answer) (sym leaves.0)
         (does_by p (ended r.run m) m deed answer (lasted K R (acted m (act ∷ acts) R) m (Refused refusal)) (leaving (act ∷ acts) is)
         (ap (λ (q : Parts). q.tree.size) run.parts_are)
-        (left_rows p r.run m (act ∷ acts) run ∙ sym (left_is K R m (act ∷ acts) (Refused refusal)))
-        (subst (AreMarked (ended r.run m)) (sym (acts_left K R m (act ∷ acts) (Refused refusal))) (marked_ended p r.run m (act ∷ acts) idle run))
+        (left_rows p r.run m (act ∷ acts) (own (act ∷ acts) is) run ∙ sym (left_is K R R m (act ∷ acts) (Refused refusal) (itself_same K R)))
+        (subst (AreMarked (ended r.run m)) (sym (acts_left K R R m (act ∷ acts) (Refused refusal) (itself_same K R))) (marked_ended p r.run m (act ∷ acts) (own (act ∷ acts) is) idle run))
         leaves.1)
 
 -- ---- commands that last
@@ -123,16 +131,18 @@ pub record Keeps (p mid : Parts) : Type 0 where
   pub size : mid.tree.size ≡ p.tree.size
   pub marks : mid.marks ≡ p.marks
   pub crossing : mid.crossing ≡ p.crossing
+  pub groups : mid.groups ≡ p.groups
+  pub audit : mid.audit ≡ p.audit
   pub run_limit : mid.run_limit ≡ p.run_limit
   pub last_moment : mid.last_moment ≡ p.last_moment
 
 pub keeps : (p : Parts) (tree : Volume) (objects : Tables) (usage : List Counter) (scans : Course) (level : Bool) → tree.size ≡ p.tree.size → Keeps p (record p { tree = tree; objects = objects; usage = usage; scans = scans; level = level })
 keeps p tree objects usage scans level size =
-    record { size = size; marks = refl; crossing = refl; run_limit = refl; last_moment = refl }
+    record { size = size; marks = refl; crossing = refl; groups = refl; audit = refl; run_limit = refl; last_moment = refl }
 
 pub still_idle : (p mid : Parts) → Keeps p mid → IsIdle p → IsIdle mid
 still_idle p mid k i =
-    record { numbers = ap (λ (m : Marked). m.numbers) k.marks ∙ i.numbers; crossing = k.crossing ∙ i.crossing }
+    record { numbers = ap (λ (m : Marked). m.numbers) k.marks ∙ i.numbers; places = ap (λ (m : Marked). m.places) k.marks ∙ i.places; crossing = k.crossing ∙ i.crossing }
 
 pub still_few : (p mid : Parts) → Keeps p mid → length p.marks.log ≤ most_entries → length mid.marks.log ≤ most_entries
 still_few p mid k few = subst (λ (m : Marked). length m.log ≤ most_entries) (sym k.marks) few
@@ -149,12 +159,12 @@ pub record Accepts (p mid : Parts) (m : ℕ) (deed : Deed) : Type 0 where
   pub made : followed (rows_of p) (asked p m deed).effect ≡ record (rows_of mid) { quotas = quotas }
   pub raised : map (peaked p.tree.size mid.tree.nodes m) mid.objects.quotas ≡ map (peaked p.tree.size mid.tree.nodes m) quotas
 
-accepted_by : (K : Capacity) (R : Rows) (m : ℕ) (w : Work) (b : Bool) → w.lasts ≡ b → accepted K R m w ≡ (if b then lasted K R (unacted (followed R w.effect)) m w.outcome else unlasting (followed R w.effect) w.outcome)
-accepted_by K R m w b h = ap (λ b. if b then lasted K R (unacted (followed R w.effect)) m w.outcome else unlasting (followed R w.effect) w.outcome) h
+pub accepted_by : (K : Capacity) (R : Rows) (m : ℕ) (w : Work) (b : Bool) → w.lasts ≡ b → accepted K R m w ≡ (if b then lasted K R (screened (followed R w.effect) m w.judged) m w.outcome else unlasting (followed R w.effect) w.outcome)
+accepted_by K R m w b h = ap (λ b. if b then lasted K R (screened (followed R w.effect) m w.judged) m w.outcome else unlasting (followed R w.effect) w.outcome) h
 
 -- the answer to a command that was done, and whose acts ran
-pub done_with : (p mid run new : Parts) (m : ℕ) (deed : Deed) (answer : Answer) (acts : List Act) → Accepts p mid m deed → Ran mid run m acts → acts ≡ due_of p mid m → new ≡ ended run m → answer ≡ record { outcome = (asked p m deed).outcome; lasting = true } → Does p new m deed answer
-done_with p mid run new m deed answer acts a r due_is ends e =
+pub done_with : (p mid run new : Parts) (m : ℕ) (deed : Deed) (answer : Answer) (acts : List Act) → Accepts p mid m deed → (asked p m deed).judged ≡ None → Ran mid run m acts → acts ≡ due_of p mid m → new ≡ ended run m → answer ≡ record { outcome = (asked p m deed).outcome; lasting = true } → Does p new m deed answer
+done_with p mid run new m deed answer acts a unjudged r due_is ends e =
     let K = p.tree.size in
     let R = rows_of p in
     let w = asked p m deed in
@@ -162,39 +172,55 @@ done_with p mid run new m deed answer acts a r due_is ends e =
     let D = due_acts K R (peaks K E m) m in
     let raised : map (peaked mid.tree.size mid.tree.nodes m) mid.objects.quotas ≡ map (peaked mid.tree.size mid.tree.nodes m) a.quotas =
     subst (λ (K : Capacity). map (peaked K mid.tree.nodes m) mid.objects.quotas ≡ map (peaked K mid.tree.nodes m) a.quotas) (sym a.size) a.raised in
+    let own : AllByRecursion IsOfQuota acts = subst (AllByRecursion IsOfQuota) (sym due_is) (of_quota_due K R (rows_of mid) m) in
     let are : acts ≡ D = due_is ∙ sym (due_made p mid E a.quotas m a.made a.raised) in
     let after : Capacity → Rows → List Act → Rows = λ K E acts. record (ran m acts (peaks K E m)) { last_moment = m } in
     does_by p new m deed answer (lasted K R (unacted E) m w.outcome)
-    (step_by p m deed None a.after a.none ∙ accepted_by K R m w true a.lasts)
+    (step_by p m deed None a.after a.none
+    ∙ (accepted_by K R m w true a.lasts ∙ ap (λ o. lasted K R (screened E m o) m w.outcome) unjudged))
     (ap (λ (q : Parts). q.tree.size) ends ∙ (ap (λ (q : Parts). q.tree.size) r.parts_are ∙ a.size))
     (ap rows_of ends
-    ∙ (ended_rows mid run m acts a.quotas r raised
+    ∙ (ended_rows mid run m acts a.quotas own r raised
     ∙ (ap (λ (K : Capacity). after K (record (rows_of mid) { quotas = a.quotas }) acts) a.size
     ∙ (ap (λ (E : Rows). after K E acts) (sym a.made) ∙ ap (after K E) are))))
-    (subst (λ (q : Parts). AreMarked q D) (sym ends) (subst (AreMarked (ended run m)) are (marked_ended mid run m acts a.idle r)))
+    (subst (λ (q : Parts). AreMarked q D) (sym ends) (subst (AreMarked (ended run m)) are (marked_ended mid run m acts own a.idle r)))
     e
 
 -- the same if no act is due
-pub done_as : (p mid new : Parts) (m : ℕ) (deed : Deed) (answer : Answer) → Accepts p mid m deed → length mid.marks.log ≤ most_entries → due_of p mid m ≡ [] → new ≡ ended mid m → answer ≡ record { outcome = (asked p m deed).outcome; lasting = true } → Does p new m deed answer
-done_as p mid new m deed answer a few calm ends e = done_with p mid mid new m deed answer [] a (unran mid m a.idle few) (sym calm) ends e
+pub done_as : (p mid new : Parts) (m : ℕ) (deed : Deed) (answer : Answer) → Accepts p mid m deed → (asked p m deed).judged ≡ None → length mid.marks.log ≤ most_entries → due_of p mid m ≡ [] → new ≡ ended mid m → answer ≡ record { outcome = (asked p m deed).outcome; lasting = true } → Does p new m deed answer
+done_as p mid new m deed answer a unjudged few calm ends e = done_with p mid mid new m deed answer [] a unjudged (unran mid m a.idle few) (sym calm) ends e
 
 -- The rows that a command makes of these parts before its end, by what may change in them
 abbrev pub made_rows : Parts → List NodeRow → List QuotaRow → List ℕ → List ℕ → Rows
 made_rows p nodes quotas queue unvisited =
     record (rows_of p) { nodes = nodes; quotas = quotas; queue = queue; unvisited = unvisited }
 
-pub followed_rows : (p mid : Parts) (effect : Rows) (quotas : List QuotaRow) (queue unvisited : List ℕ) → Keeps p mid → effect ≡ made_rows p mid.tree.nodes quotas queue unvisited → mid.scans.queue ≡ queue → left mid.tree.nodes mid.scans ≡ (if same_head p.scans.queue queue then unvisited else scan_begun mid.tree.nodes queue) → followed (rows_of p) effect ≡ record (rows_of mid) { quotas = quotas }
+pub followed_rows : (p mid : Parts) (effect : Rows) (quotas : List QuotaRow) (queue unvisited : List ℕ) → Keeps p mid → effect ≡ record (made_rows p mid.tree.nodes quotas queue unvisited) { screens = mid.objects.screens; excepts = mid.objects.excepts } → mid.scans.queue ≡ queue → left mid.tree.nodes mid.scans ≡ (if same_head p.scans.queue queue then unvisited else scan_begun mid.tree.nodes queue) → followed (rows_of p) effect ≡ record (rows_of mid) { quotas = quotas }
 followed_rows p mid effect quotas queue unvisited k made queue_is left_is =
     let nodes = mid.tree.nodes in
     let u = if same_head p.scans.queue queue then unvisited else scan_begun nodes queue in
-    let of : List ActRow → List ℕ → List ℕ → ℕ → ℕ → Rows =
-    λ log q u limit last. record (rows_of_nodes nodes) { quotas = quotas; acts = log; queue = q; unvisited = u; run_limit = limit; last_moment = last } in
+    let of : List GroupRow → List AuditRow → List ActRow → List ℕ → List ℕ → ℕ → ℕ → Rows =
+    λ groups audit log q u limit last.
+    record (rows_of_nodes nodes) {
+      groups = groups;
+      quotas = quotas;
+      screens = mid.objects.screens;
+      excepts = mid.objects.excepts;
+      audits = audit;
+      acts = log;
+      queue = q;
+      unvisited = u;
+      run_limit = limit;
+      last_moment = last;
+    } in
     ap (followed (rows_of p)) made
-    ∙ (ap (λ (x : Marked). of x.log queue u p.run_limit p.last_moment) (sym k.marks)
-    ∙ (ap (λ q. of mid.marks.log q u p.run_limit p.last_moment) (sym queue_is)
-    ∙ (ap (λ u. of mid.marks.log mid.scans.queue u p.run_limit p.last_moment) (sym left_is)
-    ∙ (ap (λ n. of mid.marks.log mid.scans.queue (left nodes mid.scans) n p.last_moment) (sym k.run_limit)
-    ∙ ap (of mid.marks.log mid.scans.queue (left nodes mid.scans) mid.run_limit) (sym k.last_moment)))))
+    ∙ (ap (λ groups. of groups p.audit p.marks.log queue u p.run_limit p.last_moment) (sym k.groups)
+    ∙ (ap (λ audit. of mid.groups audit p.marks.log queue u p.run_limit p.last_moment) (sym k.audit)
+    ∙ (ap (λ (x : Marked). of mid.groups mid.audit x.log queue u p.run_limit p.last_moment) (sym k.marks)
+    ∙ (ap (λ q. of mid.groups mid.audit mid.marks.log q u p.run_limit p.last_moment) (sym queue_is)
+    ∙ (ap (λ u. of mid.groups mid.audit mid.marks.log mid.scans.queue u p.run_limit p.last_moment) (sym left_is)
+    ∙ (ap (λ n. of mid.groups mid.audit mid.marks.log mid.scans.queue (left nodes mid.scans) n p.last_moment) (sym k.run_limit)
+    ∙ ap (of mid.groups mid.audit mid.marks.log mid.scans.queue (left nodes mid.scans) mid.run_limit) (sym k.last_moment)))))))
 
 -- ---- commands that don't
 -- the answer to a command that was done, and doesn't last

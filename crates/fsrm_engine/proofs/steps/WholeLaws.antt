@@ -1,21 +1,25 @@
 -- After a command an engine's parts are whole.
-use Rattle.std.proofs.Common.{◌≡◌, ℕ, ◌≤◌, [], ap, sym, ◌∙◌, subst}
-use Rattle.std.specs.Prelude.{Result, Ok, Err, IfOk, OnErr}
+use Rattle.std.proofs.Common.{◌≡◌, ℕ, ◌≤◌, Bool, true, List, [], ◌++◌, ap, sym, ◌∙◌, subst}
+use Rattle.std.specs.Prelude.{filter, Result, Ok, Err, IfOk, OnErr}
 use Rattle.std.specs.List.{AllByRecursion}
 use Rattle.fsrm_base.specs.declared.memory.NoMemory.{NoMemory as Wanting}
+use Rattle.fsrm_base.proofs.RowLaws.{all_filter}
+use Rattle.fsrm_model.specs.declared.command.Act.{Act}
 use Rattle.fsrm_model.specs.declared.command.Answer.{Answer}
 use Rattle.fsrm_model.specs.declared.command.Command.{Command}
 use Rattle.fsrm_model.specs.declared.command.Deed.{Deed}
 use Rattle.fsrm_model.specs.declared.row.Capacity.{Capacity}
 use Rattle.fsrm_model.specs.declared.row.Rows.{Rows}
-use Rattle.fsrm_model.specs.Acts.{IsAct}
+use Rattle.fsrm_model.specs.Acts.{IsAct, is_of_quota, of_quotas, of_screens}
 use Rattle.fsrm_model.specs.Cost.{cost, deed_cost}
 use Rattle.fsrm_model.specs.Named.{IsNamed}
 use Rattle.fsrm_model.specs.Step.{step}
 use Rattle.fsrm_model.specs.Valid.{AreQuotas, IsValid}
 use Rattle.fsrm_model.proofs.commands.EachCommand.{named}
 use Rattle.fsrm_model.proofs.commands.StepActs.{AreActs}
+use Rattle.fsrm_model.proofs.thresholds.DueLaws.{also}
 use Rattle.scan_queue.specs.Courses.{Scanning}
+use Rattle.thresholds.specs.Marked.{waiting}
 use Rattle.fsrm_engine.specs.declared.parts.Parts.{Parts}
 use Rattle.fsrm_engine.specs.Machine.{Machine, Takes, Does, IsIdle, IsSound, IsWhole, AreCounted, machine_of, rows_of, step_of, ended}
 use Rattle.fsrm_engine.proofs.settling.MarkLaws.{idle_whole}
@@ -35,6 +39,7 @@ whole_after old new m deed answer does sound valid =
       sound = sound;
       valid = subst (IsValid new.tree.size) (sym does.rows_are) (subst (λ (K : Capacity). IsValid K (step_of old m deed).rows) (sym does.size_is) valid);
       there = does.acts_are.there;
+      screens = does.acts_are.places;
       crossing = does.acts_are.crossing;
     }
 
@@ -43,14 +48,22 @@ pub result_whole : (old new : Parts) (m : ℕ) (deed : Deed) (result : Result An
 result_whole old new m deed (Ok answer) whole does same sound valid = whole_after old new m deed answer does sound valid
 result_whole old new m deed (Err e) whole does same sound valid = subst IsWhole (sym same) whole
 
+-- some of the acts are there too
+some_there : (R : Rows) (test : Act → Bool) (acts : List Act) → AllByRecursion (IsAct R) acts → AllByRecursion (IsAct R) (filter test acts)
+some_there R test acts there = all_filter test (IsAct R) acts (also (IsAct R) (λ act. test act ≡ true → IsAct R act) (λ act is passes. is) acts there)
+
 -- the acts that wait are the step's
 pub takes : (old new : Parts) (m : ℕ) (deed : Deed) (answer : Answer) → Does old new m deed answer → AreQuotas new.tree.nodes new.objects.quotas → AreActs (step_of old m deed) → Takes (machine_of old) (machine_of new) (step_of old m deed) answer
 takes old new m deed answer does quotas acts =
+    let stepped : List Act = (step_of old m deed).acts in
     record {
       size_is = does.size_is;
       rows_are = does.rows_are;
-      acts_are = waits_as (rows_of new) new.marks.numbers (step_of old m deed).acts (quotas_orderly new.tree.nodes new.objects.quotas quotas) does.acts_are.set acts.in_order
-          (subst (λ (R : Rows). AllByRecursion (IsAct R) (step_of old m deed).acts) (sym does.rows_are) acts.there) does.acts_are.are;
+      acts_are = ap (λ first. first ++ waiting new.objects.quotas new.marks.numbers) does.acts_are.screens
+          ∙ (ap (λ more. of_screens stepped ++ more)
+          (waits_as (rows_of new) new.marks.numbers (of_quotas stepped) (quotas_orderly new.tree.nodes new.objects.quotas quotas) does.acts_are.set acts.in_order
+          (some_there (rows_of new) (λ act. is_of_quota act.subject) stepped (subst (λ (R : Rows). AllByRecursion (IsAct R) stepped) (sym does.rows_are) acts.there)) does.acts_are.are)
+          ∙ sym acts.first);
       outcome_is = does.outcome_is;
       lasting_is = does.lasting_is;
     }

@@ -365,7 +365,7 @@ completes {level} K nodes quotas in_it set counters made m n used e late there u
     }
 
 -- parts whose quotas and counters have changed so
-pub recounted_as : (p : Parts) (tables : Tables) (counters : List Counter) (quotas : List QuotaRow) → tables ≡ record { quotas = quotas } → IsCounted p.tree.size p.tree.nodes tables.quotas counters p.level → record p { objects = tables; usage = counters } ≡ recounted p quotas
+pub recounted_as : (p : Parts) (tables : Tables) (counters : List Counter) (quotas : List QuotaRow) → tables ≡ record p.objects { quotas = quotas } → IsCounted p.tree.size p.tree.nodes tables.quotas counters p.level → record p { objects = tables; usage = counters } ≡ recounted p quotas
 recounted_as p tables counters quotas is e =
     ap (λ (cs : List Counter). record p { objects = tables; usage = cs }) e.sums
     ∙ ap (λ (t : Tables). record p { objects = t; usage = sums_of p.tree.size p.tree.nodes t.quotas }) is

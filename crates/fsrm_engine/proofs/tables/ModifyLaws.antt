@@ -1,6 +1,6 @@
 -- Quotas that commands make and change.
-use Rattle.std.proofs.Common.{◌≡◌, ℕ, ◌≤◌, ◌==◌, Bool, true, false, List, [], Option, Some, None, refl, ap, sym, ◌∙◌, subst}
-use Rattle.std.specs.Prelude.{unwrap_or, Result, IfOk, if◌then◌else◌}
+use Rattle.std.proofs.Common.{◌≡◌, ℕ, ◌≤◌, ◌==◌, ◌&&◌, Bool, true, false, List, [], ◌∷◌, Option, Some, None, refl, ap, sym, ◌∙◌, subst}
+use Rattle.std.specs.Prelude.{is_none, unwrap_or, Result, IfOk, if◌then◌else◌}
 use Rattle.std.specs.List.{list_all}
 use Rattle.std.specs.Option.{option_and_then, option_map_or}
 use Rattle.fsrm_base.specs.declared.memory.NoMemory.{NoMemory as Wanting}
@@ -16,9 +16,11 @@ use Rattle.fsrm_model.specs.declared.row.NodeRow.{NodeRow}
 use Rattle.fsrm_model.specs.declared.row.QuotaRow.{QuotaRow}
 use Rattle.fsrm_model.specs.declared.row.QuotaState.{QuotaState}
 use Rattle.fsrm_model.specs.declared.row.QuotaState.TheVariants.{Disabled}
+use Rattle.fsrm_base.proofs.TestLaws.{both}
 use Rattle.fsrm_model.specs.Quota.{folder_of, counts, is_complete, is_limit}
 use Rattle.fsrm_model.specs.QuotaStates.{in_state, queued, start, state_after, with_quota, with_state}
 use Rattle.fsrm_model.specs.QuotaWork.{modified, new_quota, remarked}
+use Rattle.fsrm_model.specs.Valued.{is_deed, is_path}
 use Rattle.fsrm_model.specs.Thresholds.{are_thresholds, changed_thresholds, is_notice, is_percent, is_threshold, may_be_removed, percent_of}
 use Rattle.fsrm_model.specs.Tree.{is_folder, usage}
 use Rattle.fsrm_model.specs.Valid.{IsVolume}
@@ -86,7 +88,7 @@ module _ (p mid new : Parts) (m : ℕ) (path : List (List ℕ)) (limit : Option 
       (turned_accepts p mid m deed quotas queue idle after
       (add_due p m path limit enforce enabled percents notices n row w at is ∙ ap (option_and_then table_refusal) may)
       (ap (λ k. with_quota R (made_at k)) (target_is R.nodes path n at.resolved) ∙ ap (with_quota R) (sym is)) refl t)
-      (still_few p mid (turned_keeps p mid quotas queue t) (few_log p w))
+      refl (still_few p mid (turned_keeps p mid quotas queue t) (few_log p w))
       (calm_added p mid m row queue t (admitted p.objects row (text_room p) may).free thresholds limits nothing) ends e
 
 -- ---- a changed one
@@ -156,7 +158,7 @@ module _ (p mid run new : Parts) (m : ℕ) (path : List (List ℕ)) (limit : Opt
       ∙ (ap (λ s. with_state (record R { quotas = with_change folder_of n change R.quotas }) n s) (sym state_is)
       ∙ (ap (λ (qs : List QuotaRow). record R { quotas = qs; queue = queued R.queue n state }) (modified_to R n change (λ r. refl) state q asc at.found)
       ∙ ap (λ (r : QuotaRow). record R { quotas = with_change folder_of r.folder (λ old. r) R.quotas; queue = queued R.queue r.folder r.state }) (sym is)))) refl t in
-      done_with p mid run new m deed answer _ accepts ran
+      done_with p mid run new m deed answer _ accepts refl ran
       (sym (due_changed p mid m n q w.sound.counted counted keeps.size (turned_nodes p mid quotas queue t)
       (λ folder off. ap (row_of folder_of folder) (turned_quotas p mid quotas queue t ∙ put_is row p.objects.quotas asc)
       ∙ others_same (put_in row) row.folder p.objects.quotas (λ r. refl) folder (ap (λ k. folder == k) folder_is ∙ off)) at.found)) ends e
@@ -168,3 +170,24 @@ modified_named old new m deed result path limit enforce enabled removed percents
     (ap (λ (ns : List ℕ). QuotaModify path limit enforce enabled ns s t) e
     ∙ (ap (λ (ns : List ℕ). QuotaModify path limit enforce enabled removed ns t) f
     ∙ (ap (QuotaModify path limit enforce enabled removed percents) h ∙ sym is))) done
+
+-- the same of a new one, which has no template
+pub added_named : (old new : Parts) (m : ℕ) (deed : Deed) (result : Result Answer Wanting) (path : List (List ℕ)) (limit : Option ℕ) (enforce : Option Bool) (enabled : Bool) (template : Option (List ℕ)) (percents r : List ℕ) (notices t : List Added) → is_deed deed ≡ true → deed ≡ QuotaAdd path limit enforce enabled template percents notices → r ≡ percents → t ≡ notices → IfOk result (λ answer. Does old new m (QuotaAdd path limit enforce enabled None r t) answer) → IfOk result (λ answer. Does old new m deed answer)
+added_named old new m deed result path limit enforce enabled template percents r notices t valid is e f done =
+    subst (λ (d : Deed). IfOk result (λ answer. Does old new m d answer))
+    (ap (λ (ns : List ℕ). QuotaAdd path limit enforce enabled None ns t) e
+    ∙ (ap (QuotaAdd path limit enforce enabled None percents) f
+    ∙ (ap (λ (o : Option (List ℕ)). QuotaAdd path limit enforce enabled o percents notices) (sym (no_template template none)) ∙ sym is))) done
+  where
+    no_template : (o : Option (List ℕ)) → is_none o ≡ true → o ≡ None
+    no_template None h = refl
+    no_template (Some text) h = cc h
+
+    lists : Bool
+    lists = list_all is_percent percents && list_all is_notice notices
+
+    values : (option_map_or is_limit limit false && (is_none template && lists)) ≡ true
+    values = (both (list_all is_path (path ∷ [])) (option_map_or is_limit limit false && (is_none template && lists)) (sym (ap is_deed is) ∙ valid)).1
+
+    none : is_none template ≡ true
+    none = (both (is_none template) lists (both (option_map_or is_limit limit false) (is_none template && lists) values).1).0

@@ -72,7 +72,7 @@ first_bare R path refusal h = at (not (leads_to_folder R.nodes path)) (is_none (
     at false false h = cc h
 
 -- A command that changes the quota of a folder, and nothing else: what it does, by the row that the change makes of it
-pub changed_as : (p : Parts) (m : ℕ) (quota : QuotaRow) (deed : Deed) (path : List (List ℕ)) (c : QuotaRow → QuotaRow) (tables : Tables) → IsIdle p → p.last_moment ≤ m → IsQuotaAt p.tree.nodes p.objects.quotas path quota → asked p m deed ≡ asks (quota_checks (rows_of p) path) (record (rows_of p) { quotas = with_change folder_of (target p.tree.nodes path) c p.objects.quotas }) (Done None) true → tables.quotas ≡ with_change folder_of quota.folder c p.objects.quotas → Accepts p (record p { objects = tables }) m deed
+pub changed_as : (p : Parts) (m : ℕ) (quota : QuotaRow) (deed : Deed) (path : List (List ℕ)) (c : QuotaRow → QuotaRow) (tables : Tables) → IsIdle p → p.last_moment ≤ m → IsQuotaAt p.tree.nodes p.objects.quotas path quota → asked p m deed ≡ asks (quota_checks (rows_of p) path) (record (rows_of p) { quotas = with_change folder_of (target p.tree.nodes path) c p.objects.quotas }) (Done None) true → tables ≡ record p.objects { quotas = with_change folder_of quota.folder c p.objects.quotas } → Accepts p (record p { objects = tables }) m deed
 changed_as p m quota deed path c tables idle after on is set =
     let R = rows_of p in
     let mid : Parts = record p { objects = tables } in
@@ -85,7 +85,9 @@ changed_as p m quota deed path c tables idle after on is set =
       size = refl;
       idle = still_idle p mid kept idle;
       made = followed_rows p mid (asked p m deed).effect tables.quotas p.scans.queue R.unvisited kept
-          (ap (λ w. w.effect) is ∙ ap (λ (qs : List QuotaRow). record R { quotas = qs }) (ap (λ k. with_change folder_of k c p.objects.quotas) (target_is R.nodes path quota.folder on.at.resolved) ∙ sym set))
+          (ap (λ w. w.effect) is
+          ∙ (ap (λ k. record R { quotas = with_change folder_of k c p.objects.quotas }) (target_is R.nodes path quota.folder on.at.resolved)
+          ∙ ap (λ (t : Tables). record R { quotas = t.quotas; screens = t.screens; excepts = t.excepts }) (sym set)))
           refl (sym (ap (λ b. if b then left p.tree.nodes p.scans else scan_begun p.tree.nodes p.scans.queue) (same_own p.scans.queue)));
       raised = refl;
     }

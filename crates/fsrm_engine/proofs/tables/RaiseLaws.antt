@@ -147,8 +147,16 @@ raised_whole raise old now place end r =
     empty (x ∷ rows) h = absurd (omega arith)
 
 -- tables with these quotas
-pub tables_as : (t : Tables) (quotas : List QuotaRow) → t.quotas ≡ quotas → t ≡ record { quotas = quotas }
+pub tables_as : (t : Tables) (quotas : List QuotaRow) → t.quotas ≡ quotas → t ≡ record t { quotas = quotas }
 tables_as t quotas is = ap (λ (qs : List QuotaRow). record t { quotas = qs }) is
+
+-- tables of which the quotas alone have changed
+pub tables_on : (old mid new : Tables) (quotas : List QuotaRow) → mid ≡ record old { quotas = mid.quotas } → new ≡ record mid { quotas = quotas } → new ≡ record old { quotas = quotas }
+tables_on old mid new quotas kept is = is ∙ ap (λ (t : Tables). record t { quotas = quotas }) kept
+
+pub tables_kept : (old mid new : Tables) (quotas : List QuotaRow) → mid ≡ record old { quotas = mid.quotas } → new ≡ record mid { quotas = quotas } → new ≡ record old { quotas = new.quotas }
+tables_kept old mid new quotas kept is =
+    tables_on old mid new quotas kept is ∙ ap (λ (qs : List QuotaRow). record old { quotas = qs }) (sym (ap (λ (t : Tables). t.quotas) is))
 
 -- whether a quota crosses a threshold, by its counter
 pub crossing_none : (counters : List Counter) (minus plus : ℕ) (q : QuotaRow) → used_in counters q.folder ≡ None → is_crossing counters minus plus q ≡ false

@@ -34,7 +34,8 @@ use Rattle.fsrm_model.specs.Texts.{object_texts, quota_bytes}
 use Rattle.fsrm_model.specs.Thresholds.{are_minutes, are_thresholds, are_too_many, changed_thresholds, is_action, is_action_text, is_kept_action, is_percent, is_printing, is_threshold, may_be_removed, percent_of}
 use Rattle.fsrm_objects.specs.declared.answer.ObjectFault.{ObjectFault}
 use Rattle.fsrm_objects.specs.declared.answer.ObjectFault.TheVariants as object
-use Rattle.fsrm_objects.specs.Tables.{IsFault, is_short, other_fault, quota_fault, quota_texts}
+use Rattle.file_groups.specs.Kept.{group_texts}
+use Rattle.fsrm_objects.specs.Tables.{IsFault, is_short, other_fault, quota_fault, quota_texts, screen_texts, texts_in}
 use Rattle.fsrm_engine.specs.declared.parts.Parts.{Parts}
 use Rattle.fsrm_engine.specs.Faults.{table_answer, table_refusal, text_room}
 use Rattle.fsrm_engine.specs.Machine.{Does, IsIdle, IsWhole, rows_of}
@@ -80,20 +81,26 @@ goes_in due (Ok u) none refused = refl
 goes_in due (Err fault) none refused = let e = sym none ∙ refused in absurd (cc e)
 
 -- ---- room for texts
--- all texts are those of quotas
-all_texts : (p : Parts) (quotas : List QuotaRow) → object_texts (record (rows_of p) { quotas = quotas }) ≡ quota_texts quotas
+-- all texts are those of quotas, screens and groups
+abbrev pub texts_of : Parts → ℕ
+texts_of p = texts_in p.objects + group_texts p.groups
+
+abbrev other_texts : Parts → ℕ
+other_texts p = screen_texts p.objects.screens + group_texts p.groups
+
+all_texts : (p : Parts) (quotas : List QuotaRow) → object_texts (record (rows_of p) { quotas = quotas }) ≡ quota_texts quotas + other_texts p
 all_texts p quotas = omega arith
 
-room_test : (most bytes new : ℕ) → bytes ≤ most → nat_lt most (new + bytes) ≡ nat_lt (most - bytes) new
-room_test most bytes new few = grind (arith, nat_tests)
+pub room_test : (most bytes new all : ℕ) → bytes ≤ most → all ≡ new + bytes → nat_lt most all ≡ nat_lt (most - bytes) new
+room_test most bytes new all few is = grind (arith, nat_tests)
 
-room_other : (most bytes less new all : ℕ) → bytes ≤ most → all + less ≡ bytes + new → nat_lt most all ≡ nat_lt (most - bytes + less) new
+pub room_other : (most bytes less new all : ℕ) → bytes ≤ most → all + less ≡ bytes + new → nat_lt most all ≡ nat_lt (most - bytes + less) new
 room_other most bytes less new all few is = grind (arith, nat_tests)
 
-few_texts : (p : Parts) → IsWhole p → quota_texts p.objects.quotas ≤ most_text_bytes
+pub few_texts : (p : Parts) → IsWhole p → texts_of p ≤ most_text_bytes
 few_texts p w = omega (arith, w.valid.texts, all_texts p p.objects.quotas)
 
-full_test : (most n m : ℕ) → m ≡ suc n → nat_lt most m ≡ nat_le most n
+pub full_test : (most n m : ℕ) → m ≡ suc n → nat_lt most m ≡ nat_le most n
 full_test most n m h = grind (arith, nat_tests)
 
 -- ---- a new quota
@@ -117,15 +124,16 @@ new_is p row w =
     let taken : is_some (quota_of (rows_of p) row.folder) ≡ has_row folder_of row.folder quotas = is_some-find (λ q. folder_of q == row.folder) quotas in
     let full : nat_lt most_quotas (length (with_row folder_of row quotas)) ≡ nat_le most_quotas (length quotas) =
     full_test most_quotas (length quotas) (length (with_row folder_of row quotas)) (length-with_row folder_of row quotas) in
+    let whole : object_texts (with_quota (rows_of p) row) ≡ quota_texts (with_row folder_of row quotas) + other_texts p = with_texts (with_row folder_of row quotas) in
+    let sum : quota_texts (with_row folder_of row quotas) ≡ quota_bytes row + quota_texts quotas = sum_by-with_row folder_of quota_bytes row quotas in
     let bytes : nat_lt most_text_bytes (object_texts (with_quota (rows_of p) row)) ≡ nat_lt (text_room p) (quota_bytes row) =
-    ap (nat_lt most_text_bytes) (with_texts (with_row folder_of row quotas) ∙ sum_by-with_row folder_of quota_bytes row quotas)
-    ∙ room_test most_text_bytes (quota_texts quotas) (quota_bytes row) (few_texts p w) in
+    room_test most_text_bytes (texts_of p) (quota_bytes row) (object_texts (with_quota (rows_of p) row)) (few_texts p w) (omega (arith, whole, sum)) in
     ap (λ a. test a (nat_lt most_quotas (length (with_row folder_of row quotas))) (nat_lt most_text_bytes (object_texts (with_quota (rows_of p) row)))) taken
     ∙ (ap (λ c. test (has_row folder_of row.folder quotas) c (nat_lt most_text_bytes (object_texts (with_quota (rows_of p) row)))) full
     ∙ (ap (test (has_row folder_of row.folder quotas) (nat_le most_quotas (length quotas))) bytes
     ∙ four (has_row folder_of row.folder quotas) (are_too_many row.thresholds) (nat_le most_quotas (length quotas)) (nat_lt (text_room p) (quota_bytes row))))
   where
-    with_texts : (qs : List QuotaRow) → object_texts (record (with_quota (rows_of p) row) { quotas = qs }) ≡ quota_texts qs
+    with_texts : (qs : List QuotaRow) → object_texts (record (with_quota (rows_of p) row) { quotas = qs }) ≡ quota_texts qs + other_texts p
     with_texts qs = omega arith
 
 pub add_due : (p : Parts) (m : ℕ) (path : List (List ℕ)) (limit : Option ℕ) (enforce : Option Bool) (enabled : Bool) (percents : List ℕ) (notices : List Added) (n : ℕ) (row : QuotaRow) → IsWhole p → IsFolder p.tree.nodes path n → row ≡ remarked [] percents notices (new_quota n (unwrap_or limit 0) (unwrap_or enforce true) (if enabled then start p.tree.nodes n else Disabled) m) → due p m (QuotaAdd path limit enforce enabled None percents notices) ≡ option_and_then table_refusal (quota_fault p.objects row (text_room p))
@@ -171,10 +179,10 @@ module _ (p : Parts) (m : ℕ) (path : List (List ℕ)) (limit : Option ℕ) (en
       let put : List QuotaRow = with_change folder_of n (λ old. in_state state (change q)) quotas in
       let put_is : (after n).quotas ≡ put =
       ap (λ s. with_change folder_of n (in_state s) (with_change folder_of n change quotas)) (sym state_is) ∙ modified_to (rows_of p) n change (λ r. refl) state q asc at.found in
+      let whole : object_texts (after n) ≡ quota_texts put + other_texts p = with_texts n (after n).quotas ∙ ap (λ (qs : List QuotaRow). quota_texts qs + other_texts p) put_is in
+      let sum : quota_texts put + quota_bytes q ≡ quota_texts quotas + quota_bytes (in_state state (change q)) = sum_by-with_change folder_of quota_bytes n (λ old. in_state state (change q)) q quotas asc at.found in
       let bytes : nat_lt most_text_bytes (object_texts (after n)) ≡ nat_lt (text_room p + quota_bytes q) (quota_bytes (in_state state (change q))) =
-      ap (nat_lt most_text_bytes) (with_texts n (after n).quotas ∙ ap quota_texts put_is)
-      ∙ room_other most_text_bytes (quota_texts quotas) (quota_bytes q) (quota_bytes (in_state state (change q))) (quota_texts put) (few_texts p w)
-      (sum_by-with_change folder_of quota_bytes n (λ old. in_state state (change q)) q quotas asc at.found) in
+      room_other most_text_bytes (texts_of p) (quota_bytes q) (quota_bytes (in_state state (change q))) (object_texts (after n)) (few_texts p w) (omega (arith, whole, sum)) in
       own
       ∙ (ap (λ c. first ((refusal.NotFound when not c) ∷ (refusal.OutOfRange when are_too_many changed) ∷ texts_full (after n) ∷ [])) may
       ∙ (ap test bytes
@@ -182,12 +190,13 @@ module _ (p : Parts) (m : ℕ) (path : List (List ℕ)) (limit : Option ℕ) (en
       ∙ (ap (λ o. option_and_then table_refusal (first ((object.OutOfRange when are_too_many changed) ∷ (object.TextsFull when nat_lt (text_room p + option_map_or quota_bytes o 0) (quota_bytes (in_state state (change q)))) ∷ []))) (sym at.found)
       ∙ ap (λ r. option_and_then table_refusal (other_fault p.objects r (text_room p))) (sym is)))))
     where
-      with_texts : (k : ℕ) (qs : List QuotaRow) → object_texts (record (after k) { quotas = qs }) ≡ quota_texts qs
+      with_texts : (k : ℕ) (qs : List QuotaRow) → object_texts (record (after k) { quotas = qs }) ≡ quota_texts qs + other_texts p
       with_texts k qs = omega arith
 
 -- ---- the answer
 table_bare : (fault : ObjectFault) (r : Refusal) → table_refusal fault ≡ Some r → is_bare r ≡ true
 table_bare object.AlreadyExists r h = cc h
+table_bare object.InvalidCombination r h = cc h
 table_bare object.OutOfRange r h = cc h
 table_bare object.TableFull r h = cc h
 table_bare object.TextsFull r h = cc h
@@ -195,6 +204,7 @@ table_bare object.NoMemory r h = cc h
 
 pub fault_refusal : (fault : ObjectFault) (o : Option ObjectFault) → IsFault fault o → option_and_then table_refusal o ≡ table_refusal fault
 fault_refusal object.AlreadyExists o h = ap (option_and_then table_refusal) h
+fault_refusal object.InvalidCombination o h = ap (option_and_then table_refusal) h
 fault_refusal object.OutOfRange o h = ap (option_and_then table_refusal) h
 fault_refusal object.TableFull o h = ap (option_and_then table_refusal) h
 fault_refusal object.TextsFull o h = ap (option_and_then table_refusal) h

@@ -41,6 +41,8 @@ turned_keeps p new quotas queue t =
       size = ap (λ (q : Parts). q.tree.size) t.parts_are;
       marks = ap (λ (q : Parts). q.marks) t.parts_are;
       crossing = ap (λ (q : Parts). q.crossing) t.parts_are;
+      groups = ap (λ (q : Parts). q.groups) t.parts_are;
+      audit = ap (λ (q : Parts). q.audit) t.parts_are;
       run_limit = ap (λ (q : Parts). q.run_limit) t.parts_are;
       last_moment = ap (λ (q : Parts). q.last_moment) t.parts_are;
     }

@@ -3,12 +3,12 @@
 use Rattle.std.proofs.Common.{◌≡◌, ℕ, ◌<◌, ◌≤◌, ◌⊎◌, inl, inr, true, List, false, refl, sym, ap, ◌∙◌, Some, None, Option, nat_lt, subst}
 use Rattle.fsrm_model.specs.declared.command.Command.{Command}
 use Rattle.fsrm_model.specs.declared.command.Deed.{Deed}
-use Rattle.fsrm_model.specs.declared.command.Deed.TheVariants.{File, Usage, Step, QuotaAdd, QuotaModify, QuotaDelete, QuotaScan, QuotaResetpeak, QuotaList, AdminOptions, AdminList, AdminLog}
+use Rattle.fsrm_model.specs.declared.command.Deed.TheVariants.{File, Usage, Step, QuotaAdd, QuotaModify, QuotaDelete, QuotaScan, QuotaResetpeak, QuotaList, AdminOptions, AdminList, AdminLog, FilegroupAdd, FilegroupModify, FilegroupDelete, FilegroupList, ScreenAdd, ScreenModify, ScreenDelete, ScreenList, ExceptionAdd, ExceptionDelete, ExceptionList}
 use Rattle.fsrm_model.specs.declared.command.FileOp.{FileOp}
 use Rattle.fsrm_model.specs.declared.command.FileOp.TheVariants.{Mkdir, Create, Resize, Touch, Move, Remove}
 use Rattle.fsrm_model.specs.declared.command.Outcome.TheVariants.{Refused}
 use Rattle.fsrm_model.specs.declared.command.Refusal.{Refusal}
-use Rattle.fsrm_model.specs.declared.command.Refusal.TheVariants.{QuotaExceeded}
+use Rattle.fsrm_model.specs.declared.command.Refusal.TheVariants.{ScreenBlocked, QuotaExceeded}
 use Rattle.fsrm_model.specs.declared.command.Outcome.TheVariants.{Sum}
 use Rattle.std.specs.List.{list_all}
 use Rattle.std.specs.Prelude.{◌&&◌, ◌==◌, [], ◌∷◌, find, is_none, sum_by}
@@ -18,9 +18,9 @@ use Rattle.fsrm_model.specs.declared.row.Capacity.{Capacity}
 use Rattle.fsrm_model.specs.declared.row.NodeRow.{NodeRow}
 use Rattle.fsrm_model.specs.declared.row.QuotaRow.{QuotaRow}
 use Rattle.fsrm_model.specs.declared.row.Rows.{Rows}
-use Rattle.fsrm_model.specs.Commands.{emptied, kind}
+use Rattle.fsrm_model.specs.Commands.{are_some_names, emptied, kind}
 use Rattle.fsrm_model.specs.Exceeds.{Exceeds}
-use Rattle.fsrm_model.specs.Exceptions.{MayLeave, run_by_refusal}
+use Rattle.fsrm_model.specs.Exceptions.{may_leave}
 use Rattle.fsrm_model.specs.FileOps.{plain}
 use Rattle.fsrm_model.specs.Lasting.{lasting}
 use Rattle.fsrm_model.specs.Named.{IsNamed}
@@ -31,13 +31,17 @@ use Rattle.fsrm_model.specs.Step.{step, work}
 use Rattle.fsrm_model.specs.Tree.{usage, under}
 use Rattle.fsrm_model.specs.Valid.{is_moment, IsValid}
 use Rattle.fsrm_model.specs.Valued.{is_path, is_deed, is_short, is_command}
-use Rattle.fsrm_model.specs.Work.{Work}
-use Rattle.fsrm_model.specs.Thresholds.{is_percent, is_notice}
+use Rattle.fsrm_model.specs.Work.{Work, Judged}
+use Rattle.fsrm_model.specs.FileWork.{judged_name}
+use Rattle.fsrm_model.specs.Patterns.{is_object_name, are_members, are_non_members}
+use Rattle.fsrm_model.specs.Thresholds.{is_percent, is_new_action, is_notice}
 use Rattle.fsrm_model.proofs.commands.AdminCommands.{options_still, options_kept, settings_still, log_still}
 use Rattle.fsrm_model.proofs.commands.Ends.{effect_nodes}
-use Rattle.fsrm_model.proofs.commands.FileCommands.{file_orderly, file_limits, usage_still, file_kept}
-use Rattle.fsrm_model.proofs.commands.Orderly.{IsOrderly, IsStill, KeepsLimits, KeepsValid, still_limits}
-use Rattle.fsrm_model.proofs.commands.OrderlyLaws.{LeavesRuns, verdict, refused_kept, same_or_some, refused_by, sum_afresh, refusal_exceeds, still_unexceeded, limits_hold, outcome_named, unlasting_kept, valid_kept}
+use Rattle.fsrm_model.proofs.commands.FileCommands.{file_orderly, file_limits, file_names, usage_still, file_kept}
+use Rattle.fsrm_model.proofs.commands.GroupCommands.{group_add_still, group_modify_still, group_delete_still, group_list_still, group_add_kept, group_modify_kept, group_delete_kept, group_list_kept}
+use Rattle.fsrm_model.proofs.commands.ScreenCommands.{screen_add_still, screen_modify_still, screen_delete_still, screen_list_still, screen_add_kept, screen_modify_kept, screen_delete_kept, screen_list_kept, except_add_still, except_delete_still, except_list_still, except_add_kept, except_delete_kept, except_list_kept}
+use Rattle.fsrm_model.proofs.commands.Orderly.{IsOrderly, IsStill, KeepsLimits, KeepsValid, NamesJudged, still_limits, unjudged_named}
+use Rattle.fsrm_model.proofs.commands.OrderlyLaws.{LeavesRuns, verdict, refused_kept, same_or_left, refused_by, sum_afresh, refusal_exceeds, refusal_blocks, still_unexceeded, limits_hold, outcome_named, unlasting_kept, valid_kept}
 use Rattle.fsrm_model.proofs.commands.QuotaCommands.{add_kept, modify_kept, delete_kept, reset_kept, list_kept, add_still, modify_still, delete_still, reset_still, list_still}
 use Rattle.fsrm_model.proofs.commands.StepActs.{AreActs, decided_acts}
 use Rattle.fsrm_model.proofs.valid.RowsKept.{nothing_followed}
@@ -50,16 +54,24 @@ record IsFileWork (R : Rows) (moment : ℕ) (deed : Deed) (nodes : List NodeRow)
   is : deed ≡ File op
   made : nodes ≡ plain R.nodes op moment
 
--- a work is orderly and keeps limits, only a file operation makes other nodes, and of a command whose values are in
--- their ranges it leaves the rows of a store
+-- the file operation that gives a file a name
+record IsNameWork (R : Rows) (deed : Deed) (judged : Option Judged) : Type 0 where
+  op : FileOp
+  is : deed ≡ File op
+  made : judged ≡ judged_name R op
+
+-- a work is orderly and keeps limits, only a file operation makes other nodes and gives a file a name, and of a command whose
+-- values are in their ranges it leaves the rows of a store, and what a screen judges is a name
 record IsCertified (K : Capacity) (R : Rows) (moment : ℕ) (deed : Deed) (w : Work) : Type 0 where
   orderly : IsOrderly K R w
   limits : KeepsLimits K R w
   nodes : (w.effect.nodes ≡ R.nodes) ⊎ IsFileWork R moment deed w.effect.nodes
+  judges : (w.judged ≡ None) ⊎ IsNameWork R deed w.judged
+  names : is_deed deed ≡ true → NamesJudged K R w
   kept : moment ≤ latest_moment → is_deed deed ≡ true → KeepsValid K R w
 
 still : {K : Capacity} {R : Rows} {moment : ℕ} {deed : Deed} {w : Work} → IsStill K R w → (moment ≤ latest_moment → is_deed deed ≡ true → KeepsValid K R w) → IsCertified K R moment deed w
-still {K} {R} {moment} {deed} {w} s kept = record { orderly = s.orderly; limits = still_limits K R w s.same; nodes = inl s.same; kept = kept }
+still {K} {R} {moment} {deed} {w} s kept = record { orderly = s.orderly; limits = still_limits K R w s.same; nodes = inl s.same; judges = inl s.unjudged; names = λ legal. unjudged_named K R w s.unjudged; kept = kept }
 
 certified : (K : Capacity) (R : Rows) (moment : ℕ) (deed : Deed) → IsCertified K R moment deed (work K R moment deed)
 certified K R moment (File op) =
@@ -67,6 +79,8 @@ certified K R moment (File op) =
       orderly = file_orderly K R op moment;
       limits = file_limits K R op moment;
       nodes = inr (record { op = op; is = refl; made = effect_nodes R op moment });
+      judges = inr (record { op = op; is = refl; made = refl });
+      names = file_names K R op moment;
       kept = λ late legal. file_kept K R op moment legal late;
     }
 certified K R moment (Usage path) = still (usage_still K R path) (λ late legal store h. nothing_followed K R store)
@@ -92,19 +106,45 @@ certified K R moment (QuotaList path) = still (list_still K R path) (λ late leg
 certified K R moment (AdminOptions minutes) = still (options_still K R minutes) (λ late legal. options_kept K R minutes legal)
 certified K R moment AdminList = still (settings_still K R) (λ late legal store h. nothing_followed K R store)
 certified K R moment AdminLog = still (log_still K R) (λ late legal store h. nothing_followed K R store)
+certified K R moment (FilegroupAdd name members non_members) =
+    still (group_add_still K R name members non_members) (λ late legal.
+    let values : (is_object_name name ≡ true) × ((are_members members && are_non_members non_members) ≡ true) = both _ _ legal in
+    let patterns : (are_members members ≡ true) × (are_non_members non_members ≡ true) = both _ _ values.1 in
+    group_add_kept K R name members non_members values.0 patterns.0 patterns.1)
+certified K R moment (FilegroupModify name members non_members) =
+    still (group_modify_still K R name members non_members) (λ late legal.
+    let values : (is_object_name name ≡ true) × ((option_map_or are_members members true && option_map_or are_non_members non_members true) ≡ true) = both _ _ legal in
+    let patterns : (option_map_or are_members members true ≡ true) × (option_map_or are_non_members non_members true ≡ true) = both _ _ values.1 in
+    group_modify_kept K R name members non_members patterns.0 patterns.1)
+certified K R moment (FilegroupDelete name) = still (group_delete_still K R name) (λ late legal. group_delete_kept K R name)
+certified K R moment FilegroupList = still (group_list_still K R) (λ late legal. group_list_kept K R)
+certified K R moment (ScreenAdd path active groups actions) =
+    still (screen_add_still K R path active groups actions) (λ late legal.
+    let values : (list_all is_path (path ∷ []) ≡ true) × ((are_some_names groups && list_all is_new_action actions) ≡ true) = both _ _ legal in
+    let lists : (are_some_names groups ≡ true) × (list_all is_new_action actions ≡ true) = both _ _ values.1 in
+    screen_add_kept K R path active groups actions lists.0 lists.1)
+certified K R moment (ScreenModify path active removed groups) = still (screen_modify_still K R path active removed groups) (λ late legal. screen_modify_kept K R path active removed groups)
+certified K R moment (ScreenDelete path) = still (screen_delete_still K R path) (λ late legal. screen_delete_kept K R path)
+certified K R moment ScreenList = still (screen_list_still K R) (λ late legal. screen_list_kept K R)
+certified K R moment (ExceptionAdd path groups) =
+    still (except_add_still K R path groups) (λ late legal.
+    let values : (list_all is_path (path ∷ []) ≡ true) × (are_some_names groups ≡ true) = both _ _ legal in
+    except_add_kept K R path groups values.1)
+certified K R moment (ExceptionDelete path) = still (except_delete_still K R path) (λ late legal. except_delete_kept K R path)
+certified K R moment ExceptionList = still (except_list_still K R) (λ late legal. except_list_kept K R)
 
 pub orderly : (K : Capacity) (R : Rows) (moment : ℕ) (deed : Deed) → IsOrderly K R (work K R moment deed)
 orderly K R moment deed = (certified K R moment deed).orderly
 
--- a refusal changes nothing, but for the actions that run all the same
+-- a refusal changes nothing, but for what it leaves all the same
 pub refused_leaves : (K : Capacity) (R : Rows) (c : Command) (refusal : Refusal) → (step K R c).outcome ≡ Refused refusal → LeavesRuns K R c.moment (work K R c.moment c.deed) refusal (step K R c)
 refused_leaves K R c refusal h =
     let w = work K R c.moment c.deed in
     refused_kept K R c.moment w (orderly K R c.moment c.deed) (verdict (nat_lt c.moment R.last_moment) w) refusal h
 
-pub refused_or_exception : (K : Capacity) (R : Rows) (c : Command) (refusal : Refusal) → (step K R c).outcome ≡ Refused refusal → ((step K R c).rows ≡ R) ⊎ MayLeave K R c.moment (work K R c.moment c.deed) refusal
+pub refused_or_exception : (K : Capacity) (R : Rows) (c : Command) (refusal : Refusal) → (step K R c).outcome ≡ Refused refusal → ((step K R c).rows ≡ R) ⊎ (may_leave K R c.moment (work K R c.moment c.deed) refusal ≡ true)
 refused_or_exception K R c refusal h =
-    same_or_some K R (step K R c).rows c.moment (run_by_refusal K R c.moment (work K R c.moment c.deed) refusal) (refused_leaves K R c refusal h).rows_are
+    same_or_left K R (step K R c).rows c.moment (work K R c.moment c.deed) refusal (refused_leaves K R c refusal h).rows_are
 
 pub sum_fresh : (K : Capacity) (R : Rows) (c : Command) (folder bytes : ℕ) → (step K R c).outcome ≡ Sum folder bytes → bytes ≡ sum_by (space K) (under R.nodes folder)
 sum_fresh K R c folder bytes h =
@@ -127,6 +167,23 @@ quota_refuses K R c folder would limit store h =
       | inr file ↦ (file.op, file.is, subst (λ (nodes : List NodeRow). Exceeds K R nodes folder would limit) file.made over)
     ]
 
+-- the file operation whose name a screen blocks
+abbrev BlockedOp : Rows → Deed → ℕ → Type 0
+BlockedOp R deed folder =
+    (op : FileOp) × (judged : Judged) × (deed ≡ File op) × (judged_name R op ≡ Some judged) × (judged.screen.active ≡ true) × (judged.screen.folder ≡ folder)
+
+pub screen_refuses : (K : Capacity) (R : Rows) (c : Command) (folder : ℕ) → (step K R c).outcome ≡ Refused (ScreenBlocked folder) → BlockedOp R c.deed folder
+screen_refuses K R c folder h =
+    let w = work K R c.moment c.deed in
+    let late = nat_lt c.moment R.last_moment in
+    let sure = certified K R c.moment c.deed in
+    let by = refused_by K R c.moment w sure.orderly (verdict late w) (ScreenBlocked folder) h in
+    let blocked = refusal_blocks K R late w sure.orderly folder by in
+    elim sure.judges [
+      | inl none ↦ let never : Some blocked.by ≡ None = sym blocked.is ∙ none in absurd (cc never)
+      | inr file ↦ (file.op, blocked.by, file.is, sym file.made ∙ blocked.is, blocked.active, blocked.folder)
+    ]
+
 pub limits_kept : (K : Capacity) (R : Rows) (c : Command) (folder : ℕ) (quota : QuotaRow) → IsValid K R → quota_of R folder ≡ Some quota → counts quota ≡ true → quota.enforce ≡ true → usage K R.nodes folder < usage K (step K R c).rows.nodes folder → usage K (step K R c).rows.nodes folder ≤ quota.limit
 limits_kept K R c folder quota store there counting enforced rises =
     let w = work K R c.moment c.deed in
@@ -147,16 +204,18 @@ lasting_kept K R c store h =
     let late = nat_lt c.moment R.last_moment in
     unlasting_kept K R c.moment late w (orderly K R c.moment c.deed) store (verdict late w) refl h
 
--- a command leaves valid rows if its work does
-pub kept_valid : (K : Capacity) (R : Rows) (moment : ℕ) (deed : Deed) → IsValid K R → moment ≤ latest_moment → KeepsValid K R (work K R moment deed) → IsValid K (step K R (record { moment = moment; deed = deed })).rows
-kept_valid K R moment deed store legal kept =
+-- a command leaves valid rows if its work does, and what a screen judges is a name
+pub kept_valid : (K : Capacity) (R : Rows) (moment : ℕ) (deed : Deed) → IsValid K R → moment ≤ latest_moment → NamesJudged K R (work K R moment deed) → KeepsValid K R (work K R moment deed) → IsValid K (step K R (record { moment = moment; deed = deed })).rows
+kept_valid K R moment deed store legal names kept =
     let w = work K R moment deed in
     let late = nat_lt moment R.last_moment in
-    valid_kept K R moment late w kept store legal (verdict late w) refl
+    valid_kept K R moment late w kept names store legal (verdict late w) refl
 
 -- and if its values are in their ranges
 pub deed_valid : (K : Capacity) (R : Rows) (moment : ℕ) (deed : Deed) → IsValid K R → moment ≤ latest_moment → is_deed deed ≡ true → IsValid K (step K R (record { moment = moment; deed = deed })).rows
-deed_valid K R moment deed store late legal = kept_valid K R moment deed store late ((certified K R moment deed).kept late legal)
+deed_valid K R moment deed store late legal =
+    let sure = certified K R moment deed in
+    kept_valid K R moment deed store late (sure.names legal) (sure.kept late legal)
 
 pub step_valid : (K : Capacity) (R : Rows) (c : Command) → IsValid K R → is_command c ≡ true → IsValid K (step K R c).rows
 step_valid K R c store legal =
@@ -165,14 +224,16 @@ step_valid K R c store legal =
     deed_valid K R c.moment c.deed store (le_is c.moment latest_moment values.0) deed.0
 
 -- its acts stand in order, and name actions that are there
-pub kept_acts : (K : Capacity) (R : Rows) (moment : ℕ) (deed : Deed) → IsValid K R → moment ≤ latest_moment → KeepsValid K R (work K R moment deed) → AreActs (step K R (record { moment = moment; deed = deed }))
-kept_acts K R moment deed store legal kept =
+pub kept_acts : (K : Capacity) (R : Rows) (moment : ℕ) (deed : Deed) → IsValid K R → moment ≤ latest_moment → NamesJudged K R (work K R moment deed) → KeepsValid K R (work K R moment deed) → AreActs (step K R (record { moment = moment; deed = deed }))
+kept_acts K R moment deed store legal names kept =
     let w = work K R moment deed in
     let late = nat_lt moment R.last_moment in
-    decided_acts K R moment late w kept store legal (verdict late w) refl
+    decided_acts K R moment late w (orderly K R moment deed) kept names store legal (verdict late w) refl
 
 pub deed_acts : (K : Capacity) (R : Rows) (moment : ℕ) (deed : Deed) → IsValid K R → moment ≤ latest_moment → is_deed deed ≡ true → AreActs (step K R (record { moment = moment; deed = deed }))
-deed_acts K R moment deed store late legal = kept_acts K R moment deed store late ((certified K R moment deed).kept late legal)
+deed_acts K R moment deed store late legal =
+    let sure = certified K R moment deed in
+    kept_acts K R moment deed store late (sure.names legal) (sure.kept late legal)
 
 pub step_acts : (K : Capacity) (R : Rows) (c : Command) → IsValid K R → is_command c ≡ true → AreActs (step K R c)
 step_acts K R c store legal =
@@ -185,7 +246,8 @@ abbrev kinds : List Deed
 kinds =
     File (Mkdir [] 0) ∷ File (Create [] 0 0) ∷ File (Resize [] 0) ∷ File (Touch []) ∷ File (Move [] []) ∷ File (Remove [])
     ∷ QuotaAdd [] None None false None [] [] ∷ QuotaModify [] None None None [] [] [] ∷ QuotaDelete [] ∷ QuotaScan []
-    ∷ QuotaResetpeak [] ∷ AdminOptions 0 ∷ []
+    ∷ QuotaResetpeak [] ∷ AdminOptions 0 ∷ FilegroupAdd [] [] [] ∷ FilegroupModify [] None None ∷ FilegroupDelete []
+    ∷ ScreenAdd [] false [] [] ∷ ScreenModify [] None [] [] ∷ ScreenDelete [] ∷ ExceptionAdd [] [] ∷ ExceptionDelete [] ∷ []
 
 -- the first of them that has this kind
 abbrev of_kind : ℕ → Option Deed
@@ -209,6 +271,17 @@ of_kind_is (QuotaList path) k h = absurd (cc h)
 of_kind_is (AdminOptions minutes) k h = ap of_kind (sym (same_Some _ _ h))
 of_kind_is AdminList k h = absurd (cc h)
 of_kind_is AdminLog k h = absurd (cc h)
+of_kind_is (FilegroupAdd name members non_members) k h = ap of_kind (sym (same_Some _ _ h))
+of_kind_is (FilegroupModify name members non_members) k h = ap of_kind (sym (same_Some _ _ h))
+of_kind_is (FilegroupDelete name) k h = ap of_kind (sym (same_Some _ _ h))
+of_kind_is FilegroupList k h = absurd (cc h)
+of_kind_is (ScreenAdd path active groups actions) k h = ap of_kind (sym (same_Some _ _ h))
+of_kind_is (ScreenModify path active removed groups) k h = ap of_kind (sym (same_Some _ _ h))
+of_kind_is (ScreenDelete path) k h = ap of_kind (sym (same_Some _ _ h))
+of_kind_is ScreenList k h = absurd (cc h)
+of_kind_is (ExceptionAdd path groups) k h = ap of_kind (sym (same_Some _ _ h))
+of_kind_is (ExceptionDelete path) k h = ap of_kind (sym (same_Some _ _ h))
+of_kind_is ExceptionList k h = absurd (cc h)
 
 -- so the kind tells the command
 pub same_kind : (one other : Deed) (k : ℕ) → kind one ≡ Some k → kind other ≡ Some k → emptied one ≡ emptied other

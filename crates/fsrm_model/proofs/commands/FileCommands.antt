@@ -1,21 +1,29 @@
 -- File operations and sums: each one's work is orderly, and leaves the rows of a store if no check refuses.
 use Rattle.std.proofs.Common.{◌≡◌, ℕ, true, not, List, [], ◌∷◌, refl, Some, None, Option, ◌≤◌, ◌==◌, Bool, false, ◌&&◌, length, sym, ◌∙◌, ap, subst, arith, nat_le}
-use Rattle.std.specs.Prelude.{is_some, unwrap_or, if◌then◌else◌}
+use Rattle.std.specs.Prelude.{is_some, unwrap_or, option_map, if◌then◌else◌}
+use Rattle.std.proofs.lemmas.Option.{same_Some}
 use Rattle.fsrm_model.specs.declared.command.FileOp.{FileOp}
 use Rattle.fsrm_model.specs.declared.command.FileOp.TheVariants.{Mkdir, Create, Resize, Touch, Move, Remove}
-use Rattle.fsrm_model.specs.declared.command.Refusal.TheVariants.{PathNotFound}
+use Rattle.fsrm_model.specs.declared.command.Outcome.TheVariants.{Done}
+use Rattle.fsrm_model.specs.declared.command.Refusal.{Refusal}
+use Rattle.fsrm_model.specs.declared.command.Refusal.TheVariants.{PathNotFound, AlreadyExists, InvalidMove}
 use Rattle.fsrm_model.specs.declared.row.Capacity.{Capacity}
 use Rattle.fsrm_model.specs.declared.row.NodeRow.{NodeRow}
 use Rattle.fsrm_model.specs.declared.row.Rows.{Rows}
-use Rattle.fsrm_model.specs.Check.{first, ◌when◌}
-use Rattle.fsrm_model.specs.FileWork.{file_checks, file_effect, file_work, usage_work}
+use Rattle.fsrm_model.specs.declared.row.ScreenRow.{ScreenRow}
+use Rattle.fsrm_model.specs.Check.{Check, first, ◌when◌, volume_full, names_full}
+use Rattle.fsrm_model.specs.FileWork.{judged_by, judged_name, blocked, reported, file_checks, file_effect, file_work, usage_work}
 use Rattle.fsrm_base.specs.Keyed.{has_row, with_row, with_change, without_row}
-use Rattle.fsrm_model.specs.Leads.{leads, leads_to_file}
-use Rattle.fsrm_model.specs.Tree.{number, resolve, node_of, is_folder, last_name, name_of, name_bytes}
-use Rattle.fsrm_model.specs.Valid.{IsVolume, is_own, IsValid}
+use Rattle.fsrm_model.specs.Leads.{is_root, leads, leads_to_folder, leads_to_file, leads_to_other}
+use Rattle.fsrm_model.specs.Name.{is_name}
+use Rattle.fsrm_model.specs.Named.{IsNamed}
+use Rattle.fsrm_model.specs.Screens.{screen_folder, screen_of, judging}
+use Rattle.fsrm_model.specs.Work.{Judged}
+use Rattle.fsrm_model.specs.Tree.{number, resolve, node_of, is_folder, is_under, owner_of, folder_part, last_name, name_of, name_bytes}
+use Rattle.fsrm_model.specs.Valid.{IsVolume, is_own, AreTables, IsValid}
 use Rattle.fsrm_model.proofs.commands.Ends.{effect_nodes}
 use Rattle.fsrm_model.proofs.commands.HardLimits.{op_within}
-use Rattle.fsrm_model.proofs.commands.Orderly.{AreChecks, IsOrderly, IsStill, KeepsLimits, change_orderly, show_still, bare, quotas_bear, first_none, when_none, not_false, KeepsValid}
+use Rattle.fsrm_model.proofs.commands.Orderly.{AreChecks, IsJudged, IsOrderly, IsStill, IsAsked, KeepsLimits, NamesJudged, show_still, bare, screens_bear, quotas_bear, first_none, when_none, not_false, KeepsValid}
 use Rattle.fsrm_model.proofs.nodes.Resolves.{resolved}
 use Rattle.std.specs.Option.{option_map_or}
 use Rattle.std.specs.List.{list_all}
@@ -36,24 +44,138 @@ use Rattle.fsrm_model.proofs.nodes.OwnLaws.{own_parts, own_joined, own_named, ow
 use Rattle.fsrm_model.proofs.valid.QueueKept.{queue_without}
 use Rattle.fsrm_model.proofs.valid.QuotasKept.{quotas_stay, quotas-without}
 use Rattle.fsrm_model.specs.Quota.{folder_of}
-use Rattle.fsrm_model.specs.Texts.{quota_bytes}
-use Rattle.fsrm_model.proofs.thresholds.KeptLaws.{fewer_texts, sum_by-less}
-use Rattle.fsrm_model.proofs.valid.RowsKept.{plain-without, valid_with, same_heads, left_followed, left_after, head_folder}
+use Rattle.fsrm_model.specs.Texts.{action_bytes, quota_bytes}
+use Rattle.fsrm_model.proofs.thresholds.KeptLaws.{sum_by-less}
+use Rattle.fsrm_model.proofs.valid.RowsKept.{plain-without, valid_with, same_heads, left_followed, left_after, head_folder, screens_folder}
+use Rattle.fsrm_model.proofs.valid.ScreensKept.{screens-gone, excepts-gone}
+use Rattle.fsrm_model.proofs.valid.ValidLaws.{folder_has}
+use Rattle.fsrm_model.proofs.screens.JudgingLaws.{judges}
 use Rattle.fsrm_model.proofs.nodes.Sizes.{name_bytes-new, name_bytes-placed}
 use Rattle.fsrm_base.proofs.TestLaws.{both, not_true, clash, eq_is, le_is, le_test, lt_test}
 use Rattle.fsrm_model.proofs.valid.UnvisitedKept.{unvisited-new, unvisited-change, unvisited-moved, unvisited-removed}
 use Rattle.fsrm_model.proofs.nodes.Walks.{found_name}
 
-file_are : (K : Capacity) (R : Rows) (op : FileOp) (after : Rows) → AreChecks K R after.nodes (file_checks K R op after)
+file_are : (K : Capacity) (R : Rows) (op : FileOp) (after : Rows) → AreChecks K R after.nodes (judged_name R op) (file_checks K R op after)
 file_are K R (Mkdir path owner) after = (bare _ _ refl, (bare _ _ refl, (bare _ _ refl, (bare _ _ refl, (bare _ _ refl, tt)))))
-file_are K R (Create path length owner) after = (bare _ _ refl, (bare _ _ refl, (bare _ _ refl, (bare _ _ refl, (bare _ _ refl, (quotas_bear, tt))))))
+file_are K R (Create path length owner) after =
+    (bare _ _ refl, (bare _ _ refl, (bare _ _ refl, (bare _ _ refl, (bare _ _ refl, (screens_bear (judged_name R (Create path length owner)), (quotas_bear, tt)))))))
 file_are K R (Resize path length) after = (bare _ _ refl, (quotas_bear, tt))
 file_are K R (Touch path) after = (bare _ _ refl, tt)
-file_are K R (Move from to) after = (bare _ _ refl, (bare _ _ refl, (bare _ _ refl, (bare _ _ refl, (bare _ _ refl, (bare _ _ refl, (bare _ _ refl, (quotas_bear, tt))))))))
+file_are K R (Move from to) after =
+    (bare _ _ refl, (bare _ _ refl, (bare _ _ refl, (bare _ _ refl, (bare _ _ refl, (bare _ _ refl, (bare _ _ refl, (screens_bear (judged_name R (Move from to)), (quotas_bear, tt)))))))))
 file_are K R (Remove path) after = (bare _ _ refl, (bare _ _ refl, (bare _ _ refl, tt)))
 
+-- a name that is judged: by the screen which judges it, and none other
+record IsName (R : Rows) (folder : ℕ) (name : List ℕ) (j : Judged) : Type 0 where
+  judging : judging R folder name ≡ Some j.screen
+  same : j.name ≡ name
+
+judged_is : (R : Rows) (owner folder : ℕ) (name : List ℕ) (j : Judged) → judged_by R owner folder name ≡ Some j → IsName R folder name j
+judged_is R owner folder name j h = by (judging R folder name) refl h
+  where
+    made : ScreenRow → Judged
+    made screen = record { screen = screen; owner = owner; folder = folder; name = name }
+
+    by : (o : Option ScreenRow) → judging R folder name ≡ o → option_map made o ≡ Some j → IsName R folder name j
+    by None e h = absurd (cc h)
+    by (Some s) e h =
+        let is : made s ≡ j = same_Some (made s) j h in
+        record { judging = e ∙ ap (λ (j : Judged). Some j.screen) is; same = ap (λ (j : Judged). j.name) (sym is) }
+
+moved_is : (b : Bool) (o : Option Judged) (j : Judged) → (if b then o else None) ≡ Some j → o ≡ Some j
+moved_is true o j h = h
+moved_is false o j h = absurd (cc h)
+
+is_there : (R : Rows) (owner folder : ℕ) (name : List ℕ) (j : Judged) → judged_by R owner folder name ≡ Some j → screen_of R j.screen.folder ≡ Some j.screen
+is_there R owner folder name j h = (judges R folder name j.screen (judged_is R owner folder name j h).judging).applies.own
+
+file_judged : (R : Rows) (op : FileOp) (moment : ℕ) (j : Judged) → judged_name R op ≡ Some j → IsJudged R (file_effect R op moment) j
+file_judged R (Create path length owner) moment j h =
+    record { there = is_there R owner (target_folder R.nodes path) (last_name path) j h; same = refl }
+file_judged R (Move from to) moment j h =
+    let owner = owner_of R.nodes (target R.nodes from) in
+    let by = judged_by R owner (target_folder R.nodes to) (last_name to) in
+    record { there = is_there R owner (target_folder R.nodes to) (last_name to) j (moved_is (leads_to_file R.nodes from) by j h); same = refl }
+file_judged R (Mkdir path owner) moment j h = absurd (cc h)
+file_judged R (Resize path length) moment j h = absurd (cc h)
+file_judged R (Touch path) moment j h = absurd (cc h)
+file_judged R (Remove path) moment j h = absurd (cc h)
+
+-- its screen's folder is there, and stays
+judged_folder : (K : Capacity) (R : Rows) (op : FileOp) (moment : ℕ) (j : Judged) → IsValid K R → judged_name R op ≡ Some j → is_folder R.nodes j.screen.folder ≡ true
+judged_folder K R op moment j s h =
+    screens_folder R j.screen.folder s.tables.screens (found_has screen_folder j.screen.folder R.screens j.screen (file_judged R op moment j h).there)
+
+judged_stays : (K : Capacity) (R : Rows) (op : FileOp) (moment : ℕ) (j : Judged) → IsValid K R → judged_name R op ≡ Some j → has_row number j.screen.folder (file_effect R op moment).nodes ≡ true
+judged_stays K R (Create path length owner) moment j s h =
+    let node = new_node R.nodes path false length owner moment in
+    folder_has (with_row number node R.nodes) j.screen.folder
+    (folder-new R.nodes node j.screen.folder (least_free_is number R.nodes s.volume.ascending).free (judged_folder K R (Create path length owner) moment j s h))
+judged_stays K R (Move from to) moment j s h =
+    let x = target R.nodes from in
+    let c = placed (target_folder R.nodes to) (last_name to) in
+    folder_has (with_change number x c R.nodes) j.screen.folder
+    (folder-change R.nodes x j.screen.folder c (λ r. refl) (λ r. refl) ∙ judged_folder K R (Move from to) moment j s h)
+judged_stays K R (Mkdir path owner) moment j s h = absurd (cc h)
+judged_stays K R (Resize path length) moment j s h = absurd (cc h)
+judged_stays K R (Touch path) moment j s h = absurd (cc h)
+judged_stays K R (Remove path) moment j s h = absurd (cc h)
+
+reported_named : (E : Rows) (o : Option Judged) → ((j : Judged) → o ≡ Some j → has_row number j.screen.folder E.nodes ≡ true) → IsNamed E (Done (reported o))
+reported_named E None h = tt
+reported_named E (Some j) h = h j refl
+
 pub file_orderly : (K : Capacity) (R : Rows) (op : FileOp) (moment : ℕ) → IsOrderly K R (file_work K R op moment)
-file_orderly K R op moment = change_orderly K R _ _ (file_are K R op (file_effect R op moment))
+file_orderly K R op moment =
+    record {
+      answer = tt;
+      checks = file_are K R op (file_effect R op moment);
+      named = λ s h. reported_named (file_effect R op moment) (judged_name R op) (λ j is. judged_stays K R op moment j s is);
+      quiet = λ s h never. absurd (cc never);
+      judged = λ j h. file_judged R op moment j h;
+    }
+
+-- the one path of an operation
+one_path : (path : List (List ℕ)) → list_all is_path (path ∷ []) ≡ true → is_path path ≡ true
+one_path path h = let parts : (is_path path ≡ true) × (true ≡ true) = both _ _ h in parts.0
+
+-- what a screen judges is a name, if no check refuses that comes before the screen's
+unasked : (refusal : Refusal) (b : Bool) (cs : List Check) → (IsAsked (Some refusal) → ⊥) → IsAsked (first ((refusal when b) ∷ cs)) → (b ≡ false) × IsAsked (first cs)
+unasked refusal b cs other h = by b h
+  where
+    by : (b : Bool) → IsAsked (first ((refusal when b) ∷ cs)) → (b ≡ false) × IsAsked (first cs)
+    by true h = absurd (other h)
+    by false h = (refl, h)
+
+pub file_names : (K : Capacity) (R : Rows) (op : FileOp) (moment : ℕ) → is_op op ≡ true → NamesJudged K R (file_work K R op moment)
+file_names K R (Create path bytes owner) moment legal s asked j h =
+    let values : (list_all is_path (path ∷ []) ≡ true) × ((is_length bytes && is_owner owner) ≡ true) = both _ _ legal in
+    let after = file_effect R (Create path bytes owner) moment in
+    let more = (PathNotFound when not (leads_to_folder R.nodes (folder_part path))) ∷ (AlreadyExists when leads R.nodes path) ∷ volume_full K after ∷ names_full K after
+    ∷ blocked (judged_name R (Create path bytes owner)) ∷ exceeded K R after.nodes ∷ [] in
+    let other = (unasked AlreadyExists (is_root path) more (λ never. never) asked).0 in
+    ap is_name (judged_is R owner (target_folder R.nodes path) (last_name path) j h).same ∙ last_named path (one_path path values.0) other
+file_names K R (Move from to) moment legal s asked j h =
+    let paths : (list_all is_path (from ∷ to ∷ []) ≡ true) × (true ≡ true) = both _ _ legal in
+    let values : (is_path from ≡ true) × ((is_path to && true) ≡ true) = both _ _ paths.0 in
+    let nodes = R.nodes in
+    let x = target nodes from in
+    let d = target_folder nodes to in
+    let after = file_effect R (Move from to) moment in
+    let c3 = (PathNotFound when not (leads_to_folder nodes (folder_part to))) ∷ (InvalidMove when leads_to_folder nodes from && is_under nodes x d)
+    ∷ (AlreadyExists when leads_to_other nodes to x) ∷ names_full K after ∷ blocked (judged_name R (Move from to)) ∷ exceeded K R after.nodes ∷ [] in
+    let c2 = (AlreadyExists when is_root to) ∷ c3 in
+    let c1 = (InvalidMove when is_root from) ∷ c2 in
+    let a1 = (unasked PathNotFound (not (leads nodes from)) c1 (λ never. never) asked).1 in
+    let a2 = (unasked InvalidMove (is_root from) c2 (λ never. never) a1).1 in
+    let other = (unasked AlreadyExists (is_root to) c3 (λ never. never) a2).0 in
+    let owner = owner_of nodes x in
+    let is = judged_is R owner d (last_name to) j (moved_is (leads_to_file nodes from) (judged_by R owner d (last_name to)) j h) in
+    ap is_name is.same ∙ last_named to (one_path to values.1) other
+file_names K R (Mkdir path owner) moment legal s asked j h = absurd (cc h)
+file_names K R (Resize path length) moment legal s asked j h = absurd (cc h)
+file_names K R (Touch path) moment legal s asked j h = absurd (cc h)
+file_names K R (Remove path) moment legal s asked j h = absurd (cc h)
 
 pub file_limits : (K : Capacity) (R : Rows) (op : FileOp) (moment : ℕ) → KeepsLimits K R (file_work K R op moment)
 file_limits K R op moment store h = rw (effect_nodes R op moment) (op_within K R op moment store h)
@@ -71,15 +193,11 @@ unrefused_path R path h =
 pub usage_still : (K : Capacity) (R : Rows) (path : List (List ℕ)) → IsStill K R (usage_work K R path)
 usage_still K R path = show_still K R _ _ refl (bare _ _ refl, tt) (λ store h. leads_there K R.nodes path (resolve R.nodes path) store.volume refl (unrefused_path R path h))
 
--- the one path of an operation
-one_path : (path : List (List ℕ)) → list_all is_path (path ∷ []) ≡ true → is_path path ≡ true
-one_path path h = let parts : (is_path path ≡ true) × (true ≡ true) = both _ _ h in parts.0
-
 -- the rows with other nodes, in which the folders of quotas are kept
 nodes_followed : (K : Capacity) (R : Rows) (new : List NodeRow) (after : ℕ → List ℕ) → IsValid K R → IsVolume K new → ((n : ℕ) → is_folder R.nodes n ≡ true → is_folder new n ≡ true) → ((n : ℕ) → head R.queue ≡ Some n → AreUnvisited R.nodes n R.unvisited → AreUnvisited new n (after n)) → IsValid K (followed R (record R { nodes = new; unvisited = option_map_or after (head R.queue) [] }))
 nodes_followed K R new after s volume folders unvisited =
     let left = option_map_or after (head R.queue) [] in
-    valid_with K R new R.quotas R.queue (if same_head R.queue R.queue then left else scan_begun new R.queue) R.last_moment s volume
+    valid_with K R new R.quotas R.queue (if same_head R.queue R.queue then left else scan_begun new R.queue) R.last_moment s volume folders
     (quotas_stay R.nodes new R.quotas s.quotas (λ f q found is. folders f is)) s.tables.plain s.texts s.queue
     (left_followed K new R.queue R.queue left volume (λ same. left_after R.nodes new (head R.queue) R.unvisited after s.unvisited unvisited))
     s.last_moment
@@ -128,7 +246,8 @@ create_kept K R path bytes owner moment legal late s h =
     let values : (list_all is_path (path ∷ []) ≡ true) × ((is_length bytes && is_owner owner) ≡ true) = both _ _ legal in
     let sizes : (is_length bytes ≡ true) × (is_owner owner ≡ true) = both _ _ values.1 in
     let node = new_node R.nodes path false bytes owner moment in
-    let p = new_parts K R path (file_effect R (Create path bytes owner) moment) (exceeded K R (with_row number node R.nodes) ∷ []) s.volume h in
+    let judged = blocked (judged_name R (Create path bytes owner)) in
+    let p = new_parts K R path (file_effect R (Create path bytes owner) moment) (judged ∷ exceeded K R (with_row number node R.nodes) ∷ []) s.volume h in
     new_followed K R node s (new_kept K R.nodes path false bytes owner moment s.volume p.0 (one_path path values.0) (le_is bytes longest_file sizes.0) sizes.1 late)
 
 -- a file that changes
@@ -202,7 +321,7 @@ move_kept K R from to moment legal s h =
     (λ n folder. kinds n ∙ folder)
     (λ n first are. unvisited-moved K nodes new x d n R.unvisited (record { volume = s.volume; moves = moves_of K nodes x d name s.volume may; kinds = kinds; folder = head_folder K R n s first; are = are }))
 
--- a node that goes, and its folder's quota
+-- a node that goes, and what its folder has
 remove_kept : (K : Capacity) (R : Rows) (path : List (List ℕ)) (moment : ℕ) → KeepsValid K R (file_work K R (Remove path) moment)
 remove_kept K R path moment s h =
     let x = target R.nodes path in
@@ -213,15 +332,35 @@ remove_kept K R path moment s h =
     let left = option_map_or (λ n. without_number x R.unvisited) (head R.queue) [] in
     let volume = volume-removed K R.nodes x s.volume m in
     let stays : AreLeft new (head R.queue) left = left_after R.nodes new (head R.queue) R.unvisited (λ n. without_number x R.unvisited) s.unvisited (λ n first are. unvisited-removed K R.nodes x n R.unvisited s.volume m are) in
-    valid_with K R new quotas queue (if same_head R.queue queue then left else scan_begun new queue) R.last_moment s volume
-    (quotas_stay R.nodes new quotas (quotas-without R.nodes R.quotas x s.quotas) (λ f q found is.
-    let apart : (f == x) ≡ false = not_true (f == x) (λ e. clash _ (subst (λ k. has_row folder_of k quotas ≡ true) (eq_is f x e) (found_has folder_of f quotas q found)) (has_row-without folder_of x R.quotas)) in
-    ap (λ o. option_map_or (λ node. node.folder) o false) (row_of-without number x f R.nodes apart) ∙ is))
-    (plain-without x R.quotas s.tables.plain)
-    (fewer_texts R quotas (sum_by-less quota_bytes (λ q. not (folder_of q == x)) R.quotas) s.texts)
-    (queue_without R.quotas R.queue x s.queue)
-    (left_followed K new R.queue queue left volume (λ same. subst (λ (o : Option ℕ). AreLeft new o left) (same_heads R.queue queue same) stays))
-    s.last_moment
+    let folders : (f : ℕ) → (f == x) ≡ false → is_folder R.nodes f ≡ true → is_folder new f ≡ true = λ f apart is. ap (λ o. option_map_or (λ node. node.folder) o false) (row_of-without number x f R.nodes apart) ∙ is in
+    let own : ScreenRow → ℕ = λ screen. action_bytes screen.actions in
+    let less = sum_by-less quota_bytes (λ q. not (folder_of q == x)) R.quotas in
+    let fewer = sum_by-less own (λ screen. not (screen_folder screen == x)) R.screens in
+    let few = s.texts in
+    let E : Rows = followed R (file_effect R (Remove path) moment) in
+    let t : AreTables E = record {
+      plain = plain-without x R.quotas s.tables.plain;
+      templates = s.tables.templates;
+      autos = s.tables.autos;
+      jobs = s.tables.jobs;
+      groups = s.tables.groups;
+      screens = screens-gone R.nodes new R.groups R.excepts R.screens x folders s.tables.screens;
+      excepts = excepts-gone R.nodes new R.groups R.excepts x folders s.tables.excepts;
+      audits = s.tables.audits;
+    } in
+    record {
+      volume = volume;
+      quotas = quotas_stay R.nodes new quotas (quotas-without R.nodes R.quotas x s.quotas) (λ f q found is.
+          let apart : (f == x) ≡ false = not_true (f == x) (λ e. clash _ (subst (λ k. has_row folder_of k quotas ≡ true) (eq_is f x e) (found_has folder_of f quotas q found)) (has_row-without folder_of x R.quotas)) in
+          folders f apart is);
+      tables = t;
+      texts = omega (arith, less, fewer, few);
+      log = s.log;
+      run_limit = s.run_limit;
+      last_moment = s.last_moment;
+      queue = queue_without R.quotas R.queue x s.queue;
+      unvisited = left_followed K new R.queue queue left volume (λ same. subst (λ (o : Option ℕ). AreLeft new o left) (same_heads R.queue queue same) stays);
+    }
 
 pub file_kept : (K : Capacity) (R : Rows) (op : FileOp) (moment : ℕ) → is_op op ≡ true → moment ≤ latest_moment → KeepsValid K R (file_work K R op moment)
 file_kept K R (Mkdir path owner) moment legal late = mkdir_kept K R path owner moment legal late

@@ -4,12 +4,13 @@ use Rattle.std.specs.Prelude.{is_some, option_map, unwrap_or, nat_lt}
 use Rattle.std.specs.List.{list_all}
 use Rattle.std.specs.Option.{option_map_or}
 use Rattle.fsrm_model.specs.declared.command.Refusal.TheVariants.{PathNotFound, AlreadyExists, InvalidMove, NotEmpty, VolumeFull, NamesFull}
+use Rattle.fsrm_model.specs.declared.command.FileOp.TheVariants.{Move}
 use Rattle.fsrm_model.specs.declared.row.Capacity.{Capacity}
 use Rattle.fsrm_model.specs.declared.row.NodeRow.{NodeRow}
 use Rattle.fsrm_model.specs.declared.row.Rows.{Rows}
 use Rattle.fsrm_model.specs.Check.{Check, ◌when◌, first, volume_full, names_full}
 use Rattle.fsrm_model.specs.FileOps.{target, target_folder}
-use Rattle.fsrm_model.specs.FileWork.{move_checks, remove_checks}
+use Rattle.fsrm_model.specs.FileWork.{judged_name, blocked, move_checks, remove_checks}
 use Rattle.fsrm_model.specs.Leads.{is_root, leads, leads_to_folder, leads_to_file, leads_to_other}
 use Rattle.fsrm_model.specs.Name.{is_name}
 use Rattle.fsrm_model.specs.Quota.{exceeded}
@@ -157,7 +158,8 @@ move_parts K R from to after v h =
     let d = target_folder old to in
     let in_folder = leads_to_folder old (folder_part to) in
     let below = leads_to_folder old from && is_under old x d in
-    let c8 = exceeded K R after.nodes ∷ [] in
+    let c9 = exceeded K R after.nodes ∷ [] in
+    let c8 = blocked (judged_name R (Move from to)) ∷ c9 in
     let c7 = names_full K after ∷ c8 in
     let c6 = (AlreadyExists when leads_to_other old to x) ∷ c7 in
     let c5 = (InvalidMove when below) ∷ c6 in
@@ -170,6 +172,7 @@ move_parts K R from to after v h =
     let a5 = first_none (InvalidMove when below) c6 a4.1 in
     let a6 = first_none (AlreadyExists when leads_to_other old to x) c7 a5.1 in
     let a7 = first_none (names_full K after) c8 a6.1 in
+    let a8 = first_none (blocked (judged_name R (Move from to))) c9 a7.1 in
     let there = not_false (leads old from) (when_none PathNotFound (not (leads old from)) a1.0) in
     let found = has_found number x old (target_has K old from v there) in
     let place = place_at K old to v (when_none AlreadyExists (is_root to) a3.0) a4.0 in
@@ -187,7 +190,7 @@ move_parts K R from to after v h =
       ]);
       alone = when_none AlreadyExists (leads_to_other old to x) a6.0;
       names = ge_is _ _ (when_none NamesFull (nat_lt K.names (name_bytes after.nodes)) a7.0);
-      unexceeded = (first_none (exceeded K R after.nodes) [] a7.1).0;
+      unexceeded = (first_none (exceeded K R after.nodes) [] a8.1).0;
     }
 
 -- whoever has the place is the moved node

@@ -13,7 +13,7 @@ use Rattle.fsrm_model.specs.declared.row.Rows.{Rows}
 use Rattle.fsrm_model.specs.Check.{◌when◌, first}
 use Rattle.fsrm_model.specs.Exceeds.{IsOver}
 use Rattle.fsrm_model.specs.FileOps.{target, target_folder, new_node, resized, touched, placed, plain}
-use Rattle.fsrm_model.specs.FileWork.{move_checks, remove_checks, file_checks, file_effect}
+use Rattle.fsrm_model.specs.FileWork.{judged_name, blocked, move_checks, remove_checks, file_checks, file_effect}
 use Rattle.fsrm_base.specs.Keyed.{has_row, with_row}
 use Rattle.fsrm_model.specs.Leads.{leads_to_file}
 use Rattle.fsrm_model.specs.Quota.{folder_of, quota_of, counts, refuses, over, deepest, exceeded}
@@ -208,12 +208,13 @@ mkdir_kept K R path owner moment store h folder quota r =
     let used = used_new K R node store refl p.0.place.folder folder (quota_has K R folder quota store r.there) in
     absurd (added_nothing (is_under R.nodes folder node.parent) (usage K R.nodes folder) (usage K (plain R.nodes (Mkdir path owner) moment) folder) used.0 r.rises)
 
-create_kept : (K : Capacity) (R : Rows) (path : List (List ℕ)) (length owner moment : ℕ) → IsValid K R → NewChecks K R path (file_effect R (Create path length owner) moment) (exceeded K R (plain R.nodes (Create path length owner) moment) ∷ []) → Kept K R (Create path length owner) moment
+create_kept : (K : Capacity) (R : Rows) (path : List (List ℕ)) (length owner moment : ℕ) → IsValid K R → NewChecks K R path (file_effect R (Create path length owner) moment) (blocked (judged_name R (Create path length owner)) ∷ exceeded K R (plain R.nodes (Create path length owner) moment) ∷ []) → Kept K R (Create path length owner) moment
 create_kept K R path length owner moment store h folder quota r =
     let node = new_node R.nodes path false length owner moment in
     let new = plain R.nodes (Create path length owner) moment in
-    let p = new_parts K R path (file_effect R (Create path length owner) moment) (exceeded K R new ∷ []) store.volume h in
-    let none = first_none (exceeded K R new) [] p.1 in
+    let judged = blocked (judged_name R (Create path length owner)) in
+    let p = new_parts K R path (file_effect R (Create path length owner) moment) (judged ∷ exceeded K R new ∷ []) store.volume h in
+    let none = first_none (exceeded K R new) [] (first_none judged (exceeded K R new ∷ []) p.1).1 in
     no_quota_over K R new node.parent store (folder_has R.nodes node.parent p.0.place.folder)
     (λ f is rise.
     let has = folder_has R.nodes f is in

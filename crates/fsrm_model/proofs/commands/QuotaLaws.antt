@@ -3,8 +3,8 @@ use Rattle.std.proofs.Common.{◌≡◌, ℕ, ◌≤◌, Bool, true, false, cond
 use Rattle.std.specs.Prelude.{Option, ◌==◌, ◌&&◌, ◌||◌, not, nat_lt, find, filter, map, option_map, if◌then◌else◌}
 use Rattle.std.specs.List.{list_all}
 use Rattle.std.proofs.lemmas.Bool.{cases_Bool, and_parts, and_from, ltb-true, lt-ltb, ltb-false}
-use Rattle.fsrm_model.specs.declared.command.Act.{Act}
 use Rattle.fsrm_model.specs.declared.command.Command.{Command}
+use Rattle.fsrm_model.specs.declared.command.Outcome.{Outcome}
 use Rattle.fsrm_model.specs.declared.command.Outcome.TheVariants.{Refused}
 use Rattle.fsrm_model.specs.declared.command.Refusal.{Refusal}
 use Rattle.fsrm_model.specs.declared.command.Refusal.TheVariants.{ClockBack, QuotaExceeded}
@@ -18,8 +18,8 @@ use Rattle.fsrm_base.specs.Keyed.{is_ascending, has_row}
 use Rattle.fsrm_model.specs.Quota.{folder_of, quota_of, counts, refuses, over, deepest, exceeded, peaked, peaks}
 use Rattle.fsrm_model.specs.QuotaStates.{followed}
 use Rattle.fsrm_model.specs.DueActions.{due}
-use Rattle.fsrm_model.specs.Runs.{run_quota, ran}
-use Rattle.fsrm_model.specs.Step.{step, work, decided, lasted, unlasting, unacted, acted}
+use Rattle.fsrm_model.specs.Runs.{run_quota}
+use Rattle.fsrm_model.specs.Step.{Acted, step, work, decided, lasted, unlasting, acted, screened_by, screened}
 use Rattle.fsrm_model.specs.Tree.{usage, is_under}
 use Rattle.fsrm_model.specs.Work.{Work}
 use Rattle.fsrm_base.proofs.Look.{clash, found_passes, found_own, found_key, find-map}
@@ -131,25 +131,20 @@ pub peaks_last : (K : Capacity) (R : Rows) (c : Command) (folder : ℕ) (quota :
 peaks_last K R c folder quota lasting there counting =
     by (work K R c.moment c.deed) (first ((ClockBack when nat_lt c.moment R.last_moment) ∷ (work K R c.moment c.deed).checks)) lasting there
   where
-    raised_after : (acts : List Act) → quota_of (lasted K R (acted c.moment acts R) c.moment (Refused ClockBack)).rows folder ≡ Some quota → usage K R.nodes folder ≤ quota.peak
-    raised_after acts t =
-        let X = ran c.moment acts R in
-        let peaked = peaks K X c.moment in
+    raised_after : (after : Acted) (outcome : Outcome) → quota_of (lasted K R after c.moment outcome).rows folder ≡ Some quota → usage K after.rows.nodes folder ≤ quota.peak
+    raised_after after outcome t =
+        let peaked = peaks K after.rows c.moment in
         let more = due K R peaked c.moment in
         let old = mapped (run_quota c.moment more) (quota_of peaked folder) quota (sym (quota_run c.moment more peaked folder) ∙ t) in
-        subst (λ (q : QuotaRow). usage K R.nodes folder ≤ q.peak) old.2 (peaks_raised K X c.moment folder old.0 old.1 (ap counts old.2 ∙ counting))
+        subst (λ (q : QuotaRow). usage K after.rows.nodes folder ≤ q.peak) old.2 (peaks_raised K after.rows c.moment folder old.0 old.1 (ap counts old.2 ∙ counting))
 
-    ended : (w : Work) (lasts : Bool) → (if lasts then lasted K R (unacted (followed R w.effect)) c.moment w.outcome else unlasting (followed R w.effect) w.outcome).lasting ≡ true → quota_of (if lasts then lasted K R (unacted (followed R w.effect)) c.moment w.outcome else unlasting (followed R w.effect) w.outcome).rows folder ≡ Some quota → usage K (if lasts then lasted K R (unacted (followed R w.effect)) c.moment w.outcome else unlasting (followed R w.effect) w.outcome).rows.nodes folder ≤ quota.peak
-    ended w true l t =
-        let peaked = peaks K (followed R w.effect) c.moment in
-        let acts = due K R peaked c.moment in
-        let old = mapped (run_quota c.moment acts) (quota_of peaked folder) quota (sym (quota_run c.moment acts peaked folder) ∙ t) in
-        subst (λ (q : QuotaRow). usage K w.effect.nodes folder ≤ q.peak) old.2
-        (peaks_raised K (followed R w.effect) c.moment folder old.0 old.1 (ap counts old.2 ∙ counting))
+    ended : (w : Work) (lasts : Bool) → (if lasts then lasted K R (screened (followed R w.effect) c.moment w.judged) c.moment w.outcome else unlasting (followed R w.effect) w.outcome).lasting ≡ true → quota_of (if lasts then lasted K R (screened (followed R w.effect) c.moment w.judged) c.moment w.outcome else unlasting (followed R w.effect) w.outcome).rows folder ≡ Some quota → usage K (if lasts then lasted K R (screened (followed R w.effect) c.moment w.judged) c.moment w.outcome else unlasting (followed R w.effect) w.outcome).rows.nodes folder ≤ quota.peak
+    ended w true l t = raised_after (screened (followed R w.effect) c.moment w.judged) w.outcome t
     ended w false l t = absurd (clash false l refl)
 
     by : (w : Work) (o : Option Refusal) → (decided K R c.moment w o).lasting ≡ true → quota_of (decided K R c.moment w o).rows folder ≡ Some quota → usage K (decided K R c.moment w o).rows.nodes folder ≤ quota.peak
     by w (Some refusal) l t =
         refused_cases K R c.moment w refusal (λ s. s.lasting ≡ true → quota_of s.rows folder ≡ Some quota → usage K s.rows.nodes folder ≤ quota.peak)
-        (λ l t. absurd (clash false l refl)) (λ acts l t. raised_after acts t) l t
+        (λ l t. absurd (clash false l refl)) (λ acts l t. raised_after (acted c.moment acts R) (Refused refusal) t)
+        (λ screen j is judged l t. raised_after (screened_by R c.moment j) (Refused refusal) t) l t
     by w None l t = ended w w.lasts l t

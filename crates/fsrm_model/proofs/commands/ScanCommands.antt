@@ -29,7 +29,7 @@ use Rattle.fsrm_model.proofs.valid.ValidLaws.{folder_has}
 use Rattle.fsrm_model.specs.ValidScans.{AreLeft}
 use Rattle.fsrm_model.proofs.valid.QueueKept.{queue_changed}
 use Rattle.fsrm_model.proofs.commands.QuotaCommands.{state_quotas, state_texts, quota_there}
-use Rattle.fsrm_model.proofs.valid.RowsKept.{plain-change, valid_with, same_heads, left_followed, left_visits, quotas_followed, head_in}
+use Rattle.fsrm_model.proofs.valid.RowsKept.{plain-change, valid_with, all_stay, same_heads, left_followed, left_visits, quotas_followed, head_in}
 
 -- what is kept of quotas, if the state of one became another that is kept as the same
 flag_change : (a b : QuotaState) → flagged a ≡ flagged b → (folder : ℕ) (quotas : List QuotaRow) → map flagged_quota (with_change folder_of folder (in_state a) quotas) ≡ map flagged_quota (with_change folder_of folder (in_state b) quotas)
@@ -79,9 +79,10 @@ scan_still K R path =
         checks = (bare _ _ refl, (bare _ _ refl, (bare _ _ refl, tt)));
         named = λ store h. tt;
         quiet = λ store h still. scan_quiet R (target R.nodes path) (quota_of R (target R.nodes path)) store.quotas.ascending refl (scan_enabled R path h) still;
-        unjudged = refl;
+        judged = λ j h. absurd (cc h);
       };
       same = refl;
+      unjudged = refl;
     }
 
 -- the folder of a quota is a node
@@ -112,9 +113,10 @@ step_still K R n =
             let none : (length R.queue == 0) ≡ false = when_none NothingToScan (length R.queue == 0) (first_none (NothingToScan when (length R.queue == 0)) [] h).0 in
             ap (has_row number (unwrap_or (head R.queue) 0)) (step_nodes K R n) ∙ head_node K R R.queue store refl none;
         quiet = λ store h still. step_quiet R (visits n R.nodes R.unvisited) (unwrap_or (head R.queue) 0) (length (visits n R.nodes R.unvisited) == 0) still;
-        unjudged = refl;
+        judged = λ j h. absurd (cc h);
       };
       same = step_nodes K R n;
+      unjudged = refl;
     }
 
 -- the first checks of a scan are those of a quota
@@ -165,7 +167,7 @@ step_kept K R n s h =
     by : (ends : Bool) → has_row folder_of scanned R.quotas ≡ true → IsValid K (followed R (if ends then with_state visited scanned Complete else visited))
     by true there =
         let queue = queued R.queue scanned Complete in
-        valid_with K R R.nodes (with_change folder_of scanned (in_state Complete) R.quotas) queue (if same_head R.queue queue then left else scan_begun R.nodes queue) R.last_moment s s.volume
+        valid_with K R R.nodes (with_change folder_of scanned (in_state Complete) R.quotas) queue (if same_head R.queue queue then left else scan_begun R.nodes queue) R.last_moment s s.volume (all_stay R.nodes)
         (state_quotas K R scanned Complete R.quotas s.quotas)
         (plain-change scanned (in_state Complete) R.quotas (λ q is. is) s.tables.plain)
         (state_texts R scanned Complete s.texts)
@@ -173,6 +175,6 @@ step_kept K R n s h =
         (left_followed K R.nodes R.queue queue left s.volume (still queue))
         s.last_moment
     by false there =
-        valid_with K R R.nodes R.quotas R.queue (if same_head R.queue R.queue then left else scan_begun R.nodes R.queue) R.last_moment s s.volume s.quotas s.tables.plain s.texts s.queue
+        valid_with K R R.nodes R.quotas R.queue (if same_head R.queue R.queue then left else scan_begun R.nodes R.queue) R.last_moment s s.volume (all_stay R.nodes) s.quotas s.tables.plain s.texts s.queue
         (left_followed K R.nodes R.queue R.queue left s.volume (still R.queue))
         s.last_moment

@@ -6,8 +6,9 @@ use Rattle.std.proofs.lemmas.Bool.{or_parts, cases_Bool, true≢false}
 use Rattle.std.proofs.lemmas.List.{append-nil}
 use Rattle.std.proofs.lemmas.List.Sums.{sum_by-append, sum_by-cons}
 use Rattle.fsrm_model.specs.declared.command.Refusal.TheVariants.{BadLine}
-use Rattle.fsrm_model.specs.Options.{Key, ThePath, TheLimit, TheType, TheStatus, TheRemoval, ThePercent, TheNotice, TheRunLimit, may_repeat, Given, PathIs, LimitIs, TypeIs, StatusIs, RemovalIs, PercentIs, NoticeIs, RunLimitIs, key_of, value_from, is_of, is_colon, key_named, word_key, with_option, options}
-use Rattle.fsrm_model.specs.ActionWords.{percent_from, notice_from}
+use Rattle.fsrm_model.specs.Options.{Key, ThePath, TheLimit, TheType, TheStatus, TheRemoval, ThePercent, TheNotice, TheRunLimit, TheGroup, TheMembers, TheNonMembers, TheMode, TheGroupRemoval, TheGroupAddition, TheScreenNotice, may_repeat, Given, PathIs, LimitIs, TypeIs, StatusIs, RemovalIs, PercentIs, NoticeIs, RunLimitIs, GroupIs, MembersAre, NonMembersAre, ModeIs, GroupRemovalIs, GroupAdditionIs, ScreenNoticeIs, key_of, value_from, is_of, is_colon, key_named, word_key, with_option, options}
+use Rattle.fsrm_model.specs.ActionWords.{percent_from, action_from, notice_from}
+use Rattle.fsrm_model.specs.GroupWords.{object_from, patterns_from, non_members_from}
 use Rattle.fsrm_model.specs.Limits.{greatest_percent, most_minutes}
 use Rattle.fsrm_model.specs.Reading.{Read, ◌>>=◌, guarded, known, number_from, path_from, limit_from, choice_from}
 use Rattle.fsrm_model.specs.Spelling.{WritesValue, SpellsEach, AreOnce, SpellsOptions}
@@ -15,8 +16,9 @@ use Rattle.fsrm_model.specs.Words.{Word}
 use Rattle.fsrm_model.proofs.lines.LineValues.{AsLine, then_line, guarded_line, known_line, number_line, path_line, limit_line, choice_line}
 use Rattle.fsrm_model.proofs.lines.PathLaws.{path_writes, path_reads}
 use Rattle.fsrm_model.proofs.lines.ReadLaws.{then_ok, both_ok, guarded_then, number_writes, number_reads}
-use Rattle.fsrm_model.proofs.lines.ActionLaws.{notice_writes, notice_reads, notice_line}
-use Rattle.fsrm_model.proofs.lines.ValueLaws.{colon_parts, colon_before, colon_after, colon_there, before_plain, known_ok, limit_writes, limit_reads, type_writes, type_reads, status_writes, status_reads}
+use Rattle.fsrm_model.proofs.lines.ActionLaws.{action_writes, action_reads, action_line, notice_writes, notice_reads, notice_line}
+use Rattle.fsrm_model.proofs.lines.GroupWordLaws.{object_writes, object_reads, object_line, patterns_writes, patterns_reads, patterns_line, non_members_writes, non_members_reads, non_members_line}
+use Rattle.fsrm_model.proofs.lines.ValueLaws.{colon_parts, colon_before, colon_after, colon_there, before_plain, known_ok, limit_writes, limit_reads, type_writes, type_reads, status_writes, status_reads, mode_writes, mode_reads}
 use Rattle.fsrm_model.proofs.lines.WordLaws.{texts}
 
 -- What is known of each option: a value that is read is written there, and one that isn't is refused as a line is
@@ -43,6 +45,13 @@ is_option TheRemoval = option_of TheRemoval percent_from RemovalIs (λ column te
 is_option ThePercent = option_of ThePercent percent_from PercentIs (λ column text. refl) (λ column text x h. (refl, number_writes 1 greatest_percent column text x h)) (number_line 1 greatest_percent)
 is_option TheNotice = option_of TheNotice notice_from NoticeIs (λ column text. refl) (λ column text x h. (refl, notice_writes column text x h)) notice_line
 is_option TheRunLimit = option_of TheRunLimit (number_from 0 most_minutes) RunLimitIs (λ column text. refl) (λ column text x h. (refl, number_writes 0 most_minutes column text x h)) (number_line 0 most_minutes)
+is_option TheGroup = option_of TheGroup (λ column text. object_from text) GroupIs (λ column text. refl) (λ column text x h. (refl, object_writes text x h)) (λ column text. object_line text)
+is_option TheMembers = option_of TheMembers (λ column text. patterns_from text) MembersAre (λ column text. refl) (λ column text x h. (refl, patterns_writes text x h)) (λ column text. patterns_line text)
+is_option TheNonMembers = option_of TheNonMembers (λ column text. non_members_from text) NonMembersAre (λ column text. refl) (λ column text x h. (refl, non_members_writes text x h)) (λ column text. non_members_line text)
+is_option TheMode = option_of TheMode (choice_from (codes "active") (codes "passive")) ModeIs (λ column text. refl) (λ column text x h. (refl, mode_writes column text x h)) (choice_line (codes "active") (codes "passive"))
+is_option TheGroupRemoval = option_of TheGroupRemoval (λ column text. object_from text) GroupRemovalIs (λ column text. refl) (λ column text x h. (refl, object_writes text x h)) (λ column text. object_line text)
+is_option TheGroupAddition = option_of TheGroupAddition (λ column text. object_from text) GroupAdditionIs (λ column text. refl) (λ column text x h. (refl, object_writes text x h)) (λ column text. object_line text)
+is_option TheScreenNotice = option_of TheScreenNotice action_from ScreenNoticeIs (λ column text. refl) (λ column text x h. (refl, action_writes column text x h)) action_line
 
 -- a value that is written is read
 value_reads : (column : ℕ) (text : List ℕ) (given : Given) → WritesValue text given → value_from (key_of given) column text ≡ Ok given
@@ -54,6 +63,13 @@ value_reads column text (RemovalIs percent) w = then_ok (percent_from column tex
 value_reads column text (PercentIs percent) w = then_ok (percent_from column text) percent (λ x. Ok (PercentIs x)) (number_reads 1 greatest_percent column text percent w)
 value_reads column text (NoticeIs notice) w = then_ok (notice_from column text) notice (λ x. Ok (NoticeIs x)) (notice_reads column text notice w)
 value_reads column text (RunLimitIs minutes) w = then_ok (number_from 0 most_minutes column text) minutes (λ x. Ok (RunLimitIs x)) (number_reads 0 most_minutes column text minutes w)
+value_reads column text (GroupIs name) w = then_ok (object_from text) name (λ x. Ok (GroupIs x)) (object_reads text name w)
+value_reads column text (MembersAre patterns) w = then_ok (patterns_from text) patterns (λ x. Ok (MembersAre x)) (patterns_reads text patterns w)
+value_reads column text (NonMembersAre patterns) w = then_ok (non_members_from text) patterns (λ x. Ok (NonMembersAre x)) (non_members_reads text patterns w)
+value_reads column text (ModeIs active) w = then_ok (choice_from (codes "active") (codes "passive") column text) active (λ x. Ok (ModeIs x)) (mode_reads column text active w)
+value_reads column text (GroupRemovalIs name) w = then_ok (object_from text) name (λ x. Ok (GroupRemovalIs x)) (object_reads text name w)
+value_reads column text (GroupAdditionIs name) w = then_ok (object_from text) name (λ x. Ok (GroupAdditionIs x)) (object_reads text name w)
+value_reads column text (ScreenNoticeIs action) w = then_ok (action_from column text) action (λ x. Ok (ScreenNoticeIs x)) (action_reads column text action w)
 
 -- an option is that of its own key, and of no other
 is_own : (given : Given) → is_of (key_of given) given ≡ true
@@ -65,6 +81,13 @@ is_own (RemovalIs percent) = refl
 is_own (PercentIs percent) = refl
 is_own (NoticeIs notice) = refl
 is_own (RunLimitIs minutes) = refl
+is_own (GroupIs name) = refl
+is_own (MembersAre patterns) = refl
+is_own (NonMembersAre patterns) = refl
+is_own (ModeIs active) = refl
+is_own (GroupRemovalIs name) = refl
+is_own (GroupAdditionIs name) = refl
+is_own (ScreenNoticeIs action) = refl
 
 pub own_key : (key : Key) (given : Given) → is_of key given ≡ true → key ≡ key_of given
 own_key ThePath (PathIs path) h = refl
@@ -75,6 +98,13 @@ own_key TheRemoval (RemovalIs percent) h = refl
 own_key ThePercent (PercentIs percent) h = refl
 own_key TheNotice (NoticeIs notice) h = refl
 own_key TheRunLimit (RunLimitIs minutes) h = refl
+own_key TheGroup (GroupIs name) h = refl
+own_key TheMembers (MembersAre patterns) h = refl
+own_key TheNonMembers (NonMembersAre patterns) h = refl
+own_key TheMode (ModeIs active) h = refl
+own_key TheGroupRemoval (GroupRemovalIs name) h = refl
+own_key TheGroupAddition (GroupAdditionIs name) h = refl
+own_key TheScreenNotice (ScreenNoticeIs action) h = refl
 own_key key other h = absurd (cc h)
 
 -- A word that gives an option is its name, a colon and a value

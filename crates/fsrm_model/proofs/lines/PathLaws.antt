@@ -11,7 +11,9 @@ use Rattle.fsrm_model.specs.Limits.{longest_name}
 use Rattle.fsrm_model.specs.Name.{is_name, is_name_byte}
 use Rattle.fsrm_model.specs.Reading.{Read, guarded, is_backslash, without_last_empty, path_parts, is_on_volume, has_path_form, path_from}
 use Rattle.fsrm_model.specs.Spelling.{WritesPath}
+use Rattle.fsrm_base.proofs.TestLaws.{eq_same}
 use Rattle.fsrm_model.proofs.lines.ReadLaws.{then_ok, guarded_then, guarded_ok, guarded_from}
+use Rattle.fsrm_model.proofs.lines.ValueLaws.{is_mark}
 
 -- bytes in front of the first part
 abbrev pub in_front : List ℕ → List (List ℕ) → List (List ℕ)
@@ -62,24 +64,31 @@ names_plain (name ∷ path) h =
     let parts = and_parts (is_name name) (list_all is_name path) h in
     or_from (has_backslash name) (list_any has_backslash path) (name_parts name parts.0).1 (names_plain path parts.1)
 
--- a text is parted after a front without a backslash
-split_front : (front rest : List ℕ) → has_backslash front ≡ false → slice_split is_backslash (front ++ rest) ≡ in_front front (slice_split is_backslash rest)
-split_front [] rest h = refl
-split_front (b ∷ front) rest h =
-    let tests = or_parts (is_backslash b) (has_backslash front) h in
-    rw tests.0 (ap (onto_first b) (split_front front rest tests.1))
+-- a text is parted after a front without a mark
+abbrev pub has_mark : ℕ → List ℕ → Bool
+has_mark mark part = list_any (is_mark mark) part
+
+split_front : (mark : ℕ) (front rest : List ℕ) → has_mark mark front ≡ false → slice_split (is_mark mark) (front ++ rest) ≡ in_front front (slice_split (is_mark mark) rest)
+split_front mark [] rest h = refl
+split_front mark (b ∷ front) rest h =
+    let tests = or_parts (is_mark mark b) (has_mark mark front) h in
+    rw tests.0 (ap (onto_first b) (split_front mark front rest tests.1))
+
+split_mark : (mark : ℕ) (rest : List ℕ) → slice_split (is_mark mark) (mark ∷ rest) ≡ [] ∷ slice_split (is_mark mark) rest
+split_mark mark rest = rw (eq_same mark) refl
 
 -- joined parts are parted again
-split_join : (part : List ℕ) (parts : List (List ℕ)) → list_any has_backslash (part ∷ parts) ≡ false → slice_split is_backslash (join_with_byte 92 (part ∷ parts)) ≡ part ∷ parts
-split_join part [] h =
-    ap (slice_split is_backslash) (sym (append-nil part))
-    ∙ split_front part [] (or_parts (has_backslash part) false h).0
+pub split_join : (mark : ℕ) (part : List ℕ) (parts : List (List ℕ)) → list_any (has_mark mark) (part ∷ parts) ≡ false → slice_split (is_mark mark) (join_with_byte mark (part ∷ parts)) ≡ part ∷ parts
+split_join mark part [] h =
+    ap (slice_split (is_mark mark)) (sym (append-nil part))
+    ∙ split_front mark part [] (or_parts (has_mark mark part) false h).0
     ∙ in_front-empty part []
-split_join part (next ∷ parts) h =
-    let tests = or_parts (has_backslash part) (list_any has_backslash (next ∷ parts)) h in
-    split_front part (92 ∷ join_with_byte 92 (next ∷ parts)) tests.0
-    ∙ in_front-empty part (slice_split is_backslash (join_with_byte 92 (next ∷ parts)))
-    ∙ ap (λ (ps : List (List ℕ)). part ∷ ps) (split_join next parts tests.1)
+split_join mark part (next ∷ parts) h =
+    let tests = or_parts (has_mark mark part) (list_any (has_mark mark) (next ∷ parts)) h in
+    split_front mark part (mark ∷ join_with_byte mark (next ∷ parts)) tests.0
+    ∙ ap (in_front part) (split_mark mark (join_with_byte mark (next ∷ parts)))
+    ∙ in_front-empty part (slice_split (is_mark mark) (join_with_byte mark (next ∷ parts)))
+    ∙ ap (λ (ps : List (List ℕ)). part ∷ ps) (split_join mark next parts tests.1)
 
 -- one more empty part is one more backslash
 join_last : (part : List ℕ) (parts : List (List ℕ)) → join_with_byte 92 (part ∷ (parts ++ [] ∷ [])) ≡ join_with_byte 92 (part ∷ parts) ++ 92 ∷ []
@@ -135,11 +144,11 @@ names_parted rest [] each (inl e) = ap (λ (bs : List ℕ). without_last_empty (
 names_parted rest [] each (inr e) = absurd (omega (arith, e.0))
 names_parted rest (part ∷ path) each (inl e) =
     ap (λ (bs : List ℕ). without_last_empty (slice_split is_backslash bs)) e
-    ∙ ap without_last_empty (split_join part path (names_plain (part ∷ path) each))
+    ∙ ap without_last_empty (split_join 92 part path (names_plain (part ∷ path) each))
     ∙ none_dropped (part ∷ path) (names_filled (part ∷ path) each)
 names_parted rest (part ∷ path) each (inr e) =
     ap (λ (bs : List ℕ). without_last_empty (slice_split is_backslash bs)) (e.1 ∙ sym (join_last part path))
-    ∙ ap without_last_empty (split_join part (path ++ [] ∷ []) (last_plain (part ∷ path) (names_plain (part ∷ path) each)))
+    ∙ ap without_last_empty (split_join 92 part (path ++ [] ∷ []) (last_plain (part ∷ path) (names_plain (part ∷ path) each)))
     ∙ one_dropped (part ∷ path) (names_filled (part ∷ path) each)
 
 -- the volume, in letters of either case

@@ -17,7 +17,7 @@ use Rattle.fsrm_model.specs.declared.command.Refusal.TheVariants.{BadLine, Inval
 use Rattle.fsrm_model.specs.Options.{is_colon}
 use Rattle.fsrm_model.specs.Quota.{is_limit}
 use Rattle.fsrm_model.specs.Reading.{Read, ◌>>=◌, guarded, known, units, unit_bytes, digits_of, limit_from, choice_from}
-use Rattle.fsrm_model.specs.Spelling.{IsNamed, WritesLimit, WritesType, WritesStatus}
+use Rattle.fsrm_model.specs.Spelling.{IsNamed, WritesLimit, WritesType, WritesStatus, WritesMode}
 use Rattle.fsrm_model.proofs.lines.ReadLaws.{both_ok, guarded_ok, guarded_then, guarded_from}
 
 -- two spellings of one name
@@ -213,3 +213,12 @@ status_writes column text false h = choice_writes (codes "enabled") (codes "disa
 pub status_reads : (column : ℕ) (text : List ℕ) (enabled : Bool) → WritesStatus text enabled → choice_from (codes "enabled") (codes "disabled") column text ≡ Ok enabled
 status_reads column text true w = choice_reads (codes "enabled") (codes "disabled") refl column text true w
 status_reads column text false w = choice_reads (codes "enabled") (codes "disabled") refl column text false w
+
+-- what a screen does
+pub mode_writes : (column : ℕ) (text : List ℕ) (active : Bool) → choice_from (codes "active") (codes "passive") column text ≡ Ok active → WritesMode text active
+mode_writes column text true h = choice_writes (codes "active") (codes "passive") column text true h
+mode_writes column text false h = choice_writes (codes "active") (codes "passive") column text false h
+
+pub mode_reads : (column : ℕ) (text : List ℕ) (active : Bool) → WritesMode text active → choice_from (codes "active") (codes "passive") column text ≡ Ok active
+mode_reads column text true w = choice_reads (codes "active") (codes "passive") refl column text true w
+mode_reads column text false w = choice_reads (codes "active") (codes "passive") refl column text false w

@@ -13,7 +13,7 @@ use Rattle.fsrm_model.specs.declared.row.QuotaRow.{QuotaRow}
 use Rattle.fsrm_model.specs.declared.row.Rows.{Rows}
 use Rattle.fsrm_model.specs.declared.row.Threshold.{Threshold}
 use Rattle.fsrm_base.specs.Keyed.{row_of, is_ascending}
-use Rattle.fsrm_model.specs.Acts.{folder_in, percent_in, actions_of, IsAct, act_before, are_in_order}
+use Rattle.fsrm_model.specs.Acts.{folder_in, percent_in, is_of_quota, actions_of, IsAct, act_before, are_in_order}
 use Rattle.fsrm_model.specs.DueActions.{ready, act_of, ready_acts, quota_acts, due, due_refused}
 use Rattle.fsrm_model.specs.Quota.{folder_of, quota_of, over, deepest}
 use Rattle.fsrm_model.specs.Raises.{are_ascending}
@@ -27,7 +27,7 @@ use Rattle.fsrm_model.proofs.thresholds.DueLaws.{also, ascending_each}
 use Rattle.fsrm_model.proofs.thresholds.RaisesLaws.{refuser}
 
 -- ---- facts of each item
-all-append : {X : Type 0} (P : X → Type 0) (xs ys : List X) → AllByRecursion P xs → AllByRecursion P ys → AllByRecursion P (xs ++ ys)
+pub all-append : {X : Type 0} (P : X → Type 0) (xs ys : List X) → AllByRecursion P xs → AllByRecursion P ys → AllByRecursion P (xs ++ ys)
 all-append P [] ys h g = g
 all-append P (x ∷ xs) ys h g = (h.0, all-append P xs ys h.1 g)
 
@@ -147,6 +147,14 @@ order_from n run_limit moment subject (action ∷ actions) =
         (all_tests (act_before first) (map (act_of subject) rest) (also (IsFrom (n + 1) subject) (λ act. act_before first act ≡ true) after (map (act_of subject) rest) (all_from (n + 1) run_limit moment subject actions))) h
     at false h = h
 
+-- the acts of a subject are its own, and stand in order
+pub ready_of : (P : Act → Type 0) (run_limit moment : ℕ) (subject : Subject) (actions : List Action) → ((act : Act) → act.subject ≡ subject → P act) → AllByRecursion P (ready_acts run_limit moment subject actions)
+ready_of P run_limit moment subject actions h =
+    also (IsFrom 0 subject) P (λ act is. h act is.of) (ready_acts run_limit moment subject actions) (all_from 0 run_limit moment subject actions)
+
+pub order_ready : (run_limit moment : ℕ) (subject : Subject) (actions : List Action) → are_in_order (ready_acts run_limit moment subject actions) ≡ true
+order_ready run_limit moment subject actions = order_from 0 run_limit moment subject actions
+
 -- ---- of a quota
 abbrev acts_at : ℕ → ℕ → ℕ → Threshold → List Act
 acts_at run_limit moment folder threshold = ready_acts run_limit moment (Quota folder threshold.percent) threshold.actions
@@ -195,6 +203,38 @@ of_folder passes run_limit moment quota =
           (all_from 0 run_limit moment (Quota quota.folder t.percent) t.actions),
       all_thresholds ts,
     )
+
+-- they are acts of a quota
+abbrev pub IsOfScreen : Act → Type 0
+IsOfScreen act = is_of_quota act.subject ≡ false
+
+abbrev pub IsOfQuota : Act → Type 0
+IsOfQuota act = is_of_quota act.subject ≡ true
+
+of_quota : (passes : ℕ → Bool) (run_limit moment : ℕ) (quota : QuotaRow) → AllByRecursion IsOfQuota (quota_acts passes run_limit moment quota)
+of_quota passes run_limit moment quota =
+    all-flat_map IsOfQuota (acts_at run_limit moment quota.folder) (filter (λ t. passes t.percent) quota.thresholds) (each_threshold (filter (λ t. passes t.percent) quota.thresholds))
+  where
+    each_threshold : (ts : List Threshold) → AllByRecursion (λ t. AllByRecursion IsOfQuota (acts_at run_limit moment quota.folder t)) ts
+    each_threshold [] = tt
+    each_threshold (t ∷ ts) = (ready_of IsOfQuota run_limit moment (Quota quota.folder t.percent) t.actions (λ act of'. ap is_of_quota of'), each_threshold ts)
+
+pub of_quota_due : (K : Capacity) (before after : Rows) (moment : ℕ) → AllByRecursion IsOfQuota (due K before after moment)
+of_quota_due K before after moment = all-flat_map IsOfQuota acts after.quotas (each_quota after.quotas)
+  where
+    acts : QuotaRow → List Act
+    acts quota = quota_acts (crossed K before after quota.folder) after.run_limit moment quota
+
+    each_quota : (quotas : List QuotaRow) → AllByRecursion (λ quota. AllByRecursion IsOfQuota (acts quota)) quotas
+    each_quota [] = tt
+    each_quota (quota ∷ quotas) = (of_quota (crossed K before after quota.folder) after.run_limit moment quota, each_quota quotas)
+
+pub of_quota_refused : (K : Capacity) (R : Rows) (nodes : List NodeRow) (moment : ℕ) → AllByRecursion IsOfQuota (due_refused K R nodes moment)
+of_quota_refused K R nodes moment = at (deepest nodes (over K R nodes))
+  where
+    at : (o : Option QuotaRow) → AllByRecursion IsOfQuota (option_map_or (λ quota. quota_acts (crossed K R (record R { nodes = nodes }) quota.folder) R.run_limit moment quota) o [])
+    at None = tt
+    at (Some quota) = of_quota (crossed K R (record R { nodes = nodes }) quota.folder) R.run_limit moment quota
 
 -- ---- of all quotas
 order_quotas : (acts : QuotaRow → List Act) (quotas : List QuotaRow) → is_ascending folder_of quotas ≡ true → AllByRecursion (λ quota. are_in_order (acts quota) ≡ true) quotas → AllByRecursion (λ quota. AllByRecursion (λ act. folder_in act.subject ≡ quota.folder) (acts quota)) quotas → are_in_order (flat_map acts quotas) ≡ true
@@ -261,7 +301,7 @@ ones_from n run_limit moment subject whole (action ∷ actions) same =
     at false h = h
 
 -- so each act is one of the rows, if the actions are its subject's
-acts_there : (R : Rows) (run_limit moment : ℕ) (subject : Subject) (actions : List Action) → actions_of R subject ≡ actions → AllByRecursion (IsAct R) (ready_acts run_limit moment subject actions)
+pub acts_there : (R : Rows) (run_limit moment : ℕ) (subject : Subject) (actions : List Action) → actions_of R subject ≡ actions → AllByRecursion (IsAct R) (ready_acts run_limit moment subject actions)
 acts_there R run_limit moment subject actions own =
     also (IsOne actions subject) (IsAct R)
     (λ act is. record {

@@ -10,15 +10,16 @@ use Rattle.std.specs.Option.{option_map_or}
 use Rattle.fsrm_model.specs.Acts.{has_act}
 use Rattle.fsrm_model.specs.declared.command.Act.{Act}
 use Rattle.fsrm_model.specs.declared.command.Subject.{Subject}
-use Rattle.fsrm_model.specs.declared.command.Subject.TheVariants.{Quota}
+use Rattle.fsrm_model.specs.declared.command.Subject.TheVariants.{Quota, Screen}
 use Rattle.fsrm_model.specs.declared.row.ActRow.{ActRow}
 use Rattle.fsrm_model.specs.declared.row.Action.{Action}
 use Rattle.fsrm_model.specs.declared.row.QuotaRow.{QuotaRow}
 use Rattle.fsrm_model.specs.declared.row.Rows.{Rows}
+use Rattle.fsrm_model.specs.declared.row.ScreenRow.{ScreenRow}
 use Rattle.fsrm_model.specs.declared.row.Threshold.{Threshold}
 use Rattle.fsrm_base.specs.Keyed.{is_ascending}
 use Rattle.fsrm_model.specs.Limits.{latest_moment, most_actions, most_entries, most_text_bytes, most_thresholds}
-use Rattle.fsrm_model.specs.Runs.{run_actions, run_threshold, run_quota, last_entries, entry_of, ran}
+use Rattle.fsrm_model.specs.Runs.{run_actions, run_threshold, run_quota, run_screen, last_entries, entry_of, ran}
 use Rattle.fsrm_model.specs.Texts.{action_bytes, quota_bytes, object_texts}
 use Rattle.fsrm_model.specs.Thresholds.{percent_of, is_percent, is_action, is_kept_action, is_threshold, is_crowded, are_too_many, are_thresholds}
 use Rattle.fsrm_model.specs.Valid.{is_moment, are_entries}
@@ -64,6 +65,9 @@ pub bytes_run : (moment : ℕ) (acts : List Act) (quota : QuotaRow) → quota_by
 bytes_run moment acts quota =
     sum_by-same (λ (t : Threshold). action_bytes t.actions) (run_threshold moment acts quota.folder) (λ t. bytes_from moment acts (Quota quota.folder t.percent) 0 t.actions) quota.thresholds
 
+pub screen_bytes_run : (moment : ℕ) (acts : List Act) (screen : ScreenRow) → action_bytes (run_screen moment acts screen).actions ≡ action_bytes screen.actions
+screen_bytes_run moment acts screen = bytes_from moment acts (Screen screen.folder) 0 screen.actions
+
 -- ---- what a quota has
 kept_run : (moment : ℕ) → moment ≤ latest_moment → (b : Bool) (action : Action) → is_kept_action action ≡ true → is_kept_action (with_run moment b action) ≡ true
 kept_run moment late true action h =
@@ -71,7 +75,7 @@ kept_run moment late true action h =
     both_true (is_action action) (nat_le moment latest_moment) parts.0 (le_test moment latest_moment late)
 kept_run moment late false action h = h
 
-all_from : (moment : ℕ) (acts : List Act) (subject : Subject) (n : ℕ) (actions : List Action) → moment ≤ latest_moment → list_all is_kept_action actions ≡ true → list_all is_kept_action (map (λ (at : ℕ × Action). if has_act acts subject at.0 then record at.1 { last_run = Some moment } else at.1) (enumerate_from n actions)) ≡ true
+pub all_from : (moment : ℕ) (acts : List Act) (subject : Subject) (n : ℕ) (actions : List Action) → moment ≤ latest_moment → list_all is_kept_action actions ≡ true → list_all is_kept_action (map (λ (at : ℕ × Action). if has_act acts subject at.0 then record at.1 { last_run = Some moment } else at.1) (enumerate_from n actions)) ≡ true
 all_from moment acts subject n [] late h = refl
 all_from moment acts subject n (action ∷ actions) late h =
     let f : ℕ × Action → Action = λ (at : ℕ × Action). if has_act acts subject at.0 then record at.1 { last_run = Some moment } else at.1 in
@@ -118,10 +122,10 @@ thresholds_run moment acts folder thresholds late h =
 abbrev dated : ActRow → Bool
 dated entry = is_moment entry.moment
 
-all_dropped : (k : ℕ) (log : List ActRow) → list_all dated log ≡ true → list_all dated (drop k log) ≡ true
-all_dropped zero log h = h
-all_dropped (suc k) [] h = refl
-all_dropped (suc k) (entry ∷ log) h = all_dropped k log (both (dated entry) (list_all dated log) h).1
+pub all_dropped : {X : Type 0} (p : X → Bool) (k : ℕ) (log : List X) → list_all p log ≡ true → list_all p (drop k log) ≡ true
+all_dropped p zero log h = h
+all_dropped p (suc k) [] h = refl
+all_dropped p (suc k) (entry ∷ log) h = all_dropped p k log (both (p entry) (list_all p log) h).1
 
 entries_dated : (moment : ℕ) (acts : List Act) → moment ≤ latest_moment → list_all dated (map (entry_of moment) acts) ≡ true
 entries_dated moment [] late = refl
@@ -132,4 +136,4 @@ log_run moment acts R late h =
     let whole = R.acts ++ map (entry_of moment) acts in
     let parts = both (nat_le (length R.acts) most_entries) (list_all dated R.acts) h in
     both_true (nat_le (length (last_entries whole)) most_entries) (list_all dated (last_entries whole)) (le_test _ _ (few_entries whole))
-    (all_dropped _ whole (list_all-append dated R.acts (map (entry_of moment) acts) ∙ both_true (list_all dated R.acts) (list_all dated (map (entry_of moment) acts)) parts.1 (entries_dated moment acts late)))
+    (all_dropped dated _ whole (list_all-append dated R.acts (map (entry_of moment) acts) ∙ both_true (list_all dated R.acts) (list_all dated (map (entry_of moment) acts)) parts.1 (entries_dated moment acts late)))

@@ -35,7 +35,7 @@ ascending-notice thresholds notice a =
     (ascending-threshold thresholds notice.percent a)
 
 -- what every step keeps, all of them do
-kept_by_all : {A B : Type 0} (P : B → Type 0) (f : B → A → B) → ((b : B) (x : A) → P b → P (f b x)) → (b : B) (xs : List A) → P b → P (fold f b xs)
+pub kept_by_all : {A B : Type 0} (P : B → Type 0) (f : B → A → B) → ((b : B) (x : A) → P b → P (f b x)) → (b : B) (xs : List A) → P b → P (fold f b xs)
 kept_by_all P f k b [] h = h
 kept_by_all P f k b (x ∷ xs) h = kept_by_all P f k (f b x) xs (k b x h)
 

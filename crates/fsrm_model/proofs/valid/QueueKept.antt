@@ -56,7 +56,7 @@ in_other queue n f state apart = at (is_rebuilding state) (is_in queue n)
     at false d = has_row-without_other itself n f queue apart
 
 -- each once
-once_more : (queue : List ℕ) (n : ℕ) → is_in queue n ≡ false → each_once queue ≡ true → each_once (queue ++ n ∷ []) ≡ true
+pub once_more : (queue : List ℕ) (n : ℕ) → is_in queue n ≡ false → each_once queue ≡ true → each_once (queue ++ n ∷ []) ≡ true
 once_more [] n lacks once = refl
 once_more (k ∷ queue) n lacks once =
     let no = neither (k == n) (is_in queue n) lacks in

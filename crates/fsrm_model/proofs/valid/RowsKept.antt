@@ -1,29 +1,39 @@
 -- Rows stay those of a store if their nodes, quotas and scans do: over what a command makes of them, and over its end.
-use Rattle.std.proofs.Common.{◌≡◌, ℕ, zero, suc, ◌≤◌, ◌==◌, Bool, true, false, cond, not, ◌||◌, ◌&&◌, List, [], ◌∷◌, refl, ◌∙◌, ap, subst, arith, Some, None, Option}
+use Rattle.std.proofs.Common.{◌≡◌, ℕ, zero, suc, ◌≤◌, ◌==◌, Bool, true, false, cond, not, ◌||◌, ◌&&◌, List, [], ◌∷◌, ◌++◌, length, refl, sym, ◌∙◌, ap, subst, arith, Some, None, Option, nat_le}
+use Rattle.std.proofs.lemmas.List.Folds.{list_all-append}
 use Rattle.std.specs.Prelude.{map, sum_by, nat_lt, if◌then◌else◌}
 use Rattle.std.specs.List.{list_all}
 use Rattle.std.specs.Option.{option_map_or}
 use Rattle.fsrm_model.specs.declared.command.Act.{Act}
+use Rattle.fsrm_model.specs.declared.row.AuditRow.{AuditRow}
 use Rattle.fsrm_model.specs.declared.row.Capacity.{Capacity}
+use Rattle.fsrm_model.specs.declared.row.ExceptRow.{ExceptRow}
+use Rattle.fsrm_model.specs.declared.row.GroupRow.{GroupRow}
 use Rattle.fsrm_model.specs.declared.row.NodeRow.{NodeRow}
 use Rattle.fsrm_model.specs.declared.row.QuotaRow.{QuotaRow}
 use Rattle.fsrm_model.specs.declared.row.Rows.{Rows}
 use Rattle.fsrm_model.specs.declared.row.ScreenRow.{ScreenRow}
-use Rattle.fsrm_base.specs.Keyed.{with_row, with_change, without_row}
-use Rattle.fsrm_model.specs.Limits.{latest_moment, most_minutes, most_text_bytes}
+use Rattle.fsrm_base.specs.Keyed.{has_row, with_row, with_change, without_row}
+use Rattle.fsrm_model.specs.Audits.{audit_of, with_audit, audited}
+use Rattle.fsrm_model.specs.Limits.{latest_moment, most_entries, most_minutes, most_text_bytes}
+use Rattle.fsrm_model.specs.Name.{is_name}
 use Rattle.fsrm_base.specs.Numbers.{is_in}
 use Rattle.fsrm_model.specs.Quota.{folder_of, counts, peaked, peaks}
 use Rattle.fsrm_model.specs.QuotaStates.{head, same_head, scan_begun, followed}
-use Rattle.fsrm_model.specs.Runs.{run_quota, run_screen, ran}
+use Rattle.fsrm_model.specs.Runs.{run_quota, run_screen, last_entries, ran}
 use Rattle.fsrm_model.specs.Scan.{AreUnvisited, folders_under, visits}
+use Rattle.fsrm_model.specs.Screens.{screen_folder}
 use Rattle.fsrm_model.specs.Texts.{action_bytes, quota_bytes, object_texts}
 use Rattle.fsrm_model.specs.Tree.{is_folder, usage}
-use Rattle.fsrm_model.specs.Valid.{is_plain, IsVolume, AreQuotas, AreTables, IsValid}
+use Rattle.fsrm_model.specs.Valid.{is_moment, is_plain, is_audit, are_audits, are_groups, are_screens, are_excepts, IsVolume, AreQuotas, AreTables, IsValid}
 use Rattle.fsrm_model.specs.ValidScans.{IsQueue, AreLeft}
-use Rattle.fsrm_base.proofs.Look.{has_found}
+use Rattle.fsrm_model.specs.Work.{Judged}
+use Rattle.fsrm_base.proofs.Look.{has_found, found_key}
 use Rattle.fsrm_model.proofs.valid.QueueKept.{queue_peaked, queue_mapped}
 use Rattle.fsrm_model.proofs.valid.QuotasKept.{quotas-peaked, quotas-ran}
-use Rattle.fsrm_model.proofs.thresholds.KeptLaws.{sum_by-same, same_texts, bytes_run, log_run}
+use Rattle.fsrm_model.proofs.thresholds.KeptLaws.{sum_by-same, same_texts, bytes_run, screen_bytes_run, all_dropped, log_run}
+use Rattle.fsrm_model.proofs.thresholds.RunLaws.{few_entries}
+use Rattle.fsrm_model.proofs.valid.ScreensKept.{FoldersStay, screens_stay, excepts_stay, screens-ran, screen_at}
 use Rattle.fsrm_base.proofs.TestLaws.{both, both_true, eq_is, eq_same, le_test}
 use Rattle.fsrm_model.proofs.valid.UnvisitedKept.{unvisited_begun, unvisited_visits}
 
@@ -68,18 +78,18 @@ plain_peaked K nodes m quota h = at (counts quota && nat_lt quota.peak (usage K 
     at true = h
     at false = h
 
--- other nodes, quotas and scans, and another last moment
-pub valid_with : (K : Capacity) (R : Rows) (nodes : List NodeRow) (quotas : List QuotaRow) (queue unvisited : List ℕ) (last : ℕ) → IsValid K R → IsVolume K nodes → AreQuotas nodes quotas → list_all is_plain quotas ≡ true → object_texts (record R { quotas = quotas }) ≤ most_text_bytes → IsQueue quotas queue → AreLeft nodes (head queue) unvisited → last ≤ latest_moment → IsValid K (record R { nodes = nodes; quotas = quotas; queue = queue; unvisited = unvisited; last_moment = last })
-valid_with K R nodes quotas queue unvisited last s volume are plain few waits left late =
+-- other nodes that keep all folders, other quotas and scans, and another last moment
+pub valid_with : (K : Capacity) (R : Rows) (nodes : List NodeRow) (quotas : List QuotaRow) (queue unvisited : List ℕ) (last : ℕ) → IsValid K R → IsVolume K nodes → FoldersStay R.nodes nodes → AreQuotas nodes quotas → list_all is_plain quotas ≡ true → object_texts (record R { quotas = quotas }) ≤ most_text_bytes → IsQueue quotas queue → AreLeft nodes (head queue) unvisited → last ≤ latest_moment → IsValid K (record R { nodes = nodes; quotas = quotas; queue = queue; unvisited = unvisited; last_moment = last })
+valid_with K R nodes quotas queue unvisited last s volume folders are plain few waits left late =
     let E : Rows = record R { nodes = nodes; quotas = quotas; queue = queue; unvisited = unvisited; last_moment = last } in
     let t : AreTables E = record {
       plain = plain;
       templates = s.tables.templates;
       autos = s.tables.autos;
-      groups = s.tables.groups;
-      screens = s.tables.screens;
-      excepts = s.tables.excepts;
       jobs = s.tables.jobs;
+      groups = s.tables.groups;
+      screens = screens_stay R.nodes nodes R.groups R.groups R.excepts R.screens folders (λ n h. h) s.tables.screens;
+      excepts = excepts_stay R.nodes nodes R.groups R.groups R.excepts folders (λ n h. h) s.tables.excepts;
       audits = s.tables.audits;
     } in
     record {
@@ -93,6 +103,10 @@ valid_with K R nodes quotas queue unvisited last s volume are plain few waits le
       queue = waits;
       unvisited = left;
     }
+
+-- all folders, if the nodes stay
+pub all_stay : (nodes : List NodeRow) → FoldersStay nodes nodes
+all_stay nodes f is = is
 
 -- what is left to visit, if the queue changes
 pub same_heads : (was now : List ℕ) → same_head was now ≡ true → head was ≡ head now
@@ -128,7 +142,7 @@ left_visits k nodes (Some n) left a = unvisited_visits k nodes n left a
 -- a command changes quotas and the queue
 pub quotas_followed : (K : Capacity) (R : Rows) (quotas : List QuotaRow) (queue : List ℕ) → IsValid K R → AreQuotas R.nodes quotas → list_all is_plain quotas ≡ true → object_texts (record R { quotas = quotas }) ≤ most_text_bytes → IsQueue quotas queue → IsValid K (followed R (record R { quotas = quotas; queue = queue }))
 quotas_followed K R quotas queue s are plain few waits =
-    valid_with K R R.nodes quotas queue (if same_head R.queue queue then R.unvisited else scan_begun R.nodes queue) R.last_moment s s.volume are plain few waits
+    valid_with K R R.nodes quotas queue (if same_head R.queue queue then R.unvisited else scan_begun R.nodes queue) R.last_moment s s.volume (all_stay R.nodes) are plain few waits
     (left_followed K R.nodes R.queue queue R.unvisited s.volume (λ same. subst (λ (o : Option ℕ). AreLeft R.nodes o R.unvisited) (same_heads R.queue queue same) s.unvisited))
     s.last_moment
 
@@ -146,13 +160,20 @@ peaked_bytes K nodes m quota = at (counts quota && nat_lt quota.peak (usage K no
 
 pub valid_peaked : (K : Capacity) (R : Rows) (moment : ℕ) → IsValid K R → moment ≤ latest_moment → IsValid K (record (peaks K R moment) { last_moment = moment })
 valid_peaked K R moment s late =
-    valid_with K R R.nodes (peaks K R moment).quotas R.queue R.unvisited moment s s.volume
+    valid_with K R R.nodes (peaks K R moment).quotas R.queue R.unvisited moment s s.volume (all_stay R.nodes)
     (quotas-peaked K R.nodes R.quotas moment s.quotas (le_test moment latest_moment late))
     (plain-map (peaked K R.nodes moment) R.quotas (plain_peaked K R.nodes moment) s.tables.plain)
     (same_texts R (peaks K R moment).quotas (sum_by-same quota_bytes (peaked K R.nodes moment) (peaked_bytes K R.nodes moment) R.quotas) s.texts)
     (queue_peaked K R.nodes moment R.quotas R.queue s.queue) s.unvisited late
 
 -- actions that ran
+ran_texts : (R : Rows) (moment : ℕ) (acts : List Act) → object_texts (ran moment acts R) ≡ object_texts R
+ran_texts R moment acts =
+    let quotas : sum_by quota_bytes (map (run_quota moment acts) R.quotas) ≡ sum_by quota_bytes R.quotas = sum_by-same quota_bytes (run_quota moment acts) (bytes_run moment acts) R.quotas in
+    let own : ScreenRow → ℕ = λ screen. action_bytes screen.actions in
+    let screens : sum_by own (map (run_screen moment acts) R.screens) ≡ sum_by own R.screens = sum_by-same own (run_screen moment acts) (screen_bytes_run moment acts) R.screens in
+    omega (arith, quotas, screens)
+
 pub valid_ran : (K : Capacity) (R : Rows) (moment : ℕ) (acts : List Act) → IsValid K R → moment ≤ latest_moment → IsValid K (ran moment acts R)
 valid_ran K R moment acts s late =
     record {
@@ -162,17 +183,48 @@ valid_ran K R moment acts s late =
         plain = plain-map (run_quota moment acts) R.quotas (λ q is. is) s.tables.plain;
         templates = s.tables.templates;
         autos = s.tables.autos;
-        groups = s.tables.groups;
-        screens = ap (map (run_screen moment acts)) s.tables.screens;
-        excepts = s.tables.excepts;
         jobs = s.tables.jobs;
+        groups = s.tables.groups;
+        screens = screens-ran R.nodes R.groups R.excepts R.screens moment acts late s.tables.screens;
+        excepts = s.tables.excepts;
         audits = s.tables.audits;
       };
-      texts = omega (arith, s.texts, sum_by-same quota_bytes (run_quota moment acts) (bytes_run moment acts) R.quotas, ap (λ screens. sum_by (λ (screen : ScreenRow). action_bytes screen.actions) (map (run_screen moment acts) screens)) s.tables.screens);
+      texts = subst (λ n. n ≤ most_text_bytes) (sym (ran_texts R moment acts)) s.texts;
       log = log_run moment acts R late s.log;
       run_limit = s.run_limit;
       last_moment = s.last_moment;
       queue = queue_mapped (run_quota moment acts) R.quotas R.queue (λ q. refl) (λ q. refl) s.queue;
+      unvisited = s.unvisited;
+    }
+
+-- one more entry in the audit log
+audits_more : (entry : AuditRow) (log : List AuditRow) → is_audit entry ≡ true → are_audits log ≡ true → are_audits (with_audit entry log) ≡ true
+audits_more entry log is h =
+    let whole = log ++ entry ∷ [] in
+    let parts = both (nat_le (length log) most_entries) (list_all is_audit log) h in
+    both_true (nat_le (length (last_entries whole)) most_entries) (list_all is_audit (last_entries whole)) (le_test _ _ (few_entries whole))
+    (all_dropped is_audit _ whole (list_all-append is_audit log (entry ∷ []) ∙ both_true (list_all is_audit log) (is_audit entry && true) parts.1 (both_true (is_audit entry) true is refl)))
+
+pub valid_audited : (K : Capacity) (R : Rows) (moment : ℕ) (j : Judged) → IsValid K R → moment ≤ latest_moment → is_name j.name ≡ true → IsValid K (audited moment j R)
+valid_audited K R moment j s late named =
+    record {
+      volume = s.volume;
+      quotas = s.quotas;
+      tables = record {
+        plain = s.tables.plain;
+        templates = s.tables.templates;
+        autos = s.tables.autos;
+        jobs = s.tables.jobs;
+        groups = s.tables.groups;
+        screens = s.tables.screens;
+        excepts = s.tables.excepts;
+        audits = audits_more (audit_of moment j) R.audits (both_true (is_moment moment) (is_name j.name) (le_test moment latest_moment late) named) s.tables.audits;
+      };
+      texts = s.texts;
+      log = s.log;
+      run_limit = s.run_limit;
+      last_moment = s.last_moment;
+      queue = s.queue;
       unvisited = s.unvisited;
     }
 
@@ -191,10 +243,10 @@ run_limit_followed K R minutes s few =
         plain = v.tables.plain;
         templates = v.tables.templates;
         autos = v.tables.autos;
+        jobs = v.tables.jobs;
         groups = v.tables.groups;
         screens = v.tables.screens;
         excepts = v.tables.excepts;
-        jobs = v.tables.jobs;
         audits = v.tables.audits;
       };
       texts = v.texts;
@@ -205,14 +257,46 @@ run_limit_followed K R minutes s few =
       unvisited = v.unvisited;
     }
 
+-- other groups, screens and exceptions alone
+pub screens_followed : (K : Capacity) (R : Rows) (groups : List GroupRow) (screens : List ScreenRow) (excepts : List ExceptRow) → IsValid K R → are_groups groups ≡ true → are_screens R.nodes groups excepts screens ≡ true → are_excepts R.nodes groups excepts ≡ true → object_texts (record R { groups = groups; screens = screens; excepts = excepts }) ≤ most_text_bytes → IsValid K (followed R (record R { groups = groups; screens = screens; excepts = excepts }))
+screens_followed K R groups screens excepts s are barred lifted few =
+    let v = nothing_followed K R s in
+    record {
+      volume = v.volume;
+      quotas = v.quotas;
+      tables = record {
+        plain = v.tables.plain;
+        templates = v.tables.templates;
+        autos = v.tables.autos;
+        jobs = v.tables.jobs;
+        groups = are;
+        screens = barred;
+        excepts = lifted;
+        audits = v.tables.audits;
+      };
+      texts = few;
+      log = v.log;
+      run_limit = v.run_limit;
+      last_moment = v.last_moment;
+      queue = v.queue;
+      unvisited = v.unvisited;
+    }
+
+-- the folder of a screen
+pub screens_folder : (R : Rows) (folder : ℕ) → are_screens R.nodes R.groups R.excepts R.screens ≡ true → has_row screen_folder folder R.screens ≡ true → is_folder R.nodes folder ≡ true
+screens_folder R folder h there =
+    let found = has_found screen_folder folder R.screens there in
+    ap (is_folder R.nodes) (sym (found_key screen_folder folder R.screens found.row found.is))
+    ∙ (screen_at R.nodes R.groups R.excepts R.screens folder found.row h found.is).folder
+
 -- another last moment alone
 pub valid_at : (K : Capacity) (R : Rows) (moment : ℕ) → IsValid K R → moment ≤ latest_moment → IsValid K (record R { last_moment = moment })
-valid_at K R moment s late = valid_with K R R.nodes R.quotas R.queue R.unvisited moment s s.volume s.quotas s.tables.plain s.texts s.queue s.unvisited late
+valid_at K R moment s late = valid_with K R R.nodes R.quotas R.queue R.unvisited moment s s.volume (all_stay R.nodes) s.quotas s.tables.plain s.texts s.queue s.unvisited late
 
 -- visits alone
 pub valid_visited : (K : Capacity) (R : Rows) (n : ℕ) → IsValid K R → IsValid K (record R { unvisited = visits n R.nodes R.unvisited })
 valid_visited K R n s =
-    valid_with K R R.nodes R.quotas R.queue (visits n R.nodes R.unvisited) R.last_moment s s.volume s.quotas s.tables.plain s.texts s.queue
+    valid_with K R R.nodes R.quotas R.queue (visits n R.nodes R.unvisited) R.last_moment s s.volume (all_stay R.nodes) s.quotas s.tables.plain s.texts s.queue
     (left_visits n R.nodes (head R.queue) R.unvisited s.unvisited) s.last_moment
 
 -- the folder of the active scan

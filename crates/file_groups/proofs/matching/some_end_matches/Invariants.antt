@@ -1,6 +1,7 @@
 use Rattle.std.proofs.Common.{◌+◌, ◌*◌, chars, length}
 use denote.Text.{Utf8}
 use denote.Shadow.{shadow}
+use Rattle.fsrm_model.specs.Patterns.{matches}
 use Rattle.file_groups.proofs.StarLaws.{IsTried}
 use Rattle.file_groups.proofs.matching.some_end_matches.Given as goal
 
@@ -10,7 +11,7 @@ invariant-loop-after l = record {
   end_text : shadow (Utf8 l.end);
   pattern_text : shadow (Utf8 l.pattern);
   name_text : shadow (Utf8 l.name);
-  tried : IsTried (chars l.fn.pattern) (chars l.fn.name) (chars l.starred) (chars l.end) (chars l.pattern) (chars l.name);
+  tried : IsTried matches (chars l.fn.pattern) (chars l.fn.name) (chars l.starred) (chars l.end) (chars l.pattern) (chars l.name);
 }
 
 -- each end is tried with at most all characters of the pattern

@@ -48,7 +48,7 @@ returns-then-quota-now-clause-raised c =
     let p = placed quotas c.args.folder c.in-Some-quota_place.place c.quota_at-quota.result.now c.in-Some-quota_place.ensures.place c.quota_at-quota.ensures in
     let found = row_at folder_of c.args.folder quotas c.in-Some-quota_place.place p.quota c.requires.ascending p.there p.own in
     c.set_peak.ensures
-    ∙ ap (λ qs. record { quotas = qs }) (raise_high c.args.usage.now quotas c.args.folder c.args.moment c.in-Some.now p.quota c.requires.ascending (sym c.used.ensures ∙ c.in-Some.is) found c.if-quota-now.true)
+    ∙ ap (λ qs. record c.args.objects.now { quotas = qs }) (raise_high c.args.usage.now quotas c.args.folder c.args.moment c.in-Some.now p.quota c.requires.ascending (sym c.used.ensures ∙ c.in-Some.is) found c.if-quota-now.true)
 
 pub returns-then-quota-now-clause-noted : goal.returns-then-quota-now-clause-noted
 returns-then-quota-now-clause-noted c =

@@ -1,4 +1,4 @@
-use Rattle.std.proofs.Common.{◌≡◌, ℕ, true, ◌&&◌, sym, ap, ◌∙◌, subst, arith, List}
+use Rattle.std.proofs.Common.{◌≡◌, ℕ, true, ◌&&◌, refl, sym, ap, ◌∙◌, subst, arith, List}
 use Rattle.fsrm_model.specs.declared.row.QuotaRow.{QuotaRow}
 use Rattle.fsrm_base.specs.Keyed.{is_ascending, with_change}
 use Rattle.fsrm_model.specs.Quota.{folder_of}
@@ -12,13 +12,14 @@ use Rattle.fsrm_engine.specs.Peaks.{raised}
 use Rattle.fsrm_model.proofs.nodes.ClimbRows.{passed_rows, passed_none, climbed_step, climbed_root}
 use Rattle.quota_usage.proofs.ClimbLaws.{step_up}
 use Rattle.fsrm_engine.proofs.settling.ClimbNotes.{climb_begun, climb_ended, climb_next}
-use Rattle.fsrm_engine.proofs.tables.RaiseLaws.{raised_keeps, up_is}
+use Rattle.fsrm_engine.proofs.tables.RaiseLaws.{raised_keeps, tables_kept, tables_on, up_is}
 use Rattle.fsrm_engine.proofs.charging.raise_above.Goals as goal
 
 pub loop-at-init : goal.loop-at-init
 loop-at-init g c = record {
   here = c.requires.there;
   on = under_own c.args.tree.now.nodes c.args.folder;
+  rest = refl;
   passed = sym (passed_none folder_of c.args.tree.now.nodes c.args.folder (raised c.args.usage.now c.args.moment) c.args.objects.now.quotas);
   ascending = c.requires.ascending;
   bound = c.requires.bound;
@@ -39,8 +40,8 @@ pub returns-then-at-eq0-clause-quotas : goal.returns-then-at-eq0-clause-quotas
 returns-then-at-eq0-clause-quotas g c =
     let nodes = c.args.tree.now.nodes in
     let raise = raised c.args.usage.now c.args.moment in
-    c.gain.ensures.raised
-    ∙ ap (λ (quotas : List QuotaRow). record { quotas = quotas })
+    tables_on c.args.objects.now c.loop-at.objects c.gain.new.objects _ c.loop-at.invariant.rest c.gain.ensures.raised
+    ∙ ap (λ (quotas : List QuotaRow). record c.args.objects.now { quotas = quotas })
     (ap (with_change folder_of c.loop-at.at raise) c.loop-at.invariant.passed
     ∙ (ap (λ (n : ℕ). with_change folder_of n raise (passed_rows folder_of nodes c.args.folder n raise c.args.objects.now.quotas)) c.if-at-eq0.true
     ∙ climbed_root folder_of nodes c.args.folder raise (raised_keeps c.args.usage.now c.args.moment) (subst (λ (n : ℕ). is_under nodes n c.args.folder ≡ true) c.if-at-eq0.true c.loop-at.invariant.on) c.args.objects.now.quotas))
@@ -71,6 +72,7 @@ loop-at-preserved g c =
     record {
       here = step.there;
       on = step.on c.args.folder c.requires.there c.loop-at.invariant.on;
+      rest = tables_kept c.args.objects.now c.loop-at.objects c.gain.new.objects _ c.loop-at.invariant.rest c.gain.ensures.raised;
       passed =
           ap (λ (t : Tables). t.quotas) c.gain.ensures.raised
           ∙ (ap (with_change folder_of c.loop-at.at raise) c.loop-at.invariant.passed

@@ -13,6 +13,7 @@ abbrev pub invariant-loop-at : goal.invariant-loop-at
 invariant-loop-at g l = record {
   here : has_row number l.at l.tree.nodes ≡ true;
   on : is_under l.tree.nodes l.at l.folder ≡ true;
+  rest : l.objects ≡ record l.fn.objects { quotas = l.objects.quotas };
   passed : l.objects.quotas ≡ passed_rows folder_of l.tree.nodes l.folder l.at (raised l.usage l.moment) l.fn.objects.quotas;
   ascending : is_ascending folder_of l.objects.quotas ≡ true;
   bound : l.crossing.bound ≡ most_quotas;

@@ -8,6 +8,7 @@ use Rattle.fsrm_engine.proofs.charging.raise_all.Given as goal
 -- the peaks before this place were raised
 abbrev pub invariant-loop-place : goal.invariant-loop-place
 invariant-loop-place l = record {
+  rest : l.objects ≡ record l.fn.objects { quotas = l.objects.quotas };
   raised_to : RaisedTo (raised l.usage l.moment) l.fn.objects.quotas l.objects.quotas l.place;
   ascending : is_ascending folder_of l.objects.quotas ≡ true;
 }

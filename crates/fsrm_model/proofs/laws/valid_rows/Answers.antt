@@ -38,3 +38,11 @@ returns-clause-thresholds c = refl
 pub returns-clause-wrong_thresholds : goal.returns-clause-wrong_thresholds
 unfolding simple_folding simple_folding_rows value_in chars is_utf8 utf8_valid_len lib.Utf8.encode
 returns-clause-wrong_thresholds c = refl
+
+pub returns-clause-screens : goal.returns-clause-screens
+unfolding simple_folding simple_folding_rows value_in chars is_utf8 utf8_valid_len lib.Utf8.encode
+returns-clause-screens c = refl
+
+pub returns-clause-wrong_screens : goal.returns-clause-wrong_screens
+unfolding simple_folding simple_folding_rows value_in chars is_utf8 utf8_valid_len lib.Utf8.encode
+returns-clause-wrong_screens c = refl

@@ -1,11 +1,15 @@
 use Rattle.std.proofs.Common.{◌≡◌, ◌∙◌}
 use Rattle.reply_text.specs.Lines.{line_text, quota_text}
-use Rattle.reply_text.proofs.Quotas.{is_node, in_time, line_same, row_front, row_then}
+use Rattle.reply_text.proofs.Nodes.{is_node}
+use Rattle.reply_text.proofs.Quotas.{in_time, line_same, row_front, row_then}
 use Rattle.reply_text.proofs.Sent.{sends_front}
 use Rattle.reply_text.proofs.lists.write_quota.Goals as goal
 
 pub path_text-requires : goal.path_text-requires
-path_text-requires g c = is_node c.args.engine.now.size c.args.engine.now.rows c.args.quota.now c.requires.store c.requires.own
+path_text-requires g c =
+    let rows = c.args.engine.now.rows in
+    let quota = c.args.quota.now in
+    is_node rows.nodes quota.folder (c.requires.store.quotas.folders quota.folder quota c.requires.own)
 
 pub write_row-requires : goal.write_row-requires
 write_row-requires g c = in_time c.args.engine.now.size c.args.engine.now.rows c.args.quota.now c.requires.store c.requires.own

@@ -13,8 +13,11 @@ next-requires-clause-orderly c =
 pub next-requires-clause-marked : goal.next-requires-clause-marked
 next-requires-clause-marked c = c.self.invariant.there
 
+pub next-requires-clause-screen : goal.next-requires-clause-screen
+next-requires-clause-screen c = c.self.invariant.screens
+
 pub invariant_of-self : goal.invariant_of-self
-invariant_of-self c = handed_whole c.self.inside.parts c.next.new.self c.next.result c.next.ensures.log c.self.invariant c.next.ensures.marked
+invariant_of-self c = handed_whole c.self.inside.parts c.next.new.self c.next.result c.next.ensures.log c.self.invariant c.next.ensures.marked c.next.ensures.screen
 
 pub returns-clause-handed_out : goal.returns-clause-handed_out
 returns-clause-handed_out c = handed_out c.self.inside.parts c.next.new.self c.next.result c.next.ensures.log c.args.self.now c.self.view_is c.next.ensures.handed_out

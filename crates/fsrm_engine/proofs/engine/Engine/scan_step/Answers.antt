@@ -1,7 +1,9 @@
 use Rattle.std.proofs.Common.{refl, arith}
 use Rattle.fsrm_model.specs.declared.command.Command.{Command}
 use Rattle.fsrm_model.specs.declared.command.Deed.TheVariants.{Step}
+use Rattle.fsrm_model.specs.ScanWork.{step_work}
 use Rattle.fsrm_model.proofs.commands.EachCommand.{kept_acts, kept_valid}
+use Rattle.fsrm_model.proofs.commands.Orderly.{unjudged_named}
 use Rattle.fsrm_model.proofs.commands.ScanCommands.{step_kept}
 use Rattle.fsrm_engine.specs.Machine.{machine_of, rows_of}
 use Rattle.fsrm_engine.proofs.steps.WholeLaws.{seen_cost, seen_idle, seen_takes, takes_named, whole_after}
@@ -14,14 +16,14 @@ pub invariant_of-self : goal.invariant_of-self
 invariant_of-self g c =
     let p = c.self.inside.parts in
     whole_after p c.go_on.new.self c.args.moment (Step c.args.n) c.go_on.result c.go_on.ensures.ok c.go_on.ensures.sound
-    (kept_valid p.tree.size (rows_of p) c.args.moment (Step c.args.n) c.self.invariant.valid c.requires.moment (step_kept p.tree.size (rows_of p) c.args.n))
+    (kept_valid p.tree.size (rows_of p) c.args.moment (Step c.args.n) c.self.invariant.valid c.requires.moment (unjudged_named p.tree.size (rows_of p) (step_work p.tree.size (rows_of p) c.args.n) refl) (step_kept p.tree.size (rows_of p) c.args.n))
 
 pub returns-clause-ok : goal.returns-clause-ok
 returns-clause-ok g c =
     let p = c.self.inside.parts in
     let command : Command = record { moment = c.args.moment; deed = Step c.args.n } in
     seen_takes p c.go_on.new.self c.args.self.now command c.go_on.result c.self.view_is c.go_on.ensures.ok (invariant_of-self g c).valid.quotas
-    (kept_acts p.tree.size (rows_of p) c.args.moment (Step c.args.n) c.self.invariant.valid c.requires.moment (step_kept p.tree.size (rows_of p) c.args.n))
+    (kept_acts p.tree.size (rows_of p) c.args.moment (Step c.args.n) c.self.invariant.valid c.requires.moment (unjudged_named p.tree.size (rows_of p) (step_work p.tree.size (rows_of p) c.args.n) refl) (step_kept p.tree.size (rows_of p) c.args.n))
 
 pub returns-clause-named : goal.returns-clause-named
 returns-clause-named g c =
@@ -29,7 +31,7 @@ returns-clause-named g c =
     let command : Command = record { moment = c.args.moment; deed = Step c.args.n } in
     takes_named (machine_of p) (machine_of c.go_on.new.self) command c.go_on.result
     (seen_takes p c.go_on.new.self (machine_of p) command c.go_on.result refl c.go_on.ensures.ok (invariant_of-self g c).valid.quotas
-    (kept_acts p.tree.size (rows_of p) c.args.moment (Step c.args.n) c.self.invariant.valid c.requires.moment (step_kept p.tree.size (rows_of p) c.args.n)))
+    (kept_acts p.tree.size (rows_of p) c.args.moment (Step c.args.n) c.self.invariant.valid c.requires.moment (unjudged_named p.tree.size (rows_of p) (step_work p.tree.size (rows_of p) c.args.n) refl) (step_kept p.tree.size (rows_of p) c.args.n)))
     c.self.invariant.valid
 
 pub returns-clause-kept : goal.returns-clause-kept

@@ -38,12 +38,12 @@ settle_quota-requires-clause-counted c =
 
 pub settle_quota-requires-clause-there : goal.settle_quota-requires-clause-there
 settle_quota-requires-clause-there c =
-    ap (λ (t : Tables). has_row folder_of c.args.folder t.quotas) (c.raise_peak.ensures ∙ ap (λ (t : Tables). record { quotas = with_change folder_of c.args.folder (raised c.begin.new.self c.args.moment) t.quotas }) c.set_state.ensures)
+    ap (λ (t : Tables). has_row folder_of c.args.folder t.quotas) (c.raise_peak.ensures ∙ ap (λ (t : Tables). record t { quotas = with_change folder_of c.args.folder (raised c.begin.new.self c.args.moment) t.quotas }) c.set_state.ensures)
     ∙ (has_row-change folder_of c.args.folder (raised c.begin.new.self c.args.moment) (raised_keeps c.begin.new.self c.args.moment) c.args.folder _
     ∙ (has_row-change folder_of c.args.folder (in_state Complete) (λ r. refl) c.args.folder c.args.self.now.objects.quotas ∙ c.requires.there))
 
 pub settle_quota-requires-clause-idle : goal.settle_quota-requires-clause-idle
-settle_quota-requires-clause-idle c = record { numbers = c.requires.idle.numbers; crossing = c.requires.idle.crossing }
+settle_quota-requires-clause-idle c = record { numbers = c.requires.idle.numbers; places = c.requires.idle.places; crossing = c.requires.idle.crossing }
 
 pub returns-clause-completed : goal.returns-clause-completed
 returns-clause-completed c =
@@ -51,12 +51,12 @@ returns-clause-completed c =
     let after = with_complete c.args.folder p.objects.quotas in
     let done = completes p.tree.size p.tree.nodes p.objects.quotas c.set_state.new.self.quotas c.raise_peak.new.objects.quotas p.usage c.begin.new.self c.args.moment c.args.folder c.args.used c.requires.counted c.requires.moment
     c.requires.there c.requires.uncounted c.requires.used c.begin.ensures (ap (λ (t : Tables). t.quotas) c.set_state.ensures) (ap (λ (t : Tables). t.quotas) c.raise_peak.ensures) in
-    let rows = ap (λ (t : Tables). t.quotas) c.raise_peak.ensures ∙ ap (λ (t : Tables). with_change folder_of c.args.folder (raised c.begin.new.self c.args.moment) t.quotas) c.set_state.ensures in
+    let objects = c.raise_peak.ensures ∙ ap (λ (t : Tables). record t { quotas = with_change folder_of c.args.folder (raised c.begin.new.self c.args.moment) t.quotas }) c.set_state.ensures in
     record {
       counting = record p { objects = c.raise_peak.new.objects; usage = c.begin.new.self };
       run = c.settle_quota.new.self;
       parts_are = ap (λ (cs : List Counter). record (recounted p after) { objects = c.raise_peak.new.objects; usage = cs }) done.sums;
-      quotas_are = rows;
+      objects_are = objects;
       peaks_are = done.quotas_are;
       counted = done.engine;
       ran = c.settle_quota.ensures.settled;

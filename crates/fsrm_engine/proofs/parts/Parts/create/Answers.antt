@@ -7,14 +7,20 @@ use Rattle.quota_usage.specs.declared.change.Change.{Change}
 use Rattle.std.specs.Prelude.{option_map}
 use Rattle.fsrm_engine.specs.Crossing.{IsCovered}
 use Rattle.fsrm_engine.specs.Faults.{exceeded_refusal}
+use Rattle.fsrm_engine.specs.declared.parts.Parts.{Parts}
 use Rattle.fsrm_engine.specs.Machine.{charged_parts, IsSound}
-use Rattle.fsrm_engine.proofs.steps.StepLaws.{done_with, is_fault, refused_by_as}
+use Rattle.fsrm_engine.specs.Reporting.{name_under, screen_told}
+use Rattle.fsrm_engine.proofs.judging.DoneLaws.{done_noted}
+use Rattle.fsrm_engine.proofs.judging.JudgedLaws.{few_at, few_told, told_one, told_there}
+use Rattle.fsrm_engine.proofs.judging.NameLaws.{answers_it, block_sound, blocked_op, created_judged, unblocked}
+use Rattle.fsrm_engine.proofs.judging.NotedLaws.{noted_calm, noted_change, noted_charged, noted_covered, noted_fits, noted_height, noted_log, noted_quotas, noted_scans, noted_volume}
+use Rattle.fsrm_engine.proofs.steps.StepLaws.{is_fault, refused_by_as}
 use Rattle.fsrm_engine.proofs.steps.PlaceLaws.{place_depth}
-use Rattle.fsrm_engine.proofs.operations.NewLaws.{create_due, made_is}
+use Rattle.fsrm_engine.proofs.operations.NewLaws.{by_no_screen, by_screen, create_due, made_is}
 use Rattle.fsrm_engine.proofs.operations.FitLaws.{fits_plus}
-use Rattle.fsrm_engine.proofs.operations.GrowthLaws.{by_quotas, due_next}
+use Rattle.fsrm_engine.proofs.operations.GrowthLaws.{by_quotas}
 use Rattle.fsrm_engine.proofs.operations.MakeLaws.{make_changes, make_done, made_height, there_made}
-use Rattle.fsrm_engine.proofs.operations.FollowLaws.{is_made, back_scans, left_back, made_length, made_chain, op_accepts}
+use Rattle.fsrm_engine.proofs.operations.FollowLaws.{is_made, back_scans, left_back, made_length, made_chain, op_made}
 use Rattle.fsrm_engine.proofs.operations.ChargedLaws.{charged_due, covered_by, refused_op}
 use Rattle.fsrm_engine.proofs.settling.EndLaws.{few_log}
 use Rattle.fsrm_engine.proofs.settling.OrderlyQuotas.{quotas_orderly}
@@ -34,12 +40,16 @@ admit-requires-clause-fits g c =
 pub returns-in-Err-admit-clause-ok : goal.returns-in-Err-admit-clause-ok
 returns-in-Err-admit-clause-ok g c =
     let p = c.args.self.now in
+    let d = c.in-Ok.place.folder in
+    let name = c.in-Ok.place.name.now in
+    let judged = c.judge-judged.result in
+    let j = created_judged p c.args.path.now c.args.length c.args.owner d name judged c.in-Ok.ensures.ok c.judge-judged.ensures.judged in
     let e = c.requires.whole.sound.counted in
     let at = c.in-Ok.ensures.ok in
     let changes = make_changes p.tree.size p.tree.nodes p.objects.quotas c.in-Ok.place.folder c.in-Ok.place.name.now c.args.length c.args.owner c.args.moment c.allocated.result e.volume e.are_quotas at.folder_is c.allocated.ensures.space in
     refused_op p c.refuse.new.self c.args.moment (File (Create c.args.path.now c.args.length c.args.owner)) c.refuse.result _ _ c.in-Err-admit.exceeded e c.requires.idle c.requires.after
-    (create_due p c.args.moment c.args.path.now c.args.length c.args.owner c.in-Ok.place.folder c.in-Ok.place.name.now e.volume at
-    ∙ due_next (new_fault p.tree c.in-Ok.place.folder c.in-Ok.place.name.now) _ _ c.in-Ok-may_create.ensures.may refl)
+    (create_due p c.args.moment c.args.path.now c.args.length c.args.owner d name e.volume at
+    ∙ by_no_screen (new_fault p.tree d name) _ _ c.in-Ok-may_create.ensures.may (unblocked p (Create c.args.path.now c.args.length c.args.owner) judged c.args.owner d name j c.in_default.ensures))
     (ap (λ (w : Volume). w.nodes) (made_is p.tree c.args.path.now c.in-Ok.place.folder c.in-Ok.place.name.now false c.args.length c.args.owner c.args.moment at))
     changes c.in-Err-admit.ensures.err c.refuse.ensures.refused
 
@@ -58,86 +68,140 @@ refuse-requires-clause-log g c = few_log c.args.self.now c.requires.whole
 
 pub returns-in-Err-admit-clause-looks : goal.returns-in-Err-admit-clause-looks
 returns-in-Err-admit-clause-looks g c =
-    omega (arith, c.in-Ok.ensures.looks, c.in-Err-admit.ensures.looks, c.in-Ok-may_create.ensures.looks, place_depth _ _ _ _ _ c.requires.whole.sound.counted.volume c.in-Ok.ensures.ok)
+    omega (arith, c.in-Ok.ensures.looks, c.in-Err-admit.ensures.looks, c.in-Ok-may_create.ensures.looks, c.judge-judged.ensures.looks, place_depth _ _ _ _ _ c.requires.whole.sound.counted.volume c.in-Ok.ensures.ok)
 
 pub charge-requires-clause-change : goal.charge-requires-clause-change
 charge-requires-clause-change g c =
-    record { from = tt; to = there_made c.args.self.now.tree c.make_file.new.self c.in-Ok.place.folder c.in-Ok.place.name.now c.args.length c.args.owner c.args.moment c.requires.whole.sound.counted.volume c.in-Ok.ensures.ok.folder_is c.in_ok-node.ensures.made }
+    let p = c.args.self.now in
+    let mid : Parts = record p { tree = c.make_file.new.self; scans = c.follow_create.new.self } in
+    let oj = name_under (screen_told p c.judge-judged.result) c.args.owner c.in-Ok.place.folder c.in-Ok.place.name.now in
+    let change : Change = record { from = None; to = Some c.in-Ok.place.folder; minus = 0; plus = c.allocated.result } in
+    noted_change mid c.report.new.self oj c.args.moment c.requires.idle.places (few_log p c.requires.whole) c.report.ensures change
+    (record { from = tt; to = there_made c.args.self.now.tree c.make_file.new.self c.in-Ok.place.folder c.in-Ok.place.name.now c.args.length c.args.owner c.args.moment c.requires.whole.sound.counted.volume c.in-Ok.ensures.ok.folder_is c.in_ok-node.ensures.made })
 
 pub charge-requires-clause-fits : goal.charge-requires-clause-fits
 charge-requires-clause-fits g c =
     let p = c.args.self.now in
-    let e = c.requires.whole.sound.counted in
-    fits_plus p.tree.size p.tree.nodes c.make_file.new.self.nodes p.objects.quotas p.usage _ e.volume e.legal e.are_quotas e.sums c.allocated.ensures.small
+    let mid : Parts = record p { tree = c.make_file.new.self; scans = c.follow_create.new.self } in
+    let oj = name_under (screen_told p c.judge-judged.result) c.args.owner c.in-Ok.place.folder c.in-Ok.place.name.now in
+    let change : Change = record { from = None; to = Some c.in-Ok.place.folder; minus = 0; plus = c.allocated.result } in
+    noted_fits mid c.report.new.self oj c.args.moment c.requires.idle.places (few_log p c.requires.whole) c.report.ensures change
+    (let e = c.requires.whole.sound.counted in
+    fits_plus p.tree.size p.tree.nodes c.make_file.new.self.nodes p.objects.quotas p.usage _ e.volume e.legal e.are_quotas e.sums c.allocated.ensures.small)
 
 pub charge-requires-clause-quotas : goal.charge-requires-clause-quotas
-charge-requires-clause-quotas g c = let p = c.args.self.now in quotas_orderly p.tree.nodes p.objects.quotas c.requires.whole.sound.counted.are_quotas
+charge-requires-clause-quotas g c =
+    let p = c.args.self.now in
+    let mid : Parts = record p { tree = c.make_file.new.self; scans = c.follow_create.new.self } in
+    let oj = name_under (screen_told p c.judge-judged.result) c.args.owner c.in-Ok.place.folder c.in-Ok.place.name.now in
+    noted_quotas mid c.report.new.self oj c.args.moment c.requires.idle.places (few_log p c.requires.whole) c.report.ensures
+    (quotas_orderly p.tree.nodes p.objects.quotas c.requires.whole.sound.counted.are_quotas)
 
 pub charge-requires-clause-covered : goal.charge-requires-clause-covered
 charge-requires-clause-covered g c =
     let p = c.args.self.now in
-    let e = c.requires.whole.sound.counted in
+    let mid : Parts = record p { tree = c.make_file.new.self; scans = c.follow_create.new.self } in
+    let oj = name_under (screen_told p c.judge-judged.result) c.args.owner c.in-Ok.place.folder c.in-Ok.place.name.now in
     let change : Change = record { from = None; to = Some c.in-Ok.place.folder; minus = 0; plus = c.allocated.result } in
+    noted_covered mid c.report.new.self oj c.args.moment c.requires.idle.places (few_log p c.requires.whole) c.report.ensures change
+    (let e = c.requires.whole.sound.counted in
     subst (λ (w : Volume). IsCovered w.nodes p.usage change) (sym c.in_ok-node.ensures.made)
     (covered_by p _ change e
     (make_changes p.tree.size p.tree.nodes p.objects.quotas c.in-Ok.place.folder c.in-Ok.place.name.now c.args.length c.args.owner c.args.moment c.allocated.result e.volume e.are_quotas c.in-Ok.ensures.ok.folder_is c.allocated.ensures.space)
-    (λ from to given at other. absurd (cc given)))
+    (λ from to given at other. absurd (cc given))))
 
 pub charge-requires-clause-idle : goal.charge-requires-clause-idle
-charge-requires-clause-idle g c = record { numbers = c.requires.idle.numbers; crossing = c.requires.idle.crossing }
+charge-requires-clause-idle g c =
+    let p = c.args.self.now in
+    let mid : Parts = record p { tree = c.make_file.new.self; scans = c.follow_create.new.self } in
+    let oj = name_under (screen_told p c.judge-judged.result) c.args.owner c.in-Ok.place.folder c.in-Ok.place.name.now in
+    noted_calm mid c.report.new.self oj c.args.moment c.requires.idle.places (few_log p c.requires.whole) c.report.ensures c.requires.idle.numbers c.requires.idle.crossing
 
 pub charge-requires-clause-log : goal.charge-requires-clause-log
-charge-requires-clause-log g c = few_log c.args.self.now c.requires.whole
-
-pub done-requires-clause-counted : goal.done-requires-clause-counted
-done-requires-clause-counted g c =
+charge-requires-clause-log g c =
     let p = c.args.self.now in
+    let mid : Parts = record p { tree = c.make_file.new.self; scans = c.follow_create.new.self } in
+    let oj = name_under (screen_told p c.judge-judged.result) c.args.owner c.in-Ok.place.folder c.in-Ok.place.name.now in
+    noted_log mid c.report.new.self oj c.args.moment c.requires.idle.places (few_log p c.requires.whole) c.report.ensures
+
+pub done_under-requires-clause-counted : goal.done_under-requires-clause-counted
+done_under-requires-clause-counted g c =
+    let p = c.args.self.now in
+    let mid : Parts = record p { tree = c.make_file.new.self; scans = c.follow_create.new.self } in
+    let oj = name_under (screen_told p c.judge-judged.result) c.args.owner c.in-Ok.place.folder c.in-Ok.place.name.now in
+    let change : Change = record { from = None; to = Some c.in-Ok.place.folder; minus = 0; plus = c.allocated.result } in
     counted_run _ c.charge.new.self c.args.moment _ c.requires.moment
+    (noted_charged mid c.report.new.self oj c.args.moment c.requires.idle.places (few_log p c.requires.whole) c.report.ensures change
     (make_done p.tree c.make_file.new.self p.objects.quotas _ p.usage _ c.in-Ok.place.folder c.in-Ok.place.name.now c.args.length c.args.owner c.args.moment c.allocated.result
-    c.requires.whole.sound.counted c.in-Ok.ensures.ok.folder_is c.allocated.ensures.space c.in_ok-node.ensures.made c.in_ok-node.ensures.kept c.requires.moment refl refl).engine
+    c.requires.whole.sound.counted c.in-Ok.ensures.ok.folder_is c.allocated.ensures.space c.in_ok-node.ensures.made c.in_ok-node.ensures.kept c.requires.moment refl refl).engine)
     c.charge.ensures.charged
 
 pub returns-clause-ok : goal.returns-clause-ok
 returns-clause-ok g c =
     let p = c.args.self.now in
+    let d = c.in-Ok.place.folder in
+    let name = c.in-Ok.place.name.now in
+    let judged = c.judge-judged.result in
+    let j = created_judged p c.args.path.now c.args.length c.args.owner d name judged c.in-Ok.ensures.ok c.judge-judged.ensures.judged in
     let e = c.requires.whole.sound.counted in
     let at = c.in-Ok.ensures.ok in
     let w = c.make_file.new.self in
-    let changes = make_changes p.tree.size p.tree.nodes p.objects.quotas c.in-Ok.place.folder c.in-Ok.place.name.now c.args.length c.args.owner c.args.moment c.allocated.result e.volume e.are_quotas at.folder_is c.allocated.ensures.space in
-    let made = is_made p.tree w c.in_ok-node.node c.in-Ok.place.folder c.in-Ok.place.name.now false c.args.length c.args.owner c.args.moment e.volume c.in_ok-node.ensures.made c.in_ok-node.ensures.number in
-    let change : Change = record { from = None; to = Some c.in-Ok.place.folder; minus = 0; plus = c.allocated.result } in
-    let mid = charged_parts (record p { tree = w; scans = c.follow_create.new.self }) change c.args.moment in
-    let d = make_done p.tree w p.objects.quotas mid.objects p.usage mid.usage c.in-Ok.place.folder c.in-Ok.place.name.now c.args.length c.args.owner c.args.moment c.allocated.result
+    let changes = make_changes p.tree.size p.tree.nodes p.objects.quotas d name c.args.length c.args.owner c.args.moment c.allocated.result e.volume e.are_quotas at.folder_is c.allocated.ensures.space in
+    let made = is_made p.tree w c.in_ok-node.node d name false c.args.length c.args.owner c.args.moment e.volume c.in_ok-node.ensures.made c.in_ok-node.ensures.number in
+    let change : Change = record { from = None; to = Some d; minus = 0; plus = c.allocated.result } in
+    let mid : Parts = record p { tree = w; scans = c.follow_create.new.self } in
+    let charged = charged_parts mid change c.args.moment in
+    let done = make_done p.tree w p.objects.quotas charged.objects.quotas p.usage charged.usage d name c.args.length c.args.owner c.args.moment c.allocated.result
     e at.folder_is c.allocated.ensures.space c.in_ok-node.ensures.made c.in_ok-node.ensures.kept c.requires.moment refl refl in
     let size = ap (λ (w : Volume). w.size) c.in_ok-node.ensures.made in
-    done_with p mid c.charge.new.self c.done.new.self c.args.moment (File (Create c.args.path.now c.args.length c.args.owner)) c.done.result _
-    (op_accepts p mid c.args.moment (Create c.args.path.now c.args.length c.args.owner) p.objects.quotas _ c.requires.idle c.requires.after
-    (create_due p c.args.moment c.args.path.now c.args.length c.args.owner c.in-Ok.place.folder c.in-Ok.place.name.now e.volume at
-    ∙ due_next (new_fault p.tree c.in-Ok.place.folder c.in-Ok.place.name.now) _ _ c.in-Ok-may_create.ensures.may (by_quotas p _ _ _ e changes (ap (option_map exceeded_refusal) c.in_default.ensures.ok)))
-    (ap (λ (w : Volume). w.nodes) (sym (c.in_ok-node.ensures.made ∙ made_is p.tree _ _ _ false c.args.length c.args.owner c.args.moment at)))
-    refl refl (λ k. left_back p w c.in_ok-node.node made.back)
-    c.follow_create.ensures.follows (record { size = size; marks = refl; crossing = refl; run_limit = refl; last_moment = refl }) d.raised_are)
-    c.charge.ensures.charged (charged_due p w c.follow_create.new.self change c.args.moment size e d.engine) c.done.ensures.ended c.done.ensures.answer
+    let op = Create c.args.path.now c.args.length c.args.owner in
+    let oj = name_under (screen_told p judged) c.args.owner d name in
+    done_noted p mid c.report.new.self c.charge.new.self c.done_under.new.self c.args.moment (File op) c.done_under.result change oj
+    (record {
+      after = c.requires.after;
+      none = create_due p c.args.moment c.args.path.now c.args.length c.args.owner d name e.volume at
+          ∙ (by_no_screen (new_fault p.tree d name) _ _ c.in-Ok-may_create.ensures.may (unblocked p (Create c.args.path.now c.args.length c.args.owner) judged c.args.owner d name j c.in_default.ensures)
+          ∙ by_quotas p _ _ _ e changes (ap (option_map exceeded_refusal) c.in_default-admit.ensures.ok));
+      lasts = refl;
+      judged_is = j.named;
+      size = size;
+      idle = record { numbers = c.requires.idle.numbers; places = c.requires.idle.places; crossing = c.requires.idle.crossing };
+      made = op_made p mid c.args.moment op p.objects.quotas _
+          (ap (λ (w : Volume). w.nodes) (sym (c.in_ok-node.ensures.made ∙ made_is p.tree _ _ _ false c.args.length c.args.owner c.args.moment at)))
+          (record { quotas_are = refl; screens_are = refl; excepts_are = refl }) refl (λ k. left_back p w c.in_ok-node.node made.back)
+          c.follow_create.ensures.follows (record { size = size; marks = refl; crossing = refl; groups = refl; audit = refl; run_limit = refl; last_moment = refl });
+    })
+    (few_log p c.requires.whole) c.report.ensures
+    done.raised_are (charged_due p w c.follow_create.new.self change c.args.moment size e done.engine) c.charge.ensures.charged c.done_under.ensures.ended
+    (answers_it p c.args.moment op c.done_under.result judged c.args.owner d name j c.done_under.ensures.answer)
 
 pub returns-clause-sound : goal.returns-clause-sound
 returns-clause-sound g c =
+    let p = c.args.self.now in
+    let mid : Parts = record p { tree = c.make_file.new.self; scans = c.follow_create.new.self } in
+    let oj = name_under (screen_told p c.judge-judged.result) c.args.owner c.in-Ok.place.folder c.in-Ok.place.name.now in
     let change : Change = record { from = None; to = Some c.in-Ok.place.folder; minus = 0; plus = c.allocated.result } in
-    sound_run (charged_parts (record c.args.self.now { tree = c.make_file.new.self; scans = c.follow_create.new.self }) change c.args.moment) c.charge.new.self c.done.new.self c.args.moment _
-    c.charge.ensures.charged c.done.ensures.ended c.done.ensures.counted c.follow_create.ensures.follows.scanning
+    sound_run (charged_parts c.report.new.self change c.args.moment) c.charge.new.self c.done_under.new.self c.args.moment _
+    c.charge.ensures.charged c.done_under.ensures.ended c.done_under.ensures.counted (noted_scans mid c.report.new.self oj c.args.moment c.requires.idle.places (few_log p c.requires.whole) c.report.ensures c.follow_create.ensures.follows.scanning)
 
 pub returns-clause-looks : goal.returns-clause-looks
 returns-clause-looks g c =
-    let v = c.args.self.now.tree in
+    let p = c.args.self.now in
+    let mid : Parts = record p { tree = c.make_file.new.self; scans = c.follow_create.new.self } in
+    let oj = name_under (screen_told p c.judge-judged.result) c.args.owner c.in-Ok.place.folder c.in-Ok.place.name.now in
+    let v = p.tree in
     let k = c.requires.whole.sound.counted.volume in
     let at = c.in-Ok.ensures.ok in
     omega (
       arith,
       c.in-Ok.ensures.looks,
       c.in-Ok-may_create.ensures.looks,
-      c.in_default.ensures.looks,
+      c.judge-judged.ensures.looks,
+      c.in_default-admit.ensures.looks,
       c.in_ok-node.ensures.looks,
       c.follow_create.ensures.looks,
       c.charge.ensures.looks,
+      noted_height mid c.report.new.self oj c.args.moment c.requires.idle.places (few_log p c.requires.whole) c.report.ensures c.in-Ok.place.folder,
       made_chain v c.make_file.new.self c.in_ok-node.node c.in-Ok.place.folder c.in-Ok.place.name.now false c.args.length c.args.owner c.args.moment k at.folder_is c.in_ok-node.ensures.made c.in_ok-node.ensures.number,
       place_depth _ _ _ _ _ k at,
       made_height v c.make_file.new.self c.in-Ok.place.folder c.in-Ok.place.name.now c.args.length c.args.owner c.args.moment k at.folder_is c.in_ok-node.ensures.made,
@@ -174,4 +238,54 @@ returns-in_err-node-clause-sound g c = subst (λ (w : Volume). IsSound (record c
 
 pub returns-in_err-node-clause-looks : goal.returns-in_err-node-clause-looks
 returns-in_err-node-clause-looks g c =
-    omega (arith, c.in-Ok.ensures.looks, c.in-Ok-may_create.ensures.looks, c.in_default.ensures.looks, c.make_file.ensures.looks, place_depth _ _ _ _ _ c.requires.whole.sound.counted.volume c.in-Ok.ensures.ok)
+    omega (arith, c.in-Ok.ensures.looks, c.in-Ok-may_create.ensures.looks, c.judge-judged.ensures.looks, c.in_default-admit.ensures.looks, c.make_file.ensures.looks, place_depth _ _ _ _ _ c.requires.whole.sound.counted.volume c.in-Ok.ensures.ok)
+
+pub charge-requires-clause-volume : goal.charge-requires-clause-volume
+charge-requires-clause-volume g c =
+    let p = c.args.self.now in
+    let mid : Parts = record p { tree = c.make_file.new.self; scans = c.follow_create.new.self } in
+    let oj = name_under (screen_told p c.judge-judged.result) c.args.owner c.in-Ok.place.folder c.in-Ok.place.name.now in
+    noted_volume mid c.report.new.self oj c.args.moment c.requires.idle.places (few_log p c.requires.whole) c.report.ensures c.in_ok-node.ensures.kept
+
+pub report-requires-clause-there : goal.report-requires-clause-there
+report-requires-clause-there g c = told_there c.args.self.now c.in-Ok.place.folder c.in-Ok.place.name.now c.judge-judged.result c.judge-judged.ensures.judged
+
+pub report-requires-clause-few : goal.report-requires-clause-few
+report-requires-clause-few g c = λ screen found. few_told c.args.self.now c.judge-judged.result screen c.requires.whole found
+
+pub block-requires-clause-there : goal.block-requires-clause-there
+block-requires-clause-there g c =
+    let p = c.args.self.now in
+    let d = c.in-Ok.place.folder in
+    let name = c.in-Ok.place.name.now in
+    let judged = c.judge-judged.result in
+    let j = created_judged p c.args.path.now c.args.length c.args.owner d name judged c.in-Ok.ensures.ok c.judge-judged.ensures.judged in
+    told_one p judged c.in-Some.active j.there c.in-Some.ensures.0
+
+pub block-requires-clause-few : goal.block-requires-clause-few
+block-requires-clause-few g c = λ screen found. few_at c.args.self.now c.in-Some.active.screen screen c.requires.whole found
+
+pub returns-in-Some-clause-ok : goal.returns-in-Some-clause-ok
+returns-in-Some-clause-ok g c =
+    let p = c.args.self.now in
+    let d = c.in-Ok.place.folder in
+    let name = c.in-Ok.place.name.now in
+    let judged = c.judge-judged.result in
+    let j = created_judged p c.args.path.now c.args.length c.args.owner d name judged c.in-Ok.ensures.ok c.judge-judged.ensures.judged in
+    blocked_op p c.block.new.self c.args.moment (Create c.args.path.now c.args.length c.args.owner) c.block.result judged c.in-Some.active c.args.owner d name c.requires.idle c.requires.after
+    (λ refusal h. create_due p c.args.moment c.args.path.now c.args.length c.args.owner d name c.requires.whole.sound.counted.volume c.in-Ok.ensures.ok
+    ∙ by_screen (new_fault p.tree d name) _ _ refusal c.in-Ok-may_create.ensures.may h)
+    j c.in-Some.ensures.0 c.in-Some.ensures.1 c.block.ensures.blocked
+
+pub returns-in-Some-clause-sound : goal.returns-in-Some-clause-sound
+returns-in-Some-clause-sound g c =
+    let p = c.args.self.now in
+    let d = c.in-Ok.place.folder in
+    let name = c.in-Ok.place.name.now in
+    let judged = c.judge-judged.result in
+    let j = created_judged p c.args.path.now c.args.length c.args.owner d name judged c.in-Ok.ensures.ok c.judge-judged.ensures.judged in
+    block_sound p c.block.new.self c.args.moment (Create c.args.path.now c.args.length c.args.owner) c.block.result judged c.in-Some.active c.args.owner d name j c.in-Some.ensures.0 c.block.ensures.blocked c.block.ensures.counted c.requires.whole.sound.scanning
+
+pub returns-in-Some-clause-looks : goal.returns-in-Some-clause-looks
+returns-in-Some-clause-looks g c =
+    omega (arith, c.in-Ok.ensures.looks, c.in-Ok-may_create.ensures.looks, c.judge-judged.ensures.looks, place_depth _ _ _ _ _ c.requires.whole.sound.counted.volume c.in-Ok.ensures.ok)

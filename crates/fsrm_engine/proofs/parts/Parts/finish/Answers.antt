@@ -24,7 +24,7 @@ returns-clause-used c =
     ∙ ap (λ o. usage p.tree.size p.tree.nodes (unwrap_or o 0)) c.requires.active
 
 pub complete-requires-clause-idle : goal.complete-requires-clause-idle
-complete-requires-clause-idle c = record { numbers = c.requires.idle.numbers; crossing = c.requires.idle.crossing }
+complete-requires-clause-idle c = record { numbers = c.requires.idle.numbers; places = c.requires.idle.places; crossing = c.requires.idle.crossing }
 
 pub returns-clause-finished : goal.returns-clause-finished
 returns-clause-finished c =

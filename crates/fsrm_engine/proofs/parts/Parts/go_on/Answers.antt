@@ -48,4 +48,4 @@ returns-clause-ok g c =
 
 pub finish-used-requires-clause-idle : goal.finish-used-requires-clause-idle
 finish-used-requires-clause-idle g c =
-    subst IsIdle (sym c.visit-visited.ensures.kept) (record { numbers = c.requires.idle.numbers; crossing = c.requires.idle.crossing })
+    subst IsIdle (sym c.visit-visited.ensures.kept) (record { numbers = c.requires.idle.numbers; places = c.requires.idle.places; crossing = c.requires.idle.crossing })

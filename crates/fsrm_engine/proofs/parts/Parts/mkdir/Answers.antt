@@ -53,10 +53,10 @@ returns-clause-ok g c =
     (op_accepts p mid c.args.moment (Mkdir c.args.path.now c.args.owner) p.objects.quotas _ c.requires.idle c.requires.after
     (mkdir_due p c.args.moment _ c.args.owner _ _ c.requires.whole.sound.counted.volume at ∙ ap (λ o. tree_first o None) c.in-Ok-may_create.ensures.may)
     (ap (λ (w : Volume). w.nodes) (sym (c.in_ok-node.ensures.made ∙ made_is p.tree _ _ _ true 0 c.args.owner c.args.moment at)))
-    refl refl
+    (record { quotas_are = refl; screens_are = refl; excepts_are = refl }) refl
     (mkdir_next p w c.args.path.now c.in-Ok.place.folder c.in-Ok.place.name.now c.args.owner c.args.moment c.in_ok-node.node (plain p.tree.nodes (Mkdir c.args.path.now c.args.owner) c.args.moment) at made.back)
-    (c.follow_mkdir.ensures.follows row made.found) (record { size = size; marks = refl; crossing = refl; run_limit = refl; last_moment = refl }) refl)
-    (few_log p c.requires.whole) (calm_same p mid c.args.moment c.requires.whole.sound.counted (idle_made p.tree w p.objects.quotas p.usage c.in-Ok.place.folder c.in-Ok.place.name.now c.args.owner c.args.moment c.requires.whole.sound.counted at.folder_is c.in_ok-node.ensures.made c.in_ok-node.ensures.kept) size refl refl)
+    (c.follow_mkdir.ensures.follows row made.found) (record { size = size; marks = refl; crossing = refl; groups = refl; audit = refl; run_limit = refl; last_moment = refl }) refl)
+    refl (few_log p c.requires.whole) (calm_same p mid c.args.moment c.requires.whole.sound.counted (idle_made p.tree w p.objects.quotas p.usage c.in-Ok.place.folder c.in-Ok.place.name.now c.args.owner c.args.moment c.requires.whole.sound.counted at.folder_is c.in_ok-node.ensures.made c.in_ok-node.ensures.kept) size refl refl)
     c.done.ensures.ended c.done.ensures.answer
 
 pub returns-clause-sound : goal.returns-clause-sound

@@ -11,13 +11,20 @@ use Rattle.fsrm_model.proofs.valid.ValidLaws.{folder_has}
 use Rattle.volume_tree.specs.Volume.{Volume, Move as Moving, move_fault}
 use Rattle.fsrm_engine.specs.Crossing.{IsCovered}
 use Rattle.fsrm_engine.specs.Faults.{exceeded_refusal}
+use Rattle.fsrm_engine.specs.declared.parts.Parts.{Parts}
 use Rattle.fsrm_engine.specs.Machine.{charged_parts}
-use Rattle.fsrm_engine.proofs.steps.StepLaws.{done_with, refused_as, refused_by_as}
+use Rattle.fsrm_engine.specs.Reporting.{name_under, screen_told}
+use Rattle.fsrm_engine.proofs.judging.DoneLaws.{done_noted}
+use Rattle.fsrm_engine.proofs.judging.JudgedLaws.{few_at, few_told, told_one}
+use Rattle.fsrm_engine.proofs.judging.NameLaws.{answers_it, block_sound, blocked_op, moved_judged, unblocked}
+use Rattle.fsrm_engine.proofs.judging.NotedLaws.{noted_calm, noted_change, noted_charged, noted_covered, noted_fits, noted_height, noted_log, noted_quotas, noted_scans, noted_volume}
+use Rattle.fsrm_engine.proofs.steps.StepLaws.{refused_as, refused_by_as}
 use Rattle.fsrm_engine.proofs.steps.PlaceLaws.{place_bare, place_depth, has_resolved}
+use Rattle.fsrm_engine.proofs.operations.NewLaws.{by_no_screen, by_screen}
 use Rattle.fsrm_engine.proofs.operations.MoveLaws.{move_due, move_root, stray_due}
-use Rattle.fsrm_engine.proofs.operations.GrowthLaws.{by_quotas, due_next}
+use Rattle.fsrm_engine.proofs.operations.GrowthLaws.{by_quotas}
 use Rattle.fsrm_engine.proofs.operations.MoveKept.{move_change, moves_to, move_changes, move_done, ready_apart, from_height, to_height, left_height, parent_there, there_moved, move_room, move_fits, moved_fits}
-use Rattle.fsrm_engine.proofs.operations.FollowLaws.{goes_to, volume_is, made_ready, move_next, move_nodes, op_accepts}
+use Rattle.fsrm_engine.proofs.operations.FollowLaws.{goes_to, volume_is, made_ready, move_next, move_nodes, op_made}
 use Rattle.fsrm_engine.proofs.operations.ChargedLaws.{charged_due, covered_by, refused_op}
 use Rattle.fsrm_engine.proofs.settling.EndLaws.{few_log}
 use Rattle.fsrm_engine.proofs.settling.OrderlyQuotas.{quotas_orderly}
@@ -36,24 +43,26 @@ returns-in_err-bytes-clause-looks g c =
       c.in-Some.ensures.looks,
       c.in-Ok.ensures.looks,
       c.in-Ok-ready_move.ensures.looks,
+      c.judge_moved-judged.ensures.looks,
+      c.node-view.ensures.count,
       c.moved_bytes.ensures.looks,
       place_depth _ _ _ _ _ c.requires.whole.sound.counted.volume c.in-Ok.ensures.ok,
       move_room v.size v.nodes c.args.from.now c.args.to.now c.in-Some.node c.requires.whole.sound.counted.volume (sym c.in-Some.ensures.value),
     )
 
-pub node-requires : goal.node-requires
-node-requires g c = has_resolved _ _ _ _ c.requires.whole.sound.counted.volume (sym c.in-Some.ensures.value)
+pub node-view-requires : goal.node-view-requires
+node-view-requires g c = has_resolved _ _ _ _ c.requires.whole.sound.counted.volume (sym c.in-Some.ensures.value)
 
 pub admit-requires-clause-change : goal.admit-requires-clause-change
 admit-requires-clause-change g c =
     let v = c.args.self.now.tree in
-    record { from = parent_there v.size v.nodes c.in-Some.node c.node.result c.requires.whole.sound.counted.volume c.node.ensures.view; to = folder_has v.nodes c.in-Ok.place.folder c.in-Ok.ensures.ok.folder_is }
+    record { from = parent_there v.size v.nodes c.in-Some.node c.node-view.result c.requires.whole.sound.counted.volume c.node-view.ensures.view; to = folder_has v.nodes c.in-Ok.place.folder c.in-Ok.ensures.ok.folder_is }
 
 pub admit-requires-clause-fits : goal.admit-requires-clause-fits
 admit-requires-clause-fits g c =
     let v = c.args.self.now.tree in
-    let to = moves_to v.nodes c.in-Some.node c.in-Ok.place.folder c.node.result (is_under v.nodes c.in-Some.node c.in-Ok.place.folder) c.node.ensures.view (is_inner _ c.if-node-eq0.false) c.in-Ok.ensures.ok.folder_is refl (ready_apart v c.in-Some.node c.in-Ok.place.folder c.in-Ok.place.name.now c.in-Ok-ready_move.ensures.may) in
-    move_fits v c.args.self.now.objects.quotas c.args.self.now.usage c.in-Some.node c.in-Ok.place.folder c.in-Ok.place.name.now c.node.result c.in_ok-bytes.bytes c.requires.whole.sound.counted c.node.ensures.view to c.in_ok-bytes.ensures.bytes
+    let to = moves_to v.nodes c.in-Some.node c.in-Ok.place.folder c.node-view.result (is_under v.nodes c.in-Some.node c.in-Ok.place.folder) c.node-view.ensures.view (is_inner _ c.if-node-eq0.false) c.in-Ok.ensures.ok.folder_is refl (ready_apart v c.in-Some.node c.in-Ok.place.folder c.in-Ok.place.name.now c.in-Ok-ready_move.ensures.may) in
+    move_fits v c.args.self.now.objects.quotas c.args.self.now.usage c.in-Some.node c.in-Ok.place.folder c.in-Ok.place.name.now c.node-view.result c.in_ok-bytes.bytes c.requires.whole.sound.counted c.node-view.ensures.view to c.in_ok-bytes.ensures.bytes
 
 pub returns-in-Err-admit-clause-looks : goal.returns-in-Err-admit-clause-looks
 returns-in-Err-admit-clause-looks g c =
@@ -63,11 +72,12 @@ returns-in-Err-admit-clause-looks g c =
       c.in-Some.ensures.looks,
       c.in-Ok.ensures.looks,
       c.in-Ok-ready_move.ensures.looks,
+      c.judge_moved-judged.ensures.looks,
       c.in_ok-bytes.ensures.looks,
-      c.node.ensures.count,
+      c.node-view.ensures.count,
       c.in-Err-admit.ensures.looks,
       place_depth _ _ _ _ _ c.requires.whole.sound.counted.volume c.in-Ok.ensures.ok,
-      from_height v.size v.nodes c.args.from.now c.in-Some.node c.node.result c.requires.whole.sound.counted.volume (sym c.in-Some.ensures.value) (is_inner _ c.if-node-eq0.false) c.node.ensures.view,
+      from_height v.size v.nodes c.args.from.now c.in-Some.node c.node-view.result c.requires.whole.sound.counted.volume (sym c.in-Some.ensures.value) (is_inner _ c.if-node-eq0.false) c.node-view.ensures.view,
       move_room v.size v.nodes c.args.from.now c.args.to.now c.in-Some.node c.requires.whole.sound.counted.volume (sym c.in-Some.ensures.value),
     )
 
@@ -76,41 +86,57 @@ ready_move-requires-clause-there g c = has_resolved _ _ _ _ c.requires.whole.sou
 
 pub charge-requires-clause-change : goal.charge-requires-clause-change
 charge-requires-clause-change g c =
-    let v = c.args.self.now.tree in
+    let p = c.args.self.now in
+    let mid : Parts = record p { tree = c.make_move.new.self; scans = c.follow_move.new.self } in
+    let oj = name_under (screen_told p c.judge_moved-judged.result) c.node-view.result.owner c.in-Ok.place.folder c.in-Ok.place.name.now in
+    let change = move_change c.node-view.result.parent c.in-Ok.place.folder c.in_ok-bytes.bytes in
+    noted_change mid c.report.new.self oj c.args.moment c.requires.idle.places (few_log p c.requires.whole) c.report.ensures change
+    (let v = c.args.self.now.tree in
     let w = c.make_move.new.self in
     record {
-      from = there_moved v w c.in-Some.node c.in-Ok.place.folder c.in-Ok.place.name.now c.node.result.parent (made_ready _ _ _ _ _ _ c.in-Ok-ready_move.ensures.ready c.make_move.ensures.made) (parent_there v.size v.nodes c.in-Some.node c.node.result c.requires.whole.sound.counted.volume c.node.ensures.view);
+      from = there_moved v w c.in-Some.node c.in-Ok.place.folder c.in-Ok.place.name.now c.node-view.result.parent (made_ready _ _ _ _ _ _ c.in-Ok-ready_move.ensures.ready c.make_move.ensures.made) (parent_there v.size v.nodes c.in-Some.node c.node-view.result c.requires.whole.sound.counted.volume c.node-view.ensures.view);
       to = there_moved v w c.in-Some.node c.in-Ok.place.folder c.in-Ok.place.name.now c.in-Ok.place.folder (made_ready _ _ _ _ _ _ c.in-Ok-ready_move.ensures.ready c.make_move.ensures.made) (folder_has v.nodes c.in-Ok.place.folder c.in-Ok.ensures.ok.folder_is);
-    }
+    })
 
 pub charge-requires-clause-fits : goal.charge-requires-clause-fits
 charge-requires-clause-fits g c =
-    let v = c.args.self.now.tree in
-    let to = moves_to v.nodes c.in-Some.node c.in-Ok.place.folder c.node.result (is_under v.nodes c.in-Some.node c.in-Ok.place.folder) c.node.ensures.view (is_inner _ c.if-node-eq0.false) c.in-Ok.ensures.ok.folder_is refl (ready_apart v c.in-Some.node c.in-Ok.place.folder c.in-Ok.place.name.now c.in-Ok-ready_move.ensures.may) in
-    moved_fits v c.make_move.new.self c.args.self.now.objects.quotas c.args.self.now.usage c.in-Some.node c.in-Ok.place.folder c.in-Ok.place.name.now c.node.result c.in_ok-bytes.bytes c.requires.whole.sound.counted c.node.ensures.view to c.in_ok-bytes.ensures.bytes (made_ready _ _ _ _ _ _ c.in-Ok-ready_move.ensures.ready c.make_move.ensures.made)
+    let p = c.args.self.now in
+    let mid : Parts = record p { tree = c.make_move.new.self; scans = c.follow_move.new.self } in
+    let oj = name_under (screen_told p c.judge_moved-judged.result) c.node-view.result.owner c.in-Ok.place.folder c.in-Ok.place.name.now in
+    let change = move_change c.node-view.result.parent c.in-Ok.place.folder c.in_ok-bytes.bytes in
+    noted_fits mid c.report.new.self oj c.args.moment c.requires.idle.places (few_log p c.requires.whole) c.report.ensures change
+    (let v = c.args.self.now.tree in
+    let to = moves_to v.nodes c.in-Some.node c.in-Ok.place.folder c.node-view.result (is_under v.nodes c.in-Some.node c.in-Ok.place.folder) c.node-view.ensures.view (is_inner _ c.if-node-eq0.false) c.in-Ok.ensures.ok.folder_is refl (ready_apart v c.in-Some.node c.in-Ok.place.folder c.in-Ok.place.name.now c.in-Ok-ready_move.ensures.may) in
+    moved_fits v c.make_move.new.self c.args.self.now.objects.quotas c.args.self.now.usage c.in-Some.node c.in-Ok.place.folder c.in-Ok.place.name.now c.node-view.result c.in_ok-bytes.bytes c.requires.whole.sound.counted c.node-view.ensures.view to c.in_ok-bytes.ensures.bytes (made_ready _ _ _ _ _ _ c.in-Ok-ready_move.ensures.ready c.make_move.ensures.made))
 
 pub returns-clause-looks : goal.returns-clause-looks
 returns-clause-looks g c =
-    let v = c.args.self.now.tree in
+    let p = c.args.self.now in
+    let mid : Parts = record p { tree = c.make_move.new.self; scans = c.follow_move.new.self } in
+    let oj = name_under (screen_told p c.judge_moved-judged.result) c.node-view.result.owner c.in-Ok.place.folder c.in-Ok.place.name.now in
+    let v = p.tree in
     let w = c.make_move.new.self in
-    let to = moves_to v.nodes c.in-Some.node c.in-Ok.place.folder c.node.result (is_under v.nodes c.in-Some.node c.in-Ok.place.folder) c.node.ensures.view (is_inner _ c.if-node-eq0.false) c.in-Ok.ensures.ok.folder_is refl (ready_apart v c.in-Some.node c.in-Ok.place.folder c.in-Ok.place.name.now c.in-Ok-ready_move.ensures.may) in
+    let to = moves_to v.nodes c.in-Some.node c.in-Ok.place.folder c.node-view.result (is_under v.nodes c.in-Some.node c.in-Ok.place.folder) c.node-view.ensures.view (is_inner _ c.if-node-eq0.false) c.in-Ok.ensures.ok.folder_is refl (ready_apart v c.in-Some.node c.in-Ok.place.folder c.in-Ok.place.name.now c.in-Ok-ready_move.ensures.may) in
     omega (
       arith,
       c.in-Some.ensures.looks,
       c.in-Ok.ensures.looks,
       c.in-Ok-ready_move.ensures.looks,
+      c.judge_moved-judged.ensures.looks,
       c.in_ok-bytes.ensures.looks,
-      c.node.ensures.count,
+      c.node-view.ensures.count,
       c.in_default-admit.ensures.looks,
       c.follow_move.ensures.looks,
       c.make_move.ensures.looks,
       c.charge.ensures.looks,
+      noted_height mid c.report.new.self oj c.args.moment c.requires.idle.places (few_log p c.requires.whole) c.report.ensures c.in-Ok.place.folder,
+      noted_height mid c.report.new.self oj c.args.moment c.requires.idle.places (few_log p c.requires.whole) c.report.ensures c.node-view.result.parent,
       (resolved v.size v.nodes c.args.from.now c.in-Some.node c.requires.whole.sound.counted.volume (sym c.in-Some.ensures.value)).deep,
       place_depth _ _ _ _ _ c.requires.whole.sound.counted.volume c.in-Ok.ensures.ok,
-      from_height v.size v.nodes c.args.from.now c.in-Some.node c.node.result c.requires.whole.sound.counted.volume (sym c.in-Some.ensures.value) (is_inner _ c.if-node-eq0.false) c.node.ensures.view,
+      from_height v.size v.nodes c.args.from.now c.in-Some.node c.node-view.result c.requires.whole.sound.counted.volume (sym c.in-Some.ensures.value) (is_inner _ c.if-node-eq0.false) c.node-view.ensures.view,
       move_room v.size v.nodes c.args.from.now c.args.to.now c.in-Some.node c.requires.whole.sound.counted.volume (sym c.in-Some.ensures.value),
       to_height v w c.in-Some.node c.in-Ok.place.folder c.in-Ok.place.name.now c.requires.whole.sound.counted.volume to (made_ready _ _ _ _ _ _ c.in-Ok-ready_move.ensures.ready c.make_move.ensures.made),
-      left_height v w c.in-Some.node c.in-Ok.place.folder c.in-Ok.place.name.now c.node.result c.requires.whole.sound.counted.volume to c.node.ensures.view (made_ready _ _ _ _ _ _ c.in-Ok-ready_move.ensures.ready c.make_move.ensures.made),
+      left_height v w c.in-Some.node c.in-Ok.place.folder c.in-Ok.place.name.now c.node-view.result c.requires.whole.sound.counted.volume to c.node-view.ensures.view (made_ready _ _ _ _ _ _ c.in-Ok-ready_move.ensures.ready c.make_move.ensures.made),
     )
 
 pub returns-in-Err-ready_move-clause-looks : goal.returns-in-Err-ready_move-clause-looks
@@ -163,15 +189,20 @@ returns-in-Err-ready_move-clause-ok g c =
 pub returns-in-Err-admit-clause-ok : goal.returns-in-Err-admit-clause-ok
 returns-in-Err-admit-clause-ok g c =
     let p = c.args.self.now in
+    let view = c.node-view.result in
+    let d = c.in-Ok.place.folder in
+    let name = c.in-Ok.place.name.now in
+    let judged = c.judge_moved-judged.result in
+    let j = moved_judged p c.args.from.now c.args.to.now c.in-Some.node d name view judged (sym c.in-Some.ensures.value) c.node-view.ensures.view c.in-Ok.ensures.ok c.judge_moved-judged.ensures.judged in
     let v = p.tree in
     let e = c.requires.whole.sound.counted in
     let at = c.in-Ok.ensures.ok in
     let inner = is_inner _ c.if-node-eq0.false in
-    let to = moves_to v.nodes c.in-Some.node c.in-Ok.place.folder c.node.result (is_under v.nodes c.in-Some.node c.in-Ok.place.folder) c.node.ensures.view inner at.folder_is refl (ready_apart v c.in-Some.node c.in-Ok.place.folder c.in-Ok.place.name.now c.in-Ok-ready_move.ensures.may) in
-    let changes = move_changes v.size v.nodes p.objects.quotas c.in-Some.node c.in-Ok.place.folder c.in-Ok.place.name.now c.node.result c.in_ok-bytes.bytes e.volume e.are_quotas c.node.ensures.view to c.in_ok-bytes.ensures.bytes in
+    let to = moves_to v.nodes c.in-Some.node c.in-Ok.place.folder c.node-view.result (is_under v.nodes c.in-Some.node c.in-Ok.place.folder) c.node-view.ensures.view inner at.folder_is refl (ready_apart v c.in-Some.node c.in-Ok.place.folder c.in-Ok.place.name.now c.in-Ok-ready_move.ensures.may) in
+    let changes = move_changes v.size v.nodes p.objects.quotas c.in-Some.node c.in-Ok.place.folder c.in-Ok.place.name.now c.node-view.result c.in_ok-bytes.bytes e.volume e.are_quotas c.node-view.ensures.view to c.in_ok-bytes.ensures.bytes in
     refused_op p c.refuse.new.self c.args.moment (File (Move c.args.from.now c.args.to.now)) c.refuse.result _ _ c.in-Err-admit.exceeded e c.requires.idle c.requires.after
     (move_due p c.args.moment c.args.from.now c.args.to.now c.in-Some.node c.in-Ok.place.folder c.in-Ok.place.name.now e.volume (sym c.in-Some.ensures.value) inner at
-    ∙ due_next (move_fault v c.in-Some.node c.in-Ok.place.folder c.in-Ok.place.name.now) _ _ c.in-Ok-ready_move.ensures.may refl)
+    ∙ by_no_screen (move_fault v c.in-Some.node d name) _ _ c.in-Ok-ready_move.ensures.may (unblocked p (Move c.args.from.now c.args.to.now) judged view.owner d name j c.in_default-blocking.ensures))
     (sym (move_nodes v c.args.from.now c.args.to.now c.in-Some.node c.in-Ok.place.folder c.in-Ok.place.name.now c.args.moment (sym c.in-Some.ensures.value) at))
     changes c.in-Err-admit.ensures.err c.refuse.ensures.refused
 
@@ -180,48 +211,73 @@ returns-in-Err-admit-clause-sound g c =
     refused_sound c.args.self.now c.refuse.new.self c.args.moment c.in-Err-admit.exceeded c.refuse.result c.refuse.ensures.refused c.refuse.ensures.counted c.requires.whole.sound.scanning
 
 pub refuse-requires-clause-there : goal.refuse-requires-clause-there
-refuse-requires-clause-there g c = (refuser_of c.args.self.now (move_change c.node.result.parent c.in-Ok.place.folder c.in_ok-bytes.bytes) c.in-Err-admit.exceeded c.requires.whole.sound.counted c.in-Err-admit.ensures.err).there
+refuse-requires-clause-there g c = (refuser_of c.args.self.now (move_change c.node-view.result.parent c.in-Ok.place.folder c.in_ok-bytes.bytes) c.in-Err-admit.exceeded c.requires.whole.sound.counted c.in-Err-admit.ensures.err).there
 
 pub refuse-requires-clause-counting : goal.refuse-requires-clause-counting
-refuse-requires-clause-counting g c = (refuser_of c.args.self.now (move_change c.node.result.parent c.in-Ok.place.folder c.in_ok-bytes.bytes) c.in-Err-admit.exceeded c.requires.whole.sound.counted c.in-Err-admit.ensures.err).counting
+refuse-requires-clause-counting g c = (refuser_of c.args.self.now (move_change c.node-view.result.parent c.in-Ok.place.folder c.in_ok-bytes.bytes) c.in-Err-admit.exceeded c.requires.whole.sound.counted c.in-Err-admit.ensures.err).counting
 
 pub refuse-requires-clause-log : goal.refuse-requires-clause-log
 refuse-requires-clause-log g c = few_log c.args.self.now c.requires.whole
 
 pub charge-requires-clause-quotas : goal.charge-requires-clause-quotas
-charge-requires-clause-quotas g c = let p = c.args.self.now in quotas_orderly p.tree.nodes p.objects.quotas c.requires.whole.sound.counted.are_quotas
+charge-requires-clause-quotas g c =
+    let p = c.args.self.now in
+    let mid : Parts = record p { tree = c.make_move.new.self; scans = c.follow_move.new.self } in
+    let oj = name_under (screen_told p c.judge_moved-judged.result) c.node-view.result.owner c.in-Ok.place.folder c.in-Ok.place.name.now in
+    noted_quotas mid c.report.new.self oj c.args.moment c.requires.idle.places (few_log p c.requires.whole) c.report.ensures
+    (quotas_orderly p.tree.nodes p.objects.quotas c.requires.whole.sound.counted.are_quotas)
 
 pub charge-requires-clause-covered : goal.charge-requires-clause-covered
 charge-requires-clause-covered g c =
     let p = c.args.self.now in
-    let v = p.tree in
+    let mid : Parts = record p { tree = c.make_move.new.self; scans = c.follow_move.new.self } in
+    let oj = name_under (screen_told p c.judge_moved-judged.result) c.node-view.result.owner c.in-Ok.place.folder c.in-Ok.place.name.now in
+    let change = move_change c.node-view.result.parent c.in-Ok.place.folder c.in_ok-bytes.bytes in
+    noted_covered mid c.report.new.self oj c.args.moment c.requires.idle.places (few_log p c.requires.whole) c.report.ensures change
+    (let v = p.tree in
     let e = c.requires.whole.sound.counted in
-    let to = moves_to v.nodes c.in-Some.node c.in-Ok.place.folder c.node.result (is_under v.nodes c.in-Some.node c.in-Ok.place.folder) c.node.ensures.view (is_inner _ c.if-node-eq0.false) c.in-Ok.ensures.ok.folder_is refl (ready_apart v c.in-Some.node c.in-Ok.place.folder c.in-Ok.place.name.now c.in-Ok-ready_move.ensures.may) in
-    let change = move_change c.node.result.parent c.in-Ok.place.folder c.in_ok-bytes.bytes in
+    let to = moves_to v.nodes c.in-Some.node c.in-Ok.place.folder c.node-view.result (is_under v.nodes c.in-Some.node c.in-Ok.place.folder) c.node-view.ensures.view (is_inner _ c.if-node-eq0.false) c.in-Ok.ensures.ok.folder_is refl (ready_apart v c.in-Some.node c.in-Ok.place.folder c.in-Ok.place.name.now c.in-Ok-ready_move.ensures.may) in
     subst (λ (w : Volume). IsCovered w.nodes p.usage change) (sym (made_ready _ _ _ _ _ _ c.in-Ok-ready_move.ensures.ready c.make_move.ensures.made))
     (covered_by p _ change e
-    (move_changes v.size v.nodes p.objects.quotas c.in-Some.node c.in-Ok.place.folder c.in-Ok.place.name.now c.node.result c.in_ok-bytes.bytes e.volume e.are_quotas c.node.ensures.view to c.in_ok-bytes.ensures.bytes)
-    (λ from to given at other. omega arith))
+    (move_changes v.size v.nodes p.objects.quotas c.in-Some.node c.in-Ok.place.folder c.in-Ok.place.name.now c.node-view.result c.in_ok-bytes.bytes e.volume e.are_quotas c.node-view.ensures.view to c.in_ok-bytes.ensures.bytes)
+    (λ from to given at other. omega arith)))
 
 pub charge-requires-clause-idle : goal.charge-requires-clause-idle
-charge-requires-clause-idle g c = record { numbers = c.requires.idle.numbers; crossing = c.requires.idle.crossing }
+charge-requires-clause-idle g c =
+    let p = c.args.self.now in
+    let mid : Parts = record p { tree = c.make_move.new.self; scans = c.follow_move.new.self } in
+    let oj = name_under (screen_told p c.judge_moved-judged.result) c.node-view.result.owner c.in-Ok.place.folder c.in-Ok.place.name.now in
+    noted_calm mid c.report.new.self oj c.args.moment c.requires.idle.places (few_log p c.requires.whole) c.report.ensures c.requires.idle.numbers c.requires.idle.crossing
 
 pub charge-requires-clause-log : goal.charge-requires-clause-log
-charge-requires-clause-log g c = few_log c.args.self.now c.requires.whole
-
-pub done-requires-clause-counted : goal.done-requires-clause-counted
-done-requires-clause-counted g c =
+charge-requires-clause-log g c =
     let p = c.args.self.now in
+    let mid : Parts = record p { tree = c.make_move.new.self; scans = c.follow_move.new.self } in
+    let oj = name_under (screen_told p c.judge_moved-judged.result) c.node-view.result.owner c.in-Ok.place.folder c.in-Ok.place.name.now in
+    noted_log mid c.report.new.self oj c.args.moment c.requires.idle.places (few_log p c.requires.whole) c.report.ensures
+
+pub done_under-requires-clause-counted : goal.done_under-requires-clause-counted
+done_under-requires-clause-counted g c =
+    let p = c.args.self.now in
+    let mid : Parts = record p { tree = c.make_move.new.self; scans = c.follow_move.new.self } in
+    let oj = name_under (screen_told p c.judge_moved-judged.result) c.node-view.result.owner c.in-Ok.place.folder c.in-Ok.place.name.now in
+    let change = move_change c.node-view.result.parent c.in-Ok.place.folder c.in_ok-bytes.bytes in
     let v = p.tree in
-    let to = moves_to v.nodes c.in-Some.node c.in-Ok.place.folder c.node.result (is_under v.nodes c.in-Some.node c.in-Ok.place.folder) c.node.ensures.view (is_inner _ c.if-node-eq0.false) c.in-Ok.ensures.ok.folder_is refl (ready_apart v c.in-Some.node c.in-Ok.place.folder c.in-Ok.place.name.now c.in-Ok-ready_move.ensures.may) in
+    let to = moves_to v.nodes c.in-Some.node c.in-Ok.place.folder c.node-view.result (is_under v.nodes c.in-Some.node c.in-Ok.place.folder) c.node-view.ensures.view (is_inner _ c.if-node-eq0.false) c.in-Ok.ensures.ok.folder_is refl (ready_apart v c.in-Some.node c.in-Ok.place.folder c.in-Ok.place.name.now c.in-Ok-ready_move.ensures.may) in
     counted_run _ c.charge.new.self c.args.moment _ c.requires.moment
-    (move_done v c.make_move.new.self p.objects.quotas _ p.usage _ c.in-Some.node c.in-Ok.place.folder c.in-Ok.place.name.now c.node.result c.in_ok-bytes.bytes c.args.moment
-    c.requires.whole.sound.counted c.node.ensures.view to c.in_ok-bytes.ensures.bytes (made_ready _ _ _ _ _ _ c.in-Ok-ready_move.ensures.ready c.make_move.ensures.made) c.make_move.ensures.kept c.requires.moment refl refl).engine
+    (noted_charged mid c.report.new.self oj c.args.moment c.requires.idle.places (few_log p c.requires.whole) c.report.ensures change
+    (move_done v c.make_move.new.self p.objects.quotas _ p.usage _ c.in-Some.node c.in-Ok.place.folder c.in-Ok.place.name.now c.node-view.result c.in_ok-bytes.bytes c.args.moment
+    c.requires.whole.sound.counted c.node-view.ensures.view to c.in_ok-bytes.ensures.bytes (made_ready _ _ _ _ _ _ c.in-Ok-ready_move.ensures.ready c.make_move.ensures.made) c.make_move.ensures.kept c.requires.moment refl refl).engine)
     c.charge.ensures.charged
 
 pub returns-clause-ok : goal.returns-clause-ok
 returns-clause-ok g c =
     let p = c.args.self.now in
+    let view = c.node-view.result in
+    let d = c.in-Ok.place.folder in
+    let name = c.in-Ok.place.name.now in
+    let judged = c.judge_moved-judged.result in
+    let j = moved_judged p c.args.from.now c.args.to.now c.in-Some.node d name view judged (sym c.in-Some.ensures.value) c.node-view.ensures.view c.in-Ok.ensures.ok c.judge_moved-judged.ensures.judged in
     let v = p.tree in
     let w = c.make_move.new.self in
     let e = c.requires.whole.sound.counted in
@@ -229,27 +285,112 @@ returns-clause-ok g c =
     let from = sym c.in-Some.ensures.value in
     let inner = is_inner _ c.if-node-eq0.false in
     let made = made_ready _ _ _ _ _ _ c.in-Ok-ready_move.ensures.ready c.make_move.ensures.made in
-    let to = moves_to v.nodes c.in-Some.node c.in-Ok.place.folder c.node.result (is_under v.nodes c.in-Some.node c.in-Ok.place.folder) c.node.ensures.view inner at.folder_is refl (ready_apart v c.in-Some.node c.in-Ok.place.folder c.in-Ok.place.name.now c.in-Ok-ready_move.ensures.may) in
-    let changes = move_changes v.size v.nodes p.objects.quotas c.in-Some.node c.in-Ok.place.folder c.in-Ok.place.name.now c.node.result c.in_ok-bytes.bytes e.volume e.are_quotas c.node.ensures.view to c.in_ok-bytes.ensures.bytes in
-    let change = move_change c.node.result.parent c.in-Ok.place.folder c.in_ok-bytes.bytes in
-    let mid = charged_parts (record p { tree = w; scans = c.follow_move.new.self }) change c.args.moment in
-    let d = move_done v w p.objects.quotas mid.objects p.usage mid.usage c.in-Some.node c.in-Ok.place.folder c.in-Ok.place.name.now c.node.result c.in_ok-bytes.bytes c.args.moment
-    e c.node.ensures.view to c.in_ok-bytes.ensures.bytes made c.make_move.ensures.kept c.requires.moment refl refl in
+    let to = moves_to v.nodes c.in-Some.node c.in-Ok.place.folder c.node-view.result (is_under v.nodes c.in-Some.node c.in-Ok.place.folder) c.node-view.ensures.view inner at.folder_is refl (ready_apart v c.in-Some.node c.in-Ok.place.folder c.in-Ok.place.name.now c.in-Ok-ready_move.ensures.may) in
+    let changes = move_changes v.size v.nodes p.objects.quotas c.in-Some.node c.in-Ok.place.folder c.in-Ok.place.name.now c.node-view.result c.in_ok-bytes.bytes e.volume e.are_quotas c.node-view.ensures.view to c.in_ok-bytes.ensures.bytes in
+    let change = move_change c.node-view.result.parent c.in-Ok.place.folder c.in_ok-bytes.bytes in
+    let mid : Parts = record p { tree = w; scans = c.follow_move.new.self } in
+    let charged = charged_parts mid change c.args.moment in
+    let done = move_done v w p.objects.quotas charged.objects.quotas p.usage charged.usage c.in-Some.node c.in-Ok.place.folder c.in-Ok.place.name.now c.node-view.result c.in_ok-bytes.bytes c.args.moment
+    e c.node-view.ensures.view to c.in_ok-bytes.ensures.bytes made c.make_move.ensures.kept c.requires.moment refl refl in
     let nodes = move_nodes v c.args.from.now c.args.to.now c.in-Some.node c.in-Ok.place.folder c.in-Ok.place.name.now c.args.moment from at in
     let size = ap (λ (u : Volume). u.size) made in
-    done_with p mid c.charge.new.self c.done.new.self c.args.moment (File (Move c.args.from.now c.args.to.now)) c.done.result _
-    (op_accepts p mid c.args.moment (Move c.args.from.now c.args.to.now) p.objects.quotas _ c.requires.idle c.requires.after
-    (move_due p c.args.moment c.args.from.now c.args.to.now c.in-Some.node c.in-Ok.place.folder c.in-Ok.place.name.now e.volume from inner at
-    ∙ due_next (move_fault v c.in-Some.node c.in-Ok.place.folder c.in-Ok.place.name.now) _ _ c.in-Ok-ready_move.ensures.may (by_quotas p _ _ _ e changes (ap (option_map exceeded_refusal) c.in_default-admit.ensures.ok)))
-    (nodes ∙ sym (ap (λ (u : Volume). u.nodes) made)) refl refl
-    (move_next p c.args.from.now c.args.to.now c.in-Some.node c.in-Ok.place.folder c.in-Ok.place.name.now _ from at nodes)
-    (goes_to _ _ w _ _ made (c.follow_move.ensures.follows c.in-Ok.place.name.now (volume_is _ _ made c.make_move.ensures.kept)))
-    (record { size = size; marks = refl; crossing = refl; run_limit = refl; last_moment = refl }) d.raised_are)
-    c.charge.ensures.charged (charged_due p w c.follow_move.new.self change c.args.moment size e d.engine) c.done.ensures.ended c.done.ensures.answer
+    let op = Move c.args.from.now c.args.to.now in
+    let oj = name_under (screen_told p judged) view.owner d name in
+    done_noted p mid c.report.new.self c.charge.new.self c.done_under.new.self c.args.moment (File op) c.done_under.result change oj
+    (record {
+      after = c.requires.after;
+      none = move_due p c.args.moment c.args.from.now c.args.to.now c.in-Some.node d name e.volume from inner at
+          ∙ (by_no_screen (move_fault v c.in-Some.node d name) _ _ c.in-Ok-ready_move.ensures.may (unblocked p (Move c.args.from.now c.args.to.now) judged view.owner d name j c.in_default-blocking.ensures)
+          ∙ by_quotas p _ _ _ e changes (ap (option_map exceeded_refusal) c.in_default-admit.ensures.ok));
+      lasts = refl;
+      judged_is = j.named;
+      size = size;
+      idle = record { numbers = c.requires.idle.numbers; places = c.requires.idle.places; crossing = c.requires.idle.crossing };
+      made = op_made p mid c.args.moment op p.objects.quotas _ (nodes ∙ sym (ap (λ (u : Volume). u.nodes) made))
+          (record { quotas_are = refl; screens_are = refl; excepts_are = refl }) refl
+          (move_next p c.args.from.now c.args.to.now c.in-Some.node d name _ from at nodes)
+          (goes_to _ _ w _ _ made (c.follow_move.ensures.follows name (volume_is _ _ made c.make_move.ensures.kept)))
+          (record { size = size; marks = refl; crossing = refl; groups = refl; audit = refl; run_limit = refl; last_moment = refl });
+    })
+    (few_log p c.requires.whole) c.report.ensures
+    done.raised_are (charged_due p w c.follow_move.new.self change c.args.moment size e done.engine) c.charge.ensures.charged c.done_under.ensures.ended
+    (answers_it p c.args.moment op c.done_under.result judged view.owner d name j c.done_under.ensures.answer)
 
 pub returns-clause-sound : goal.returns-clause-sound
 returns-clause-sound g c =
+    let p = c.args.self.now in
+    let mid : Parts = record p { tree = c.make_move.new.self; scans = c.follow_move.new.self } in
+    let oj = name_under (screen_told p c.judge_moved-judged.result) c.node-view.result.owner c.in-Ok.place.folder c.in-Ok.place.name.now in
+    let change = move_change c.node-view.result.parent c.in-Ok.place.folder c.in_ok-bytes.bytes in
     let made = made_ready _ _ _ _ _ _ c.in-Ok-ready_move.ensures.ready c.make_move.ensures.made in
     let goes = goes_to _ _ c.make_move.new.self _ _ made (c.follow_move.ensures.follows c.in-Ok.place.name.now (volume_is _ _ made c.make_move.ensures.kept)) in
-    sound_run (charged_parts (record c.args.self.now { tree = c.make_move.new.self; scans = c.follow_move.new.self }) (move_change c.node.result.parent c.in-Ok.place.folder c.in_ok-bytes.bytes) c.args.moment) c.charge.new.self c.done.new.self c.args.moment _
-    c.charge.ensures.charged c.done.ensures.ended c.done.ensures.counted goes.scanning
+    sound_run (charged_parts c.report.new.self change c.args.moment) c.charge.new.self c.done_under.new.self c.args.moment _
+    c.charge.ensures.charged c.done_under.ensures.ended c.done_under.ensures.counted (noted_scans mid c.report.new.self oj c.args.moment c.requires.idle.places (few_log p c.requires.whole) c.report.ensures goes.scanning)
+
+pub charge-requires-clause-volume : goal.charge-requires-clause-volume
+charge-requires-clause-volume g c =
+    let p = c.args.self.now in
+    let mid : Parts = record p { tree = c.make_move.new.self; scans = c.follow_move.new.self } in
+    let oj = name_under (screen_told p c.judge_moved-judged.result) c.node-view.result.owner c.in-Ok.place.folder c.in-Ok.place.name.now in
+    noted_volume mid c.report.new.self oj c.args.moment c.requires.idle.places (few_log p c.requires.whole) c.report.ensures c.make_move.ensures.kept
+
+pub report-requires-clause-there : goal.report-requires-clause-there
+report-requires-clause-there g c =
+    let p = c.args.self.now in
+    let view = c.node-view.result in
+    let d = c.in-Ok.place.folder in
+    let name = c.in-Ok.place.name.now in
+    let judged = c.judge_moved-judged.result in
+    let j = moved_judged p c.args.from.now c.args.to.now c.in-Some.node d name view judged (sym c.in-Some.ensures.value) c.node-view.ensures.view c.in-Ok.ensures.ok c.judge_moved-judged.ensures.judged in
+    j.there
+
+pub report-requires-clause-few : goal.report-requires-clause-few
+report-requires-clause-few g c = λ screen found. few_told c.args.self.now c.judge_moved-judged.result screen c.requires.whole found
+
+pub block-requires-clause-there : goal.block-requires-clause-there
+block-requires-clause-there g c =
+    let p = c.args.self.now in
+    let view = c.node-view.result in
+    let d = c.in-Ok.place.folder in
+    let name = c.in-Ok.place.name.now in
+    let judged = c.judge_moved-judged.result in
+    let j = moved_judged p c.args.from.now c.args.to.now c.in-Some.node d name view judged (sym c.in-Some.ensures.value) c.node-view.ensures.view c.in-Ok.ensures.ok c.judge_moved-judged.ensures.judged in
+    told_one p judged c.in-Some-blocking.active j.there c.in-Some-blocking.ensures.0
+
+pub block-requires-clause-few : goal.block-requires-clause-few
+block-requires-clause-few g c = λ screen found. few_at c.args.self.now c.in-Some-blocking.active.screen screen c.requires.whole found
+
+pub returns-in-Some-blocking-clause-ok : goal.returns-in-Some-blocking-clause-ok
+returns-in-Some-blocking-clause-ok g c =
+    let p = c.args.self.now in
+    let view = c.node-view.result in
+    let d = c.in-Ok.place.folder in
+    let name = c.in-Ok.place.name.now in
+    let judged = c.judge_moved-judged.result in
+    let j = moved_judged p c.args.from.now c.args.to.now c.in-Some.node d name view judged (sym c.in-Some.ensures.value) c.node-view.ensures.view c.in-Ok.ensures.ok c.judge_moved-judged.ensures.judged in
+    blocked_op p c.block.new.self c.args.moment (Move c.args.from.now c.args.to.now) c.block.result judged c.in-Some-blocking.active view.owner d name c.requires.idle c.requires.after
+    (λ refusal h. move_due p c.args.moment c.args.from.now c.args.to.now c.in-Some.node d name c.requires.whole.sound.counted.volume (sym c.in-Some.ensures.value) (is_inner _ c.if-node-eq0.false) c.in-Ok.ensures.ok
+    ∙ by_screen (move_fault p.tree c.in-Some.node d name) _ _ refusal c.in-Ok-ready_move.ensures.may h)
+    j c.in-Some-blocking.ensures.0 c.in-Some-blocking.ensures.1 c.block.ensures.blocked
+
+pub returns-in-Some-blocking-clause-sound : goal.returns-in-Some-blocking-clause-sound
+returns-in-Some-blocking-clause-sound g c =
+    let p = c.args.self.now in
+    let view = c.node-view.result in
+    let d = c.in-Ok.place.folder in
+    let name = c.in-Ok.place.name.now in
+    let judged = c.judge_moved-judged.result in
+    let j = moved_judged p c.args.from.now c.args.to.now c.in-Some.node d name view judged (sym c.in-Some.ensures.value) c.node-view.ensures.view c.in-Ok.ensures.ok c.judge_moved-judged.ensures.judged in
+    block_sound p c.block.new.self c.args.moment (Move c.args.from.now c.args.to.now) c.block.result judged c.in-Some-blocking.active view.owner d name j c.in-Some-blocking.ensures.0 c.block.ensures.blocked c.block.ensures.counted c.requires.whole.sound.scanning
+
+pub returns-in-Some-blocking-clause-looks : goal.returns-in-Some-blocking-clause-looks
+returns-in-Some-blocking-clause-looks g c =
+    omega (
+      arith,
+      c.in-Some.ensures.looks,
+      c.in-Ok.ensures.looks,
+      c.in-Ok-ready_move.ensures.looks,
+      c.node-view.ensures.count,
+      c.judge_moved-judged.ensures.looks,
+      place_depth _ _ _ _ _ c.requires.whole.sound.counted.volume c.in-Ok.ensures.ok,
+    )

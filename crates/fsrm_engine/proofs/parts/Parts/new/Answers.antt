@@ -1,4 +1,6 @@
 use Rattle.std.proofs.Common.{rules, ◌≡◌, List, [], ◌∷◌, false, refl, sym, subst, arith}
+use Rattle.fsrm_model.specs.declared.row.AuditRow.{AuditRow}
+use Rattle.fsrm_model.specs.declared.row.GroupRow.{GroupRow}
 use Rattle.fsrm_model.specs.Fresh.{new_rows, root_node}
 use Rattle.fsrm_model.specs.Limits.{most_quotas}
 use Rattle.fsrm_model.specs.Valid.{IsValid, IsVolume}
@@ -19,20 +21,23 @@ pub returns-clause-whole : goal.returns-clause-whole
 returns-clause-whole c =
     let K = c.args.size in
     let tree : Volume = record { size = K; nodes = root_node ∷ [] } in
-    let objects : Tables = record { quotas = [] } in
+    let objects : Tables = record { quotas = []; screens = []; excepts = [] } in
     let scans : Course = record { queue = []; front = idle (record { nodes = K.nodes; cluster = K.cluster }) } in
-    let marks : Marked = record { numbers = []; log = [] } in
-    let of : Volume → Tables → List Counter → Course → Marked → Numbers → Parts =
-    λ t o u s k n. record { tree = t; objects = o; usage = u; scans = s; marks = k; crossing = n; run_limit = 60; last_moment = 0; level = false } in
+    let marks : Marked = record { numbers = []; log = []; folder = 0; places = [] } in
+    let of : Volume → Tables → List GroupRow → List Counter → Course → Marked → List AuditRow → Numbers → Parts =
+    λ t o gs u s k a n.
+    record { tree = t; objects = o; groups = gs; usage = u; scans = s; marks = k; audit = a; crossing = n; run_limit = 60; last_moment = 0; level = false } in
     let volume : IsVolume K (root_node ∷ []) = subst (λ (v : Volume). IsVolume v.size v.nodes) c.in_ok-tree.ensures.ok c.in_ok-tree.ensures.kept in
     let valid = new_valid K (lt_is 0 K.nodes (volume.below 0 root_node refl)) in
-    let same : rows_of (of tree objects [] scans marks (no_numbers most_quotas)) ≡ new_rows = search rules in
-    subst (λ (t : Volume). IsWhole (of t c.new-2.result c.in_ok-usage.usage c.in_ok-scans.scans c.in_ok-marks.marks c.in_ok-crossing.crossing)) (sym c.in_ok-tree.ensures.ok)
-    (subst (λ (o : Tables). IsWhole (of tree o c.in_ok-usage.usage c.in_ok-scans.scans c.in_ok-marks.marks c.in_ok-crossing.crossing)) (sym c.new-2.ensures)
-    (subst (λ (u : List Counter). IsWhole (of tree objects u c.in_ok-scans.scans c.in_ok-marks.marks c.in_ok-crossing.crossing)) (sym c.in_ok-usage.ensures)
-    (subst (λ (s : Course). IsWhole (of tree objects [] s c.in_ok-marks.marks c.in_ok-crossing.crossing)) (sym c.in_ok-scans.ensures)
-    (subst (λ (k : Marked). IsWhole (of tree objects [] scans k c.in_ok-crossing.crossing)) (sym c.in_ok-marks.ensures)
-    (subst (λ (n : Numbers). IsWhole (of tree objects [] scans marks n)) (sym c.in_ok-crossing.ensures)
+    let same : rows_of (of tree objects [] [] scans marks [] (no_numbers most_quotas)) ≡ new_rows = search rules in
+    subst (λ (t : Volume). IsWhole (of t c.new-3.result c.new-4.result c.in_ok-usage.usage c.in_ok-scans.scans c.in_ok-marks.marks c.in_ok-audit.audit c.in_ok-crossing.crossing)) (sym c.in_ok-tree.ensures.ok)
+    (subst (λ (o : Tables). IsWhole (of tree o c.new-4.result c.in_ok-usage.usage c.in_ok-scans.scans c.in_ok-marks.marks c.in_ok-audit.audit c.in_ok-crossing.crossing)) (sym c.new-3.ensures)
+    (subst (λ (gs : List GroupRow). IsWhole (of tree objects gs c.in_ok-usage.usage c.in_ok-scans.scans c.in_ok-marks.marks c.in_ok-audit.audit c.in_ok-crossing.crossing)) (sym c.new-4.ensures)
+    (subst (λ (u : List Counter). IsWhole (of tree objects [] u c.in_ok-scans.scans c.in_ok-marks.marks c.in_ok-audit.audit c.in_ok-crossing.crossing)) (sym c.in_ok-usage.ensures)
+    (subst (λ (s : Course). IsWhole (of tree objects [] [] s c.in_ok-marks.marks c.in_ok-audit.audit c.in_ok-crossing.crossing)) (sym c.in_ok-scans.ensures)
+    (subst (λ (k : Marked). IsWhole (of tree objects [] [] scans k c.in_ok-audit.audit c.in_ok-crossing.crossing)) (sym c.in_ok-marks.ensures)
+    (subst (λ (a : List AuditRow). IsWhole (of tree objects [] [] scans marks a c.in_ok-crossing.crossing)) (sym c.in_ok-audit.ensures)
+    (subst (λ (n : Numbers). IsWhole (of tree objects [] [] scans marks [] n)) (sym c.in_ok-crossing.ensures)
     (record {
       sound = record {
         counted = record { volume = volume; legal = c.requires; are_quotas = valid.quotas; sums = refl; peaks = λ h. cc };
@@ -40,5 +45,6 @@ returns-clause-whole c =
       };
       valid = subst (IsValid K) (sym same) valid;
       there = refl;
+      screens = refl;
       crossing = refl;
-    }))))))
+    }))))))))

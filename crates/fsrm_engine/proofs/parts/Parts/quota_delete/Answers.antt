@@ -31,7 +31,7 @@ returns-clause-ok g c =
     done_as p mid c.done.new.self c.args.moment (QuotaDelete c.args.path.now) _
     (turned_accepts p mid c.args.moment (QuotaDelete c.args.path.now) after queue c.requires.idle c.requires.after (quota_due R _ _ at)
     (ap (λ k. record R { quotas = without_row folder_of k R.quotas; queue = without_number k R.queue }) (target_is R.nodes c.args.path.now n at.at.resolved)) refl t)
-    (still_few p mid (turned_keeps p mid after queue t) (few_log p c.requires.whole))
+    refl (still_few p mid (turned_keeps p mid after queue t) (few_log p c.requires.whole))
     (calm_deleted p mid c.args.moment n queue t) c.done.ensures.ended c.done.ensures.answer
 
 pub returns-clause-sound : goal.returns-clause-sound

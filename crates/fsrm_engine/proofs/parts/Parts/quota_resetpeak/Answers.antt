@@ -1,6 +1,7 @@
-use Rattle.std.proofs.Common.{◌==◌, refl, ap, ◌∙◌}
+use Rattle.std.proofs.Common.{◌==◌, List, refl, ap, ◌∙◌}
 use Rattle.std.specs.Prelude.{unwrap_or, if◌then◌else◌}
 use Rattle.fsrm_model.specs.declared.command.Deed.TheVariants.{QuotaResetpeak}
+use Rattle.fsrm_model.specs.declared.row.QuotaRow.{QuotaRow}
 use Rattle.fsrm_model.specs.Quota.{folder_of}
 use Rattle.fsrm_model.specs.QuotaWork.{reset}
 use Rattle.fsrm_base.proofs.Look.{found_has}
@@ -34,13 +35,13 @@ returns-in-Err-clause-ok g c =
 pub returns-clause-ok : goal.returns-clause-ok
 returns-clause-ok g c =
     let p = c.args.self.now in
-    let is = ap (λ (t : Tables). t.quotas) c.set_peak.ensures
-    ∙ reset_is p c.args.moment c.in-Ok.quota.now.folder _ c.requires.whole.sound.counted (c.unwrap_or-used.ensures ∙ ap (λ o. unwrap_or o 0) c.used.ensures) in
+    let reset_are = reset_is p c.args.moment c.in-Ok.quota.now.folder _ c.requires.whole.sound.counted (c.unwrap_or-used.ensures ∙ ap (λ o. unwrap_or o 0) c.used.ensures) in
+    let is = ap (λ (t : Tables). t.quotas) c.set_peak.ensures ∙ reset_are in
     let n = c.in-Ok.quota.now.folder in
     let mid : Parts = record p { objects = c.set_peak.new.self } in
     done_as p mid c.done.new.self c.args.moment (QuotaResetpeak c.args.path.now) c.done.result
-    (changed_as p c.args.moment c.in-Ok.quota.now (QuotaResetpeak c.args.path.now) c.args.path.now (reset p.tree.size (rows_of p) c.args.moment) c.set_peak.new.self c.requires.idle c.requires.after c.in-Ok.ensures.ok refl is)
-    (few_log p c.requires.whole)
+    (changed_as p c.args.moment c.in-Ok.quota.now (QuotaResetpeak c.args.path.now) c.args.path.now (reset p.tree.size (rows_of p) c.args.moment) c.set_peak.new.self c.requires.idle c.requires.after c.in-Ok.ensures.ok refl (c.set_peak.ensures ∙ ap (λ (qs : List QuotaRow). record p.objects { quotas = qs }) reset_are))
+    refl (few_log p c.requires.whole)
     (calm_mapped p mid c.args.moment (λ q. if folder_of q == n then reset p.tree.size (rows_of p) c.args.moment q else q) c.requires.whole.sound.counted (counted_same p.tree.size p.tree.nodes p.usage _ c.set_peak.new.self.quotas is (counted_reset p c.args.moment n c.requires.whole.sound.counted c.requires.moment)) refl is refl
     (λ q. reset_folder p c.args.moment (folder_of q == n) q) (λ q. reset_limit p c.args.moment (folder_of q == n) q) (λ q. reset_thresholds p c.args.moment (folder_of q == n) q))
     c.done.ensures.ended c.done.ensures.answer

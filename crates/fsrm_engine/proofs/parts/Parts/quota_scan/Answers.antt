@@ -55,7 +55,7 @@ returns-then-counts-clause-ok g c =
     ∙ ap (λ b. first ((InvalidCombination when b) ∷ [])) (ap (λ o. is_disabled (option_map_or (λ quota. quota.state) o Disabled)) c.in-Ok.ensures.ok.found ∙ (sym c.is_disabled.ensures ∙ c.if-is_disabled.false)))
     (ap (λ k. with_state R k Rebuilding) to)
     (ap (λ k. option_map_or counts (quota_of R k) false) to ∙ (ap (λ o. option_map_or counts o false) c.in-Ok.ensures.ok.found ∙ (sym c.counts.ensures ∙ c.if-counts.true))) t)
-    (still_few p c.rebuild.new.self (turned_keeps p c.rebuild.new.self after queue t) (few_log p c.requires.whole))
+    refl (still_few p c.rebuild.new.self (turned_keeps p c.rebuild.new.self after queue t) (few_log p c.requires.whole))
     (calm_scanned p c.rebuild.new.self c.args.moment n queue t) c.done.ensures.ended c.done.ensures.answer
 
 pub returns-clause-ok : goal.returns-clause-ok

@@ -118,17 +118,17 @@ returns-clause-ok g c =
     let changes = resize_changes p.tree.size p.tree.nodes p.objects.quotas c.args.path.now c.in-Some.file c.args.length c.args.moment c.allocated.result c.allocated-2.result e.volume e.are_quotas f c.allocated.ensures.space c.allocated-2.ensures.space in
     let change : Change = record { from = Some c.in-Some.file.parent; to = Some c.in-Some.file.parent; minus = c.allocated.result; plus = c.allocated-2.result } in
     let mid = charged_parts (record p { tree = w; scans = c.follow_resize.new.self }) change c.args.moment in
-    let d = resize_done p.tree w p.objects.quotas mid.objects p.usage mid.usage c.args.path.now c.in-Some.file c.args.length c.args.moment c.allocated.result c.allocated-2.result
+    let d = resize_done p.tree w p.objects.quotas mid.objects.quotas p.usage mid.usage c.args.path.now c.in-Some.file c.args.length c.args.moment c.allocated.result c.allocated-2.result
     e f c.allocated.ensures.space c.allocated-2.ensures.space made c.resize.ensures.kept c.requires.moment refl refl in
     let size = ap (λ (u : Volume). u.size) made in
     done_with p mid c.charge.new.self c.done.new.self c.args.moment (File (Resize c.args.path.now c.args.length)) c.done.result _
     (op_accepts p mid c.args.moment (Resize c.args.path.now c.args.length) p.objects.quotas _ c.requires.idle c.requires.after
     (resize_due p c.args.moment c.args.path.now c.in-Some.file c.args.length e.volume f ∙ by_quotas p _ _ _ e changes (ap (option_map exceeded_refusal) c.in_default-admit.ensures.ok))
     (ap (λ n. with_change number n (resized c.args.length c.args.moment) p.tree.nodes) (target_is p.tree.nodes c.args.path.now _ f.resolved) ∙ sym (ap (λ (u : Volume). u.nodes) made))
-    refl refl (λ k. refl)
+    (record { quotas_are = refl; screens_are = refl; excepts_are = refl }) refl (λ k. refl)
     (goes_to _ _ w _ _ made (c.follow_resize.ensures.follows c.args.moment (volume_is _ _ made c.resize.ensures.kept)))
-    (record { size = size; marks = refl; crossing = refl; run_limit = refl; last_moment = refl }) d.raised_are)
-    c.charge.ensures.charged (charged_due p w c.follow_resize.new.self change c.args.moment size e d.engine) c.done.ensures.ended c.done.ensures.answer
+    (record { size = size; marks = refl; crossing = refl; groups = refl; audit = refl; run_limit = refl; last_moment = refl }) d.raised_are)
+    refl c.charge.ensures.charged (charged_due p w c.follow_resize.new.self change c.args.moment size e d.engine) c.done.ensures.ended c.done.ensures.answer
 
 pub returns-clause-sound : goal.returns-clause-sound
 returns-clause-sound g c =

@@ -19,8 +19,8 @@ returns-clause-ok c =
       none = refl;
       lasts = refl;
       size = refl;
-      idle = record { numbers = c.requires.idle.numbers; crossing = c.requires.idle.crossing };
+      idle = record { numbers = c.requires.idle.numbers; places = c.requires.idle.places; crossing = c.requires.idle.crossing };
       made = followed_own (record (rows_of p) { run_limit = c.args.run_limit });
       raised = refl;
     })
-    (few_log p c.requires.whole) (calm_same p mid c.args.moment e e refl refl refl) c.done.ensures.ended c.done.ensures.answer
+    refl (few_log p c.requires.whole) (calm_same p mid c.args.moment e e refl refl refl) c.done.ensures.ended c.done.ensures.answer

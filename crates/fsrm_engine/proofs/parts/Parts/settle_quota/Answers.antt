@@ -1,7 +1,7 @@
 use Rattle.std.proofs.Common.{ℕ, Option, refl, subst}
 use Rattle.std.specs.Option.{option_copied}
 use Rattle.thresholds.specs.Settled.{Settles, due_in}
-use Rattle.fsrm_engine.proofs.settling.MarkLaws.{idle_marked}
+use Rattle.fsrm_engine.proofs.settling.MarkLaws.{calm_of, calm_there}
 use Rattle.fsrm_engine.proofs.settling.OrderlyQuotas.{quotas_orderly}
 use Rattle.fsrm_engine.proofs.tables.RanLaws.{counted_run}
 use Rattle.fsrm_engine.proofs.parts.Parts.settle_quota.Goals as goal
@@ -10,7 +10,7 @@ pub settle-requires-clause-orderly : goal.settle-requires-clause-orderly
 settle-requires-clause-orderly c = let p = c.args.self.now in quotas_orderly p.tree.nodes p.objects.quotas c.requires.counted.are_quotas
 
 pub settle-requires-clause-marked : goal.settle-requires-clause-marked
-settle-requires-clause-marked c = (idle_marked c.args.self.now c.requires.idle).there
+settle-requires-clause-marked c = calm_there c.args.self.now (calm_of c.args.self.now c.requires.idle)
 
 pub returns-clause-settled : goal.returns-clause-settled
 returns-clause-settled c =

@@ -9,4 +9,4 @@ use Rattle.fsrm_objects.proofs.objects.Objects.place.Goals as goal
 pub returns : goal.returns
 returns c =
     subst (λ (tables : Tables). MatchOption c.place.result (has_row folder_of c.args.folder tables.quotas ≡ false) (IsAt folder_of c.args.folder tables.quotas)) c.self.view_is
-    (found_row folder_of c.args.folder c.self.inside.quotas.items c.self.inside.places.numbers c.place.result c.self.invariant.counted.are.ascending c.self.invariant.placed c.place.ensures)
+    (found_row folder_of c.args.folder c.self.inside.quotas.items c.self.inside.places.numbers c.place.result c.self.invariant.quotas.held.ascending c.self.invariant.quotas_placed c.place.ensures)

@@ -1,18 +1,22 @@
-use Rattle.std.proofs.Common.{◌≡◌, ◌≤◌, true, refl, sym, ◌∙◌, ap, arith}
+use Rattle.std.proofs.Common.{◌≡◌, ◌≤◌, nat_le, true, List, refl, ◌∙◌, ap, arith}
 use Rattle.std.specs.Prelude.{slice_set}
+use Rattle.fsrm_model.specs.declared.row.QuotaRow.{QuotaRow}
+use Rattle.fsrm_model.specs.Limits.{most_quotas, most_screens}
 use Rattle.fsrm_model.specs.Quota.{folder_of}
+use Rattle.fsrm_model.specs.Screens.{screen_folder}
 use Rattle.fsrm_model.specs.Texts.{quota_bytes}
-use Rattle.fsrm_objects.specs.Kept.{AreSmallQuotas, is_small}
-use Rattle.fsrm_objects.specs.Tables.{Tables, with_other}
+use Rattle.fsrm_objects.specs.Kept.{AreSmallQuotas, most_quota_bytes, most_screen_bytes}
+use Rattle.fsrm_objects.specs.Tables.{Tables, screen_bytes, with_other}
 use Rattle.fsrm_objects.proofs.FaultLaws.{short_other}
-use Rattle.fsrm_objects.proofs.QuotaRows.{at_place, change_kept, change_texts, less_texts, quota_small, small_fits, tables_of, texts_most}
+use Rattle.fsrm_objects.proofs.HeldRows.{at_place, change_small, change_texts, less_texts, tables_of, texts_most}
+use Rattle.fsrm_objects.proofs.QuotaRows.{quota_fits, quota_small}
 use Rattle.fsrm_base.proofs.SortedRows.{set_found}
 use Rattle.place_table.proofs.RowPlaces.{numbers_set}
 use Rattle.fsrm_objects.proofs.objects.Objects.set_quota.Goals as goal
 
 pub texts_of-bytes-requires : goal.texts_of-bytes-requires
 texts_of-bytes-requires c =
-    let its : quota_bytes c.args.row ≤ 131072 = small_fits c.args.row (quota_small c.args.row (short_other c.args.self.now c.args.row c.args.room c.in_ok-may_set.ensures.may) c.requires.texts) in
+    let its : quota_bytes c.args.row ≤ 131072 = quota_fits c.args.row (short_other c.args.self.now c.args.row c.args.room c.in_ok-may_set.ensures.may) c.requires.texts in
     omega arith
 
 pub overflow_add-self : goal.overflow_add-self
@@ -21,16 +25,18 @@ overflow_add-self c =
     let old = c.index.result.now in
     let folder = c.args.row.folder in
     let place = c.unwrap-place.result in
-    let at = at_place quotas c.args.self.now folder place c.place.result c.self.view_is c.unwrap-place.ensures c.place.ensures in
-    let small : is_small c.args.row ≡ true = quota_small c.args.row (short_other c.args.self.now c.args.row c.args.room c.in_ok-may_set.ensures.may) c.requires.texts in
-    let kept : AreSmallQuotas (slice_set quotas place c.args.row) = change_kept quotas folder place (λ q. c.args.row) old (λ q is. refl) c.self.invariant.counted.are at c.index.ensures (λ q is. small) in
+    let at = at_place folder_of quotas c.args.self.now.quotas folder place c.place.result (ap (λ (tables : Tables). tables.quotas) c.self.view_is) c.unwrap-place.ensures c.place.ensures in
+    let small : nat_le (quota_bytes c.args.row) most_quota_bytes ≡ true = quota_small c.args.row (short_other c.args.self.now c.args.row c.args.room c.in_ok-may_set.ensures.may) c.requires.texts in
+    let kept : AreSmallQuotas (slice_set quotas place c.args.row) = change_small folder_of quotas folder place (λ q. c.args.row) old (λ q is. refl) at c.index.ensures quota_bytes most_quotas most_quota_bytes c.self.invariant.quotas (λ q is. small) in
     omega (
       arith,
-      kept.few,
-      texts_most (slice_set quotas place c.args.row) kept,
-      change_texts quotas folder place (λ q. c.args.row) old (λ q is. refl) c.self.invariant.counted.are at c.index.ensures,
-      less_texts quotas folder place old c.self.invariant.counted.are at c.index.ensures,
-      c.self.invariant.counted.texts_are,
+      kept.held.few,
+      texts_most folder_of quota_bytes most_quotas most_quota_bytes (slice_set quotas place c.args.row) kept,
+      c.self.invariant.screens.held.few,
+      texts_most screen_folder screen_bytes most_screens most_screen_bytes c.self.inside.screens.items c.self.invariant.screens,
+      change_texts folder_of quotas folder place (λ q. c.args.row) old (λ q is. refl) at c.index.ensures quota_bytes c.self.invariant.quotas.held.ascending,
+      less_texts folder_of quotas folder place at quota_bytes old c.self.invariant.quotas.held.ascending c.index.ensures,
+      c.self.invariant.texts_are,
       c.texts_of-replaced.ensures,
       c.texts_of-bytes.ensures,
     )
@@ -41,27 +47,30 @@ invariant_of-self c =
     let old = c.index.result.now in
     let folder = c.args.row.folder in
     let place = c.unwrap-place.result in
-    let at = at_place quotas c.args.self.now folder place c.place.result c.self.view_is c.unwrap-place.ensures c.place.ensures in
-    let small : is_small c.args.row ≡ true = quota_small c.args.row (short_other c.args.self.now c.args.row c.args.room c.in_ok-may_set.ensures.may) c.requires.texts in
+    let at = at_place folder_of quotas c.args.self.now.quotas folder place c.place.result (ap (λ (tables : Tables). tables.quotas) c.self.view_is) c.unwrap-place.ensures c.place.ensures in
+    let small : nat_le (quota_bytes c.args.row) most_quota_bytes ≡ true = quota_small c.args.row (short_other c.args.self.now c.args.row c.args.room c.in_ok-may_set.ensures.may) c.requires.texts in
     record {
-      counted = record {
-        are = change_kept quotas folder place (λ q. c.args.row) old (λ q is. refl) c.self.invariant.counted.are at c.index.ensures (λ q is. small);
-        texts_are = omega (
-          arith,
-          change_texts quotas folder place (λ q. c.args.row) old (λ q is. refl) c.self.invariant.counted.are at c.index.ensures,
-          less_texts quotas folder place old c.self.invariant.counted.are at c.index.ensures,
-          c.self.invariant.counted.texts_are,
-          c.texts_of-replaced.ensures,
-          c.texts_of-bytes.ensures,
-        );
-      };
-      placed = numbers_set folder_of folder (λ q. c.args.row) quotas place old c.self.inside.places.numbers (λ q is. refl) c.self.invariant.counted.are.ascending c.self.invariant.placed at c.index.ensures;
+      quotas = change_small folder_of quotas folder place (λ q. c.args.row) old (λ q is. refl) at c.index.ensures quota_bytes most_quotas most_quota_bytes c.self.invariant.quotas (λ q is. small);
+      quotas_placed = numbers_set folder_of folder (λ q. c.args.row) quotas place old c.self.inside.places.numbers (λ q is. refl) c.self.invariant.quotas.held.ascending c.self.invariant.quotas_placed at c.index.ensures;
+      screens = c.self.invariant.screens;
+      screens_placed = c.self.invariant.screens_placed;
+      excepts = c.self.invariant.excepts;
+      excepts_placed = c.self.invariant.excepts_placed;
+      texts_are = omega (
+        arith,
+        change_texts folder_of quotas folder place (λ q. c.args.row) old (λ q is. refl) at c.index.ensures quota_bytes c.self.invariant.quotas.held.ascending,
+        less_texts folder_of quotas folder place at quota_bytes old c.self.invariant.quotas.held.ascending c.index.ensures,
+        c.self.invariant.texts_are,
+        c.texts_of-replaced.ensures,
+        c.texts_of-bytes.ensures,
+      );
     }
 
 pub returns-clause-ok : goal.returns-clause-ok
 returns-clause-ok c =
     let quotas = c.self.inside.quotas.items in
     let place = c.unwrap-place.result in
-    let at = at_place quotas c.args.self.now c.args.row.folder place c.place.result c.self.view_is c.unwrap-place.ensures c.place.ensures in
-    ap tables_of (set_found folder_of c.args.row.folder (λ q. c.args.row) quotas place c.index_mut.result.now c.self.invariant.counted.are.ascending at c.index_mut.ensures.value)
+    let at = at_place folder_of quotas c.args.self.now.quotas c.args.row.folder place c.place.result (ap (λ (tables : Tables). tables.quotas) c.self.view_is) c.unwrap-place.ensures c.place.ensures in
+    ap (λ (rows : List QuotaRow). tables_of rows c.self.inside.screens.items c.self.inside.excepts.items)
+    (set_found folder_of c.args.row.folder (λ q. c.args.row) quotas place c.index_mut.result.now c.self.invariant.quotas.held.ascending at c.index_mut.ensures.value)
     ∙ ap (λ (tables : Tables). with_other tables c.args.row) c.self.view_is

@@ -18,16 +18,17 @@ set_run-requires c =
 
 pub invariant_of-self : goal.invariant_of-self
 invariant_of-self c =
-    entry_kept c.self.inside.log c.push_back.new.self _ c.self.invariant.capacity c.push_back.ensures.items c.insert.new.self
-    (number_kept c.self.inside.numbers c.insert.new.self c.self.inside.log c.args.number c.insert.ensures c.self.invariant)
+    entry_kept c.self.inside.log c.push_back.new.self _ c.self.invariant.capacity c.push_back.ensures.items c.insert.new.self c.self.inside.places
+    (number_kept c.self.inside.numbers c.insert.new.self c.self.inside.log c.self.inside.places c.args.number c.insert.ensures c.self.invariant)
 
 pub returns-clause-settled : goal.returns-clause-settled
 returns-clause-settled c =
     let act = c.act_at-act.result in
     let row : ActRow = record { moment = c.args.moment; folder = c.folder-folder.result; percent = c.percent-percent.result; kind = act.kind } in
-    ran_one c.args.objects.now c.args.number act c.requires.orderly c.act_at-act.ensures c.args.self.now (record { numbers = c.insert.new.self.members; log = c.push_back.new.self.items }) c.set_run.new.self c.args.moment c.folder-folder.result c.percent-percent.result c.requires.marked c.folder-folder.ensures c.percent-percent.ensures c.set_run.ensures
+    ran_one c.args.objects.now c.args.number act c.requires.orderly c.act_at-act.ensures c.args.self.now (record { numbers = c.insert.new.self.members; log = c.push_back.new.self.items; folder = c.self.inside.folder; places = c.self.inside.places.items }) c.set_run.new.self c.args.moment c.folder-folder.result c.percent-percent.result c.requires.marked c.folder-folder.ensures c.percent-percent.ensures c.set_run.ensures
     (pushed_items c.self.inside.log c.push_back.new.self _ c.self.invariant.capacity c.push_back.ensures.items ∙ ap (λ (m : Marked). last_entries (m.log ++ row ∷ [])) c.self.view_is)
     (ap (λ (s : Numbers). s.members) c.insert.ensures ∙ ap (λ (m : Marked). with_number c.args.number m.numbers) c.self.view_is)
+    (ap (λ (m : Marked). m.folder) c.self.view_is) (ap (λ (m : Marked). m.places) c.self.view_is)
 
 pub returns-clause-sorted : goal.returns-clause-sorted
-returns-clause-sorted c = (number_kept c.self.inside.numbers c.insert.new.self c.self.inside.log c.args.number c.insert.ensures c.self.invariant).ascending
+returns-clause-sorted c = (number_kept c.self.inside.numbers c.insert.new.self c.self.inside.log c.self.inside.places c.args.number c.insert.ensures c.self.invariant).ascending

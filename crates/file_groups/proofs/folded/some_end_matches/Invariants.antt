@@ -1,0 +1,17 @@
+use Rattle.std.proofs.Common.{◌+◌, ◌*◌, chars, length}
+use denote.Text.{Utf8}
+use denote.Shadow.{shadow}
+use Rattle.file_groups.specs.Folded.{matches_folded}
+use Rattle.file_groups.proofs.StarLaws.{IsTried}
+use Rattle.file_groups.proofs.folded.some_end_matches.Given as goal
+
+abbrev pub invariant-loop-after : goal.invariant-loop-after
+invariant-loop-after l = record {
+  starred_text : shadow (Utf8 l.starred);
+  pattern_text : shadow (Utf8 l.pattern);
+  tried : IsTried matches_folded (chars l.fn.pattern) l.fn.name (chars l.starred) l.end (chars l.pattern) l.name;
+}
+
+-- each end is tried with at most all characters of the pattern
+abbrev pub decreases-loop-after : goal.decreases-loop-after
+decreases-loop-after l = length l.end * (length (chars l.fn.pattern) + 1) + length (chars l.pattern)

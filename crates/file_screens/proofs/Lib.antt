@@ -1,0 +1,4 @@
+pub mod NameLaws
+pub mod FolderLaws
+pub mod WayLaws
+pub mod JudgeLaws

@@ -1,0 +1,3 @@
+pub mod Blocked
+pub mod Way
+pub mod Kept

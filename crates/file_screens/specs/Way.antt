@@ -1,0 +1,44 @@
+-- What folders on the way up say of a name.
+use Rattle.std.specs.Prelude.{◌≡◌, ℕ, ◌||◌, Bool, false, List, [], Option, Some, None, is_some, option_and_then, if◌then◌else◌}
+use Rattle.std.specs.Option.{option_map_or}
+use Rattle.fsrm_base.specs.Keyed.{row_of}
+use Rattle.fsrm_model.specs.declared.row.ExceptRow.{ExceptRow}
+use Rattle.fsrm_model.specs.declared.row.GroupRow.{GroupRow}
+use Rattle.fsrm_model.specs.declared.row.NodeRow.{NodeRow}
+use Rattle.fsrm_model.specs.declared.row.ScreenRow.{ScreenRow}
+use Rattle.fsrm_model.specs.Screens.{applying, except_folder, in_groups, screen_folder}
+use Rattle.fsrm_objects.specs.Tables.{Tables}
+use Rattle.file_screens.specs.Blocked.{screened_rows}
+use Rattle.file_screens.specs.declared.answer.Blocked.{Blocked}
+
+-- a screen, if it has the name in one of its groups
+abbrev pub if_named : List GroupRow → List ℕ → ScreenRow → Option ScreenRow
+if_named groups name screen = if in_groups groups screen.groups name then Some screen else None
+
+-- the screen of a folder, if it has the name in one of its groups
+abbrev pub screen_with : List GroupRow → List ScreenRow → List ℕ → ℕ → Option ScreenRow
+screen_with groups screens name folder = option_and_then (if_named groups name) (row_of screen_folder folder screens)
+
+-- whether the exception of a folder has the name in one of its groups
+abbrev pub lets_pass : List GroupRow → List ExceptRow → List ℕ → ℕ → Bool
+lets_pass groups excepts name folder =
+    option_map_or (λ except. in_groups groups except.groups name) (row_of except_folder folder excepts) false
+
+-- whether an active screen was found
+abbrev pub is_active : Option Blocked → Bool
+is_active found = option_map_or (λ screen. screen.active) found false
+
+-- whether a folder has a screen or an exception
+abbrev pub is_asked : Tables → ℕ → Bool
+is_asked tables folder =
+    is_some (row_of screen_folder folder tables.screens) || is_some (row_of except_folder folder tables.excepts)
+
+-- whatever the groups are, no screen applies to a name in a folder
+abbrev pub NoneApply : List NodeRow → Tables → ℕ → Type 0
+NoneApply nodes tables folder =
+    (groups : List GroupRow) (name : List ℕ) → applying (screened_rows nodes groups tables) folder name ≡ []
+
+-- the same screens apply to it in another folder
+abbrev pub ApplyAlike : List NodeRow → Tables → ℕ → ℕ → Type 0
+ApplyAlike nodes tables folder other =
+    (groups : List GroupRow) (name : List ℕ) → applying (screened_rows nodes groups tables) other name ≡ applying (screened_rows nodes groups tables) folder name

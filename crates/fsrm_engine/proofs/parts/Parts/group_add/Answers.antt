@@ -1,0 +1,26 @@
+use Rattle.std.proofs.Common.{refl}
+use Rattle.fsrm_engine.proofs.tables.GroupLaws.{group_added, group_unadded, retabled_counted, retabled_ended, retabled_sound}
+use Rattle.fsrm_engine.proofs.parts.Parts.group_add.Goals as goal
+
+pub done-requires-clause-counted : goal.done-requires-clause-counted
+done-requires-clause-counted c = retabled_counted c.args.self.now c.add.new.self c.args.self.now.objects c.requires.whole refl
+
+pub returns-in-Ok-clause-ok : goal.returns-in-Ok-clause-ok
+returns-in-Ok-clause-ok c =
+    let p = c.args.self.now in
+    group_added p c.args.moment c.args.name.now c.as_str.result.now c.args.members.now c.args.non_members.now c.in_ok-members.members c.in_ok-non_members.non_members c.room-room.result
+    c.requires.whole c.requires.idle c.requires.after c.as_str.ensures c.in_ok-members.ensures c.in_ok-non_members.ensures c.room-room.ensures
+    c.done.new.self c.add.new.self c.done.result c.in-Ok.ensures.may c.in-Ok.ensures.ok c.done.ensures.ended c.done.ensures.answer
+
+pub returns-in-Ok-clause-sound : goal.returns-in-Ok-clause-sound
+returns-in-Ok-clause-sound c =
+    retabled_ended c.args.self.now c.add.new.self c.args.self.now.objects c.requires.whole refl c.done.new.self c.args.moment c.done.ensures.ended c.done.ensures.counted
+
+pub returns-in-Err-clause-ok : goal.returns-in-Err-clause-ok
+returns-in-Err-clause-ok c =
+    group_unadded c.args.self.now c.args.moment c.args.name.now c.as_str.result.now c.args.members.now c.args.non_members.now c.in_ok-members.members c.in_ok-non_members.non_members c.room-room.result
+    c.requires.whole c.requires.idle c.requires.after c.as_str.ensures c.in_ok-members.ensures c.in_ok-non_members.ensures c.room-room.ensures
+    c.add.new.self c.in-Err.fault c.refused_by_groups.result c.in-Err.ensures.refused c.in-Err.ensures.err c.refused_by_groups.ensures.ok
+
+pub returns-in-Err-clause-sound : goal.returns-in-Err-clause-sound
+returns-in-Err-clause-sound c = retabled_sound c.args.self.now c.add.new.self c.args.self.now.objects c.requires.whole refl

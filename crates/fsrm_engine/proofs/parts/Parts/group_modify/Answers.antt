@@ -1,0 +1,38 @@
+use Rattle.std.proofs.Common.{ap, refl, sym, ◌∙◌}
+use Rattle.std.specs.Option.{option_copied}
+use Rattle.fsrm_model.specs.declared.command.Deed.TheVariants.{FilegroupModify}
+use Rattle.fsrm_model.specs.Patterns.{number_named}
+use Rattle.fsrm_engine.proofs.steps.StepLaws.{refused_as}
+use Rattle.fsrm_engine.proofs.tables.GroupLaws.{group_changed, group_missing, group_unchanged, retabled_counted, retabled_ended, retabled_sound}
+use Rattle.fsrm_engine.proofs.parts.Parts.group_modify.Goals as goal
+
+pub returns-in_default-clause-ok : goal.returns-in_default-clause-ok
+returns-in_default-clause-ok c =
+    let p = c.args.self.now in
+    refused_as p c.args.moment (FilegroupModify c.args.name.now (option_copied c.args.members) (option_copied c.args.non_members)) c.refused.result _ c.requires.idle c.requires.after
+    (group_missing p c.args.moment c.args.name.now (option_copied c.args.members) (option_copied c.args.non_members)
+    (ap (λ n. number_named n p.groups) (sym c.as_str.ensures) ∙ (sym c.find.ensures.found ∙ c.in_default.is))) refl c.refused.ensures
+
+pub done-requires-clause-counted : goal.done-requires-clause-counted
+done-requires-clause-counted c = retabled_counted c.args.self.now c.modify.new.self c.args.self.now.objects c.requires.whole refl
+
+pub returns-in-Ok-clause-ok : goal.returns-in-Ok-clause-ok
+returns-in-Ok-clause-ok c =
+    let p = c.args.self.now in
+    group_changed p c.args.moment c.args.name.now c.as_str.result.now (option_copied c.args.members) (option_copied c.args.non_members) c.in_ok-members.members c.in_ok-non_members.non_members c.in-Some.group c.room-room.result
+    c.requires.whole c.requires.idle c.requires.after c.as_str.ensures c.in-Some.ensures.found c.in-Some.ensures.there c.in_ok-members.ensures c.in_ok-non_members.ensures c.room-room.ensures
+    c.done.new.self c.modify.new.self c.done.result c.in-Ok.ensures.may c.in-Ok.ensures.ok c.done.ensures.ended c.done.ensures.answer
+
+pub returns-in-Ok-clause-sound : goal.returns-in-Ok-clause-sound
+returns-in-Ok-clause-sound c =
+    retabled_ended c.args.self.now c.modify.new.self c.args.self.now.objects c.requires.whole refl c.done.new.self c.args.moment c.done.ensures.ended c.done.ensures.counted
+
+pub returns-in-Err-clause-ok : goal.returns-in-Err-clause-ok
+returns-in-Err-clause-ok c =
+    let p = c.args.self.now in
+    group_unchanged p c.args.moment c.args.name.now c.as_str.result.now (option_copied c.args.members) (option_copied c.args.non_members) c.in_ok-members.members c.in_ok-non_members.non_members c.in-Some.group c.room-room.result
+    c.requires.whole c.requires.idle c.requires.after c.as_str.ensures c.in-Some.ensures.found c.in-Some.ensures.there c.in_ok-members.ensures c.in_ok-non_members.ensures c.room-room.ensures
+    c.modify.new.self c.in-Err.fault c.refused_by_groups.result c.in-Err.ensures.refused c.in-Err.ensures.err c.refused_by_groups.ensures.ok
+
+pub returns-in-Err-clause-sound : goal.returns-in-Err-clause-sound
+returns-in-Err-clause-sound c = retabled_sound c.args.self.now c.modify.new.self c.args.self.now.objects c.requires.whole refl

@@ -1,0 +1,39 @@
+use Rattle.std.proofs.Common.{sym, subst}
+use Rattle.fsrm_model.specs.declared.command.Deed.{Deed}
+use Rattle.fsrm_engine.specs.Machine.{Does}
+use Rattle.fsrm_engine.proofs.steps.KindLaws.{groups_left}
+use Rattle.fsrm_engine.proofs.tables.ModifyLaws.{added_named, modified_named}
+use Rattle.fsrm_engine.proofs.parts.Parts.on_objects.Goals as goal
+
+pub on_groups-requires : goal.on_groups-requires
+on_groups-requires g c =
+    let d = c.in_default in
+    record {
+      whole = c.requires.whole;
+      idle = c.requires.idle;
+      valid = c.requires.valid;
+      moment = c.requires.moment;
+      after = c.requires.after;
+      kind = groups_left c.args.deed.now c.requires.kind d.not-QuotaAdd d.not-QuotaModify d.not-QuotaDelete d.not-QuotaScan d.not-QuotaResetpeak d.not-QuotaList;
+    }
+
+pub returns-in-QuotaAdd-clause-ok : goal.returns-in-QuotaAdd-clause-ok
+returns-in-QuotaAdd-clause-ok g c =
+    let given = c.adding-change.result in
+    added_named c.args.self.now c.quota_add.new.self c.args.moment c.args.deed.now c.quota_add.result c.in-QuotaAdd.path c.in-QuotaAdd.limit c.in-QuotaAdd.enforce c.in-QuotaAdd.enabled
+    c.in-QuotaAdd.source_template c.in-QuotaAdd.percents given.percents.now c.in-QuotaAdd.notices given.notices.now c.requires.valid c.in-QuotaAdd.is c.adding-change.ensures.percents c.adding-change.ensures.notices c.quota_add.ensures.ok
+
+pub returns-in-QuotaModify-clause-ok : goal.returns-in-QuotaModify-clause-ok
+returns-in-QuotaModify-clause-ok g c =
+    let given = c.new-change.result in
+    modified_named c.args.self.now c.quota_modify.new.self c.args.moment c.args.deed.now c.quota_modify.result c.in-QuotaModify.path c.in-QuotaModify.limit c.in-QuotaModify.enforce c.in-QuotaModify.enabled
+    c.in-QuotaModify.removed c.in-QuotaModify.percents given.removed.now given.percents.now c.in-QuotaModify.notices given.notices.now c.in-QuotaModify.is c.new-change.ensures.removed c.new-change.ensures.percents c.new-change.ensures.notices c.quota_modify.ensures.ok
+
+pub returns-in-QuotaResetpeak-clause-ok : goal.returns-in-QuotaResetpeak-clause-ok
+returns-in-QuotaResetpeak-clause-ok g c =
+    subst (λ (deed : Deed). Does c.args.self.now c.quota_resetpeak.new.self c.args.moment deed c.quota_resetpeak.result) (sym c.in-QuotaResetpeak.is) c.quota_resetpeak.ensures.ok
+
+pub returns-in_default : goal.returns-in_default
+returns-in_default g c =
+    let given = c.on_groups.ensures in
+    record { ok = given.ok; err = given.err; sound = given.sound; looks = given.looks }

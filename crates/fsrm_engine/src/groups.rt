@@ -1,0 +1,176 @@
+//! The commands on file groups.
+
+ghost use Rattle.std.specs.Prelude.{◌≡◌, ◌≤◌, true, IfOk, OnErr};
+ghost use Rattle.std.specs.List.{list_all, list_any};
+ghost use Rattle.std.specs.Option.{option_copied, option_map_or};
+ghost use Rattle.fsrm_base.specs.Numbers.{is_in};
+ghost use Rattle.fsrm_model.specs.declared.command.Deed.TheVariants.{FilegroupAdd, FilegroupModify, FilegroupDelete, FilegroupList};
+ghost use Rattle.fsrm_model.specs.GroupWork.{is_used};
+ghost use Rattle.fsrm_model.specs.Limits.{latest_moment};
+ghost use Rattle.fsrm_model.specs.Patterns.{is_object_name, is_pattern, are_members, are_non_members};
+ghost use Rattle.fsrm_engine.specs.Machine.{Does, IsIdle, IsSound, IsWhole, rows_of};
+
+use crate::exits::{listing, refused, refused_by_groups};
+use crate::parts::Parts;
+use file_groups::Pattern;
+use fsrm_model::{Answer, Ask, List, NoMemory, Refusal, Text};
+use fsrm_objects::Objects;
+use std::alloc::Global;
+
+// The pattern that a text is.
+fn pattern_of(alloc: Global, text: &Text) -> Result<Pattern, NoMemory>
+    requires { is_pattern text.now ≡ true }
+    ensures { IfOk result (λ pattern. pattern ≡ text.now) }
+{
+    match Pattern::read(alloc, text.as_str()) {
+        Ok(pattern) => Ok(pattern),
+        Err(_) => Err(NoMemory),
+    }
+}
+
+// The patterns that texts are.
+fn patterns_of(alloc: Global, texts: &List<Text>) -> Result<List<Pattern>, NoMemory>
+    requires { list_all is_pattern texts.now ≡ true }
+    ensures { IfOk result (λ patterns. patterns ≡ texts.now) }
+{
+    let mut patterns = List::new(alloc);
+    for text in texts.as_slice() {
+        patterns.push(pattern_of(alloc, text)?)?;
+    }
+    Ok(patterns)
+}
+
+// The same of texts that may be given.
+fn given_patterns(
+    alloc: Global,
+    texts: Option<&List<Text>>,
+) -> Result<Option<List<Pattern>>, NoMemory>
+    requires { option_map_or (list_all is_pattern) (option_copied texts) true ≡ true }
+    ensures { IfOk result (λ patterns. patterns ≡ option_copied texts.entry) }
+{
+    match texts {
+        Some(texts) => Ok(Some(patterns_of(alloc, texts)?)),
+        None => Ok(None),
+    }
+}
+
+// Whether a screen names a group.
+fn is_screened(objects: &Objects, number: u32) -> bool
+    ensures { result ≡ list_any (λ screen. is_in screen.groups number) objects.now.screens }
+{
+    for place in 0..objects.screen_count() {
+        if objects.screen_at(place).groups.as_slice().contains(&number) {
+            return true;
+        }
+    }
+    false
+}
+
+// Whether an exception names a group.
+fn is_excepted(objects: &Objects, number: u32) -> bool
+    ensures { result ≡ list_any (λ except. is_in except.groups number) objects.now.excepts }
+{
+    for place in 0..objects.except_count() {
+        if objects.except_at(place).groups.as_slice().contains(&number) {
+            return true;
+        }
+    }
+    false
+}
+
+impl Parts {
+    // Whether a screen or an exception names a group.
+    fn is_used(&self, number: u32) -> bool
+        ensures { result ≡ is_used (rows_of self.now) number }
+    {
+        is_screened(&self.objects, number) || is_excepted(&self.objects, number)
+    }
+
+    /// Makes a file group.
+    pub(crate) fn group_add(
+        &mut self,
+        alloc: Global,
+        name: &Text,
+        members: &List<Text>,
+        non_members: &List<Text>,
+        moment: u64,
+    ) -> Result<Answer, NoMemory>
+        requires whole { IsWhole self.old }
+        requires idle { IsIdle self.old }
+        requires name { is_object_name name.now ≡ true }
+        requires members { are_members members.now ≡ true }
+        requires others { are_non_members non_members.now ≡ true }
+        requires moment { moment ≤ latest_moment }
+        requires after { self.old.last_moment ≤ moment }
+        ensures ok { IfOk result (λ answer. Does self.old self.new moment (FilegroupAdd name.now members.now non_members.now) answer) }
+        ensures err { OnErr result (self.new ≡ self.old) }
+        ensures sound { IsSound self.new }
+    {
+        let members = patterns_of(alloc, members)?;
+        let non_members = patterns_of(alloc, non_members)?;
+        let room = self.room();
+        match self.groups.add(name.as_str(), members, non_members, room) {
+            Ok(_) => Ok(self.done(moment)),
+            Err(fault) => refused_by_groups(fault),
+        }
+    }
+
+    /// Gives a file group other members, other non-members, or both.
+    pub(crate) fn group_modify(
+        &mut self,
+        alloc: Global,
+        name: &Text,
+        members: Option<&List<Text>>,
+        non_members: Option<&List<Text>>,
+        moment: u64,
+    ) -> Result<Answer, NoMemory>
+        requires whole { IsWhole self.old }
+        requires idle { IsIdle self.old }
+        requires members { option_map_or are_members (option_copied members) true ≡ true }
+        requires others { option_map_or are_non_members (option_copied non_members) true ≡ true }
+        requires moment { moment ≤ latest_moment }
+        requires after { self.old.last_moment ≤ moment }
+        ensures ok { IfOk result (λ answer. Does self.old self.new moment (FilegroupModify name.now (option_copied members.entry) (option_copied non_members.entry)) answer) }
+        ensures err { OnErr result (self.new ≡ self.old) }
+        ensures sound { IsSound self.new }
+    {
+        let Some(group) = self.groups.find(name.as_str()) else {
+            return Ok(refused(Refusal::NotFound));
+        };
+        let members = given_patterns(alloc, members)?;
+        let non_members = given_patterns(alloc, non_members)?;
+        let room = self.room();
+        match self.groups.modify(group, members, non_members, room) {
+            Ok(()) => Ok(self.done(moment)),
+            Err(fault) => refused_by_groups(fault),
+        }
+    }
+
+    /// Takes a file group away, if no screen and no exception names it.
+    pub(crate) fn group_delete(&mut self, name: &Text, moment: u64) -> Answer
+        requires whole { IsWhole self.old }
+        requires idle { IsIdle self.old }
+        requires moment { moment ≤ latest_moment }
+        requires after { self.old.last_moment ≤ moment }
+        ensures ok { Does self.old self.new moment (FilegroupDelete name.now) result }
+        ensures sound { IsSound self.new }
+    {
+        let Some(group) = self.groups.find(name.as_str()) else {
+            return refused(Refusal::NotFound);
+        };
+        if self.is_used(group) {
+            return refused(Refusal::InUse);
+        }
+        self.groups.delete(group);
+        self.done(moment)
+    }
+
+    /// Lists all file groups.
+    pub(crate) fn list_groups(&self, moment: u64) -> Answer
+        requires idle { IsIdle self.now }
+        requires after { self.now.last_moment ≤ moment }
+        ensures { Does self.now self.now moment FilegroupList result }
+    {
+        listing(Ask::Groups)
+    }
+}

@@ -1,0 +1,3 @@
+-- Which screen judges a name, and what it leaves.
+pub mod EntryLaws
+pub mod JudgingLaws

@@ -1,0 +1,11 @@
+use Rattle.std.proofs.Common.{◌∙◌}
+use Rattle.reply_text.proofs.ScreenLines.{pattern_shown}
+use Rattle.reply_text.proofs.Sent.{sent}
+use Rattle.reply_text.proofs.groups.write_pattern.Goals as goal
+
+pub returns-clause-text : goal.returns-clause-text
+returns-clause-text g c =
+    let sink = g.S.Sink in
+    sent c.send.result (sink.shown c.args.sink.now) (sink.shown c.send.new.sink) _ _
+    (pattern_shown c.args.word.now c.args.pattern.now c.as_bytes.result.now (c.as_bytes.ensures.value ∙ c.as_str.ensures))
+    c.send.ensures.text

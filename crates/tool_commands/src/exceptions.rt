@@ -1,0 +1,69 @@
+//! The commands on exceptions, each read from the options after its name.
+
+ghost use Rattle.std.specs.Prelude.{◌≡◌};
+ghost use Rattle.fsrm_model.specs.declared.command.Deed.TheVariants.{ExceptionDelete, ExceptionList};
+ghost use Rattle.fsrm_model.specs.Line.{option_words, named_word};
+ghost use Rattle.fsrm_model.specs.Tools.{alone, except_add, except_commands, of_path};
+ghost use Rattle.tool_commands.specs.LineFaults.{Reads};
+ghost use Rattle.tool_commands.specs.Taking.{left, end, line_word, named_by};
+
+use crate::options::{Key, read_options};
+use crate::reading::LineFault;
+use crate::values::is_named;
+use crate::words::{Word, Words};
+use fsrm_model::Deed;
+use std::alloc::Global;
+
+fn add(alloc: Global, words: &mut Words<'_>) -> Result<Deed, LineFault>
+    ensures { Reads result (option_words except_add (end words.old) (left words.old)) }
+{
+    let given = read_options(alloc, &[Key::Path, Key::AddGroup], words)?;
+    let missing = LineFault::bad_line(words.end());
+    let path = given.path.ok_or(missing)?;
+    if given.added_groups.is_empty() {
+        return Err(missing);
+    }
+    Ok(Deed::ExceptionAdd {
+        path,
+        add_filegroup: given.added_groups,
+    })
+}
+
+fn delete(alloc: Global, words: &mut Words<'_>) -> Result<Deed, LineFault>
+    ensures { Reads result (option_words (of_path ExceptionDelete) (end words.old) (left words.old)) }
+{
+    let given = read_options(alloc, &[Key::Path], words)?;
+    let path = given.path.ok_or(LineFault::bad_line(words.end()))?;
+    Ok(Deed::ExceptionDelete { path })
+}
+
+fn list(alloc: Global, words: &mut Words<'_>) -> Result<Deed, LineFault>
+    ensures { Reads result (option_words (alone ExceptionList) (end words.old) (left words.old)) }
+{
+    read_options(alloc, &[], words)?;
+    Ok(Deed::ExceptionList)
+}
+
+fn deed(alloc: Global, name: &Word<'_>, words: &mut Words<'_>) -> Result<Deed, LineFault>
+    ensures { Reads result (named_by except_commands (line_word name.now) (λ command. option_words command (end words.old) (left words.old))) }
+{
+    let word = name.text.as_str();
+    if is_named("add", word) {
+        return add(alloc, words);
+    }
+    if is_named("delete", word) {
+        return delete(alloc, words);
+    }
+    if is_named("list", word) {
+        return list(alloc, words);
+    }
+    Err(LineFault::bad_line(name.column))
+}
+
+/// What the words after `filescrn exception` spell.
+pub fn exception(alloc: Global, words: &mut Words<'_>) -> Result<Deed, LineFault>
+    ensures { Reads result (named_word except_commands (end words.old) (left words.old) (λ command more. option_words command (end words.old) more)) }
+{
+    let name = words.next(alloc)?;
+    deed(alloc, &name, words)
+}

@@ -1,0 +1,86 @@
+//! The commands on file groups, each read from the options after its name.
+
+ghost use Rattle.std.specs.Prelude.{◌≡◌};
+ghost use Rattle.fsrm_model.specs.declared.command.Deed.TheVariants.{FilegroupList};
+ghost use Rattle.fsrm_model.specs.Line.{option_words, named_word};
+ghost use Rattle.fsrm_model.specs.Tools.{alone, group_add, group_commands, group_delete, group_modify};
+ghost use Rattle.tool_commands.specs.LineFaults.{Reads};
+ghost use Rattle.tool_commands.specs.Taking.{left, end, line_word, named_by};
+
+use crate::options::{Key, read_options};
+use crate::reading::LineFault;
+use crate::values::is_named;
+use crate::words::{Word, Words};
+use fsrm_model::{Deed, List};
+use std::alloc::Global;
+
+/// What may be given of a file group.
+const KEYS: [Key; 3] = [Key::Group, Key::Members, Key::NonMembers];
+
+fn add(alloc: Global, words: &mut Words<'_>) -> Result<Deed, LineFault>
+    ensures { Reads result (option_words group_add (end words.old) (left words.old)) }
+{
+    let given = read_options(alloc, &KEYS, words)?;
+    let missing = LineFault::bad_line(words.end());
+    let filegroup = given.group.ok_or(missing)?;
+    let members = given.members.ok_or(missing)?;
+    Ok(Deed::FilegroupAdd {
+        filegroup,
+        members,
+        non_members: given.non_members.unwrap_or(List::new(alloc)),
+    })
+}
+
+fn modify(alloc: Global, words: &mut Words<'_>) -> Result<Deed, LineFault>
+    ensures { Reads result (option_words group_modify (end words.old) (left words.old)) }
+{
+    let given = read_options(alloc, &KEYS, words)?;
+    let filegroup = given.group.ok_or(LineFault::bad_line(words.end()))?;
+    Ok(Deed::FilegroupModify {
+        filegroup,
+        members: given.members,
+        non_members: given.non_members,
+    })
+}
+
+fn delete(alloc: Global, words: &mut Words<'_>) -> Result<Deed, LineFault>
+    ensures { Reads result (option_words group_delete (end words.old) (left words.old)) }
+{
+    let given = read_options(alloc, &[Key::Group], words)?;
+    let filegroup = given.group.ok_or(LineFault::bad_line(words.end()))?;
+    Ok(Deed::FilegroupDelete { filegroup })
+}
+
+fn list(alloc: Global, words: &mut Words<'_>) -> Result<Deed, LineFault>
+    ensures { Reads result (option_words (alone FilegroupList) (end words.old) (left words.old)) }
+{
+    read_options(alloc, &[], words)?;
+    Ok(Deed::FilegroupList)
+}
+
+fn deed(alloc: Global, name: &Word<'_>, words: &mut Words<'_>) -> Result<Deed, LineFault>
+    ensures { Reads result (named_by group_commands (line_word name.now) (λ command. option_words command (end words.old) (left words.old))) }
+{
+    let word = name.text.as_str();
+    if is_named("add", word) {
+        return add(alloc, words);
+    }
+    if is_named("modify", word) {
+        return modify(alloc, words);
+    }
+    if is_named("delete", word) {
+        return delete(alloc, words);
+    }
+    if is_named("list", word) {
+        return list(alloc, words);
+    }
+    Err(LineFault::bad_line(name.column))
+}
+
+/// What the words after `filescrn filegroup` spell.
+pub fn filegroup(alloc: Global, words: &mut Words<'_>) -> Result<Deed, LineFault>
+    ensures { Reads result (named_word group_commands (end words.old) (left words.old) (λ command more. option_words command (end words.old) more)) }
+{
+    let name = words.next(alloc)?;
+    deed(alloc, &name, words)
+}

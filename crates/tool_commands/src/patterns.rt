@@ -1,0 +1,99 @@
+//! The names of file groups and the patterns of their names, in the values of options.
+
+ghost use Rattle.std.specs.Prelude.{◌≡◌, nat_le, length, IfOk};
+ghost use Rattle.std.specs.List.{list_all, slice_split};
+ghost use Rattle.fsrm_model.specs.GroupWords.{is_bar, non_members_from, object_from, patterns_from};
+ghost use Rattle.fsrm_model.specs.Limits.{most_patterns};
+ghost use Rattle.fsrm_model.specs.Patterns.{is_object_byte, is_object_name, is_pattern};
+ghost use Rattle.tool_commands.specs.LineFaults.{Reads};
+
+use crate::reading::LineFault;
+use file_groups::is_pattern;
+use fsrm_model::limits::MOST_PATTERNS;
+use fsrm_model::{List, NoMemory, Refusal, Text};
+use memchr::memchr_iter;
+use name_rules::is_name_length;
+use std::alloc::Global;
+
+fn is_object_byte(byte: u8) -> bool
+    ensures { result ≡ is_object_byte byte }
+{
+    byte >= 32 && byte != 127 && byte != b'|'
+}
+
+fn are_object_bytes(bytes: &[u8]) -> bool
+    ensures { result ≡ list_all is_object_byte bytes.now }
+{
+    bytes.iter().all(|byte| is_object_byte(*byte))
+}
+
+fn is_object_name(text: &str) -> bool
+    ensures { result ≡ is_object_name text.now }
+{
+    is_name_length(text.len()) && are_object_bytes(text.as_bytes())
+}
+
+/// The name of a file group that a text is: 1 to 255 bytes, no `|` and no control character.
+pub fn read_object_name(alloc: Global, text: &str) -> Result<Text, LineFault>
+    ensures { Reads result (object_from text.now) }
+{
+    if !is_object_name(text) {
+        return Err(LineFault::Refused(Refusal::InvalidName));
+    }
+    match Text::from_str(alloc, text) {
+        Ok(name) => Ok(name),
+        Err(NoMemory) => Err(LineFault::NoMemory),
+    }
+}
+
+// Whether each part of a text between bars is a pattern.
+fn are_patterns(text: &str) -> bool
+    ensures { result ≡ list_all is_pattern (slice_split is_bar text.now) }
+{
+    text.split('|').all(|part| is_pattern(part))
+}
+
+// Whether a text has no more parts between bars than a file group may have patterns.
+fn are_few(text: &str) -> bool
+    ensures { result ≡ nat_le (length (slice_split is_bar text.now)) most_patterns }
+{
+    memchr_iter(b'|', text.as_bytes()).count() < MOST_PATTERNS
+}
+
+// The parts of a text between bars, each in memory of its own.
+fn copied_parts(alloc: Global, text: &str) -> Result<List<Text>, NoMemory>
+    ensures { IfOk result (λ parts. parts ≡ slice_split is_bar text.now) }
+{
+    let mut parts = List::new(alloc);
+    for part in text.split('|') {
+        parts.push(Text::from_str(alloc, part)?)?;
+    }
+    Ok(parts)
+}
+
+/// The patterns that a text is, parted by `|`. That each is one is judged before there may be too many, and both before
+/// any of them takes memory.
+pub fn read_patterns(alloc: Global, text: &str) -> Result<List<Text>, LineFault>
+    ensures { Reads result (patterns_from text.now) }
+{
+    if !are_patterns(text) {
+        return Err(LineFault::Refused(Refusal::InvalidName));
+    }
+    if !are_few(text) {
+        return Err(LineFault::Refused(Refusal::OutOfRange));
+    }
+    match copied_parts(alloc, text) {
+        Ok(patterns) => Ok(patterns),
+        Err(NoMemory) => Err(LineFault::NoMemory),
+    }
+}
+
+/// The same; an empty text is none.
+pub fn read_non_members(alloc: Global, text: &str) -> Result<List<Text>, LineFault>
+    ensures { Reads result (non_members_from text.now) }
+{
+    if text.is_empty() {
+        return Ok(List::new(alloc));
+    }
+    read_patterns(alloc, text)
+}
