@@ -5,13 +5,13 @@ use Rattle.std.proofs.lemmas.List.Edits.{length-insert, length-remove}
 use Rattle.std.proofs.lemmas.Option.{get_or_from_slice_get}
 use Rattle.std.specs.List.{list_all, list_any}
 use Rattle.std.specs.Borrow.{Bor}
-use Rattle.std.specs.Option.{option_copied}
+use Rattle.std.specs.Option.{option_copied, option_map_or}
 use Rattle.std.specs.Prelude.{IfSome, slice_set, filter, find, option_map}
 use Rattle.fsrm_model.specs.declared.row.GroupRow.{GroupRow}
 use Rattle.fsrm_base.specs.Keyed.{row_of, has_row, is_ascending, with_change, least_free}
-use Rattle.fsrm_model.specs.Name.{same_name}
+use Rattle.fsrm_model.specs.Name.{folded, same_name}
 use Rattle.fsrm_model.specs.Limits.{most_groups}
-use Rattle.fsrm_model.specs.Patterns.{are_apart, group_number, has_name, is_group, regrouped, with_group, with_patterns, without_group}
+use Rattle.fsrm_model.specs.Patterns.{are_apart, group_number, has_name, in_group, in_group_of, is_group, regrouped, with_group, with_patterns, without_group}
 use Rattle.fsrm_model.specs.Texts.{group_bytes}
 use Rattle.fsrm_base.proofs.EditedRows.{sum_by-with_row, sum_by-with_change, sum_by-without_row}
 use Rattle.fsrm_model.proofs.nodes.Keeps.{same_turned}
@@ -19,7 +19,9 @@ use Rattle.fsrm_base.proofs.EditedTests.{list_all-filter, list_all-with_change, 
 use Rattle.fsrm_base.proofs.Look.{found_has, found_key, found_own}
 use Rattle.fsrm_base.proofs.Order.{least_free_is}
 use Rattle.fsrm_base.proofs.TestLaws.{both, both_true, neither, clash, is_false, not_true}
+use Rattle.file_groups.specs.Folded.{in_group_folded}
 use Rattle.file_groups.specs.Kept.{AreGroups, group_texts}
+use Rattle.file_groups.proofs.FoldLaws.{group_folded}
 use Rattle.fsrm_base.specs.Places.{IsAt, IsGap}
 use Rattle.fsrm_base.proofs.SortedRows.{row_found, ascending-set, ascending-insert, ascending-remove, insert_row, remove_found, set_found}
 
@@ -80,6 +82,13 @@ read_found groups n p r at read =
     let found = row_found group_number n groups p at in
     let is : r ≡ found.row = read ∙ get_or_from_slice_get groups p found.row r found.at in
     sym at.found ∙ (found.at ∙ ap Some (sym is))
+
+-- whether a name is in it is told by the folded name
+pub found_in : (groups rows : List GroupRow) (n p : ℕ) (r : GroupRow) (text : List ℕ) → IsAt group_number n groups p → r ≡ get_or groups p r → groups ≡ rows → in_group_folded r (folded text) ≡ in_group_of rows n text
+found_in groups rows n p r text at read same =
+    sym (group_folded r text)
+    ∙ (sym (ap (λ (o : Option GroupRow). option_map_or (λ g. in_group g text) o false) (read_found groups n p r at read))
+    ∙ ap (λ (items : List GroupRow). in_group_of items n text) same)
 
 -- the group that is found by its name is there by its number
 pub found_there : (name : List ℕ) (groups : List GroupRow) (found : Option GroupRow) → is_ascending group_number groups ≡ true → find (has_name name) groups ≡ found → IfSome (option_map group_number found) (λ n. has_row group_number n groups ≡ true)

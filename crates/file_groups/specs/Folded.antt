@@ -1,29 +1,24 @@
--- Matching a name whose characters are folded already.
-use Rattle.std.specs.Prelude.{◌≡◌, ℕ, ◌==◌, ◌&&◌, ◌||◌, not, Bool, true, false, List, [], ◌∷◌, chars, if◌then◌else◌}
+-- Matching a name by its folded characters.
+use Rattle.std.specs.Prelude.{ℕ, ◌==◌, ◌&&◌, ◌||◌, not, Bool, true, false, List, [], ◌∷◌, chars, if◌then◌else◌}
 use Rattle.std.specs.List.{list_any}
-use Rattle.std.specs.Str.{IsUtf8}
 use Rattle.ucd_case.specs.CaseFolding.{simple_fold}
 use Rattle.fsrm_model.specs.declared.row.GroupRow.{GroupRow}
 use Rattle.fsrm_model.specs.Patterns.{meant, some_end}
-use Rattle.file_groups.specs.declared.folded.FoldedHeads.{FoldedHeads}
-use Rattle.file_groups.specs.declared.folded.FoldedHeads.TheVariants.{Star, One, Ended, Apart}
-use Rattle.file_groups.specs.Heads.{BeginsWith, StandsFirst}
 
 -- whether a character of a pattern stands for a folded one of a name
 abbrev pub stands_for_folded : ℕ → ℕ → Bool
 stands_for_folded p c = (p == 63) || (simple_fold p == c)
 
 -- whether a name begins with a character that one of the pattern stands for, and its rest passes a test
-abbrev pub one_by : (ℕ → ℕ → Bool) → ℕ → (List ℕ → Bool) → List ℕ → Bool
-one_by stands p test [] = false
-one_by stands p test (c ∷ cs) = stands p c && test cs
+abbrev pub one_folded_then : ℕ → (List ℕ → Bool) → List ℕ → Bool
+one_folded_then p test [] = false
+one_folded_then p test (c ∷ cs) = stands_for_folded p c && test cs
 
 -- whether a folded name matches
 abbrev pub matches_folded : List ℕ → List ℕ → Bool
 matches_folded [] [] = true
 matches_folded [] (c ∷ cs) = false
-matches_folded (p ∷ ps) cs =
-    if p == 42 then some_end (matches_folded ps) cs else one_by stands_for_folded p (matches_folded ps) cs
+matches_folded (p ∷ ps) cs = if p == 42 then some_end (matches_folded ps) cs else one_folded_then p (matches_folded ps) cs
 
 -- whether it matches a pattern's text
 abbrev pub pattern_matches_folded : List ℕ → List ℕ → Bool
@@ -33,11 +28,3 @@ pattern_matches_folded name pattern = matches_folded (chars (meant pattern)) nam
 abbrev pub in_group_folded : GroupRow → List ℕ → Bool
 in_group_folded group name =
     list_any (pattern_matches_folded name) group.members && not (list_any (pattern_matches_folded name) group.non_members)
-
--- what was found at the front of a pattern and of a folded name
-abbrev pub AreFoldedHeads : List ℕ → List ℕ → FoldedHeads → Type 0
-AreFoldedHeads pattern name (Star after) = BeginsWith pattern 42 after.now
-AreFoldedHeads pattern name (One after rest) =
-    StandsFirst stands_for_folded (chars pattern) name (chars after.now) rest.now × IsUtf8 after.now
-AreFoldedHeads pattern name Ended = (chars pattern ≡ []) × (name ≡ [])
-AreFoldedHeads pattern name Apart = matches_folded (chars pattern) name ≡ false

@@ -1,4 +1,4 @@
-pub mod Heads
 pub mod Folded
+pub mod Heads
 pub mod Kept
 pub mod Faults

@@ -206,12 +206,12 @@ impl Groups {
     }
 
     /// Whether a name that was folded once is in a group that is there. It takes no memory.
-    pub fn has(&self, group: u32, name: &FoldedName) -> bool
+    pub fn has_folded(&self, group: u32, name: &FoldedName) -> bool
         requires { has_row group_number group self.now ≡ true }
         ensures { (text : Items ℕ) → folded text ≡ name.now → result ≡ in_group_of self.now group text }
     {
         let place = search::<ByNumber>(&self.groups, group).unwrap();
-        rows::has(&self.groups[place], name)
+        rows::is_in(&self.groups[place], name.characters())
     }
 
     /// The bytes of all names and patterns.

@@ -5,13 +5,12 @@ ghost use Rattle.std.specs.List.{list_all, list_any};
 ghost use Rattle.std.specs.Option.{option_copied};
 ghost use Rattle.fsrm_base.specs.Keyed.{least_free};
 ghost use Rattle.fsrm_model.specs.Limits.{most_groups};
-ghost use Rattle.fsrm_model.specs.Patterns.{group_number, in_group, is_group, is_pattern, number_named, pattern_matches, regrouped};
+ghost use Rattle.fsrm_model.specs.Patterns.{group_number, is_group, is_pattern, number_named, regrouped};
 ghost use Rattle.fsrm_model.specs.Texts.{group_bytes, texts_bytes};
 ghost use Rattle.file_groups.specs.Folded.{in_group_folded, pattern_matches_folded};
 ghost use Rattle.file_groups.specs.Kept.{AreMembers, AreNonMembers};
 
-use crate::folded::FoldedName;
-use crate::matching::matches;
+use crate::matching::{Rest, matches};
 use crate::pattern::Pattern;
 use fsrm_base::places::Key;
 use fsrm_base::room::{left_of_text, left_of_texts};
@@ -60,30 +59,14 @@ pub fn find(groups: &[GroupRow], name: &str) -> Option<u32>
 }
 
 /// Whether a name is in a group.
-pub fn is_in(group: &GroupRow, name: &str) -> bool
-    ensures { result ≡ in_group group.now name.now }
+pub fn is_in<N: Rest>(group: &GroupRow, name: N) -> bool
+    ensures { result ≡ in_group_folded group.now (N.characters name) }
 {
     some_matches(&group.members, name) && !some_matches(&group.non_members, name)
 }
 
-/// Whether a name that was folded once is in a group.
-pub fn has(group: &GroupRow, name: &FoldedName) -> bool
-    ensures { result ≡ in_group_folded group.now name.now }
-{
-    has_match(&group.members, name) && !has_match(&group.non_members, name)
-}
-
-fn has_match(patterns: &List<Text>, name: &FoldedName) -> bool
-    ensures { result ≡ list_any (pattern_matches_folded name.now) patterns.now }
-{
-    patterns
-        .as_slice()
-        .iter()
-        .any(|pattern| name.matches(pattern.as_str()))
-}
-
-fn some_matches(patterns: &List<Text>, name: &str) -> bool
-    ensures { result ≡ list_any (pattern_matches name.now) patterns.now }
+fn some_matches<N: Rest>(patterns: &List<Text>, name: N) -> bool
+    ensures { result ≡ list_any (pattern_matches_folded (N.characters name)) patterns.now }
 {
     patterns
         .as_slice()

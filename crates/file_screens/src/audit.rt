@@ -16,6 +16,7 @@ use std::marker::Model;
 /// An entry of the audit log, lent. Its numbers are as they were then.
 #[derive(Clone, Copy)]
 pub struct AuditView<'a> {
+    /// In seconds since 1970-01-01 00:00:00 UTC.
     pub moment: u64,
     /// Whether the screen refused the name.
     pub active: bool,
@@ -25,6 +26,7 @@ pub struct AuditView<'a> {
     pub folder: u32,
     /// The screen's folder.
     pub screen: u32,
+    /// The name, as it was spelled.
     pub name: &'a str,
 }
 
@@ -106,7 +108,8 @@ impl Audit {
         Ok(Audit { log })
     }
 
-    /// Adds an entry. Into a full log it comes in place of the oldest one. It takes no memory.
+    /// Adds an entry of a moment, in seconds since 1970-01-01 00:00:00 UTC, and a name of at most 255 bytes. Into a full log
+    /// it comes in place of the oldest one. It takes no memory.
     pub fn push(
         &mut self,
         moment: u64,

@@ -24,7 +24,7 @@ fn is_in_some(groups: &Groups, numbers: &List<u32>, name: &FoldedName) -> bool
     ensures { (text : Items ℕ) → folded text ≡ name.now → result ≡ in_groups groups.now numbers.now text }
 {
     for number in numbers.as_slice() {
-        if groups.has(*number, name) {
+        if groups.has_folded(*number, name) {
             return true;
         }
     }
@@ -149,7 +149,7 @@ fn climb<L: Ledger>(
 /// The screen that judges a name which a file is given in a folder: the nearest active one that applies, else the nearest
 /// passive one. A screen applies, on the way from the folder up to the root, to a name that is in one of its groups, unless
 /// an exception nearer to the folder than the screen has the name in one of its groups. None exactly if none applies. It
-/// takes no memory.
+/// takes at most one look for each folder on the way, and no memory.
 pub fn blocked<L: Ledger>(
     tree: &Tree,
     objects: &Objects,
@@ -163,7 +163,7 @@ pub fn blocked<L: Ledger>(
     requires named { is_name name.now ≡ true }
     requires known { are_known groups.now objects.now ≡ true }
     ensures judged { result ≡ option_map told (judging (screened_rows tree.now.nodes groups.now objects.now) folder name.now) }
-    ensures looks { steps.new ≤ steps.old + 2 * length (chain tree.now.nodes folder) }
+    ensures looks { steps.new ≤ steps.old + length (chain tree.now.nodes folder) }
 {
     if objects.screen_count() == 0 {
         return None;

@@ -3,4 +3,3 @@ pub mod WholeLaws
 pub mod ActLaws
 pub mod PlaceLaws
 pub mod ScanSteps
-pub mod KindLaws

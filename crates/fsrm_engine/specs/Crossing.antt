@@ -1,33 +1,26 @@
 -- Which quotas cross a threshold when folders gain bytes, and the acts that are due then.
 use Rattle.std.specs.Prelude.{◌≡◌, ℕ, ◌+◌, ◌-◌, ◌<◌, ◌≤◌, ◌^◌, ◌==◌, ◌||◌, ◌&&◌, not, min, Bool, true, false, List, [], flat_map, slice_get, Option, Some, None, option_map, if◌then◌else◌}
-use Rattle.std.specs.List.{list_any}
 use Rattle.std.specs.Option.{option_map_or}
 use Rattle.fsrm_base.specs.Numbers.{is_in, is_set}
 use Rattle.fsrm_model.specs.declared.command.Act.{Act}
 use Rattle.fsrm_model.specs.declared.row.NodeRow.{NodeRow}
 use Rattle.fsrm_model.specs.declared.row.QuotaRow.{QuotaRow}
 use Rattle.fsrm_model.specs.DueActions.{quota_acts}
-use Rattle.fsrm_model.specs.Reached.{reaches}
 use Rattle.number_set.specs.Numbers.{Numbers}
 use Rattle.quota_usage.specs.declared.change.Change.{Change}
 use Rattle.quota_usage.specs.declared.change.Counter.{Counter}
 use Rattle.quota_usage.specs.Charge.{is_above}
 use Rattle.quota_usage.specs.Counters.{used_in}
-use Rattle.thresholds.specs.Settled.{crosses}
+use Rattle.thresholds.specs.Settled.{crosses, crosses_any}
 
 -- what was used before bytes were taken and others given; it fitted 64 bits
 abbrev pub used_before : ℕ → ℕ → ℕ → ℕ
 used_before minus plus now = min (now - plus + minus) (2 ^ 64 - 1)
 
--- whether a quota that used so much before and uses so much now crosses one of its thresholds
-abbrev pub crosses_some : QuotaRow → ℕ → ℕ → Bool
-crosses_some quota before now =
-    list_any (λ threshold. reaches quota.limit threshold.percent (Some now) && not (reaches quota.limit threshold.percent (Some before))) quota.thresholds
-
--- the same by its counter
+-- whether a quota that lost bytes and then gained others crosses one of its thresholds, by its counter
 abbrev pub is_crossing : List Counter → ℕ → ℕ → QuotaRow → Bool
 is_crossing counters minus plus quota =
-    option_map_or (λ now. crosses_some quota (used_before minus plus now) now) (used_in counters quota.folder) false
+    option_map_or (λ now. crosses_any quota (used_before minus plus now) now) (used_in counters quota.folder) false
 
 -- beside the places that were noted, those are of the quotas that pass a test; or of these only those that don't
 pub record Notes (old new : Numbers) (quotas : List QuotaRow) (passes : QuotaRow → Bool) : Type 0 where

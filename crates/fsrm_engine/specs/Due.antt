@@ -1,5 +1,5 @@
 -- The acts that commands make due, as the engine finds them, and what is left when they ran.
-use Rattle.std.specs.Prelude.{◌≡◌, ℕ, ◌==◌, ◌&&◌, not, Bool, true, false, List, [], ◌∷◌, map, None, unwrap_or}
+use Rattle.std.specs.Prelude.{◌≡◌, ℕ, ◌==◌, ◌&&◌, not, Bool, true, false, List, [], ◌∷◌, map, Some, None}
 use Rattle.std.specs.Option.{option_map_or}
 use Rattle.fsrm_base.specs.Keyed.{with_change}
 use Rattle.fsrm_model.specs.declared.command.Act.{Act}
@@ -14,8 +14,8 @@ use Rattle.fsrm_model.specs.Tree.{is_under}
 use Rattle.quota_usage.specs.declared.change.Change.{Change}
 use Rattle.quota_usage.specs.declared.change.Exceeded.{Exceeded}
 use Rattle.quota_usage.specs.Counters.{used_in}
-use Rattle.scan_queue.specs.Courses.{Course, Turns}
-use Rattle.thresholds.specs.Settled.{due_in, refused_in}
+use Rattle.rescan.specs.Courses.{Course, Turns}
+use Rattle.thresholds.specs.Settled.{due_in}
 use Rattle.fsrm_engine.specs.declared.parts.Parts.{Parts}
 use Rattle.fsrm_engine.specs.Crossing.{counted_acts}
 use Rattle.fsrm_engine.specs.Faults.{exceeded_refusal, refused_answer}
@@ -32,10 +32,10 @@ charged_acts parts change moment =
     let charged = charged_parts parts change moment in
     counted_acts parts.usage charged.usage parts.run_limit moment charged.objects.quotas
 
--- the acts that are due when a quota refuses
+-- the acts that are due when a quota refuses: that would be due if it used what it refuses
 abbrev pub refused_acts : Parts → Exceeded → ℕ → List Act
 refused_acts parts exceeded moment =
-    refused_in parts.objects exceeded.would (unwrap_or (used_in parts.usage exceeded.folder) 0) parts.run_limit moment exceeded.folder
+    due_in parts.objects None (used_in parts.usage exceeded.folder) (Some exceeded.would) parts.run_limit moment exceeded.folder
 
 -- what a refusal leaves: nothing, or, if acts ran, that
 abbrev pub LeavesActs : List Act → Parts → Parts → Parts → ℕ → Exceeded → Answer → Type 0

@@ -1,5 +1,6 @@
 -- Faults of the tree and of the tables as refusals of a command.
-use Rattle.std.specs.Prelude.{ℕ, ◌+◌, ◌-◌, false, Option, Some, None, option_map}
+use Rattle.std.specs.Prelude.{ℕ, ◌+◌, ◌-◌, false, not, List, [], ◌∷◌, Option, Some, None, option_map}
+use Rattle.std.specs.Option.{option_and_then}
 use Rattle.file_groups.specs.declared.answer.GroupFault.{GroupFault}
 use Rattle.file_groups.specs.declared.answer.GroupFault.TheVariants as group
 use Rattle.file_groups.specs.Kept.{group_texts}
@@ -7,7 +8,11 @@ use Rattle.fsrm_model.specs.declared.command.Answer.{Answer}
 use Rattle.fsrm_model.specs.declared.command.Outcome.TheVariants.{Refused}
 use Rattle.fsrm_model.specs.declared.command.Refusal.{Refusal}
 use Rattle.fsrm_model.specs.declared.command.Refusal.TheVariants as refusal
+use Rattle.fsrm_model.specs.Check.{◌when◌, first}
+use Rattle.fsrm_model.specs.FileOps.{target_folder}
+use Rattle.fsrm_model.specs.Leads.{is_root, leads_to_folder}
 use Rattle.fsrm_model.specs.Limits.{most_text_bytes}
+use Rattle.fsrm_model.specs.Tree.{folder_part, last_name}
 use Rattle.fsrm_objects.specs.declared.answer.ObjectFault.{ObjectFault}
 use Rattle.fsrm_objects.specs.declared.answer.ObjectFault.TheVariants as object
 use Rattle.fsrm_objects.specs.Tables.{texts_in}
@@ -16,6 +21,7 @@ use Rattle.quota_usage.specs.declared.change.Exceeded.{Exceeded}
 use Rattle.quota_usage.specs.Charge.{exceeded_by}
 use Rattle.volume_tree.specs.declared.answer.TreeFault.{TreeFault}
 use Rattle.volume_tree.specs.declared.answer.TreeFault.TheVariants.{AlreadyExists, InvalidMove, NotEmpty, VolumeFull, NamesFull, NoMemory}
+use Rattle.volume_tree.specs.Volume.{Volume, new_fault}
 use Rattle.fsrm_engine.specs.declared.parts.Parts.{Parts}
 
 -- a lack of memory is no refusal
@@ -34,6 +40,13 @@ refused_answer refusal = record { outcome = Refused refusal; lasting = false }
 -- the answer if the tree refused
 abbrev pub answer_of : TreeFault → Option Answer
 answer_of fault = option_map refused_answer (refusal_of fault)
+
+-- why no node can be made at a path: it names no place, or the tree can't hold the node there
+abbrev pub new_refusal : Volume → List (List ℕ) → Option Refusal
+new_refusal v path =
+    first ((refusal.AlreadyExists when is_root path)
+    ∷ (refusal.PathNotFound when not (leads_to_folder v.nodes (folder_part path)))
+    ∷ option_and_then refusal_of (new_fault v (target_folder v.nodes path) (last_name path)) ∷ [])
 
 -- ---- the same of the tables
 abbrev pub table_refusal : ObjectFault → Option Refusal

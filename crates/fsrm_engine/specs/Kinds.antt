@@ -1,7 +1,7 @@
 -- Which objects commands are about.
 use Rattle.std.specs.Prelude.{Bool, true, false}
 use Rattle.fsrm_model.specs.declared.command.Deed.{Deed}
-use Rattle.fsrm_model.specs.declared.command.Deed.TheVariants.{QuotaAdd, QuotaModify, QuotaDelete, QuotaScan, QuotaResetpeak, QuotaList, FilegroupAdd, FilegroupModify, FilegroupDelete, FilegroupList, ScreenAdd, ScreenModify, ScreenDelete, ScreenList, ExceptionAdd, ExceptionDelete, ExceptionList}
+use Rattle.fsrm_model.specs.declared.command.Deed.TheVariants.{File, Usage, Step, AdminOptions, AdminList, AdminLog, FilegroupAdd, FilegroupModify, FilegroupDelete, FilegroupList, ScreenAdd, ScreenModify, ScreenDelete, ScreenList, ExceptionAdd, ExceptionDelete, ExceptionList}
 
 -- screens and exceptions
 abbrev pub is_of_screens : Deed → Bool
@@ -22,12 +22,12 @@ is_of_groups (FilegroupDelete name) = true
 is_of_groups FilegroupList = true
 is_of_groups other = is_of_screens other
 
--- the same, or quotas
+-- neither file operations nor what is asked of the service as a whole, so quotas, file groups, screens or exceptions
 abbrev pub is_of_objects : Deed → Bool
-is_of_objects (QuotaAdd path limit enforce enabled template percents notices) = true
-is_of_objects (QuotaModify path limit enforce enabled removed percents notices) = true
-is_of_objects (QuotaDelete path) = true
-is_of_objects (QuotaScan path) = true
-is_of_objects (QuotaResetpeak path) = true
-is_of_objects (QuotaList path) = true
-is_of_objects other = is_of_groups other
+is_of_objects (File op) = false
+is_of_objects (Usage path) = false
+is_of_objects (Step n) = false
+is_of_objects (AdminOptions run_limit) = false
+is_of_objects AdminList = false
+is_of_objects AdminLog = false
+is_of_objects other = true

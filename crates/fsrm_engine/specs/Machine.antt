@@ -22,7 +22,7 @@ use Rattle.number_set.specs.Numbers.{no_numbers}
 use Rattle.quota_usage.specs.declared.change.Change.{Change}
 use Rattle.quota_usage.specs.declared.change.Counter.{Counter}
 use Rattle.quota_usage.specs.Charge.{charged_counter}
-use Rattle.scan_queue.specs.Courses.{Scanning, Turns, left}
+use Rattle.rescan.specs.Courses.{Scanning, Turns, left}
 use Rattle.thresholds.specs.Marked.{waiting, are_there, all_waiting, screen_waiting, are_screen_acts}
 use Rattle.thresholds.specs.Settled.{Settles}
 use Rattle.fsrm_engine.specs.declared.parts.Parts.{Parts}

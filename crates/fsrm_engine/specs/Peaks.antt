@@ -7,10 +7,13 @@ use Rattle.quota_usage.specs.declared.change.Counter.{Counter}
 use Rattle.quota_usage.specs.Charge.{is_above}
 use Rattle.quota_usage.specs.Counters.{used_in}
 
--- a quota whose counter is greater than its peak has it as its new peak
+-- a quota of which more is used than its peak has that as its new peak
+abbrev pub raised_to : ℕ → ℕ → QuotaRow → QuotaRow
+raised_to used moment quota = if nat_lt quota.peak used then record quota { peak = used; peak_at = moment } else quota
+
+-- the same by its counter, if it has one
 abbrev pub raised : List Counter → ℕ → QuotaRow → QuotaRow
-raised counters moment quota =
-    option_map_or (λ used. if nat_lt quota.peak used then record quota { peak = used; peak_at = moment } else quota) (used_in counters quota.folder) quota
+raised counters moment quota = option_map_or (λ used. raised_to used moment quota) (used_in counters quota.folder) quota
 
 -- the same of a quota at or above a folder, if there is one
 abbrev pub raised_above : List NodeRow → Option ℕ → List Counter → ℕ → QuotaRow → QuotaRow

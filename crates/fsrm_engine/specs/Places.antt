@@ -12,7 +12,7 @@ use Rattle.fsrm_model.specs.Leads.{is_root, leads_to_folder, leads_to_file}
 use Rattle.fsrm_model.specs.Name.{is_name}
 use Rattle.fsrm_model.specs.Tree.{number, resolve, is_folder, folder_part, last_name, usage}
 use Rattle.node_table.specs.declared.view.NodeView.{NodeView}
-use Rattle.volume_tree.specs.Volume.{Shows}
+use Rattle.volume_tree.specs.Volume.{Volume, Shows, new_fault}
 
 -- a folder, and the name that a path gives in it
 pub record IsPlace (nodes : List NodeRow) (path : List (List ℕ)) (folder : ℕ) (name : List ℕ) : Type 0 where
@@ -21,6 +21,11 @@ pub record IsPlace (nodes : List NodeRow) (path : List (List ℕ)) (folder : ℕ
   pub folder_is : is_folder nodes folder ≡ true
   pub name_is : last_name path ≡ name
   pub valid : is_name name ≡ true
+
+-- a place where a node can be made
+pub record IsVacant (v : Volume) (path : List (List ℕ)) (folder : ℕ) (name : List ℕ) : Type 0 where
+  pub at : IsPlace v.nodes path folder name
+  pub may : new_fault v folder name ≡ None
 
 -- why a path names no place: it is the root's, or its folder isn't there
 abbrev pub IsRefusedPlace : List NodeRow → List (List ℕ) → Refusal → Type 0

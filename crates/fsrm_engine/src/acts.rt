@@ -2,26 +2,30 @@
 
 ghost use Rattle.std.specs.Prelude.{◌≡◌, ◌<◌, true, false, length, slice_get};
 ghost use Rattle.std.specs.Option.{option_copied, option_map_or};
-ghost use Rattle.fsrm_base.specs.Keyed.{row_of};
+ghost use Rattle.fsrm_base.specs.Keyed.{is_ascending, row_of};
 ghost use Rattle.fsrm_model.specs.Acts.{is_of_quota};
 ghost use Rattle.fsrm_model.specs.Thresholds.{actions_at, percent_of};
+ghost use Rattle.thresholds.specs.Settled.{are_orderly};
 ghost use Rattle.fsrm_engine.specs.Acts.{text_in, IsActOf};
 
 use fsrm_model::{Act, Subject, Threshold};
-use fsrm_objects::Objects;
+use fsrm_objects::{Objects, threshold_place};
 
 // The threshold of a percentage.
 fn threshold_of(thresholds: &[Threshold], percent: u16) -> Option<&Threshold>
+    requires { is_ascending percent_of thresholds.now ≡ true }
     ensures { option_copied result ≡ row_of percent_of percent thresholds.now }
 {
-    thresholds
-        .iter()
-        .find(|threshold| threshold.percent == percent)
+    match threshold_place(thresholds, percent) {
+        Ok(place) => Some(&thresholds[place]),
+        Err(_) => None,
+    }
 }
 
 // The text of the action that an act of a quota names.
 fn quota_text<'a>(objects: &'a Objects, act: &Act) -> &'a str
     requires quota { is_of_quota act.now.subject ≡ true }
+    requires orderly { are_orderly objects.now.quotas ≡ true }
     requires there { IsActOf objects.now act.now }
     ensures { result.now ≡ text_in objects.now act.now }
 {
@@ -44,7 +48,8 @@ fn screen_text<'a>(objects: &'a Objects, act: &Act) -> &'a str
 
 /// The text of the action that an act names.
 pub fn text_of<'a>(objects: &'a Objects, act: &Act) -> &'a str
-    requires { IsActOf objects.now act.now }
+    requires orderly { are_orderly objects.now.quotas ≡ true }
+    requires there { IsActOf objects.now act.now }
     ensures { result.now ≡ text_in objects.now act.now }
 {
     match act.subject {

@@ -3,21 +3,33 @@
 ghost use Rattle.std.specs.Prelude.{◌≡◌, ◌+◌, ◌<◌, ◌≤◌, ◌==◌, ◌&&◌, true, map, length, if◌then◌else◌};
 ghost use Rattle.fsrm_base.specs.Numbers.{with_number};
 ghost use Rattle.fsrm_base.specs.Keyed.{has_row, is_ascending, with_change};
+ghost use Rattle.fsrm_base.specs.Places.{IsAt};
 ghost use Rattle.fsrm_model.specs.Limits.{most_quotas};
 ghost use Rattle.fsrm_model.specs.Quota.{folder_of};
 ghost use Rattle.fsrm_model.specs.Tree.{number as key, chain, is_under};
 ghost use Rattle.fsrm_model.specs.Valid.{IsVolume};
 ghost use Rattle.fsrm_objects.specs.Tables.{without_quota};
 ghost use Rattle.quota_usage.specs.Counters.{without_counter};
-ghost use Rattle.fsrm_engine.specs.Crossing.{crosses_some, is_crossing, used_before, Drops, Notes};
-ghost use Rattle.fsrm_engine.specs.Peaks.{raised};
+ghost use Rattle.fsrm_engine.specs.Crossing.{is_crossing, used_before, Drops, Notes};
+ghost use Rattle.fsrm_engine.specs.Peaks.{raised, raised_to};
 
-use fsrm_model::{Ledger, QuotaRow, Steps};
+use fsrm_model::{Ledger, Steps};
 use fsrm_objects::Objects;
 use number_set::NumberSet;
 use quota_usage::Usage;
-use thresholds::reached;
+use thresholds::crosses_any;
 use volume_tree::Tree;
+
+// Raises the peak of a folder's quota, which is found at a place, to what is used, if that is more.
+fn raise_to(objects: &mut Objects, folder: u32, place: u32, used: u64, moment: u64)
+    requires ascending { is_ascending folder_of objects.old.quotas ≡ true }
+    requires at { IsAt folder_of folder objects.old.quotas place }
+    ensures { objects.new ≡ record objects.old { quotas = with_change folder_of folder (raised_to used moment) objects.old.quotas } }
+{
+    if objects.quota_at(place).peak < used {
+        objects.set_peak(folder, used, moment);
+    }
+}
 
 /// Raises the peak of a folder's quota to what is used, if that is more.
 pub fn raise_peak(usage: &Usage, objects: &mut Objects, folder: u32, moment: u64)
@@ -27,22 +39,10 @@ pub fn raise_peak(usage: &Usage, objects: &mut Objects, folder: u32, moment: u64
     let Some(used) = usage.used(folder) else {
         return;
     };
-    let Some(quota) = objects.quota(folder) else {
+    let Some(place) = objects.quota_place(folder) else {
         return;
     };
-    if quota.peak < used {
-        objects.set_peak(folder, used, moment);
-    }
-}
-
-// Whether a quota that used so much before and uses so much now crosses one of its thresholds.
-fn crosses_some(quota: &QuotaRow, before: u64, now: u64) -> bool
-    ensures { result ≡ crosses_some quota.now before now }
-{
-    quota.thresholds.as_slice().iter().any(|threshold| {
-        reached(quota.limit, threshold.percent, Some(now))
-            && !reached(quota.limit, threshold.percent, Some(before))
-    })
+    raise_to(objects, folder, place, used, moment);
 }
 
 /// What was used before `minus` bytes were taken, and then `plus` were given.
@@ -84,12 +84,10 @@ fn gain(
     let Some(place) = objects.quota_place(folder) else {
         return;
     };
-    let quota = objects.quota_at(place);
-    let crosses = crosses_some(quota, used_before(minus, plus, now), now);
+    let before = used_before(minus, plus, now);
+    let crosses = crosses_any(objects.quota_at(place), before, now);
     note_if(crossing, place, crosses);
-    if quota.peak < now {
-        objects.set_peak(folder, now, moment);
-    }
+    raise_to(objects, folder, place, now, moment);
 }
 
 /// The same of a folder and each above it.

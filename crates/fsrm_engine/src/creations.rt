@@ -1,20 +1,45 @@
 //! Folders and files that are made.
 
-ghost use Rattle.std.specs.Prelude.{◌≡◌, ◌+◌, ◌≤◌, IfOk, OnErr};
+ghost use Rattle.std.specs.Prelude.{◌≡◌, ◌+◌, ◌*◌, ◌≤◌, length, IfErr, IfOk, OnErr, Some};
 ghost use Rattle.fsrm_model.specs.declared.command.Deed.TheVariants.{File};
 ghost use Rattle.fsrm_model.specs.declared.command.FileOp.TheVariants.{Mkdir, Create};
 ghost use Rattle.fsrm_model.specs.Cost.{deed_cost};
 ghost use Rattle.fsrm_model.specs.Limits.{latest_moment, longest_file};
+ghost use Rattle.fsrm_model.specs.Valid.{IsVolume};
+ghost use Rattle.fsrm_engine.specs.Faults.{new_refusal};
 ghost use Rattle.fsrm_engine.specs.Machine.{Does, IsIdle, IsSound, IsWhole, rows_of};
+ghost use Rattle.fsrm_engine.specs.Places.{IsVacant};
 
-use crate::exits::{refused, refused_by};
+use crate::exits::{refusal_of, refused};
 use crate::parts::Parts;
-use crate::places::place_at;
+use crate::places::{Place, place_at};
 use crate::screening::blocking;
-use fsrm_model::{Answer, Ledger, NoMemory, Path, Steps};
+use fsrm_model::{Answer, Ledger, NoMemory, Path, Refusal, Steps};
 use quota_usage::Change;
+use volume_tree::Finger;
 
 impl Parts {
+    // Where a node may be made: its place, and where the tree is to put it. Or why none can be made at this path.
+    fn vacancy_at<'a, L: Ledger>(
+        &self,
+        path: &'a Path,
+        steps: &mut Steps<L>,
+    ) -> Result<(Place<'a>, Finger), Refusal>
+        requires { IsVolume self.now.tree.size self.now.tree.nodes }
+        ensures ok { IfOk result (λ found. IsVacant self.now.tree path.now found.0.folder found.0.name.now) }
+        ensures err { IfErr result (λ refusal. new_refusal self.now.tree path.now ≡ Some refusal) }
+        ensures looks { steps.new ≤ steps.old + (22 * length path.now + 23) }
+    {
+        let place = match place_at(&self.tree, path, steps) {
+            Ok(place) => place,
+            Err(refusal) => return Err(refusal),
+        };
+        match self.tree.may_create(place.folder, place.name, steps) {
+            Ok(finger) => Ok((place, finger)),
+            Err(fault) => Err(refusal_of(fault).unwrap()),
+        }
+    }
+
     /// Makes a folder.
     pub(crate) fn mkdir<L: Ledger>(
         &mut self,
@@ -33,13 +58,9 @@ impl Parts {
         ensures sound { IsSound self.new }
         ensures looks { steps.new ≤ steps.old + deed_cost (rows_of self.old) (File (Mkdir path.now owner)) }
     {
-        let place = match place_at(&self.tree, path, steps) {
-            Ok(place) => place,
+        let (place, vacancy) = match self.vacancy_at(path, steps) {
+            Ok(found) => found,
             Err(refusal) => return Ok(refused(refusal)),
-        };
-        let vacancy = match self.tree.may_create(place.folder, place.name, steps) {
-            Ok(vacancy) => vacancy,
-            Err(fault) => return refused_by(fault),
         };
         let node = self
             .tree
@@ -68,13 +89,9 @@ impl Parts {
         ensures sound { IsSound self.new }
         ensures looks { steps.new ≤ steps.old + deed_cost (rows_of self.old) (File (Create path.now length owner)) }
     {
-        let place = match place_at(&self.tree, path, steps) {
-            Ok(place) => place,
+        let (place, vacancy) = match self.vacancy_at(path, steps) {
+            Ok(found) => found,
             Err(refusal) => return Ok(refused(refusal)),
-        };
-        let vacancy = match self.tree.may_create(place.folder, place.name, steps) {
-            Ok(vacancy) => vacancy,
-            Err(fault) => return refused_by(fault),
         };
         let judged = self.judge(place.folder, place.name, steps);
         if let Some(active) = blocking(judged) {
@@ -99,8 +116,6 @@ impl Parts {
             steps,
         )?;
         self.scans.follow_create(&self.tree, node, length, steps);
-        self.report(judged, owner, place.folder, place.name, moment);
-        self.charge(&change, moment, steps);
-        Ok(self.done_under(judged, moment))
+        Ok(self.end_named(judged, owner, place, &change, moment, steps))
     }
 }

@@ -1,6 +1,6 @@
 //! The actions of thresholds that a command makes due: they run, and wait to be handed out.
 
-ghost use Rattle.std.specs.Prelude.{◌≡◌, ℕ, ◌+◌, ◌*◌, ◌<◌, ◌≤◌, true, is_some, length};
+ghost use Rattle.std.specs.Prelude.{◌≡◌, ℕ, ◌+◌, ◌*◌, ◌<◌, ◌≤◌, true, length};
 ghost use Rattle.std.specs.Option.{option_copied};
 ghost use Rattle.fsrm_base.specs.Keyed.{has_row};
 ghost use Rattle.fsrm_base.specs.Numbers.{is_in, is_set};
@@ -13,7 +13,7 @@ ghost use Rattle.quota_usage.specs.Counters.{used_in};
 ghost use Rattle.thresholds.specs.Marked.{are_there};
 ghost use Rattle.thresholds.specs.Settled.{Settles, are_orderly, due_in};
 ghost use Rattle.fsrm_engine.specs.Crossing.{acts_at, gained_acts, lost_by, Drops, IsCovered};
-ghost use Rattle.fsrm_engine.specs.Due.{charged_acts, is_kept, refused_acts, Refuses};
+ghost use Rattle.fsrm_engine.specs.Due.{charged_acts, is_kept, Refuses};
 ghost use Rattle.fsrm_engine.specs.Machine.{charged_parts, AreCounted, IsCalm, IsIdle, Ran};
 
 use crate::charging::{drop_above, raise_above, used_before};
@@ -57,8 +57,7 @@ fn settle_noted(
     ensures sorted { is_set marks.new.numbers ≡ true }
     ensures none { crossing.new ≡ no_numbers crossing.old.bound }
 {
-    while let Some(place) = crossing.least() {
-        crossing.remove(place);
+    while let Some(place) = crossing.take_least() {
         let folder = objects.quota_at(place).folder;
         let used = usage.used(folder);
         let before = used.map(|now| used_before(minus, plus, now));
@@ -67,7 +66,7 @@ fn settle_noted(
 }
 
 impl Parts {
-    // A quota uses as much as before if a change gave it what it took from it: it is noted no longer.
+    // Takes out of the noted quotas those to which a change gives what it takes from them: they use as much as before.
     fn drop_kept<L: Ledger>(&mut self, change: &Change, to: u32, steps: &mut Steps<L>)
         requires volume { IsVolume self.old.tree.size self.old.tree.nodes }
         requires change { IsChange self.old.tree.nodes change.now }
@@ -128,6 +127,34 @@ impl Parts {
         );
     }
 
+    // Has the actions of a folder's quota run that are due once it uses so much, where it used so much before; None is used
+    // if it doesn't count. `before` is the row as it was; None says that its limit and thresholds stayed.
+    fn settle_used(
+        &mut self,
+        folder: u32,
+        before: Option<&QuotaRow>,
+        used: Option<u64>,
+        now: Option<u64>,
+        moment: u64,
+    )
+        requires counted { AreCounted self.old }
+        requires there { has_row folder_of folder self.old.objects.quotas ≡ true }
+        requires idle { IsIdle self.old }
+        requires moment { moment ≤ latest_moment }
+        ensures settled { Ran self.old self.new moment (due_in self.old.objects (option_copied before.entry) used now self.old.run_limit moment folder) }
+        ensures counted { AreCounted self.new }
+    {
+        self.marks.settle(
+            &mut self.objects,
+            folder,
+            before,
+            used,
+            now,
+            self.run_limit,
+            moment,
+        );
+    }
+
     /// Has the actions of a folder's quota run that are due, since a command changed its row, or what it uses. `before` is
     /// the row as it was; None says that its limit and thresholds stayed. What it used is None if it didn't count.
     pub(crate) fn settle_quota(
@@ -145,51 +172,22 @@ impl Parts {
         ensures counted { AreCounted self.new }
     {
         let now = self.usage.used(folder);
-        self.marks.settle(
-            &mut self.objects,
-            folder,
-            before,
-            used,
-            now,
-            self.run_limit,
-            moment,
-        );
+        self.settle_used(folder, before, used, now, moment);
     }
 
-    // Has the actions run of the quota that refuses, of the thresholds that it would have reached.
-    fn settle_refused(&mut self, exceeded: Exceeded, moment: u64)
-        requires counted { AreCounted self.old }
-        requires there { has_row folder_of exceeded.folder self.old.objects.quotas ≡ true }
-        requires counting { is_some (used_in self.old.usage exceeded.folder) ≡ true }
-        requires idle { IsIdle self.old }
-        requires moment { moment ≤ latest_moment }
-        ensures settled { Ran self.old self.new moment (refused_acts self.old exceeded moment) }
-        ensures counted { AreCounted self.new }
-    {
-        let used = self.usage.used(exceeded.folder).unwrap();
-        self.marks.settle_refused(
-            &mut self.objects,
-            exceeded.folder,
-            exceeded.would,
-            used,
-            self.run_limit,
-            moment,
-        );
-    }
-
-    /// The answer to an operation that a quota refuses. If actions are due they run, and the command lasts; else nothing
-    /// changes.
+    /// The answer to an operation that a quota refuses. If actions are due of the thresholds that the quota would have
+    /// reached they run, and the command lasts; else nothing changes.
     pub(crate) fn refuse(&mut self, exceeded: Exceeded, moment: u64) -> Answer
         requires counted { AreCounted self.old }
         requires there { has_row folder_of exceeded.folder self.old.objects.quotas ≡ true }
-        requires counting { is_some (used_in self.old.usage exceeded.folder) ≡ true }
         requires idle { IsIdle self.old }
         requires log { length self.old.marks.log ≤ most_entries }
         requires moment { moment ≤ latest_moment }
         ensures refused { Refuses self.old self.new moment exceeded result }
         ensures counted { AreCounted self.new }
     {
-        self.settle_refused(exceeded, moment);
+        let used = self.usage.used(exceeded.folder);
+        self.settle_used(exceeded.folder, None, used, Some(exceeded.would), moment);
         let refusal = exceeded_by(exceeded);
         if self.marks.is_empty() {
             return refused(refusal);

@@ -156,7 +156,7 @@ impl Engine {
     }
 
     /// Takes a command, when no act waits: the answer is the plain machine's, and so are the rows that are left and
-    /// the acts that wait then. The nodes and quotas that it names are there. An `Err` changes nothing.
+    /// the acts that wait then. What it names is there. An `Err` changes nothing.
     pub fn apply<L: Ledger>(
         &mut self,
         alloc: Global,

@@ -2,7 +2,7 @@
 
 ghost use Rattle.std.specs.Prelude.{◌≡◌, false, IfOk, OnErr, Some, None};
 ghost use Rattle.fsrm_model.specs.declared.command.Outcome.TheVariants.{Listing};
-ghost use Rattle.fsrm_engine.specs.Faults.{answer_of, refused_answer, table_answer, group_answer, exceeded_refusal};
+ghost use Rattle.fsrm_engine.specs.Faults.{answer_of, exceeded_refusal, group_answer, refusal_of, refused_answer, table_answer};
 
 use file_groups::GroupFault;
 use fsrm_model::{Answer, Ask, NoMemory, Outcome, Refusal};
@@ -34,20 +34,29 @@ pub fn refused(refusal: Refusal) -> Answer
     passing(Outcome::Refused(refusal))
 }
 
-/// The same if the tree refused. A lack of memory is no refusal.
+/// The refusal of a command that the tree refused. A lack of memory is none.
+pub fn refusal_of(fault: TreeFault) -> Option<Refusal>
+    ensures { result ≡ refusal_of fault }
+{
+    match fault {
+        TreeFault::AlreadyExists => Some(Refusal::AlreadyExists),
+        TreeFault::InvalidMove => Some(Refusal::InvalidMove),
+        TreeFault::NotEmpty => Some(Refusal::NotEmpty),
+        TreeFault::VolumeFull => Some(Refusal::VolumeFull),
+        TreeFault::NamesFull => Some(Refusal::NamesFull),
+        TreeFault::NoMemory => None,
+    }
+}
+
+/// The answer of a command that the tree refused and that doesn't last.
 pub fn refused_by(fault: TreeFault) -> Result<Answer, NoMemory>
     ensures ok { IfOk result (λ answer. answer_of fault ≡ Some answer) }
     ensures err { OnErr result (answer_of fault ≡ None) }
 {
-    let refusal = match fault {
-        TreeFault::AlreadyExists => Refusal::AlreadyExists,
-        TreeFault::InvalidMove => Refusal::InvalidMove,
-        TreeFault::NotEmpty => Refusal::NotEmpty,
-        TreeFault::VolumeFull => Refusal::VolumeFull,
-        TreeFault::NamesFull => Refusal::NamesFull,
-        TreeFault::NoMemory => return Err(NoMemory),
-    };
-    Ok(refused(refusal))
+    match refusal_of(fault) {
+        Some(refusal) => Ok(refused(refusal)),
+        None => Err(NoMemory),
+    }
 }
 
 /// The same if the tables refused.

@@ -95,8 +95,6 @@ impl Parts {
         self.scans
             .follow_move(&self.tree, node, place.folder, steps);
         self.tree.make_move(ready, steps);
-        self.report(judged, owner, place.folder, place.name, moment);
-        self.charge(&change, moment, steps);
-        Ok(self.done_under(judged, moment))
+        Ok(self.end_named(judged, owner, place, &change, moment, steps))
     }
 }

@@ -16,7 +16,7 @@ use fsrm_model::{Answer, Capacity, Ledger, NoMemory, Outcome, Steps};
 use fsrm_objects::Objects;
 use number_set::NumberSet;
 use quota_usage::{Change, Exceeded, Usage};
-use scan_queue::Scans;
+use rescan::Scans;
 use std::alloc::Global;
 use thresholds::Marks;
 use volume_tree::Tree;

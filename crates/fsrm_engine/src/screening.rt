@@ -2,19 +2,25 @@
 //! it, and a passive one reports it.
 
 ghost use Rattle.std.specs.Prelude.{◌≡◌, ◌+◌, ◌*◌, ◌≤◌, [], length, true, false, Some, None, MatchOption, option_map, if◌then◌else◌};
+ghost use Rattle.fsrm_model.specs.declared.command.Outcome.TheVariants.{Done};
 ghost use Rattle.fsrm_model.specs.declared.row.ScreenRow.{ScreenRow};
-ghost use Rattle.fsrm_model.specs.Limits.{latest_moment, most_actions};
+ghost use Rattle.fsrm_model.specs.Limits.{latest_moment, most_actions, most_entries};
 ghost use Rattle.fsrm_model.specs.Name.{is_name};
 ghost use Rattle.fsrm_model.specs.Screens.{judging};
 ghost use Rattle.fsrm_model.specs.Tree.{chain, is_folder};
+ghost use Rattle.quota_usage.specs.Charge.{IsChange, Fits, height};
+ghost use Rattle.thresholds.specs.Settled.{are_orderly};
 ghost use Rattle.file_screens.specs.Blocked.{told};
-ghost use Rattle.fsrm_engine.specs.Machine.{AreCounted, IsWhole, rows_of};
-ghost use Rattle.fsrm_engine.specs.Reporting.{Reports, is_active, name_under, screen_told};
+ghost use Rattle.fsrm_engine.specs.Crossing.{IsCovered};
+ghost use Rattle.fsrm_engine.specs.Machine.{charged_parts, AreCounted, IsIdle, IsWhole, rows_of};
+ghost use Rattle.fsrm_engine.specs.Reporting.{EndsNamed, Reports, is_active, name_under, screen_told};
 ghost use Rattle.fsrm_engine.specs.Screening.{Blocks, NotesName, judged_screen};
 
 use crate::parts::Parts;
+use crate::places::Place;
 use file_screens::{Blocked, blocked};
 use fsrm_model::{Answer, Ledger, Outcome, Refusal, Steps};
+use quota_usage::Change;
 
 /// The screen that judges a name, if it blocks the name.
 pub fn blocking(judged: Option<Blocked>) -> Option<Blocked>
@@ -43,7 +49,7 @@ impl Parts {
         blocked(&self.tree, &self.objects, &self.groups, folder, name, steps)
     }
 
-    /// The same of the new name of what moves: none judges a folder's.
+    /// The screen that judges the new name of a node that moves; none if that is a folder.
     pub(crate) fn judge_moved<L: Ledger>(
         &self,
         moves_folder: bool,
@@ -78,15 +84,8 @@ impl Parts {
             .settle_screen(&mut self.objects, judged.screen, self.run_limit, moment);
     }
 
-    /// Notes the name of a file operation that is done, if a passive screen judges it.
-    pub(crate) fn report(
-        &mut self,
-        judged: Option<Blocked>,
-        owner: u32,
-        folder: u32,
-        name: &str,
-        moment: u64,
-    )
+    // Notes the name of a file operation that is done, if a passive screen judges it.
+    fn report(&mut self, judged: Option<Blocked>, owner: u32, folder: u32, name: &str, moment: u64)
         requires there { option_map told (screen_told self.old judged) ≡ judged }
         requires few { (screen : ScreenRow) → screen_told self.old judged ≡ Some screen → length screen.actions ≤ most_actions }
         requires named { is_name name.now ≡ true }
@@ -96,6 +95,38 @@ impl Parts {
         if let Some(judged) = judged {
             self.note(judged, owner, folder, name, moment);
         }
+    }
+
+    /// Ends an operation that gave a file a name, once the tree and the scans have it: a passive screen may report the name,
+    /// and then the change of the counters is made. The answer says that it was done.
+    pub(crate) fn end_named<L: Ledger>(
+        &mut self,
+        judged: Option<Blocked>,
+        owner: u32,
+        place: Place<'_>,
+        change: &Change,
+        moment: u64,
+        steps: &mut Steps<L>,
+    ) -> Answer
+        requires there { option_map told (screen_told self.old judged) ≡ judged }
+        requires few { (screen : ScreenRow) → screen_told self.old judged ≡ Some screen → length screen.actions ≤ most_actions }
+        requires named { is_name place.name.now ≡ true }
+        requires quotas { are_orderly self.old.objects.quotas ≡ true }
+        requires change { IsChange self.old.tree.nodes change.now }
+        requires fits { Fits self.old.tree.nodes self.old.usage change.now }
+        requires covered { IsCovered self.old.tree.nodes self.old.usage change.now }
+        requires counted { AreCounted (charged_parts self.old change.now moment) }
+        requires idle { IsIdle self.old }
+        requires log { length self.old.marks.log ≤ most_entries }
+        requires moment { moment ≤ latest_moment }
+        ensures ended { EndsNamed self.old self.new (name_under (screen_told self.old judged) owner place.entry.folder place.entry.name.now) change.now moment }
+        ensures counted { AreCounted self.new }
+        ensures answer { result ≡ record { outcome = Done (option_map (λ judged. judged.screen) judged); lasting = true } }
+        ensures looks { steps.new ≤ steps.old + 3 * (height self.old.tree.nodes change.now.from + height self.old.tree.nodes change.now.to) }
+    {
+        self.report(judged, owner, place.folder, place.name, moment);
+        self.charge(change, moment, steps);
+        self.done_under(judged, moment)
     }
 
     /// The answer to an operation whose name an active screen blocks.

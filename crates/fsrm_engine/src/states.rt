@@ -10,7 +10,7 @@ ghost use Rattle.fsrm_model.specs.QuotaStates.{start, queued, state_of, state_af
 ghost use Rattle.fsrm_model.specs.Thresholds.{are_thresholds, is_threshold, percent_of};
 ghost use Rattle.fsrm_model.specs.Tree.{is_folder, usage};
 ghost use Rattle.fsrm_model.specs.Valid.{IsVolume, is_moment};
-ghost use Rattle.scan_queue.specs.Courses.{Scanning, Turns};
+ghost use Rattle.rescan.specs.Courses.{Scanning, Turns};
 ghost use Rattle.volume_tree.specs.Volume.{Volume};
 ghost use Rattle.fsrm_objects.specs.Tables.{IsFault, other_fault, quota_fault};
 ghost use Rattle.fsrm_engine.specs.Faults.{text_room};
@@ -19,7 +19,7 @@ ghost use Rattle.fsrm_engine.specs.Machine.{IsSound, IsWhole, Turned, rows_of};
 use crate::parts::Parts;
 use fsrm_model::{Ledger, NoMemory, QuotaRow, QuotaState, Steps};
 use fsrm_objects::ObjectFault;
-use scan_queue::Scans;
+use rescan::Scans;
 use volume_tree::Tree;
 
 // Has a folder's scan wait if its quota is rebuilding, and else not. An `Err` changes nothing.

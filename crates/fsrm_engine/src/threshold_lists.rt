@@ -7,9 +7,8 @@ ghost use Rattle.fsrm_base.specs.Numbers.{each_once};
 ghost use Rattle.fsrm_base.specs.Places.{IsAt};
 ghost use Rattle.fsrm_model.specs.Thresholds.{changed_thresholds, may_be_removed, percent_of, with_notice, with_threshold, without_thresholds};
 
-use fsrm_base::places::search;
 use fsrm_model::{Action, Added, Duplicate, List, NoMemory, Threshold};
-use fsrm_objects::ByPercent;
+use fsrm_objects::threshold_place;
 use std::alloc::Global;
 use thresholds::has_percent;
 
@@ -69,7 +68,7 @@ fn place_of(
     ensures with { OnOk result (thresholds.new ≡ with_threshold thresholds.old percent) }
     ensures place { IfOk result (IsAt percent_of percent thresholds.new) }
 {
-    match search::<ByPercent>(thresholds.as_slice(), u32::from(percent)) {
+    match threshold_place(thresholds.as_slice(), percent) {
         Ok(place) => Ok(place),
         Err(place) => {
             let threshold = Threshold {

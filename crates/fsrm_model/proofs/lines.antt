@@ -6,6 +6,8 @@ pub mod LineValues
 pub mod OptionLaws
 pub mod PathLaws
 pub mod ReadLaws
+pub mod SpelledOptions
+pub mod SpelledScreens
 pub mod SpelledValues
 pub mod SpellingLaws
 pub mod ValueLaws

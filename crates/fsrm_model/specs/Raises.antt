@@ -1,13 +1,15 @@
--- Which actions a command makes due, apart from any computation.
+-- Which actions a command makes due, and which ones a screen that judges a name, apart from any computation.
 use Rattle.std.specs.Prelude.{◌≡◌, ℕ, ◌*◌, ◌≤◌, ◌&&◌, Bool, true, List, slice_get, Some}
 use Rattle.std.specs.List.{list_all}
 use Rattle.fsrm_model.specs.declared.command.Refusal.TheVariants.{QuotaExceeded}
-use Rattle.fsrm_model.specs.declared.command.Subject.TheVariants.{Quota}
+use Rattle.fsrm_model.specs.declared.command.Subject.{Subject}
+use Rattle.fsrm_model.specs.declared.command.Subject.TheVariants.{Quota, Screen}
 use Rattle.fsrm_model.specs.declared.row.Action.{Action}
 use Rattle.fsrm_model.specs.declared.row.Capacity.{Capacity}
 use Rattle.fsrm_model.specs.declared.row.NodeRow.{NodeRow}
 use Rattle.fsrm_model.specs.declared.row.QuotaRow.{QuotaRow}
 use Rattle.fsrm_model.specs.declared.row.Rows.{Rows}
+use Rattle.fsrm_model.specs.declared.row.ScreenRow.{ScreenRow}
 use Rattle.fsrm_model.specs.Acts.{actions_of}
 use Rattle.fsrm_model.specs.DueActions.{ready}
 use Rattle.fsrm_base.specs.Keyed.{is_ascending}
@@ -38,3 +40,10 @@ pub record RaisesRefused (K : Capacity) (R : Rows) (nodes : List NodeRow) (momen
   pub may_run : ready R.run_limit moment action ≡ true
   pub was_not : IsReached K R folder percent → ⊥
   pub would_be : percent * limit ≤ 100 * would
+
+-- the subject is the screen, and its action at a place may run
+pub record RunsOfScreen (run_limit moment : ℕ) (screen : ScreenRow) (subject : Subject) (place : ℕ) : Type 0 where
+  pub own : subject ≡ Screen screen.folder
+  pub action : Action
+  pub there : slice_get screen.actions place ≡ Some action
+  pub may_run : ready run_limit moment action ≡ true

@@ -97,8 +97,9 @@ many_patterns =
     text default_capacity new_rows (of_patterns 65 ++ of_patterns 64)
     ≡ codes "1 refused OutOfRange\n2 ok\n"
 
--- patterns are compared as names are, character by character; `?` stands for one of them
+-- patterns are compared as names are, character by character; `?` stands for one of them; `*.*` means `*`, but only as the
+-- whole pattern
 abbrev pub folded_patterns : Type 0
 folded_patterns =
-    text default_capacity new_rows (encode_utf8_all (codes "1 filescrn filegroup add /Filegroup:G /Members:ß*|K?|İ\n1 filescrn screen add /Path:D:\\ /Add-Filegroup:g\n1 create D:\\ẞx 1 1\n1 create D:\\ssx 1 1\n1 create D:\\kç 1 1\n1 create D:\\k 1 1\n1 create D:\\i 1 1\n1 create D:\\İ 1 1\n"))
-    ≡ codes "1 ok\n2 ok\n3 refused ScreenBlocked D:\\\n4 ok\n5 refused ScreenBlocked D:\\\n6 ok\n7 ok\n8 refused ScreenBlocked D:\\\n"
+    text default_capacity new_rows (encode_utf8_all (codes "1 filescrn filegroup add /Filegroup:G /Members:ß*|K?|İ\n1 filescrn screen add /Path:D:\\ /Add-Filegroup:g\n1 create D:\\ẞx 1 1\n1 create D:\\ssx 1 1\n1 create D:\\kç 1 1\n1 create D:\\k 1 1\n1 create D:\\i 1 1\n1 create D:\\İ 1 1\n1 filescrn filegroup modify /Filegroup:G /Members:*.*\n1 create D:\\mp3 1 1\n1 filescrn filegroup modify /Filegroup:G /Members:*.*.*\n1 create D:\\mp3 1 1\n"))
+    ≡ codes "1 ok\n2 ok\n3 refused ScreenBlocked D:\\\n4 ok\n5 refused ScreenBlocked D:\\\n6 ok\n7 ok\n8 refused ScreenBlocked D:\\\n9 ok\n10 refused ScreenBlocked D:\\\n11 ok\n12 ok\n"

@@ -172,14 +172,16 @@ pub enum Deed {
     /// Lists all file groups.
     FilegroupList,
     /// Keeps the names of file groups out of a folder and of all that is below it (MS-FSRM, IFsrmFileScreen). An active
-    /// screen blocks them, a passive one reports them. A group that is named twice is kept once.
+    /// screen blocks them, a passive one reports them. A group that is named twice is kept once. It has 1 to 16 groups
+    /// and at most 8 actions, and its folder no exception.
     ScreenAdd {
         path: Path,
         active: bool,
         add_filegroup: List<Text>,
         add_notification: List<Action>,
     },
-    /// Makes a screen active or passive. Of its groups some are removed, and then groups are added. Its actions stay.
+    /// Makes a screen active or passive. Of its groups some are removed, and then groups are added. A group that is
+    /// removed must be the screen's, and named once. Its actions stay.
     ScreenModify {
         path: Path,
         active: Option<bool>,
@@ -193,7 +195,7 @@ pub enum Deed {
     /// Lists all screens.
     ScreenList,
     /// Lets the names of file groups pass the screens of the folders above this one, in it and in all that is below it
-    /// (MS-FSRM, IFsrmFileScreenException).
+    /// (MS-FSRM, IFsrmFileScreenException). It has 1 to 16 groups, and its folder no screen.
     ExceptionAdd {
         path: Path,
         add_filegroup: List<Text>,

@@ -26,11 +26,11 @@ ghost use Rattle.fsrm_model.specs.Acts.{has_act, actions_of, is_of_quota, of_scr
 ghost use Rattle.fsrm_model.specs.Audits.{audit_of, with_audit, tells_of_screen};
 ghost use Rattle.fsrm_model.specs.Date.{date_of};
 ghost use Rattle.fsrm_model.specs.Commands.{kind, emptied};
-ghost use Rattle.fsrm_model.specs.DueActions.{minutes_of, ready, quota_acts, due, due_refused};
+ghost use Rattle.fsrm_model.specs.DueActions.{minutes_of, ready, quota_acts, due, due_refused, due_screen};
 ghost use Rattle.fsrm_model.specs.Exceeds.{Exceeds};
 ghost use Rattle.fsrm_model.specs.Exceptions.{may_leave, run_by_refusal, left_after};
 ghost use Rattle.fsrm_model.specs.FileOps.{plain};
-ghost use Rattle.fsrm_model.specs.FileWork.{judged_name};
+ghost use Rattle.fsrm_model.specs.FileWork.{judged_name, reported};
 ghost use Rattle.fsrm_model.specs.Fresh.{new_rows};
 ghost use Rattle.fsrm_base.specs.Keyed.{has_row, is_ascending};
 ghost use Rattle.fsrm_base.specs.Numbers.{is_in};
@@ -38,7 +38,7 @@ ghost use Rattle.fsrm_model.specs.Lasting.{lasting};
 ghost use Rattle.fsrm_model.specs.Limits.{most_entries};
 ghost use Rattle.fsrm_model.specs.Line.{read_line, is_line_refusal};
 ghost use Rattle.fsrm_model.specs.Quota.{folder_of, quota_of, counts, exceeded};
-ghost use Rattle.fsrm_model.specs.Raises.{are_ascending, Raises, RaisesRefused};
+ghost use Rattle.fsrm_model.specs.Raises.{are_ascending, Raises, RaisesRefused, RunsOfScreen};
 ghost use Rattle.fsrm_model.specs.Reached.{reached, IsReached, crossed};
 ghost use Rattle.fsrm_model.specs.Runs.{run_quota, last_entries, ran};
 ghost use Rattle.fsrm_model.specs.Script.{is_end, lines, spelled_lines, AreLines, without_cr, replied, text, text_from};
@@ -127,19 +127,25 @@ pub fn worked_screens()
     ensures folding { folded_patterns }
 {}
 
-/// Which screen judges a name that a file is given in a folder, which one blocks or reports it, and what that leaves in the audit
-/// log.
+/// Which screen judges a name that a file is given in a folder, which one blocks or reports it, what that leaves in the
+/// audit log, and which actions run then.
 pub fn screens()
     // It is one that applies; an active one if any active one applies; and no other such one is nearer.
-    ensures judges { (R : Rows) (folder : ℕ) (name : List ℕ) (screen : ScreenRow) → judging R folder name ≡ Some screen → Judges R folder name screen }
-    ensures none { (R : Rows) (folder : ℕ) (name : List ℕ) → judging R folder name ≡ None → (screen : ScreenRow) → Applies R folder name screen → ⊥ }
+    ensures judges { (K : Capacity) (R : Rows) (folder : ℕ) (name : List ℕ) (screen : ScreenRow) → IsValid K R → judging R folder name ≡ Some screen → Judges R folder name screen }
+    ensures none { (K : Capacity) (R : Rows) (folder : ℕ) (name : List ℕ) → IsValid K R → judging R folder name ≡ None → (screen : ScreenRow) → Applies R folder name screen → ⊥ }
     // Only a file operation is refused by a screen, and only by an active one that judges the name it gives a file.
     ensures blocks { (K : Capacity) (R : Rows) (c : Command) (folder : ℕ) → (step K R c).outcome ≡ Refused (ScreenBlocked folder) → (op : FileOp) × (judged : Judged) × (c.deed ≡ File op) × (judged_name R op ≡ Some judged) × (judged.screen.active ≡ true) × (judged.screen.folder ≡ folder) }
     // Only a file operation is reported, and only by a passive screen that judges the name.
     ensures reports { (K : Capacity) (R : Rows) (c : Command) (folder : ℕ) → (step K R c).outcome ≡ Done (Some folder) → (op : FileOp) × (judged : Judged) × (c.deed ≡ File op) × (judged_name R op ≡ Some judged) × (judged.screen.active ≡ false) × (judged.screen.folder ≡ folder) }
+    // An accepted file operation tells of exactly the screen that judges the name it gives. So no name passes an active
+    // one, and none that a passive one judges goes unreported.
+    ensures told { (K : Capacity) (R : Rows) (c : Command) (op : FileOp) (passive : Option ℕ) → c.deed ≡ File op → (step K R c).outcome ≡ Done passive → passive ≡ reported (judged_name R op) }
     // Either leaves an entry of the name, and no other command does.
     ensures noted { (K : Capacity) (R : Rows) (c : Command) (judged : Judged) → (work K R c.moment c.deed).judged ≡ Some judged → tells_of_screen (step K R c).outcome ≡ true → (step K R c).rows.audits ≡ with_audit (audit_of c.moment judged) R.audits }
     ensures unnoted { (K : Capacity) (R : Rows) (c : Command) → tells_of_screen (step K R c).outcome ≡ false → (step K R c).rows.audits ≡ R.audits }
+    // Either has exactly those actions of its screen run that may, and no other command has a screen's actions run.
+    ensures runs { (K : Capacity) (R : Rows) (c : Command) (judged : Judged) → (work K R c.moment c.deed).judged ≡ Some judged → tells_of_screen (step K R c).outcome ≡ true → of_screens (step K R c).acts ≡ due_screen R.run_limit c.moment judged.screen }
+    ensures unrun { (K : Capacity) (R : Rows) (c : Command) → tells_of_screen (step K R c).outcome ≡ false → of_screens (step K R c).acts ≡ [] }
 {}
 
 /// What a line is read as is what it spells, and a line that spells a command is read as it. The command is valid.
@@ -175,8 +181,8 @@ pub fn plain_machine()
     ensures unread_text { (K : Capacity) (R : Rows) (n : ℕ) (line : List ℕ) (refusal : Refusal) → read_line (without_cr line) ≡ Some (Err refusal) → (replied K R n line).text ≡ reply K R 0 n (Refused refusal) }
     // A command that is refused changes nothing, unless a screen blocks a name, or a quota refuses it and actions are due.
     ensures refused { (K : Capacity) (R : Rows) (c : Command) (refusal : Refusal) → (step K R c).outcome ≡ Refused refusal → ((step K R c).rows ≡ R) ⊎ (may_leave K R c.moment (work K R c.moment c.deed) refusal ≡ true) }
-    // Then these have run, and nothing else is left but their entries, that of the blocked name, the moment, and peaks that were
-    // too low.
+    // Then these have run, and nothing else is left but their entries, that of the blocked name, the moment, and peaks
+    // that were too low.
     ensures left { (K : Capacity) (R : Rows) (c : Command) (refusal : Refusal) → (step K R c).outcome ≡ Refused refusal → (step K R c).rows ≡ left_after K R c.moment (work K R c.moment c.deed) refusal }
     // They are its acts, and it lasts exactly if it leaves something.
     ensures runs { (K : Capacity) (R : Rows) (c : Command) (refusal : Refusal) → (step K R c).outcome ≡ Refused refusal → ((step K R c).acts ≡ run_by_refusal K R c.moment (work K R c.moment c.deed) refusal) × ((step K R c).lasting ≡ may_leave K R c.moment (work K R c.moment c.deed) refusal) }
@@ -211,11 +217,13 @@ pub fn thresholds()
     ensures kept { (removed percents : List ℕ) (notices : List Added) (thresholds : List Threshold) → are_thresholds thresholds ≡ true → list_all is_percent percents ≡ true → list_all is_notice notices ≡ true → are_too_many (changed_thresholds removed percents notices thresholds) ≡ false → are_thresholds (changed_thresholds removed percents notices thresholds) ≡ true }
 {}
 
-/// Which actions are due: of a command that leaves other rows, and of an operation that a quota refuses.
+/// Which actions are due: of a command that leaves other rows, of an operation that a quota refuses, and of a screen
+/// that judges a name.
 pub fn due_actions()
     ensures reached { (K : Capacity) (R : Rows) (folder percent : ℕ) → (reached K R folder percent ≡ true) ↔ IsReached K R folder percent }
     ensures due { (K : Capacity) (before after : Rows) (moment folder percent place : ℕ) → are_ascending after.quotas ≡ true → (has_act (due K before after moment) (Quota folder percent) place ≡ true) ↔ Raises K before after moment folder percent place }
     ensures refused { (K : Capacity) (R : Rows) (nodes : List NodeRow) (moment folder percent place : ℕ) → are_ascending R.quotas ≡ true → (has_act (due_refused K R nodes moment) (Quota folder percent) place ≡ true) ↔ RaisesRefused K R nodes moment folder percent place }
+    ensures screen { (run_limit moment : ℕ) (screen : ScreenRow) (subject : Subject) (place : ℕ) → (has_act (due_screen run_limit moment screen) subject place ≡ true) ↔ RunsOfScreen run_limit moment screen subject place }
     // They stand in the order of folders, percentages and places, each once.
     ensures order { (K : Capacity) (before after : Rows) (moment : ℕ) → are_ascending after.quotas ≡ true → are_in_order (due K before after moment) ≡ true }
     ensures refused_order { (K : Capacity) (R : Rows) (nodes : List NodeRow) (moment : ℕ) → are_ascending R.quotas ≡ true → are_in_order (due_refused K R nodes moment) ≡ true }
@@ -227,8 +235,9 @@ pub fn due_actions()
     ensures same { (K : Capacity) (R : Rows) (moment : ℕ) → due K R R moment ≡ [] }
 {}
 
-/// The acts of a command: first those of the screen that judges a name, in the order of their places, and then those of quotas in
-/// the order of folders, percentages and places, each once. Each act names an action that is there in the rows after it.
+/// The acts of a command: first those of the screen that judges a name, in the order of their places, and then those of
+/// quotas in the order of folders, percentages and places, each once. Each act names an action that is there in the rows
+/// after it.
 pub fn acts()
     ensures first { (K : Capacity) (R : Rows) (c : Command) → IsValid K R → is_command c ≡ true → (step K R c).acts ≡ of_screens (step K R c).acts ++ of_quotas (step K R c).acts }
     ensures places { (K : Capacity) (R : Rows) (c : Command) → IsValid K R → is_command c ≡ true → are_in_order (of_screens (step K R c).acts) ≡ true }

@@ -70,7 +70,7 @@ pub const LONGEST_ACTION_TEXT: usize = 1_024;
 /// The greatest run limit of actions, in minutes.
 pub const MOST_MINUTES: u32 = 525_600;
 
-/// How many entries the log of actions keeps, and as many that of audits.
+/// How many entries the log of actions keeps, and how many the audit log.
 pub const MOST_ENTRIES: usize = 1_024;
 
 /// The bytes of all texts of objects.

@@ -6,6 +6,7 @@
 //! by number or folder, and have each at most once; logs begin with the oldest entry.
 
 ghost use Rattle.std.specs.Prelude.{◌≡◌};
+ghost use Rattle.fsrm_model.specs.ActionWords.{kind_word};
 ghost use Rattle.fsrm_model.specs.Quota.{is_complete};
 
 use fsrm_base::{List, Text};
@@ -48,6 +49,20 @@ pub enum ActionKind {
     /// A command that is run.
     Program,
     Report,
+}
+
+impl ActionKind {
+    /// The letter that stands for the kind in a script and in a list.
+    pub fn letter(self) -> &'static str
+        ensures { result.now ≡ kind_word self }
+    {
+        match self {
+            ActionKind::Event => "e",
+            ActionKind::Mail => "m",
+            ActionKind::Program => "c",
+            ActionKind::Report => "r",
+        }
+    }
 }
 
 /// An action of a threshold or a screen (MS-FSRM, IFsrmAction).

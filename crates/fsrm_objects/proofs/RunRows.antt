@@ -1,11 +1,13 @@
 -- Actions of which one ran, and the bytes of their texts.
-use Rattle.std.proofs.Common.{◌≡◌, ℕ, zero, suc, ◌+◌, ◌<◌, ◌==◌, Bool, true, false, cond, List, [], ◌∷◌, length, Option, Some, None, refl, sym, ◌∙◌, ap, arith}
+use Rattle.std.proofs.Common.{◌≡◌, ℕ, zero, suc, ◌+◌, ◌<◌, ◌==◌, Bool, true, false, cond, List, [], ◌∷◌, length, Option, Some, None, Result, Ok, Err, refl, sym, ◌∙◌, ap, arith}
 use Rattle.std.proofs.lemmas.List.Sums.{sum_by-cons}
 use Rattle.std.proofs.lemmas.Option.{same_Some}
-use Rattle.std.specs.Prelude.{slice_get, slice_set}
+use Rattle.std.specs.Prelude.{slice_get, slice_set, IfErr, is_ok}
 use Rattle.std.specs.Option.{option_map_or}
 use Rattle.fsrm_base.specs.Keyed.{has_row, row_of, with_change}
+use Rattle.fsrm_base.specs.Places.{IsGap}
 use Rattle.fsrm_base.proofs.Look.{found_has}
+use Rattle.fsrm_base.proofs.TestLaws.{clash}
 use Rattle.fsrm_model.specs.declared.row.Action.{Action}
 use Rattle.fsrm_model.specs.declared.row.QuotaRow.{QuotaRow}
 use Rattle.fsrm_model.specs.declared.row.Threshold.{Threshold}
@@ -51,3 +53,8 @@ has_actions thresholds percent place h = at (row_of percent_of percent threshold
     at : (o : Option Threshold) → row_of percent_of percent thresholds ≡ o → place < length (option_map_or (λ (t : Threshold). t.actions) o []) → has_row percent_of percent thresholds ≡ true
     at None e h = absurd (omega (arith, h))
     at (Some t) e h = found_has percent_of percent thresholds t e
+
+-- so its place is found
+pub placed : (thresholds : List Threshold) (percent : ℕ) (r : Result ℕ ℕ) → has_row percent_of percent thresholds ≡ true → IfErr r (IsGap percent_of percent thresholds) → is_ok r ≡ true
+placed thresholds percent (Ok at) there free = refl
+placed thresholds percent (Err at) there free = absurd (clash (has_row percent_of percent thresholds) there free.absent)

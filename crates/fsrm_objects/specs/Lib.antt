@@ -1,2 +1,4 @@
 pub mod Tables
 pub mod Kept
+pub mod PlaceTables
+pub mod KeptPlaces

@@ -3,15 +3,23 @@
 //!
 //! Each call leaves exactly the rows that the definitions give. It refuses exactly for the first cause that holds,
 //! in the order of `ObjectFault`, and then the tables are as they were. NoMemory comes only if nothing else refuses.
+//!
+//! A `PlaceTable` tells where a folder's row stands: it has ascending numbers, and finds each number's place without a
+//! search. Its table by number reaches as far as the greatest number that came, and no further. Contracts see the
+//! numbers, and for how many there is memory.
 #![tactic(auto)]
 
 mod answer;
+mod entries;
 mod excepts;
 mod objects;
+mod percents;
+mod place_table;
 mod runs;
 mod screens;
 mod texts;
 
 pub use answer::ObjectFault;
 pub use objects::Objects;
-pub use runs::ByPercent;
+pub use percents::threshold_place;
+pub use place_table::PlaceTable;

@@ -10,11 +10,11 @@ ghost use Rattle.fsrm_base.specs.Places.{IsAt};
 ghost use Rattle.fsrm_objects.specs.Tables.{IsFault, has_short_texts, HasAction, other_fault, quota_fault, texts_in, with_quota, with_other, with_peak, with_run, with_state, without_quota};
 
 use crate::answer::ObjectFault;
+use crate::place_table::PlaceTable;
 use crate::runs::note_run;
 use crate::texts::{has_long_list, left_of_quota, texts_of};
 use fsrm_model::limits::MOST_QUOTAS;
 use fsrm_model::{ExceptRow, QuotaRow, QuotaState, ScreenRow};
-use place_table::PlaceTable;
 use std::alloc::Global;
 use std::marker::Model;
 

@@ -1,37 +1,12 @@
 //! The last runs of actions.
 
 ghost use Rattle.std.specs.Prelude.{◌≡◌, ◌<◌, true, length};
-ghost use Rattle.fsrm_base.specs.Keyed.{has_row, is_ascending, with_change};
-ghost use Rattle.fsrm_base.specs.Places.{IsAt};
+ghost use Rattle.fsrm_base.specs.Keyed.{is_ascending, with_change};
 ghost use Rattle.fsrm_model.specs.Thresholds.{actions_at, percent_of};
 ghost use Rattle.fsrm_objects.specs.Tables.{ran_at, run_threshold_at};
 
-use fsrm_base::places::{Key, search};
+use crate::percents::threshold_place;
 use fsrm_model::{Action, List, Threshold};
-
-/// A threshold's number is its percentage.
-pub struct ByPercent;
-
-impl Key for ByPercent {
-    ghost use Rattle.fsrm_model.specs.Thresholds.{percent_of};
-
-    type Row = Threshold;
-
-    ghost key = { percent_of };
-
-    fn number(row: &Threshold) -> u32 {
-        u32::from(row.percent)
-    }
-}
-
-// The place of a threshold.
-fn place_of(thresholds: &List<Threshold>, percent: u16) -> usize
-    requires ascending { is_ascending percent_of thresholds.now ≡ true }
-    requires there { has_row percent_of percent thresholds.now ≡ true }
-    ensures { IsAt percent_of percent thresholds.now result }
-{
-    search::<ByPercent>(thresholds.as_slice(), u32::from(percent)).unwrap()
-}
 
 /// Notes that the action at a place ran at a moment.
 pub fn note_last(actions: &mut List<Action>, place: u16, moment: u64)
@@ -48,7 +23,7 @@ pub fn note_run(thresholds: &mut List<Threshold>, percent: u16, place: u16, mome
     requires there { place < length (actions_at thresholds.old percent) }
     ensures { thresholds.new ≡ with_change percent_of percent (run_threshold_at moment place) thresholds.old }
 {
-    let at = place_of(thresholds, percent);
+    let at = threshold_place(thresholds.as_slice(), percent).unwrap();
     let threshold = thresholds.get_mut(at).unwrap();
     note_last(&mut threshold.actions, place, moment);
 }

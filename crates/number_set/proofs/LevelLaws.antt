@@ -12,6 +12,7 @@ use Rattle.fsrm_base.proofs.TestLaws.{is_or_not, eq_is, lt_test, not_true, eq_te
 use Rattle.number_set.specs.Numbers.{Numbers, no_numbers}
 use Rattle.number_set.specs.Words.{has_bit, is_occupied, numbers_of, Marks, IsLeastIn}
 use Rattle.fsrm_base.proofs.NumberLaws.{in_with, in_without, in_filter, set_with, set_without, set_filter, same_set, first_least}
+use Rattle.number_set.proofs.TakenLaws.{none_first}
 use Rattle.number_set.proofs.WordLaws.{test_apart, empty_word}
 
 -- the numbers from one on
@@ -69,15 +70,6 @@ pub numbers_without : (old new : List ℕ) (m : ℕ) → ((n : ℕ) → has_bit 
 numbers_without old new m bits =
     same_set _ _ (set_numbers_of new) (set_without m (numbers_of old) (set_numbers_of old)) (λ n.
     in_numbers_of new n ∙ (bits n ∙ sym (in_without m n (numbers_of old) ∙ ap (λ b. not (m == n) && b) (in_numbers_of old n))))
-
--- without a number that isn't there
-pub without_absent : (m : ℕ) (ns : List ℕ) → is_set ns ≡ true → is_in ns m ≡ false → without_number m ns ≡ ns
-without_absent m ns h absent =
-    same_set _ _ (set_without m ns h) h (λ n.
-    in_without m n ns ∙ elim (is_or_not (m == n)) [
-      | inl e ↦ ap (λ b. not b && is_in ns n) e ∙ (sym absent ∙ ap (is_in ns) (eq_is m n e))
-      | inr e ↦ ap (λ b. not b && is_in ns n) e
-    ])
 
 -- the places above, after a bit was set in word p
 pub marks_with : (up new : Numbers) (old words : List ℕ) (p : ℕ) → Marks up old → length words ≡ length old → ((k : ℕ) → is_occupied words k ≡ ((p == k) || is_occupied old k)) → new ≡ record up { members = with_number p up.members } → Marks new words
@@ -141,6 +133,14 @@ no_bit words n h =
           | inl t ↦ eq_is w 0 t
           | inr f ↦ let g : not (w == 0) ≡ true = ap not f in cc
         ]
+
+-- the place of a word with a bit is above
+pub place_above : (up : Numbers) (words : List ℕ) (n : ℕ) → Marks up words → is_in (numbers_of words) n ≡ true → is_in up.members (n / 64) ≡ true
+place_above up words n m h =
+    m.members (n / 64) ∙ elim (is_or_not (is_occupied words (n / 64))) [
+      | inl e ↦ e
+      | inr e ↦ let none : is_in (numbers_of words) n ≡ false = in_numbers_of words n ∙ no_bit words n e in cc
+    ]
 
 -- the members of words without any bit
 pub none_of : (words : List ℕ) → ((n : ℕ) → has_bit words n ≡ false) → numbers_of words ≡ []
@@ -225,13 +225,9 @@ least_none words place f empty =
           ]
     ])))
 
-pub no_first : (ns : List ℕ) → None ≡ slice_get ns 0 → ns ≡ []
-no_first [] h = refl
-no_first (k ∷ ns) h = cc
-
 pub least_above_none : (up : Numbers) (words : List ℕ) → Marks up words → None ≡ slice_get up.members 0 → None ≡ slice_get (numbers_of words) 0
 least_above_none up words m is =
-    sym (ap (λ ms. slice_get ms 0) (none_of words (λ n. no_bit words n (sym (m.members (n / 64)) ∙ ap (λ ms. is_in ms (n / 64)) (no_first up.members is)))))
+    sym (ap (λ ms. slice_get ms 0) (none_of words (λ n. no_bit words n (sym (m.members (n / 64)) ∙ ap (λ ms. is_in ms (n / 64)) (none_first up.members (sym is))))))
 
 one_more : (b : Bool) (k : ℕ) (ns ms : List ℕ) → length ms ≤ length ns → length (cond b (k ∷ ms) ms) ≤ length (k ∷ ns)
 one_more true k ns ms h = omega arith
@@ -245,14 +241,6 @@ kept p (k ∷ ns) = one_more (p k) k ns (filter p ns) (kept p ns)
 pub few_numbers : (words : List ℕ) → length (numbers_of words) ≤ 64 * length words
 unfolding numbers_of
 few_numbers words = omega (arith, kept (has_bit words) (range_with_len 0 (64 * length words)), length-range_with_len 0 (64 * length words))
-
--- without its first member a set has fewer
-pub without_first : (n : ℕ) (ns : List ℕ) → Some n ≡ slice_get ns 0 → length (without_number n ns) < length ns
-without_first n [] h = cc
-without_first n (k ∷ ns) h =
-    let is : n ≡ k = cc in
-    let gone : without_number n (k ∷ ns) ≡ without_number n ns = ap (λ b. cond (not b) (k ∷ without_number n ns) (without_number n ns)) (eq_test k n (sym is)) in
-    omega (arith, ap length gone, kept (λ j. not (j == n)) ns)
 
 pub least_is : (words : List ℕ) (place : ℕ) (r : Option ℕ) → IsFirstWord words place → MatchOption r (is_occupied words place ≡ false) (λ n. IsLeastIn words place n) → r ≡ slice_get (numbers_of words) 0
 least_is words place None f h = least_none words place f h
@@ -273,10 +261,3 @@ new_level count words up several is empty =
       set = refl;
       members = λ k. sym (ap (λ ws. is_occupied ws k) is ∙ empty_words count k);
     })
-
--- a set without a first member
-pub emptied : (v : Numbers) (bound : ℕ) → v.bound ≡ bound → None ≡ slice_get v.members 0 → v ≡ no_numbers bound
-emptied v bound same none =
-    let at : ℕ → Numbers = λ b. record { bound = b; members = v.members } in
-    let with : List ℕ → Numbers = λ ms. record { bound = bound; members = ms } in
-    ap at same ∙ ap with (no_first v.members none)

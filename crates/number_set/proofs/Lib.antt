@@ -1,3 +1,4 @@
 pub mod WordLaws
 pub mod LevelLaws
 pub mod CountLaws
+pub mod TakenLaws

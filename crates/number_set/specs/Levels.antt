@@ -14,3 +14,7 @@ pub record IsLevel (bound : ℕ) (words : List ℕ) (above : Above) : Type 0 whe
   pub small : bound < 4294967296
   pub room : length words ≡ bound / 64 + 1
   pub level : IsAbove words above
+
+-- how many members a set can have: as many as there are numbers of 32 bits
+abbrev pub most_members : ℕ
+most_members = 4294967296

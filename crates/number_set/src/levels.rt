@@ -3,6 +3,7 @@
 ghost use Rattle.std.specs.Prelude.{◌≡◌, ◌<◌, ◌≤◌, true, IfOk, length};
 ghost use Rattle.std.specs.Prelude.{slice_get};
 ghost use Rattle.fsrm_base.specs.Numbers.{is_in, is_set, with_number, without_number};
+ghost use Rattle.number_set.specs.Levels.{most_members};
 ghost use Rattle.number_set.specs.Numbers.{no_numbers};
 
 use crate::words::{WORD, clear_bit, empty_words, has_bit, least_in, set_bit};
@@ -74,7 +75,7 @@ impl Levels {
     /// How members are held, for those who read no word of theirs: a read is what tells the checker.
     pub fn kept(&self)
         ensures set { is_set self.now.members ≡ true }
-        ensures few { length self.now.members ≤ 4294967360 }
+        ensures few { length self.now.members ≤ most_members }
     {
         let _words = &self.words;
     }
@@ -109,13 +110,11 @@ impl Levels {
         }
     }
 
-    /// Takes a number out of the set.
+    /// Takes a member out of the set.
     pub fn remove(&mut self, number: u32)
+        requires { is_in self.old.members number ≡ true }
         ensures { self.new ≡ record self.old { members = without_number number self.old.members } }
     {
-        if !self.contains(number) {
-            return;
-        }
         let is_empty = clear_bit(&mut self.words, number);
         match &mut self.above {
             Above::Nothing => {}

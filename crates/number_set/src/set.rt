@@ -1,6 +1,6 @@
 //! A set of numbers.
 
-ghost use Rattle.std.specs.Prelude.{◌≡◌, ◌<◌, ◌==◌, IfOk, length, slice_get};
+ghost use Rattle.std.specs.Prelude.{◌≡◌, ◌<◌, ◌==◌, IfOk, drop, length, slice_get};
 ghost use Rattle.fsrm_base.specs.Numbers.{is_in, with_number, without_number};
 ghost use Rattle.number_set.specs.Numbers.{no_numbers};
 
@@ -78,6 +78,18 @@ impl NumberSet {
         self.count -= 1;
     }
 
+    /// Takes the least member out, if there is any.
+    pub fn take_least(&mut self) -> Option<u32>
+        ensures least { result ≡ slice_get self.old.members 0 }
+        ensures rest { self.new ≡ record self.old { members = drop 1 self.old.members } }
+    {
+        self.levels.kept();
+        let number = self.least()?;
+        self.levels.remove(number);
+        self.count -= 1;
+        Some(number)
+    }
+
     /// The least member.
     pub fn least(&self) -> Option<u32>
         ensures { result ≡ slice_get self.now.members 0 }
@@ -99,8 +111,6 @@ impl NumberSet {
     pub fn clear(&mut self)
         ensures { self.new ≡ no_numbers self.old.bound }
     {
-        while let Some(number) = self.least() {
-            self.remove(number);
-        }
+        while self.take_least().is_some() {}
     }
 }

@@ -14,8 +14,8 @@ use Rattle.fsrm_model.specs.Limits.{most_quotas}
 use Rattle.fsrm_base.proofs.Look.{none_row, is_some-find}
 use Rattle.fsrm_base.proofs.SortedRows.{set_found, ascending-insert, ascending-remove, ascending-set}
 use Rattle.fsrm_base.proofs.TestLaws.{eq_is}
-use Rattle.place_table.specs.Table.{Table}
-use Rattle.place_table.proofs.RowPlaces.{numbers_inserted, numbers_removed, numbers_set}
+use Rattle.fsrm_objects.specs.PlaceTables.{Places}
+use Rattle.fsrm_objects.proofs.RowPlaces.{numbers_inserted, numbers_removed, numbers_set}
 use Rattle.quota_usage.specs.Climb.{amended_counter}
 use Rattle.quota_usage.specs.Counters.{counted, used_in}
 use Rattle.quota_usage.specs.Kept.{IsKept}
@@ -42,7 +42,7 @@ amended_at counters folder place minus plus less r a at read e =
     ∙ set_found counted folder (amended_counter minus plus) counters place r a at read
 
 -- what is kept with one counter more, with one less, and with one amended
-pub kept_begun : (old new : Vec Counter) (places more : Table) (folder bytes place : ℕ) → IsKept old places → length old.items < most_quotas → IsGap counted folder old.items place → new.items ≡ insert old.items place (record { folder = folder; bytes = bytes }) → vec_capacity old ≤ vec_capacity new → more ≡ record places { numbers = with_number folder places.numbers } → IsKept new more
+pub kept_begun : (old new : Vec Counter) (places more : Places) (folder bytes place : ℕ) → IsKept old places → length old.items < most_quotas → IsGap counted folder old.items place → new.items ≡ insert old.items place (record { folder = folder; bytes = bytes }) → vec_capacity old ≤ vec_capacity new → more ≡ record places { numbers = with_number folder places.numbers } → IsKept new more
 kept_begun old new places more folder bytes place k room gap e up m =
     let row : Counter = record { folder = folder; bytes = bytes } in
     let longer : length (insert old.items place row) ≡ length old.items + 1 = length-insert old.items place row gap.within in
@@ -50,22 +50,22 @@ kept_begun old new places more folder bytes place k room gap e up m =
       ascending = ap (is_ascending counted) e ∙ ascending-insert counted row old.items place k.ascending gap;
       few = omega (arith, ap length e, longer, room);
       room = omega (arith, k.room, up);
-      placed = ap (λ (t : Table). t.numbers) m ∙ (numbers_inserted counted row old.items place places.numbers k.placed gap ∙ sym (ap (map counted) e));
-      places_room = omega (arith, k.places_room, ap (λ (t : Table). t.room) m);
+      placed = ap (λ (t : Places). t.numbers) m ∙ (numbers_inserted counted row old.items place places.numbers k.placed gap ∙ sym (ap (map counted) e));
+      places_room = omega (arith, k.places_room, ap (λ (t : Places). t.room) m);
     }
 
-pub kept_ended : (old new : Vec Counter) (places less : Table) (folder place : ℕ) → IsKept old places → IsAt counted folder old.items place → new.items ≡ remove old.items place → vec_capacity new ≡ vec_capacity old → less ≡ record places { numbers = without_number folder places.numbers } → IsKept new less
+pub kept_ended : (old new : Vec Counter) (places less : Places) (folder place : ℕ) → IsKept old places → IsAt counted folder old.items place → new.items ≡ remove old.items place → vec_capacity new ≡ vec_capacity old → less ≡ record places { numbers = without_number folder places.numbers } → IsKept new less
 kept_ended old new places less folder place k at e same m =
     let shorter : length (remove old.items place) + 1 ≡ length old.items = length-remove old.items place at.within in
     record {
       ascending = ap (is_ascending counted) e ∙ ascending-remove counted folder old.items place k.ascending at;
       few = omega (arith, ap length e, shorter, k.few);
       room = omega (arith, k.room, same);
-      placed = ap (λ (t : Table). t.numbers) m ∙ (numbers_removed counted folder old.items place places.numbers k.ascending k.placed at ∙ sym (ap (map counted) e));
-      places_room = omega (arith, k.places_room, ap (λ (t : Table). t.room) m);
+      placed = ap (λ (t : Places). t.numbers) m ∙ (numbers_removed counted folder old.items place places.numbers k.ascending k.placed at ∙ sym (ap (map counted) e));
+      places_room = omega (arith, k.places_room, ap (λ (t : Places). t.room) m);
     }
 
-pub kept_amended : (old new : Vec Counter) (places : Table) (folder place minus plus less : ℕ) (r : Counter) → IsKept old places → IsAt counted folder old.items place → r ≡ get_or old.items place r → less ≡ r.bytes - minus → new.items ≡ set old.items place (record r { bytes = less + plus }) → vec_capacity new ≡ vec_capacity old → IsKept new places
+pub kept_amended : (old new : Vec Counter) (places : Places) (folder place minus plus less : ℕ) (r : Counter) → IsKept old places → IsAt counted folder old.items place → r ≡ get_or old.items place r → less ≡ r.bytes - minus → new.items ≡ set old.items place (record r { bytes = less + plus }) → vec_capacity new ≡ vec_capacity old → IsKept new places
 kept_amended old new places folder place minus plus less r k at read l e same =
     let change : Counter → Counter = amended_counter minus plus in
     let is : new.items ≡ set old.items place (change r) = e ∙ ap (λ bytes. set old.items place (record r { bytes = bytes + plus })) l in
@@ -78,7 +78,7 @@ kept_amended old new places folder place minus plus less r k at read l e same =
     }
 
 -- there is room for one number more where there is for one counter more
-pub numbers_few : (counters : Vec Counter) (places : Table) → IsKept counters places → length counters.items < most_quotas → length places.numbers < most_quotas
+pub numbers_few : (counters : Vec Counter) (places : Places) → IsKept counters places → length counters.items < most_quotas → length places.numbers < most_quotas
 numbers_few counters places k few = omega (arith, few, ap length k.placed, length-map counters.items counted)
 
 pub is_put : {X Y : Type 0} (r : Result X Y) (room used : ℕ) → OnErr r (room ≤ used) → used < most_quotas → most_quotas ≤ room → IsOk r

@@ -4,12 +4,12 @@ use Rattle.std.specs.Global.{Vec}
 use Rattle.std.specs.Vec.{vec_capacity}
 use Rattle.fsrm_base.specs.Keyed.{is_ascending}
 use Rattle.fsrm_model.specs.Limits.{most_quotas}
-use Rattle.place_table.specs.Table.{Table}
+use Rattle.fsrm_objects.specs.PlaceTables.{Places}
 use Rattle.quota_usage.specs.Counters.{counted}
 use Rattle.quota_usage.specs.declared.change.Counter.{Counter}
 
 -- Ascending counters, at most as many as there is room for from the beginning, and the table of places has their folders
-pub record IsKept (counters : Vec Counter) (places : Table) : Type 0 where
+pub record IsKept (counters : Vec Counter) (places : Places) : Type 0 where
   pub ascending : is_ascending counted counters.items ≡ true
   pub few : length counters.items ≤ most_quotas
   pub room : most_quotas ≤ vec_capacity counters

@@ -1,7 +1,7 @@
 //! Writes the lines of a quota's thresholds, and those of a screen's actions.
 
 ghost use Rattle.std.specs.Prelude.{◌≡◌, ◌≤◌, ◌++◌, ◌∷◌, [], IsErrOf, decimal, flat_map, codes};
-ghost use Rattle.fsrm_model.specs.ActionWords.{kind_word, minutes_word};
+ghost use Rattle.fsrm_model.specs.ActionWords.{minutes_word};
 ghost use Rattle.fsrm_model.specs.Printed.{deep_line};
 ghost use Rattle.fsrm_outside.specs.Causes.{Rose};
 ghost use Rattle.reply_text.specs.Lines.{action_line, do_text, threshold_text};
@@ -10,20 +10,8 @@ ghost use Rattle.reply_text.specs.Writes.{KeepsCount, Sends};
 
 use crate::fault::TextFault;
 use crate::sending::{Part, send};
-use fsrm_model::{Action, ActionKind, Threshold};
+use fsrm_model::{Action, Threshold};
 use fsrm_outside::Sink;
-
-/// The letter of a kind.
-pub fn kind_word(kind: ActionKind) -> &'static [u8]
-    ensures { result.now ≡ kind_word kind }
-{
-    match kind {
-        ActionKind::Event => b"e",
-        ActionKind::Mail => b"m",
-        ActionKind::Program => b"c",
-        ActionKind::Report => b"r",
-    }
-}
 
 // The sign of minutes, and their digits.
 fn minutes_parts<'a>(minutes: i32) -> (Part<'a>, Part<'a>)
@@ -63,6 +51,7 @@ fn write_action<S: Sink>(sink: &mut S, percent: u16, action: &Action) -> Result<
     ensures same { KeepsCount result (S.write_faults sink.old) (S.write_faults sink.new) }
     ensures by { S.by_write sink.old sink.new }
 {
+    let kind = action.kind.letter().as_bytes();
     let (sign, digits) = minutes_parts(action.minutes);
     send(
         sink,
@@ -70,7 +59,7 @@ fn write_action<S: Sink>(sink: &mut S, percent: u16, action: &Action) -> Result<
             Part::Text(b"    at "),
             Part::Number(u64::from(percent)),
             Part::Text(b" "),
-            Part::Text(kind_word(action.kind)),
+            Part::Text(kind),
             Part::Text(b" "),
             sign,
             digits,
@@ -131,12 +120,13 @@ fn write_do<S: Sink>(sink: &mut S, action: &Action) -> Result<(), TextFault>
     ensures same { KeepsCount result (S.write_faults sink.old) (S.write_faults sink.new) }
     ensures by { S.by_write sink.old sink.new }
 {
+    let kind = action.kind.letter().as_bytes();
     let (sign, digits) = minutes_parts(action.minutes);
     send(
         sink,
         &[
             Part::Text(b"    do "),
-            Part::Text(kind_word(action.kind)),
+            Part::Text(kind),
             Part::Text(b" "),
             sign,
             digits,

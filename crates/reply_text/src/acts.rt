@@ -11,7 +11,6 @@ ghost use Rattle.reply_text.specs.Lines.{act_text, entry_text, moment_text, subj
 ghost use Rattle.reply_text.specs.Parts.{part_text};
 ghost use Rattle.reply_text.specs.Writes.{KeepsCount, Sends};
 
-use crate::actions::kind_word;
 use crate::dates::moment_text;
 use crate::fault::TextFault;
 use crate::sending::{Part, send};
@@ -42,6 +41,7 @@ fn write_dated<S: Sink>(sink: &mut S, entry: &ActRow, moment: &[u8]) -> Result<(
     ensures same { KeepsCount result (S.write_faults sink.old) (S.write_faults sink.new) }
     ensures by { S.by_write sink.old sink.new }
 {
+    let kind = entry.kind.letter().as_bytes();
     let (subject, space, percent) = subject_parts(entry.percent);
     send(
         sink,
@@ -53,7 +53,7 @@ fn write_dated<S: Sink>(sink: &mut S, entry: &ActRow, moment: &[u8]) -> Result<(
             space,
             percent,
             Part::Text(b" "),
-            Part::Text(kind_word(entry.kind)),
+            Part::Text(kind),
             Part::Text(b"\n"),
         ],
     )
@@ -100,7 +100,7 @@ fn write_line<'a, S: Sink>(
     ensures same { KeepsCount result (S.write_faults sink.old) (S.write_faults sink.new) }
     ensures by { S.by_write sink.old sink.new }
 {
-    let kind = kind_word(act.kind);
+    let kind = act.kind.letter().as_bytes();
     let (path, text) = (path.as_bytes(), text.as_bytes());
     match act.subject {
         Subject::Quota { percent, .. } => send(

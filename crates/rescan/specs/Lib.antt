@@ -4,3 +4,6 @@ pub mod Leaves
 pub mod Standings
 pub mod Tops
 pub mod Visits
+pub mod Beginnings
+pub mod Courses
+pub mod KeptQueue

@@ -102,8 +102,7 @@ impl Frontier {
         ensures looks { steps.new ≤ steps.old + 3 * length (under tree.now.nodes node) }
     {
         self.waiting.insert(node);
-        while let Some(next) = self.waiting.least() {
-            self.waiting.remove(next);
+        while let Some(next) = self.waiting.take_least() {
             if self.tops.contains(next) {
                 self.tops.remove(next);
             } else {

@@ -26,8 +26,7 @@ impl Frontier {
         ensures follows { Follows self.old self.new tree.now (visited tree.now.nodes (unvisited_of tree.now.nodes self.old)) }
         ensures looks { steps.new ≤ steps.old + visit_looks tree.now.nodes result }
     {
-        let folder = self.tops.least()?;
-        self.tops.remove(folder);
+        let folder = self.tops.take_least()?;
         self.sum += enter_children(tree, folder, &mut self.finger, &mut self.tops, steps);
         Some(folder)
     }
@@ -61,8 +60,7 @@ impl Frontier {
         let mut waiting = copied(alloc, &self.tops)?;
         let mut found = NumberSet::reserve(alloc, self.tops.bound())?;
         let mut finger = self.finger;
-        while let Some(next) = waiting.least() {
-            waiting.remove(next);
+        while let Some(next) = waiting.take_least() {
             found.insert(next);
             enter_children(tree, next, &mut finger, &mut waiting, steps);
         }
@@ -142,12 +140,10 @@ fn copied(alloc: Global, set: &NumberSet) -> Result<NumberSet, NoMemory>
 
 // Takes all members out of a set, and gives them, ascending.
 fn drained(alloc: Global, set: &mut NumberSet) -> Result<List<u32>, NoMemory>
-    requires { is_set set.old.members ≡ true }
     ensures { IfOk result (λ list. list ≡ set.old.members) }
 {
     let mut list = List::new(alloc);
-    while let Some(least) = set.least() {
-        set.remove(least);
+    while let Some(least) = set.take_least() {
         list.push(least)?;
     }
     Ok(list)

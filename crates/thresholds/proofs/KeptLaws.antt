@@ -1,13 +1,15 @@
 -- How marks are held after a number came or went, and after an entry.
 use Rattle.std.proofs.Common.{◌≡◌, ℕ, ◌≤◌, List, [], ◌∷◌, ◌++◌, length, sym, ◌∙◌, ap, subst}
+use Rattle.std.specs.Prelude.{drop}
 use Rattle.circular_buffer.specs.Buffer.{Buffer, buffer, keep_last}
-use Rattle.fsrm_base.specs.Numbers.{is_set, with_number, without_number}
-use Rattle.fsrm_base.proofs.NumberLaws.{set_with, set_without}
+use Rattle.fsrm_base.specs.Numbers.{is_set, with_number}
+use Rattle.fsrm_base.proofs.NumberLaws.{set_with}
 use Rattle.fsrm_model.specs.declared.row.ActRow.{ActRow}
 use Rattle.fsrm_model.specs.Limits.{most_entries}
 use Rattle.fsrm_model.specs.Runs.{last_entries}
 use Rattle.fsrm_model.proofs.thresholds.RunLaws.{few_entries}
 use Rattle.number_set.specs.Numbers.{Numbers}
+use Rattle.number_set.proofs.TakenLaws.{rest_set}
 use Rattle.thresholds.specs.Kept.{IsKept}
 
 -- ---- an entry more
@@ -36,10 +38,10 @@ number_kept numbers more log places n is kept = record {
   short = kept.short;
 }
 
-pub less_kept : (numbers less : Numbers) (log : Buffer ActRow) (places : Buffer ℕ) (n : ℕ) → less ≡ record numbers { members = without_number n numbers.members } → IsKept numbers log places → IsKept less log places
-less_kept numbers less log places n is kept = record {
+pub less_kept : (numbers less : Numbers) (log : Buffer ActRow) (places : Buffer ℕ) → less ≡ record numbers { members = drop 1 numbers.members } → IsKept numbers log places → IsKept less log places
+less_kept numbers less log places is kept = record {
   bound = ap (λ (s : Numbers). s.bound) is ∙ kept.bound;
-  ascending = ap (λ (s : Numbers). is_set s.members) is ∙ set_without n numbers.members kept.ascending;
+  ascending = ap (λ (s : Numbers). is_set s.members) is ∙ rest_set numbers.members kept.ascending;
   capacity = kept.capacity;
   few = kept.few;
   room = kept.room;

@@ -8,3 +8,4 @@ pub mod ListLaws
 pub mod OrderLaws
 pub mod Steps
 pub mod ScreenLaws
+pub mod RuleLaws

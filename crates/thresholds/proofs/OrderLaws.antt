@@ -1,12 +1,11 @@
 -- The acts that wait stand in their order, and the first of them goes first.
-use Rattle.std.proofs.Common.{◌≡◌, ℕ, zero, suc, ◌<◌, ◌≤◌, ◌==◌, Bool, true, false, cond, ◌||◌, ◌&&◌, not, List, [], ◌∷◌, length, Option, Some, None, refl, sym, ◌∙◌, ap, subst, arith, is_some, slice_get, nat_lt, nat_le}
+use Rattle.std.proofs.Common.{◌≡◌, ℕ, zero, suc, ◌<◌, ◌≤◌, ◌==◌, Bool, true, false, ◌||◌, ◌&&◌, not, List, [], ◌∷◌, length, Option, Some, None, refl, sym, ◌∙◌, ap, subst, arith, is_some, slice_get, nat_lt, nat_le}
 use Rattle.std.proofs.lemmas.Option.{same_Some}
 use Rattle.std.specs.List.{list_all, cons_option}
+use Rattle.std.specs.Prelude.{drop}
 use Rattle.fsrm_base.specs.Keyed.{is_ascending}
-use Rattle.fsrm_base.specs.Numbers.{itself, is_set, is_in, without_number}
-use Rattle.fsrm_base.proofs.EditedRows.{without_absent}
-use Rattle.fsrm_base.proofs.EditedTests.{list_all-filter}
-use Rattle.fsrm_base.proofs.NumberLaws.{first_least, first_once}
+use Rattle.fsrm_base.specs.Numbers.{is_set, is_in}
+use Rattle.fsrm_base.proofs.NumberLaws.{first_least}
 use Rattle.fsrm_base.proofs.TestLaws.{both, both_true, eq_same, eq_test, ge_is, le_is, lt_is, lt_test, or_later}
 use Rattle.fsrm_model.specs.declared.command.Act.{Act}
 use Rattle.fsrm_model.specs.declared.command.Subject.TheVariants.{Quota}
@@ -116,32 +115,23 @@ first_waits quotas n (m ∷ numbers) act o is less =
         (before_by quotas n m (orderly quotas o) (less m (ap (λ b. b || is_in numbers m) (eq_same m))) f g))) later
 
 -- ---- the least number goes
-without_first : (n : ℕ) (numbers : List ℕ) → is_set (n ∷ numbers) ≡ true → without_number n (n ∷ numbers) ≡ numbers
-without_first n numbers set =
-    ap (λ b. cond (not b) (n ∷ without_number n numbers) (without_number n numbers)) (eq_same n)
-    ∙ without_absent itself n numbers (first_once n numbers set)
-
 module _ (quotas : List QuotaRow) (n : ℕ) (act : Act) (is : act_at quotas n ≡ Some act) where
-  pub waits_first : (members : List ℕ) → slice_get members 0 ≡ Some n → is_set members ≡ true → waiting quotas members ≡ act ∷ waiting quotas (without_number n members)
-  waits_first [] least set = cc
-  waits_first (m ∷ numbers) least set =
-      let same : m ≡ n = same_Some m n least in
-      ap (λ k. waiting quotas (k ∷ numbers)) same
-      ∙ (ap (λ o. cons_option o (waiting quotas numbers)) is
-      ∙ ap (λ ns. act ∷ waiting quotas ns) (sym (ap (λ k. without_number n (k ∷ numbers)) same ∙ without_first n numbers (subst (λ k. is_set (k ∷ numbers) ≡ true) same set))))
+  pub waits_first : (members : List ℕ) → slice_get members 0 ≡ Some n → waiting quotas members ≡ act ∷ waiting quotas (drop 1 members)
+  waits_first [] least = cc
+  waits_first (m ∷ numbers) least =
+      ap (λ k. waiting quotas (k ∷ numbers)) (same_Some m n least) ∙ ap (λ o. cons_option o (waiting quotas numbers)) is
 
-  pub waits_later : (members : List ℕ) → are_orderly quotas ≡ true → slice_get members 0 ≡ Some n → is_set members ≡ true → list_all (act_before act) (waiting quotas (without_number n members)) ≡ true
+  pub waits_later : (members : List ℕ) → are_orderly quotas ≡ true → slice_get members 0 ≡ Some n → is_set members ≡ true → list_all (act_before act) (waiting quotas (drop 1 members)) ≡ true
   waits_later [] o least set = cc
   waits_later (m ∷ numbers) o least set =
-      let same : m ≡ n = same_Some m n least in
-      let own : is_set (n ∷ numbers) ≡ true = subst (λ k. is_set (k ∷ numbers) ≡ true) same set in
-      ap (λ ns. list_all (act_before act) (waiting quotas ns)) (ap (λ k. without_number n (k ∷ numbers)) same ∙ without_first n numbers own)
-      ∙ first_waits quotas n numbers act o is (λ k h. first_least n k numbers own h)
+      let own : is_set (n ∷ numbers) ≡ true = subst (λ k. is_set (k ∷ numbers) ≡ true) (same_Some m n least) set in
+      first_waits quotas n numbers act o is (λ k h. first_least n k numbers own h)
 
 -- if there is none, none waits
 pub none_waits : (quotas : List QuotaRow) (members : List ℕ) → slice_get members 0 ≡ None → waiting quotas members ≡ []
 none_waits quotas [] none = refl
 none_waits quotas (m ∷ members) none = cc
 
-pub there_less : (quotas : List QuotaRow) (n : ℕ) (members : List ℕ) → are_there quotas members ≡ true → are_there quotas (without_number n members) ≡ true
-there_less quotas n members h = list_all-filter (λ m. is_some (act_at quotas m)) (λ m. not (m == n)) members h
+pub there_less : (quotas : List QuotaRow) (members : List ℕ) → are_there quotas members ≡ true → are_there quotas (drop 1 members) ≡ true
+there_less quotas [] h = refl
+there_less quotas (m ∷ members) h = (both (is_some (act_at quotas m)) (are_there quotas members) h).1

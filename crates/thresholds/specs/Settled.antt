@@ -1,6 +1,6 @@
 -- What it is to settle a quota or a screen: its actions that are due run, and are marked.
 use Rattle.std.specs.Prelude.{◌≡◌, ℕ, ◌<◌, ◌||◌, ◌&&◌, not, nat_le, Bool, true, List, [], ◌++◌, map, length, slice_get, Option, Some, None, unwrap_or}
-use Rattle.std.specs.List.{list_all}
+use Rattle.std.specs.List.{list_all, list_any}
 use Rattle.std.specs.Option.{option_map_or}
 use Rattle.fsrm_base.specs.Keyed.{row_of, is_ascending}
 use Rattle.fsrm_model.specs.declared.command.Act.{Act}
@@ -12,7 +12,7 @@ use Rattle.fsrm_model.specs.Acts.{has_act}
 use Rattle.fsrm_model.specs.DueActions.{due_screen, ready_acts, quota_acts}
 use Rattle.fsrm_model.specs.Limits.{most_quotas}
 use Rattle.fsrm_model.specs.Quota.{folder_of}
-use Rattle.fsrm_model.specs.Reached.{has_reached}
+use Rattle.fsrm_model.specs.Reached.{has_reached, reaches}
 use Rattle.fsrm_model.specs.Runs.{run_quota, run_screen, last_entries, entry_of}
 use Rattle.fsrm_model.specs.Screens.{screen_folder}
 use Rattle.fsrm_model.specs.Thresholds.{percent_of, are_too_many}
@@ -34,6 +34,11 @@ are_orderly quotas =
 abbrev pub crosses : Option QuotaRow → Option ℕ → Option ℕ → QuotaRow → ℕ → Bool
 crosses before used_before used_after quota percent =
     has_reached quota percent used_after && not (has_reached (unwrap_or before quota) percent used_before)
+
+-- whether a quota that counts, and used so much before and uses so much now, crosses one of its thresholds
+abbrev pub crosses_any : QuotaRow → ℕ → ℕ → Bool
+crosses_any quota before now =
+    list_any (λ threshold. reaches quota.limit threshold.percent (Some now) && not (reaches quota.limit threshold.percent (Some before))) quota.thresholds
 
 -- the acts of a folder's quota that are due then
 abbrev pub due_in : Tables → Option QuotaRow → Option ℕ → Option ℕ → ℕ → ℕ → ℕ → List Act

@@ -11,6 +11,7 @@
 mod marks;
 mod rules;
 mod screens;
+mod spot;
 
 pub use marks::Marks;
-pub use rules::{crosses, has_percent, reached, ready};
+pub use rules::{crosses, crosses_any, has_percent, reached, ready};

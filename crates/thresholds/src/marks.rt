@@ -10,23 +10,17 @@ ghost use Rattle.fsrm_model.specs.Limits.{most_entries};
 ghost use Rattle.fsrm_model.specs.Quota.{folder_of};
 ghost use Rattle.fsrm_model.specs.Runs.{last_entries};
 ghost use Rattle.thresholds.specs.Marked.{act_at, action_at, all_waiting, are_screen_acts, are_there, most_marks, waiting};
-ghost use Rattle.thresholds.specs.Settled.{Settles, are_orderly, due_in, ready_in, IsThreshold, refused_in};
+ghost use Rattle.thresholds.specs.Settled.{Settles, are_orderly, due_in, ready_in, IsThreshold};
 
 use crate::rules::{crosses, ready};
+use crate::spot::{MOST_MARKS, Spot};
 use circular_buffer::HeapCircularBuffer;
-use fsrm_model::limits::{MOST_ACTIONS, MOST_ENTRIES, MOST_QUOTAS, MOST_THRESHOLDS};
+use fsrm_model::limits::{MOST_ACTIONS, MOST_ENTRIES};
 use fsrm_model::{Act, ActRow, Action, NoMemory, QuotaRow, Subject, Threshold};
 use fsrm_objects::Objects;
 use number_set::NumberSet;
 use std::alloc::Global;
 use std::marker::Model;
-
-// How many actions a threshold may have, a quota, and all quotas together.
-const PER_THRESHOLD: u32 = MOST_ACTIONS as u32;
-
-const PER_QUOTA: u32 = MOST_THRESHOLDS as u32 * PER_THRESHOLD;
-
-const MOST_MARKS: u32 = MOST_QUOTAS as u32 * PER_QUOTA;
 
 /// The actions of quotas and of a screen that ran and weren't handed out yet, and the log of those that ran, its last 1,024
 /// entries. All is in memory that is reserved once. Contracts see the numbers of the marked actions of quotas, ascending, the
@@ -74,7 +68,8 @@ impl Marks {
     /// are marked, have the moment as their last run, and come into the log.
     ///
     /// `before` is the row as it was before the command; None says that its limit and thresholds stayed. What the quota used is
-    /// None if it didn't count, or wasn't there. `run_limit` is in minutes.
+    /// None if it didn't count, or wasn't there. Of a quota that refuses a write, `used_after` is what it would have used then.
+    /// `run_limit` is in minutes.
     pub fn settle(
         &mut self,
         objects: &mut Objects,
@@ -103,34 +98,6 @@ impl Marks {
         }
     }
 
-    /// Settles the counting quota of a folder that refuses to use as many bytes as it would: of the thresholds that it hasn't
-    /// reached and would have, the actions that may run are marked, have the moment as their last run, and come into the log.
-    pub fn settle_refused(
-        &mut self,
-        objects: &mut Objects,
-        folder: u32,
-        would: u64,
-        used: u64,
-        run_limit: u32,
-        moment: u64,
-    )
-        requires quota { has_row folder_of folder objects.old.quotas ≡ true }
-        requires orderly { are_orderly objects.old.quotas ≡ true }
-        requires marked { are_there objects.old.quotas self.old.numbers ≡ true }
-        ensures settled { Settles self.old self.new objects.old objects.new moment (refused_in objects.old would used run_limit moment folder) }
-        ensures sorted { is_set self.new.numbers ≡ true }
-    {
-        self.settle(
-            objects,
-            folder,
-            None,
-            Some(used),
-            Some(would),
-            run_limit,
-            moment,
-        );
-    }
-
     // How marks are held, for methods that read no field of theirs: a read is what tells the checker.
     fn kept(&self)
         ensures sorted { is_set self.now.numbers ≡ true }
@@ -155,12 +122,16 @@ impl Marks {
         ensures sorted { is_set self.new.numbers ≡ true }
     {
         self.kept();
-        let first = quota * PER_QUOTA + threshold * PER_THRESHOLD;
         let count = threshold_at(objects.quota_at(quota), threshold)
             .actions
             .len() as u32;
-        for place in 0..count {
-            let number = first + place;
+        for action in 0..count {
+            let spot = Spot {
+                quota,
+                threshold,
+                action,
+            };
+            let number = spot.number();
             if ready(action_at(objects, number), run_limit, moment) {
                 self.run(objects, number, moment);
             }
@@ -216,8 +187,7 @@ impl Marks {
         ensures marked { are_there objects.now.quotas self.new.numbers ≡ true }
         ensures others { self.new ≡ record self.old { numbers = self.new.numbers } }
     {
-        let number = self.numbers.least()?;
-        self.numbers.remove(number);
+        let number = self.numbers.take_least()?;
         Some(act_at(objects, number))
     }
 
@@ -265,12 +235,9 @@ fn action_at(objects: &Objects, number: u32) -> &Action
     requires { is_some (act_at objects.now.quotas number) ≡ true }
     ensures { action_at objects.now.quotas number ≡ Some result.now }
 {
-    let quota = objects.quota_at(number / PER_QUOTA);
-    let threshold = threshold_at(quota, number % PER_QUOTA / PER_THRESHOLD);
-    threshold
-        .actions
-        .get((number % PER_THRESHOLD) as usize)
-        .unwrap()
+    let spot = Spot::of(number);
+    let threshold = threshold_at(objects.quota_at(spot.quota), spot.threshold);
+    threshold.actions.get(spot.action as usize).unwrap()
 }
 
 // The act of this action.
@@ -278,14 +245,14 @@ fn act_at(objects: &Objects, number: u32) -> Act
     requires { is_some (act_at objects.now.quotas number) ≡ true }
     ensures { act_at objects.now.quotas number ≡ Some result }
 {
-    let quota = objects.quota_at(number / PER_QUOTA);
-    let percent = threshold_at(quota, number % PER_QUOTA / PER_THRESHOLD).percent;
+    let spot = Spot::of(number);
+    let quota = objects.quota_at(spot.quota);
     Act {
         subject: Subject::Quota {
             folder: quota.folder,
-            percent,
+            percent: threshold_at(quota, spot.threshold).percent,
         },
-        place: (number % PER_THRESHOLD) as u16,
+        place: spot.action as u16,
         kind: action_at(objects, number).kind,
     }
 }

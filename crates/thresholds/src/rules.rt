@@ -6,7 +6,7 @@ ghost use Rattle.fsrm_base.specs.Keyed.{has_row};
 ghost use Rattle.fsrm_model.specs.DueActions.{minutes_of, ready};
 ghost use Rattle.fsrm_model.specs.Reached.{reaches, has_reached};
 ghost use Rattle.fsrm_model.specs.Thresholds.{percent_of};
-ghost use Rattle.thresholds.specs.Settled.{crosses};
+ghost use Rattle.thresholds.specs.Settled.{crosses, crosses_any};
 
 use fsrm_model::{Action, QuotaRow, Threshold};
 
@@ -74,4 +74,19 @@ pub fn crosses(
 {
     has_reached(quota, percent, used_after)
         && !has_reached(before.unwrap_or(quota), percent, used_before)
+}
+
+/// Whether a quota that counts, and used so much before and uses so much now, crosses one of its thresholds: it is reached
+/// now, and wasn't before. Both are in bytes.
+pub fn crosses_any(quota: &QuotaRow, before: u64, now: u64) -> bool
+    ensures { result ≡ crosses_any quota.now before now }
+{
+    // What is used must rise to reach anything new.
+    if now <= before {
+        return false;
+    }
+    quota.thresholds.as_slice().iter().any(|threshold| {
+        reached(quota.limit, threshold.percent, Some(now))
+            && !reached(quota.limit, threshold.percent, Some(before))
+    })
 }

@@ -8,6 +8,10 @@ pub mod QuoteCounts
 pub mod Lines
 pub mod LimitWords
 pub mod OptionLaws
+pub mod PathOption
+pub mod QuotaOptions
+pub mod RunLimitOption
+pub mod GroupOptions
 pub mod NamedWords
 pub mod Taken
 pub mod CommaLaws

@@ -6,13 +6,12 @@ use Rattle.std.specs.Option.{option_or}
 use Rattle.std.proofs.lemmas.List.{append-nil}
 use Rattle.std.proofs.lemmas.List.Elements.{filter_map-append}
 use Rattle.fsrm_model.specs.declared.command.Refusal.TheVariants.{BadLine}
-use Rattle.fsrm_model.specs.Options.{Key, ThePath, TheLimit, TheType, TheStatus, TheRunLimit, TheGroup, TheMembers, TheNonMembers, TheMode, may_repeat, Given, key_of, value_from, path_in, limit_in, type_in, status_in, removal_in, percent_in, notice_in, run_limit_in, group_in, members_in, non_members_in, mode_in, group_removal_in, group_addition_in, screen_notice_in, is_of, one, each_of, key_named, word_key, is_colon, with_option, options}
+use Rattle.fsrm_model.specs.Options.{Key, may_repeat, Given, key_of, value_from, is_of, one, each_of, key_named, word_key, is_colon, with_option, options}
 use Rattle.fsrm_model.specs.Reading.{Read, ◌>>=◌, guarded, known}
 use Rattle.fsrm_model.specs.Words.{Word}
 use Rattle.fsrm_model.proofs.lines.OptionLaws.{own_key}
-use Rattle.tool_commands.specs.OptionWords.{Holds, KeepsOnce, KeepsMore, option_word, Adds}
+use Rattle.tool_commands.specs.OptionWords.{KeepsOnce, KeepsMore, option_word, Adds}
 use Rattle.tool_commands.specs.LineFaults.{Reads}
-use Rattle.tool_commands.specs.declared.options.Given.{Given as Held}
 use Rattle.tool_commands.specs.declared.reading.LineFault.{LineFault}
 use Rattle.tool_commands.specs.declared.reading.LineFault.TheVariants.{Refused, NoMemory}
 
@@ -72,8 +71,8 @@ any_one value (first ∷ given) = at (value first) (one value given) (any_one va
     at (Some x) p h = refl
 
 -- an option that may be given once
-pub add_once : {X : Type 0} (key : Key) (column : ℕ) (text : List ℕ) (make : X → Given) (value : Given → Option X) (read : Read X) → may_repeat key ≡ false → ((given : List Given) → list_any (is_of key) given ≡ is_some (one value given)) → value_from key column text ≡ (read >>= λ x. Ok (make x)) → (place : Option X → Held) (given : List Given) (result : Result (Unit {0}) LineFault) (old slot : Option X) (code : Result X LineFault) → KeepsOnce result old slot column code → Reads code read → old ≡ one value given → ((x : X) → list_any (is_of key) given ≡ false → Holds (place (Some x)) (given ++ make x ∷ [])) → Adds result (place slot) (with_option key column text given)
-add_once {X} key column text make value read single has is place given result old slot code keeps reads held next = at old code keeps reads (has given ∙ ap is_some (sym held))
+pub add_once : {X V : Type 0} (holds : V → List Given → Type 0) (key : Key) (column : ℕ) (text : List ℕ) (make : X → Given) (value : Given → Option X) (read : Read X) → may_repeat key ≡ false → ((given : List Given) → list_any (is_of key) given ≡ is_some (one value given)) → value_from key column text ≡ (read >>= λ x. Ok (make x)) → (place : Option X → V) (given : List Given) (result : Result (Unit {0}) LineFault) (old slot : Option X) (code : Result X LineFault) → KeepsOnce result old slot column code → Reads code read → old ≡ one value given → ((x : X) → list_any (is_of key) given ≡ false → holds (place (Some x)) (given ++ make x ∷ [])) → Adds holds result (place slot) (with_option key column text given)
+add_once {X} {V} holds key column text make value read single has is place given result old slot code keeps reads held next = at old code keeps reads (has given ∙ ap is_some (sym held))
   where
     with_is : (b : Bool) → list_any (is_of key) given ≡ b → with_option key column text given ≡ (guarded (not b) (BadLine column) key >>= λ fresh. value_from fresh column text >>= λ x. Ok (given ++ x ∷ []))
     with_is b e = ap (λ (a : Bool). guarded (a || not (list_any (is_of key) given)) (BadLine column) key >>= λ fresh. value_from fresh column text >>= λ x. Ok (given ++ x ∷ [])) single ∙ ap (λ (b : Bool). guarded (not b) (BadLine column) key >>= λ fresh. value_from fresh column text >>= λ x. Ok (given ++ x ∷ [])) e
@@ -81,20 +80,20 @@ add_once {X} key column text make value read single has is place given result ol
     value_is : list_any (is_of key) given ≡ false → with_option key column text given ≡ ((read >>= λ x. Ok (make x)) >>= λ x. Ok (given ++ x ∷ []))
     value_is e = with_is false e ∙ ap (λ (r : Read Given). r >>= λ x. Ok (given ++ x ∷ [])) is
 
-    at : (old : Option X) (code : Result X LineFault) → KeepsOnce result old slot column code → Reads code read → list_any (is_of key) given ≡ is_some old → Adds result (place slot) (with_option key column text given)
-    at (Some o) code k r e = subst (λ (done : Result (Unit {0}) LineFault). Adds done (place slot) (with_option key column text given)) (sym k) (with_is true e)
+    at : (old : Option X) (code : Result X LineFault) → KeepsOnce result old slot column code → Reads code read → list_any (is_of key) given ≡ is_some old → Adds holds result (place slot) (with_option key column text given)
+    at (Some o) code k r e = subst (λ (done : Result (Unit {0}) LineFault). Adds holds done (place slot) (with_option key column text given)) (sym k) (with_is true e)
     at None (Ok x) k r e =
         let made = value_is e ∙ ap (λ (r : Read X). (r >>= λ x. Ok (make x)) >>= λ x. Ok (given ++ x ∷ [])) r in
-        subst (λ (done : Result (Unit {0}) LineFault). Adds done (place slot) (with_option key column text given)) (sym k.0)
-        (given ++ make x ∷ [], made, subst (λ (o : Option X). Holds (place o) (given ++ make x ∷ [])) (sym k.1) (next x e))
+        subst (λ (done : Result (Unit {0}) LineFault). Adds holds done (place slot) (with_option key column text given)) (sym k.0)
+        (given ++ make x ∷ [], made, subst (λ (o : Option X). holds (place o) (given ++ make x ∷ [])) (sym k.1) (next x e))
     at None (Err (Refused refusal)) k r e =
         let made = value_is e ∙ ap (λ (r : Read X). (r >>= λ x. Ok (make x)) >>= λ x. Ok (given ++ x ∷ [])) r in
-        subst (λ (done : Result (Unit {0}) LineFault). Adds done (place slot) (with_option key column text given)) (sym k) made
-    at None (Err NoMemory) k r e = subst (λ (done : Result (Unit {0}) LineFault). Adds done (place slot) (with_option key column text given)) (sym k) tt
+        subst (λ (done : Result (Unit {0}) LineFault). Adds holds done (place slot) (with_option key column text given)) (sym k) made
+    at None (Err NoMemory) k r e = subst (λ (done : Result (Unit {0}) LineFault). Adds holds done (place slot) (with_option key column text given)) (sym k) tt
 
 -- an option that may repeat
-pub add_again : {X : Type 0} (key : Key) (column : ℕ) (text : List ℕ) (make : X → Given) (read : Read X) → may_repeat key ≡ true → value_from key column text ≡ (read >>= λ x. Ok (make x)) → (place : List X → Held) (given : List Given) (result : Result (Unit {0}) LineFault) (old new : List X) (code : Result X LineFault) → KeepsMore result old new code → Reads code read → ((x : X) → Holds (place (old ++ x ∷ [])) (given ++ make x ∷ [])) → Adds result (place new) (with_option key column text given)
-add_again {X} key column text make read many is place given result old new code keeps reads next = at result code keeps reads
+pub add_again : {X V : Type 0} (holds : V → List Given → Type 0) (key : Key) (column : ℕ) (text : List ℕ) (make : X → Given) (read : Read X) → may_repeat key ≡ true → value_from key column text ≡ (read >>= λ x. Ok (make x)) → (place : List X → V) (given : List Given) (result : Result (Unit {0}) LineFault) (old new : List X) (code : Result X LineFault) → KeepsMore result old new code → Reads code read → ((x : X) → holds (place (old ++ x ∷ [])) (given ++ make x ∷ [])) → Adds holds result (place new) (with_option key column text given)
+add_again {X} {V} holds key column text make read many is place given result old new code keeps reads next = at result code keeps reads
   where
     with_is : with_option key column text given ≡ ((read >>= λ x. Ok (make x)) >>= λ x. Ok (given ++ x ∷ []))
     with_is =
@@ -104,50 +103,30 @@ add_again {X} key column text make read many is place given result old new code 
     made : (code : Read X) → read ≡ code → with_option key column text given ≡ ((code >>= λ x. Ok (make x)) >>= λ x. Ok (given ++ x ∷ []))
     made code r = with_is ∙ ap (λ (r : Read X). (r >>= λ x. Ok (make x)) >>= λ x. Ok (given ++ x ∷ [])) r
 
-    at : (result : Result (Unit {0}) LineFault) (code : Result X LineFault) → KeepsMore result old new code → Reads code read → Adds result (place new) (with_option key column text given)
-    at (Ok done) (Ok x) k r = (given ++ make x ∷ [], made (Ok x) r, subst (λ (list : List X). Holds (place list) (given ++ make x ∷ [])) (sym k) (next x))
+    at : (result : Result (Unit {0}) LineFault) (code : Result X LineFault) → KeepsMore result old new code → Reads code read → Adds holds result (place new) (with_option key column text given)
+    at (Ok done) (Ok x) k r = (given ++ make x ∷ [], made (Ok x) r, subst (λ (list : List X). holds (place list) (given ++ make x ∷ [])) (sym k) (next x))
     at (Ok done) (Err fault) k r = absurd k
-    at (Err fault) (Ok x) k r = subst (λ (f : LineFault). Adds (Err f) (place new) (with_option key column text given)) (sym k) tt
-    at (Err fault) (Err (Refused refusal)) k r = subst (λ (f : LineFault). Adds (Err f) (place new) (with_option key column text given)) (sym k) (made (Err refusal) r)
-    at (Err fault) (Err NoMemory) k r = subst (λ (f : LineFault). Adds (Err f) (place new) (with_option key column text given)) (sym k) tt
+    at (Err fault) (Ok x) k r = subst (λ (f : LineFault). Adds holds (Err f) (place new) (with_option key column text given)) (sym k) tt
+    at (Err fault) (Err (Refused refusal)) k r = subst (λ (f : LineFault). Adds holds (Err f) (place new) (with_option key column text given)) (sym k) (made (Err refusal) r)
+    at (Err fault) (Err NoMemory) k r = subst (λ (f : LineFault). Adds holds (Err f) (place new) (with_option key column text given)) (sym k) tt
 
--- What is held with one option more. If it may not repeat it wasn't given before
-abbrev longer : {X : Type 0} → List X → Option X → List X
+-- ---- what is held with one option more. If it may not repeat it wasn't given before
+abbrev pub longer : {X : Type 0} → List X → Option X → List X
 longer old None = old
 longer old (Some x) = old ++ x ∷ []
 
-abbrev newer : {X : Type 0} → Option X → Option X → Option X
+abbrev pub newer : {X : Type 0} → Option X → Option X → Option X
 newer old None = old
 newer old (Some x) = Some x
 
-abbrev with_more : Held → Given → Held
-with_more held next =
-    record {
-      path = newer held.path (path_in next);
-      limit = newer held.limit (limit_in next);
-      enforce = newer held.enforce (type_in next);
-      enabled = newer held.enabled (status_in next);
-      removed = longer held.removed (removal_in next);
-      added = longer held.added (percent_in next);
-      notices = longer held.notices (notice_in next);
-      run_limit = newer held.run_limit (run_limit_in next);
-      group = newer held.group (group_in next);
-      members = newer held.members (members_in next);
-      non_members = newer held.non_members (non_members_in next);
-      active = newer held.active (mode_in next);
-      removed_groups = longer held.removed_groups (group_removal_in next);
-      added_groups = longer held.added_groups (group_addition_in next);
-      actions = longer held.actions (screen_notice_in next);
-    }
-
-each_longer : {X : Type 0} (value : Given → Option X) (held : List X) (given : List Given) (next : Given) → held ≡ each_of value given → longer held (value next) ≡ each_of value (given ++ next ∷ [])
+pub each_longer : {X : Type 0} (value : Given → Option X) (held : List X) (given : List Given) (next : Given) → held ≡ each_of value given → longer held (value next) ≡ each_of value (given ++ next ∷ [])
 each_longer {X} value held given next h = at (value next) ∙ sym (filter_map-append value given (next ∷ []))
   where
     at : (o : Option X) → longer held o ≡ each_of value given ++ cons_option o []
     at None = h ∙ sym (append-nil (each_of value given))
     at (Some x) = ap (λ (list : List X). list ++ x ∷ []) h
 
-one_newer : {X : Type 0} (value : Given → Option X) (key : Key) (held : Option X) (given : List Given) (next : Given) → may_repeat key ≡ false → ((g : Given) → is_of key g ≡ is_some (value g)) → held ≡ one value given → (may_repeat (key_of next) ≡ false → list_any (is_of (key_of next)) given ≡ false) → newer held (value next) ≡ one value (given ++ next ∷ [])
+pub one_newer : {X : Type 0} (value : Given → Option X) (key : Key) (held : Option X) (given : List Given) (next : Given) → may_repeat key ≡ false → ((g : Given) → is_of key g ≡ is_some (value g)) → held ≡ one value given → (may_repeat (key_of next) ≡ false → list_any (is_of (key_of next)) given ≡ false) → newer held (value next) ≡ one value (given ++ next ∷ [])
 one_newer {X} value key held given next single of h free = at (value next) refl
   where
     any_of : (xs : List Given) → list_any (is_of key) xs ≡ is_some (one value xs)
@@ -167,26 +146,6 @@ one_newer {X} value key held given next single of h free = at (value next) refl
         let own : key ≡ key_of next = own_key key next (of next ∙ ap is_some e) in
         let none : one value given ≡ None = none_there (one value given) (sym (any_of given) ∙ ap (λ (k : Key). list_any (is_of k) given) own ∙ free (ap may_repeat (sym own) ∙ single)) in
         sym (one_more value given next ∙ ap (λ (o : Option X). option_or o (value next)) none ∙ e)
-
-pub held_more : (held : Held) (given : List Given) (next : Given) → Holds held given → (may_repeat (key_of next) ≡ false → list_any (is_of (key_of next)) given ≡ false) → Holds (with_more held next) (given ++ next ∷ [])
-held_more held given next h free =
-    record {
-      path = one_newer path_in ThePath held.path given next refl (λ g. refl) h.path free;
-      limit = one_newer limit_in TheLimit held.limit given next refl (λ g. refl) h.limit free;
-      enforce = one_newer type_in TheType held.enforce given next refl (λ g. refl) h.enforce free;
-      enabled = one_newer status_in TheStatus held.enabled given next refl (λ g. refl) h.enabled free;
-      removed = each_longer removal_in held.removed given next h.removed;
-      added = each_longer percent_in held.added given next h.added;
-      notices = each_longer notice_in held.notices given next h.notices;
-      run_limit = one_newer run_limit_in TheRunLimit held.run_limit given next refl (λ g. refl) h.run_limit free;
-      group = one_newer group_in TheGroup held.group given next refl (λ g. refl) h.group free;
-      members = one_newer members_in TheMembers held.members given next refl (λ g. refl) h.members free;
-      non_members = one_newer non_members_in TheNonMembers held.non_members given next refl (λ g. refl) h.non_members free;
-      active = one_newer mode_in TheMode held.active given next refl (λ g. refl) h.active free;
-      removed_groups = each_longer group_removal_in held.removed_groups given next h.removed_groups;
-      added_groups = each_longer group_addition_in held.added_groups given next h.added_groups;
-      actions = each_longer screen_notice_in held.actions given next h.actions;
-    }
 
 -- one more word
 pub word_more : (keys : List Key) (word : Word) (words : List Word) (given more : List Given) → option_word keys word given ≡ Ok more → options keys (word ∷ words) given ≡ options keys words more

@@ -2,5 +2,10 @@ pub mod LineFaults
 pub mod Lengths
 pub mod Taking
 pub mod OptionWords
+pub mod PathOption
+pub mod QuotaOptions
+pub mod RunLimitOption
+pub mod GroupOptions
+pub mod ScreenOptions
 pub mod ActionParts
 pub mod Numerals

@@ -13,7 +13,7 @@ ghost use Rattle.tool_commands.specs.LineFaults.{Reads};
 use crate::reading::LineFault;
 use crate::values::{is_named, read_number};
 use fsrm_model::limits::{GREATEST_PERCENT, LONGEST_ACTION_TEXT, MOST_MINUTES};
-use fsrm_model::{Action, ActionKind, Added, NoMemory, Refusal, Text};
+use fsrm_model::{Action, ActionKind, Added, Refusal, Text};
 use std::alloc::Global;
 
 /// The percentage that a text of a word at this column is: 1 to 250.
@@ -47,22 +47,20 @@ fn read_minutes(text: &str, column: usize) -> Result<i32, LineFault>
     Ok(minutes as i32)
 }
 
+const KINDS: [ActionKind; 4] = [
+    ActionKind::Event,
+    ActionKind::Mail,
+    ActionKind::Program,
+    ActionKind::Report,
+];
+
 fn kind_named(word: &str) -> Option<ActionKind>
     ensures { result ≡ kind_named word.now }
 {
-    if is_named("e", word) {
-        return Some(ActionKind::Event);
-    }
-    if is_named("m", word) {
-        return Some(ActionKind::Mail);
-    }
-    if is_named("c", word) {
-        return Some(ActionKind::Program);
-    }
-    if is_named("r", word) {
-        return Some(ActionKind::Report);
-    }
-    None
+    KINDS
+        .iter()
+        .find(|kind| is_named(kind.letter(), word))
+        .copied()
 }
 
 // Whether no byte is a control character.
@@ -84,10 +82,7 @@ fn read_text(alloc: Global, text: &str) -> Result<Text, LineFault>
     if !is_action_text(text) {
         return Err(LineFault::Refused(Refusal::InvalidName));
     }
-    match Text::from_str(alloc, text) {
-        Ok(text) => Ok(text),
-        Err(NoMemory) => Err(LineFault::NoMemory),
-    }
+    Ok(Text::from_str(alloc, text)?)
 }
 
 // What stands before the first comma of a text, and what stands after it.

@@ -1,13 +1,16 @@
 //! The commands on the settings of the service and on the log of actions, and which commands a tool has.
 
-ghost use Rattle.std.specs.Prelude.{[]};
+ghost use Rattle.std.specs.Prelude.{◌≡◌};
 ghost use Rattle.fsrm_model.specs.declared.command.Deed.TheVariants.{AdminList, AdminLog};
 ghost use Rattle.fsrm_model.specs.Line.{option_words, named_word, tool_words};
+ghost use Rattle.fsrm_model.specs.Options.{TheRunLimit};
 ghost use Rattle.fsrm_model.specs.Tools.{admin_commands, admin_options, alone, dirquota};
+ghost use Rattle.tool_commands.specs.RunLimitOption.{HoldsRunLimit};
 ghost use Rattle.tool_commands.specs.LineFaults.{Reads};
 ghost use Rattle.tool_commands.specs.Taking.{left, end, line_word, named_by};
 
-use crate::options::{Key, read_options};
+use crate::actions::read_run_limit;
+use crate::options::{OptionKey, Values, once, read_options};
 use crate::quotas::quota;
 use crate::reading::LineFault;
 use crate::values::is_named;
@@ -15,26 +18,64 @@ use crate::words::{Word, Words};
 use fsrm_model::Deed;
 use std::alloc::Global;
 
+/// The one option of the settings.
+#[derive(Clone, Copy)]
+pub struct RunLimitKey;
+
+impl OptionKey for RunLimitKey {
+    ghost line_key = { λ _. TheRunLimit };
+
+    fn name(self) -> &'static str {
+        "/RunLimitInterval"
+    }
+}
+
+/// What it gives.
+#[derive(Drop)]
+pub struct RunLimitOption {
+    /// In minutes.
+    run_limit: Option<u32>,
+}
+
+impl Values for RunLimitOption {
+    type Key = RunLimitKey;
+
+    ghost holds = { HoldsRunLimit };
+
+    fn nothing(_alloc: Global) -> RunLimitOption {
+        RunLimitOption { run_limit: None }
+    }
+
+    fn add(
+        &mut self,
+        _alloc: Global,
+        _key: RunLimitKey,
+        column: usize,
+        value: &str,
+    ) -> Result<(), LineFault> {
+        once(&mut self.run_limit, column, read_run_limit(value, column))
+    }
+}
+
 fn options(alloc: Global, words: &mut Words<'_>) -> Result<Deed, LineFault>
     ensures { Reads result (option_words admin_options (end words.old) (left words.old)) }
 {
-    let given = read_options(alloc, &[Key::RunLimit], words)?;
+    let given: RunLimitOption = read_options(alloc, &[RunLimitKey], words)?;
     let run_limit = given.run_limit.ok_or(LineFault::bad_line(words.end()))?;
     Ok(Deed::AdminOptions { run_limit })
 }
 
-// A command without options.
-fn list(alloc: Global, words: &mut Words<'_>) -> Result<Deed, LineFault>
-    ensures { Reads result (option_words (alone AdminList) (end words.old) (left words.old)) }
+fn list(words: &Words<'_>) -> Result<Deed, LineFault>
+    ensures { Reads result (option_words (alone AdminList) (end words.now) (left words.now)) }
 {
-    read_options(alloc, &[], words)?;
+    words.finish()?;
     Ok(Deed::AdminList)
 }
 
-fn log(alloc: Global, words: &mut Words<'_>) -> Result<Deed, LineFault>
-    ensures { Reads result (option_words (alone AdminLog) (end words.old) (left words.old)) }
+fn log(words: &Words<'_>) -> Result<Deed, LineFault>
+    ensures { Reads result (option_words (alone AdminLog) (end words.now) (left words.now)) }
 {
-    read_options(alloc, &[], words)?;
+    words.finish()?;
     Ok(Deed::AdminLog)
 }
 
@@ -46,10 +87,10 @@ fn deed(alloc: Global, name: &Word<'_>, words: &mut Words<'_>) -> Result<Deed, L
         return options(alloc, words);
     }
     if is_named("list", word) {
-        return list(alloc, words);
+        return list(words);
     }
     if is_named("log", word) {
-        return log(alloc, words);
+        return log(words);
     }
     Err(LineFault::bad_line(name.column))
 }

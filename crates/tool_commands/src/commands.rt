@@ -2,8 +2,8 @@
 
 ghost use Rattle.std.specs.Prelude.{◌≡◌, Ok, Some};
 ghost use Rattle.fsrm_model.specs.Line.{mkdir_words, create_words, resize_words, touch_words, move_words, remove_words, usage_words, step_words, readers, deed_words, tool_words};
-ghost use Rattle.fsrm_model.specs.Tools.{dirquota, filescrn};
-ghost use Rattle.tool_commands.specs.LineFaults.{IsLast, ReadsWords, at_moment};
+ghost use Rattle.fsrm_model.specs.Tools.{dirquota, filescrn, tools};
+ghost use Rattle.tool_commands.specs.LineFaults.{ReadsWords, at_moment};
 ghost use Rattle.tool_commands.specs.Taking.{left, end, lent_word, named_by};
 
 use crate::admin::dirquota;
@@ -13,16 +13,6 @@ use crate::values::is_named;
 use crate::words::{LentWord, Words};
 use fsrm_model::{Command, Deed, FileOp};
 use std::alloc::Global;
-
-// Passes only if no word is left.
-fn finish(words: &Words<'_>) -> Result<(), LineFault>
-    ensures { IsLast result (left words.now) }
-{
-    match words.next_column() {
-        Some(column) => Err(LineFault::bad_line(column)),
-        None => Ok(()),
-    }
-}
 
 // What is to be done, at its moment.
 fn at(moment: u64, deed: Deed) -> Result<Option<Command>, LineFault>
@@ -36,7 +26,7 @@ fn mkdir(alloc: Global, moment: u64, words: &mut Words<'_>) -> Result<Option<Com
 {
     let path = words.path(alloc)?;
     let owner = words.owner(alloc)?;
-    finish(words)?;
+    words.finish()?;
     at(moment, Deed::File(FileOp::Mkdir { path, owner }))
 }
 
@@ -46,7 +36,7 @@ fn create(alloc: Global, moment: u64, words: &mut Words<'_>) -> Result<Option<Co
     let path = words.path(alloc)?;
     let length = words.length(alloc)?;
     let owner = words.owner(alloc)?;
-    finish(words)?;
+    words.finish()?;
     let file = FileOp::Create {
         path,
         length,
@@ -60,7 +50,7 @@ fn resize(alloc: Global, moment: u64, words: &mut Words<'_>) -> Result<Option<Co
 {
     let path = words.path(alloc)?;
     let length = words.length(alloc)?;
-    finish(words)?;
+    words.finish()?;
     at(moment, Deed::File(FileOp::Resize { path, length }))
 }
 
@@ -68,7 +58,7 @@ fn touch(alloc: Global, moment: u64, words: &mut Words<'_>) -> Result<Option<Com
     ensures { ReadsWords result (at_moment moment (touch_words (end words.old) (left words.old))) }
 {
     let path = words.path(alloc)?;
-    finish(words)?;
+    words.finish()?;
     at(moment, Deed::File(FileOp::Touch { path }))
 }
 
@@ -81,7 +71,7 @@ fn move_node(
 {
     let from = words.path(alloc)?;
     let to = words.path(alloc)?;
-    finish(words)?;
+    words.finish()?;
     at(moment, Deed::File(FileOp::Move { from, to }))
 }
 
@@ -89,7 +79,7 @@ fn remove(alloc: Global, moment: u64, words: &mut Words<'_>) -> Result<Option<Co
     ensures { ReadsWords result (at_moment moment (remove_words (end words.old) (left words.old))) }
 {
     let path = words.path(alloc)?;
-    finish(words)?;
+    words.finish()?;
     at(moment, Deed::File(FileOp::Remove { path }))
 }
 
@@ -97,7 +87,7 @@ fn usage(alloc: Global, moment: u64, words: &mut Words<'_>) -> Result<Option<Com
     ensures { ReadsWords result (at_moment moment (usage_words (end words.old) (left words.old))) }
 {
     let path = words.path(alloc)?;
-    finish(words)?;
+    words.finish()?;
     at(moment, Deed::Usage { path })
 }
 
@@ -105,25 +95,43 @@ fn step(alloc: Global, moment: u64, words: &mut Words<'_>) -> Result<Option<Comm
     ensures { ReadsWords result (at_moment moment (step_words (end words.old) (left words.old))) }
 {
     let n = words.visits(alloc)?;
-    finish(words)?;
+    words.finish()?;
     at(moment, Deed::Step { n })
 }
 
-// What the words after the name of the quotas' tool spell. It stands apart, since these commands take more room than the
-// others.
-#[inline(never)]
+// What the words after `dirquota` spell, at a moment.
 fn quotas(alloc: Global, moment: u64, words: &mut Words<'_>) -> Result<Option<Command>, LineFault>
     ensures { ReadsWords result (at_moment moment (tool_words dirquota (end words.old) (left words.old))) }
 {
     at(moment, dirquota(alloc, words)?)
 }
 
-// What the words after the name of the screens' tool spell.
-#[inline(never)]
+// What the words after `filescrn` spell, at a moment.
 fn screens(alloc: Global, moment: u64, words: &mut Words<'_>) -> Result<Option<Command>, LineFault>
     ensures { ReadsWords result (at_moment moment (tool_words filescrn (end words.old) (left words.old))) }
 {
     at(moment, filescrn(alloc, words)?)
+}
+
+// What a tool's name and the words after it spell, at a moment. It stands apart, since these commands take more room
+// than the others.
+#[inline(never)]
+fn tool(
+    alloc: Global,
+    moment: u64,
+    name: &LentWord<'_>,
+    words: &mut Words<'_>,
+) -> Result<Option<Command>, LineFault>
+    ensures { ReadsWords result (at_moment moment (named_by tools (lent_word name.now) (λ objects. tool_words objects (end words.old) (left words.old)))) }
+{
+    let word = name.text;
+    if is_named("dirquota", word) {
+        return quotas(alloc, moment, words);
+    }
+    if is_named("filescrn", word) {
+        return screens(alloc, moment, words);
+    }
+    Err(LineFault::bad_line(name.column))
 }
 
 /// What a command's name and the words after it spell, at its moment.
@@ -163,13 +171,7 @@ pub fn deed(
     if is_named("step", word) {
         return step(alloc, moment, words);
     }
-    if is_named("dirquota", word) {
-        return quotas(alloc, moment, words);
-    }
-    if is_named("filescrn", word) {
-        return screens(alloc, moment, words);
-    }
-    Err(LineFault::bad_line(name.column))
+    tool(alloc, moment, name, words)
 }
 
 /// The same if the name has quotes or is missing.

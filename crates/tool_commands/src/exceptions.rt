@@ -7,17 +7,22 @@ ghost use Rattle.fsrm_model.specs.Tools.{alone, except_add, except_commands, of_
 ghost use Rattle.tool_commands.specs.LineFaults.{Reads};
 ghost use Rattle.tool_commands.specs.Taking.{left, end, line_word, named_by};
 
-use crate::options::{Key, read_options};
+use crate::options::read_options;
+use crate::paths::path_alone;
 use crate::reading::LineFault;
+use crate::screens::{ScreenKey, ScreenOptions};
 use crate::values::is_named;
 use crate::words::{Word, Words};
 use fsrm_model::Deed;
 use std::alloc::Global;
 
+/// What may be given of an exception.
+const KEYS: [ScreenKey; 2] = [ScreenKey::Path, ScreenKey::AddGroup];
+
 fn add(alloc: Global, words: &mut Words<'_>) -> Result<Deed, LineFault>
     ensures { Reads result (option_words except_add (end words.old) (left words.old)) }
 {
-    let given = read_options(alloc, &[Key::Path, Key::AddGroup], words)?;
+    let given: ScreenOptions = read_options(alloc, &KEYS, words)?;
     let missing = LineFault::bad_line(words.end());
     let path = given.path.ok_or(missing)?;
     if given.added_groups.is_empty() {
@@ -32,15 +37,14 @@ fn add(alloc: Global, words: &mut Words<'_>) -> Result<Deed, LineFault>
 fn delete(alloc: Global, words: &mut Words<'_>) -> Result<Deed, LineFault>
     ensures { Reads result (option_words (of_path ExceptionDelete) (end words.old) (left words.old)) }
 {
-    let given = read_options(alloc, &[Key::Path], words)?;
-    let path = given.path.ok_or(LineFault::bad_line(words.end()))?;
+    let path = path_alone(alloc, words)?;
     Ok(Deed::ExceptionDelete { path })
 }
 
-fn list(alloc: Global, words: &mut Words<'_>) -> Result<Deed, LineFault>
-    ensures { Reads result (option_words (alone ExceptionList) (end words.old) (left words.old)) }
+fn list(words: &Words<'_>) -> Result<Deed, LineFault>
+    ensures { Reads result (option_words (alone ExceptionList) (end words.now) (left words.now)) }
 {
-    read_options(alloc, &[], words)?;
+    words.finish()?;
     Ok(Deed::ExceptionList)
 }
 
@@ -55,7 +59,7 @@ fn deed(alloc: Global, name: &Word<'_>, words: &mut Words<'_>) -> Result<Deed, L
         return delete(alloc, words);
     }
     if is_named("list", word) {
-        return list(alloc, words);
+        return list(words);
     }
     Err(LineFault::bad_line(name.column))
 }

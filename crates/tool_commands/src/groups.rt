@@ -4,25 +4,90 @@ ghost use Rattle.std.specs.Prelude.{◌≡◌};
 ghost use Rattle.fsrm_model.specs.declared.command.Deed.TheVariants.{FilegroupList};
 ghost use Rattle.fsrm_model.specs.Line.{option_words, named_word};
 ghost use Rattle.fsrm_model.specs.Tools.{alone, group_add, group_commands, group_delete, group_modify};
+ghost use Rattle.tool_commands.specs.GroupOptions.{HoldsGroup, group_key};
 ghost use Rattle.tool_commands.specs.LineFaults.{Reads};
 ghost use Rattle.tool_commands.specs.Taking.{left, end, line_word, named_by};
 
-use crate::options::{Key, read_options};
+use crate::options::{OptionKey, Values, once, read_options};
+use crate::patterns::{read_non_members, read_object_name, read_patterns};
 use crate::reading::LineFault;
 use crate::values::is_named;
 use crate::words::{Word, Words};
-use fsrm_model::{Deed, List};
+use fsrm_model::{Deed, List, Text};
 use std::alloc::Global;
 
+/// An option of a file group.
+#[derive(Clone, Copy)]
+pub enum GroupKey {
+    Name,
+    Members,
+    NonMembers,
+}
+
+impl OptionKey for GroupKey {
+    ghost line_key = { group_key };
+
+    fn name(self) -> &'static str {
+        match self {
+            GroupKey::Name => "/Filegroup",
+            GroupKey::Members => "/Members",
+            GroupKey::NonMembers => "/NonMembers",
+        }
+    }
+}
+
 /// What may be given of a file group.
-const KEYS: [Key; 3] = [Key::Group, Key::Members, Key::NonMembers];
+const KEYS: [GroupKey; 3] = [GroupKey::Name, GroupKey::Members, GroupKey::NonMembers];
+
+/// What was given of it.
+#[derive(Drop)]
+pub struct GroupOptions {
+    name: Option<Text>,
+    /// The patterns of its members.
+    members: Option<List<Text>>,
+    non_members: Option<List<Text>>,
+}
+
+impl Values for GroupOptions {
+    type Key = GroupKey;
+
+    ghost holds = { HoldsGroup };
+
+    fn nothing(_alloc: Global) -> GroupOptions {
+        GroupOptions {
+            name: None,
+            members: None,
+            non_members: None,
+        }
+    }
+
+    fn add(
+        &mut self,
+        alloc: Global,
+        key: GroupKey,
+        column: usize,
+        value: &str,
+    ) -> Result<(), LineFault> {
+        match key {
+            GroupKey::Name => once(&mut self.name, column, read_object_name(alloc, value)),
+            GroupKey::Members => once(&mut self.members, column, read_patterns(alloc, value)),
+            GroupKey::NonMembers => {
+                once(
+                    &mut self.non_members,
+                    column,
+                    read_non_members(alloc, value),
+                )
+            }
+        }
+    }
+}
 
 fn add(alloc: Global, words: &mut Words<'_>) -> Result<Deed, LineFault>
     ensures { Reads result (option_words group_add (end words.old) (left words.old)) }
 {
-    let given = read_options(alloc, &KEYS, words)?;
+    let given: GroupOptions = read_options(alloc, &KEYS, words)?;
     let missing = LineFault::bad_line(words.end());
-    let filegroup = given.group.ok_or(missing)?;
+    let filegroup = given.name.ok_or(missing)?;
     let members = given.members.ok_or(missing)?;
     Ok(Deed::FilegroupAdd {
         filegroup,
@@ -34,8 +99,8 @@ fn add(alloc: Global, words: &mut Words<'_>) -> Result<Deed, LineFault>
 fn modify(alloc: Global, words: &mut Words<'_>) -> Result<Deed, LineFault>
     ensures { Reads result (option_words group_modify (end words.old) (left words.old)) }
 {
-    let given = read_options(alloc, &KEYS, words)?;
-    let filegroup = given.group.ok_or(LineFault::bad_line(words.end()))?;
+    let given: GroupOptions = read_options(alloc, &KEYS, words)?;
+    let filegroup = given.name.ok_or(LineFault::bad_line(words.end()))?;
     Ok(Deed::FilegroupModify {
         filegroup,
         members: given.members,
@@ -46,15 +111,15 @@ fn modify(alloc: Global, words: &mut Words<'_>) -> Result<Deed, LineFault>
 fn delete(alloc: Global, words: &mut Words<'_>) -> Result<Deed, LineFault>
     ensures { Reads result (option_words group_delete (end words.old) (left words.old)) }
 {
-    let given = read_options(alloc, &[Key::Group], words)?;
-    let filegroup = given.group.ok_or(LineFault::bad_line(words.end()))?;
+    let given: GroupOptions = read_options(alloc, &[GroupKey::Name], words)?;
+    let filegroup = given.name.ok_or(LineFault::bad_line(words.end()))?;
     Ok(Deed::FilegroupDelete { filegroup })
 }
 
-fn list(alloc: Global, words: &mut Words<'_>) -> Result<Deed, LineFault>
-    ensures { Reads result (option_words (alone FilegroupList) (end words.old) (left words.old)) }
+fn list(words: &Words<'_>) -> Result<Deed, LineFault>
+    ensures { Reads result (option_words (alone FilegroupList) (end words.now) (left words.now)) }
 {
-    read_options(alloc, &[], words)?;
+    words.finish()?;
     Ok(Deed::FilegroupList)
 }
 
@@ -72,7 +137,7 @@ fn deed(alloc: Global, name: &Word<'_>, words: &mut Words<'_>) -> Result<Deed, L
         return delete(alloc, words);
     }
     if is_named("list", word) {
-        return list(alloc, words);
+        return list(words);
     }
     Err(LineFault::bad_line(name.column))
 }

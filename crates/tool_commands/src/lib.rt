@@ -11,6 +11,7 @@ mod exceptions;
 mod groups;
 mod limits;
 mod options;
+mod paths;
 mod patterns;
 mod quotas;
 mod reading;

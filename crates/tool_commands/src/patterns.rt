@@ -40,10 +40,7 @@ pub fn read_object_name(alloc: Global, text: &str) -> Result<Text, LineFault>
     if !is_object_name(text) {
         return Err(LineFault::Refused(Refusal::InvalidName));
     }
-    match Text::from_str(alloc, text) {
-        Ok(name) => Ok(name),
-        Err(NoMemory) => Err(LineFault::NoMemory),
-    }
+    Ok(Text::from_str(alloc, text)?)
 }
 
 // Whether each part of a text between bars is a pattern.
@@ -82,10 +79,7 @@ pub fn read_patterns(alloc: Global, text: &str) -> Result<List<Text>, LineFault>
     if !are_few(text) {
         return Err(LineFault::Refused(Refusal::OutOfRange));
     }
-    match copied_parts(alloc, text) {
-        Ok(patterns) => Ok(patterns),
-        Err(NoMemory) => Err(LineFault::NoMemory),
-    }
+    Ok(copied_parts(alloc, text)?)
 }
 
 /// The same; an empty text is none.

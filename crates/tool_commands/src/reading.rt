@@ -8,12 +8,12 @@ ghost use Rattle.fsrm_model.specs.Line.{read_line, read_words, is_skipped};
 ghost use Rattle.fsrm_model.specs.Valued.{is_command};
 ghost use Rattle.fsrm_model.specs.Words.{is_quote, is_closed, last_quote};
 ghost use Rattle.tool_commands.specs.LineFaults.{IsFault, ReadsWords};
-ghost use Rattle.tool_commands.specs.declared.reading.LineFault.TheVariants.{Refused};
+ghost use Rattle.tool_commands.specs.declared.reading.LineFault.TheVariants.{Refused, NoMemory as Memory};
 
 use crate::commands::{deed, other_deed};
 use crate::words::{Words, blanks};
 use fsrm_model::limits::LONGEST_LINE;
-use fsrm_model::{Command, Refusal};
+use fsrm_model::{Command, NoMemory, Refusal};
 use memchr::{memchr_iter, memrchr};
 use std::alloc::Global;
 use std::str;
@@ -36,6 +36,14 @@ impl LineFault {
     {
         let column = column as u32;
         LineFault::Refused(Refusal::BadLine { column })
+    }
+}
+
+impl From<NoMemory> for LineFault {
+    ghost from_gives = { λ _ fault. fault ≡ Memory };
+
+    fn from(_error: NoMemory) -> Self {
+        LineFault::NoMemory
     }
 }
 

@@ -5,27 +5,116 @@ ghost use Rattle.fsrm_model.specs.declared.command.Deed.TheVariants.{ScreenDelet
 ghost use Rattle.fsrm_model.specs.Line.{option_words, named_word, tool_words};
 ghost use Rattle.fsrm_model.specs.Tools.{alone, filescrn, of_path, screen_add, screen_commands, screen_modify};
 ghost use Rattle.tool_commands.specs.LineFaults.{Reads};
+ghost use Rattle.tool_commands.specs.ScreenOptions.{HoldsScreen, screen_key};
 ghost use Rattle.tool_commands.specs.Taking.{left, end, line_word, named_by};
 
+use crate::actions::read_screen_action;
 use crate::exceptions::exception;
 use crate::groups::filegroup;
-use crate::options::{Key, read_options};
+use crate::options::{OptionKey, Values, again, once, read_options};
+use crate::paths::path_alone;
+use crate::patterns::read_object_name;
 use crate::reading::LineFault;
-use crate::values::is_named;
+use crate::values::{is_named, read_choice, read_path_word};
 use crate::words::{Word, Words};
-use fsrm_model::Deed;
+use fsrm_model::{Action, Deed, List, Path, Text};
 use std::alloc::Global;
 
+/// An option of a screen. An exception has two of them, the path and the groups that are to come.
+#[derive(Clone, Copy)]
+pub enum ScreenKey {
+    Path,
+    Active,
+    RemoveGroup,
+    AddGroup,
+    AddAction,
+}
+
+impl OptionKey for ScreenKey {
+    ghost line_key = { screen_key };
+
+    fn name(self) -> &'static str {
+        match self {
+            ScreenKey::Path => "/Path",
+            ScreenKey::Active => "/Type",
+            ScreenKey::RemoveGroup => "/Remove-Filegroup",
+            ScreenKey::AddGroup => "/Add-Filegroup",
+            ScreenKey::AddAction => "/Add-Notification",
+        }
+    }
+}
+
 /// What may be given of a new screen.
-const ADD_KEYS: [Key; 4] = [Key::Path, Key::Active, Key::AddGroup, Key::AddAction];
+const ADD_KEYS: [ScreenKey; 4] = [
+    ScreenKey::Path,
+    ScreenKey::Active,
+    ScreenKey::AddGroup,
+    ScreenKey::AddAction,
+];
 
 /// What may be given of one that is there.
-const MODIFY_KEYS: [Key; 4] = [Key::Path, Key::Active, Key::RemoveGroup, Key::AddGroup];
+const MODIFY_KEYS: [ScreenKey; 4] = [
+    ScreenKey::Path,
+    ScreenKey::Active,
+    ScreenKey::RemoveGroup,
+    ScreenKey::AddGroup,
+];
+
+/// What was given of a screen or of an exception.
+#[derive(Drop)]
+pub struct ScreenOptions {
+    pub path: Option<Path>,
+    active: Option<bool>,
+    /// The names of file groups that are to go, in the order of the words.
+    removed_groups: List<Text>,
+    /// Those that are to come.
+    pub added_groups: List<Text>,
+    actions: List<Action>,
+}
+
+impl Values for ScreenOptions {
+    type Key = ScreenKey;
+
+    ghost holds = { HoldsScreen };
+
+    fn nothing(alloc: Global) -> ScreenOptions {
+        ScreenOptions {
+            path: None,
+            active: None,
+            removed_groups: List::new(alloc),
+            added_groups: List::new(alloc),
+            actions: List::new(alloc),
+        }
+    }
+
+    fn add(
+        &mut self,
+        alloc: Global,
+        key: ScreenKey,
+        column: usize,
+        value: &str,
+    ) -> Result<(), LineFault> {
+        match key {
+            ScreenKey::Path => once(&mut self.path, column, read_path_word(alloc, value)),
+            ScreenKey::Active => {
+                let active = read_choice("active", "passive", value, column);
+                once(&mut self.active, column, active)
+            }
+            ScreenKey::RemoveGroup => {
+                again(&mut self.removed_groups, read_object_name(alloc, value))
+            }
+            ScreenKey::AddGroup => again(&mut self.added_groups, read_object_name(alloc, value)),
+            ScreenKey::AddAction => {
+                again(&mut self.actions, read_screen_action(alloc, value, column))
+            }
+        }
+    }
+}
 
 fn add(alloc: Global, words: &mut Words<'_>) -> Result<Deed, LineFault>
     ensures { Reads result (option_words screen_add (end words.old) (left words.old)) }
 {
-    let given = read_options(alloc, &ADD_KEYS, words)?;
+    let given: ScreenOptions = read_options(alloc, &ADD_KEYS, words)?;
     let missing = LineFault::bad_line(words.end());
     let path = given.path.ok_or(missing)?;
     if given.added_groups.is_empty() {
@@ -42,7 +131,7 @@ fn add(alloc: Global, words: &mut Words<'_>) -> Result<Deed, LineFault>
 fn modify(alloc: Global, words: &mut Words<'_>) -> Result<Deed, LineFault>
     ensures { Reads result (option_words screen_modify (end words.old) (left words.old)) }
 {
-    let given = read_options(alloc, &MODIFY_KEYS, words)?;
+    let given: ScreenOptions = read_options(alloc, &MODIFY_KEYS, words)?;
     let path = given.path.ok_or(LineFault::bad_line(words.end()))?;
     Ok(Deed::ScreenModify {
         path,
@@ -55,15 +144,14 @@ fn modify(alloc: Global, words: &mut Words<'_>) -> Result<Deed, LineFault>
 fn delete(alloc: Global, words: &mut Words<'_>) -> Result<Deed, LineFault>
     ensures { Reads result (option_words (of_path ScreenDelete) (end words.old) (left words.old)) }
 {
-    let given = read_options(alloc, &[Key::Path], words)?;
-    let path = given.path.ok_or(LineFault::bad_line(words.end()))?;
+    let path = path_alone(alloc, words)?;
     Ok(Deed::ScreenDelete { path })
 }
 
-fn list(alloc: Global, words: &mut Words<'_>) -> Result<Deed, LineFault>
-    ensures { Reads result (option_words (alone ScreenList) (end words.old) (left words.old)) }
+fn list(words: &Words<'_>) -> Result<Deed, LineFault>
+    ensures { Reads result (option_words (alone ScreenList) (end words.now) (left words.now)) }
 {
-    read_options(alloc, &[], words)?;
+    words.finish()?;
     Ok(Deed::ScreenList)
 }
 
@@ -81,7 +169,7 @@ fn deed(alloc: Global, name: &Word<'_>, words: &mut Words<'_>) -> Result<Deed, L
         return delete(alloc, words);
     }
     if is_named("list", word) {
-        return list(alloc, words);
+        return list(words);
     }
     Err(LineFault::bad_line(name.column))
 }

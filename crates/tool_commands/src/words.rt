@@ -144,6 +144,7 @@ pub struct Words<'a> {
 
 impl<'a> Words<'a> {
     ghost use Rattle.std.specs.Prelude.{◌∷◌};
+    ghost use Rattle.tool_commands.specs.LineFaults.{IsLast};
     ghost use Rattle.tool_commands.specs.Taking.{left, end, plain_word, first_column, TakesPlain, TakesLeft, TakesWord};
 
     /// All words of a line.
@@ -254,13 +255,11 @@ impl<'a> Words<'a> {
         let column = self.column;
         let raw = before(self.rest, length);
         self.advance(length);
-        match copy_without_quotes(alloc, raw) {
-            Ok(text) => Ok(Some(Word {
-                column,
-                text: CowStr::Owned(text),
-            })),
-            Err(NoMemory) => Err(LineFault::NoMemory),
-        }
+        let text = copy_without_quotes(alloc, raw)?;
+        Ok(Some(Word {
+            column,
+            text: CowStr::Owned(text),
+        }))
     }
 
     /// Takes the next word, if one is left.
@@ -283,6 +282,16 @@ impl<'a> Words<'a> {
         match self.next_left(alloc)? {
             Some(word) => Ok(word),
             None => Err(LineFault::bad_line(self.end())),
+        }
+    }
+
+    /// Passes only if no word is left.
+    pub fn finish(&self) -> Result<(), LineFault>
+        ensures { IsLast result (left self.now) }
+    {
+        match self.next_column() {
+            Some(column) => Err(LineFault::bad_line(column)),
+            None => Ok(()),
         }
     }
 }

@@ -1,14 +1,64 @@
-//! The machine. Scripts show the replies to what it is asked by `apply`; the program doesn't call `file_op`.
+//! The machine, of which scripts show the replies to what it is asked by `apply`. What they don't show is asked here of one
+//! engine: an operation that comes by `file_op`, who owns a node, the texts of acts (`acts`), and the audit log (`audits`).
 
 ghost use Rattle.std.specs.Prelude.{◌≡◌, [], true};
-ghost use Rattle.fsrm_model.specs.Valued.{is_op};
+ghost use Rattle.fsrm_model.specs.Valued.{is_command, is_op};
 
+use crate::acts::warns;
+use crate::audits::notes;
 use crate::values::{SMALL, root};
 use fsrm_engine::Engine;
-use fsrm_model::{FileOp, Ledger, Outcome, Refusal, Steps, Weightless};
+use fsrm_model::{Command, FileOp, Ledger, Outcome, Refusal, Steps, Weightless};
 use std::alloc::Global;
 use std::marker::Brand;
+use std::process::Abort;
 use std::sync::ledger::{Blank, Ledger as Named};
+use std::test::Fail;
+use tool_commands::read_line;
+
+fn is_done<L: Ledger>(
+    engine: &mut Engine,
+    alloc: Global,
+    command: &Command,
+    steps: &mut Steps<L>,
+) -> bool
+    requires valid { is_command command.now ≡ true }
+    requires idle { engine.old.waiting ≡ [] }
+{
+    match engine.apply(alloc, command, steps) {
+        Ok(answer) => matches!(answer.outcome, Outcome::Done { .. }),
+        Err(_) => false,
+    }
+}
+
+/// Whether the command that a line spells is done.
+pub fn does<L: Ledger>(
+    engine: &mut Engine,
+    alloc: Global,
+    line: &[u8],
+    steps: &mut Steps<L>,
+) -> bool
+    requires { engine.old.waiting ≡ [] }
+{
+    match read_line(alloc, line) {
+        Ok(Some(command)) => is_done(engine, alloc, &command, steps),
+        Ok(None) => false,
+        Err(_) => false,
+    }
+}
+
+/// The same, and that no action runs.
+pub fn passes<L: Ledger>(
+    engine: &mut Engine,
+    alloc: Global,
+    line: &[u8],
+    steps: &mut Steps<L>,
+) -> bool
+    requires { engine.old.waiting ≡ [] }
+    ensures { result ≡ true → engine.new.waiting ≡ [] }
+{
+    does(engine, alloc, line, steps) && engine.next_act().is_none()
+}
 
 fn refuses_a_move<L: Ledger>(
     engine: &mut Engine,
@@ -32,23 +82,49 @@ fn refuses_the_root<L: Ledger>(engine: &mut Engine, alloc: Global, steps: &mut S
     refuses_a_move(engine, alloc, &removal, steps)
 }
 
-fn root_stays<L: Ledger>(alloc: Global, steps: &mut Steps<L>) -> bool {
-    match Engine::new(alloc, SMALL) {
-        Ok(mut engine) => refuses_the_root(&mut engine, alloc, steps),
-        Err(_) => false,
-    }
+// Whether node 1 has the owner of the file that warns.
+fn is_owned<L: Ledger>(engine: &Engine, steps: &mut Steps<L>) -> bool {
+    let tree = engine.tree();
+    tree.live(1) && tree.node(1, steps).owner == 4_294_967_295
 }
 
-fn engines<N: Named>(rt: &HostRuntime, blank: Blank) -> bool
+fn takes<L: Ledger>(
+    engine: &mut Engine,
+    alloc: Global,
+    end: &impl Abort,
+    steps: &mut Steps<L>,
+) -> Result<(), Fail>
+    requires { engine.old.waiting ≡ [] }
+{
+    assert!(end; refuses_the_root(engine, alloc, steps));
+    assert!(end; engine.next_act().is_none());
+    assert!(end; warns(engine, alloc, steps)?);
+    assert!(end; is_owned(engine, steps));
+    assert!(end; engine.next_act().is_none());
+    assert!(end; notes(engine, alloc, steps));
+    Ok(())
+}
+
+// A function that owns an engine is dear to prove by each of its statements, so this one has two, and no other owns one.
+fn new_engine<L: Ledger>(
+    alloc: Global,
+    end: &impl Abort,
+    steps: &mut Steps<L>,
+) -> Result<(), Fail> {
+    let mut engine = Engine::new(alloc, SMALL)?;
+    takes(&mut engine, alloc, end, steps)
+}
+
+fn engines<N: Named>(rt: &HostRuntime, end: &impl Abort, blank: Blank) -> Result<(), Fail>
     requires name { blank.name ≡ N.name }
     requires parts { blank.parts ≡ N.parts }
     requires one { blank.parts ≡ 1 }
 {
     let mut steps = Steps::new(rt, Weightless::<N>::of(blank));
-    root_stays(rt.alloc(), &mut steps)
+    new_engine(rt.alloc(), end, &mut steps)
 }
 
 #[test]
-fn an_operation_is_taken(rt: HostRuntime) {
-    assert!(rt; engines::<Brand>(&rt, Blank::new(1)));
+fn operations_are_taken_told_and_noted(rt: HostRuntime) -> Result<(), Fail> {
+    engines::<Brand>(&rt, &rt, Blank::new(1))
 }

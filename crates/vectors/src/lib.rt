@@ -13,8 +13,6 @@ mod acts;
 #[cfg(test)]
 mod audits;
 #[cfg(test)]
-mod commands;
-#[cfg(test)]
 mod devices;
 #[cfg(test)]
 mod disks;

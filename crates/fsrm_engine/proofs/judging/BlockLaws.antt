@@ -13,7 +13,7 @@ use Rattle.fsrm_model.specs.Quota.{peaks}
 use Rattle.fsrm_model.specs.Step.{lasted, refused_leaving, screened_by}
 use Rattle.fsrm_model.specs.Work.{Judged}
 use Rattle.fsrm_model.proofs.commands.OrderlyLaws.{acts_left, audited_same, left_is}
-use Rattle.scan_queue.specs.Courses.{Scanning}
+use Rattle.rescan.specs.Courses.{Scanning}
 use Rattle.fsrm_engine.specs.declared.parts.Parts.{Parts}
 use Rattle.fsrm_engine.specs.Machine.{AreCounted, AreMarked, Does, IsIdle, IsSound, ended, rows_of}
 use Rattle.fsrm_engine.specs.Screening.{Blocks}

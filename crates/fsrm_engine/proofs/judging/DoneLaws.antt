@@ -1,5 +1,5 @@
 -- An operation that is done, whose name a passive screen may report.
-use Rattle.std.proofs.Common.{◌≡◌, ℕ, ◌≤◌, ◌++◌, true, List, length, Option, None, ap, sym, ◌∙◌, subst}
+use Rattle.std.proofs.Common.{◌≡◌, ℕ, ◌≤◌, ◌++◌, true, List, [], length, Option, None, ap, sym, ◌∙◌, subst}
 use Rattle.std.specs.Prelude.{map}
 use Rattle.std.specs.List.{AllByRecursion}
 use Rattle.fsrm_model.specs.declared.command.Act.{Act}
@@ -17,14 +17,16 @@ use Rattle.fsrm_model.specs.Step.{Acted, accepted, lasted, screened}
 use Rattle.fsrm_model.specs.Work.{Judged, Work}
 use Rattle.fsrm_model.proofs.thresholds.ActLaws.{IsOfQuota, of_quota_due}
 use Rattle.quota_usage.specs.declared.change.Change.{Change}
+use Rattle.rescan.specs.Courses.{Scanning}
 use Rattle.fsrm_engine.specs.declared.parts.Parts.{Parts}
 use Rattle.fsrm_engine.specs.Due.{charged_acts}
-use Rattle.fsrm_engine.specs.Reporting.{Reports}
-use Rattle.fsrm_engine.specs.Machine.{AreMarked, Does, IsIdle, Ran, charged_parts, ended, rows_of}
+use Rattle.fsrm_engine.specs.Reporting.{EndsNamed}
+use Rattle.fsrm_engine.specs.Machine.{AreCounted, AreMarked, Does, IsIdle, IsSound, Ran, charged_parts, ended, rows_of}
 use Rattle.fsrm_engine.proofs.judging.MarkedNotes.{ran_waits}
-use Rattle.fsrm_engine.proofs.judging.NotedLaws.{IsNoted, reported, with_notes}
+use Rattle.fsrm_engine.proofs.judging.NotedLaws.{IsNoted, noted_scans, reported, with_notes}
 use Rattle.fsrm_engine.proofs.settling.EndLaws.{due_made, due_of, ended_rows}
 use Rattle.fsrm_engine.proofs.steps.StepLaws.{accepted_by, asked, does_by, due, step_by}
+use Rattle.fsrm_engine.proofs.tables.RanLaws.{sound_run}
 
 -- what is known of an operation that no check refuses, and of the parts that it makes before the name is noted
 pub record Makes (p mid : Parts) (m : ℕ) (deed : Deed) (judged : Option Judged) : Type 0 where
@@ -74,10 +76,14 @@ noted_done p mid run new m deed answer change judged left a n raised due_is r en
     e
 
 -- so the operation is done
-pub done_noted : (p mid left run new : Parts) (m : ℕ) (deed : Deed) (answer : Answer) (change : Change) (judged : Option Judged) → Makes p mid m deed judged → length mid.marks.log ≤ most_entries → Reports mid left judged m →
-    map (peaked p.tree.size mid.tree.nodes m) (charged_parts mid change m).objects.quotas ≡ map (peaked p.tree.size mid.tree.nodes m) mid.objects.quotas → charged_acts mid change m ≡ due_of p (charged_parts mid change m) m →
-    Ran (charged_parts left change m) run m (charged_acts left change m) → new ≡ ended run m → answer ≡ record { outcome = (asked p m deed).outcome; lasting = true } → Does p new m deed answer
-done_noted p mid left run new m deed answer change judged a few h raised due_is r ends e =
-    let n = reported mid left judged m a.idle.places few h in
-    noted_done p mid run new m deed answer change judged left a n raised due_is
-    (subst (λ (q : Parts). Ran (charged_parts q change m) run m (charged_acts q change m)) n.is r) ends e
+pub done_named : (p mid new : Parts) (m : ℕ) (deed : Deed) (answer : Answer) (change : Change) (judged : Option Judged) → Makes p mid m deed judged → length mid.marks.log ≤ most_entries → EndsNamed mid new judged change m →
+    map (peaked p.tree.size mid.tree.nodes m) (charged_parts mid change m).objects.quotas ≡ map (peaked p.tree.size mid.tree.nodes m) mid.objects.quotas → charged_acts mid change m ≡ due_of p (charged_parts mid change m) m → answer ≡ record { outcome = (asked p m deed).outcome; lasting = true } → Does p new m deed answer
+done_named p mid new m deed answer change judged a few ended raised due_is e =
+    let n = reported mid ended.left judged m a.idle.places few ended.reports in
+    noted_done p mid ended.run new m deed answer change judged ended.left a n raised due_is
+    (subst (λ (q : Parts). Ran (charged_parts q change m) ended.run m (charged_acts q change m)) n.is ended.ran) ended.ends e
+
+-- and the parts are sound after it
+pub sound_named : (p new : Parts) (judged : Option Judged) (change : Change) (m : ℕ) → p.marks.places ≡ [] → length p.marks.log ≤ most_entries → EndsNamed p new judged change m → AreCounted new → Scanning p.tree p.scans → IsSound new
+sound_named p new judged change m none few ended counted scanning =
+    sound_run (charged_parts ended.left change m) ended.run new m _ ended.ran ended.ends counted (noted_scans p ended.left judged m none few ended.reports scanning)

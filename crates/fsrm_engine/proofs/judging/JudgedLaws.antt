@@ -13,7 +13,7 @@ use Rattle.fsrm_model.specs.Screens.{screen_folder, except_folder, judging}
 use Rattle.fsrm_model.specs.Thresholds.{is_kept_action}
 use Rattle.fsrm_model.specs.Tree.{is_folder}
 use Rattle.fsrm_model.specs.Valid.{are_group_numbers, is_sound_except, is_sound_screen}
-use Rattle.fsrm_model.proofs.screens.JudgingLaws.{judges}
+use Rattle.fsrm_model.proofs.screens.JudgingLaws.{judging_own}
 use Rattle.fsrm_model.proofs.valid.ScreensKept.{all_weaker, number_parts, screen_at, screen_parts, table_parts}
 use Rattle.file_screens.specs.declared.answer.Blocked.{Blocked}
 use Rattle.file_screens.specs.Blocked.{are_known, told}
@@ -45,7 +45,7 @@ told_is p folder name judged h = ap (screen_told p) h ∙ at (judging (rows_of p
   where
     at : (o : Option ScreenRow) → judging (rows_of p) folder name ≡ o → screen_told p (option_map told o) ≡ o
     at None e = refl
-    at (Some screen) e = (judges (rows_of p) folder name screen e).applies.own
+    at (Some screen) e = judging_own (rows_of p) folder name screen e
 
 pub told_there : (p : Parts) (folder : ℕ) (name : List ℕ) (judged : Option Blocked) → judged ≡ option_map told (judging (rows_of p) folder name) → option_map told (screen_told p judged) ≡ judged
 told_there p folder name judged h = ap (option_map told) (told_is p folder name judged h) ∙ sym h

@@ -17,7 +17,7 @@ use Rattle.fsrm_model.specs.FileWork.{blocked, judged_by, judged_name, reported}
 use Rattle.fsrm_model.specs.Screens.{judging}
 use Rattle.fsrm_model.specs.Tree.{folder_part, last_name, owner_of, is_folder, resolve}
 use Rattle.fsrm_model.specs.Work.{Judged}
-use Rattle.scan_queue.specs.Courses.{Scanning}
+use Rattle.rescan.specs.Courses.{Scanning}
 use Rattle.node_table.specs.declared.view.NodeView.{NodeView}
 use Rattle.volume_tree.specs.Volume.{Shows}
 use Rattle.file_screens.specs.declared.answer.Blocked.{Blocked}

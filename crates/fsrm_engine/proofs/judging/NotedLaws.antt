@@ -13,7 +13,6 @@ use Rattle.fsrm_model.specs.DueActions.{due_screen}
 use Rattle.fsrm_model.specs.Limits.{most_entries, most_quotas}
 use Rattle.fsrm_model.specs.Runs.{entry_of, last_entries, run_screen}
 use Rattle.fsrm_model.specs.Step.{screened}
-use Rattle.fsrm_model.specs.Tree.{chain}
 use Rattle.fsrm_model.specs.Valid.{IsVolume}
 use Rattle.fsrm_model.specs.Work.{Judged}
 use Rattle.fsrm_model.proofs.thresholds.ActLaws.{IsOfScreen}
@@ -22,8 +21,8 @@ use Rattle.fsrm_model.proofs.thresholds.UnrunLaws.{of_screen_due, quotas_unrun}
 use Rattle.fsrm_objects.specs.Tables.{Tables}
 use Rattle.number_set.specs.Numbers.{no_numbers}
 use Rattle.quota_usage.specs.declared.change.Change.{Change}
-use Rattle.quota_usage.specs.Charge.{IsChange, Fits}
-use Rattle.scan_queue.specs.Courses.{Scanning}
+use Rattle.quota_usage.specs.Charge.{IsChange, Fits, height}
+use Rattle.rescan.specs.Courses.{Scanning}
 use Rattle.thresholds.specs.Marked.{Marked, are_screen_acts, screen_act_at, screen_waiting}
 use Rattle.thresholds.specs.Settled.{SettlesScreen, are_orderly, screen_due}
 use Rattle.file_screens.specs.declared.answer.Blocked.{Blocked}
@@ -133,8 +132,8 @@ module _ (p new : Parts) (judged : Option Judged) (m : ℕ) (none : p.marks.plac
   pub noted_scans : Scanning p.tree p.scans → Scanning new.tree new.scans
   noted_scans s = subst (λ (q : Parts). Scanning q.tree q.scans) (sym n.is) s
 
-  pub noted_height : (f : ℕ) → length (chain new.tree.nodes f) ≡ length (chain p.tree.nodes f)
-  noted_height f = ap (λ (q : Parts). length (chain q.tree.nodes f)) n.is
+  pub noted_height : (f : Option ℕ) → height new.tree.nodes f ≡ height p.tree.nodes f
+  noted_height f = ap (λ (q : Parts). height q.tree.nodes f) n.is
 
   pub noted_charged : (change : Change) → AreCounted (charged_parts p change m) → AreCounted (charged_parts new change m)
   noted_charged change e = subst (λ (q : Parts). AreCounted (charged_parts q change m)) (sym n.is) e

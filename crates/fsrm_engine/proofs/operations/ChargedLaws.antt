@@ -12,7 +12,7 @@ use Rattle.quota_usage.specs.declared.change.Change.{Change}
 use Rattle.quota_usage.specs.declared.change.Counter.{Counter}
 use Rattle.quota_usage.specs.declared.change.Exceeded.{Exceeded}
 use Rattle.quota_usage.specs.Charge.{charged_counter, exceeded_by, is_above}
-use Rattle.scan_queue.specs.Courses.{Course}
+use Rattle.rescan.specs.Courses.{Course}
 use Rattle.volume_tree.specs.Volume.{Volume}
 use Rattle.fsrm_engine.specs.declared.parts.Parts.{Parts}
 use Rattle.fsrm_engine.specs.Crossing.{IsCovered}

@@ -29,8 +29,8 @@ use Rattle.fsrm_base.proofs.TestLaws.{clash, not_true, eq_is}
 use Rattle.fsrm_model.proofs.valid.ValidLaws.{folder_has}
 use Rattle.rescan.proofs.followed.FollowLaws.{made_back, made_found}
 use Rattle.fsrm_objects.specs.Tables.{Tables}
-use Rattle.scan_queue.specs.Courses.{Course, Scanning, Goes, left}
-use Rattle.scan_queue.proofs.Queues.{left_absent}
+use Rattle.rescan.specs.Courses.{Course, Scanning, Goes, left}
+use Rattle.rescan.proofs.queued.Queues.{left_absent}
 use Rattle.node_table.specs.declared.view.NodeView.{NodeView}
 use Rattle.volume_tree.specs.Volume.{Volume, Move, Shows, with_node, without_node, with_place}
 use Rattle.fsrm_engine.specs.declared.parts.Parts.{Parts}

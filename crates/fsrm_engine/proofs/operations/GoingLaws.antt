@@ -26,9 +26,9 @@ use Rattle.rescan.proofs.followed.ChangeLaws.{removed}
 use Rattle.rescan.proofs.followed.FollowLaws.{folder_stands}
 use Rattle.rescan.proofs.followed.FrontierLaws.{begun, begun_unvisited, begins}
 use Rattle.fsrm_objects.specs.Tables.{Tables, without_except, without_quota, without_screen}
-use Rattle.scan_queue.proofs.Following.{absent_apart}
-use Rattle.scan_queue.proofs.Queues.{first_in}
-use Rattle.scan_queue.specs.Courses.{Course, Scanning, Goes, Turns, left}
+use Rattle.rescan.proofs.queued.Following.{absent_apart}
+use Rattle.rescan.proofs.queued.Queues.{first_in}
+use Rattle.rescan.specs.Courses.{Course, Scanning, Goes, Turns, left}
 use Rattle.volume_tree.specs.declared.answer.TreeFault.{TreeFault}
 use Rattle.volume_tree.specs.declared.answer.TreeFault.TheVariants.{AlreadyExists, InvalidMove, NotEmpty, VolumeFull, NamesFull, NoMemory}
 use Rattle.volume_tree.specs.Volume.{Volume, IsFault, remove_fault, without_node}

@@ -1,5 +1,5 @@
 -- What goes makes nothing due.
-use Rattle.std.proofs.Common.{◌≡◌, ℕ, ◌-◌, ◌≤◌, ◌==◌, Bool, true, false, cond, List, [], Option, Some, None, refl, ap, sym, ◌∙◌, subst, arith}
+use Rattle.std.proofs.Common.{◌≡◌, ℕ, ◌≤◌, ◌==◌, Bool, true, false, cond, List, [], Option, Some, None, refl, ap, sym, ◌∙◌, subst, arith}
 use Rattle.std.specs.Prelude.{map, option_map}
 use Rattle.fsrm_base.specs.Keyed.{has_row, row_of, without_row}
 use Rattle.fsrm_base.proofs.EditedRows.{without_absent}
@@ -18,7 +18,7 @@ use Rattle.quota_usage.specs.declared.change.Change.{Change}
 use Rattle.quota_usage.specs.declared.change.Counter.{Counter}
 use Rattle.quota_usage.specs.Charge.{charged, charged_counter, is_above}
 use Rattle.quota_usage.specs.Counters.{counted, used_in, without_counter}
-use Rattle.scan_queue.specs.Courses.{Course}
+use Rattle.rescan.specs.Courses.{Course}
 use Rattle.volume_tree.specs.Volume.{Volume}
 use Rattle.fsrm_engine.specs.declared.parts.Parts.{Parts}
 use Rattle.fsrm_engine.specs.Machine.{AreCounted, IsWhole, rows_of}

@@ -1,7 +1,9 @@
 -- The refusals of a new node are the faults of the tree.
 use Rattle.std.proofs.Common.{◌≡◌, ℕ, suc, ◌+◌, Bool, true, false, not, List, [], ◌∷◌, length, Option, Some, None, nat_lt, refl, ap, sym, ◌∙◌, arith}
 use Rattle.std.proofs.lemmas.Bool.Decides.{nat_tests}
+use Rattle.std.proofs.lemmas.Option.{same_Some}
 use Rattle.std.specs.Prelude.{is_some, nat_le, unwrap_or}
+use Rattle.std.specs.Option.{option_and_then, option_map_or}
 use Rattle.fsrm_model.specs.declared.command.Deed.TheVariants.{File}
 use Rattle.fsrm_model.specs.declared.command.FileOp.TheVariants.{Mkdir, Create}
 use Rattle.fsrm_model.specs.declared.command.Refusal.{Refusal}
@@ -10,22 +12,25 @@ use Rattle.fsrm_model.specs.declared.row.Capacity.{Capacity}
 use Rattle.fsrm_model.specs.declared.row.NodeRow.{NodeRow}
 use Rattle.fsrm_model.specs.Check.{Check, ◌when◌, first}
 use Rattle.fsrm_model.specs.Quota.{exceeded}
-use Rattle.fsrm_model.specs.FileOps.{made_node, new_node}
+use Rattle.fsrm_model.specs.FileOps.{made_node, new_node, target_folder}
 use Rattle.fsrm_model.specs.FileWork.{blocked, judged_name}
 use Rattle.fsrm_base.specs.Keyed.{with_row}
 use Rattle.fsrm_model.specs.Leads.{is_root, leads, leads_to_folder}
-use Rattle.fsrm_model.specs.Tree.{number, folder_part, last_name, child_number, name_bytes}
+use Rattle.fsrm_model.specs.Text.{is_bare}
+use Rattle.fsrm_model.specs.Tree.{number, folder_part, last_name, child_number, is_folder, name_bytes, resolve}
 use Rattle.fsrm_model.specs.Valid.{IsVolume}
 use Rattle.fsrm_base.proofs.Order.{length-with_row}
+use Rattle.fsrm_model.proofs.nodes.Resolves.{resolve_child, some_name}
 use Rattle.fsrm_model.proofs.nodes.Sizes.{name_bytes-new}
 use Rattle.volume_tree.specs.declared.answer.TreeFault.{TreeFault}
 use Rattle.volume_tree.specs.declared.answer.TreeFault.TheVariants as fault
 use Rattle.volume_tree.specs.Volume.{Volume, new_fault, with_node}
-use Rattle.fsrm_engine.specs.Places.{IsPlace}
+use Rattle.fsrm_engine.specs.Faults.{new_refusal, refusal_of}
+use Rattle.fsrm_engine.specs.Places.{IsPlace, IsRefusedPlace, IsVacant}
 use Rattle.fsrm_engine.specs.declared.parts.Parts.{Parts}
 use Rattle.fsrm_engine.specs.Machine.{rows_of}
-use Rattle.fsrm_engine.proofs.steps.StepLaws.{due, or_else, tree_first, last_check}
-use Rattle.fsrm_engine.proofs.steps.PlaceLaws.{place_leads, place_folder}
+use Rattle.fsrm_engine.proofs.steps.StepLaws.{due, last_check, or_else, tree_bare, tree_first}
+use Rattle.fsrm_engine.proofs.steps.PlaceLaws.{place_folder, target_is}
 
 -- the checks that the tree makes too
 listed : (taken full long : Bool) (more : List Check) → first (None ∷ None ∷ (AlreadyExists when taken) ∷ (VolumeFull when full) ∷ (NamesFull when long) ∷ more) ≡ tree_first (first ((fault.AlreadyExists when taken) ∷ (fault.VolumeFull when full) ∷ (fault.NamesFull when long) ∷ [])) (first more)
@@ -41,16 +46,96 @@ listed_at root folder taken full long taken' full' long' more r f t u l = rw (r,
 full_test : (most n m : ℕ) → m ≡ suc n → nat_lt most m ≡ nat_le most n
 full_test most n m h = grind (arith, nat_tests)
 
--- the first refusal of a new node, before it is made
-checks_are : (K : Capacity) (nodes new : List NodeRow) (path : List (List ℕ)) (d : ℕ) (name : List ℕ) (more : List Check) → IsVolume K nodes → IsPlace nodes path d name → length new ≡ suc (length nodes) → name_bytes new ≡ name_bytes nodes + length name →
-    first ((AlreadyExists when is_root path) ∷ (PathNotFound when not (leads_to_folder nodes (folder_part path))) ∷ (AlreadyExists when leads nodes path) ∷ (VolumeFull when nat_lt K.nodes (length new)) ∷ (NamesFull when nat_lt K.names (name_bytes new)) ∷ more) ≡ tree_first (new_fault (record { size = K; nodes = nodes }) d name) (first more)
-checks_are K nodes new path d name more v p longer bytes =
-    listed_at (is_root path) (leads_to_folder nodes (folder_part path)) (leads nodes path) (nat_lt K.nodes (length new)) (nat_lt K.names (name_bytes new))
-    (is_some (child_number nodes d name)) (nat_le K.nodes (length nodes)) (nat_lt K.names (name_bytes nodes + length name)) more
-    p.inner (place_folder nodes path d name p) (ap is_some (place_leads K nodes path d name v p)) (full_test K.nodes (length nodes) (length new) longer) (ap (λ n. nat_lt K.names n) bytes)
+-- ---- why no node can be made at a path
+root_first : (root folder : Bool) (o more : Option Refusal) (rest : List Check) → root ≡ true → first ((AlreadyExists when root) ∷ (PathNotFound when not folder) ∷ rest) ≡ or_else (first ((AlreadyExists when root) ∷ (PathNotFound when not folder) ∷ o ∷ [])) more
+root_first root folder o more rest r = rw r refl
 
-bytes_made : (nodes : List NodeRow) (path : List (List ℕ)) (d : ℕ) (name : List ℕ) (node : NodeRow) → IsPlace nodes path d name → node.name ≡ last_name path → name_bytes (with_row number node nodes) ≡ name_bytes nodes + length name
-bytes_made nodes path d name node p is = name_bytes-new nodes node ∙ ap (λ t. name_bytes nodes + length t) (is ∙ p.name_is)
+folder_first : (root folder : Bool) (o more : Option Refusal) (rest : List Check) → root ≡ false → folder ≡ false → first ((AlreadyExists when root) ∷ (PathNotFound when not folder) ∷ rest) ≡ or_else (first ((AlreadyExists when root) ∷ (PathNotFound when not folder) ∷ o ∷ [])) more
+folder_first root folder o more rest r f = rw (r, f) refl
+
+tree_last : (root folder : Bool) (o : Option Refusal) → root ≡ false → folder ≡ true → first ((AlreadyExists when root) ∷ (PathNotFound when not folder) ∷ o ∷ []) ≡ o
+tree_last root folder o r f = rw (r, f) (last_check o)
+
+-- the path names no place
+stray_root : (root folder : Bool) (o : Option Refusal) → root ≡ true → first ((AlreadyExists when root) ∷ (PathNotFound when not folder) ∷ o ∷ []) ≡ Some AlreadyExists
+stray_root root folder o r = rw r refl
+
+stray_folder : (root folder : Bool) (o : Option Refusal) → root ≡ false → folder ≡ false → first ((AlreadyExists when root) ∷ (PathNotFound when not folder) ∷ o ∷ []) ≡ Some PathNotFound
+stray_folder root folder o r f = rw (r, f) refl
+
+pub stray_new : (v : Volume) (path : List (List ℕ)) (refusal : Refusal) → IsRefusedPlace v.nodes path refusal → new_refusal v path ≡ Some refusal
+stray_new v path AlreadyExists h = stray_root (is_root path) (leads_to_folder v.nodes (folder_part path)) _ h
+stray_new v path PathNotFound h = stray_folder (is_root path) (leads_to_folder v.nodes (folder_part path)) _ h.0 h.1
+stray_new v path other h = absurd h
+
+-- or else it is the tree's fault
+in_folder : (v : Volume) (path : List (List ℕ)) (d : ℕ) → is_root path ≡ false → leads_to_folder v.nodes (folder_part path) ≡ true → resolve v.nodes (folder_part path) ≡ Some d → new_refusal v path ≡ option_and_then refusal_of (new_fault v d (last_name path))
+in_folder v path d inner folder at =
+    tree_last (is_root path) (leads_to_folder v.nodes (folder_part path)) (option_and_then refusal_of (new_fault v (target_folder v.nodes path) (last_name path))) inner folder
+    ∙ ap (λ n. option_and_then refusal_of (new_fault v n (last_name path))) (target_is v.nodes (folder_part path) d at)
+
+at_place : (v : Volume) (path : List (List ℕ)) (d : ℕ) (name : List ℕ) → IsPlace v.nodes path d name → new_refusal v path ≡ option_and_then refusal_of (new_fault v d name)
+at_place v path d name p =
+    in_folder v path d p.inner (place_folder v.nodes path d name p) p.resolved ∙ ap (λ t. option_and_then refusal_of (new_fault v d t)) p.name_is
+
+pub faulty_new : (v : Volume) (path : List (List ℕ)) (d : ℕ) (name : List ℕ) (fault : TreeFault) (refusal : Refusal) → IsPlace v.nodes path d name → new_fault v d name ≡ Some fault → refusal_of fault ≡ Some refusal → new_refusal v path ≡ Some refusal
+faulty_new v path d name fault refusal p h r = at_place v path d name p ∙ (ap (option_and_then refusal_of) h ∙ r)
+
+vacant_new : (v : Volume) (path : List (List ℕ)) (d : ℕ) (name : List ℕ) → IsVacant v path d name → new_refusal v path ≡ None
+vacant_new v path d name free = at_place v path d name free.at ∙ ap (option_and_then refusal_of) free.may
+
+-- which is no lack of memory
+pub fault_told : (v : Volume) (d : ℕ) (name : List ℕ) (told : TreeFault) → new_fault v d name ≡ Some told → is_some (refusal_of told) ≡ true
+fault_told v d name told h = at (is_some (child_number v.nodes d name)) (nat_le v.size.nodes (length v.nodes)) (nat_lt v.size.names (name_bytes v.nodes + length name)) h
+  where
+    at : (taken full long : Bool) → first ((fault.AlreadyExists when taken) ∷ (fault.VolumeFull when full) ∷ (fault.NamesFull when long) ∷ []) ≡ Some told → is_some (refusal_of told) ≡ true
+    at true full long h = ap (λ o. is_some (option_and_then refusal_of o)) (sym h)
+    at false true long h = ap (λ o. is_some (option_and_then refusal_of o)) (sym h)
+    at false false true h = ap (λ o. is_some (option_and_then refusal_of o)) (sym h)
+    at false false false h = cc h
+
+-- none of these is by a screen or a quota
+pub new_bare : (v : Volume) (path : List (List ℕ)) (refusal : Refusal) → new_refusal v path ≡ Some refusal → is_bare refusal ≡ true
+new_bare v path refusal h = at (is_root path) (leads_to_folder v.nodes (folder_part path)) (new_fault v (target_folder v.nodes path) (last_name path)) h
+  where
+    at : (root folder : Bool) (o : Option TreeFault) → first ((AlreadyExists when root) ∷ (PathNotFound when not folder) ∷ option_and_then refusal_of o ∷ []) ≡ Some refusal → is_bare refusal ≡ true
+    at true folder o h = sym (ap is_bare (same_Some _ refusal h))
+    at false false o h = sym (ap is_bare (same_Some _ refusal h))
+    at false true None h = cc h
+    at false true (Some fault) h = tree_bare fault refusal (sym (last_check (refusal_of fault)) ∙ h)
+
+-- these come first
+checks_are : (K : Capacity) (nodes new : List NodeRow) (path : List (List ℕ)) (more : List Check) → IsVolume K nodes → length new ≡ suc (length nodes) → name_bytes new ≡ name_bytes nodes + length (last_name path) →
+    first ((AlreadyExists when is_root path) ∷ (PathNotFound when not (leads_to_folder nodes (folder_part path))) ∷ (AlreadyExists when leads nodes path) ∷ (VolumeFull when nat_lt K.nodes (length new)) ∷ (NamesFull when nat_lt K.names (name_bytes new)) ∷ more) ≡ or_else (new_refusal (record { size = K; nodes = nodes }) path) (first more)
+checks_are K nodes new path more k longer bytes = by_root (is_root path) refl
+  where
+    v : Volume
+    v = record { size = K; nodes = nodes }
+
+    rest : List Check
+    rest = (AlreadyExists when leads nodes path) ∷ (VolumeFull when nat_lt K.nodes (length new)) ∷ (NamesFull when nat_lt K.names (name_bytes new)) ∷ more
+
+    all : List Check
+    all = (AlreadyExists when is_root path) ∷ (PathNotFound when not (leads_to_folder nodes (folder_part path))) ∷ rest
+
+    fault_in : ℕ → Option Refusal
+    fault_in d = option_and_then refusal_of (new_fault v d (last_name path))
+
+    by_place : is_root path ≡ false → (o : Option ℕ) → resolve nodes (folder_part path) ≡ o → (b : Bool) → leads_to_folder nodes (folder_part path) ≡ b → option_map_or (is_folder nodes) o false ≡ b → first all ≡ or_else (new_refusal v path) (first more)
+    by_place inner o e false f g = folder_first (is_root path) (leads_to_folder nodes (folder_part path)) (fault_in (target_folder nodes path)) (first more) rest inner f
+    by_place inner None e true f g = cc g
+    by_place inner (Some d) e true f g =
+        listed_at (is_root path) (leads_to_folder nodes (folder_part path)) (leads nodes path) (nat_lt K.nodes (length new)) (nat_lt K.names (name_bytes new))
+        (is_some (child_number nodes d (last_name path))) (nat_le K.nodes (length nodes)) (nat_lt K.names (name_bytes nodes + length (last_name path))) more
+        inner f (ap is_some (resolve_child K nodes path d k (some_name path inner) e)) (full_test K.nodes (length nodes) (length new) longer) (ap (λ n. nat_lt K.names n) bytes)
+        ∙ ap (λ o. or_else o (first more)) (sym (in_folder v path d inner f e))
+
+    by_root : (b : Bool) → is_root path ≡ b → first all ≡ or_else (new_refusal v path) (first more)
+    by_root true r = root_first (is_root path) (leads_to_folder nodes (folder_part path)) (fault_in (target_folder nodes path)) (first more) rest r
+    by_root false r = by_place r (resolve nodes (folder_part path)) refl (leads_to_folder nodes (folder_part path)) refl refl
+
+bytes_made : (nodes : List NodeRow) (path : List (List ℕ)) (node : NodeRow) → node.name ≡ last_name path → name_bytes (with_row number node nodes) ≡ name_bytes nodes + length (last_name path)
+bytes_made nodes path node is = name_bytes-new nodes node ∙ ap (λ t. name_bytes nodes + length t) is
 
 -- the node of a place is the new node of its path
 pub made_is : (v : Volume) (path : List (List ℕ)) (d : ℕ) (name : List ℕ) (folder : Bool) (bytes owner m : ℕ) → IsPlace v.nodes path d name → with_node v (made_node v.nodes d name folder bytes owner m) ≡ with_node v (new_node v.nodes path folder bytes owner m)
@@ -63,25 +148,49 @@ pub two_checks : (by over : Check) → first (by ∷ over ∷ []) ≡ or_else by
 two_checks None over = last_check over
 two_checks (Some refusal) over = refl
 
+pub some_by : (by over : Option Refusal) (refusal : Refusal) → by ≡ Some refusal → or_else by over ≡ Some refusal
+some_by by over refusal is = ap (λ o. or_else o over) is
+
+pub none_by : (by over : Option Refusal) → by ≡ None → or_else by over ≡ over
+none_by by over none = ap (λ o. or_else o over) none
+
 pub by_screen : (fault : Option TreeFault) (by over : Option Refusal) (refusal : Refusal) → fault ≡ None → by ≡ Some refusal → tree_first fault (or_else by over) ≡ Some refusal
-by_screen fault by over refusal may is = ap (λ o. tree_first o (or_else by over)) may ∙ ap (λ o. or_else o over) is
+by_screen fault by over refusal may is = ap (λ o. tree_first o (or_else by over)) may ∙ some_by by over refusal is
 
 pub by_no_screen : (fault : Option TreeFault) (by over : Option Refusal) → fault ≡ None → by ≡ None → tree_first fault (or_else by over) ≡ over
-by_no_screen fault by over may none = ap (λ o. tree_first o (or_else by over)) may ∙ ap (λ o. or_else o over) none
+by_no_screen fault by over may none = ap (λ o. tree_first o (or_else by over)) may ∙ none_by by over none
 
--- the refusal that is due to a new folder, and to a new file
-pub mkdir_due : (p : Parts) (m : ℕ) (path : List (List ℕ)) (owner d : ℕ) (name : List ℕ) → IsVolume p.tree.size p.tree.nodes → IsPlace p.tree.nodes path d name → due p m (File (Mkdir path owner)) ≡ tree_first (new_fault p.tree d name) None
-mkdir_due p m path owner d name k at =
+-- ---- the refusal that is due
+-- to a new folder
+pub mkdir_due : (p : Parts) (m : ℕ) (path : List (List ℕ)) (owner : ℕ) → IsVolume p.tree.size p.tree.nodes → due p m (File (Mkdir path owner)) ≡ or_else (new_refusal p.tree path) None
+mkdir_due p m path owner k =
     let nodes = p.tree.nodes in
     let node = new_node nodes path true 0 owner m in
-    checks_are p.tree.size nodes (with_row number node nodes) path d name [] k at (length-with_row number node nodes) (bytes_made nodes path d name node at refl)
+    checks_are p.tree.size nodes (with_row number node nodes) path [] k (length-with_row number node nodes) (bytes_made nodes path node refl)
 
-pub create_due : (p : Parts) (m : ℕ) (path : List (List ℕ)) (bytes owner d : ℕ) (name : List ℕ) → IsVolume p.tree.size p.tree.nodes → IsPlace p.tree.nodes path d name → due p m (File (Create path bytes owner)) ≡ tree_first (new_fault p.tree d name) (or_else (blocked (judged_name (rows_of p) (Create path bytes owner))) (exceeded p.tree.size (rows_of p) (with_node p.tree (made_node p.tree.nodes d name false bytes owner m)).nodes))
-create_due p m path bytes owner d name k at =
+pub mkdir_free : (p : Parts) (m : ℕ) (path : List (List ℕ)) (owner d : ℕ) (name : List ℕ) → IsVolume p.tree.size p.tree.nodes → IsVacant p.tree path d name → due p m (File (Mkdir path owner)) ≡ None
+mkdir_free p m path owner d name k free = mkdir_due p m path owner k ∙ ap (λ o. or_else o None) (vacant_new p.tree path d name free)
+
+-- to a new file
+abbrev over_new : Parts → ℕ → List (List ℕ) → ℕ → ℕ → Option Refusal
+over_new p m path bytes owner = exceeded p.tree.size (rows_of p) (with_row number (new_node p.tree.nodes path false bytes owner m) p.tree.nodes)
+
+create_due : (p : Parts) (m : ℕ) (path : List (List ℕ)) (bytes owner : ℕ) → IsVolume p.tree.size p.tree.nodes → due p m (File (Create path bytes owner)) ≡ or_else (new_refusal p.tree path) (or_else (blocked (judged_name (rows_of p) (Create path bytes owner))) (over_new p m path bytes owner))
+create_due p m path bytes owner k =
     let nodes = p.tree.nodes in
     let node = new_node nodes path false bytes owner m in
     let by = blocked (judged_name (rows_of p) (Create path bytes owner)) in
-    let over = exceeded p.tree.size (rows_of p) (with_row number node nodes) in
-    checks_are p.tree.size nodes (with_row number node nodes) path d name (by ∷ over ∷ []) k at (length-with_row number node nodes) (bytes_made nodes path d name node at refl)
-    ∙ ap (tree_first (new_fault p.tree d name)) (two_checks by over
-    ∙ ap (λ (w : Volume). or_else by (exceeded p.tree.size (rows_of p) w.nodes)) (sym (made_is p.tree path d name false bytes owner m at)))
+    let over = over_new p m path bytes owner in
+    checks_are p.tree.size nodes (with_row number node nodes) path (by ∷ over ∷ []) k (length-with_row number node nodes) (bytes_made nodes path node refl)
+    ∙ ap (or_else (new_refusal p.tree path)) (two_checks by over)
+
+pub create_refused : (p : Parts) (m : ℕ) (path : List (List ℕ)) (bytes owner : ℕ) (refusal : Refusal) → IsVolume p.tree.size p.tree.nodes → new_refusal p.tree path ≡ Some refusal → due p m (File (Create path bytes owner)) ≡ Some refusal
+create_refused p m path bytes owner refusal k h =
+    create_due p m path bytes owner k ∙ ap (λ o. or_else o (or_else (blocked (judged_name (rows_of p) (Create path bytes owner))) (over_new p m path bytes owner))) h
+
+pub create_free : (p : Parts) (m : ℕ) (path : List (List ℕ)) (bytes owner d : ℕ) (name : List ℕ) → IsVolume p.tree.size p.tree.nodes → IsVacant p.tree path d name → due p m (File (Create path bytes owner)) ≡ or_else (blocked (judged_name (rows_of p) (Create path bytes owner))) (exceeded p.tree.size (rows_of p) (with_node p.tree (made_node p.tree.nodes d name false bytes owner m)).nodes)
+create_free p m path bytes owner d name k free =
+    let by = blocked (judged_name (rows_of p) (Create path bytes owner)) in
+    create_due p m path bytes owner k
+    ∙ (ap (λ o. or_else o (or_else by (over_new p m path bytes owner))) (vacant_new p.tree path d name free)
+    ∙ ap (λ (w : Volume). or_else by (exceeded p.tree.size (rows_of p) w.nodes)) (sym (made_is p.tree path d name false bytes owner m free.at)))

@@ -1,5 +1,5 @@
 -- The action of an act, found by its quota and its threshold, or by its screen.
-use Rattle.std.proofs.Common.{◌≡◌, ℕ, Bool, true, false, [], Option, Some, None, refl, ◌∙◌, slice_get}
+use Rattle.std.proofs.Common.{◌≡◌, ℕ, true, false, [], Option, Some, None, refl, slice_get}
 use Rattle.std.specs.Option.{option_map_or}
 use Rattle.fsrm_base.specs.Keyed.{row_of}
 use Rattle.fsrm_model.specs.declared.command.Act.{Act}

@@ -1,8 +1,8 @@
 -- Which acts are due, by the counters of quotas.
-use Rattle.std.proofs.Common.{◌≡◌, ℕ, ◌==◌, Bool, true, false, cond, ◌||◌, ◌&&◌, not, List, [], ◌∷◌, ◌++◌, Option, Some, None, refl, ap, sym, ◌∙◌, subst, arith}
+use Rattle.std.proofs.Common.{◌≡◌, ℕ, ◌==◌, Bool, true, false, cond, ◌&&◌, not, List, [], ◌∷◌, ◌++◌, Option, Some, None, refl, ap, sym, ◌∙◌, subst, arith}
 use Rattle.std.proofs.lemmas.List.{append-nil}
 use Rattle.std.proofs.lemmas.Option.{same_Some}
-use Rattle.std.specs.Prelude.{flat_map, option_map, unwrap_or}
+use Rattle.std.specs.Prelude.{flat_map, option_map}
 use Rattle.std.specs.List.{AllByRecursion}
 use Rattle.std.specs.Option.{option_and_then, option_map_or}
 use Rattle.fsrm_base.specs.Keyed.{row_of, has_row, is_ascending}
@@ -163,8 +163,8 @@ refused_due p m nodes e c h = at (deepest nodes (over K R nodes)) refl h
     would_be : Rows
     would_be = record R { nodes = nodes }
 
-    used : ℕ
-    used = unwrap_or (used_in p.usage e.folder) 0
+    used : Option ℕ
+    used = used_in p.usage e.folder
 
     at : (o : Option QuotaRow) → deepest nodes (over K R nodes) ≡ o → option_map (λ (q : QuotaRow). QuotaExceeded q.folder (usage K nodes q.folder) q.limit) o ≡ Some (exceeded_refusal e) → refused_acts p e m ≡ option_map_or (λ q. quota_acts (crossed K R would_be q.folder) R.run_limit m q) o []
     at None d h = cc h
@@ -172,11 +172,9 @@ refused_due p m nodes e c h = at (deepest nodes (over K R nodes)) refl h
         let own = refuser K R nodes q (quotas_ascending p.tree.nodes p.objects.quotas c.are_quotas) d in
         let told = same_refusal q.folder (usage K nodes q.folder) q.limit e h in
         let found : row_of folder_of e.folder p.objects.quotas ≡ Some q = subst (λ f. row_of folder_of f p.objects.quotas ≡ Some q) told.folder_is own.there in
-        let before : used_of K R q.folder ≡ Some used =
-        used_counting K R q own.there own.counting
-        ∙ ap Some (sym (ap (λ o. unwrap_or o 0) (used_at p e.folder (used_in p.usage e.folder) c refl ∙ (ap (used_of K R) (sym told.folder_is) ∙ used_counting K R q own.there own.counting)))) in
+        let before : used_of K R q.folder ≡ used = ap (used_of K R) told.folder_is ∙ sym (used_at p e.folder used c refl) in
         let after : used_of K would_be q.folder ≡ Some e.would = used_counting K would_be q own.there own.counting ∙ ap Some told.would_is in
-        ap (λ o. option_map_or (λ quota. quota_acts (crosses None (Some used) (Some e.would) quota) p.run_limit m quota) o []) found
-        ∙ acts_same (crosses None (Some used) (Some e.would) q) (crossed K R would_be q.folder) p.run_limit m q
+        ap (λ o. option_map_or (λ quota. quota_acts (crosses None used (Some e.would) quota) p.run_limit m quota) o []) found
+        ∙ acts_same (crosses None used (Some e.would) q) (crossed K R would_be q.folder) p.run_limit m q
         (λ n. sym (ap (λ b. b && not (reached K R q.folder n)) (reached_row K would_be q.folder n q (Some e.would) own.there after)
-        ∙ ap (λ b. has_reached q n (Some e.would) && not b) (reached_row K R q.folder n q (Some used) own.there before)))
+        ∙ ap (λ b. has_reached q n (Some e.would) && not b) (reached_row K R q.folder n q used own.there before)))

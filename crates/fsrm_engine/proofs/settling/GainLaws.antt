@@ -1,5 +1,5 @@
 -- The acts of quotas whose counters lost bytes and gained others: of those that were noted, and not dropped again.
-use Rattle.std.proofs.Common.{◌≡◌, ℕ, ◌+◌, ◌-◌, ◌<◌, ◌≤◌, ◌^◌, ◌==◌, ◌&&◌, ◌||◌, not, Bool, true, false, cond, List, [], ◌∷◌, Option, Some, None, refl, ap, sym, ◌∙◌, arith}
+use Rattle.std.proofs.Common.{◌≡◌, ℕ, ◌+◌, ◌-◌, ◌<◌, ◌≤◌, ◌^◌, ◌==◌, ◌&&◌, not, Bool, true, false, cond, List, [], ◌∷◌, Option, Some, None, refl, ap, sym, ◌∙◌, arith}
 use Rattle.std.specs.Prelude.{filter, flat_map, map, option_map}
 use Rattle.std.specs.List.{list_any}
 use Rattle.std.specs.Option.{option_map_or}
@@ -19,8 +19,8 @@ use Rattle.quota_usage.specs.declared.change.Change.{Change}
 use Rattle.quota_usage.specs.declared.change.Counter.{Counter}
 use Rattle.quota_usage.specs.Charge.{charged, charged_counter, is_above}
 use Rattle.quota_usage.specs.Counters.{counted, used_in}
-use Rattle.thresholds.specs.Settled.{crosses}
-use Rattle.fsrm_engine.specs.Crossing.{IsCovered, crosses_some, gained_acts, is_crossing, lost_by, used_acts, used_before}
+use Rattle.thresholds.specs.Settled.{crosses, crosses_any}
+use Rattle.fsrm_engine.specs.Crossing.{IsCovered, gained_acts, is_crossing, lost_by, used_acts, used_before}
 use Rattle.fsrm_engine.specs.Due.{is_kept}
 use Rattle.fsrm_engine.proofs.settling.CalmLaws.{none_crosses}
 
@@ -46,7 +46,7 @@ halves : (h now before : Bool) → ((h && now) && not (h && before)) ≡ true �
 halves true now before e = e
 halves false now before e = cc e
 
-none_some : (q : QuotaRow) (run_limit m before now : ℕ) → crosses_some q before now ≡ false → used_acts (Some before) (Some now) run_limit m q ≡ []
+none_some : (q : QuotaRow) (run_limit m before now : ℕ) → crosses_any q before now ≡ false → used_acts (Some before) (Some now) run_limit m q ≡ []
 none_some q run_limit m before now h =
     ap (flat_map (λ (t : Threshold). ready_acts run_limit m (Quota q.folder t.percent) t.actions)) (none q.thresholds h)
   where
@@ -183,8 +183,8 @@ module _ (nodes : List NodeRow) (counters : List Counter) (change : Change) (to 
       uncrossed : (b : ℕ) → used_in counters q.folder ≡ Some b → is_under nodes q.folder to ≡ true → is_kept nodes change to q ≡ false → is_crossing (map (charged_counter nodes change) counters) lost change.plus q ≡ false → used_acts (Some b) (Some (now b)) run_limit m q ≡ []
       uncrossed b used up free off =
           none_some q run_limit m b (now b)
-          (ap (λ n. crosses_some q n (now b)) (sym (was q b used up free))
-          ∙ (sym (ap (λ o. option_map_or (λ n. crosses_some q (used_before lost change.plus n) n) o false) (used_charged nodes change counters q.folder ∙ ap (option_map (charged nodes change q.folder)) used)) ∙ off))
+          (ap (λ n. crosses_any q n (now b)) (sym (was q b used up free))
+          ∙ (sym (ap (λ o. option_map_or (λ n. crosses_any q (used_before lost change.plus n) n) o false) (used_charged nodes change counters q.folder ∙ ap (option_map (charged nodes change q.folder)) used)) ∙ off))
 
       at : (o : Option ℕ) → used_in counters q.folder ≡ o → used_acts o (option_map (charged nodes change q.folder) o) run_limit m q ≡ []
       at None e = no_acts (crosses None None None q) run_limit m q (λ percent. none_crosses q percent None None tt)

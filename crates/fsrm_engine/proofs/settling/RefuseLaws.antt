@@ -1,9 +1,8 @@
 -- What is left when a quota refuses: nothing if no act is due, and else the acts.
-use Rattle.std.proofs.Common.{◌≡◌, ℕ, ◌==◌, ◌≤◌, Bool, true, false, ◌&&◌, ◌||◌, ◌++◌, List, [], ◌∷◌, length, Option, Some, None, is_some, refl, ap, sym, ◌∙◌, subst}
+use Rattle.std.proofs.Common.{◌≡◌, ℕ, ◌==◌, ◌≤◌, Bool, true, false, ◌&&◌, List, [], ◌∷◌, length, Option, Some, None, is_some, refl, ap, sym, ◌∙◌, subst}
 use Rattle.std.proofs.lemmas.List.{append-nil}
 use Rattle.std.specs.Prelude.{option_map}
 use Rattle.std.specs.List.{AllByRecursion, cons_option}
-use Rattle.std.specs.Option.{option_map_or}
 use Rattle.fsrm_base.specs.Keyed.{has_row, row_of}
 use Rattle.fsrm_base.proofs.Look.{found_has}
 use Rattle.fsrm_base.proofs.RowLaws.{all_filter, each_found, find_has}
@@ -16,15 +15,14 @@ use Rattle.fsrm_model.specs.declared.row.ActRow.{ActRow}
 use Rattle.fsrm_model.specs.declared.row.QuotaRow.{QuotaRow}
 use Rattle.fsrm_model.specs.Acts.{has_act}
 use Rattle.fsrm_model.specs.Limits.{most_entries}
-use Rattle.fsrm_model.specs.Quota.{folder_of, deepest, refuses}
+use Rattle.fsrm_model.specs.Quota.{folder_of, deepest}
 use Rattle.fsrm_model.specs.Runs.{last_entries}
 use Rattle.fsrm_model.proofs.thresholds.RunLaws.{short_log}
 use Rattle.fsrm_objects.specs.Tables.{Tables}
 use Rattle.quota_usage.specs.declared.change.Change.{Change}
 use Rattle.quota_usage.specs.declared.change.Exceeded.{Exceeded}
-use Rattle.quota_usage.specs.Charge.{exceeded_by, over_by, refuses_change, told_of, charged}
-use Rattle.quota_usage.specs.Counters.{used_in}
-use Rattle.scan_queue.specs.Courses.{Scanning}
+use Rattle.quota_usage.specs.Charge.{exceeded_by, over_by, refuses_change, told_of}
+use Rattle.rescan.specs.Courses.{Scanning}
 use Rattle.thresholds.specs.Marked.{Marked, act_at, are_there, waiting}
 use Rattle.thresholds.proofs.RunLaws.{quotas_none}
 use Rattle.fsrm_engine.specs.declared.parts.Parts.{Parts}
@@ -100,38 +98,25 @@ refused_sound p new m exceeded answer r counted scanning = at (refused_acts p ex
     at (act ∷ acts) run leaves = sound_run p r.run new m (act ∷ acts) run leaves.0 counted scanning
 
 -- ---- the quota that refuses
-pub record Refuser (p : Parts) (folder : ℕ) : Type 0 where
-  pub there : has_row folder_of folder p.objects.quotas ≡ true
-  pub counting : is_some (used_in p.usage folder) ≡ true
-
-record Own (p : Parts) (change : Change) (q : QuotaRow) : Type 0 where
-  found : row_of folder_of (folder_of q) p.objects.quotas ≡ Some q
-  refuses_it : refuses_change p.tree.nodes p.usage change q ≡ true
-
-has_counter : (p : Parts) (change : Change) (q : QuotaRow) → refuses_change p.tree.nodes p.usage change q ≡ true → is_some (used_in p.usage q.folder) ≡ true
-has_counter p change q h = at (used_in p.usage q.folder) h
-  where
-    at : (o : Option ℕ) → option_map_or (λ bytes. refuses q bytes (charged p.tree.nodes change q.folder bytes)) o false ≡ true → is_some o ≡ true
-    at None h = cc h
-    at (Some bytes) h = refl
-
-pub refuser_of : (p : Parts) (change : Change) (exceeded : Exceeded) → AreCounted p → exceeded_by p.tree.nodes p.objects.quotas p.usage change ≡ Some exceeded → Refuser p exceeded.folder
-refuser_of p change exceeded e h = at (deepest p.tree.nodes over) refl h
+pub refuser_there : (p : Parts) (change : Change) (exceeded : Exceeded) → AreCounted p → exceeded_by p.tree.nodes p.objects.quotas p.usage change ≡ Some exceeded → has_row folder_of exceeded.folder p.objects.quotas ≡ true
+refuser_there p change exceeded e h = at (deepest p.tree.nodes over) refl h
   where
     over : List QuotaRow
     over = over_by p.tree.nodes p.objects.quotas p.usage change
 
-    own : AllByRecursion (Own p change) over
-    own =
-        all_filter (refuses_change p.tree.nodes p.usage change) (Own p change) p.objects.quotas
-        (each_found folder_of (λ q. refuses_change p.tree.nodes p.usage change q ≡ true → Own p change q) p.objects.quotas e.are_quotas.ascending (λ q found is. record { found = found; refuses_it = is }))
+    Own : QuotaRow → Type 0
+    Own q = row_of folder_of (folder_of q) p.objects.quotas ≡ Some q
 
-    at : (o : Option QuotaRow) → deepest p.tree.nodes over ≡ o → option_map (told_of p.tree.nodes p.usage change) o ≡ Some exceeded → Refuser p exceeded.folder
+    own : AllByRecursion Own over
+    own =
+        all_filter (refuses_change p.tree.nodes p.usage change) Own p.objects.quotas
+        (each_found folder_of (λ q. refuses_change p.tree.nodes p.usage change q ≡ true → Own q) p.objects.quotas e.are_quotas.ascending (λ q found is. found))
+
+    at : (o : Option QuotaRow) → deepest p.tree.nodes over ≡ o → option_map (told_of p.tree.nodes p.usage change) o ≡ Some exceeded → has_row folder_of exceeded.folder p.objects.quotas ≡ true
     at None d h = absurd (cc h)
     at (Some q) d h =
-        let o = find_has _ (Own p change) over q own d in
         let same : q.folder ≡ exceeded.folder = ap folder_told h in
-        subst (Refuser p) same (record { there = found_has folder_of q.folder p.objects.quotas q o.found; counting = has_counter p change q o.refuses_it })
+        subst (λ folder. has_row folder_of folder p.objects.quotas ≡ true) same (found_has folder_of q.folder p.objects.quotas q (find_has _ Own over q own d))
       where
         folder_told : Option Exceeded → ℕ
         folder_told None = 0

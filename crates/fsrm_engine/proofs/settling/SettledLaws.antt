@@ -6,9 +6,8 @@ use Rattle.std.specs.Prelude.{option_map}
 use Rattle.std.specs.Option.{option_map_or}
 use Rattle.fsrm_base.specs.Keyed.{has_row, is_ascending}
 use Rattle.fsrm_base.specs.Numbers.{is_in, is_set, without_number}
-use Rattle.fsrm_base.proofs.EditedRows.{without_absent}
 use Rattle.fsrm_base.proofs.Look.{FoundRow, found_has}
-use Rattle.fsrm_base.proofs.NumberLaws.{first_once, in_without, set_without}
+use Rattle.fsrm_base.proofs.NumberLaws.{in_without, set_without}
 use Rattle.fsrm_base.proofs.SortedRows.{row_at, there}
 use Rattle.fsrm_base.proofs.TestLaws.{both, clash, eq_same, eq_test, is_apart}
 use Rattle.fsrm_model.specs.declared.command.Act.{Act}
@@ -22,6 +21,7 @@ use Rattle.fsrm_model.proofs.thresholds.DueLaws.{quota_run}
 use Rattle.fsrm_model.proofs.thresholds.RunLaws.{unrun_quota}
 use Rattle.fsrm_model.proofs.thresholds.SettleLaws.{same_runs}
 use Rattle.fsrm_objects.specs.Tables.{Tables}
+use Rattle.number_set.proofs.TakenLaws.{first_in, first_taken, rest_is}
 use Rattle.quota_usage.specs.declared.change.Counter.{Counter}
 use Rattle.quota_usage.specs.Counters.{used_in}
 use Rattle.thresholds.specs.Marked.{Marked, are_there}
@@ -64,13 +64,7 @@ settled_none f m old before places few there set ordered within =
     }
 
 least_first : (rest : List ℕ) (n : ℕ) → slice_get rest 0 ≡ Some n → is_set rest ≡ true → rest ≡ n ∷ without_number n rest
-least_first [] n least set = cc least
-least_first (k ∷ rest) n least set =
-    let same : k ≡ n = same_Some k n least in
-    let own : is_set (n ∷ rest) ≡ true = subst (λ j. is_set (j ∷ rest) ≡ true) same set in
-    ap (λ j. j ∷ rest) same
-    ∙ ap (λ ns. n ∷ ns) (sym (ap (λ j. without_number n (j ∷ rest)) same
-    ∙ (ap (λ b. cond (not b) (n ∷ without_number n rest) (without_number n rest)) (eq_same n) ∙ without_absent (λ k. k) n rest (first_once n rest own))))
+least_first rest n least set = first_taken n rest least ∙ ap (λ ns. n ∷ ns) (rest_is n rest set least)
 
 module _ (f : QuotaRow → List Act) (m : ℕ) (old now new : Marked) (before after next : Tables) (places rest : List ℕ) (n : ℕ) (q : QuotaRow) (s : Settled f m old now before after places rest) (least : slice_get rest 0 ≡ Some n) (at_least : slice_get after.quotas n ≡ Some q) where
   is_left : is_in rest n ≡ true
@@ -139,17 +133,9 @@ gained_used counters minus plus run_limit m q before now is earlier =
     ap (λ o. used_acts (option_map (used_before minus plus) o) o run_limit m q) (sym is) ∙ ap (λ o. used_acts o now run_limit m q) (sym earlier)
 
 -- ---- the least place
-pub least_in : (places : List ℕ) (n : ℕ) → slice_get places 0 ≡ Some n → is_in places n ≡ true
-least_in [] n least = cc least
-least_in (k ∷ places) n least = ap (λ b. b || is_in places n) (eq_test k n (same_Some k n least))
-
-pub none_least : (places : List ℕ) → slice_get places 0 ≡ None → places ≡ []
-none_least [] least = refl
-none_least (k ∷ places) least = cc least
-
 pub less_left : (places left : List ℕ) (n : ℕ) → slice_get places 0 ≡ Some n → left ≡ without_number n places → length left < length places
 less_left places left n least is =
-    subst (λ ns. length ns < length places) (sym is) (fewer (λ k. k) n places (least_in places n least))
+    subst (λ ns. length ns < length places) (sym is) (fewer (λ k. k) n places (first_in n places least))
 
 -- the quota at a place is its folder's
 pub at_place_has : (quotas : List QuotaRow) (place : ℕ) (q : QuotaRow) → are_orderly quotas ≡ true → slice_get quotas place ≡ Some q → has_row folder_of q.folder quotas ≡ true

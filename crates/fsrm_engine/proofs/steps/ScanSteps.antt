@@ -22,7 +22,7 @@ use Rattle.fsrm_model.specs.ValidScans.{IsQueue}
 use Rattle.fsrm_base.proofs.TestLaws.{suc_apart}
 use Rattle.fsrm_objects.specs.Tables.{Tables}
 use Rattle.quota_usage.specs.Counters.{used_in}
-use Rattle.scan_queue.specs.Courses.{Course, Scanning, left}
+use Rattle.rescan.specs.Courses.{Course, Scanning, left}
 use Rattle.thresholds.specs.Settled.{due_in}
 use Rattle.fsrm_model.proofs.valid.RowsKept.{head_in}
 use Rattle.fsrm_engine.specs.declared.parts.Parts.{Parts}

@@ -28,14 +28,14 @@ use Rattle.fsrm_model.specs.Limits.{most_entries}
 use Rattle.fsrm_model.specs.Quota.{peaked, peaks}
 use Rattle.fsrm_model.specs.QuotaStates.{followed, same_head, scan_begun}
 use Rattle.fsrm_model.specs.Runs.{ran}
-use Rattle.fsrm_model.specs.Step.{Stepped, step, work, decided, accepted, acted, lasted, left_by, ran_if_any, refused_leaving, screened, unacted, unlasting}
+use Rattle.fsrm_model.specs.Step.{Stepped, work, decided, accepted, acted, lasted, left_by, ran_if_any, refused_leaving, screened, unacted, unlasting}
 use Rattle.fsrm_model.specs.Text.{is_bare}
 use Rattle.fsrm_model.specs.Work.{Work}
 use Rattle.fsrm_model.proofs.commands.OrderlyLaws.{left_is, acts_left, itself_same}
 use Rattle.fsrm_model.proofs.thresholds.ActLaws.{IsOfQuota, of_quota_due, of_quota_refused}
 use Rattle.fsrm_base.proofs.TestLaws.{eq_same}
 use Rattle.quota_usage.specs.declared.change.Exceeded.{Exceeded}
-use Rattle.scan_queue.specs.Courses.{Course, left}
+use Rattle.rescan.specs.Courses.{Course, left}
 use Rattle.fsrm_objects.specs.Tables.{Tables}
 use Rattle.quota_usage.specs.declared.change.Counter.{Counter}
 use Rattle.thresholds.specs.Marked.{Marked}
@@ -290,7 +290,7 @@ is_fault NamesFull o h = h
 is_fault NoMemory o h = tt
 
 -- none of these is by a quota
-tree_bare : (fault : TreeFault) (refusal : Refusal) → refusal_of fault ≡ Some refusal → is_bare refusal ≡ true
+pub tree_bare : (fault : TreeFault) (refusal : Refusal) → refusal_of fault ≡ Some refusal → is_bare refusal ≡ true
 tree_bare AlreadyExists refusal h = sym (ap is_bare (same_Some _ refusal h))
 tree_bare InvalidMove refusal h = sym (ap is_bare (same_Some _ refusal h))
 tree_bare NotEmpty refusal h = sym (ap is_bare (same_Some _ refusal h))

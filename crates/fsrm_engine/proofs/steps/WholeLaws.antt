@@ -18,7 +18,7 @@ use Rattle.fsrm_model.specs.Valid.{AreQuotas, IsValid}
 use Rattle.fsrm_model.proofs.commands.EachCommand.{named}
 use Rattle.fsrm_model.proofs.commands.StepActs.{AreActs}
 use Rattle.fsrm_model.proofs.thresholds.DueLaws.{also}
-use Rattle.scan_queue.specs.Courses.{Scanning}
+use Rattle.rescan.specs.Courses.{Scanning}
 use Rattle.thresholds.specs.Marked.{waiting}
 use Rattle.fsrm_engine.specs.declared.parts.Parts.{Parts}
 use Rattle.fsrm_engine.specs.Machine.{Machine, Takes, Does, IsIdle, IsSound, IsWhole, AreCounted, machine_of, rows_of, step_of, ended}

@@ -1,11 +1,11 @@
 -- Lists of thresholds that a command changes, one step after the other.
-use Rattle.std.proofs.Common.{◌≡◌, ℕ, suc, ◌+◌, ◌<◌, ◌≤◌, ◌==◌, Bool, true, false, cond, not, List, [], ◌∷◌, ◌++◌, length, take, Option, Some, None, slice_get, slice_set, insert, refl, ap, sym, ◌∙◌, subst, arith}
+use Rattle.std.proofs.Common.{◌≡◌, ℕ, suc, ◌+◌, ◌<◌, ◌==◌, Bool, true, false, cond, not, List, [], ◌∷◌, ◌++◌, length, take, Some, slice_get, slice_set, insert, refl, ap, sym, ◌∙◌, subst, arith}
 use Rattle.std.proofs.lemmas.List.{append-nil}
 use Rattle.std.proofs.lemmas.List.Edits.{get_or-insert_at}
 use Rattle.std.proofs.lemmas.List.Elements.{filter_more}
 use Rattle.std.proofs.lemmas.List.Sums.{fold_more}
 use Rattle.std.proofs.lemmas.Option.{get_or_from_slice_get, same_Some, slice_get-get_or, slice_get_within}
-use Rattle.std.specs.Prelude.{filter, fold, if◌then◌else◌}
+use Rattle.std.specs.Prelude.{filter, fold}
 use Rattle.fsrm_base.specs.Keyed.{has_row, is_ascending, row_of, with_change, with_row}
 use Rattle.fsrm_base.specs.Numbers.{is_in}
 use Rattle.fsrm_base.specs.Places.{IsAt, IsGap}
@@ -67,14 +67,12 @@ ascending_kept removed thresholds lent kept a same is =
     ap (is_ascending percent_of) (is ∙ ap (without_thresholds removed) same) ∙ ascending-filter percent_of (λ t. not (is_in removed t.percent)) thresholds a
 
 -- ---- the place of a percentage
--- that was looked for under a number equal to it, in thresholds that were lent
-pub own_place : (thresholds lent : List Threshold) (percent number place : ℕ) → lent ≡ thresholds → number ≡ percent → IsAt percent_of number lent place → IsAt percent_of percent thresholds place
-own_place thresholds lent percent number place same is at =
-    subst (λ (ts : List Threshold). IsAt percent_of percent ts place) same (subst (λ (n : ℕ). IsAt percent_of n lent place) is at)
+-- that was looked for in thresholds that were lent
+pub own_place : (thresholds lent : List Threshold) (percent place : ℕ) → lent ≡ thresholds → IsAt percent_of percent lent place → IsAt percent_of percent thresholds place
+own_place thresholds lent percent place same at = subst (λ (ts : List Threshold). IsAt percent_of percent ts place) same at
 
-pub own_gap : (thresholds lent : List Threshold) (percent number place : ℕ) → lent ≡ thresholds → number ≡ percent → IsGap percent_of number lent place → IsGap percent_of percent thresholds place
-own_gap thresholds lent percent number place same is gap =
-    subst (λ (ts : List Threshold). IsGap percent_of percent ts place) same (subst (λ (n : ℕ). IsGap percent_of n lent place) is gap)
+pub own_gap : (thresholds lent : List Threshold) (percent place : ℕ) → lent ≡ thresholds → IsGap percent_of percent lent place → IsGap percent_of percent thresholds place
+own_gap thresholds lent percent place same gap = subst (λ (ts : List Threshold). IsGap percent_of percent ts place) same gap
 
 -- one that is there
 pub there_already : (thresholds : List Threshold) (percent place : ℕ) → IsAt percent_of percent thresholds place → thresholds ≡ with_threshold thresholds percent

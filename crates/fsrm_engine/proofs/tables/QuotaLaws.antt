@@ -30,7 +30,7 @@ use Rattle.quota_usage.specs.Counters.{used_in}
 use Rattle.fsrm_engine.specs.declared.parts.Parts.{Parts}
 use Rattle.fsrm_engine.specs.Machine.{rows_of, IsCounted, IsIdle, AreCounted}
 use Rattle.fsrm_engine.specs.Places.{IsFolder, IsQuotaAt}
-use Rattle.scan_queue.specs.Courses.{left}
+use Rattle.rescan.specs.Courses.{left}
 use Rattle.fsrm_engine.proofs.steps.PlaceLaws.{target_is, leads_to_folder_is}
 use Rattle.fsrm_engine.proofs.steps.StepLaws.{Accepts, asked, followed_rows, keeps, same_own, still_idle}
 use Rattle.fsrm_base.proofs.RowLaws.{change_same}

@@ -2,7 +2,7 @@
 use Rattle.std.proofs.Common.{◌≡◌, ℕ, ◌+◌, ◌<◌, ◌≤◌, ◌==◌, Bool, true, false, cond, List, [], ◌∷◌, ◌++◌, length, slice_get, ◌||◌, append_assoc, length-append, Option, Some, None, nat_lt, refl, ap, sym, ◌∙◌, subst, arith}
 use Rattle.std.proofs.lemmas.Bool.Decides.{nat_tests}
 use Rattle.std.proofs.lemmas.Option.{same_Some}
-use Rattle.std.specs.Prelude.{map, is_some, if◌then◌else◌}
+use Rattle.std.specs.Prelude.{map, if◌then◌else◌}
 use Rattle.std.specs.Option.{option_map_or}
 use Rattle.fsrm_model.specs.declared.row.QuotaRow.{QuotaRow}
 use Rattle.std.proofs.lemmas.List.{length-map, map-append, append-nil}
@@ -14,17 +14,18 @@ use Rattle.fsrm_base.proofs.EditedRows.{change_absent, absent_later, ascending_t
 use Rattle.fsrm_base.proofs.TestLaws.{clash, eq_is, eq_same, not_true, or_later}
 use Rattle.node_table.specs.declared.view.NodeView.{NodeView}
 use Rattle.volume_tree.specs.Volume.{Shows}
-use Rattle.fsrm_base.proofs.Look.{found_key, is_some-find}
+use Rattle.fsrm_base.proofs.Look.{found_key}
 use Rattle.fsrm_objects.specs.Tables.{Tables, peaked_at}
 use Rattle.quota_usage.specs.declared.change.Counter.{Counter}
 use Rattle.quota_usage.specs.Counters.{used_in}
-use Rattle.fsrm_engine.specs.Crossing.{crosses_some, is_crossing, used_before}
-use Rattle.fsrm_engine.specs.Peaks.{raised, raised_above}
+use Rattle.thresholds.specs.Settled.{crosses_any}
+use Rattle.fsrm_engine.specs.Crossing.{is_crossing, used_before}
+use Rattle.fsrm_engine.specs.Peaks.{raised, raised_above, raised_to}
 use Rattle.fsrm_base.proofs.RowLaws.{change_same, change_none}
 use Rattle.fsrm_model.proofs.valid.ValidLaws.{found_parent}
 
-raised_by : (counters : List Counter) (m : ℕ) (q : QuotaRow) (o : Option ℕ) → used_in counters q.folder ≡ o → raised counters m q ≡ option_map_or (λ used. if nat_lt q.peak used then record q { peak = used; peak_at = m } else q) o q
-raised_by counters m q o h = ap (λ o. option_map_or (λ used. if nat_lt q.peak used then record q { peak = used; peak_at = m } else q) o q) h
+raised_by : (counters : List Counter) (m : ℕ) (q : QuotaRow) (o : Option ℕ) → used_in counters q.folder ≡ o → raised counters m q ≡ option_map_or (λ used. raised_to used m q) o q
+raised_by counters m q o h = ap (λ o. option_map_or (λ used. raised_to used m q) o q) h
 
 -- the counter of the folder that a quota is found on
 own_used : (counters : List Counter) (quotas : List QuotaRow) (f : ℕ) (q : QuotaRow) (o : Option ℕ) → row_of folder_of f quotas ≡ Some q → used_in counters f ≡ o → used_in counters q.folder ≡ o
@@ -34,8 +35,8 @@ pub raise_none : (counters : List Counter) (quotas : List QuotaRow) (f m : ℕ) 
 raise_none counters quotas f m asc h =
     sym (change_same folder_of f (raised counters m) (λ q. q) quotas asc (λ q found. raised_by counters m q None (own_used counters quotas f q None found h)) ∙ change_none folder_of f quotas)
 
-pub raise_absent : (counters : List Counter) (quotas : List QuotaRow) (f m : ℕ) → row_of folder_of f quotas ≡ None → quotas ≡ with_change folder_of f (raised counters m) quotas
-raise_absent counters quotas f m h = sym (change_absent folder_of f (raised counters m) quotas (sym (is_some-find (λ q. folder_of q == f) quotas) ∙ ap is_some h))
+pub raise_absent : (counters : List Counter) (quotas : List QuotaRow) (f m : ℕ) → has_row folder_of f quotas ≡ false → quotas ≡ with_change folder_of f (raised counters m) quotas
+raise_absent counters quotas f m none = sym (change_absent folder_of f (raised counters m) quotas none)
 
 not_less : (x y : ℕ) → y ≤ x → nat_lt x y ≡ false
 not_less x y h = grind (arith, nat_tests)
@@ -43,20 +44,24 @@ not_less x y h = grind (arith, nat_tests)
 less : (x y : ℕ) → x < y → nat_lt x y ≡ true
 less x y h = grind (arith, nat_tests)
 
-pub raise_low : (counters : List Counter) (quotas : List QuotaRow) (f m used : ℕ) (q : QuotaRow) → is_ascending folder_of quotas ≡ true → used_in counters f ≡ Some used → row_of folder_of f quotas ≡ Some q → used ≤ q.peak → quotas ≡ with_change folder_of f (raised counters m) quotas
-raise_low counters quotas f m used q asc h found low =
-    sym (change_same folder_of f (raised counters m) (λ q. q) quotas asc (λ r at.
-    raised_by counters m r (Some used) (own_used counters quotas f r (Some used) at h)
-    ∙ ap (λ b. cond b (record r { peak = used; peak_at = m }) r) (not_less r.peak used (subst (λ (s : QuotaRow). used ≤ s.peak) (same_Some q r (sym found ∙ at)) low)))
+-- by what is used
+pub raise_low : (quotas : List QuotaRow) (f m used : ℕ) (q : QuotaRow) → is_ascending folder_of quotas ≡ true → row_of folder_of f quotas ≡ Some q → used ≤ q.peak → quotas ≡ with_change folder_of f (raised_to used m) quotas
+raise_low quotas f m used q asc found low =
+    sym (change_same folder_of f (raised_to used m) (λ q. q) quotas asc (λ r at.
+    ap (λ b. cond b (record r { peak = used; peak_at = m }) r) (not_less r.peak used (subst (λ (s : QuotaRow). used ≤ s.peak) (same_Some q r (sym found ∙ at)) low)))
     ∙ change_none folder_of f quotas)
 
-pub raise_high : (counters : List Counter) (quotas : List QuotaRow) (f m used : ℕ) (q : QuotaRow) → is_ascending folder_of quotas ≡ true → used_in counters f ≡ Some used → row_of folder_of f quotas ≡ Some q → q.peak < used → with_change folder_of f (peaked_at used m) quotas ≡ with_change folder_of f (raised counters m) quotas
-raise_high counters quotas f m used q asc h found high =
-    sym (change_same folder_of f (raised counters m) (peaked_at used m) quotas asc (λ r at.
-    raised_by counters m r (Some used) (own_used counters quotas f r (Some used) at h)
-    ∙ ap (λ b. cond b (record r { peak = used; peak_at = m }) r) (less r.peak used (subst (λ (s : QuotaRow). s.peak < used) (same_Some q r (sym found ∙ at)) high))))
+pub raise_high : (quotas : List QuotaRow) (f m used : ℕ) (q : QuotaRow) → is_ascending folder_of quotas ≡ true → row_of folder_of f quotas ≡ Some q → q.peak < used → with_change folder_of f (peaked_at used m) quotas ≡ with_change folder_of f (raised_to used m) quotas
+raise_high quotas f m used q asc found high =
+    sym (change_same folder_of f (raised_to used m) (peaked_at used m) quotas asc (λ r at.
+    ap (λ b. cond b (record r { peak = used; peak_at = m }) r) (less r.peak used (subst (λ (s : QuotaRow). s.peak < used) (same_Some q r (sym found ∙ at)) high))))
 
-raised_keeps_at : (q : QuotaRow) (m : ℕ) (o : Option ℕ) → (option_map_or (λ used. if nat_lt q.peak used then record q { peak = used; peak_at = m } else q) o q).folder ≡ q.folder
+-- which the counter tells
+pub raise_used : (counters : List Counter) (quotas : List QuotaRow) (f m used : ℕ) → is_ascending folder_of quotas ≡ true → used_in counters f ≡ Some used → with_change folder_of f (raised_to used m) quotas ≡ with_change folder_of f (raised counters m) quotas
+raise_used counters quotas f m used asc h =
+    sym (change_same folder_of f (raised counters m) (raised_to used m) quotas asc (λ r at. raised_by counters m r (Some used) (own_used counters quotas f r (Some used) at h)))
+
+raised_keeps_at : (q : QuotaRow) (m : ℕ) (o : Option ℕ) → (option_map_or (λ used. raised_to used m q) o q).folder ≡ q.folder
 raised_keeps_at q m None = refl
 raised_keeps_at q m (Some used) = at (nat_lt q.peak used)
   where
@@ -160,7 +165,7 @@ tables_kept old mid new quotas kept is =
 
 -- whether a quota crosses a threshold, by its counter
 pub crossing_none : (counters : List Counter) (minus plus : ℕ) (q : QuotaRow) → used_in counters q.folder ≡ None → is_crossing counters minus plus q ≡ false
-crossing_none counters minus plus q h = ap (λ o. option_map_or (λ now. crosses_some q (used_before minus plus now) now) o false) h
+crossing_none counters minus plus q h = ap (λ o. option_map_or (λ now. crosses_any q (used_before minus plus now) now) o false) h
 
-pub crossing_some : (counters : List Counter) (minus plus : ℕ) (q : QuotaRow) (now : ℕ) → used_in counters q.folder ≡ Some now → is_crossing counters minus plus q ≡ crosses_some q (used_before minus plus now) now
-crossing_some counters minus plus q now h = ap (λ o. option_map_or (λ now. crosses_some q (used_before minus plus now) now) o false) h
+pub crossing_some : (counters : List Counter) (minus plus : ℕ) (q : QuotaRow) (now : ℕ) → used_in counters q.folder ≡ Some now → is_crossing counters minus plus q ≡ crosses_any q (used_before minus plus now) now
+crossing_some counters minus plus q now h = ap (λ o. option_map_or (λ now. crosses_any q (used_before minus plus now) now) o false) h

@@ -12,7 +12,7 @@ use Rattle.fsrm_model.specs.Tree.{usage}
 use Rattle.fsrm_model.proofs.valid.QuotasKept.{quotas-ran}
 use Rattle.fsrm_objects.specs.Tables.{Tables}
 use Rattle.quota_usage.specs.declared.change.Counter.{Counter}
-use Rattle.scan_queue.specs.Courses.{Scanning}
+use Rattle.rescan.specs.Courses.{Scanning}
 use Rattle.fsrm_engine.specs.declared.parts.Parts.{Parts}
 use Rattle.fsrm_engine.specs.Machine.{AreCounted, IsCounted, IsSound, Ran, ended}
 use Rattle.fsrm_engine.proofs.tables.PeakLaws.{was}

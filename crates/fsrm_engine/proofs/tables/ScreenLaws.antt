@@ -3,7 +3,7 @@ use Rattle.std.proofs.Common.{◌≡◌, ℕ, ◌+◌, ◌≤◌, ◌==◌, Bool
 use Rattle.std.proofs.lemmas.Bool.Decides.{nat_tests}
 use Rattle.std.proofs.lemmas.Option.{same_Some}
 use Rattle.std.specs.Borrow.{Bor}
-use Rattle.std.specs.Prelude.{fold, is_none, is_some, MatchOption, Result, IfOk, if◌then◌else◌}
+use Rattle.std.specs.Prelude.{fold, is_none, is_some, MatchOption, Result, IfOk}
 use Rattle.std.specs.List.{cons_option, list_all}
 use Rattle.std.specs.Option.{option_and_then, option_copied, option_map_or}
 use Rattle.file_groups.specs.Kept.{group_texts}

@@ -1,5 +1,5 @@
 -- The commands that give a quota its state.
-use Rattle.std.proofs.Common.{◌≡◌, ℕ, ◌<◌, ◌≤◌, ◌==◌, Bool, true, false, cond, not, List, [], ◌∷◌, ◌++◌, length, Option, Some, None, refl, ap, sym, ◌∙◌, arith}
+use Rattle.std.proofs.Common.{◌≡◌, ℕ, ◌==◌, Bool, true, false, cond, not, List, [], ◌∷◌, ◌++◌, length, Option, Some, None, refl, ap, sym, ◌∙◌, arith}
 use Rattle.std.proofs.lemmas.Option.{same_Some}
 use Rattle.std.specs.Prelude.{sum_by, is_none, if◌then◌else◌}
 use Rattle.std.specs.Option.{option_map_or}
@@ -21,7 +21,6 @@ use Rattle.fsrm_model.specs.QuotaWork.{quota_checks}
 use Rattle.fsrm_model.specs.Space.{space}
 use Rattle.fsrm_model.specs.Tree.{node_of, is_folder, children, usage}
 use Rattle.fsrm_model.specs.Valid.{IsVolume}
-use Rattle.fsrm_base.proofs.Look.{is_some-find}
 use Rattle.fsrm_base.proofs.TestLaws.{clash, eq_is}
 use Rattle.fsrm_model.proofs.nodes.UsageLaws.{usage_children}
 use Rattle.fsrm_engine.specs.Places.{IsFolder}

@@ -8,7 +8,7 @@ use Rattle.fsrm_base.specs.Keyed.{has_row, with_row, without_row}
 use Rattle.fsrm_model.specs.Quota.{folder_of}
 use Rattle.fsrm_model.specs.QuotaStates.{same_head, scan_begun, followed}
 use Rattle.fsrm_base.proofs.TestLaws.{neither, eq_same}
-use Rattle.scan_queue.specs.Courses.{Course, Scanning, Turns}
+use Rattle.rescan.specs.Courses.{Course, Scanning, Turns}
 use Rattle.volume_tree.specs.Volume.{Volume}
 use Rattle.fsrm_engine.specs.declared.parts.Parts.{Parts}
 use Rattle.fsrm_engine.specs.Machine.{IsIdle, IsSound, AreCounted, Turned, rows_of, recounted}

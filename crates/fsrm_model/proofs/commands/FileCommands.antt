@@ -49,7 +49,7 @@ use Rattle.fsrm_model.proofs.thresholds.KeptLaws.{sum_by-less}
 use Rattle.fsrm_model.proofs.valid.RowsKept.{plain-without, valid_with, same_heads, left_followed, left_after, head_folder, screens_folder}
 use Rattle.fsrm_model.proofs.valid.ScreensKept.{screens-gone, excepts-gone}
 use Rattle.fsrm_model.proofs.valid.ValidLaws.{folder_has}
-use Rattle.fsrm_model.proofs.screens.JudgingLaws.{judges}
+use Rattle.fsrm_model.proofs.screens.JudgingLaws.{judging_own}
 use Rattle.fsrm_model.proofs.nodes.Sizes.{name_bytes-new, name_bytes-placed}
 use Rattle.fsrm_base.proofs.TestLaws.{both, not_true, clash, eq_is, le_is, le_test, lt_test}
 use Rattle.fsrm_model.proofs.valid.UnvisitedKept.{unvisited-new, unvisited-change, unvisited-moved, unvisited-removed}
@@ -87,7 +87,7 @@ moved_is true o j h = h
 moved_is false o j h = absurd (cc h)
 
 is_there : (R : Rows) (owner folder : ℕ) (name : List ℕ) (j : Judged) → judged_by R owner folder name ≡ Some j → screen_of R j.screen.folder ≡ Some j.screen
-is_there R owner folder name j h = (judges R folder name j.screen (judged_is R owner folder name j h).judging).applies.own
+is_there R owner folder name j h = judging_own R folder name j.screen (judged_is R owner folder name j h).judging
 
 file_judged : (R : Rows) (op : FileOp) (moment : ℕ) (j : Judged) → judged_name R op ≡ Some j → IsJudged R (file_effect R op moment) j
 file_judged R (Create path length owner) moment j h =

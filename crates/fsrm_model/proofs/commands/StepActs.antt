@@ -99,17 +99,17 @@ peaked_ascending K R moment s late = valid_ascending K (record (peaks K R moment
 
 -- ---- acts of screens, and of quotas
 -- acts that come after those of a screen
-record AreParted (acts screens quotas : List Act) : Type 0 where
-  screens_are : of_screens acts ≡ screens
-  quotas_are : of_quotas acts ≡ quotas
+pub record AreParted (acts screens quotas : List Act) : Type 0 where
+  pub screens_are : of_screens acts ≡ screens
+  pub quotas_are : of_quotas acts ≡ quotas
 
-no_screens : (acts : List Act) → AllByRecursion IsOfQuota acts → AreParted acts [] acts
+pub no_screens : (acts : List Act) → AllByRecursion IsOfQuota acts → AreParted acts [] acts
 no_screens [] h = record { screens_are = refl; quotas_are = refl }
 no_screens (act ∷ acts) h =
     let more = no_screens acts h.1 in
     record { screens_are = rw h.0 more.screens_are; quotas_are = rw h.0 (ap (λ rest. act ∷ rest) more.quotas_are) }
 
-parted : (screens quotas : List Act) → AllByRecursion IsOfScreen screens → AllByRecursion IsOfQuota quotas → AreParted (screens ++ quotas) screens quotas
+pub parted : (screens quotas : List Act) → AllByRecursion IsOfScreen screens → AllByRecursion IsOfQuota quotas → AreParted (screens ++ quotas) screens quotas
 parted [] quotas h g = no_screens quotas g
 parted (act ∷ screens) quotas h g =
     let more = parted screens quotas h.1 g in

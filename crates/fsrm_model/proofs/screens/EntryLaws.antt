@@ -29,10 +29,10 @@ use Rattle.fsrm_model.proofs.commands.Orderly.{first_none, when_none}
 use Rattle.fsrm_model.proofs.commands.OrderlyLaws.{verdict, refused_outcome}
 
 -- ---- what is known of each work: it leaves the log, and tells of a screen if one judges a name; then it lasts
-record IsTold (R : Rows) (w : Work) : Type 0 where
-  log : w.effect.audits ≡ R.audits
-  told : tells_of_screen w.outcome ≡ is_some w.judged
-  lasts : w.lasts ≡ false → w.judged ≡ None
+pub record IsTold (R : Rows) (w : Work) : Type 0 where
+  pub log : w.effect.audits ≡ R.audits
+  pub told : tells_of_screen w.outcome ≡ is_some w.judged
+  pub lasts : w.lasts ≡ false → w.judged ≡ None
 
 told_reported : (o : Option Judged) → is_some (reported o) ≡ is_some o
 told_reported None = refl
@@ -50,7 +50,7 @@ step_log : (R : Rows) (left : List ℕ) (scanned : ℕ) (ends : Bool) → (if en
 step_log R left scanned true = refl
 step_log R left scanned false = refl
 
-is_told : (K : Capacity) (R : Rows) (moment : ℕ) (deed : Deed) → IsTold R (work K R moment deed)
+pub is_told : (K : Capacity) (R : Rows) (moment : ℕ) (deed : Deed) → IsTold R (work K R moment deed)
 is_told K R moment (File op) = record { log = file_log R op moment; told = told_reported (judged_name R op); lasts = λ never. absurd (cc never) }
 is_told K R moment (Step n) =
     record { log = step_log R (visits n R.nodes R.unvisited) (unwrap_or (head R.queue) 0) (length (visits n R.nodes R.unvisited) == 0); told = refl; lasts = λ h. refl }
@@ -93,7 +93,7 @@ accepted_quiet K R moment w t is = by w.lasts
     by true = ap (λ (o : Option Judged). accepted_log K R (followed R w.effect) moment w.outcome o true) is ∙ t.log
     by false = t.log
 
-none_is : (o : Option Judged) → is_some o ≡ false → o ≡ None
+pub none_is : (o : Option Judged) → is_some o ≡ false → o ≡ None
 none_is None h = refl
 none_is (Some j) h = absurd (cc h)
 

@@ -1,4 +1,4 @@
--- What is due, part by part: of a command, and of an operation that a quota refuses.
+-- What is due, part by part: of a command, of an operation that a quota refuses, and of a screen.
 use Rattle.std.proofs.Common.{◌≡◌, ℕ, ◌*◌, ◌==◌, ◌≤◌, true, false, ◌&&◌, List, [], refl, sym, ◌∙◌, ap, subst, Some, None, Option}
 use Rattle.std.proofs.lemmas.Bool.{and_parts}
 use Rattle.std.proofs.lemmas.Option.{same_Some}
@@ -7,18 +7,20 @@ use Rattle.std.specs.List.{list_all}
 use Rattle.std.specs.Option.{option_map_or}
 use Rattle.fsrm_model.specs.declared.command.Refusal.{Refusal}
 use Rattle.fsrm_model.specs.declared.command.Refusal.TheVariants.{QuotaExceeded}
-use Rattle.fsrm_model.specs.declared.command.Subject.TheVariants.{Quota}
+use Rattle.fsrm_model.specs.declared.command.Subject.{Subject}
+use Rattle.fsrm_model.specs.declared.command.Subject.TheVariants.{Quota, Screen}
 use Rattle.fsrm_model.specs.declared.row.Action.{Action}
 use Rattle.fsrm_model.specs.declared.row.Capacity.{Capacity}
 use Rattle.fsrm_model.specs.declared.row.NodeRow.{NodeRow}
 use Rattle.fsrm_model.specs.declared.row.QuotaRow.{QuotaRow}
 use Rattle.fsrm_model.specs.declared.row.Rows.{Rows}
+use Rattle.fsrm_model.specs.declared.row.ScreenRow.{ScreenRow}
 use Rattle.fsrm_model.specs.declared.row.Threshold.{Threshold}
 use Rattle.fsrm_base.specs.Keyed.{is_ascending, row_of, has_row}
-use Rattle.fsrm_model.specs.Acts.{has_act, actions_of}
-use Rattle.fsrm_model.specs.DueActions.{ready, is_ready_at, quota_acts, due, due_refused}
+use Rattle.fsrm_model.specs.Acts.{has_act, same_subject, actions_of}
+use Rattle.fsrm_model.specs.DueActions.{ready, is_ready_at, quota_acts, due, due_refused, due_screen}
 use Rattle.fsrm_model.specs.Quota.{folder_of, quota_of, counts, refuses, over, deepest, exceeded}
-use Rattle.fsrm_model.specs.Raises.{are_ascending, Raises, RaisesRefused}
+use Rattle.fsrm_model.specs.Raises.{are_ascending, Raises, RaisesRefused, RunsOfScreen}
 use Rattle.fsrm_model.specs.Reached.{crossed, IsReached}
 use Rattle.fsrm_model.specs.Thresholds.{percent_of, actions_at}
 use Rattle.fsrm_model.specs.Tree.{usage, is_under}
@@ -26,7 +28,7 @@ use Rattle.fsrm_base.proofs.Look.{found_passes, found_own, found_has}
 use Rattle.fsrm_base.proofs.Members.{all_found}
 use Rattle.fsrm_base.proofs.TestLaws.{both, both_true, eq_is, eq_same}
 use Rattle.fsrm_model.proofs.commands.QuotaLaws.{find_both}
-use Rattle.fsrm_model.proofs.thresholds.DueLaws.{quota_run, due_run}
+use Rattle.fsrm_model.proofs.thresholds.DueLaws.{ready_run, quota_run, due_run}
 use Rattle.fsrm_model.proofs.thresholds.ReachedLaws.{crossed_parts, crossed_test}
 
 -- an action that is there and may run
@@ -166,3 +168,21 @@ refused_test K R nodes moment folder percent place a is =
     (both_true (crossed K R after quota.folder percent) (is_ready_at R.run_limit moment (actions_at quota.thresholds percent) place)
     (crossed_test K R after quota.folder percent (record { is_reached = would; was_not = was_not }))
     (ready_test R.run_limit moment (actions_at quota.thresholds percent) place is.action there is.may_run))
+
+-- ---- of a screen
+screen_is : (folder : ℕ) (subject : Subject) → same_subject (Screen folder) subject ≡ true → subject ≡ Screen folder
+screen_is folder (Quota its percent) h = absurd (cc h)
+screen_is folder (Screen its) h = ap Screen (sym (eq_is folder its h))
+
+pub screen_parts : (run_limit moment : ℕ) (screen : ScreenRow) (subject : Subject) (place : ℕ) → has_act (due_screen run_limit moment screen) subject place ≡ true → RunsOfScreen run_limit moment screen subject place
+screen_parts run_limit moment screen subject place h =
+    let parts = both (same_subject (Screen screen.folder) subject) (is_ready_at run_limit moment screen.actions place) (sym (ready_run run_limit moment (Screen screen.folder) subject screen.actions place) ∙ h) in
+    let may = ready_parts run_limit moment screen.actions place parts.1 in
+    record { own = screen_is screen.folder subject parts.0; action = may.action; there = may.there; may_run = may.may_run }
+
+pub screen_test : (run_limit moment : ℕ) (screen : ScreenRow) (subject : Subject) (place : ℕ) → RunsOfScreen run_limit moment screen subject place → has_act (due_screen run_limit moment screen) subject place ≡ true
+screen_test run_limit moment screen subject place is =
+    ready_run run_limit moment (Screen screen.folder) subject screen.actions place
+    ∙ both_true (same_subject (Screen screen.folder) subject) (is_ready_at run_limit moment screen.actions place)
+    (ap (same_subject (Screen screen.folder)) is.own ∙ eq_same screen.folder)
+    (ready_test run_limit moment screen.actions place is.action is.there is.may_run)

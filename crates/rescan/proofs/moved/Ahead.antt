@@ -130,12 +130,3 @@ open_ahead K nodes f x tops waiting sum n v w here =
     let has = waiting_has K nodes f x tops waiting sum w n here in
     step_ahead K nodes waiting (opened nodes n waiting) n v has (above_own nodes waiting n here) (opened_gone K nodes f x tops waiting sum n v w here)
     (λ m h a. opened_less K nodes waiting n m v here h has a)
-
--- the next waiting folder
-pub next_in : (waiting : List ℕ) (n : ℕ) → Some n ≡ slice_get waiting 0 → is_in waiting n ≡ true
-next_in [] n h = cc
-next_in (m ∷ ms) n h = ap (λ b. b || is_in ms n) (ap (λ k. k == n) (sym (same_Some n m h)) ∙ eq_same n)
-
-pub none_next : (waiting : List ℕ) → None ≡ slice_get waiting 0 → waiting ≡ []
-none_next [] h = refl
-none_next (m ∷ ms) h = cc

@@ -20,7 +20,7 @@ use Rattle.rescan.specs.Tops.{AreTops}
 use Rattle.rescan.specs.Visits.{folders_in, tops_after, looks_left}
 use Rattle.rescan.proofs.unvisited.ChildLaws.{filter_least}
 use Rattle.rescan.proofs.counted.FitLaws.{sum_le}
-use Rattle.rescan.proofs.unvisited.SetLaws.{none_first}
+use Rattle.number_set.proofs.TakenLaws.{none_first}
 use Rattle.rescan.proofs.unvisited.Tops.{in_unvisited, set_unvisited, above_own, tops_of}
 use Rattle.rescan.proofs.unvisited.VisitLaws.{first_in, tops_visited, unvisited_after}
 

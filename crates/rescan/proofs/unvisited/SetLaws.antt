@@ -1,35 +1,17 @@
 -- Sets that are copied and listed number by number.
 use Rattle.std.proofs.Common.{◌≡◌, ℕ, ◌+◌, ◌<◌, ◌≤◌, ◌==◌, Bool, true, false, cond, not, ◌||◌, ◌&&◌, List, [], ◌∷◌, ◌++◌, Some, None, refl, sym, ◌∙◌, ap, subst, arith, append_assoc, nat_lt}
 use Rattle.std.proofs.lemmas.Bool.Decides.{nat_tests}
-use Rattle.std.proofs.lemmas.Option.{same_Some}
-use Rattle.std.specs.Prelude.{slice_get}
-use Rattle.fsrm_base.specs.Numbers.{is_in, is_set, with_number, without_number}
-use Rattle.fsrm_base.proofs.TestLaws.{neither, eq_is, eq_same, lt_test}
+use Rattle.std.specs.Prelude.{drop, slice_get}
+use Rattle.fsrm_base.specs.Numbers.{is_in, is_set, with_number}
+use Rattle.fsrm_base.proofs.TestLaws.{eq_is, lt_test}
 use Rattle.number_set.specs.Numbers.{Numbers}
-use Rattle.fsrm_base.proofs.NumberLaws.{in_with, set_with, same_set, first_once}
+use Rattle.number_set.proofs.TakenLaws.{first_taken}
+use Rattle.fsrm_base.proofs.NumberLaws.{in_with, set_with, same_set}
 
 -- the least member is taken out
-without_absent : (n : ℕ) (ns : List ℕ) → is_in ns n ≡ false → without_number n ns ≡ ns
-without_absent n [] h = refl
-without_absent n (k ∷ ns) h =
-    let p = neither (k == n) (is_in ns n) h in
-    ap (λ b. cond (not b) (k ∷ without_number n ns) (without_number n ns)) p.0 ∙ ap (λ ks. k ∷ ks) (without_absent n ns p.1)
-
-pub first_taken : (n : ℕ) (ns : List ℕ) → is_set ns ≡ true → slice_get ns 0 ≡ Some n → ns ≡ n ∷ without_number n ns
-first_taken n [] h e = cc
-first_taken n (k ∷ ns) h e =
-    let same : k ≡ n = same_Some k n e in
-    let lacks : is_in ns n ≡ false = subst (λ j. is_in ns j ≡ false) same (first_once k ns h) in
-    ap (λ j. j ∷ ns) same
-    ∙ ap (λ ks. n ∷ ks) (sym (without_absent n ns lacks) ∙ ap (λ b. cond (not b) (k ∷ without_number n ns) (without_number n ns)) (sym (ap (λ j. j == n) same ∙ eq_same n)))
-
-pub listed_more : (list whole ns rest : List ℕ) (n : ℕ) → is_set ns ≡ true → slice_get ns 0 ≡ Some n → rest ≡ without_number n ns → list ++ ns ≡ whole → (list ++ n ∷ []) ++ rest ≡ whole
-listed_more list whole ns rest n h e left so_far =
-    append_assoc list (n ∷ []) rest ∙ (ap (λ ks. list ++ n ∷ ks) left ∙ (ap (λ ks. list ++ ks) (sym (first_taken n ns h e)) ∙ so_far))
-
-pub none_first : (ns : List ℕ) → slice_get ns 0 ≡ None → ns ≡ []
-none_first [] h = refl
-none_first (n ∷ ns) h = cc
+pub listed_more : (list whole ns rest : List ℕ) (n : ℕ) → slice_get ns 0 ≡ Some n → rest ≡ drop 1 ns → list ++ ns ≡ whole → (list ++ n ∷ []) ++ rest ≡ whole
+listed_more list whole ns rest n e left so_far =
+    append_assoc list (n ∷ []) rest ∙ (ap (λ ks. list ++ n ∷ ks) left ∙ (ap (λ ks. list ++ ks) (sym (first_taken n ns e)) ∙ so_far))
 
 -- the members below a number, copied
 pub record Copies (whole : Numbers) (below : ℕ) (copy : Numbers) : Type 0 where

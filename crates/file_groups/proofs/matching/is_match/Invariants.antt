@@ -1,15 +1,14 @@
 use Rattle.std.proofs.Common.{◌≡◌, chars, length}
 use denote.Text.{Utf8}
 use denote.Shadow.{shadow}
-use Rattle.fsrm_model.specs.Patterns.{matches}
+use Rattle.file_groups.specs.Folded.{matches_folded}
 use Rattle.file_groups.proofs.matching.is_match.Given as goal
 
 abbrev pub invariant-loop-after : goal.invariant-loop-after
-invariant-loop-after l = record {
+invariant-loop-after g l = record {
   pattern_text : shadow (Utf8 l.pattern);
-  name_text : shadow (Utf8 l.name);
-  left : matches (chars l.fn.pattern) (chars l.fn.name) ≡ matches (chars l.pattern) (chars l.name);
+  left : matches_folded (chars l.fn.pattern) (g.N.Rest.characters l.fn.name) ≡ matches_folded (chars l.pattern) (g.N.Rest.characters l.name);
 }
 
 abbrev pub decreases-loop-after : goal.decreases-loop-after
-decreases-loop-after l = length (chars l.pattern)
+decreases-loop-after g l = length (chars l.pattern)

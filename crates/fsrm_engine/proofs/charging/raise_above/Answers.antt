@@ -1,4 +1,4 @@
-use Rattle.std.proofs.Common.{◌≡◌, ℕ, true, ◌&&◌, refl, sym, ap, ◌∙◌, subst, arith, List}
+use Rattle.std.proofs.Common.{◌≡◌, ℕ, true, refl, sym, ap, ◌∙◌, subst, arith, List}
 use Rattle.fsrm_model.specs.declared.row.QuotaRow.{QuotaRow}
 use Rattle.fsrm_base.specs.Keyed.{is_ascending, with_change}
 use Rattle.fsrm_model.specs.Quota.{folder_of}
@@ -7,7 +7,6 @@ use Rattle.fsrm_model.proofs.nodes.Climbs.{under_own}
 use Rattle.fsrm_model.proofs.nodes.Keeps.{tree_of}
 use Rattle.fsrm_base.proofs.Order.{ascending-change}
 use Rattle.fsrm_objects.specs.Tables.{Tables}
-use Rattle.fsrm_engine.specs.Crossing.{is_crossing}
 use Rattle.fsrm_engine.specs.Peaks.{raised}
 use Rattle.fsrm_model.proofs.nodes.ClimbRows.{passed_rows, passed_none, climbed_step, climbed_root}
 use Rattle.quota_usage.proofs.ClimbLaws.{step_up}

@@ -1,5 +1,5 @@
 use Rattle.fsrm_model.proofs.thresholds.ActLaws.{order_due, order_refused, due_there, refused_there, none_due}
-use Rattle.fsrm_model.proofs.thresholds.RaisesLaws.{raised_parts, raised_test, refused_parts, refused_test}
+use Rattle.fsrm_model.proofs.thresholds.RaisesLaws.{raised_parts, raised_test, refused_parts, refused_test, screen_parts, screen_test}
 use Rattle.fsrm_model.proofs.thresholds.ReachedLaws.{reached_parts, reached_test, none_crossed}
 use Rattle.fsrm_model.proofs.laws.due_actions.Goals as goal
 
@@ -29,3 +29,6 @@ returns-clause-none c = none_due
 
 pub returns-clause-same : goal.returns-clause-same
 returns-clause-same c = λ K R moment. none_due K R R moment (none_crossed K R)
+
+pub returns-clause-screen : goal.returns-clause-screen
+returns-clause-screen c = λ run_limit moment screen subject place. (screen_parts run_limit moment screen subject place, screen_test run_limit moment screen subject place)

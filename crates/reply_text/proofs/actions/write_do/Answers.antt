@@ -11,6 +11,6 @@ returns-clause-text g c =
     let parts = c.minutes_parts.result in
     let fits : SFits w32 c.args.action.now.minutes = search rules in
     sent c.send.result (sink.shown c.args.sink.now) (sink.shown c.send.new.sink) _ _
-    (do_shown c.args.action.now c.kind_word.result.now (part_text parts.0) (part_text parts.1) c.as_bytes.result.now
-    c.kind_word.ensures (c.minutes_parts.ensures ∙ ap minutes_word (to_z-of_z fits)) (c.as_bytes.ensures.value ∙ c.as_str.ensures))
+    (do_shown c.args.action.now c.as_bytes-kind.result.now (part_text parts.0) (part_text parts.1) c.as_bytes.result.now
+    (c.as_bytes-kind.ensures.value ∙ c.letter.ensures) (c.minutes_parts.ensures ∙ ap minutes_word (to_z-of_z fits)) (c.as_bytes.ensures.value ∙ c.as_str.ensures))
     c.send.ensures.text

@@ -2,7 +2,7 @@ use Rattle.std.proofs.Common.{false, None, Some, refl, ap, sym, ◌∙◌, arith
 use Rattle.fsrm_model.specs.declared.command.Deed.TheVariants.{File}
 use Rattle.fsrm_model.specs.declared.command.FileOp.TheVariants.{Create}
 use Rattle.fsrm_model.proofs.valid.ValidLaws.{folder_has}
-use Rattle.volume_tree.specs.Volume.{Volume, new_fault}
+use Rattle.volume_tree.specs.Volume.{Volume}
 use Rattle.quota_usage.specs.declared.change.Change.{Change}
 use Rattle.std.specs.Prelude.{option_map}
 use Rattle.fsrm_engine.specs.Crossing.{IsCovered}
@@ -10,13 +10,12 @@ use Rattle.fsrm_engine.specs.Faults.{exceeded_refusal}
 use Rattle.fsrm_engine.specs.declared.parts.Parts.{Parts}
 use Rattle.fsrm_engine.specs.Machine.{charged_parts, IsSound}
 use Rattle.fsrm_engine.specs.Reporting.{name_under, screen_told}
-use Rattle.fsrm_engine.proofs.judging.DoneLaws.{done_noted}
+use Rattle.fsrm_engine.proofs.judging.DoneLaws.{done_named, sound_named}
 use Rattle.fsrm_engine.proofs.judging.JudgedLaws.{few_at, few_told, told_one, told_there}
 use Rattle.fsrm_engine.proofs.judging.NameLaws.{answers_it, block_sound, blocked_op, created_judged, unblocked}
-use Rattle.fsrm_engine.proofs.judging.NotedLaws.{noted_calm, noted_change, noted_charged, noted_covered, noted_fits, noted_height, noted_log, noted_quotas, noted_scans, noted_volume}
-use Rattle.fsrm_engine.proofs.steps.StepLaws.{is_fault, refused_by_as}
+use Rattle.fsrm_engine.proofs.steps.StepLaws.{refused_as}
 use Rattle.fsrm_engine.proofs.steps.PlaceLaws.{place_depth}
-use Rattle.fsrm_engine.proofs.operations.NewLaws.{by_no_screen, by_screen, create_due, made_is}
+use Rattle.fsrm_engine.proofs.operations.NewLaws.{create_free, create_refused, made_is, new_bare, none_by, some_by}
 use Rattle.fsrm_engine.proofs.operations.FitLaws.{fits_plus}
 use Rattle.fsrm_engine.proofs.operations.GrowthLaws.{by_quotas}
 use Rattle.fsrm_engine.proofs.operations.MakeLaws.{make_changes, make_done, made_height, there_made}
@@ -24,12 +23,18 @@ use Rattle.fsrm_engine.proofs.operations.FollowLaws.{is_made, back_scans, left_b
 use Rattle.fsrm_engine.proofs.operations.ChargedLaws.{charged_due, covered_by, refused_op}
 use Rattle.fsrm_engine.proofs.settling.EndLaws.{few_log}
 use Rattle.fsrm_engine.proofs.settling.OrderlyQuotas.{quotas_orderly}
-use Rattle.fsrm_engine.proofs.settling.RefuseLaws.{refused_sound, refuser_of}
-use Rattle.fsrm_engine.proofs.tables.RanLaws.{counted_run, sound_run}
+use Rattle.fsrm_engine.proofs.settling.RefuseLaws.{refused_sound, refuser_there}
 use Rattle.fsrm_engine.proofs.parts.Parts.create.Goals as goal
 
+pub returns-in-Err-clause-ok : goal.returns-in-Err-clause-ok
+returns-in-Err-clause-ok g c =
+    let p = c.args.self.now in
+    refused_as p c.args.moment (File (Create c.args.path.now c.args.length c.args.owner)) _ c.in-Err.refusal c.requires.idle c.requires.after
+    (create_refused p c.args.moment c.args.path.now c.args.length c.args.owner c.in-Err.refusal c.requires.whole.sound.counted.volume c.in-Err.ensures.err)
+    (new_bare p.tree c.args.path.now c.in-Err.refusal c.in-Err.ensures.err) c.refused.ensures
+
 pub admit-requires-clause-change : goal.admit-requires-clause-change
-admit-requires-clause-change g c = record { from = tt; to = folder_has c.args.self.now.tree.nodes c.in-Ok.place.folder c.in-Ok.ensures.ok.folder_is }
+admit-requires-clause-change g c = record { from = tt; to = folder_has c.args.self.now.tree.nodes c.in-Ok.found.0.folder c.in-Ok.ensures.ok.at.folder_is }
 
 pub admit-requires-clause-fits : goal.admit-requires-clause-fits
 admit-requires-clause-fits g c =
@@ -40,17 +45,17 @@ admit-requires-clause-fits g c =
 pub returns-in-Err-admit-clause-ok : goal.returns-in-Err-admit-clause-ok
 returns-in-Err-admit-clause-ok g c =
     let p = c.args.self.now in
-    let d = c.in-Ok.place.folder in
-    let name = c.in-Ok.place.name.now in
+    let d = c.in-Ok.found.0.folder in
+    let name = c.in-Ok.found.0.name.now in
     let judged = c.judge-judged.result in
-    let j = created_judged p c.args.path.now c.args.length c.args.owner d name judged c.in-Ok.ensures.ok c.judge-judged.ensures.judged in
+    let j = created_judged p c.args.path.now c.args.length c.args.owner d name judged c.in-Ok.ensures.ok.at c.judge-judged.ensures.judged in
     let e = c.requires.whole.sound.counted in
-    let at = c.in-Ok.ensures.ok in
-    let changes = make_changes p.tree.size p.tree.nodes p.objects.quotas c.in-Ok.place.folder c.in-Ok.place.name.now c.args.length c.args.owner c.args.moment c.allocated.result e.volume e.are_quotas at.folder_is c.allocated.ensures.space in
+    let at = c.in-Ok.ensures.ok.at in
+    let changes = make_changes p.tree.size p.tree.nodes p.objects.quotas c.in-Ok.found.0.folder c.in-Ok.found.0.name.now c.args.length c.args.owner c.args.moment c.allocated.result e.volume e.are_quotas at.folder_is c.allocated.ensures.space in
     refused_op p c.refuse.new.self c.args.moment (File (Create c.args.path.now c.args.length c.args.owner)) c.refuse.result _ _ c.in-Err-admit.exceeded e c.requires.idle c.requires.after
-    (create_due p c.args.moment c.args.path.now c.args.length c.args.owner d name e.volume at
-    ∙ by_no_screen (new_fault p.tree d name) _ _ c.in-Ok-may_create.ensures.may (unblocked p (Create c.args.path.now c.args.length c.args.owner) judged c.args.owner d name j c.in_default.ensures))
-    (ap (λ (w : Volume). w.nodes) (made_is p.tree c.args.path.now c.in-Ok.place.folder c.in-Ok.place.name.now false c.args.length c.args.owner c.args.moment at))
+    (create_free p c.args.moment c.args.path.now c.args.length c.args.owner d name e.volume c.in-Ok.ensures.ok
+    ∙ none_by _ _ (unblocked p (Create c.args.path.now c.args.length c.args.owner) judged c.args.owner d name j c.in_default.ensures))
+    (ap (λ (w : Volume). w.nodes) (made_is p.tree c.args.path.now c.in-Ok.found.0.folder c.in-Ok.found.0.name.now false c.args.length c.args.owner c.args.moment at))
     changes c.in-Err-admit.ensures.err c.refuse.ensures.refused
 
 pub returns-in-Err-admit-clause-sound : goal.returns-in-Err-admit-clause-sound
@@ -58,93 +63,60 @@ returns-in-Err-admit-clause-sound g c =
     refused_sound c.args.self.now c.refuse.new.self c.args.moment c.in-Err-admit.exceeded c.refuse.result c.refuse.ensures.refused c.refuse.ensures.counted c.requires.whole.sound.scanning
 
 pub refuse-requires-clause-there : goal.refuse-requires-clause-there
-refuse-requires-clause-there g c = (refuser_of c.args.self.now (record { from = None; to = Some c.in-Ok.place.folder; minus = 0; plus = c.allocated.result }) c.in-Err-admit.exceeded c.requires.whole.sound.counted c.in-Err-admit.ensures.err).there
-
-pub refuse-requires-clause-counting : goal.refuse-requires-clause-counting
-refuse-requires-clause-counting g c = (refuser_of c.args.self.now (record { from = None; to = Some c.in-Ok.place.folder; minus = 0; plus = c.allocated.result }) c.in-Err-admit.exceeded c.requires.whole.sound.counted c.in-Err-admit.ensures.err).counting
+refuse-requires-clause-there g c =
+    refuser_there c.args.self.now (record { from = None; to = Some c.in-Ok.found.0.folder; minus = 0; plus = c.allocated.result }) c.in-Err-admit.exceeded c.requires.whole.sound.counted c.in-Err-admit.ensures.err
 
 pub refuse-requires-clause-log : goal.refuse-requires-clause-log
 refuse-requires-clause-log g c = few_log c.args.self.now c.requires.whole
 
 pub returns-in-Err-admit-clause-looks : goal.returns-in-Err-admit-clause-looks
 returns-in-Err-admit-clause-looks g c =
-    omega (arith, c.in-Ok.ensures.looks, c.in-Err-admit.ensures.looks, c.in-Ok-may_create.ensures.looks, c.judge-judged.ensures.looks, place_depth _ _ _ _ _ c.requires.whole.sound.counted.volume c.in-Ok.ensures.ok)
+    omega (arith, c.in-Ok.ensures.looks, c.in-Err-admit.ensures.looks, c.judge-judged.ensures.looks, place_depth _ _ _ _ _ c.requires.whole.sound.counted.volume c.in-Ok.ensures.ok.at)
 
-pub charge-requires-clause-change : goal.charge-requires-clause-change
-charge-requires-clause-change g c =
-    let p = c.args.self.now in
-    let mid : Parts = record p { tree = c.make_file.new.self; scans = c.follow_create.new.self } in
-    let oj = name_under (screen_told p c.judge-judged.result) c.args.owner c.in-Ok.place.folder c.in-Ok.place.name.now in
-    let change : Change = record { from = None; to = Some c.in-Ok.place.folder; minus = 0; plus = c.allocated.result } in
-    noted_change mid c.report.new.self oj c.args.moment c.requires.idle.places (few_log p c.requires.whole) c.report.ensures change
-    (record { from = tt; to = there_made c.args.self.now.tree c.make_file.new.self c.in-Ok.place.folder c.in-Ok.place.name.now c.args.length c.args.owner c.args.moment c.requires.whole.sound.counted.volume c.in-Ok.ensures.ok.folder_is c.in_ok-node.ensures.made })
+pub end_named-requires-clause-change : goal.end_named-requires-clause-change
+end_named-requires-clause-change g c =
+    record { from = tt; to = there_made c.args.self.now.tree c.make_file.new.self c.in-Ok.found.0.folder c.in-Ok.found.0.name.now c.args.length c.args.owner c.args.moment c.requires.whole.sound.counted.volume c.in-Ok.ensures.ok.at.folder_is c.in_ok-node.ensures.made }
 
-pub charge-requires-clause-fits : goal.charge-requires-clause-fits
-charge-requires-clause-fits g c =
+pub end_named-requires-clause-fits : goal.end_named-requires-clause-fits
+end_named-requires-clause-fits g c =
     let p = c.args.self.now in
-    let mid : Parts = record p { tree = c.make_file.new.self; scans = c.follow_create.new.self } in
-    let oj = name_under (screen_told p c.judge-judged.result) c.args.owner c.in-Ok.place.folder c.in-Ok.place.name.now in
-    let change : Change = record { from = None; to = Some c.in-Ok.place.folder; minus = 0; plus = c.allocated.result } in
-    noted_fits mid c.report.new.self oj c.args.moment c.requires.idle.places (few_log p c.requires.whole) c.report.ensures change
-    (let e = c.requires.whole.sound.counted in
-    fits_plus p.tree.size p.tree.nodes c.make_file.new.self.nodes p.objects.quotas p.usage _ e.volume e.legal e.are_quotas e.sums c.allocated.ensures.small)
+    let e = c.requires.whole.sound.counted in
+    fits_plus p.tree.size p.tree.nodes c.make_file.new.self.nodes p.objects.quotas p.usage _ e.volume e.legal e.are_quotas e.sums c.allocated.ensures.small
 
-pub charge-requires-clause-quotas : goal.charge-requires-clause-quotas
-charge-requires-clause-quotas g c =
-    let p = c.args.self.now in
-    let mid : Parts = record p { tree = c.make_file.new.self; scans = c.follow_create.new.self } in
-    let oj = name_under (screen_told p c.judge-judged.result) c.args.owner c.in-Ok.place.folder c.in-Ok.place.name.now in
-    noted_quotas mid c.report.new.self oj c.args.moment c.requires.idle.places (few_log p c.requires.whole) c.report.ensures
-    (quotas_orderly p.tree.nodes p.objects.quotas c.requires.whole.sound.counted.are_quotas)
+pub end_named-requires-clause-quotas : goal.end_named-requires-clause-quotas
+end_named-requires-clause-quotas g c = let p = c.args.self.now in quotas_orderly p.tree.nodes p.objects.quotas c.requires.whole.sound.counted.are_quotas
 
-pub charge-requires-clause-covered : goal.charge-requires-clause-covered
-charge-requires-clause-covered g c =
+pub end_named-requires-clause-covered : goal.end_named-requires-clause-covered
+end_named-requires-clause-covered g c =
     let p = c.args.self.now in
-    let mid : Parts = record p { tree = c.make_file.new.self; scans = c.follow_create.new.self } in
-    let oj = name_under (screen_told p c.judge-judged.result) c.args.owner c.in-Ok.place.folder c.in-Ok.place.name.now in
-    let change : Change = record { from = None; to = Some c.in-Ok.place.folder; minus = 0; plus = c.allocated.result } in
-    noted_covered mid c.report.new.self oj c.args.moment c.requires.idle.places (few_log p c.requires.whole) c.report.ensures change
-    (let e = c.requires.whole.sound.counted in
+    let e = c.requires.whole.sound.counted in
+    let change : Change = record { from = None; to = Some c.in-Ok.found.0.folder; minus = 0; plus = c.allocated.result } in
     subst (λ (w : Volume). IsCovered w.nodes p.usage change) (sym c.in_ok-node.ensures.made)
     (covered_by p _ change e
-    (make_changes p.tree.size p.tree.nodes p.objects.quotas c.in-Ok.place.folder c.in-Ok.place.name.now c.args.length c.args.owner c.args.moment c.allocated.result e.volume e.are_quotas c.in-Ok.ensures.ok.folder_is c.allocated.ensures.space)
-    (λ from to given at other. absurd (cc given))))
+    (make_changes p.tree.size p.tree.nodes p.objects.quotas c.in-Ok.found.0.folder c.in-Ok.found.0.name.now c.args.length c.args.owner c.args.moment c.allocated.result e.volume e.are_quotas c.in-Ok.ensures.ok.at.folder_is c.allocated.ensures.space)
+    (λ from to given at other. absurd (cc given)))
 
-pub charge-requires-clause-idle : goal.charge-requires-clause-idle
-charge-requires-clause-idle g c =
-    let p = c.args.self.now in
-    let mid : Parts = record p { tree = c.make_file.new.self; scans = c.follow_create.new.self } in
-    let oj = name_under (screen_told p c.judge-judged.result) c.args.owner c.in-Ok.place.folder c.in-Ok.place.name.now in
-    noted_calm mid c.report.new.self oj c.args.moment c.requires.idle.places (few_log p c.requires.whole) c.report.ensures c.requires.idle.numbers c.requires.idle.crossing
+pub end_named-requires-clause-idle : goal.end_named-requires-clause-idle
+end_named-requires-clause-idle g c = record { numbers = c.requires.idle.numbers; places = c.requires.idle.places; crossing = c.requires.idle.crossing }
 
-pub charge-requires-clause-log : goal.charge-requires-clause-log
-charge-requires-clause-log g c =
-    let p = c.args.self.now in
-    let mid : Parts = record p { tree = c.make_file.new.self; scans = c.follow_create.new.self } in
-    let oj = name_under (screen_told p c.judge-judged.result) c.args.owner c.in-Ok.place.folder c.in-Ok.place.name.now in
-    noted_log mid c.report.new.self oj c.args.moment c.requires.idle.places (few_log p c.requires.whole) c.report.ensures
+pub end_named-requires-clause-log : goal.end_named-requires-clause-log
+end_named-requires-clause-log g c = few_log c.args.self.now c.requires.whole
 
-pub done_under-requires-clause-counted : goal.done_under-requires-clause-counted
-done_under-requires-clause-counted g c =
+pub end_named-requires-clause-counted : goal.end_named-requires-clause-counted
+end_named-requires-clause-counted g c =
     let p = c.args.self.now in
-    let mid : Parts = record p { tree = c.make_file.new.self; scans = c.follow_create.new.self } in
-    let oj = name_under (screen_told p c.judge-judged.result) c.args.owner c.in-Ok.place.folder c.in-Ok.place.name.now in
-    let change : Change = record { from = None; to = Some c.in-Ok.place.folder; minus = 0; plus = c.allocated.result } in
-    counted_run _ c.charge.new.self c.args.moment _ c.requires.moment
-    (noted_charged mid c.report.new.self oj c.args.moment c.requires.idle.places (few_log p c.requires.whole) c.report.ensures change
-    (make_done p.tree c.make_file.new.self p.objects.quotas _ p.usage _ c.in-Ok.place.folder c.in-Ok.place.name.now c.args.length c.args.owner c.args.moment c.allocated.result
-    c.requires.whole.sound.counted c.in-Ok.ensures.ok.folder_is c.allocated.ensures.space c.in_ok-node.ensures.made c.in_ok-node.ensures.kept c.requires.moment refl refl).engine)
-    c.charge.ensures.charged
+    (make_done p.tree c.make_file.new.self p.objects.quotas _ p.usage _ c.in-Ok.found.0.folder c.in-Ok.found.0.name.now c.args.length c.args.owner c.args.moment c.allocated.result
+    c.requires.whole.sound.counted c.in-Ok.ensures.ok.at.folder_is c.allocated.ensures.space c.in_ok-node.ensures.made c.in_ok-node.ensures.kept c.requires.moment refl refl).engine
 
 pub returns-clause-ok : goal.returns-clause-ok
 returns-clause-ok g c =
     let p = c.args.self.now in
-    let d = c.in-Ok.place.folder in
-    let name = c.in-Ok.place.name.now in
+    let d = c.in-Ok.found.0.folder in
+    let name = c.in-Ok.found.0.name.now in
     let judged = c.judge-judged.result in
-    let j = created_judged p c.args.path.now c.args.length c.args.owner d name judged c.in-Ok.ensures.ok c.judge-judged.ensures.judged in
+    let j = created_judged p c.args.path.now c.args.length c.args.owner d name judged c.in-Ok.ensures.ok.at c.judge-judged.ensures.judged in
     let e = c.requires.whole.sound.counted in
-    let at = c.in-Ok.ensures.ok in
+    let at = c.in-Ok.ensures.ok.at in
     let w = c.make_file.new.self in
     let changes = make_changes p.tree.size p.tree.nodes p.objects.quotas d name c.args.length c.args.owner c.args.moment c.allocated.result e.volume e.are_quotas at.folder_is c.allocated.ensures.space in
     let made = is_made p.tree w c.in_ok-node.node d name false c.args.length c.args.owner c.args.moment e.volume c.in_ok-node.ensures.made c.in_ok-node.ensures.number in
@@ -156,11 +128,11 @@ returns-clause-ok g c =
     let size = ap (λ (w : Volume). w.size) c.in_ok-node.ensures.made in
     let op = Create c.args.path.now c.args.length c.args.owner in
     let oj = name_under (screen_told p judged) c.args.owner d name in
-    done_noted p mid c.report.new.self c.charge.new.self c.done_under.new.self c.args.moment (File op) c.done_under.result change oj
+    done_named p mid c.end_named.new.self c.args.moment (File op) c.end_named.result change oj
     (record {
       after = c.requires.after;
-      none = create_due p c.args.moment c.args.path.now c.args.length c.args.owner d name e.volume at
-          ∙ (by_no_screen (new_fault p.tree d name) _ _ c.in-Ok-may_create.ensures.may (unblocked p (Create c.args.path.now c.args.length c.args.owner) judged c.args.owner d name j c.in_default.ensures)
+      none = create_free p c.args.moment c.args.path.now c.args.length c.args.owner d name e.volume c.in-Ok.ensures.ok
+          ∙ (none_by _ _ (unblocked p (Create c.args.path.now c.args.length c.args.owner) judged c.args.owner d name j c.in_default.ensures)
           ∙ by_quotas p _ _ _ e changes (ap (option_map exceeded_refusal) c.in_default-admit.ensures.ok));
       lasts = refl;
       judged_is = j.named;
@@ -171,95 +143,71 @@ returns-clause-ok g c =
           (record { quotas_are = refl; screens_are = refl; excepts_are = refl }) refl (λ k. left_back p w c.in_ok-node.node made.back)
           c.follow_create.ensures.follows (record { size = size; marks = refl; crossing = refl; groups = refl; audit = refl; run_limit = refl; last_moment = refl });
     })
-    (few_log p c.requires.whole) c.report.ensures
-    done.raised_are (charged_due p w c.follow_create.new.self change c.args.moment size e done.engine) c.charge.ensures.charged c.done_under.ensures.ended
-    (answers_it p c.args.moment op c.done_under.result judged c.args.owner d name j c.done_under.ensures.answer)
+    (few_log p c.requires.whole) c.end_named.ensures.ended done.raised_are (charged_due p w c.follow_create.new.self change c.args.moment size e done.engine)
+    (answers_it p c.args.moment op c.end_named.result judged c.args.owner d name j c.end_named.ensures.answer)
 
 pub returns-clause-sound : goal.returns-clause-sound
 returns-clause-sound g c =
     let p = c.args.self.now in
     let mid : Parts = record p { tree = c.make_file.new.self; scans = c.follow_create.new.self } in
-    let oj = name_under (screen_told p c.judge-judged.result) c.args.owner c.in-Ok.place.folder c.in-Ok.place.name.now in
-    let change : Change = record { from = None; to = Some c.in-Ok.place.folder; minus = 0; plus = c.allocated.result } in
-    sound_run (charged_parts c.report.new.self change c.args.moment) c.charge.new.self c.done_under.new.self c.args.moment _
-    c.charge.ensures.charged c.done_under.ensures.ended c.done_under.ensures.counted (noted_scans mid c.report.new.self oj c.args.moment c.requires.idle.places (few_log p c.requires.whole) c.report.ensures c.follow_create.ensures.follows.scanning)
+    sound_named mid c.end_named.new.self _ _ c.args.moment c.requires.idle.places (few_log p c.requires.whole) c.end_named.ensures.ended c.end_named.ensures.counted c.follow_create.ensures.follows.scanning
 
 pub returns-clause-looks : goal.returns-clause-looks
 returns-clause-looks g c =
-    let p = c.args.self.now in
-    let mid : Parts = record p { tree = c.make_file.new.self; scans = c.follow_create.new.self } in
-    let oj = name_under (screen_told p c.judge-judged.result) c.args.owner c.in-Ok.place.folder c.in-Ok.place.name.now in
-    let v = p.tree in
+    let v = c.args.self.now.tree in
     let k = c.requires.whole.sound.counted.volume in
-    let at = c.in-Ok.ensures.ok in
+    let at = c.in-Ok.ensures.ok.at in
     omega (
       arith,
       c.in-Ok.ensures.looks,
-      c.in-Ok-may_create.ensures.looks,
       c.judge-judged.ensures.looks,
       c.in_default-admit.ensures.looks,
       c.in_ok-node.ensures.looks,
       c.follow_create.ensures.looks,
-      c.charge.ensures.looks,
-      noted_height mid c.report.new.self oj c.args.moment c.requires.idle.places (few_log p c.requires.whole) c.report.ensures c.in-Ok.place.folder,
-      made_chain v c.make_file.new.self c.in_ok-node.node c.in-Ok.place.folder c.in-Ok.place.name.now false c.args.length c.args.owner c.args.moment k at.folder_is c.in_ok-node.ensures.made c.in_ok-node.ensures.number,
+      c.end_named.ensures.looks,
+      made_chain v c.make_file.new.self c.in_ok-node.node c.in-Ok.found.0.folder c.in-Ok.found.0.name.now false c.args.length c.args.owner c.args.moment k at.folder_is c.in_ok-node.ensures.made c.in_ok-node.ensures.number,
       place_depth _ _ _ _ _ k at,
-      made_height v c.make_file.new.self c.in-Ok.place.folder c.in-Ok.place.name.now c.args.length c.args.owner c.args.moment k at.folder_is c.in_ok-node.ensures.made,
+      made_height v c.make_file.new.self c.in-Ok.found.0.folder c.in-Ok.found.0.name.now c.args.length c.args.owner c.args.moment k at.folder_is c.in_ok-node.ensures.made,
     )
-
-pub returns-in-Err-may_create-clause-ok : goal.returns-in-Err-may_create-clause-ok
-returns-in-Err-may_create-clause-ok g c =
-    refused_by_as c.args.self.now c.args.moment (File (Create c.args.path.now c.args.length c.args.owner)) _ _ _ _ c.requires.idle c.requires.after
-    (create_due c.args.self.now c.args.moment c.args.path.now c.args.length c.args.owner _ _ c.requires.whole.sound.counted.volume c.in-Ok.ensures.ok) (is_fault c.in-Err-may_create.fault _ c.in-Err-may_create.ensures.fault) c.refused_by.ensures.ok
-
-pub returns-in-Err-may_create-clause-looks : goal.returns-in-Err-may_create-clause-looks
-returns-in-Err-may_create-clause-looks g c = omega (arith, c.in-Ok.ensures.looks, c.in-Err-may_create.ensures.looks)
 
 pub follow_create-requires-clause-there : goal.follow_create-requires-clause-there
 follow_create-requires-clause-there g c =
-    (is_made c.args.self.now.tree c.make_file.new.self c.in_ok-node.node c.in-Ok.place.folder c.in-Ok.place.name.now false c.args.length c.args.owner c.args.moment c.requires.whole.sound.counted.volume c.in_ok-node.ensures.made c.in_ok-node.ensures.number).there
+    (is_made c.args.self.now.tree c.make_file.new.self c.in_ok-node.node c.in-Ok.found.0.folder c.in-Ok.found.0.name.now false c.args.length c.args.owner c.args.moment c.requires.whole.sound.counted.volume c.in_ok-node.ensures.made c.in_ok-node.ensures.number).there
 
 pub follow_create-requires-clause-file : goal.follow_create-requires-clause-file
 follow_create-requires-clause-file g c =
-    (is_made c.args.self.now.tree c.make_file.new.self c.in_ok-node.node c.in-Ok.place.folder c.in-Ok.place.name.now false c.args.length c.args.owner c.args.moment c.requires.whole.sound.counted.volume c.in_ok-node.ensures.made c.in_ok-node.ensures.number).kind
+    (is_made c.args.self.now.tree c.make_file.new.self c.in_ok-node.node c.in-Ok.found.0.folder c.in-Ok.found.0.name.now false c.args.length c.args.owner c.args.moment c.requires.whole.sound.counted.volume c.in_ok-node.ensures.made c.in_ok-node.ensures.number).kind
 
 pub follow_create-requires-clause-own : goal.follow_create-requires-clause-own
 follow_create-requires-clause-own g c = λ row found.
     let v = c.args.self.now.tree in
-    made_length v c.make_file.new.self c.in_ok-node.node _ row (is_made v c.make_file.new.self c.in_ok-node.node c.in-Ok.place.folder c.in-Ok.place.name.now false c.args.length c.args.owner c.args.moment c.requires.whole.sound.counted.volume c.in_ok-node.ensures.made c.in_ok-node.ensures.number) found
+    made_length v c.make_file.new.self c.in_ok-node.node _ row (is_made v c.make_file.new.self c.in_ok-node.node c.in-Ok.found.0.folder c.in-Ok.found.0.name.now false c.args.length c.args.owner c.args.moment c.requires.whole.sound.counted.volume c.in_ok-node.ensures.made c.in_ok-node.ensures.number) found
 
 pub follow_create-requires-clause-scanning : goal.follow_create-requires-clause-scanning
 follow_create-requires-clause-scanning g c =
     let v = c.args.self.now.tree in
-    back_scans v c.make_file.new.self c.in_ok-node.node _ (is_made v c.make_file.new.self c.in_ok-node.node c.in-Ok.place.folder c.in-Ok.place.name.now false c.args.length c.args.owner c.args.moment c.requires.whole.sound.counted.volume c.in_ok-node.ensures.made c.in_ok-node.ensures.number).back c.requires.whole.sound.scanning
+    back_scans v c.make_file.new.self c.in_ok-node.node _ (is_made v c.make_file.new.self c.in_ok-node.node c.in-Ok.found.0.folder c.in-Ok.found.0.name.now false c.args.length c.args.owner c.args.moment c.requires.whole.sound.counted.volume c.in_ok-node.ensures.made c.in_ok-node.ensures.number).back c.requires.whole.sound.scanning
 
 pub returns-in_err-node-clause-sound : goal.returns-in_err-node-clause-sound
 returns-in_err-node-clause-sound g c = subst (λ (w : Volume). IsSound (record c.args.self.now { tree = w })) (sym c.in_err-node.ensures.err) c.requires.whole.sound
 
 pub returns-in_err-node-clause-looks : goal.returns-in_err-node-clause-looks
 returns-in_err-node-clause-looks g c =
-    omega (arith, c.in-Ok.ensures.looks, c.in-Ok-may_create.ensures.looks, c.judge-judged.ensures.looks, c.in_default-admit.ensures.looks, c.make_file.ensures.looks, place_depth _ _ _ _ _ c.requires.whole.sound.counted.volume c.in-Ok.ensures.ok)
+    omega (arith, c.in-Ok.ensures.looks, c.judge-judged.ensures.looks, c.in_default-admit.ensures.looks, c.make_file.ensures.looks, place_depth _ _ _ _ _ c.requires.whole.sound.counted.volume c.in-Ok.ensures.ok.at)
 
-pub charge-requires-clause-volume : goal.charge-requires-clause-volume
-charge-requires-clause-volume g c =
-    let p = c.args.self.now in
-    let mid : Parts = record p { tree = c.make_file.new.self; scans = c.follow_create.new.self } in
-    let oj = name_under (screen_told p c.judge-judged.result) c.args.owner c.in-Ok.place.folder c.in-Ok.place.name.now in
-    noted_volume mid c.report.new.self oj c.args.moment c.requires.idle.places (few_log p c.requires.whole) c.report.ensures c.in_ok-node.ensures.kept
+pub end_named-requires-clause-there : goal.end_named-requires-clause-there
+end_named-requires-clause-there g c = told_there c.args.self.now c.in-Ok.found.0.folder c.in-Ok.found.0.name.now c.judge-judged.result c.judge-judged.ensures.judged
 
-pub report-requires-clause-there : goal.report-requires-clause-there
-report-requires-clause-there g c = told_there c.args.self.now c.in-Ok.place.folder c.in-Ok.place.name.now c.judge-judged.result c.judge-judged.ensures.judged
-
-pub report-requires-clause-few : goal.report-requires-clause-few
-report-requires-clause-few g c = λ screen found. few_told c.args.self.now c.judge-judged.result screen c.requires.whole found
+pub end_named-requires-clause-few : goal.end_named-requires-clause-few
+end_named-requires-clause-few g c = λ screen found. few_told c.args.self.now c.judge-judged.result screen c.requires.whole found
 
 pub block-requires-clause-there : goal.block-requires-clause-there
 block-requires-clause-there g c =
     let p = c.args.self.now in
-    let d = c.in-Ok.place.folder in
-    let name = c.in-Ok.place.name.now in
+    let d = c.in-Ok.found.0.folder in
+    let name = c.in-Ok.found.0.name.now in
     let judged = c.judge-judged.result in
-    let j = created_judged p c.args.path.now c.args.length c.args.owner d name judged c.in-Ok.ensures.ok c.judge-judged.ensures.judged in
+    let j = created_judged p c.args.path.now c.args.length c.args.owner d name judged c.in-Ok.ensures.ok.at c.judge-judged.ensures.judged in
     told_one p judged c.in-Some.active j.there c.in-Some.ensures.0
 
 pub block-requires-clause-few : goal.block-requires-clause-few
@@ -268,24 +216,24 @@ block-requires-clause-few g c = λ screen found. few_at c.args.self.now c.in-Som
 pub returns-in-Some-clause-ok : goal.returns-in-Some-clause-ok
 returns-in-Some-clause-ok g c =
     let p = c.args.self.now in
-    let d = c.in-Ok.place.folder in
-    let name = c.in-Ok.place.name.now in
+    let d = c.in-Ok.found.0.folder in
+    let name = c.in-Ok.found.0.name.now in
     let judged = c.judge-judged.result in
-    let j = created_judged p c.args.path.now c.args.length c.args.owner d name judged c.in-Ok.ensures.ok c.judge-judged.ensures.judged in
+    let j = created_judged p c.args.path.now c.args.length c.args.owner d name judged c.in-Ok.ensures.ok.at c.judge-judged.ensures.judged in
     blocked_op p c.block.new.self c.args.moment (Create c.args.path.now c.args.length c.args.owner) c.block.result judged c.in-Some.active c.args.owner d name c.requires.idle c.requires.after
-    (λ refusal h. create_due p c.args.moment c.args.path.now c.args.length c.args.owner d name c.requires.whole.sound.counted.volume c.in-Ok.ensures.ok
-    ∙ by_screen (new_fault p.tree d name) _ _ refusal c.in-Ok-may_create.ensures.may h)
+    (λ refusal h. create_free p c.args.moment c.args.path.now c.args.length c.args.owner d name c.requires.whole.sound.counted.volume c.in-Ok.ensures.ok
+    ∙ some_by _ _ refusal h)
     j c.in-Some.ensures.0 c.in-Some.ensures.1 c.block.ensures.blocked
 
 pub returns-in-Some-clause-sound : goal.returns-in-Some-clause-sound
 returns-in-Some-clause-sound g c =
     let p = c.args.self.now in
-    let d = c.in-Ok.place.folder in
-    let name = c.in-Ok.place.name.now in
+    let d = c.in-Ok.found.0.folder in
+    let name = c.in-Ok.found.0.name.now in
     let judged = c.judge-judged.result in
-    let j = created_judged p c.args.path.now c.args.length c.args.owner d name judged c.in-Ok.ensures.ok c.judge-judged.ensures.judged in
+    let j = created_judged p c.args.path.now c.args.length c.args.owner d name judged c.in-Ok.ensures.ok.at c.judge-judged.ensures.judged in
     block_sound p c.block.new.self c.args.moment (Create c.args.path.now c.args.length c.args.owner) c.block.result judged c.in-Some.active c.args.owner d name j c.in-Some.ensures.0 c.block.ensures.blocked c.block.ensures.counted c.requires.whole.sound.scanning
 
 pub returns-in-Some-clause-looks : goal.returns-in-Some-clause-looks
 returns-in-Some-clause-looks g c =
-    omega (arith, c.in-Ok.ensures.looks, c.in-Ok-may_create.ensures.looks, c.judge-judged.ensures.looks, place_depth _ _ _ _ _ c.requires.whole.sound.counted.volume c.in-Ok.ensures.ok)
+    omega (arith, c.in-Ok.ensures.looks, c.judge-judged.ensures.looks, place_depth _ _ _ _ _ c.requires.whole.sound.counted.volume c.in-Ok.ensures.ok.at)

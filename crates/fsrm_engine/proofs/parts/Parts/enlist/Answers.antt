@@ -4,7 +4,7 @@ use Rattle.fsrm_model.specs.Quota.{folder_of}
 use Rattle.fsrm_model.specs.QuotaStates.{queued}
 use Rattle.fsrm_objects.proofs.FaultLaws.{admitted}
 use Rattle.rescan.proofs.unvisited.FindLaws.{folder_low}
-use Rattle.scan_queue.specs.Courses.{Course}
+use Rattle.rescan.specs.Courses.{Course}
 use Rattle.fsrm_engine.specs.declared.parts.Parts.{Parts}
 use Rattle.fsrm_engine.specs.Faults.{text_room}
 use Rattle.fsrm_engine.specs.Machine.{IsSound, recounted}

@@ -14,10 +14,9 @@ use Rattle.fsrm_engine.specs.Faults.{exceeded_refusal}
 use Rattle.fsrm_engine.specs.declared.parts.Parts.{Parts}
 use Rattle.fsrm_engine.specs.Machine.{charged_parts}
 use Rattle.fsrm_engine.specs.Reporting.{name_under, screen_told}
-use Rattle.fsrm_engine.proofs.judging.DoneLaws.{done_noted}
+use Rattle.fsrm_engine.proofs.judging.DoneLaws.{done_named, sound_named}
 use Rattle.fsrm_engine.proofs.judging.JudgedLaws.{few_at, few_told, told_one}
 use Rattle.fsrm_engine.proofs.judging.NameLaws.{answers_it, block_sound, blocked_op, moved_judged, unblocked}
-use Rattle.fsrm_engine.proofs.judging.NotedLaws.{noted_calm, noted_change, noted_charged, noted_covered, noted_fits, noted_height, noted_log, noted_quotas, noted_scans, noted_volume}
 use Rattle.fsrm_engine.proofs.steps.StepLaws.{refused_as, refused_by_as}
 use Rattle.fsrm_engine.proofs.steps.PlaceLaws.{place_bare, place_depth, has_resolved}
 use Rattle.fsrm_engine.proofs.operations.NewLaws.{by_no_screen, by_screen}
@@ -28,8 +27,7 @@ use Rattle.fsrm_engine.proofs.operations.FollowLaws.{goes_to, volume_is, made_re
 use Rattle.fsrm_engine.proofs.operations.ChargedLaws.{charged_due, covered_by, refused_op}
 use Rattle.fsrm_engine.proofs.settling.EndLaws.{few_log}
 use Rattle.fsrm_engine.proofs.settling.OrderlyQuotas.{quotas_orderly}
-use Rattle.fsrm_engine.proofs.settling.RefuseLaws.{refused_sound, refuser_of}
-use Rattle.fsrm_engine.proofs.tables.RanLaws.{counted_run, sound_run}
+use Rattle.fsrm_engine.proofs.settling.RefuseLaws.{refused_sound, refuser_there}
 use Rattle.fsrm_engine.proofs.parts.Parts.move_path.Goals as goal
 
 pub moved_bytes-requires-clause-there : goal.moved_bytes-requires-clause-there
@@ -84,37 +82,26 @@ returns-in-Err-admit-clause-looks g c =
 pub ready_move-requires-clause-there : goal.ready_move-requires-clause-there
 ready_move-requires-clause-there g c = has_resolved _ _ _ _ c.requires.whole.sound.counted.volume (sym c.in-Some.ensures.value)
 
-pub charge-requires-clause-change : goal.charge-requires-clause-change
-charge-requires-clause-change g c =
-    let p = c.args.self.now in
-    let mid : Parts = record p { tree = c.make_move.new.self; scans = c.follow_move.new.self } in
-    let oj = name_under (screen_told p c.judge_moved-judged.result) c.node-view.result.owner c.in-Ok.place.folder c.in-Ok.place.name.now in
-    let change = move_change c.node-view.result.parent c.in-Ok.place.folder c.in_ok-bytes.bytes in
-    noted_change mid c.report.new.self oj c.args.moment c.requires.idle.places (few_log p c.requires.whole) c.report.ensures change
-    (let v = c.args.self.now.tree in
+pub end_named-requires-clause-change : goal.end_named-requires-clause-change
+end_named-requires-clause-change g c =
+    let v = c.args.self.now.tree in
     let w = c.make_move.new.self in
+    let made = made_ready _ _ _ _ _ _ c.in-Ok-ready_move.ensures.ready c.make_move.ensures.made in
     record {
-      from = there_moved v w c.in-Some.node c.in-Ok.place.folder c.in-Ok.place.name.now c.node-view.result.parent (made_ready _ _ _ _ _ _ c.in-Ok-ready_move.ensures.ready c.make_move.ensures.made) (parent_there v.size v.nodes c.in-Some.node c.node-view.result c.requires.whole.sound.counted.volume c.node-view.ensures.view);
-      to = there_moved v w c.in-Some.node c.in-Ok.place.folder c.in-Ok.place.name.now c.in-Ok.place.folder (made_ready _ _ _ _ _ _ c.in-Ok-ready_move.ensures.ready c.make_move.ensures.made) (folder_has v.nodes c.in-Ok.place.folder c.in-Ok.ensures.ok.folder_is);
-    })
+      from = there_moved v w c.in-Some.node c.in-Ok.place.folder c.in-Ok.place.name.now c.node-view.result.parent made (parent_there v.size v.nodes c.in-Some.node c.node-view.result c.requires.whole.sound.counted.volume c.node-view.ensures.view);
+      to = there_moved v w c.in-Some.node c.in-Ok.place.folder c.in-Ok.place.name.now c.in-Ok.place.folder made (folder_has v.nodes c.in-Ok.place.folder c.in-Ok.ensures.ok.folder_is);
+    }
 
-pub charge-requires-clause-fits : goal.charge-requires-clause-fits
-charge-requires-clause-fits g c =
+pub end_named-requires-clause-fits : goal.end_named-requires-clause-fits
+end_named-requires-clause-fits g c =
     let p = c.args.self.now in
-    let mid : Parts = record p { tree = c.make_move.new.self; scans = c.follow_move.new.self } in
-    let oj = name_under (screen_told p c.judge_moved-judged.result) c.node-view.result.owner c.in-Ok.place.folder c.in-Ok.place.name.now in
-    let change = move_change c.node-view.result.parent c.in-Ok.place.folder c.in_ok-bytes.bytes in
-    noted_fits mid c.report.new.self oj c.args.moment c.requires.idle.places (few_log p c.requires.whole) c.report.ensures change
-    (let v = c.args.self.now.tree in
+    let v = p.tree in
     let to = moves_to v.nodes c.in-Some.node c.in-Ok.place.folder c.node-view.result (is_under v.nodes c.in-Some.node c.in-Ok.place.folder) c.node-view.ensures.view (is_inner _ c.if-node-eq0.false) c.in-Ok.ensures.ok.folder_is refl (ready_apart v c.in-Some.node c.in-Ok.place.folder c.in-Ok.place.name.now c.in-Ok-ready_move.ensures.may) in
-    moved_fits v c.make_move.new.self c.args.self.now.objects.quotas c.args.self.now.usage c.in-Some.node c.in-Ok.place.folder c.in-Ok.place.name.now c.node-view.result c.in_ok-bytes.bytes c.requires.whole.sound.counted c.node-view.ensures.view to c.in_ok-bytes.ensures.bytes (made_ready _ _ _ _ _ _ c.in-Ok-ready_move.ensures.ready c.make_move.ensures.made))
+    moved_fits v c.make_move.new.self p.objects.quotas p.usage c.in-Some.node c.in-Ok.place.folder c.in-Ok.place.name.now c.node-view.result c.in_ok-bytes.bytes c.requires.whole.sound.counted c.node-view.ensures.view to c.in_ok-bytes.ensures.bytes (made_ready _ _ _ _ _ _ c.in-Ok-ready_move.ensures.ready c.make_move.ensures.made)
 
 pub returns-clause-looks : goal.returns-clause-looks
 returns-clause-looks g c =
-    let p = c.args.self.now in
-    let mid : Parts = record p { tree = c.make_move.new.self; scans = c.follow_move.new.self } in
-    let oj = name_under (screen_told p c.judge_moved-judged.result) c.node-view.result.owner c.in-Ok.place.folder c.in-Ok.place.name.now in
-    let v = p.tree in
+    let v = c.args.self.now.tree in
     let w = c.make_move.new.self in
     let to = moves_to v.nodes c.in-Some.node c.in-Ok.place.folder c.node-view.result (is_under v.nodes c.in-Some.node c.in-Ok.place.folder) c.node-view.ensures.view (is_inner _ c.if-node-eq0.false) c.in-Ok.ensures.ok.folder_is refl (ready_apart v c.in-Some.node c.in-Ok.place.folder c.in-Ok.place.name.now c.in-Ok-ready_move.ensures.may) in
     omega (
@@ -128,9 +115,7 @@ returns-clause-looks g c =
       c.in_default-admit.ensures.looks,
       c.follow_move.ensures.looks,
       c.make_move.ensures.looks,
-      c.charge.ensures.looks,
-      noted_height mid c.report.new.self oj c.args.moment c.requires.idle.places (few_log p c.requires.whole) c.report.ensures c.in-Ok.place.folder,
-      noted_height mid c.report.new.self oj c.args.moment c.requires.idle.places (few_log p c.requires.whole) c.report.ensures c.node-view.result.parent,
+      c.end_named.ensures.looks,
       (resolved v.size v.nodes c.args.from.now c.in-Some.node c.requires.whole.sound.counted.volume (sym c.in-Some.ensures.value)).deep,
       place_depth _ _ _ _ _ c.requires.whole.sound.counted.volume c.in-Ok.ensures.ok,
       from_height v.size v.nodes c.args.from.now c.in-Some.node c.node-view.result c.requires.whole.sound.counted.volume (sym c.in-Some.ensures.value) (is_inner _ c.if-node-eq0.false) c.node-view.ensures.view,
@@ -211,64 +196,40 @@ returns-in-Err-admit-clause-sound g c =
     refused_sound c.args.self.now c.refuse.new.self c.args.moment c.in-Err-admit.exceeded c.refuse.result c.refuse.ensures.refused c.refuse.ensures.counted c.requires.whole.sound.scanning
 
 pub refuse-requires-clause-there : goal.refuse-requires-clause-there
-refuse-requires-clause-there g c = (refuser_of c.args.self.now (move_change c.node-view.result.parent c.in-Ok.place.folder c.in_ok-bytes.bytes) c.in-Err-admit.exceeded c.requires.whole.sound.counted c.in-Err-admit.ensures.err).there
-
-pub refuse-requires-clause-counting : goal.refuse-requires-clause-counting
-refuse-requires-clause-counting g c = (refuser_of c.args.self.now (move_change c.node-view.result.parent c.in-Ok.place.folder c.in_ok-bytes.bytes) c.in-Err-admit.exceeded c.requires.whole.sound.counted c.in-Err-admit.ensures.err).counting
+refuse-requires-clause-there g c =
+    refuser_there c.args.self.now (move_change c.node-view.result.parent c.in-Ok.place.folder c.in_ok-bytes.bytes) c.in-Err-admit.exceeded c.requires.whole.sound.counted c.in-Err-admit.ensures.err
 
 pub refuse-requires-clause-log : goal.refuse-requires-clause-log
 refuse-requires-clause-log g c = few_log c.args.self.now c.requires.whole
 
-pub charge-requires-clause-quotas : goal.charge-requires-clause-quotas
-charge-requires-clause-quotas g c =
-    let p = c.args.self.now in
-    let mid : Parts = record p { tree = c.make_move.new.self; scans = c.follow_move.new.self } in
-    let oj = name_under (screen_told p c.judge_moved-judged.result) c.node-view.result.owner c.in-Ok.place.folder c.in-Ok.place.name.now in
-    noted_quotas mid c.report.new.self oj c.args.moment c.requires.idle.places (few_log p c.requires.whole) c.report.ensures
-    (quotas_orderly p.tree.nodes p.objects.quotas c.requires.whole.sound.counted.are_quotas)
+pub end_named-requires-clause-quotas : goal.end_named-requires-clause-quotas
+end_named-requires-clause-quotas g c = let p = c.args.self.now in quotas_orderly p.tree.nodes p.objects.quotas c.requires.whole.sound.counted.are_quotas
 
-pub charge-requires-clause-covered : goal.charge-requires-clause-covered
-charge-requires-clause-covered g c =
+pub end_named-requires-clause-covered : goal.end_named-requires-clause-covered
+end_named-requires-clause-covered g c =
     let p = c.args.self.now in
-    let mid : Parts = record p { tree = c.make_move.new.self; scans = c.follow_move.new.self } in
-    let oj = name_under (screen_told p c.judge_moved-judged.result) c.node-view.result.owner c.in-Ok.place.folder c.in-Ok.place.name.now in
-    let change = move_change c.node-view.result.parent c.in-Ok.place.folder c.in_ok-bytes.bytes in
-    noted_covered mid c.report.new.self oj c.args.moment c.requires.idle.places (few_log p c.requires.whole) c.report.ensures change
-    (let v = p.tree in
+    let v = p.tree in
     let e = c.requires.whole.sound.counted in
+    let change = move_change c.node-view.result.parent c.in-Ok.place.folder c.in_ok-bytes.bytes in
     let to = moves_to v.nodes c.in-Some.node c.in-Ok.place.folder c.node-view.result (is_under v.nodes c.in-Some.node c.in-Ok.place.folder) c.node-view.ensures.view (is_inner _ c.if-node-eq0.false) c.in-Ok.ensures.ok.folder_is refl (ready_apart v c.in-Some.node c.in-Ok.place.folder c.in-Ok.place.name.now c.in-Ok-ready_move.ensures.may) in
     subst (λ (w : Volume). IsCovered w.nodes p.usage change) (sym (made_ready _ _ _ _ _ _ c.in-Ok-ready_move.ensures.ready c.make_move.ensures.made))
     (covered_by p _ change e
     (move_changes v.size v.nodes p.objects.quotas c.in-Some.node c.in-Ok.place.folder c.in-Ok.place.name.now c.node-view.result c.in_ok-bytes.bytes e.volume e.are_quotas c.node-view.ensures.view to c.in_ok-bytes.ensures.bytes)
-    (λ from to given at other. omega arith)))
+    (λ from to given at other. omega arith))
 
-pub charge-requires-clause-idle : goal.charge-requires-clause-idle
-charge-requires-clause-idle g c =
-    let p = c.args.self.now in
-    let mid : Parts = record p { tree = c.make_move.new.self; scans = c.follow_move.new.self } in
-    let oj = name_under (screen_told p c.judge_moved-judged.result) c.node-view.result.owner c.in-Ok.place.folder c.in-Ok.place.name.now in
-    noted_calm mid c.report.new.self oj c.args.moment c.requires.idle.places (few_log p c.requires.whole) c.report.ensures c.requires.idle.numbers c.requires.idle.crossing
+pub end_named-requires-clause-idle : goal.end_named-requires-clause-idle
+end_named-requires-clause-idle g c = record { numbers = c.requires.idle.numbers; places = c.requires.idle.places; crossing = c.requires.idle.crossing }
 
-pub charge-requires-clause-log : goal.charge-requires-clause-log
-charge-requires-clause-log g c =
-    let p = c.args.self.now in
-    let mid : Parts = record p { tree = c.make_move.new.self; scans = c.follow_move.new.self } in
-    let oj = name_under (screen_told p c.judge_moved-judged.result) c.node-view.result.owner c.in-Ok.place.folder c.in-Ok.place.name.now in
-    noted_log mid c.report.new.self oj c.args.moment c.requires.idle.places (few_log p c.requires.whole) c.report.ensures
+pub end_named-requires-clause-log : goal.end_named-requires-clause-log
+end_named-requires-clause-log g c = few_log c.args.self.now c.requires.whole
 
-pub done_under-requires-clause-counted : goal.done_under-requires-clause-counted
-done_under-requires-clause-counted g c =
+pub end_named-requires-clause-counted : goal.end_named-requires-clause-counted
+end_named-requires-clause-counted g c =
     let p = c.args.self.now in
-    let mid : Parts = record p { tree = c.make_move.new.self; scans = c.follow_move.new.self } in
-    let oj = name_under (screen_told p c.judge_moved-judged.result) c.node-view.result.owner c.in-Ok.place.folder c.in-Ok.place.name.now in
-    let change = move_change c.node-view.result.parent c.in-Ok.place.folder c.in_ok-bytes.bytes in
     let v = p.tree in
     let to = moves_to v.nodes c.in-Some.node c.in-Ok.place.folder c.node-view.result (is_under v.nodes c.in-Some.node c.in-Ok.place.folder) c.node-view.ensures.view (is_inner _ c.if-node-eq0.false) c.in-Ok.ensures.ok.folder_is refl (ready_apart v c.in-Some.node c.in-Ok.place.folder c.in-Ok.place.name.now c.in-Ok-ready_move.ensures.may) in
-    counted_run _ c.charge.new.self c.args.moment _ c.requires.moment
-    (noted_charged mid c.report.new.self oj c.args.moment c.requires.idle.places (few_log p c.requires.whole) c.report.ensures change
     (move_done v c.make_move.new.self p.objects.quotas _ p.usage _ c.in-Some.node c.in-Ok.place.folder c.in-Ok.place.name.now c.node-view.result c.in_ok-bytes.bytes c.args.moment
-    c.requires.whole.sound.counted c.node-view.ensures.view to c.in_ok-bytes.ensures.bytes (made_ready _ _ _ _ _ _ c.in-Ok-ready_move.ensures.ready c.make_move.ensures.made) c.make_move.ensures.kept c.requires.moment refl refl).engine)
-    c.charge.ensures.charged
+    c.requires.whole.sound.counted c.node-view.ensures.view to c.in_ok-bytes.ensures.bytes (made_ready _ _ _ _ _ _ c.in-Ok-ready_move.ensures.ready c.make_move.ensures.made) c.make_move.ensures.kept c.requires.moment refl refl).engine
 
 pub returns-clause-ok : goal.returns-clause-ok
 returns-clause-ok g c =
@@ -296,7 +257,7 @@ returns-clause-ok g c =
     let size = ap (λ (u : Volume). u.size) made in
     let op = Move c.args.from.now c.args.to.now in
     let oj = name_under (screen_told p judged) view.owner d name in
-    done_noted p mid c.report.new.self c.charge.new.self c.done_under.new.self c.args.moment (File op) c.done_under.result change oj
+    done_named p mid c.end_named.new.self c.args.moment (File op) c.end_named.result change oj
     (record {
       after = c.requires.after;
       none = move_due p c.args.moment c.args.from.now c.args.to.now c.in-Some.node d name e.volume from inner at
@@ -312,30 +273,19 @@ returns-clause-ok g c =
           (goes_to _ _ w _ _ made (c.follow_move.ensures.follows name (volume_is _ _ made c.make_move.ensures.kept)))
           (record { size = size; marks = refl; crossing = refl; groups = refl; audit = refl; run_limit = refl; last_moment = refl });
     })
-    (few_log p c.requires.whole) c.report.ensures
-    done.raised_are (charged_due p w c.follow_move.new.self change c.args.moment size e done.engine) c.charge.ensures.charged c.done_under.ensures.ended
-    (answers_it p c.args.moment op c.done_under.result judged view.owner d name j c.done_under.ensures.answer)
+    (few_log p c.requires.whole) c.end_named.ensures.ended done.raised_are (charged_due p w c.follow_move.new.self change c.args.moment size e done.engine)
+    (answers_it p c.args.moment op c.end_named.result judged view.owner d name j c.end_named.ensures.answer)
 
 pub returns-clause-sound : goal.returns-clause-sound
 returns-clause-sound g c =
     let p = c.args.self.now in
     let mid : Parts = record p { tree = c.make_move.new.self; scans = c.follow_move.new.self } in
-    let oj = name_under (screen_told p c.judge_moved-judged.result) c.node-view.result.owner c.in-Ok.place.folder c.in-Ok.place.name.now in
-    let change = move_change c.node-view.result.parent c.in-Ok.place.folder c.in_ok-bytes.bytes in
     let made = made_ready _ _ _ _ _ _ c.in-Ok-ready_move.ensures.ready c.make_move.ensures.made in
     let goes = goes_to _ _ c.make_move.new.self _ _ made (c.follow_move.ensures.follows c.in-Ok.place.name.now (volume_is _ _ made c.make_move.ensures.kept)) in
-    sound_run (charged_parts c.report.new.self change c.args.moment) c.charge.new.self c.done_under.new.self c.args.moment _
-    c.charge.ensures.charged c.done_under.ensures.ended c.done_under.ensures.counted (noted_scans mid c.report.new.self oj c.args.moment c.requires.idle.places (few_log p c.requires.whole) c.report.ensures goes.scanning)
+    sound_named mid c.end_named.new.self _ _ c.args.moment c.requires.idle.places (few_log p c.requires.whole) c.end_named.ensures.ended c.end_named.ensures.counted goes.scanning
 
-pub charge-requires-clause-volume : goal.charge-requires-clause-volume
-charge-requires-clause-volume g c =
-    let p = c.args.self.now in
-    let mid : Parts = record p { tree = c.make_move.new.self; scans = c.follow_move.new.self } in
-    let oj = name_under (screen_told p c.judge_moved-judged.result) c.node-view.result.owner c.in-Ok.place.folder c.in-Ok.place.name.now in
-    noted_volume mid c.report.new.self oj c.args.moment c.requires.idle.places (few_log p c.requires.whole) c.report.ensures c.make_move.ensures.kept
-
-pub report-requires-clause-there : goal.report-requires-clause-there
-report-requires-clause-there g c =
+pub end_named-requires-clause-there : goal.end_named-requires-clause-there
+end_named-requires-clause-there g c =
     let p = c.args.self.now in
     let view = c.node-view.result in
     let d = c.in-Ok.place.folder in
@@ -344,8 +294,8 @@ report-requires-clause-there g c =
     let j = moved_judged p c.args.from.now c.args.to.now c.in-Some.node d name view judged (sym c.in-Some.ensures.value) c.node-view.ensures.view c.in-Ok.ensures.ok c.judge_moved-judged.ensures.judged in
     j.there
 
-pub report-requires-clause-few : goal.report-requires-clause-few
-report-requires-clause-few g c = λ screen found. few_told c.args.self.now c.judge_moved-judged.result screen c.requires.whole found
+pub end_named-requires-clause-few : goal.end_named-requires-clause-few
+end_named-requires-clause-few g c = λ screen found. few_told c.args.self.now c.judge_moved-judged.result screen c.requires.whole found
 
 pub block-requires-clause-there : goal.block-requires-clause-there
 block-requires-clause-there g c =

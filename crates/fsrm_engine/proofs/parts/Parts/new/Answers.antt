@@ -10,7 +10,7 @@ use Rattle.fsrm_objects.specs.Tables.{Tables}
 use Rattle.number_set.specs.Numbers.{Numbers, no_numbers}
 use Rattle.quota_usage.specs.declared.change.Counter.{Counter}
 use Rattle.rescan.specs.Frontiers.{idle}
-use Rattle.scan_queue.specs.Courses.{Course}
+use Rattle.rescan.specs.Courses.{Course}
 use Rattle.thresholds.specs.Marked.{Marked}
 use Rattle.volume_tree.specs.Volume.{Volume}
 use Rattle.fsrm_engine.specs.declared.parts.Parts.{Parts}

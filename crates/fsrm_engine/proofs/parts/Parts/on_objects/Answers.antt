@@ -1,9 +1,28 @@
-use Rattle.std.proofs.Common.{sym, subst}
+use Rattle.std.proofs.Common.{◌≡◌, ℕ, Bool, true, List, Option, refl, sym, subst}
+use Rattle.fsrm_base.proofs.TestLaws.{clash}
+use Rattle.fsrm_model.specs.declared.command.Added.{Added}
 use Rattle.fsrm_model.specs.declared.command.Deed.{Deed}
+use Rattle.fsrm_model.specs.declared.command.Deed.TheVariants.{File, Usage, Step, QuotaAdd, QuotaModify, QuotaDelete, QuotaScan, QuotaResetpeak, QuotaList, AdminOptions, AdminList, AdminLog}
+use Rattle.fsrm_engine.specs.Kinds.{is_of_groups, is_of_objects}
 use Rattle.fsrm_engine.specs.Machine.{Does}
-use Rattle.fsrm_engine.proofs.steps.KindLaws.{groups_left}
 use Rattle.fsrm_engine.proofs.tables.ModifyLaws.{added_named, modified_named}
 use Rattle.fsrm_engine.proofs.parts.Parts.on_objects.Goals as goal
+
+-- about neither quotas nor the service as a whole: about file groups, screens or exceptions
+groups_left : (deed : Deed) → is_of_objects deed ≡ true → ((path : List (List ℕ)) (limit : Option ℕ) (enforce : Option Bool) (enabled : Bool) (template : Option (List ℕ)) (percents : List ℕ) (notices : List Added) → deed ≡ QuotaAdd path limit enforce enabled template percents notices → ⊥) → ((path : List (List ℕ)) (limit : Option ℕ) (enforce enabled : Option Bool) (removed percents : List ℕ) (notices : List Added) → deed ≡ QuotaModify path limit enforce enabled removed percents notices → ⊥) → ((path : List (List ℕ)) → deed ≡ QuotaDelete path → ⊥) → ((path : List (List ℕ)) → deed ≡ QuotaScan path → ⊥) → ((path : List (List ℕ)) → deed ≡ QuotaResetpeak path → ⊥) → ((path : Option (List (List ℕ))) → deed ≡ QuotaList path → ⊥) → is_of_groups deed ≡ true
+groups_left (QuotaAdd path limit enforce enabled template percents notices) h add modify delete scan reset list = absurd (add path limit enforce enabled template percents notices refl)
+groups_left (QuotaModify path limit enforce enabled removed percents notices) h add modify delete scan reset list = absurd (modify path limit enforce enabled removed percents notices refl)
+groups_left (QuotaDelete path) h add modify delete scan reset list = absurd (delete path refl)
+groups_left (QuotaScan path) h add modify delete scan reset list = absurd (scan path refl)
+groups_left (QuotaResetpeak path) h add modify delete scan reset list = absurd (reset path refl)
+groups_left (QuotaList path) h add modify delete scan reset list = absurd (list path refl)
+groups_left (File op) h add modify delete scan reset list = absurd (clash _ h refl)
+groups_left (Usage path) h add modify delete scan reset list = absurd (clash _ h refl)
+groups_left (Step n) h add modify delete scan reset list = absurd (clash _ h refl)
+groups_left (AdminOptions run_limit) h add modify delete scan reset list = absurd (clash _ h refl)
+groups_left AdminList h add modify delete scan reset list = absurd (clash _ h refl)
+groups_left AdminLog h add modify delete scan reset list = absurd (clash _ h refl)
+groups_left other h add modify delete scan reset list = refl
 
 pub on_groups-requires : goal.on_groups-requires
 on_groups-requires g c =

@@ -1,4 +1,4 @@
-use Rattle.std.proofs.Common.{ℕ, None, ap, sym, ◌∙◌, subst}
+use Rattle.std.proofs.Common.{None, ap, sym, ◌∙◌, subst}
 use Rattle.std.specs.Prelude.{IfOk}
 use Rattle.fsrm_model.specs.declared.command.Deed.TheVariants.{QuotaAdd}
 use Rattle.fsrm_model.specs.declared.row.QuotaRow.{QuotaRow}

@@ -1,8 +1,7 @@
-use Rattle.std.proofs.Common.{◌≡◌, true, false, ap, sym, ◌∙◌}
+use Rattle.std.proofs.Common.{◌≡◌, true, ap, sym, ◌∙◌}
 use Rattle.std.specs.Option.{option_and_then}
 use Rattle.fsrm_base.specs.Keyed.{is_ascending}
 use Rattle.fsrm_model.specs.declared.command.Deed.TheVariants.{QuotaModify}
-use Rattle.fsrm_model.specs.declared.command.Refusal.TheVariants.{NotFound}
 use Rattle.fsrm_model.specs.declared.row.QuotaRow.{QuotaRow}
 use Rattle.fsrm_model.specs.QuotaStates.{in_state, state_after}
 use Rattle.fsrm_model.specs.Thresholds.{may_be_removed, percent_of}
@@ -11,8 +10,7 @@ use Rattle.fsrm_engine.specs.Machine.{rows_of}
 use Rattle.fsrm_engine.proofs.steps.StepLaws.{refused_as}
 use Rattle.fsrm_engine.proofs.tables.ModifyLaws.{changed_legal, changed_row, changed_still, changed_there, changed_unused, changed_whole, modified_as, ran_by}
 use Rattle.fsrm_engine.proofs.tables.QuotaLaws.{first_bare}
-use Rattle.fsrm_engine.proofs.tables.RanLaws.{sound_run}
-use Rattle.fsrm_engine.proofs.tables.RoomLaws.{modify_due, modify_missing, percents_ascend, refused_for_as}
+use Rattle.fsrm_engine.proofs.tables.RoomLaws.{modify_due, percents_ascend, refused_for_as}
 use Rattle.fsrm_engine.proofs.tables.StateLaws.{quota_first}
 use Rattle.fsrm_engine.proofs.parts.Parts.quota_modify.Goals as goal
 

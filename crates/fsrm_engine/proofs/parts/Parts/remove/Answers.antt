@@ -9,7 +9,7 @@ use Rattle.fsrm_model.specs.Screens.{screen_folder, except_folder}
 use Rattle.fsrm_model.specs.Tree.{number}
 use Rattle.volume_tree.specs.Volume.{Volume}
 use Rattle.fsrm_engine.specs.declared.parts.Parts.{Parts}
-use Rattle.scan_queue.proofs.Leaving.{file_children}
+use Rattle.rescan.proofs.queued.Leaving.{file_children}
 use Rattle.fsrm_engine.proofs.operations.IdleLaws.{may_go, file_goes, gone_change, idle_charged, looks_at_file}
 use Rattle.fsrm_engine.proofs.steps.PlaceLaws.{has_resolved, shown_folder, target_is}
 use Rattle.fsrm_engine.proofs.operations.RemoveLaws.{remove_due, remove_root}

@@ -21,7 +21,7 @@ use Rattle.fsrm_engine.proofs.operations.FollowLaws.{goes_to, volume_is, shown_l
 use Rattle.fsrm_engine.proofs.operations.ChargedLaws.{charged_due, covered_by, refused_op}
 use Rattle.fsrm_engine.proofs.settling.EndLaws.{few_log}
 use Rattle.fsrm_engine.proofs.settling.OrderlyQuotas.{quotas_orderly}
-use Rattle.fsrm_engine.proofs.settling.RefuseLaws.{refused_sound, refuser_of}
+use Rattle.fsrm_engine.proofs.settling.RefuseLaws.{refused_sound, refuser_there}
 use Rattle.fsrm_engine.proofs.tables.RanLaws.{counted_run, sound_run}
 use Rattle.fsrm_engine.proofs.parts.Parts.resize.Goals as goal
 
@@ -56,10 +56,8 @@ returns-in-Err-clause-sound g c =
     refused_sound c.args.self.now c.refuse.new.self c.args.moment c.in-Err.exceeded c.refuse.result c.refuse.ensures.refused c.refuse.ensures.counted c.requires.whole.sound.scanning
 
 pub refuse-requires-clause-there : goal.refuse-requires-clause-there
-refuse-requires-clause-there g c = (refuser_of c.args.self.now (record { from = Some c.in-Some.file.parent; to = Some c.in-Some.file.parent; minus = c.allocated.result; plus = c.allocated-2.result }) c.in-Err.exceeded c.requires.whole.sound.counted c.in-Err.ensures.err).there
-
-pub refuse-requires-clause-counting : goal.refuse-requires-clause-counting
-refuse-requires-clause-counting g c = (refuser_of c.args.self.now (record { from = Some c.in-Some.file.parent; to = Some c.in-Some.file.parent; minus = c.allocated.result; plus = c.allocated-2.result }) c.in-Err.exceeded c.requires.whole.sound.counted c.in-Err.ensures.err).counting
+refuse-requires-clause-there g c =
+    refuser_there c.args.self.now (record { from = Some c.in-Some.file.parent; to = Some c.in-Some.file.parent; minus = c.allocated.result; plus = c.allocated-2.result }) c.in-Err.exceeded c.requires.whole.sound.counted c.in-Err.ensures.err
 
 pub refuse-requires-clause-log : goal.refuse-requires-clause-log
 refuse-requires-clause-log g c = few_log c.args.self.now c.requires.whole

@@ -1,25 +1,10 @@
-use Rattle.std.proofs.Common.{ℕ, Option, refl, subst}
+use Rattle.std.proofs.Common.{ℕ, Option, subst}
 use Rattle.std.specs.Option.{option_copied}
-use Rattle.thresholds.specs.Settled.{Settles, due_in}
-use Rattle.fsrm_engine.proofs.settling.MarkLaws.{calm_of, calm_there}
-use Rattle.fsrm_engine.proofs.settling.OrderlyQuotas.{quotas_orderly}
-use Rattle.fsrm_engine.proofs.tables.RanLaws.{counted_run}
+use Rattle.thresholds.specs.Settled.{due_in}
+use Rattle.fsrm_engine.specs.Machine.{Ran}
 use Rattle.fsrm_engine.proofs.parts.Parts.settle_quota.Goals as goal
-
-pub settle-requires-clause-orderly : goal.settle-requires-clause-orderly
-settle-requires-clause-orderly c = let p = c.args.self.now in quotas_orderly p.tree.nodes p.objects.quotas c.requires.counted.are_quotas
-
-pub settle-requires-clause-marked : goal.settle-requires-clause-marked
-settle-requires-clause-marked c = calm_there c.args.self.now (calm_of c.args.self.now c.requires.idle)
 
 pub returns-clause-settled : goal.returns-clause-settled
 returns-clause-settled c =
     let p = c.args.self.now in
-    record {
-      parts_are = refl;
-      settles = subst (λ (now : Option ℕ). Settles p.marks c.settle.new.self p.objects c.settle.new.objects c.args.moment (due_in p.objects (option_copied c.args.before) c.args.used now p.run_limit c.args.moment c.args.folder)) c.used-now.ensures c.settle.ensures.settled;
-      set = c.settle.ensures.sorted;
-    }
-
-pub returns-clause-counted : goal.returns-clause-counted
-returns-clause-counted c = let p = c.args.self.now in counted_run p _ c.args.moment _ c.requires.moment c.requires.counted (returns-clause-settled c)
+    subst (λ (now : Option ℕ). Ran p c.settle_used.new.self c.args.moment (due_in p.objects (option_copied c.args.before) c.args.used now p.run_limit c.args.moment c.args.folder)) c.used-now.ensures c.settle_used.ensures.settled

@@ -6,7 +6,7 @@ use Rattle.fsrm_base.specs.Keyed.{with_change}
 use Rattle.fsrm_model.specs.Tree.{number}
 use Rattle.volume_tree.specs.Volume.{Volume}
 use Rattle.fsrm_engine.specs.declared.parts.Parts.{Parts}
-use Rattle.scan_queue.proofs.Touching.{touch_goes}
+use Rattle.rescan.proofs.queued.Touching.{touch_goes}
 use Rattle.fsrm_engine.proofs.operations.IdleLaws.{idle_touched, touch_due}
 use Rattle.fsrm_engine.proofs.steps.PlaceLaws.{target_is}
 use Rattle.fsrm_engine.proofs.operations.FollowLaws.{goes_to, volume_is, op_accepts}

@@ -3,8 +3,8 @@ use Rattle.fsrm_model.specs.declared.row.ExceptRow.{ExceptRow}
 use Rattle.fsrm_model.specs.Limits.{most_excepts}
 use Rattle.fsrm_model.specs.Screens.{except_folder}
 use Rattle.fsrm_base.proofs.SortedRows.{insert_row}
-use Rattle.place_table.specs.Table.{Table}
-use Rattle.place_table.proofs.RowPlaces.{gap_row, has_number, numbers_inserted}
+use Rattle.fsrm_objects.specs.PlaceTables.{Places}
+use Rattle.fsrm_objects.proofs.RowPlaces.{gap_row, has_number, numbers_inserted}
 use Rattle.fsrm_objects.specs.Kept.{AreHeldExcepts}
 use Rattle.fsrm_objects.specs.Tables.{Tables, with_except}
 use Rattle.fsrm_objects.proofs.FaultLaws.{ExceptAdmitted, except_admitted}
@@ -31,7 +31,7 @@ invariant_of-self-2 c =
       screens_placed = c.self.invariant.screens_placed;
       excepts = subst (λ (rows : List ExceptRow). AreHeldExcepts rows) (sym items) (more_held except_folder excepts c.args.row place gap most_excepts c.self.invariant.excepts may.few);
       excepts_placed =
-          ap (λ (t : Table). t.numbers) c.in_ok-place.ensures.ok
+          ap (λ (t : Places). t.numbers) c.in_ok-place.ensures.ok
           ∙ (numbers_inserted except_folder c.args.row excepts place c.self.inside.except_places.numbers c.self.invariant.excepts_placed gap ∙ sym (ap (map except_folder) items));
       texts_are = c.self.invariant.texts_are;
     }

@@ -5,8 +5,8 @@ use Rattle.fsrm_model.specs.Quota.{folder_of}
 use Rattle.fsrm_model.specs.Screens.{screen_folder}
 use Rattle.fsrm_model.specs.Texts.{quota_bytes}
 use Rattle.fsrm_base.proofs.SortedRows.{insert_row}
-use Rattle.place_table.specs.Table.{Table}
-use Rattle.place_table.proofs.RowPlaces.{gap_row, has_number, numbers_inserted}
+use Rattle.fsrm_objects.specs.PlaceTables.{Places}
+use Rattle.fsrm_objects.proofs.RowPlaces.{gap_row, has_number, numbers_inserted}
 use Rattle.fsrm_objects.specs.Kept.{AreSmallQuotas, most_quota_bytes, most_screen_bytes}
 use Rattle.fsrm_objects.specs.Tables.{Tables, quota_texts, screen_bytes, with_quota}
 use Rattle.fsrm_objects.proofs.FaultLaws.{Admitted, admitted}
@@ -47,7 +47,7 @@ invariant_of-self-2 c =
       quotas = subst (λ (rows : List QuotaRow). AreSmallQuotas rows) (sym items)
           (more_small folder_of quotas c.args.row place gap quota_bytes most_quotas most_quota_bytes c.self.invariant.quotas may.few small);
       quotas_placed =
-          ap (λ (t : Table). t.numbers) c.in_ok-place.ensures.ok
+          ap (λ (t : Places). t.numbers) c.in_ok-place.ensures.ok
           ∙ (numbers_inserted folder_of c.args.row quotas place c.self.inside.places.numbers c.self.invariant.quotas_placed gap ∙ sym (ap (map folder_of) items));
       screens = c.self.invariant.screens;
       screens_placed = c.self.invariant.screens_placed;

@@ -5,8 +5,8 @@ use Rattle.fsrm_model.specs.Quota.{folder_of}
 use Rattle.fsrm_model.specs.Screens.{screen_folder}
 use Rattle.fsrm_model.specs.Texts.{quota_bytes}
 use Rattle.fsrm_base.proofs.SortedRows.{insert_row}
-use Rattle.place_table.specs.Table.{Table}
-use Rattle.place_table.proofs.RowPlaces.{gap_row, has_number, numbers_inserted}
+use Rattle.fsrm_objects.specs.PlaceTables.{Places}
+use Rattle.fsrm_objects.proofs.RowPlaces.{gap_row, has_number, numbers_inserted}
 use Rattle.fsrm_objects.specs.Kept.{AreSmallScreens, most_quota_bytes, most_screen_bytes}
 use Rattle.fsrm_objects.specs.Tables.{Tables, screen_bytes, screen_texts, with_screen}
 use Rattle.fsrm_objects.proofs.FaultLaws.{ScreenAdmitted, screen_admitted}
@@ -49,7 +49,7 @@ invariant_of-self-2 c =
       screens = subst (λ (rows : List ScreenRow). AreSmallScreens rows) (sym items)
           (more_small screen_folder screens c.args.row place gap screen_bytes most_screens most_screen_bytes c.self.invariant.screens may.few small);
       screens_placed =
-          ap (λ (t : Table). t.numbers) c.in_ok-place.ensures.ok
+          ap (λ (t : Places). t.numbers) c.in_ok-place.ensures.ok
           ∙ (numbers_inserted screen_folder c.args.row screens place c.self.inside.screen_places.numbers c.self.invariant.screens_placed gap ∙ sym (ap (map screen_folder) items));
       excepts = c.self.invariant.excepts;
       excepts_placed = c.self.invariant.excepts_placed;

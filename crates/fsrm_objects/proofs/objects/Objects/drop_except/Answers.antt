@@ -3,8 +3,8 @@ use Rattle.fsrm_model.specs.declared.row.ExceptRow.{ExceptRow}
 use Rattle.fsrm_model.specs.Limits.{most_excepts}
 use Rattle.fsrm_model.specs.Screens.{except_folder}
 use Rattle.fsrm_base.specs.Keyed.{has_row}
-use Rattle.place_table.specs.Table.{Table}
-use Rattle.place_table.proofs.RowPlaces.{has_number, numbers_removed}
+use Rattle.fsrm_objects.specs.PlaceTables.{Places}
+use Rattle.fsrm_objects.proofs.RowPlaces.{has_number, numbers_removed}
 use Rattle.fsrm_objects.specs.Kept.{AreHeldExcepts}
 use Rattle.fsrm_objects.specs.Tables.{Tables, without_except}
 use Rattle.fsrm_objects.proofs.HeldRows.{at_place, less_held, tables_of}
@@ -29,7 +29,7 @@ invariant_of-self c =
       screens_placed = c.self.invariant.screens_placed;
       excepts = subst (λ (rows : List ExceptRow). AreHeldExcepts rows) (sym items) (less_held except_folder excepts c.args.folder place at most_excepts c.self.invariant.excepts);
       excepts_placed =
-          ap (λ (t : Table). t.numbers) c.remove-2.ensures
+          ap (λ (t : Places). t.numbers) c.remove-2.ensures
           ∙ (numbers_removed except_folder c.args.folder excepts place c.self.inside.except_places.numbers c.self.invariant.excepts.ascending c.self.invariant.excepts_placed at
           ∙ sym (ap (map except_folder) items));
       texts_are = c.self.invariant.texts_are;

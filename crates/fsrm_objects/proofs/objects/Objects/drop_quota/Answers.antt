@@ -4,8 +4,8 @@ use Rattle.fsrm_model.specs.Limits.{most_quotas}
 use Rattle.fsrm_model.specs.Quota.{folder_of}
 use Rattle.fsrm_model.specs.Texts.{quota_bytes}
 use Rattle.fsrm_base.specs.Keyed.{has_row}
-use Rattle.place_table.specs.Table.{Table}
-use Rattle.place_table.proofs.RowPlaces.{has_number, numbers_removed}
+use Rattle.fsrm_objects.specs.PlaceTables.{Places}
+use Rattle.fsrm_objects.proofs.RowPlaces.{has_number, numbers_removed}
 use Rattle.fsrm_objects.specs.Kept.{AreSmallQuotas, most_quota_bytes}
 use Rattle.fsrm_objects.specs.Tables.{Tables, quota_texts, without_quota}
 use Rattle.fsrm_objects.proofs.HeldRows.{at_place, less_small, less_texts, tables_of}
@@ -27,7 +27,7 @@ invariant_of-self c =
       quotas = subst (λ (rows : List QuotaRow). AreSmallQuotas rows) (sym items)
           (less_small folder_of quotas c.args.folder place at quota_bytes most_quotas most_quota_bytes c.self.invariant.quotas);
       quotas_placed =
-          ap (λ (t : Table). t.numbers) c.remove-2.ensures
+          ap (λ (t : Places). t.numbers) c.remove-2.ensures
           ∙ (numbers_removed folder_of c.args.folder quotas place c.self.inside.places.numbers c.self.invariant.quotas.held.ascending c.self.invariant.quotas_placed at
           ∙ sym (ap (map folder_of) items));
       screens = c.self.invariant.screens;

@@ -3,8 +3,8 @@ use Rattle.fsrm_model.specs.declared.row.ScreenRow.{ScreenRow}
 use Rattle.fsrm_model.specs.Limits.{most_screens}
 use Rattle.fsrm_model.specs.Screens.{screen_folder}
 use Rattle.fsrm_base.specs.Keyed.{has_row}
-use Rattle.place_table.specs.Table.{Table}
-use Rattle.place_table.proofs.RowPlaces.{has_number, numbers_removed}
+use Rattle.fsrm_objects.specs.PlaceTables.{Places}
+use Rattle.fsrm_objects.proofs.RowPlaces.{has_number, numbers_removed}
 use Rattle.fsrm_objects.specs.Kept.{AreSmallScreens, most_screen_bytes}
 use Rattle.fsrm_objects.specs.Tables.{Tables, screen_bytes, screen_texts, without_screen}
 use Rattle.fsrm_objects.proofs.HeldRows.{at_place, less_small, less_texts, tables_of}
@@ -28,7 +28,7 @@ invariant_of-self c =
       screens = subst (λ (rows : List ScreenRow). AreSmallScreens rows) (sym items)
           (less_small screen_folder screens c.args.folder place at screen_bytes most_screens most_screen_bytes c.self.invariant.screens);
       screens_placed =
-          ap (λ (t : Table). t.numbers) c.remove-2.ensures
+          ap (λ (t : Places). t.numbers) c.remove-2.ensures
           ∙ (numbers_removed screen_folder c.args.folder screens place c.self.inside.screen_places.numbers c.self.invariant.screens.held.ascending c.self.invariant.screens_placed at
           ∙ sym (ap (map screen_folder) items));
       excepts = c.self.invariant.excepts;

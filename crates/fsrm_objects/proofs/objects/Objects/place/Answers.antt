@@ -3,7 +3,7 @@ use Rattle.fsrm_base.specs.Keyed.{has_row}
 use Rattle.fsrm_base.specs.Places.{IsAt}
 use Rattle.fsrm_model.specs.Quota.{folder_of}
 use Rattle.fsrm_objects.specs.Tables.{Tables}
-use Rattle.place_table.proofs.RowPlaces.{found_row}
+use Rattle.fsrm_objects.proofs.RowPlaces.{found_row}
 use Rattle.fsrm_objects.proofs.objects.Objects.place.Goals as goal
 
 pub returns : goal.returns

@@ -7,7 +7,7 @@ use Rattle.fsrm_objects.specs.Kept.{most_quota_bytes}
 use Rattle.fsrm_objects.specs.Tables.{Tables, peaked_at, with_peak, screen_texts}
 use Rattle.fsrm_objects.proofs.HeldRows.{at_place, same_small, same_texts, tables_of}
 use Rattle.fsrm_base.proofs.SortedRows.{set_found}
-use Rattle.place_table.proofs.RowPlaces.{numbers_set}
+use Rattle.fsrm_objects.proofs.RowPlaces.{numbers_set}
 use Rattle.fsrm_objects.proofs.objects.Objects.set_peak.Goals as goal
 
 pub invariant_of-self : goal.invariant_of-self

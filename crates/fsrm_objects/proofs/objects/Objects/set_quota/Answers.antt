@@ -11,7 +11,7 @@ use Rattle.fsrm_objects.proofs.FaultLaws.{short_other}
 use Rattle.fsrm_objects.proofs.HeldRows.{at_place, change_small, change_texts, less_texts, tables_of, texts_most}
 use Rattle.fsrm_objects.proofs.QuotaRows.{quota_fits, quota_small}
 use Rattle.fsrm_base.proofs.SortedRows.{set_found}
-use Rattle.place_table.proofs.RowPlaces.{numbers_set}
+use Rattle.fsrm_objects.proofs.RowPlaces.{numbers_set}
 use Rattle.fsrm_objects.proofs.objects.Objects.set_quota.Goals as goal
 
 pub texts_of-bytes-requires : goal.texts_of-bytes-requires

@@ -11,7 +11,7 @@ use Rattle.fsrm_objects.proofs.FaultLaws.{short_screen}
 use Rattle.fsrm_objects.proofs.HeldRows.{at_place, change_small, change_texts, less_texts, tables_of, texts_most}
 use Rattle.fsrm_objects.proofs.ScreenRows.{screen_fits, screen_small}
 use Rattle.fsrm_base.proofs.SortedRows.{set_found}
-use Rattle.place_table.proofs.RowPlaces.{numbers_set}
+use Rattle.fsrm_objects.proofs.RowPlaces.{numbers_set}
 use Rattle.fsrm_objects.proofs.objects.Objects.set_screen.Goals as goal
 
 pub texts_of_actions-bytes-requires : goal.texts_of_actions-bytes-requires

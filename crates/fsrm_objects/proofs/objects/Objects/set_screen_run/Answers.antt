@@ -7,7 +7,7 @@ use Rattle.fsrm_objects.specs.Tables.{Tables, quota_texts, run_screen_at, screen
 use Rattle.fsrm_objects.proofs.HeldRows.{at_place, has_place, read_own, same_small, same_texts, tables_of}
 use Rattle.fsrm_objects.proofs.ScreenRows.{screen_run_bytes}
 use Rattle.fsrm_base.proofs.SortedRows.{set_found}
-use Rattle.place_table.proofs.RowPlaces.{numbers_set}
+use Rattle.fsrm_objects.proofs.RowPlaces.{numbers_set}
 use Rattle.fsrm_objects.proofs.objects.Objects.set_screen_run.Goals as goal
 
 pub unwrap-at-requires : goal.unwrap-at-requires

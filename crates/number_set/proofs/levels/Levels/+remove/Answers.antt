@@ -1,28 +1,32 @@
 -- One word has a bit less, and if it was the last, its place is no longer above.
-use Rattle.std.proofs.Common.{◌≡◌, ℕ, ◌==◌, ◌&&◌, true, not, ◌∙◌, ap, subst, sym, ◌/◌, ◌<◌, List, length, arith}
+use Rattle.std.proofs.Common.{rules, ◌≡◌, ℕ, ◌==◌, ◌&&◌, true, not, ◌∙◌, ap, subst, sym, ◌/◌, ◌<◌, List, length, arith}
 use Rattle.std.proofs.lemmas.List.{with_items_is}
-use Rattle.fsrm_base.specs.Numbers.{is_in, is_set, without_number}
+use Rattle.fsrm_base.specs.Numbers.{is_in, without_number}
 use Rattle.number_set.specs.Numbers.{Numbers}
 use Rattle.number_set.specs.declared.levels.Above.{Above}
 use Rattle.number_set.specs.declared.levels.Levels.TheInside.{Inside}
 use Rattle.number_set.specs.Levels.{IsAbove, IsLevel}
 use Rattle.number_set.specs.Words.{is_occupied, numbers_of}
-use Rattle.number_set.proofs.LevelLaws.{view_without, marks_without, marks_stay, without_absent, set_numbers_of, inside_words}
+use Rattle.number_set.proofs.LevelLaws.{view_without, marks_without, marks_stay, inside_words, place_above}
 use Rattle.number_set.proofs.levels.Levels.+remove.Goals as goal
 use Rattle.number_set.proofs.levels.Levels.+remove.Goals.{in-Nothing, in-Level+then-is_empty, in-Level+else-is_empty}
-
-pub returns-then-not-contains : goal.returns-then-not-contains
-returns-then-not-contains t c =
-    let v : Numbers = c.args.self.now in
-    let set : is_set v.members ≡ true = subst (λ (v : Numbers). is_set v.members ≡ true) c.self.view_is (set_numbers_of c.self.inside.words.items) in
-    sym (ap (λ ms. record v { members = ms }) (without_absent c.args.number v.members set (sym c.if-not-contains.ensures)))
 
 pub clear_bit-is_empty-requires : goal.clear_bit-is_empty-requires
 clear_bit-is_empty-requires t c =
     let old = c.self.inside.words.items in
-    let has : is_in (numbers_of old) c.args.number ≡ true = ap (λ (v : Numbers). is_in v.members c.args.number) c.self.view_is ∙ sym c.if-not-contains.ensures in
+    let has : is_in (numbers_of old) c.args.number ≡ true = ap (λ (v : Numbers). is_in v.members c.args.number) c.self.view_is ∙ c.requires in
     let inside : c.args.number / 64 < length old = inside_words old c.args.number has in
     omega (arith, ap length c.deref_mut.ensures.value)
+
+pub remove-requires : goal.remove-requires
+remove-requires t c =
+    let old = c.self.inside.words.items in
+    let place = c.args.number / 64 in
+    let has : is_in (numbers_of old) c.args.number ≡ true = ap (λ (v : Numbers). is_in v.members c.args.number) c.self.view_is ∙ c.requires in (
+      search rules,
+      ap (λ (v : Numbers). is_in v.members place) c.deref_mut-then-is_empty.ensures.value
+          ∙ place_above c.in-Level.above.value old c.args.number (subst (IsAbove old) c.in-Level.is c.self.invariant.level) has,
+    )
 
 pub invariant_of-self : goal.invariant_of-self
 invariant_of-self t c =

@@ -2,7 +2,7 @@ use Rattle.std.proofs.Common.{◌≡◌, ◌<◌, false, List, length, sym, ◌�
 use Rattle.fsrm_base.specs.Keyed.{has_row}
 use Rattle.fsrm_base.proofs.SortedRows.{insert_row}
 use Rattle.fsrm_model.specs.Limits.{most_quotas}
-use Rattle.place_table.proofs.RowPlaces.{gap_row, has_number}
+use Rattle.fsrm_objects.proofs.RowPlaces.{gap_row, has_number}
 use Rattle.quota_usage.specs.Counters.{counted, with_counter}
 use Rattle.quota_usage.specs.declared.change.Counter.{Counter}
 use Rattle.quota_usage.proofs.CounterLaws.{is_put, kept_begun, numbers_few}

@@ -1,7 +1,7 @@
 use Rattle.std.proofs.Common.{◌≡◌, true, List, sym, ◌∙◌, ap, subst}
 use Rattle.fsrm_base.specs.Keyed.{has_row}
 use Rattle.fsrm_base.proofs.SortedRows.{remove_found}
-use Rattle.place_table.proofs.RowPlaces.{has_number}
+use Rattle.fsrm_objects.proofs.RowPlaces.{has_number}
 use Rattle.quota_usage.specs.Counters.{counted, without_counter}
 use Rattle.quota_usage.specs.declared.change.Counter.{Counter}
 use Rattle.quota_usage.proofs.CounterLaws.{at_place, kept_ended}

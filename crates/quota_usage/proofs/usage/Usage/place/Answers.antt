@@ -1,7 +1,7 @@
 use Rattle.std.proofs.Common.{◌≡◌, false, List, MatchOption, subst}
 use Rattle.fsrm_base.specs.Keyed.{has_row}
 use Rattle.fsrm_base.specs.Places.{IsAt}
-use Rattle.place_table.proofs.RowPlaces.{found_row}
+use Rattle.fsrm_objects.proofs.RowPlaces.{found_row}
 use Rattle.quota_usage.specs.Counters.{counted}
 use Rattle.quota_usage.specs.declared.change.Counter.{Counter}
 use Rattle.quota_usage.proofs.usage.Usage.place.Goals as goal

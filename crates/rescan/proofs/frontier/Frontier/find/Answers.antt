@@ -1,6 +1,7 @@
 use Rattle.std.proofs.Common.{◌<◌, ◌∙◌, ap, sym, arith}
 use Rattle.fsrm_base.specs.Numbers.{is_in, is_set}
 use Rattle.number_set.specs.Numbers.{Numbers, no_numbers}
+use Rattle.number_set.proofs.TakenLaws.{taken_is}
 use Rattle.rescan.specs.Frontiers.{Front}
 use Rattle.rescan.specs.Visits.{looks_left}
 use Rattle.rescan.proofs.unvisited.FindLaws.{topped, finding_begins, finding_more, finding_ends, looks_after, looks_most, waits_low, folder_low}
@@ -30,31 +31,31 @@ loop-next-init g c =
 
 pub insert-requires : goal.insert-requires
 insert-requires g c =
-    let low = waits_low c.args.tree.now c.args.self.now c.loop-next.waiting c.loop-next.found c.in-Some.next c.requires.stands c.loop-next.invariant.finding (sym c.in-Some.ensures) in
+    let low = waits_low c.args.tree.now c.args.self.now c.loop-next.waiting c.loop-next.found c.in-Some.next c.requires.stands c.loop-next.invariant.finding (sym c.in-Some.ensures.least) in
     omega (arith, low, c.loop-next.invariant.finding.found_room)
 
 pub enter_children-requires-clause-room : goal.enter_children-requires-clause-room
 enter_children-requires-clause-room g c =
-    let same = ap (λ (m : Numbers). m.bound) c.remove.ensures in
+    let same = ap (λ (m : Numbers). m.bound) c.take_least.ensures.rest in
     omega (arith, same, c.loop-next.invariant.finding.waiting_room, c.requires.stands.fits.nodes)
 
 pub loop-next-smaller : goal.loop-next-smaller
 loop-next-smaller g c =
-    let after = looks_after c.args.tree.now c.args.self.now c.loop-next.waiting c.remove.new.self c.enter_children.new.set c.loop-next.found c.in-Some.next c.requires.stands c.loop-next.invariant.finding (sym c.in-Some.ensures) c.remove.ensures c.enter_children.ensures.set in
+    let after = looks_after c.args.tree.now c.args.self.now c.loop-next.waiting c.take_least.new.self c.enter_children.new.set c.loop-next.found c.in-Some.next c.requires.stands c.loop-next.invariant.finding (sym c.in-Some.ensures.least) (taken_is c.loop-next.waiting c.take_least.new.self c.in-Some.next c.loop-next.invariant.finding.tops.ascending (sym c.in-Some.ensures.least) c.take_least.ensures.rest) c.enter_children.ensures.set in
     let less : looks_left c.args.tree.now.nodes (topped c.args.self.now c.enter_children.new.set.members) < looks_left c.args.tree.now.nodes (topped c.args.self.now c.loop-next.waiting.members) = omega (arith, after) in
     less
 
 pub loop-next-preserved : goal.loop-next-preserved
 loop-next-preserved g c =
-    let after = looks_after c.args.tree.now c.args.self.now c.loop-next.waiting c.remove.new.self c.enter_children.new.set c.loop-next.found c.in-Some.next c.requires.stands c.loop-next.invariant.finding (sym c.in-Some.ensures) c.remove.ensures c.enter_children.ensures.set in
+    let after = looks_after c.args.tree.now c.args.self.now c.loop-next.waiting c.take_least.new.self c.enter_children.new.set c.loop-next.found c.in-Some.next c.requires.stands c.loop-next.invariant.finding (sym c.in-Some.ensures.least) (taken_is c.loop-next.waiting c.take_least.new.self c.in-Some.next c.loop-next.invariant.finding.tops.ascending (sym c.in-Some.ensures.least) c.take_least.ensures.rest) c.enter_children.ensures.set in
     record {
-      finding = finding_more c.args.tree.now c.args.self.now c.loop-next.waiting c.remove.new.self c.enter_children.new.set c.loop-next.found c.insert.new.self c.in-Some.next c.requires.stands c.loop-next.invariant.finding (sym c.in-Some.ensures) c.remove.ensures c.enter_children.ensures.set c.insert.ensures;
+      finding = finding_more c.args.tree.now c.args.self.now c.loop-next.waiting c.take_least.new.self c.enter_children.new.set c.loop-next.found c.insert.new.self c.in-Some.next c.requires.stands c.loop-next.invariant.finding (sym c.in-Some.ensures.least) (taken_is c.loop-next.waiting c.take_least.new.self c.in-Some.next c.loop-next.invariant.finding.tops.ascending (sym c.in-Some.ensures.least) c.take_least.ensures.rest) c.enter_children.ensures.set c.insert.ensures;
       looks = omega (arith, after, c.enter_children.ensures.looks, c.loop-next.invariant.looks);
     }
 
 pub returns-clause-found : goal.returns-clause-found
 returns-clause-found g c =
-    finding_ends c.args.tree.now c.args.self.now c.loop-next.waiting c.loop-next.found c.requires.stands c.loop-next.invariant.finding (sym c.in_default.ensures)
+    finding_ends c.args.tree.now c.args.self.now c.loop-next.waiting c.loop-next.found c.requires.stands c.loop-next.invariant.finding (sym c.in_default.ensures.least)
 
 pub returns-clause-looks : goal.returns-clause-looks
 returns-clause-looks g c =

@@ -17,12 +17,12 @@ before-raw-requires c = word_end c.skip_blanks.new.self.rest.now c.word_len-leng
 pub advance-requires : goal.advance-requires
 advance-requires c = word_end c.skip_blanks.new.self.rest.now c.word_len-length.result (c.word_len-length.ensures ∙ ap (word_length false) c.as_bytes-bytes.ensures.value)
 
-pub returns-in-Ok : goal.returns-in-Ok
+pub returns : goal.returns
 unfolding left
-returns-in-Ok c =
+returns c =
     let words = c.skip_blanks.new.self in
     let after = c.advance.new.self in
     let some : 0 < c.word_len-length.result = omega (arith, c.if-length-eq0.false) in (
-      sym c.skip_blanks.ensures.left ∙ taken_as words.column after.column words.rest.now c.as_bytes-bytes.result.now c.word_len-length.result c.before-raw.result.now after.rest.now _ c.as_bytes-bytes.ensures.value c.word_len-length.ensures some c.before-raw.ensures c.advance.ensures.rest c.advance.ensures.column c.in-Ok.ensures,
+      sym c.skip_blanks.ensures.left ∙ taken_as words.column after.column words.rest.now c.as_bytes-bytes.result.now c.word_len-length.result c.before-raw.result.now after.rest.now _ c.as_bytes-bytes.ensures.value c.word_len-length.ensures some c.before-raw.ensures c.advance.ensures.rest c.advance.ensures.column c.in_ok-text.ensures,
       c.advance.ensures.end ∙ c.skip_blanks.ensures.end,
     )

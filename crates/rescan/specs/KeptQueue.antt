@@ -1,0 +1,13 @@
+-- What a queue of scans keeps by itself.
+use Rattle.std.specs.Prelude.{◌≡◌, ℕ, ◌<◌, true, List, [], None}
+use Rattle.fsrm_base.specs.Numbers.{is_in, each_once}
+use Rattle.fsrm_model.specs.QuotaStates.{head}
+use Rattle.rescan.specs.Frontiers.{Front}
+
+-- Each folder waits once and is within the frontier's room; the active scan is of the folder at the head, and without
+-- one nothing is unvisited
+pub record IsKeptQueue (queue : List ℕ) (front : Front) : Type 0 where
+  pub once : each_once queue ≡ true
+  pub active : front.folder ≡ head queue
+  pub idle : front.folder ≡ None → front.tops ≡ []
+  pub within : (folder : ℕ) → is_in queue folder ≡ true → folder < front.room.nodes

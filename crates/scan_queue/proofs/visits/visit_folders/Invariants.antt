@@ -1,5 +1,0 @@
-use Rattle.scan_queue.proofs.Visiting.{Made}
-use Rattle.scan_queue.proofs.visits.visit_folders.Given as goal
-
-abbrev pub invariant-loop-visited : goal.invariant-loop-visited
-invariant-loop-visited g l = Made l.tree l.fn.frontier l.frontier l.visited l.fn.steps l.steps
