@@ -4,6 +4,7 @@ use Rattle.fsrm_model.specs.Patterns.{some_end}
 use Rattle.fsrm_base.proofs.TestLaws.{is_or, or_later, clash, not_true, both}
 use Rattle.file_groups.specs.Folded.{matches_folded, one_folded_then, stands_for_folded}
 use Rattle.file_groups.specs.Heads.{StandsFirst}
+use Rattle.file_groups.proofs.TailLaws.{any_end}
 
 -- ---- the ends of a name
 -- a name is an end of itself
@@ -116,3 +117,8 @@ module _ (wanted given starred end : List ℕ) where
   tried_well pattern name ended tried =
       let both_ended : matches_folded pattern name ≡ true = ap (λ ps. matches_folded ps name) ended.0 ∙ ap (matches_folded []) ended.1 in
       sym tried.whole ∙ first_end (matches_folded starred) end (tried.here ∙ both_ended)
+
+  -- this end is what the last star stands for
+  pub tried_star : (pattern after name : List ℕ) → pattern ≡ 42 ∷ after → after ≡ [] → IsTried wanted given starred end pattern name → some_end (matches_folded wanted) given ≡ true
+  tried_star pattern after name star none tried =
+      sym (star_taken after name pattern star tried).whole ∙ (ap (λ (ps : List ℕ). some_end (matches_folded ps) name) none ∙ any_end name)

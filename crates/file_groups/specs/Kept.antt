@@ -6,6 +6,7 @@ use Rattle.fsrm_base.specs.Keyed.{is_ascending}
 use Rattle.fsrm_model.specs.Limits.{most_groups, most_patterns}
 use Rattle.fsrm_model.specs.Patterns.{group_number, is_group, are_apart}
 use Rattle.fsrm_model.specs.Texts.{group_bytes}
+use Rattle.file_groups.specs.Ends.{Cover, in_some_group}
 
 -- a group has 1 to 64 members, and at most 64 non-members
 abbrev pub AreMembers : List (List ℕ) → Type 0
@@ -25,7 +26,8 @@ pub record AreGroups (groups : List GroupRow) : Type 0 where
 abbrev pub group_texts : List GroupRow → ℕ
 group_texts groups = sum_by group_bytes groups
 
--- and these are counted
-pub record IsTable (groups : List GroupRow) (texts : ℕ) : Type 0 where
+-- and these are counted, and it is known what names in groups end with
+pub record IsTable (groups : List GroupRow) (texts ends : ℕ) : Type 0 where
   pub are : AreGroups groups
   pub texts_are : texts ≡ group_texts groups
+  pub ends_cover : Cover ends (in_some_group groups)

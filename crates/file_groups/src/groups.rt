@@ -8,7 +8,9 @@ ghost use Rattle.file_groups.specs.Faults.{IsFault, group_fault, new_fault, patt
 ghost use Rattle.file_groups.specs.Kept.{AreGroups, AreMembers, AreNonMembers, group_texts};
 
 use crate::answer::GroupFault;
+use crate::ends::{ends_of_groups, is_end};
 use crate::folded::FoldedName;
+use crate::matching::Rest;
 use crate::pattern::Pattern;
 use crate::rows;
 use crate::rows::ByNumber;
@@ -26,6 +28,8 @@ pub struct Groups {
     groups: Vec<GroupRow>,
     // The bytes of all names and patterns.
     texts: u32,
+    // Each name that is in a group ends with one of these.
+    ends: u64,
 }
 
 impl Model for Groups {
@@ -37,7 +41,7 @@ impl Model for Groups {
 
     ghost view = { λ g. g.groups.items };
 
-    ghost invariant = { λ g. IsTable g.groups.items g.texts };
+    ghost invariant = { λ g. IsTable g.groups.items g.texts g.ends };
 }
 
 impl Groups {
@@ -49,6 +53,7 @@ impl Groups {
             alloc,
             groups: Vec::new(alloc),
             texts: 0,
+            ends: 0,
         }
     }
 
@@ -139,6 +144,7 @@ impl Groups {
         let bytes = rows::texts_of(&row);
         self.groups.insert(place, row)?;
         self.texts += bytes;
+        self.ends = ends_of_groups(&self.groups);
         Ok(())
     }
 
@@ -173,6 +179,7 @@ impl Groups {
         let row = rows::regrouped(self.alloc, old, members, non_members)?;
         self.texts = self.texts - replaced + rows::texts_of(&row);
         self.groups[place] = row;
+        self.ends = ends_of_groups(&self.groups);
         Ok(())
     }
 
@@ -185,6 +192,7 @@ impl Groups {
         let place = search::<ByNumber>(&self.groups, group).unwrap();
         self.texts -= rows::texts_of(&self.groups[place]);
         self.groups.remove(place);
+        self.ends = ends_of_groups(&self.groups);
     }
 
     /// The number of the group of this name, in any spelling.
@@ -212,6 +220,17 @@ impl Groups {
     {
         let place = search::<ByNumber>(&self.groups, group).unwrap();
         rows::is_in(&self.groups[place], name.characters())
+    }
+
+    /// Whether a name may be in some group, told by its last character alone. One that may not is in none. It takes no
+    /// memory.
+    pub fn may_have(&self, name: &str) -> bool
+        ensures { result ≡ false → (number : ℕ) → in_group_of self.now number name.now ≡ false }
+    {
+        match name.last_folded() {
+            Some((last, _before)) => is_end(self.ends, last),
+            None => true,
+        }
     }
 
     /// The bytes of all names and patterns.

@@ -1,11 +1,11 @@
-//! Whether a name matches a pattern, without memory and without recursion: of all stars only the last
-//! one that was met is ever tried again.
+//! Whether a name matches a pattern, without memory and without recursion: what stands after the last star is compared
+//! once, with the end of the name, and of the stars before it only the last one that was met is ever tried again.
 
-ghost use Rattle.std.specs.Prelude.{◌≡◌, ◌∷◌, [], MatchOption, chars};
+ghost use Rattle.std.specs.Prelude.{◌≡◌, ◌∷◌, ◌++◌, [], MatchOption, chars};
 ghost use Rattle.fsrm_model.specs.Name.{folded};
-ghost use Rattle.fsrm_model.specs.Patterns.{some_end};
+ghost use Rattle.fsrm_model.specs.Patterns.{meant, some_end};
 ghost use Rattle.file_groups.specs.Folded.{matches_folded, pattern_matches_folded, stands_for_folded};
-ghost use Rattle.file_groups.specs.Heads.{AreHeads, BeginsWith};
+ghost use Rattle.file_groups.specs.Heads.{AreHeads, AreTails, BeginsWith, EndsWith};
 
 use crate::folded::fold;
 
@@ -18,6 +18,10 @@ pub trait Rest: Copy {
     /// Its first character, folded, and what is after it.
     fn first_folded(self) -> Option<(char, Self)>
         ensures { MatchOption result (characters self ≡ []) (λ cut. characters self ≡ cut.0 ∷ characters cut.1) };
+
+    /// Its last character, folded, and what is before it.
+    fn last_folded(self) -> Option<(char, Self)>
+        ensures { MatchOption result (characters self ≡ []) (λ cut. characters self ≡ characters cut.1 ++ cut.0 ∷ []) };
 }
 
 // A text of any length. It is folded as it is read, so it takes no room.
@@ -28,6 +32,12 @@ impl<'a> Rest for &'a str {
     fn first_folded(self) -> Option<(char, &'a str)> {
         let (character, after) = first(self)?;
         Some((fold(character), after))
+    }
+
+    #[inline]
+    fn last_folded(self) -> Option<(char, &'a str)> {
+        let (character, before) = last(self)?;
+        Some((fold(character), before))
     }
 }
 
@@ -40,17 +50,27 @@ impl<'a> Rest for &'a [char] {
         let (character, after) = self.split_first()?;
         Some((*character, after))
     }
+
+    #[inline]
+    fn last_folded(self) -> Option<(char, &'a [char])> {
+        let (character, before) = self.split_last()?;
+        Some((*character, before))
+    }
 }
 
 /// Whether a name matches the pattern of this text.
 pub fn matches<N: Rest>(pattern: &str, name: N) -> bool
     ensures { result ≡ pattern_matches_folded (N.characters name) pattern.now }
 {
-    if pattern == "*.*" {
-        is_match("*", name)
-    } else {
-        is_match(pattern, name)
-    }
+    is_match(meant(pattern), name)
+}
+
+/// The pattern that is meant: `*.*` means `*`.
+#[inline]
+pub fn meant(pattern: &str) -> &str
+    ensures { result.now ≡ meant pattern.now }
+{
+    if pattern == "*.*" { "*" } else { pattern }
 }
 
 // What a pattern and a name begin with.
@@ -78,12 +98,56 @@ fn heads_of<'a, N: Rest>(pattern: &'a str, name: N) -> Heads<'a, N>
     }
 }
 
+// What a pattern and a name end with.
+enum Tails<'a, N> {
+    // A star.
+    Star,
+    // Another character of the pattern, which stands for the name's last one, with what is before both.
+    One(&'a str, N),
+    // Both are empty.
+    Ended,
+    // The name doesn't match.
+    Apart,
+}
+
+fn tails_of<'a, N: Rest>(pattern: &'a str, name: N) -> Tails<'a, N>
+    ensures { AreTails N.characters pattern.now name result }
+{
+    let Some((wanted, before)) = last(pattern) else {
+        return match name.last_folded() {
+            None => Tails::Ended,
+            Some(_) => Tails::Apart,
+        };
+    };
+    if wanted == '*' {
+        return Tails::Star;
+    }
+    let Some((character, rest)) = name.last_folded() else {
+        return Tails::Apart;
+    };
+    if stands_for(wanted, character) {
+        Tails::One(before, rest)
+    } else {
+        Tails::Apart
+    }
+}
+
 // A text's first character, and what is after it.
 fn first(text: &str) -> Option<(char, &str)>
     ensures { MatchOption result (chars text.now ≡ []) (λ cut. BeginsWith text.now cut.0 cut.1.now) }
 {
     let mut characters = text.chars();
     let character = characters.next()?;
+    Some((character, characters.as_str()))
+}
+
+/// A text's last character, and what is before it.
+#[inline]
+pub(crate) fn last(text: &str) -> Option<(char, &str)>
+    ensures { MatchOption result (chars text.now ≡ []) (λ cut. EndsWith text.now cut.0 cut.1.now) }
+{
+    let mut characters = text.chars();
+    let character = characters.next_back()?;
     Some((character, characters.as_str()))
 }
 
@@ -99,8 +163,26 @@ fn is_match<N: Rest>(pattern: &str, name: N) -> bool
 {
     let (mut pattern, mut name) = (pattern, name);
     loop {
+        match tails_of(pattern, name) {
+            Tails::Star => return is_front_match(pattern, name),
+            Tails::One(before, rest) => {
+                pattern = before;
+                name = rest;
+            }
+            Tails::Ended => return true,
+            Tails::Apart => return false,
+        }
+    }
+}
+
+// The same from the front on, for a pattern that ends with a star, though it holds for each one.
+fn is_front_match<N: Rest>(pattern: &str, name: N) -> bool
+    ensures { result ≡ matches_folded (chars pattern.now) (N.characters name) }
+{
+    let (mut pattern, mut name) = (pattern, name);
+    loop {
         match heads_of(pattern, name) {
-            Heads::Star(after) => return some_end_matches(after, name),
+            Heads::Star(after) => return after.is_empty() || some_end_matches(after, name),
             Heads::One(after, rest) => {
                 pattern = after;
                 name = rest;
@@ -122,6 +204,9 @@ fn some_end_matches<N: Rest>(pattern: &str, name: N) -> bool
     loop {
         match heads_of(pattern, name) {
             Heads::Star(after) => {
+                if after.is_empty() {
+                    return true;
+                }
                 starred = after;
                 end = name;
                 pattern = after;

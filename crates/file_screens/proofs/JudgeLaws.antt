@@ -1,12 +1,14 @@
 -- Which screen is found to judge a name, from one folder to the next.
-use Rattle.std.proofs.Common.{◌≡◌, ℕ, Bool, true, false, cond, not, ◌⊎◌, inl, inr, List, [], ◌∷◌, length, Option, Some, None, refl, sym, ◌∙◌, ap, subst}
-use Rattle.std.specs.Prelude.{filter, find, option_map, if◌then◌else◌}
-use Rattle.std.specs.List.{cons_option}
+use Rattle.std.proofs.Common.{◌≡◌, ℕ, Bool, true, false, cond, not, ◌&&◌, ◌||◌, ◌⊎◌, inl, inr, List, [], ◌∷◌, length, Option, Some, None, refl, sym, ◌∙◌, ap, subst}
+use Rattle.std.specs.Prelude.{filter, filter_map, find, option_map, if◌then◌else◌}
+use Rattle.std.specs.List.{cons_option, list_any}
 use Rattle.std.specs.Option.{option_or}
 use Rattle.fsrm_base.proofs.TestLaws.{clash}
+use Rattle.fsrm_model.specs.declared.row.GroupRow.{GroupRow}
 use Rattle.fsrm_model.specs.declared.row.Rows.{Rows}
 use Rattle.fsrm_model.specs.declared.row.ScreenRow.{ScreenRow}
-use Rattle.fsrm_model.specs.Screens.{applies, applying, is_excepted, judging}
+use Rattle.fsrm_model.specs.Patterns.{in_group_of}
+use Rattle.fsrm_model.specs.Screens.{applies, applying, in_groups, is_excepted, judging, nearer, screen_of}
 use Rattle.fsrm_model.specs.Tree.{chain, parent_of}
 use Rattle.fsrm_model.proofs.nodes.ChainLaws.{IsTree, Has}
 use Rattle.file_screens.specs.declared.answer.Blocked.{Blocked}
@@ -59,6 +61,22 @@ none_judges R folder name none = sym (ap (judged_by None) none) ∙ judged_is R 
 
 pub none_apply : (R : Rows) → length R.screens ≡ 0 → (folder : ℕ) (name : List ℕ) → applying R folder name ≡ []
 none_apply R none folder name = ap (filter (applies R (chain R.nodes folder) name)) (none_found R (empty R.screens none) (chain R.nodes folder))
+
+-- nor does one if the name is in no group
+in_no_groups : (groups : List GroupRow) (name : List ℕ) → ((number : ℕ) → in_group_of groups number name ≡ false) → (numbers : List ℕ) → in_groups groups numbers name ≡ false
+in_no_groups groups name none [] = refl
+in_no_groups groups name none (number ∷ numbers) =
+    ap (λ b. b || in_groups groups numbers name) (none number) ∙ in_no_groups groups name none numbers
+
+none_passed : (R : Rows) (folders : List ℕ) (name : List ℕ) → ((numbers : List ℕ) → in_groups R.groups numbers name ≡ false) → (screens : List ScreenRow) → filter (applies R folders name) screens ≡ []
+none_passed R folders name none [] = refl
+none_passed R folders name none (screen ∷ screens) =
+    ap (λ b. cond (b && not (list_any (is_excepted R name) (nearer screen.folder folders))) (screen ∷ filter (applies R folders name) screens) (filter (applies R folders name) screens)) (none screen.groups)
+    ∙ none_passed R folders name none screens
+
+pub unnamed_apply : (R : Rows) (folder : ℕ) (name : List ℕ) → ((number : ℕ) → in_group_of R.groups number name ≡ false) → applying R folder name ≡ []
+unnamed_apply R folder name none =
+    none_passed R (chain R.nodes folder) name (in_no_groups R.groups name none) (filter_map (screen_of R) (chain R.nodes folder))
 
 -- where the same screens apply the same one judges
 pub alike_judge : (R : Rows) (folder other : ℕ) (name : List ℕ) (found : Option Blocked) → applying R other name ≡ applying R folder name → found ≡ option_map told (judging R other name) → found ≡ option_map told (judging R folder name)

@@ -168,6 +168,10 @@ pub fn blocked<L: Ledger>(
     if objects.screen_count() == 0 {
         return None;
     }
+    // Most names end as none in a group does.
+    if !groups.may_have(name) {
+        return None;
+    }
     let Some(start) = first_asked(tree, objects, folder, steps) else {
         return None;
     };

@@ -1,6 +1,14 @@
-use Rattle.std.proofs.Common.{sym}
-use Rattle.file_groups.proofs.StarLaws.{star_taken, one_passed, tried_well}
+use Rattle.std.proofs.Common.{◌∙◌, sym}
+use Rattle.fsrm_base.proofs.TestLaws.{eq_is}
+use Rattle.file_groups.proofs.StarLaws.{star_taken, one_passed, tried_star, tried_well}
+use Rattle.file_groups.proofs.TailLaws.{no_chars}
 use Rattle.file_groups.proofs.matching.some_end_matches.Goals as goal
+
+pub returns-then-is_empty : goal.returns-then-is_empty
+returns-then-is_empty g c =
+    sym
+    (tried_star _ _ _ _ _ _ _ c.in-Star.ensures.characters
+    (no_chars c.in-Star.after.now (eq_is _ _ (sym c.is_empty.ensures ∙ c.if-is_empty.true))) c.loop-after.invariant.tried)
 
 pub loop-after-preserved-in-Star : goal.loop-after-preserved-in-Star
 loop-after-preserved-in-Star g c =

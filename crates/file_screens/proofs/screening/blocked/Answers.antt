@@ -4,7 +4,7 @@ use Rattle.fsrm_model.proofs.nodes.Keeps.{tree_of}
 use Rattle.fsrm_model.proofs.valid.ValidLaws.{folder_has}
 use Rattle.file_screens.specs.Blocked.{screened_rows}
 use Rattle.file_screens.specs.Way.{ApplyAlike, NoneApply}
-use Rattle.file_screens.proofs.JudgeLaws.{none_judges, none_apply, alike_judge}
+use Rattle.file_screens.proofs.JudgeLaws.{none_judges, none_apply, unnamed_apply, alike_judge}
 use Rattle.file_screens.proofs.NameLaws.{name_short}
 use Rattle.file_screens.proofs.screening.blocked.Goals as goal
 
@@ -13,6 +13,12 @@ returns-then-screen_count-eq0-clause-judged g c =
     let rows = screened_rows c.args.tree.now.nodes c.args.groups.now c.args.objects.now in
     none_judges rows c.args.folder c.args.name.now
     (none_apply rows (sym c.screen_count.ensures ∙ c.if-screen_count-eq0.true) c.args.folder c.args.name.now)
+
+pub returns-then-not-may_have-clause-judged : goal.returns-then-not-may_have-clause-judged
+returns-then-not-may_have-clause-judged g c =
+    let rows = screened_rows c.args.tree.now.nodes c.args.groups.now c.args.objects.now in
+    none_judges rows c.args.folder c.args.name.now
+    (unnamed_apply rows c.args.folder c.args.name.now (c.may_have.ensures c.if-not-may_have.true))
 
 pub first_asked-requires-clause-tree : goal.first_asked-requires-clause-tree
 first_asked-requires-clause-tree g c = tree_of c.args.tree.now.size c.args.tree.now.nodes c.requires.volume

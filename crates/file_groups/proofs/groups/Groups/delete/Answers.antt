@@ -2,6 +2,7 @@ use Rattle.std.proofs.Common.{List, ◌≡◌, ◌+◌, ◌-◌, remove, sym, �
 use Rattle.fsrm_model.specs.declared.row.GroupRow.{GroupRow}
 use Rattle.fsrm_model.specs.Patterns.{group_number, without_group}
 use Rattle.fsrm_model.specs.Texts.{group_bytes}
+use Rattle.file_groups.specs.Ends.{Cover, in_some_group}
 use Rattle.file_groups.specs.Kept.{IsTable, group_texts}
 use Rattle.file_groups.proofs.GroupLaws.{at_place, less_are, less_texts}
 use Rattle.fsrm_base.proofs.SortedRows.{remove_found}
@@ -13,10 +14,12 @@ invariant_of-self c =
     let place = c.unwrap-place.result in
     let at = at_place c.deref.result.now groups c.args.group place c.search.result c.deref.ensures.value c.unwrap-place.ensures c.search.ensures.found in
     let sum : group_texts (remove groups place) + group_bytes c.index.result.now ≡ group_texts groups = less_texts groups c.args.group place c.index.result.now c.self.invariant.are at c.index.ensures in
-    subst (λ (rows : List GroupRow). IsTable rows (c.self.inside.texts - c.texts_of.result)) (sym c.remove.ensures.items)
+    let ends = c.ends_of_groups-self-inside.result in
+    subst (λ (rows : List GroupRow). IsTable rows (c.self.inside.texts - c.texts_of.result) ends) (sym c.remove.ensures.items)
     (record {
       are = less_are groups c.args.group place c.self.invariant.are at;
       texts_are = omega (arith, sum, c.texts_of.ensures, c.self.invariant.texts_are);
+      ends_cover = subst (λ (rows : List GroupRow). Cover ends (in_some_group rows)) (c.deref-2.ensures.value ∙ c.remove.ensures.items) c.ends_of_groups-self-inside.ensures;
     })
 
 pub returns-clause-without : goal.returns-clause-without

@@ -1,8 +1,9 @@
-use Rattle.std.proofs.Common.{List, ◌≡◌, ◌+◌, ◌≤◌, true, not, sym, ◌∙◌, ap, arith}
+use Rattle.std.proofs.Common.{List, ◌≡◌, ◌+◌, ◌≤◌, true, not, sym, ◌∙◌, ap, subst, arith}
 use Rattle.std.specs.Prelude.{is_some, slice_set}
 use Rattle.fsrm_model.specs.declared.row.GroupRow.{GroupRow}
 use Rattle.fsrm_model.specs.Patterns.{regrouped, with_patterns}
 use Rattle.fsrm_model.specs.Texts.{group_bytes}
+use Rattle.file_groups.specs.Ends.{Cover, in_some_group}
 use Rattle.file_groups.specs.Faults.{patterns_fault}
 use Rattle.file_groups.specs.Kept.{AreGroups, group_texts}
 use Rattle.file_groups.proofs.FaultLaws.{fitting, patterns_fit}
@@ -39,6 +40,7 @@ invariant_of-self c =
     record {
       are = changed_are groups c.args.group place old row c.args.members c.args.non_members c.self.invariant.are at c.index-old.ensures made c.in_ok-row.ensures.valid;
       texts_are = omega (arith, sum, less_texts groups c.args.group place old c.self.invariant.are at c.index-old.ensures, c.self.invariant.texts_are, c.texts_of-replaced.ensures, c.texts_of.ensures);
+      ends_cover = subst (λ (rows : List GroupRow). Cover c.ends_of_groups-self-inside.result (in_some_group rows)) c.deref-2.ensures.value c.ends_of_groups-self-inside.ensures;
     }
 
 pub returns-clause-ok : goal.returns-clause-ok

@@ -1,0 +1,55 @@
+//! What names end with that match some patterns: a look at its last character spares most names the patterns.
+//!
+//! The ends are bits, of which each stands for the characters of one number modulo 64.
+
+ghost use Rattle.std.specs.Prelude.{◌≡◌};
+ghost use Rattle.std.specs.List.{list_any};
+ghost use Rattle.file_groups.specs.Ends.{Cover, in_some_group, is_end};
+ghost use Rattle.file_groups.specs.Folded.{pattern_matches_folded};
+
+use crate::folded::fold;
+use crate::matching::{last, meant};
+use fsrm_model::{GroupRow, List, Text};
+
+/// Whether a character is one of the ends.
+#[inline]
+pub fn is_end(ends: u64, character: char) -> bool
+    ensures { result ≡ is_end ends character }
+{
+    ends >> (character as u32 % 64) & 1 == 1
+}
+
+/// The ends of the names that may be in some group.
+pub fn ends_of_groups(groups: &[GroupRow]) -> u64
+    ensures { Cover result (in_some_group groups.now) }
+{
+    let mut ends = 0;
+    for group in groups {
+        ends |= ends_of(&group.members);
+    }
+    ends
+}
+
+// The ends of the names that may match some pattern.
+fn ends_of(patterns: &List<Text>) -> u64
+    ensures { Cover result (λ name. list_any (pattern_matches_folded name) patterns.now) }
+{
+    let mut ends = 0;
+    for pattern in patterns.as_slice() {
+        ends |= end_of(pattern.as_str());
+    }
+    ends
+}
+
+// The end of the names that may match a pattern, or every one if any character may be there.
+fn end_of(pattern: &str) -> u64
+    ensures { Cover result (λ name. pattern_matches_folded name pattern.now) }
+{
+    let Some((wanted, _before)) = last(meant(pattern)) else {
+        return u64::MAX;
+    };
+    if wanted == '*' || wanted == '?' {
+        return u64::MAX;
+    }
+    1u64 << (fold(wanted) as u32 % 64)
+}
