@@ -36,8 +36,13 @@ pub enum Command<'a> {
     Usage { path: Path<'a> },
     Step { visits: u64 },
     ListAll,
-    AddQuota { path: Path<'a>, limit: u64, settings: Box<Settings> },
+    AddQuota { path: Path<'a>, settings: Box<Settings> },
     OfQuota { verb: Verb, path: Path<'a>, settings: Box<Settings> },
+    OfTemplate { verb: Verb, name: Vec<u8>, settings: Box<Settings> },
+    AddAuto { path: Path<'a>, source: Vec<u8>, settings: Box<Settings> },
+    DeleteAuto { path: Path<'a> },
+    ListTemplates,
+    ListAutos,
     OfGroup { verb: Verb, name: Vec<u8>, settings: Box<Settings> },
     OfScreen { verb: Verb, path: Path<'a>, settings: Box<Settings> },
     OfException { verb: Verb, path: Path<'a>, settings: Box<Settings> },
@@ -126,6 +131,10 @@ pub fn value(digits: &[u8]) -> u64 {
     digits.iter().fold(0, |value: u64, digit| value.saturating_mul(10).saturating_add((digit - b'0') as u64))
 }
 
+pub fn is_name(text: &[u8]) -> bool {
+    (1..=LONGEST_NAME).contains(&text.len()) && text != b"." && text != b".." && text::may_name(text)
+}
+
 pub fn path<'a>(word: Cow<'a, [u8]>) -> Result<Path<'a>, Refusal> {
     let [b'D' | b'd', b':', b'\\', names @ ..] = word.as_ref() else { return Err(Named("InvalidPath")) };
     let names = match names {
@@ -138,7 +147,7 @@ pub fn path<'a>(word: Cow<'a, [u8]>) -> Result<Path<'a>, Refusal> {
         if name.is_empty() && !names.is_empty() {
             return Err(Named("InvalidPath"));
         }
-        are_names &= name.len() <= LONGEST_NAME && name != b"." && name != b".." && text::may_name(name);
+        are_names &= names.is_empty() || is_name(name);
     }
     if !are_names {
         return Err(Named("InvalidName"));
@@ -203,6 +212,8 @@ impl<'a> Words<'a> {
         let object = self.word()?;
         match small(&object.text, &mut [0; LONGEST_WORD]) {
             b"quota" => self.quota_command(),
+            b"template" => self.template_command(),
+            b"autoquota" => self.auto_command(),
             b"admin" => self.admin_command(),
             _ => Err(BadLine(object.column)),
         }
@@ -213,8 +224,10 @@ impl<'a> Words<'a> {
         let verb = match small(&name.text, &mut [0; LONGEST_WORD]) {
             b"add" => {
                 let (path, settings) = self.options(options::OF_QUOTA_ADD)?;
-                let (path, limit) = path.zip(settings.limit).ok_or(self.missing())?;
-                return Ok(Command::AddQuota { path, limit, settings });
+                if settings.limit.is_none() && settings.source.is_none() {
+                    return Err(self.missing());
+                }
+                return Ok(Command::AddQuota { path: path.ok_or(self.missing())?, settings });
             }
             b"modify" => Verb::Modify,
             b"delete" => Verb::Delete,
@@ -227,6 +240,37 @@ impl<'a> Words<'a> {
         match (self.options(takes)?, verb) {
             ((None, _), Verb::List) => Ok(Command::ListAll),
             ((path, settings), verb) => Ok(Command::OfQuota { verb, path: path.ok_or(self.missing())?, settings }),
+        }
+    }
+
+    fn template_command(&mut self) -> Result<Command<'a>, Refusal> {
+        let (verb, _) = self.verb()?;
+        let takes = match verb {
+            Verb::List => return self.options(&[]).map(|_| Command::ListTemplates),
+            Verb::Add => options::OF_TEMPLATE_ADD,
+            Verb::Modify => options::OF_TEMPLATE_MODIFY,
+            _ => options::OF_TEMPLATE,
+        };
+        let (_, mut settings) = self.options(takes)?;
+        if matches!(verb, Verb::Add) && settings.limit.is_none() {
+            return Err(self.missing());
+        }
+        let name = settings.template.take().ok_or(self.missing())?;
+        Ok(Command::OfTemplate { verb, name, settings })
+    }
+
+    fn auto_command(&mut self) -> Result<Command<'a>, Refusal> {
+        match self.verb()? {
+            (Verb::Add, _) => {
+                let (path, mut settings) = self.options(options::OF_AUTO_ADD)?;
+                let (path, source) = path.zip(settings.source.take()).ok_or(self.missing())?;
+                Ok(Command::AddAuto { path, source, settings })
+            }
+            (Verb::Delete, _) => {
+                Ok(Command::DeleteAuto { path: self.options(options::OF_PATH)?.0.ok_or(self.missing())? })
+            }
+            (Verb::List, _) => self.options(&[]).map(|_| Command::ListAutos),
+            (_, column) => Err(BadLine(column)),
         }
     }
 
@@ -253,7 +297,7 @@ impl<'a> Words<'a> {
         }
     }
 
-    // One of the verbs that groups, screens and exceptions have, and its column.
+    // One of the verbs that most objects have, and its column.
     fn verb(&mut self) -> Result<(Verb, usize), Refusal> {
         let name = self.word()?;
         let verb = match small(&name.text, &mut [0; LONGEST_WORD]) {

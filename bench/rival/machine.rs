@@ -7,6 +7,7 @@ use crate::quotas::{Quota, Quotas, State};
 use crate::room::Room;
 use crate::scans::Scans;
 use crate::screens::{Audit, Screens};
+use crate::templates::Templates;
 use crate::thresholds::{self, text_bytes};
 use crate::volume::{allocated, Folder, Node, Volume, NOWHERE, ROOT};
 
@@ -18,6 +19,8 @@ pub enum Answer {
     Visited { folders: u64, scanned: u32, used: Option<u64> },
     // the folders whose quotas are to be shown
     Quotas(Vec<u32>),
+    Templates,
+    Autos,
     Groups,
     Screens,
     Exceptions,
@@ -28,6 +31,7 @@ pub enum Answer {
 pub struct Machine {
     pub volume: Volume,
     pub quotas: Quotas,
+    pub templates: Templates,
     pub scans: Scans,
     pub groups: Groups,
     pub screens: Screens,
@@ -36,15 +40,15 @@ pub struct Machine {
 }
 
 // The quota of a folder that has one.
-fn quota_of(volume: &mut Volume, folder: u32) -> &mut Quota {
+pub fn quota_of(volume: &mut Volume, folder: u32) -> &mut Quota {
     volume.folder_mut(folder).quota.as_mut().expect("a quota")
 }
 
 impl Machine {
     pub fn new() -> Machine {
-        let (volume, quotas, scans) = (Volume::new(), Quotas::new(), Scans::new());
+        let (volume, quotas, templates, scans) = (Volume::new(), Quotas::new(), Templates::new(), Scans::new());
         let (groups, screens, room) = (Groups::new(), Screens::new(), Room::new());
-        Machine { volume, quotas, scans, groups, screens, room, last: 0 }
+        Machine { volume, quotas, templates, scans, groups, screens, room, last: 0 }
     }
 
     pub fn take(&mut self, moment: u32, command: &Command) -> Result<Answer, Refusal> {
@@ -86,12 +90,27 @@ impl Machine {
             }
             Command::Step { visits } => return self.step(*visits, moment),
             Command::ListAll => return Ok(Answer::Quotas(self.quotas.folders().collect())),
-            Command::AddQuota { path, limit, settings } => self.add_quota(path, *limit, settings, moment)?,
+            Command::AddQuota { path, settings } => self.add_quota(path, settings, moment)?,
             Command::OfQuota { verb, path, settings } => {
                 let folder = self.find_folder(path)?;
                 self.volume.folder(folder).quota.as_ref().ok_or(Named("NotFound"))?;
                 return self.change_quota(folder, verb, settings, moment);
             }
+            Command::OfTemplate { verb, name, settings } => match verb {
+                Verb::Add => self.templates.add(name, settings, &mut self.room)?,
+                Verb::Modify => self.modify_template(self.templates.find(name)?, settings, moment)?,
+                _ => self.delete_template(self.templates.find(name)?)?,
+            },
+            Command::AddAuto { path, source, settings } => {
+                let folder = self.find_folder(path)?;
+                self.add_auto(folder, source, &settings.excluded, moment)?;
+            }
+            Command::DeleteAuto { path } => {
+                let folder = self.find_folder(path)?;
+                self.delete_auto(folder)?;
+            }
+            Command::ListTemplates => return Ok(Answer::Templates),
+            Command::ListAutos => return Ok(Answer::Autos),
             Command::OfGroup { verb, name, settings } => self.change_group(name, *verb, settings)?,
             Command::OfScreen { verb, path, settings } => {
                 let folder = self.find_folder(path)?;
@@ -163,10 +182,12 @@ impl Machine {
 
     fn mkdir(&mut self, path: &[u8], owner: u32, moment: u32) -> Result<(), Refusal> {
         let (parent, name) = self.new_place(path)?;
+        let source = self.source(parent, name)?;
         // it has nothing to be counted, so it is visited if its parent is
         let visited_by = self.volume.folder(parent).visited_by;
         let folder = Folder { visited_by, ..Folder::default() };
-        self.volume.make(parent, name, Node::new_folder(folder, owner, moment));
+        let number = self.volume.make(parent, name, Node::new_folder(folder, owner, moment));
+        source.into_iter().for_each(|template| self.derive(number, template, moment));
         Ok(())
     }
 
@@ -235,6 +256,8 @@ impl Machine {
             return Err(Named("NamesFull"));
         }
         let (parent, owner, is_file) = (node.parent, node.stamps.owner, node.folder.is_none());
+        let gets_one = node.folder.as_ref().is_some_and(|folder| folder.quota.is_none());
+        let source = if gets_one { self.source(folder, name)? } else { None };
         let is_judged = is_file && !self.screens.is_empty();
         let report = if is_judged { self.judge(folder, name, owner, moment)? } else { None };
         let reporting = report.as_ref().map(|audit| audit.screen);
@@ -251,6 +274,7 @@ impl Machine {
             (false, true) => self.scans.meet(number, self.volume.node(number)),
             _ => {}
         }
+        source.into_iter().for_each(|template| self.derive(number, template, moment));
         self.done(reporting, moment)
     }
 
@@ -265,6 +289,7 @@ impl Machine {
             Some(folder) if !folder.children.is_empty() => return Err(Named("NotEmpty")),
             Some(_) => {
                 self.delete_quota(number);
+                self.take_auto(number);
                 self.delete_guard(number);
             }
             None => self.quotas.lose(&mut self.volume, parent, NOWHERE, bytes),
@@ -288,21 +313,24 @@ impl Machine {
         Ok(Answer::Visited { folders, scanned, used })
     }
 
-    fn add_quota(&mut self, path: &[u8], limit: u64, given: &Settings, moment: u32) -> Result<(), Refusal> {
+    fn add_quota(&mut self, path: &[u8], given: &Settings, moment: u32) -> Result<(), Refusal> {
         let folder = self.find_folder(path)?;
         if self.volume.folder(folder).quota.is_some() {
             return Err(Named("AlreadyExists"));
         }
-        let thresholds = thresholds::changed(&[], given);
+        let number = given.source.as_ref().map(|name| self.templates.find(name)).transpose()?;
+        let template = number.map(|number| self.templates.template(number));
+        let thresholds = thresholds::changed(template.map_or(&[], |template| &template.thresholds), given);
         if thresholds::are_too_many(&thresholds) {
             return Err(Named("OutOfRange"));
         }
-        if self.quotas.is_full() {
+        if self.quotas.would_be_full(1) {
             return Err(Named("TableFull"));
         }
+        let limit = given.limit.or(template.map(|template| template.limit)).unwrap_or_default();
+        let hard = given.hard.or(template.map(|template| template.hard)).unwrap_or(true);
         self.room.replace(0, text_bytes(&thresholds))?;
-        let quota = Quota::new(limit, given.hard.unwrap_or(true), thresholds, moment);
-        self.quotas.add(&mut self.volume, folder, quota);
+        self.put_quota(folder, number, Quota::new(limit, hard, thresholds, moment));
         self.set_enabled(folder, given.enabled.unwrap_or(true));
         Ok(())
     }
@@ -344,7 +372,7 @@ impl Machine {
     }
 
     // A quota that is enabled counts at once if its folder is empty, and else waits for its scan.
-    fn set_enabled(&mut self, folder: u32, enabled: bool) {
+    pub fn set_enabled(&mut self, folder: u32, enabled: bool) {
         let empty = self.volume.folder(folder).children.is_empty();
         let quota = quota_of(&mut self.volume, folder);
         match (quota.state == State::Disabled, enabled) {
@@ -367,6 +395,7 @@ impl Machine {
     fn delete_quota(&mut self, folder: u32) {
         if let Some(quota) = self.quotas.delete(&mut self.volume, folder) {
             self.room.give_back(text_bytes(&quota.thresholds));
+            self.templates.leave(quota.template);
             if quota.state == State::Rebuilding {
                 self.scans.leave(folder);
             }

@@ -5,8 +5,9 @@
 // in one list, and a hash table finds a node by its folder and its folded name. Quotas stand in their folders; each
 // change of a file climbs to the root and keeps what they have used. A quota keeps the bounds between which that
 // crosses no threshold. Screens stand in their folders, too; a name finds the groups that it is in by its ending, so
-// for most names no screen is looked at. Children are listed by their folder, so that sums and scans visit them one
-// after another. Replies are gathered, and written once for each block.
+// for most names no screen is looked at. So do auto-apply quotas; a template and the quotas that are derived from it
+// share the texts of their actions. Children are listed by their folder, so that sums and scans visit them one after
+// another. Replies are gathered, and written once for each block.
 //
 // Its replies are those of docs/FORMATS.md, but for letters that this compiler's Unicode doesn't have yet: it doesn't
 // fold them. It takes no words, its exit status is 0 or 1, and a script may be of any length.
@@ -23,6 +24,7 @@ mod replies;
 mod room;
 mod scans;
 mod screens;
+mod templates;
 mod text;
 mod thresholds;
 mod volume;

@@ -49,3 +49,35 @@ impl Numbers {
             .flat_map(|(at, word)| (0..64).filter(move |bit| word >> bit & 1 == 1).map(move |bit| at as u32 * 64 + bit))
     }
 }
+
+// A set of them, and how many it has.
+pub struct Counted {
+    numbers: Numbers,
+    count: usize,
+}
+
+impl Counted {
+    pub fn new() -> Counted {
+        Counted { numbers: Numbers::new(), count: 0 }
+    }
+
+    pub fn count(&self) -> usize {
+        self.count
+    }
+
+    pub fn iter(&self) -> impl Iterator<Item = u32> + '_ {
+        self.numbers.iter()
+    }
+
+    // Puts a number in that isn't there.
+    pub fn insert(&mut self, number: u32) {
+        self.numbers.insert(number);
+        self.count += 1;
+    }
+
+    // Takes a number out that is there.
+    pub fn remove(&mut self, number: u32) {
+        self.numbers.remove(number);
+        self.count -= 1;
+    }
+}

@@ -1,8 +1,9 @@
 // The options of commands, and the values that they have.
 use crate::groups::MOST_PATTERNS;
 use crate::line::Refusal::{self, BadLine, Named};
-use crate::line::{path, small, value, within, Path, Word, Words, LONGEST_NAME, LONGEST_WORD};
+use crate::line::{is_name, path, small, value, within, Path, Word, Words, LONGEST_NAME, LONGEST_WORD};
 use crate::patterns::Pattern;
+use crate::templates::{Update, MOST_EXCLUDED};
 use crate::text;
 use crate::thresholds::{Action, Notice};
 use std::borrow::Cow;
@@ -24,6 +25,10 @@ pub enum Key {
     RemovedPercent,
     Notice,
     RunLimit,
+    Template,
+    Source,
+    Update,
+    Excluded,
     Name,
     Members,
     NonMembers,
@@ -41,15 +46,23 @@ const HARD: (&[u8], Key) = (b"/type", Key::Hard);
 const ENABLED: (&[u8], Key) = (b"/status", Key::Enabled);
 const PERCENT: (&[u8], Key) = (b"/add-threshold", Key::Percent);
 const NOTICE: (&[u8], Key) = (b"/add-notification", Key::Notice);
+const REMOVED_PERCENT: (&[u8], Key) = (b"/remove-threshold", Key::RemovedPercent);
+const TEMPLATE: (&[u8], Key) = (b"/template", Key::Template);
+const SOURCE: (&[u8], Key) = (b"/sourcetemplate", Key::Source);
+const UPDATE: (&[u8], Key) = (b"/updatederived", Key::Update);
+const EXCLUDED: (&[u8], Key) = (b"/exclude", Key::Excluded);
 const NAME: (&[u8], Key) = (b"/filegroup", Key::Name);
 const ACTIVE: (&[u8], Key) = (b"/type", Key::Active);
 const GROUP: (&[u8], Key) = (b"/add-filegroup", Key::Group);
 
 // The options that commands take.
 pub const OF_PATH: &Takes = &[PATH];
-pub const OF_QUOTA_ADD: &Takes = &[PATH, LIMIT, HARD, ENABLED, PERCENT, NOTICE];
-pub const OF_QUOTA_MODIFY: &Takes =
-    &[PATH, LIMIT, HARD, ENABLED, PERCENT, NOTICE, (b"/remove-threshold", Key::RemovedPercent)];
+pub const OF_QUOTA_ADD: &Takes = &[PATH, LIMIT, HARD, ENABLED, SOURCE, PERCENT, NOTICE];
+pub const OF_QUOTA_MODIFY: &Takes = &[PATH, LIMIT, HARD, ENABLED, PERCENT, NOTICE, REMOVED_PERCENT];
+pub const OF_TEMPLATE: &Takes = &[TEMPLATE];
+pub const OF_TEMPLATE_ADD: &Takes = &[TEMPLATE, LIMIT, HARD, PERCENT, NOTICE];
+pub const OF_TEMPLATE_MODIFY: &Takes = &[TEMPLATE, LIMIT, HARD, PERCENT, NOTICE, REMOVED_PERCENT, UPDATE];
+pub const OF_AUTO_ADD: &Takes = &[PATH, SOURCE, EXCLUDED];
 pub const OF_SETTINGS: &Takes = &[(b"/runlimitinterval", Key::RunLimit)];
 pub const OF_NAME: &Takes = &[NAME];
 pub const OF_GROUP: &Takes = &[NAME, (b"/members", Key::Members), (b"/nonmembers", Key::NonMembers)];
@@ -67,6 +80,11 @@ pub struct Settings {
     pub percents: Vec<u64>,
     pub notices: Vec<Notice>,
     pub run_limit: Option<u64>,
+    // names of templates
+    pub template: Option<Vec<u8>>,
+    pub source: Option<Vec<u8>>,
+    pub update: Option<Update>,
+    pub excluded: Vec<Vec<u8>>,
     pub name: Option<Vec<u8>>,
     pub members: Option<Vec<Pattern>>,
     pub non_members: Option<Vec<Pattern>>,
@@ -115,6 +133,10 @@ impl Settings {
             Key::Percent => self.percents.push(within(value, PERCENTS, column)?),
             Key::Notice => self.notices.push(notice(value, column)?),
             Key::RunLimit if self.run_limit.is_none() => self.run_limit = Some(within(value, MINUTES, column)?),
+            Key::Template if self.template.is_none() => self.template = Some(object_name(value)?),
+            Key::Source if self.source.is_none() => self.source = Some(object_name(value)?),
+            Key::Update if self.update.is_none() => self.update = Some(update(value, column)?),
+            Key::Excluded => self.exclude(value)?,
             Key::Name if self.name.is_none() => self.name = Some(object_name(value)?),
             Key::Members if self.members.is_none() => self.members = Some(patterns(value)?),
             Key::NonMembers if self.non_members.is_none() => {
@@ -127,6 +149,27 @@ impl Settings {
             _ => return Err(BadLine(column)),
         }
         Ok(())
+    }
+
+    // One excluded name more. A wrong one goes before one too many.
+    fn exclude(&mut self, value: &[u8]) -> Result<(), Refusal> {
+        if !is_name(value) {
+            return Err(Named("InvalidName"));
+        }
+        if self.excluded.len() == MOST_EXCLUDED {
+            return Err(Named("OutOfRange"));
+        }
+        self.excluded.push(value.to_vec());
+        Ok(())
+    }
+}
+
+fn update(word: &[u8], column: usize) -> Result<Update, Refusal> {
+    match small(word, &mut [0; LONGEST_WORD]) {
+        b"none" => Ok(Update::None),
+        b"matching" => Ok(Update::Matching),
+        b"all" => Ok(Update::All),
+        _ => Err(BadLine(column)),
     }
 }
 
@@ -180,7 +223,7 @@ fn action(kind: &[u8], minutes: &[u8], text: &[u8], column: usize) -> Result<Act
     if text.len() > LONGEST_TEXT || text.iter().any(u8::is_ascii_control) {
         return Err(Named("InvalidName"));
     }
-    Ok(Action { kind, minutes, text: text.to_vec(), last_run: None })
+    Ok(Action { kind, minutes, text: text.into(), last_run: None })
 }
 
 fn object_name(value: &[u8]) -> Result<Vec<u8>, Refusal> {

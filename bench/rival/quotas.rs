@@ -1,7 +1,7 @@
 // The quotas on folders, and what is used there.
 use crate::line::Refusal;
-use crate::numbers::Numbers;
-use crate::thresholds::{Runs, Threshold};
+use crate::numbers::Counted;
+use crate::thresholds::{text_bytes, Runs, Threshold};
 use crate::volume::{Folder, Volume, NOWHERE};
 use std::ops::Range;
 
@@ -24,6 +24,8 @@ pub struct Quota {
     pub peak_at: u32,
     // in the order of their percentages
     pub thresholds: Vec<Threshold>,
+    // the number of the one that it was derived from
+    pub template: Option<u16>,
     // as long as what is used is among these, no other thresholds are reached than now
     calm: Range<u64>,
 }
@@ -31,8 +33,8 @@ pub struct Quota {
 impl Quota {
     // One that is disabled.
     pub fn new(limit: u64, hard: bool, thresholds: Vec<Threshold>, moment: u32) -> Quota {
-        let (state, calm) = (State::Disabled, 0..0);
-        let mut quota = Quota { limit, hard, state, used: 0, peak: 0, peak_at: moment, thresholds, calm };
+        let (state, calm, template) = (State::Disabled, 0..0, None);
+        let mut quota = Quota { limit, hard, state, used: 0, peak: 0, peak_at: moment, thresholds, template, calm };
         quota.calm_down();
         quota
     }
@@ -58,6 +60,10 @@ impl Quota {
         (self.state, self.used) = (State::Complete, used);
         self.raise_peak(moment);
         self.cross(folder, 0, used, moment, runs);
+    }
+
+    pub fn text_bytes(&self) -> usize {
+        text_bytes(&self.thresholds)
     }
 
     fn calm_down(&mut self) {
@@ -102,8 +108,7 @@ impl Quota {
 
 // The folders that have a quota. Each quota stands in its folder.
 pub struct Quotas {
-    folders: Numbers,
-    count: usize,
+    folders: Counted,
     pub runs: Runs,
 }
 
@@ -117,15 +122,16 @@ fn counting_mut(folder: &mut Folder) -> Option<&mut Quota> {
 
 impl Quotas {
     pub fn new() -> Quotas {
-        Quotas { folders: Numbers::new(), count: 0, runs: Runs::new() }
+        Quotas { folders: Counted::new(), runs: Runs::new() }
     }
 
     pub fn is_empty(&self) -> bool {
-        self.count == 0
+        self.folders.count() == 0
     }
 
-    pub fn is_full(&self) -> bool {
-        self.count == MOST_QUOTAS
+    // Whether there would be too many, if so many came.
+    pub fn would_be_full(&self, coming: usize) -> bool {
+        self.folders.count() + coming > MOST_QUOTAS
     }
 
     pub fn folders(&self) -> impl Iterator<Item = u32> + '_ {
@@ -135,14 +141,12 @@ impl Quotas {
     pub fn add(&mut self, volume: &mut Volume, folder: u32, quota: Quota) {
         volume.folder_mut(folder).quota = Some(quota);
         self.folders.insert(folder);
-        self.count += 1;
     }
 
     // Takes away the quota of a folder, if there is one.
     pub fn delete(&mut self, volume: &mut Volume, folder: u32) -> Option<Quota> {
         let quota = volume.folder_mut(folder).quota.take()?;
         self.folders.remove(folder);
-        self.count -= 1;
         Some(quota)
     }
 

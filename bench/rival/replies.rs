@@ -5,6 +5,7 @@ use crate::machine::{Answer, Machine};
 use crate::patterns::Pattern;
 use crate::quotas::{Quota, State};
 use crate::screens::{exception_of, screen_of, Screen};
+use crate::templates::Template;
 use crate::thresholds::{Act, Action, Cause, Entry, Threshold};
 use crate::volume::{Volume, MOST_NAMES, MOST_NODES, ROOT};
 
@@ -59,14 +60,16 @@ fn write_answer(out: &mut Vec<u8>, answer: &Answer, machine: &Machine) {
                 quota.thresholds.iter().for_each(|threshold| write_threshold(out, threshold));
             }
         }
+        Answer::Templates => machine.templates.iter().for_each(|template| write_template(out, template)),
+        Answer::Autos => machine.templates.folders().for_each(|folder| write_auto(out, folder, machine)),
         Answer::Groups => machine.groups.iter().for_each(|group| write_group(out, group)),
         Answer::Screens => {
-            for folder in machine.screens.screens.folders() {
+            for folder in machine.screens.screens.iter() {
                 write_screen(out, folder, screen_in(folder, volume), machine);
             }
         }
         Answer::Exceptions => {
-            for folder in machine.screens.exceptions.folders() {
+            for folder in machine.screens.exceptions.iter() {
                 out.extend_from_slice(b"\n  ");
                 write_path(out, folder, volume);
                 write_groups(out, exception_of(volume, folder).expect("an exception"), machine);
@@ -110,7 +113,7 @@ fn write_refusal(out: &mut Vec<u8>, refusal: &Refusal, volume: &Volume) {
 fn write_quota(out: &mut Vec<u8>, quota: &Quota) {
     out.extend_from_slice(b"\n  ");
     write_number(out, quota.limit);
-    out.extend_from_slice(if quota.hard { b" hard " } else { b" soft " });
+    out.extend_from_slice(type_word(quota.hard));
     match quota.state {
         State::Complete => {
             out.extend_from_slice(b"complete ");
@@ -122,6 +125,34 @@ fn write_quota(out: &mut Vec<u8>, quota: &Quota) {
     out.push(b' ');
     write_number(out, quota.peak);
     out.extend_from_slice(date(quota.peak_at).as_bytes());
+}
+
+fn type_word(hard: bool) -> &'static [u8] {
+    if hard {
+        b" hard "
+    } else {
+        b" soft "
+    }
+}
+
+fn write_template(out: &mut Vec<u8>, template: &Template) {
+    out.extend_from_slice(b"\n  ");
+    write_number(out, template.limit);
+    out.extend_from_slice(type_word(template.hard));
+    out.extend_from_slice(&template.name);
+    template.thresholds.iter().for_each(|threshold| write_threshold(out, threshold));
+}
+
+fn write_auto(out: &mut Vec<u8>, folder: u32, machine: &Machine) {
+    let auto = machine.volume.folder(folder).auto.as_ref().expect("an auto-apply quota");
+    out.extend_from_slice(b"\n  ");
+    write_path(out, folder, &machine.volume);
+    out.extend_from_slice(b"\n    template ");
+    out.extend_from_slice(&machine.templates.template(auto.template).name);
+    for name in &auto.excluded {
+        out.extend_from_slice(b"\n    except ");
+        out.extend_from_slice(name);
+    }
 }
 
 // A line for each action, or one if there is none.

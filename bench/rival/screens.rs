@@ -5,7 +5,7 @@
 use crate::groups::Groups;
 use crate::line::Refusal::{self, Named};
 use crate::machine::Machine;
-use crate::numbers::Numbers;
+use crate::numbers::Counted;
 use crate::options::Settings;
 use crate::thresholds::{action_bytes, Action, Cause, MOST_ACTIONS};
 use crate::volume::{Volume, NOWHERE};
@@ -38,35 +38,10 @@ pub struct Audit {
 }
 
 // The folders that have one.
-pub struct Guarded {
-    folders: Numbers,
-    count: usize,
-}
-
 pub struct Screens {
-    pub screens: Guarded,
-    pub exceptions: Guarded,
+    pub screens: Counted,
+    pub exceptions: Counted,
     audits: VecDeque<Audit>,
-}
-
-impl Guarded {
-    fn new() -> Guarded {
-        Guarded { folders: Numbers::new(), count: 0 }
-    }
-
-    pub fn folders(&self) -> impl Iterator<Item = u32> + '_ {
-        self.folders.iter()
-    }
-
-    fn add(&mut self, folder: u32) {
-        self.folders.insert(folder);
-        self.count += 1;
-    }
-
-    fn remove(&mut self, folder: u32) {
-        self.folders.remove(folder);
-        self.count -= 1;
-    }
 }
 
 pub fn screen_of(volume: &Volume, folder: u32) -> Option<&Screen> {
@@ -101,12 +76,12 @@ fn joined(mut groups: Vec<usize>, added: &[usize]) -> Vec<usize> {
     groups
 }
 
-// Why an object can't be added, if there are these of its kind.
-fn refuse(guarded: &Guarded, groups: &[usize], actions: &[Action]) -> Result<(), Refusal> {
+// Why an object can't be added, if these folders have one.
+fn refuse(guarded: &Counted, groups: &[usize], actions: &[Action]) -> Result<(), Refusal> {
     if groups.len() > MOST_GROUPS || actions.len() > MOST_ACTIONS {
         return Err(Named("OutOfRange"));
     }
-    if guarded.count == MOST_GUARDS {
+    if guarded.count() == MOST_GUARDS {
         return Err(Named("TableFull"));
     }
     Ok(())
@@ -114,11 +89,11 @@ fn refuse(guarded: &Guarded, groups: &[usize], actions: &[Action]) -> Result<(),
 
 impl Screens {
     pub fn new() -> Screens {
-        Screens { screens: Guarded::new(), exceptions: Guarded::new(), audits: VecDeque::new() }
+        Screens { screens: Counted::new(), exceptions: Counted::new(), audits: VecDeque::new() }
     }
 
     pub fn is_empty(&self) -> bool {
-        self.screens.count == 0
+        self.screens.count() == 0
     }
 
     // The folder of the screen that judges a name, and whether it is active: the nearest active one that applies, or
@@ -170,7 +145,7 @@ impl Machine {
         self.groups.use_all(&groups);
         let screen = Screen { active: given.active.unwrap_or(true), groups, actions };
         self.volume.folder_mut(folder).guard = Some(Box::new(Guard::Screen(screen)));
-        self.screens.screens.add(folder);
+        self.screens.screens.insert(folder);
         Ok(())
     }
 
@@ -184,7 +159,7 @@ impl Machine {
         refuse(&self.screens.exceptions, &groups, &[])?;
         self.groups.use_all(&groups);
         self.volume.folder_mut(folder).guard = Some(Box::new(Guard::Exception(groups)));
-        self.screens.exceptions.add(folder);
+        self.screens.exceptions.insert(folder);
         Ok(())
     }
 

@@ -2,6 +2,7 @@
 // actions of screens run as these do.
 use crate::options::Settings;
 use std::collections::VecDeque;
+use std::rc::Rc;
 
 const MOST_THRESHOLDS: usize = 16;
 pub const MOST_ACTIONS: usize = 8;
@@ -19,7 +20,7 @@ pub struct Action {
     pub kind: u8,
     // none stands for the setting
     pub minutes: Option<u64>,
-    pub text: Vec<u8>,
+    pub text: Rc<[u8]>,
     pub last_run: Option<u32>,
 }
 
@@ -63,6 +64,28 @@ impl Threshold {
     pub fn bytes(&self, limit: u64) -> u64 {
         limit / 100 * self.percent + (limit % 100 * self.percent).div_ceil(100)
     }
+
+    // Whether another one has the same actions, whenever they ran.
+    fn is(&self, other: &Threshold) -> bool {
+        self.percent == other.percent && are_same(&self.actions, &other.actions, Action::is)
+    }
+}
+
+impl Action {
+    // A text that was copied from a template is the same one.
+    fn is(&self, other: &Action) -> bool {
+        let is_text = Rc::ptr_eq(&self.text, &other.text) || self.text == other.text;
+        self.kind == other.kind && self.minutes == other.minutes && is_text
+    }
+}
+
+fn are_same<T>(some: &[T], others: &[T], is: fn(&T, &T) -> bool) -> bool {
+    some.len() == others.len() && some.iter().zip(others).all(|(one, other)| is(one, other))
+}
+
+// Whether these are the same, whenever their actions ran.
+pub fn are(some: &[Threshold], others: &[Threshold]) -> bool {
+    are_same(some, others, Threshold::is)
 }
 
 impl Runs {

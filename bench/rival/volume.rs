@@ -4,6 +4,7 @@ use crate::numbers::Numbers;
 use crate::places::Places;
 use crate::quotas::Quota;
 use crate::screens::Guard;
+use crate::templates::Auto;
 use crate::text;
 
 pub const ROOT: u32 = 0;
@@ -43,6 +44,7 @@ pub struct Folder {
     pub visited_by: u32,
     pub quota: Option<Quota>,
     pub guard: Option<Box<Guard>>,
+    pub auto: Option<Box<Auto>>,
 }
 
 pub struct Volume {
@@ -158,7 +160,8 @@ impl Volume {
         self.named - given_back + name.len() <= MOST_NAMES
     }
 
-    pub fn make(&mut self, folder: u32, name: &[u8], node: Node) {
+    // Makes a node, and tells its number.
+    pub fn make(&mut self, folder: u32, name: &[u8], node: Node) -> u32 {
         let number = self.free.pop_least().unwrap_or(self.nodes.len() as u32);
         if number as usize == self.nodes.len() {
             self.nodes.push(node);
@@ -166,6 +169,7 @@ impl Volume {
             self.nodes[number as usize] = node;
         }
         self.put(number, folder, name);
+        number
     }
 
     pub fn relocate(&mut self, number: u32, folder: u32, name: &[u8]) {

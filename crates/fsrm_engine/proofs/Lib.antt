@@ -2,5 +2,7 @@ pub mod operations
 pub mod steps
 pub mod tables
 pub mod walks
+pub mod coming
 pub mod settling
 pub mod judging
+pub mod applied

@@ -12,5 +12,6 @@ pub mod NoteLaws
 pub mod ChargeLaws
 pub mod ClimbNotes
 pub mod SettledLaws
+pub mod UpdatedDue
 pub mod TurnedCalm
 pub mod ActTexts

@@ -13,3 +13,6 @@ pub mod ListLaws
 pub mod GroupListLaws
 pub mod GroupLaws
 pub mod ScreenLaws
+pub mod SourceLaws
+pub mod TemplateLaws
+pub mod UpdateLaws

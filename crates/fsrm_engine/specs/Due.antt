@@ -11,7 +11,9 @@ use Rattle.fsrm_model.specs.declared.row.QuotaState.TheVariants.{Complete}
 use Rattle.fsrm_model.specs.Quota.{folder_of, peaked}
 use Rattle.fsrm_model.specs.QuotaStates.{in_state, queued}
 use Rattle.fsrm_model.specs.Tree.{is_under}
+use Rattle.fsrm_objects.specs.Tables.{Tables}
 use Rattle.quota_usage.specs.declared.change.Change.{Change}
+use Rattle.quota_usage.specs.declared.change.Counter.{Counter}
 use Rattle.quota_usage.specs.declared.change.Exceeded.{Exceeded}
 use Rattle.quota_usage.specs.Counters.{used_in}
 use Rattle.rescan.specs.Courses.{Course, Turns}
@@ -36,6 +38,11 @@ charged_acts parts change moment =
 abbrev pub refused_acts : Parts → Exceeded → ℕ → List Act
 refused_acts parts exceeded moment =
     due_in parts.objects None (used_in parts.usage exceeded.folder) (Some exceeded.would) parts.run_limit moment exceeded.folder
+
+-- the acts that are due of a quota that had this row before a template's change. What it uses stayed
+abbrev pub updated_acts : Tables → List Counter → ℕ → ℕ → QuotaRow → List Act
+updated_acts tables counters run_limit moment row =
+    due_in tables (Some row) (used_in counters row.folder) (used_in counters row.folder) run_limit moment row.folder
 
 -- what a refusal leaves: nothing, or, if acts ran, that
 abbrev pub LeavesActs : List Act → Parts → Parts → Parts → ℕ → Exceeded → Answer → Type 0

@@ -19,6 +19,9 @@ use Rattle.fsrm_objects.specs.Tables.{texts_in}
 use Rattle.quota_usage.specs.declared.change.Change.{Change}
 use Rattle.quota_usage.specs.declared.change.Exceeded.{Exceeded}
 use Rattle.quota_usage.specs.Charge.{exceeded_by}
+use Rattle.templates.specs.declared.answer.TemplateFault.{TemplateFault}
+use Rattle.templates.specs.declared.answer.TemplateFault.TheVariants as template
+use Rattle.templates.specs.Held.{texts_in as template_texts}
 use Rattle.volume_tree.specs.declared.answer.TreeFault.{TreeFault}
 use Rattle.volume_tree.specs.declared.answer.TreeFault.TheVariants.{AlreadyExists, InvalidMove, NotEmpty, VolumeFull, NamesFull, NoMemory}
 use Rattle.volume_tree.specs.Volume.{Volume, new_fault}
@@ -70,9 +73,24 @@ group_refusal group.NoMemory = None
 abbrev pub group_answer : GroupFault → Option Answer
 group_answer fault = option_map refused_answer (group_refusal fault)
 
--- how many bytes of texts may still come
+-- ---- and of the tables of templates and auto-apply quotas
+abbrev pub template_refusal : TemplateFault → Option Refusal
+template_refusal template.DuplicateName = Some refusal.DuplicateName
+template_refusal template.AlreadyExists = Some refusal.AlreadyExists
+template_refusal template.InUse = Some refusal.InUse
+template_refusal template.TableFull = Some refusal.TableFull
+template_refusal template.TextsFull = Some refusal.TextsFull
+template_refusal template.NoMemory = None
+
+abbrev pub template_answer : TemplateFault → Option Answer
+template_answer fault = option_map refused_answer (template_refusal fault)
+
+-- the bytes of all object texts, and how many may still come
+abbrev pub texts_of : Parts → ℕ
+texts_of parts = (texts_in parts.objects + group_texts parts.groups) + template_texts parts.templates
+
 abbrev pub text_room : Parts → ℕ
-text_room parts = most_text_bytes - (texts_in parts.objects + group_texts parts.groups)
+text_room parts = most_text_bytes - texts_of parts
 
 -- ---- and of a quota
 -- the refusal by a quota

@@ -1,5 +1,6 @@
 pub mod Machine
 pub mod Acts
+pub mod Applying
 pub mod Peaks
 pub mod Crossing
 pub mod Due
@@ -7,5 +8,8 @@ pub mod Faults
 pub mod Kinds
 pub mod Places
 pub mod Screening
+pub mod Sources
 pub mod Reporting
 pub mod Walk
+pub mod Moves
+pub mod Arrivals

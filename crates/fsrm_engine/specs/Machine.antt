@@ -46,6 +46,8 @@ pub record Takes (old new : Machine) (stepped : Stepped) (answer : Answer) : Typ
 abbrev pub rows_of : Parts → Rows
 rows_of parts =
     record (rows_of_nodes parts.tree.nodes) {
+      templates = parts.templates.templates;
+      autos = parts.templates.autos;
       groups = parts.groups;
       quotas = parts.objects.quotas;
       screens = parts.objects.screens;

@@ -5,7 +5,7 @@ ghost use Rattle.fsrm_model.specs.declared.command.Deed.TheVariants.{File};
 ghost use Rattle.fsrm_model.specs.Cost.{deed_cost};
 ghost use Rattle.fsrm_model.specs.Limits.{latest_moment};
 ghost use Rattle.fsrm_model.specs.Valued.{is_op, is_deed, is_command};
-ghost use Rattle.fsrm_engine.specs.Kinds.{is_of_screens, is_of_groups, is_of_objects};
+ghost use Rattle.fsrm_engine.specs.Kinds.{is_of_templates, is_of_screens, is_of_groups, is_of_objects};
 ghost use Rattle.fsrm_engine.specs.Machine.{Does, IsIdle, IsSound, IsWhole, rows_of};
 
 use crate::parts::Parts;
@@ -33,7 +33,7 @@ impl Parts {
         ensures looks { steps.new ≤ steps.old + deed_cost (rows_of self.old) (File op.now) }
     {
         match op {
-            FileOp::Mkdir { path, owner } => self.mkdir(path, *owner, moment, steps),
+            FileOp::Mkdir { path, owner } => self.mkdir(alloc, path, *owner, moment, steps),
             FileOp::Create {
                 path,
                 length,
@@ -67,7 +67,62 @@ impl Parts {
         self.operate(alloc, op, moment, steps)
     }
 
-    // A command on screens or exceptions.
+    // A command on templates or auto-apply quotas.
+    fn on_templates<L: Ledger>(
+        &mut self,
+        alloc: Global,
+        deed: &Deed,
+        moment: u64,
+        steps: &mut Steps<L>,
+    ) -> Result<Answer, NoMemory>
+        requires whole { IsWhole self.old }
+        requires idle { IsIdle self.old }
+        requires valid { is_deed deed.now ≡ true }
+        requires moment { moment ≤ latest_moment }
+        requires after { self.old.last_moment ≤ moment }
+        requires kind { is_of_templates deed.now ≡ true }
+        ensures ok { IfOk result (λ answer. Does self.old self.new moment deed.now answer) }
+        ensures err { OnErr result (self.new ≡ self.old) }
+        ensures sound { IsSound self.new }
+        ensures looks { steps.new ≤ steps.old + deed_cost (rows_of self.old) deed.now }
+    {
+        match deed {
+            Deed::TemplateAdd {
+                template: name,
+                limit,
+                enforce,
+                add_threshold: percents,
+                add_notification: notices,
+            } => {
+                let change = ThresholdChange::adding(percents, notices);
+                self.template_add(alloc, name, *limit, *enforce, &change, moment)
+            }
+            Deed::TemplateModify {
+                template: name,
+                limit,
+                enforce,
+                remove_threshold: removed,
+                add_threshold: percents,
+                add_notification: notices,
+                update_derived: mode,
+            } => {
+                let change = ThresholdChange::new(removed, percents, notices);
+                self.template_modify(alloc, name, *limit, *enforce, &change, *mode, moment)
+            }
+            Deed::TemplateDelete { template: name } => Ok(self.template_delete(name, moment)),
+            Deed::TemplateList => Ok(self.list_templates(moment)),
+            Deed::AutoquotaAdd {
+                path,
+                source_template: name,
+                exclude: excluded,
+            } => self.auto_add(alloc, path, name, excluded, moment, steps),
+            Deed::AutoquotaDelete { path } => Ok(self.auto_delete(path, moment, steps)),
+            Deed::AutoquotaList => Ok(self.list_autos(moment)),
+            _ => unreachable!(),
+        }
+    }
+
+    // One on screens or exceptions, or on templates or auto-apply quotas.
     fn on_screens<L: Ledger>(
         &mut self,
         alloc: Global,
@@ -107,11 +162,11 @@ impl Parts {
             } => self.except_add(alloc, path, names, moment, steps),
             Deed::ExceptionDelete { path } => Ok(self.except_delete(path, moment, steps)),
             Deed::ExceptionList => Ok(self.list_excepts(moment)),
-            _ => unreachable!(),
+            _ => self.on_templates(alloc, deed, moment, steps),
         }
     }
 
-    // One on file groups, or on screens or exceptions.
+    // One on file groups, or on one of those.
     fn on_groups<L: Ledger>(
         &mut self,
         alloc: Global,
@@ -147,7 +202,7 @@ impl Parts {
         }
     }
 
-    // One on quotas, file groups, screens or exceptions.
+    // One on quotas, or on one of those.
     fn on_objects<L: Ledger>(
         &mut self,
         alloc: Global,
@@ -172,13 +227,14 @@ impl Parts {
                 limit,
                 enforce,
                 enabled,
+                source_template: source,
                 add_threshold: percents,
                 add_notification: notices,
-                ..
             } => {
                 let change = ThresholdChange::adding(percents, notices);
+                let source = source.as_ref();
                 self.quota_add(
-                    alloc, path, *limit, *enforce, *enabled, &change, moment, steps,
+                    alloc, path, *limit, *enforce, *enabled, source, &change, moment, steps,
                 )
             }
             Deed::QuotaModify {

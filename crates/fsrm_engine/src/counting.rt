@@ -1,6 +1,6 @@
 //! Quotas that come, change and go, with their counters.
 
-ghost use Rattle.std.specs.Prelude.{◌≡◌, ◌≤◌, ◌<◌, IfErr, OnOk, OnErr, Some, None, true, false, length};
+ghost use Rattle.std.specs.Prelude.{◌≡◌, ◌≤◌, ◌<◌, IfErr, IsErrOf, OnOk, OnErr, Some, None, true, false, length};
 ghost use Rattle.std.specs.List.{list_all};
 ghost use Rattle.fsrm_model.specs.declared.row.QuotaRow.{QuotaRow};
 ghost use Rattle.fsrm_model.specs.declared.row.QuotaState.TheVariants.{Rebuilding};
@@ -46,6 +46,7 @@ impl Parts {
         MOST_TEXT_BYTES
             .saturating_sub(self.objects.texts())
             .saturating_sub(self.groups.texts())
+            .saturating_sub(self.templates.texts())
     }
 
     /// Puts a quota on a folder. If it counts, nothing may be used yet. An `Err` changes nothing.
@@ -60,6 +61,7 @@ impl Parts {
         ensures added { OnOk result (self.new ≡ recounted self.old (with_row folder_of row self.old.objects.quotas)) }
         ensures may { OnOk result (quota_fault self.old.objects row (text_room self.old) ≡ None) }
         ensures refused { IfErr result (λ fault. IsFault fault (quota_fault self.old.objects row (text_room self.old))) }
+        ensures full { IsErrOf result ObjectFault.NoMemory → self.old.objects.room ≤ length self.old.objects.quotas }
         ensures err { OnErr result (self.new ≡ self.old) }
         ensures counted { AreCounted self.new }
     {

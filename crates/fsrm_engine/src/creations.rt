@@ -16,6 +16,7 @@ use crate::places::{Place, place_at};
 use crate::screening::blocking;
 use fsrm_model::{Answer, Ledger, NoMemory, Path, Refusal, Steps};
 use quota_usage::Change;
+use std::alloc::Global;
 use volume_tree::Finger;
 
 impl Parts {
@@ -40,9 +41,10 @@ impl Parts {
         }
     }
 
-    /// Makes a folder.
+    /// Makes a folder. If the folder that it stands in has an auto-apply quota that doesn't leave it out, it gets a quota.
     pub(crate) fn mkdir<L: Ledger>(
         &mut self,
+        alloc: Global,
         path: &Path,
         owner: u32,
         moment: u64,
@@ -62,9 +64,11 @@ impl Parts {
             Ok(found) => found,
             Err(refusal) => return Ok(refused(refusal)),
         };
-        let node = self
-            .tree
-            .make_folder(place.folder, place.name, vacancy, owner, moment, steps)?;
+        let source = self.templates.applies(place.folder, place.name);
+        if let Err(refusal) = self.may_come(source) {
+            return Ok(refused(refusal));
+        }
+        let node = self.make_in(alloc, place, vacancy, source, owner, moment, steps)?;
         self.scans.follow_mkdir(&self.tree, node);
         Ok(self.done(moment))
     }

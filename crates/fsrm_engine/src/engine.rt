@@ -24,6 +24,7 @@ use fsrm_model::{Act, Answer, Capacity, Command, FileOp, Ledger, NoMemory, Refus
 use fsrm_objects::Objects;
 use std::alloc::Global;
 use std::marker::Model;
+use templates::Templates;
 use thresholds::Marks;
 use volume_tree::Tree;
 
@@ -93,6 +94,15 @@ impl Engine {
         ensures store { IsValid self.now.size self.now.rows }
     {
         &self.parts.groups
+    }
+
+    /// The quota templates and the auto-apply quotas, lent.
+    pub fn templates(&self) -> &Templates
+        ensures templates { result.now.templates ≡ self.now.rows.templates }
+        ensures autos { result.now.autos ≡ self.now.rows.autos }
+        ensures store { IsValid self.now.size self.now.rows }
+    {
+        &self.parts.templates
     }
 
     /// The log of the names that screens judged, lent.

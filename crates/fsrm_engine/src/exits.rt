@@ -2,12 +2,13 @@
 
 ghost use Rattle.std.specs.Prelude.{◌≡◌, false, IfOk, OnErr, Some, None};
 ghost use Rattle.fsrm_model.specs.declared.command.Outcome.TheVariants.{Listing};
-ghost use Rattle.fsrm_engine.specs.Faults.{answer_of, exceeded_refusal, group_answer, refusal_of, refused_answer, table_answer};
+ghost use Rattle.fsrm_engine.specs.Faults.{answer_of, exceeded_refusal, group_answer, refusal_of, refused_answer, table_answer, template_answer};
 
 use file_groups::GroupFault;
 use fsrm_model::{Answer, Ask, NoMemory, Outcome, Refusal};
 use fsrm_objects::ObjectFault;
 use quota_usage::Exceeded;
+use templates::TemplateFault;
 use volume_tree::TreeFault;
 
 /// The answer of a command that doesn't last.
@@ -85,6 +86,22 @@ pub fn refused_by_groups(fault: GroupFault) -> Result<Answer, NoMemory>
         GroupFault::TableFull => Refusal::TableFull,
         GroupFault::TextsFull => Refusal::TextsFull,
         GroupFault::NoMemory => return Err(NoMemory),
+    };
+    Ok(refused(refusal))
+}
+
+/// The same if the tables of templates and auto-apply quotas refused.
+pub fn refused_by_templates(fault: TemplateFault) -> Result<Answer, NoMemory>
+    ensures ok { IfOk result (λ answer. template_answer fault ≡ Some answer) }
+    ensures err { OnErr result (template_answer fault ≡ None) }
+{
+    let refusal = match fault {
+        TemplateFault::DuplicateName => Refusal::DuplicateName,
+        TemplateFault::AlreadyExists => Refusal::AlreadyExists,
+        TemplateFault::InUse => Refusal::InUse,
+        TemplateFault::TableFull => Refusal::TableFull,
+        TemplateFault::TextsFull => Refusal::TextsFull,
+        TemplateFault::NoMemory => return Err(NoMemory),
     };
     Ok(refused(refusal))
 }

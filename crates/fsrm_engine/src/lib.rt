@@ -1,5 +1,5 @@
-//! The machine that takes commands: a tree, the tables of objects, their counters and their scans, file groups and the
-//! log of judged names.
+//! The machine that takes commands: a tree, the tables of objects, their counters and their scans, file groups, quota
+//! templates, auto-apply quotas and the log of judged names.
 //!
 //! `Engine::apply` and `Engine::file_op` have one clause for all commands, `ok`: the answer is the plain machine's, and
 //! so are the rows that are left and the acts that wait. `err` says that nothing has changed if memory ran out, `kept`
@@ -15,6 +15,9 @@
 
 mod acts;
 mod admin;
+mod applying;
+mod arrivals;
+mod autos;
 mod changes;
 mod charging;
 mod commands;
@@ -29,6 +32,7 @@ mod moves;
 mod parts;
 mod path_text;
 mod places;
+mod quota_templates;
 mod quotas;
 mod removals;
 mod scanning;
@@ -36,6 +40,7 @@ mod screening;
 mod screens;
 mod states;
 mod threshold_lists;
+mod updates;
 mod usage;
 
 pub use engine::{Engine, Settings};

@@ -1,50 +1,133 @@
 //! Moves: what moves is taken from the quotas on the old way up and given to those on the new one.
 
-ghost use Rattle.std.specs.Prelude.{◌≡◌, ◌+◌, ◌*◌, ◌≤◌, ◌<◌, ◌==◌, [], true, false, length, IfOk, IfErr, OnOk, OnErr, Some, None};
+ghost use Rattle.std.specs.Prelude.{◌≡◌, ℕ, ◌+◌, ◌*◌, ◌≤◌, ◌||◌, nat_lt, true, length, is_some, IfErr, IfOk, IfSome, OnErr, OnOk, Some, None, option_map};
 ghost use Rattle.fsrm_model.specs.declared.command.Deed.TheVariants.{File};
 ghost use Rattle.fsrm_model.specs.declared.command.FileOp.TheVariants.{Move};
 ghost use Rattle.fsrm_model.specs.Capacities.{is_capacity};
+ghost use Rattle.fsrm_model.specs.Check.{first};
 ghost use Rattle.fsrm_model.specs.Cost.{deed_cost};
-ghost use Rattle.fsrm_model.specs.Limits.{latest_moment, longest_file};
-ghost use Rattle.fsrm_engine.specs.Machine.{Does, IsIdle, IsSound, IsWhole, rows_of};
+ghost use Rattle.fsrm_model.specs.FileWork.{file_effect, move_checks};
+ghost use Rattle.fsrm_model.specs.Limits.{latest_moment};
+ghost use Rattle.fsrm_model.specs.Text.{is_bare};
 ghost use Rattle.fsrm_base.specs.Keyed.{has_row};
-ghost use Rattle.fsrm_model.specs.Tree.{number as key, under};
+ghost use Rattle.fsrm_model.specs.Tree.{number as key, under, usage};
 ghost use Rattle.fsrm_model.specs.Valid.{IsVolume};
-ghost use Rattle.fsrm_engine.specs.Places.{IsMoved};
+ghost use Rattle.fsrm_engine.specs.Faults.{refused_answer};
+ghost use Rattle.fsrm_engine.specs.Machine.{Does, IsIdle, IsSound, IsWhole, rows_of};
+ghost use Rattle.fsrm_engine.specs.Moves.{IsMove, MayMove, change_of};
+ghost use Rattle.fsrm_engine.specs.Arrivals.{moved_source};
 
-use crate::exits::{refused, refused_by};
+use crate::exits::{refusal_of, refused};
 use crate::parts::Parts;
-use crate::places::place_at;
+use crate::places::{Place, place_at};
 use crate::screening::blocking;
 use crate::usage::usage_of;
+use file_screens::Blocked;
 use fsrm_model::{Answer, Ledger, NoMemory, Path, Refusal, Steps};
 use fsrm_objects::Objects;
 use quota_usage::Change;
 use std::alloc::Global;
-use volume_tree::Tree;
+use templates::Templates;
+use volume_tree::{ReadyMove, Tree};
 
-// The bytes that move with a node. If there is no quota, nothing asks for them, and none are summed.
+/// A node that moves, as it is before, and the place that it goes to.
+#[derive(Clone, Copy)]
+pub struct Moving<'a> {
+    pub node: u32,
+    pub parent: u32,
+    pub owner: u32,
+    pub folder: bool,
+    pub place: Place<'a>,
+}
+
+// The template of which a node gets a quota at its new place: a folder that has none, if an auto-apply quota gives it one there.
+fn moved_source(templates: &Templates, objects: &Objects, moving: &Moving<'_>) -> Option<u32>
+    ensures { result ≡ moved_source objects.now.quotas templates.now.autos moving.now.node moving.now.folder moving.now.place.folder moving.now.place.name.now }
+{
+    if !moving.folder {
+        return None;
+    }
+    let source = templates.applies(moving.place.folder, moving.place.name)?;
+    if objects.quota(moving.node).is_some() {
+        return None;
+    }
+    Some(source)
+}
+
+// The bytes that move with a node. If there is no quota, and none comes, nothing asks for them, and none are summed.
 fn moved_bytes<L: Ledger>(
     tree: &Tree,
     objects: &Objects,
     alloc: Global,
     node: u32,
+    source: Option<u32>,
     steps: &mut Steps<L>,
 ) -> Result<u64, NoMemory>
     requires volume { IsVolume tree.now.size tree.now.nodes }
     requires legal { is_capacity tree.now.size ≡ true }
     requires there { has_row key node tree.now.nodes ≡ true }
-    ensures bytes { IfOk result (λ bytes. IsMoved tree.now.size tree.now.nodes objects.now.quotas node bytes) }
+    ensures few { IfOk result (λ bytes. bytes ≤ usage tree.now.size tree.now.nodes node) }
+    ensures all { IfOk result (λ bytes. (is_some source || nat_lt 0 (length objects.now.quotas)) ≡ true → bytes ≡ usage tree.now.size tree.now.nodes node) }
     ensures looks { steps.new ≤ steps.old + 3 * length (under tree.now.nodes node) }
 {
-    if objects.quota_count() == 0 {
+    if source.is_none() && objects.quota_count() == 0 {
         return Ok(0);
     }
     usage_of(tree, alloc, node, steps)
 }
 
+// The answer to a move that isn't made. If no refusal is told memory ran out.
+fn unmade(why: Option<Refusal>) -> Result<Answer, NoMemory>
+    ensures { IfOk result (λ answer. option_map refused_answer why ≡ Some answer) }
+{
+    match why {
+        Some(refusal) => Ok(refused(refusal)),
+        None => Err(NoMemory),
+    }
+}
+
 impl Parts {
-    /// Moves a file, or a folder with all that is in it, if no screen blocks the file's new name and no quota refuses it.
+    // What is to move, and the move that the tree has ready. Or why it can't be made: None says that memory ran out.
+    fn ready_move<'a, L: Ledger>(
+        &self,
+        from: &Path,
+        to: &'a Path,
+        steps: &mut Steps<L>,
+    ) -> Result<(Moving<'a>, ReadyMove), Option<Refusal>>
+        requires { IsVolume self.now.tree.size self.now.tree.nodes }
+        ensures ok { IfOk result (λ found. IsMove self.now.tree from.now to.now found.0) }
+        ensures ready { IfOk result (λ found. found.1 ≡ record { node = found.0.node; folder = found.0.place.folder; name = found.0.place.name.now }) }
+        ensures err { IfErr result (λ why. IfSome why (λ refusal. (moment : ℕ) → first (move_checks self.now.tree.size (rows_of self.now) from.now to.now (file_effect (rows_of self.now) (Move from.now to.now) moment)) ≡ Some refusal)) }
+        ensures bare { IfErr result (λ why. IfSome why (λ refusal. is_bare refusal ≡ true)) }
+        ensures looks { steps.new ≤ steps.old + (22 * length from.now + 23 * length to.now + 26) }
+    {
+        let Some(node) = self.tree.resolve(from, steps) else {
+            return Err(Some(Refusal::PathNotFound));
+        };
+        if node == 0 {
+            return Err(Some(Refusal::InvalidMove));
+        }
+        let place = match place_at(&self.tree, to, steps) {
+            Ok(place) => place,
+            Err(refusal) => return Err(Some(refusal)),
+        };
+        let ready = match self.tree.ready_move(node, place.folder, place.name, steps) {
+            Ok(ready) => ready,
+            Err(fault) => return Err(refusal_of(fault)),
+        };
+        let view = self.tree.node(node, steps);
+        let moving = Moving {
+            node,
+            parent: view.parent,
+            owner: view.owner,
+            folder: view.folder,
+            place,
+        };
+        Ok((moving, ready))
+    }
+
+    /// Moves a file, or a folder with all that is in it, if no screen blocks the file's new name and no quota refuses it. A
+    /// folder gets a quota if its new place gives it one.
     pub(crate) fn move_path<L: Ledger>(
         &mut self,
         alloc: Global,
@@ -62,29 +145,22 @@ impl Parts {
         ensures sound { IsSound self.new }
         ensures looks { steps.new ≤ steps.old + deed_cost (rows_of self.old) (File (Move from.now to.now)) }
     {
-        let Some(node) = self.tree.resolve(from, steps) else {
-            return Ok(refused(Refusal::PathNotFound));
+        let (moving, ready) = match self.ready_move(from, to, steps) {
+            Ok(found) => found,
+            Err(why) => return unmade(why),
         };
-        if node == 0 {
-            return Ok(refused(Refusal::InvalidMove));
+        let source = moved_source(&self.templates, &self.objects, &moving);
+        if let Err(refusal) = self.may_come(source) {
+            return Ok(refused(refusal));
         }
-        let place = match place_at(&self.tree, to, steps) {
-            Ok(place) => place,
-            Err(refusal) => return Ok(refused(refusal)),
-        };
-        let ready = match self.tree.ready_move(node, place.folder, place.name, steps) {
-            Ok(ready) => ready,
-            Err(fault) => return refused_by(fault),
-        };
-        let view = self.tree.node(node, steps);
-        let (owner, parent, is_folder) = (view.owner, view.parent, view.folder);
-        let judged = self.judge_moved(is_folder, place.folder, place.name, steps);
+        let place = moving.place;
+        let judged = self.judge_moved(moving.folder, place.folder, place.name, steps);
         if let Some(active) = blocking(judged) {
-            return Ok(self.block(active, owner, place.folder, place.name, moment));
+            return Ok(self.block(active, moving.owner, place.folder, place.name, moment));
         }
-        let bytes = moved_bytes(&self.tree, &self.objects, alloc, node, steps)?;
+        let bytes = moved_bytes(&self.tree, &self.objects, alloc, moving.node, source, steps)?;
         let change = Change {
-            from: Some(parent),
+            from: Some(moving.parent),
             to: Some(place.folder),
             minus: bytes,
             plus: bytes,
@@ -92,9 +168,41 @@ impl Parts {
         if let Err(exceeded) = self.admit(&change, steps) {
             return Ok(self.refuse(exceeded, moment));
         }
+        self.make_move(
+            alloc, from, to, &moving, ready, source, judged, &change, moment, steps,
+        )
+    }
+
+    // Makes a move that nothing refuses.
+    fn make_move<L: Ledger>(
+        &mut self,
+        alloc: Global,
+        from: &Path,
+        to: &Path,
+        moving: &Moving<'_>,
+        ready: ReadyMove,
+        source: Option<u32>,
+        judged: Option<Blocked>,
+        change: &Change,
+        moment: u64,
+        steps: &mut Steps<L>,
+    ) -> Result<Answer, NoMemory>
+        requires whole { IsWhole self.old }
+        requires idle { IsIdle self.old }
+        requires moment { moment ≤ latest_moment }
+        requires after { self.old.last_moment ≤ moment }
+        requires may { MayMove self.old from.now to.now moving.now source judged change.now.minus }
+        requires change { change.now ≡ change_of moving.now change.now.minus }
+        requires ready { ready ≡ record { node = moving.now.node; folder = moving.now.place.folder; name = moving.now.place.name.now } }
+        ensures ok { IfOk result (λ answer. Does self.old self.new moment (File (Move from.now to.now)) answer) }
+        ensures err { OnErr result (self.new ≡ self.old) }
+        ensures sound { IsSound self.new }
+        ensures looks { steps.new ≤ steps.old + (4 * length (under self.old.tree.nodes moving.now.node) + 5 * (length from.now + length to.now) + 47) }
+    {
+        self.receive_moved(alloc, source, moving.node, moment, steps)?;
         self.scans
-            .follow_move(&self.tree, node, place.folder, steps);
+            .follow_move(&self.tree, moving.node, moving.place.folder, steps);
         self.tree.make_move(ready, steps);
-        Ok(self.end_named(judged, owner, place, &change, moment, steps))
+        Ok(self.end_named(judged, moving.owner, moving.place, change, moment, steps))
     }
 }

@@ -18,19 +18,21 @@ use number_set::NumberSet;
 use quota_usage::{Change, Exceeded, Usage};
 use rescan::Scans;
 use std::alloc::Global;
+use templates::Templates;
 use thresholds::Marks;
 use volume_tree::Tree;
 
 // What a new engine is set to, in minutes.
 const RUN_LIMIT: u32 = 60;
 
-/// The tree, the objects on it, the file groups, what is used below each quota that counts, the scans, the actions that wait,
-/// and the log of the names that screens judged.
+/// The tree, the objects on it, the file groups, the quota templates and the auto-apply quotas, what is used below each quota
+/// that counts, the scans, the actions that wait, and the log of the names that screens judged.
 #[derive(Drop)]
 pub struct Parts {
     pub(crate) tree: Tree,
     pub(crate) objects: Objects,
     pub(crate) groups: Groups,
+    pub(crate) templates: Templates,
     // What is used below each counting quota.
     pub(crate) usage: Usage,
     pub(crate) scans: Scans,
@@ -63,6 +65,7 @@ impl Parts {
             tree,
             objects: Objects::new(alloc),
             groups: Groups::new(alloc),
+            templates: Templates::new(alloc),
             usage,
             scans,
             marks,

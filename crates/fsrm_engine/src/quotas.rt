@@ -1,8 +1,8 @@
 //! The commands on quotas.
 
-ghost use Rattle.std.specs.Prelude.{◌≡◌, ◌+◌, ◌*◌, ◌≤◌, [], true, false, length, IfOk, OnErr, Some, None};
+ghost use Rattle.std.specs.Prelude.{◌≡◌, ◌+◌, ◌*◌, ◌≤◌, [], true, false, length, is_some, IfOk, OnErr, Some, None};
 ghost use Rattle.std.specs.List.{list_all};
-ghost use Rattle.std.specs.Option.{option_map_or};
+ghost use Rattle.std.specs.Option.{option_copied, option_map_or};
 ghost use Rattle.fsrm_base.specs.Keyed.{is_ascending};
 ghost use Rattle.fsrm_model.specs.declared.command.Deed.TheVariants.{QuotaAdd, QuotaModify, QuotaDelete, QuotaScan, QuotaResetpeak, QuotaList};
 ghost use Rattle.fsrm_model.specs.Cost.{deed_cost};
@@ -12,6 +12,7 @@ ghost use Rattle.fsrm_model.specs.QuotaStates.{is_disabled};
 ghost use Rattle.fsrm_model.specs.QuotaWork.{new_quota, modified, remarked};
 ghost use Rattle.fsrm_model.specs.Thresholds.{is_notice, is_percent, percent_of};
 ghost use Rattle.fsrm_engine.specs.Machine.{Does, IsIdle, IsSound, IsWhole, rows_of};
+ghost use Rattle.fsrm_engine.specs.Sources.{IsFirst};
 
 use crate::exits::{listing, passing, refused, refused_for};
 use crate::parts::Parts;
@@ -20,32 +21,24 @@ use crate::states::first_state;
 use crate::threshold_lists::{ThresholdChange, may_be_removed};
 use fsrm_model::{
     Answer, Ask, Duplicate, Ledger, List, NoMemory, Outcome, Path, QuotaRow, QuotaState, Refusal,
-    Steps,
+    Steps, Text,
 };
 use std::alloc::Global;
 
-// A new quota, with the thresholds that a command gives it.
-fn new_quota(
-    alloc: Global,
-    folder: u32,
-    limit: u64,
-    enforce: bool,
-    state: QuotaState,
-    change: &ThresholdChange<'_>,
-    moment: u64,
-) -> Result<QuotaRow, NoMemory>
-    ensures { IfOk result (λ row. row ≡ remarked change.now.removed.now change.now.percents.now change.now.notices.now (new_quota folder limit enforce state moment)) }
+// A hard quota without thresholds, whose limit is to come.
+fn new_quota(alloc: Global, folder: u32, state: QuotaState, moment: u64) -> QuotaRow
+    ensures { result ≡ new_quota folder 0 true state moment }
 {
-    Ok(QuotaRow {
+    QuotaRow {
         folder,
-        limit,
-        enforce,
+        limit: 0,
+        enforce: true,
         state,
-        thresholds: change.changed(alloc, &List::new(alloc))?,
+        thresholds: List::new(alloc),
         template: None,
         peak: 0,
         peak_at: moment,
-    })
+    }
 }
 
 // Whether a quota of this state is disabled.
@@ -79,7 +72,32 @@ fn modified(
 }
 
 impl Parts {
-    /// Makes a quota. It crosses no threshold: if it counts nothing is used.
+    // A folder's quota before the options of a command change it: that of a template, if one is named, else a hard one without
+    // thresholds. None if no template has the name.
+    fn first_quota(
+        &self,
+        alloc: Global,
+        source: Option<&Text>,
+        folder: u32,
+        state: QuotaState,
+        moment: u64,
+    ) -> Result<Option<QuotaRow>, NoMemory>
+        requires { IsWhole self.now }
+        ensures { IfOk result (λ first. IsFirst (rows_of self.now) (option_copied source.entry) folder state moment first) }
+    {
+        let Some(name) = source else {
+            return Ok(Some(new_quota(alloc, folder, state, moment)));
+        };
+        let Some(template) = self.template_named(name) else {
+            return Ok(None);
+        };
+        let number = template.number;
+        let mut row = self.templates.derive(alloc, number, folder, moment)?;
+        row.state = state;
+        Ok(Some(row))
+    }
+
+    /// Makes a quota, of a template if one is named. It crosses no threshold: if it counts nothing is used.
     pub(crate) fn quota_add<L: Ledger>(
         &mut self,
         alloc: Global,
@@ -87,31 +105,35 @@ impl Parts {
         limit: Option<u64>,
         enforce: Option<bool>,
         enabled: bool,
+        source: Option<&Text>,
         change: &ThresholdChange<'_>,
         moment: u64,
         steps: &mut Steps<L>,
     ) -> Result<Answer, NoMemory>
         requires whole { IsWhole self.old }
         requires idle { IsIdle self.old }
-        requires limit { option_map_or is_limit limit false ≡ true }
+        requires limit { option_map_or is_limit limit (is_some (option_copied source)) ≡ true }
         requires removed { change.now.removed.now ≡ [] }
         requires percents { list_all is_percent change.now.percents.now ≡ true }
         requires notices { list_all is_notice change.now.notices.now ≡ true }
         requires moment { moment ≤ latest_moment }
         requires after { self.old.last_moment ≤ moment }
-        ensures ok { IfOk result (λ answer. Does self.old self.new moment (QuotaAdd path.now limit enforce enabled None change.now.percents.now change.now.notices.now) answer) }
+        ensures ok { IfOk result (λ answer. Does self.old self.new moment (QuotaAdd path.now limit enforce enabled (option_copied source.entry) change.now.percents.now change.now.notices.now) answer) }
         ensures err { OnErr result (self.new ≡ self.old) }
         ensures sound { IsSound self.new }
-        ensures looks { steps.new ≤ steps.old + deed_cost (rows_of self.old) (QuotaAdd path.now limit enforce enabled None change.now.percents.now change.now.notices.now) }
+        ensures looks { steps.new ≤ steps.old + deed_cost (rows_of self.old) (QuotaAdd path.now limit enforce enabled (option_copied source.entry) change.now.percents.now change.now.notices.now) }
     {
         let Some(folder) = folder_at(&self.tree, path, steps) else {
             return Ok(refused(Refusal::PathNotFound));
         };
+        if self.objects.quota(folder).is_some() {
+            return Ok(refused(Refusal::AlreadyExists));
+        }
         let state = first_state(&self.tree, folder, enabled, steps);
-        // A command gives a limit, and a quota is hard if its type isn't given.
-        let limit = limit.unwrap();
-        let enforce = enforce.unwrap_or(true);
-        let row = new_quota(alloc, folder, limit, enforce, state, change, moment)?;
+        let Some(first) = self.first_quota(alloc, source, folder, state, moment)? else {
+            return Ok(refused(Refusal::NotFound));
+        };
+        let row = modified(alloc, &first, limit, enforce, change)?;
         match self.enlist(row) {
             Ok(()) => Ok(self.done(moment)),
             Err(fault) => refused_for(fault),
@@ -156,7 +178,7 @@ impl Parts {
             return refused_for(fault);
         }
         let used = self.usage.used(before.folder);
-        self.replace(row)?;
+        self.replace(row);
         self.settle_quota(before.folder, Some(&before), used, moment);
         Ok(self.done(moment))
     }
@@ -210,7 +232,7 @@ impl Parts {
         if is_disabled(state) {
             return Ok(refused(Refusal::InvalidCombination));
         }
-        self.rebuild(folder)?;
+        self.rebuild(folder);
         if state.counts() {
             return Ok(self.done(moment));
         }

@@ -7,6 +7,7 @@ ghost use Rattle.fsrm_model.specs.Cost.{deed_cost};
 ghost use Rattle.fsrm_model.specs.Limits.{latest_moment};
 ghost use Rattle.fsrm_model.specs.Tree.{resolve, is_folder};
 ghost use Rattle.fsrm_objects.specs.Tables.{without_except, without_screen};
+ghost use Rattle.templates.specs.Held.{without_auto};
 ghost use Rattle.fsrm_engine.specs.Machine.{Does, IsIdle, IsSound, IsWhole, rows_of};
 
 use crate::charging::drop_quota;
@@ -15,6 +16,7 @@ use crate::parts::Parts;
 use fsrm_model::{Answer, Ledger, Path, Refusal, Steps};
 use fsrm_objects::Objects;
 use quota_usage::Change;
+use templates::Templates;
 
 // Takes a folder's screen away, if it has one.
 fn drop_screen(objects: &mut Objects, folder: u32)
@@ -31,6 +33,15 @@ fn drop_except(objects: &mut Objects, folder: u32)
 {
     if objects.except(folder).is_some() {
         objects.drop_except(folder);
+    }
+}
+
+// Takes a folder's auto-apply quota away, if it has one.
+fn drop_auto(templates: &mut Templates, folder: u32)
+    ensures { templates.new ≡ without_auto templates.old folder }
+{
+    if templates.auto_at(folder).is_some() {
+        templates.drop_auto(folder);
     }
 }
 
@@ -82,7 +93,7 @@ impl Parts {
         self.done(moment)
     }
 
-    // Removes a folder, and with it its quota and its scan, its screen and its exception.
+    // Removes a folder, and with it its quota and its scan, its auto-apply quota, its screen and its exception.
     fn remove_folder<L: Ledger>(
         &mut self,
         path: &Path,
@@ -109,6 +120,7 @@ impl Parts {
         self.tree.remove(node, steps).unwrap();
         drop_quota(&mut self.usage, &mut self.objects, node);
         drop_screens(&mut self.objects, node);
+        drop_auto(&mut self.templates, node);
         self.done(moment)
     }
 }

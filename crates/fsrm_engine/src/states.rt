@@ -1,10 +1,12 @@
 //! The states of quotas, and the queue of those that wait for a scan.
 
-ghost use Rattle.std.specs.Prelude.{◌≡◌, ◌+◌, ◌≤◌, ◌<◌, if◌then◌else◌, true, false, IfErr, OnOk, OnErr, Some, None};
+ghost use Rattle.std.specs.Prelude.{◌≡◌, ◌+◌, ◌≤◌, ◌<◌, if◌then◌else◌, true, false, length, IfErr, IsErrOf, OnOk, OnErr, Some, None};
 ghost use Rattle.std.specs.List.{list_all};
 ghost use Rattle.fsrm_model.specs.declared.row.QuotaRow.{QuotaRow};
 ghost use Rattle.fsrm_model.specs.declared.row.QuotaState.TheVariants.{Disabled, Rebuilding};
 ghost use Rattle.fsrm_base.specs.Keyed.{has_row, is_ascending, row_of, with_row, with_change};
+ghost use Rattle.fsrm_base.specs.Numbers.{is_in};
+ghost use Rattle.fsrm_model.specs.Limits.{most_quotas};
 ghost use Rattle.fsrm_model.specs.Quota.{folder_of, counts, is_limit};
 ghost use Rattle.fsrm_model.specs.QuotaStates.{start, queued, state_of, state_after, in_state};
 ghost use Rattle.fsrm_model.specs.Thresholds.{are_thresholds, is_threshold, percent_of};
@@ -17,26 +19,23 @@ ghost use Rattle.fsrm_engine.specs.Faults.{text_room};
 ghost use Rattle.fsrm_engine.specs.Machine.{IsSound, IsWhole, Turned, rows_of};
 
 use crate::parts::Parts;
-use fsrm_model::{Ledger, NoMemory, QuotaRow, QuotaState, Steps};
+use fsrm_model::{Ledger, QuotaRow, QuotaState, Steps};
 use fsrm_objects::ObjectFault;
 use rescan::Scans;
 use volume_tree::Tree;
 
-// Has a folder's scan wait if its quota is rebuilding, and else not. An `Err` changes nothing.
-fn requeue(scans: &mut Scans, folder: u32, state: QuotaState) -> Result<(), NoMemory>
+// Has a folder's scan wait if its quota is rebuilding, and else not.
+fn requeue(scans: &mut Scans, folder: u32, state: QuotaState)
     requires room { folder < scans.old.front.room.nodes }
-    ensures queue { OnOk result (scans.new.queue ≡ queued scans.old.queue folder state) }
-    ensures turns { OnOk result ((v : Volume) → Scanning v scans.old → is_folder v.nodes folder ≡ true → Turns scans.old scans.new v) }
-    ensures err { OnErr result (scans.new ≡ scans.old) }
+    requires few { is_in scans.old.queue folder ≡ false → length scans.old.queue < most_quotas }
+    ensures queue { scans.new.queue ≡ queued scans.old.queue folder state }
+    ensures turns { (v : Volume) → Scanning v scans.old → is_folder v.nodes folder ≡ true → Turns scans.old scans.new v }
 {
     if state != QuotaState::Rebuilding {
         scans.leave(folder);
-        return Ok(());
+    } else if !scans.contains(folder) {
+        scans.push(folder);
     }
-    if scans.contains(folder) {
-        return Ok(());
-    }
-    scans.push(folder)
 }
 
 // The state in which a folder's quota begins if it is made or enabled.
@@ -105,25 +104,24 @@ impl Parts {
         requires thresholds { list_all is_threshold row.thresholds ≡ true }
         requires moment { is_moment row.peak_at ≡ true }
         requires nothing { counts row ≡ true → usage self.old.tree.size self.old.tree.nodes row.folder ≡ 0 }
+        requires waits { length self.old.scans.queue ≤ length self.old.objects.quotas }
         ensures listed { OnOk result (Turned self.old self.new (with_row folder_of row self.old.objects.quotas) (queued self.old.scans.queue row.folder row.state)) }
         ensures may { OnOk result (quota_fault self.old.objects row (text_room self.old) ≡ None) }
         ensures refused { IfErr result (λ fault. IsFault fault (quota_fault self.old.objects row (text_room self.old))) }
+        ensures full { IsErrOf result ObjectFault.NoMemory → self.old.objects.room ≤ length self.old.objects.quotas }
         ensures err { OnErr result (self.new ≡ self.old) }
         ensures sound { IsSound self.new }
     {
         let folder = row.folder;
         let state = row.state;
         self.add(row)?;
-        let Ok(()) = requeue(&mut self.scans, folder, state) else {
-            self.take_away(folder);
-            return Err(ObjectFault::NoMemory);
-        };
+        requeue(&mut self.scans, folder, state);
         Ok(())
     }
 
     /// Gives a folder this quota in place of the one that it has, with its peak. If it comes to count, nothing may be
-    /// used yet. An `Err` changes nothing.
-    pub(crate) fn replace(&mut self, row: QuotaRow) -> Result<(), NoMemory>
+    /// used yet.
+    pub(crate) fn replace(&mut self, row: QuotaRow)
         requires sound { IsSound self.old }
         requires there { has_row folder_of row.folder self.old.objects.quotas ≡ true }
         requires folder { is_folder self.old.tree.nodes row.folder ≡ true }
@@ -133,26 +131,24 @@ impl Parts {
         requires peak { (quota : QuotaRow) → row_of folder_of row.folder self.old.objects.quotas ≡ Some quota → row.peak ≡ quota.peak }
         requires nothing { (quota : QuotaRow) → row_of folder_of row.folder self.old.objects.quotas ≡ Some quota → counts quota ≡ false → counts row ≡ true → usage self.old.tree.size self.old.tree.nodes row.folder ≡ 0 }
         requires may { other_fault self.old.objects row (text_room self.old) ≡ None }
-        ensures replaced { OnOk result (Turned self.old self.new (with_change folder_of row.folder (λ old. row) self.old.objects.quotas) (queued self.old.scans.queue row.folder row.state)) }
-        ensures err { OnErr result (self.new ≡ self.old) }
+        requires few { is_in self.old.scans.queue row.folder ≡ false → length self.old.scans.queue < most_quotas }
+        ensures replaced { Turned self.old self.new (with_change folder_of row.folder (λ old. row) self.old.objects.quotas) (queued self.old.scans.queue row.folder row.state) }
         ensures sound { IsSound self.new }
     {
-        requeue(&mut self.scans, row.folder, row.state)?;
+        requeue(&mut self.scans, row.folder, row.state);
         self.put(row);
-        Ok(())
     }
 
-    /// Has a folder's quota wait for its scan. An `Err` changes nothing.
-    pub(crate) fn rebuild(&mut self, folder: u32) -> Result<(), NoMemory>
+    /// Has a folder's quota wait for its scan.
+    pub(crate) fn rebuild(&mut self, folder: u32)
         requires sound { IsSound self.old }
         requires there { has_row folder_of folder self.old.objects.quotas ≡ true }
         requires folder { is_folder self.old.tree.nodes folder ≡ true }
-        ensures rebuilt { OnOk result (Turned self.old self.new (with_change folder_of folder (in_state Rebuilding) self.old.objects.quotas) (queued self.old.scans.queue folder Rebuilding)) }
-        ensures err { OnErr result (self.new ≡ self.old) }
+        requires few { is_in self.old.scans.queue folder ≡ false → length self.old.scans.queue < most_quotas }
+        ensures rebuilt { Turned self.old self.new (with_change folder_of folder (in_state Rebuilding) self.old.objects.quotas) (queued self.old.scans.queue folder Rebuilding) }
         ensures sound { IsSound self.new }
     {
-        requeue(&mut self.scans, folder, QuotaState::Rebuilding)?;
+        requeue(&mut self.scans, folder, QuotaState::Rebuilding);
         self.uncount(folder);
-        Ok(())
     }
 }

@@ -4,5 +4,6 @@ pub mod lines
 pub mod nodes
 pub mod thresholds
 pub mod screens
+pub mod templates
 pub mod valid
 pub mod FirstNames

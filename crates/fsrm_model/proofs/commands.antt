@@ -1,4 +1,5 @@
 pub mod AdminCommands
+pub mod AutoCommands
 pub mod GroupCommands
 pub mod ScreenCommands
 pub mod EachCommand
@@ -12,3 +13,4 @@ pub mod QuotaCommands
 pub mod QuotaLaws
 pub mod ScanCommands
 pub mod StepActs
+pub mod TemplateCommands

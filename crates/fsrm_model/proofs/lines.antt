@@ -8,8 +8,10 @@ pub mod PathLaws
 pub mod ReadLaws
 pub mod SpelledOptions
 pub mod SpelledScreens
+pub mod SpelledTemplates
 pub mod SpelledValues
 pub mod SpellingLaws
+pub mod TemplateWordLaws
 pub mod ValueLaws
 pub mod WordLaws
 pub mod ScriptLaws

@@ -6,4 +6,5 @@ pub mod ReachedLaws
 pub mod RunLaws
 pub mod SettleLaws
 pub mod ThresholdLaws
+pub mod UnrunKept
 pub mod UnrunLaws

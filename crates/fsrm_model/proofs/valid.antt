@@ -1,8 +1,11 @@
 pub mod CapacityLaws
+pub mod ComingQuotas
+pub mod NamesApart
 pub mod QueueKept
 pub mod QuotasKept
 pub mod RowsKept
 pub mod ScreensKept
+pub mod TemplatesKept
 pub mod UnvisitedKept
 pub mod ValidLaws
 pub mod ValidTests

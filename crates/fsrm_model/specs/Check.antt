@@ -4,7 +4,7 @@ use Rattle.fsrm_model.specs.declared.row.Capacity.{Capacity}
 use Rattle.fsrm_model.specs.declared.row.Rows.{Rows}
 use Rattle.fsrm_model.specs.declared.command.Refusal.{Refusal}
 use Rattle.fsrm_model.specs.declared.command.Refusal.TheVariants.{VolumeFull, NamesFull, TableFull, TextsFull}
-use Rattle.fsrm_model.specs.Limits.{most_quotas, most_groups, most_screens, most_excepts, most_text_bytes}
+use Rattle.fsrm_model.specs.Limits.{most_quotas, most_templates, most_autos, most_groups, most_screens, most_excepts, most_text_bytes}
 use Rattle.fsrm_model.specs.Texts.{object_texts}
 use Rattle.fsrm_model.specs.Tree.{name_bytes}
 pub use Rattle.fsrm_base.specs.Causes.{◌when◌, first}
@@ -22,6 +22,12 @@ names_full K after = NamesFull when nat_lt K.names (name_bytes after.nodes)
 
 abbrev pub table_full : Rows → Check
 table_full after = TableFull when nat_lt most_quotas (length after.quotas)
+
+abbrev pub templates_full : Rows → Check
+templates_full after = TableFull when nat_lt most_templates (length after.templates)
+
+abbrev pub autos_full : Rows → Check
+autos_full after = TableFull when nat_lt most_autos (length after.autos)
 
 abbrev pub groups_full : Rows → Check
 groups_full after = TableFull when nat_lt most_groups (length after.groups)

@@ -1,29 +1,33 @@
 -- What there is to say of each command by itself: its paths and its other values, its entry in a journal, its work, and the
 -- looks that it may take.
-use Rattle.std.specs.Prelude.{ℕ, ◌+◌, ◌*◌, ◌&&◌, nat_lt, nat_le, Bool, true, false, List, [], ◌∷◌, length, sum_by, Option, Some, None, option_map, option_to_list, is_none, if◌then◌else◌}
+use Rattle.std.specs.Prelude.{ℕ, ◌+◌, ◌*◌, ◌&&◌, nat_lt, nat_le, Bool, true, false, List, [], ◌∷◌, length, sum_by, Option, Some, None, option_map, option_to_list, is_some, if◌then◌else◌}
 use Rattle.std.specs.List.{list_all}
 use Rattle.std.specs.Option.{option_map_or}
 use Rattle.fsrm_model.specs.declared.row.Capacity.{Capacity}
 use Rattle.fsrm_model.specs.declared.row.NodeRow.{NodeRow}
 use Rattle.fsrm_model.specs.declared.row.Rows.{Rows}
 use Rattle.fsrm_model.specs.declared.command.Deed.{Deed}
-use Rattle.fsrm_model.specs.declared.command.Deed.TheVariants.{File, Usage, Step, QuotaAdd, QuotaModify, QuotaDelete, QuotaScan, QuotaResetpeak, QuotaList, AdminOptions, AdminList, AdminLog, FilegroupAdd, FilegroupModify, FilegroupDelete, FilegroupList, ScreenAdd, ScreenModify, ScreenDelete, ScreenList, ExceptionAdd, ExceptionDelete, ExceptionList}
+use Rattle.fsrm_model.specs.declared.command.Deed.TheVariants.{File, Usage, Step, QuotaAdd, QuotaModify, QuotaDelete, QuotaScan, QuotaResetpeak, QuotaList, TemplateAdd, TemplateModify, TemplateDelete, TemplateList, AutoquotaAdd, AutoquotaDelete, AutoquotaList, AdminOptions, AdminList, AdminLog, FilegroupAdd, FilegroupModify, FilegroupDelete, FilegroupList, ScreenAdd, ScreenModify, ScreenDelete, ScreenList, ExceptionAdd, ExceptionDelete, ExceptionList}
 use Rattle.fsrm_model.specs.declared.command.FileOp.{FileOp}
 use Rattle.fsrm_model.specs.declared.command.FileOp.TheVariants.{Mkdir, Create, Resize, Touch, Move, Remove}
+use Rattle.fsrm_model.specs.declared.command.Update.TheVariants.{Keep}
 use Rattle.fsrm_model.specs.AdminWork.{options_work, settings_work, log_work}
+use Rattle.fsrm_model.specs.AutoWork.{auto_add_work, auto_delete_work, auto_list_work}
 use Rattle.fsrm_model.specs.Entry.{Path, number_bytes, choice_bytes, text_bytes, path_bytes, optional, counted, notice_bytes, screen_notice_bytes}
 use Rattle.fsrm_model.specs.FileOps.{target}
 use Rattle.fsrm_model.specs.FileWork.{file_work, usage_work}
 use Rattle.fsrm_model.specs.GroupWork.{group_add_work, group_modify_work, group_delete_work, group_list_work}
 use Rattle.fsrm_model.specs.Leads.{leads, leads_to_folder}
-use Rattle.fsrm_model.specs.Limits.{longest_file, last_owner, most_visits, most_minutes}
+use Rattle.fsrm_model.specs.Limits.{longest_file, last_owner, most_visits, most_minutes, most_excluded}
+use Rattle.fsrm_model.specs.Name.{is_name}
 use Rattle.fsrm_model.specs.Patterns.{is_object_name, are_members, are_non_members}
 use Rattle.fsrm_model.specs.Quota.{is_limit}
 use Rattle.fsrm_model.specs.QuotaWork.{add_work, modify_work, delete_work, reset_work, list_work}
 use Rattle.fsrm_model.specs.ScanWork.{scan_work, step_work}
 use Rattle.fsrm_model.specs.ScreenWork.{screen_add_work, screen_modify_work, screen_delete_work, screen_list_work, except_add_work, except_delete_work, except_list_work}
+use Rattle.fsrm_model.specs.TemplateWork.{template_add_work, template_modify_work, template_delete_work, template_list_work}
 use Rattle.fsrm_model.specs.Thresholds.{is_percent, is_new_action, is_notice}
-use Rattle.fsrm_model.specs.Tree.{under}
+use Rattle.fsrm_model.specs.Tree.{children, under}
 use Rattle.fsrm_model.specs.Work.{Work}
 
 -- the paths of a command
@@ -45,6 +49,13 @@ paths (QuotaDelete path) = path ∷ []
 paths (QuotaScan path) = path ∷ []
 paths (QuotaResetpeak path) = path ∷ []
 paths (QuotaList path) = option_to_list path
+paths (TemplateAdd name limit enforce percents notices) = []
+paths (TemplateModify name limit enforce removed percents notices mode) = []
+paths (TemplateDelete name) = []
+paths TemplateList = []
+paths (AutoquotaAdd path name excluded) = path ∷ []
+paths (AutoquotaDelete path) = path ∷ []
+paths AutoquotaList = []
 paths (AdminOptions minutes) = []
 paths AdminList = []
 paths AdminLog = []
@@ -79,19 +90,29 @@ has_values_of_op (Remove path) = true
 abbrev pub are_some_names : List (List ℕ) → Bool
 are_some_names names = nat_lt 0 (length names) && list_all is_object_name names
 
--- a new quota must have a limit. No template can be given yet. A new screen and a new exception must have a group
+-- a new quota must have a limit or a template. A new screen and a new exception must have a group
 abbrev pub has_values : Deed → Bool
 has_values (File op) = has_values_of_op op
 has_values (Usage path) = true
 has_values (Step n) = nat_le 1 n && nat_le n most_visits
 has_values (QuotaAdd path limit enforce enabled template percents notices) =
-    option_map_or is_limit limit false && (is_none template && (list_all is_percent percents && list_all is_notice notices))
+    (option_map_or is_limit limit (is_some template) && option_map_or is_object_name template true)
+    && (list_all is_percent percents && list_all is_notice notices)
 has_values (QuotaModify path limit enforce enabled removed percents notices) =
     option_map_or is_limit limit true && (list_all is_percent removed && (list_all is_percent percents && list_all is_notice notices))
 has_values (QuotaDelete path) = true
 has_values (QuotaScan path) = true
 has_values (QuotaResetpeak path) = true
 has_values (QuotaList path) = true
+has_values (TemplateAdd name limit enforce percents notices) =
+    is_object_name name && (is_limit limit && (list_all is_percent percents && list_all is_notice notices))
+has_values (TemplateModify name limit enforce removed percents notices mode) =
+    is_object_name name && (option_map_or is_limit limit true && (list_all is_percent removed && (list_all is_percent percents && list_all is_notice notices)))
+has_values (TemplateDelete name) = is_object_name name
+has_values TemplateList = true
+has_values (AutoquotaAdd path name excluded) = is_object_name name && (nat_le (length excluded) most_excluded && list_all is_name excluded)
+has_values (AutoquotaDelete path) = true
+has_values AutoquotaList = true
 has_values (AdminOptions minutes) = nat_le minutes most_minutes
 has_values AdminList = true
 has_values AdminLog = true
@@ -126,6 +147,13 @@ emptied (QuotaDelete path) = QuotaDelete []
 emptied (QuotaScan path) = QuotaScan []
 emptied (QuotaResetpeak path) = QuotaResetpeak []
 emptied (QuotaList path) = QuotaList None
+emptied (TemplateAdd name limit enforce percents notices) = TemplateAdd [] 0 false [] []
+emptied (TemplateModify name limit enforce removed percents notices mode) = TemplateModify [] None None [] [] [] Keep
+emptied (TemplateDelete name) = TemplateDelete []
+emptied TemplateList = TemplateList
+emptied (AutoquotaAdd path name excluded) = AutoquotaAdd [] [] []
+emptied (AutoquotaDelete path) = AutoquotaDelete []
+emptied AutoquotaList = AutoquotaList
 emptied (AdminOptions minutes) = AdminOptions 0
 emptied AdminList = AdminList
 emptied AdminLog = AdminLog
@@ -161,6 +189,13 @@ kind (QuotaDelete path) = Some 12
 kind (QuotaScan path) = Some 13
 kind (QuotaResetpeak path) = Some 14
 kind (QuotaList path) = None
+kind (TemplateAdd name limit enforce percents notices) = Some 20
+kind (TemplateModify name limit enforce removed percents notices mode) = Some 21
+kind (TemplateDelete name) = Some 22
+kind TemplateList = None
+kind (AutoquotaAdd path name excluded) = Some 30
+kind (AutoquotaDelete path) = Some 31
+kind AutoquotaList = None
 kind (AdminOptions minutes) = Some 35
 kind AdminList = None
 kind AdminLog = None
@@ -199,6 +234,16 @@ more_bytes (QuotaDelete path) = 0
 more_bytes (QuotaScan path) = 0
 more_bytes (QuotaResetpeak path) = 0
 more_bytes (QuotaList path) = 0
+more_bytes (TemplateAdd name limit enforce percents notices) =
+    text_bytes name + (number_bytes + (choice_bytes + (counted (λ n. number_bytes) percents + counted notice_bytes notices)))
+more_bytes (TemplateModify name limit enforce removed percents notices mode) =
+    text_bytes name + (optional (λ n. number_bytes) limit + (optional (λ b. choice_bytes) enforce
+    + (counted (λ n. number_bytes) removed + (counted (λ n. number_bytes) percents + (counted notice_bytes notices + choice_bytes)))))
+more_bytes (TemplateDelete name) = text_bytes name
+more_bytes TemplateList = 0
+more_bytes (AutoquotaAdd path name excluded) = text_bytes name + counted text_bytes excluded
+more_bytes (AutoquotaDelete path) = 0
+more_bytes AutoquotaList = 0
 more_bytes (AdminOptions minutes) = number_bytes
 more_bytes AdminList = 0
 more_bytes AdminLog = 0
@@ -224,13 +269,21 @@ work K R moment (File op) = file_work K R op moment
 work K R moment (Usage path) = usage_work K R path
 work K R moment (Step n) = step_work K R n
 work K R moment (QuotaAdd path limit enforce enabled template percents notices) =
-    add_work R moment path limit enforce enabled percents notices
+    add_work R moment path limit enforce enabled template percents notices
 work K R moment (QuotaModify path limit enforce enabled removed percents notices) =
     modify_work R path limit enforce enabled removed percents notices
 work K R moment (QuotaDelete path) = delete_work R path
 work K R moment (QuotaScan path) = scan_work R path
 work K R moment (QuotaResetpeak path) = reset_work K R moment path
 work K R moment (QuotaList path) = list_work R path
+work K R moment (TemplateAdd name limit enforce percents notices) = template_add_work R name limit enforce percents notices
+work K R moment (TemplateModify name limit enforce removed percents notices mode) =
+    template_modify_work R name limit enforce removed percents notices mode
+work K R moment (TemplateDelete name) = template_delete_work R name
+work K R moment TemplateList = template_list_work R
+work K R moment (AutoquotaAdd path name excluded) = auto_add_work R moment path name excluded
+work K R moment (AutoquotaDelete path) = auto_delete_work R path
+work K R moment AutoquotaList = auto_list_work R
 work K R moment (AdminOptions minutes) = options_work R minutes
 work K R moment AdminList = settings_work R
 work K R moment AdminLog = log_work R
@@ -246,7 +299,8 @@ work K R moment (ExceptionAdd path groups) = except_add_work R path groups
 work K R moment (ExceptionDelete path) = except_delete_work R path
 work K R moment ExceptionList = except_list_work R
 
--- a folder that moves is looked through up to 8 times, a node that is summed up to 4 times
+-- a folder that moves is looked through up to 8 times, a node that is summed up to 4 times, and each child of a folder that gets an
+-- auto-apply quota up to 4 times
 abbrev pub op_cost : List NodeRow → FileOp → ℕ
 op_cost nodes (Mkdir path owner) = 0
 op_cost nodes (Create path length owner) = 0
@@ -266,6 +320,13 @@ more_cost nodes (QuotaDelete path) = 0
 more_cost nodes (QuotaScan path) = 0
 more_cost nodes (QuotaResetpeak path) = 0
 more_cost nodes (QuotaList path) = 0
+more_cost nodes (TemplateAdd name limit enforce percents notices) = 0
+more_cost nodes (TemplateModify name limit enforce removed percents notices mode) = 0
+more_cost nodes (TemplateDelete name) = 0
+more_cost nodes TemplateList = 0
+more_cost nodes (AutoquotaAdd path name excluded) = if leads_to_folder nodes path then 4 * length (children nodes (target nodes path)) else 0
+more_cost nodes (AutoquotaDelete path) = 0
+more_cost nodes AutoquotaList = 0
 more_cost nodes (AdminOptions minutes) = 0
 more_cost nodes AdminList = 0
 more_cost nodes AdminLog = 0

@@ -8,7 +8,7 @@ use Rattle.fsrm_model.specs.declared.command.Deed.{Deed}
 use Rattle.fsrm_model.specs.declared.command.Deed.TheVariants.{Step}
 use Rattle.fsrm_model.specs.declared.command.Outcome.{Outcome}
 use Rattle.fsrm_model.specs.declared.command.Ask.{Ask}
-use Rattle.fsrm_model.specs.declared.command.Ask.TheVariants.{Quotas, Groups, Screens, Excepts, Settings, Acts}
+use Rattle.fsrm_model.specs.declared.command.Ask.TheVariants.{Quotas, Templates, Autos, Groups, Screens, Excepts, Settings, Acts}
 use Rattle.fsrm_model.specs.declared.command.Outcome.TheVariants.{Done, Sum, Listing, Scanned, Refused}
 use Rattle.fsrm_model.specs.declared.command.Refusal.TheVariants.{ScreenBlocked, QuotaExceeded}
 use Rattle.fsrm_base.specs.Numbers.{without_numbers}
@@ -46,6 +46,8 @@ path_cost nodes n = 4 * (length (path_of nodes n) + 1)
 -- the looks at all paths of a list
 abbrev pub list_cost : Rows → Ask → ℕ
 list_cost R (Quotas folder) = sum_by (λ quota. path_cost R.nodes quota.folder) (asked folder R.quotas)
+list_cost R Templates = 0
+list_cost R Autos = sum_by (λ auto. path_cost R.nodes auto.folder) R.autos
 list_cost R Groups = 0
 list_cost R Screens = sum_by (λ screen. path_cost R.nodes screen.folder) R.screens
 list_cost R Excepts = sum_by (λ except. path_cost R.nodes except.folder) R.excepts

@@ -1,16 +1,18 @@
 -- File operations and sums: their refusals in order, and what they do.
-use Rattle.std.specs.Prelude.{ℕ, ◌==◌, ◌&&◌, not, true, false, List, [], ◌∷◌, ◌++◌, length, Option, None, option_map, if◌then◌else◌}
+use Rattle.std.specs.Prelude.{ℕ, ◌==◌, ◌&&◌, not, true, false, List, [], ◌∷◌, ◌++◌, length, Option, None, option_map, option_to_list, if◌then◌else◌}
 use Rattle.std.specs.Option.{option_map_or, option_and_then}
 use Rattle.fsrm_model.specs.declared.row.Capacity.{Capacity}
 use Rattle.fsrm_model.specs.declared.row.NodeRow.{NodeRow}
+use Rattle.fsrm_model.specs.declared.row.QuotaRow.{QuotaRow}
 use Rattle.fsrm_model.specs.declared.row.Rows.{Rows}
 use Rattle.fsrm_model.specs.declared.command.FileOp.{FileOp}
 use Rattle.fsrm_model.specs.declared.command.FileOp.TheVariants.{Mkdir, Create, Resize, Touch, Move, Remove}
 use Rattle.fsrm_model.specs.declared.command.Refusal.TheVariants.{PathNotFound, AlreadyExists, NotEmpty, InvalidMove, ScreenBlocked}
 use Rattle.fsrm_model.specs.declared.command.Outcome.TheVariants.{Done, Sum}
-use Rattle.fsrm_model.specs.Tree.{folder_part, last_name, owner_of, usage, children, is_under}
+use Rattle.fsrm_model.specs.Tree.{folder_part, last_name, fresh, owner_of, usage, children, is_under}
+use Rattle.fsrm_model.specs.AutoApply.{applied, with_quotas, without_auto}
 use Rattle.fsrm_model.specs.FileOps.{plain, new_node, target, target_folder}
-use Rattle.fsrm_model.specs.Check.{Check, ◌when◌, volume_full, names_full}
+use Rattle.fsrm_model.specs.Check.{Check, ◌when◌, volume_full, names_full, table_full, texts_full}
 use Rattle.fsrm_base.specs.Numbers.{without_number}
 use Rattle.fsrm_model.specs.Quota.{exceeded}
 use Rattle.fsrm_model.specs.QuotaStates.{head, without_quota}
@@ -58,7 +60,7 @@ move_checks K R from to after =
     ∷ (PathNotFound when not (leads_to_folder R.nodes (folder_part to)))
     ∷ (InvalidMove when leads_to_folder R.nodes from && is_under R.nodes (target R.nodes from) (target_folder R.nodes to))
     ∷ (AlreadyExists when leads_to_other R.nodes to (target R.nodes from))
-    ∷ names_full K after ∷ blocked (judged_name R (Move from to)) ∷ exceeded K R after.nodes ∷ []
+    ∷ names_full K after ∷ table_full after ∷ texts_full after ∷ blocked (judged_name R (Move from to)) ∷ exceeded K R after.nodes ∷ []
 
 -- the refusals of a removal
 abbrev pub remove_checks : Rows → List (List ℕ) → List Check
@@ -69,7 +71,7 @@ remove_checks R path =
 
 -- the refusals of a file operation that would leave the rows `after`
 abbrev pub file_checks : Capacity → Rows → FileOp → Rows → List Check
-file_checks K R (Mkdir path owner) after = new_checks K R path after
+file_checks K R (Mkdir path owner) after = new_checks K R path after ++ table_full after ∷ texts_full after ∷ []
 file_checks K R (Create path length owner) after =
     new_checks K R path after ++ blocked (judged_name R (Create path length owner)) ∷ exceeded K R after.nodes ∷ []
 file_checks K R (Resize path length) after = (PathNotFound when not (leads_to_file R.nodes path)) ∷ exceeded K R after.nodes ∷ []
@@ -90,16 +92,26 @@ unvisited_in R nodes other scanned = R.unvisited
 abbrev pub unvisited_after : Rows → List NodeRow → FileOp → List ℕ
 unvisited_after R nodes op = option_map_or (unvisited_in R nodes op) (head R.queue) []
 
--- the quota of a folder, its screen and its exception go with it
+-- the objects of a folder go with it: its quota, its auto-apply quota, its screen and its exception
+abbrev pub without_objects : Rows → ℕ → Rows
+without_objects R folder = without_screens (without_auto (without_quota R folder) folder) folder
+
 abbrev pub objects_after : FileOp → Rows → Rows → Rows
-objects_after (Remove path) R after = without_screens (without_quota after (target R.nodes path)) (target R.nodes path)
+objects_after (Remove path) R after = without_objects after (target R.nodes path)
 objects_after other R after = after
+
+-- the quota that a folder gets when it is made or moved, also within its own parent: by the folder that it stands in then
+abbrev pub coming_quotas : FileOp → Rows → Rows → ℕ → List QuotaRow
+coming_quotas (Mkdir path owner) R after moment = option_to_list (applied after moment (fresh R.nodes))
+coming_quotas (Move from to) R after moment = if leads_to_folder R.nodes from then option_to_list (applied after moment (target R.nodes from)) else []
+coming_quotas other R after moment = []
 
 -- the rows that a file operation leaves
 abbrev pub file_effect : Rows → FileOp → ℕ → Rows
 file_effect R op moment =
     let nodes = plain R.nodes op moment in
-    objects_after op R (record R { nodes = nodes; unvisited = unvisited_after R nodes op })
+    let after = objects_after op R (record R { nodes = nodes; unvisited = unvisited_after R nodes op }) in
+    with_quotas after (coming_quotas op R after moment)
 
 -- a file operation lasts if it is accepted, and answers no more than that it was done, and which passive screen reports it
 abbrev pub file_work : Capacity → Rows → FileOp → ℕ → Work

@@ -9,6 +9,9 @@ pub mod Texts
 pub mod Patterns
 pub mod Screens
 pub mod Judges
+pub mod Templates
+pub mod AutoApply
+pub mod Derives
 pub mod Valid
 pub mod Entry
 pub mod ValidScans
@@ -26,6 +29,8 @@ pub mod ScanWork
 pub mod AdminWork
 pub mod GroupWork
 pub mod ScreenWork
+pub mod TemplateWork
+pub mod AutoWork
 pub mod Thresholds
 pub mod Acts
 pub mod Reached
@@ -44,11 +49,13 @@ pub mod ActionWords
 pub mod ActText
 pub mod SettingsText
 pub mod ScreenText
+pub mod TemplateText
 pub mod Text
 pub mod Reading
 pub mod PathNames
 pub mod Words
 pub mod GroupWords
+pub mod TemplateWords
 pub mod Options
 pub mod Tools
 pub mod Line
@@ -57,5 +64,6 @@ pub mod Script
 pub mod WorkedRows
 pub mod WorkedThresholds
 pub mod WorkedScreens
+pub mod WorkedTemplates
 pub mod ValidRows
 pub mod Lasting

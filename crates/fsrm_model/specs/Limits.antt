@@ -47,7 +47,7 @@ greatest_limit = 2 ^ 60
 abbrev pub most_quotas : ℕ
 most_quotas = 4096
 
--- the greatest percentage of a threshold, how many thresholds a quota may have, how many actions each of them or a screen, and
+-- the greatest percentage of a threshold, how many thresholds a quota or a template may have, how many actions each of them or a screen, and
 -- the bytes of the longest text of an action
 abbrev pub greatest_percent : ℕ
 greatest_percent = 250
@@ -60,6 +60,16 @@ most_actions = 8
 
 abbrev pub longest_action_text : ℕ
 longest_action_text = 1024
+
+-- how many templates and auto-apply quotas there may be, and how many names each of these may exclude
+abbrev pub most_templates : ℕ
+most_templates = 1024
+
+abbrev pub most_autos : ℕ
+most_autos = 1024
+
+abbrev pub most_excluded : ℕ
+most_excluded = 32
 
 -- how many groups there may be, and how many members or non-members each of them
 abbrev pub most_groups : ℕ

@@ -15,6 +15,15 @@ folded text = map simple_fold (chars text)
 abbrev pub same_name : List ℕ → List ℕ → Bool
 same_name a b = bytes_eq (folded a) (folded b)
 
+-- whether a row has a name, in any spelling
+abbrev pub is_named : {X : Type 0} → (X → List ℕ) → List ℕ → X → Bool
+is_named name_in name row = same_name (name_in row) name
+
+-- whether each name is that of one row only
+abbrev pub names_differ : {X : Type 0} → (X → List ℕ) → List X → Bool
+names_differ name_in [] = true
+names_differ name_in (row ∷ rows) = not (list_any (is_named name_in (name_in row)) rows) && names_differ name_in rows
+
 -- whether two paths spell the same names
 abbrev pub same_names : List (List ℕ) → List (List ℕ) → Bool
 same_names [] [] = true

@@ -1,6 +1,6 @@
 -- The nodes and objects that an outcome names: each of them is there.
 use Rattle.std.specs.Prelude.{◌≡◌, ℕ, true, Some, None}
-use Rattle.fsrm_model.specs.declared.command.Ask.TheVariants.{Quotas, Groups, Screens, Excepts, Settings, Acts}
+use Rattle.fsrm_model.specs.declared.command.Ask.TheVariants.{Quotas, Templates, Autos, Groups, Screens, Excepts, Settings, Acts}
 use Rattle.fsrm_model.specs.declared.command.Outcome.{Outcome}
 use Rattle.fsrm_model.specs.declared.command.Outcome.TheVariants.{Done, Sum, Listing, Scanned, Refused}
 use Rattle.fsrm_model.specs.declared.command.Refusal.TheVariants.{ScreenBlocked, QuotaExceeded}
@@ -18,6 +18,8 @@ IsNamed R (Done (Some screen)) = IsNode R screen
 IsNamed R (Sum node bytes) = IsNode R node
 IsNamed R (Listing (Quotas None)) = Unit {0}
 IsNamed R (Listing (Quotas (Some folder))) = has_row folder_of folder R.quotas ≡ true
+IsNamed R (Listing Templates) = Unit {0}
+IsNamed R (Listing Autos) = Unit {0}
 IsNamed R (Listing Groups) = Unit {0}
 IsNamed R (Listing Screens) = Unit {0}
 IsNamed R (Listing Excepts) = Unit {0}

@@ -1,16 +1,18 @@
 -- The options of the tools' commands: words of the form /Name:value, in any order. Each may be given once, or any
--- number of times if it may repeat.
-use Rattle.std.specs.Prelude.{ℕ, ◌==◌, ◌||◌, not, Bool, true, false, List, [], ◌∷◌, ◌++◌, find, filter_map, codes, Ok, Option, Some, None, is_some, if◌then◌else◌}
+-- number of times if it may repeat, but for names that are excluded: 32 of them at most.
+use Rattle.std.specs.Prelude.{ℕ, ◌==◌, ◌||◌, not, nat_le, Bool, true, false, List, [], ◌∷◌, ◌++◌, count_by, find, filter_map, codes, Ok, Option, Some, None, is_some, if◌then◌else◌}
 use Rattle.std.specs.List.{list_any, before_first, after_first}
 use Rattle.std.specs.Option.{option_or}
 use Rattle.std.specs.Str.{str_eq_ignore_ascii_case}
 use Rattle.fsrm_model.specs.declared.command.Added.{Added}
-use Rattle.fsrm_model.specs.declared.command.Refusal.TheVariants.{BadLine}
+use Rattle.fsrm_model.specs.declared.command.Refusal.TheVariants.{BadLine, OutOfRange}
+use Rattle.fsrm_model.specs.declared.command.Update.{Update}
 use Rattle.fsrm_model.specs.declared.row.Action.{Action}
 use Rattle.fsrm_model.specs.ActionWords.{percent_from, action_from, notice_from}
 use Rattle.fsrm_model.specs.GroupWords.{object_from, patterns_from, non_members_from}
-use Rattle.fsrm_model.specs.Limits.{most_minutes}
+use Rattle.fsrm_model.specs.Limits.{most_excluded, most_minutes}
 use Rattle.fsrm_model.specs.Reading.{Read, ◌>>=◌, guarded, known, number_from, path_from, limit_from, choice_from}
+use Rattle.fsrm_model.specs.TemplateWords.{update_from, name_from}
 use Rattle.fsrm_model.specs.Words.{Word}
 
 -- which option it is
@@ -22,6 +24,10 @@ pub data Key : Type 0 where
   TheRemoval : Key
   ThePercent : Key
   TheNotice : Key
+  TheTemplate : Key
+  TheSource : Key
+  TheUpdate : Key
+  TheExclusion : Key
   TheRunLimit : Key
   TheGroup : Key
   TheMembers : Key
@@ -41,6 +47,10 @@ key_name TheStatus = codes "/Status"
 key_name TheRemoval = codes "/Remove-Threshold"
 key_name ThePercent = codes "/Add-Threshold"
 key_name TheNotice = codes "/Add-Notification"
+key_name TheTemplate = codes "/Template"
+key_name TheSource = codes "/SourceTemplate"
+key_name TheUpdate = codes "/UpdateDerived"
+key_name TheExclusion = codes "/Exclude"
 key_name TheRunLimit = codes "/RunLimitInterval"
 key_name TheGroup = codes "/Filegroup"
 key_name TheMembers = codes "/Members"
@@ -59,6 +69,10 @@ may_repeat TheStatus = false
 may_repeat TheRemoval = true
 may_repeat ThePercent = true
 may_repeat TheNotice = true
+may_repeat TheTemplate = false
+may_repeat TheSource = false
+may_repeat TheUpdate = false
+may_repeat TheExclusion = true
 may_repeat TheRunLimit = false
 may_repeat TheGroup = false
 may_repeat TheMembers = false
@@ -77,6 +91,10 @@ pub data Given : Type 0 where
   RemovalIs : (percent : ℕ) → Given
   PercentIs : (percent : ℕ) → Given
   NoticeIs : (notice : Added) → Given
+  TemplateIs : (name : List ℕ) → Given
+  SourceIs : (name : List ℕ) → Given
+  UpdateIs : (update : Update) → Given
+  ExclusionIs : (name : List ℕ) → Given
   RunLimitIs : (minutes : ℕ) → Given
   GroupIs : (name : List ℕ) → Given
   MembersAre : (patterns : List (List ℕ)) → Given
@@ -94,6 +112,10 @@ key_of (StatusIs enabled) = TheStatus
 key_of (RemovalIs percent) = TheRemoval
 key_of (PercentIs percent) = ThePercent
 key_of (NoticeIs notice) = TheNotice
+key_of (TemplateIs name) = TheTemplate
+key_of (SourceIs name) = TheSource
+key_of (UpdateIs update) = TheUpdate
+key_of (ExclusionIs name) = TheExclusion
 key_of (RunLimitIs minutes) = TheRunLimit
 key_of (GroupIs name) = TheGroup
 key_of (MembersAre patterns) = TheMembers
@@ -112,6 +134,10 @@ value_from TheStatus column text = choice_from (codes "enabled") (codes "disable
 value_from TheRemoval column text = percent_from column text >>= λ percent. Ok (RemovalIs percent)
 value_from ThePercent column text = percent_from column text >>= λ percent. Ok (PercentIs percent)
 value_from TheNotice column text = notice_from column text >>= λ notice. Ok (NoticeIs notice)
+value_from TheTemplate column text = object_from text >>= λ name. Ok (TemplateIs name)
+value_from TheSource column text = object_from text >>= λ name. Ok (SourceIs name)
+value_from TheUpdate column text = update_from column text >>= λ update. Ok (UpdateIs update)
+value_from TheExclusion column text = name_from text >>= λ name. Ok (ExclusionIs name)
 value_from TheRunLimit column text = number_from 0 most_minutes column text >>= λ minutes. Ok (RunLimitIs minutes)
 value_from TheGroup column text = object_from text >>= λ name. Ok (GroupIs name)
 value_from TheMembers column text = patterns_from text >>= λ patterns. Ok (MembersAre patterns)
@@ -149,6 +175,22 @@ percent_in other = None
 abbrev pub notice_in : Given → Option Added
 notice_in (NoticeIs notice) = Some notice
 notice_in other = None
+
+abbrev pub template_in : Given → Option (List ℕ)
+template_in (TemplateIs name) = Some name
+template_in other = None
+
+abbrev pub source_in : Given → Option (List ℕ)
+source_in (SourceIs name) = Some name
+source_in other = None
+
+abbrev pub update_in : Given → Option Update
+update_in (UpdateIs update) = Some update
+update_in other = None
+
+abbrev pub exclusion_in : Given → Option (List ℕ)
+exclusion_in (ExclusionIs name) = Some name
+exclusion_in other = None
 
 abbrev pub run_limit_in : Given → Option ℕ
 run_limit_in (RunLimitIs minutes) = Some minutes
@@ -191,6 +233,10 @@ is_of TheStatus given = is_some (status_in given)
 is_of TheRemoval given = is_some (removal_in given)
 is_of ThePercent given = is_some (percent_in given)
 is_of TheNotice given = is_some (notice_in given)
+is_of TheTemplate given = is_some (template_in given)
+is_of TheSource given = is_some (source_in given)
+is_of TheUpdate given = is_some (update_in given)
+is_of TheExclusion given = is_some (exclusion_in given)
 is_of TheRunLimit given = is_some (run_limit_in given)
 is_of TheGroup given = is_some (group_in given)
 is_of TheMembers given = is_some (members_in given)
@@ -220,12 +266,18 @@ key_named keys name = find (λ key. str_eq_ignore_ascii_case (key_name key) name
 abbrev pub word_key : List Key → List ℕ → Option Key
 word_key keys text = if list_any is_colon text then key_named keys (before_first is_colon text) else None
 
--- one more option after those that were given. That it is given again is judged before its value
+-- whether an option was given as often as it may be
+abbrev pub is_full : Key → List Given → Bool
+is_full TheExclusion given = nat_le most_excluded (count_by (is_of TheExclusion) given)
+is_full other given = false
+
+-- one more option after those that were given. That it is given again is judged before its value, and that there are too many of
+-- it after that
 abbrev pub with_option : Key → ℕ → List ℕ → List Given → Read (List Given)
 with_option key column text given = do
   fresh ← guarded (may_repeat key || not (list_any (is_of key) given)) (BadLine column) key
   value ← value_from fresh column text
-  Ok (given ++ value ∷ [])
+  guarded (not (is_full key given)) OutOfRange (given ++ value ∷ [])
 
 -- the options that words give, after those that were given
 abbrev pub options : List Key → List Word → List Given → Read (List Given)

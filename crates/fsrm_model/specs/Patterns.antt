@@ -6,7 +6,7 @@ use Rattle.ucd_case.specs.CaseFolding.{simple_fold}
 use Rattle.fsrm_model.specs.declared.row.GroupRow.{GroupRow}
 use Rattle.fsrm_base.specs.Keyed.{row_of, with_row, with_change, without_row, least_free}
 use Rattle.fsrm_model.specs.Limits.{longest_name, most_groups, most_patterns}
-use Rattle.fsrm_model.specs.Name.{is_name_byte, same_name}
+use Rattle.fsrm_model.specs.Name.{is_name_byte, is_named, names_differ}
 
 -- ---- patterns, over the characters of a name
 -- whether some end of a name passes a test: the whole name, what is left after its first character, and so on to the empty end
@@ -57,13 +57,16 @@ in_group group name =
 abbrev pub is_object_byte : ℕ → Bool
 is_object_byte b = (nat_le 32 b && not (b == 127)) && not (b == 124)
 
--- whether a text, which is UTF-8, is the name of an object: 1 to 255 bytes
+-- whether a text, which is UTF-8, is the name of an object (a template, a group or a report job): 1 to 255 bytes
 abbrev pub is_object_name : List ℕ → Bool
 is_object_name text =
     (nat_lt 0 (length text) && nat_le (length text) longest_name) && list_all is_object_byte text
 
 abbrev pub group_number : GroupRow → ℕ
 group_number group = group.number
+
+abbrev pub group_name : GroupRow → List ℕ
+group_name group = group.name
 
 -- the members of a group are 1 to 64 patterns, and its non-members at most 64
 abbrev pub are_members : List (List ℕ) → Bool
@@ -80,15 +83,14 @@ is_group group =
 
 -- whether a group has a name, in any spelling, and the number of the one that has it
 abbrev pub has_name : List ℕ → GroupRow → Bool
-has_name name group = same_name group.name name
+has_name name group = is_named group_name name group
 
 abbrev pub number_named : List ℕ → List GroupRow → Option ℕ
 number_named name groups = option_map group_number (find (has_name name) groups)
 
 -- whether each name is that of one group only
 abbrev pub are_apart : List GroupRow → Bool
-are_apart [] = true
-are_apart (group ∷ groups) = not (list_any (has_name group.name) groups) && are_apart groups
+are_apart groups = names_differ group_name groups
 
 -- whether a name is in the group of a number
 abbrev pub in_group_of : List GroupRow → ℕ → List ℕ → Bool

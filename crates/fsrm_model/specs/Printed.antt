@@ -1,5 +1,5 @@
 -- How words are written as a line, and nodes as their paths.
-use Rattle.std.specs.Prelude.{ℕ, List, [], ◌∷◌, ◌++◌, codes}
+use Rattle.std.specs.Prelude.{ℕ, Bool, List, [], ◌∷◌, ◌++◌, codes, if◌then◌else◌}
 use Rattle.std.specs.List.{join_with_byte}
 use Rattle.fsrm_model.specs.declared.row.NodeRow.{NodeRow}
 use Rattle.fsrm_model.specs.Tree.{path_of}
@@ -17,6 +17,10 @@ body_line words = 32 ∷ 32 ∷ line_of words
 -- and one below the first of an object by two more
 abbrev pub deep_line : List (List ℕ) → List ℕ
 deep_line words = 32 ∷ 32 ∷ body_line words
+
+-- whether a quota is enforced, or only watches
+abbrev pub type_word : Bool → List ℕ
+type_word enforce = if enforce then codes "hard" else codes "soft"
 
 -- the volume, and the names from the root down to a node
 abbrev pub path_text : List NodeRow → ℕ → List ℕ

@@ -1,6 +1,6 @@
 -- The commands on quotas: their refusals in order, and what they do.
-use Rattle.std.specs.Prelude.{ℕ, Bool, true, false, not, is_some, is_none, List, [], ◌∷◌, ◌++◌, Option, Some, None, unwrap_or, if◌then◌else◌}
-use Rattle.std.specs.Option.{option_map_or}
+use Rattle.std.specs.Prelude.{ℕ, ◌&&◌, Bool, true, false, not, is_some, is_none, List, [], ◌∷◌, ◌++◌, Option, Some, None, unwrap_or, if◌then◌else◌}
+use Rattle.std.specs.Option.{option_map_or, option_and_then}
 use Rattle.fsrm_model.specs.declared.command.Added.{Added}
 use Rattle.fsrm_model.specs.declared.command.Ask.TheVariants.{Quotas}
 use Rattle.fsrm_model.specs.declared.command.Outcome.TheVariants.{Done, Listing}
@@ -10,6 +10,7 @@ use Rattle.fsrm_model.specs.declared.row.QuotaRow.{QuotaRow}
 use Rattle.fsrm_model.specs.declared.row.QuotaState.{QuotaState}
 use Rattle.fsrm_model.specs.declared.row.QuotaState.TheVariants.{Disabled}
 use Rattle.fsrm_model.specs.declared.row.Rows.{Rows}
+use Rattle.fsrm_model.specs.declared.row.TemplateRow.{TemplateRow}
 use Rattle.fsrm_model.specs.declared.row.Threshold.{Threshold}
 use Rattle.fsrm_model.specs.Check.{Check, ◌when◌, table_full, texts_full}
 use Rattle.fsrm_model.specs.FileOps.{target}
@@ -17,6 +18,7 @@ use Rattle.fsrm_base.specs.Keyed.{with_change}
 use Rattle.fsrm_model.specs.Leads.{leads_to_folder}
 use Rattle.fsrm_model.specs.Quota.{folder_of, quota_of, counts}
 use Rattle.fsrm_model.specs.QuotaStates.{start, state_after, with_quota, with_state, without_quota}
+use Rattle.fsrm_model.specs.Templates.{template_named, derived}
 use Rattle.fsrm_model.specs.Thresholds.{are_too_many, may_be_removed, changed_thresholds}
 use Rattle.fsrm_model.specs.Tree.{usage}
 use Rattle.fsrm_model.specs.Work.{Work, asks}
@@ -44,21 +46,33 @@ new_quota folder limit enforce state moment =
 abbrev pub remarked : List ℕ → List ℕ → List Added → QuotaRow → QuotaRow
 remarked removed percents notices quota = record quota { thresholds = changed_thresholds removed percents notices quota.thresholds }
 
--- a valid command gives a limit. The quota is hard if no type is given
-abbrev pub add_work : Rows → ℕ → List (List ℕ) → Option ℕ → Option Bool → Bool → List ℕ → List Added → Work
-add_work R moment path limit enforce enabled percents notices =
-    let folder = target R.nodes path in
-    let state = if enabled then start R.nodes folder else Disabled in
-    let quota = remarked [] percents notices (new_quota folder (unwrap_or limit 0) (unwrap_or enforce true) state moment) in
-    let after = with_quota R quota in
-    asks
-    ((PathNotFound when not (leads_to_folder R.nodes path)) ∷ (AlreadyExists when is_some (quota_of R folder))
-    ∷ (OutOfRange when are_too_many quota.thresholds) ∷ table_full after ∷ texts_full after ∷ [])
-    after (Done None) true
-
 -- a quota with another limit, or of another type, if these are given. All else of it stays
 abbrev pub modified : Option ℕ → Option Bool → QuotaRow → QuotaRow
 modified limit enforce quota = record quota { limit = unwrap_or limit quota.limit; enforce = unwrap_or enforce quota.enforce }
+
+-- a quota before options change it: that of a template, or else a hard one without thresholds
+abbrev pub first_quota : Option TemplateRow → ℕ → QuotaState → ℕ → QuotaRow
+first_quota None folder state moment = new_quota folder 0 true state moment
+first_quota (Some template) folder state moment = derived template folder state moment
+
+-- the template that a command names
+abbrev pub source_of : Rows → Option (List ℕ) → Option TemplateRow
+source_of R template = option_and_then (template_named R.templates) template
+
+-- a valid command gives a limit or a template. What it gives beside a template overrides its limit and its type, and adds to its
+-- thresholds
+abbrev pub add_work : Rows → ℕ → List (List ℕ) → Option ℕ → Option Bool → Bool → Option (List ℕ) → List ℕ → List Added → Work
+add_work R moment path limit enforce enabled template percents notices =
+    let folder = target R.nodes path in
+    let state = if enabled then start R.nodes folder else Disabled in
+    let source = source_of R template in
+    let quota = remarked [] percents notices (modified limit enforce (first_quota source folder state moment)) in
+    let after = with_quota R quota in
+    asks
+    ((PathNotFound when not (leads_to_folder R.nodes path)) ∷ (AlreadyExists when is_some (quota_of R folder))
+    ∷ (NotFound when (is_some template && is_none source))
+    ∷ (OutOfRange when are_too_many quota.thresholds) ∷ table_full after ∷ texts_full after ∷ [])
+    after (Done None) true
 
 -- the thresholds of a folder's quota
 abbrev pub thresholds_of : Rows → ℕ → List Threshold

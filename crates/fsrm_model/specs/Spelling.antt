@@ -12,12 +12,13 @@ use Rattle.fsrm_model.specs.declared.command.FileOp.{FileOp}
 use Rattle.fsrm_model.specs.declared.command.FileOp.TheVariants.{Mkdir, Create, Resize, Touch, Move, Remove}
 use Rattle.fsrm_model.specs.declared.row.Action.{Action}
 use Rattle.fsrm_model.specs.ActionWords.{kind_word}
-use Rattle.fsrm_model.specs.Limits.{latest_moment, longest_file, longest_line, last_owner, most_visits, greatest_percent, most_minutes, most_patterns}
+use Rattle.fsrm_model.specs.Limits.{latest_moment, longest_file, longest_line, last_owner, most_visits, greatest_percent, most_excluded, most_minutes, most_patterns}
 use Rattle.fsrm_model.specs.Name.{is_name}
-use Rattle.fsrm_model.specs.Options.{Key, Given, PathIs, LimitIs, TypeIs, StatusIs, RemovalIs, PercentIs, NoticeIs, RunLimitIs, GroupIs, MembersAre, NonMembersAre, ModeIs, GroupRemovalIs, GroupAdditionIs, ScreenNoticeIs, key_of, may_repeat, is_of, is_colon, key_named}
+use Rattle.fsrm_model.specs.Options.{Key, TheExclusion, Given, PathIs, LimitIs, TypeIs, StatusIs, RemovalIs, PercentIs, NoticeIs, TemplateIs, SourceIs, UpdateIs, ExclusionIs, RunLimitIs, GroupIs, MembersAre, NonMembersAre, ModeIs, GroupRemovalIs, GroupAdditionIs, ScreenNoticeIs, key_of, may_repeat, is_of, is_colon, key_named}
 use Rattle.fsrm_model.specs.Patterns.{is_object_name, is_pattern}
 use Rattle.fsrm_model.specs.Quota.{is_limit}
 use Rattle.fsrm_model.specs.Reading.{is_number, unit_bytes}
+use Rattle.fsrm_model.specs.TemplateWords.{update_word}
 use Rattle.fsrm_model.specs.Thresholds.{is_action_text}
 use Rattle.fsrm_model.specs.Tools.{Names, named, ToolCommand, tools}
 use Rattle.fsrm_model.specs.Words.{is_blank, is_quote}
@@ -134,6 +135,11 @@ pub record WritesObject (text name : List ℕ) : Type 0 where
   pub text_is : text ≡ name
   pub legal : is_object_name name ≡ true
 
+-- and so is a name that is excluded
+pub record WritesName (text name : List ℕ) : Type 0 where
+  pub text_is : text ≡ name
+  pub legal : is_name name ≡ true
+
 -- patterns, so many at least, parted by bars
 pub record WritesPatterns (least : ℕ) (text : List ℕ) (patterns : List (List ℕ)) : Type 0 where
   pub text_is : text ≡ join_with_byte 124 patterns
@@ -155,6 +161,10 @@ WritesValue text (StatusIs enabled) = WritesStatus text enabled
 WritesValue text (RemovalIs percent) = Writes 1 greatest_percent text percent
 WritesValue text (PercentIs percent) = Writes 1 greatest_percent text percent
 WritesValue text (NoticeIs notice) = WritesNotice text notice
+WritesValue text (TemplateIs name) = WritesObject text name
+WritesValue text (SourceIs name) = WritesObject text name
+WritesValue text (UpdateIs update) = IsNamed (update_word update) text
+WritesValue text (ExclusionIs name) = WritesName text name
 WritesValue text (RunLimitIs minutes) = Writes 0 most_minutes text minutes
 WritesValue text (GroupIs name) = WritesObject text name
 WritesValue text (MembersAre patterns) = WritesPatterns 1 text patterns
@@ -180,9 +190,11 @@ SpellsEach keys (word ∷ words) [] = ⊥
 abbrev pub AreOnce : List Given → Type 0
 AreOnce given = (key : Key) → may_repeat key ≡ false → count_by (is_of key) given ≤ 1
 
+-- and names are excluded 32 times at most
 pub record SpellsOptions (keys : List Key) (words : List (List ℕ)) (given : List Given) : Type 0 where
   pub each : SpellsEach keys words given
   pub once : AreOnce given
+  pub few : count_by (is_of TheExclusion) given ≤ most_excluded
 
 -- words are the names of a tool, of what it manages and of a command, and the command's options, which ask for a deed
 pub record SpellsTool (words : List (List ℕ)) (deed : Deed) : Type 0 where

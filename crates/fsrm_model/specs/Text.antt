@@ -7,7 +7,7 @@ use Rattle.fsrm_model.specs.declared.row.QuotaState.{QuotaState}
 use Rattle.fsrm_model.specs.declared.row.QuotaState.TheVariants.{Complete, Disabled, Rebuilding, Incomplete}
 use Rattle.fsrm_model.specs.declared.row.Rows.{Rows}
 use Rattle.fsrm_model.specs.declared.command.Ask.{Ask}
-use Rattle.fsrm_model.specs.declared.command.Ask.TheVariants.{Quotas, Groups, Screens, Excepts, Settings, Acts}
+use Rattle.fsrm_model.specs.declared.command.Ask.TheVariants.{Quotas, Templates, Autos, Groups, Screens, Excepts, Settings, Acts}
 use Rattle.fsrm_model.specs.declared.command.Refusal.{Refusal}
 use Rattle.fsrm_model.specs.declared.command.Refusal.TheVariants.{BadLine, LineTooLong, InvalidPath, InvalidName, OutOfRange, InvalidLimit, ClockBack, PathNotFound, NotFound, AlreadyExists, DuplicateName, InUse, InvalidCombination, NotEmpty, InvalidMove, NothingToScan, VolumeFull, NamesFull, TableFull, TextsFull, ScreenBlocked, QuotaExceeded}
 use Rattle.fsrm_model.specs.declared.command.Outcome.{Outcome}
@@ -15,10 +15,11 @@ use Rattle.fsrm_model.specs.declared.command.Outcome.TheVariants.{Done, Sum, Lis
 use Rattle.fsrm_model.specs.ActText.{threshold_lines, log_lines}
 use Rattle.fsrm_model.specs.ScreenText.{group_lines, screen_lines, except_lines}
 use Rattle.fsrm_model.specs.SettingsText.{settings_lines}
+use Rattle.fsrm_model.specs.TemplateText.{template_lines, auto_lines}
 use Rattle.fsrm_model.specs.Tree.{usage}
 use Rattle.fsrm_model.specs.Quota.{folder_of, counts}
 use Rattle.fsrm_model.specs.Date.{date_text}
-pub use Rattle.fsrm_model.specs.Printed.{line_of, body_line, path_text}
+pub use Rattle.fsrm_model.specs.Printed.{line_of, body_line, path_text, type_word}
 
 -- a refusal's name, and what it carries
 abbrev pub refusal_words : List NodeRow → Refusal → List (List ℕ)
@@ -85,7 +86,7 @@ state_word Incomplete = codes "incomplete"
 -- (if it counts), its peak, the date of that, and its folder
 abbrev pub quota_line : Capacity → List NodeRow → QuotaRow → List ℕ
 quota_line K nodes quota =
-    body_line (decimal quota.limit ∷ (if quota.enforce then codes "hard" else codes "soft") ∷ state_word quota.state
+    body_line (decimal quota.limit ∷ type_word quota.enforce ∷ state_word quota.state
     ∷ (if counts quota then decimal (usage K nodes quota.folder) else codes "-")
     ∷ decimal quota.peak ∷ date_text quota.peak_at ∷ path_text nodes quota.folder ∷ [])
 
@@ -101,6 +102,8 @@ asked (Some folder) quotas = filter (λ quota. folder_of quota == folder) quotas
 -- the lines of a list
 abbrev pub list_lines : Capacity → Rows → Ask → List ℕ
 list_lines K R (Quotas folder) = flat_map (quota_lines K R.nodes) (asked folder R.quotas)
+list_lines K R Templates = flat_map template_lines R.templates
+list_lines K R Autos = flat_map (auto_lines R.nodes R.templates) R.autos
 list_lines K R Groups = flat_map group_lines R.groups
 list_lines K R Screens = flat_map (screen_lines R.nodes R.groups) R.screens
 list_lines K R Excepts = flat_map (except_lines R.nodes R.groups) R.excepts

@@ -1,9 +1,10 @@
 -- The commands of the tools: their names, the options that each takes, and what those ask for.
-use Rattle.std.specs.Prelude.{ℕ, true, List, [], ◌∷◌, codes, Option, Some, None, unwrap_or, option_and_then, if◌then◌else◌}
+use Rattle.std.specs.Prelude.{ℕ, ◌||◌, Bool, true, is_some, List, [], ◌∷◌, codes, Option, Some, None, unwrap_or, option_and_then, if◌then◌else◌}
 use Rattle.std.specs.Str.{str_eq_ignore_ascii_case}
 use Rattle.fsrm_model.specs.declared.command.Deed.{Deed}
-use Rattle.fsrm_model.specs.declared.command.Deed.TheVariants.{QuotaAdd, QuotaModify, QuotaDelete, QuotaScan, QuotaResetpeak, QuotaList, AdminOptions, AdminList, AdminLog, FilegroupAdd, FilegroupModify, FilegroupDelete, FilegroupList, ScreenAdd, ScreenModify, ScreenDelete, ScreenList, ExceptionAdd, ExceptionDelete, ExceptionList}
-use Rattle.fsrm_model.specs.Options.{Key, ThePath, TheLimit, TheType, TheStatus, TheRemoval, ThePercent, TheNotice, TheRunLimit, TheGroup, TheMembers, TheNonMembers, TheMode, TheGroupRemoval, TheGroupAddition, TheScreenNotice, Given, path_in, limit_in, type_in, status_in, removal_in, percent_in, notice_in, run_limit_in, group_in, members_in, non_members_in, mode_in, group_removal_in, group_addition_in, screen_notice_in, one, each_of}
+use Rattle.fsrm_model.specs.declared.command.Deed.TheVariants.{QuotaAdd, QuotaModify, QuotaDelete, QuotaScan, QuotaResetpeak, QuotaList, TemplateAdd, TemplateModify, TemplateDelete, TemplateList, AutoquotaAdd, AutoquotaDelete, AutoquotaList, AdminOptions, AdminList, AdminLog, FilegroupAdd, FilegroupModify, FilegroupDelete, FilegroupList, ScreenAdd, ScreenModify, ScreenDelete, ScreenList, ExceptionAdd, ExceptionDelete, ExceptionList}
+use Rattle.fsrm_model.specs.declared.command.Update.TheVariants.{Keep}
+use Rattle.fsrm_model.specs.Options.{Key, ThePath, TheLimit, TheType, TheStatus, TheRemoval, ThePercent, TheNotice, TheTemplate, TheSource, TheUpdate, TheExclusion, TheRunLimit, TheGroup, TheMembers, TheNonMembers, TheMode, TheGroupRemoval, TheGroupAddition, TheScreenNotice, Given, path_in, limit_in, type_in, status_in, removal_in, percent_in, notice_in, template_in, source_in, update_in, exclusion_in, run_limit_in, group_in, members_in, non_members_in, mode_in, group_removal_in, group_addition_in, screen_notice_in, one, each_of}
 
 -- names, each with what it stands for. They are read without regard to the case of ASCII letters
 abbrev pub Names : Type 0 → Type 0
@@ -26,15 +27,23 @@ needs value given deed = option_and_then deed (one value given)
 abbrev pub of_path : (List (List ℕ) → Deed) → ToolCommand
 of_path deed = record { keys = ThePath ∷ []; deed = λ given. needs path_in given (λ path. Some (deed path)) }
 
--- a quota is enabled if nothing else is given
+-- a command without options
+abbrev pub alone : Deed → ToolCommand
+alone deed = record { keys = []; deed = λ given. Some deed }
+
+-- a quota must have a limit or a template, and is enabled if nothing else is given
+abbrev pub has_limit : List Given → Bool
+has_limit given = is_some (one limit_in given) || is_some (one source_in given)
+
 abbrev pub quota_add : ToolCommand
 quota_add =
     record {
-      keys = ThePath ∷ TheLimit ∷ TheType ∷ TheStatus ∷ ThePercent ∷ TheNotice ∷ [];
+      keys = ThePath ∷ TheLimit ∷ TheType ∷ TheStatus ∷ TheSource ∷ ThePercent ∷ TheNotice ∷ [];
       deed = λ given.
           needs path_in given (λ path.
-          needs limit_in given (λ limit.
-          Some (QuotaAdd path (Some limit) (one type_in given) (unwrap_or (one status_in given) true) None (each_of percent_in given) (each_of notice_in given))));
+          if has_limit given
+          then Some (QuotaAdd path (one limit_in given) (one type_in given) (unwrap_or (one status_in given) true) (one source_in given) (each_of percent_in given) (each_of notice_in given))
+          else None);
     }
 
 abbrev pub quota_modify : ToolCommand
@@ -55,12 +64,51 @@ quota_commands =
     (codes "add", quota_add) ∷ (codes "modify", quota_modify) ∷ (codes "delete", of_path QuotaDelete)
     ∷ (codes "scan", of_path QuotaScan) ∷ (codes "resetpeak", of_path QuotaResetpeak) ∷ (codes "list", quota_list) ∷ []
 
+-- ---- templates and auto-apply quotas
+-- a template must have a limit, and is hard if nothing else is given
+abbrev pub template_add : ToolCommand
+template_add =
+    record {
+      keys = TheTemplate ∷ TheLimit ∷ TheType ∷ ThePercent ∷ TheNotice ∷ [];
+      deed = λ given.
+          needs template_in given (λ name.
+          needs limit_in given (λ limit.
+          Some (TemplateAdd name limit (unwrap_or (one type_in given) true) (each_of percent_in given) (each_of notice_in given))));
+    }
+
+-- its change reaches no derived quota if nothing else is given
+abbrev pub template_modify : ToolCommand
+template_modify =
+    record {
+      keys = TheTemplate ∷ TheLimit ∷ TheType ∷ TheRemoval ∷ ThePercent ∷ TheNotice ∷ TheUpdate ∷ [];
+      deed = λ given.
+          needs template_in given (λ name.
+          Some (TemplateModify name (one limit_in given) (one type_in given) (each_of removal_in given) (each_of percent_in given) (each_of notice_in given) (unwrap_or (one update_in given) Keep)));
+    }
+
+abbrev pub template_delete : ToolCommand
+template_delete = record { keys = TheTemplate ∷ []; deed = λ given. needs template_in given (λ name. Some (TemplateDelete name)) }
+
+abbrev pub template_commands : Names ToolCommand
+template_commands =
+    (codes "add", template_add) ∷ (codes "modify", template_modify) ∷ (codes "delete", template_delete) ∷ (codes "list", alone TemplateList) ∷ []
+
+abbrev pub auto_add : ToolCommand
+auto_add =
+    record {
+      keys = ThePath ∷ TheSource ∷ TheExclusion ∷ [];
+      deed = λ given.
+          needs path_in given (λ path.
+          needs source_in given (λ name.
+          Some (AutoquotaAdd path name (each_of exclusion_in given))));
+    }
+
+abbrev pub auto_commands : Names ToolCommand
+auto_commands = (codes "add", auto_add) ∷ (codes "delete", of_path AutoquotaDelete) ∷ (codes "list", alone AutoquotaList) ∷ []
+
+-- ---- settings
 abbrev pub admin_options : ToolCommand
 admin_options = record { keys = TheRunLimit ∷ []; deed = λ given. needs run_limit_in given (λ minutes. Some (AdminOptions minutes)) }
-
--- a command without options
-abbrev pub alone : Deed → ToolCommand
-alone deed = record { keys = []; deed = λ given. Some deed }
 
 abbrev pub admin_commands : Names ToolCommand
 admin_commands = (codes "options", admin_options) ∷ (codes "list", alone AdminList) ∷ (codes "log", alone AdminLog) ∷ []
@@ -129,7 +177,8 @@ except_commands = (codes "add", except_add) ∷ (codes "delete", of_path Excepti
 
 -- what each tool manages, with the commands for it
 abbrev pub dirquota : Names (Names ToolCommand)
-dirquota = (codes "quota", quota_commands) ∷ (codes "admin", admin_commands) ∷ []
+dirquota =
+    (codes "quota", quota_commands) ∷ (codes "template", template_commands) ∷ (codes "autoquota", auto_commands) ∷ (codes "admin", admin_commands) ∷ []
 
 abbrev pub filescrn : Names (Names ToolCommand)
 filescrn = (codes "filegroup", group_commands) ∷ (codes "screen", screen_commands) ∷ (codes "exception", except_commands) ∷ []

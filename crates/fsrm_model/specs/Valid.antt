@@ -1,10 +1,12 @@
 -- Which rows are those of a store. What they must be is a test, so that a reader can refuse exactly the others, and beside
 -- it a record of the same parts.
-use Rattle.std.specs.Prelude.{◌≡◌, ℕ, ◌≤◌, ◌==◌, ◌&&◌, ◌||◌, nat_lt, nat_le, not, Bool, true, false, List, [], ◌∷◌, length, is_none, Some, if◌then◌else◌}
+use Rattle.std.specs.Prelude.{◌≡◌, ℕ, ◌≤◌, ◌==◌, ◌&&◌, ◌||◌, nat_lt, nat_le, not, Bool, true, false, List, [], ◌∷◌, length, Some, if◌then◌else◌}
 use Rattle.std.specs.List.{list_all}
+use Rattle.std.specs.Option.{option_map_or}
 use Rattle.fsrm_model.specs.declared.row.ActRow.{ActRow}
 use Rattle.fsrm_model.specs.declared.row.Action.{Action}
 use Rattle.fsrm_model.specs.declared.row.AuditRow.{AuditRow}
+use Rattle.fsrm_model.specs.declared.row.AutoRow.{AutoRow}
 use Rattle.fsrm_model.specs.declared.row.Capacity.{Capacity}
 use Rattle.fsrm_model.specs.declared.row.ExceptRow.{ExceptRow}
 use Rattle.fsrm_model.specs.declared.row.GroupRow.{GroupRow}
@@ -12,14 +14,17 @@ use Rattle.fsrm_model.specs.declared.row.NodeRow.{NodeRow}
 use Rattle.fsrm_model.specs.declared.row.QuotaRow.{QuotaRow}
 use Rattle.fsrm_model.specs.declared.row.Rows.{Rows}
 use Rattle.fsrm_model.specs.declared.row.ScreenRow.{ScreenRow}
+use Rattle.fsrm_model.specs.declared.row.TemplateRow.{TemplateRow}
 use Rattle.fsrm_base.specs.Keyed.{row_of, is_ascending, has_row}
 use Rattle.fsrm_base.specs.Numbers.{each_once}
-use Rattle.fsrm_model.specs.Limits.{latest_moment, longest_file, most_actions, most_entries, most_excepts, most_groups, most_minutes, most_quotas, most_screen_groups, most_screens, most_text_bytes}
-use Rattle.fsrm_model.specs.Name.{is_name, same_name}
+use Rattle.fsrm_model.specs.AutoApply.{auto_folder, is_auto}
+use Rattle.fsrm_model.specs.Limits.{latest_moment, longest_file, most_actions, most_autos, most_entries, most_excepts, most_groups, most_minutes, most_quotas, most_screen_groups, most_screens, most_templates, most_text_bytes}
+use Rattle.fsrm_model.specs.Name.{is_name, names_differ, same_name}
 use Rattle.fsrm_model.specs.Patterns.{group_number, is_group, are_apart}
 use Rattle.fsrm_model.specs.Quota.{folder_of, is_limit}
 use Rattle.fsrm_model.specs.QuotaStates.{head}
 use Rattle.fsrm_model.specs.Screens.{screen_folder, except_folder}
+use Rattle.fsrm_model.specs.Templates.{template_number, template_name, is_template}
 use Rattle.fsrm_model.specs.Texts.{object_texts}
 use Rattle.fsrm_model.specs.Thresholds.{is_kept_action, are_thresholds}
 use Rattle.fsrm_model.specs.Tree.{number, node_of, is_folder, is_child, is_under, name_bytes}
@@ -96,9 +101,24 @@ abbrev pub is_empty : {X : Type 0} → List X → Bool
 is_empty [] = true
 is_empty (x ∷ xs) = false
 
--- What no command fills so far is empty: a quota's template, and the tables of templates, of auto-apply quotas and of jobs
-abbrev pub is_plain : QuotaRow → Bool
-is_plain quota = is_none quota.template
+-- a quota's template, if it has one, is there
+abbrev pub has_source : List TemplateRow → QuotaRow → Bool
+has_source templates quota = option_map_or (λ n. has_row template_number n templates) quota.template true
+
+-- quota templates, in the order of their numbers, no two with one name
+abbrev pub are_templates : List TemplateRow → Bool
+are_templates templates =
+    (is_ascending template_number templates && nat_le (length templates) most_templates)
+    && (list_all is_template templates && names_differ template_name templates)
+
+-- an auto-apply quota's folder and its template are there
+abbrev pub is_sound_auto : List NodeRow → List TemplateRow → AutoRow → Bool
+is_sound_auto nodes templates auto =
+    (is_folder nodes auto.folder && has_row template_number auto.template templates) && is_auto auto
+
+abbrev pub are_autos : List NodeRow → List TemplateRow → List AutoRow → Bool
+are_autos nodes templates autos =
+    (is_ascending auto_folder autos && nat_le (length autos) most_autos) && list_all (is_sound_auto nodes templates) autos
 
 -- file groups, in the order of their numbers, no two with one name
 abbrev pub are_groups : List GroupRow → Bool
@@ -139,16 +159,17 @@ is_audit entry = is_moment entry.moment && is_name entry.name
 abbrev pub are_audits : List AuditRow → Bool
 are_audits log = nat_le (length log) most_entries && list_all is_audit log
 
+-- What no command fills so far is empty: the table of jobs
 abbrev pub are_tables : Rows → Bool
 are_tables R =
-    (list_all is_plain R.quotas && (is_empty R.templates && (is_empty R.autos && is_empty R.jobs)))
+    (list_all (has_source R.templates) R.quotas && (are_templates R.templates && (are_autos R.nodes R.templates R.autos && is_empty R.jobs)))
     && ((are_groups R.groups && are_screens R.nodes R.groups R.excepts R.screens)
     && (are_excepts R.nodes R.groups R.excepts && are_audits R.audits))
 
 pub record AreTables (R : Rows) : Type 0 where
-  pub plain : list_all is_plain R.quotas ≡ true
-  pub templates : R.templates ≡ []
-  pub autos : R.autos ≡ []
+  pub sources : list_all (has_source R.templates) R.quotas ≡ true
+  pub templates : are_templates R.templates ≡ true
+  pub autos : are_autos R.nodes R.templates R.autos ≡ true
   pub jobs : R.jobs ≡ []
   pub groups : are_groups R.groups ≡ true
   pub screens : are_screens R.nodes R.groups R.excepts R.screens ≡ true

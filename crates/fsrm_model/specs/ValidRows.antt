@@ -5,6 +5,7 @@ use Rattle.fsrm_model.specs.declared.row.ActRow.{ActRow}
 use Rattle.fsrm_model.specs.declared.row.Action.{Action}
 use Rattle.fsrm_model.specs.declared.row.ActionKind.TheVariants.{Event}
 use Rattle.fsrm_model.specs.declared.row.AuditRow.{AuditRow}
+use Rattle.fsrm_model.specs.declared.row.AutoRow.{AutoRow}
 use Rattle.fsrm_model.specs.declared.row.ExceptRow.{ExceptRow}
 use Rattle.fsrm_model.specs.declared.row.GroupRow.{GroupRow}
 use Rattle.fsrm_model.specs.declared.row.NodeRow.{NodeRow}
@@ -13,9 +14,10 @@ use Rattle.fsrm_model.specs.declared.row.QuotaState.{QuotaState}
 use Rattle.fsrm_model.specs.declared.row.QuotaState.TheVariants.{Complete, Rebuilding}
 use Rattle.fsrm_model.specs.declared.row.Rows.{Rows}
 use Rattle.fsrm_model.specs.declared.row.ScreenRow.{ScreenRow}
+use Rattle.fsrm_model.specs.declared.row.TemplateRow.{TemplateRow}
 use Rattle.fsrm_model.specs.declared.row.Threshold.{Threshold}
 use Rattle.fsrm_model.specs.Fresh.{default_capacity, new_rows, root_node, rows_of_nodes}
-use Rattle.fsrm_model.specs.Limits.{latest_moment, longest_action_text, most_entries, most_minutes}
+use Rattle.fsrm_model.specs.Limits.{latest_moment, longest_action_text, most_entries, most_excluded, most_minutes, most_templates}
 use Rattle.fsrm_model.specs.QuotaWork.{new_quota}
 use Rattle.fsrm_model.specs.Valid.{is_valid}
 
@@ -61,7 +63,7 @@ wrong_nodes =
     ≡ false ∷ false ∷ false ∷ false ∷ false ∷ []
 
 -- with a quota: it is on a file, it stands after one of a greater number, it is there twice, its limit is too small or
--- too great, its peak is of a later moment, it has a template
+-- too great, its peak is of a later moment, its template isn't there
 abbrev pub wrong_quotas : Type 0
 wrong_quotas =
     are_valid (map (λ quotas. record scanning { quotas = quotas }) (
@@ -200,18 +202,70 @@ audits_wrong =
 abbrev pub wrong_screens : Type 0
 wrong_screens = are_valid (groups_wrong ++ (screens_wrong ++ (excepts_wrong ++ audits_wrong))) ≡ replicate 18 false
 
--- with a table, a log, the run limit or the last moment
+-- ---- templates and auto-apply quotas
+abbrev pub template : ℕ → List ℕ → List Threshold → TemplateRow
+template number name thresholds = record { number = number; name = name; limit = 1024; enforce = true; thresholds = thresholds }
+
+abbrev pub auto : ℕ → ℕ → List (List ℕ) → AutoRow
+auto folder template excluded = record { folder = folder; template = template; excluded = excluded }
+
+-- the root's quota is derived from a template, and two folders have auto-apply quotas
+abbrev pub applying : Rows
+applying =
+    record scanning {
+      quotas = record (on 0 Complete) { template = Some 2 } ∷ on 1 Rebuilding ∷ [];
+      templates = template 0 (codes "t") [] ∷ template 2 (codes "u") (thresholds_at (85 ∷ []) (action (pos 0) [] None ∷ [])) ∷ [];
+      autos = auto 1 0 [] ∷ auto 4 2 (codes "x" ∷ codes "X" ∷ []) ∷ [];
+    }
+
+-- these are valid: names may be excluded twice, and 32 of them; a template needs no quota
+abbrev pub valid_templates : Type 0
+valid_templates =
+    are_valid (
+    applying
+    ∷ record applying { autos = auto 0 2 (replicate most_excluded (codes "x")) ∷ [] }
+    ∷ record applying { quotas = two; autos = [] }
+    ∷ [])
+    ≡ true ∷ true ∷ true ∷ []
+
+-- in each of these one thing is wrong with the templates: one that the root's quota names isn't there, numbers descend, a name is
+-- another's or has a bar, a number is too great, a limit is too small, an action ran
+abbrev pub templates_wrong : List Rows
+templates_wrong =
+    map (λ templates. record applying { templates = templates; autos = [] }) (
+    (template 0 (codes "t") [] ∷ [])
+    ∷ (template 2 (codes "u") [] ∷ template 0 (codes "t") [] ∷ [])
+    ∷ (template 0 (codes "U") [] ∷ template 2 (codes "u") [] ∷ [])
+    ∷ (template 2 (codes "u|") [] ∷ [])
+    ∷ (template 2 (codes "u") [] ∷ template most_templates (codes "t") [] ∷ [])
+    ∷ (record (template 2 (codes "u") []) { limit = 1023 } ∷ [])
+    ∷ (template 2 (codes "u") (thresholds_at (85 ∷ []) (action (pos 0) [] (Some 0) ∷ [])) ∷ [])
+    ∷ [])
+
+-- with an auto-apply quota: it is on a file, it is there twice, its template isn't there, it excludes a name too many, or what is no name
+abbrev pub autos_wrong : List Rows
+autos_wrong =
+    map (λ autos. record applying { autos = autos }) (
+    (auto 2 0 [] ∷ [])
+    ∷ (auto 1 0 [] ∷ auto 1 0 [] ∷ [])
+    ∷ (auto 1 1 [] ∷ [])
+    ∷ (auto 1 0 (replicate (most_excluded + 1) (codes "x")) ∷ [])
+    ∷ (auto 1 0 (codes "a/b" ∷ []) ∷ [])
+    ∷ [])
+
+abbrev pub wrong_templates : Type 0
+wrong_templates = are_valid (templates_wrong ++ autos_wrong) ≡ replicate 12 false
+
+-- with a log, the run limit or the last moment
 abbrev pub wrong_tables : Type 0
 wrong_tables =
     are_valid (
-    record scanning { templates = record { number = 0; name = codes "t"; limit = 1024; enforce = true; thresholds = [] } ∷ [] }
-    ∷ record scanning { autos = record { folder = 1; template = 0; excluded = [] } ∷ [] }
-    ∷ record scanning { acts = record entry { moment = latest_moment + 1 } ∷ [] }
+    record scanning { acts = record entry { moment = latest_moment + 1 } ∷ [] }
     ∷ record scanning { acts = replicate (most_entries + 1) entry }
     ∷ record scanning { run_limit = most_minutes + 1 }
     ∷ record scanning { last_moment = latest_moment + 1 }
     ∷ [])
-    ≡ false ∷ false ∷ false ∷ false ∷ false ∷ false ∷ []
+    ≡ false ∷ false ∷ false ∷ false ∷ []
 
 -- with the queue: it has a folder twice, lacks that of the rebuilding quota, has that of another quota, or one without
 abbrev pub wrong_queues : Type 0

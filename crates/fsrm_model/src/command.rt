@@ -20,9 +20,9 @@ pub enum Refusal {
     InvalidPath,
     /// A name isn't one (MS-FSRM, FSRM_E_INVALID_NAME).
     InvalidName,
-    /// A number isn't in its range, or a list would be too long: a quota has at most 16 thresholds, a threshold or a
-    /// screen at most 8 actions, a list of patterns at most 64 of them, and a screen or an exception at most 16 file
-    /// groups (MS-FSRM, FSRM_E_OUT_OF_RANGE).
+    /// A number isn't in its range, or a list would be too long: a quota or a template has at most 16 thresholds, a
+    /// threshold or a screen at most 8 actions, an auto-apply quota at most 32 excluded names, a list of patterns at most
+    /// 64 of them, and a screen or an exception at most 16 file groups (MS-FSRM, FSRM_E_OUT_OF_RANGE).
     OutOfRange,
     /// A quota's limit is below 1,024 bytes or above 2^60 (MS-FSRM, FSRM_E_INVALID_LIMIT).
     InvalidLimit,
@@ -31,14 +31,14 @@ pub enum Refusal {
     /// A path, or the folder that it names a node in, leads to nothing of the kind that is asked
     /// for (MS-FSRM, FSRM_E_PATH_NOT_FOUND).
     PathNotFound,
-    /// The folder has no such object, the quota not the threshold or the screen not the file group that is to be
-    /// removed, or no file group has the name (MS-FSRM, FSRM_E_NOT_FOUND).
+    /// The folder has no such object, the quota or the template not the threshold or the screen not the file group that is
+    /// to be removed, or no template or no file group has the name (MS-FSRM, FSRM_E_NOT_FOUND).
     NotFound,
     /// The place is taken, or the folder has such an object (MS-FSRM, FSRM_E_ALREADY_EXISTS).
     AlreadyExists,
-    /// A file group has the name, in some spelling (MS-FSRM, FSRM_E_DUPLICATE_NAME).
+    /// A template or a file group has the name, in some spelling (MS-FSRM, FSRM_E_DUPLICATE_NAME).
     DuplicateName,
-    /// A screen or an exception names the file group.
+    /// An auto-apply quota names the template, or a screen or an exception the file group.
     InUse,
     /// A quota that is disabled isn't scanned. A folder doesn't have both a screen and an exception, and a screen has at
     /// least one file group (MS-FSRM, FSRM_E_INVALID_COMBINATION).
@@ -53,7 +53,8 @@ pub enum Refusal {
     VolumeFull,
     /// The names of all nodes would have more bytes than the store holds.
     NamesFull,
-    /// There are 4,096 quotas, screens or exceptions, or 1,024 file groups.
+    /// There would be more than 4,096 quotas, screens or exceptions, or more than 1,024 templates, auto-apply quotas or
+    /// file groups.
     TableFull,
     /// The texts of all objects would have more than 4,194,304 bytes.
     TextsFull,
@@ -90,6 +91,18 @@ pub struct Added {
     pub action: Action,
 }
 
+/// Which of the quotas that were derived from a template its change reaches (MS-FSRM, FsrmTemplateApplyOptions). Each of them
+/// gets the template's limit, type and thresholds, whose actions never ran; its state stays.
+#[derive(Clone, Copy, Debug, PartialEq, Eq)]
+pub enum Update {
+    /// None of them.
+    Keep,
+    /// Those whose limit, type and thresholds are what the template had before, whenever their actions ran.
+    Matching,
+    /// All of them.
+    All,
+}
+
 /// What a command is to do. It has a field for each of its options, in the order of the command's syntax. A field that
 /// is None was not given; what stands for it then is the command's to say.
 #[derive(Drop)]
@@ -104,8 +117,9 @@ pub enum Deed {
         n: u32,
     },
     /// Limits what the files at and below a folder take, in bytes (MS-FSRM, IFsrmQuota). A hard quota is
-    /// enforced, a soft one only watches. It is hard if its type isn't given. Its thresholds are the percentages
-    /// that are added, and those that are given an action. No line gives a template so far.
+    /// enforced, a soft one only watches. Its limit, its type and its thresholds are those of its template, if one is
+    /// given; without one it is hard. A limit and a type that are given take the place of the template's. To its
+    /// thresholds come the percentages that are added, and those that are given an action.
     QuotaAdd {
         path: Path,
         limit: Option<u64>,
@@ -143,6 +157,46 @@ pub enum Deed {
     QuotaList {
         path: Option<Path>,
     },
+    /// Makes a template of quotas (MS-FSRM, IFsrmQuotaTemplate). Its thresholds are the percentages that are added, and
+    /// those that are given an action.
+    TemplateAdd {
+        template: Text,
+        limit: u64,
+        enforce: bool,
+        add_threshold: List<u16>,
+        add_notification: List<Added>,
+    },
+    /// Changes a template as a quota is changed, and then the quotas that were derived from it, as far as the update
+    /// reaches them (MS-FSRM, IFsrmQuotaTemplate, CommitAndUpdateDerived).
+    TemplateModify {
+        template: Text,
+        limit: Option<u64>,
+        enforce: Option<bool>,
+        remove_threshold: List<u16>,
+        add_threshold: List<u16>,
+        add_notification: List<Added>,
+        update_derived: Update,
+    },
+    /// Takes a template away that no auto-apply quota names. The quotas that were derived from it stay, without a
+    /// template.
+    TemplateDelete {
+        template: Text,
+    },
+    /// Lists all templates.
+    TemplateList,
+    /// Gives each folder in a folder a quota of a template, and each that is made in it or moved into it later (MS-FSRM,
+    /// IFsrmAutoApplyQuota). Folders with an excluded name get none, nor does one that has a quota.
+    AutoquotaAdd {
+        path: Path,
+        source_template: Text,
+        exclude: List<Text>,
+    },
+    /// Takes a folder's auto-apply quota away. The quotas that it gave stay.
+    AutoquotaDelete {
+        path: Path,
+    },
+    /// Lists all auto-apply quotas.
+    AutoquotaList,
     /// Sets how many minutes pass at least between two runs of an action that has none of its own (MS-FSRM,
     /// IFsrmSetting, SetActionRunLimitInterval).
     AdminOptions {
@@ -220,6 +274,10 @@ pub struct Command {
 pub enum Ask {
     /// The quota of a folder, or all quotas.
     Quotas(Option<u32>),
+    /// All templates.
+    Templates,
+    /// All auto-apply quotas.
+    Autos,
     /// All file groups.
     Groups,
     /// All screens.

@@ -14,6 +14,7 @@ ghost use Rattle.fsrm_model.specs.declared.command.Refusal.{Refusal};
 ghost use Rattle.fsrm_model.specs.declared.command.Refusal.TheVariants.{ScreenBlocked, QuotaExceeded};
 ghost use Rattle.fsrm_model.specs.declared.command.Subject.{Subject};
 ghost use Rattle.fsrm_model.specs.declared.command.Subject.TheVariants.{Quota};
+ghost use Rattle.fsrm_model.specs.declared.command.Update.{Update};
 ghost use Rattle.fsrm_model.specs.declared.row.ActRow.{ActRow};
 ghost use Rattle.fsrm_model.specs.declared.row.Action.{Action};
 ghost use Rattle.fsrm_model.specs.declared.row.Capacity.{Capacity};
@@ -21,8 +22,12 @@ ghost use Rattle.fsrm_model.specs.declared.row.NodeRow.{NodeRow};
 ghost use Rattle.fsrm_model.specs.declared.row.QuotaRow.{QuotaRow};
 ghost use Rattle.fsrm_model.specs.declared.row.Rows.{Rows};
 ghost use Rattle.fsrm_model.specs.declared.row.ScreenRow.{ScreenRow};
+ghost use Rattle.fsrm_model.specs.declared.row.TemplateRow.{TemplateRow};
 ghost use Rattle.fsrm_model.specs.declared.row.Threshold.{Threshold};
 ghost use Rattle.fsrm_model.specs.Acts.{has_act, actions_of, is_of_quota, of_screens, of_quotas, are_in_order, IsAct};
+ghost use Rattle.fsrm_model.specs.AutoApply.{applied};
+ghost use Rattle.fsrm_model.specs.Derives.{Matches, Gets};
+ghost use Rattle.fsrm_model.specs.Templates.{is_derived, without_source, matches_template, is_reached, updated};
 ghost use Rattle.fsrm_model.specs.Audits.{audit_of, with_audit, tells_of_screen};
 ghost use Rattle.fsrm_model.specs.Date.{date_of};
 ghost use Rattle.fsrm_model.specs.Commands.{kind, emptied};
@@ -52,12 +57,13 @@ ghost use Rattle.fsrm_model.specs.Text.{reply};
 ghost use Rattle.fsrm_model.specs.Thresholds.{percent_of, actions_at, is_percent, is_notice, are_too_many, are_thresholds, actions_given, changed_thresholds};
 ghost use Rattle.fsrm_model.specs.Tree.{number, under, usage};
 ghost use Rattle.fsrm_model.specs.Valid.{is_tree, IsVolume, are_quotas, AreQuotas, are_tables, AreTables, is_empty, is_valid, IsValid};
-ghost use Rattle.fsrm_model.specs.ValidRows.{valid_rows, wrong_nodes, wrong_quotas, valid_thresholds, wrong_thresholds, valid_screens, wrong_screens, wrong_tables, wrong_queues, wrong_unvisited};
+ghost use Rattle.fsrm_model.specs.ValidRows.{valid_rows, wrong_nodes, wrong_quotas, valid_thresholds, wrong_thresholds, valid_screens, wrong_screens, valid_templates, wrong_templates, wrong_tables, wrong_queues, wrong_unvisited};
 ghost use Rattle.fsrm_model.specs.Valued.{is_command};
 ghost use Rattle.fsrm_model.specs.ValidScans.{is_queue, IsQueue, are_left, AreLeft};
 ghost use Rattle.fsrm_model.specs.WorkedThresholds.{run_limit, scan_ends_above, refused_writes, refused_below, refused_above, refused_move, acts_in_order, changed_quotas, run_limit_setting, threshold_options, threshold_values, long_lists, refused_then};
 ghost use Rattle.fsrm_model.specs.Work.{Judged};
 ghost use Rattle.fsrm_model.specs.WorkedScreens.{members_and_others, blocked_entry, exceptions, exception_above, beside_quotas, nearest_screens, screens_and_quotas, reported_entries, moves_judged, move_entries, groups_and_lists, screens_gone, screen_words, many_patterns, folded_patterns};
+ghost use Rattle.fsrm_model.specs.WorkedTemplates.{auto_apply, template_update, derived_quotas, matching, matching_again, runs_forgotten, update_acts, templates_gone, auto_folders, auto_moves, auto_spelled, auto_and_quotas, auto_scans, templates_and_lists, crowded_templates, template_words};
 ghost use Rattle.fsrm_model.specs.WorkedRows.{nothing_done, first_files, clock, moves, bad_lines, words_apart, root_and_places, few_nodes, few_name_bytes, folded_names, rounded_usage, large_clusters, small_clusters, nested_quotas, up_to_the_limit, above_the_limit, move_below_a_quota, scan_in_steps, visited_again, out_and_back, out_for_good, scan_refusals, scans_in_turn, quota_options, quota_limits, quota_peaks, quotas_gone};
 
 /// The plain machine's text of worked scripts.
@@ -127,6 +133,26 @@ pub fn worked_screens()
     ensures folding { folded_patterns }
 {}
 
+/// The plain machine's text of worked scripts of templates and auto-apply quotas.
+pub fn worked_templates()
+    ensures auto_apply { auto_apply }
+    ensures update { template_update }
+    ensures derived { derived_quotas }
+    ensures matching { matching }
+    ensures matching_again { matching_again }
+    ensures runs { runs_forgotten }
+    ensures acts { update_acts }
+    ensures gone { templates_gone }
+    ensures folders { auto_folders }
+    ensures moves { auto_moves }
+    ensures spelled { auto_spelled }
+    ensures and_quotas { auto_and_quotas }
+    ensures scans { auto_scans }
+    ensures lists { templates_and_lists }
+    ensures crowded { crowded_templates }
+    ensures words { template_words }
+{}
+
 /// Which screen judges a name that a file is given in a folder, which one blocks or reports it, what that leaves in the
 /// audit log, and which actions run then.
 pub fn screens()
@@ -146,6 +172,20 @@ pub fn screens()
     // Either has exactly those actions of its screen run that may, and no other command has a screen's actions run.
     ensures runs { (K : Capacity) (R : Rows) (c : Command) (judged : Judged) → (work K R c.moment c.deed).judged ≡ Some judged → tells_of_screen (step K R c).outcome ≡ true → of_screens (step K R c).acts ≡ due_screen R.run_limit c.moment judged.screen }
     ensures unrun { (K : Capacity) (R : Rows) (c : Command) → tells_of_screen (step K R c).outcome ≡ false → of_screens (step K R c).acts ≡ [] }
+{}
+
+/// Which quotas match a template, what its change makes of those that it reaches, and which folders get a quota of the
+/// folder that they stand in.
+pub fn templates()
+    // A quota matches that has the template's limit, type and thresholds, whenever actions ran.
+    ensures matches { (template : TemplateRow) (quota : QuotaRow) → (matches_template template quota ≡ true) ↔ Matches template quota }
+    // A change reaches quotas of the template alone, and they match it from then on.
+    ensures reached { (mode : Update) (old : TemplateRow) (quota : QuotaRow) → is_reached mode old quota ≡ true → quota.template ≡ Some old.number }
+    ensures updated { (mode : Update) (old new : TemplateRow) (quota : QuotaRow) → is_reached mode old quota ≡ true → Matches new (updated mode old new quota) }
+    // Once a template is gone no quota is derived from it.
+    ensures gone { (number : ℕ) (quota : QuotaRow) → is_derived number (without_source number quota) ≡ false }
+    // A folder gets a quota exactly if an auto-apply quota on the folder that it stands in gives it one.
+    ensures gets { (R : Rows) (moment folder : ℕ) (quota : QuotaRow) → (applied R moment folder ≡ Some quota) ↔ Gets R moment folder quota }
 {}
 
 /// What a line is read as is what it spells, and a line that spells a command is read as it. The command is valid.
@@ -290,6 +330,8 @@ pub fn valid_rows()
     ensures wrong_thresholds { wrong_thresholds }
     ensures screens { valid_screens }
     ensures wrong_screens { wrong_screens }
+    ensures templates { valid_templates }
+    ensures wrong_templates { wrong_templates }
     ensures tables { wrong_tables }
     ensures queues { wrong_queues }
     ensures unvisited { wrong_unvisited }

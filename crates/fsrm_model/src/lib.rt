@@ -14,7 +14,9 @@ pub mod report;
 pub mod row;
 pub mod space;
 
-pub use command::{Act, Added, Answer, Ask, Command, Deed, FileOp, Outcome, Refusal, Subject};
+pub use command::{
+    Act, Added, Answer, Ask, Command, Deed, FileOp, Outcome, Refusal, Subject, Update,
+};
 pub use fsrm_base::{Duplicate, Ledger, List, NoMemory, Steps, Text, Weightless, WeightlessPage};
 pub use path::{Names, Path};
 pub use report::{ReportRow, Table};

@@ -2,7 +2,7 @@
 //! definitions.
 
 ghost use Rattle.std.specs.Prelude.{◌≡◌};
-ghost use Rattle.fsrm_model.specs.Limits.{latest_moment, longest_file, last_owner, longest_line, longest_entry, longest_script, longest_name, most_nodes, most_names, least_limit, greatest_limit, most_quotas, greatest_percent, most_thresholds, most_actions, longest_action_text, most_minutes, most_entries, most_groups, most_patterns, most_screens, most_excepts, most_screen_groups, most_text_bytes, most_visits};
+ghost use Rattle.fsrm_model.specs.Limits.{latest_moment, longest_file, last_owner, longest_line, longest_entry, longest_script, longest_name, most_nodes, most_names, least_limit, greatest_limit, most_quotas, greatest_percent, most_thresholds, most_actions, longest_action_text, most_minutes, most_entries, most_templates, most_autos, most_excluded, most_groups, most_patterns, most_screens, most_excepts, most_screen_groups, most_text_bytes, most_visits};
 
 /// The greatest moment: 2099-12-31 23:59:59 UTC, in seconds since 1970-01-01 00:00:00 UTC.
 pub const LATEST_MOMENT: u64 = 4_102_444_799;
@@ -43,11 +43,20 @@ pub const MOST_QUOTAS: usize = 4_096;
 /// The greatest percentage of a threshold.
 pub const GREATEST_PERCENT: u16 = 250;
 
-/// How many thresholds a quota may have.
+/// How many thresholds a quota or a template may have.
 pub const MOST_THRESHOLDS: usize = 16;
 
 /// How many actions a threshold may have, and how many a screen.
 pub const MOST_ACTIONS: usize = 8;
+
+/// How many templates there may be.
+pub const MOST_TEMPLATES: usize = 1_024;
+
+/// How many auto-apply quotas there may be.
+pub const MOST_AUTOS: usize = 1_024;
+
+/// How many names an auto-apply quota may exclude.
+pub const MOST_EXCLUDED: usize = 32;
 
 /// How many file groups there may be.
 pub const MOST_GROUPS: usize = 1_024;
@@ -99,6 +108,9 @@ pub fn limits()
     ensures longest_action_text { LONGEST_ACTION_TEXT ≡ longest_action_text }
     ensures most_minutes { MOST_MINUTES ≡ most_minutes }
     ensures most_entries { MOST_ENTRIES ≡ most_entries }
+    ensures most_templates { MOST_TEMPLATES ≡ most_templates }
+    ensures most_autos { MOST_AUTOS ≡ most_autos }
+    ensures most_excluded { MOST_EXCLUDED ≡ most_excluded }
     ensures most_groups { MOST_GROUPS ≡ most_groups }
     ensures most_patterns { MOST_PATTERNS ≡ most_patterns }
     ensures most_screens { MOST_SCREENS ≡ most_screens }

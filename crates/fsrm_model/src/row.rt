@@ -125,22 +125,26 @@ pub struct QuotaRow {
     pub peak_at: u64,
 }
 
-/// A quota template (MS-FSRM, IFsrmQuotaTemplate).
+/// A quota template: what a quota that is derived from it begins with (MS-FSRM, IFsrmQuotaTemplate).
 #[derive(Drop)]
 pub struct TemplateRow {
+    /// Below 1,024. A new template takes the least number that is free.
     pub number: u32,
     pub name: Text,
     pub limit: u64,
     pub enforce: bool,
+    /// As those of a quota. Their actions never run.
     pub thresholds: List<Threshold>,
 }
 
-/// An auto-apply quota: each new subfolder gets a quota from the template (MS-FSRM, IFsrmAutoApplyQuota).
+/// An auto-apply quota: each folder that is made in the folder, or moved into it, gets a quota from the template
+/// (MS-FSRM, IFsrmAutoApplyQuota).
 #[derive(Drop)]
 pub struct AutoRow {
     pub folder: u32,
+    /// The template's number.
     pub template: u32,
-    /// The names of subfolders that get none, at most 32.
+    /// The names of folders that get none, at most 32, as they were given.
     pub excluded: List<Text>,
 }
 

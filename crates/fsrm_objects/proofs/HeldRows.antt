@@ -1,10 +1,10 @@
 -- Rows of a table: which one is found, and after an edit how they are held and the bytes of their texts.
-use Rattle.std.proofs.Common.{◌≡◌, ℕ, ◌+◌, ◌*◌, ◌<◌, ◌≤◌, nat_le, true, false, List, length, get_or, insert, remove, Option, Some, None, MatchOption, sym, ◌∙◌, ap, subst, arith, rules}
-use Rattle.std.proofs.lemmas.List.{length-set}
+use Rattle.std.proofs.Common.{◌≡◌, ℕ, ◌+◌, ◌*◌, ◌<◌, ◌≤◌, nat_le, Bool, true, false, ◌&&◌, List, [], ◌∷◌, length, get_or, insert, remove, Option, Some, None, MatchOption, refl, sym, ◌∙◌, ap, subst, arith, rules}
+use Rattle.std.proofs.lemmas.List.{length-map, length-set}
 use Rattle.std.proofs.lemmas.List.Edits.{length-insert, length-remove}
 use Rattle.std.proofs.lemmas.Option.{get_or_from_slice_get, same_Some}
 use Rattle.std.specs.List.{list_all}
-use Rattle.std.specs.Prelude.{is_some, slice_set, sum_by, IsSome}
+use Rattle.std.specs.Prelude.{is_some, map, slice_set, sum_by, IsSome}
 use Rattle.fsrm_model.specs.declared.row.ExceptRow.{ExceptRow}
 use Rattle.fsrm_model.specs.declared.row.QuotaRow.{QuotaRow}
 use Rattle.fsrm_model.specs.declared.row.ScreenRow.{ScreenRow}
@@ -14,14 +14,15 @@ use Rattle.fsrm_base.proofs.EditedRows.{sum_by-with_row, sum_by-with_change, sum
 use Rattle.fsrm_base.proofs.EditedTests.{list_all-with_row, list_all-with_change, list_all-filter}
 use Rattle.fsrm_base.proofs.Look.{found_has, none_row, is_some-find}
 use Rattle.fsrm_base.proofs.SortedRows.{row_found, set_found, remove_found, insert_row, ascending-set, ascending-insert, ascending-remove}
-use Rattle.fsrm_base.proofs.Sums.{sum_by_within}
+use Rattle.fsrm_base.proofs.Order.{ascending-map}
+use Rattle.fsrm_base.proofs.Sums.{sum_by-map, sum_by_each, sum_by_within}
 use Rattle.fsrm_base.proofs.TestLaws.{clash}
 use Rattle.fsrm_objects.specs.Kept.{AreHeld, AreSmall}
 use Rattle.fsrm_objects.specs.Tables.{Tables}
 
 -- tables of these rows
-abbrev pub tables_of : List QuotaRow → List ScreenRow → List ExceptRow → Tables
-tables_of quotas screens excepts = record { quotas = quotas; screens = screens; excepts = excepts }
+abbrev pub tables_of : List QuotaRow → List ScreenRow → List ExceptRow → ℕ → Tables
+tables_of quotas screens excepts room = record { quotas = quotas; screens = screens; excepts = excepts; room = room }
 
 -- ---- what is found
 -- what is read at the place of a folder is its row
@@ -143,3 +144,31 @@ module _ {X : Type 0} (key : X → ℕ) (rows : List X) (folder p : ℕ) (c : X 
 
   pub same_texts : (bytes : X → ℕ) → is_ascending key rows ≡ true → ((row : X) → bytes (c row) ≡ bytes row) → sum_by bytes (slice_set rows p (c r)) ≡ sum_by bytes rows
   same_texts bytes ascending same = omega (arith, change_texts bytes ascending, same r)
+
+-- ---- each changed, with its number and its texts kept
+module _ {X : Type 0} (key : X → ℕ) (c : X → X) (keeps : (row : X) → key (c row) ≡ key row) where
+  pub mapped_numbers : (rows : List X) → map key (map c rows) ≡ map key rows
+  mapped_numbers [] = refl
+  mapped_numbers (row ∷ rows) = ap (λ n. n ∷ map key (map c rows)) (keeps row) ∙ ap (λ ns. key row ∷ ns) (mapped_numbers rows)
+
+  module _ (bytes : X → ℕ) (same : (row : X) → bytes (c row) ≡ bytes row) where
+    pub mapped_texts : (rows : List X) → sum_by bytes (map c rows) ≡ sum_by bytes rows
+    mapped_texts rows = sum_by-map bytes c rows ∙ sum_by_each (λ row. bytes (c row)) bytes same rows
+
+    small_each : (most_bytes : ℕ) (rows : List X) → list_all (λ row. nat_le (bytes (c row)) most_bytes) rows ≡ list_all (λ row. nat_le (bytes row) most_bytes) rows
+    small_each most_bytes [] = refl
+    small_each most_bytes (row ∷ rows) =
+        ap (λ n. nat_le n most_bytes && list_all (λ (r : X). nat_le (bytes (c r)) most_bytes) rows) (same row)
+        ∙ ap (λ b. nat_le (bytes row) most_bytes && b) (small_each most_bytes rows)
+
+    all_mapped : (p : X → Bool) (rows : List X) → list_all p (map c rows) ≡ list_all (λ row. p (c row)) rows
+    all_mapped p [] = refl
+    all_mapped p (row ∷ rows) = ap (λ b. p (c row) && b) (all_mapped p rows)
+
+    pub mapped_small : (most most_bytes : ℕ) (rows : List X) → AreSmall key bytes most most_bytes rows → AreSmall key bytes most most_bytes (map c rows)
+    mapped_small most most_bytes rows kept =
+        let few = kept.held.few in
+        record {
+          held = record { ascending = ascending-map key c keeps rows kept.held.ascending; few = omega (arith, few, length-map rows c) };
+          small = all_mapped (λ row. nat_le (bytes row) most_bytes) rows ∙ (small_each most_bytes rows ∙ kept.small);
+        }

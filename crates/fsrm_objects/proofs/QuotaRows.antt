@@ -1,10 +1,12 @@
 -- A quota whose lists and texts aren't too long has few bytes of texts.
-use Rattle.std.proofs.Common.{◌≡◌, ◌≤◌, nat_le, true, false, List, [], ◌∷◌, length, refl, arith}
+use Rattle.std.proofs.Common.{◌≡◌, ℕ, ◌≤◌, nat_le, Bool, true, false, cond, List, [], ◌∷◌, length, None, refl, arith}
 use Rattle.std.specs.List.{list_all, list_any}
 use Rattle.fsrm_model.specs.declared.row.Action.{Action}
 use Rattle.fsrm_model.specs.declared.row.QuotaRow.{QuotaRow}
 use Rattle.fsrm_model.specs.declared.row.Threshold.{Threshold}
 use Rattle.fsrm_model.specs.Limits.{longest_action_text}
+use Rattle.fsrm_model.specs.Quota.{folder_of}
+use Rattle.fsrm_model.specs.Templates.{is_derived, without_source}
 use Rattle.fsrm_model.specs.Texts.{action_bytes, quota_bytes}
 use Rattle.fsrm_model.specs.Thresholds.{are_too_many, is_crowded}
 use Rattle.fsrm_base.proofs.Sums.{sum_by_within}
@@ -31,3 +33,19 @@ quota_small row few short =
 
 pub quota_fits : (row : QuotaRow) → are_too_many row.thresholds ≡ false → has_short_texts row ≡ true → quota_bytes row ≤ 131072
 quota_fits row few short = le_is _ _ (quota_small row few short)
+
+-- one whose template is gone keeps its folder and its texts
+module _ (template : ℕ) (row : QuotaRow) where
+  freed_folder : (b : Bool) → folder_of (cond b (record row { template = None }) row) ≡ folder_of row
+  freed_folder true = refl
+  freed_folder false = refl
+
+  pub source_folder : folder_of (without_source template row) ≡ folder_of row
+  source_folder = freed_folder (is_derived template row)
+
+  freed_bytes : (b : Bool) → quota_bytes (cond b (record row { template = None }) row) ≡ quota_bytes row
+  freed_bytes true = refl
+  freed_bytes false = refl
+
+  pub source_bytes : quota_bytes (without_source template row) ≡ quota_bytes row
+  source_bytes = freed_bytes (is_derived template row)

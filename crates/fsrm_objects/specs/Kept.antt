@@ -37,12 +37,15 @@ AreSmallScreens screens = AreSmall screen_folder screen_bytes most_screens most_
 abbrev pub AreHeldExcepts : List ExceptRow → Type 0
 AreHeldExcepts excepts = AreHeld except_folder most_excepts excepts
 
--- The rows of each table are so, the tables of places have their folders, and the bytes of all texts are counted
-pub record IsKept (tables : Tables) (places screen_places except_places : List ℕ) (texts : ℕ) : Type 0 where
+-- The rows of each table are so, the tables of places have their folders, the bytes of all texts are counted, and there is
+-- memory for as many quotas as is said
+pub record IsKept (tables : Tables) (places screen_places except_places : List ℕ) (texts capacity : ℕ) : Type 0 where
   pub quotas : AreSmallQuotas tables.quotas
   pub quotas_placed : places ≡ map folder_of tables.quotas
   pub screens : AreSmallScreens tables.screens
   pub screens_placed : screen_places ≡ map screen_folder tables.screens
   pub excepts : AreHeldExcepts tables.excepts
   pub excepts_placed : except_places ≡ map except_folder tables.excepts
+  pub quotas_room : tables.room ≤ capacity
+  pub room_most : tables.room ≤ most_quotas
   pub texts_are : texts ≡ quota_texts tables.quotas + screen_texts tables.screens

@@ -19,11 +19,12 @@ use Rattle.fsrm_model.specs.Thresholds.{percent_of, actions_at, are_too_many}
 use Rattle.fsrm_objects.specs.declared.answer.ObjectFault.{ObjectFault}
 use Rattle.fsrm_objects.specs.declared.answer.ObjectFault.TheVariants.{AlreadyExists, InvalidCombination, OutOfRange, TableFull, TextsFull, NoMemory}
 
--- the rows of each table
+-- the rows of each table, and for how many quotas there is memory in any case
 pub record Tables : Type 0 where
   pub quotas : List QuotaRow
   pub screens : List ScreenRow
   pub excepts : List ExceptRow
+  pub room : ℕ
 
 -- the bytes of the texts that quotas and screens hold, and of those of all tables
 abbrev pub quota_texts : List QuotaRow → ℕ

@@ -17,9 +17,11 @@ mod percents;
 mod place_table;
 mod runs;
 mod screens;
+mod sources;
 mod texts;
 
 pub use answer::ObjectFault;
 pub use objects::Objects;
 pub use percents::threshold_place;
 pub use place_table::PlaceTable;
+pub use texts::{are_too_many, threshold_texts};

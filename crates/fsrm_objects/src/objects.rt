@@ -1,10 +1,11 @@
 //! The tables of objects.
 
-ghost use Rattle.std.specs.Prelude.{◌≡◌, ◌<◌, ◌≤◌, IfOk, IfErr, MatchOption, OnOk, OnErr, [], None, Some, true, false, length, slice_get};
+ghost use Rattle.std.specs.Prelude.{◌≡◌, ◌<◌, ◌≤◌, IfOk, IfErr, IsErrOf, MatchOption, OnOk, OnErr, [], None, Some, true, false, length, map, slice_get};
 ghost use Rattle.std.specs.Option.{option_copied};
 ghost use Rattle.fsrm_base.specs.Keyed.{row_of, has_row};
 ghost use Rattle.fsrm_model.specs.Limits.{most_quotas};
 ghost use Rattle.fsrm_model.specs.Quota.{folder_of};
+ghost use Rattle.fsrm_model.specs.Templates.{without_source};
 ghost use Rattle.fsrm_model.specs.Texts.{quota_bytes};
 ghost use Rattle.fsrm_base.specs.Places.{IsAt};
 ghost use Rattle.fsrm_objects.specs.Tables.{IsFault, has_short_texts, HasAction, other_fault, quota_fault, texts_in, with_quota, with_other, with_peak, with_run, with_state, without_quota};
@@ -12,9 +13,10 @@ ghost use Rattle.fsrm_objects.specs.Tables.{IsFault, has_short_texts, HasAction,
 use crate::answer::ObjectFault;
 use crate::place_table::PlaceTable;
 use crate::runs::note_run;
-use crate::texts::{has_long_list, left_of_quota, texts_of};
+use crate::sources::forget_source;
+use crate::texts::{are_too_many, left_of_thresholds, threshold_texts};
 use fsrm_model::limits::MOST_QUOTAS;
-use fsrm_model::{ExceptRow, QuotaRow, QuotaState, ScreenRow};
+use fsrm_model::{ExceptRow, NoMemory, QuotaRow, QuotaState, ScreenRow};
 use std::alloc::Global;
 use std::marker::Model;
 
@@ -36,22 +38,23 @@ pub struct Objects {
 }
 
 impl Model for Objects {
+    ghost use Rattle.std.specs.Vec.{vec_capacity};
     ghost use Rattle.fsrm_objects.specs.Kept.{IsKept};
     ghost use Rattle.fsrm_objects.specs.Tables.{Tables};
 
     ghost Value = { Tables };
 
-    ghost view = { λ o. record { quotas = o.quotas.items; screens = o.screens.items; excepts = o.excepts.items } };
+    ghost view = { λ o. record { quotas = o.quotas.items; screens = o.screens.items; excepts = o.excepts.items; room = o.places.room } };
 
     ghost invariant = { λ o.
-        IsKept (record { quotas = o.quotas.items; screens = o.screens.items; excepts = o.excepts.items })
-        o.places.numbers o.screen_places.numbers o.except_places.numbers o.texts };
+        IsKept (record { quotas = o.quotas.items; screens = o.screens.items; excepts = o.excepts.items; room = o.places.room })
+        o.places.numbers o.screen_places.numbers o.except_places.numbers o.texts (vec_capacity o.quotas) };
 }
 
 impl Objects {
     /// Tables without rows. It takes no memory.
     pub fn new(alloc: Global) -> Objects
-        ensures { result ≡ record { quotas = []; screens = []; excepts = [] } }
+        ensures { result ≡ record { quotas = []; screens = []; excepts = []; room = 0 } }
     {
         Objects {
             quotas: Vec::new(alloc),
@@ -64,16 +67,29 @@ impl Objects {
         }
     }
 
+    /// Makes sure of memory for the 4,096 quotas that there may be. An `Err` changes nothing.
+    pub fn make_room(&mut self) -> Result<(), NoMemory>
+        ensures ok { OnOk result (self.new ≡ record self.old { room = most_quotas }) }
+        ensures err { OnErr result (self.new ≡ self.old) }
+    {
+        let more = MOST_QUOTAS.saturating_sub(self.quotas.len());
+        self.quotas.reserve(more)?;
+        self.places.make_room(MOST_QUOTAS as u16)?;
+        Ok(())
+    }
+
     /// Adds a quota, whose actions have texts of at most 1,024 bytes each.
     ///
     /// `room` is how many bytes of texts may still come. The quota is refused if its folder has one, else if
     /// it has more than 16 thresholds or one of these more than 8 actions, else if there are 4,096 quotas,
-    /// else if its texts are longer than `room`. An `Err` changes nothing, and the row is dropped.
+    /// else if its texts are longer than `room`. An `Err` changes nothing, and the row is dropped. After
+    /// `make_room` it never fails for want of memory.
     pub fn add_quota(&mut self, row: QuotaRow, room: u32) -> Result<(), ObjectFault>
         requires { has_short_texts row ≡ true }
         ensures ok { OnOk result (self.new ≡ with_quota self.old row) }
         ensures may { OnOk result (quota_fault self.old row room ≡ None) }
         ensures refused { IfErr result (λ fault. IsFault fault (quota_fault self.old row room)) }
+        ensures full { IsErrOf result ObjectFault.NoMemory → self.old.room ≤ length self.old.quotas }
         ensures err { OnErr result (self.new ≡ self.old) }
     {
         let bytes = self.admit(&row, room)?;
@@ -81,6 +97,15 @@ impl Objects {
         let place = self.places.insert(row.folder)?;
         self.quotas.insert(place, row).unwrap();
         self.texts += bytes;
+        Ok(())
+    }
+
+    /// Whether a quota may be added, as `add_quota` judges it.
+    pub fn may_add(&self, row: &QuotaRow, room: u32) -> Result<(), ObjectFault>
+        ensures may { OnOk result (quota_fault self.now row.now room ≡ None) }
+        ensures refused { IfErr result (λ fault. quota_fault self.now row.now room ≡ Some fault) }
+    {
+        self.admit(row, room)?;
         Ok(())
     }
 
@@ -100,14 +125,14 @@ impl Objects {
         if self.place(row.folder).is_some() {
             return Err(ObjectFault::AlreadyExists);
         }
-        if has_long_list(row) {
+        if are_too_many(&row.thresholds) {
             return Err(ObjectFault::OutOfRange);
         }
         if self.quotas.len() >= MOST_QUOTAS {
             return Err(ObjectFault::TableFull);
         }
         let room = u64::from(room);
-        let Some(left) = left_of_quota(row, room) else {
+        let Some(left) = left_of_thresholds(&row.thresholds, room) else {
             return Err(ObjectFault::TextsFull);
         };
         Ok((room - left) as u32)
@@ -129,8 +154,8 @@ impl Objects {
     {
         self.may_set(&row, room)?;
         let place = self.place(row.folder).unwrap();
-        let replaced = texts_of(&self.quotas[place]);
-        let bytes = texts_of(&row);
+        let replaced = threshold_texts(&self.quotas[place].thresholds);
+        let bytes = threshold_texts(&row.thresholds);
         self.texts = self.texts - replaced + bytes;
         self.quotas[place] = row;
         Ok(())
@@ -143,12 +168,12 @@ impl Objects {
         ensures may { OnOk result (other_fault self.now row.now room ≡ None) }
         ensures refused { IfErr result (λ fault. other_fault self.now row.now room ≡ Some fault) }
     {
-        if has_long_list(row) {
+        if are_too_many(&row.thresholds) {
             return Err(ObjectFault::OutOfRange);
         }
         let place = self.place(row.folder).unwrap();
-        let replaced = texts_of(&self.quotas[place]);
-        let bytes = texts_of(row);
+        let replaced = threshold_texts(&self.quotas[place].thresholds);
+        let bytes = threshold_texts(&row.thresholds);
         if bytes.saturating_sub(replaced) > room {
             return Err(ObjectFault::TextsFull);
         }
@@ -161,9 +186,17 @@ impl Objects {
         ensures { self.new ≡ without_quota self.old folder }
     {
         let place = self.place(folder).unwrap();
-        self.texts -= texts_of(&self.quotas[place]);
+        self.texts -= threshold_texts(&self.quotas[place].thresholds);
         self.quotas.remove(place);
         self.places.remove(folder);
+    }
+
+    /// Takes a template, by its number, from each quota that was derived from it. The quotas stay, and all else of
+    /// them. It takes no memory.
+    pub fn clear_template(&mut self, template: u32)
+        ensures { self.new ≡ record self.old { quotas = map (without_source template) self.old.quotas } }
+    {
+        forget_source(&mut self.quotas, template);
     }
 
     /// Sets the peak of a folder's quota, in bytes, and its moment.

@@ -74,6 +74,20 @@ impl PlaceTable {
         })
     }
 
+    /// Makes sure of memory for so many numbers. An `Err` changes nothing.
+    pub fn make_room(&mut self, room: u16) -> Result<(), NoMemory>
+        requires { self.old.room ≤ room }
+        ensures ok { OnOk result (self.new ≡ record self.old { room = room }) }
+        ensures err { OnErr result (self.new ≡ self.old) }
+    {
+        let numbers = (room as usize).saturating_sub(self.numbers.len());
+        let entries = (TABLED as usize).saturating_sub(self.entries.len());
+        self.numbers.reserve(numbers)?;
+        self.entries.reserve(entries)?;
+        self.room = room;
+        Ok(())
+    }
+
     /// The place of a number, from 0.
     pub fn place(&self, number: u32) -> Option<usize>
         ensures { MatchOption result (is_in self.now.numbers number ≡ false) (IsAt itself number self.now.numbers) }

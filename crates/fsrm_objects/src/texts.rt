@@ -2,19 +2,19 @@
 
 ghost use Rattle.std.specs.Prelude.{◌≡◌, ◌+◌, ◌<◌, ◌^◌, MatchOption};
 ghost use Rattle.std.specs.List.{list_any};
-ghost use Rattle.fsrm_model.specs.Texts.{action_bytes, quota_bytes};
+ghost use Rattle.fsrm_model.specs.Texts.{action_bytes, threshold_bytes};
 ghost use Rattle.fsrm_model.specs.Thresholds.{are_too_many, is_crowded};
 ghost use Rattle.fsrm_objects.specs.Tables.{is_long_screen};
 
 use fsrm_base::room::left_of_text;
 use fsrm_model::limits::{MOST_ACTIONS, MOST_SCREEN_GROUPS, MOST_THRESHOLDS};
-use fsrm_model::{Action, List, QuotaRow, ScreenRow, Threshold};
+use fsrm_model::{Action, List, ScreenRow, Threshold};
 
-/// Whether a quota has more thresholds, or one of them more actions, than it may.
-pub fn has_long_list(row: &QuotaRow) -> bool
-    ensures { result ≡ are_too_many row.now.thresholds }
+/// Whether there are more thresholds than a quota or a template may have, or one of them has more actions than it may.
+pub fn are_too_many(thresholds: &List<Threshold>) -> bool
+    ensures { result ≡ are_too_many thresholds.now }
 {
-    row.thresholds.len() > MOST_THRESHOLDS || some_is_crowded(&row.thresholds)
+    thresholds.len() > MOST_THRESHOLDS || some_is_crowded(thresholds)
 }
 
 fn some_is_crowded(thresholds: &List<Threshold>) -> bool
@@ -33,22 +33,22 @@ pub fn is_long_screen(row: &ScreenRow) -> bool
     row.groups.len() > MOST_SCREEN_GROUPS || row.actions.len() > MOST_ACTIONS
 }
 
-/// The bytes of a quota's texts, which fit.
-pub fn texts_of(row: &QuotaRow) -> u32
-    requires { quota_bytes row.now < 2 ^ 32 }
-    ensures { result ≡ quota_bytes row.now }
+/// The bytes of the texts of thresholds, which fit.
+pub fn threshold_texts(thresholds: &List<Threshold>) -> u32
+    requires { threshold_bytes thresholds.now < 2 ^ 32 }
+    ensures { result ≡ threshold_bytes thresholds.now }
 {
     let room = u64::from(u32::MAX);
-    let left = left_of_quota(row, room).unwrap();
+    let left = left_of_thresholds(thresholds, room).unwrap();
     (room - left) as u32
 }
 
-/// How much of the room a quota's texts leave; None if they are longer.
-pub fn left_of_quota(row: &QuotaRow, room: u64) -> Option<u64>
-    ensures { MatchOption result (room < quota_bytes row.now) (λ left. left + quota_bytes row.now ≡ room) }
+/// How much of the room the texts of thresholds leave; None if they are longer.
+pub fn left_of_thresholds(thresholds: &List<Threshold>, room: u64) -> Option<u64>
+    ensures { MatchOption result (room < threshold_bytes thresholds.now) (λ left. left + threshold_bytes thresholds.now ≡ room) }
 {
     let mut left = room;
-    for threshold in row.thresholds.as_slice() {
+    for threshold in thresholds.as_slice() {
         left = left_of_actions(&threshold.actions, left)?;
     }
     Some(left)

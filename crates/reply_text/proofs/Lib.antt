@@ -8,3 +8,4 @@ pub mod ActionLines
 pub mod ActLines
 pub mod Settings
 pub mod ScreenLines
+pub mod TemplateLines

@@ -15,6 +15,7 @@ use Rattle.fsrm_model.specs.declared.row.Threshold.{Threshold}
 use Rattle.fsrm_model.specs.Date.{date_text}
 use Rattle.fsrm_base.specs.Keyed.{row_of, has_row, is_ascending}
 use Rattle.fsrm_model.specs.Limits.{latest_moment}
+use Rattle.fsrm_model.specs.Printed.{type_word}
 use Rattle.fsrm_model.specs.Quota.{folder_of, counts, used_of}
 use Rattle.fsrm_model.specs.Cost.{path_cost, list_cost}
 use Rattle.fsrm_model.specs.declared.command.Ask.TheVariants.{Quotas}
@@ -28,7 +29,7 @@ use Rattle.fsrm_base.proofs.TestLaws.{lt_is, eq_is, eq_same, eq_below, le_is}
 use Rattle.fsrm_outside.specs.Shown.{ShowsFront}
 use Rattle.std.specs.Io.KnownBytes.{append_known}
 use Rattle.reply_text.proofs.Sent.{front_more, sends_then}
-use Rattle.reply_text.specs.Lines.{moment_text, line_text, lines_text, threshold_text, used_word, mode_word, quota_text}
+use Rattle.reply_text.specs.Lines.{moment_text, line_text, lines_text, threshold_text, used_word, quota_text}
 use Rattle.reply_text.specs.Writes.{Sends}
 
 -- the moment of a peak is one
@@ -49,7 +50,7 @@ parts_same a b c u v d e p q same also = rw (same, also)
 pub line_same : (K : Capacity) (R : Rows) (quota : QuotaRow) (used : Option ℕ) (path : List ℕ) → row_of folder_of quota.folder R.quotas ≡ Some quota → used ≡ used_of K R quota.folder → path ≡ path_text R.nodes quota.folder → quota_text quota used path ≡ line_text K R.nodes quota
 unfolding line_text moment_text
 line_same K R quota used path h e p =
-    parts_same (decimal quota.limit) (mode_word quota.enforce) (state_word quota.state) _ _ (decimal quota.peak) (date_text quota.peak_at) _ _ (used_same K R quota used h e) p
+    parts_same (decimal quota.limit) (type_word quota.enforce) (state_word quota.state) _ _ (decimal quota.peak) (date_text quota.peak_at) _ _ (used_same K R quota used h e) p
 
 -- a row that stands after another has a greater key
 later_key : {X : Type 0} (key : X → ℕ) (x q : X) (xs : List X) (k : ℕ) → is_ascending key (x ∷ xs) ≡ true → slice_get xs k ≡ Some q → key x < key q
@@ -143,6 +144,6 @@ one_cost K R folder quota store h =
     omega (arith, e)
 
 -- the line of a quota, from its parts
-pub row_shown : (quota : QuotaRow) (used : Option ℕ) (path bytes state mode shown moment : List ℕ) → mode ≡ mode_word quota.enforce → state ≡ state_word quota.state → shown ≡ used_word used → moment ≡ moment_text quota.peak_at → bytes ≡ path
+pub row_shown : (quota : QuotaRow) (used : Option ℕ) (path bytes state mode shown moment : List ℕ) → mode ≡ type_word quota.enforce → state ≡ state_word quota.state → shown ≡ used_word used → moment ≡ moment_text quota.peak_at → bytes ≡ path
     → 32 ∷ 32 ∷ (decimal quota.limit ++ 32 ∷ (mode ++ 32 ∷ (state ++ 32 ∷ (shown ++ 32 ∷ (decimal quota.peak ++ 32 ∷ (moment ++ 32 ∷ (bytes ++ 10 ∷ []))))))) ≡ quota_text quota used path
 row_shown quota used path bytes state mode shown moment modes states shows moments same = rw (same, modes, states, shows, moments) refl

@@ -2,12 +2,14 @@
 use Rattle.std.specs.Prelude.{ℕ, ◌==◌, Bool, true, false, List, [], ◌∷◌, ◌++◌, codes, decimal, Option, Some, None, if◌then◌else◌}
 use Rattle.fsrm_model.specs.declared.row.ActRow.{ActRow}
 use Rattle.fsrm_model.specs.declared.row.Action.{Action}
+use Rattle.fsrm_model.specs.declared.row.AutoRow.{AutoRow}
 use Rattle.fsrm_model.specs.declared.row.Capacity.{Capacity}
 use Rattle.fsrm_model.specs.declared.row.ExceptRow.{ExceptRow}
 use Rattle.fsrm_model.specs.declared.row.GroupRow.{GroupRow}
 use Rattle.fsrm_model.specs.declared.row.NodeRow.{NodeRow}
 use Rattle.fsrm_model.specs.declared.row.QuotaRow.{QuotaRow}
 use Rattle.fsrm_model.specs.declared.row.ScreenRow.{ScreenRow}
+use Rattle.fsrm_model.specs.declared.row.TemplateRow.{TemplateRow}
 use Rattle.fsrm_model.specs.declared.row.Threshold.{Threshold}
 use Rattle.fsrm_model.specs.declared.command.Act.{Act}
 use Rattle.fsrm_model.specs.declared.command.Outcome.{Outcome}
@@ -16,8 +18,9 @@ use Rattle.fsrm_model.specs.declared.command.Refusal.TheVariants.{BadLine}
 use Rattle.fsrm_model.specs.declared.command.Outcome.TheVariants.{Listing}
 use Rattle.fsrm_model.specs.ActText.{at_lines, entry_line, subject_words}
 use Rattle.fsrm_model.specs.ActionWords.{action_words, kind_word}
-use Rattle.fsrm_model.specs.Printed.{deep_line}
+use Rattle.fsrm_model.specs.Printed.{deep_line, type_word}
 use Rattle.fsrm_model.specs.ScreenText.{do_line, except_lines, group_lines, named_line, pattern_line, screen_lines}
+use Rattle.fsrm_model.specs.TemplateText.{auto_lines, except_line, template_lines}
 use Rattle.fsrm_model.specs.Text.{body_line, quota_line, quota_lines, state_word}
 use Rattle.fsrm_model.specs.Date.{date_text}
 
@@ -66,6 +69,16 @@ screen_text nodes groups screen = screen_lines nodes groups screen
 unfoldable pub except_text : List NodeRow → List GroupRow → ExceptRow → List ℕ
 except_text nodes groups except = except_lines nodes groups except
 
+-- the lines of a template, those of an auto-apply quota, and that of a name that it excludes
+unfoldable pub template_text : TemplateRow → List ℕ
+template_text template = template_lines template
+
+unfoldable pub auto_text : List NodeRow → List TemplateRow → AutoRow → List ℕ
+auto_text nodes templates auto = auto_lines nodes templates auto
+
+unfoldable pub excluded_text : List ℕ → List ℕ
+excluded_text name = except_line name
+
 -- the line of an act, whose folder has this path, and whose action this text
 abbrev pub act_text : Act → List ℕ → List ℕ → List ℕ
 act_text act path text =
@@ -76,13 +89,10 @@ abbrev pub used_word : Option ℕ → List ℕ
 used_word (Some bytes) = decimal bytes
 used_word None = codes "-"
 
-abbrev pub mode_word : Bool → List ℕ
-mode_word enforce = if enforce then codes "hard" else codes "soft"
-
 -- a line of a list, of a quota whose folder has this usage and this path
 abbrev pub quota_text : QuotaRow → Option ℕ → List ℕ → List ℕ
 quota_text quota used path =
-    body_line (decimal quota.limit ∷ mode_word quota.enforce ∷ state_word quota.state ∷ used_word used
+    body_line (decimal quota.limit ∷ type_word quota.enforce ∷ state_word quota.state ∷ used_word used
     ∷ decimal quota.peak ∷ moment_text quota.peak_at ∷ path ∷ [])
 
 -- whether an outcome is a list

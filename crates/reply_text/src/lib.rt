@@ -12,6 +12,7 @@ mod fault;
 mod groups;
 mod heads;
 mod lists;
+mod quota_templates;
 mod replies;
 mod screens;
 mod sending;

@@ -7,12 +7,13 @@ ghost use Rattle.fsrm_model.specs.Cost.{list_cost, path_cost};
 ghost use Rattle.fsrm_base.specs.Keyed.{has_row, row_of};
 ghost use Rattle.fsrm_model.specs.Limits.{latest_moment};
 ghost use Rattle.fsrm_model.specs.Named.{IsNamed};
+ghost use Rattle.fsrm_model.specs.Printed.{type_word};
 ghost use Rattle.fsrm_model.specs.Quota.{folder_of};
 ghost use Rattle.fsrm_model.specs.Text as Words;
 ghost use Rattle.fsrm_model.specs.Text.{list_lines};
 ghost use Rattle.fsrm_model.specs.Valid.{IsValid};
 ghost use Rattle.fsrm_outside.specs.Causes.{Rose};
-ghost use Rattle.reply_text.specs.Lines.{mode_word, moment_text, used_word, quota_text, lines_text};
+ghost use Rattle.reply_text.specs.Lines.{moment_text, used_word, quota_text, lines_text};
 ghost use Rattle.reply_text.specs.Parts.{part_text};
 ghost use Rattle.reply_text.specs.Writes.{KeepsCount, Sends};
 
@@ -21,6 +22,7 @@ use crate::acts::write_log;
 use crate::dates::moment_text;
 use crate::fault::TextFault;
 use crate::groups::write_groups;
+use crate::quota_templates::{write_autos, write_templates};
 use crate::screens::{write_excepts, write_screens};
 use crate::sending::{Part, send};
 use fsrm_engine::Engine;
@@ -28,8 +30,9 @@ use fsrm_model::{Ask, Ledger, QuotaRow, QuotaState, Steps};
 use fsrm_outside::Sink;
 use std::alloc::Global;
 
-fn mode_word(enforce: bool) -> &'static [u8]
-    ensures { result.now ≡ mode_word enforce }
+/// The type of a quota or of a template.
+pub fn type_word(enforce: bool) -> &'static [u8]
+    ensures { result.now ≡ type_word enforce }
 {
     if enforce { b"hard" } else { b"soft" }
 }
@@ -76,7 +79,7 @@ fn write_line<'a, S: Sink>(
             Part::Text(b"  "),
             Part::Number(quota.limit),
             Part::Text(b" "),
-            Part::Text(mode_word(quota.enforce)),
+            Part::Text(type_word(quota.enforce)),
             Part::Text(b" "),
             Part::Text(state_word(quota.state)),
             Part::Text(b" "),
@@ -227,6 +230,8 @@ pub fn write_list<S: Sink, L: Ledger>(
 {
     match *ask {
         Ask::Quotas(folder) => write_asked(alloc, sink, folder, engine, steps),
+        Ask::Templates => write_templates(sink, engine),
+        Ask::Autos => write_autos(alloc, sink, engine, steps),
         Ask::Groups => write_groups(sink, engine),
         Ask::Screens => write_screens(alloc, sink, engine, steps),
         Ask::Excepts => write_excepts(alloc, sink, engine, steps),

@@ -1,8 +1,9 @@
 //! The queue of scans.
 
-ghost use Rattle.std.specs.Prelude.{◌≡◌, ◌<◌, ◌++◌, ◌==◌, ℕ, IfOk, OnOk, OnErr, Some, None, true, false, is_some, length, [], ◌∷◌};
+ghost use Rattle.std.specs.Prelude.{◌≡◌, ◌<◌, ◌++◌, ◌==◌, ℕ, IfOk, Some, None, true, false, is_some, length, [], ◌∷◌};
 ghost use Rattle.fsrm_model.specs.Capacities.{is_cluster};
 ghost use Rattle.fsrm_base.specs.Numbers.{is_in, each_once, without_number};
+ghost use Rattle.fsrm_model.specs.Limits.{most_quotas};
 ghost use Rattle.fsrm_model.specs.QuotaStates.{head as first};
 ghost use Rattle.fsrm_model.specs.Tree.{is_folder};
 ghost use Rattle.rescan.specs.Frontiers.{idle};
@@ -12,6 +13,7 @@ ghost use Rattle.volume_tree.specs.Volume.{Volume};
 
 use crate::frontier::Frontier;
 use fsrm_model::NoMemory;
+use fsrm_model::limits::MOST_QUOTAS;
 use std::alloc::Global;
 use std::marker::Model;
 
@@ -25,26 +27,25 @@ pub struct Scans {
 
 impl Model for Scans {
     ghost use Rattle.rescan.specs.Courses.{Course};
-    ghost use Rattle.rescan.specs.KeptQueue.{IsKeptQueue};
+    ghost use Rattle.rescan.specs.KeptQueue.{IsKeptScans};
 
     ghost Value = { Course };
 
     ghost view = { λ s. record { queue = s.queue.items; front = s.frontier } };
 
-    ghost invariant = { λ s. IsKeptQueue s.queue.items s.frontier };
+    ghost invariant = { λ s. IsKeptScans s.queue s.frontier };
 }
 
 impl Scans {
-    /// An empty queue, for scans of volumes of so many nodes at most, with clusters of so many bytes.
+    /// An empty queue with memory for 4,096 folders, for scans of volumes of so many nodes at most, with clusters of
+    /// so many bytes.
     pub fn reserve(alloc: Global, nodes: u32, cluster: u32) -> Result<Scans, NoMemory>
         requires { is_cluster cluster ≡ true }
         ensures { IfOk result (λ scans. scans ≡ record { queue = []; front = idle (record { nodes = nodes; cluster = cluster }) }) }
     {
+        let queue = Vec::with_capacity(alloc, MOST_QUOTAS)?;
         let frontier = Frontier::reserve(alloc, nodes, cluster)?;
-        Ok(Scans {
-            queue: Vec::new(alloc),
-            frontier,
-        })
+        Ok(Scans { queue, frontier })
     }
 
     /// How many scans wait, the active one among them.
@@ -68,21 +69,19 @@ impl Scans {
         self.queue.contains(&folder)
     }
 
-    /// Puts a folder to the end of the queue. If it is the only one its scan begins. An `Err` changes
-    /// nothing.
-    pub fn push(&mut self, folder: u32) -> Result<(), NoMemory>
+    /// Puts a folder to the end of the queue. If it is the only one its scan begins. It takes no memory.
+    pub fn push(&mut self, folder: u32)
         requires room { folder < self.old.front.room.nodes }
         requires absent { is_in self.old.queue folder ≡ false }
-        ensures queue { OnOk result (self.new.queue ≡ self.old.queue ++ folder ∷ []) }
-        ensures turns { OnOk result ((v : Volume) → Scanning v self.old → is_folder v.nodes folder ≡ true → Turns self.old self.new v) }
-        ensures err { OnErr result (self.new ≡ self.old) }
+        requires few { length self.old.queue < most_quotas }
+        ensures queue { self.new.queue ≡ self.old.queue ++ folder ∷ [] }
+        ensures turns { (v : Volume) → Scanning v self.old → is_folder v.nodes folder ≡ true → Turns self.old self.new v }
     {
         let scanning = self.is_scanning();
-        self.queue.push(folder)?;
+        self.queue.push(folder).unwrap();
         if !scanning {
             begin(Some(folder), &mut self.frontier);
         }
-        Ok(())
     }
 
     /// Takes a folder out of the queue, if it is there. If it was at the head its scan is given up,

@@ -9,7 +9,10 @@ pub mod Lines
 pub mod LimitWords
 pub mod OptionLaws
 pub mod PathOption
+pub mod BaseOptions
 pub mod QuotaOptions
+pub mod TemplateOptions
+pub mod AutoOptions
 pub mod RunLimitOption
 pub mod GroupOptions
 pub mod NamedWords

@@ -5,11 +5,12 @@ use Rattle.std.specs.List.{cons_option, list_any, position_or_len, before_first,
 use Rattle.std.specs.Option.{option_or}
 use Rattle.std.proofs.lemmas.List.{append-nil}
 use Rattle.std.proofs.lemmas.List.Elements.{filter_map-append}
-use Rattle.fsrm_model.specs.declared.command.Refusal.TheVariants.{BadLine}
-use Rattle.fsrm_model.specs.Options.{Key, may_repeat, Given, key_of, value_from, is_of, one, each_of, key_named, word_key, is_colon, with_option, options}
+use Rattle.fsrm_model.specs.declared.command.Refusal.TheVariants.{BadLine, OutOfRange}
+use Rattle.fsrm_model.specs.Options.{Key, TheExclusion, may_repeat, Given, key_of, value_from, is_of, one, each_of, key_named, word_key, is_colon, is_full, with_option, options}
 use Rattle.fsrm_model.specs.Reading.{Read, ◌>>=◌, guarded, known}
 use Rattle.fsrm_model.specs.Words.{Word}
 use Rattle.fsrm_model.proofs.lines.OptionLaws.{own_key}
+use Rattle.fsrm_model.proofs.lines.ReadLaws.{both_ok, guarded_ok, guarded_then}
 use Rattle.tool_commands.specs.OptionWords.{KeepsOnce, KeepsMore, option_word, Adds}
 use Rattle.tool_commands.specs.LineFaults.{Reads}
 use Rattle.tool_commands.specs.declared.reading.LineFault.{LineFault}
@@ -70,12 +71,26 @@ any_one value (first ∷ given) = at (value first) (one value given) (any_one va
     at None p h = h
     at (Some x) p h = refl
 
+-- ---- one option more
+-- what it comes to if there can't be too many of it
+plain_option : (key : Key) (column : ℕ) (text : List ℕ) (given : List Given) → is_full key given ≡ false → with_option key column text given ≡ (guarded (may_repeat key || not (list_any (is_of key) given)) (BadLine column) key >>= λ fresh. value_from fresh column text >>= λ x. Ok (given ++ x ∷ []))
+plain_option key column text given few =
+    ap (λ (full : Bool). guarded (may_repeat key || not (list_any (is_of key) given)) (BadLine column) key >>= λ fresh. value_from fresh column text >>= λ x. guarded (not full) OutOfRange (given ++ x ∷ [])) few
+
+-- of what may be given once there can't
+never_full : (key : Key) (given : List Given) → may_repeat key ≡ false → is_full key given ≡ false
+never_full TheExclusion given single = absurd (cc single)
+never_full other given single = refl
+
 -- an option that may be given once
 pub add_once : {X V : Type 0} (holds : V → List Given → Type 0) (key : Key) (column : ℕ) (text : List ℕ) (make : X → Given) (value : Given → Option X) (read : Read X) → may_repeat key ≡ false → ((given : List Given) → list_any (is_of key) given ≡ is_some (one value given)) → value_from key column text ≡ (read >>= λ x. Ok (make x)) → (place : Option X → V) (given : List Given) (result : Result (Unit {0}) LineFault) (old slot : Option X) (code : Result X LineFault) → KeepsOnce result old slot column code → Reads code read → old ≡ one value given → ((x : X) → list_any (is_of key) given ≡ false → holds (place (Some x)) (given ++ make x ∷ [])) → Adds holds result (place slot) (with_option key column text given)
 add_once {X} {V} holds key column text make value read single has is place given result old slot code keeps reads held next = at old code keeps reads (has given ∙ ap is_some (sym held))
   where
     with_is : (b : Bool) → list_any (is_of key) given ≡ b → with_option key column text given ≡ (guarded (not b) (BadLine column) key >>= λ fresh. value_from fresh column text >>= λ x. Ok (given ++ x ∷ []))
-    with_is b e = ap (λ (a : Bool). guarded (a || not (list_any (is_of key) given)) (BadLine column) key >>= λ fresh. value_from fresh column text >>= λ x. Ok (given ++ x ∷ [])) single ∙ ap (λ (b : Bool). guarded (not b) (BadLine column) key >>= λ fresh. value_from fresh column text >>= λ x. Ok (given ++ x ∷ [])) e
+    with_is b e =
+        plain_option key column text given (never_full key given single)
+        ∙ ap (λ (a : Bool). guarded (a || not (list_any (is_of key) given)) (BadLine column) key >>= λ fresh. value_from fresh column text >>= λ x. Ok (given ++ x ∷ [])) single
+        ∙ ap (λ (b : Bool). guarded (not b) (BadLine column) key >>= λ fresh. value_from fresh column text >>= λ x. Ok (given ++ x ∷ [])) e
 
     value_is : list_any (is_of key) given ≡ false → with_option key column text given ≡ ((read >>= λ x. Ok (make x)) >>= λ x. Ok (given ++ x ∷ []))
     value_is e = with_is false e ∙ ap (λ (r : Read Given). r >>= λ x. Ok (given ++ x ∷ [])) is
@@ -92,12 +107,13 @@ add_once {X} {V} holds key column text make value read single has is place given
     at None (Err NoMemory) k r e = subst (λ (done : Result (Unit {0}) LineFault). Adds holds done (place slot) (with_option key column text given)) (sym k) tt
 
 -- an option that may repeat
-pub add_again : {X V : Type 0} (holds : V → List Given → Type 0) (key : Key) (column : ℕ) (text : List ℕ) (make : X → Given) (read : Read X) → may_repeat key ≡ true → value_from key column text ≡ (read >>= λ x. Ok (make x)) → (place : List X → V) (given : List Given) (result : Result (Unit {0}) LineFault) (old new : List X) (code : Result X LineFault) → KeepsMore result old new code → Reads code read → ((x : X) → holds (place (old ++ x ∷ [])) (given ++ make x ∷ [])) → Adds holds result (place new) (with_option key column text given)
-add_again {X} {V} holds key column text make read many is place given result old new code keeps reads next = at result code keeps reads
+pub add_again : {X V : Type 0} (holds : V → List Given → Type 0) (key : Key) (column : ℕ) (text : List ℕ) (make : X → Given) (read : Read X) → may_repeat key ≡ true → value_from key column text ≡ (read >>= λ x. Ok (make x)) → (place : List X → V) (given : List Given) (result : Result (Unit {0}) LineFault) (old new : List X) (code : Result X LineFault) → is_full key given ≡ false → KeepsMore result old new code → Reads code read → ((x : X) → holds (place (old ++ x ∷ [])) (given ++ make x ∷ [])) → Adds holds result (place new) (with_option key column text given)
+add_again {X} {V} holds key column text make read many is place given result old new code few keeps reads next = at result code keeps reads
   where
     with_is : with_option key column text given ≡ ((read >>= λ x. Ok (make x)) >>= λ x. Ok (given ++ x ∷ []))
     with_is =
-        ap (λ (a : Bool). guarded (a || not (list_any (is_of key) given)) (BadLine column) key >>= λ fresh. value_from fresh column text >>= λ x. Ok (given ++ x ∷ [])) many
+        plain_option key column text given few
+        ∙ ap (λ (a : Bool). guarded (a || not (list_any (is_of key) given)) (BadLine column) key >>= λ fresh. value_from fresh column text >>= λ x. Ok (given ++ x ∷ [])) many
         ∙ ap (λ (r : Read Given). r >>= λ x. Ok (given ++ x ∷ [])) is
 
     made : (code : Read X) → read ≡ code → with_option key column text given ≡ ((code >>= λ x. Ok (make x)) >>= λ x. Ok (given ++ x ∷ []))
@@ -109,6 +125,15 @@ add_again {X} {V} holds key column text make read many is place given result old
     at (Err fault) (Ok x) k r = subst (λ (f : LineFault). Adds holds (Err f) (place new) (with_option key column text given)) (sym k) tt
     at (Err fault) (Err (Refused refusal)) k r = subst (λ (f : LineFault). Adds holds (Err f) (place new) (with_option key column text given)) (sym k) (made (Err refusal) r)
     at (Err fault) (Err NoMemory) k r = subst (λ (f : LineFault). Adds holds (Err f) (place new) (with_option key column text given)) (sym k) tt
+
+-- what an option adds is its value
+pub added_is : (key : Key) (column : ℕ) (text : List ℕ) (given more : List Given) → with_option key column text given ≡ Ok more → (x : Given) × (more ≡ given ++ x ∷ []) × (value_from key column text ≡ Ok x)
+added_is key column text given more h =
+    let next : Given → Read (List Given) = λ x. guarded (not (is_full key given)) OutOfRange (given ++ x ∷ []) in
+    let fresh = guarded_then (may_repeat key || not (list_any (is_of key) given)) (BadLine column) key (λ fresh. value_from fresh column text >>= next) more h in
+    let value = both_ok (value_from key column text) next more fresh.1 in
+    let added = guarded_ok (not (is_full key given)) OutOfRange (given ++ value.0 ∷ []) more value.2 in
+    (value.0, sym added.1, value.1)
 
 -- ---- what is held with one option more. If it may not repeat it wasn't given before
 abbrev pub longer : {X : Type 0} → List X → Option X → List X
@@ -146,6 +171,14 @@ one_newer {X} value key held given next single of h free = at (value next) refl
         let own : key ≡ key_of next = own_key key next (of next ∙ ap is_some e) in
         let none : one value given ≡ None = none_there (one value given) (sym (any_of given) ∙ ap (λ (k : Key). list_any (is_of k) given) own ∙ free (ap may_repeat (sym own) ∙ single)) in
         sym (one_more value given next ∙ ap (λ (o : Option X). option_or o (value next)) none ∙ e)
+
+-- what is held of an option that isn't the one more
+pub one_kept : {X : Type 0} (value : Given → Option X) (key : Key) (held : Option X) (given : List Given) (next : Given) → ((g : Given) → is_of key g ≡ is_some (value g)) → (key ≡ key_of next → ⊥) → held ≡ one value given → held ≡ one value (given ++ next ∷ [])
+one_kept {X} value key held given next of apart h = at (value next) refl
+  where
+    at : (o : Option X) → value next ≡ o → held ≡ one value (given ++ next ∷ [])
+    at None e = h ∙ sym (one_more value given next ∙ ap (option_or (one value given)) e ∙ or_none (one value given))
+    at (Some x) e = absurd (apart (own_key key next (of next ∙ ap is_some e)))
 
 -- one more word
 pub word_more : (keys : List Key) (word : Word) (words : List Word) (given more : List Given) → option_word keys word given ≡ Ok more → options keys (word ∷ words) given ≡ options keys words more

@@ -1,31 +1,39 @@
 -- What is held of a quota's options with one option more.
 use Rattle.std.proofs.Common.{◌≡◌, false, List, [], ◌∷◌, ◌++◌, refl}
 use Rattle.std.specs.List.{list_any}
-use Rattle.fsrm_model.specs.Options.{ThePath, TheLimit, TheType, TheStatus, may_repeat, Given, key_of, path_in, limit_in, type_in, status_in, removal_in, percent_in, notice_in, is_of}
+use Rattle.fsrm_model.specs.Options.{ThePath, TheStatus, TheSource, may_repeat, Given, key_of, path_in, status_in, source_in, is_of}
+use Rattle.tool_commands.specs.BaseOptions.{base_key, HoldsBase}
 use Rattle.tool_commands.specs.QuotaOptions.{HoldsQuota}
+use Rattle.tool_commands.specs.declared.base.BaseKey.{BaseKey}
+use Rattle.tool_commands.specs.declared.base.BaseOptions.{BaseOptions}
 use Rattle.tool_commands.specs.declared.quotas.QuotaOptions.{QuotaOptions}
-use Rattle.tool_commands.proofs.OptionLaws.{newer, one_newer, longer, each_longer}
+use Rattle.tool_commands.proofs.BaseOptions.{with_base, base_more, base_apart}
+use Rattle.tool_commands.proofs.OptionLaws.{newer, one_newer}
 
 abbrev with_quota : QuotaOptions → Given → QuotaOptions
 with_quota held next =
     record {
       path = newer held.path (path_in next);
-      limit = newer held.limit (limit_in next);
-      enforce = newer held.enforce (type_in next);
       enabled = newer held.enabled (status_in next);
-      removed = longer held.removed (removal_in next);
-      added = longer held.added (percent_in next);
-      notices = longer held.notices (notice_in next);
+      source = newer held.source (source_in next);
+      base = with_base held.base next;
     }
 
 pub quota_more : (held : QuotaOptions) (given : List Given) (next : Given) → HoldsQuota held given → (may_repeat (key_of next) ≡ false → list_any (is_of (key_of next)) given ≡ false) → HoldsQuota (with_quota held next) (given ++ next ∷ [])
 quota_more held given next h free =
     record {
       path = one_newer path_in ThePath held.path given next refl (λ g. refl) h.path free;
-      limit = one_newer limit_in TheLimit held.limit given next refl (λ g. refl) h.limit free;
-      enforce = one_newer type_in TheType held.enforce given next refl (λ g. refl) h.enforce free;
       enabled = one_newer status_in TheStatus held.enabled given next refl (λ g. refl) h.enabled free;
-      removed = each_longer removal_in held.removed given next h.removed;
-      added = each_longer percent_in held.added given next h.added;
-      notices = each_longer notice_in held.notices given next h.notices;
+      source = one_newer source_in TheSource held.source given next refl (λ g. refl) h.source free;
+      base = base_more held.base given next h.base free;
+    }
+
+-- with one more that templates have too
+pub quota_base : (held : QuotaOptions) (given : List Given) (next : Given) (key : BaseKey) (base : BaseOptions) → HoldsQuota held given → key_of next ≡ base_key key → HoldsBase base (given ++ next ∷ []) → HoldsQuota (record held { base = base }) (given ++ next ∷ [])
+quota_base held given next key base h is more =
+    record {
+      path = base_apart path_in ThePath held.path given next key refl (λ g. refl) is h.path;
+      enabled = base_apart status_in TheStatus held.enabled given next key refl (λ g. refl) is h.enabled;
+      source = base_apart source_in TheSource held.source given next key refl (λ g. refl) is h.source;
+      base = more;
     }

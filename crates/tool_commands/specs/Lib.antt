@@ -3,7 +3,10 @@ pub mod Lengths
 pub mod Taking
 pub mod OptionWords
 pub mod PathOption
+pub mod BaseOptions
 pub mod QuotaOptions
+pub mod TemplateOptions
+pub mod AutoOptions
 pub mod RunLimitOption
 pub mod GroupOptions
 pub mod ScreenOptions

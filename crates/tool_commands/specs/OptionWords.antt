@@ -1,7 +1,8 @@
 -- What options come to, as lines have them.
-use Rattle.std.specs.Prelude.{◌≡◌, ℕ, List, [], ◌∷◌, ◌++◌, Option, Some, None, Result, Ok, Err}
+use Rattle.std.specs.Prelude.{◌≡◌, ℕ, nat_le, Bool, true, false, List, [], ◌∷◌, ◌++◌, length, Option, Some, None, Result, Ok, Err}
 use Rattle.std.specs.List.{after_first}
-use Rattle.fsrm_model.specs.declared.command.Refusal.TheVariants.{BadLine}
+use Rattle.fsrm_model.specs.declared.command.Refusal.TheVariants.{BadLine, OutOfRange}
+use Rattle.fsrm_model.specs.Limits.{most_excluded}
 use Rattle.fsrm_model.specs.Options.{Key, Given, word_key, is_colon, with_option}
 use Rattle.fsrm_model.specs.Reading.{Read, ◌>>=◌, known}
 use Rattle.fsrm_model.specs.Words.{Word as LineWord}
@@ -21,6 +22,16 @@ KeepsMore (Ok done) old new (Ok x) = new ≡ old ++ x ∷ []
 KeepsMore (Ok done) old new (Err fault) = ⊥
 KeepsMore (Err fault) old new (Ok x) = fault ≡ NoMemory
 KeepsMore (Err fault) old new (Err other) = fault ≡ other
+
+-- the same, if there may be one more
+abbrev pub KeepsRoom : {X : Type 0} → Bool → Result (Unit {0}) LineFault → List X → List X → X → Type 0
+KeepsRoom true result old new x = result ≡ Err (Refused OutOfRange)
+KeepsRoom false result old new x = KeepsMore result old new (Ok x)
+
+-- one more value is kept, of 32 at most. That there are too many is judged after the value
+abbrev pub KeepsFew : {X : Type 0} → Result (Unit {0}) LineFault → List X → List X → Result X LineFault → Type 0
+KeepsFew result old new (Ok x) = KeepsRoom (nat_le most_excluded (length old)) result old new x
+KeepsFew result old new (Err fault) = result ≡ Err fault
 
 -- one more option, of those that a command takes
 abbrev pub option_word : List Key → LineWord → List Given → Read (List Given)

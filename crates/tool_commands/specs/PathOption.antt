@@ -1,17 +1,19 @@
 -- The option of commands that take a path and nothing else.
-use Rattle.std.specs.Prelude.{◌≡◌, ℕ, List, [], ◌∷◌}
-use Rattle.fsrm_model.specs.declared.command.Refusal.TheVariants.{BadLine}
-use Rattle.fsrm_model.specs.Options.{ThePath, Given, path_in, one, options}
-use Rattle.fsrm_model.specs.Reading.{Read, ◌>>=◌, known}
+use Rattle.std.specs.Prelude.{◌≡◌, ℕ, List, Result, Ok, Err}
+use Rattle.fsrm_model.specs.declared.command.Deed.{Deed}
+use Rattle.fsrm_model.specs.Line.{option_words}
+use Rattle.fsrm_model.specs.Options.{Given, path_in, one}
+use Rattle.fsrm_model.specs.Tools.{of_path}
 use Rattle.fsrm_model.specs.Words.{Word}
+use Rattle.tool_commands.specs.declared.reading.LineFault.{LineFault}
+use Rattle.tool_commands.specs.LineFaults.{Reads}
 use Rattle.tool_commands.specs.declared.paths.PathOption.{PathOption}
 
 -- the value of the option, if it was given
 pub record HoldsPath (held : PathOption) (given : List Given) : Type 0 where
   pub path : held.path ≡ one path_in given
 
--- the path that words give. One that is missing is refused at the column after the line's end
-abbrev pub path_words : ℕ → List Word → Read (List (List ℕ))
-path_words end words = do
-  given ← options (ThePath ∷ []) words []
-  known (BadLine end) (one path_in given)
+-- words give a path, of which a command may make any deed that takes a path and nothing else
+abbrev pub ReadsPath : Result (List (List ℕ)) LineFault → ℕ → List Word → Type 0
+ReadsPath (Ok path) end words = (deed : List (List ℕ) → Deed) → option_words (of_path deed) end words ≡ Ok (deed path)
+ReadsPath (Err fault) end words = (deed : List (List ℕ) → Deed) → Reads {X = Deed} (Err fault) (option_words (of_path deed) end words)

@@ -1,20 +1,21 @@
 //! The commands on the settings of the service and on the log of actions, and which commands a tool has.
 
 ghost use Rattle.std.specs.Prelude.{◌≡◌};
-ghost use Rattle.fsrm_model.specs.declared.command.Deed.TheVariants.{AdminList, AdminLog};
 ghost use Rattle.fsrm_model.specs.Line.{option_words, named_word, tool_words};
 ghost use Rattle.fsrm_model.specs.Options.{TheRunLimit};
-ghost use Rattle.fsrm_model.specs.Tools.{admin_commands, admin_options, alone, dirquota};
+ghost use Rattle.fsrm_model.specs.Tools.{admin_commands, admin_options, dirquota};
 ghost use Rattle.tool_commands.specs.RunLimitOption.{HoldsRunLimit};
 ghost use Rattle.tool_commands.specs.LineFaults.{Reads};
-ghost use Rattle.tool_commands.specs.Taking.{left, end, line_word, named_by};
+ghost use Rattle.tool_commands.specs.Taking.{left, end};
 
 use crate::actions::read_run_limit;
+use crate::autos::autoquota;
 use crate::options::{OptionKey, Values, once, read_options};
 use crate::quotas::quota;
 use crate::reading::LineFault;
+use crate::templates::template;
 use crate::values::is_named;
-use crate::words::{Word, Words};
+use crate::words::Words;
 use fsrm_model::Deed;
 use std::alloc::Global;
 
@@ -65,41 +66,23 @@ fn options(alloc: Global, words: &mut Words<'_>) -> Result<Deed, LineFault>
     Ok(Deed::AdminOptions { run_limit })
 }
 
-fn list(words: &Words<'_>) -> Result<Deed, LineFault>
-    ensures { Reads result (option_words (alone AdminList) (end words.now) (left words.now)) }
+fn admin(alloc: Global, words: &mut Words<'_>) -> Result<Deed, LineFault>
+    ensures { Reads result (named_word admin_commands (end words.old) (left words.old) (λ command more. option_words command (end words.old) more)) }
 {
-    words.finish()?;
-    Ok(Deed::AdminList)
-}
-
-fn log(words: &Words<'_>) -> Result<Deed, LineFault>
-    ensures { Reads result (option_words (alone AdminLog) (end words.now) (left words.now)) }
-{
-    words.finish()?;
-    Ok(Deed::AdminLog)
-}
-
-fn deed(alloc: Global, name: &Word<'_>, words: &mut Words<'_>) -> Result<Deed, LineFault>
-    ensures { Reads result (named_by admin_commands (line_word name.now) (λ command. option_words command (end words.old) (left words.old))) }
-{
+    let name = words.next(alloc)?;
     let word = name.text.as_str();
     if is_named("options", word) {
         return options(alloc, words);
     }
     if is_named("list", word) {
-        return list(words);
+        words.finish()?;
+        return Ok(Deed::AdminList);
     }
     if is_named("log", word) {
-        return log(words);
+        words.finish()?;
+        return Ok(Deed::AdminLog);
     }
     Err(LineFault::bad_line(name.column))
-}
-
-fn admin(alloc: Global, words: &mut Words<'_>) -> Result<Deed, LineFault>
-    ensures { Reads result (named_word admin_commands (end words.old) (left words.old) (λ command more. option_words command (end words.old) more)) }
-{
-    let name = words.next(alloc)?;
-    deed(alloc, &name, words)
 }
 
 /// What the words after `dirquota` spell.
@@ -111,6 +94,12 @@ pub fn dirquota(alloc: Global, words: &mut Words<'_>) -> Result<Deed, LineFault>
     let word = name.text.as_str();
     if is_named("quota", word) {
         return quota(alloc, words);
+    }
+    if is_named("template", word) {
+        return template(alloc, words);
+    }
+    if is_named("autoquota", word) {
+        return autoquota(alloc, words);
     }
     if is_named("admin", word) {
         return admin(alloc, words);

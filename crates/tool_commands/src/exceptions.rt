@@ -1,18 +1,17 @@
 //! The commands on exceptions, each read from the options after its name.
 
 ghost use Rattle.std.specs.Prelude.{◌≡◌};
-ghost use Rattle.fsrm_model.specs.declared.command.Deed.TheVariants.{ExceptionDelete, ExceptionList};
 ghost use Rattle.fsrm_model.specs.Line.{option_words, named_word};
-ghost use Rattle.fsrm_model.specs.Tools.{alone, except_add, except_commands, of_path};
+ghost use Rattle.fsrm_model.specs.Tools.{except_add, except_commands};
 ghost use Rattle.tool_commands.specs.LineFaults.{Reads};
-ghost use Rattle.tool_commands.specs.Taking.{left, end, line_word, named_by};
+ghost use Rattle.tool_commands.specs.Taking.{left, end};
 
 use crate::options::read_options;
 use crate::paths::path_alone;
 use crate::reading::LineFault;
 use crate::screens::{ScreenKey, ScreenOptions};
 use crate::values::is_named;
-use crate::words::{Word, Words};
+use crate::words::Words;
 use fsrm_model::Deed;
 use std::alloc::Global;
 
@@ -34,40 +33,22 @@ fn add(alloc: Global, words: &mut Words<'_>) -> Result<Deed, LineFault>
     })
 }
 
-fn delete(alloc: Global, words: &mut Words<'_>) -> Result<Deed, LineFault>
-    ensures { Reads result (option_words (of_path ExceptionDelete) (end words.old) (left words.old)) }
-{
-    let path = path_alone(alloc, words)?;
-    Ok(Deed::ExceptionDelete { path })
-}
-
-fn list(words: &Words<'_>) -> Result<Deed, LineFault>
-    ensures { Reads result (option_words (alone ExceptionList) (end words.now) (left words.now)) }
-{
-    words.finish()?;
-    Ok(Deed::ExceptionList)
-}
-
-fn deed(alloc: Global, name: &Word<'_>, words: &mut Words<'_>) -> Result<Deed, LineFault>
-    ensures { Reads result (named_by except_commands (line_word name.now) (λ command. option_words command (end words.old) (left words.old))) }
-{
-    let word = name.text.as_str();
-    if is_named("add", word) {
-        return add(alloc, words);
-    }
-    if is_named("delete", word) {
-        return delete(alloc, words);
-    }
-    if is_named("list", word) {
-        return list(words);
-    }
-    Err(LineFault::bad_line(name.column))
-}
-
 /// What the words after `filescrn exception` spell.
 pub fn exception(alloc: Global, words: &mut Words<'_>) -> Result<Deed, LineFault>
     ensures { Reads result (named_word except_commands (end words.old) (left words.old) (λ command more. option_words command (end words.old) more)) }
 {
     let name = words.next(alloc)?;
-    deed(alloc, &name, words)
+    let word = name.text.as_str();
+    if is_named("add", word) {
+        return add(alloc, words);
+    }
+    if is_named("delete", word) {
+        let path = path_alone(alloc, words)?;
+        return Ok(Deed::ExceptionDelete { path });
+    }
+    if is_named("list", word) {
+        words.finish()?;
+        return Ok(Deed::ExceptionList);
+    }
+    Err(LineFault::bad_line(name.column))
 }

@@ -1,18 +1,17 @@
 //! The commands on file groups, each read from the options after its name.
 
 ghost use Rattle.std.specs.Prelude.{◌≡◌};
-ghost use Rattle.fsrm_model.specs.declared.command.Deed.TheVariants.{FilegroupList};
 ghost use Rattle.fsrm_model.specs.Line.{option_words, named_word};
-ghost use Rattle.fsrm_model.specs.Tools.{alone, group_add, group_commands, group_delete, group_modify};
+ghost use Rattle.fsrm_model.specs.Tools.{group_add, group_commands, group_delete, group_modify};
 ghost use Rattle.tool_commands.specs.GroupOptions.{HoldsGroup, group_key};
 ghost use Rattle.tool_commands.specs.LineFaults.{Reads};
-ghost use Rattle.tool_commands.specs.Taking.{left, end, line_word, named_by};
+ghost use Rattle.tool_commands.specs.Taking.{left, end};
 
 use crate::options::{OptionKey, Values, once, read_options};
 use crate::patterns::{read_non_members, read_object_name, read_patterns};
 use crate::reading::LineFault;
 use crate::values::is_named;
-use crate::words::{Word, Words};
+use crate::words::Words;
 use fsrm_model::{Deed, List, Text};
 use std::alloc::Global;
 
@@ -116,16 +115,11 @@ fn delete(alloc: Global, words: &mut Words<'_>) -> Result<Deed, LineFault>
     Ok(Deed::FilegroupDelete { filegroup })
 }
 
-fn list(words: &Words<'_>) -> Result<Deed, LineFault>
-    ensures { Reads result (option_words (alone FilegroupList) (end words.now) (left words.now)) }
+/// What the words after `filescrn filegroup` spell.
+pub fn filegroup(alloc: Global, words: &mut Words<'_>) -> Result<Deed, LineFault>
+    ensures { Reads result (named_word group_commands (end words.old) (left words.old) (λ command more. option_words command (end words.old) more)) }
 {
-    words.finish()?;
-    Ok(Deed::FilegroupList)
-}
-
-fn deed(alloc: Global, name: &Word<'_>, words: &mut Words<'_>) -> Result<Deed, LineFault>
-    ensures { Reads result (named_by group_commands (line_word name.now) (λ command. option_words command (end words.old) (left words.old))) }
-{
+    let name = words.next(alloc)?;
     let word = name.text.as_str();
     if is_named("add", word) {
         return add(alloc, words);
@@ -137,15 +131,8 @@ fn deed(alloc: Global, name: &Word<'_>, words: &mut Words<'_>) -> Result<Deed, L
         return delete(alloc, words);
     }
     if is_named("list", word) {
-        return list(words);
+        words.finish()?;
+        return Ok(Deed::FilegroupList);
     }
     Err(LineFault::bad_line(name.column))
-}
-
-/// What the words after `filescrn filegroup` spell.
-pub fn filegroup(alloc: Global, words: &mut Words<'_>) -> Result<Deed, LineFault>
-    ensures { Reads result (named_word group_commands (end words.old) (left words.old) (λ command more. option_words command (end words.old) more)) }
-{
-    let name = words.next(alloc)?;
-    deed(alloc, &name, words)
 }

@@ -6,6 +6,8 @@
 
 mod actions;
 mod admin;
+mod autos;
+mod base;
 mod commands;
 mod exceptions;
 mod groups;
@@ -16,6 +18,7 @@ mod patterns;
 mod quotas;
 mod reading;
 mod screens;
+mod templates;
 mod values;
 mod words;
 

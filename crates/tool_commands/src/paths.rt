@@ -2,8 +2,7 @@
 
 ghost use Rattle.std.specs.Prelude.{◌≡◌};
 ghost use Rattle.fsrm_model.specs.Options.{ThePath};
-ghost use Rattle.tool_commands.specs.LineFaults.{Reads};
-ghost use Rattle.tool_commands.specs.PathOption.{HoldsPath, path_words};
+ghost use Rattle.tool_commands.specs.PathOption.{HoldsPath, ReadsPath};
 ghost use Rattle.tool_commands.specs.Taking.{left, end};
 
 use crate::options::{OptionKey, Values, once, read_options};
@@ -53,7 +52,7 @@ impl Values for PathOption {
 
 /// The path that is all that a command takes, and that it must have.
 pub fn path_alone(alloc: Global, words: &mut Words<'_>) -> Result<Path, LineFault>
-    ensures { Reads result (path_words (end words.old) (left words.old)) }
+    ensures { ReadsPath result (end words.old) (left words.old) }
 {
     let given: PathOption = read_options(alloc, &[PathKey], words)?;
     given.path.ok_or(LineFault::bad_line(words.end()))

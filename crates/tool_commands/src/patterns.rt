@@ -1,4 +1,4 @@
-//! The names of file groups and the patterns of their names, in the values of options.
+//! The names of file groups and of templates, and the patterns of file groups, in the values of options.
 
 ghost use Rattle.std.specs.Prelude.{◌≡◌, nat_le, length, IfOk};
 ghost use Rattle.std.specs.List.{list_all, slice_split};
@@ -33,7 +33,7 @@ fn is_object_name(text: &str) -> bool
     is_name_length(text.len()) && are_object_bytes(text.as_bytes())
 }
 
-/// The name of a file group that a text is: 1 to 255 bytes, no `|` and no control character.
+/// The name of a file group or of a template that a text is: 1 to 255 bytes, no `|` and no control character.
 pub fn read_object_name(alloc: Global, text: &str) -> Result<Text, LineFault>
     ensures { Reads result (object_from text.now) }
 {

@@ -1,33 +1,29 @@
 //! The commands on quotas, each read from the options after its name.
 
 ghost use Rattle.std.specs.Prelude.{◌≡◌};
-ghost use Rattle.fsrm_model.specs.declared.command.Deed.TheVariants.{QuotaDelete, QuotaScan, QuotaResetpeak};
 ghost use Rattle.fsrm_model.specs.Line.{option_words, named_word};
-ghost use Rattle.fsrm_model.specs.Tools.{of_path, quota_add, quota_modify, quota_list, quota_commands};
+ghost use Rattle.fsrm_model.specs.Tools.{quota_add, quota_modify, quota_list, quota_commands};
 ghost use Rattle.tool_commands.specs.LineFaults.{Reads};
 ghost use Rattle.tool_commands.specs.QuotaOptions.{HoldsQuota, quota_key};
-ghost use Rattle.tool_commands.specs.Taking.{left, end, line_word, named_by};
+ghost use Rattle.tool_commands.specs.Taking.{left, end};
 
-use crate::actions::{read_notice, read_percent};
-use crate::limits::read_limit;
-use crate::options::{OptionKey, Values, again, once, read_options};
+use crate::base::{BaseKey, BaseOptions};
+use crate::options::{OptionKey, Values, once, read_options};
 use crate::paths::{PathKey, PathOption, path_alone};
+use crate::patterns::read_object_name;
 use crate::reading::LineFault;
 use crate::values::{is_named, read_choice, read_path_word};
-use crate::words::{Word, Words};
-use fsrm_model::{Added, Deed, List, Path};
+use crate::words::Words;
+use fsrm_model::{Deed, Path, Text};
 use std::alloc::Global;
 
 /// An option of a quota.
 #[derive(Clone, Copy)]
 pub enum QuotaKey {
     Path,
-    Limit,
-    Enforce,
     Enabled,
-    RemoveThreshold,
-    AddThreshold,
-    AddNotification,
+    Source,
+    Base(BaseKey),
 }
 
 impl OptionKey for QuotaKey {
@@ -36,51 +32,43 @@ impl OptionKey for QuotaKey {
     fn name(self) -> &'static str {
         match self {
             QuotaKey::Path => "/Path",
-            QuotaKey::Limit => "/Limit",
-            QuotaKey::Enforce => "/Type",
             QuotaKey::Enabled => "/Status",
-            QuotaKey::RemoveThreshold => "/Remove-Threshold",
-            QuotaKey::AddThreshold => "/Add-Threshold",
-            QuotaKey::AddNotification => "/Add-Notification",
+            QuotaKey::Source => "/SourceTemplate",
+            QuotaKey::Base(key) => key.name(),
         }
     }
 }
 
 /// What may be given of a new quota.
-const ADD_KEYS: [QuotaKey; 6] = [
+const ADD_KEYS: [QuotaKey; 7] = [
     QuotaKey::Path,
-    QuotaKey::Limit,
-    QuotaKey::Enforce,
+    QuotaKey::Base(BaseKey::Limit),
+    QuotaKey::Base(BaseKey::Enforce),
     QuotaKey::Enabled,
-    QuotaKey::AddThreshold,
-    QuotaKey::AddNotification,
+    QuotaKey::Source,
+    QuotaKey::Base(BaseKey::AddThreshold),
+    QuotaKey::Base(BaseKey::AddNotification),
 ];
 
 /// What may be given of one that is there.
 const MODIFY_KEYS: [QuotaKey; 7] = [
     QuotaKey::Path,
-    QuotaKey::Limit,
-    QuotaKey::Enforce,
+    QuotaKey::Base(BaseKey::Limit),
+    QuotaKey::Base(BaseKey::Enforce),
     QuotaKey::Enabled,
-    QuotaKey::RemoveThreshold,
-    QuotaKey::AddThreshold,
-    QuotaKey::AddNotification,
+    QuotaKey::Base(BaseKey::RemoveThreshold),
+    QuotaKey::Base(BaseKey::AddThreshold),
+    QuotaKey::Base(BaseKey::AddNotification),
 ];
 
 /// What was given of a quota.
 #[derive(Drop)]
 pub struct QuotaOptions {
     path: Option<Path>,
-    /// In bytes.
-    limit: Option<u64>,
-    /// Whether it is hard.
-    enforce: Option<bool>,
     enabled: Option<bool>,
-    /// The percentages of thresholds that are to go, in the order of the words.
-    removed: List<u16>,
-    /// Those that are to come.
-    added: List<u16>,
-    notices: List<Added>,
+    /// The name of its template.
+    source: Option<Text>,
+    base: BaseOptions,
 }
 
 impl Values for QuotaOptions {
@@ -91,12 +79,9 @@ impl Values for QuotaOptions {
     fn nothing(alloc: Global) -> QuotaOptions {
         QuotaOptions {
             path: None,
-            limit: None,
-            enforce: None,
             enabled: None,
-            removed: List::new(alloc),
-            added: List::new(alloc),
-            notices: List::new(alloc),
+            source: None,
+            base: BaseOptions::nothing(alloc),
         }
     }
 
@@ -109,20 +94,12 @@ impl Values for QuotaOptions {
     ) -> Result<(), LineFault> {
         match key {
             QuotaKey::Path => once(&mut self.path, column, read_path_word(alloc, value)),
-            QuotaKey::Limit => once(&mut self.limit, column, read_limit(value, column)),
-            QuotaKey::Enforce => {
-                let enforce = read_choice("hard", "soft", value, column);
-                once(&mut self.enforce, column, enforce)
-            }
             QuotaKey::Enabled => {
                 let enabled = read_choice("enabled", "disabled", value, column);
                 once(&mut self.enabled, column, enabled)
             }
-            QuotaKey::RemoveThreshold => again(&mut self.removed, read_percent(value, column)),
-            QuotaKey::AddThreshold => again(&mut self.added, read_percent(value, column)),
-            QuotaKey::AddNotification => {
-                again(&mut self.notices, read_notice(alloc, value, column))
-            }
+            QuotaKey::Source => once(&mut self.source, column, read_object_name(alloc, value)),
+            QuotaKey::Base(key) => self.base.add(alloc, key, column, value),
         }
     }
 }
@@ -133,15 +110,17 @@ fn add(alloc: Global, words: &mut Words<'_>) -> Result<Deed, LineFault>
     let given: QuotaOptions = read_options(alloc, &ADD_KEYS, words)?;
     let missing = LineFault::bad_line(words.end());
     let path = given.path.ok_or(missing)?;
-    let limit = given.limit.ok_or(missing)?;
+    if given.base.limit.is_none() && given.source.is_none() {
+        return Err(missing);
+    }
     Ok(Deed::QuotaAdd {
         path,
-        limit: Some(limit),
-        enforce: given.enforce,
+        limit: given.base.limit,
+        enforce: given.base.enforce,
         enabled: given.enabled.unwrap_or(true),
-        source_template: None,
-        add_threshold: given.added,
-        add_notification: given.notices,
+        source_template: given.source,
+        add_threshold: given.base.added,
+        add_notification: given.base.notices,
     })
 }
 
@@ -152,34 +131,13 @@ fn modify(alloc: Global, words: &mut Words<'_>) -> Result<Deed, LineFault>
     let path = given.path.ok_or(LineFault::bad_line(words.end()))?;
     Ok(Deed::QuotaModify {
         path,
-        limit: given.limit,
-        enforce: given.enforce,
+        limit: given.base.limit,
+        enforce: given.base.enforce,
         enabled: given.enabled,
-        remove_threshold: given.removed,
-        add_threshold: given.added,
-        add_notification: given.notices,
+        remove_threshold: given.base.removed,
+        add_threshold: given.base.added,
+        add_notification: given.base.notices,
     })
-}
-
-fn delete(alloc: Global, words: &mut Words<'_>) -> Result<Deed, LineFault>
-    ensures { Reads result (option_words (of_path QuotaDelete) (end words.old) (left words.old)) }
-{
-    let path = path_alone(alloc, words)?;
-    Ok(Deed::QuotaDelete { path })
-}
-
-fn scan(alloc: Global, words: &mut Words<'_>) -> Result<Deed, LineFault>
-    ensures { Reads result (option_words (of_path QuotaScan) (end words.old) (left words.old)) }
-{
-    let path = path_alone(alloc, words)?;
-    Ok(Deed::QuotaScan { path })
-}
-
-fn resetpeak(alloc: Global, words: &mut Words<'_>) -> Result<Deed, LineFault>
-    ensures { Reads result (option_words (of_path QuotaResetpeak) (end words.old) (left words.old)) }
-{
-    let path = path_alone(alloc, words)?;
-    Ok(Deed::QuotaResetpeak { path })
 }
 
 fn list(alloc: Global, words: &mut Words<'_>) -> Result<Deed, LineFault>
@@ -189,9 +147,11 @@ fn list(alloc: Global, words: &mut Words<'_>) -> Result<Deed, LineFault>
     Ok(Deed::QuotaList { path: given.path })
 }
 
-fn deed(alloc: Global, name: &Word<'_>, words: &mut Words<'_>) -> Result<Deed, LineFault>
-    ensures { Reads result (named_by quota_commands (line_word name.now) (λ command. option_words command (end words.old) (left words.old))) }
+/// What the words after `dirquota quota` spell.
+pub fn quota(alloc: Global, words: &mut Words<'_>) -> Result<Deed, LineFault>
+    ensures { Reads result (named_word quota_commands (end words.old) (left words.old) (λ command more. option_words command (end words.old) more)) }
 {
+    let name = words.next(alloc)?;
     let word = name.text.as_str();
     if is_named("add", word) {
         return add(alloc, words);
@@ -200,24 +160,19 @@ fn deed(alloc: Global, name: &Word<'_>, words: &mut Words<'_>) -> Result<Deed, L
         return modify(alloc, words);
     }
     if is_named("delete", word) {
-        return delete(alloc, words);
+        let path = path_alone(alloc, words)?;
+        return Ok(Deed::QuotaDelete { path });
     }
     if is_named("scan", word) {
-        return scan(alloc, words);
+        let path = path_alone(alloc, words)?;
+        return Ok(Deed::QuotaScan { path });
     }
     if is_named("resetpeak", word) {
-        return resetpeak(alloc, words);
+        let path = path_alone(alloc, words)?;
+        return Ok(Deed::QuotaResetpeak { path });
     }
     if is_named("list", word) {
         return list(alloc, words);
     }
     Err(LineFault::bad_line(name.column))
-}
-
-/// What the words after `dirquota quota` spell.
-pub fn quota(alloc: Global, words: &mut Words<'_>) -> Result<Deed, LineFault>
-    ensures { Reads result (named_word quota_commands (end words.old) (left words.old) (λ command more. option_words command (end words.old) more)) }
-{
-    let name = words.next(alloc)?;
-    deed(alloc, &name, words)
 }

@@ -1,12 +1,11 @@
 //! The commands on screens, each read from the options after its name, and which commands their tool has.
 
 ghost use Rattle.std.specs.Prelude.{◌≡◌};
-ghost use Rattle.fsrm_model.specs.declared.command.Deed.TheVariants.{ScreenDelete, ScreenList};
 ghost use Rattle.fsrm_model.specs.Line.{option_words, named_word, tool_words};
-ghost use Rattle.fsrm_model.specs.Tools.{alone, filescrn, of_path, screen_add, screen_commands, screen_modify};
+ghost use Rattle.fsrm_model.specs.Tools.{filescrn, screen_add, screen_commands, screen_modify};
 ghost use Rattle.tool_commands.specs.LineFaults.{Reads};
 ghost use Rattle.tool_commands.specs.ScreenOptions.{HoldsScreen, screen_key};
-ghost use Rattle.tool_commands.specs.Taking.{left, end, line_word, named_by};
+ghost use Rattle.tool_commands.specs.Taking.{left, end};
 
 use crate::actions::read_screen_action;
 use crate::exceptions::exception;
@@ -16,7 +15,7 @@ use crate::paths::path_alone;
 use crate::patterns::read_object_name;
 use crate::reading::LineFault;
 use crate::values::{is_named, read_choice, read_path_word};
-use crate::words::{Word, Words};
+use crate::words::Words;
 use fsrm_model::{Action, Deed, List, Path, Text};
 use std::alloc::Global;
 
@@ -141,23 +140,10 @@ fn modify(alloc: Global, words: &mut Words<'_>) -> Result<Deed, LineFault>
     })
 }
 
-fn delete(alloc: Global, words: &mut Words<'_>) -> Result<Deed, LineFault>
-    ensures { Reads result (option_words (of_path ScreenDelete) (end words.old) (left words.old)) }
+fn screen(alloc: Global, words: &mut Words<'_>) -> Result<Deed, LineFault>
+    ensures { Reads result (named_word screen_commands (end words.old) (left words.old) (λ command more. option_words command (end words.old) more)) }
 {
-    let path = path_alone(alloc, words)?;
-    Ok(Deed::ScreenDelete { path })
-}
-
-fn list(words: &Words<'_>) -> Result<Deed, LineFault>
-    ensures { Reads result (option_words (alone ScreenList) (end words.now) (left words.now)) }
-{
-    words.finish()?;
-    Ok(Deed::ScreenList)
-}
-
-fn deed(alloc: Global, name: &Word<'_>, words: &mut Words<'_>) -> Result<Deed, LineFault>
-    ensures { Reads result (named_by screen_commands (line_word name.now) (λ command. option_words command (end words.old) (left words.old))) }
-{
+    let name = words.next(alloc)?;
     let word = name.text.as_str();
     if is_named("add", word) {
         return add(alloc, words);
@@ -166,19 +152,14 @@ fn deed(alloc: Global, name: &Word<'_>, words: &mut Words<'_>) -> Result<Deed, L
         return modify(alloc, words);
     }
     if is_named("delete", word) {
-        return delete(alloc, words);
+        let path = path_alone(alloc, words)?;
+        return Ok(Deed::ScreenDelete { path });
     }
     if is_named("list", word) {
-        return list(words);
+        words.finish()?;
+        return Ok(Deed::ScreenList);
     }
     Err(LineFault::bad_line(name.column))
-}
-
-fn screen(alloc: Global, words: &mut Words<'_>) -> Result<Deed, LineFault>
-    ensures { Reads result (named_word screen_commands (end words.old) (left words.old) (λ command more. option_words command (end words.old) more)) }
-{
-    let name = words.next(alloc)?;
-    deed(alloc, &name, words)
 }
 
 /// What the words after `filescrn` spell.

@@ -7,6 +7,7 @@ ghost use Rattle.fsrm_model.specs.Limits.{latest_moment, most_visits};
 ghost use Rattle.fsrm_model.specs.Line.{number_word, length_word, owner_word, path_word};
 ghost use Rattle.fsrm_model.specs.declared.command.Refusal.TheVariants.{OutOfRange};
 ghost use Rattle.fsrm_model.specs.Reading.{guarded, number_from, path_from, choice_from};
+ghost use Rattle.fsrm_model.specs.TemplateWords.{name_from, update_from};
 ghost use Rattle.tool_commands.specs.Lengths.{is_plain};
 ghost use Rattle.tool_commands.specs.LineFaults.{Reads};
 ghost use Rattle.tool_commands.specs.Numerals.{greatest_number, BeginsWithDigits, ReadsDigits, ReadsNumber};
@@ -15,8 +16,8 @@ ghost use Rattle.tool_commands.specs.Taking.{Takes};
 use crate::reading::LineFault;
 use crate::words::{Words, is_plain, is_word};
 use fsrm_model::limits::{LAST_OWNER, LATEST_MOMENT, LONGEST_FILE, MOST_VISITS};
-use fsrm_model::{Path, Refusal};
-use name_rules::{PathFault, read_path};
+use fsrm_model::{Path, Refusal, Text, Update};
+use name_rules::{PathFault, is_name, read_path};
 use std::alloc::Global;
 
 const MOST_DIGITS: usize = 20;
@@ -126,6 +127,16 @@ pub fn read_path_word(alloc: Global, text: &str) -> Result<Path, LineFault>
     }
 }
 
+/// The name of a file or a folder that a text is.
+pub fn read_name(alloc: Global, text: &str) -> Result<Text, LineFault>
+    ensures { Reads result (name_from text.now) }
+{
+    if !is_name(text) {
+        return Err(LineFault::Refused(Refusal::InvalidName));
+    }
+    Ok(Text::from_str(alloc, text)?)
+}
+
 /// Whether a word is this name, in letters of either case.
 pub fn is_named(name: &str, word: &str) -> bool
     ensures { result ≡ str_eq_ignore_ascii_case name.now word.now }
@@ -144,6 +155,23 @@ pub fn read_choice(first: &str, second: &str, text: &str, column: usize) -> Resu
     }
     if is_named(second, text) {
         return Ok(false);
+    }
+    Err(LineFault::bad_line(column))
+}
+
+/// Which derived quotas a text of a word at this column names: none, matching or all.
+pub fn read_update(text: &str, column: usize) -> Result<Update, LineFault>
+    requires { column ≤ 65537 }
+    ensures { Reads result (update_from column text.now) }
+{
+    if is_named("none", text) {
+        return Ok(Update::Keep);
+    }
+    if is_named("matching", text) {
+        return Ok(Update::Matching);
+    }
+    if is_named("all", text) {
+        return Ok(Update::All);
     }
     Err(LineFault::bad_line(column))
 }

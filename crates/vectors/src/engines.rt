@@ -1,5 +1,6 @@
 //! The machine, of which scripts show the replies to what it is asked by `apply`. What they don't show is asked here of one
-//! engine: an operation that comes by `file_op`, who owns a node, the texts of acts (`acts`), and the audit log (`audits`).
+//! engine: an operation that comes by `file_op`, who owns a node, the texts of acts (`acts`), the templates, and the audit log
+//! (`audits`).
 
 ghost use Rattle.std.specs.Prelude.{◌≡◌, [], true};
 ghost use Rattle.fsrm_model.specs.Valued.{is_command, is_op};
@@ -88,6 +89,16 @@ fn is_owned<L: Ledger>(engine: &Engine, steps: &mut Steps<L>) -> bool {
     tree.live(1) && tree.node(1, steps).owner == 4_294_967_295
 }
 
+const TEMPLATE: &[u8] = b"7 dirquota template add /Template:T /Limit:1kb";
+
+// Whether the templates that are lent have a new one.
+fn lends_templates<L: Ledger>(engine: &mut Engine, alloc: Global, steps: &mut Steps<L>) -> bool
+    requires { engine.old.waiting ≡ [] }
+    ensures { result ≡ true → engine.new.waiting ≡ [] }
+{
+    passes(engine, alloc, TEMPLATE, steps) && engine.templates().find("t") == Some(0)
+}
+
 fn takes<L: Ledger>(
     engine: &mut Engine,
     alloc: Global,
@@ -101,6 +112,7 @@ fn takes<L: Ledger>(
     assert!(end; warns(engine, alloc, steps)?);
     assert!(end; is_owned(engine, steps));
     assert!(end; engine.next_act().is_none());
+    assert!(end; lends_templates(engine, alloc, steps));
     assert!(end; notes(engine, alloc, steps));
     Ok(())
 }

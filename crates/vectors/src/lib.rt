@@ -27,6 +27,8 @@ mod lists;
 #[cfg(test)]
 mod names;
 #[cfg(test)]
+mod quota_templates;
+#[cfg(test)]
 mod quotas;
 #[cfg(test)]
 mod regions;

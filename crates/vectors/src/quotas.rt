@@ -1,4 +1,5 @@
-//! The texts of the actions of a quota. All else of quotas and their counters is shown by scripts.
+//! The texts of the actions of a quota, memory for quotas, and their template. All else of quotas and their counters is
+//! shown by scripts.
 
 ghost use Rattle.std.specs.Prelude.{◌≡◌, IfOk, true};
 ghost use Rattle.fsrm_objects.specs.Tables.{has_short_texts};
@@ -35,5 +36,46 @@ fn a_quota_has_texts(rt: HostRuntime) -> Result<(), Fail> {
     let mut objects = Objects::new(rt.alloc());
     objects.add_quota(loud(rt.alloc())?, 4)?;
     assert!(rt; objects.texts() == 4);
+    Ok(())
+}
+
+// A table that has memory for all quotas.
+fn roomy(alloc: Global) -> Result<Objects, Fail> {
+    let mut objects = Objects::new(alloc);
+    objects.make_room()?;
+    Ok(objects)
+}
+
+#[test]
+fn a_quota_may_come(rt: HostRuntime) -> Result<(), Fail> {
+    let objects = roomy(rt.alloc())?;
+    assert!(rt; objects.may_add(&quota(rt.alloc(), 5, 5_000), 0).is_ok());
+    assert!(rt; objects.quota_count() == 0);
+    Ok(())
+}
+
+// Two quotas, of which one was derived from template 3.
+fn derived(alloc: Global) -> Result<Objects, Fail> {
+    let mut objects = roomy(alloc)?;
+    let source = QuotaRow {
+        template: Some(3),
+        ..quota(alloc, 5, 5_000)
+    };
+    objects.add_quota(source, 0)?;
+    objects.add_quota(quota(alloc, 6, 5_000), 0)?;
+    Ok(objects)
+}
+
+fn has_source(objects: &Objects) -> bool {
+    matches!(objects.quota(5), Some(quota) if quota.template.is_some())
+}
+
+#[test]
+fn a_quota_stays_without_its_template(rt: HostRuntime) -> Result<(), Fail> {
+    let mut objects = derived(rt.alloc())?;
+    assert!(rt; has_source(&objects));
+    objects.clear_template(3);
+    assert!(rt; !has_source(&objects));
+    assert!(rt; objects.quota_count() == 2);
     Ok(())
 }

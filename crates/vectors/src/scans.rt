@@ -1,4 +1,4 @@
-//! What a scan has yet to visit, which the program doesn't ask. Scans are shown by scripts.
+//! What a scan has yet to visit, which the program doesn't ask, and a queue of scans. Scans are shown by scripts.
 
 ghost use Rattle.std.specs.Prelude.{◌≡◌, true};
 ghost use Rattle.fsrm_model.specs.Valid.{IsVolume};
@@ -7,7 +7,7 @@ ghost use Rattle.fsrm_model.specs.Tree.{is_folder as is_folder_of};
 use crate::trees::is_folder;
 use crate::values::SMALL;
 use fsrm_model::{Ledger, List, Steps, Weightless};
-use rescan::Frontier;
+use rescan::{Frontier, Scans};
 use std::alloc::Global;
 use std::marker::Brand;
 use std::process::Abort;
@@ -51,4 +51,16 @@ fn scans<N: Named>(rt: &HostRuntime, end: &impl Abort, blank: Blank) -> Result<(
 #[test]
 fn a_scan_has_its_folder_to_visit(rt: HostRuntime) -> Result<(), Fail> {
     scans::<Brand>(&rt, &rt, Blank::new(1))
+}
+
+fn pushed(alloc: Global) -> Result<Option<u32>, Fail> {
+    let mut scans = Scans::reserve(alloc, 9, 4_096)?;
+    scans.push(5);
+    Ok(scans.head())
+}
+
+#[test]
+fn a_pushed_folder_is_the_first(rt: HostRuntime) -> Result<(), Fail> {
+    assert!(rt; pushed(rt.alloc())? == Some(5));
+    Ok(())
 }

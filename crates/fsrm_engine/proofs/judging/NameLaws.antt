@@ -9,7 +9,6 @@ use Rattle.fsrm_model.specs.declared.command.FileOp.TheVariants.{Create, Move}
 use Rattle.fsrm_model.specs.declared.command.Outcome.TheVariants.{Done}
 use Rattle.fsrm_model.specs.declared.command.Refusal.{Refusal}
 use Rattle.fsrm_model.specs.declared.command.Refusal.TheVariants.{ScreenBlocked}
-use Rattle.fsrm_model.specs.declared.row.NodeRow.{NodeRow}
 use Rattle.fsrm_model.specs.declared.row.Rows.{Rows}
 use Rattle.fsrm_model.specs.declared.row.ScreenRow.{ScreenRow}
 use Rattle.fsrm_model.specs.FileOps.{target, target_folder}
@@ -18,8 +17,6 @@ use Rattle.fsrm_model.specs.Screens.{judging}
 use Rattle.fsrm_model.specs.Tree.{folder_part, last_name, owner_of, is_folder, resolve}
 use Rattle.fsrm_model.specs.Work.{Judged}
 use Rattle.rescan.specs.Courses.{Scanning}
-use Rattle.node_table.specs.declared.view.NodeView.{NodeView}
-use Rattle.volume_tree.specs.Volume.{Shows}
 use Rattle.file_screens.specs.declared.answer.Blocked.{Blocked}
 use Rattle.file_screens.specs.Blocked.{told}
 use Rattle.fsrm_engine.specs.declared.parts.Parts.{Parts}
@@ -29,7 +26,7 @@ use Rattle.fsrm_engine.specs.Reporting.{is_active, name_under, screen_told}
 use Rattle.fsrm_engine.specs.Screening.{Blocks, judged_screen}
 use Rattle.fsrm_engine.proofs.judging.BlockLaws.{blocked_sound, blocked_with}
 use Rattle.fsrm_engine.proofs.judging.JudgedLaws.{told_is, told_of, told_one, told_there}
-use Rattle.fsrm_engine.proofs.steps.PlaceLaws.{shown_folder, target_is}
+use Rattle.fsrm_engine.proofs.steps.PlaceLaws.{target_is}
 use Rattle.fsrm_engine.proofs.steps.StepLaws.{asked, due}
 
 -- ---- whose name is judged
@@ -43,9 +40,6 @@ pub created_name : (R : Rows) (path : List (List ℕ)) (bytes owner d : ℕ) (na
 created_name R path bytes owner d name at = at_place R owner path d name at
 
 -- that of a file that moves, and of a folder none
-shown_owner : (nodes : List NodeRow) (n : ℕ) (view : NodeView) → Shows view nodes n → owner_of nodes n ≡ view.owner
-shown_owner nodes n view s = ap (λ o. option_map_or (λ (node : NodeRow). node.owner) o 0) s.found ∙ sym s.is.owner
-
 moved_by : (R : Rows) (from to : List (List ℕ)) (n : ℕ) (b : Bool) → resolve R.nodes from ≡ Some n → is_folder R.nodes n ≡ b → judged_name R (Move from to) ≡ (if not b then judged_by R (owner_of R.nodes (target R.nodes from)) (target_folder R.nodes to) (last_name to) else None)
 moved_by R from to n b at kind =
     ap (λ o. if option_map_or (λ k. not (is_folder R.nodes k)) o false then judged_by R (owner_of R.nodes (target R.nodes from)) (target_folder R.nodes to) (last_name to) else None) at
@@ -54,12 +48,12 @@ moved_by R from to n b at kind =
 pub moved_folder : (R : Rows) (from to : List (List ℕ)) (n : ℕ) → resolve R.nodes from ≡ Some n → is_folder R.nodes n ≡ true → judged_name R (Move from to) ≡ None
 moved_folder R from to n at kind = moved_by R from to n true at kind
 
-pub moved_file : (R : Rows) (from to : List (List ℕ)) (n d : ℕ) (name : List ℕ) (view : NodeView) → resolve R.nodes from ≡ Some n → is_folder R.nodes n ≡ false → Shows view R.nodes n → IsPlace R.nodes to d name → judged_name R (Move from to) ≡ judged_by R view.owner d name
-moved_file R from to n d name view at kind shows place =
+pub moved_file : (R : Rows) (from to : List (List ℕ)) (n d : ℕ) (name : List ℕ) (owner : ℕ) → resolve R.nodes from ≡ Some n → is_folder R.nodes n ≡ false → owner_of R.nodes n ≡ owner → IsPlace R.nodes to d name → judged_name R (Move from to) ≡ judged_by R owner d name
+moved_file R from to n d name owner at kind owned place =
     moved_by R from to n false at kind
     ∙ (ap (λ k. judged_by R (owner_of R.nodes k) (target_folder R.nodes to) (last_name to)) (target_is R.nodes from n at)
-    ∙ (ap (λ o. judged_by R o (target_folder R.nodes to) (last_name to)) (shown_owner R.nodes n view shows)
-    ∙ at_place R view.owner to d name place))
+    ∙ (ap (λ o. judged_by R o (target_folder R.nodes to) (last_name to)) owned
+    ∙ at_place R owner to d name place))
 
 -- a name of an operation, and what is told of the screen that judges it
 pub record IsJudged (p : Parts) (op : FileOp) (judged : Option Blocked) (owner d : ℕ) (name : List ℕ) : Type 0 where
@@ -70,16 +64,15 @@ pub created_judged : (p : Parts) (path : List (List ℕ)) (bytes owner d : ℕ) 
 created_judged p path bytes owner d name judged at h =
     record { named = created_name (rows_of p) path bytes owner d name at ∙ ap (λ o. name_under o owner d name) (sym (told_is p d name judged h)); there = told_there p d name judged h }
 
-pub moved_judged : (p : Parts) (from to : List (List ℕ)) (n d : ℕ) (name : List ℕ) (view : NodeView) (judged : Option Blocked) → resolve p.tree.nodes from ≡ Some n → Shows view p.tree.nodes n → IsPlace p.tree.nodes to d name → judged ≡ (if view.folder then None else option_map told (judging (rows_of p) d name)) → IsJudged p (Move from to) judged view.owner d name
-moved_judged p from to n d name view judged at shows place h = by view.folder refl h
-  where
-    by : (b : Bool) → view.folder ≡ b → judged ≡ (if b then None else option_map told (judging (rows_of p) d name)) → IsJudged p (Move from to) judged view.owner d name
-    by true kind h = record {
-      named = moved_folder (rows_of p) from to n at (shown_folder p.tree.nodes n view shows ∙ kind) ∙ ap (λ o. name_under (screen_told p o) view.owner d name) (sym h);
+pub moved_judged : (p : Parts) (from to : List (List ℕ)) (n d : ℕ) (name : List ℕ) (moves_folder : Bool) (owner : ℕ) (judged : Option Blocked) → resolve p.tree.nodes from ≡ Some n → is_folder p.tree.nodes n ≡ moves_folder → owner_of p.tree.nodes n ≡ owner → IsPlace p.tree.nodes to d name → judged ≡ (if moves_folder then None else option_map told (judging (rows_of p) d name)) → IsJudged p (Move from to) judged owner d name
+moved_judged p from to n d name true owner judged at kind owned place h =
+    record {
+      named = moved_folder (rows_of p) from to n at kind ∙ ap (λ o. name_under (screen_told p o) owner d name) (sym h);
       there = ap (λ o. option_map told (screen_told p o)) h ∙ sym h;
     }
-    by false kind h = record {
-      named = moved_file (rows_of p) from to n d name view at (shown_folder p.tree.nodes n view shows ∙ kind) shows place ∙ ap (λ o. name_under o view.owner d name) (sym (told_is p d name judged h));
+moved_judged p from to n d name false owner judged at kind owned place h =
+    record {
+      named = moved_file (rows_of p) from to n d name owner at kind owned place ∙ ap (λ o. name_under o owner d name) (sym (told_is p d name judged h));
       there = told_there p d name judged h;
     }
 

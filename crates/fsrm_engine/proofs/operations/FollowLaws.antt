@@ -7,6 +7,7 @@ use Rattle.fsrm_model.specs.declared.command.Deed.TheVariants.{File}
 use Rattle.fsrm_model.specs.declared.command.FileOp.{FileOp}
 use Rattle.fsrm_model.specs.declared.command.FileOp.TheVariants as op
 use Rattle.fsrm_model.specs.declared.command.FileOp.TheVariants.{Mkdir, Create, Resize, Touch, Remove}
+use Rattle.fsrm_model.specs.declared.row.AutoRow.{AutoRow}
 use Rattle.fsrm_model.specs.declared.row.NodeRow.{NodeRow}
 use Rattle.fsrm_model.specs.declared.row.QuotaRow.{QuotaRow}
 use Rattle.fsrm_model.specs.declared.row.Rows.{Rows}
@@ -40,7 +41,7 @@ use Rattle.fsrm_engine.proofs.steps.PlaceLaws.{target_is}
 use Rattle.fsrm_engine.proofs.steps.StepLaws.{Accepts, Keeps, asked, due, followed_rows, same_own, still_idle}
 
 -- the rows that a file operation leaves, table by table
-effect_is : (R : Rows) (op : FileOp) (m : ℕ) → file_effect R op m ≡ record R { nodes = plain R.nodes op m; quotas = (file_effect R op m).quotas; screens = (file_effect R op m).screens; excepts = (file_effect R op m).excepts; queue = (file_effect R op m).queue; unvisited = option_map_or (unvisited_in R (plain R.nodes op m) op) (head R.queue) [] }
+effect_is : (R : Rows) (op : FileOp) (m : ℕ) → file_effect R op m ≡ record R { nodes = plain R.nodes op m; autos = (file_effect R op m).autos; quotas = (file_effect R op m).quotas; screens = (file_effect R op m).screens; excepts = (file_effect R op m).excepts; queue = (file_effect R op m).queue; unvisited = option_map_or (unvisited_in R (plain R.nodes op m) op) (head R.queue) [] }
 effect_is R (Mkdir path owner) m = refl
 effect_is R (Create path length owner) m = refl
 effect_is R (Resize path length) m = refl
@@ -49,39 +50,43 @@ effect_is R (op.Move from to) m = refl
 effect_is R (Remove path) m = refl
 
 -- what it leaves of the tables of objects
-pub record LeavesTables (R : Rows) (op : FileOp) (m : ℕ) (quotas : List QuotaRow) (tables : Tables) : Type 0 where
+pub record LeavesTables (R : Rows) (op : FileOp) (m : ℕ) (quotas : List QuotaRow) (tables : Tables) (autos : List AutoRow) : Type 0 where
   pub quotas_are : (file_effect R op m).quotas ≡ quotas
   pub screens_are : (file_effect R op m).screens ≡ tables.screens
   pub excepts_are : (file_effect R op m).excepts ≡ tables.excepts
+  pub autos_are : (file_effect R op m).autos ≡ autos
 
-pub effect_as : (R : Rows) (op : FileOp) (m : ℕ) (nodes : List NodeRow) (quotas : List QuotaRow) (tables : Tables) (queue : List ℕ) → plain R.nodes op m ≡ nodes → LeavesTables R op m quotas tables → (file_effect R op m).queue ≡ queue → file_effect R op m ≡ record R { nodes = nodes; quotas = quotas; screens = tables.screens; excepts = tables.excepts; queue = queue; unvisited = option_map_or (unvisited_in R (plain R.nodes op m) op) (head R.queue) [] }
-effect_as R op m nodes quotas tables queue nodes_are leaves queue_is =
+pub effect_as : (R : Rows) (op : FileOp) (m : ℕ) (nodes : List NodeRow) (quotas : List QuotaRow) (tables : Tables) (autos : List AutoRow) (queue : List ℕ) → plain R.nodes op m ≡ nodes → LeavesTables R op m quotas tables autos → (file_effect R op m).queue ≡ queue → file_effect R op m ≡ record R { nodes = nodes; autos = autos; quotas = quotas; screens = tables.screens; excepts = tables.excepts; queue = queue; unvisited = option_map_or (unvisited_in R (plain R.nodes op m) op) (head R.queue) [] }
+effect_as R op m nodes quotas tables autos queue nodes_are leaves queue_is =
     let u = option_map_or (unvisited_in R (plain R.nodes op m) op) (head R.queue) [] in
     let E = file_effect R op m in
+    let of : List NodeRow → List AutoRow → List QuotaRow → List ScreenRow → List ExceptRow → List ℕ → Rows =
+    λ nodes autos quotas screens excepts queue. record R { nodes = nodes; autos = autos; quotas = quotas; screens = screens; excepts = excepts; queue = queue; unvisited = u } in
     effect_is R op m
-    ∙ (ap (λ (ns : List NodeRow). record R { nodes = ns; quotas = E.quotas; screens = E.screens; excepts = E.excepts; queue = E.queue; unvisited = u }) nodes_are
-    ∙ (ap (λ (qs : List QuotaRow). record R { nodes = nodes; quotas = qs; screens = E.screens; excepts = E.excepts; queue = E.queue; unvisited = u }) leaves.quotas_are
-    ∙ (ap (λ (ss : List ScreenRow). record R { nodes = nodes; quotas = quotas; screens = ss; excepts = E.excepts; queue = E.queue; unvisited = u }) leaves.screens_are
-    ∙ (ap (λ (es : List ExceptRow). record R { nodes = nodes; quotas = quotas; screens = tables.screens; excepts = es; queue = E.queue; unvisited = u }) leaves.excepts_are
-    ∙ ap (λ (q : List ℕ). record R { nodes = nodes; quotas = quotas; screens = tables.screens; excepts = tables.excepts; queue = q; unvisited = u }) queue_is))))
+    ∙ (ap (λ ns. of ns E.autos E.quotas E.screens E.excepts E.queue) nodes_are
+    ∙ (ap (λ as'. of nodes as' E.quotas E.screens E.excepts E.queue) leaves.autos_are
+    ∙ (ap (λ qs. of nodes autos qs E.screens E.excepts E.queue) leaves.quotas_are
+    ∙ (ap (λ ss. of nodes autos quotas ss E.excepts E.queue) leaves.screens_are
+    ∙ (ap (λ es. of nodes autos quotas tables.screens es E.queue) leaves.excepts_are
+    ∙ ap (of nodes autos quotas tables.screens tables.excepts) queue_is)))))
 
 option_each : (f g : ℕ → List ℕ) (o : Option ℕ) → ((n : ℕ) → f n ≡ g n) → option_map_or f o [] ≡ option_map_or g o []
 option_each f g None h = refl
 option_each f g (Some n) h = h n
 
 -- the rows that an operation makes which leaves the queue as it was
-pub op_made : (p mid : Parts) (m : ℕ) (op : FileOp) (quotas : List QuotaRow) (next : ℕ → List ℕ) → plain p.tree.nodes op m ≡ mid.tree.nodes → LeavesTables (rows_of p) op m quotas mid.objects → (file_effect (rows_of p) op m).queue ≡ p.scans.queue → ((k : ℕ) → unvisited_in (rows_of p) (plain p.tree.nodes op m) op k ≡ next k) → Goes p.scans mid.scans mid.tree next → Keeps p mid → followed (rows_of p) (asked p m (File op)).effect ≡ record (rows_of mid) { quotas = quotas }
+pub op_made : (p mid : Parts) (m : ℕ) (op : FileOp) (quotas : List QuotaRow) (next : ℕ → List ℕ) → plain p.tree.nodes op m ≡ mid.tree.nodes → LeavesTables (rows_of p) op m quotas mid.objects p.templates.autos → (file_effect (rows_of p) op m).queue ≡ p.scans.queue → ((k : ℕ) → unvisited_in (rows_of p) (plain p.tree.nodes op m) op k ≡ next k) → Goes p.scans mid.scans mid.tree next → Keeps p mid → followed (rows_of p) (asked p m (File op)).effect ≡ record (rows_of mid) { quotas = quotas }
 op_made p mid m op quotas next nodes leaves queue each goes kept =
     let R = rows_of p in
     let u = option_map_or (unvisited_in R (plain R.nodes op m) op) (head R.queue) [] in
     followed_rows p mid (asked p m (File op)).effect quotas p.scans.queue u kept
-    (effect_as R op m mid.tree.nodes quotas mid.objects p.scans.queue nodes leaves queue) goes.queue
+    (effect_as R op m mid.tree.nodes quotas mid.objects p.templates.autos p.scans.queue nodes leaves queue) goes.queue
     (goes.left_is
     ∙ (sym (option_each (unvisited_in R (plain R.nodes op m) op) next (head R.queue) each)
     ∙ sym (ap (λ b. if b then u else scan_begun mid.tree.nodes p.scans.queue) (same_own p.scans.queue))))
 
 -- it is taken if no check refuses it
-pub op_accepts : (p mid : Parts) (m : ℕ) (op : FileOp) (quotas : List QuotaRow) (next : ℕ → List ℕ) → IsIdle p → p.last_moment ≤ m → due p m (File op) ≡ None → plain p.tree.nodes op m ≡ mid.tree.nodes → LeavesTables (rows_of p) op m quotas mid.objects → (file_effect (rows_of p) op m).queue ≡ p.scans.queue → ((k : ℕ) → unvisited_in (rows_of p) (plain p.tree.nodes op m) op k ≡ next k) → Goes p.scans mid.scans mid.tree next → Keeps p mid → map (peaked p.tree.size mid.tree.nodes m) mid.objects.quotas ≡ map (peaked p.tree.size mid.tree.nodes m) quotas → Accepts p mid m (File op)
+pub op_accepts : (p mid : Parts) (m : ℕ) (op : FileOp) (quotas : List QuotaRow) (next : ℕ → List ℕ) → IsIdle p → p.last_moment ≤ m → due p m (File op) ≡ None → plain p.tree.nodes op m ≡ mid.tree.nodes → LeavesTables (rows_of p) op m quotas mid.objects p.templates.autos → (file_effect (rows_of p) op m).queue ≡ p.scans.queue → ((k : ℕ) → unvisited_in (rows_of p) (plain p.tree.nodes op m) op k ≡ next k) → Goes p.scans mid.scans mid.tree next → Keeps p mid → map (peaked p.tree.size mid.tree.nodes m) mid.objects.quotas ≡ map (peaked p.tree.size mid.tree.nodes m) quotas → Accepts p mid m (File op)
 op_accepts p mid m op quotas next idle after none nodes leaves queue each goes kept raised = record {
   quotas = quotas;
   after = after;

@@ -10,6 +10,7 @@ use Rattle.fsrm_model.specs.declared.row.NodeRow.{NodeRow}
 use Rattle.fsrm_model.specs.FileOps.{plain}
 use Rattle.fsrm_model.specs.FileWork.{unvisited_in}
 use Rattle.fsrm_model.specs.Quota.{folder_of}
+use Rattle.fsrm_model.specs.AutoApply.{auto_folder}
 use Rattle.fsrm_base.specs.Keyed.{without_row}
 use Rattle.fsrm_base.specs.Numbers.{is_in, without_number}
 use Rattle.fsrm_model.specs.QuotaStates.{head, same_head, scan_begun}
@@ -25,6 +26,7 @@ use Rattle.rescan.specs.Frontiers.{Room, unvisited}
 use Rattle.rescan.proofs.followed.ChangeLaws.{removed}
 use Rattle.rescan.proofs.followed.FollowLaws.{folder_stands}
 use Rattle.rescan.proofs.followed.FrontierLaws.{begun, begun_unvisited, begins}
+use Rattle.templates.specs.Held.{without_auto}
 use Rattle.fsrm_objects.specs.Tables.{Tables, without_except, without_quota, without_screen}
 use Rattle.rescan.proofs.queued.Following.{absent_apart}
 use Rattle.rescan.proofs.queued.Queues.{first_in}
@@ -56,7 +58,7 @@ pub left_queue : (n : ℕ) (old new : List ℕ) → new ≡ without_number n old
 left_queue n old new is = ap (λ q. is_in q n) is ∙ (in_without n n old ∙ ap (λ b. not b && is_in old n) (eq_same n))
 
 -- queues of the same head
-head_same : (a b : List ℕ) → same_head a b ≡ true → head a ≡ head b
+pub head_same : (a b : List ℕ) → same_head a b ≡ true → head a ≡ head b
 head_same [] [] h = refl
 head_same [] (y ∷ b) h = cc
 head_same (x ∷ a) [] h = cc
@@ -88,11 +90,12 @@ abbrev pub without_objects : Tables → ℕ → Tables
 without_objects tables n = without_except (without_screen (without_quota tables n) n) n
 
 -- so the removal is taken
-pub rmdir_accepts : (p mid : Parts) (s1 : Course) (m : ℕ) (path : List (List ℕ)) (n : ℕ) → IsIdle p → p.last_moment ≤ m → due p m (File (Remove path)) ≡ None → resolve p.tree.nodes path ≡ Some n → mid.tree ≡ without_node p.tree n → mid.objects ≡ without_objects p.objects n → s1.queue ≡ without_number n p.scans.queue → Turns p.scans s1 p.tree → Goes s1 mid.scans mid.tree (λ scanned. without_number n (left p.tree.nodes s1)) → ((f : ℕ) → head s1.queue ≡ Some f → without_number n (folders_under p.tree.nodes f) ≡ folders_under mid.tree.nodes f) → Keeps p mid → Accepts p mid m (File (Remove path))
+pub rmdir_accepts : (p mid : Parts) (s1 : Course) (m : ℕ) (path : List (List ℕ)) (n : ℕ) → IsIdle p → p.last_moment ≤ m → due p m (File (Remove path)) ≡ None → resolve p.tree.nodes path ≡ Some n → mid.tree ≡ without_node p.tree n → mid.objects ≡ without_objects p.objects n → s1.queue ≡ without_number n p.scans.queue → Turns p.scans s1 p.tree → Goes s1 mid.scans mid.tree (λ scanned. without_number n (left p.tree.nodes s1)) → ((f : ℕ) → head s1.queue ≡ Some f → without_number n (folders_under p.tree.nodes f) ≡ folders_under mid.tree.nodes f) → Keeps (record p { templates = without_auto p.templates n }) mid → Accepts p mid m (File (Remove path))
 rmdir_accepts p mid s1 m path n idle after none at made taken gone turns goes each kept =
     let R = rows_of p in
     let op = Remove path in
     let to = target_is p.tree.nodes path n at in
+    let ruled : Parts = record p { templates = without_auto p.templates n } in
     let u = option_map_or (unvisited_in R (plain R.nodes op m) op) (head R.queue) [] in
     record {
       quotas = mid.objects.quotas;
@@ -100,14 +103,15 @@ rmdir_accepts p mid s1 m path n idle after none at made taken gone turns goes ea
       none = none;
       lasts = refl;
       size = kept.size;
-      idle = still_idle p mid kept idle;
-      made = followed_rows p mid (asked p m (File op)).effect mid.objects.quotas s1.queue u kept
-          (effect_as R op m mid.tree.nodes mid.objects.quotas mid.objects s1.queue
+      idle = still_idle ruled mid kept (record { numbers = idle.numbers; places = idle.places; crossing = idle.crossing });
+      made = followed_rows ruled mid (asked p m (File op)).effect mid.objects.quotas s1.queue u kept
+          (effect_as R op m mid.tree.nodes mid.objects.quotas mid.objects ruled.templates.autos s1.queue
           (ap (λ x. without_row number x p.tree.nodes) to ∙ sym (ap (λ (w : Volume). w.nodes) made))
           (record {
             quotas_are = ap (λ x. without_row folder_of x p.objects.quotas) to ∙ sym (ap (λ (t : Tables). t.quotas) taken);
             screens_are = ap (λ x. without_row screen_folder x p.objects.screens) to ∙ sym (ap (λ (t : Tables). t.screens) taken);
             excepts_are = ap (λ x. without_row except_folder x p.objects.excepts) to ∙ sym (ap (λ (t : Tables). t.excepts) taken);
+            autos_are = ap (λ x. without_row auto_folder x p.templates.autos) to;
           })
           (remove_queue p m path n at ∙ sym gone))
           goes.queue

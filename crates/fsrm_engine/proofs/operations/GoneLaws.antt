@@ -1,19 +1,22 @@
 -- What goes makes nothing due.
 use Rattle.std.proofs.Common.{◌≡◌, ℕ, ◌≤◌, ◌==◌, Bool, true, false, cond, List, [], Option, Some, None, refl, ap, sym, ◌∙◌, subst, arith}
 use Rattle.std.specs.Prelude.{map, option_map}
+use Rattle.std.specs.List.{list_all}
 use Rattle.fsrm_base.specs.Keyed.{has_row, row_of, without_row}
 use Rattle.fsrm_base.proofs.EditedRows.{without_absent}
 use Rattle.fsrm_base.proofs.Look.{found_key, has_found, row_of-without}
 use Rattle.fsrm_base.proofs.Members.{all_found}
 use Rattle.fsrm_base.proofs.TestLaws.{both, clash, not_true}
 use Rattle.fsrm_model.specs.declared.row.QuotaRow.{QuotaRow}
+use Rattle.fsrm_model.specs.AutoApply.{auto_folder}
 use Rattle.fsrm_model.specs.Limits.{most_excepts}
 use Rattle.fsrm_model.specs.Quota.{folder_of}
 use Rattle.fsrm_model.specs.Screens.{screen_folder, except_folder}
 use Rattle.fsrm_model.specs.Tree.{is_folder}
-use Rattle.fsrm_model.specs.Valid.{are_group_numbers, is_sound_except}
+use Rattle.fsrm_model.specs.Valid.{are_group_numbers, is_sound_auto, is_sound_except}
 use Rattle.fsrm_model.proofs.valid.RowsKept.{screens_folder}
 use Rattle.fsrm_model.proofs.valid.ScreensKept.{table_parts}
+use Rattle.fsrm_model.proofs.valid.TemplatesKept.{auto_parts}
 use Rattle.quota_usage.specs.declared.change.Change.{Change}
 use Rattle.quota_usage.specs.declared.change.Counter.{Counter}
 use Rattle.quota_usage.specs.Charge.{charged, charged_counter, is_above}
@@ -76,3 +79,14 @@ no_except p n w file = unfoldered except_folder p.objects.excepts (is_folder p.t
         let own = all_found (is_sound_except p.tree.nodes p.groups) (λ e. except_folder e == n) p.objects.excepts found.row table.each found.is in
         ap (is_folder p.tree.nodes) (sym (found_key except_folder n p.objects.excepts found.row found.is))
         ∙ (both (is_folder p.tree.nodes found.row.folder) (are_group_numbers p.groups found.row.groups) own).0
+
+pub no_auto : (p : Parts) (n : ℕ) → IsWhole p → is_folder p.tree.nodes n ≡ false → without_row auto_folder n p.templates.autos ≡ p.templates.autos
+no_auto p n w file = unfoldered auto_folder p.templates.autos (is_folder p.tree.nodes) n there file
+  where
+    there : has_row auto_folder n p.templates.autos ≡ true → is_folder p.tree.nodes n ≡ true
+    there h =
+        let found = has_found auto_folder n p.templates.autos h in
+        let each = (both _ (list_all (is_sound_auto p.tree.nodes p.templates.templates) p.templates.autos) w.valid.tables.autos).1 in
+        let own = all_found (is_sound_auto p.tree.nodes p.templates.templates) (λ a. auto_folder a == n) p.templates.autos found.row each found.is in
+        ap (is_folder p.tree.nodes) (sym (found_key auto_folder n p.templates.autos found.row found.is))
+        ∙ (auto_parts p.tree.nodes p.templates.templates found.row own).folder

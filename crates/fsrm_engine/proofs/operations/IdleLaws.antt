@@ -87,7 +87,7 @@ copied : {X : Type 0} (o : Option (Bor X)) → is_some (option_copied o) ≡ is_
 copied None = refl
 copied (Some x) = refl
 
-row_test : {X : Type 0} (key : X → ℕ) (rows : List X) (n : ℕ) (o : Option (Bor X)) → option_copied o ≡ row_of key n rows → has_row key n rows ≡ is_some o
+pub row_test : {X : Type 0} (key : X → ℕ) (rows : List X) (n : ℕ) (o : Option (Bor X)) → option_copied o ≡ row_of key n rows → has_row key n rows ≡ is_some o
 row_test key rows n o e = sym (sym (copied o) ∙ (ap is_some e ∙ is_some-find (λ r. key r == n) rows))
 
 pub quota_there : (quotas : List QuotaRow) (n : ℕ) (o : Option (Bor QuotaRow)) → option_copied o ≡ row_of folder_of n quotas → is_some o ≡ true → has_row folder_of n quotas ≡ true
@@ -132,20 +132,23 @@ no_more n new true h = omega arith
 no_more n new false h = omega arith
 
 -- a folder is made
+pub usage_made : (K : Capacity) (nodes : List NodeRow) (d : ℕ) (name : List ℕ) (owner m : ℕ) → IsVolume K nodes → is_folder nodes d ≡ true → (f : ℕ) → Has nodes f → usage K (with_row number (made_node nodes d name true 0 owner m) nodes) f ≡ usage K nodes f
+usage_made K nodes d name owner m v folder f has =
+    let node = made_node nodes d name true 0 owner m in
+    let free : has_row number (fresh nodes) nodes ≡ false = (least_free_is number nodes v.ascending).free in
+    let inner : (fresh nodes == 0) ≡ false = not_true _ (λ z. clash _ (subst (Has nodes) (sym (eq_is _ _ z)) v.has_root) free) in
+    let s = as_suc (fresh nodes) inner in
+    no_more (usage K nodes f) (usage K (with_row number node nodes) f) (is_under nodes f d) (usage-new K nodes (tree_of K nodes v) node s.0 s.1 free (folder_has nodes d folder) f has)
+
 pub idle_made : {level : Bool} (v w : Volume) (quotas : List QuotaRow) (counters : List Counter) (d : ℕ) (name : List ℕ) (owner m : ℕ) → IsCounted v.size v.nodes quotas counters level → is_folder v.nodes d ≡ true → w ≡ with_node v (made_node v.nodes d name true 0 owner m) → IsVolume w.size w.nodes → IsCounted w.size w.nodes quotas counters level
 idle_made {level} v w quotas counters d name owner m e folder made kept =
     let K = v.size in
     let nodes = v.nodes in
     let node = made_node nodes d name true 0 owner m in
-    let t = tree_of K nodes e.volume in
-    let free : has_row number (fresh nodes) nodes ≡ false = (least_free_is number nodes e.volume.ascending).free in
-    let inner : (fresh nodes == 0) ≡ false = not_true _ (λ z. clash _ (subst (Has nodes) (sym (eq_is _ _ z)) e.volume.has_root) free) in
-    let s = as_suc (fresh nodes) inner in
-    let hd : Has nodes d = folder_has nodes d folder in
     subst (λ (w : Volume). IsCounted w.size w.nodes quotas counters level) (sym made)
     (idle_same K nodes (with_row number node nodes) quotas counters e (subst (λ (w : Volume). IsVolume w.size w.nodes) made kept)
-    (λ f q found. no_more (usage K nodes f) (usage K (with_row number node nodes) f) (is_under nodes f d) (usage-new K nodes t node s.0 s.1 free hd f (folder_has nodes f (e.are_quotas.folders f q found))))
-    (λ f q found h. folder-new nodes node f free h))
+    (λ f q found. usage_made K nodes d name owner m e.volume folder f (folder_has nodes f (e.are_quotas.folders f q found)))
+    (λ f q found h. folder-new nodes node f (least_free_is number nodes e.volume.ascending).free h))
 
 same_space : (n new s : ℕ) (b : Bool) → new + cond b s 0 ≡ n + cond b s 0 → new ≡ n
 same_space n new s true h = omega arith

@@ -1,17 +1,17 @@
 -- The refusals of a move are the faults of the tree.
-use Rattle.std.proofs.Common.{◌≡◌, ℕ, ◌+◌, ◌==◌, Bool, true, false, not, ◌&&◌, List, [], ◌∷◌, length, Some, None, nat_lt, refl, ap, sym, ◌∙◌, subst, arith}
+use Rattle.std.proofs.Common.{◌≡◌, ℕ, ◌+◌, ◌==◌, Bool, true, false, not, ◌&&◌, List, [], ◌∷◌, length, Option, Some, None, nat_lt, refl, ap, sym, ◌∙◌, subst, arith}
 use Rattle.std.proofs.lemmas.Bool.Decides.{nat_tests}
-use Rattle.std.specs.Prelude.{unwrap_or}
+use Rattle.std.specs.Prelude.{IfSome, unwrap_or}
 use Rattle.fsrm_model.specs.declared.command.Deed.TheVariants.{File}
 use Rattle.fsrm_model.specs.declared.command.FileOp.TheVariants.{Move}
 use Rattle.fsrm_model.specs.declared.command.Refusal.{Refusal}
 use Rattle.fsrm_model.specs.declared.command.Refusal.TheVariants.{AlreadyExists, PathNotFound, InvalidMove, NamesFull}
 use Rattle.fsrm_model.specs.declared.row.Capacity.{Capacity}
 use Rattle.fsrm_model.specs.declared.row.NodeRow.{NodeRow}
-use Rattle.fsrm_model.specs.Check.{Check, ◌when◌, first}
+use Rattle.fsrm_model.specs.Check.{Check, ◌when◌, first, table_full, texts_full}
 use Rattle.fsrm_model.specs.Quota.{exceeded}
 use Rattle.fsrm_model.specs.FileOps.{target, target_folder, placed}
-use Rattle.fsrm_model.specs.FileWork.{blocked, judged_name}
+use Rattle.fsrm_model.specs.FileWork.{blocked, file_effect, judged_name}
 use Rattle.fsrm_base.specs.Keyed.{has_row, with_change}
 use Rattle.fsrm_model.specs.Leads.{is_root, leads, leads_to_folder, leads_to_other}
 use Rattle.fsrm_model.specs.Tree.{number, name_of, is_folder, is_under, resolve, folder_part, last_name, child_number, name_bytes}
@@ -19,13 +19,15 @@ use Rattle.fsrm_model.specs.Valid.{IsVolume}
 use Rattle.fsrm_base.proofs.TestLaws.{clash}
 use Rattle.fsrm_model.proofs.nodes.Files.{below_file}
 use Rattle.fsrm_model.proofs.nodes.Sizes.{name_bytes-placed}
+use Rattle.volume_tree.specs.declared.answer.TreeFault.{TreeFault}
 use Rattle.volume_tree.specs.declared.answer.TreeFault.TheVariants as fault
-use Rattle.volume_tree.specs.Volume.{Volume, is_other, move_fault, with_place}
+use Rattle.volume_tree.specs.Volume.{IsFault, Volume, is_other, move_fault, with_place}
 use Rattle.fsrm_engine.specs.declared.parts.Parts.{Parts}
 use Rattle.fsrm_engine.specs.Machine.{rows_of}
+use Rattle.fsrm_engine.specs.Faults.{refusal_of}
 use Rattle.fsrm_engine.specs.Places.{IsPlace, IsRefusedPlace}
-use Rattle.fsrm_engine.proofs.operations.NewLaws.{two_checks}
-use Rattle.fsrm_engine.proofs.steps.StepLaws.{due, or_else, tree_first}
+use Rattle.fsrm_engine.proofs.operations.NewLaws.{room_after, two_checks}
+use Rattle.fsrm_engine.proofs.steps.StepLaws.{due, fault_due, or_else, tree_first}
 use Rattle.fsrm_engine.proofs.steps.PlaceLaws.{root_is, has_resolved, leads_is, target_is, leads_to_folder_is, place_leads, place_folder}
 
 -- the checks that the tree makes too
@@ -65,8 +67,14 @@ bytes_moved v from to n d name k h p =
     sym (ap (λ (w : Volume). name_bytes w.nodes + length (name_of v.nodes n)) (moved_is v from to n d name h p))
     ∙ name_bytes-placed v.nodes n d name k.ascending (has_resolved v.size v.nodes from n k h)
 
+-- the tables come before screens and quotas
+four_checks : (table texts by over : Check) → first (table ∷ texts ∷ by ∷ over ∷ []) ≡ or_else (first (table ∷ texts ∷ [])) (or_else by over)
+four_checks None None by over = two_checks by over
+four_checks None (Some refusal) by over = refl
+four_checks (Some refusal) texts by over = refl
+
 -- the refusal that is due to a move to a place
-pub move_due : (p : Parts) (m : ℕ) (from to : List (List ℕ)) (n d : ℕ) (name : List ℕ) → IsVolume p.tree.size p.tree.nodes → resolve p.tree.nodes from ≡ Some n → (n == 0) ≡ false → IsPlace p.tree.nodes to d name → due p m (File (Move from to)) ≡ tree_first (move_fault p.tree n d name) (or_else (blocked (judged_name (rows_of p) (Move from to))) (exceeded p.tree.size (rows_of p) (with_place p.tree n d name).nodes))
+pub move_due : (p : Parts) (m : ℕ) (from to : List (List ℕ)) (n d : ℕ) (name : List ℕ) → IsVolume p.tree.size p.tree.nodes → resolve p.tree.nodes from ≡ Some n → (n == 0) ≡ false → IsPlace p.tree.nodes to d name → due p m (File (Move from to)) ≡ tree_first (move_fault p.tree n d name) (or_else (room_after p m (Move from to)) (or_else (blocked (judged_name (rows_of p) (Move from to))) (exceeded p.tree.size (rows_of p) (with_place p.tree n d name).nodes)))
 move_due p m from to n d name k h inner place =
     let v = p.tree in
     let nodes = v.nodes in
@@ -76,8 +84,9 @@ move_due p m from to n d name k h inner place =
     let dir = leads_to_folder_is nodes from n h in
     let by = blocked (judged_name (rows_of p) (Move from to)) in
     let over = exceeded v.size (rows_of p) new in
+    let E = file_effect (rows_of p) (Move from to) m in
     listed_at (leads nodes from) (is_root from) (is_root to) (leads_to_folder nodes (folder_part to)) (leads_to_folder nodes from && is_under nodes (target nodes from) (target_folder nodes to)) (leads_to_other nodes to (target nodes from)) (nat_lt v.size.names (name_bytes new))
-    (is_under nodes n d) (is_other (child_number nodes d name) n) (nat_lt (v.size.names + length (name_of nodes n)) (name_bytes nodes + length name)) (by ∷ over ∷ [])
+    (is_under nodes n d) (is_other (child_number nodes d name) n) (nat_lt (v.size.names + length (name_of nodes n)) (name_bytes nodes + length name)) (table_full E ∷ texts_full E ∷ by ∷ over ∷ [])
     (leads_is nodes from n h) (root_is v.size nodes from n k h ∙ inner) place.inner (place_folder nodes to d name place)
     (ap (λ b. b && is_under nodes (target nodes from) (target_folder nodes to)) dir
     ∙ (ap (λ x. is_folder nodes n && is_under nodes x (target_folder nodes to)) on
@@ -85,8 +94,8 @@ move_due p m from to n d name k h inner place =
     ∙ under_is v.size nodes n d k (has_resolved v.size nodes (folder_part to) d k place.resolved) place.folder_is)))
     (ap (leads_to_other nodes to) on ∙ ap (λ o. is_other o n) (place_leads v.size nodes to d name k place))
     (bytes_test v.size.names (name_bytes nodes) (name_bytes new) (length (name_of nodes n)) (length name) (bytes_moved v from to n d name k h place))
-    ∙ ap (tree_first (move_fault v n d name)) (two_checks by over
-    ∙ ap (λ (w : Volume). or_else by (exceeded v.size (rows_of p) w.nodes)) (sym (moved_is v from to n d name h place)))
+    ∙ ap (tree_first (move_fault v n d name)) (four_checks (table_full E) (texts_full E) by over
+    ∙ ap (λ (w : Volume). or_else (room_after p m (Move from to)) (or_else by (exceeded v.size (rows_of p) w.nodes))) (sym (moved_is v from to n d name h place)))
 
 -- the root isn't moved
 first_move : (there root : Bool) (more : List Check) → there ≡ true → root ≡ true → first ((PathNotFound when not there) ∷ (InvalidMove when root) ∷ more) ≡ Some InvalidMove
@@ -109,3 +118,9 @@ stray_due p m from to n AlreadyExists k h inner at =
 stray_due p m from to n PathNotFound k h inner at =
     third_move (leads p.tree.nodes from) (is_root from) (is_root to) (leads_to_folder p.tree.nodes (folder_part to)) _ (leads_is p.tree.nodes from n h) (root_is p.tree.size p.tree.nodes from n k h ∙ inner) at.0 at.1
 stray_due p m from to n other k h inner at = absurd at
+
+-- a move that the tree refuses, if it wasn't for want of memory
+pub move_faulty : (p : Parts) (from to : List (List ℕ)) (n d : ℕ) (name : List ℕ) (told : TreeFault) (why : Option Refusal) → IsVolume p.tree.size p.tree.nodes → resolve p.tree.nodes from ≡ Some n → (n == 0) ≡ false → IsPlace p.tree.nodes to d name → IsFault told (move_fault p.tree n d name) → why ≡ refusal_of told → IfSome why (λ refusal. (m : ℕ) → due p m (File (Move from to)) ≡ Some refusal)
+move_faulty p from to n d name told None k h inner place is e = tt
+move_faulty p from to n d name told (Some refusal) k h inner place is e = λ m.
+    move_due p m from to n d name k h inner place ∙ fault_due told (move_fault p.tree n d name) _ refusal is (sym e)

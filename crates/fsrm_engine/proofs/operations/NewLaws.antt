@@ -5,15 +5,16 @@ use Rattle.std.proofs.lemmas.Option.{same_Some}
 use Rattle.std.specs.Prelude.{is_some, nat_le, unwrap_or}
 use Rattle.std.specs.Option.{option_and_then, option_map_or}
 use Rattle.fsrm_model.specs.declared.command.Deed.TheVariants.{File}
+use Rattle.fsrm_model.specs.declared.command.FileOp.{FileOp}
 use Rattle.fsrm_model.specs.declared.command.FileOp.TheVariants.{Mkdir, Create}
 use Rattle.fsrm_model.specs.declared.command.Refusal.{Refusal}
 use Rattle.fsrm_model.specs.declared.command.Refusal.TheVariants.{AlreadyExists, PathNotFound, VolumeFull, NamesFull}
 use Rattle.fsrm_model.specs.declared.row.Capacity.{Capacity}
 use Rattle.fsrm_model.specs.declared.row.NodeRow.{NodeRow}
-use Rattle.fsrm_model.specs.Check.{Check, ◌when◌, first}
+use Rattle.fsrm_model.specs.Check.{Check, ◌when◌, first, table_full, texts_full}
 use Rattle.fsrm_model.specs.Quota.{exceeded}
 use Rattle.fsrm_model.specs.FileOps.{made_node, new_node, target_folder}
-use Rattle.fsrm_model.specs.FileWork.{blocked, judged_name}
+use Rattle.fsrm_model.specs.FileWork.{blocked, file_effect, judged_name}
 use Rattle.fsrm_base.specs.Keyed.{with_row}
 use Rattle.fsrm_model.specs.Leads.{is_root, leads, leads_to_folder}
 use Rattle.fsrm_model.specs.Text.{is_bare}
@@ -161,15 +162,20 @@ pub by_no_screen : (fault : Option TreeFault) (by over : Option Refusal) → fau
 by_no_screen fault by over may none = ap (λ o. tree_first o (or_else by over)) may ∙ none_by by over none
 
 -- ---- the refusal that is due
+-- what there is no room for, of the quotas and texts that an operation would leave
+abbrev pub room_after : Parts → ℕ → FileOp → Option Refusal
+room_after p m op = first (table_full (file_effect (rows_of p) op m) ∷ texts_full (file_effect (rows_of p) op m) ∷ [])
+
 -- to a new folder
-pub mkdir_due : (p : Parts) (m : ℕ) (path : List (List ℕ)) (owner : ℕ) → IsVolume p.tree.size p.tree.nodes → due p m (File (Mkdir path owner)) ≡ or_else (new_refusal p.tree path) None
+pub mkdir_due : (p : Parts) (m : ℕ) (path : List (List ℕ)) (owner : ℕ) → IsVolume p.tree.size p.tree.nodes → due p m (File (Mkdir path owner)) ≡ or_else (new_refusal p.tree path) (room_after p m (Mkdir path owner))
 mkdir_due p m path owner k =
     let nodes = p.tree.nodes in
     let node = new_node nodes path true 0 owner m in
-    checks_are p.tree.size nodes (with_row number node nodes) path [] k (length-with_row number node nodes) (bytes_made nodes path node refl)
+    let E = file_effect (rows_of p) (Mkdir path owner) m in
+    checks_are p.tree.size nodes (with_row number node nodes) path (table_full E ∷ texts_full E ∷ []) k (length-with_row number node nodes) (bytes_made nodes path node refl)
 
-pub mkdir_free : (p : Parts) (m : ℕ) (path : List (List ℕ)) (owner d : ℕ) (name : List ℕ) → IsVolume p.tree.size p.tree.nodes → IsVacant p.tree path d name → due p m (File (Mkdir path owner)) ≡ None
-mkdir_free p m path owner d name k free = mkdir_due p m path owner k ∙ ap (λ o. or_else o None) (vacant_new p.tree path d name free)
+pub mkdir_free : (p : Parts) (m : ℕ) (path : List (List ℕ)) (owner d : ℕ) (name : List ℕ) → IsVolume p.tree.size p.tree.nodes → IsVacant p.tree path d name → due p m (File (Mkdir path owner)) ≡ room_after p m (Mkdir path owner)
+mkdir_free p m path owner d name k free = mkdir_due p m path owner k ∙ ap (λ o. or_else o (room_after p m (Mkdir path owner))) (vacant_new p.tree path d name free)
 
 -- to a new file
 abbrev over_new : Parts → ℕ → List (List ℕ) → ℕ → ℕ → Option Refusal

@@ -1,5 +1,5 @@
 -- Quotas that are settled one after the other, each by its place.
-use Rattle.std.proofs.Common.{◌≡◌, ℕ, ◌<◌, ◌≤◌, ◌==◌, ◌&&◌, ◌||◌, Bool, true, false, cond, not, List, [], ◌∷◌, ◌++◌, append_assoc, length, Option, Some, None, slice_get, refl, ap, sym, ◌∙◌, subst, arith}
+use Rattle.std.proofs.Common.{◌≡◌, ℕ, ◌<◌, ◌≤◌, ◌==◌, ◌&&◌, ◌||◌, Bool, true, false, not, List, [], ◌∷◌, ◌++◌, append_assoc, length, Option, Some, None, slice_get, refl, ap, sym, ◌∙◌, subst, arith}
 use Rattle.std.proofs.lemmas.List.{append-nil, length-map}
 use Rattle.std.proofs.lemmas.Option.{same_Some, slice_get-map}
 use Rattle.std.specs.Prelude.{option_map}
@@ -34,7 +34,7 @@ use Rattle.fsrm_engine.proofs.settling.NoteLaws.{two_places}
 use Rattle.fsrm_engine.proofs.tables.CountingLaws.{fewer}
 
 -- ---- the acts of one quota leave the others acts they are
-other_run : (passes : ℕ → Bool) (run_limit m : ℕ) (q r : QuotaRow) → is_ascending percent_of q.thresholds ≡ true → (q.folder == r.folder) ≡ false → run_quota m (quota_acts passes run_limit m q) r ≡ r
+pub other_run : (passes : ℕ → Bool) (run_limit m : ℕ) (q r : QuotaRow) → is_ascending percent_of q.thresholds ≡ true → (q.folder == r.folder) ≡ false → run_quota m (quota_acts passes run_limit m q) r ≡ r
 other_run passes run_limit m q r asc other =
     same_runs m (quota_acts passes run_limit m q) [] r
     (λ percent place. quota_run passes run_limit m q r.folder percent place asc

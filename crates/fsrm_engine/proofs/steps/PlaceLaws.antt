@@ -14,7 +14,7 @@ use Rattle.fsrm_model.specs.FileOps.{target}
 use Rattle.fsrm_base.specs.Keyed.{has_row}
 use Rattle.fsrm_model.specs.Leads.{is_root, leads, leads_to_folder}
 use Rattle.fsrm_model.specs.Text.{is_bare}
-use Rattle.fsrm_model.specs.Tree.{number, is_folder, child_number, chain, path_of, resolve, folder_part, last_name}
+use Rattle.fsrm_model.specs.Tree.{number, is_folder, child_number, chain, path_of, resolve, folder_part, last_name, owner_of, parent_of}
 use Rattle.fsrm_model.specs.Valid.{IsVolume}
 use Rattle.fsrm_base.proofs.Look.{found_key}
 use Rattle.fsrm_base.proofs.TestLaws.{not_true, eq_is, suc_apart}
@@ -88,6 +88,12 @@ shown_folder nodes n view s = found_folder nodes n s.row s.found ∙ sym s.is.fo
 shown_number : (nodes : List NodeRow) (n : ℕ) (view : NodeView) → Shows view nodes n → view.number ≡ n
 shown_number nodes n view s = s.is.number ∙ found_key number n nodes s.row s.found
 
+pub shown_owner : (nodes : List NodeRow) (n : ℕ) (view : NodeView) → Shows view nodes n → owner_of nodes n ≡ view.owner
+shown_owner nodes n view s = ap (λ o. option_map_or (λ (node : NodeRow). node.owner) o 0) s.found ∙ sym s.is.owner
+
+pub shown_parent : (nodes : List NodeRow) (n : ℕ) (view : NodeView) → Shows view nodes n → parent_of nodes n ≡ view.parent
+shown_parent nodes n view s = ap (λ o. option_map_or (λ (node : NodeRow). node.parent) o 0) s.found ∙ sym s.is.parent
+
 pub file_found : (K : Capacity) (nodes : List NodeRow) (path : List (List ℕ)) (n : ℕ) (view : NodeView) → IsVolume K nodes → Some n ≡ resolve nodes path → Shows view nodes n → view.length ≤ longest_file → view.folder ≡ false → IsFile nodes path view
 file_found K nodes path n view k h s short f =
     let same = shown_number nodes n view s in
@@ -120,3 +126,8 @@ pub place_bare : (nodes : List NodeRow) (path : List (List ℕ)) (refusal : Refu
 place_bare nodes path (ScreenBlocked screen) h = absurd h
 place_bare nodes path (QuotaExceeded folder would limit) h = absurd h
 place_bare nodes path other h = refl
+
+-- a path that isn't the root's has a name
+pub place_inner : (path : List (List ℕ)) → is_root path ≡ false → 1 ≤ length path
+place_inner [] h = absurd (cc h)
+place_inner (name ∷ path) h = omega arith

@@ -38,6 +38,7 @@ use Rattle.quota_usage.specs.declared.change.Exceeded.{Exceeded}
 use Rattle.rescan.specs.Courses.{Course, left}
 use Rattle.fsrm_objects.specs.Tables.{Tables}
 use Rattle.quota_usage.specs.declared.change.Counter.{Counter}
+use Rattle.templates.specs.Held.{Held}
 use Rattle.thresholds.specs.Marked.{Marked}
 use Rattle.volume_tree.specs.declared.answer.TreeFault.{TreeFault}
 use Rattle.volume_tree.specs.declared.answer.TreeFault.TheVariants.{AlreadyExists, InvalidMove, NotEmpty, VolumeFull, NamesFull, NoMemory}
@@ -132,13 +133,14 @@ pub record Keeps (p mid : Parts) : Type 0 where
   pub marks : mid.marks ≡ p.marks
   pub crossing : mid.crossing ≡ p.crossing
   pub groups : mid.groups ≡ p.groups
+  pub templates : mid.templates ≡ p.templates
   pub audit : mid.audit ≡ p.audit
   pub run_limit : mid.run_limit ≡ p.run_limit
   pub last_moment : mid.last_moment ≡ p.last_moment
 
 pub keeps : (p : Parts) (tree : Volume) (objects : Tables) (usage : List Counter) (scans : Course) (level : Bool) → tree.size ≡ p.tree.size → Keeps p (record p { tree = tree; objects = objects; usage = usage; scans = scans; level = level })
 keeps p tree objects usage scans level size =
-    record { size = size; marks = refl; crossing = refl; groups = refl; audit = refl; run_limit = refl; last_moment = refl }
+    record { size = size; marks = refl; crossing = refl; groups = refl; templates = refl; audit = refl; run_limit = refl; last_moment = refl }
 
 pub still_idle : (p mid : Parts) → Keeps p mid → IsIdle p → IsIdle mid
 still_idle p mid k i =
@@ -199,9 +201,11 @@ pub followed_rows : (p mid : Parts) (effect : Rows) (quotas : List QuotaRow) (qu
 followed_rows p mid effect quotas queue unvisited k made queue_is left_is =
     let nodes = mid.tree.nodes in
     let u = if same_head p.scans.queue queue then unvisited else scan_begun nodes queue in
-    let of : List GroupRow → List AuditRow → List ActRow → List ℕ → List ℕ → ℕ → ℕ → Rows =
-    λ groups audit log q u limit last.
+    let of : List GroupRow → Held → List AuditRow → List ActRow → List ℕ → List ℕ → ℕ → ℕ → Rows =
+    λ groups held audit log q u limit last.
     record (rows_of_nodes nodes) {
+      templates = held.templates;
+      autos = held.autos;
       groups = groups;
       quotas = quotas;
       screens = mid.objects.screens;
@@ -214,13 +218,14 @@ followed_rows p mid effect quotas queue unvisited k made queue_is left_is =
       last_moment = last;
     } in
     ap (followed (rows_of p)) made
-    ∙ (ap (λ groups. of groups p.audit p.marks.log queue u p.run_limit p.last_moment) (sym k.groups)
-    ∙ (ap (λ audit. of mid.groups audit p.marks.log queue u p.run_limit p.last_moment) (sym k.audit)
-    ∙ (ap (λ (x : Marked). of mid.groups mid.audit x.log queue u p.run_limit p.last_moment) (sym k.marks)
-    ∙ (ap (λ q. of mid.groups mid.audit mid.marks.log q u p.run_limit p.last_moment) (sym queue_is)
-    ∙ (ap (λ u. of mid.groups mid.audit mid.marks.log mid.scans.queue u p.run_limit p.last_moment) (sym left_is)
-    ∙ (ap (λ n. of mid.groups mid.audit mid.marks.log mid.scans.queue (left nodes mid.scans) n p.last_moment) (sym k.run_limit)
-    ∙ ap (of mid.groups mid.audit mid.marks.log mid.scans.queue (left nodes mid.scans) mid.run_limit) (sym k.last_moment)))))))
+    ∙ (ap (λ groups. of groups p.templates p.audit p.marks.log queue u p.run_limit p.last_moment) (sym k.groups)
+    ∙ (ap (λ held. of mid.groups held p.audit p.marks.log queue u p.run_limit p.last_moment) (sym k.templates)
+    ∙ (ap (λ audit. of mid.groups mid.templates audit p.marks.log queue u p.run_limit p.last_moment) (sym k.audit)
+    ∙ (ap (λ (x : Marked). of mid.groups mid.templates mid.audit x.log queue u p.run_limit p.last_moment) (sym k.marks)
+    ∙ (ap (λ q. of mid.groups mid.templates mid.audit mid.marks.log q u p.run_limit p.last_moment) (sym queue_is)
+    ∙ (ap (λ u. of mid.groups mid.templates mid.audit mid.marks.log mid.scans.queue u p.run_limit p.last_moment) (sym left_is)
+    ∙ (ap (λ n. of mid.groups mid.templates mid.audit mid.marks.log mid.scans.queue (left nodes mid.scans) n p.last_moment) (sym k.run_limit)
+    ∙ ap (of mid.groups mid.templates mid.audit mid.marks.log mid.scans.queue (left nodes mid.scans) mid.run_limit) (sym k.last_moment))))))))
 
 -- ---- commands that don't
 -- the answer to a command that was done, and doesn't last
@@ -272,7 +277,7 @@ pub last_check : (o : Option Refusal) → first (o ∷ []) ≡ o
 last_check None = refl
 last_check (Some refusal) = refl
 
-fault_due : (fault : TreeFault) (o : Option TreeFault) (more : Option Refusal) (refusal : Refusal) → IsFault fault o → refusal_of fault ≡ Some refusal → tree_first o more ≡ Some refusal
+pub fault_due : (fault : TreeFault) (o : Option TreeFault) (more : Option Refusal) (refusal : Refusal) → IsFault fault o → refusal_of fault ≡ Some refusal → tree_first o more ≡ Some refusal
 fault_due AlreadyExists o more refusal h r = ap (λ o. tree_first o more) h ∙ r
 fault_due InvalidMove o more refusal h r = ap (λ o. tree_first o more) h ∙ r
 fault_due NotEmpty o more refusal h r = ap (λ o. tree_first o more) h ∙ r

@@ -30,15 +30,16 @@ use Rattle.fsrm_model.specs.QuotaStates.{followed}
 use Rattle.fsrm_model.specs.Text.{is_bare}
 use Rattle.fsrm_model.specs.Texts.{group_bytes, object_texts}
 use Rattle.fsrm_objects.specs.Tables.{Tables, texts_in}
+use Rattle.templates.specs.Held.{texts_in as template_texts}
 use Rattle.fsrm_engine.specs.declared.parts.Parts.{Parts}
-use Rattle.fsrm_engine.specs.Faults.{group_answer, group_refusal, text_room}
+use Rattle.fsrm_engine.specs.Faults.{group_answer, group_refusal, text_room, texts_of}
 use Rattle.fsrm_engine.specs.Machine.{AreCounted, Does, IsIdle, IsSound, IsWhole, ended, rows_of}
 use Rattle.fsrm_engine.proofs.settling.CalmLaws.{calm_same}
 use Rattle.fsrm_engine.proofs.settling.EndLaws.{few_log}
 use Rattle.fsrm_engine.proofs.steps.StepLaws.{asked, done_as, due, followed_own, last_check, refused_as, told}
 use Rattle.fsrm_engine.proofs.steps.WholeLaws.{sound_ended}
 use Rattle.fsrm_engine.proofs.tables.QuotaLaws.{counted_same}
-use Rattle.fsrm_engine.proofs.tables.RoomLaws.{few_texts, full_test, room_other, room_test, texts_of}
+use Rattle.fsrm_engine.proofs.tables.RoomLaws.{few_texts, full_test, room_other, room_test}
 
 -- ---- parts whose groups, screens and exceptions are others
 abbrev pub retabled : Parts → List GroupRow → Tables → Parts
@@ -99,7 +100,7 @@ groups_ascend p w =
     (both (is_ascending group_number groups) (nat_le (length groups) most_groups) (both (is_ascending group_number groups && nat_le (length groups) most_groups) (list_all is_group groups && are_apart groups) w.valid.tables.groups).0).0
 
 -- all texts, with those of other groups
-all_texts : (p : Parts) (groups : List GroupRow) → object_texts (record (rows_of p) { groups = groups }) ≡ group_texts groups + texts_in p.objects
+all_texts : (p : Parts) (groups : List GroupRow) → object_texts (record (rows_of p) { groups = groups }) ≡ group_texts groups + (texts_in p.objects + template_texts p.templates)
 all_texts p groups = omega arith
 
 -- ---- a new group

@@ -1,95 +1,42 @@
 -- Quotas that commands make and change.
-use Rattle.std.proofs.Common.{◌≡◌, ℕ, ◌≤◌, ◌==◌, ◌&&◌, Bool, true, false, List, [], ◌∷◌, Option, Some, None, refl, ap, sym, ◌∙◌, subst}
-use Rattle.std.specs.Prelude.{is_none, unwrap_or, Result, IfOk, if◌then◌else◌}
+use Rattle.std.proofs.Common.{◌≡◌, ℕ, ◌≤◌, ◌==◌, Bool, true, false, List, Option, Some, None, refl, ap, sym, ◌∙◌, subst}
+use Rattle.std.specs.Prelude.{Result, IfOk}
 use Rattle.std.specs.List.{list_all}
 use Rattle.std.specs.Option.{option_and_then, option_map_or}
 use Rattle.fsrm_base.specs.declared.memory.NoMemory.{NoMemory as Wanting}
-use Rattle.fsrm_base.specs.Keyed.{has_row, is_ascending, row_of, with_row, with_change}
+use Rattle.fsrm_base.specs.Keyed.{has_row, is_ascending, row_of, with_change}
 use Rattle.fsrm_base.proofs.Look.{found_has, has_row-change}
 use Rattle.fsrm_model.specs.declared.command.Added.{Added}
 use Rattle.fsrm_model.specs.declared.command.Answer.{Answer}
 use Rattle.fsrm_model.specs.declared.command.Deed.{Deed}
-use Rattle.fsrm_model.specs.declared.command.Deed.TheVariants.{QuotaAdd, QuotaModify}
+use Rattle.fsrm_model.specs.declared.command.Deed.TheVariants.{QuotaModify}
 use Rattle.fsrm_model.specs.declared.command.Outcome.TheVariants.{Done}
-use Rattle.fsrm_model.specs.declared.row.Capacity.{Capacity}
-use Rattle.fsrm_model.specs.declared.row.NodeRow.{NodeRow}
 use Rattle.fsrm_model.specs.declared.row.QuotaRow.{QuotaRow}
 use Rattle.fsrm_model.specs.declared.row.QuotaState.{QuotaState}
 use Rattle.fsrm_model.specs.declared.row.QuotaState.TheVariants.{Disabled}
-use Rattle.fsrm_base.proofs.TestLaws.{both}
-use Rattle.fsrm_model.specs.Quota.{folder_of, counts, is_complete, is_limit}
-use Rattle.fsrm_model.specs.QuotaStates.{in_state, queued, start, state_after, with_quota, with_state}
-use Rattle.fsrm_model.specs.QuotaWork.{modified, new_quota, remarked}
-use Rattle.fsrm_model.specs.Valued.{is_deed, is_path}
+use Rattle.fsrm_model.specs.Quota.{folder_of, counts, is_complete}
+use Rattle.fsrm_model.specs.QuotaStates.{in_state, queued, state_after, with_state}
+use Rattle.fsrm_model.specs.QuotaWork.{modified, remarked}
 use Rattle.fsrm_model.specs.Thresholds.{are_thresholds, changed_thresholds, is_notice, is_percent, is_threshold, may_be_removed, percent_of}
 use Rattle.fsrm_model.specs.Tree.{is_folder, usage}
 use Rattle.fsrm_model.specs.Valid.{IsVolume}
 use Rattle.fsrm_model.proofs.thresholds.ThresholdLaws.{changed_ascending, changed_each}
-use Rattle.fsrm_objects.specs.Tables.{Tables, other_fault, quota_fault}
-use Rattle.fsrm_objects.proofs.FaultLaws.{admitted, short_other}
+use Rattle.fsrm_objects.specs.Tables.{Tables, other_fault}
+use Rattle.fsrm_objects.proofs.FaultLaws.{short_other}
 use Rattle.quota_usage.specs.Counters.{used_in}
 use Rattle.thresholds.specs.Settled.{due_in}
 use Rattle.fsrm_engine.specs.declared.parts.Parts.{Parts}
 use Rattle.fsrm_engine.specs.Faults.{table_refusal, text_room}
 use Rattle.fsrm_engine.specs.Machine.{AreCounted, Does, IsIdle, IsWhole, Ran, Turned, ended, rows_of}
-use Rattle.fsrm_engine.specs.Places.{IsFolder, IsQuotaAt}
+use Rattle.fsrm_engine.specs.Places.{IsQuotaAt}
 use Rattle.fsrm_engine.proofs.settling.ChangedDue.{due_changed}
-use Rattle.fsrm_engine.proofs.settling.EndLaws.{few_log}
-use Rattle.fsrm_engine.proofs.settling.TurnedCalm.{calm_added, others_same, turned_nodes, turned_quotas}
+use Rattle.fsrm_engine.proofs.settling.TurnedCalm.{others_same, turned_nodes, turned_quotas}
 use Rattle.fsrm_engine.proofs.steps.PlaceLaws.{target_is}
-use Rattle.fsrm_engine.proofs.steps.StepLaws.{done_as, done_with, still_few}
+use Rattle.fsrm_engine.proofs.steps.StepLaws.{done_with}
 use Rattle.fsrm_engine.proofs.tables.CountingLaws.{put_in, put_is}
-use Rattle.fsrm_engine.proofs.tables.RoomLaws.{add_due, each_threshold, legal_thresholds, modify_due, percents_ascend}
-use Rattle.fsrm_engine.proofs.tables.StateLaws.{after_empty, empty_folder, first_empty, modified_to}
+use Rattle.fsrm_engine.proofs.tables.RoomLaws.{each_threshold, legal_thresholds, modify_due, percents_ascend}
+use Rattle.fsrm_engine.proofs.tables.StateLaws.{after_empty, empty_folder, modified_to}
 use Rattle.fsrm_engine.proofs.tables.TurnLaws.{turned_accepts, turned_keeps}
-
--- ---- a new quota
--- the row that was made is the one that the command asks for
-pub added_row : (removed percents : List ℕ) (notices : List Added) (n m : ℕ) (limit : Option ℕ) (enforce : Option Bool) (l : ℕ) (e : Bool) (own state : QuotaState) (row : QuotaRow) → row ≡ remarked removed percents notices (new_quota n l e own m) → removed ≡ [] → limit ≡ Some l → e ≡ unwrap_or enforce true → own ≡ state → row ≡ remarked [] percents notices (new_quota n (unwrap_or limit 0) (unwrap_or enforce true) state m)
-added_row removed percents notices n m limit enforce l e own state row is none given enforced same =
-    is
-    ∙ (ap (λ r. remarked r percents notices (new_quota n l e own m)) none
-    ∙ (ap (λ k. remarked [] percents notices (new_quota n k e own m)) (sym (ap (λ (o : Option ℕ). unwrap_or o 0) given))
-    ∙ (ap (λ b. remarked [] percents notices (new_quota n (unwrap_or limit 0) b own m)) enforced
-    ∙ ap (λ s. remarked [] percents notices (new_quota n (unwrap_or limit 0) (unwrap_or enforce true) s m)) same)))
-
--- what is known of it
-module _ (removed percents : List ℕ) (notices : List Added) (n l m : ℕ) (e : Bool) (state : QuotaState) (row : QuotaRow) (is : row ≡ remarked removed percents notices (new_quota n l e state m)) where
-  pub added_percents : is_ascending percent_of row.thresholds ≡ true
-  added_percents = ap (λ (q : QuotaRow). is_ascending percent_of q.thresholds) is ∙ changed_ascending removed percents notices [] refl
-
-  pub added_each : list_all is_percent percents ≡ true → list_all is_notice notices ≡ true → list_all is_threshold row.thresholds ≡ true
-  added_each percents_are notices_are =
-      ap (λ (q : QuotaRow). list_all is_threshold q.thresholds) is ∙ changed_each removed percents notices [] refl percents_are notices_are
-
-  pub added_thresholds : (tables : Tables) (room : ℕ) → list_all is_percent percents ≡ true → list_all is_notice notices ≡ true → quota_fault tables row room ≡ None → are_thresholds row.thresholds ≡ true
-  added_thresholds tables room percents_are notices_are may =
-      legal_thresholds row.thresholds added_percents (admitted tables row room may).short (added_each percents_are notices_are)
-
-  pub added_limit : (limit : Option ℕ) → limit ≡ Some l → option_map_or is_limit limit false ≡ true → is_limit row.limit ≡ true
-  added_limit limit given legal = ap (λ (q : QuotaRow). is_limit q.limit) is ∙ (sym (ap (λ (o : Option ℕ). option_map_or is_limit o false) given) ∙ legal)
-
-  pub added_unused : (K : Capacity) (nodes : List NodeRow) (enabled : Bool) → IsVolume K nodes → is_folder nodes n ≡ true → state ≡ (if enabled then start nodes n else Disabled) → counts row ≡ true → usage K nodes row.folder ≡ 0
-  added_unused K nodes enabled volume folder state_is =
-      subst (λ (q : QuotaRow). counts q ≡ true → usage K nodes q.folder ≡ 0) (sym is)
-      (λ t. empty_folder K nodes n volume folder (first_empty nodes n enabled (sym (ap is_complete state_is) ∙ t)))
-
-module _ (p mid new : Parts) (m : ℕ) (path : List (List ℕ)) (limit : Option ℕ) (enforce : Option Bool) (enabled : Bool) (percents : List ℕ) (notices : List Added) (n : ℕ) (row : QuotaRow) (at : IsFolder p.tree.nodes path n) where
-  abbrev made_at : ℕ → QuotaRow
-  made_at k = remarked [] percents notices (new_quota k (unwrap_or limit 0) (unwrap_or enforce true) (if enabled then start p.tree.nodes k else Disabled) m)
-
-  pub added_as : (answer : Answer) → row ≡ made_at n → IsWhole p → IsIdle p → p.last_moment ≤ m → quota_fault p.objects row (text_room p) ≡ None → Turned p mid (with_row folder_of row p.objects.quotas) (queued p.scans.queue row.folder row.state) → are_thresholds row.thresholds ≡ true → is_limit row.limit ≡ true → (counts row ≡ true → usage p.tree.size p.tree.nodes row.folder ≡ 0) → new ≡ ended mid m → answer ≡ record { outcome = Done None; lasting = true } → Does p new m (QuotaAdd path limit enforce enabled None percents notices) answer
-  added_as answer is w idle after may t thresholds limits nothing ends e =
-      let R = rows_of p in
-      let deed = QuotaAdd path limit enforce enabled None percents notices in
-      let quotas = with_row folder_of row p.objects.quotas in
-      let queue = queued p.scans.queue row.folder row.state in
-      done_as p mid new m deed answer
-      (turned_accepts p mid m deed quotas queue idle after
-      (add_due p m path limit enforce enabled percents notices n row w at is ∙ ap (option_and_then table_refusal) may)
-      (ap (λ k. with_quota R (made_at k)) (target_is R.nodes path n at.resolved) ∙ ap (with_quota R) (sym is)) refl t)
-      refl (still_few p mid (turned_keeps p mid quotas queue t) (few_log p w))
-      (calm_added p mid m row queue t (admitted p.objects row (text_room p) may).free thresholds limits nothing) ends e
 
 -- ---- a changed one
 -- what is known of the row that was made of a copy
@@ -109,13 +56,16 @@ module _ (removed percents : List ℕ) (notices : List Added) (limit : Option �
       ∙ (ap (λ (r : QuotaRow). list_all is_threshold (changed_thresholds removed percents notices r.thresholds)) same
       ∙ changed_each removed percents notices q.thresholds (each_threshold q.thresholds are) percents_are notices_are)
 
+  pub changed_percents : is_ascending percent_of q.thresholds ≡ true → is_ascending percent_of row.thresholds ≡ true
+  changed_percents ascending =
+      ap (λ (r : QuotaRow). is_ascending percent_of r.thresholds) is
+      ∙ (ap (λ (r : QuotaRow). is_ascending percent_of (changed_thresholds removed percents notices r.thresholds)) same
+      ∙ changed_ascending removed percents notices q.thresholds ascending)
+
   pub changed_whole : (tables : Tables) (room : ℕ) (state : QuotaState) → are_thresholds q.thresholds ≡ true → list_all is_percent percents ≡ true → list_all is_notice notices ≡ true → other_fault tables (in_state state row) room ≡ None → are_thresholds row.thresholds ≡ true
   changed_whole tables room state are percents_are notices_are may =
       legal_thresholds row.thresholds
-      (ap (λ (r : QuotaRow). is_ascending percent_of r.thresholds) is
-      ∙ (ap (λ (r : QuotaRow). is_ascending percent_of (changed_thresholds removed percents notices r.thresholds)) same
-      ∙ changed_ascending removed percents notices q.thresholds (percents_ascend q.thresholds are)))
-      (short_other tables (in_state state row) room may) (changed_legal are percents_are notices_are)
+      (changed_percents (percents_ascend q.thresholds are)) (short_other tables (in_state state row) room may) (changed_legal are percents_are notices_are)
 
   pub changed_unused : (p : Parts) (state : QuotaState) (enabled : Option Bool) (old : QuotaRow) → IsVolume p.tree.size p.tree.nodes → is_folder p.tree.nodes q.folder ≡ true → state ≡ state_after (rows_of p) q.folder enabled → row_of folder_of row.folder p.objects.quotas ≡ Some old → counts old ≡ false → is_complete state ≡ true → usage p.tree.size p.tree.nodes row.folder ≡ 0
   changed_unused p state enabled old volume folder state_is found was t =
@@ -170,24 +120,3 @@ modified_named old new m deed result path limit enforce enabled removed percents
     (ap (λ (ns : List ℕ). QuotaModify path limit enforce enabled ns s t) e
     ∙ (ap (λ (ns : List ℕ). QuotaModify path limit enforce enabled removed ns t) f
     ∙ (ap (QuotaModify path limit enforce enabled removed percents) h ∙ sym is))) done
-
--- the same of a new one, which has no template
-pub added_named : (old new : Parts) (m : ℕ) (deed : Deed) (result : Result Answer Wanting) (path : List (List ℕ)) (limit : Option ℕ) (enforce : Option Bool) (enabled : Bool) (template : Option (List ℕ)) (percents r : List ℕ) (notices t : List Added) → is_deed deed ≡ true → deed ≡ QuotaAdd path limit enforce enabled template percents notices → r ≡ percents → t ≡ notices → IfOk result (λ answer. Does old new m (QuotaAdd path limit enforce enabled None r t) answer) → IfOk result (λ answer. Does old new m deed answer)
-added_named old new m deed result path limit enforce enabled template percents r notices t valid is e f done =
-    subst (λ (d : Deed). IfOk result (λ answer. Does old new m d answer))
-    (ap (λ (ns : List ℕ). QuotaAdd path limit enforce enabled None ns t) e
-    ∙ (ap (QuotaAdd path limit enforce enabled None percents) f
-    ∙ (ap (λ (o : Option (List ℕ)). QuotaAdd path limit enforce enabled o percents notices) (sym (no_template template none)) ∙ sym is))) done
-  where
-    no_template : (o : Option (List ℕ)) → is_none o ≡ true → o ≡ None
-    no_template None h = refl
-    no_template (Some text) h = cc h
-
-    lists : Bool
-    lists = list_all is_percent percents && list_all is_notice notices
-
-    values : (option_map_or is_limit limit false && (is_none template && lists)) ≡ true
-    values = (both (list_all is_path (path ∷ [])) (option_map_or is_limit limit false && (is_none template && lists)) (sym (ap is_deed is) ∙ valid)).1
-
-    none : is_none template ≡ true
-    none = (both (is_none template) lists (both (option_map_or is_limit limit false) (is_none template && lists) values).1).0

@@ -1,9 +1,9 @@
 -- The queue of scans has no more folders than there are quotas.
-use Rattle.std.proofs.Common.{◌≡◌, ℕ, ◌==◌, ◌≤◌, true, false, not, List, [], ◌∷◌, ◌||◌, length, sym, ap, ◌∙◌, arith}
+use Rattle.std.proofs.Common.{◌≡◌, ℕ, ◌==◌, ◌<◌, ◌≤◌, inl, inr, true, false, not, List, [], ◌∷◌, ◌||◌, length, sym, ap, ◌∙◌, arith}
 use Rattle.fsrm_base.specs.Keyed.{has_row, without_row}
 use Rattle.fsrm_base.specs.Numbers.{is_in, each_once}
 use Rattle.fsrm_base.proofs.Look.{has_row-without_other}
-use Rattle.fsrm_base.proofs.TestLaws.{both, clash, eq_is, eq_same, is_false, not_true, or_later}
+use Rattle.fsrm_base.proofs.TestLaws.{both, both_true, clash, eq_is, eq_same, is_false, is_or, not_true, or_later}
 use Rattle.fsrm_model.specs.Limits.{most_quotas}
 use Rattle.fsrm_model.specs.Quota.{folder_of}
 use Rattle.fsrm_model.specs.Valid.{AreQuotas}
@@ -23,5 +23,21 @@ once_few key (n ∷ ns) rows once each =
     let here : has_row key n rows ≡ true = each n (ap (λ b. b || is_in ns n) (eq_same n)) in
     omega (arith, rest, fewer key n rows here)
 
+pub few_scans : (quotas : List QuotaRow) (queue : List ℕ) → IsQueue quotas queue → length queue ≤ length quotas
+few_scans quotas queue is = once_few folder_of queue quotas is.once is.queued
+
 pub few_queued : (nodes : List NodeRow) (quotas : List QuotaRow) (queue : List ℕ) → AreQuotas nodes quotas → IsQueue quotas queue → length queue ≤ most_quotas
-few_queued nodes quotas queue are is = omega (arith, are.few, once_few folder_of queue quotas is.once is.queued)
+few_queued nodes quotas queue are is = omega (arith, are.few, few_scans quotas queue is)
+
+-- so there is room for one more, if it has a quota and doesn't wait
+pub few_waits : (nodes : List NodeRow) (quotas : List QuotaRow) (queue : List ℕ) (n : ℕ) → AreQuotas nodes quotas → IsQueue quotas queue → has_row folder_of n quotas ≡ true → is_in queue n ≡ false → length queue < most_quotas
+few_waits nodes quotas queue n are is has out =
+    let more : length (n ∷ queue) ≤ length quotas = once_few folder_of (n ∷ queue) quotas (both_true (not (is_in queue n)) (each_once queue) (ap not out) is.once) each in
+    omega (arith, are.few, more)
+  where
+    each : (m : ℕ) → is_in (n ∷ queue) m ≡ true → has_row folder_of m quotas ≡ true
+    each m h =
+        elim (is_or (n == m) (is_in queue m) h) [
+          | inl own ↦ ap (λ k. has_row folder_of k quotas) (sym (eq_is n m own)) ∙ has
+          | inr other ↦ is.queued m other
+        ]

@@ -1,7 +1,7 @@
 -- What the tables refuse of a row, as the refusals of a command.
 use Rattle.std.proofs.Common.{◌≡◌, ℕ, suc, ◌+◌, ◌-◌, ◌≤◌, ◌==◌, Bool, true, false, not, ◌&&◌, List, [], ◌∷◌, Option, Some, None, length, nat_lt, nat_le, refl, ap, sym, ◌∙◌, arith}
 use Rattle.std.proofs.lemmas.Bool.Decides.{nat_tests}
-use Rattle.std.specs.Prelude.{is_some, is_none, unwrap_or, Result, Ok, Err, IfOk, IfErr, if◌then◌else◌}
+use Rattle.std.specs.Prelude.{is_some, is_none, Result, Ok, Err, IfOk, IfErr}
 use Rattle.std.specs.Result.{IsOk}
 use Rattle.std.specs.List.{list_all}
 use Rattle.std.specs.Option.{option_and_then, option_map_or}
@@ -15,33 +15,33 @@ use Rattle.fsrm_base.proofs.TestLaws.{both, both_true}
 use Rattle.fsrm_model.specs.declared.command.Added.{Added}
 use Rattle.fsrm_model.specs.declared.command.Answer.{Answer}
 use Rattle.fsrm_model.specs.declared.command.Deed.{Deed}
-use Rattle.fsrm_model.specs.declared.command.Deed.TheVariants.{QuotaAdd, QuotaModify}
+use Rattle.fsrm_model.specs.declared.command.Deed.TheVariants.{QuotaModify}
 use Rattle.fsrm_model.specs.declared.command.Refusal.{Refusal}
 use Rattle.fsrm_model.specs.declared.command.Refusal.TheVariants as refusal
 use Rattle.fsrm_model.specs.declared.row.Action.{Action}
 use Rattle.fsrm_model.specs.declared.row.QuotaRow.{QuotaRow}
 use Rattle.fsrm_model.specs.declared.row.QuotaState.{QuotaState}
-use Rattle.fsrm_model.specs.declared.row.QuotaState.TheVariants.{Disabled}
 use Rattle.fsrm_model.specs.declared.row.Rows.{Rows}
 use Rattle.fsrm_model.specs.declared.row.Threshold.{Threshold}
 use Rattle.fsrm_model.specs.Check.{Check, table_full, texts_full}
 use Rattle.fsrm_model.specs.Limits.{most_quotas, most_text_bytes, longest_action_text}
 use Rattle.fsrm_model.specs.Quota.{folder_of, quota_of}
-use Rattle.fsrm_model.specs.QuotaStates.{in_state, start, state_after, with_quota, with_state}
-use Rattle.fsrm_model.specs.QuotaWork.{modified, new_quota, remarked, thresholds_of}
+use Rattle.fsrm_model.specs.QuotaStates.{in_state, state_after, with_quota, with_state}
+use Rattle.fsrm_model.specs.QuotaWork.{modified, remarked, thresholds_of}
 use Rattle.fsrm_model.specs.Text.{is_bare}
 use Rattle.fsrm_model.specs.Texts.{object_texts, quota_bytes}
 use Rattle.fsrm_model.specs.Thresholds.{are_minutes, are_thresholds, are_too_many, changed_thresholds, is_action, is_action_text, is_kept_action, is_percent, is_printing, is_threshold, may_be_removed, percent_of}
 use Rattle.fsrm_objects.specs.declared.answer.ObjectFault.{ObjectFault}
 use Rattle.fsrm_objects.specs.declared.answer.ObjectFault.TheVariants as object
 use Rattle.file_groups.specs.Kept.{group_texts}
-use Rattle.fsrm_objects.specs.Tables.{IsFault, is_short, other_fault, quota_fault, quota_texts, screen_texts, texts_in}
+use Rattle.templates.specs.Held.{texts_in as template_texts}
+use Rattle.fsrm_objects.specs.Tables.{IsFault, is_short, other_fault, quota_fault, quota_texts, screen_texts}
 use Rattle.fsrm_engine.specs.declared.parts.Parts.{Parts}
-use Rattle.fsrm_engine.specs.Faults.{table_answer, table_refusal, text_room}
+use Rattle.fsrm_engine.specs.Faults.{table_answer, table_refusal, text_room, texts_of}
 use Rattle.fsrm_engine.specs.Machine.{Does, IsIdle, IsWhole, rows_of}
-use Rattle.fsrm_engine.specs.Places.{IsFolder, IsQuotaAt}
+use Rattle.fsrm_engine.specs.Places.{IsQuotaAt}
 use Rattle.fsrm_engine.proofs.steps.StepLaws.{due, refused_as, told}
-use Rattle.fsrm_engine.proofs.tables.StateLaws.{checked, modified_to, on_folder}
+use Rattle.fsrm_engine.proofs.tables.StateLaws.{checked, modified_to}
 
 -- ---- what a legal row is to the tables
 short_action : (action : Action) → is_kept_action action ≡ true → is_short action ≡ true
@@ -81,12 +81,9 @@ goes_in due (Ok u) none refused = refl
 goes_in due (Err fault) none refused = let e = sym none ∙ refused in absurd (cc e)
 
 -- ---- room for texts
--- all texts are those of quotas, screens and groups
-abbrev pub texts_of : Parts → ℕ
-texts_of p = texts_in p.objects + group_texts p.groups
-
+-- all texts but those of quotas
 abbrev other_texts : Parts → ℕ
-other_texts p = screen_texts p.objects.screens + group_texts p.groups
+other_texts p = (screen_texts p.objects.screens + group_texts p.groups) + template_texts p.templates
 
 all_texts : (p : Parts) (quotas : List QuotaRow) → object_texts (record (rows_of p) { quotas = quotas }) ≡ quota_texts quotas + other_texts p
 all_texts p quotas = omega arith
@@ -111,12 +108,12 @@ four false false true d = refl
 four false false false true = refl
 four false false false false = refl
 
-abbrev new_checks : Rows → QuotaRow → List Check
+abbrev pub new_checks : Rows → QuotaRow → List Check
 new_checks R row =
     (refusal.AlreadyExists when is_some (quota_of R row.folder)) ∷ (refusal.OutOfRange when are_too_many row.thresholds)
     ∷ table_full (with_quota R row) ∷ texts_full (with_quota R row) ∷ []
 
-new_is : (p : Parts) (row : QuotaRow) → IsWhole p → first (new_checks (rows_of p) row) ≡ option_and_then table_refusal (quota_fault p.objects row (text_room p))
+pub new_is : (p : Parts) (row : QuotaRow) → IsWhole p → first (new_checks (rows_of p) row) ≡ option_and_then table_refusal (quota_fault p.objects row (text_room p))
 new_is p row w =
     let quotas = p.objects.quotas in
     let test : Bool → Bool → Bool → Option Refusal =
@@ -135,12 +132,6 @@ new_is p row w =
   where
     with_texts : (qs : List QuotaRow) → object_texts (record (with_quota (rows_of p) row) { quotas = qs }) ≡ quota_texts qs + other_texts p
     with_texts qs = omega arith
-
-pub add_due : (p : Parts) (m : ℕ) (path : List (List ℕ)) (limit : Option ℕ) (enforce : Option Bool) (enabled : Bool) (percents : List ℕ) (notices : List Added) (n : ℕ) (row : QuotaRow) → IsWhole p → IsFolder p.tree.nodes path n → row ≡ remarked [] percents notices (new_quota n (unwrap_or limit 0) (unwrap_or enforce true) (if enabled then start p.tree.nodes n else Disabled) m) → due p m (QuotaAdd path limit enforce enabled None percents notices) ≡ option_and_then table_refusal (quota_fault p.objects row (text_room p))
-add_due p m path limit enforce enabled percents notices n row w at is =
-    let R = rows_of p in
-    on_folder R path n (λ k. new_checks R (remarked [] percents notices (new_quota k (unwrap_or limit 0) (unwrap_or enforce true) (if enabled then start R.nodes k else Disabled) m))) at
-    ∙ (ap (λ r. first (new_checks R r)) (sym is) ∙ new_is p row w)
 
 -- ---- another one in its place
 two : (a b : Bool) → first ((refusal.OutOfRange when a) ∷ (refusal.TextsFull when b) ∷ []) ≡ option_and_then table_refusal (first ((object.OutOfRange when a) ∷ (object.TextsFull when b) ∷ []))

@@ -7,6 +7,7 @@ use Rattle.std.specs.Prelude.{fold, is_none, is_some, MatchOption, Result, IfOk}
 use Rattle.std.specs.List.{cons_option, list_all}
 use Rattle.std.specs.Option.{option_and_then, option_copied, option_map_or}
 use Rattle.file_groups.specs.Kept.{group_texts}
+use Rattle.templates.specs.Held.{texts_in as template_texts}
 use Rattle.fsrm_base.specs.declared.memory.NoMemory.{NoMemory as Wanting}
 use Rattle.fsrm_base.specs.Causes.{◌when◌, first}
 use Rattle.fsrm_base.specs.Keyed.{has_row, row_of, with_change, with_row, without_row}
@@ -46,13 +47,13 @@ use Rattle.fsrm_objects.specs.declared.answer.ObjectFault.{ObjectFault}
 use Rattle.fsrm_objects.specs.declared.answer.ObjectFault.TheVariants as object
 use Rattle.fsrm_objects.specs.Tables.{IsFault, Tables, except_fault, has_short_actions, is_short, other_screen_fault, screen_bytes, screen_fault, screen_texts, screen_texts_at, quota_texts, with_except, with_other_screen, with_screen, without_except, without_screen}
 use Rattle.fsrm_engine.specs.declared.parts.Parts.{Parts}
-use Rattle.fsrm_engine.specs.Faults.{table_answer, table_refusal, text_room}
+use Rattle.fsrm_engine.specs.Faults.{table_answer, table_refusal, text_room, texts_of}
 use Rattle.fsrm_engine.specs.Machine.{Does, IsIdle, IsWhole, ended, rows_of}
 use Rattle.fsrm_engine.specs.Places.{IsFolder}
 use Rattle.fsrm_engine.proofs.steps.PlaceLaws.{target_is}
 use Rattle.fsrm_engine.proofs.steps.StepLaws.{due}
 use Rattle.fsrm_engine.proofs.tables.GroupLaws.{retabled_as}
-use Rattle.fsrm_engine.proofs.tables.RoomLaws.{fault_refusal, few_texts, full_test, refused_for_as, room_test, texts_of}
+use Rattle.fsrm_engine.proofs.tables.RoomLaws.{fault_refusal, few_texts, full_test, refused_for_as, room_test}
 use Rattle.fsrm_engine.proofs.tables.StateLaws.{on_folder}
 
 -- ---- what was found
@@ -224,7 +225,7 @@ module _ (p : Parts) (m : ℕ) (path : List (List ℕ)) (active : Bool) (names :
         full : nat_lt most_screens (length (after n).screens) ≡ nat_le most_screens (length p.objects.screens)
         full = full_test most_screens (length p.objects.screens) (length (after n).screens) (length-with_row screen_folder (row_at n) p.objects.screens)
 
-        all_texts : (screens : List ScreenRow) → object_texts (record (rows_of p) { screens = screens }) ≡ screen_texts screens + (quota_texts p.objects.quotas + group_texts p.groups)
+        all_texts : (screens : List ScreenRow) → object_texts (record (rows_of p) { screens = screens }) ≡ screen_texts screens + ((quota_texts p.objects.quotas + group_texts p.groups) + template_texts p.templates)
         all_texts screens = omega arith
 
         bytes : nat_lt most_text_bytes (object_texts (after n)) ≡ nat_lt (text_room p) (screen_bytes (row_at n))

@@ -89,7 +89,7 @@ rows_there : (nodes rows : List NodeRow) → AllByRecursion (λ row. has_row num
 rows_there nodes [] each = tt
 rows_there nodes (row ∷ rows) each = (each.0, rows_there nodes rows each.1)
 
-children_there : (nodes : List NodeRow) (folder : ℕ) → AreThere nodes (map number (children_in_order nodes folder))
+pub children_there : (nodes : List NodeRow) (folder : ℕ) → AreThere nodes (map number (children_in_order nodes folder))
 children_there nodes folder =
     let P : NodeRow → Type 0 = λ row. has_row number row.number nodes ≡ true in
     rows_there nodes (children_in_order nodes folder) (all_in_order before P (children nodes folder) (all_kept P (is_child folder) nodes (all_rows number P nodes (λ r h. h))))
@@ -98,11 +98,11 @@ pub there-append : (nodes : List NodeRow) (xs ys : List ℕ) → AreThere nodes 
 there-append nodes [] ys h g = g
 there-append nodes (x ∷ xs) ys h g = (h.0, there-append nodes xs ys h.1 g)
 
-there-front : (nodes : List NodeRow) (xs ys : List ℕ) → AreThere nodes (xs ++ ys) → AreThere nodes xs
+pub there-front : (nodes : List NodeRow) (xs ys : List ℕ) → AreThere nodes (xs ++ ys) → AreThere nodes xs
 there-front nodes [] ys h = tt
 there-front nodes (x ∷ xs) ys h = (h.0, there-front nodes xs ys h.1)
 
-there-back : (nodes : List NodeRow) (xs ys : List ℕ) → AreThere nodes (xs ++ ys) → AreThere nodes ys
+pub there-back : (nodes : List NodeRow) (xs ys : List ℕ) → AreThere nodes (xs ++ ys) → AreThere nodes ys
 there-back nodes [] ys h = h
 there-back nodes (x ∷ xs) ys h = there-back nodes xs ys h.1
 

@@ -3,15 +3,16 @@
 use Rattle.std.proofs.Common.{◌≡◌, ℕ, ◌<◌, ◌≤◌, ◌⊎◌, inl, inr, true, List, false, refl, sym, ap, ◌∙◌, Some, None, Option, nat_lt, subst}
 use Rattle.fsrm_model.specs.declared.command.Command.{Command}
 use Rattle.fsrm_model.specs.declared.command.Deed.{Deed}
-use Rattle.fsrm_model.specs.declared.command.Deed.TheVariants.{File, Usage, Step, QuotaAdd, QuotaModify, QuotaDelete, QuotaScan, QuotaResetpeak, QuotaList, AdminOptions, AdminList, AdminLog, FilegroupAdd, FilegroupModify, FilegroupDelete, FilegroupList, ScreenAdd, ScreenModify, ScreenDelete, ScreenList, ExceptionAdd, ExceptionDelete, ExceptionList}
+use Rattle.fsrm_model.specs.declared.command.Deed.TheVariants.{File, Usage, Step, QuotaAdd, QuotaModify, QuotaDelete, QuotaScan, QuotaResetpeak, QuotaList, TemplateAdd, TemplateModify, TemplateDelete, TemplateList, AutoquotaAdd, AutoquotaDelete, AutoquotaList, AdminOptions, AdminList, AdminLog, FilegroupAdd, FilegroupModify, FilegroupDelete, FilegroupList, ScreenAdd, ScreenModify, ScreenDelete, ScreenList, ExceptionAdd, ExceptionDelete, ExceptionList}
 use Rattle.fsrm_model.specs.declared.command.FileOp.{FileOp}
 use Rattle.fsrm_model.specs.declared.command.FileOp.TheVariants.{Mkdir, Create, Resize, Touch, Move, Remove}
 use Rattle.fsrm_model.specs.declared.command.Outcome.TheVariants.{Refused}
 use Rattle.fsrm_model.specs.declared.command.Refusal.{Refusal}
 use Rattle.fsrm_model.specs.declared.command.Refusal.TheVariants.{ScreenBlocked, QuotaExceeded}
 use Rattle.fsrm_model.specs.declared.command.Outcome.TheVariants.{Sum}
+use Rattle.fsrm_model.specs.declared.command.Update.TheVariants.{Keep}
 use Rattle.std.specs.List.{list_all}
-use Rattle.std.specs.Prelude.{◌&&◌, ◌==◌, [], ◌∷◌, find, is_none, sum_by}
+use Rattle.std.specs.Prelude.{◌&&◌, ◌==◌, [], ◌∷◌, find, is_some, length, nat_le, sum_by}
 use Rattle.std.specs.Option.{option_map_or}
 use Rattle.std.proofs.lemmas.Option.{same_Some}
 use Rattle.fsrm_model.specs.declared.row.Capacity.{Capacity}
@@ -24,7 +25,8 @@ use Rattle.fsrm_model.specs.Exceptions.{may_leave}
 use Rattle.fsrm_model.specs.FileOps.{plain}
 use Rattle.fsrm_model.specs.Lasting.{lasting}
 use Rattle.fsrm_model.specs.Named.{IsNamed}
-use Rattle.fsrm_model.specs.Limits.{latest_moment}
+use Rattle.fsrm_model.specs.Limits.{latest_moment, most_excluded}
+use Rattle.fsrm_model.specs.Name.{is_name}
 use Rattle.fsrm_model.specs.Quota.{quota_of, counts, is_limit}
 use Rattle.fsrm_model.specs.Space.{space}
 use Rattle.fsrm_model.specs.Step.{step, work}
@@ -36,6 +38,7 @@ use Rattle.fsrm_model.specs.FileWork.{judged_name}
 use Rattle.fsrm_model.specs.Patterns.{is_object_name, are_members, are_non_members}
 use Rattle.fsrm_model.specs.Thresholds.{is_percent, is_new_action, is_notice}
 use Rattle.fsrm_model.proofs.commands.AdminCommands.{options_still, options_kept, settings_still, log_still}
+use Rattle.fsrm_model.proofs.commands.AutoCommands.{auto_add_still, auto_delete_still, auto_list_still, auto_add_kept, auto_delete_kept, auto_list_kept}
 use Rattle.fsrm_model.proofs.commands.Ends.{effect_nodes}
 use Rattle.fsrm_model.proofs.commands.FileCommands.{file_orderly, file_limits, file_names, usage_still, file_kept}
 use Rattle.fsrm_model.proofs.commands.GroupCommands.{group_add_still, group_modify_still, group_delete_still, group_list_still, group_add_kept, group_modify_kept, group_delete_kept, group_list_kept}
@@ -44,6 +47,7 @@ use Rattle.fsrm_model.proofs.commands.Orderly.{IsOrderly, IsStill, KeepsLimits, 
 use Rattle.fsrm_model.proofs.commands.OrderlyLaws.{LeavesRuns, verdict, refused_kept, same_or_left, refused_by, sum_afresh, refusal_exceeds, refusal_blocks, still_unexceeded, limits_hold, outcome_named, unlasting_kept, valid_kept}
 use Rattle.fsrm_model.proofs.commands.QuotaCommands.{add_kept, modify_kept, delete_kept, reset_kept, list_kept, add_still, modify_still, delete_still, reset_still, list_still}
 use Rattle.fsrm_model.proofs.commands.StepActs.{AreActs, decided_acts}
+use Rattle.fsrm_model.proofs.commands.TemplateCommands.{template_add_still, template_modify_still, template_delete_still, template_list_still, template_add_kept, template_modify_kept, template_delete_kept, template_list_kept}
 use Rattle.fsrm_model.proofs.valid.RowsKept.{nothing_followed}
 use Rattle.fsrm_model.proofs.commands.ScanCommands.{scan_kept, step_kept, scan_still, step_still}
 use Rattle.fsrm_base.proofs.TestLaws.{both, le_is}
@@ -86,12 +90,12 @@ certified K R moment (File op) =
 certified K R moment (Usage path) = still (usage_still K R path) (λ late legal store h. nothing_followed K R store)
 certified K R moment (Step n) = still (step_still K R n) (λ late legal. step_kept K R n)
 certified K R moment (QuotaAdd path limit enforce enabled template percents notices) =
-    still (add_still K R moment path limit enforce enabled percents notices) (λ late legal.
-    let values : (list_all is_path (path ∷ []) ≡ true) × ((option_map_or is_limit limit false && (is_none template && (list_all is_percent percents && list_all is_notice notices))) ≡ true) = both _ _ legal in
-    let size : (option_map_or is_limit limit false ≡ true) × ((is_none template && (list_all is_percent percents && list_all is_notice notices)) ≡ true) = both _ _ values.1 in
-    let plain : (is_none template ≡ true) × ((list_all is_percent percents && list_all is_notice notices) ≡ true) = both _ _ size.1 in
-    let marks : (list_all is_percent percents ≡ true) × (list_all is_notice notices ≡ true) = both _ _ plain.1 in
-    add_kept K R moment path limit enforce enabled percents notices size.0 marks.0 marks.1 late)
+    still (add_still K R moment path limit enforce enabled template percents notices) (λ late legal.
+    let values : (list_all is_path (path ∷ []) ≡ true) × (((option_map_or is_limit limit (is_some template) && option_map_or is_object_name template true) && (list_all is_percent percents && list_all is_notice notices)) ≡ true) = both _ _ legal in
+    let parts : ((option_map_or is_limit limit (is_some template) && option_map_or is_object_name template true) ≡ true) × ((list_all is_percent percents && list_all is_notice notices) ≡ true) = both _ _ values.1 in
+    let size : (option_map_or is_limit limit (is_some template) ≡ true) × (option_map_or is_object_name template true ≡ true) = both _ _ parts.0 in
+    let marks : (list_all is_percent percents ≡ true) × (list_all is_notice notices ≡ true) = both _ _ parts.1 in
+    add_kept K R moment path limit enforce enabled template percents notices size.0 marks.0 marks.1 late)
 certified K R moment (QuotaModify path limit enforce enabled removed percents notices) =
     still (modify_still K R path limit enforce enabled removed percents notices) (λ late legal.
     let values : (list_all is_path (path ∷ []) ≡ true) × ((option_map_or is_limit limit true && (list_all is_percent removed && (list_all is_percent percents && list_all is_notice notices))) ≡ true) = both _ _ legal in
@@ -103,6 +107,28 @@ certified K R moment (QuotaDelete path) = still (delete_still K R path) (λ late
 certified K R moment (QuotaScan path) = still (scan_still K R path) (λ late legal. scan_kept K R path)
 certified K R moment (QuotaResetpeak path) = still (reset_still K R moment path) (λ late legal. reset_kept K R moment path late)
 certified K R moment (QuotaList path) = still (list_still K R path) (λ late legal. list_kept K R path)
+certified K R moment (TemplateAdd name limit enforce percents notices) =
+    still (template_add_still K R name limit enforce percents notices) (λ late legal.
+    let values : (is_object_name name ≡ true) × ((is_limit limit && (list_all is_percent percents && list_all is_notice notices)) ≡ true) = both _ _ legal in
+    let size : (is_limit limit ≡ true) × ((list_all is_percent percents && list_all is_notice notices) ≡ true) = both _ _ values.1 in
+    let marks : (list_all is_percent percents ≡ true) × (list_all is_notice notices ≡ true) = both _ _ size.1 in
+    template_add_kept K R name limit enforce percents notices values.0 size.0 marks.0 marks.1)
+certified K R moment (TemplateModify name limit enforce removed percents notices mode) =
+    still (template_modify_still K R name limit enforce removed percents notices mode) (λ late legal.
+    let values : (is_object_name name ≡ true) × ((option_map_or is_limit limit true && (list_all is_percent removed && (list_all is_percent percents && list_all is_notice notices))) ≡ true) = both _ _ legal in
+    let size : (option_map_or is_limit limit true ≡ true) × ((list_all is_percent removed && (list_all is_percent percents && list_all is_notice notices)) ≡ true) = both _ _ values.1 in
+    let gone : (list_all is_percent removed ≡ true) × ((list_all is_percent percents && list_all is_notice notices) ≡ true) = both _ _ size.1 in
+    let marks : (list_all is_percent percents ≡ true) × (list_all is_notice notices ≡ true) = both _ _ gone.1 in
+    template_modify_kept K R name limit enforce removed percents notices mode size.0 marks.0 marks.1)
+certified K R moment (TemplateDelete name) = still (template_delete_still K R name) (λ late legal. template_delete_kept K R name)
+certified K R moment TemplateList = still (template_list_still K R) (λ late legal. template_list_kept K R)
+certified K R moment (AutoquotaAdd path name excluded) =
+    still (auto_add_still K R moment path name excluded) (λ late legal.
+    let values : (list_all is_path (path ∷ []) ≡ true) × ((is_object_name name && (nat_le (length excluded) most_excluded && list_all is_name excluded)) ≡ true) = both _ _ legal in
+    let names : (is_object_name name ≡ true) × ((nat_le (length excluded) most_excluded && list_all is_name excluded) ≡ true) = both _ _ values.1 in
+    auto_add_kept K R moment path name excluded names.1 late)
+certified K R moment (AutoquotaDelete path) = still (auto_delete_still K R path) (λ late legal. auto_delete_kept K R path)
+certified K R moment AutoquotaList = still (auto_list_still K R) (λ late legal. auto_list_kept K R)
 certified K R moment (AdminOptions minutes) = still (options_still K R minutes) (λ late legal. options_kept K R minutes legal)
 certified K R moment AdminList = still (settings_still K R) (λ late legal store h. nothing_followed K R store)
 certified K R moment AdminLog = still (log_still K R) (λ late legal store h. nothing_followed K R store)
@@ -246,7 +272,9 @@ abbrev kinds : List Deed
 kinds =
     File (Mkdir [] 0) ∷ File (Create [] 0 0) ∷ File (Resize [] 0) ∷ File (Touch []) ∷ File (Move [] []) ∷ File (Remove [])
     ∷ QuotaAdd [] None None false None [] [] ∷ QuotaModify [] None None None [] [] [] ∷ QuotaDelete [] ∷ QuotaScan []
-    ∷ QuotaResetpeak [] ∷ AdminOptions 0 ∷ FilegroupAdd [] [] [] ∷ FilegroupModify [] None None ∷ FilegroupDelete []
+    ∷ QuotaResetpeak [] ∷ TemplateAdd [] 0 false [] [] ∷ TemplateModify [] None None [] [] [] Keep ∷ TemplateDelete []
+    ∷ AutoquotaAdd [] [] [] ∷ AutoquotaDelete [] ∷ AdminOptions 0
+    ∷ FilegroupAdd [] [] [] ∷ FilegroupModify [] None None ∷ FilegroupDelete []
     ∷ ScreenAdd [] false [] [] ∷ ScreenModify [] None [] [] ∷ ScreenDelete [] ∷ ExceptionAdd [] [] ∷ ExceptionDelete [] ∷ []
 
 -- the first of them that has this kind
@@ -268,6 +296,13 @@ of_kind_is (QuotaDelete path) k h = ap of_kind (sym (same_Some _ _ h))
 of_kind_is (QuotaScan path) k h = ap of_kind (sym (same_Some _ _ h))
 of_kind_is (QuotaResetpeak path) k h = ap of_kind (sym (same_Some _ _ h))
 of_kind_is (QuotaList path) k h = absurd (cc h)
+of_kind_is (TemplateAdd name limit enforce percents notices) k h = ap of_kind (sym (same_Some _ _ h))
+of_kind_is (TemplateModify name limit enforce removed percents notices mode) k h = ap of_kind (sym (same_Some _ _ h))
+of_kind_is (TemplateDelete name) k h = ap of_kind (sym (same_Some _ _ h))
+of_kind_is TemplateList k h = absurd (cc h)
+of_kind_is (AutoquotaAdd path name excluded) k h = ap of_kind (sym (same_Some _ _ h))
+of_kind_is (AutoquotaDelete path) k h = ap of_kind (sym (same_Some _ _ h))
+of_kind_is AutoquotaList k h = absurd (cc h)
 of_kind_is (AdminOptions minutes) k h = ap of_kind (sym (same_Some _ _ h))
 of_kind_is AdminList k h = absurd (cc h)
 of_kind_is AdminLog k h = absurd (cc h)

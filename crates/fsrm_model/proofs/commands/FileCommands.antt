@@ -1,6 +1,6 @@
 -- File operations and sums: each one's work is orderly, and leaves the rows of a store if no check refuses.
 use Rattle.std.proofs.Common.{◌≡◌, ℕ, true, not, List, [], ◌∷◌, refl, Some, None, Option, ◌≤◌, ◌==◌, Bool, false, ◌&&◌, length, sym, ◌∙◌, ap, subst, arith, nat_le}
-use Rattle.std.specs.Prelude.{is_some, unwrap_or, option_map, if◌then◌else◌}
+use Rattle.std.specs.Prelude.{fold, is_some, unwrap_or, option_map, option_to_list, if◌then◌else◌}
 use Rattle.std.proofs.lemmas.Option.{same_Some}
 use Rattle.fsrm_model.specs.declared.command.FileOp.{FileOp}
 use Rattle.fsrm_model.specs.declared.command.FileOp.TheVariants.{Mkdir, Create, Resize, Touch, Move, Remove}
@@ -9,9 +9,11 @@ use Rattle.fsrm_model.specs.declared.command.Refusal.{Refusal}
 use Rattle.fsrm_model.specs.declared.command.Refusal.TheVariants.{PathNotFound, AlreadyExists, InvalidMove}
 use Rattle.fsrm_model.specs.declared.row.Capacity.{Capacity}
 use Rattle.fsrm_model.specs.declared.row.NodeRow.{NodeRow}
+use Rattle.fsrm_model.specs.declared.row.QuotaRow.{QuotaRow}
 use Rattle.fsrm_model.specs.declared.row.Rows.{Rows}
 use Rattle.fsrm_model.specs.declared.row.ScreenRow.{ScreenRow}
-use Rattle.fsrm_model.specs.Check.{Check, first, ◌when◌, volume_full, names_full}
+use Rattle.fsrm_model.specs.AutoApply.{auto_folder, applied, quotas_with, queue_with, with_quotas}
+use Rattle.fsrm_model.specs.Check.{Check, first, ◌when◌, volume_full, names_full, table_full, texts_full}
 use Rattle.fsrm_model.specs.FileWork.{judged_by, judged_name, blocked, reported, file_checks, file_effect, file_work, usage_work}
 use Rattle.fsrm_base.specs.Keyed.{has_row, with_row, with_change, without_row}
 use Rattle.fsrm_model.specs.Leads.{is_root, leads, leads_to_folder, leads_to_file, leads_to_other}
@@ -20,7 +22,7 @@ use Rattle.fsrm_model.specs.Named.{IsNamed}
 use Rattle.fsrm_model.specs.Screens.{screen_folder, screen_of, judging}
 use Rattle.fsrm_model.specs.Work.{Judged}
 use Rattle.fsrm_model.specs.Tree.{number, resolve, node_of, is_folder, is_under, owner_of, folder_part, last_name, name_of, name_bytes}
-use Rattle.fsrm_model.specs.Valid.{IsVolume, is_own, AreTables, IsValid}
+use Rattle.fsrm_model.specs.Valid.{IsVolume, is_own, are_templates, AreTables, IsValid}
 use Rattle.fsrm_model.proofs.commands.Ends.{effect_nodes}
 use Rattle.fsrm_model.proofs.commands.HardLimits.{op_within}
 use Rattle.fsrm_model.proofs.commands.Orderly.{AreChecks, IsJudged, IsOrderly, IsStill, IsAsked, KeepsLimits, NamesJudged, show_still, bare, screens_bear, quotas_bear, first_none, when_none, not_false, KeepsValid}
@@ -28,7 +30,7 @@ use Rattle.fsrm_model.proofs.nodes.Resolves.{resolved}
 use Rattle.std.specs.Option.{option_map_or}
 use Rattle.std.specs.List.{list_all}
 use Rattle.fsrm_model.specs.FileOps.{target, target_folder, new_node, resized, touched, placed}
-use Rattle.fsrm_model.specs.Limits.{latest_moment, longest_file, last_owner}
+use Rattle.fsrm_model.specs.Limits.{latest_moment, longest_file, last_owner, most_quotas, most_text_bytes}
 use Rattle.fsrm_base.specs.Numbers.{without_number}
 use Rattle.fsrm_model.specs.Quota.{folder_of, exceeded}
 use Rattle.fsrm_model.specs.QuotaStates.{head, same_head, scan_begun, followed}
@@ -36,33 +38,57 @@ use Rattle.fsrm_model.specs.Scan.{AreUnvisited, unvisited_with, unvisited_moved}
 use Rattle.fsrm_model.specs.ValidScans.{AreLeft}
 use Rattle.fsrm_model.specs.Commands.{is_owner, is_length}
 use Rattle.fsrm_model.specs.Valued.{is_op, is_path}
-use Rattle.fsrm_model.proofs.commands.FileParts.{NewParts, new_parts, new_alone, file_at, may_go, move_parts, move_alone, last_named}
-use Rattle.fsrm_model.proofs.nodes.Keeps.{KeepsNode, MayMove, moves_of, volume-new, volume-change, volume-moved, volume-removed, folder-new, folder-change}
+use Rattle.fsrm_model.proofs.commands.FileParts.{NewParts, new_parts, new_alone, folder_at, file_at, may_go, room_parts, move_parts, move_alone, last_named}
+use Rattle.fsrm_model.proofs.nodes.Keeps.{KeepsNode, MayMove, found_folder, moves_of, volume-new, volume-change, volume-moved, volume-removed, folder-new, folder-change}
+use Rattle.fsrm_base.proofs.EditedRows.{find-with_row_same}
 use Rattle.fsrm_base.proofs.Look.{found_has, row_of-without, has_row-without}
 use Rattle.fsrm_base.proofs.Order.{least_free_is, length-with_row}
 use Rattle.fsrm_model.proofs.nodes.OwnLaws.{own_parts, own_joined, own_named, own_new, file_inner, file_short}
 use Rattle.fsrm_model.proofs.valid.QueueKept.{queue_without}
 use Rattle.fsrm_model.proofs.valid.QuotasKept.{quotas_stay, quotas-without}
 use Rattle.fsrm_model.specs.Quota.{folder_of}
-use Rattle.fsrm_model.specs.Texts.{action_bytes, quota_bytes}
+use Rattle.fsrm_model.specs.Texts.{action_bytes, auto_bytes, object_texts, quota_bytes}
 use Rattle.fsrm_model.proofs.thresholds.KeptLaws.{sum_by-less}
-use Rattle.fsrm_model.proofs.valid.RowsKept.{plain-without, valid_with, same_heads, left_followed, left_after, head_folder, screens_folder}
+use Rattle.fsrm_model.proofs.valid.ComingQuotas.{coming_one}
+use Rattle.fsrm_model.proofs.valid.RowsKept.{valid_with, same_heads, left_followed, left_after, head_folder, screens_folder}
 use Rattle.fsrm_model.proofs.valid.ScreensKept.{screens-gone, excepts-gone}
+use Rattle.fsrm_model.proofs.valid.TemplatesKept.{AreComing, autos-gone, quotas-coming, sources-coming, queue-coming, sources-without}
 use Rattle.fsrm_model.proofs.valid.ValidLaws.{folder_has}
 use Rattle.fsrm_model.proofs.screens.JudgingLaws.{judging_own}
 use Rattle.fsrm_model.proofs.nodes.Sizes.{name_bytes-new, name_bytes-placed}
-use Rattle.fsrm_base.proofs.TestLaws.{both, not_true, clash, eq_is, le_is, le_test, lt_test}
+use Rattle.fsrm_base.proofs.TestLaws.{both, not_true, clash, eq_is, eq_same, le_is, le_test, lt_test}
 use Rattle.fsrm_model.proofs.valid.UnvisitedKept.{unvisited-new, unvisited-change, unvisited-moved, unvisited-removed}
 use Rattle.fsrm_model.proofs.nodes.Walks.{found_name}
 
 file_are : (K : Capacity) (R : Rows) (op : FileOp) (after : Rows) → AreChecks K R after.nodes (judged_name R op) (file_checks K R op after)
-file_are K R (Mkdir path owner) after = (bare _ _ refl, (bare _ _ refl, (bare _ _ refl, (bare _ _ refl, (bare _ _ refl, tt)))))
+file_are K R (Mkdir path owner) after =
+    (bare _ _ refl, (bare _ _ refl, (bare _ _ refl, (bare _ _ refl, (bare _ _ refl, (bare _ _ refl, (bare _ _ refl, tt)))))))
 file_are K R (Create path length owner) after =
     (bare _ _ refl, (bare _ _ refl, (bare _ _ refl, (bare _ _ refl, (bare _ _ refl, (screens_bear (judged_name R (Create path length owner)), (quotas_bear, tt)))))))
 file_are K R (Resize path length) after = (bare _ _ refl, (quotas_bear, tt))
 file_are K R (Touch path) after = (bare _ _ refl, tt)
-file_are K R (Move from to) after =
-    (bare _ _ refl, (bare _ _ refl, (bare _ _ refl, (bare _ _ refl, (bare _ _ refl, (bare _ _ refl, (bare _ _ refl, (screens_bear (judged_name R (Move from to)), (quotas_bear, tt)))))))))
+file_are K R (Move from to) after = (
+  bare _ _ refl,
+  (
+    bare _ _ refl,
+    (
+      bare _ _ refl,
+      (
+        bare _ _ refl,
+        (
+          bare _ _ refl,
+          (
+            bare _ _ refl,
+            (
+              bare _ _ refl,
+              (bare _ _ refl, (bare _ _ refl, (screens_bear (judged_name R (Move from to)), (quotas_bear, tt)))),
+            ),
+          ),
+        ),
+      ),
+    ),
+  ),
+)
 file_are K R (Remove path) after = (bare _ _ refl, (bare _ _ refl, (bare _ _ refl, tt)))
 
 -- a name that is judged: by the screen which judges it, and none other
@@ -163,7 +189,7 @@ file_names K R (Move from to) moment legal s asked j h =
     let d = target_folder nodes to in
     let after = file_effect R (Move from to) moment in
     let c3 = (PathNotFound when not (leads_to_folder nodes (folder_part to))) ∷ (InvalidMove when leads_to_folder nodes from && is_under nodes x d)
-    ∷ (AlreadyExists when leads_to_other nodes to x) ∷ names_full K after ∷ blocked (judged_name R (Move from to)) ∷ exceeded K R after.nodes ∷ [] in
+    ∷ (AlreadyExists when leads_to_other nodes to x) ∷ names_full K after ∷ table_full after ∷ texts_full after ∷ blocked (judged_name R (Move from to)) ∷ exceeded K R after.nodes ∷ [] in
     let c2 = (AlreadyExists when is_root to) ∷ c3 in
     let c1 = (InvalidMove when is_root from) ∷ c2 in
     let a1 = (unasked PathNotFound (not (leads nodes from)) c1 (λ never. never) asked).1 in
@@ -193,14 +219,23 @@ unrefused_path R path h =
 pub usage_still : (K : Capacity) (R : Rows) (path : List (List ℕ)) → IsStill K R (usage_work K R path)
 usage_still K R path = show_still K R _ _ refl (bare _ _ refl, tt) (λ store h. leads_there K R.nodes path (resolve R.nodes path) store.volume refl (unrefused_path R path h))
 
--- the rows with other nodes, in which the folders of quotas are kept
-nodes_followed : (K : Capacity) (R : Rows) (new : List NodeRow) (after : ℕ → List ℕ) → IsValid K R → IsVolume K new → ((n : ℕ) → is_folder R.nodes n ≡ true → is_folder new n ≡ true) → ((n : ℕ) → head R.queue ≡ Some n → AreUnvisited R.nodes n R.unvisited → AreUnvisited new n (after n)) → IsValid K (followed R (record R { nodes = new; unvisited = option_map_or after (head R.queue) [] }))
-nodes_followed K R new after s volume folders unvisited =
+-- the rows with other nodes, in which the folders of quotas are kept, and to which quotas come
+coming_followed : (K : Capacity) (R : Rows) (new : List NodeRow) (after : ℕ → List ℕ) (coming : List QuotaRow) → IsValid K R → IsVolume K new → ((n : ℕ) → is_folder R.nodes n ≡ true → is_folder new n ≡ true) → ((n : ℕ) → head R.queue ≡ Some n → AreUnvisited R.nodes n R.unvisited → AreUnvisited new n (after n)) → AreComing new R.templates R.quotas coming → length (fold quotas_with R.quotas coming) ≤ most_quotas → object_texts (record R { quotas = fold quotas_with R.quotas coming }) ≤ most_text_bytes → IsValid K (followed R (with_quotas (record R { nodes = new; unvisited = option_map_or after (head R.queue) [] }) coming))
+coming_followed K R new after coming s volume folders unvisited come few texts =
     let left = option_map_or after (head R.queue) [] in
-    valid_with K R new R.quotas R.queue (if same_head R.queue R.queue then left else scan_begun new R.queue) R.last_moment s volume folders
-    (quotas_stay R.nodes new R.quotas s.quotas (λ f q found is. folders f is)) s.tables.plain s.texts s.queue
-    (left_followed K new R.queue R.queue left volume (λ same. left_after R.nodes new (head R.queue) R.unvisited after s.unvisited unvisited))
+    let quotas = fold quotas_with R.quotas coming in
+    let queue = fold queue_with R.queue coming in
+    let stays : AreLeft new (head R.queue) left = left_after R.nodes new (head R.queue) R.unvisited after s.unvisited unvisited in
+    valid_with K R new quotas queue (if same_head R.queue queue then left else scan_begun new queue) R.last_moment s volume folders
+    (quotas-coming new R.templates R.quotas coming (quotas_stay R.nodes new R.quotas s.quotas (λ f q found is. folders f is)) come few)
+    (sources-coming new R.templates R.quotas coming come s.tables.sources) texts
+    (queue-coming new R.templates R.quotas coming R.queue come s.queue)
+    (left_followed K new R.queue queue left volume (λ same. subst (λ (o : Option ℕ). AreLeft new o left) (same_heads R.queue queue same) stays))
     s.last_moment
+
+-- or none comes
+nodes_followed : (K : Capacity) (R : Rows) (new : List NodeRow) (after : ℕ → List ℕ) → IsValid K R → IsVolume K new → ((n : ℕ) → is_folder R.nodes n ≡ true → is_folder new n ≡ true) → ((n : ℕ) → head R.queue ≡ Some n → AreUnvisited R.nodes n R.unvisited → AreUnvisited new n (after n)) → IsValid K (followed R (record R { nodes = new; unvisited = option_map_or after (head R.queue) [] }))
+nodes_followed K R new after s volume folders unvisited = coming_followed K R new after [] s volume folders unvisited tt s.quotas.few s.texts
 
 -- a new node
 record IsNew (K : Capacity) (nodes : List NodeRow) (node : NodeRow) : Type 0 where
@@ -229,17 +264,29 @@ new_kept K nodes path folder bytes owner moment v p legal short owned late =
       });
     }
 
-new_followed : (K : Capacity) (R : Rows) (node : NodeRow) → IsValid K R → IsNew K R.nodes node → IsValid K (followed R (record R { nodes = with_row number node R.nodes; unvisited = option_map_or (λ n. unvisited_with node R.unvisited) (head R.queue) [] }))
-new_followed K R node s is =
-    nodes_followed K R (with_row number node R.nodes) (λ n. unvisited_with node R.unvisited) s is.volume
+new_followed : (K : Capacity) (R : Rows) (node : NodeRow) (coming : List QuotaRow) → IsValid K R → IsNew K R.nodes node → AreComing (with_row number node R.nodes) R.templates R.quotas coming → length (fold quotas_with R.quotas coming) ≤ most_quotas → object_texts (record R { quotas = fold quotas_with R.quotas coming }) ≤ most_text_bytes → IsValid K (followed R (with_quotas (record R { nodes = with_row number node R.nodes; unvisited = option_map_or (λ n. unvisited_with node R.unvisited) (head R.queue) [] }) coming))
+new_followed K R node coming s is come few texts =
+    coming_followed K R (with_row number node R.nodes) (λ n. unvisited_with node R.unvisited) coming s is.volume
     (λ n folder. folder-new R.nodes node n is.free folder)
     (λ n first are. unvisited-new K R.nodes node n R.unvisited s.volume is.free is.folder are)
+    come few texts
+
+-- a new folder is one
+new_folder : (nodes : List NodeRow) (node : NodeRow) → has_row number node.number nodes ≡ false → node.folder ≡ true → is_folder (with_row number node nodes) node.number ≡ true
+new_folder nodes node free folder =
+    found_folder (with_row number node nodes) node.number node (find-with_row_same number (λ r. number r == node.number) node nodes (eq_same node.number) free) ∙ folder
 
 mkdir_kept : (K : Capacity) (R : Rows) (path : List (List ℕ)) (owner moment : ℕ) → is_op (Mkdir path owner) ≡ true → moment ≤ latest_moment → KeepsValid K R (file_work K R (Mkdir path owner) moment)
 mkdir_kept K R path owner moment legal late s h =
     let values : (list_all is_path (path ∷ []) ≡ true) × (is_owner owner ≡ true) = both _ _ legal in
-    let p = new_parts K R path (file_effect R (Mkdir path owner) moment) [] s.volume h in
-    new_followed K R (new_node R.nodes path true 0 owner moment) s (new_kept K R.nodes path true 0 owner moment s.volume p.0 (one_path path values.0) (omega arith) values.1 late)
+    let after = file_effect R (Mkdir path owner) moment in
+    let node = new_node R.nodes path true 0 owner moment in
+    let E : Rows = record R { nodes = with_row number node R.nodes; unvisited = option_map_or (λ n. unvisited_with node R.unvisited) (head R.queue) [] } in
+    let p = new_parts K R path after (table_full after ∷ texts_full after ∷ []) s.volume h in
+    let room = (room_parts after [] p.1).0 in
+    let is = new_kept K R.nodes path true 0 owner moment s.volume p.0 (one_path path values.0) (omega arith) values.1 late in
+    new_followed K R node (option_to_list (applied E moment node.number)) s is
+    (coming_one E moment node.number s.tables.templates late (new_folder R.nodes node is.free refl)) room.few room.short
 
 create_kept : (K : Capacity) (R : Rows) (path : List (List ℕ)) (bytes owner moment : ℕ) → is_op (Create path bytes owner) ≡ true → moment ≤ latest_moment → KeepsValid K R (file_work K R (Create path bytes owner) moment)
 create_kept K R path bytes owner moment legal late s h =
@@ -248,7 +295,7 @@ create_kept K R path bytes owner moment legal late s h =
     let node = new_node R.nodes path false bytes owner moment in
     let judged = blocked (judged_name R (Create path bytes owner)) in
     let p = new_parts K R path (file_effect R (Create path bytes owner) moment) (judged ∷ exceeded K R (with_row number node R.nodes) ∷ []) s.volume h in
-    new_followed K R node s (new_kept K R.nodes path false bytes owner moment s.volume p.0 (one_path path values.0) (le_is bytes longest_file sizes.0) sizes.1 late)
+    new_followed K R node [] s (new_kept K R.nodes path false bytes owner moment s.volume p.0 (one_path path values.0) (le_is bytes longest_file sizes.0) sizes.1 late) tt s.quotas.few s.texts
 
 -- a file that changes
 change_followed : (K : Capacity) (R : Rows) (x : ℕ) (c : NodeRow → NodeRow) → IsValid K R → KeepsNode c → is_folder R.nodes x ≡ false → ((r : NodeRow) → node_of R.nodes x ≡ Some r → (x == 0) ≡ false → is_own (c r) ≡ true) → IsValid K (followed R (record R { nodes = with_change number x c R.nodes; unvisited = option_map_or (λ n. R.unvisited) (head R.queue) [] }))
@@ -285,9 +332,14 @@ touch_kept K R path moment late s h =
     let p = own_parts r (s.volume.own x r found inner) in
     own_joined (touched moment r) (record { named = p.named; short = p.short; made = p.made; changed = p.changed; seen = le_test moment latest_moment late }))
 
+-- a folder that moves may get a quota
+moved_coming : (E : Rows) (moment x : ℕ) (b : Bool) → are_templates E.templates ≡ true → moment ≤ latest_moment → (b ≡ true → is_folder E.nodes x ≡ true) → AreComing E.nodes E.templates E.quotas (if b then option_to_list (applied E moment x) else [])
+moved_coming E moment x true named late folder = coming_one E moment x named late (folder refl)
+moved_coming E moment x false named late folder = tt
+
 -- a node that moves
-move_kept : (K : Capacity) (R : Rows) (from to : List (List ℕ)) (moment : ℕ) → is_op (Move from to) ≡ true → KeepsValid K R (file_work K R (Move from to) moment)
-move_kept K R from to moment legal s h =
+move_kept : (K : Capacity) (R : Rows) (from to : List (List ℕ)) (moment : ℕ) → is_op (Move from to) ≡ true → moment ≤ latest_moment → KeepsValid K R (file_work K R (Move from to) moment)
+move_kept K R from to moment legal late s h =
     let paths : (list_all is_path (from ∷ to ∷ []) ≡ true) × (true ≡ true) = both _ _ legal in
     let values : (is_path from ≡ true) × ((is_path to && true) ≡ true) = both _ _ paths.0 in
     let nodes = R.nodes in
@@ -317,9 +369,13 @@ move_kept K R from to moment legal s h =
       names = omega (arith, bytes, old, most);
     } in
     let kinds : (n : ℕ) → is_folder new n ≡ is_folder nodes n = λ n. folder-change nodes x n (placed d name) (λ r. refl) (λ r. refl) in
-    nodes_followed K R new (λ n. unvisited_moved nodes new n x d R.unvisited) s (volume-moved K nodes x d name s.volume may)
+    let E : Rows = record R { nodes = new; unvisited = option_map_or (λ n. unvisited_moved nodes new n x d R.unvisited) (head R.queue) [] } in
+    let is = leads_to_folder nodes from in
+    let folder : is ≡ true → is_folder new x ≡ true = λ led. kinds x ∙ folder_at nodes from (ap (λ b. PathNotFound when not b) led) in
+    coming_followed K R new (λ n. unvisited_moved nodes new n x d R.unvisited) (if is then option_to_list (applied E moment x) else []) s (volume-moved K nodes x d name s.volume may)
     (λ n folder. kinds n ∙ folder)
     (λ n first are. unvisited-moved K nodes new x d n R.unvisited (record { volume = s.volume; moves = moves_of K nodes x d name s.volume may; kinds = kinds; folder = head_folder K R n s first; are = are }))
+    (moved_coming E moment x is s.tables.templates late folder) p.room.few p.room.short
 
 -- a node that goes, and what its folder has
 remove_kept : (K : Capacity) (R : Rows) (path : List (List ℕ)) (moment : ℕ) → KeepsValid K R (file_work K R (Remove path) moment)
@@ -336,12 +392,13 @@ remove_kept K R path moment s h =
     let own : ScreenRow → ℕ = λ screen. action_bytes screen.actions in
     let less = sum_by-less quota_bytes (λ q. not (folder_of q == x)) R.quotas in
     let fewer = sum_by-less own (λ screen. not (screen_folder screen == x)) R.screens in
+    let fewest = sum_by-less auto_bytes (λ auto. not (auto_folder auto == x)) R.autos in
     let few = s.texts in
     let E : Rows = followed R (file_effect R (Remove path) moment) in
     let t : AreTables E = record {
-      plain = plain-without x R.quotas s.tables.plain;
+      sources = sources-without R.templates x R.quotas s.tables.sources;
       templates = s.tables.templates;
-      autos = s.tables.autos;
+      autos = autos-gone R.nodes new R.templates R.autos x folders s.tables.autos;
       jobs = s.tables.jobs;
       groups = s.tables.groups;
       screens = screens-gone R.nodes new R.groups R.excepts R.screens x folders s.tables.screens;
@@ -354,7 +411,7 @@ remove_kept K R path moment s h =
           let apart : (f == x) ≡ false = not_true (f == x) (λ e. clash _ (subst (λ k. has_row folder_of k quotas ≡ true) (eq_is f x e) (found_has folder_of f quotas q found)) (has_row-without folder_of x R.quotas)) in
           folders f apart is);
       tables = t;
-      texts = omega (arith, less, fewer, few);
+      texts = omega (arith, less, fewer, fewest, few);
       log = s.log;
       run_limit = s.run_limit;
       last_moment = s.last_moment;
@@ -367,5 +424,5 @@ file_kept K R (Mkdir path owner) moment legal late = mkdir_kept K R path owner m
 file_kept K R (Create path length owner) moment legal late = create_kept K R path length owner moment legal late
 file_kept K R (Resize path length) moment legal late = resize_kept K R path length moment legal late
 file_kept K R (Touch path) moment legal late = touch_kept K R path moment late
-file_kept K R (Move from to) moment legal late = move_kept K R from to moment legal
+file_kept K R (Move from to) moment legal late = move_kept K R from to moment legal late
 file_kept K R (Remove path) moment legal late = remove_kept K R path moment

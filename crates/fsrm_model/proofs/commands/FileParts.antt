@@ -3,17 +3,19 @@ use Rattle.std.proofs.Common.{◌≡◌, ℕ, ◌≤◌, ◌==◌, Bool, true, f
 use Rattle.std.specs.Prelude.{is_some, option_map, unwrap_or, nat_lt}
 use Rattle.std.specs.List.{list_all}
 use Rattle.std.specs.Option.{option_map_or}
-use Rattle.fsrm_model.specs.declared.command.Refusal.TheVariants.{PathNotFound, AlreadyExists, InvalidMove, NotEmpty, VolumeFull, NamesFull}
+use Rattle.fsrm_model.specs.declared.command.Refusal.TheVariants.{PathNotFound, AlreadyExists, InvalidMove, NotEmpty, VolumeFull, NamesFull, TableFull, TextsFull}
 use Rattle.fsrm_model.specs.declared.command.FileOp.TheVariants.{Move}
 use Rattle.fsrm_model.specs.declared.row.Capacity.{Capacity}
 use Rattle.fsrm_model.specs.declared.row.NodeRow.{NodeRow}
 use Rattle.fsrm_model.specs.declared.row.Rows.{Rows}
-use Rattle.fsrm_model.specs.Check.{Check, ◌when◌, first, volume_full, names_full}
+use Rattle.fsrm_model.specs.Check.{Check, ◌when◌, first, volume_full, names_full, table_full, texts_full}
 use Rattle.fsrm_model.specs.FileOps.{target, target_folder}
 use Rattle.fsrm_model.specs.FileWork.{judged_name, blocked, move_checks, remove_checks}
 use Rattle.fsrm_model.specs.Leads.{is_root, leads, leads_to_folder, leads_to_file, leads_to_other}
+use Rattle.fsrm_model.specs.Limits.{most_quotas, most_text_bytes}
 use Rattle.fsrm_model.specs.Name.{is_name}
 use Rattle.fsrm_model.specs.Quota.{exceeded}
+use Rattle.fsrm_model.specs.Texts.{object_texts}
 use Rattle.fsrm_model.specs.Tree.{number, node_of, is_folder, is_child, children, child_of, child_number, is_under, resolve, folder_part, last_name, path_of, name_bytes}
 use Rattle.fsrm_model.specs.Valid.{IsVolume}
 use Rattle.fsrm_model.proofs.nodes.ChainLaws.{Has}
@@ -121,6 +123,21 @@ childless (Some r) h = h
 pub new_alone : (nodes : List NodeRow) (path : List (List ℕ)) → IsPlace nodes path → leads nodes path ≡ false → is_some (child_of nodes (target_folder nodes path) (last_name path)) ≡ false
 new_alone nodes path p free = childless (child_of nodes (target_folder nodes path) (last_name path)) (ap is_some (sym p.leads_as) ∙ free)
 
+-- room for the quotas that come
+pub record HasRoom (after : Rows) : Type 0 where
+  pub few : length after.quotas ≤ most_quotas
+  pub short : object_texts after ≤ most_text_bytes
+
+pub room_parts : (after : Rows) (more : List Check) → first (table_full after ∷ texts_full after ∷ more) ≡ None → HasRoom after × (first more ≡ None)
+room_parts after more h =
+    let a = first_none (table_full after) (texts_full after ∷ more) h in
+    let b = first_none (texts_full after) more a.1 in
+    let room : HasRoom after = record {
+      few = ge_is _ _ (when_none TableFull (nat_lt most_quotas (length after.quotas)) a.0);
+      short = ge_is _ _ (when_none TextsFull (nat_lt most_text_bytes (object_texts after)) b.0);
+    } in
+    (room, b.1)
+
 -- a removal
 pub may_go : (K : Capacity) (R : Rows) (path : List (List ℕ)) → IsVolume K R.nodes → first (remove_checks R path) ≡ None → MayGo R.nodes (target R.nodes path)
 may_go K R path v h =
@@ -149,6 +166,7 @@ pub record MoveParts (K : Capacity) (R : Rows) (from to : List (List ℕ)) (afte
   pub apart : is_under R.nodes (target R.nodes from) (target_folder R.nodes to) ≡ false
   pub alone : leads_to_other R.nodes to (target R.nodes from) ≡ false
   pub names : name_bytes after.nodes ≤ K.names
+  pub room : HasRoom after
   pub unexceeded : exceeded K R after.nodes ≡ None
 
 pub move_parts : (K : Capacity) (R : Rows) (from to : List (List ℕ)) (after : Rows) → IsVolume K R.nodes → first (move_checks K R from to after) ≡ None → MoveParts K R from to after
@@ -160,7 +178,7 @@ move_parts K R from to after v h =
     let below = leads_to_folder old from && is_under old x d in
     let c9 = exceeded K R after.nodes ∷ [] in
     let c8 = blocked (judged_name R (Move from to)) ∷ c9 in
-    let c7 = names_full K after ∷ c8 in
+    let c7 = names_full K after ∷ table_full after ∷ texts_full after ∷ c8 in
     let c6 = (AlreadyExists when leads_to_other old to x) ∷ c7 in
     let c5 = (InvalidMove when below) ∷ c6 in
     let c4 = (PathNotFound when not in_folder) ∷ c5 in
@@ -171,8 +189,9 @@ move_parts K R from to after v h =
     let a4 = first_none (PathNotFound when not in_folder) c5 a3.1 in
     let a5 = first_none (InvalidMove when below) c6 a4.1 in
     let a6 = first_none (AlreadyExists when leads_to_other old to x) c7 a5.1 in
-    let a7 = first_none (names_full K after) c8 a6.1 in
-    let a8 = first_none (blocked (judged_name R (Move from to))) c9 a7.1 in
+    let a7 = first_none (names_full K after) (table_full after ∷ texts_full after ∷ c8) a6.1 in
+    let roomy = room_parts after c8 a7.1 in
+    let a8 = first_none (blocked (judged_name R (Move from to))) c9 roomy.1 in
     let there = not_false (leads old from) (when_none PathNotFound (not (leads old from)) a1.0) in
     let found = has_found number x old (target_has K old from v there) in
     let place = place_at K old to v (when_none AlreadyExists (is_root to) a3.0) a4.0 in
@@ -190,6 +209,7 @@ move_parts K R from to after v h =
       ]);
       alone = when_none AlreadyExists (leads_to_other old to x) a6.0;
       names = ge_is _ _ (when_none NamesFull (nat_lt K.names (name_bytes after.nodes)) a7.0);
+      room = roomy.0;
       unexceeded = (first_none (exceeded K R after.nodes) [] a8.1).0;
     }
 

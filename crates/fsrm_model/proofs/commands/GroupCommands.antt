@@ -1,15 +1,13 @@
 -- The commands on file groups: each one's work is orderly, and leaves the rows of a store if no check refuses.
-use Rattle.std.proofs.Common.{◌≡◌, ℕ, ◌<◌, ◌≤◌, ◌==◌, nat_lt, nat_le, Bool, true, false, cond, not, ◌||◌, ◌&&◌, List, [], ◌∷◌, length, Option, Some, None, refl, sym, ◌∙◌, ap, arith}
-use Rattle.std.specs.Prelude.{find, filter, sum_by, unwrap_or}
-use Rattle.std.specs.List.{list_all, list_any}
+use Rattle.std.proofs.Common.{◌≡◌, ℕ, ◌<◌, ◌≤◌, ◌==◌, nat_lt, Bool, true, false, not, ◌&&◌, List, [], ◌∷◌, length, Option, Some, None, refl, sym, ◌∙◌, arith}
+use Rattle.std.specs.Prelude.{find, sum_by, unwrap_or}
+use Rattle.std.specs.List.{list_any}
 use Rattle.std.specs.Option.{option_map_or}
-use Rattle.fsrm_base.specs.Keyed.{has_row, is_ascending, with_change, least_free}
+use Rattle.fsrm_base.specs.Keyed.{least_free}
 use Rattle.fsrm_base.specs.Numbers.{is_in}
-use Rattle.fsrm_base.proofs.EditedRows.{find-with_row_same}
-use Rattle.fsrm_base.proofs.EditedTests.{list_all-filter, list_all-with_change, list_all-with_row, list_any-filter, list_any-with_row}
-use Rattle.fsrm_base.proofs.Look.{is_some-find, is_some-mapped, has_row-change, has_row-new_other, found_has}
-use Rattle.fsrm_base.proofs.Order.{ascending-with_row, ascending-change, ascending-filter, least_free_is, length-with_row, length-change}
-use Rattle.fsrm_base.proofs.TestLaws.{both, both_true, neither, clash, is_false, not_true, eq_is, eq_same, ge_is, le_is, le_test, lt_test}
+use Rattle.fsrm_base.proofs.Look.{is_some-find, is_some-mapped, has_row-change}
+use Rattle.fsrm_base.proofs.Order.{least_free_is, length-with_row}
+use Rattle.fsrm_base.proofs.TestLaws.{both, both_true, neither, ge_is, lt_test}
 use Rattle.fsrm_model.specs.declared.command.Refusal.TheVariants.{DuplicateName, NotFound, InUse, TableFull, TextsFull}
 use Rattle.fsrm_model.specs.declared.row.Capacity.{Capacity}
 use Rattle.fsrm_model.specs.declared.row.GroupRow.{GroupRow}
@@ -17,88 +15,16 @@ use Rattle.fsrm_model.specs.declared.row.Rows.{Rows}
 use Rattle.fsrm_model.specs.Check.{◌when◌, groups_full, texts_full}
 use Rattle.fsrm_model.specs.GroupWork.{is_group_named, group_at, is_used, group_add_work, group_modify_work, group_delete_work, group_list_work}
 use Rattle.fsrm_model.specs.Limits.{most_excepts, most_groups, most_screens, most_text_bytes}
-use Rattle.fsrm_model.specs.Name.{same_name}
-use Rattle.fsrm_model.specs.Patterns.{group_number, is_object_name, are_members, are_non_members, is_group, has_name, are_apart, new_group, regrouped, with_group, with_patterns, without_group}
+use Rattle.fsrm_model.specs.Patterns.{group_number, group_name, is_object_name, are_members, are_non_members, is_group, has_name, new_group, regrouped, with_group, with_patterns, without_group}
 use Rattle.fsrm_model.specs.Screens.{screen_folder, except_folder}
 use Rattle.fsrm_model.specs.Texts.{group_bytes, object_texts}
 use Rattle.fsrm_model.specs.Tree.{is_folder}
 use Rattle.fsrm_model.specs.Valid.{are_group_numbers, are_groups, is_sound_screen, is_sound_except}
 use Rattle.fsrm_model.proofs.commands.Orderly.{IsStill, KeepsValid, change_still, show_still, bare, first_none, when_none}
-use Rattle.fsrm_model.proofs.nodes.Keeps.{same_turned}
 use Rattle.fsrm_model.proofs.thresholds.KeptLaws.{sum_by-less}
-use Rattle.fsrm_model.proofs.valid.QuotasKept.{filter_few}
+use Rattle.fsrm_model.proofs.valid.NamesApart.{named_parts, named-new, named-change, named-without, there-with_row}
 use Rattle.fsrm_model.proofs.valid.RowsKept.{all_stay, nothing_followed, screens_followed}
 use Rattle.fsrm_model.proofs.valid.ScreensKept.{HasAll, screen_parts, screen_joined, screens_stay, excepts_stay, table_apart, numbers_without}
-
--- ---- names that stay apart
-turned_apart : (a b : List ℕ) → same_name a b ≡ false → same_name b a ≡ false
-turned_apart a b h = not_true _ (λ same. clash _ (same_turned b a same) h)
-
-apart_parts : (group : GroupRow) (groups : List GroupRow) → are_apart (group ∷ groups) ≡ true → (list_any (has_name group.name) groups ≡ false) × (are_apart groups ≡ true)
-apart_parts group groups h = (is_false _ (both _ _ h).0, (both _ _ h).1)
-
-apart_joined : (group : GroupRow) (groups : List GroupRow) → list_any (has_name group.name) groups ≡ false → are_apart groups ≡ true → are_apart (group ∷ groups) ≡ true
-apart_joined group groups none apart = both_true _ _ (ap not none) apart
-
-apart_placed : (row group : GroupRow) (groups more : List GroupRow) (b : Bool) → list_any (has_name row.name) (group ∷ groups) ≡ false → are_apart (group ∷ groups) ≡ true → list_any (has_name group.name) more ≡ false → are_apart more ≡ true → are_apart (cond b (row ∷ group ∷ groups) (group ∷ more)) ≡ true
-apart_placed row group groups more true none apart its rest = apart_joined row (group ∷ groups) none apart
-apart_placed row group groups more false none apart its rest = apart_joined group more its rest
-
-pub apart-with_group : (row : GroupRow) (groups : List GroupRow) → list_any (has_name row.name) groups ≡ false → are_apart groups ≡ true → are_apart (with_group row groups) ≡ true
-apart-with_group row [] none apart = refl
-apart-with_group row (group ∷ groups) none apart =
-    let own = neither (has_name row.name group) (list_any (has_name row.name) groups) none in
-    let parts = apart_parts group groups apart in
-    apart_placed row group groups (with_group row groups) (nat_lt row.number group.number) none apart
-    (list_any-with_row group_number (has_name group.name) row groups (turned_apart group.name row.name own.0) parts.0)
-    (apart-with_group row groups own.1 parts.1)
-
-apart_kept : (group : GroupRow) (groups : List GroupRow) (b : Bool) → list_any (has_name group.name) groups ≡ false → are_apart groups ≡ true → are_apart (cond b (group ∷ groups) groups) ≡ true
-apart_kept group groups true none apart = apart_joined group groups none apart
-apart_kept group groups false none apart = apart
-
-pub apart-filter : (q : GroupRow → Bool) (groups : List GroupRow) → are_apart groups ≡ true → are_apart (filter q groups) ≡ true
-apart-filter q [] apart = refl
-apart-filter q (group ∷ groups) apart =
-    let parts = apart_parts group groups apart in
-    apart_kept group (filter q groups) (q group) (list_any-filter (has_name group.name) q groups parts.0) (apart-filter q groups parts.1)
-
-same_name_at : (c : GroupRow → GroupRow) → ((group : GroupRow) → (c group).name ≡ group.name) → (group : GroupRow) (b : Bool) → (cond b (c group) group).name ≡ group.name
-same_name_at c keeps group true = keeps group
-same_name_at c keeps group false = refl
-
-any-with_change : (n : ℕ) (c : GroupRow → GroupRow) → ((group : GroupRow) → (c group).name ≡ group.name) → (name : List ℕ) (groups : List GroupRow) → list_any (has_name name) (with_change group_number n c groups) ≡ list_any (has_name name) groups
-any-with_change n c keeps name [] = refl
-any-with_change n c keeps name (group ∷ groups) =
-    ap (λ its. same_name its name || list_any (has_name name) (with_change group_number n c groups)) (same_name_at c keeps group (group.number == n))
-    ∙ ap (λ b. has_name name group || b) (any-with_change n c keeps name groups)
-
-pub apart-with_change : (n : ℕ) (c : GroupRow → GroupRow) → ((group : GroupRow) → (c group).name ≡ group.name) → (groups : List GroupRow) → are_apart (with_change group_number n c groups) ≡ are_apart groups
-apart-with_change n c keeps [] = refl
-apart-with_change n c keeps (group ∷ groups) =
-    ap (λ its. not (list_any (has_name its) (with_change group_number n c groups)) && are_apart (with_change group_number n c groups)) (same_name_at c keeps group (group.number == n))
-    ∙ (ap (λ b. not b && are_apart (with_change group_number n c groups)) (any-with_change n c keeps group.name groups)
-    ∙ ap (λ b. not (list_any (has_name group.name) groups) && b) (apart-with_change n c keeps groups))
-
--- ---- tables of groups
-record AreTable (groups : List GroupRow) : Type 0 where
-  ascending : is_ascending group_number groups ≡ true
-  few : length groups ≤ most_groups
-  each : list_all is_group groups ≡ true
-  apart : are_apart groups ≡ true
-
-table_of : (groups : List GroupRow) → are_groups groups ≡ true → AreTable groups
-table_of groups h =
-    let halves = both (is_ascending group_number groups && nat_le (length groups) most_groups) (list_all is_group groups && are_apart groups) h in
-    let order = both (is_ascending group_number groups) (nat_le (length groups) most_groups) halves.0 in
-    let rest = both (list_all is_group groups) (are_apart groups) halves.1 in
-    record { ascending = order.0; few = le_is (length groups) most_groups order.1; each = rest.0; apart = rest.1 }
-
-of_table : (groups : List GroupRow) → AreTable groups → are_groups groups ≡ true
-of_table groups t =
-    both_true (is_ascending group_number groups && nat_le (length groups) most_groups) (list_all is_group groups && are_apart groups)
-    (both_true (is_ascending group_number groups) (nat_le (length groups) most_groups) t.ascending (le_test (length groups) most_groups t.few))
-    (both_true (list_all is_group groups) (are_apart groups) t.each t.apart)
 
 -- a group of these values
 is_group_of : (number : ℕ) (name : List ℕ) (members non_members : List (List ℕ)) → number < most_groups → is_object_name name ≡ true → are_members members ≡ true → are_non_members non_members ≡ true → is_group (record { number = number; name = name; members = members; non_members = non_members }) ≡ true
@@ -106,16 +32,6 @@ is_group_of number name members non_members below named some more =
     both_true (nat_lt number most_groups && is_object_name name) (are_members members && are_non_members non_members)
     (both_true (nat_lt number most_groups) (is_object_name name) (lt_test number most_groups below) named)
     (both_true (are_members members) (are_non_members non_members) some more)
-
--- a new group's number is free, and all other groups are there
-new_has : (groups : List GroupRow) (row : GroupRow) → has_row group_number row.number groups ≡ false → HasAll groups (with_group row groups)
-new_has groups row absent n there = at (n == row.number) refl
-  where
-    at : (b : Bool) → (n == row.number) ≡ b → has_row group_number n (with_group row groups) ≡ true
-    at true e =
-        ap (λ k. has_row group_number k (with_group row groups)) (eq_is n row.number e)
-        ∙ found_has group_number row.number (with_group row groups) row (find-with_row_same group_number (λ g. group_number g == row.number) row groups (eq_same row.number) absent)
-    at false e = has_row-new_other group_number row n groups e ∙ there
 
 -- no group has the name
 unnamed : (R : Rows) (name : List ℕ) → is_group_named R name ≡ false → list_any (has_name name) R.groups ≡ false
@@ -144,21 +60,16 @@ group_add_kept K R name members non_members named some more s h =
     let a = first_none (DuplicateName when is_group_named R name) (full ∷ long ∷ []) h in
     let b = first_none full (long ∷ []) a.1 in
     let c = first_none long [] b.1 in
-    let t = table_of R.groups s.tables.groups in
+    let t = named_parts group_number group_name most_groups is_group R.groups s.tables.groups in
     let free = least_free_is group_number R.groups t.ascending in
     let most = free.most in
     let few : length groups ≤ most_groups = ge_is _ _ (when_none TableFull (nat_lt most_groups (length groups)) b.0) in
     let none : list_any (has_name name) R.groups ≡ false = unnamed R name (when_none DuplicateName (is_group_named R name) a.0) in
     let is : is_group row ≡ true = is_group_of (least_free group_number R.groups) name members non_members (omega (arith, most, few, length-with_row group_number row R.groups)) named some more in
-    let are : are_groups groups ≡ true = of_table groups (record {
-      ascending = ascending-with_row group_number row R.groups free.free t.ascending;
-      few = few;
-      each = list_all-with_row group_number is_group row R.groups is t.each;
-      apart = apart-with_group row R.groups none t.apart;
-    }) in
+    let are : are_groups groups ≡ true = named-new group_number group_name most_groups is_group row R.groups s.tables.groups free.free none few is in
     screens_followed K R groups R.screens R.excepts s are
-    (screens_stay R.nodes R.nodes R.groups groups R.excepts R.screens (all_stay R.nodes) (new_has R.groups row free.free) s.tables.screens)
-    (excepts_stay R.nodes R.nodes R.groups groups R.excepts (all_stay R.nodes) (new_has R.groups row free.free) s.tables.excepts)
+    (screens_stay R.nodes R.nodes R.groups groups R.excepts R.screens (all_stay R.nodes) (there-with_row group_number row R.groups free.free) s.tables.screens)
+    (excepts_stay R.nodes R.nodes R.groups groups R.excepts (all_stay R.nodes) (there-with_row group_number row R.groups free.free) s.tables.excepts)
     (ge_is _ _ (when_none TextsFull (nat_lt most_text_bytes (object_texts after)) c.0))
 
 -- a list that is given, or the one that is there
@@ -184,14 +95,7 @@ group_modify_kept K R name members non_members some more s h =
     let missing = (NotFound when not (is_group_named R name)) in
     let a = first_none missing (long ∷ []) h in
     let b = first_none long [] a.1 in
-    let t = table_of R.groups s.tables.groups in
-    let few = t.few in
-    let are : are_groups groups ≡ true = of_table groups (record {
-      ascending = ascending-change group_number n change (λ g. refl) R.groups t.ascending;
-      few = omega (arith, few, length-change group_number n change R.groups);
-      each = list_all-with_change group_number is_group n change R.groups t.each (λ g is. regrouped_is members non_members g some more is);
-      apart = apart-with_change n change (λ g. refl) R.groups ∙ t.apart;
-    }) in
+    let are : are_groups groups ≡ true = named-change group_number group_name most_groups is_group n change R.groups s.tables.groups (λ g. refl) (λ g. refl) (λ g found is. regrouped_is members non_members g some more is) in
     let all : HasAll R.groups groups = λ k there. has_row-change group_number n change (λ g. refl) k R.groups ∙ there in
     screens_followed K R groups R.screens R.excepts s are
     (screens_stay R.nodes R.nodes R.groups groups R.excepts R.screens (all_stay R.nodes) all s.tables.screens)
@@ -210,15 +114,7 @@ group_delete_kept K R name s h =
     let a = first_none (NotFound when not (is_group_named R name)) ((InUse when used) ∷ []) h in
     let b = first_none (InUse when used) [] a.1 in
     let no = neither (list_any (λ screen. is_in screen.groups n) R.screens) (list_any (λ except. is_in except.groups n) R.excepts) (when_none InUse used b.0) in
-    let t = table_of R.groups s.tables.groups in
-    let few = t.few in
-    let keeps : GroupRow → Bool = λ g. not (group_number g == n) in
-    let are : are_groups groups ≡ true = of_table groups (record {
-      ascending = ascending-filter group_number keeps R.groups t.ascending;
-      few = omega (arith, few, filter_few keeps R.groups);
-      each = list_all-filter is_group keeps R.groups t.each;
-      apart = apart-filter keeps R.groups t.apart;
-    }) in
+    let are : are_groups groups ≡ true = named-without group_number group_name most_groups is_group n R.groups s.tables.groups in
     screens_followed K R groups R.screens R.excepts s are
     (table_apart screen_folder most_screens (λ screen. is_in screen.groups n) (is_sound_screen R.nodes R.groups R.excepts) (is_sound_screen R.nodes groups R.excepts) R.screens s.tables.screens no.0 (λ screen unnamed is.
     let p = screen_parts R.nodes R.groups R.excepts screen is in
@@ -226,7 +122,7 @@ group_delete_kept K R name s h =
     (table_apart except_folder most_excepts (λ except. is_in except.groups n) (is_sound_except R.nodes R.groups) (is_sound_except R.nodes groups) R.excepts s.tables.excepts no.1 (λ except unnamed is.
     let p = both (is_folder R.nodes except.folder) (are_group_numbers R.groups except.groups) is in
     both_true (is_folder R.nodes except.folder) (are_group_numbers groups except.groups) p.0 (numbers_without R.groups n except.groups unnamed p.1)))
-    (fewer_groups R groups (sum_by-less group_bytes keeps R.groups) s.texts)
+    (fewer_groups R groups (sum_by-less group_bytes (λ g. not (group_number g == n)) R.groups) s.texts)
 
 pub group_list_kept : (K : Capacity) (R : Rows) → KeepsValid K R (group_list_work R)
 group_list_kept K R s h = nothing_followed K R s

@@ -10,7 +10,7 @@ use Rattle.fsrm_model.specs.declared.row.Capacity.{Capacity}
 use Rattle.fsrm_model.specs.declared.row.NodeRow.{NodeRow}
 use Rattle.fsrm_model.specs.declared.row.QuotaRow.{QuotaRow}
 use Rattle.fsrm_model.specs.declared.row.Rows.{Rows}
-use Rattle.fsrm_model.specs.Check.{◌when◌, first}
+use Rattle.fsrm_model.specs.Check.{◌when◌, first, table_full, texts_full}
 use Rattle.fsrm_model.specs.Exceeds.{IsOver}
 use Rattle.fsrm_model.specs.FileOps.{target, target_folder, new_node, resized, touched, placed, plain}
 use Rattle.fsrm_model.specs.FileWork.{judged_name, blocked, move_checks, remove_checks, file_checks, file_effect}
@@ -201,10 +201,11 @@ used_new K R node store own parent f h =
     let s = as_suc node.number (zero_apart R.nodes node.number store.volume.has_root free) in
     (usage-new K R.nodes tree node s.0 s.1 free (folder_has R.nodes node.parent parent) f h, chain-new_other R.nodes tree node free f h)
 
-mkdir_kept : (K : Capacity) (R : Rows) (path : List (List ℕ)) (owner moment : ℕ) → IsValid K R → NewChecks K R path (file_effect R (Mkdir path owner) moment) [] → Kept K R (Mkdir path owner) moment
+mkdir_kept : (K : Capacity) (R : Rows) (path : List (List ℕ)) (owner moment : ℕ) → IsValid K R → NewChecks K R path (file_effect R (Mkdir path owner) moment) (table_full (file_effect R (Mkdir path owner) moment) ∷ texts_full (file_effect R (Mkdir path owner) moment) ∷ []) → Kept K R (Mkdir path owner) moment
 mkdir_kept K R path owner moment store h folder quota r =
     let node = new_node R.nodes path true 0 owner moment in
-    let p = new_parts K R path (file_effect R (Mkdir path owner) moment) [] store.volume h in
+    let after = file_effect R (Mkdir path owner) moment in
+    let p = new_parts K R path after (table_full after ∷ texts_full after ∷ []) store.volume h in
     let used = used_new K R node store refl p.0.place.folder folder (quota_has K R folder quota store r.there) in
     absurd (added_nothing (is_under R.nodes folder node.parent) (usage K R.nodes folder) (usage K (plain R.nodes (Mkdir path owner) moment) folder) used.0 r.rises)
 

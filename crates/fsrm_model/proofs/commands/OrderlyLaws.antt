@@ -4,7 +4,7 @@ use Rattle.std.proofs.lemmas.List.{append-nil}
 use Rattle.std.specs.Prelude.{is_some, map, option_map, if◌then◌else◌}
 use Rattle.std.specs.Option.{option_map_or}
 use Rattle.fsrm_model.specs.declared.command.Act.{Act}
-use Rattle.fsrm_model.specs.declared.command.Ask.TheVariants.{Quotas, Groups, Screens, Excepts, Settings, Acts}
+use Rattle.fsrm_model.specs.declared.command.Ask.TheVariants.{Quotas, Templates, Autos, Groups, Screens, Excepts, Settings, Acts}
 use Rattle.fsrm_model.specs.declared.command.Outcome.{Outcome}
 use Rattle.fsrm_model.specs.declared.command.Outcome.TheVariants.{Done, Sum, Listing, Scanned, Refused}
 use Rattle.fsrm_model.specs.declared.command.Refusal.{Refusal}
@@ -197,6 +197,8 @@ named_same E F (Done (Some screen)) same there h = ap (has_row number screen) sa
 named_same E F (Sum node bytes) same there h = ap (has_row number node) same ∙ h
 named_same E F (Listing (Quotas None)) same there h = tt
 named_same E F (Listing (Quotas (Some folder))) same there h = there folder ∙ h
+named_same E F (Listing Templates) same there h = tt
+named_same E F (Listing Autos) same there h = tt
 named_same E F (Listing Groups) same there h = tt
 named_same E F (Listing Screens) same there h = tt
 named_same E F (Listing Excepts) same there h = tt

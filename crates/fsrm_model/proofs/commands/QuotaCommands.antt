@@ -1,5 +1,5 @@
 -- The commands on quotas: each one's work is orderly, and leaves the rows of a store if no check refuses.
-use Rattle.std.proofs.Common.{◌≡◌, ℕ, ◌==◌, Bool, true, false, not, List, [], ◌∷◌, ◌++◌, refl, sym, ◌∙◌, ap, subst, cond, Some, None, Option, ◌≤◌, length, arith, nat_lt}
+use Rattle.std.proofs.Common.{◌≡◌, ℕ, ◌==◌, Bool, true, false, not, ◌&&◌, List, [], ◌∷◌, ◌++◌, refl, sym, ◌∙◌, ap, subst, cond, Some, None, Option, ◌≤◌, length, arith, nat_lt}
 use Rattle.std.specs.Prelude.{is_some, is_none, unwrap_or, if◌then◌else◌}
 use Rattle.std.specs.List.{list_all}
 use Rattle.fsrm_model.specs.declared.command.Added.{Added}
@@ -7,36 +7,43 @@ use Rattle.fsrm_model.specs.declared.command.Refusal.TheVariants.{PathNotFound, 
 use Rattle.fsrm_model.specs.declared.row.Capacity.{Capacity}
 use Rattle.fsrm_model.specs.declared.row.QuotaRow.{QuotaRow}
 use Rattle.fsrm_model.specs.declared.row.Rows.{Rows}
+use Rattle.fsrm_model.specs.declared.row.TemplateRow.{TemplateRow}
 use Rattle.fsrm_model.specs.declared.row.Threshold.{Threshold}
 use Rattle.fsrm_model.specs.Check.{first, ◌when◌, table_full, texts_full}
 use Rattle.fsrm_model.specs.FileOps.{target}
 use Rattle.fsrm_base.specs.Keyed.{has_row, with_row, with_change, without_row}
 use Rattle.fsrm_model.specs.Leads.{leads_to_folder}
 use Rattle.fsrm_model.specs.Quota.{folder_of, quota_of, is_limit}
-use Rattle.fsrm_model.specs.QuotaWork.{quota_checks, add_work, modify_work, delete_work, reset_work, list_work, new_quota, modified, remarked, thresholds_of, reset}
-use Rattle.fsrm_base.proofs.Look.{is_some-find, has_row-change}
+use Rattle.fsrm_model.specs.QuotaWork.{quota_checks, first_quota, source_of, add_work, modify_work, delete_work, reset_work, list_work, modified, remarked, thresholds_of, reset}
+use Rattle.fsrm_base.proofs.Look.{found_has, found_own, is_some-find, has_row-change}
+use Rattle.fsrm_base.proofs.Members.{all_found}
 use Rattle.fsrm_model.proofs.commands.Orderly.{IsStill, change_still, show_still, bare, first_none, when_none, KeepsValid}
 use Rattle.std.specs.Option.{option_map_or}
 use Rattle.fsrm_model.specs.declared.row.QuotaState.{QuotaState}
 use Rattle.fsrm_model.specs.declared.row.QuotaState.TheVariants.{Disabled}
-use Rattle.fsrm_model.specs.Limits.{latest_moment, most_quotas, most_text_bytes}
+use Rattle.fsrm_model.specs.Limits.{latest_moment, most_quotas, most_templates, most_text_bytes}
+use Rattle.fsrm_model.specs.Name.{is_named}
+use Rattle.fsrm_model.specs.Templates.{template_number, template_name, is_template}
 use Rattle.fsrm_model.specs.Texts.{quota_bytes, object_texts}
-use Rattle.fsrm_model.specs.Thresholds.{is_percent, is_notice, are_too_many, may_be_removed, changed_thresholds}
+use Rattle.fsrm_model.specs.Thresholds.{is_percent, is_notice, are_thresholds, are_too_many, may_be_removed, changed_thresholds}
+use Rattle.fsrm_model.specs.Tree.{is_folder}
 use Rattle.fsrm_model.proofs.thresholds.KeptLaws.{fewer_texts, same_texts, sum_by-same, sum_by-less}
 use Rattle.fsrm_model.proofs.thresholds.ThresholdLaws.{changed_kept}
 use Rattle.fsrm_base.specs.Numbers.{without_number}
 use Rattle.fsrm_model.specs.QuotaStates.{start, state_after, queued, in_state, with_quota}
-use Rattle.fsrm_model.specs.Valid.{AreQuotas}
+use Rattle.fsrm_model.specs.Valid.{is_moment, has_source, are_templates, AreQuotas}
 use Rattle.fsrm_model.proofs.commands.FileParts.{folder_at}
 use Rattle.fsrm_base.proofs.Order.{length-with_row}
 use Rattle.fsrm_model.proofs.valid.QueueKept.{queue_added, queue_changed, queue_same, queue_without}
 use Rattle.fsrm_model.proofs.valid.QuotasKept.{quota_at, quotas-new, quotas-change, quotas-without}
-use Rattle.fsrm_model.proofs.valid.RowsKept.{plain-new, plain-change, plain-without, quotas_followed, nothing_followed}
+use Rattle.fsrm_model.proofs.valid.NamesApart.{named_parts}
+use Rattle.fsrm_model.proofs.valid.RowsKept.{quotas_followed, nothing_followed}
+use Rattle.fsrm_model.proofs.valid.TemplatesKept.{template_parts, sources-new, sources-change, sources-without}
 use Rattle.fsrm_base.proofs.TestLaws.{ge_is, le_test}
 
-pub add_still : (K : Capacity) (R : Rows) (moment : ℕ) (path : List (List ℕ)) (limit : Option ℕ) (enforce : Option Bool) (enabled : Bool) (percents : List ℕ) (notices : List Added) → IsStill K R (add_work R moment path limit enforce enabled percents notices)
-add_still K R moment path limit enforce enabled percents notices =
-    change_still K R _ _ (bare _ _ refl, (bare _ _ refl, (bare _ _ refl, (bare _ _ refl, (bare _ _ refl, tt))))) refl
+pub add_still : (K : Capacity) (R : Rows) (moment : ℕ) (path : List (List ℕ)) (limit : Option ℕ) (enforce : Option Bool) (enabled : Bool) (template : Option (List ℕ)) (percents : List ℕ) (notices : List Added) → IsStill K R (add_work R moment path limit enforce enabled template percents notices)
+add_still K R moment path limit enforce enabled template percents notices =
+    change_still K R _ _ (bare _ _ refl, (bare _ _ refl, (bare _ _ refl, (bare _ _ refl, (bare _ _ refl, (bare _ _ refl, tt)))))) refl
 
 pub modify_still : (K : Capacity) (R : Rows) (path : List (List ℕ)) (limit : Option ℕ) (enforce enabled : Option Bool) (removed percents : List ℕ) (notices : List Added) → IsStill K R (modify_work R path limit enforce enabled removed percents notices)
 modify_still K R path limit enforce enabled removed percents notices =
@@ -69,38 +76,70 @@ limit_given : (limit : Option ℕ) → option_map_or is_limit limit false ≡ tr
 limit_given None legal = cc
 limit_given (Some limit) legal = legal
 
-pub add_kept : (K : Capacity) (R : Rows) (moment : ℕ) (path : List (List ℕ)) (limit : Option ℕ) (enforce : Option Bool) (enabled : Bool) (percents : List ℕ) (notices : List Added) → option_map_or is_limit limit false ≡ true → list_all is_percent percents ≡ true → list_all is_notice notices ≡ true → moment ≤ latest_moment → KeepsValid K R (add_work R moment path limit enforce enabled percents notices)
-add_kept K R moment path limit enforce enabled percents notices legal legal_percents legal_notices late s h =
+-- another limit is one
+pub limit_kept : (limit : Option ℕ) (old : ℕ) → option_map_or is_limit limit true ≡ true → is_limit old ≡ true → is_limit (unwrap_or limit old) ≡ true
+limit_kept None old legal was = was
+limit_kept (Some limit) old legal was = legal
+
+-- a quota before options change it
+record IsFirst (R : Rows) (limit : Option ℕ) (folder moment : ℕ) (quota : QuotaRow) : Type 0 where
+  on : quota.folder ≡ folder
+  size : is_limit (unwrap_or limit quota.limit) ≡ true
+  marks : are_thresholds quota.thresholds ≡ true
+  made : quota.peak_at ≡ moment
+  source : has_source R.templates quota ≡ true
+
+first_is : (R : Rows) (limit : Option ℕ) (template : Option (List ℕ)) (o : Option TemplateRow) (folder : ℕ) (state : QuotaState) (moment : ℕ) → are_templates R.templates ≡ true → source_of R template ≡ o → (is_some template && is_none o) ≡ false → option_map_or is_limit limit (is_some template) ≡ true → IsFirst R limit folder moment (first_quota o folder state moment)
+first_is R limit None None folder state moment named e known legal =
+    record { on = refl; size = limit_given limit legal; marks = refl; made = refl; source = refl }
+first_is R limit None (Some template) folder state moment named e known legal = absurd (cc e)
+first_is R limit (Some name) None folder state moment named e known legal = absurd (cc known)
+first_is R limit (Some name) (Some template) folder state moment named e known legal =
+    let t = named_parts template_number template_name most_templates is_template R.templates named in
+    let own = template_parts template (all_found is_template (is_named template_name name) R.templates template t.each e) in
+    record {
+      on = refl;
+      size = limit_kept limit template.limit legal own.limit;
+      marks = own.thresholds;
+      made = refl;
+      source = found_has template_number template.number R.templates template (found_own template_number (is_named template_name name) R.templates template t.ascending e);
+    }
+
+pub add_kept : (K : Capacity) (R : Rows) (moment : ℕ) (path : List (List ℕ)) (limit : Option ℕ) (enforce : Option Bool) (enabled : Bool) (template : Option (List ℕ)) (percents : List ℕ) (notices : List Added) → option_map_or is_limit limit (is_some template) ≡ true → list_all is_percent percents ≡ true → list_all is_notice notices ≡ true → moment ≤ latest_moment → KeepsValid K R (add_work R moment path limit enforce enabled template percents notices)
+add_kept K R moment path limit enforce enabled template percents notices legal legal_percents legal_notices late s h =
     let folder = target R.nodes path in
-    let quota = remarked [] percents notices (new_quota folder (unwrap_or limit 0) (unwrap_or enforce true) (if enabled then start R.nodes folder else Disabled) moment) in
+    let state = if enabled then start R.nodes folder else Disabled in
+    let source = source_of R template in
+    let before = first_quota source folder state moment in
+    let quota = remarked [] percents notices (modified limit enforce before) in
     let quotas = with_row folder_of quota R.quotas in
+    let unknown = is_some template && is_none source in
+    let missing = (NotFound when unknown) in
     let many = OutOfRange when are_too_many quota.thresholds in
     let full = table_full (with_quota R quota) in
     let long = texts_full (with_quota R quota) in
     let taken = is_some (quota_of R folder) in
-    let a = first_none (PathNotFound when not (leads_to_folder R.nodes path)) ((AlreadyExists when taken) ∷ many ∷ full ∷ long ∷ []) h in
-    let b = first_none (AlreadyExists when taken) (many ∷ full ∷ long ∷ []) a.1 in
-    let c = first_none many (full ∷ long ∷ []) b.1 in
+    let a = first_none (PathNotFound when not (leads_to_folder R.nodes path)) ((AlreadyExists when taken) ∷ missing ∷ many ∷ full ∷ long ∷ []) h in
+    let b = first_none (AlreadyExists when taken) (missing ∷ many ∷ full ∷ long ∷ []) a.1 in
+    let u = first_none missing (many ∷ full ∷ long ∷ []) b.1 in
+    let c = first_none many (full ∷ long ∷ []) u.1 in
     let d = first_none full (long ∷ []) c.1 in
     let e = first_none long [] d.1 in
-    let absent : has_row folder_of folder R.quotas ≡ false = sym (is_some-find (λ q. folder_of q == folder) R.quotas) ∙ when_none AlreadyExists taken b.0 in
+    let is = first_is R limit template source folder state moment s.tables.templates refl (when_none NotFound unknown u.0) legal in
+    let free : has_row folder_of folder R.quotas ≡ false = sym (is_some-find (λ q. folder_of q == folder) R.quotas) ∙ when_none AlreadyExists taken b.0 in
+    let absent : has_row folder_of quota.folder R.quotas ≡ false = ap (λ n. has_row folder_of n R.quotas) is.on ∙ free in
     let few : length quotas ≤ most_quotas = ge_is _ _ (when_none TableFull (nat_lt most_quotas (length quotas)) d.0) in
     let texts : object_texts (record R { quotas = quotas }) ≤ most_text_bytes = ge_is _ _ (when_none TextsFull (nat_lt most_text_bytes (object_texts (record R { quotas = quotas }))) e.0) in
-    quotas_followed K R quotas (queued R.queue folder quota.state) s
-    (quotas-new R.nodes R.quotas quota s.quotas absent (omega (arith, length-with_row folder_of quota R.quotas, few)) (folder_at R.nodes path a.0)
+    quotas_followed K R quotas (queued R.queue quota.folder quota.state) s
+    (quotas-new R.nodes R.quotas quota s.quotas absent (omega (arith, length-with_row folder_of quota R.quotas, few)) (ap (is_folder R.nodes) is.on ∙ folder_at R.nodes path a.0)
     (record {
-      limit = limit_given limit legal;
-      thresholds = changed_kept [] percents notices [] refl legal_percents legal_notices (when_none OutOfRange (are_too_many quota.thresholds) c.0);
-      moment = le_test moment latest_moment late;
+      limit = is.size;
+      thresholds = changed_kept [] percents notices before.thresholds is.marks legal_percents legal_notices (when_none OutOfRange (are_too_many quota.thresholds) c.0);
+      moment = ap is_moment is.made ∙ le_test moment latest_moment late;
     }))
-    (plain-new quota R.quotas refl s.tables.plain)
+    (sources-new R.templates quota R.quotas is.source s.tables.sources)
     texts
     (queue_added R.quotas R.queue quota s.queue absent)
-
--- another limit is one
-limit_kept : (limit : Option ℕ) (old : ℕ) → option_map_or is_limit limit true ≡ true → is_limit old ≡ true → is_limit (unwrap_or limit old) ≡ true
-limit_kept None old legal was = was
-limit_kept (Some limit) old legal was = legal
 
 -- quotas of which one changed and kept its texts
 changed_texts : (R : Rows) (folder : ℕ) (change : QuotaRow → QuotaRow) → ((q : QuotaRow) → quota_bytes (change q) ≡ quota_bytes q) → object_texts R ≤ most_text_bytes → object_texts (record R { quotas = with_change folder_of folder change R.quotas }) ≤ most_text_bytes
@@ -168,7 +207,7 @@ modify_kept K R path limit enforce enabled removed percents notices legal legal_
     }) in
     quotas_followed K R new (queued R.queue folder state) s
     (state_quotas K R folder state quotas are)
-    (plain-change folder (in_state state) quotas (λ q is. is) (plain-change folder change R.quotas (λ q is. is) s.tables.plain))
+    (sources-change R.templates folder (in_state state) quotas (λ q is. is) (sources-change R.templates folder change R.quotas (λ q is. is) s.tables.sources))
     u.short
     (queue_changed quotas R.queue folder state (in_state state) (queue_same R.quotas R.queue folder change (λ q. refl) (λ q. refl) s.queue)
     (has_row-change folder_of folder change (λ q. refl) folder R.quotas ∙ u.there) (λ q. refl) (λ q. refl))
@@ -177,7 +216,7 @@ pub delete_kept : (K : Capacity) (R : Rows) (path : List (List ℕ)) → KeepsVa
 delete_kept K R path s h =
     let folder = target R.nodes path in
     quotas_followed K R (without_row folder_of folder R.quotas) (without_number folder R.queue) s
-    (quotas-without R.nodes R.quotas folder s.quotas) (plain-without folder R.quotas s.tables.plain)
+    (quotas-without R.nodes R.quotas folder s.quotas) (sources-without R.templates folder R.quotas s.tables.sources)
     (fewer_texts R (without_row folder_of folder R.quotas) (sum_by-less quota_bytes (λ q. not (folder_of q == folder)) R.quotas) s.texts) (queue_without R.quotas R.queue folder s.queue)
 
 pub reset_kept : (K : Capacity) (R : Rows) (moment : ℕ) (path : List (List ℕ)) → moment ≤ latest_moment → KeepsValid K R (reset_work K R moment path)
@@ -187,7 +226,7 @@ reset_kept K R moment path late s h =
     (quotas-change R.nodes R.quotas folder (reset K R moment) s.quotas (λ q. refl) (λ q found.
     let is = quota_at R.nodes R.quotas folder q s.quotas found in
     record { limit = is.limit; thresholds = is.thresholds; moment = le_test moment latest_moment late }))
-    (plain-change folder (reset K R moment) R.quotas (λ q is. is) s.tables.plain)
+    (sources-change R.templates folder (reset K R moment) R.quotas (λ q is. is) s.tables.sources)
     (changed_texts R folder (reset K R moment) (λ q. refl) s.texts)
     (queue_same R.quotas R.queue folder (reset K R moment) (λ q. refl) (λ q. refl) s.queue)
 

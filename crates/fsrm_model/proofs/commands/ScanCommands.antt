@@ -29,7 +29,8 @@ use Rattle.fsrm_model.proofs.valid.ValidLaws.{folder_has}
 use Rattle.fsrm_model.specs.ValidScans.{AreLeft}
 use Rattle.fsrm_model.proofs.valid.QueueKept.{queue_changed}
 use Rattle.fsrm_model.proofs.commands.QuotaCommands.{state_quotas, state_texts, quota_there}
-use Rattle.fsrm_model.proofs.valid.RowsKept.{plain-change, valid_with, all_stay, same_heads, left_followed, left_visits, quotas_followed, head_in}
+use Rattle.fsrm_model.proofs.valid.RowsKept.{valid_with, all_stay, same_heads, left_followed, left_visits, quotas_followed, head_in}
+use Rattle.fsrm_model.proofs.valid.TemplatesKept.{sources-change}
 
 -- what is kept of quotas, if the state of one became another that is kept as the same
 flag_change : (a b : QuotaState) → flagged a ≡ flagged b → (folder : ℕ) (quotas : List QuotaRow) → map flagged_quota (with_change folder_of folder (in_state a) quotas) ≡ map flagged_quota (with_change folder_of folder (in_state b) quotas)
@@ -135,7 +136,7 @@ scan_kept K R path s h =
     let folder = target R.nodes path in
     quotas_followed K R (with_change folder_of folder (in_state Rebuilding) R.quotas) (queued R.queue folder Rebuilding) s
     (state_quotas K R folder Rebuilding R.quotas s.quotas)
-    (plain-change folder (in_state Rebuilding) R.quotas (λ q is. is) s.tables.plain)
+    (sources-change R.templates folder (in_state Rebuilding) R.quotas (λ q is. is) s.tables.sources)
     (state_texts R folder Rebuilding s.texts)
     (queue_changed R.quotas R.queue folder Rebuilding (in_state Rebuilding) s.queue (scan_there R path h) (λ q. refl) (λ q. refl))
 
@@ -169,12 +170,12 @@ step_kept K R n s h =
         let queue = queued R.queue scanned Complete in
         valid_with K R R.nodes (with_change folder_of scanned (in_state Complete) R.quotas) queue (if same_head R.queue queue then left else scan_begun R.nodes queue) R.last_moment s s.volume (all_stay R.nodes)
         (state_quotas K R scanned Complete R.quotas s.quotas)
-        (plain-change scanned (in_state Complete) R.quotas (λ q is. is) s.tables.plain)
+        (sources-change R.templates scanned (in_state Complete) R.quotas (λ q is. is) s.tables.sources)
         (state_texts R scanned Complete s.texts)
         (queue_changed R.quotas R.queue scanned Complete (in_state Complete) s.queue there (λ q. refl) (λ q. refl))
         (left_followed K R.nodes R.queue queue left s.volume (still queue))
         s.last_moment
     by false there =
-        valid_with K R R.nodes R.quotas R.queue (if same_head R.queue R.queue then left else scan_begun R.nodes R.queue) R.last_moment s s.volume (all_stay R.nodes) s.quotas s.tables.plain s.texts s.queue
+        valid_with K R R.nodes R.quotas R.queue (if same_head R.queue R.queue then left else scan_begun R.nodes R.queue) R.last_moment s s.volume (all_stay R.nodes) s.quotas s.tables.sources s.texts s.queue
         (left_followed K R.nodes R.queue R.queue left s.volume (still R.queue))
         s.last_moment

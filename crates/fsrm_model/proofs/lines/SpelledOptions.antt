@@ -1,6 +1,6 @@
 -- What is spelled for the options of a tool's command is valid, and no longer in an entry than in the line.
 use Rattle.std.proofs.Common.{◌≡◌, ℕ, ◌+◌, ◌≤◌, ℤ, pos, negsuc, ◌==◌, List, [], ◌∷◌, ◌++◌, Bool, true, length, refl, sym, ◌∙◌, ap, subst, inl, inr, arith}
-use Rattle.std.specs.Prelude.{◌&&◌, ◌⊎◌, ◌<◌, codes, sum_by, nat_lt, nat_le, is_none, Option, Some, None, option_and_then}
+use Rattle.std.specs.Prelude.{◌&&◌, ◌⊎◌, ◌<◌, codes, sum_by, nat_lt, nat_le, is_none, Option, Some, None, option_and_then, count_by}
 use Rattle.std.specs.Char.{to_ascii_lowercase}
 use Rattle.std.specs.List.{AllByRecursion, cons_option, join_with_byte, list_all}
 use Rattle.std.specs.Option.{option_or, option_map_or}
@@ -13,8 +13,9 @@ use Rattle.fsrm_model.specs.declared.command.Deed.{Deed}
 use Rattle.fsrm_model.specs.declared.row.Action.{Action}
 use Rattle.fsrm_model.specs.Commands.{paths, has_values, more_bytes}
 use Rattle.fsrm_model.specs.Entry.{number_bytes, text_bytes, path_bytes, optional, notice_bytes, screen_notice_bytes}
-use Rattle.fsrm_model.specs.Limits.{greatest_percent, most_minutes, most_patterns}
-use Rattle.fsrm_model.specs.Options.{Key, key_name, Given, PathIs, LimitIs, TypeIs, StatusIs, RemovalIs, PercentIs, NoticeIs, RunLimitIs, GroupIs, MembersAre, NonMembersAre, ModeIs, GroupRemovalIs, GroupAdditionIs, ScreenNoticeIs, key_of, key_named, path_in, removal_in, percent_in, notice_in, one, each_of}
+use Rattle.fsrm_model.specs.Limits.{greatest_percent, most_excluded, most_minutes, most_patterns}
+use Rattle.fsrm_model.specs.Name.{is_name}
+use Rattle.fsrm_model.specs.Options.{Key, TheExclusion, key_name, Given, PathIs, LimitIs, TypeIs, StatusIs, RemovalIs, PercentIs, NoticeIs, TemplateIs, SourceIs, UpdateIs, ExclusionIs, RunLimitIs, GroupIs, MembersAre, NonMembersAre, ModeIs, GroupRemovalIs, GroupAdditionIs, ScreenNoticeIs, key_of, key_named, path_in, limit_in, removal_in, percent_in, notice_in, template_in, source_in, exclusion_in, is_of, one, each_of}
 use Rattle.fsrm_model.specs.Patterns.{is_object_name, is_pattern, are_members, are_non_members}
 use Rattle.fsrm_model.specs.Quota.{is_limit}
 use Rattle.fsrm_model.specs.Spelling.{Writes, WritesPath, WritesMinutes, WritesAction, WritesNotice, WritesPatterns, WritesValue, SpellsEach}
@@ -73,6 +74,10 @@ IsSoundGiven (StatusIs enabled) = Unit {0}
 IsSoundGiven (RemovalIs percent) = is_percent percent ≡ true
 IsSoundGiven (PercentIs percent) = is_percent percent ≡ true
 IsSoundGiven (NoticeIs notice) = is_notice notice ≡ true
+IsSoundGiven (TemplateIs name) = is_object_name name ≡ true
+IsSoundGiven (SourceIs name) = is_object_name name ≡ true
+IsSoundGiven (UpdateIs update) = Unit {0}
+IsSoundGiven (ExclusionIs name) = is_name name ≡ true
 IsSoundGiven (RunLimitIs minutes) = nat_le minutes most_minutes ≡ true
 IsSoundGiven (GroupIs name) = is_object_name name ≡ true
 IsSoundGiven (MembersAre patterns) = are_members patterns ≡ true
@@ -94,6 +99,10 @@ weight (StatusIs enabled) = 0
 weight (RemovalIs percent) = number_bytes
 weight (PercentIs percent) = number_bytes
 weight (NoticeIs notice) = notice_bytes notice
+weight (TemplateIs name) = text_bytes name
+weight (SourceIs name) = text_bytes name
+weight (UpdateIs update) = 0
+weight (ExclusionIs name) = text_bytes name
 weight (RunLimitIs minutes) = 0
 weight (GroupIs name) = text_bytes name
 weight (MembersAre patterns) = lengths patterns
@@ -135,6 +144,10 @@ value_sound text (StatusIs enabled) w = tt
 value_sound text (RemovalIs percent) w = within 1 greatest_percent text percent w
 value_sound text (PercentIs percent) w = within 1 greatest_percent text percent w
 value_sound text (NoticeIs notice) w = notice_sound text notice w
+value_sound text (TemplateIs name) w = w.legal
+value_sound text (SourceIs name) w = w.legal
+value_sound text (UpdateIs update) w = tt
+value_sound text (ExclusionIs name) w = w.legal
 value_sound text (RunLimitIs minutes) w = le-leb minutes most_minutes w.most
 value_sound text (GroupIs name) w = w.legal
 value_sound text (MembersAre patterns) w = members_sound text patterns w
@@ -174,6 +187,10 @@ value_fits text (StatusIs enabled) w = omega arith
 value_fits text (RemovalIs percent) w = omega arith
 value_fits text (PercentIs percent) w = omega arith
 value_fits text (NoticeIs notice) w = omega (arith, notice_fits text notice w)
+value_fits text (TemplateIs name) w = omega (arith, ap length w.text_is)
+value_fits text (SourceIs name) w = omega (arith, ap length w.text_is)
+value_fits text (UpdateIs update) w = omega arith
+value_fits text (ExclusionIs name) w = omega (arith, ap length w.text_is)
 value_fits text (RunLimitIs minutes) w = omega arith
 value_fits text (GroupIs name) w = omega (arith, ap length w.text_is)
 value_fits text (MembersAre patterns) w = omega (arith, ap length w.text_is, joined_fits patterns)
@@ -186,11 +203,12 @@ value_fits text (ScreenNoticeIs action) w = omega (arith, action_fits text actio
 pub record AreSound (L : ℕ) (given : List Given) : Type 0 where
   pub each : AllByRecursion IsSoundGiven given
   pub bytes : sum_by weight given ≤ L
+  pub few : count_by (is_of TheExclusion) given ≤ most_excluded
 
-pub each_sound : (L : ℕ) (keys : List Key) (words : List (List ℕ)) (given : List Given) → SpellsEach keys words given → sum_by length words ≤ L → AreSound L given
-each_sound L keys words given s fits =
+pub each_sound : (L : ℕ) (keys : List Key) (words : List (List ℕ)) (given : List Given) → SpellsEach keys words given → sum_by length words ≤ L → count_by (is_of TheExclusion) given ≤ most_excluded → AreSound L given
+each_sound L keys words given s fits few =
     let f = weights keys words given s in
-    record { each = values keys words given s; bytes = omega (arith, f, fits) }
+    record { each = values keys words given s; bytes = omega (arith, f, fits); few = few }
   where
     values : (keys : List Key) (words : List (List ℕ)) (given : List Given) → SpellsEach keys words given → AllByRecursion IsSoundGiven given
     values keys [] [] s = tt
@@ -232,22 +250,22 @@ each_of_sound {X} p value each (g ∷ given) s = at (value g) refl (each_of_soun
     at None is rest = rest
     at (Some x) is rest = both_true (p x) (list_all p (each_of value given)) (each g x s.0 is) rest
 
--- the bytes of a path that was given, and of all thresholds
-all_weights : (given : List Given) → option_map_or path_bytes (one path_in given) 0 + (sum_by (λ (n : ℕ). number_bytes) (each_of removal_in given) + (sum_by (λ (n : ℕ). number_bytes) (each_of percent_in given) + sum_by notice_bytes (each_of notice_in given))) ≤ sum_by weight given
+-- the bytes of a path that was given, of templates and excluded names, and of all thresholds
+pub all_weights : (given : List Given) → option_map_or path_bytes (one path_in given) 0 + (option_map_or text_bytes (one template_in given) 0 + (option_map_or text_bytes (one source_in given) 0 + (sum_by text_bytes (each_of exclusion_in given) + (sum_by (λ (n : ℕ). number_bytes) (each_of removal_in given) + (sum_by (λ (n : ℕ). number_bytes) (each_of percent_in given) + sum_by notice_bytes (each_of notice_in given)))))) ≤ sum_by weight given
 all_weights [] = omega arith
 all_weights (PathIs path ∷ given) = omega (arith, all_weights given, sum_by-cons weight (PathIs path) given)
-all_weights (LimitIs limit ∷ given) = omega (arith, all_weights given, sum_by-cons weight (LimitIs limit) given)
-all_weights (TypeIs enforce ∷ given) = omega (arith, all_weights given, sum_by-cons weight (TypeIs enforce) given)
-all_weights (StatusIs enabled ∷ given) = omega (arith, all_weights given, sum_by-cons weight (StatusIs enabled) given)
 all_weights (RemovalIs percent ∷ given) = omega (arith, all_weights given, sum_by-cons weight (RemovalIs percent) given, sum_by-cons (λ (n : ℕ). number_bytes) percent (each_of removal_in given))
 all_weights (PercentIs percent ∷ given) = omega (arith, all_weights given, sum_by-cons weight (PercentIs percent) given, sum_by-cons (λ (n : ℕ). number_bytes) percent (each_of percent_in given))
 all_weights (NoticeIs notice ∷ given) = omega (arith, all_weights given, sum_by-cons weight (NoticeIs notice) given, sum_by-cons notice_bytes notice (each_of notice_in given))
+all_weights (TemplateIs name ∷ given) = omega (arith, all_weights given, sum_by-cons weight (TemplateIs name) given)
+all_weights (SourceIs name ∷ given) = omega (arith, all_weights given, sum_by-cons weight (SourceIs name) given)
+all_weights (ExclusionIs name ∷ given) = omega (arith, all_weights given, sum_by-cons weight (ExclusionIs name) given, sum_by-cons text_bytes name (each_of exclusion_in given))
 all_weights (other ∷ given) = omega (arith, all_weights given, sum_by-cons weight other given)
 
 -- a command's path, and the bytes that are left for its thresholds
 pub record HasPath (L : ℕ) (given : List Given) (path : Path) : Type 0 where
   pub named : is_path path ≡ true
-  pub bytes : path_bytes path + (sum_by (λ (n : ℕ). number_bytes) (each_of removal_in given) + (sum_by (λ (n : ℕ). number_bytes) (each_of percent_in given) + sum_by notice_bytes (each_of notice_in given))) ≤ L
+  pub bytes : path_bytes path + (option_map_or text_bytes (one source_in given) 0 + (sum_by text_bytes (each_of exclusion_in given) + (sum_by (λ (n : ℕ). number_bytes) (each_of removal_in given) + (sum_by (λ (n : ℕ). number_bytes) (each_of percent_in given) + sum_by notice_bytes (each_of notice_in given))))) ≤ L
 
 pub has_path : (L : ℕ) (given : List Given) (path : Path) → AreSound L given → one path_in given ≡ Some path → HasPath L given path
 has_path L given path s e =
@@ -260,6 +278,46 @@ has_path L given path s e =
 
 pub given_path : (L : ℕ) (given : List Given) (path : Path) → AreSound L given → one path_in given ≡ Some path → IsSoundPath L path
 given_path L given path s e = let p = has_path L given path s e in record { named = p.named; bytes = omega (arith, p.bytes) }
+
+pub given_limit : (L : ℕ) (given : List Given) (limit : ℕ) → AreSound L given → one limit_in given ≡ Some limit → is_limit limit ≡ true
+given_limit L given limit s e = one_sound (λ (n : ℕ). is_limit n ≡ true) limit_in by given limit s.each e
+  where
+    by : (g : Given) (limit : ℕ) → IsSoundGiven g → limit_in g ≡ Some limit → is_limit limit ≡ true
+    by (LimitIs own) limit s e = let same : own ≡ limit = cc e in subst (λ (n : ℕ). is_limit n ≡ true) same s
+    by other limit s e = absurd (cc e)
+
+pub given_removals : (given : List Given) → AllByRecursion IsSoundGiven given → list_all is_percent (each_of removal_in given) ≡ true
+given_removals given s = each_of_sound is_percent removal_in by given s
+  where
+    by : (g : Given) (percent : ℕ) → IsSoundGiven g → removal_in g ≡ Some percent → is_percent percent ≡ true
+    by (RemovalIs own) percent s e = let same : own ≡ percent = cc e in subst (λ (n : ℕ). is_percent n ≡ true) same s
+    by other percent s e = absurd (cc e)
+
+pub given_percents : (given : List Given) → AllByRecursion IsSoundGiven given → list_all is_percent (each_of percent_in given) ≡ true
+given_percents given s = each_of_sound is_percent percent_in by given s
+  where
+    by : (g : Given) (percent : ℕ) → IsSoundGiven g → percent_in g ≡ Some percent → is_percent percent ≡ true
+    by (PercentIs own) percent s e = let same : own ≡ percent = cc e in subst (λ (n : ℕ). is_percent n ≡ true) same s
+    by other percent s e = absurd (cc e)
+
+pub given_notices : (given : List Given) → AllByRecursion IsSoundGiven given → list_all is_notice (each_of notice_in given) ≡ true
+given_notices given s = each_of_sound is_notice notice_in by given s
+  where
+    by : (g : Given) (notice : Added) → IsSoundGiven g → notice_in g ≡ Some notice → is_notice notice ≡ true
+    by (NoticeIs own) notice s e = let same : own ≡ notice = cc e in subst (λ (n : Added). is_notice n ≡ true) same s
+    by other notice s e = absurd (cc e)
+
+-- a limit that may be left out
+pub limit_or : (L : ℕ) (given : List Given) (o : Option ℕ) → AreSound L given → one limit_in given ≡ o → option_map_or is_limit o true ≡ true
+limit_or L given None s e = refl
+limit_or L given (Some limit) s e = given_limit L given limit s e
+
+pub given_source : (given : List Given) (name : List ℕ) → AllByRecursion IsSoundGiven given → one source_in given ≡ Some name → is_object_name name ≡ true
+given_source given name s e = one_sound (λ (name : List ℕ). is_object_name name ≡ true) source_in by given name s e
+  where
+    by : (g : Given) (name : List ℕ) → IsSoundGiven g → source_in g ≡ Some name → is_object_name name ≡ true
+    by (SourceIs own) name s e = let same : own ≡ name = cc e in subst (λ (n : List ℕ). is_object_name n ≡ true) same s
+    by other name s e = absurd (cc e)
 
 -- an option that is required is there
 pub needed : {X : Type 0} (value : Given → Option X) (given : List Given) (deed : X → Option Deed) (d : Deed) → needs value given deed ≡ Some d → (x : X) × (one value given ≡ Some x) × (deed x ≡ Some d)

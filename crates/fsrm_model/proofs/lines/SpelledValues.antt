@@ -1,30 +1,31 @@
 -- A line spells only valid commands: their values have their forms and ranges, and an entry has few more bytes than the line.
-use Rattle.std.proofs.Common.{◌≡◌, ℕ, ◌+◌, ◌≤◌, List, [], ◌∷◌, ◌++◌, true, length, refl, sym, ap, subst, inl, inr, arith}
-use Rattle.std.specs.Prelude.{◌&&◌, codes, sum_by, nat_le, unwrap_or, Option, Some, None, option_map}
+use Rattle.std.proofs.Common.{◌≡◌, ℕ, ◌+◌, ◌≤◌, List, [], ◌∷◌, ◌++◌, Bool, true, false, length, refl, sym, ap, subst, inl, inr, arith}
+use Rattle.std.specs.Prelude.{◌&&◌, ◌||◌, is_some, if◌then◌else◌, codes, sum_by, nat_le, unwrap_or, Option, Some, None, option_map}
 use Rattle.std.specs.List.{AllByRecursion, list_all}
 use Rattle.std.specs.Option.{option_map_or}
 use Rattle.std.proofs.lemmas.Bool.{le-leb}
 use Rattle.std.proofs.lemmas.List.{length-append}
 use Rattle.std.proofs.lemmas.List.Sums.{sum_by-cons}
-use Rattle.fsrm_model.specs.declared.command.Added.{Added}
 use Rattle.fsrm_model.specs.declared.command.Command.{Command}
 use Rattle.fsrm_model.specs.declared.command.Deed.{Deed}
 use Rattle.fsrm_model.specs.declared.command.Deed.TheVariants.{File, Usage, Step, QuotaAdd, QuotaModify, QuotaDelete, QuotaScan, QuotaResetpeak, QuotaList, AdminOptions, AdminList, AdminLog}
 use Rattle.fsrm_model.specs.declared.command.FileOp.TheVariants.{Mkdir, Create, Resize, Touch, Move, Remove}
 use Rattle.fsrm_model.specs.Commands.{paths, is_owner, is_length, kind, more_bytes}
-use Rattle.fsrm_model.specs.Entry.{number_bytes, choice_bytes, path_bytes}
+use Rattle.fsrm_model.specs.Entry.{number_bytes, choice_bytes, text_bytes, path_bytes, optional}
 use Rattle.fsrm_model.specs.Limits.{latest_moment, longest_line, longest_file, longest_entry, last_owner, most_visits, most_minutes}
-use Rattle.fsrm_model.specs.Options.{Given, LimitIs, RemovalIs, PercentIs, NoticeIs, RunLimitIs, path_in, limit_in, type_in, status_in, removal_in, percent_in, notice_in, run_limit_in, one, each_of}
+use Rattle.fsrm_model.specs.Options.{Given, RunLimitIs, path_in, limit_in, type_in, status_in, removal_in, percent_in, notice_in, run_limit_in, one, each_of, source_in}
+use Rattle.fsrm_model.specs.Patterns.{is_object_name}
 use Rattle.fsrm_model.specs.Quota.{is_limit}
 use Rattle.fsrm_model.specs.Spelling.{Piece, Plain, Quoted, spelled_pieces, text_of_pieces, SpellsWords, SpellsTool, SpellsPlaced, SpellsDeed, Spells}
-use Rattle.fsrm_model.specs.Tools.{Names, ToolCommand, needs, quota_add, quota_modify, quota_list, quota_commands, admin_options, admin_commands, dirquota, tools}
+use Rattle.fsrm_model.specs.Tools.{Names, ToolCommand, quota_add, quota_modify, quota_list, quota_commands, has_limit, admin_options, admin_commands, dirquota, tools}
 use Rattle.fsrm_model.specs.Thresholds.{is_percent, is_notice}
 use Rattle.fsrm_model.specs.Valued.{is_path, is_deed, is_short, is_command}
 use Rattle.fsrm_model.specs.Valid.{is_moment}
 use Rattle.fsrm_model.proofs.lines.CommandLaws.{named_each}
 use Rattle.fsrm_base.proofs.TestLaws.{both_true}
-use Rattle.fsrm_model.proofs.lines.SpelledOptions.{Path, IsSound, path_sound, within, one_true, alone, IsSoundGiven, AreSound, each_sound, one_sound, each_of_sound, has_path, given_path, needed, IsSoundCommand, path_sound_command, alone_sound, optional_fits, AreSoundCommands}
+use Rattle.fsrm_model.proofs.lines.SpelledOptions.{Path, IsSound, path_sound, within, one_true, alone, IsSoundGiven, AreSound, each_sound, one_sound, has_path, given_path, given_limit, given_removals, given_percents, given_notices, limit_or, given_source, needed, IsSoundCommand, path_sound_command, alone_sound, optional_fits, AreSoundCommands}
 use Rattle.fsrm_model.proofs.lines.SpelledScreens.{filescrn_sound}
+use Rattle.fsrm_model.proofs.lines.SpelledTemplates.{template_commands_sound, auto_commands_sound}
 
 -- A word has no more bytes than are spelled for it, and so the words of a line no more than the line
 pieces_fit : (pieces : List Piece) → length (text_of_pieces pieces) ≤ length (spelled_pieces pieces)
@@ -73,13 +74,6 @@ placed_sound words (Usage path) s =
 placed_sound words (Step n) s = record { valued = within 1 most_visits s.1 n s.4; bytes = omega arith }
 placed_sound words other s = absurd s
 
-given_limit : (L : ℕ) (given : List Given) (limit : ℕ) → AreSound L given → one limit_in given ≡ Some limit → is_limit limit ≡ true
-given_limit L given limit s e = one_sound (λ (n : ℕ). is_limit n ≡ true) limit_in by given limit s.each e
-  where
-    by : (g : Given) (limit : ℕ) → IsSoundGiven g → limit_in g ≡ Some limit → is_limit limit ≡ true
-    by (LimitIs own) limit s e = let same : own ≡ limit = cc e in subst (λ (n : ℕ). is_limit n ≡ true) same s
-    by other limit s e = absurd (cc e)
-
 given_run_limit : (L : ℕ) (given : List Given) (minutes : ℕ) → AreSound L given → one run_limit_in given ≡ Some minutes → nat_le minutes most_minutes ≡ true
 given_run_limit L given minutes s e = one_sound (λ (n : ℕ). nat_le n most_minutes ≡ true) run_limit_in by given minutes s.each e
   where
@@ -87,48 +81,44 @@ given_run_limit L given minutes s e = one_sound (λ (n : ℕ). nat_le n most_min
     by (RunLimitIs own) minutes s e = let same : own ≡ minutes = cc e in subst (λ (n : ℕ). nat_le n most_minutes ≡ true) same s
     by other minutes s e = absurd (cc e)
 
-given_removals : (given : List Given) → AllByRecursion IsSoundGiven given → list_all is_percent (each_of removal_in given) ≡ true
-given_removals given s = each_of_sound is_percent removal_in by given s
-  where
-    by : (g : Given) (percent : ℕ) → IsSoundGiven g → removal_in g ≡ Some percent → is_percent percent ≡ true
-    by (RemovalIs own) percent s e = let same : own ≡ percent = cc e in subst (λ (n : ℕ). is_percent n ≡ true) same s
-    by other percent s e = absurd (cc e)
+source_or : (given : List Given) (o : Option (List ℕ)) → AllByRecursion IsSoundGiven given → one source_in given ≡ o → option_map_or is_object_name o true ≡ true
+source_or given None s e = refl
+source_or given (Some name) s e = given_source given name s e
 
-given_percents : (given : List Given) → AllByRecursion IsSoundGiven given → list_all is_percent (each_of percent_in given) ≡ true
-given_percents given s = each_of_sound is_percent percent_in by given s
-  where
-    by : (g : Given) (percent : ℕ) → IsSoundGiven g → percent_in g ≡ Some percent → is_percent percent ≡ true
-    by (PercentIs own) percent s e = let same : own ≡ percent = cc e in subst (λ (n : ℕ). is_percent n ≡ true) same s
-    by other percent s e = absurd (cc e)
+source_fits : (o : Option (List ℕ)) → optional text_bytes o ≤ 1 + option_map_or text_bytes o 0
+source_fits None = omega arith
+source_fits (Some name) = omega arith
 
-given_notices : (given : List Given) → AllByRecursion IsSoundGiven given → list_all is_notice (each_of notice_in given) ≡ true
-given_notices given s = each_of_sound is_notice notice_in by given s
-  where
-    by : (g : Given) (notice : Added) → IsSoundGiven g → notice_in g ≡ Some notice → is_notice notice ≡ true
-    by (NoticeIs own) notice s e = let same : own ≡ notice = cc e in subst (λ (n : Added). is_notice n ≡ true) same s
-    by other notice s e = absurd (cc e)
+-- a limit that may be left out where a template is given
+limit_or_source : (L : ℕ) (given : List Given) (o : Option ℕ) (source : Option (List ℕ)) → AreSound L given → one limit_in given ≡ o → (is_some o || is_some source) ≡ true → option_map_or is_limit o (is_some source) ≡ true
+limit_or_source L given None source s e h = h
+limit_or_source L given (Some limit) source s e h = given_limit L given limit s e
 
--- a limit that may be left out
-limit_or : (L : ℕ) (given : List Given) (o : Option ℕ) → AreSound L given → one limit_in given ≡ o → option_map_or is_limit o true ≡ true
-limit_or L given None s e = refl
-limit_or L given (Some limit) s e = given_limit L given limit s e
+chosen : (test : Bool) (o : Option Deed) (d : Deed) → (if test then o else None) ≡ Some d → (test ≡ true) × (o ≡ Some d)
+chosen true o d h = (refl, h)
+chosen false o d h = absurd (cc h)
 
 add_sound : IsSoundCommand (codes "add", quota_add)
 add_sound =
     record {
       sound = λ L given d s h.
+          let limit = one limit_in given in
+          let source = one source_in given in
           let percents = each_of percent_in given in
           let notices = each_of notice_in given in
-          let make : Path → ℕ → Deed = λ path limit. QuotaAdd path (Some limit) (one type_in given) (unwrap_or (one status_in given) true) None percents notices in
-          let path = needed path_in given (λ path. needs limit_in given (λ limit. Some (make path limit))) d h in
-          let limit = needed limit_in given (λ limit. Some (make path.0 limit)) d path.2 in
-          let made : make path.0 limit.0 ≡ d = cc limit.2 in
+          let make : Path → Deed = λ path. QuotaAdd path limit (one type_in given) (unwrap_or (one status_in given) true) source percents notices in
+          let path = needed path_in given (λ path. if has_limit given then Some (make path) else None) d h in
+          let picked = chosen (has_limit given) (Some (make path.0)) d path.2 in
+          let made : make path.0 ≡ d = cc picked.1 in
           let p = has_path L given path.0 s path.1 in
+          let size = option_map_or is_limit limit (is_some source) in
+          let named = option_map_or is_object_name source true in
+          let marks = list_all is_percent percents && list_all is_notice notices in
           subst (IsSound L) made (record {
-            valued = both_true (is_path path.0 && true) (is_limit limit.0 && (list_all is_percent percents && list_all is_notice notices)) (one_true (is_path path.0) p.named)
-                (both_true (is_limit limit.0) (list_all is_percent percents && list_all is_notice notices) (given_limit L given limit.0 s limit.1)
+            valued = both_true (is_path path.0 && true) ((size && named) && marks) (one_true (is_path path.0) p.named)
+                (both_true (size && named) marks (both_true size named (limit_or_source L given limit source s refl picked.0) (source_or given source s.each refl))
                 (both_true (list_all is_percent percents) (list_all is_notice notices) (given_percents given s.each) (given_notices given s.each)));
-            bytes = omega (arith, p.bytes, optional_fits choice_bytes (one type_in given));
+            bytes = omega (arith, p.bytes, optional_fits number_bytes limit, optional_fits choice_bytes (one type_in given), source_fits source);
           });
     }
 
@@ -197,7 +187,7 @@ abbrev IsSoundTool : List ℕ × Names (Names ToolCommand) → Type 0
 IsSoundTool tool = AllByRecursion AreSoundCommands tool.1
 
 dirquota_sound : AllByRecursion AreSoundCommands dirquota
-dirquota_sound = (quota_commands_sound, (admin_commands_sound, tt))
+dirquota_sound = (quota_commands_sound, (template_commands_sound, (auto_commands_sound, (admin_commands_sound, tt))))
 
 tools_sound : AllByRecursion IsSoundTool tools
 tools_sound = (dirquota_sound, (filescrn_sound, tt))
@@ -212,7 +202,7 @@ tool_sound words d s =
     let first = sum_by-cons length s.tool (s.object ∷ s.command ∷ s.rest) in
     let second = sum_by-cons length s.object (s.command ∷ s.rest) in
     let third = sum_by-cons length s.command s.rest in
-    let given = each_sound L s.own.keys s.rest s.given s.options_are.each (omega (arith, size, first, second, third)) in
+    let given = each_sound L s.own.keys s.rest s.given s.options_are.each (omega (arith, size, first, second, third)) s.options_are.few in
     command.2.sound L s.given d given s.deed_is
 
 deed_sound : (words : List (List ℕ)) (d : Deed) → SpellsDeed words d → IsSound (sum_by length words) d

@@ -134,7 +134,7 @@ reported_by R op folder (Some j) e free h =
 
 unblocked : (K : Capacity) (R : Rows) (op : FileOp) (after : Rows) → first (file_checks K R op after) ≡ None → blocked (judged_name R op) ≡ None
 unblocked K R (Create path length owner) after h = let all = all_none (file_checks K R (Create path length owner) after) h in all.1.1.1.1.1.0
-unblocked K R (Move from to) after h = let all = all_none (file_checks K R (Move from to) after) h in all.1.1.1.1.1.1.1.0
+unblocked K R (Move from to) after h = let all = all_none (file_checks K R (Move from to) after) h in all.1.1.1.1.1.1.1.1.1.0
 unblocked K R (Mkdir path owner) after h = refl
 unblocked K R (Resize path length) after h = refl
 unblocked K R (Touch path) after h = refl

@@ -84,11 +84,19 @@ quotas-without nodes quotas n a =
     let old = without_found n f quotas q found in
     (a.folders f q old, quota_at nodes quotas f q a old))
 
--- with peaks that rose
 mapped : (g : QuotaRow → QuotaRow) (o : Option QuotaRow) (q : QuotaRow) → option_map g o ≡ Some q → (r : QuotaRow) × (o ≡ Some r) × (g r ≡ q)
 mapped g None q h = absurd (cc h)
 mapped g (Some r) q h = (r, refl, same_Some (g r) q h)
 
+-- each changed, but on its folder
+pub quotas-map : (nodes : List NodeRow) (quotas : List QuotaRow) (g : QuotaRow → QuotaRow) → AreQuotas nodes quotas → ((q : QuotaRow) → folder_of (g q) ≡ folder_of q) → ((q : QuotaRow) → IsQuota q → IsQuota (g q)) → AreQuotas nodes (map g quotas)
+quotas-map nodes quotas g a keeps is =
+    quotas_of nodes (map g quotas) (ascending-map folder_of g keeps quotas a.ascending) (let few = a.few in omega (arith, few, length-map quotas g)) (λ f q found.
+    let finds = find-map (λ q. folder_of q == f) g (λ q. ap (λ n. n == f) (keeps q)) quotas in
+    let was = mapped g (row_of folder_of f quotas) q (sym finds ∙ found) in
+    (a.folders f was.0 was.1, subst IsQuota was.2 (is was.0 (quota_at nodes quotas f was.0 a was.1))))
+
+-- with peaks that rose
 peaked_is : (K : Capacity) (nodes : List NodeRow) (m : ℕ) (q : QuotaRow) → is_moment m ≡ true → IsQuota q → IsQuota (peaked K nodes m q)
 peaked_is K nodes m q late is = at (counts q && nat_lt q.peak (usage K nodes q.folder))
   where
@@ -97,19 +105,13 @@ peaked_is K nodes m q late is = at (counts q && nat_lt q.peak (usage K nodes q.f
     at false = is
 
 pub quotas-peaked : (K : Capacity) (nodes : List NodeRow) (quotas : List QuotaRow) (m : ℕ) → AreQuotas nodes quotas → is_moment m ≡ true → AreQuotas nodes (map (peaked K nodes m) quotas)
-quotas-peaked K nodes quotas m a late =
-    quotas_of nodes (map (peaked K nodes m) quotas) (ascending-map folder_of (peaked K nodes m) (peaked_folder K nodes m) quotas a.ascending) (let few = a.few in omega (arith, length-map quotas (peaked K nodes m))) (λ f q found.
-    let finds = find-map (λ q. folder_of q == f) (peaked K nodes m) (λ q. ap (λ n. n == f) (peaked_folder K nodes m q)) quotas in
-    let was = mapped (peaked K nodes m) (row_of folder_of f quotas) q (sym finds ∙ found) in
-    (a.folders f was.0 was.1, subst IsQuota was.2 (peaked_is K nodes m was.0 late (quota_at nodes quotas f was.0 a was.1))))
+quotas-peaked K nodes quotas m a late = quotas-map nodes quotas (peaked K nodes m) a (peaked_folder K nodes m) (λ q is. peaked_is K nodes m q late is)
 
 -- whose actions ran
 pub quotas-ran : (nodes : List NodeRow) (quotas : List QuotaRow) (m : ℕ) (acts : List Act) → AreQuotas nodes quotas → m ≤ latest_moment → AreQuotas nodes (map (run_quota m acts) quotas)
 quotas-ran nodes quotas m acts a late =
-    quotas_of nodes (map (run_quota m acts) quotas) (ascending-map folder_of (run_quota m acts) (λ q. refl) quotas a.ascending) (let few = a.few in omega (arith, length-map quotas (run_quota m acts))) (λ f q found.
-    let was = mapped (run_quota m acts) (row_of folder_of f quotas) q (sym (find-map (λ q. folder_of q == f) (run_quota m acts) (λ q. refl) quotas) ∙ found) in
-    let is = quota_at nodes quotas f was.0 a was.1 in
-    (a.folders f was.0 was.1, subst IsQuota was.2 (record { limit = is.limit; thresholds = thresholds_run m acts was.0.folder was.0.thresholds late is.thresholds; moment = is.moment })))
+    quotas-map nodes quotas (run_quota m acts) a (λ q. refl) (λ q is.
+    record { limit = is.limit; thresholds = thresholds_run m acts q.folder q.thresholds late is.thresholds; moment = is.moment })
 
 -- on folders that are kept
 pub quotas_stay : (nodes new : List NodeRow) (quotas : List QuotaRow) → AreQuotas nodes quotas → ((f : ℕ) (q : QuotaRow) → row_of folder_of f quotas ≡ Some q → is_folder nodes f ≡ true → is_folder new f ≡ true) → AreQuotas new quotas

@@ -1,11 +1,12 @@
 -- Rows stay those of a store if their nodes, quotas and scans do: over what a command makes of them, and over its end.
-use Rattle.std.proofs.Common.{◌≡◌, ℕ, zero, suc, ◌≤◌, ◌==◌, Bool, true, false, cond, not, ◌||◌, ◌&&◌, List, [], ◌∷◌, ◌++◌, length, refl, sym, ◌∙◌, ap, subst, arith, Some, None, Option, nat_le}
+use Rattle.std.proofs.Common.{◌≡◌, ℕ, zero, suc, ◌≤◌, ◌==◌, Bool, true, false, cond, ◌||◌, ◌&&◌, List, [], ◌∷◌, ◌++◌, length, refl, sym, ◌∙◌, ap, subst, arith, Some, None, Option, nat_le}
 use Rattle.std.proofs.lemmas.List.Folds.{list_all-append}
 use Rattle.std.specs.Prelude.{map, sum_by, nat_lt, if◌then◌else◌}
 use Rattle.std.specs.List.{list_all}
 use Rattle.std.specs.Option.{option_map_or}
 use Rattle.fsrm_model.specs.declared.command.Act.{Act}
 use Rattle.fsrm_model.specs.declared.row.AuditRow.{AuditRow}
+use Rattle.fsrm_model.specs.declared.row.AutoRow.{AutoRow}
 use Rattle.fsrm_model.specs.declared.row.Capacity.{Capacity}
 use Rattle.fsrm_model.specs.declared.row.ExceptRow.{ExceptRow}
 use Rattle.fsrm_model.specs.declared.row.GroupRow.{GroupRow}
@@ -13,7 +14,8 @@ use Rattle.fsrm_model.specs.declared.row.NodeRow.{NodeRow}
 use Rattle.fsrm_model.specs.declared.row.QuotaRow.{QuotaRow}
 use Rattle.fsrm_model.specs.declared.row.Rows.{Rows}
 use Rattle.fsrm_model.specs.declared.row.ScreenRow.{ScreenRow}
-use Rattle.fsrm_base.specs.Keyed.{has_row, with_row, with_change, without_row}
+use Rattle.fsrm_model.specs.declared.row.TemplateRow.{TemplateRow}
+use Rattle.fsrm_base.specs.Keyed.{has_row}
 use Rattle.fsrm_model.specs.Audits.{audit_of, with_audit, audited}
 use Rattle.fsrm_model.specs.Limits.{latest_moment, most_entries, most_minutes, most_text_bytes}
 use Rattle.fsrm_model.specs.Name.{is_name}
@@ -25,7 +27,7 @@ use Rattle.fsrm_model.specs.Scan.{AreUnvisited, folders_under, visits}
 use Rattle.fsrm_model.specs.Screens.{screen_folder}
 use Rattle.fsrm_model.specs.Texts.{action_bytes, quota_bytes, object_texts}
 use Rattle.fsrm_model.specs.Tree.{is_folder, usage}
-use Rattle.fsrm_model.specs.Valid.{is_moment, is_plain, is_audit, are_audits, are_groups, are_screens, are_excepts, IsVolume, AreQuotas, AreTables, IsValid}
+use Rattle.fsrm_model.specs.Valid.{is_moment, has_source, is_audit, are_audits, are_groups, are_screens, are_excepts, are_templates, are_autos, IsVolume, AreQuotas, AreTables, IsValid}
 use Rattle.fsrm_model.specs.ValidScans.{IsQueue, AreLeft}
 use Rattle.fsrm_model.specs.Work.{Judged}
 use Rattle.fsrm_base.proofs.Look.{has_found, found_key}
@@ -33,59 +35,27 @@ use Rattle.fsrm_model.proofs.valid.QueueKept.{queue_peaked, queue_mapped}
 use Rattle.fsrm_model.proofs.valid.QuotasKept.{quotas-peaked, quotas-ran}
 use Rattle.fsrm_model.proofs.thresholds.KeptLaws.{sum_by-same, same_texts, bytes_run, screen_bytes_run, all_dropped, log_run}
 use Rattle.fsrm_model.proofs.thresholds.RunLaws.{few_entries}
-use Rattle.fsrm_model.proofs.valid.ScreensKept.{FoldersStay, screens_stay, excepts_stay, screens-ran, screen_at}
+use Rattle.fsrm_model.proofs.valid.ScreensKept.{FoldersStay, all_map, screens_stay, excepts_stay, screens-ran, screen_at}
+use Rattle.fsrm_model.proofs.valid.TemplatesKept.{autos_stay}
 use Rattle.fsrm_base.proofs.TestLaws.{both, both_true, eq_is, eq_same, le_test}
 use Rattle.fsrm_model.proofs.valid.UnvisitedKept.{unvisited_begun, unvisited_visits}
 
--- so far no quota has a template
-pub plain-new : (quota : QuotaRow) (quotas : List QuotaRow) → is_plain quota ≡ true → list_all is_plain quotas ≡ true → list_all is_plain (with_row folder_of quota quotas) ≡ true
-plain-new quota [] is h = both_true (is_plain quota) true is refl
-plain-new quota (q ∷ quotas) is h =
-    let parts : (is_plain q ≡ true) × (list_all is_plain quotas ≡ true) = both _ _ h in
-    at (nat_lt (folder_of quota) (folder_of q)) parts.0 (plain-new quota quotas is parts.1)
+-- peaks that rise leave each quota its template
+source_peaked : (K : Capacity) (nodes : List NodeRow) (m : ℕ) (templates : List TemplateRow) (quota : QuotaRow) → has_source templates quota ≡ true → has_source templates (peaked K nodes m quota) ≡ true
+source_peaked K nodes m templates quota h = at (counts quota && nat_lt quota.peak (usage K nodes quota.folder))
   where
-    at : (b : Bool) → is_plain q ≡ true → list_all is_plain (with_row folder_of quota quotas) ≡ true → list_all is_plain (cond b (quota ∷ q ∷ quotas) (q ∷ with_row folder_of quota quotas)) ≡ true
-    at true own rest = both_true (is_plain quota) (list_all is_plain (q ∷ quotas)) is h
-    at false own rest = both_true (is_plain q) (list_all is_plain (with_row folder_of quota quotas)) own rest
-
-pub plain-map : (g : QuotaRow → QuotaRow) (quotas : List QuotaRow) → ((quota : QuotaRow) → is_plain quota ≡ true → is_plain (g quota) ≡ true) → list_all is_plain quotas ≡ true → list_all is_plain (map g quotas) ≡ true
-plain-map g [] k h = refl
-plain-map g (quota ∷ quotas) k h =
-    let parts : (is_plain quota ≡ true) × (list_all is_plain quotas ≡ true) = both _ _ h in
-    both_true (is_plain (g quota)) (list_all is_plain (map g quotas)) (k quota parts.0) (plain-map g quotas k parts.1)
-
-pub plain-change : (n : ℕ) (c : QuotaRow → QuotaRow) (quotas : List QuotaRow) → ((quota : QuotaRow) → is_plain quota ≡ true → is_plain (c quota) ≡ true) → list_all is_plain quotas ≡ true → list_all is_plain (with_change folder_of n c quotas) ≡ true
-plain-change n c quotas k h = plain-map (λ quota. if folder_of quota == n then c quota else quota) quotas (λ quota is. at quota (folder_of quota == n) is) h
-  where
-    at : (quota : QuotaRow) (b : Bool) → is_plain quota ≡ true → is_plain (cond b (c quota) quota) ≡ true
-    at quota true is = k quota is
-    at quota false is = is
-
-pub plain-without : (n : ℕ) (quotas : List QuotaRow) → list_all is_plain quotas ≡ true → list_all is_plain (without_row folder_of n quotas) ≡ true
-plain-without n [] h = refl
-plain-without n (quota ∷ quotas) h =
-    let parts : (is_plain quota ≡ true) × (list_all is_plain quotas ≡ true) = both _ _ h in
-    at (not (folder_of quota == n)) parts.0 (plain-without n quotas parts.1)
-  where
-    at : (b : Bool) → is_plain quota ≡ true → list_all is_plain (without_row folder_of n quotas) ≡ true → list_all is_plain (cond b (quota ∷ without_row folder_of n quotas) (without_row folder_of n quotas)) ≡ true
-    at true own rest = both_true (is_plain quota) (list_all is_plain (without_row folder_of n quotas)) own rest
-    at false own rest = rest
-
-plain_peaked : (K : Capacity) (nodes : List NodeRow) (m : ℕ) (quota : QuotaRow) → is_plain quota ≡ true → is_plain (peaked K nodes m quota) ≡ true
-plain_peaked K nodes m quota h = at (counts quota && nat_lt quota.peak (usage K nodes quota.folder))
-  where
-    at : (b : Bool) → is_plain (cond b (record quota { peak = usage K nodes quota.folder; peak_at = m }) quota) ≡ true
+    at : (b : Bool) → has_source templates (cond b (record quota { peak = usage K nodes quota.folder; peak_at = m }) quota) ≡ true
     at true = h
     at false = h
 
 -- other nodes that keep all folders, other quotas and scans, and another last moment
-pub valid_with : (K : Capacity) (R : Rows) (nodes : List NodeRow) (quotas : List QuotaRow) (queue unvisited : List ℕ) (last : ℕ) → IsValid K R → IsVolume K nodes → FoldersStay R.nodes nodes → AreQuotas nodes quotas → list_all is_plain quotas ≡ true → object_texts (record R { quotas = quotas }) ≤ most_text_bytes → IsQueue quotas queue → AreLeft nodes (head queue) unvisited → last ≤ latest_moment → IsValid K (record R { nodes = nodes; quotas = quotas; queue = queue; unvisited = unvisited; last_moment = last })
-valid_with K R nodes quotas queue unvisited last s volume folders are plain few waits left late =
+pub valid_with : (K : Capacity) (R : Rows) (nodes : List NodeRow) (quotas : List QuotaRow) (queue unvisited : List ℕ) (last : ℕ) → IsValid K R → IsVolume K nodes → FoldersStay R.nodes nodes → AreQuotas nodes quotas → list_all (has_source R.templates) quotas ≡ true → object_texts (record R { quotas = quotas }) ≤ most_text_bytes → IsQueue quotas queue → AreLeft nodes (head queue) unvisited → last ≤ latest_moment → IsValid K (record R { nodes = nodes; quotas = quotas; queue = queue; unvisited = unvisited; last_moment = last })
+valid_with K R nodes quotas queue unvisited last s volume folders are sources few waits left late =
     let E : Rows = record R { nodes = nodes; quotas = quotas; queue = queue; unvisited = unvisited; last_moment = last } in
     let t : AreTables E = record {
-      plain = plain;
+      sources = sources;
       templates = s.tables.templates;
-      autos = s.tables.autos;
+      autos = autos_stay R.nodes nodes R.templates R.templates R.autos folders (λ n h. h) s.tables.autos;
       jobs = s.tables.jobs;
       groups = s.tables.groups;
       screens = screens_stay R.nodes nodes R.groups R.groups R.excepts R.screens folders (λ n h. h) s.tables.screens;
@@ -140,15 +110,15 @@ left_visits k nodes None left a = ap (visits k nodes) a ∙ none_visited k nodes
 left_visits k nodes (Some n) left a = unvisited_visits k nodes n left a
 
 -- a command changes quotas and the queue
-pub quotas_followed : (K : Capacity) (R : Rows) (quotas : List QuotaRow) (queue : List ℕ) → IsValid K R → AreQuotas R.nodes quotas → list_all is_plain quotas ≡ true → object_texts (record R { quotas = quotas }) ≤ most_text_bytes → IsQueue quotas queue → IsValid K (followed R (record R { quotas = quotas; queue = queue }))
-quotas_followed K R quotas queue s are plain few waits =
-    valid_with K R R.nodes quotas queue (if same_head R.queue queue then R.unvisited else scan_begun R.nodes queue) R.last_moment s s.volume (all_stay R.nodes) are plain few waits
+pub quotas_followed : (K : Capacity) (R : Rows) (quotas : List QuotaRow) (queue : List ℕ) → IsValid K R → AreQuotas R.nodes quotas → list_all (has_source R.templates) quotas ≡ true → object_texts (record R { quotas = quotas }) ≤ most_text_bytes → IsQueue quotas queue → IsValid K (followed R (record R { quotas = quotas; queue = queue }))
+quotas_followed K R quotas queue s are sources few waits =
+    valid_with K R R.nodes quotas queue (if same_head R.queue queue then R.unvisited else scan_begun R.nodes queue) R.last_moment s s.volume (all_stay R.nodes) are sources few waits
     (left_followed K R.nodes R.queue queue R.unvisited s.volume (λ same. subst (λ (o : Option ℕ). AreLeft R.nodes o R.unvisited) (same_heads R.queue queue same) s.unvisited))
     s.last_moment
 
 -- or nothing
 pub nothing_followed : (K : Capacity) (R : Rows) → IsValid K R → IsValid K (followed R R)
-nothing_followed K R s = quotas_followed K R R.quotas R.queue s s.quotas s.tables.plain s.texts s.queue
+nothing_followed K R s = quotas_followed K R R.quotas R.queue s s.quotas s.tables.sources s.texts s.queue
 
 -- peaks that are raised, and another last moment
 peaked_bytes : (K : Capacity) (nodes : List NodeRow) (m : ℕ) (quota : QuotaRow) → quota_bytes (peaked K nodes m quota) ≡ quota_bytes quota
@@ -162,7 +132,7 @@ pub valid_peaked : (K : Capacity) (R : Rows) (moment : ℕ) → IsValid K R → 
 valid_peaked K R moment s late =
     valid_with K R R.nodes (peaks K R moment).quotas R.queue R.unvisited moment s s.volume (all_stay R.nodes)
     (quotas-peaked K R.nodes R.quotas moment s.quotas (le_test moment latest_moment late))
-    (plain-map (peaked K R.nodes moment) R.quotas (plain_peaked K R.nodes moment) s.tables.plain)
+    (all_map (has_source R.templates) (peaked K R.nodes moment) R.quotas (source_peaked K R.nodes moment R.templates) s.tables.sources)
     (same_texts R (peaks K R moment).quotas (sum_by-same quota_bytes (peaked K R.nodes moment) (peaked_bytes K R.nodes moment) R.quotas) s.texts)
     (queue_peaked K R.nodes moment R.quotas R.queue s.queue) s.unvisited late
 
@@ -180,7 +150,7 @@ valid_ran K R moment acts s late =
       volume = s.volume;
       quotas = quotas-ran R.nodes R.quotas moment acts s.quotas late;
       tables = record {
-        plain = plain-map (run_quota moment acts) R.quotas (λ q is. is) s.tables.plain;
+        sources = all_map (has_source R.templates) (run_quota moment acts) R.quotas (λ q is. is) s.tables.sources;
         templates = s.tables.templates;
         autos = s.tables.autos;
         jobs = s.tables.jobs;
@@ -211,7 +181,7 @@ valid_audited K R moment j s late named =
       volume = s.volume;
       quotas = s.quotas;
       tables = record {
-        plain = s.tables.plain;
+        sources = s.tables.sources;
         templates = s.tables.templates;
         autos = s.tables.autos;
         jobs = s.tables.jobs;
@@ -240,7 +210,7 @@ run_limit_followed K R minutes s few =
       volume = v.volume;
       quotas = v.quotas;
       tables = record {
-        plain = v.tables.plain;
+        sources = v.tables.sources;
         templates = v.tables.templates;
         autos = v.tables.autos;
         jobs = v.tables.jobs;
@@ -265,7 +235,7 @@ screens_followed K R groups screens excepts s are barred lifted few =
       volume = v.volume;
       quotas = v.quotas;
       tables = record {
-        plain = v.tables.plain;
+        sources = v.tables.sources;
         templates = v.tables.templates;
         autos = v.tables.autos;
         jobs = v.tables.jobs;
@@ -282,6 +252,30 @@ screens_followed K R groups screens excepts s are barred lifted few =
       unvisited = v.unvisited;
     }
 
+-- other templates, auto-apply quotas, quotas and scans
+pub templates_followed : (K : Capacity) (R : Rows) (templates : List TemplateRow) (autos : List AutoRow) (quotas : List QuotaRow) (queue : List ℕ) → IsValid K R → are_templates templates ≡ true → are_autos R.nodes templates autos ≡ true → AreQuotas R.nodes quotas → list_all (has_source templates) quotas ≡ true → object_texts (record R { templates = templates; autos = autos; quotas = quotas }) ≤ most_text_bytes → IsQueue quotas queue → IsValid K (followed R (record R { templates = templates; autos = autos; quotas = quotas; queue = queue }))
+templates_followed K R templates autos quotas queue s named ruled are sources few waits =
+    record {
+      volume = s.volume;
+      quotas = are;
+      tables = record {
+        sources = sources;
+        templates = named;
+        autos = ruled;
+        jobs = s.tables.jobs;
+        groups = s.tables.groups;
+        screens = s.tables.screens;
+        excepts = s.tables.excepts;
+        audits = s.tables.audits;
+      };
+      texts = few;
+      log = s.log;
+      run_limit = s.run_limit;
+      last_moment = s.last_moment;
+      queue = waits;
+      unvisited = left_followed K R.nodes R.queue queue R.unvisited s.volume (λ same. subst (λ (o : Option ℕ). AreLeft R.nodes o R.unvisited) (same_heads R.queue queue same) s.unvisited);
+    }
+
 -- the folder of a screen
 pub screens_folder : (R : Rows) (folder : ℕ) → are_screens R.nodes R.groups R.excepts R.screens ≡ true → has_row screen_folder folder R.screens ≡ true → is_folder R.nodes folder ≡ true
 screens_folder R folder h there =
@@ -291,12 +285,12 @@ screens_folder R folder h there =
 
 -- another last moment alone
 pub valid_at : (K : Capacity) (R : Rows) (moment : ℕ) → IsValid K R → moment ≤ latest_moment → IsValid K (record R { last_moment = moment })
-valid_at K R moment s late = valid_with K R R.nodes R.quotas R.queue R.unvisited moment s s.volume (all_stay R.nodes) s.quotas s.tables.plain s.texts s.queue s.unvisited late
+valid_at K R moment s late = valid_with K R R.nodes R.quotas R.queue R.unvisited moment s s.volume (all_stay R.nodes) s.quotas s.tables.sources s.texts s.queue s.unvisited late
 
 -- visits alone
 pub valid_visited : (K : Capacity) (R : Rows) (n : ℕ) → IsValid K R → IsValid K (record R { unvisited = visits n R.nodes R.unvisited })
 valid_visited K R n s =
-    valid_with K R R.nodes R.quotas R.queue (visits n R.nodes R.unvisited) R.last_moment s s.volume (all_stay R.nodes) s.quotas s.tables.plain s.texts s.queue
+    valid_with K R R.nodes R.quotas R.queue (visits n R.nodes R.unvisited) R.last_moment s s.volume (all_stay R.nodes) s.quotas s.tables.sources s.texts s.queue
     (left_visits n R.nodes (head R.queue) R.unvisited s.unvisited) s.last_moment
 
 -- the folder of the active scan

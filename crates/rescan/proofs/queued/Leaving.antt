@@ -1,18 +1,17 @@
 -- What has no child may go.
-use Rattle.std.proofs.Common.{◌≡◌, ℕ, ◌==◌, Bool, true, false, cond, not, ◌||◌, ◌&&◌, List, [], ◌∷◌, length, refl, sym, ◌∙◌, ap, subst, inl, inr, arith}
+use Rattle.std.proofs.Common.{◌≡◌, ℕ, ◌==◌, Bool, true, false, cond, not, ◌||◌, List, [], ◌∷◌, length, refl, sym, ◌∙◌, ap, subst, inl, inr, arith}
 use Rattle.std.specs.List.{list_any}
 use Rattle.std.specs.Option.{option_map_or}
 use Rattle.fsrm_model.specs.declared.row.Capacity.{Capacity}
 use Rattle.fsrm_model.specs.declared.row.NodeRow.{NodeRow}
 use Rattle.fsrm_base.specs.Keyed.{has_row, without_row}
 use Rattle.fsrm_model.specs.Tree.{number, is_folder, is_child, children}
-use Rattle.fsrm_model.specs.Valid.{IsVolume, is_root_node}
-use Rattle.fsrm_model.proofs.nodes.Keeps.{volume-removed, found_folder}
+use Rattle.fsrm_model.specs.Valid.{IsVolume}
+use Rattle.fsrm_model.proofs.nodes.Keeps.{volume-removed}
 use Rattle.fsrm_base.proofs.Look.{has_found, has_row-without, row_of-without}
 use Rattle.fsrm_base.proofs.Members.{none_passes, filter_none}
 use Rattle.fsrm_model.proofs.valid.ValidLaws.{folder_has}
-use Rattle.fsrm_base.proofs.TestLaws.{is_or_not, clash, not_true, both, eq_is, eq_turned}
-use Rattle.rescan.proofs.followed.FrontierLaws.{root_folder}
+use Rattle.fsrm_base.proofs.TestLaws.{is_or_not, clash, not_true, both, eq_is}
 
 -- a file has no child
 pub file_children : (K : Capacity) (nodes : List NodeRow) (n : ℕ) → IsVolume K nodes → is_folder nodes n ≡ false → length (children nodes n) ≡ 0

@@ -1,28 +1,20 @@
 -- A scan goes on if a node changes its length or a moment, and not its place.
-use Rattle.std.proofs.Common.{◌≡◌, ℕ, ◌≤◌, ◌==◌, Bool, true, false, cond, not, ◌||◌, ◌&&◌, List, [], ◌∷◌, length, refl, sym, ◌∙◌, ap, subst, inl, inr, arith, Some, nat_lt}
+use Rattle.std.proofs.Common.{◌≡◌, ℕ, ◌≤◌, ◌==◌, Bool, true, false, cond, List, [], ◌∷◌, refl, sym, ◌∙◌, ap, subst, inl, inr, arith, Some}
 use Rattle.std.proofs.lemmas.Bool.Decides.{nat_tests}
-use Rattle.std.proofs.lemmas.List.Sums.{sum_by-cons}
-use Rattle.std.specs.Prelude.{filter, map, nat_le, sum_by, if◌then◌else◌}
-use Rattle.std.specs.List.{list_any}
+use Rattle.std.specs.Prelude.{nat_le}
 use Rattle.fsrm_model.specs.declared.row.Capacity.{Capacity}
 use Rattle.fsrm_model.specs.declared.row.NodeRow.{NodeRow}
 use Rattle.fsrm_model.specs.FileOps.{resized}
 use Rattle.fsrm_base.specs.Keyed.{has_row, is_ascending, with_change}
 use Rattle.fsrm_model.specs.Limits.{longest_file}
-use Rattle.fsrm_model.specs.Name.{is_name}
-use Rattle.fsrm_base.specs.Numbers.{is_in}
-use Rattle.fsrm_model.specs.Scan.{AreUnvisited, is_topmost, counted}
-use Rattle.fsrm_model.specs.Space.{alloc, space}
-use Rattle.fsrm_model.specs.Tree.{number, node_of, parent_of, is_folder, is_under}
-use Rattle.fsrm_model.specs.Valid.{IsVolume, is_moment, is_own, is_root_node}
-use Rattle.fsrm_model.proofs.nodes.ChangeLaws.{KeepsPlace, parent_of-change, chain-change}
+use Rattle.fsrm_model.specs.Tree.{number, node_of}
+use Rattle.fsrm_model.specs.Valid.{IsVolume}
 use Rattle.fsrm_base.proofs.EditedRows.{absent_later, ascending_tail}
-use Rattle.fsrm_model.proofs.nodes.Keeps.{folder-change, cond_same}
 use Rattle.fsrm_base.proofs.Look.{found_has}
-use Rattle.fsrm_base.proofs.TestLaws.{is_or_not, both, clash, eq_is}
+use Rattle.fsrm_base.proofs.TestLaws.{is_or_not, clash, eq_is}
 use Rattle.volume_tree.specs.Volume.{Volume, with_length}
-use Rattle.rescan.specs.Frontiers.{Front, Stands, Follows, scanned, has_above, unvisited, of_length, sized}
-use Rattle.rescan.proofs.followed.KindLaws.{place_of, kind_folder, kind_under, kind_above, kept_at, numbers_kept, kind_unvisited}
+use Rattle.rescan.specs.Frontiers.{Front, Stands, Follows, unvisited, of_length, sized}
+use Rattle.rescan.proofs.followed.KindLaws.{kind_unvisited}
 use Rattle.rescan.proofs.followed.ChangeLaws.{kind_of, alike, stamped, stamped_keeps, change_twice, length_keeps, root_length, own_length}
 
 -- a scan that has followed another length goes on after the tree has it too

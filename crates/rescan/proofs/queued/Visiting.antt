@@ -1,5 +1,5 @@
 -- Visits, one after the other: what is left, and what they cost.
-use Rattle.std.proofs.Common.{◌≡◌, ℕ, zero, suc, ◌+◌, ◌-◌, ◌*◌, ◌≤◌, ◌==◌, Bool, true, false, cond, not, ◌||◌, ◌&&◌, List, [], ◌∷◌, length, Option, Some, None, refl, sym, ◌∙◌, ap, subst, arith, add-one}
+use Rattle.std.proofs.Common.{◌≡◌, ℕ, zero, suc, ◌+◌, ◌*◌, ◌≤◌, ◌==◌, Bool, true, false, cond, not, ◌||◌, ◌&&◌, List, [], ◌∷◌, length, Option, Some, None, refl, sym, ◌∙◌, ap, subst, arith, add-one}
 use Rattle.std.proofs.lemmas.List.Sums.{sum_by-cons}
 use Rattle.std.specs.Prelude.{filter, sum_by}
 use Rattle.std.specs.Option.{option_map_or}
@@ -8,12 +8,12 @@ use Rattle.fsrm_model.specs.Cost.{visit_cost}
 use Rattle.fsrm_base.specs.Numbers.{itself, is_in, is_set, without_number, without_numbers}
 use Rattle.fsrm_model.specs.Scan.{is_topmost, next_visit, visit, visits}
 use Rattle.fsrm_model.specs.Tree.{children}
-use Rattle.fsrm_base.proofs.TestLaws.{eq_is, eq_same, or_later}
+use Rattle.fsrm_base.proofs.TestLaws.{eq_same, or_later}
 use Rattle.fsrm_base.proofs.Look.{found_own}
 use Rattle.fsrm_base.proofs.EditedRows.{sum_by-without_row}
 use Rattle.fsrm_base.proofs.Sums.{sum_by-ones}
 use Rattle.volume_tree.specs.Volume.{Volume}
-use Rattle.rescan.specs.Frontiers.{Front, Stands, Follows, unvisited, visit_looks}
+use Rattle.rescan.specs.Frontiers.{Front, Follows, unvisited, visit_looks}
 use Rattle.fsrm_base.proofs.NumberLaws.{in_filter}
 
 -- one visit more, and visits if nothing is left

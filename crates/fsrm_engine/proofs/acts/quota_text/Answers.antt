@@ -1,4 +1,4 @@
-use Rattle.std.proofs.Common.{◌≡◌, true, List, ap, sym, ◌∙◌}
+use Rattle.std.proofs.Common.{List, ap, sym, ◌∙◌}
 use Rattle.std.specs.Option.{option_copied}
 use Rattle.fsrm_base.specs.Keyed.{is_ascending}
 use Rattle.fsrm_model.specs.declared.row.Threshold.{Threshold}

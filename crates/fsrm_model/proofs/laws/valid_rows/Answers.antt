@@ -46,3 +46,11 @@ returns-clause-screens c = refl
 pub returns-clause-wrong_screens : goal.returns-clause-wrong_screens
 unfolding simple_folding simple_folding_rows value_in chars is_utf8 utf8_valid_len lib.Utf8.encode
 returns-clause-wrong_screens c = refl
+
+pub returns-clause-templates : goal.returns-clause-templates
+unfolding simple_folding simple_folding_rows value_in chars is_utf8 utf8_valid_len lib.Utf8.encode
+returns-clause-templates c = refl
+
+pub returns-clause-wrong_templates : goal.returns-clause-wrong_templates
+unfolding simple_folding simple_folding_rows value_in chars is_utf8 utf8_valid_len lib.Utf8.encode
+returns-clause-wrong_templates c = refl

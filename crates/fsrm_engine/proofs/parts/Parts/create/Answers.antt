@@ -140,8 +140,8 @@ returns-clause-ok g c =
       idle = record { numbers = c.requires.idle.numbers; places = c.requires.idle.places; crossing = c.requires.idle.crossing };
       made = op_made p mid c.args.moment op p.objects.quotas _
           (ap (λ (w : Volume). w.nodes) (sym (c.in_ok-node.ensures.made ∙ made_is p.tree _ _ _ false c.args.length c.args.owner c.args.moment at)))
-          (record { quotas_are = refl; screens_are = refl; excepts_are = refl }) refl (λ k. left_back p w c.in_ok-node.node made.back)
-          c.follow_create.ensures.follows (record { size = size; marks = refl; crossing = refl; groups = refl; audit = refl; run_limit = refl; last_moment = refl });
+          (record { quotas_are = refl; screens_are = refl; excepts_are = refl; autos_are = refl }) refl (λ k. left_back p w c.in_ok-node.node made.back)
+          c.follow_create.ensures.follows (record { size = size; marks = refl; crossing = refl; groups = refl; templates = refl; audit = refl; run_limit = refl; last_moment = refl });
     })
     (few_log p c.requires.whole) c.end_named.ensures.ended done.raised_are (charged_due p w c.follow_create.new.self change c.args.moment size e done.engine)
     (answers_it p c.args.moment op c.end_named.result judged c.args.owner d name j c.end_named.ensures.answer)

@@ -1,11 +1,14 @@
-use Rattle.std.proofs.Common.{◌≡◌, ℕ, Bool, true, List, Option, refl, sym, subst}
-use Rattle.fsrm_base.proofs.TestLaws.{clash}
+use Rattle.std.proofs.Common.{◌≡◌, ℕ, Bool, true, List, Option, refl, ap, sym, ◌∙◌, subst}
+use Rattle.std.specs.List.{list_all}
+use Rattle.std.specs.Option.{option_copied}
 use Rattle.fsrm_model.specs.declared.command.Added.{Added}
 use Rattle.fsrm_model.specs.declared.command.Deed.{Deed}
-use Rattle.fsrm_model.specs.declared.command.Deed.TheVariants.{File, Usage, Step, QuotaAdd, QuotaModify, QuotaDelete, QuotaScan, QuotaResetpeak, QuotaList, AdminOptions, AdminList, AdminLog}
+use Rattle.fsrm_model.specs.declared.command.Deed.TheVariants.{QuotaAdd, QuotaModify, QuotaDelete, QuotaScan, QuotaResetpeak, QuotaList}
+use Rattle.fsrm_model.specs.Thresholds.{is_notice}
 use Rattle.fsrm_engine.specs.Kinds.{is_of_groups, is_of_objects}
 use Rattle.fsrm_engine.specs.Machine.{Does}
-use Rattle.fsrm_engine.proofs.tables.ModifyLaws.{added_named, modified_named}
+use Rattle.fsrm_engine.proofs.tables.ModifyLaws.{modified_named}
+use Rattle.fsrm_engine.proofs.tables.SourceLaws.{add_notices, added_named, modify_notices}
 use Rattle.fsrm_engine.proofs.parts.Parts.on_objects.Goals as goal
 
 -- about neither quotas nor the service as a whole: about file groups, screens or exceptions
@@ -16,13 +19,7 @@ groups_left (QuotaDelete path) h add modify delete scan reset list = absurd (del
 groups_left (QuotaScan path) h add modify delete scan reset list = absurd (scan path refl)
 groups_left (QuotaResetpeak path) h add modify delete scan reset list = absurd (reset path refl)
 groups_left (QuotaList path) h add modify delete scan reset list = absurd (list path refl)
-groups_left (File op) h add modify delete scan reset list = absurd (clash _ h refl)
-groups_left (Usage path) h add modify delete scan reset list = absurd (clash _ h refl)
-groups_left (Step n) h add modify delete scan reset list = absurd (clash _ h refl)
-groups_left (AdminOptions run_limit) h add modify delete scan reset list = absurd (clash _ h refl)
-groups_left AdminList h add modify delete scan reset list = absurd (clash _ h refl)
-groups_left AdminLog h add modify delete scan reset list = absurd (clash _ h refl)
-groups_left other h add modify delete scan reset list = refl
+groups_left other h add modify delete scan reset list = h
 
 pub on_groups-requires : goal.on_groups-requires
 on_groups-requires g c =
@@ -36,11 +33,21 @@ on_groups-requires g c =
       kind = groups_left c.args.deed.now c.requires.kind d.not-QuotaAdd d.not-QuotaModify d.not-QuotaDelete d.not-QuotaScan d.not-QuotaResetpeak d.not-QuotaList;
     }
 
+pub quota_add-requires-clause-notices : goal.quota_add-requires-clause-notices
+quota_add-requires-clause-notices g c =
+    let d = c.in-QuotaAdd in
+    ap (list_all is_notice) c.adding-change.ensures.notices ∙ add_notices c.args.deed.now d.path d.limit d.enforce d.enabled d.source d.percents d.notices c.requires.valid d.is
+
+pub quota_modify-requires-clause-notices : goal.quota_modify-requires-clause-notices
+quota_modify-requires-clause-notices g c =
+    let d = c.in-QuotaModify in
+    ap (list_all is_notice) c.new-change.ensures.notices ∙ modify_notices c.args.deed.now d.path d.limit d.enforce d.enabled d.removed d.percents d.notices c.requires.valid d.is
+
 pub returns-in-QuotaAdd-clause-ok : goal.returns-in-QuotaAdd-clause-ok
 returns-in-QuotaAdd-clause-ok g c =
     let given = c.adding-change.result in
     added_named c.args.self.now c.quota_add.new.self c.args.moment c.args.deed.now c.quota_add.result c.in-QuotaAdd.path c.in-QuotaAdd.limit c.in-QuotaAdd.enforce c.in-QuotaAdd.enabled
-    c.in-QuotaAdd.source_template c.in-QuotaAdd.percents given.percents.now c.in-QuotaAdd.notices given.notices.now c.requires.valid c.in-QuotaAdd.is c.adding-change.ensures.percents c.adding-change.ensures.notices c.quota_add.ensures.ok
+    c.in-QuotaAdd.source (option_copied c.as_ref-source.result) c.in-QuotaAdd.percents given.percents.now c.in-QuotaAdd.notices given.notices.now c.in-QuotaAdd.is c.as_ref-source.ensures.value c.adding-change.ensures.percents c.adding-change.ensures.notices c.quota_add.ensures.ok
 
 pub returns-in-QuotaModify-clause-ok : goal.returns-in-QuotaModify-clause-ok
 returns-in-QuotaModify-clause-ok g c =

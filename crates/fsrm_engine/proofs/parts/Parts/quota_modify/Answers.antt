@@ -9,6 +9,7 @@ use Rattle.fsrm_engine.specs.Faults.{table_refusal, text_room}
 use Rattle.fsrm_engine.specs.Machine.{rows_of}
 use Rattle.fsrm_engine.proofs.steps.StepLaws.{refused_as}
 use Rattle.fsrm_engine.proofs.tables.ModifyLaws.{changed_legal, changed_row, changed_still, changed_there, changed_unused, changed_whole, modified_as, ran_by}
+use Rattle.fsrm_engine.proofs.tables.QueueLaws.{few_waits}
 use Rattle.fsrm_engine.proofs.tables.QuotaLaws.{first_bare}
 use Rattle.fsrm_engine.proofs.tables.RoomLaws.{modify_due, percents_ascend, refused_for_as}
 use Rattle.fsrm_engine.proofs.tables.StateLaws.{quota_first}
@@ -56,6 +57,11 @@ replace-requires-clause-there g c =
     let change = c.args.change.now in
     changed_there change.removed.now change.percents.now change.notices.now c.args.limit c.args.enforce c.in-Ok.quota.now c.in_ok-before.before c.in_ok-row.row c.in_ok-before.ensures c.in_ok-row.ensures c.args.self.now.objects.quotas c.in-Ok.ensures.ok.found
 
+pub replace-requires-clause-few : goal.replace-requires-clause-few
+replace-requires-clause-few g c =
+    let p = c.args.self.now in
+    few_waits p.tree.nodes p.objects.quotas p.scans.queue c.in_ok-row.row.folder c.requires.whole.sound.counted.are_quotas c.requires.whole.valid.queue (replace-requires-clause-there g c)
+
 pub replace-requires-clause-thresholds : goal.replace-requires-clause-thresholds
 replace-requires-clause-thresholds g c =
     let p = c.args.self.now in
@@ -77,7 +83,7 @@ settle_quota-requires-clause-there g c =
     let p = c.args.self.now in
     let change = c.args.change.now in
     changed_still change.removed.now change.percents.now change.notices.now c.args.limit c.args.enforce c.in-Ok.quota.now c.in_ok-before.before c.in_ok-row.row c.in_ok-before.ensures c.in_ok-row.ensures
-    p c.replace.new.self c.state_after-row.result _ c.in_ok-replace.ensures.replaced c.requires.whole.sound.counted.are_quotas.ascending c.in-Ok.ensures.ok.found
+    p c.replace.new.self c.state_after-row.result _ c.replace.ensures.replaced c.requires.whole.sound.counted.are_quotas.ascending c.in-Ok.ensures.ok.found
 
 pub returns-clause-ok : goal.returns-clause-ok
 returns-clause-ok g c =
@@ -90,5 +96,5 @@ returns-clause-ok g c =
     modified_as p mid c.settle_quota.new.self c.done.new.self c.args.moment c.args.path.now c.args.limit c.args.enforce c.args.enabled change.removed.now change.percents.now change.notices.now q (in_state state c.in_ok-row.row) state c.in-Ok.ensures.ok c.done.result
     (changed_row change.removed.now change.percents.now change.notices.now c.args.limit c.args.enforce q c.in_ok-before.before c.in_ok-row.row c.in_ok-before.ensures c.in_ok-row.ensures state)
     (c.state_after-row.ensures.state ∙ ap (λ (r : QuotaRow). state_after (rows_of p) r.folder c.args.enabled) c.in_ok-before.ensures)
-    may c.requires.whole c.requires.idle c.requires.after c.in_default.ensures.may c.in_ok-replace.ensures.replaced c.replace.ensures.sound.counted
+    may c.requires.whole c.requires.idle c.requires.after c.in_default.ensures.may c.replace.ensures.replaced c.replace.ensures.sound.counted
     (ran_by p mid c.settle_quota.new.self c.args.moment q c.in_ok-before.before c.used-used.result c.in_ok-before.ensures c.used-used.ensures c.settle_quota.ensures.settled) c.done.ensures.ended c.done.ensures.answer

@@ -13,6 +13,7 @@ use Rattle.fsrm_engine.specs.Machine.{rows_of}
 use Rattle.fsrm_engine.proofs.steps.PlaceLaws.{target_is}
 use Rattle.fsrm_engine.proofs.tables.StateLaws.{quota_first, checked}
 use Rattle.fsrm_engine.proofs.steps.StepLaws.{done_as, passing_as, refused_as, still_few, still_idle}
+use Rattle.fsrm_engine.proofs.tables.QueueLaws.{few_waits}
 use Rattle.fsrm_engine.proofs.tables.QuotaLaws.{first_bare}
 use Rattle.fsrm_engine.proofs.tables.TurnLaws.{turned_accepts, turned_keeps, turned_rows}
 use Rattle.fsrm_engine.proofs.settling.EndLaws.{few_log}
@@ -39,6 +40,11 @@ rebuild-requires-clause-there g c =
     let R = rows_of c.args.self.now in
     found_has folder_of c.in-Ok.quota.now.folder R.quotas c.in-Ok.quota.now c.in-Ok.ensures.ok.found
 
+pub rebuild-requires-clause-few : goal.rebuild-requires-clause-few
+rebuild-requires-clause-few g c =
+    let p = c.args.self.now in
+    few_waits p.tree.nodes p.objects.quotas p.scans.queue c.in-Ok.quota.now.folder c.requires.whole.sound.counted.are_quotas c.requires.whole.valid.queue (rebuild-requires-clause-there g c)
+
 pub returns-then-counts-clause-ok : goal.returns-then-counts-clause-ok
 returns-then-counts-clause-ok g c =
     let p = c.args.self.now in
@@ -48,7 +54,7 @@ returns-then-counts-clause-ok g c =
     let to = target_is R.nodes c.args.path.now n at.at.resolved in
     let after = with_change folder_of n (in_state Rebuilding) p.objects.quotas in
     let queue = queued p.scans.queue n Rebuilding in
-    let t = c.in_ok-rebuild.ensures.rebuilt in
+    let t = c.rebuild.ensures.rebuilt in
     done_as p c.rebuild.new.self c.done.new.self c.args.moment (QuotaScan c.args.path.now) c.done.result
     (turned_accepts p c.rebuild.new.self c.args.moment (QuotaScan c.args.path.now) after queue c.requires.idle c.requires.after
     (checked R c.args.path.now n false (λ k. (InvalidCombination when is_disabled (state_of R k)) ∷ []) at.at (ap is_none at.found)
@@ -67,7 +73,7 @@ returns-clause-ok g c =
     let to = target_is R.nodes c.args.path.now n at.at.resolved in
     let after = with_change folder_of n (in_state Rebuilding) p.objects.quotas in
     let queue = queued p.scans.queue n Rebuilding in
-    let t = c.in_ok-rebuild.ensures.rebuilt in
+    let t = c.rebuild.ensures.rebuilt in
     let keeps = turned_keeps p c.rebuild.new.self after queue t in
     passing_as p c.rebuild.new.self c.args.moment (QuotaScan c.args.path.now) _ (with_state R n Rebuilding) (still_idle p c.rebuild.new.self keeps c.requires.idle) c.requires.after
     (checked R c.args.path.now n false (λ k. (InvalidCombination when is_disabled (state_of R k)) ∷ []) at.at (ap is_none at.found)

@@ -10,10 +10,10 @@ returns-clause-rebuilt c =
     let p = c.args.self.now in
     let n = c.args.folder in
     turned p c.uncount.new.self c.requeue.new.scans (with_change folder_of n (in_state Rebuilding) p.objects.quotas) (queued p.scans.queue n Rebuilding) c.uncount.ensures.rebuilt
-    (c.in_ok-requeue.ensures.turns p.tree c.requires.sound.scanning c.requires.folder) c.in_ok-requeue.ensures.queue
+    (c.requeue.ensures.turns p.tree c.requires.sound.scanning c.requires.folder) c.requeue.ensures.queue
 
 pub returns-clause-sound : goal.returns-clause-sound
 returns-clause-sound c =
     let p = c.args.self.now in
     turned_sound p c.uncount.new.self c.requeue.new.scans (with_change folder_of c.args.folder (in_state Rebuilding) p.objects.quotas) c.uncount.ensures.rebuilt c.uncount.ensures.counted
-    (c.in_ok-requeue.ensures.turns p.tree c.requires.sound.scanning c.requires.folder)
+    (c.requeue.ensures.turns p.tree c.requires.sound.scanning c.requires.folder)

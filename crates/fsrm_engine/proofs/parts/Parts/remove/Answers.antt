@@ -2,6 +2,7 @@ use Rattle.std.proofs.Common.{None, refl, ap, sym, ◌∙◌, arith}
 use Rattle.fsrm_model.specs.declared.command.Deed.TheVariants.{File}
 use Rattle.fsrm_model.specs.declared.command.FileOp.TheVariants.{Remove}
 use Rattle.fsrm_model.specs.FileOps.{plain}
+use Rattle.fsrm_model.specs.AutoApply.{auto_folder}
 use Rattle.fsrm_base.specs.Keyed.{without_row}
 use Rattle.fsrm_base.proofs.TestLaws.{is_inner}
 use Rattle.fsrm_model.specs.Quota.{folder_of}
@@ -16,7 +17,7 @@ use Rattle.fsrm_engine.proofs.operations.RemoveLaws.{remove_due, remove_root}
 use Rattle.fsrm_engine.proofs.operations.GoingLaws.{no_fault, goes_well}
 use Rattle.fsrm_engine.proofs.steps.StepLaws.{done_as, refused_as, tree_first}
 use Rattle.fsrm_engine.proofs.operations.FollowLaws.{goes_to, volume_is, shown_length, when_ok, file_absent, remove_queue, remove_next, op_accepts}
-use Rattle.fsrm_engine.proofs.operations.GoneLaws.{calm_gone, no_except, no_screen}
+use Rattle.fsrm_engine.proofs.operations.GoneLaws.{calm_gone, no_auto, no_except, no_screen}
 use Rattle.fsrm_engine.proofs.settling.EndLaws.{few_log}
 use Rattle.fsrm_engine.proofs.steps.WholeLaws.{sound_ended}
 use Rattle.fsrm_engine.proofs.parts.Parts.remove.Goals as goal
@@ -97,11 +98,12 @@ returns-clause-ok g c =
       quotas_are = ap (λ n. without_row folder_of n p.objects.quotas) to ∙ goes.no_quota;
       screens_are = ap (λ n. without_row screen_folder n p.objects.screens) to ∙ no_screen p n c.requires.whole file;
       excepts_are = ap (λ n. without_row except_folder n p.objects.excepts) to ∙ no_except p n c.requires.whole file;
+      autos_are = ap (λ n. without_row auto_folder n p.templates.autos) to ∙ no_auto p n c.requires.whole file;
     })
     (remove_queue p c.args.moment c.args.path.now n at ∙ file_absent p.tree p.scans n c.requires.whole.sound.scanning file)
     (remove_next p c.args.path.now n (plain p.tree.nodes (Remove c.args.path.now) c.args.moment) at)
     (goes_to _ _ c.remove.new.self _ _ made (c.follow_remove.ensures.follows (volume_is _ _ made c.remove.ensures.kept)))
-    (record { size = size; marks = refl; crossing = refl; groups = refl; audit = refl; run_limit = refl; last_moment = refl }) refl)
+    (record { size = size; marks = refl; crossing = refl; groups = refl; templates = refl; audit = refl; run_limit = refl; last_moment = refl }) refl)
     refl (few_log p c.requires.whole) (calm_gone p c.remove.new.self c.follow_remove.new.self c.charge.new.self gone c.args.moment refl c.charge.ensures.made size e (idle_charged c.remove.new.self p.objects.quotas p.usage c.charge.new.self n gone goes c.charge.ensures.made))
     c.done.ensures.ended c.done.ensures.answer
 

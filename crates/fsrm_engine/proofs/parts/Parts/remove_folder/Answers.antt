@@ -38,7 +38,7 @@ returns-clause-ok g c =
     let goes = goes_to _ _ c.remove.new.self _ _ made (c.follow_rmdir.ensures.follows (volume_is _ _ made c.remove.ensures.kept)) in
     let absent = left_queue c.args.node p.scans.queue c.leave.new.self.queue c.leave.ensures.queue in
     let row = folder_found p.tree.nodes c.args.node c.requires.kind in
-    let mid : Parts = record p { tree = c.remove.new.self; scans = c.follow_rmdir.new.self; usage = c.drop_quota.new.usage; objects = c.drop_screens.new.objects } in
+    let mid : Parts = record p { tree = c.remove.new.self; scans = c.follow_rmdir.new.self; usage = c.drop_quota.new.usage; objects = c.drop_screens.new.objects; templates = c.drop_auto.new.templates } in
     let size = ap (λ (w : Volume). w.size) made in
     let may = may_go p.tree c.args.node c.requires.inner (has_resolved _ _ _ _ k at) (when_ok _ _ c.unwrap.ensures c.remove.ensures.may) in
     let objects : c.drop_screens.new.objects ≡ without_objects p.objects c.args.node = c.drop_screens.ensures ∙ ap (λ (t : Tables). without_except (without_screen t c.args.node) c.args.node) c.drop_quota.ensures.objects in
@@ -48,7 +48,7 @@ returns-clause-ok g c =
     (remove_due p c.args.moment _ _ k at c.requires.inner ∙ ap (λ o. tree_first o None) (when_ok _ _ c.unwrap.ensures c.remove.ensures.may))
     at made objects c.leave.ensures.queue turns goes
     (next_without p.tree c.remove.new.self c.leave.new.self c.args.node row.row turns.scanning absent made c.remove.ensures.kept row.found row.folder)
-    (record { size = size; marks = refl; crossing = refl; groups = refl; audit = refl; run_limit = refl; last_moment = refl }))
+    (record { size = size; marks = refl; crossing = refl; groups = refl; templates = c.drop_auto.ensures; audit = refl; run_limit = refl; last_moment = refl }))
     refl (few_log p c.requires.whole) (calm_without p mid c.args.moment c.args.node c.requires.whole.sound.counted (idle_gone p.tree c.remove.new.self p.objects.quotas c.drop_screens.new.objects.quotas p.usage c.drop_quota.new.usage c.args.node c.requires.whole.sound.counted may c.requires.kind made c.remove.ensures.kept quotas c.drop_quota.ensures.usage) size quotas c.drop_quota.ensures.usage)
     c.done.ensures.ended c.done.ensures.answer
 
@@ -57,7 +57,7 @@ returns-clause-sound g c =
     let p = c.args.self.now in
     let made = when_ok _ _ c.unwrap.ensures c.remove.ensures.made in
     let goes = goes_to _ _ c.remove.new.self _ _ made (c.follow_rmdir.ensures.follows (volume_is _ _ made c.remove.ensures.kept)) in
-    sound_ended (record p { tree = c.remove.new.self; scans = c.follow_rmdir.new.self; usage = c.drop_quota.new.usage; objects = c.drop_screens.new.objects }) c.done.new.self c.args.moment c.done.ensures.ended c.done.ensures.counted goes.scanning
+    sound_ended (record p { tree = c.remove.new.self; scans = c.follow_rmdir.new.self; usage = c.drop_quota.new.usage; objects = c.drop_screens.new.objects; templates = c.drop_auto.new.templates }) c.done.new.self c.args.moment c.done.ensures.ended c.done.ensures.counted goes.scanning
 
 pub unwrap-requires : goal.unwrap-requires
 unwrap-requires g c = goes_well c.args.self.now.tree c.args.node c.remove.result (no_fault c.args.self.now.tree c.args.node (omega (arith, c.child_count.ensures.value, c.if-child_count-gt0.false))) c.remove.ensures.refused c.remove.ensures.only

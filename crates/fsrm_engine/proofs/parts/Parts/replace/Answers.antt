@@ -9,11 +9,11 @@ returns-clause-replaced c =
     let p = c.args.self.now in
     let row = c.args.row in
     turned p c.put.new.self c.requeue.new.scans (with_change folder_of row.folder (λ old. row) p.objects.quotas) (queued p.scans.queue row.folder row.state) c.put.ensures.put
-    (c.in_ok-requeue.ensures.turns p.tree c.requires.sound.scanning c.requires.folder) c.in_ok-requeue.ensures.queue
+    (c.requeue.ensures.turns p.tree c.requires.sound.scanning c.requires.folder) c.requeue.ensures.queue
 
 pub returns-clause-sound : goal.returns-clause-sound
 returns-clause-sound c =
     let p = c.args.self.now in
     let row = c.args.row in
     turned_sound p c.put.new.self c.requeue.new.scans (with_change folder_of row.folder (λ old. row) p.objects.quotas) c.put.ensures.put c.put.ensures.counted
-    (c.in_ok-requeue.ensures.turns p.tree c.requires.sound.scanning c.requires.folder)
+    (c.requeue.ensures.turns p.tree c.requires.sound.scanning c.requires.folder)

@@ -33,6 +33,8 @@ invariant_of-self-2 c =
       excepts_placed =
           ap (λ (t : Places). t.numbers) c.in_ok-place.ensures.ok
           ∙ (numbers_inserted except_folder c.args.row excepts place c.self.inside.except_places.numbers c.self.invariant.excepts_placed gap ∙ sym (ap (map except_folder) items));
+      quotas_room = c.self.invariant.quotas_room;
+      room_most = c.self.invariant.room_most;
       texts_are = c.self.invariant.texts_are;
     }
 
@@ -43,5 +45,5 @@ returns-clause-ok c =
     let gap = gap_row except_folder c.args.row.folder excepts c.self.inside.except_places.numbers place c.self.invariant.excepts_placed c.in_ok-place.ensures.place in
     let put = rw c.unwrap.ensures at c.insert-2.ensures.items in
     let items : c.insert-2.new.self.items ≡ insert excepts place c.args.row = put ∙ ap (λ (rows : List ExceptRow). insert rows place c.args.row) c.reserve.ensures.items in
-    ap (λ (rows : List ExceptRow). tables_of c.self.inside.quotas.items c.self.inside.screens.items rows) (items ∙ insert_row except_folder c.args.row excepts place gap)
+    ap (λ (rows : List ExceptRow). tables_of c.self.inside.quotas.items c.self.inside.screens.items rows c.self.inside.places.room) (items ∙ insert_row except_folder c.args.row excepts place gap)
     ∙ ap (λ (tables : Tables). with_except tables c.args.row) c.self.view_is

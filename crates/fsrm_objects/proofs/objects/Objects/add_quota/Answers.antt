@@ -53,6 +53,8 @@ invariant_of-self-2 c =
       screens_placed = c.self.invariant.screens_placed;
       excepts = c.self.invariant.excepts;
       excepts_placed = c.self.invariant.excepts_placed;
+      quotas_room = omega (arith, ap (λ (t : Places). t.room) c.in_ok-place.ensures.ok, c.reserve.ensures.capacity, c.insert-2.ensures.capacity, c.self.invariant.quotas_room);
+      room_most = omega (arith, ap (λ (t : Places). t.room) c.in_ok-place.ensures.ok, c.self.invariant.room_most);
       texts_are = omega (arith, ap quota_texts items, more_texts folder_of quotas c.args.row place gap quota_bytes, c.self.invariant.texts_are, c.in_ok-bytes.ensures.bytes);
     }
 
@@ -63,5 +65,6 @@ returns-clause-ok c =
     let gap = gap_row folder_of c.args.row.folder quotas c.self.inside.places.numbers place c.self.invariant.quotas_placed c.in_ok-place.ensures.place in
     let put = rw c.unwrap.ensures at c.insert-2.ensures.items in
     let items : c.insert-2.new.self.items ≡ insert quotas place c.args.row = put ∙ ap (λ (rows : List QuotaRow). insert rows place c.args.row) c.reserve.ensures.items in
-    ap (λ (rows : List QuotaRow). tables_of rows c.self.inside.screens.items c.self.inside.excepts.items) (items ∙ insert_row folder_of c.args.row quotas place gap)
+    ap (tables_of c.insert-2.new.self.items c.self.inside.screens.items c.self.inside.excepts.items) (ap (λ (t : Places). t.room) c.in_ok-place.ensures.ok)
+    ∙ ap (λ (rows : List QuotaRow). tables_of rows c.self.inside.screens.items c.self.inside.excepts.items c.self.inside.places.room) (items ∙ insert_row folder_of c.args.row quotas place gap)
     ∙ ap (λ (tables : Tables). with_quota tables c.args.row) c.self.view_is

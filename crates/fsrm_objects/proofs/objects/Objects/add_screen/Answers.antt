@@ -53,6 +53,8 @@ invariant_of-self-2 c =
           ∙ (numbers_inserted screen_folder c.args.row screens place c.self.inside.screen_places.numbers c.self.invariant.screens_placed gap ∙ sym (ap (map screen_folder) items));
       excepts = c.self.invariant.excepts;
       excepts_placed = c.self.invariant.excepts_placed;
+      quotas_room = c.self.invariant.quotas_room;
+      room_most = c.self.invariant.room_most;
       texts_are = omega (arith, ap screen_texts items, more_texts screen_folder screens c.args.row place gap screen_bytes, c.self.invariant.texts_are, c.in_ok-bytes.ensures.bytes);
     }
 
@@ -63,5 +65,5 @@ returns-clause-ok c =
     let gap = gap_row screen_folder c.args.row.folder screens c.self.inside.screen_places.numbers place c.self.invariant.screens_placed c.in_ok-place.ensures.place in
     let put = rw c.unwrap.ensures at c.insert-2.ensures.items in
     let items : c.insert-2.new.self.items ≡ insert screens place c.args.row = put ∙ ap (λ (rows : List ScreenRow). insert rows place c.args.row) c.reserve.ensures.items in
-    ap (λ (rows : List ScreenRow). tables_of c.self.inside.quotas.items rows c.self.inside.excepts.items) (items ∙ insert_row screen_folder c.args.row screens place gap)
+    ap (λ (rows : List ScreenRow). tables_of c.self.inside.quotas.items rows c.self.inside.excepts.items c.self.inside.places.room) (items ∙ insert_row screen_folder c.args.row screens place gap)
     ∙ ap (λ (tables : Tables). with_screen tables c.args.row) c.self.view_is

@@ -32,6 +32,8 @@ invariant_of-self c =
           ap (λ (t : Places). t.numbers) c.remove-2.ensures
           ∙ (numbers_removed except_folder c.args.folder excepts place c.self.inside.except_places.numbers c.self.invariant.excepts.ascending c.self.invariant.excepts_placed at
           ∙ sym (ap (map except_folder) items));
+      quotas_room = c.self.invariant.quotas_room;
+      room_most = c.self.invariant.room_most;
       texts_are = c.self.invariant.texts_are;
     }
 
@@ -40,6 +42,6 @@ returns c =
     let excepts = c.self.inside.excepts.items in
     let place = c.unwrap-place.result in
     let at = at_place except_folder excepts c.args.self.now.excepts c.args.folder place c.except_place.result (ap (λ (tables : Tables). tables.excepts) c.self.view_is) c.unwrap-place.ensures c.except_place.ensures in
-    ap (λ (rows : List ExceptRow). tables_of c.self.inside.quotas.items c.self.inside.screens.items rows)
+    ap (λ (rows : List ExceptRow). tables_of c.self.inside.quotas.items c.self.inside.screens.items rows c.self.inside.places.room)
     (c.remove.ensures.items ∙ remove_found except_folder c.args.folder excepts place c.self.invariant.excepts.ascending at)
     ∙ ap (λ (tables : Tables). without_except tables c.args.folder) c.self.view_is

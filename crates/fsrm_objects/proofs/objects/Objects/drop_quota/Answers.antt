@@ -34,7 +34,9 @@ invariant_of-self c =
       screens_placed = c.self.invariant.screens_placed;
       excepts = c.self.invariant.excepts;
       excepts_placed = c.self.invariant.excepts_placed;
-      texts_are = omega (arith, ap quota_texts items, less_texts folder_of quotas c.args.folder place at quota_bytes c.index.result.now c.self.invariant.quotas.held.ascending c.index.ensures, c.texts_of.ensures, c.self.invariant.texts_are);
+      quotas_room = omega (arith, ap (λ (t : Places). t.room) c.remove-2.ensures, c.remove.ensures.capacity, c.self.invariant.quotas_room);
+      room_most = omega (arith, ap (λ (t : Places). t.room) c.remove-2.ensures, c.self.invariant.room_most);
+      texts_are = omega (arith, ap quota_texts items, less_texts folder_of quotas c.args.folder place at quota_bytes c.index.result.now c.self.invariant.quotas.held.ascending c.index.ensures, c.threshold_texts.ensures, c.self.invariant.texts_are);
     }
 
 pub returns : goal.returns
@@ -42,6 +44,7 @@ returns c =
     let quotas = c.self.inside.quotas.items in
     let place = c.unwrap-place.result in
     let at = at_place folder_of quotas c.args.self.now.quotas c.args.folder place c.place.result (ap (λ (tables : Tables). tables.quotas) c.self.view_is) c.unwrap-place.ensures c.place.ensures in
-    ap (λ (rows : List QuotaRow). tables_of rows c.self.inside.screens.items c.self.inside.excepts.items)
+    ap (tables_of c.remove.new.self.items c.self.inside.screens.items c.self.inside.excepts.items) (ap (λ (t : Places). t.room) c.remove-2.ensures)
+    ∙ ap (λ (rows : List QuotaRow). tables_of rows c.self.inside.screens.items c.self.inside.excepts.items c.self.inside.places.room)
     (c.remove.ensures.items ∙ remove_found folder_of c.args.folder quotas place c.self.invariant.quotas.held.ascending at)
     ∙ ap (λ (tables : Tables). without_quota tables c.args.folder) c.self.view_is

@@ -33,6 +33,8 @@ invariant_of-self c =
           ∙ sym (ap (map screen_folder) items));
       excepts = c.self.invariant.excepts;
       excepts_placed = c.self.invariant.excepts_placed;
+      quotas_room = c.self.invariant.quotas_room;
+      room_most = c.self.invariant.room_most;
       texts_are = omega (arith, ap screen_texts items, less_texts screen_folder screens c.args.folder place at screen_bytes c.index.result.now c.self.invariant.screens.held.ascending c.index.ensures, c.texts_of_actions.ensures, c.self.invariant.texts_are);
     }
 
@@ -41,6 +43,6 @@ returns c =
     let screens = c.self.inside.screens.items in
     let place = c.unwrap-place.result in
     let at = at_place screen_folder screens c.args.self.now.screens c.args.folder place c.screen_place.result (ap (λ (tables : Tables). tables.screens) c.self.view_is) c.unwrap-place.ensures c.screen_place.ensures in
-    ap (λ (rows : List ScreenRow). tables_of c.self.inside.quotas.items rows c.self.inside.excepts.items)
+    ap (λ (rows : List ScreenRow). tables_of c.self.inside.quotas.items rows c.self.inside.excepts.items c.self.inside.places.room)
     (c.remove.ensures.items ∙ remove_found screen_folder c.args.folder screens place c.self.invariant.screens.held.ascending at)
     ∙ ap (λ (tables : Tables). without_screen tables c.args.folder) c.self.view_is

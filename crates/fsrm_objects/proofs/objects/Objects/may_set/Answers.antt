@@ -7,9 +7,9 @@ use Rattle.fsrm_objects.proofs.HeldRows.{at_place, read_found, tables_of}
 use Rattle.fsrm_objects.proofs.QuotaRows.{quota_fits}
 use Rattle.fsrm_objects.proofs.objects.Objects.may_set.Goals as goal
 
-pub texts_of-bytes-requires : goal.texts_of-bytes-requires
-texts_of-bytes-requires c =
-    let its : quota_bytes c.args.row.now ≤ 131072 = quota_fits c.args.row.now (sym c.has_long_list.ensures ∙ c.if-has_long_list.false) c.requires.texts in
+pub threshold_texts-bytes-requires : goal.threshold_texts-bytes-requires
+threshold_texts-bytes-requires c =
+    let its : quota_bytes c.args.row.now ≤ 131072 = quota_fits c.args.row.now (sym c.are_too_many.ensures ∙ c.if-are_too_many.false) c.requires.texts in
     omega arith
 
 pub returns-then-saturating_sub-room-clause-refused :
@@ -20,7 +20,7 @@ returns-then-saturating_sub-room-clause-refused c =
     let at = at_place folder_of quotas c.args.self.now.quotas c.args.row.now.folder c.unwrap-place.result c.place.result (ap (λ (tables : Tables). tables.quotas) c.self.view_is) c.unwrap-place.ensures c.place.ensures in
     let long : c.args.room + quota_bytes old < quota_bytes c.args.row.now = omega arith in
     ap (λ (tables : Tables). other_fault tables c.args.row.now c.args.room) (sym c.self.view_is)
-    ∙ replaced_due (tables_of quotas c.self.inside.screens.items c.self.inside.excepts.items) c.args.row.now old c.args.room (read_found folder_of quotas c.args.row.now.folder c.unwrap-place.result old at c.index.ensures) (sym c.has_long_list.ensures ∙ c.if-has_long_list.false) long
+    ∙ replaced_due (tables_of quotas c.self.inside.screens.items c.self.inside.excepts.items c.self.inside.places.room) c.args.row.now old c.args.room (read_found folder_of quotas c.args.row.now.folder c.unwrap-place.result old at c.index.ensures) (sym c.are_too_many.ensures ∙ c.if-are_too_many.false) long
 
 pub returns-clause-may : goal.returns-clause-may
 returns-clause-may c =
@@ -29,4 +29,4 @@ returns-clause-may c =
     let at = at_place folder_of quotas c.args.self.now.quotas c.args.row.now.folder c.unwrap-place.result c.place.result (ap (λ (tables : Tables). tables.quotas) c.self.view_is) c.unwrap-place.ensures c.place.ensures in
     let fits : quota_bytes c.args.row.now ≤ c.args.room + quota_bytes old = omega arith in
     ap (λ (tables : Tables). other_fault tables c.args.row.now c.args.room) (sym c.self.view_is)
-    ∙ replaced_fits (tables_of quotas c.self.inside.screens.items c.self.inside.excepts.items) c.args.row.now old c.args.room (read_found folder_of quotas c.args.row.now.folder c.unwrap-place.result old at c.index.ensures) (sym c.has_long_list.ensures ∙ c.if-has_long_list.false) fits
+    ∙ replaced_fits (tables_of quotas c.self.inside.screens.items c.self.inside.excepts.items c.self.inside.places.room) c.args.row.now old c.args.room (read_found folder_of quotas c.args.row.now.folder c.unwrap-place.result old at c.index.ensures) (sym c.are_too_many.ensures ∙ c.if-are_too_many.false) fits

@@ -14,8 +14,8 @@ use Rattle.fsrm_base.proofs.SortedRows.{set_found}
 use Rattle.fsrm_objects.proofs.RowPlaces.{numbers_set}
 use Rattle.fsrm_objects.proofs.objects.Objects.set_quota.Goals as goal
 
-pub texts_of-bytes-requires : goal.texts_of-bytes-requires
-texts_of-bytes-requires c =
+pub threshold_texts-bytes-requires : goal.threshold_texts-bytes-requires
+threshold_texts-bytes-requires c =
     let its : quota_bytes c.args.row ≤ 131072 = quota_fits c.args.row (short_other c.args.self.now c.args.row c.args.room c.in_ok-may_set.ensures.may) c.requires.texts in
     omega arith
 
@@ -37,8 +37,8 @@ overflow_add-self c =
       change_texts folder_of quotas folder place (λ q. c.args.row) old (λ q is. refl) at c.index.ensures quota_bytes c.self.invariant.quotas.held.ascending,
       less_texts folder_of quotas folder place at quota_bytes old c.self.invariant.quotas.held.ascending c.index.ensures,
       c.self.invariant.texts_are,
-      c.texts_of-replaced.ensures,
-      c.texts_of-bytes.ensures,
+      c.threshold_texts-replaced.ensures,
+      c.threshold_texts-bytes.ensures,
     )
 
 pub invariant_of-self : goal.invariant_of-self
@@ -56,13 +56,15 @@ invariant_of-self c =
       screens_placed = c.self.invariant.screens_placed;
       excepts = c.self.invariant.excepts;
       excepts_placed = c.self.invariant.excepts_placed;
+      quotas_room = c.self.invariant.quotas_room;
+      room_most = c.self.invariant.room_most;
       texts_are = omega (
         arith,
         change_texts folder_of quotas folder place (λ q. c.args.row) old (λ q is. refl) at c.index.ensures quota_bytes c.self.invariant.quotas.held.ascending,
         less_texts folder_of quotas folder place at quota_bytes old c.self.invariant.quotas.held.ascending c.index.ensures,
         c.self.invariant.texts_are,
-        c.texts_of-replaced.ensures,
-        c.texts_of-bytes.ensures,
+        c.threshold_texts-replaced.ensures,
+        c.threshold_texts-bytes.ensures,
       );
     }
 
@@ -71,6 +73,6 @@ returns-clause-ok c =
     let quotas = c.self.inside.quotas.items in
     let place = c.unwrap-place.result in
     let at = at_place folder_of quotas c.args.self.now.quotas c.args.row.folder place c.place.result (ap (λ (tables : Tables). tables.quotas) c.self.view_is) c.unwrap-place.ensures c.place.ensures in
-    ap (λ (rows : List QuotaRow). tables_of rows c.self.inside.screens.items c.self.inside.excepts.items)
+    ap (λ (rows : List QuotaRow). tables_of rows c.self.inside.screens.items c.self.inside.excepts.items c.self.inside.places.room)
     (set_found folder_of c.args.row.folder (λ q. c.args.row) quotas place c.index_mut.result.now c.self.invariant.quotas.held.ascending at c.index_mut.ensures.value)
     ∙ ap (λ (tables : Tables). with_other tables c.args.row) c.self.view_is

@@ -38,6 +38,8 @@ invariant_of-self c =
       screens_placed = c.self.invariant.screens_placed;
       excepts = c.self.invariant.excepts;
       excepts_placed = c.self.invariant.excepts_placed;
+      quotas_room = c.self.invariant.quotas_room;
+      room_most = c.self.invariant.room_most;
       texts_are =
           c.self.invariant.texts_are
           ∙ ap (λ n. n + screen_texts c.self.inside.screens.items) (sym (same_texts folder_of quotas c.args.folder place (run_quota_at c.args.moment c.args.percent c.args.place) c.index_mut-quota.result.now (λ row is. is) at c.index_mut-quota.ensures.value quota_bytes c.self.invariant.quotas.held.ascending (λ row. run_bytes c.args.moment c.args.percent c.args.place row)));
@@ -48,6 +50,6 @@ returns c =
     let quotas = c.self.inside.quotas.items in
     let place = c.unwrap-at.result in
     let at = at_place folder_of quotas c.args.self.now.quotas c.args.folder place c.place.result (ap (λ (tables : Tables). tables.quotas) c.self.view_is) c.unwrap-at.ensures c.place.ensures in
-    rw c.note_run.ensures (ap (λ (rows : List QuotaRow). tables_of rows c.self.inside.screens.items c.self.inside.excepts.items)
+    rw c.note_run.ensures (ap (λ (rows : List QuotaRow). tables_of rows c.self.inside.screens.items c.self.inside.excepts.items c.self.inside.places.room)
     (set_found folder_of c.args.folder (run_quota_at c.args.moment c.args.percent c.args.place) quotas place c.index_mut-quota.result.now c.self.invariant.quotas.held.ascending at c.index_mut-quota.ensures.value)
     ∙ ap (λ (tables : Tables). with_run tables c.args.folder c.args.percent c.args.place c.args.moment) c.self.view_is)

@@ -56,6 +56,8 @@ invariant_of-self c =
       screens_placed = numbers_set screen_folder folder (λ q. c.args.row) screens place old c.self.inside.screen_places.numbers (λ q is. refl) c.self.invariant.screens.held.ascending c.self.invariant.screens_placed at c.index.ensures;
       excepts = c.self.invariant.excepts;
       excepts_placed = c.self.invariant.excepts_placed;
+      quotas_room = c.self.invariant.quotas_room;
+      room_most = c.self.invariant.room_most;
       texts_are = omega (
         arith,
         change_texts screen_folder screens folder place (λ q. c.args.row) old (λ q is. refl) at c.index.ensures screen_bytes c.self.invariant.screens.held.ascending,
@@ -71,6 +73,6 @@ returns-clause-ok c =
     let screens = c.self.inside.screens.items in
     let place = c.unwrap-place.result in
     let at = at_place screen_folder screens c.args.self.now.screens c.args.row.folder place c.screen_place.result (ap (λ (tables : Tables). tables.screens) c.self.view_is) c.unwrap-place.ensures c.screen_place.ensures in
-    ap (λ (rows : List ScreenRow). tables_of c.self.inside.quotas.items rows c.self.inside.excepts.items)
+    ap (λ (rows : List ScreenRow). tables_of c.self.inside.quotas.items rows c.self.inside.excepts.items c.self.inside.places.room)
     (set_found screen_folder c.args.row.folder (λ q. c.args.row) screens place c.index_mut.result.now c.self.invariant.screens.held.ascending at c.index_mut.ensures.value)
     ∙ ap (λ (tables : Tables). with_other_screen tables c.args.row) c.self.view_is

@@ -32,6 +32,8 @@ invariant_of-self c =
       screens_placed = numbers_set screen_folder c.args.folder (run_screen_at c.args.moment c.args.place) screens place c.index_mut-screen.result.now c.self.inside.screen_places.numbers (λ row is. is) c.self.invariant.screens.held.ascending c.self.invariant.screens_placed at c.index_mut-screen.ensures.value;
       excepts = c.self.invariant.excepts;
       excepts_placed = c.self.invariant.excepts_placed;
+      quotas_room = c.self.invariant.quotas_room;
+      room_most = c.self.invariant.room_most;
       texts_are =
           c.self.invariant.texts_are
           ∙ ap (λ n. quota_texts c.self.inside.quotas.items + n) (sym (same_texts screen_folder screens c.args.folder place (run_screen_at c.args.moment c.args.place) c.index_mut-screen.result.now (λ row is. is) at c.index_mut-screen.ensures.value screen_bytes c.self.invariant.screens.held.ascending (λ row. screen_run_bytes c.args.moment c.args.place row)));
@@ -42,6 +44,6 @@ returns c =
     let screens = c.self.inside.screens.items in
     let place = c.unwrap-at.result in
     let at = at_place screen_folder screens c.args.self.now.screens c.args.folder place c.screen_place.result (ap (λ (tables : Tables). tables.screens) c.self.view_is) c.unwrap-at.ensures c.screen_place.ensures in
-    rw c.note_last.ensures (ap (λ (rows : List ScreenRow). tables_of c.self.inside.quotas.items rows c.self.inside.excepts.items)
+    rw c.note_last.ensures (ap (λ (rows : List ScreenRow). tables_of c.self.inside.quotas.items rows c.self.inside.excepts.items c.self.inside.places.room)
     (set_found screen_folder c.args.folder (run_screen_at c.args.moment c.args.place) screens place c.index_mut-screen.result.now c.self.invariant.screens.held.ascending at c.index_mut-screen.ensures.value)
     ∙ ap (λ (tables : Tables). with_screen_run tables c.args.folder c.args.place c.args.moment) c.self.view_is)

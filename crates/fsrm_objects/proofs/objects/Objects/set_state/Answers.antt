@@ -23,6 +23,8 @@ invariant_of-self c =
       screens_placed = c.self.invariant.screens_placed;
       excepts = c.self.invariant.excepts;
       excepts_placed = c.self.invariant.excepts_placed;
+      quotas_room = c.self.invariant.quotas_room;
+      room_most = c.self.invariant.room_most;
       texts_are =
           c.self.invariant.texts_are
           ∙ ap (λ n. n + screen_texts c.self.inside.screens.items) (sym (same_texts folder_of quotas c.args.folder place (in_state c.args.state) c.index_mut.result.now (λ row is. is) at c.index_mut.ensures.value quota_bytes c.self.invariant.quotas.held.ascending (λ row. refl)));
@@ -33,6 +35,6 @@ returns c =
     let quotas = c.self.inside.quotas.items in
     let place = c.unwrap-place.result in
     let at = at_place folder_of quotas c.args.self.now.quotas c.args.folder place c.place.result (ap (λ (tables : Tables). tables.quotas) c.self.view_is) c.unwrap-place.ensures c.place.ensures in
-    ap (λ (rows : List QuotaRow). tables_of rows c.self.inside.screens.items c.self.inside.excepts.items)
+    ap (λ (rows : List QuotaRow). tables_of rows c.self.inside.screens.items c.self.inside.excepts.items c.self.inside.places.room)
     (set_found folder_of c.args.folder (in_state c.args.state) quotas place c.index_mut.result.now c.self.invariant.quotas.held.ascending at c.index_mut.ensures.value)
     ∙ ap (λ (tables : Tables). with_state tables c.args.folder c.args.state) c.self.view_is

@@ -22,7 +22,10 @@ invariant_of-self g c =
     let row = has_found number c.args.node c.args.tree.now.nodes c.requires.there in
     let made = c.on_create.ensures.follows row.row row.is in
     let last = c.on_resize.ensures.follows in
-    kept_going c.self.inside.queue.items c.self.inside.frontier c.on_resize.new.self some (last.folder ∙ made.folder) (last.room ∙ made.room) c.self.invariant
+    record {
+      kept = kept_going c.self.inside.queue.items c.self.inside.frontier c.on_resize.new.self some (last.folder ∙ made.folder) (last.room ∙ made.room) c.self.invariant.kept;
+      memory = c.self.invariant.memory;
+    }
 
 pub returns-then-is_scanning-clause-follows : goal.returns-then-is_scanning-clause-follows
 returns-then-is_scanning-clause-follows g c =
@@ -31,7 +34,7 @@ returns-then-is_scanning-clause-follows g c =
     let row = has_found number c.args.node v.nodes c.requires.there in
     let rest = unvisited (without_node v c.args.node).nodes c.self.inside.frontier in
     subst (λ (k : Course). Goes k (record { queue = c.self.inside.queue.items; front = c.on_resize.new.self }) v (λ scanned. left (without_node v c.args.node).nodes k)) c.self.view_is
-    (goes_on v (record { queue = c.self.inside.queue.items; front = c.self.inside.frontier }) c.on_resize.new.self (λ scanned. rest) c.self.invariant.active some
+    (goes_on v (record { queue = c.self.inside.queue.items; front = c.self.inside.frontier }) c.on_resize.new.self (λ scanned. rest) c.self.invariant.kept.active some
     (λ n h. folder_back v.nodes c.args.node n ((subst (Scanning (without_node v c.args.node)) (sym c.self.view_is) c.requires.scanning).folders n h))
     (created_follows v c.args.node c.args.bytes row.row c.self.inside.frontier c.on_create.new.self c.on_resize.new.self rest c.requires.volume c.requires.own (sym (found_folder v.nodes c.args.node row.row row.is) ∙ c.requires.file) (c.on_create.ensures.follows row.row row.is) c.on_resize.ensures.follows))
 

@@ -19,7 +19,10 @@ invariant_of-self c =
     let some : is_some (head c.self.inside.queue.items) ≡ true = ap (λ (k : Course). is_some (head k.queue)) c.self.view_is ∙ sym c.if-is_scanning.ensures.active in
     let row = has_found number c.args.node c.args.tree.now.nodes c.requires.there in
     let f = c.on_create.ensures.follows row.row row.is in
-    kept_going c.self.inside.queue.items c.self.inside.frontier c.on_create.new.self some f.folder f.room c.self.invariant
+    record {
+      kept = kept_going c.self.inside.queue.items c.self.inside.frontier c.on_create.new.self some f.folder f.room c.self.invariant.kept;
+      memory = c.self.invariant.memory;
+    }
 
 pub returns-then-is_scanning : goal.returns-then-is_scanning
 returns-then-is_scanning c =
@@ -29,7 +32,7 @@ returns-then-is_scanning c =
           let some : is_some (head c.self.inside.queue.items) ≡ true = ap (λ (k : Course). is_some (head k.queue)) c.self.view_is ∙ sym c.if-is_scanning.ensures.active in
           let rest = unvisited (without_node v c.args.node).nodes c.self.inside.frontier in
           subst (λ (k : Course). Goes k (record { queue = c.self.inside.queue.items; front = c.on_create.new.self }) v (λ scanned. unvisited_with row (left (without_node v c.args.node).nodes k))) c.self.view_is
-          (goes_on v (record { queue = c.self.inside.queue.items; front = c.self.inside.frontier }) c.on_create.new.self (λ scanned. unvisited_with row rest) c.self.invariant.active some
+          (goes_on v (record { queue = c.self.inside.queue.items; front = c.self.inside.frontier }) c.on_create.new.self (λ scanned. unvisited_with row rest) c.self.invariant.kept.active some
           (λ n h. folder_back v.nodes c.args.node n ((subst (Scanning (without_node v c.args.node)) (sym c.self.view_is) c.requires.scanning).folders n h))
           (own_follows v c.self.inside.frontier c.on_create.new.self (unvisited_with row rest) c.args.node 0 c.requires.volume (λ r e. folder_length v.size v.nodes c.args.node r c.requires.volume e (sym (found_folder v.nodes c.args.node r e) ∙ c.requires.folder)) (c.on_create.ensures.follows row found)));
     }

@@ -39,7 +39,10 @@ invariant_of-self g c =
     let volume = c.requires.scanning.volume in
     let emptied = c.on_resize.ensures.follows in
     let gone = c.on_remove.ensures.follows (volume_without v.size v.nodes c.args.node volume c.requires.there (file_inner v.size v.nodes c.args.node volume c.requires.file) (file_children v.size v.nodes c.args.node volume c.requires.file)) in
-    kept_going c.self.inside.queue.items c.self.inside.frontier c.on_remove.new.self some (gone.folder ∙ emptied.folder) (gone.room ∙ emptied.room) c.self.invariant
+    record {
+      kept = kept_going c.self.inside.queue.items c.self.inside.frontier c.on_remove.new.self some (gone.folder ∙ emptied.folder) (gone.room ∙ emptied.room) c.self.invariant.kept;
+      memory = c.self.invariant.memory;
+    }
 
 pub returns-then-is_scanning-clause-follows : goal.returns-then-is_scanning-clause-follows
 returns-then-is_scanning-clause-follows g c volume =
@@ -47,7 +50,7 @@ returns-then-is_scanning-clause-follows g c volume =
     let w = without_node v c.args.node in
     let some : is_some (head c.self.inside.queue.items) ≡ true = ap (λ (k : Course). is_some (head k.queue)) c.self.view_is ∙ sym c.if-is_scanning.ensures.active in
     subst (λ (k : Course). Goes k (record { queue = c.self.inside.queue.items; front = c.on_remove.new.self }) w (λ scanned. without_number c.args.node (left v.nodes k))) c.self.view_is
-    (goes_on w (record { queue = c.self.inside.queue.items; front = c.self.inside.frontier }) c.on_remove.new.self (λ scanned. without_number c.args.node (unvisited v.nodes c.self.inside.frontier)) c.self.invariant.active some
+    (goes_on w (record { queue = c.self.inside.queue.items; front = c.self.inside.frontier }) c.on_remove.new.self (λ scanned. without_number c.args.node (unvisited v.nodes c.self.inside.frontier)) c.self.invariant.kept.active some
     (λ n h.
     let folder = (subst (Scanning v) (sym c.self.view_is) c.requires.scanning).folders n h in
     folder_stays v.nodes c.args.node n (file_apart v.nodes c.args.node n c.requires.file folder) folder)

@@ -31,7 +31,7 @@ returns-then-is_scanning-clause-follows g c moment volume =
     let w = with_length v c.args.node c.args.new moment in
     let some : is_some (head c.self.inside.queue.items) ≡ true = ap (λ (k : Course). is_some (head k.queue)) c.self.view_is ∙ sym c.if-is_scanning.ensures.active in
     subst (λ (k : Course). Goes k (record { queue = c.self.inside.queue.items; front = c.on_resize.new.self }) w (λ scanned. left v.nodes k)) c.self.view_is
-    (goes_on w (record { queue = c.self.inside.queue.items; front = c.self.inside.frontier }) c.on_resize.new.self (λ scanned. unvisited v.nodes c.self.inside.frontier) c.self.invariant.active some
+    (goes_on w (record { queue = c.self.inside.queue.items; front = c.self.inside.frontier }) c.on_resize.new.self (λ scanned. unvisited v.nodes c.self.inside.frontier) c.self.invariant.kept.active some
     (λ n h. folder-change v.nodes c.args.node n (resized c.args.new moment) (λ r. refl) (λ r. refl) ∙ (subst (Scanning v) (sym c.self.view_is) c.requires.scanning).folders n h)
     (resized_follows v c.self.inside.frontier c.on_resize.new.self c.args.node c.args.new moment c.on_resize.ensures.follows volume))
 

@@ -31,7 +31,10 @@ invariant_of-self c =
     let v = c.args.tree.now in
     let some : is_some (head c.self.inside.queue.items) ≡ true = ap (λ (k : Course). is_some (head k.queue)) c.self.view_is ∙ sym c.if-is_scanning.ensures.active in
     let f = c.on_remove.ensures.follows (volume_without v.size v.nodes c.args.node c.requires.scanning.volume c.requires.there c.requires.inner c.requires.leaf) in
-    kept_going c.self.inside.queue.items c.self.inside.frontier c.on_remove.new.self some f.folder f.room c.self.invariant
+    record {
+      kept = kept_going c.self.inside.queue.items c.self.inside.frontier c.on_remove.new.self some f.folder f.room c.self.invariant.kept;
+      memory = c.self.invariant.memory;
+    }
 
 pub returns-then-is_scanning : goal.returns-then-is_scanning
 returns-then-is_scanning c =
@@ -41,7 +44,7 @@ returns-then-is_scanning c =
           let w = without_node v c.args.node in
           let some : is_some (head c.self.inside.queue.items) ≡ true = ap (λ (k : Course). is_some (head k.queue)) c.self.view_is ∙ sym c.if-is_scanning.ensures.active in
           subst (λ (k : Course). Goes k (record { queue = c.self.inside.queue.items; front = c.on_remove.new.self }) w (λ scanned. without_number c.args.node (left v.nodes k))) c.self.view_is
-          (goes_on w (record { queue = c.self.inside.queue.items; front = c.self.inside.frontier }) c.on_remove.new.self (λ scanned. without_number c.args.node (unvisited v.nodes c.self.inside.frontier)) c.self.invariant.active some
+          (goes_on w (record { queue = c.self.inside.queue.items; front = c.self.inside.frontier }) c.on_remove.new.self (λ scanned. without_number c.args.node (unvisited v.nodes c.self.inside.frontier)) c.self.invariant.kept.active some
           (λ n h. folder_stays v.nodes c.args.node n (absent_apart c.self.inside.queue.items c.args.node n (ap (λ (k : Course). is_in k.queue c.args.node) c.self.view_is ∙ c.requires.absent) h) ((subst (Scanning v) (sym c.self.view_is) c.requires.scanning).folders n h))
           (c.on_remove.ensures.follows volume));
     }

@@ -1,11 +1,12 @@
 use Rattle.std.proofs.Common.{refl}
 use Rattle.std.specs.Prelude.{codes}
-use Rattle.fsrm_model.specs.Options.{ThePath, TheLimit, TheType, TheStatus, TheRemoval, ThePercent, TheNotice, PathIs, LimitIs, TypeIs, StatusIs, RemovalIs, PercentIs, NoticeIs, path_in, limit_in, type_in, status_in}
-use Rattle.fsrm_model.specs.Reading.{path_from, limit_from, choice_from}
-use Rattle.fsrm_model.specs.ActionWords.{percent_from, notice_from}
+use Rattle.fsrm_model.specs.Options.{ThePath, TheStatus, TheSource, PathIs, StatusIs, SourceIs, path_in, status_in, source_in}
+use Rattle.fsrm_model.specs.GroupWords.{object_from}
+use Rattle.fsrm_model.specs.Reading.{path_from, choice_from}
 use Rattle.tool_commands.specs.QuotaOptions.{HoldsQuota}
-use Rattle.tool_commands.proofs.OptionLaws.{any_one, add_once, add_again}
-use Rattle.tool_commands.proofs.QuotaOptions.{quota_more}
+use Rattle.tool_commands.proofs.OptionLaws.{any_one, add_once}
+use Rattle.tool_commands.proofs.BaseOptions.{base_added}
+use Rattle.tool_commands.proofs.QuotaOptions.{quota_more, quota_base}
 use Rattle.tool_commands.proofs.quotas.QuotaOptionsValues.add.Goals as goal
 
 pub returns-in-Path : goal.returns-in-Path
@@ -13,32 +14,17 @@ returns-in-Path c given holds =
     rw c.in-Path.is (add_once HoldsQuota ThePath c.args.column c.args.value.now PathIs path_in (path_from c.args.value.now) refl (any_one path_in) refl (λ slot. record c.args.self.now { path = slot })
     given c.once.result c.args.self.now.path c.once.new.slot c.read_path_word.result c.once.ensures c.read_path_word.ensures holds.path (λ x free. quota_more c.args.self.now given (PathIs x) holds (λ _. free)))
 
-pub returns-in-Limit : goal.returns-in-Limit
-returns-in-Limit c given holds =
-    rw c.in-Limit.is (add_once HoldsQuota TheLimit c.args.column c.args.value.now LimitIs limit_in (limit_from c.args.column c.args.value.now) refl (any_one limit_in) refl (λ slot. record c.args.self.now { limit = slot })
-    given c.once-in-Limit.result c.args.self.now.limit c.once-in-Limit.new.slot c.read_limit.result c.once-in-Limit.ensures c.read_limit.ensures holds.limit (λ x free. quota_more c.args.self.now given (LimitIs x) holds (λ _. free)))
-
-pub returns-in-Enforce : goal.returns-in-Enforce
-returns-in-Enforce c given holds =
-    rw c.in-Enforce.is (add_once HoldsQuota TheType c.args.column c.args.value.now TypeIs type_in (choice_from (codes "hard") (codes "soft") c.args.column c.args.value.now) refl (any_one type_in) refl (λ slot. record c.args.self.now { enforce = slot })
-    given c.once-in-Enforce.result c.args.self.now.enforce c.once-in-Enforce.new.slot c.read_choice-enforce.result c.once-in-Enforce.ensures c.read_choice-enforce.ensures holds.enforce (λ x free. quota_more c.args.self.now given (TypeIs x) holds (λ _. free)))
-
 pub returns-in-Enabled : goal.returns-in-Enabled
 returns-in-Enabled c given holds =
     rw c.in-Enabled.is (add_once HoldsQuota TheStatus c.args.column c.args.value.now StatusIs status_in (choice_from (codes "enabled") (codes "disabled") c.args.column c.args.value.now) refl (any_one status_in) refl (λ slot. record c.args.self.now { enabled = slot })
     given c.once-in-Enabled.result c.args.self.now.enabled c.once-in-Enabled.new.slot c.read_choice-enabled.result c.once-in-Enabled.ensures c.read_choice-enabled.ensures holds.enabled (λ x free. quota_more c.args.self.now given (StatusIs x) holds (λ _. free)))
 
-pub returns-in-RemoveThreshold : goal.returns-in-RemoveThreshold
-returns-in-RemoveThreshold c given holds =
-    rw c.in-RemoveThreshold.is (add_again HoldsQuota TheRemoval c.args.column c.args.value.now RemovalIs (percent_from c.args.column c.args.value.now) refl refl (λ list. record c.args.self.now { removed = list })
-    given c.again.result c.args.self.now.removed c.again.new.list c.read_percent.result c.again.ensures c.read_percent.ensures (λ x. quota_more c.args.self.now given (RemovalIs x) holds (λ once. cc)))
+pub returns-in-Source : goal.returns-in-Source
+returns-in-Source c given holds =
+    rw c.in-Source.is (add_once HoldsQuota TheSource c.args.column c.args.value.now SourceIs source_in (object_from c.args.value.now) refl (any_one source_in) refl (λ slot. record c.args.self.now { source = slot })
+    given c.once-in-Source.result c.args.self.now.source c.once-in-Source.new.slot c.read_object_name.result c.once-in-Source.ensures c.read_object_name.ensures holds.source (λ x free. quota_more c.args.self.now given (SourceIs x) holds (λ _. free)))
 
-pub returns-in-AddThreshold : goal.returns-in-AddThreshold
-returns-in-AddThreshold c given holds =
-    rw c.in-AddThreshold.is (add_again HoldsQuota ThePercent c.args.column c.args.value.now PercentIs (percent_from c.args.column c.args.value.now) refl refl (λ list. record c.args.self.now { added = list })
-    given c.again-in-AddThreshold.result c.args.self.now.added c.again-in-AddThreshold.new.list c.read_percent-in-AddThreshold.result c.again-in-AddThreshold.ensures c.read_percent-in-AddThreshold.ensures (λ x. quota_more c.args.self.now given (PercentIs x) holds (λ once. cc)))
-
-pub returns-in-AddNotification : goal.returns-in-AddNotification
-returns-in-AddNotification c given holds =
-    rw c.in-AddNotification.is (add_again HoldsQuota TheNotice c.args.column c.args.value.now NoticeIs (notice_from c.args.column c.args.value.now) refl refl (λ list. record c.args.self.now { notices = list })
-    given c.again-in-AddNotification.result c.args.self.now.notices c.again-in-AddNotification.new.list c.read_notice.result c.again-in-AddNotification.ensures c.read_notice.ensures (λ x. quota_more c.args.self.now given (NoticeIs x) holds (λ once. cc)))
+pub returns-in-Base : goal.returns-in-Base
+returns-in-Base c given holds =
+    rw c.in-Base.is (base_added HoldsQuota c.in-Base.key c.args.column c.args.value.now given c.add.result c.add.new.self (λ base. record c.args.self.now { base = base }) (c.add.ensures given holds.base)
+    (λ x own more. quota_base c.args.self.now given x c.in-Base.key c.add.new.self holds own more))

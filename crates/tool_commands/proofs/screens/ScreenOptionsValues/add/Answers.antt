@@ -22,14 +22,14 @@ returns-in-Active c given holds =
 pub returns-in-RemoveGroup : goal.returns-in-RemoveGroup
 returns-in-RemoveGroup c given holds =
     rw c.in-RemoveGroup.is (add_again HoldsScreen TheGroupRemoval c.args.column c.args.value.now GroupRemovalIs (object_from c.args.value.now) refl refl (λ list. record c.args.self.now { removed_groups = list })
-    given c.again.result c.args.self.now.removed_groups c.again.new.list c.read_object_name.result c.again.ensures c.read_object_name.ensures (λ x. screen_more c.args.self.now given (GroupRemovalIs x) holds (λ once. cc)))
+    given c.again.result c.args.self.now.removed_groups c.again.new.list c.read_object_name.result refl c.again.ensures c.read_object_name.ensures (λ x. screen_more c.args.self.now given (GroupRemovalIs x) holds (λ once. cc)))
 
 pub returns-in-AddGroup : goal.returns-in-AddGroup
 returns-in-AddGroup c given holds =
     rw c.in-AddGroup.is (add_again HoldsScreen TheGroupAddition c.args.column c.args.value.now GroupAdditionIs (object_from c.args.value.now) refl refl (λ list. record c.args.self.now { added_groups = list })
-    given c.again-in-AddGroup.result c.args.self.now.added_groups c.again-in-AddGroup.new.list c.read_object_name-in-AddGroup.result c.again-in-AddGroup.ensures c.read_object_name-in-AddGroup.ensures (λ x. screen_more c.args.self.now given (GroupAdditionIs x) holds (λ once. cc)))
+    given c.again-in-AddGroup.result c.args.self.now.added_groups c.again-in-AddGroup.new.list c.read_object_name-in-AddGroup.result refl c.again-in-AddGroup.ensures c.read_object_name-in-AddGroup.ensures (λ x. screen_more c.args.self.now given (GroupAdditionIs x) holds (λ once. cc)))
 
 pub returns-in-AddAction : goal.returns-in-AddAction
 returns-in-AddAction c given holds =
     rw c.in-AddAction.is (add_again HoldsScreen TheScreenNotice c.args.column c.args.value.now ScreenNoticeIs (action_from c.args.column c.args.value.now) refl refl (λ list. record c.args.self.now { actions = list })
-    given c.again-in-AddAction.result c.args.self.now.actions c.again-in-AddAction.new.list c.read_screen_action.result c.again-in-AddAction.ensures c.read_screen_action.ensures (λ x. screen_more c.args.self.now given (ScreenNoticeIs x) holds (λ once. cc)))
+    given c.again-in-AddAction.result c.args.self.now.actions c.again-in-AddAction.new.list c.read_screen_action.result refl c.again-in-AddAction.ensures c.read_screen_action.ensures (λ x. screen_more c.args.self.now given (ScreenNoticeIs x) holds (λ once. cc)))

@@ -1,0 +1,6 @@
+pub mod SortedNumbers
+pub mod EligibleFolders
+pub mod ComingRows
+pub mod ReceiveLaws
+pub mod DerivedLaws
+pub mod AutoLaws

@@ -1,0 +1,5 @@
+pub mod SourceLaws
+pub mod OneComes
+pub mod MadeQuota
+pub mod MovedQuota
+pub mod CarriedLaws

@@ -1,0 +1,105 @@
+use Rattle.std.proofs.Common.{◌≡◌, ◌==◌, Some, ap, length, refl, subst, sym, ◌∙◌}
+use Rattle.std.specs.Global.{Vec}
+use Rattle.fsrm_base.specs.Keyed.{has_row}
+use Rattle.fsrm_base.proofs.Look.{is_some-find}
+use Rattle.fsrm_model.specs.declared.command.Deed.TheVariants.{AutoquotaAdd}
+use Rattle.fsrm_model.specs.declared.row.AutoRow.{AutoRow}
+use Rattle.fsrm_model.specs.declared.row.QuotaRow.{QuotaRow}
+use Rattle.fsrm_model.specs.AutoApply.{auto_folder, auto_of}
+use Rattle.templates.specs.Held.{with_auto}
+use Rattle.fsrm_engine.specs.Applying.{AreComing, IsGiven, apply_refusal, given_folders}
+use Rattle.fsrm_engine.specs.Machine.{rows_of}
+use Rattle.fsrm_engine.proofs.applied.AutoLaws.{apply_bare, auto_missing, auto_taken, auto_unknown, row_added, row_coming, row_due, row_source, ruled, source_found, source_none, when_given, when_refused}
+use Rattle.fsrm_engine.proofs.steps.StepLaws.{refused_as}
+use Rattle.fsrm_engine.proofs.tables.ScreenLaws.{lent_some}
+use Rattle.fsrm_engine.proofs.parts.Parts.auto_add.Goals as goal
+
+pub returns-in_default-clause-ok : goal.returns-in_default-clause-ok
+returns-in_default-clause-ok g c =
+    let p = c.args.self.now in
+    refused_as p c.args.moment (AutoquotaAdd c.args.path.now c.args.name.now c.args.excluded.now) c.refused.result _ c.requires.idle c.requires.after
+    (auto_missing p c.args.moment c.args.path.now c.args.name.now c.args.excluded.now c.in_default.ensures.folder) refl c.refused.ensures
+
+pub returns-then-is_some-clause-ok : goal.returns-then-is_some-clause-ok
+returns-then-is_some-clause-ok g c =
+    let p = c.args.self.now in
+    let n = c.in-Some.folder in
+    refused_as p c.args.moment (AutoquotaAdd c.args.path.now c.args.name.now c.args.excluded.now) c.refused-then-is_some.result _ c.requires.idle c.requires.after
+    (auto_taken p c.args.moment c.args.path.now c.args.name.now c.args.excluded.now n c.in-Some.ensures.folder
+    (lent_some c.auto_at.result (auto_of (rows_of p) n) c.is_some.result _ c.auto_at.ensures c.is_some.ensures c.if-is_some.true)) refl c.refused-then-is_some.ensures
+
+pub returns-in_default-find-clause-ok : goal.returns-in_default-find-clause-ok
+returns-in_default-find-clause-ok g c =
+    let p = c.args.self.now in
+    let n = c.in-Some.folder in
+    refused_as p c.args.moment (AutoquotaAdd c.args.path.now c.args.name.now c.args.excluded.now) c.refused-in_default-find.result _ c.requires.idle c.requires.after
+    (auto_unknown p c.args.moment c.args.path.now c.args.name.now c.args.excluded.now n c.in-Some.ensures.folder
+    (lent_some c.auto_at.result (auto_of (rows_of p) n) c.is_some.result _ c.auto_at.ensures c.is_some.ensures c.if-is_some.false)
+    (source_none p c.args.name.now c.as_str.result.now c.as_str.ensures c.in_default-find.ensures.found)) refl c.refused-in_default-find.ensures
+
+pub apply_auto-requires-clause-absent : goal.apply_auto-requires-clause-absent
+apply_auto-requires-clause-absent g c =
+    let p = c.args.self.now in
+    let n = c.in-Some.folder in
+    ap (λ (row : AutoRow). has_row auto_folder row.folder p.templates.autos) c.in_ok-row.ensures
+    ∙ (sym (is_some-find (λ auto. auto_folder auto == n) p.templates.autos)
+    ∙ lent_some c.auto_at.result (auto_of (rows_of p) n) c.is_some.result _ c.auto_at.ensures c.is_some.ensures c.if-is_some.false)
+
+pub apply_auto-requires-clause-coming : goal.apply_auto-requires-clause-coming
+apply_auto-requires-clause-coming g c =
+    let p = c.args.self.now in
+    let m = c.args.moment in
+    let path = c.args.path.now in
+    let name = c.args.name.now in
+    let excluded = c.args.excluded.now in
+    let n = c.in-Some.folder in
+    let number = c.in-Some-find.template in
+    let row = c.in_ok-row.row in
+    let at = c.in-Some.ensures.folder in
+    let free = lent_some c.auto_at.result (auto_of (rows_of p) n) c.is_some.result _ c.auto_at.ensures c.is_some.ensures c.if-is_some.false in
+    let source = source_found p name c.as_str.result.now number c.requires.whole c.as_str.ensures c.in-Some-find.ensures.found in
+    let folders = given_folders p.tree.nodes p.objects.quotas row in
+    let given = when_given (λ (rows : Vec QuotaRow). IsGiven p row m rows.items) (λ refusal. apply_refusal p row (length folders) ≡ Some refusal) c.in_ok-rows.field-0 c.in-Ok.rows c.in-Ok.is c.in_ok-rows.ensures.given in
+    let rows_are = given.rows_are source.row (row_source p m path name excluded n number c.requires.whole at free source row c.in_ok-row.ensures folders refl) in
+    subst (AreComing (ruled p (with_auto p.templates row))) (sym rows_are)
+    (row_coming p m path name excluded n number c.requires.whole at free source row c.in_ok-row.ensures folders refl c.requires.moment given.may)
+
+pub returns-in_ok-apply_auto-in-Ok-clause-ok : goal.returns-in_ok-apply_auto-in-Ok-clause-ok
+returns-in_ok-apply_auto-in-Ok-clause-ok g c =
+    let p = c.args.self.now in
+    let m = c.args.moment in
+    let path = c.args.path.now in
+    let name = c.args.name.now in
+    let excluded = c.args.excluded.now in
+    let n = c.in-Some.folder in
+    let number = c.in-Some-find.template in
+    let row = c.in_ok-row.row in
+    let at = c.in-Some.ensures.folder in
+    let free = lent_some c.auto_at.result (auto_of (rows_of p) n) c.is_some.result _ c.auto_at.ensures c.is_some.ensures c.if-is_some.false in
+    let source = source_found p name c.as_str.result.now number c.requires.whole c.as_str.ensures c.in-Some-find.ensures.found in
+    let folders = given_folders p.tree.nodes p.objects.quotas row in
+    let given = when_given (λ (rows : Vec QuotaRow). IsGiven p row m rows.items) (λ refusal. apply_refusal p row (length folders) ≡ Some refusal) c.in_ok-rows.field-0 c.in-Ok.rows c.in-Ok.is c.in_ok-rows.ensures.given in
+    let rows_are = given.rows_are source.row (row_source p m path name excluded n number c.requires.whole at free source row c.in_ok-row.ensures folders refl) in
+    row_added p m path name excluded n number c.requires.whole at free source row c.in_ok-row.ensures folders refl
+    c.apply_auto.new.self c.done.new.self c.done.result c.in-Ok.rows.items c.apply_auto.new.self.objects.room c.requires.idle c.requires.after c.requires.moment given.may rows_are
+    c.in_ok-apply_auto-in-Ok.ensures.applied c.done.ensures.ended c.done.ensures.answer
+
+pub returns-in-Err-clause-ok : goal.returns-in-Err-clause-ok
+returns-in-Err-clause-ok g c =
+    let p = c.args.self.now in
+    let m = c.args.moment in
+    let path = c.args.path.now in
+    let name = c.args.name.now in
+    let excluded = c.args.excluded.now in
+    let n = c.in-Some.folder in
+    let number = c.in-Some-find.template in
+    let row = c.in_ok-row.row in
+    let at = c.in-Some.ensures.folder in
+    let free = lent_some c.auto_at.result (auto_of (rows_of p) n) c.is_some.result _ c.auto_at.ensures c.is_some.ensures c.if-is_some.false in
+    let source = source_found p name c.as_str.result.now number c.requires.whole c.as_str.ensures c.in-Some-find.ensures.found in
+    let folders = given_folders p.tree.nodes p.objects.quotas row in
+    let refusal = c.in-Err.refusal in
+    let due = when_refused (λ (rows : Vec QuotaRow). IsGiven p row m rows.items) (λ refusal. apply_refusal p row (length folders) ≡ Some refusal) c.in_ok-rows.field-0 refusal c.in-Err.is c.in_ok-rows.ensures.given in
+    refused_as p m (AutoquotaAdd path name excluded) c.refused-in-Err.result refusal c.requires.idle c.requires.after
+    (row_due p m path name excluded n number c.requires.whole at free source row c.in_ok-row.ensures folders refl ∙ due)
+    (apply_bare p row (length folders) refusal due) c.refused-in-Err.ensures

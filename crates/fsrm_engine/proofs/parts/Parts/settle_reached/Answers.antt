@@ -1,0 +1,36 @@
+use Rattle.std.proofs.Common.{List, refl, ap, ◌∙◌, subst}
+use Rattle.std.specs.Prelude.{flat_map}
+use Rattle.std.specs.List.{list_all}
+use Rattle.fsrm_base.specs.Keyed.{has_row, is_ascending}
+use Rattle.fsrm_model.specs.declared.row.QuotaRow.{QuotaRow}
+use Rattle.fsrm_model.specs.Quota.{folder_of}
+use Rattle.thresholds.specs.Settled.{Settles}
+use Rattle.fsrm_engine.specs.Due.{updated_acts}
+use Rattle.fsrm_engine.proofs.settling.MarkLaws.{calm_of, calm_set, calm_there}
+use Rattle.fsrm_engine.proofs.settling.OrderlyQuotas.{quotas_orderly}
+use Rattle.fsrm_engine.proofs.tables.RanLaws.{counted_run}
+use Rattle.fsrm_engine.proofs.parts.Parts.settle_reached.Goals as goal
+
+pub settle_rows-requires : goal.settle_rows-requires
+settle_rows-requires c =
+    let p = c.args.self.now in
+    record {
+      orderly = quotas_orderly p.tree.nodes p.objects.quotas c.requires.counted.are_quotas;
+      marked = calm_there p (calm_of p c.requires.idle);
+      sorted = calm_set p (calm_of p c.requires.idle);
+      log = c.requires.log;
+      there = ap (list_all (λ (row : QuotaRow). has_row folder_of row.folder p.objects.quotas)) c.as_slice.ensures ∙ c.requires.there;
+      ascending = ap (is_ascending folder_of) c.as_slice.ensures ∙ c.requires.ascending;
+    }
+
+pub returns-clause-settled : goal.returns-clause-settled
+returns-clause-settled c =
+    let p = c.args.self.now in
+    record {
+      parts_are = refl;
+      settles = subst (λ (rows : List QuotaRow). Settles p.marks c.settle_rows.new.marks p.objects c.settle_rows.new.objects c.args.moment (flat_map (updated_acts p.objects p.usage p.run_limit c.args.moment) rows)) c.as_slice.ensures c.settle_rows.ensures.settled;
+      set = c.settle_rows.ensures.sorted;
+    }
+
+pub returns-clause-counted : goal.returns-clause-counted
+returns-clause-counted c = counted_run c.args.self.now _ c.args.moment _ c.requires.moment c.requires.counted (returns-clause-settled c)

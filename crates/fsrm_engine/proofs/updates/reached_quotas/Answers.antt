@@ -1,0 +1,23 @@
+use Rattle.std.proofs.Common.{List, ◌++◌, ◌∷◌, [], sym, ◌∙◌, ap, take}
+use Rattle.std.specs.Prelude.{filter}
+use Rattle.fsrm_model.specs.declared.row.QuotaRow.{QuotaRow}
+use Rattle.fsrm_model.specs.Templates.{is_reached}
+use Rattle.templates.proofs.UpdateLaws.{reached_none, reached_one}
+use Rattle.fsrm_engine.proofs.updates.reached_quotas.Goals.{then-is_reached+in_ok-copy+in_ok-push, else-is_reached}
+use Rattle.fsrm_engine.proofs.updates.reached_quotas.Goals as goal
+
+pub loop-place-preserved : goal.loop-place-preserved
+loop-place-preserved c =
+    let quotas = c.args.objects.now.quotas in
+    let quota = c.quota_at-quota.result.now in
+    let before = filter (is_reached c.args.mode c.args.old.now) (take c.loop-place.place quotas) in
+    elim c.if-is_reached.branch [
+      | then-is_reached+in_ok-copy+in_ok-push w ↦
+          let now = reached_one c.args.mode c.args.old.now quotas c.loop-place.place quota c.quota_at-quota.ensures (sym c.is_reached.ensures ∙ w.if-is_reached.true) in
+          w.quotas-is
+          ∙ (w.in_ok-push.ensures.ok
+          ∙ (ap (λ (rows : List QuotaRow). rows ++ w.in_ok-copy.field-0 ∷ []) c.loop-place.invariant
+          ∙ (ap (λ (row : QuotaRow). before ++ row ∷ []) w.in_ok-copy.ensures ∙ sym now)))
+      | else-is_reached w ↦
+          w.quotas-is ∙ (c.loop-place.invariant ∙ sym (reached_none c.args.mode c.args.old.now quotas c.loop-place.place quota c.quota_at-quota.ensures (sym c.is_reached.ensures ∙ w.if-is_reached.false)))
+    ]

@@ -1,0 +1,53 @@
+-- A node that moves, and what is known of it before it does.
+use Rattle.std.specs.Prelude.{◌≡◌, ℕ, ◌==◌, ◌≤◌, ◌||◌, nat_lt, true, false, length, List, Option, Some, None, is_some, option_map, if◌then◌else◌}
+use Rattle.fsrm_model.specs.Screens.{judging}
+use Rattle.fsrm_model.specs.Tree.{is_folder, owner_of, parent_of, resolve, usage}
+use Rattle.volume_tree.specs.Volume.{Volume, move_fault}
+use Rattle.file_screens.specs.declared.answer.Blocked.{Blocked}
+use Rattle.file_screens.specs.Blocked.{told}
+use Rattle.quota_usage.specs.declared.change.Change.{Change}
+use Rattle.quota_usage.specs.Charge.{exceeded_by}
+use Rattle.fsrm_engine.specs.declared.moves.Moving.{Moving}
+use Rattle.fsrm_engine.specs.declared.parts.Parts.{Parts}
+use Rattle.fsrm_engine.specs.Machine.{rows_of}
+use Rattle.fsrm_engine.specs.Places.{IsPlace}
+use Rattle.fsrm_engine.specs.Reporting.{is_active}
+use Rattle.fsrm_engine.specs.Arrivals.{moved_source, source_fault}
+
+-- paths name what moves and where to, and the tree has nothing against it
+pub record IsMove (v : Volume) (from to : List (List ℕ)) (m : Moving) : Type 0 where
+  pub resolved : resolve v.nodes from ≡ Some m.node
+  pub inner : (m.node == 0) ≡ false
+  pub at : IsPlace v.nodes to m.place.folder m.place.name.now
+  pub may : move_fault v m.node m.place.folder m.place.name.now ≡ None
+  pub parent : parent_of v.nodes m.node ≡ m.parent
+  pub owner : owner_of v.nodes m.node ≡ m.owner
+  pub kind : is_folder v.nodes m.node ≡ m.folder
+
+-- the template of which it gets a quota
+abbrev pub source_of_move : Parts → Moving → Option ℕ
+source_of_move parts m = moved_source parts.objects.quotas parts.templates.autos m.node m.folder m.place.folder m.place.name.now
+
+-- the screen that judges its new name
+abbrev pub judged_move : Parts → Moving → Option Blocked
+judged_move parts m =
+    if m.folder then None else option_map told (judging (rows_of parts) m.place.folder m.place.name.now)
+
+-- the bytes that move. If there is no quota, and none comes, they may be any number up to that
+pub record AreMoved (parts : Parts) (node : ℕ) (source : Option ℕ) (bytes : ℕ) : Type 0 where
+  pub few : bytes ≤ usage parts.tree.size parts.tree.nodes node
+  pub all : (is_some source || nat_lt 0 (length parts.objects.quotas)) ≡ true → bytes ≡ usage parts.tree.size parts.tree.nodes node
+
+-- what is taken from the folders above the old place, and given to those above the new one
+abbrev pub change_of : Moving → ℕ → Change
+change_of m bytes = record { from = Some m.parent; to = Some m.place.folder; minus = bytes; plus = bytes }
+
+-- nothing refuses the move
+pub record MayMove (parts : Parts) (from to : List (List ℕ)) (m : Moving) (source : Option ℕ) (judged : Option Blocked) (bytes : ℕ) : Type 0 where
+  pub is : IsMove parts.tree from to m
+  pub source_is : source ≡ source_of_move parts m
+  pub may_come : source_fault parts source ≡ None
+  pub judged_is : judged ≡ judged_move parts m
+  pub passive : is_active judged ≡ false
+  pub moved : AreMoved parts m.node source bytes
+  pub admitted : exceeded_by parts.tree.nodes parts.objects.quotas parts.usage (change_of m bytes) ≡ None

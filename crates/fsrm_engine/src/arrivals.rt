@@ -1,0 +1,151 @@
+//! The quota that a folder gets when it is made or moved: one of the template of the auto-apply quota of the folder that it
+//! stands in.
+
+ghost use Rattle.std.specs.Prelude.{◌≡◌, ◌+◌, ◌*◌, ◌≤◌, ◌==◌, true, false, length, is_some, IfErr, IfOk, IfSome, OnErr, OnOk, Some, None};
+ghost use Rattle.fsrm_base.specs.Keyed.{has_row};
+ghost use Rattle.fsrm_model.specs.declared.row.QuotaState.TheVariants.{Complete};
+ghost use Rattle.fsrm_model.specs.Limits.{latest_moment};
+ghost use Rattle.fsrm_model.specs.Name.{is_name};
+ghost use Rattle.fsrm_model.specs.Quota.{folder_of};
+ghost use Rattle.fsrm_model.specs.QuotaStates.{start};
+ghost use Rattle.fsrm_model.specs.Templates.{template_number};
+ghost use Rattle.fsrm_model.specs.Tree.{fresh, is_folder};
+ghost use Rattle.volume_tree.specs.Volume.{new_fault};
+ghost use Rattle.fsrm_engine.specs.Machine.{AreCounted, IsSound, IsWhole};
+ghost use Rattle.fsrm_engine.specs.Arrivals.{Receives, from_source, source_fault, with_folder};
+
+use crate::applying::derived_row;
+use crate::parts::Parts;
+use crate::places::Place;
+use fsrm_model::{Ledger, NoMemory, Refusal, Steps};
+use std::alloc::Global;
+use volume_tree::Finger;
+
+impl Parts {
+    /// Refuses a quota of a template, if one is named, if there would be too many or their texts too long.
+    pub(crate) fn may_come(&self, source: Option<u32>) -> Result<(), Refusal>
+        requires whole { IsWhole self.now }
+        requires there { IfSome source (λ template. has_row template_number template self.now.templates.templates ≡ true) }
+        ensures may { OnOk result (source_fault self.now source ≡ None) }
+        ensures refused { IfErr result (λ refusal. source_fault self.now source ≡ Some refusal) }
+    {
+        match source {
+            Some(template) => self.may_derive(template, 1, self.room()),
+            None => Ok(()),
+        }
+    }
+
+    /// Makes a folder, with its quota if it gets one. An `Err` changes nothing.
+    pub(crate) fn make_in<L: Ledger>(
+        &mut self,
+        alloc: Global,
+        place: Place<'_>,
+        vacancy: Finger,
+        source: Option<u32>,
+        owner: u32,
+        moment: u64,
+        steps: &mut Steps<L>,
+    ) -> Result<u32, NoMemory>
+        requires whole { IsWhole self.old }
+        requires folder { is_folder self.old.tree.nodes place.folder ≡ true }
+        requires name { is_name place.name.now ≡ true }
+        requires owner { 1 ≤ owner }
+        requires moment { moment ≤ latest_moment }
+        requires may { new_fault self.old.tree place.folder place.name.now ≡ None }
+        requires there { IfSome source (λ template. has_row template_number template self.old.templates.templates ≡ true) }
+        ensures number { IfOk result (λ number. number ≡ fresh self.old.tree.nodes) }
+        ensures made { OnOk result (self.new ≡ with_folder self.old place.entry.folder place.entry.name.now owner moment (from_source self.old.templates.templates (fresh self.old.tree.nodes) Complete moment source)) }
+        ensures err { OnErr result (self.new ≡ self.old) }
+        ensures counted { AreCounted self.new }
+        ensures looks { steps.new ≤ steps.old + 67 }
+    {
+        match source {
+            Some(template) => {
+                self.make_with(alloc, place, vacancy, template, owner, moment, steps)
+            }
+            None => {
+                let node = self
+                    .tree
+                    .make_folder(place.folder, place.name, vacancy, owner, moment, steps)?;
+                Ok(node)
+            }
+        }
+    }
+
+    // Makes a folder with a quota of a template. Nothing is in it, so the quota counts from the first.
+    fn make_with<L: Ledger>(
+        &mut self,
+        alloc: Global,
+        place: Place<'_>,
+        vacancy: Finger,
+        template: u32,
+        owner: u32,
+        moment: u64,
+        steps: &mut Steps<L>,
+    ) -> Result<u32, NoMemory>
+        requires whole { IsWhole self.old }
+        requires folder { is_folder self.old.tree.nodes place.folder ≡ true }
+        requires name { is_name place.name.now ≡ true }
+        requires owner { 1 ≤ owner }
+        requires moment { moment ≤ latest_moment }
+        requires may { new_fault self.old.tree place.folder place.name.now ≡ None }
+        requires there { has_row template_number template self.old.templates.templates ≡ true }
+        ensures number { IfOk result (λ number. number ≡ fresh self.old.tree.nodes) }
+        ensures made { OnOk result (self.new ≡ with_folder self.old place.entry.folder place.entry.name.now owner moment (from_source self.old.templates.templates (fresh self.old.tree.nodes) Complete moment (Some template))) }
+        ensures err { OnErr result (self.new ≡ self.old) }
+        ensures counted { AreCounted self.new }
+        ensures looks { steps.new ≤ steps.old + 67 }
+    {
+        // Its number is known once it is made.
+        let mut row = self.templates.derive(alloc, template, 0, moment)?;
+        let node = self
+            .tree
+            .make_folder(place.folder, place.name, vacancy, owner, moment, steps)?;
+        row.folder = node;
+        let Ok(()) = self.add(row) else {
+            self.tree.remove(node, steps).unwrap();
+            return Err(NoMemory);
+        };
+        Ok(node)
+    }
+
+    /// Gives a folder that is about to move the quota that it gets at its new place, if it gets one: its children move with
+    /// it, so that it is the same before. An `Err` changes nothing.
+    pub(crate) fn receive_moved<L: Ledger>(
+        &mut self,
+        alloc: Global,
+        source: Option<u32>,
+        node: u32,
+        moment: u64,
+        steps: &mut Steps<L>,
+    ) -> Result<(), NoMemory>
+        requires whole { IsWhole self.old }
+        requires moment { moment ≤ latest_moment }
+        requires there { IfSome source (λ template. has_row template_number template self.old.templates.templates ≡ true) }
+        requires kind { is_some source ≡ true → is_folder self.old.tree.nodes node ≡ true }
+        requires absent { is_some source ≡ true → has_row folder_of node self.old.objects.quotas ≡ false }
+        requires may { source_fault self.old source ≡ None }
+        ensures received { OnOk result (Receives self.old self.new (from_source self.old.templates.templates node (start self.old.tree.nodes node) moment source)) }
+        ensures err { OnErr result (self.new ≡ self.old) }
+        ensures sound { IsSound self.new }
+        ensures looks { steps.new ≤ steps.old + 1 }
+    {
+        match source {
+            Some(template) => {
+                let row = derived_row(
+                    &self.tree,
+                    &self.templates,
+                    alloc,
+                    template,
+                    node,
+                    moment,
+                    steps,
+                )?;
+                let mut rows = Vec::new(alloc);
+                rows.push(row)?;
+                self.receive(rows)
+            }
+            None => Ok(()),
+        }
+    }
+}

@@ -1,0 +1,273 @@
+//! The commands on auto-apply quotas.
+
+ghost use Rattle.std.specs.Prelude.{◌≡◌, ◌+◌, ◌*◌, ◌≤◌, ◌&&◌, ◌++◌, true, false, nat_le, length, filter, fold, map, IfErr, IfOk, MatchResult, OnOk, OnErr, Some, None};
+ghost use Rattle.std.specs.List.{list_all};
+ghost use Rattle.fsrm_base.specs.Keyed.{has_row};
+ghost use Rattle.fsrm_model.specs.declared.command.Deed.TheVariants.{AutoquotaAdd, AutoquotaDelete, AutoquotaList};
+ghost use Rattle.fsrm_model.specs.AutoApply.{auto_folder, is_auto, queue_with, quotas_with};
+ghost use Rattle.fsrm_model.specs.AutoWork.{new_auto};
+ghost use Rattle.fsrm_model.specs.Cost.{deed_cost};
+ghost use Rattle.fsrm_model.specs.Limits.{latest_moment, most_excluded};
+ghost use Rattle.fsrm_model.specs.Name.{is_name};
+ghost use Rattle.fsrm_model.specs.Templates.{template_number};
+ghost use Rattle.fsrm_model.specs.Tree.{number, children, children_in_order, is_folder};
+ghost use Rattle.fsrm_model.specs.Valid.{IsVolume};
+ghost use Rattle.templates.specs.Held.{with_auto};
+ghost use Rattle.fsrm_engine.specs.Applying.{AreComing, IsGiven, apply_refusal, gets_one, given_folders};
+ghost use Rattle.fsrm_engine.specs.Machine.{Does, IsIdle, IsSound, IsWhole, Turned, rows_of};
+ghost use Rattle.fsrm_engine.specs.Walk.{AreThere};
+
+use crate::applying::derived_rows;
+use crate::exits::{listing, refused};
+use crate::parts::Parts;
+use crate::places::folder_at;
+use fsrm_base::room::left_of_texts;
+use fsrm_model::limits::MOST_AUTOS;
+use fsrm_model::{
+    Answer, Ask, AutoRow, Duplicate, Ledger, List, NoMemory, Path, QuotaRow, Refusal, Steps, Text,
+};
+use fsrm_objects::Objects;
+use std::alloc::Global;
+use templates::excludes;
+use volume_tree::{Children, Finger, Siblings, Tree};
+
+// A new auto-apply quota, with copies of the names that it excludes.
+fn new_auto(
+    alloc: Global,
+    folder: u32,
+    template: u32,
+    excluded: &List<Text>,
+) -> Result<AutoRow, NoMemory>
+    ensures { IfOk result (λ row. row ≡ new_auto folder template excluded.now) }
+{
+    Ok(AutoRow {
+        folder,
+        template,
+        excluded: excluded.copy(alloc)?,
+    })
+}
+
+// Whether a child of a folder is a folder to which the folder's auto-apply quota gives a quota.
+fn gets_one<L: Ledger>(
+    tree: &Tree,
+    objects: &Objects,
+    row: &AutoRow,
+    child: u32,
+    steps: &mut Steps<L>,
+) -> bool
+    requires { has_row number child tree.now.nodes ≡ true }
+    ensures value { result ≡ (is_folder tree.now.nodes child && gets_one tree.now.nodes objects.now.quotas row.now child) }
+    ensures looks { steps.new ≤ steps.old + 1 }
+{
+    let view = tree.node(child, steps);
+    view.folder && !excludes(row, view.name) && objects.quota(child).is_none()
+}
+
+// Puts those of some children that get a quota after other folders. It takes a look for each child.
+fn put_given<L: Ledger>(
+    tree: &Tree,
+    objects: &Objects,
+    row: &AutoRow,
+    siblings: &Siblings<'_>,
+    folders: &mut Vec<u32>,
+    steps: &mut Steps<L>,
+) -> Result<(), NoMemory>
+    requires { AreThere tree.now.nodes siblings.now }
+    ensures ok { OnOk result (folders.new.items ≡ folders.old.items ++ filter (λ child. is_folder tree.now.nodes child && gets_one tree.now.nodes objects.now.quotas row.now child) siblings.now) }
+    ensures looks { steps.new ≤ steps.old + length siblings.now }
+{
+    for place in 0..siblings.len() {
+        let child = siblings.number(place);
+        if gets_one(tree, objects, row, child, steps) {
+            folders.push(child)?;
+        }
+    }
+    Ok(())
+}
+
+// The same of all children. It takes two looks for each.
+fn put_all_given<L: Ledger>(
+    tree: &Tree,
+    objects: &Objects,
+    row: &AutoRow,
+    children: &mut Children<'_>,
+    folders: &mut Vec<u32>,
+    steps: &mut Steps<L>,
+) -> Result<(), NoMemory>
+    requires { AreThere tree.now.nodes children.old }
+    ensures ok { OnOk result (folders.new.items ≡ folders.old.items ++ filter (λ child. is_folder tree.now.nodes child && gets_one tree.now.nodes objects.now.quotas row.now child) children.old) }
+    ensures looks { steps.new ≤ steps.old + 2 * length children.old }
+{
+    while let Some(siblings) = children.next(steps) {
+        put_given(tree, objects, row, &siblings, folders, steps)?;
+    }
+    Ok(())
+}
+
+// The folders in its folder to which an auto-apply quota gives quotas, in the order of their numbers.
+fn given_folders<L: Ledger>(
+    tree: &Tree,
+    objects: &Objects,
+    alloc: Global,
+    row: &AutoRow,
+    steps: &mut Steps<L>,
+) -> Result<Vec<u32>, NoMemory>
+    requires { IsVolume tree.now.size tree.now.nodes }
+    ensures folders { IfOk result (λ folders. folders.items ≡ given_folders tree.now.nodes objects.now.quotas row.now) }
+    ensures looks { steps.new ≤ steps.old + (1 + 2 * length (children tree.now.nodes row.now.folder)) }
+{
+    let mut folders = Vec::new(alloc);
+    let mut children = tree.children(row.folder, &mut Finger::default(), steps);
+    put_all_given(tree, objects, row, &mut children, &mut folders, steps)?;
+    folders.sort_unstable();
+    Ok(folders)
+}
+
+impl Parts {
+    // Refuses an auto-apply quota that gives so many quotas, if there would be too many of either or their texts too long.
+    fn may_apply(&self, row: &AutoRow, count: usize) -> Result<(), Refusal>
+        requires whole { IsWhole self.now }
+        requires there { has_row template_number row.now.template self.now.templates.templates ≡ true }
+        ensures may { OnOk result (apply_refusal self.now row.now count ≡ None) }
+        ensures refused { IfErr result (λ refusal. apply_refusal self.now row.now count ≡ Some refusal) }
+    {
+        if self.templates.auto_count() as usize >= MOST_AUTOS {
+            return Err(Refusal::TableFull);
+        }
+        match left_of_texts(&row.excluded, self.room().into()) {
+            Some(left) => self.may_derive(row.template, count, left as u32),
+            None => {
+                // Too many quotas come before texts that are too long.
+                self.may_derive(row.template, count, 0)?;
+                Err(Refusal::TextsFull)
+            }
+        }
+    }
+
+    // The quotas that a new auto-apply quota gives, or why it can't come.
+    fn given_rows<L: Ledger>(
+        &self,
+        alloc: Global,
+        row: &AutoRow,
+        moment: u64,
+        steps: &mut Steps<L>,
+    ) -> Result<Result<Vec<QuotaRow>, Refusal>, NoMemory>
+        requires whole { IsWhole self.now }
+        requires there { has_row template_number row.now.template self.now.templates.templates ≡ true }
+        ensures given { IfOk result (λ given. MatchResult given (λ rows. IsGiven self.now row.now moment rows.items) (λ refusal. apply_refusal self.now row.now (length (given_folders self.now.tree.nodes self.now.objects.quotas row.now)) ≡ Some refusal)) }
+        ensures looks { steps.new ≤ steps.old + (1 + 3 * length (children self.now.tree.nodes row.now.folder)) }
+    {
+        let folders = given_folders(&self.tree, &self.objects, alloc, row, steps)?;
+        if let Err(refusal) = self.may_apply(row, folders.len()) {
+            return Ok(Err(refusal));
+        }
+        let rows = derived_rows(
+            &self.tree,
+            &self.templates,
+            alloc,
+            row.template,
+            &folders,
+            moment,
+            steps,
+        )?;
+        Ok(Ok(rows))
+    }
+
+    // Puts an auto-apply quota on a folder that has none, and the quotas that it gives on their folders. An `Err` changes
+    // nothing.
+    fn apply_auto(&mut self, row: AutoRow, rows: Vec<QuotaRow>) -> Result<(), NoMemory>
+        requires whole { IsWhole self.old }
+        requires absent { has_row auto_folder row.folder self.old.templates.autos ≡ false }
+        requires there { has_row template_number row.template self.old.templates.templates ≡ true }
+        requires valid { is_auto row ≡ true }
+        requires coming { AreComing (record self.old { templates = with_auto self.old.templates row }) rows.items }
+        ensures applied { OnOk result (Turned (record self.old { templates = with_auto self.old.templates row; objects = record self.old.objects { room = self.new.objects.room } }) self.new (fold quotas_with self.old.objects.quotas rows.items) (fold queue_with self.old.scans.queue rows.items)) }
+        ensures err { OnErr result (self.new ≡ self.old) }
+        ensures sound { IsSound self.new }
+    {
+        let folder = row.folder;
+        let room = self.room();
+        let Ok(()) = self.templates.add_auto(row, room) else {
+            return Err(NoMemory);
+        };
+        let Ok(()) = self.receive(rows) else {
+            self.templates.drop_auto(folder);
+            return Err(NoMemory);
+        };
+        Ok(())
+    }
+
+    /// Gives a folder an auto-apply quota, and quotas of its template to the folders in it, but for those whose names it
+    /// excludes and those that have one.
+    pub(crate) fn auto_add<L: Ledger>(
+        &mut self,
+        alloc: Global,
+        path: &Path,
+        name: &Text,
+        excluded: &List<Text>,
+        moment: u64,
+        steps: &mut Steps<L>,
+    ) -> Result<Answer, NoMemory>
+        requires whole { IsWhole self.old }
+        requires idle { IsIdle self.old }
+        requires excluded { (nat_le (length excluded.now) most_excluded && list_all is_name excluded.now) ≡ true }
+        requires moment { moment ≤ latest_moment }
+        requires after { self.old.last_moment ≤ moment }
+        ensures ok { IfOk result (λ answer. Does self.old self.new moment (AutoquotaAdd path.now name.now excluded.now) answer) }
+        ensures err { OnErr result (self.new ≡ self.old) }
+        ensures sound { IsSound self.new }
+        ensures looks { steps.new ≤ steps.old + deed_cost (rows_of self.old) (AutoquotaAdd path.now name.now excluded.now) }
+    {
+        let Some(folder) = folder_at(&self.tree, path, steps) else {
+            return Ok(refused(Refusal::PathNotFound));
+        };
+        if self.templates.auto_at(folder).is_some() {
+            return Ok(refused(Refusal::AlreadyExists));
+        }
+        let Some(template) = self.templates.find(name.as_str()) else {
+            return Ok(refused(Refusal::NotFound));
+        };
+        let row = new_auto(alloc, folder, template, excluded)?;
+        match self.given_rows(alloc, &row, moment, steps)? {
+            Ok(rows) => {
+                self.apply_auto(row, rows)?;
+                Ok(self.done(moment))
+            }
+            Err(refusal) => Ok(refused(refusal)),
+        }
+    }
+
+    /// Takes an auto-apply quota away. The quotas that it gave stay.
+    pub(crate) fn auto_delete<L: Ledger>(
+        &mut self,
+        path: &Path,
+        moment: u64,
+        steps: &mut Steps<L>,
+    ) -> Answer
+        requires whole { IsWhole self.old }
+        requires idle { IsIdle self.old }
+        requires moment { moment ≤ latest_moment }
+        requires after { self.old.last_moment ≤ moment }
+        ensures ok { Does self.old self.new moment (AutoquotaDelete path.now) result }
+        ensures sound { IsSound self.new }
+        ensures looks { steps.new ≤ steps.old + deed_cost (rows_of self.old) (AutoquotaDelete path.now) }
+    {
+        let Some(folder) = folder_at(&self.tree, path, steps) else {
+            return refused(Refusal::PathNotFound);
+        };
+        if self.templates.auto_at(folder).is_none() {
+            return refused(Refusal::NotFound);
+        }
+        self.templates.drop_auto(folder);
+        self.done(moment)
+    }
+
+    /// Lists all auto-apply quotas.
+    pub(crate) fn list_autos(&self, moment: u64) -> Answer
+        requires idle { IsIdle self.now }
+        requires after { self.now.last_moment ≤ moment }
+        ensures { Does self.now self.now moment AutoquotaList result }
+    {
+        listing(Ask::Autos)
+    }
+}

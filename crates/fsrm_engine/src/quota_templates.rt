@@ -1,0 +1,184 @@
+//! The commands on quota templates.
+
+ghost use Rattle.std.specs.Prelude.{◌≡◌, ◌≤◌, [], true, IfOk, OnErr};
+ghost use Rattle.std.specs.List.{list_all};
+ghost use Rattle.std.specs.Option.{option_copied, option_map_or};
+ghost use Rattle.fsrm_base.specs.Keyed.{is_ascending};
+ghost use Rattle.fsrm_model.specs.declared.command.Deed.TheVariants.{TemplateAdd, TemplateModify, TemplateDelete, TemplateList};
+ghost use Rattle.fsrm_model.specs.Limits.{latest_moment};
+ghost use Rattle.fsrm_model.specs.Patterns.{is_object_name};
+ghost use Rattle.fsrm_model.specs.Quota.{is_limit};
+ghost use Rattle.fsrm_model.specs.Templates.{template_named};
+ghost use Rattle.fsrm_model.specs.TemplateWork.{retemplated};
+ghost use Rattle.fsrm_model.specs.Thresholds.{is_notice, is_percent, percent_of};
+ghost use Rattle.fsrm_engine.specs.Machine.{Does, IsIdle, IsSound, IsWhole};
+
+use crate::exits::{listing, refused, refused_by_templates};
+use crate::parts::Parts;
+use crate::threshold_lists::{ThresholdChange, may_be_removed};
+use crate::updates::reached_quotas;
+use fsrm_model::{
+    Answer, Ask, Duplicate, List, NoMemory, Refusal, TemplateRow, Text, Threshold, Update,
+};
+use fsrm_objects::are_too_many;
+use std::alloc::Global;
+
+// A template whose number is to come.
+fn new_template(
+    alloc: Global,
+    name: &Text,
+    limit: u64,
+    enforce: bool,
+    thresholds: List<Threshold>,
+) -> Result<TemplateRow, NoMemory>
+    ensures { IfOk result (λ row. row ≡ record { number = 0; name = name.now; limit = limit; enforce = enforce; thresholds = thresholds }) }
+{
+    Ok(TemplateRow {
+        number: 0,
+        name: name.copy(alloc)?,
+        limit,
+        enforce,
+        thresholds,
+    })
+}
+
+// A template with another limit, or of another type, if these are given, and with changed thresholds.
+fn retemplated(
+    alloc: Global,
+    template: &TemplateRow,
+    limit: Option<u64>,
+    enforce: Option<bool>,
+    change: &ThresholdChange<'_>,
+) -> Result<TemplateRow, NoMemory>
+    requires { is_ascending percent_of template.now.thresholds ≡ true }
+    ensures { IfOk result (λ row. row ≡ retemplated limit enforce change.now.removed.now change.now.percents.now change.now.notices.now template.now) }
+{
+    Ok(TemplateRow {
+        number: template.number,
+        name: template.name.copy(alloc)?,
+        limit: limit.unwrap_or(template.limit),
+        enforce: enforce.unwrap_or(template.enforce),
+        thresholds: change.changed(alloc, &template.thresholds)?,
+    })
+}
+
+impl Parts {
+    /// The template of a name, in any spelling.
+    pub(crate) fn template_named(&self, name: &Text) -> Option<&TemplateRow>
+        requires { IsWhole self.now }
+        ensures { option_copied result ≡ template_named self.now.templates.templates name.now }
+    {
+        let number = self.templates.find(name.as_str())?;
+        self.templates.template(number)
+    }
+
+    /// Makes a template.
+    pub(crate) fn template_add(
+        &mut self,
+        alloc: Global,
+        name: &Text,
+        limit: u64,
+        enforce: bool,
+        change: &ThresholdChange<'_>,
+        moment: u64,
+    ) -> Result<Answer, NoMemory>
+        requires whole { IsWhole self.old }
+        requires idle { IsIdle self.old }
+        requires name { is_object_name name.now ≡ true }
+        requires limit { is_limit limit ≡ true }
+        requires removed { change.now.removed.now ≡ [] }
+        requires percents { list_all is_percent change.now.percents.now ≡ true }
+        requires notices { list_all is_notice change.now.notices.now ≡ true }
+        requires moment { moment ≤ latest_moment }
+        requires after { self.old.last_moment ≤ moment }
+        ensures ok { IfOk result (λ answer. Does self.old self.new moment (TemplateAdd name.now limit enforce change.now.percents.now change.now.notices.now) answer) }
+        ensures err { OnErr result (self.new ≡ self.old) }
+        ensures sound { IsSound self.new }
+    {
+        if self.template_named(name).is_some() {
+            return Ok(refused(Refusal::DuplicateName));
+        }
+        let thresholds = change.changed(alloc, &List::new(alloc))?;
+        if are_too_many(&thresholds) {
+            return Ok(refused(Refusal::OutOfRange));
+        }
+        let row = new_template(alloc, name, limit, enforce, thresholds)?;
+        let room = self.room();
+        match self.templates.add(row, room) {
+            Ok(_) => Ok(self.done(moment)),
+            Err(fault) => refused_by_templates(fault),
+        }
+    }
+
+    /// Changes what is given of a template: its limit, its type, its thresholds. Then the quotas that were derived from it
+    /// take what it says, as far as the update reaches them.
+    pub(crate) fn template_modify(
+        &mut self,
+        alloc: Global,
+        name: &Text,
+        limit: Option<u64>,
+        enforce: Option<bool>,
+        change: &ThresholdChange<'_>,
+        mode: Update,
+        moment: u64,
+    ) -> Result<Answer, NoMemory>
+        requires whole { IsWhole self.old }
+        requires idle { IsIdle self.old }
+        requires limit { option_map_or is_limit limit true ≡ true }
+        requires percents { list_all is_percent change.now.percents.now ≡ true }
+        requires notices { list_all is_notice change.now.notices.now ≡ true }
+        requires moment { moment ≤ latest_moment }
+        requires after { self.old.last_moment ≤ moment }
+        ensures ok { IfOk result (λ answer. Does self.old self.new moment (TemplateModify name.now limit enforce change.now.removed.now change.now.percents.now change.now.notices.now mode) answer) }
+        ensures err { OnErr result (self.new ≡ self.old) }
+        ensures sound { IsSound self.new }
+    {
+        let Some(template) = self.template_named(name) else {
+            return Ok(refused(Refusal::NotFound));
+        };
+        if !may_be_removed(change.removed, template.thresholds.as_slice()) {
+            return Ok(refused(Refusal::NotFound));
+        }
+        let old = template.copy(alloc)?;
+        let new = retemplated(alloc, &old, limit, enforce, change)?;
+        if are_too_many(&new.thresholds) {
+            return Ok(refused(Refusal::OutOfRange));
+        }
+        if self.is_long_update(&old, &new, mode) {
+            return Ok(refused(Refusal::TextsFull));
+        }
+        let reached = reached_quotas(alloc, &self.objects, mode, &old)?;
+        self.rewrite(alloc, old, new, mode)?;
+        self.settle_reached(&reached, moment);
+        Ok(self.done(moment))
+    }
+
+    /// Takes a template away, if no auto-apply quota names it. The quotas that were derived from it stay, without a template.
+    pub(crate) fn template_delete(&mut self, name: &Text, moment: u64) -> Answer
+        requires whole { IsWhole self.old }
+        requires idle { IsIdle self.old }
+        requires moment { moment ≤ latest_moment }
+        requires after { self.old.last_moment ≤ moment }
+        ensures ok { Does self.old self.new moment (TemplateDelete name.now) result }
+        ensures sound { IsSound self.new }
+    {
+        let Some(template) = self.template_named(name) else {
+            return refused(Refusal::NotFound);
+        };
+        let number = template.number;
+        let Ok(()) = self.templates.delete(number) else {
+            return refused(Refusal::InUse);
+        };
+        self.objects.clear_template(number);
+        self.done(moment)
+    }
+
+    /// Lists all templates.
+    pub(crate) fn list_templates(&self, moment: u64) -> Answer
+        requires idle { IsIdle self.now }
+        requires after { self.now.last_moment ≤ moment }
+        ensures { Does self.now self.now moment TemplateList result }
+    {
+        listing(Ask::Templates)
+    }
+}

@@ -1,0 +1,102 @@
+-- The commands on auto-apply quotas: each one's work is orderly, and leaves the rows of a store if no check refuses.
+use Rattle.std.proofs.Common.{◌≡◌, ℕ, ◌≤◌, ◌==◌, nat_lt, nat_le, true, false, not, ◌&&◌, List, [], ◌∷◌, length, Option, Some, None, refl, sym, ◌∙◌, arith}
+use Rattle.std.specs.Prelude.{filter_map, fold, is_none, is_some, sum_by}
+use Rattle.std.specs.List.{list_all}
+use Rattle.fsrm_base.specs.Keyed.{has_row, is_ascending, with_row, without_row}
+use Rattle.fsrm_base.proofs.Look.{found_has, found_own, is_some-find}
+use Rattle.fsrm_base.proofs.TestLaws.{ge_is}
+use Rattle.fsrm_model.specs.AutoApply.{auto_folder, auto_of, applied, quotas_with, queue_with, with_quotas, subfolders}
+use Rattle.fsrm_model.specs.AutoWork.{new_auto, auto_add_work, auto_delete_work, auto_list_work}
+use Rattle.fsrm_model.specs.declared.command.Refusal.TheVariants.{PathNotFound, AlreadyExists, NotFound, TableFull, TextsFull}
+use Rattle.fsrm_model.specs.declared.row.AutoRow.{AutoRow}
+use Rattle.fsrm_model.specs.declared.row.Capacity.{Capacity}
+use Rattle.fsrm_model.specs.declared.row.Rows.{Rows}
+use Rattle.fsrm_model.specs.declared.row.TemplateRow.{TemplateRow}
+use Rattle.fsrm_model.specs.Check.{◌when◌, autos_full, table_full, texts_full}
+use Rattle.fsrm_model.specs.FileOps.{target}
+use Rattle.fsrm_model.specs.Leads.{leads_to_folder}
+use Rattle.fsrm_model.specs.Limits.{latest_moment, most_autos, most_excluded, most_quotas, most_templates, most_text_bytes}
+use Rattle.fsrm_model.specs.Name.{is_name, is_named}
+use Rattle.fsrm_model.specs.Templates.{template_number, template_name, template_named, is_template}
+use Rattle.fsrm_model.specs.TemplateWork.{number_in}
+use Rattle.fsrm_model.specs.Texts.{auto_bytes, object_texts}
+use Rattle.fsrm_model.proofs.commands.FileParts.{folder_at}
+use Rattle.fsrm_model.proofs.commands.Orderly.{IsStill, KeepsValid, change_still, show_still, bare, first_none, when_none}
+use Rattle.fsrm_model.proofs.thresholds.KeptLaws.{sum_by-less}
+use Rattle.fsrm_model.proofs.valid.ComingQuotas.{coming_subfolders}
+use Rattle.fsrm_model.proofs.valid.NamesApart.{named_parts}
+use Rattle.fsrm_model.proofs.valid.RowsKept.{nothing_followed, templates_followed}
+use Rattle.fsrm_model.proofs.valid.TemplatesKept.{autos-new, autos-gone, quotas-coming, sources-coming, queue-coming}
+
+pub auto_add_still : (K : Capacity) (R : Rows) (moment : ℕ) (path : List (List ℕ)) (name : List ℕ) (excluded : List (List ℕ)) → IsStill K R (auto_add_work R moment path name excluded)
+auto_add_still K R moment path name excluded =
+    change_still K R _ _ (bare _ _ refl, (bare _ _ refl, (bare _ _ refl, (bare _ _ refl, (bare _ _ refl, (bare _ _ refl, tt)))))) refl
+
+pub auto_delete_still : (K : Capacity) (R : Rows) (path : List (List ℕ)) → IsStill K R (auto_delete_work R path)
+auto_delete_still K R path = change_still K R _ _ (bare _ _ refl, (bare _ _ refl, tt)) refl
+
+pub auto_list_still : (K : Capacity) (R : Rows) → IsStill K R (auto_list_work R)
+auto_list_still K R = show_still K R [] _ tt tt (λ store h. tt)
+
+-- a template that is found by its name is there
+found_there : (templates : List TemplateRow) (name : List ℕ) (o : Option TemplateRow) → is_ascending template_number templates ≡ true → template_named templates name ≡ o → is_none o ≡ false → has_row template_number (number_in o) templates ≡ true
+found_there templates name None t e some = absurd (cc some)
+found_there templates name (Some template) t e some =
+    found_has template_number template.number templates template (found_own template_number (is_named template_name name) templates template t e)
+
+pub auto_add_kept : (K : Capacity) (R : Rows) (moment : ℕ) (path : List (List ℕ)) (name : List ℕ) (excluded : List (List ℕ)) → (nat_le (length excluded) most_excluded && list_all is_name excluded) ≡ true → moment ≤ latest_moment → KeepsValid K R (auto_add_work R moment path name excluded)
+auto_add_kept K R moment path name excluded legal late s h =
+    let folder = target R.nodes path in
+    let template = template_named R.templates name in
+    let row : AutoRow = new_auto folder (number_in template) excluded in
+    let autos = with_row auto_folder row R.autos in
+    let ruled : Rows = record R { autos = autos } in
+    let coming = filter_map (applied ruled moment) (subfolders R.nodes folder) in
+    let quotas = fold quotas_with R.quotas coming in
+    let queue = fold queue_with R.queue coming in
+    let after = with_quotas ruled coming in
+    let taken = is_some (auto_of R folder) in
+    let known = (AlreadyExists when taken) in
+    let missing = (NotFound when is_none template) in
+    let rows = autos_full after in
+    let full = table_full after in
+    let long = texts_full after in
+    let a = first_none (PathNotFound when not (leads_to_folder R.nodes path)) (known ∷ missing ∷ rows ∷ full ∷ long ∷ []) h in
+    let b = first_none known (missing ∷ rows ∷ full ∷ long ∷ []) a.1 in
+    let c = first_none missing (rows ∷ full ∷ long ∷ []) b.1 in
+    let d = first_none rows (full ∷ long ∷ []) c.1 in
+    let e = first_none full (long ∷ []) d.1 in
+    let f = first_none long [] e.1 in
+    let t = named_parts template_number template_name most_templates is_template R.templates s.tables.templates in
+    let absent : has_row auto_folder folder R.autos ≡ false = sym (is_some-find (λ auto. auto_folder auto == folder) R.autos) ∙ when_none AlreadyExists taken b.0 in
+    let few_autos : length autos ≤ most_autos = ge_is _ _ (when_none TableFull (nat_lt most_autos (length autos)) d.0) in
+    let few : length quotas ≤ most_quotas = ge_is _ _ (when_none TableFull (nat_lt most_quotas (length quotas)) e.0) in
+    let come = coming_subfolders ruled moment folder s.tables.templates late s.volume.ascending in
+    templates_followed K R R.templates autos quotas queue s s.tables.templates
+    (autos-new R.nodes R.templates row R.autos s.tables.autos absent few_autos (record {
+      folder = folder_at R.nodes path a.0;
+      there = found_there R.templates name template t.ascending refl (when_none NotFound (is_none template) c.0);
+      own = legal;
+    }))
+    (quotas-coming R.nodes R.templates R.quotas coming s.quotas come few)
+    (sources-coming R.nodes R.templates R.quotas coming come s.tables.sources)
+    (ge_is _ _ (when_none TextsFull (nat_lt most_text_bytes (object_texts after)) f.0))
+    (queue-coming R.nodes R.templates R.quotas coming R.queue come s.queue)
+
+-- texts of fewer auto-apply quotas
+fewer_autos : (R : Rows) (autos : List AutoRow) → sum_by auto_bytes autos ≤ sum_by auto_bytes R.autos → object_texts R ≤ most_text_bytes → object_texts (record R { autos = autos }) ≤ most_text_bytes
+fewer_autos R autos less few = omega (arith, less, few)
+
+pub auto_delete_kept : (K : Capacity) (R : Rows) (path : List (List ℕ)) → KeepsValid K R (auto_delete_work R path)
+auto_delete_kept K R path s h =
+    let folder = target R.nodes path in
+    let autos = without_row auto_folder folder R.autos in
+    templates_followed K R R.templates autos R.quotas R.queue s s.tables.templates
+    (autos-gone R.nodes R.nodes R.templates R.autos folder (λ f apart is. is) s.tables.autos)
+    s.quotas s.tables.sources
+    (fewer_autos R autos (sum_by-less auto_bytes (λ auto. not (auto_folder auto == folder)) R.autos) s.texts)
+    s.queue
+
+-- a list leaves them as they are
+pub auto_list_kept : (K : Capacity) (R : Rows) → KeepsValid K R (auto_list_work R)
+auto_list_kept K R s h = nothing_followed K R s

@@ -1,0 +1,218 @@
+-- The commands on quota templates: each one's work is orderly, and leaves the rows of a store if no check refuses.
+use Rattle.std.proofs.Common.{◌≡◌, ℕ, ◌≤◌, ◌==◌, nat_lt, Bool, true, false, cond, not, List, [], ◌∷◌, length, Option, Some, None, refl, sym, ◌∙◌, subst, arith}
+use Rattle.std.proofs.lemmas.Option.{same_Some}
+use Rattle.std.specs.Prelude.{is_none, is_some, map, sum_by}
+use Rattle.std.specs.List.{list_all, list_any}
+use Rattle.std.specs.Option.{option_map_or}
+use Rattle.fsrm_base.specs.Keyed.{row_of, with_row, with_change, without_row, least_free}
+use Rattle.fsrm_base.proofs.Look.{found_own, has_row-change, is_some-find}
+use Rattle.fsrm_base.proofs.Members.{all_found}
+use Rattle.fsrm_base.proofs.Order.{least_free_is, length-with_row}
+use Rattle.fsrm_base.proofs.TestLaws.{ge_is, lt_test}
+use Rattle.fsrm_model.specs.declared.command.Added.{Added}
+use Rattle.fsrm_model.specs.declared.command.Refusal.TheVariants.{DuplicateName, NotFound, InUse, OutOfRange, TableFull, TextsFull}
+use Rattle.fsrm_model.specs.declared.command.Update.{Update}
+use Rattle.fsrm_model.specs.declared.row.Capacity.{Capacity}
+use Rattle.fsrm_model.specs.declared.row.QuotaRow.{QuotaRow}
+use Rattle.fsrm_model.specs.declared.row.Rows.{Rows}
+use Rattle.fsrm_model.specs.declared.row.TemplateRow.{TemplateRow}
+use Rattle.fsrm_model.specs.Check.{◌when◌, templates_full, texts_full}
+use Rattle.fsrm_model.specs.Limits.{most_templates, most_text_bytes}
+use Rattle.fsrm_model.specs.Name.{is_named}
+use Rattle.fsrm_model.specs.Patterns.{is_object_name}
+use Rattle.fsrm_model.specs.Quota.{folder_of, is_limit}
+use Rattle.fsrm_model.specs.QuotaStates.{followed}
+use Rattle.fsrm_model.specs.Templates.{template_number, template_name, template_named, is_template, is_derived, without_source, is_reached, as_template, updated}
+use Rattle.fsrm_model.specs.TemplateWork.{number_in, thresholds_in, new_template, template_add_work, retemplated, updated_quotas, template_modify_work, is_applied, template_delete_work, template_list_work}
+use Rattle.fsrm_model.specs.Texts.{quota_bytes, template_bytes, object_texts}
+use Rattle.fsrm_model.specs.Thresholds.{is_percent, is_notice, are_too_many, may_be_removed, changed_thresholds}
+use Rattle.fsrm_model.specs.Valid.{IsValid}
+use Rattle.fsrm_model.proofs.commands.Orderly.{IsStill, KeepsValid, change_still, show_still, bare, first_none, when_none}
+use Rattle.fsrm_model.proofs.commands.QuotaCommands.{limit_kept}
+use Rattle.fsrm_model.proofs.thresholds.KeptLaws.{sum_by-less, sum_by-same}
+use Rattle.fsrm_model.proofs.thresholds.ThresholdLaws.{changed_kept}
+use Rattle.fsrm_model.proofs.thresholds.UnrunKept.{changed_unrun}
+use Rattle.fsrm_model.proofs.valid.NamesApart.{named_parts, named-new, named-change, named-without, there-with_row}
+use Rattle.fsrm_model.proofs.valid.QueueKept.{queue_mapped}
+use Rattle.fsrm_model.proofs.valid.QuotasKept.{IsQuota, quotas-map}
+use Rattle.fsrm_model.proofs.valid.RowsKept.{all_stay, nothing_followed, templates_followed}
+use Rattle.fsrm_model.proofs.valid.TemplatesKept.{HasTemplates, template_parts, template_joined, sources_stay, sources-gone, sources-updated, autos_stay, autos_unnamed}
+
+pub template_add_still : (K : Capacity) (R : Rows) (name : List ℕ) (limit : ℕ) (enforce : Bool) (percents : List ℕ) (notices : List Added) → IsStill K R (template_add_work R name limit enforce percents notices)
+template_add_still K R name limit enforce percents notices =
+    change_still K R _ _ (bare _ _ refl, (bare _ _ refl, (bare _ _ refl, (bare _ _ refl, tt)))) refl
+
+pub template_modify_still : (K : Capacity) (R : Rows) (name : List ℕ) (limit : Option ℕ) (enforce : Option Bool) (removed percents : List ℕ) (notices : List Added) (mode : Update) → IsStill K R (template_modify_work R name limit enforce removed percents notices mode)
+template_modify_still K R name limit enforce removed percents notices mode =
+    change_still K R _ _ (bare _ _ refl, (bare _ _ refl, (bare _ _ refl, (bare _ _ refl, tt)))) refl
+
+pub template_delete_still : (K : Capacity) (R : Rows) (name : List ℕ) → IsStill K R (template_delete_work R name)
+template_delete_still K R name = change_still K R _ _ (bare _ _ refl, (bare _ _ refl, tt)) refl
+
+pub template_list_still : (K : Capacity) (R : Rows) → IsStill K R (template_list_work R)
+template_list_still K R = show_still K R [] _ tt tt (λ store h. tt)
+
+pub template_add_kept : (K : Capacity) (R : Rows) (name : List ℕ) (limit : ℕ) (enforce : Bool) (percents : List ℕ) (notices : List Added) → is_object_name name ≡ true → is_limit limit ≡ true → list_all is_percent percents ≡ true → list_all is_notice notices ≡ true → KeepsValid K R (template_add_work R name limit enforce percents notices)
+template_add_kept K R name limit enforce percents notices named legal legal_percents legal_notices s h =
+    let thresholds = changed_thresholds [] percents notices [] in
+    let row = new_template R.templates name limit enforce thresholds in
+    let templates = with_row template_number row R.templates in
+    let after = record R { templates = templates } in
+    let known = is_some (template_named R.templates name) in
+    let many = (OutOfRange when are_too_many thresholds) in
+    let full = templates_full after in
+    let long = texts_full after in
+    let a = first_none (DuplicateName when known) (many ∷ full ∷ long ∷ []) h in
+    let b = first_none many (full ∷ long ∷ []) a.1 in
+    let c = first_none full (long ∷ []) b.1 in
+    let d = first_none long [] c.1 in
+    let t = named_parts template_number template_name most_templates is_template R.templates s.tables.templates in
+    let free = least_free_is template_number R.templates t.ascending in
+    let most = free.most in
+    let few : length templates ≤ most_templates = ge_is _ _ (when_none TableFull (nat_lt most_templates (length templates)) c.0) in
+    let none : list_any (is_named template_name name) R.templates ≡ false = sym (is_some-find (is_named template_name name) R.templates) ∙ when_none DuplicateName known a.0 in
+    let is : is_template row ≡ true = template_joined row (record {
+      below = lt_test (least_free template_number R.templates) most_templates (omega (arith, most, few, length-with_row template_number row R.templates));
+      named = named;
+      limit = legal;
+      thresholds = changed_kept [] percents notices [] refl legal_percents legal_notices (when_none OutOfRange (are_too_many thresholds) b.0);
+      unrun = changed_unrun [] percents notices [] legal_notices refl;
+    }) in
+    let all = there-with_row template_number row R.templates free.free in
+    templates_followed K R templates R.autos R.quotas R.queue s
+    (named-new template_number template_name most_templates is_template row R.templates s.tables.templates free.free none few is)
+    (autos_stay R.nodes R.nodes R.templates templates R.autos (all_stay R.nodes) all s.tables.autos)
+    s.quotas
+    (sources_stay R.templates templates R.quotas all s.tables.sources)
+    (ge_is _ _ (when_none TextsFull (nat_lt most_text_bytes (object_texts after)) d.0))
+    s.queue
+
+-- what is changed in form is a template
+retemplated_is : (limit : Option ℕ) (enforce : Option Bool) (removed percents : List ℕ) (notices : List Added) (template : TemplateRow) → option_map_or is_limit limit true ≡ true → list_all is_percent percents ≡ true → list_all is_notice notices ≡ true → are_too_many (changed_thresholds removed percents notices template.thresholds) ≡ false → is_template template ≡ true → is_template (retemplated limit enforce removed percents notices template) ≡ true
+retemplated_is limit enforce removed percents notices template legal legal_percents legal_notices few is =
+    let p = template_parts template is in
+    template_joined (retemplated limit enforce removed percents notices template) (record {
+      below = p.below;
+      named = p.named;
+      limit = limit_kept limit template.limit legal p.limit;
+      thresholds = changed_kept removed percents notices template.thresholds p.thresholds legal_percents legal_notices few;
+      unrun = changed_unrun removed percents notices template.thresholds legal_notices p.unrun;
+    })
+
+-- what it reaches has its values, and all else of a quota stays
+updated_is : (mode : Update) (old new : TemplateRow) (quota : QuotaRow) → is_template new ≡ true → IsQuota quota → IsQuota (updated mode old new quota)
+updated_is mode old new quota named is = at (is_reached mode old quota)
+  where
+    at : (b : Bool) → IsQuota (cond b (as_template new quota) quota)
+    at true = let p = template_parts new named in record { limit = p.limit; thresholds = p.thresholds; moment = is.moment }
+    at false = is
+
+updated_folder : (mode : Update) (old new : TemplateRow) (quota : QuotaRow) → folder_of (updated mode old new quota) ≡ folder_of quota
+updated_folder mode old new quota = at (is_reached mode old quota)
+  where
+    at : (b : Bool) → folder_of (cond b (as_template new quota) quota) ≡ folder_of quota
+    at true = refl
+    at false = refl
+
+updated_state : (mode : Update) (old new : TemplateRow) (quota : QuotaRow) → (updated mode old new quota).state ≡ quota.state
+updated_state mode old new quota = at (is_reached mode old quota)
+  where
+    at : (b : Bool) → (cond b (as_template new quota) quota).state ≡ quota.state
+    at true = refl
+    at false = refl
+
+-- a template that is there changes, and the quotas that this reaches
+modified_kept : (K : Capacity) (R : Rows) (name : List ℕ) (limit : Option ℕ) (enforce : Option Bool) (removed percents : List ℕ) (notices : List Added) (mode : Update) (o : Option TemplateRow) → template_named R.templates name ≡ o → is_none o ≡ false → option_map_or is_limit limit true ≡ true → list_all is_percent percents ≡ true → list_all is_notice notices ≡ true → are_too_many (changed_thresholds removed percents notices (thresholds_in o)) ≡ false → object_texts (record R { templates = with_change template_number (number_in o) (retemplated limit enforce removed percents notices) R.templates; quotas = updated_quotas mode o (retemplated limit enforce removed percents notices) R.quotas }) ≤ most_text_bytes → IsValid K R → IsValid K (followed R (record R { templates = with_change template_number (number_in o) (retemplated limit enforce removed percents notices) R.templates; quotas = updated_quotas mode o (retemplated limit enforce removed percents notices) R.quotas }))
+modified_kept K R name limit enforce removed percents notices mode None e there legal legal_percents legal_notices few short s = absurd (cc there)
+modified_kept K R name limit enforce removed percents notices mode (Some template) e there legal legal_percents legal_notices few short s =
+    let change : TemplateRow → TemplateRow = retemplated limit enforce removed percents notices in
+    let n = template.number in
+    let new = change template in
+    let templates = with_change template_number n change R.templates in
+    let t = named_parts template_number template_name most_templates is_template R.templates s.tables.templates in
+    let own : row_of template_number n R.templates ≡ Some template = found_own template_number (is_named template_name name) R.templates template t.ascending e in
+    let form : (x : TemplateRow) → row_of template_number n R.templates ≡ Some x → is_template x ≡ true → is_template (change x) ≡ true = λ x found is.
+    retemplated_is limit enforce removed percents notices x legal legal_percents legal_notices
+    (subst (λ (t : TemplateRow). are_too_many (changed_thresholds removed percents notices t.thresholds) ≡ false) (same_Some template x (sym own ∙ found)) few) is in
+    let is : is_template new ≡ true = form template own (all_found is_template (is_named template_name name) R.templates template t.each e) in
+    let all : HasTemplates R.templates templates = λ k there. has_row-change template_number n change (λ t. refl) k R.templates ∙ there in
+    templates_followed K R templates R.autos (map (updated mode template new) R.quotas) R.queue s
+    (named-change template_number template_name most_templates is_template n change R.templates s.tables.templates (λ t. refl) (λ t. refl) form)
+    (autos_stay R.nodes R.nodes R.templates templates R.autos (all_stay R.nodes) all s.tables.autos)
+    (quotas-map R.nodes R.quotas (updated mode template new) s.quotas (updated_folder mode template new) (λ q its. updated_is mode template new q is its))
+    (sources-updated templates mode template new R.quotas (sources_stay R.templates templates R.quotas all s.tables.sources))
+    short
+    (queue_mapped (updated mode template new) R.quotas R.queue (updated_folder mode template new) (updated_state mode template new) s.queue)
+
+pub template_modify_kept : (K : Capacity) (R : Rows) (name : List ℕ) (limit : Option ℕ) (enforce : Option Bool) (removed percents : List ℕ) (notices : List Added) (mode : Update) → option_map_or is_limit limit true ≡ true → list_all is_percent percents ≡ true → list_all is_notice notices ≡ true → KeepsValid K R (template_modify_work R name limit enforce removed percents notices mode)
+template_modify_kept K R name limit enforce removed percents notices mode legal legal_percents legal_notices s h =
+    let old = template_named R.templates name in
+    let change : TemplateRow → TemplateRow = retemplated limit enforce removed percents notices in
+    let after = record R { templates = with_change template_number (number_in old) change R.templates; quotas = updated_quotas mode old change R.quotas } in
+    let thresholds = thresholds_in old in
+    let stays = not (may_be_removed removed thresholds) in
+    let crowded = are_too_many (changed_thresholds removed percents notices thresholds) in
+    let missing = (NotFound when is_none old) in
+    let gone = (NotFound when stays) in
+    let many = (OutOfRange when crowded) in
+    let long = texts_full after in
+    let a = first_none missing (gone ∷ many ∷ long ∷ []) h in
+    let b = first_none gone (many ∷ long ∷ []) a.1 in
+    let c = first_none many (long ∷ []) b.1 in
+    let d = first_none long [] c.1 in
+    modified_kept K R name limit enforce removed percents notices mode old refl (when_none NotFound (is_none old) a.0) legal legal_percents legal_notices
+    (when_none OutOfRange crowded c.0) (ge_is _ _ (when_none TextsFull (nat_lt most_text_bytes (object_texts after)) d.0)) s
+
+-- a quota without a template that is gone is as it was otherwise
+source_is : (n : ℕ) (quota : QuotaRow) → IsQuota quota → IsQuota (without_source n quota)
+source_is n quota is = at (is_derived n quota)
+  where
+    at : (b : Bool) → IsQuota (cond b (record quota { template = None }) quota)
+    at true = record { limit = is.limit; thresholds = is.thresholds; moment = is.moment }
+    at false = is
+
+source_folder : (n : ℕ) (quota : QuotaRow) → folder_of (without_source n quota) ≡ folder_of quota
+source_folder n quota = at (is_derived n quota)
+  where
+    at : (b : Bool) → folder_of (cond b (record quota { template = None }) quota) ≡ folder_of quota
+    at true = refl
+    at false = refl
+
+source_state : (n : ℕ) (quota : QuotaRow) → (without_source n quota).state ≡ quota.state
+source_state n quota = at (is_derived n quota)
+  where
+    at : (b : Bool) → (cond b (record quota { template = None }) quota).state ≡ quota.state
+    at true = refl
+    at false = refl
+
+source_bytes : (n : ℕ) (quota : QuotaRow) → quota_bytes (without_source n quota) ≡ quota_bytes quota
+source_bytes n quota = at (is_derived n quota)
+  where
+    at : (b : Bool) → quota_bytes (cond b (record quota { template = None }) quota) ≡ quota_bytes quota
+    at true = refl
+    at false = refl
+
+-- texts of fewer templates, and of as many bytes of quotas
+fewer_templates : (R : Rows) (templates : List TemplateRow) (quotas : List QuotaRow) → sum_by template_bytes templates ≤ sum_by template_bytes R.templates → sum_by quota_bytes quotas ≡ sum_by quota_bytes R.quotas → object_texts R ≤ most_text_bytes → object_texts (record R { templates = templates; quotas = quotas }) ≤ most_text_bytes
+fewer_templates R templates quotas less same few = omega (arith, less, same, few)
+
+pub template_delete_kept : (K : Capacity) (R : Rows) (name : List ℕ) → KeepsValid K R (template_delete_work R name)
+template_delete_kept K R name s h =
+    let old = template_named R.templates name in
+    let n = number_in old in
+    let templates = without_row template_number n R.templates in
+    let quotas = map (without_source n) R.quotas in
+    let used = is_applied R n in
+    let a = first_none (NotFound when is_none old) ((InUse when used) ∷ []) h in
+    let b = first_none (InUse when used) [] a.1 in
+    templates_followed K R templates R.autos quotas R.queue s
+    (named-without template_number template_name most_templates is_template n R.templates s.tables.templates)
+    (autos_unnamed R.nodes R.templates n R.autos (when_none InUse used b.0) s.tables.autos)
+    (quotas-map R.nodes R.quotas (without_source n) s.quotas (source_folder n) (source_is n))
+    (sources-gone R.templates n R.quotas s.tables.sources)
+    (fewer_templates R templates quotas (sum_by-less template_bytes (λ t. not (template_number t == n)) R.templates) (sum_by-same quota_bytes (without_source n) (source_bytes n) R.quotas) s.texts)
+    (queue_mapped (without_source n) R.quotas R.queue (source_folder n) (source_state n) s.queue)
+
+-- a list leaves them as they are
+pub template_list_kept : (K : Capacity) (R : Rows) → KeepsValid K R (template_list_work R)
+template_list_kept K R s h = nothing_followed K R s

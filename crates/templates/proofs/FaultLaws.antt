@@ -1,0 +1,89 @@
+-- Which fault is due.
+use Rattle.std.proofs.Common.{◌≡◌, ℕ, ◌+◌, ◌<◌, ◌≤◌, nat_lt, nat_le, Bool, true, false, List, [], ◌∷◌, length, Option, Some, None, refl, sym, ◌∙◌, ap}
+use Rattle.std.specs.List.{list_any}
+use Rattle.std.specs.Prelude.{is_some, option_map}
+use Rattle.fsrm_base.specs.Causes.{◌when◌, first}
+use Rattle.fsrm_base.specs.Keyed.{has_row}
+use Rattle.fsrm_base.proofs.Look.{is_some-find, is_some-mapped}
+use Rattle.fsrm_base.proofs.TestLaws.{gt_is, le_test, lt_test, not_le, not_lt}
+use Rattle.fsrm_model.specs.declared.row.AutoRow.{AutoRow}
+use Rattle.fsrm_model.specs.declared.row.TemplateRow.{TemplateRow}
+use Rattle.fsrm_model.specs.AutoApply.{auto_folder}
+use Rattle.fsrm_model.specs.Limits.{most_templates, most_autos}
+use Rattle.fsrm_model.specs.Name.{is_named}
+use Rattle.fsrm_model.specs.Templates.{template_name, template_named, template_number, template_of}
+use Rattle.fsrm_model.specs.Texts.{auto_bytes, template_bytes}
+use Rattle.templates.specs.declared.answer.TemplateFault.TheVariants.{AlreadyExists, DuplicateName, TableFull, TextsFull}
+use Rattle.templates.specs.Faults.{auto_fault, other_fault, template_fault}
+use Rattle.templates.specs.Held.{Held}
+
+-- ---- a new template
+-- what a search for a name says of the templates that it was lent
+pub named_as : (name : List ℕ) (seen templates : List TemplateRow) (number : Option ℕ) (is : Bool) → seen ≡ templates → number ≡ option_map template_number (template_named seen name) → is_some number ≡ is → list_any (is_named template_name name) templates ≡ is
+named_as name seen templates number is same found some =
+    ap (list_any (is_named template_name name)) (sym same)
+    ∙ (sym (is_some-mapped template_number (template_named seen name) ∙ is_some-find (is_named template_name name) seen) ∙ (ap is_some (sym found) ∙ some))
+
+module _ (held : Held) (row : TemplateRow) (room : ℕ) where
+  pub duplicate_due : list_any (is_named template_name row.name) held.templates ≡ true → template_fault held row room ≡ Some DuplicateName
+  duplicate_due named = rw named refl
+
+  pub table_due : list_any (is_named template_name row.name) held.templates ≡ false → most_templates ≤ length held.templates → template_fault held row room ≡ Some TableFull
+  table_due named full = rw (named, le_test most_templates (length held.templates) full) refl
+
+  pub texts_due : list_any (is_named template_name row.name) held.templates ≡ false → length held.templates < most_templates → room < template_bytes row → template_fault held row room ≡ Some TextsFull
+  texts_due named few long = rw (named, not_le most_templates (length held.templates) few, lt_test room (template_bytes row) long) refl
+
+  pub none_due : list_any (is_named template_name row.name) held.templates ≡ false → length held.templates < most_templates → template_bytes row ≤ room → template_fault held row room ≡ None
+  none_due named few short = rw (named, not_le most_templates (length held.templates) few, not_lt room (template_bytes row) short) refl
+
+-- if none is due, the name is new, and a place is free
+pub record Admitted (held : Held) (row : TemplateRow) : Type 0 where
+  pub new : list_any (is_named template_name row.name) held.templates ≡ false
+  pub few : length held.templates < most_templates
+
+two_pass : (named full long : Bool) → first ((DuplicateName when named) ∷ (TableFull when full) ∷ (TextsFull when long) ∷ []) ≡ None → (named ≡ false) × (full ≡ false)
+two_pass false false long h = (refl, refl)
+two_pass false true long h = cc
+two_pass true full long h = cc
+
+pub admitted : (held : Held) (row : TemplateRow) (room : ℕ) → template_fault held row room ≡ None → Admitted held row
+admitted held row room h =
+    let pass = two_pass (list_any (is_named template_name row.name) held.templates) (nat_le most_templates (length held.templates)) (nat_lt room (template_bytes row)) h in
+    record { new = pass.0; few = gt_is _ _ pass.1 }
+
+-- ---- a template in the place of another
+module _ (held : Held) (row old : TemplateRow) (room : ℕ) (found : template_of held.templates row.number ≡ Some old) where
+  pub replaced_due : room + template_bytes old < template_bytes row → other_fault held row room ≡ Some TextsFull
+  replaced_due long = rw (found, lt_test (room + template_bytes old) (template_bytes row) long) refl
+
+  pub replaced_fits : template_bytes row ≤ room + template_bytes old → other_fault held row room ≡ None
+  replaced_fits fits = rw (found, not_lt (room + template_bytes old) (template_bytes row) fits) refl
+
+-- ---- a new auto-apply quota
+module _ (held : Held) (row : AutoRow) (room : ℕ) where
+  pub taken_due : has_row auto_folder row.folder held.autos ≡ true → auto_fault held row room ≡ Some AlreadyExists
+  taken_due taken = rw taken refl
+
+  pub autos_due : has_row auto_folder row.folder held.autos ≡ false → most_autos ≤ length held.autos → auto_fault held row room ≡ Some TableFull
+  autos_due free full = rw (free, le_test most_autos (length held.autos) full) refl
+
+  pub auto_texts_due : has_row auto_folder row.folder held.autos ≡ false → length held.autos < most_autos → room < auto_bytes row → auto_fault held row room ≡ Some TextsFull
+  auto_texts_due free few long = rw (free, not_le most_autos (length held.autos) few, lt_test room (auto_bytes row) long) refl
+
+  pub no_auto_due : has_row auto_folder row.folder held.autos ≡ false → length held.autos < most_autos → auto_bytes row ≤ room → auto_fault held row room ≡ None
+  no_auto_due free few short = rw (free, not_le most_autos (length held.autos) few, not_lt room (auto_bytes row) short) refl
+
+pub record AutoAdmitted (held : Held) (row : AutoRow) : Type 0 where
+  pub free : has_row auto_folder row.folder held.autos ≡ false
+  pub few : length held.autos < most_autos
+
+auto_pass : (taken full long : Bool) → first ((AlreadyExists when taken) ∷ (TableFull when full) ∷ (TextsFull when long) ∷ []) ≡ None → (taken ≡ false) × (full ≡ false)
+auto_pass false false long h = (refl, refl)
+auto_pass false true long h = cc
+auto_pass true full long h = cc
+
+pub auto_admitted : (held : Held) (row : AutoRow) (room : ℕ) → auto_fault held row room ≡ None → AutoAdmitted held row
+auto_admitted held row room h =
+    let pass = auto_pass (has_row auto_folder row.folder held.autos) (nat_le most_autos (length held.autos)) (nat_lt room (auto_bytes row)) h in
+    record { free = pass.0; few = gt_is _ _ pass.1 }

@@ -1,0 +1,59 @@
+-- Templates and auto-apply quotas, and edits of their tables.
+use Rattle.std.specs.Prelude.{ℕ, ◌+◌, ◌&&◌, not, Bool, true, false, List, sum_by}
+use Rattle.fsrm_base.specs.Keyed.{least_free, with_row, with_change, without_row}
+use Rattle.fsrm_model.specs.declared.command.Update.{Update}
+use Rattle.fsrm_model.specs.declared.command.Update.TheVariants.{Matching, All}
+use Rattle.fsrm_model.specs.declared.row.AutoRow.{AutoRow}
+use Rattle.fsrm_model.specs.declared.row.QuotaRow.{QuotaRow}
+use Rattle.fsrm_model.specs.declared.row.TemplateRow.{TemplateRow}
+use Rattle.fsrm_model.specs.AutoApply.{auto_folder}
+use Rattle.fsrm_model.specs.Quota.{folder_of}
+use Rattle.fsrm_model.specs.Templates.{template_number}
+use Rattle.fsrm_model.specs.Texts.{auto_bytes, template_bytes}
+use Rattle.fsrm_model.specs.Thresholds.{are_too_many}
+use Rattle.fsrm_objects.specs.Tables.{has_short_texts}
+
+-- the rows of both tables
+pub record Held : Type 0 where
+  pub templates : List TemplateRow
+  pub autos : List AutoRow
+
+-- the bytes of the texts that they hold
+abbrev pub texts_in : Held → ℕ
+texts_in held = sum_by template_bytes held.templates + sum_by auto_bytes held.autos
+
+-- ---- edits
+-- a row under the number that it gets
+abbrev pub numbered : List TemplateRow → TemplateRow → TemplateRow
+numbered templates row = record row { number = least_free template_number templates }
+
+-- with one more template, with another row under a number, without that of a number
+abbrev pub with_template : Held → TemplateRow → Held
+with_template held row = record held { templates = with_row template_number row held.templates }
+
+abbrev pub with_other : Held → TemplateRow → Held
+with_other held row = record held { templates = with_change template_number row.number (λ old. row) held.templates }
+
+abbrev pub without_template : Held → ℕ → Held
+without_template held number = record held { templates = without_row template_number number held.templates }
+
+-- with one more auto-apply quota, and without that of a folder
+abbrev pub with_auto : Held → AutoRow → Held
+with_auto held row = record held { autos = with_row auto_folder row held.autos }
+
+abbrev pub without_auto : Held → ℕ → Held
+without_auto held folder = record held { autos = without_row auto_folder folder held.autos }
+
+-- ---- updates
+-- quotas in which one stands in the place of that of its folder
+abbrev pub with_quota : List QuotaRow → QuotaRow → List QuotaRow
+with_quota quotas row = with_change folder_of row.folder (λ old. row) quotas
+
+-- whether the lists and the texts of a quota are as long as they may be
+abbrev pub is_small : QuotaRow → Bool
+is_small row = not (are_too_many row.thresholds) && has_short_texts row
+
+-- which quotas an update reaches: those that match the template as it was, or all that were derived from it
+abbrev pub mode_of : Bool → Update
+mode_of true = Matching
+mode_of false = All

@@ -1,0 +1,205 @@
+//! The tables, and the templates in them.
+
+ghost use Rattle.std.specs.Prelude.{◌≡◌, ◌<◌, IfOk, IfErr, IfSome, OnOk, OnErr, [], None, Some, true, false, length, option_map, slice_get};
+ghost use Rattle.std.specs.List.{list_any};
+ghost use Rattle.std.specs.Option.{option_copied};
+ghost use Rattle.fsrm_base.specs.Keyed.{has_row};
+ghost use Rattle.fsrm_model.specs.declared.row.TemplateRow.{TemplateRow};
+ghost use Rattle.fsrm_model.specs.Limits.{most_templates};
+ghost use Rattle.fsrm_model.specs.Name.{is_named};
+ghost use Rattle.fsrm_model.specs.Templates.{is_template, template_name, template_named, template_number, template_of};
+ghost use Rattle.templates.specs.Faults.{IsFault, delete_fault, other_fault, template_fault};
+ghost use Rattle.templates.specs.Held.{numbered, texts_in, with_other, with_template, without_template};
+
+use crate::answer::TemplateFault;
+use crate::rows;
+use crate::rows::ByNumber;
+use fsrm_base::places::{gap, search};
+use fsrm_model::limits::MOST_TEMPLATES;
+use fsrm_model::{AutoRow, NoMemory, TemplateRow};
+use std::alloc::Global;
+use std::marker::Model;
+
+/// The quota templates of a store (MS-FSRM, IFsrmQuotaTemplate), at most 1,024, and its auto-apply quotas
+/// (IFsrmAutoApplyQuota), as many. Contracts see the rows of both: the templates ascend by number, which is below 1,024, and
+/// no two of them have one name, in any spelling; the auto-apply quotas ascend by folder, each folder at most once.
+#[derive(Drop)]
+pub struct Templates {
+    pub(crate) templates: Vec<TemplateRow>,
+    pub(crate) autos: Vec<AutoRow>,
+    // The bytes of all texts.
+    pub(crate) texts: u32,
+}
+
+impl Model for Templates {
+    ghost use Rattle.templates.specs.Held.{Held};
+    ghost use Rattle.templates.specs.Kept.{AreHeld};
+
+    ghost Value = { Held };
+
+    ghost view = { λ t. record { templates = t.templates.items; autos = t.autos.items } };
+
+    ghost invariant = { λ t. AreHeld (record { templates = t.templates.items; autos = t.autos.items }) t.texts };
+}
+
+impl Templates {
+    /// Tables without rows. It takes no memory.
+    pub fn new(alloc: Global) -> Templates
+        ensures { result ≡ record { templates = []; autos = [] } }
+    {
+        Templates {
+            templates: Vec::new(alloc),
+            autos: Vec::new(alloc),
+            texts: 0,
+        }
+    }
+
+    /// Adds a template under the least number that is free, which is the answer. The row's own number isn't looked at. All
+    /// else of it is as a template has it: an object's name, a limit, and thresholds whose actions never ran.
+    ///
+    /// `room` is how many bytes of texts may still come. The template is refused if its name is another one's, in any spelling
+    /// (DuplicateName), else if there are 1,024 templates (TableFull), else if its texts are longer than `room` (TextsFull).
+    /// NoMemory comes only if nothing else refuses it. An `Err` changes nothing, and the row is dropped.
+    pub fn add(&mut self, row: TemplateRow, room: u32) -> Result<u32, TemplateFault>
+        requires valid { is_template (record row { number = 0 }) ≡ true }
+        ensures ok { OnOk result (self.new ≡ with_template self.old (numbered self.old.templates row)) }
+        ensures number { IfOk result (λ number. number ≡ (numbered self.old.templates row).number) }
+        ensures may { OnOk result (template_fault self.old row room ≡ None) }
+        ensures refused { IfErr result (λ fault. IsFault fault (template_fault self.old row room)) }
+        ensures err { OnErr result (self.new ≡ self.old) }
+    {
+        self.admit(&row, room)?;
+        let number = rows::free_number(&self.templates);
+        self.insert(TemplateRow { number, ..row })?;
+        Ok(number)
+    }
+
+    /// Puts a stored template under its own number, which is below 1,024 and free. It is refused as `add` refuses it. An
+    /// `Err` changes nothing, and the row is dropped.
+    pub fn put(&mut self, row: TemplateRow, room: u32) -> Result<(), TemplateFault>
+        requires valid { is_template row ≡ true }
+        requires free { has_row template_number row.number self.old.templates ≡ false }
+        ensures ok { OnOk result (self.new ≡ with_template self.old row) }
+        ensures may { OnOk result (template_fault self.old row room ≡ None) }
+        ensures refused { IfErr result (λ fault. IsFault fault (template_fault self.old row room)) }
+        ensures err { OnErr result (self.new ≡ self.old) }
+    {
+        self.admit(&row, room)?;
+        self.insert(row)?;
+        Ok(())
+    }
+
+    // Whether a new template may be added, whose number isn't looked at.
+    fn admit(&self, row: &TemplateRow, room: u32) -> Result<(), TemplateFault>
+        requires { is_template (record row.now { number = 0 }) ≡ true }
+        ensures may { OnOk result (template_fault self.now row.now room ≡ None) }
+        ensures refused { IfErr result (λ fault. template_fault self.now row.now room ≡ Some fault) }
+    {
+        if rows::find(&self.templates, row.name.as_str()).is_some() {
+            return Err(TemplateFault::DuplicateName);
+        }
+        if self.templates.len() >= MOST_TEMPLATES {
+            return Err(TemplateFault::TableFull);
+        }
+        if rows::template_texts(row) > room {
+            return Err(TemplateFault::TextsFull);
+        }
+        Ok(())
+    }
+
+    // Puts a template that nothing refuses into its place.
+    fn insert(&mut self, row: TemplateRow) -> Result<(), NoMemory>
+        requires valid { is_template row ≡ true }
+        requires free { has_row template_number row.number self.old.templates ≡ false }
+        requires named { list_any (is_named template_name row.name) self.old.templates ≡ false }
+        requires few { length self.old.templates < most_templates }
+        ensures ok { OnOk result (self.new ≡ with_template self.old row) }
+        ensures err { OnErr result (self.new ≡ self.old) }
+    {
+        let place = gap::<ByNumber>(&self.templates, row.number);
+        let bytes = rows::template_texts(&row);
+        self.templates.insert(place, row)?;
+        self.texts += bytes;
+        Ok(())
+    }
+
+    /// Gives the template of a number another row, which has its name. It takes no memory.
+    ///
+    /// `room` is as at `add`. It is refused, by TextsFull alone, if the row's texts, less those that they replace, are longer
+    /// than `room`. An `Err` changes nothing, and the row is dropped.
+    pub fn modify(&mut self, row: TemplateRow, room: u32) -> Result<(), TemplateFault>
+        requires there { has_row template_number row.number self.old.templates ≡ true }
+        requires name { (old : TemplateRow) → template_of self.old.templates row.number ≡ Some old → row.name ≡ old.name }
+        requires valid { is_template row ≡ true }
+        ensures ok { OnOk result (self.new ≡ with_other self.old row) }
+        ensures may { OnOk result (other_fault self.old row room ≡ None) }
+        ensures refused { IfErr result (λ fault. other_fault self.old row room ≡ Some fault) }
+        ensures err { OnErr result (self.new ≡ self.old) }
+    {
+        let place = search::<ByNumber>(&self.templates, row.number).unwrap();
+        let replaced = rows::template_texts(&self.templates[place]);
+        let bytes = rows::template_texts(&row);
+        if bytes.saturating_sub(replaced) > room {
+            return Err(TemplateFault::TextsFull);
+        }
+        self.texts = self.texts - replaced + bytes;
+        self.templates[place] = row;
+        Ok(())
+    }
+
+    /// Takes the template of a number away, which is there. It is refused, by InUse alone, if an auto-apply quota names it.
+    /// Quotas that were derived from it don't keep it. An `Err` changes nothing.
+    pub fn delete(&mut self, number: u32) -> Result<(), TemplateFault>
+        requires { has_row template_number number self.old.templates ≡ true }
+        ensures ok { OnOk result (self.new ≡ without_template self.old number) }
+        ensures may { OnOk result (delete_fault self.old number ≡ None) }
+        ensures refused { IfErr result (λ fault. delete_fault self.old number ≡ Some fault) }
+        ensures err { OnErr result (self.new ≡ self.old) }
+    {
+        if rows::is_used(&self.autos, number) {
+            return Err(TemplateFault::InUse);
+        }
+        let place = search::<ByNumber>(&self.templates, number).unwrap();
+        self.texts -= rows::template_texts(&self.templates[place]);
+        self.templates.remove(place);
+        Ok(())
+    }
+
+    /// The number of the template of a name, in any spelling.
+    pub fn find(&self, name: &str) -> Option<u32>
+        ensures found { result ≡ option_map template_number (template_named self.now.templates name.now) }
+        ensures there { IfSome result (λ number. has_row template_number number self.now.templates ≡ true) }
+    {
+        rows::find(&self.templates, name)
+    }
+
+    /// The template of a number.
+    pub fn template(&self, number: u32) -> Option<&TemplateRow>
+        ensures { option_copied result ≡ template_of self.now.templates number }
+    {
+        let place = search::<ByNumber>(&self.templates, number).ok()?;
+        Some(&self.templates[place])
+    }
+
+    /// The bytes of all texts: names of templates, texts of their actions, excluded names.
+    pub fn texts(&self) -> u32
+        ensures { result ≡ texts_in self.now }
+    {
+        self.texts
+    }
+
+    /// How many templates there are, at most 1,024.
+    pub fn count(&self) -> u32
+        ensures { result ≡ length self.now.templates }
+    {
+        self.templates.len() as u32
+    }
+
+    /// The template at a place, from 0, in the order of the numbers.
+    pub fn at(&self, place: u32) -> &TemplateRow
+        requires { place < length self.now.templates }
+        ensures { slice_get self.now.templates place ≡ Some result.now }
+    {
+        &self.templates[place as usize]
+    }
+}
