@@ -5,7 +5,6 @@ pub mod Peaks
 pub mod Crossing
 pub mod Due
 pub mod Faults
-pub mod Kinds
 pub mod Places
 pub mod Screening
 pub mod Sources

@@ -1,7 +1,8 @@
 //! The commands on the settings and on the log of actions.
 
 ghost use Rattle.std.specs.Prelude.{◌≡◌, ◌≤◌};
-ghost use Rattle.fsrm_model.specs.declared.command.Deed.TheVariants.{AdminOptions, AdminList, AdminLog};
+ghost use Rattle.fsrm_model.specs.declared.command.AdminDeed.TheVariants.{Options as AdminOptions, List as AdminList, Log as AdminLog};
+ghost use Rattle.fsrm_model.specs.declared.command.Deed.TheVariants.{Admin};
 ghost use Rattle.fsrm_model.specs.Limits.{latest_moment};
 ghost use Rattle.fsrm_engine.specs.Machine.{Does, IsIdle, IsSound, IsWhole};
 
@@ -16,7 +17,7 @@ impl Parts {
         requires idle { IsIdle self.old }
         requires moment { moment ≤ latest_moment }
         requires after { self.old.last_moment ≤ moment }
-        ensures ok { Does self.old self.new moment (AdminOptions run_limit) result }
+        ensures ok { Does self.old self.new moment (Admin (AdminOptions run_limit)) result }
         ensures sound { IsSound self.new }
     {
         self.run_limit = run_limit;
@@ -27,7 +28,7 @@ impl Parts {
     pub(crate) fn show_settings(&self, moment: u64) -> Answer
         requires idle { IsIdle self.now }
         requires after { self.now.last_moment ≤ moment }
-        ensures { Does self.now self.now moment AdminList result }
+        ensures { Does self.now self.now moment (Admin AdminList) result }
     {
         listing(Ask::Settings)
     }
@@ -36,7 +37,7 @@ impl Parts {
     pub(crate) fn show_log(&self, moment: u64) -> Answer
         requires idle { IsIdle self.now }
         requires after { self.now.last_moment ≤ moment }
-        ensures { Does self.now self.now moment AdminLog result }
+        ensures { Does self.now self.now moment (Admin AdminLog) result }
     {
         listing(Ask::Acts)
     }

@@ -3,7 +3,8 @@
 ghost use Rattle.std.specs.Prelude.{◌≡◌, ◌+◌, ◌*◌, ◌≤◌, ◌&&◌, ◌++◌, true, false, nat_le, length, filter, fold, map, IfErr, IfOk, MatchResult, OnOk, OnErr, Some, None};
 ghost use Rattle.std.specs.List.{list_all};
 ghost use Rattle.fsrm_base.specs.Keyed.{has_row};
-ghost use Rattle.fsrm_model.specs.declared.command.Deed.TheVariants.{AutoquotaAdd, AutoquotaDelete, AutoquotaList};
+ghost use Rattle.fsrm_model.specs.declared.command.AutoquotaDeed.TheVariants.{Add as AutoquotaAdd, Delete as AutoquotaDelete, List as AutoquotaList};
+ghost use Rattle.fsrm_model.specs.declared.command.Deed.TheVariants.{Autoquota};
 ghost use Rattle.fsrm_model.specs.AutoApply.{auto_folder, is_auto, queue_with, quotas_with};
 ghost use Rattle.fsrm_model.specs.AutoWork.{new_auto};
 ghost use Rattle.fsrm_model.specs.Cost.{deed_cost};
@@ -213,10 +214,10 @@ impl Parts {
         requires excluded { (nat_le (length excluded.now) most_excluded && list_all is_name excluded.now) ≡ true }
         requires moment { moment ≤ latest_moment }
         requires after { self.old.last_moment ≤ moment }
-        ensures ok { IfOk result (λ answer. Does self.old self.new moment (AutoquotaAdd path.now name.now excluded.now) answer) }
+        ensures ok { IfOk result (λ answer. Does self.old self.new moment (Autoquota (AutoquotaAdd path.now name.now excluded.now)) answer) }
         ensures err { OnErr result (self.new ≡ self.old) }
         ensures sound { IsSound self.new }
-        ensures looks { steps.new ≤ steps.old + deed_cost (rows_of self.old) (AutoquotaAdd path.now name.now excluded.now) }
+        ensures looks { steps.new ≤ steps.old + deed_cost (rows_of self.old) (Autoquota (AutoquotaAdd path.now name.now excluded.now)) }
     {
         let Some(folder) = folder_at(&self.tree, path, steps) else {
             return Ok(refused(Refusal::PathNotFound));
@@ -248,9 +249,9 @@ impl Parts {
         requires idle { IsIdle self.old }
         requires moment { moment ≤ latest_moment }
         requires after { self.old.last_moment ≤ moment }
-        ensures ok { Does self.old self.new moment (AutoquotaDelete path.now) result }
+        ensures ok { Does self.old self.new moment (Autoquota (AutoquotaDelete path.now)) result }
         ensures sound { IsSound self.new }
-        ensures looks { steps.new ≤ steps.old + deed_cost (rows_of self.old) (AutoquotaDelete path.now) }
+        ensures looks { steps.new ≤ steps.old + deed_cost (rows_of self.old) (Autoquota (AutoquotaDelete path.now)) }
     {
         let Some(folder) = folder_at(&self.tree, path, steps) else {
             return refused(Refusal::PathNotFound);
@@ -266,7 +267,7 @@ impl Parts {
     pub(crate) fn list_autos(&self, moment: u64) -> Answer
         requires idle { IsIdle self.now }
         requires after { self.now.last_moment ≤ moment }
-        ensures { Does self.now self.now moment AutoquotaList result }
+        ensures { Does self.now self.now moment (Autoquota AutoquotaList) result }
     {
         listing(Ask::Autos)
     }

@@ -1,16 +1,18 @@
 //! What a command does, at a moment that isn't before the last one.
 
 ghost use Rattle.std.specs.Prelude.{◌≡◌, ◌+◌, ◌≤◌, true, IfOk, OnErr};
-ghost use Rattle.fsrm_model.specs.declared.command.Deed.TheVariants.{File};
+ghost use Rattle.fsrm_model.specs.declared.command.Deed.TheVariants.{File, Quota, Template, Autoquota, Filegroup, Screen, Exception, Admin};
 ghost use Rattle.fsrm_model.specs.Cost.{deed_cost};
 ghost use Rattle.fsrm_model.specs.Limits.{latest_moment};
 ghost use Rattle.fsrm_model.specs.Valued.{is_op, is_deed, is_command};
-ghost use Rattle.fsrm_engine.specs.Kinds.{is_of_templates, is_of_screens, is_of_groups, is_of_objects};
 ghost use Rattle.fsrm_engine.specs.Machine.{Does, IsIdle, IsSound, IsWhole, rows_of};
 
 use crate::parts::Parts;
 use crate::threshold_lists::ThresholdChange;
-use fsrm_model::{Answer, Command, Deed, FileOp, Ledger, NoMemory, Steps};
+use fsrm_model::{
+    AdminDeed, Answer, AutoquotaDeed, Command, Deed, ExceptionDeed, FileOp, FilegroupDeed, Ledger,
+    NoMemory, QuotaDeed, ScreenDeed, Steps, TemplateDeed,
+};
 use std::alloc::Global;
 
 impl Parts {
@@ -67,162 +69,26 @@ impl Parts {
         self.operate(alloc, op, moment, steps)
     }
 
-    // A command on templates or auto-apply quotas.
-    fn on_templates<L: Ledger>(
+    // A command on quotas.
+    fn on_quotas<L: Ledger>(
         &mut self,
         alloc: Global,
-        deed: &Deed,
+        deed: &QuotaDeed,
         moment: u64,
         steps: &mut Steps<L>,
     ) -> Result<Answer, NoMemory>
         requires whole { IsWhole self.old }
         requires idle { IsIdle self.old }
-        requires valid { is_deed deed.now ≡ true }
+        requires valid { is_deed (Quota deed.now) ≡ true }
         requires moment { moment ≤ latest_moment }
         requires after { self.old.last_moment ≤ moment }
-        requires kind { is_of_templates deed.now ≡ true }
-        ensures ok { IfOk result (λ answer. Does self.old self.new moment deed.now answer) }
+        ensures ok { IfOk result (λ answer. Does self.old self.new moment (Quota deed.now) answer) }
         ensures err { OnErr result (self.new ≡ self.old) }
         ensures sound { IsSound self.new }
-        ensures looks { steps.new ≤ steps.old + deed_cost (rows_of self.old) deed.now }
+        ensures looks { steps.new ≤ steps.old + deed_cost (rows_of self.old) (Quota deed.now) }
     {
         match deed {
-            Deed::TemplateAdd {
-                template: name,
-                limit,
-                enforce,
-                add_threshold: percents,
-                add_notification: notices,
-            } => {
-                let change = ThresholdChange::adding(percents, notices);
-                self.template_add(alloc, name, *limit, *enforce, &change, moment)
-            }
-            Deed::TemplateModify {
-                template: name,
-                limit,
-                enforce,
-                remove_threshold: removed,
-                add_threshold: percents,
-                add_notification: notices,
-                update_derived: mode,
-            } => {
-                let change = ThresholdChange::new(removed, percents, notices);
-                self.template_modify(alloc, name, *limit, *enforce, &change, *mode, moment)
-            }
-            Deed::TemplateDelete { template: name } => Ok(self.template_delete(name, moment)),
-            Deed::TemplateList => Ok(self.list_templates(moment)),
-            Deed::AutoquotaAdd {
-                path,
-                source_template: name,
-                exclude: excluded,
-            } => self.auto_add(alloc, path, name, excluded, moment, steps),
-            Deed::AutoquotaDelete { path } => Ok(self.auto_delete(path, moment, steps)),
-            Deed::AutoquotaList => Ok(self.list_autos(moment)),
-            _ => unreachable!(),
-        }
-    }
-
-    // One on screens or exceptions, or on templates or auto-apply quotas.
-    fn on_screens<L: Ledger>(
-        &mut self,
-        alloc: Global,
-        deed: &Deed,
-        moment: u64,
-        steps: &mut Steps<L>,
-    ) -> Result<Answer, NoMemory>
-        requires whole { IsWhole self.old }
-        requires idle { IsIdle self.old }
-        requires valid { is_deed deed.now ≡ true }
-        requires moment { moment ≤ latest_moment }
-        requires after { self.old.last_moment ≤ moment }
-        requires kind { is_of_screens deed.now ≡ true }
-        ensures ok { IfOk result (λ answer. Does self.old self.new moment deed.now answer) }
-        ensures err { OnErr result (self.new ≡ self.old) }
-        ensures sound { IsSound self.new }
-        ensures looks { steps.new ≤ steps.old + deed_cost (rows_of self.old) deed.now }
-    {
-        match deed {
-            Deed::ScreenAdd {
-                path,
-                active,
-                add_filegroup: names,
-                add_notification: actions,
-            } => self.screen_add(alloc, path, *active, names, actions, moment, steps),
-            Deed::ScreenModify {
-                path,
-                active,
-                remove_filegroup: removed,
-                add_filegroup: added,
-            } => self.screen_modify(alloc, path, *active, removed, added, moment, steps),
-            Deed::ScreenDelete { path } => Ok(self.screen_delete(path, moment, steps)),
-            Deed::ScreenList => Ok(self.list_screens(moment)),
-            Deed::ExceptionAdd {
-                path,
-                add_filegroup: names,
-            } => self.except_add(alloc, path, names, moment, steps),
-            Deed::ExceptionDelete { path } => Ok(self.except_delete(path, moment, steps)),
-            Deed::ExceptionList => Ok(self.list_excepts(moment)),
-            _ => self.on_templates(alloc, deed, moment, steps),
-        }
-    }
-
-    // One on file groups, or on one of those.
-    fn on_groups<L: Ledger>(
-        &mut self,
-        alloc: Global,
-        deed: &Deed,
-        moment: u64,
-        steps: &mut Steps<L>,
-    ) -> Result<Answer, NoMemory>
-        requires whole { IsWhole self.old }
-        requires idle { IsIdle self.old }
-        requires valid { is_deed deed.now ≡ true }
-        requires moment { moment ≤ latest_moment }
-        requires after { self.old.last_moment ≤ moment }
-        requires kind { is_of_groups deed.now ≡ true }
-        ensures ok { IfOk result (λ answer. Does self.old self.new moment deed.now answer) }
-        ensures err { OnErr result (self.new ≡ self.old) }
-        ensures sound { IsSound self.new }
-        ensures looks { steps.new ≤ steps.old + deed_cost (rows_of self.old) deed.now }
-    {
-        match deed {
-            Deed::FilegroupAdd {
-                filegroup: name,
-                members,
-                non_members: others,
-            } => self.group_add(alloc, name, members, others, moment),
-            Deed::FilegroupModify {
-                filegroup: name,
-                members,
-                non_members: others,
-            } => self.group_modify(alloc, name, members.as_ref(), others.as_ref(), moment),
-            Deed::FilegroupDelete { filegroup: name } => Ok(self.group_delete(name, moment)),
-            Deed::FilegroupList => Ok(self.list_groups(moment)),
-            _ => self.on_screens(alloc, deed, moment, steps),
-        }
-    }
-
-    // One on quotas, or on one of those.
-    fn on_objects<L: Ledger>(
-        &mut self,
-        alloc: Global,
-        deed: &Deed,
-        moment: u64,
-        steps: &mut Steps<L>,
-    ) -> Result<Answer, NoMemory>
-        requires whole { IsWhole self.old }
-        requires idle { IsIdle self.old }
-        requires valid { is_deed deed.now ≡ true }
-        requires moment { moment ≤ latest_moment }
-        requires after { self.old.last_moment ≤ moment }
-        requires kind { is_of_objects deed.now ≡ true }
-        ensures ok { IfOk result (λ answer. Does self.old self.new moment deed.now answer) }
-        ensures err { OnErr result (self.new ≡ self.old) }
-        ensures sound { IsSound self.new }
-        ensures looks { steps.new ≤ steps.old + deed_cost (rows_of self.old) deed.now }
-    {
-        match deed {
-            Deed::QuotaAdd {
+            QuotaDeed::Add {
                 path,
                 limit,
                 enforce,
@@ -237,7 +103,7 @@ impl Parts {
                     alloc, path, *limit, *enforce, *enabled, source, &change, moment, steps,
                 )
             }
-            Deed::QuotaModify {
+            QuotaDeed::Modify {
                 path,
                 limit,
                 enforce,
@@ -251,11 +117,196 @@ impl Parts {
                     alloc, path, *limit, *enforce, *enabled, &change, moment, steps,
                 )
             }
-            Deed::QuotaDelete { path } => Ok(self.quota_delete(path, moment, steps)),
-            Deed::QuotaScan { path } => self.quota_scan(path, moment, steps),
-            Deed::QuotaResetpeak { path } => Ok(self.quota_resetpeak(path, moment, steps)),
-            Deed::QuotaList { path } => Ok(self.quota_list(path, moment, steps)),
-            _ => self.on_groups(alloc, deed, moment, steps),
+            QuotaDeed::Delete { path } => Ok(self.quota_delete(path, moment, steps)),
+            QuotaDeed::Scan { path } => self.quota_scan(path, moment, steps),
+            QuotaDeed::Resetpeak { path } => Ok(self.quota_resetpeak(path, moment, steps)),
+            QuotaDeed::List { path } => Ok(self.quota_list(path, moment, steps)),
+        }
+    }
+
+    // A command on templates.
+    fn on_templates(
+        &mut self,
+        alloc: Global,
+        deed: &TemplateDeed,
+        moment: u64,
+    ) -> Result<Answer, NoMemory>
+        requires whole { IsWhole self.old }
+        requires idle { IsIdle self.old }
+        requires valid { is_deed (Template deed.now) ≡ true }
+        requires moment { moment ≤ latest_moment }
+        requires after { self.old.last_moment ≤ moment }
+        ensures ok { IfOk result (λ answer. Does self.old self.new moment (Template deed.now) answer) }
+        ensures err { OnErr result (self.new ≡ self.old) }
+        ensures sound { IsSound self.new }
+    {
+        match deed {
+            TemplateDeed::Add {
+                template: name,
+                limit,
+                enforce,
+                add_threshold: percents,
+                add_notification: notices,
+            } => {
+                let change = ThresholdChange::adding(percents, notices);
+                self.template_add(alloc, name, *limit, *enforce, &change, moment)
+            }
+            TemplateDeed::Modify {
+                template: name,
+                limit,
+                enforce,
+                remove_threshold: removed,
+                add_threshold: percents,
+                add_notification: notices,
+                update_derived: mode,
+            } => {
+                let change = ThresholdChange::new(removed, percents, notices);
+                self.template_modify(alloc, name, *limit, *enforce, &change, *mode, moment)
+            }
+            TemplateDeed::Delete { template: name } => Ok(self.template_delete(name, moment)),
+            TemplateDeed::List => Ok(self.list_templates(moment)),
+        }
+    }
+
+    // A command on auto-apply quotas.
+    fn on_autos<L: Ledger>(
+        &mut self,
+        alloc: Global,
+        deed: &AutoquotaDeed,
+        moment: u64,
+        steps: &mut Steps<L>,
+    ) -> Result<Answer, NoMemory>
+        requires whole { IsWhole self.old }
+        requires idle { IsIdle self.old }
+        requires valid { is_deed (Autoquota deed.now) ≡ true }
+        requires moment { moment ≤ latest_moment }
+        requires after { self.old.last_moment ≤ moment }
+        ensures ok { IfOk result (λ answer. Does self.old self.new moment (Autoquota deed.now) answer) }
+        ensures err { OnErr result (self.new ≡ self.old) }
+        ensures sound { IsSound self.new }
+        ensures looks { steps.new ≤ steps.old + deed_cost (rows_of self.old) (Autoquota deed.now) }
+    {
+        match deed {
+            AutoquotaDeed::Add {
+                path,
+                source_template: name,
+                exclude: excluded,
+            } => self.auto_add(alloc, path, name, excluded, moment, steps),
+            AutoquotaDeed::Delete { path } => Ok(self.auto_delete(path, moment, steps)),
+            AutoquotaDeed::List => Ok(self.list_autos(moment)),
+        }
+    }
+
+    // A command on file groups.
+    fn on_groups(
+        &mut self,
+        alloc: Global,
+        deed: &FilegroupDeed,
+        moment: u64,
+    ) -> Result<Answer, NoMemory>
+        requires whole { IsWhole self.old }
+        requires idle { IsIdle self.old }
+        requires valid { is_deed (Filegroup deed.now) ≡ true }
+        requires moment { moment ≤ latest_moment }
+        requires after { self.old.last_moment ≤ moment }
+        ensures ok { IfOk result (λ answer. Does self.old self.new moment (Filegroup deed.now) answer) }
+        ensures err { OnErr result (self.new ≡ self.old) }
+        ensures sound { IsSound self.new }
+    {
+        match deed {
+            FilegroupDeed::Add {
+                filegroup: name,
+                members,
+                non_members: others,
+            } => self.group_add(alloc, name, members, others, moment),
+            FilegroupDeed::Modify {
+                filegroup: name,
+                members,
+                non_members: others,
+            } => self.group_modify(alloc, name, members.as_ref(), others.as_ref(), moment),
+            FilegroupDeed::Delete { filegroup: name } => Ok(self.group_delete(name, moment)),
+            FilegroupDeed::List => Ok(self.list_groups(moment)),
+        }
+    }
+
+    // A command on screens.
+    fn on_screens<L: Ledger>(
+        &mut self,
+        alloc: Global,
+        deed: &ScreenDeed,
+        moment: u64,
+        steps: &mut Steps<L>,
+    ) -> Result<Answer, NoMemory>
+        requires whole { IsWhole self.old }
+        requires idle { IsIdle self.old }
+        requires valid { is_deed (Screen deed.now) ≡ true }
+        requires moment { moment ≤ latest_moment }
+        requires after { self.old.last_moment ≤ moment }
+        ensures ok { IfOk result (λ answer. Does self.old self.new moment (Screen deed.now) answer) }
+        ensures err { OnErr result (self.new ≡ self.old) }
+        ensures sound { IsSound self.new }
+        ensures looks { steps.new ≤ steps.old + deed_cost (rows_of self.old) (Screen deed.now) }
+    {
+        match deed {
+            ScreenDeed::Add {
+                path,
+                active,
+                add_filegroup: names,
+                add_notification: actions,
+            } => self.screen_add(alloc, path, *active, names, actions, moment, steps),
+            ScreenDeed::Modify {
+                path,
+                active,
+                remove_filegroup: removed,
+                add_filegroup: added,
+            } => self.screen_modify(alloc, path, *active, removed, added, moment, steps),
+            ScreenDeed::Delete { path } => Ok(self.screen_delete(path, moment, steps)),
+            ScreenDeed::List => Ok(self.list_screens(moment)),
+        }
+    }
+
+    // A command on exceptions.
+    fn on_exceptions<L: Ledger>(
+        &mut self,
+        alloc: Global,
+        deed: &ExceptionDeed,
+        moment: u64,
+        steps: &mut Steps<L>,
+    ) -> Result<Answer, NoMemory>
+        requires whole { IsWhole self.old }
+        requires idle { IsIdle self.old }
+        requires valid { is_deed (Exception deed.now) ≡ true }
+        requires moment { moment ≤ latest_moment }
+        requires after { self.old.last_moment ≤ moment }
+        ensures ok { IfOk result (λ answer. Does self.old self.new moment (Exception deed.now) answer) }
+        ensures err { OnErr result (self.new ≡ self.old) }
+        ensures sound { IsSound self.new }
+        ensures looks { steps.new ≤ steps.old + deed_cost (rows_of self.old) (Exception deed.now) }
+    {
+        match deed {
+            ExceptionDeed::Add {
+                path,
+                add_filegroup: names,
+            } => self.except_add(alloc, path, names, moment, steps),
+            ExceptionDeed::Delete { path } => Ok(self.except_delete(path, moment, steps)),
+            ExceptionDeed::List => Ok(self.list_excepts(moment)),
+        }
+    }
+
+    // A command on the settings or on the log.
+    fn on_admin(&mut self, deed: &AdminDeed, moment: u64) -> Answer
+        requires whole { IsWhole self.old }
+        requires idle { IsIdle self.old }
+        requires valid { is_deed (Admin deed.now) ≡ true }
+        requires moment { moment ≤ latest_moment }
+        requires after { self.old.last_moment ≤ moment }
+        ensures ok { Does self.old self.new moment (Admin deed.now) result }
+        ensures sound { IsSound self.new }
+    {
+        match deed {
+            AdminDeed::Options { run_limit } => self.set_options(*run_limit, moment),
+            AdminDeed::List => self.show_settings(moment),
+            AdminDeed::Log => self.show_log(moment),
         }
     }
 
@@ -280,10 +331,13 @@ impl Parts {
             Deed::File(op) => self.operate(alloc, op, moment, steps),
             Deed::Usage { path } => self.sum(alloc, path, moment, steps),
             Deed::Step { n } => Ok(self.go_on(*n, moment, steps)),
-            Deed::AdminOptions { run_limit } => Ok(self.set_options(*run_limit, moment)),
-            Deed::AdminList => Ok(self.show_settings(moment)),
-            Deed::AdminLog => Ok(self.show_log(moment)),
-            deed => self.on_objects(alloc, deed, moment, steps),
+            Deed::Quota(deed) => self.on_quotas(alloc, deed, moment, steps),
+            Deed::Template(deed) => self.on_templates(alloc, deed, moment),
+            Deed::Autoquota(deed) => self.on_autos(alloc, deed, moment, steps),
+            Deed::Filegroup(deed) => self.on_groups(alloc, deed, moment),
+            Deed::Screen(deed) => self.on_screens(alloc, deed, moment, steps),
+            Deed::Exception(deed) => self.on_exceptions(alloc, deed, moment, steps),
+            Deed::Admin(deed) => Ok(self.on_admin(deed, moment)),
         }
     }
 

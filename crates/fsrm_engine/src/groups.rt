@@ -4,7 +4,8 @@ ghost use Rattle.std.specs.Prelude.{◌≡◌, ◌≤◌, true, IfOk, OnErr};
 ghost use Rattle.std.specs.List.{list_all, list_any};
 ghost use Rattle.std.specs.Option.{option_copied, option_map_or};
 ghost use Rattle.fsrm_base.specs.Numbers.{is_in};
-ghost use Rattle.fsrm_model.specs.declared.command.Deed.TheVariants.{FilegroupAdd, FilegroupModify, FilegroupDelete, FilegroupList};
+ghost use Rattle.fsrm_model.specs.declared.command.Deed.TheVariants.{Filegroup};
+ghost use Rattle.fsrm_model.specs.declared.command.FilegroupDeed.TheVariants.{Add as FilegroupAdd, Modify as FilegroupModify, Delete as FilegroupDelete, List as FilegroupList};
 ghost use Rattle.fsrm_model.specs.GroupWork.{is_used};
 ghost use Rattle.fsrm_model.specs.Limits.{latest_moment};
 ghost use Rattle.fsrm_model.specs.Patterns.{is_object_name, is_pattern, are_members, are_non_members};
@@ -102,7 +103,7 @@ impl Parts {
         requires others { are_non_members non_members.now ≡ true }
         requires moment { moment ≤ latest_moment }
         requires after { self.old.last_moment ≤ moment }
-        ensures ok { IfOk result (λ answer. Does self.old self.new moment (FilegroupAdd name.now members.now non_members.now) answer) }
+        ensures ok { IfOk result (λ answer. Does self.old self.new moment (Filegroup (FilegroupAdd name.now members.now non_members.now)) answer) }
         ensures err { OnErr result (self.new ≡ self.old) }
         ensures sound { IsSound self.new }
     {
@@ -130,7 +131,7 @@ impl Parts {
         requires others { option_map_or are_non_members (option_copied non_members) true ≡ true }
         requires moment { moment ≤ latest_moment }
         requires after { self.old.last_moment ≤ moment }
-        ensures ok { IfOk result (λ answer. Does self.old self.new moment (FilegroupModify name.now (option_copied members.entry) (option_copied non_members.entry)) answer) }
+        ensures ok { IfOk result (λ answer. Does self.old self.new moment (Filegroup (FilegroupModify name.now (option_copied members.entry) (option_copied non_members.entry))) answer) }
         ensures err { OnErr result (self.new ≡ self.old) }
         ensures sound { IsSound self.new }
     {
@@ -152,7 +153,7 @@ impl Parts {
         requires idle { IsIdle self.old }
         requires moment { moment ≤ latest_moment }
         requires after { self.old.last_moment ≤ moment }
-        ensures ok { Does self.old self.new moment (FilegroupDelete name.now) result }
+        ensures ok { Does self.old self.new moment (Filegroup (FilegroupDelete name.now)) result }
         ensures sound { IsSound self.new }
     {
         let Some(group) = self.groups.find(name.as_str()) else {
@@ -169,7 +170,7 @@ impl Parts {
     pub(crate) fn list_groups(&self, moment: u64) -> Answer
         requires idle { IsIdle self.now }
         requires after { self.now.last_moment ≤ moment }
-        ensures { Does self.now self.now moment FilegroupList result }
+        ensures { Does self.now self.now moment (Filegroup FilegroupList) result }
     {
         listing(Ask::Groups)
     }

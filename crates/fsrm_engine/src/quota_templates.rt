@@ -4,7 +4,8 @@ ghost use Rattle.std.specs.Prelude.{◌≡◌, ◌≤◌, [], true, IfOk, OnErr}
 ghost use Rattle.std.specs.List.{list_all};
 ghost use Rattle.std.specs.Option.{option_copied, option_map_or};
 ghost use Rattle.fsrm_base.specs.Keyed.{is_ascending};
-ghost use Rattle.fsrm_model.specs.declared.command.Deed.TheVariants.{TemplateAdd, TemplateModify, TemplateDelete, TemplateList};
+ghost use Rattle.fsrm_model.specs.declared.command.Deed.TheVariants.{Template};
+ghost use Rattle.fsrm_model.specs.declared.command.TemplateDeed.TheVariants.{Add as TemplateAdd, Modify as TemplateModify, Delete as TemplateDelete, List as TemplateList};
 ghost use Rattle.fsrm_model.specs.Limits.{latest_moment};
 ghost use Rattle.fsrm_model.specs.Patterns.{is_object_name};
 ghost use Rattle.fsrm_model.specs.Quota.{is_limit};
@@ -91,7 +92,7 @@ impl Parts {
         requires notices { list_all is_notice change.now.notices.now ≡ true }
         requires moment { moment ≤ latest_moment }
         requires after { self.old.last_moment ≤ moment }
-        ensures ok { IfOk result (λ answer. Does self.old self.new moment (TemplateAdd name.now limit enforce change.now.percents.now change.now.notices.now) answer) }
+        ensures ok { IfOk result (λ answer. Does self.old self.new moment (Template (TemplateAdd name.now limit enforce change.now.percents.now change.now.notices.now)) answer) }
         ensures err { OnErr result (self.new ≡ self.old) }
         ensures sound { IsSound self.new }
     {
@@ -129,7 +130,7 @@ impl Parts {
         requires notices { list_all is_notice change.now.notices.now ≡ true }
         requires moment { moment ≤ latest_moment }
         requires after { self.old.last_moment ≤ moment }
-        ensures ok { IfOk result (λ answer. Does self.old self.new moment (TemplateModify name.now limit enforce change.now.removed.now change.now.percents.now change.now.notices.now mode) answer) }
+        ensures ok { IfOk result (λ answer. Does self.old self.new moment (Template (TemplateModify name.now limit enforce change.now.removed.now change.now.percents.now change.now.notices.now mode)) answer) }
         ensures err { OnErr result (self.new ≡ self.old) }
         ensures sound { IsSound self.new }
     {
@@ -159,7 +160,7 @@ impl Parts {
         requires idle { IsIdle self.old }
         requires moment { moment ≤ latest_moment }
         requires after { self.old.last_moment ≤ moment }
-        ensures ok { Does self.old self.new moment (TemplateDelete name.now) result }
+        ensures ok { Does self.old self.new moment (Template (TemplateDelete name.now)) result }
         ensures sound { IsSound self.new }
     {
         let Some(template) = self.template_named(name) else {
@@ -177,7 +178,7 @@ impl Parts {
     pub(crate) fn list_templates(&self, moment: u64) -> Answer
         requires idle { IsIdle self.now }
         requires after { self.now.last_moment ≤ moment }
-        ensures { Does self.now self.now moment TemplateList result }
+        ensures { Does self.now self.now moment (Template TemplateList) result }
     {
         listing(Ask::Templates)
     }

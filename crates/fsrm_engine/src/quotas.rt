@@ -4,7 +4,8 @@ ghost use Rattle.std.specs.Prelude.{◌≡◌, ◌+◌, ◌*◌, ◌≤◌, [], 
 ghost use Rattle.std.specs.List.{list_all};
 ghost use Rattle.std.specs.Option.{option_copied, option_map_or};
 ghost use Rattle.fsrm_base.specs.Keyed.{is_ascending};
-ghost use Rattle.fsrm_model.specs.declared.command.Deed.TheVariants.{QuotaAdd, QuotaModify, QuotaDelete, QuotaScan, QuotaResetpeak, QuotaList};
+ghost use Rattle.fsrm_model.specs.declared.command.Deed.TheVariants.{Quota};
+ghost use Rattle.fsrm_model.specs.declared.command.QuotaDeed.TheVariants.{Add as QuotaAdd, Modify as QuotaModify, Delete as QuotaDelete, Scan as QuotaScan, Resetpeak as QuotaResetpeak, List as QuotaList};
 ghost use Rattle.fsrm_model.specs.Cost.{deed_cost};
 ghost use Rattle.fsrm_model.specs.Limits.{latest_moment};
 ghost use Rattle.fsrm_model.specs.Quota.{is_limit};
@@ -118,10 +119,10 @@ impl Parts {
         requires notices { list_all is_notice change.now.notices.now ≡ true }
         requires moment { moment ≤ latest_moment }
         requires after { self.old.last_moment ≤ moment }
-        ensures ok { IfOk result (λ answer. Does self.old self.new moment (QuotaAdd path.now limit enforce enabled (option_copied source.entry) change.now.percents.now change.now.notices.now) answer) }
+        ensures ok { IfOk result (λ answer. Does self.old self.new moment (Quota (QuotaAdd path.now limit enforce enabled (option_copied source.entry) change.now.percents.now change.now.notices.now)) answer) }
         ensures err { OnErr result (self.new ≡ self.old) }
         ensures sound { IsSound self.new }
-        ensures looks { steps.new ≤ steps.old + deed_cost (rows_of self.old) (QuotaAdd path.now limit enforce enabled (option_copied source.entry) change.now.percents.now change.now.notices.now) }
+        ensures looks { steps.new ≤ steps.old + deed_cost (rows_of self.old) (Quota (QuotaAdd path.now limit enforce enabled (option_copied source.entry) change.now.percents.now change.now.notices.now)) }
     {
         let Some(folder) = folder_at(&self.tree, path, steps) else {
             return Ok(refused(Refusal::PathNotFound));
@@ -159,10 +160,10 @@ impl Parts {
         requires notices { list_all is_notice change.now.notices.now ≡ true }
         requires moment { moment ≤ latest_moment }
         requires after { self.old.last_moment ≤ moment }
-        ensures ok { IfOk result (λ answer. Does self.old self.new moment (QuotaModify path.now limit enforce enabled change.now.removed.now change.now.percents.now change.now.notices.now) answer) }
+        ensures ok { IfOk result (λ answer. Does self.old self.new moment (Quota (QuotaModify path.now limit enforce enabled change.now.removed.now change.now.percents.now change.now.notices.now)) answer) }
         ensures err { OnErr result (self.new ≡ self.old) }
         ensures sound { IsSound self.new }
-        ensures looks { steps.new ≤ steps.old + deed_cost (rows_of self.old) (QuotaModify path.now limit enforce enabled change.now.removed.now change.now.percents.now change.now.notices.now) }
+        ensures looks { steps.new ≤ steps.old + deed_cost (rows_of self.old) (Quota (QuotaModify path.now limit enforce enabled change.now.removed.now change.now.percents.now change.now.notices.now)) }
     {
         let quota = match self.quota_at(path, steps) {
             Ok(quota) => quota,
@@ -194,9 +195,9 @@ impl Parts {
         requires idle { IsIdle self.old }
         requires moment { moment ≤ latest_moment }
         requires after { self.old.last_moment ≤ moment }
-        ensures ok { Does self.old self.new moment (QuotaDelete path.now) result }
+        ensures ok { Does self.old self.new moment (Quota (QuotaDelete path.now)) result }
         ensures sound { IsSound self.new }
-        ensures looks { steps.new ≤ steps.old + deed_cost (rows_of self.old) (QuotaDelete path.now) }
+        ensures looks { steps.new ≤ steps.old + deed_cost (rows_of self.old) (Quota (QuotaDelete path.now)) }
     {
         let folder = match self.quota_at(path, steps) {
             Ok(quota) => quota.folder,
@@ -218,10 +219,10 @@ impl Parts {
         requires idle { IsIdle self.old }
         requires moment { moment ≤ latest_moment }
         requires after { self.old.last_moment ≤ moment }
-        ensures ok { IfOk result (λ answer. Does self.old self.new moment (QuotaScan path.now) answer) }
+        ensures ok { IfOk result (λ answer. Does self.old self.new moment (Quota (QuotaScan path.now)) answer) }
         ensures err { OnErr result (self.new ≡ self.old) }
         ensures sound { IsSound self.new }
-        ensures looks { steps.new ≤ steps.old + deed_cost (rows_of self.old) (QuotaScan path.now) }
+        ensures looks { steps.new ≤ steps.old + deed_cost (rows_of self.old) (Quota (QuotaScan path.now)) }
     {
         let quota = match self.quota_at(path, steps) {
             Ok(quota) => quota,
@@ -250,9 +251,9 @@ impl Parts {
         requires idle { IsIdle self.old }
         requires moment { moment ≤ latest_moment }
         requires after { self.old.last_moment ≤ moment }
-        ensures ok { Does self.old self.new moment (QuotaResetpeak path.now) result }
+        ensures ok { Does self.old self.new moment (Quota (QuotaResetpeak path.now)) result }
         ensures sound { IsSound self.new }
-        ensures looks { steps.new ≤ steps.old + deed_cost (rows_of self.old) (QuotaResetpeak path.now) }
+        ensures looks { steps.new ≤ steps.old + deed_cost (rows_of self.old) (Quota (QuotaResetpeak path.now)) }
     {
         let folder = match self.quota_at(path, steps) {
             Ok(quota) => quota.folder,
@@ -268,7 +269,7 @@ impl Parts {
         requires whole { IsWhole self.now }
         requires idle { IsIdle self.now }
         requires after { self.now.last_moment ≤ moment }
-        ensures ok { Does self.now self.now moment (QuotaList (Some path.now)) result }
+        ensures ok { Does self.now self.now moment (Quota (QuotaList (Some path.now))) result }
         ensures looks { steps.new ≤ steps.old + (22 * length path.now + 2) }
     {
         let folder = match self.quota_at(path, steps) {
@@ -288,8 +289,8 @@ impl Parts {
         requires whole { IsWhole self.now }
         requires idle { IsIdle self.now }
         requires after { self.now.last_moment ≤ moment }
-        ensures ok { Does self.now self.now moment (QuotaList path.now) result }
-        ensures looks { steps.new ≤ steps.old + deed_cost (rows_of self.now) (QuotaList path.now) }
+        ensures ok { Does self.now self.now moment (Quota (QuotaList path.now)) result }
+        ensures looks { steps.new ≤ steps.old + deed_cost (rows_of self.now) (Quota (QuotaList path.now)) }
     {
         match path {
             Some(path) => self.list_one(path, moment, steps),

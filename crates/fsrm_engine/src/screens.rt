@@ -3,7 +3,9 @@
 ghost use Rattle.std.specs.Prelude.{◌≡◌, ◌+◌, ◌*◌, ◌≤◌, true, length, IfOk, IfErr, OnErr, Some};
 ghost use Rattle.std.specs.List.{list_all};
 ghost use Rattle.fsrm_base.specs.Keyed.{row_of};
-ghost use Rattle.fsrm_model.specs.declared.command.Deed.TheVariants.{ScreenAdd, ScreenModify, ScreenDelete, ScreenList, ExceptionAdd, ExceptionDelete, ExceptionList};
+ghost use Rattle.fsrm_model.specs.declared.command.Deed.TheVariants.{Screen, Exception};
+ghost use Rattle.fsrm_model.specs.declared.command.ExceptionDeed.TheVariants.{Add as ExceptionAdd, Delete as ExceptionDelete, List as ExceptionList};
+ghost use Rattle.fsrm_model.specs.declared.command.ScreenDeed.TheVariants.{Add as ScreenAdd, Modify as ScreenModify, Delete as ScreenDelete, List as ScreenList};
 ghost use Rattle.fsrm_model.specs.Check.{first};
 ghost use Rattle.fsrm_model.specs.Commands.{are_some_names};
 ghost use Rattle.fsrm_model.specs.Cost.{deed_cost};
@@ -95,10 +97,10 @@ impl Parts {
         requires actions { list_all is_new_action actions.now ≡ true }
         requires moment { moment ≤ latest_moment }
         requires after { self.old.last_moment ≤ moment }
-        ensures ok { IfOk result (λ answer. Does self.old self.new moment (ScreenAdd path.now active names.now actions.now) answer) }
+        ensures ok { IfOk result (λ answer. Does self.old self.new moment (Screen (ScreenAdd path.now active names.now actions.now)) answer) }
         ensures err { OnErr result (self.new ≡ self.old) }
         ensures sound { IsSound self.new }
-        ensures looks { steps.new ≤ steps.old + deed_cost (rows_of self.old) (ScreenAdd path.now active names.now actions.now) }
+        ensures looks { steps.new ≤ steps.old + deed_cost (rows_of self.old) (Screen (ScreenAdd path.now active names.now actions.now)) }
     {
         let Some(folder) = folder_at(&self.tree, path, steps) else {
             return Ok(refused(Refusal::PathNotFound));
@@ -135,10 +137,10 @@ impl Parts {
         requires idle { IsIdle self.old }
         requires moment { moment ≤ latest_moment }
         requires after { self.old.last_moment ≤ moment }
-        ensures ok { IfOk result (λ answer. Does self.old self.new moment (ScreenModify path.now active removed.now added.now) answer) }
+        ensures ok { IfOk result (λ answer. Does self.old self.new moment (Screen (ScreenModify path.now active removed.now added.now)) answer) }
         ensures err { OnErr result (self.new ≡ self.old) }
         ensures sound { IsSound self.new }
-        ensures looks { steps.new ≤ steps.old + deed_cost (rows_of self.old) (ScreenModify path.now active removed.now added.now) }
+        ensures looks { steps.new ≤ steps.old + deed_cost (rows_of self.old) (Screen (ScreenModify path.now active removed.now added.now)) }
     {
         let screen = match self.screen_at(path, steps) {
             Ok(screen) => screen,
@@ -167,9 +169,9 @@ impl Parts {
         requires idle { IsIdle self.old }
         requires moment { moment ≤ latest_moment }
         requires after { self.old.last_moment ≤ moment }
-        ensures ok { Does self.old self.new moment (ScreenDelete path.now) result }
+        ensures ok { Does self.old self.new moment (Screen (ScreenDelete path.now)) result }
         ensures sound { IsSound self.new }
-        ensures looks { steps.new ≤ steps.old + deed_cost (rows_of self.old) (ScreenDelete path.now) }
+        ensures looks { steps.new ≤ steps.old + deed_cost (rows_of self.old) (Screen (ScreenDelete path.now)) }
     {
         let folder = match self.screen_at(path, steps) {
             Ok(screen) => screen.folder,
@@ -183,7 +185,7 @@ impl Parts {
     pub(crate) fn list_screens(&self, moment: u64) -> Answer
         requires idle { IsIdle self.now }
         requires after { self.now.last_moment ≤ moment }
-        ensures { Does self.now self.now moment ScreenList result }
+        ensures { Does self.now self.now moment (Screen ScreenList) result }
     {
         listing(Ask::Screens)
     }
@@ -202,10 +204,10 @@ impl Parts {
         requires names { are_some_names names.now ≡ true }
         requires moment { moment ≤ latest_moment }
         requires after { self.old.last_moment ≤ moment }
-        ensures ok { IfOk result (λ answer. Does self.old self.new moment (ExceptionAdd path.now names.now) answer) }
+        ensures ok { IfOk result (λ answer. Does self.old self.new moment (Exception (ExceptionAdd path.now names.now)) answer) }
         ensures err { OnErr result (self.new ≡ self.old) }
         ensures sound { IsSound self.new }
-        ensures looks { steps.new ≤ steps.old + deed_cost (rows_of self.old) (ExceptionAdd path.now names.now) }
+        ensures looks { steps.new ≤ steps.old + deed_cost (rows_of self.old) (Exception (ExceptionAdd path.now names.now)) }
     {
         let Some(folder) = folder_at(&self.tree, path, steps) else {
             return Ok(refused(Refusal::PathNotFound));
@@ -236,9 +238,9 @@ impl Parts {
         requires idle { IsIdle self.old }
         requires moment { moment ≤ latest_moment }
         requires after { self.old.last_moment ≤ moment }
-        ensures ok { Does self.old self.new moment (ExceptionDelete path.now) result }
+        ensures ok { Does self.old self.new moment (Exception (ExceptionDelete path.now)) result }
         ensures sound { IsSound self.new }
-        ensures looks { steps.new ≤ steps.old + deed_cost (rows_of self.old) (ExceptionDelete path.now) }
+        ensures looks { steps.new ≤ steps.old + deed_cost (rows_of self.old) (Exception (ExceptionDelete path.now)) }
     {
         let Some(folder) = folder_at(&self.tree, path, steps) else {
             return refused(Refusal::PathNotFound);
@@ -254,7 +256,7 @@ impl Parts {
     pub(crate) fn list_excepts(&self, moment: u64) -> Answer
         requires idle { IsIdle self.now }
         requires after { self.now.last_moment ≤ moment }
-        ensures { Does self.now self.now moment ExceptionList result }
+        ensures { Does self.now self.now moment (Exception ExceptionList) result }
     {
         listing(Ask::Excepts)
     }

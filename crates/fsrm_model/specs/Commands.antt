@@ -6,10 +6,17 @@ use Rattle.std.specs.Option.{option_map_or}
 use Rattle.fsrm_model.specs.declared.row.Capacity.{Capacity}
 use Rattle.fsrm_model.specs.declared.row.NodeRow.{NodeRow}
 use Rattle.fsrm_model.specs.declared.row.Rows.{Rows}
+use Rattle.fsrm_model.specs.declared.command.AdminDeed.TheVariants.{Options as AdminOptions, List as AdminList, Log as AdminLog}
+use Rattle.fsrm_model.specs.declared.command.AutoquotaDeed.TheVariants.{Add as AutoquotaAdd, Delete as AutoquotaDelete, List as AutoquotaList}
 use Rattle.fsrm_model.specs.declared.command.Deed.{Deed}
-use Rattle.fsrm_model.specs.declared.command.Deed.TheVariants.{File, Usage, Step, QuotaAdd, QuotaModify, QuotaDelete, QuotaScan, QuotaResetpeak, QuotaList, TemplateAdd, TemplateModify, TemplateDelete, TemplateList, AutoquotaAdd, AutoquotaDelete, AutoquotaList, AdminOptions, AdminList, AdminLog, FilegroupAdd, FilegroupModify, FilegroupDelete, FilegroupList, ScreenAdd, ScreenModify, ScreenDelete, ScreenList, ExceptionAdd, ExceptionDelete, ExceptionList}
+use Rattle.fsrm_model.specs.declared.command.Deed.TheVariants.{File, Usage, Step, Quota, Template, Autoquota, Filegroup, Screen, Exception, Admin}
+use Rattle.fsrm_model.specs.declared.command.ExceptionDeed.TheVariants.{Add as ExceptionAdd, Delete as ExceptionDelete, List as ExceptionList}
 use Rattle.fsrm_model.specs.declared.command.FileOp.{FileOp}
 use Rattle.fsrm_model.specs.declared.command.FileOp.TheVariants.{Mkdir, Create, Resize, Touch, Move, Remove}
+use Rattle.fsrm_model.specs.declared.command.FilegroupDeed.TheVariants.{Add as FilegroupAdd, Modify as FilegroupModify, Delete as FilegroupDelete, List as FilegroupList}
+use Rattle.fsrm_model.specs.declared.command.QuotaDeed.TheVariants.{Add as QuotaAdd, Modify as QuotaModify, Delete as QuotaDelete, Scan as QuotaScan, Resetpeak as QuotaResetpeak, List as QuotaList}
+use Rattle.fsrm_model.specs.declared.command.ScreenDeed.TheVariants.{Add as ScreenAdd, Modify as ScreenModify, Delete as ScreenDelete, List as ScreenList}
+use Rattle.fsrm_model.specs.declared.command.TemplateDeed.TheVariants.{Add as TemplateAdd, Modify as TemplateModify, Delete as TemplateDelete, List as TemplateList}
 use Rattle.fsrm_model.specs.declared.command.Update.TheVariants.{Keep}
 use Rattle.fsrm_model.specs.AdminWork.{options_work, settings_work, log_work}
 use Rattle.fsrm_model.specs.AutoWork.{auto_add_work, auto_delete_work, auto_list_work}
@@ -43,33 +50,33 @@ abbrev pub paths : Deed → List Path
 paths (File op) = paths_of_op op
 paths (Usage path) = path ∷ []
 paths (Step n) = []
-paths (QuotaAdd path limit enforce enabled template percents notices) = path ∷ []
-paths (QuotaModify path limit enforce enabled removed percents notices) = path ∷ []
-paths (QuotaDelete path) = path ∷ []
-paths (QuotaScan path) = path ∷ []
-paths (QuotaResetpeak path) = path ∷ []
-paths (QuotaList path) = option_to_list path
-paths (TemplateAdd name limit enforce percents notices) = []
-paths (TemplateModify name limit enforce removed percents notices mode) = []
-paths (TemplateDelete name) = []
-paths TemplateList = []
-paths (AutoquotaAdd path name excluded) = path ∷ []
-paths (AutoquotaDelete path) = path ∷ []
-paths AutoquotaList = []
-paths (AdminOptions minutes) = []
-paths AdminList = []
-paths AdminLog = []
-paths (FilegroupAdd name members non_members) = []
-paths (FilegroupModify name members non_members) = []
-paths (FilegroupDelete name) = []
-paths FilegroupList = []
-paths (ScreenAdd path active groups actions) = path ∷ []
-paths (ScreenModify path active removed groups) = path ∷ []
-paths (ScreenDelete path) = path ∷ []
-paths ScreenList = []
-paths (ExceptionAdd path groups) = path ∷ []
-paths (ExceptionDelete path) = path ∷ []
-paths ExceptionList = []
+paths (Quota (QuotaAdd path limit enforce enabled template percents notices)) = path ∷ []
+paths (Quota (QuotaModify path limit enforce enabled removed percents notices)) = path ∷ []
+paths (Quota (QuotaDelete path)) = path ∷ []
+paths (Quota (QuotaScan path)) = path ∷ []
+paths (Quota (QuotaResetpeak path)) = path ∷ []
+paths (Quota (QuotaList path)) = option_to_list path
+paths (Template (TemplateAdd name limit enforce percents notices)) = []
+paths (Template (TemplateModify name limit enforce removed percents notices mode)) = []
+paths (Template (TemplateDelete name)) = []
+paths (Template TemplateList) = []
+paths (Autoquota (AutoquotaAdd path name excluded)) = path ∷ []
+paths (Autoquota (AutoquotaDelete path)) = path ∷ []
+paths (Autoquota AutoquotaList) = []
+paths (Admin (AdminOptions minutes)) = []
+paths (Admin AdminList) = []
+paths (Admin AdminLog) = []
+paths (Filegroup (FilegroupAdd name members non_members)) = []
+paths (Filegroup (FilegroupModify name members non_members)) = []
+paths (Filegroup (FilegroupDelete name)) = []
+paths (Filegroup FilegroupList) = []
+paths (Screen (ScreenAdd path active groups actions)) = path ∷ []
+paths (Screen (ScreenModify path active removed groups)) = path ∷ []
+paths (Screen (ScreenDelete path)) = path ∷ []
+paths (Screen ScreenList) = []
+paths (Exception (ExceptionAdd path groups)) = path ∷ []
+paths (Exception (ExceptionDelete path)) = path ∷ []
+paths (Exception ExceptionList) = []
 
 abbrev pub is_owner : ℕ → Bool
 is_owner owner = nat_le 1 owner && nat_le owner last_owner
@@ -95,38 +102,38 @@ abbrev pub has_values : Deed → Bool
 has_values (File op) = has_values_of_op op
 has_values (Usage path) = true
 has_values (Step n) = nat_le 1 n && nat_le n most_visits
-has_values (QuotaAdd path limit enforce enabled template percents notices) =
+has_values (Quota (QuotaAdd path limit enforce enabled template percents notices)) =
     (option_map_or is_limit limit (is_some template) && option_map_or is_object_name template true)
     && (list_all is_percent percents && list_all is_notice notices)
-has_values (QuotaModify path limit enforce enabled removed percents notices) =
+has_values (Quota (QuotaModify path limit enforce enabled removed percents notices)) =
     option_map_or is_limit limit true && (list_all is_percent removed && (list_all is_percent percents && list_all is_notice notices))
-has_values (QuotaDelete path) = true
-has_values (QuotaScan path) = true
-has_values (QuotaResetpeak path) = true
-has_values (QuotaList path) = true
-has_values (TemplateAdd name limit enforce percents notices) =
+has_values (Quota (QuotaDelete path)) = true
+has_values (Quota (QuotaScan path)) = true
+has_values (Quota (QuotaResetpeak path)) = true
+has_values (Quota (QuotaList path)) = true
+has_values (Template (TemplateAdd name limit enforce percents notices)) =
     is_object_name name && (is_limit limit && (list_all is_percent percents && list_all is_notice notices))
-has_values (TemplateModify name limit enforce removed percents notices mode) =
+has_values (Template (TemplateModify name limit enforce removed percents notices mode)) =
     is_object_name name && (option_map_or is_limit limit true && (list_all is_percent removed && (list_all is_percent percents && list_all is_notice notices)))
-has_values (TemplateDelete name) = is_object_name name
-has_values TemplateList = true
-has_values (AutoquotaAdd path name excluded) = is_object_name name && (nat_le (length excluded) most_excluded && list_all is_name excluded)
-has_values (AutoquotaDelete path) = true
-has_values AutoquotaList = true
-has_values (AdminOptions minutes) = nat_le minutes most_minutes
-has_values AdminList = true
-has_values AdminLog = true
-has_values (FilegroupAdd name members non_members) = is_object_name name && (are_members members && are_non_members non_members)
-has_values (FilegroupModify name members non_members) = is_object_name name && (option_map_or are_members members true && option_map_or are_non_members non_members true)
-has_values (FilegroupDelete name) = is_object_name name
-has_values FilegroupList = true
-has_values (ScreenAdd path active groups actions) = are_some_names groups && list_all is_new_action actions
-has_values (ScreenModify path active removed groups) = list_all is_object_name removed && list_all is_object_name groups
-has_values (ScreenDelete path) = true
-has_values ScreenList = true
-has_values (ExceptionAdd path groups) = are_some_names groups
-has_values (ExceptionDelete path) = true
-has_values ExceptionList = true
+has_values (Template (TemplateDelete name)) = is_object_name name
+has_values (Template TemplateList) = true
+has_values (Autoquota (AutoquotaAdd path name excluded)) = is_object_name name && (nat_le (length excluded) most_excluded && list_all is_name excluded)
+has_values (Autoquota (AutoquotaDelete path)) = true
+has_values (Autoquota AutoquotaList) = true
+has_values (Admin (AdminOptions minutes)) = nat_le minutes most_minutes
+has_values (Admin AdminList) = true
+has_values (Admin AdminLog) = true
+has_values (Filegroup (FilegroupAdd name members non_members)) = is_object_name name && (are_members members && are_non_members non_members)
+has_values (Filegroup (FilegroupModify name members non_members)) = is_object_name name && (option_map_or are_members members true && option_map_or are_non_members non_members true)
+has_values (Filegroup (FilegroupDelete name)) = is_object_name name
+has_values (Filegroup FilegroupList) = true
+has_values (Screen (ScreenAdd path active groups actions)) = are_some_names groups && list_all is_new_action actions
+has_values (Screen (ScreenModify path active removed groups)) = list_all is_object_name removed && list_all is_object_name groups
+has_values (Screen (ScreenDelete path)) = true
+has_values (Screen ScreenList) = true
+has_values (Exception (ExceptionAdd path groups)) = are_some_names groups
+has_values (Exception (ExceptionDelete path)) = true
+has_values (Exception ExceptionList) = true
 
 -- a command without its values: two deeds are of the same command if they are the same but for these
 abbrev pub emptied_op : FileOp → FileOp
@@ -141,33 +148,33 @@ abbrev pub emptied : Deed → Deed
 emptied (File op) = File (emptied_op op)
 emptied (Usage path) = Usage []
 emptied (Step n) = Step 0
-emptied (QuotaAdd path limit enforce enabled template percents notices) = QuotaAdd [] None None false None [] []
-emptied (QuotaModify path limit enforce enabled removed percents notices) = QuotaModify [] None None None [] [] []
-emptied (QuotaDelete path) = QuotaDelete []
-emptied (QuotaScan path) = QuotaScan []
-emptied (QuotaResetpeak path) = QuotaResetpeak []
-emptied (QuotaList path) = QuotaList None
-emptied (TemplateAdd name limit enforce percents notices) = TemplateAdd [] 0 false [] []
-emptied (TemplateModify name limit enforce removed percents notices mode) = TemplateModify [] None None [] [] [] Keep
-emptied (TemplateDelete name) = TemplateDelete []
-emptied TemplateList = TemplateList
-emptied (AutoquotaAdd path name excluded) = AutoquotaAdd [] [] []
-emptied (AutoquotaDelete path) = AutoquotaDelete []
-emptied AutoquotaList = AutoquotaList
-emptied (AdminOptions minutes) = AdminOptions 0
-emptied AdminList = AdminList
-emptied AdminLog = AdminLog
-emptied (FilegroupAdd name members non_members) = FilegroupAdd [] [] []
-emptied (FilegroupModify name members non_members) = FilegroupModify [] None None
-emptied (FilegroupDelete name) = FilegroupDelete []
-emptied FilegroupList = FilegroupList
-emptied (ScreenAdd path active groups actions) = ScreenAdd [] false [] []
-emptied (ScreenModify path active removed groups) = ScreenModify [] None [] []
-emptied (ScreenDelete path) = ScreenDelete []
-emptied ScreenList = ScreenList
-emptied (ExceptionAdd path groups) = ExceptionAdd [] []
-emptied (ExceptionDelete path) = ExceptionDelete []
-emptied ExceptionList = ExceptionList
+emptied (Quota (QuotaAdd path limit enforce enabled template percents notices)) = Quota (QuotaAdd [] None None false None [] [])
+emptied (Quota (QuotaModify path limit enforce enabled removed percents notices)) = Quota (QuotaModify [] None None None [] [] [])
+emptied (Quota (QuotaDelete path)) = Quota (QuotaDelete [])
+emptied (Quota (QuotaScan path)) = Quota (QuotaScan [])
+emptied (Quota (QuotaResetpeak path)) = Quota (QuotaResetpeak [])
+emptied (Quota (QuotaList path)) = Quota (QuotaList None)
+emptied (Template (TemplateAdd name limit enforce percents notices)) = Template (TemplateAdd [] 0 false [] [])
+emptied (Template (TemplateModify name limit enforce removed percents notices mode)) = Template (TemplateModify [] None None [] [] [] Keep)
+emptied (Template (TemplateDelete name)) = Template (TemplateDelete [])
+emptied (Template TemplateList) = Template TemplateList
+emptied (Autoquota (AutoquotaAdd path name excluded)) = Autoquota (AutoquotaAdd [] [] [])
+emptied (Autoquota (AutoquotaDelete path)) = Autoquota (AutoquotaDelete [])
+emptied (Autoquota AutoquotaList) = Autoquota AutoquotaList
+emptied (Admin (AdminOptions minutes)) = Admin (AdminOptions 0)
+emptied (Admin AdminList) = Admin AdminList
+emptied (Admin AdminLog) = Admin AdminLog
+emptied (Filegroup (FilegroupAdd name members non_members)) = Filegroup (FilegroupAdd [] [] [])
+emptied (Filegroup (FilegroupModify name members non_members)) = Filegroup (FilegroupModify [] None None)
+emptied (Filegroup (FilegroupDelete name)) = Filegroup (FilegroupDelete [])
+emptied (Filegroup FilegroupList) = Filegroup FilegroupList
+emptied (Screen (ScreenAdd path active groups actions)) = Screen (ScreenAdd [] false [] [])
+emptied (Screen (ScreenModify path active removed groups)) = Screen (ScreenModify [] None [] [])
+emptied (Screen (ScreenDelete path)) = Screen (ScreenDelete [])
+emptied (Screen ScreenList) = Screen ScreenList
+emptied (Exception (ExceptionAdd path groups)) = Exception (ExceptionAdd [] [])
+emptied (Exception (ExceptionDelete path)) = Exception (ExceptionDelete [])
+emptied (Exception ExceptionList) = Exception ExceptionList
 
 -- The kind of a command's entry, by which a reader of the journal knows the command: no two commands have the same one. A
 -- command that never lasts has none, nor has a step of a scan: what is kept of it is that the scan was finished
@@ -183,33 +190,33 @@ abbrev pub kind : Deed → Option ℕ
 kind (File op) = Some (kind_of_op op)
 kind (Usage path) = None
 kind (Step n) = None
-kind (QuotaAdd path limit enforce enabled template percents notices) = Some 10
-kind (QuotaModify path limit enforce enabled removed percents notices) = Some 11
-kind (QuotaDelete path) = Some 12
-kind (QuotaScan path) = Some 13
-kind (QuotaResetpeak path) = Some 14
-kind (QuotaList path) = None
-kind (TemplateAdd name limit enforce percents notices) = Some 20
-kind (TemplateModify name limit enforce removed percents notices mode) = Some 21
-kind (TemplateDelete name) = Some 22
-kind TemplateList = None
-kind (AutoquotaAdd path name excluded) = Some 30
-kind (AutoquotaDelete path) = Some 31
-kind AutoquotaList = None
-kind (AdminOptions minutes) = Some 35
-kind AdminList = None
-kind AdminLog = None
-kind (FilegroupAdd name members non_members) = Some 40
-kind (FilegroupModify name members non_members) = Some 41
-kind (FilegroupDelete name) = Some 42
-kind FilegroupList = None
-kind (ScreenAdd path active groups actions) = Some 50
-kind (ScreenModify path active removed groups) = Some 51
-kind (ScreenDelete path) = Some 52
-kind ScreenList = None
-kind (ExceptionAdd path groups) = Some 60
-kind (ExceptionDelete path) = Some 61
-kind ExceptionList = None
+kind (Quota (QuotaAdd path limit enforce enabled template percents notices)) = Some 10
+kind (Quota (QuotaModify path limit enforce enabled removed percents notices)) = Some 11
+kind (Quota (QuotaDelete path)) = Some 12
+kind (Quota (QuotaScan path)) = Some 13
+kind (Quota (QuotaResetpeak path)) = Some 14
+kind (Quota (QuotaList path)) = None
+kind (Template (TemplateAdd name limit enforce percents notices)) = Some 20
+kind (Template (TemplateModify name limit enforce removed percents notices mode)) = Some 21
+kind (Template (TemplateDelete name)) = Some 22
+kind (Template TemplateList) = None
+kind (Autoquota (AutoquotaAdd path name excluded)) = Some 30
+kind (Autoquota (AutoquotaDelete path)) = Some 31
+kind (Autoquota AutoquotaList) = None
+kind (Admin (AdminOptions minutes)) = Some 35
+kind (Admin AdminList) = None
+kind (Admin AdminLog) = None
+kind (Filegroup (FilegroupAdd name members non_members)) = Some 40
+kind (Filegroup (FilegroupModify name members non_members)) = Some 41
+kind (Filegroup (FilegroupDelete name)) = Some 42
+kind (Filegroup FilegroupList) = None
+kind (Screen (ScreenAdd path active groups actions)) = Some 50
+kind (Screen (ScreenModify path active removed groups)) = Some 51
+kind (Screen (ScreenDelete path)) = Some 52
+kind (Screen ScreenList) = None
+kind (Exception (ExceptionAdd path groups)) = Some 60
+kind (Exception (ExceptionDelete path)) = Some 61
+kind (Exception ExceptionList) = None
 
 -- all values of a command but its paths
 abbrev pub more_bytes_of_op : FileOp → ℕ
@@ -224,40 +231,40 @@ abbrev pub more_bytes : Deed → ℕ
 more_bytes (File op) = more_bytes_of_op op
 more_bytes (Usage path) = 0
 more_bytes (Step n) = 0
-more_bytes (QuotaAdd path limit enforce enabled template percents notices) =
+more_bytes (Quota (QuotaAdd path limit enforce enabled template percents notices)) =
     optional (λ n. number_bytes) limit + (optional (λ b. choice_bytes) enforce + (choice_bytes + (optional text_bytes template
     + (counted (λ n. number_bytes) percents + counted notice_bytes notices))))
-more_bytes (QuotaModify path limit enforce enabled removed percents notices) =
+more_bytes (Quota (QuotaModify path limit enforce enabled removed percents notices)) =
     optional (λ n. number_bytes) limit + (optional (λ b. choice_bytes) enforce + (optional (λ b. choice_bytes) enabled
     + (counted (λ n. number_bytes) removed + (counted (λ n. number_bytes) percents + counted notice_bytes notices))))
-more_bytes (QuotaDelete path) = 0
-more_bytes (QuotaScan path) = 0
-more_bytes (QuotaResetpeak path) = 0
-more_bytes (QuotaList path) = 0
-more_bytes (TemplateAdd name limit enforce percents notices) =
+more_bytes (Quota (QuotaDelete path)) = 0
+more_bytes (Quota (QuotaScan path)) = 0
+more_bytes (Quota (QuotaResetpeak path)) = 0
+more_bytes (Quota (QuotaList path)) = 0
+more_bytes (Template (TemplateAdd name limit enforce percents notices)) =
     text_bytes name + (number_bytes + (choice_bytes + (counted (λ n. number_bytes) percents + counted notice_bytes notices)))
-more_bytes (TemplateModify name limit enforce removed percents notices mode) =
+more_bytes (Template (TemplateModify name limit enforce removed percents notices mode)) =
     text_bytes name + (optional (λ n. number_bytes) limit + (optional (λ b. choice_bytes) enforce
     + (counted (λ n. number_bytes) removed + (counted (λ n. number_bytes) percents + (counted notice_bytes notices + choice_bytes)))))
-more_bytes (TemplateDelete name) = text_bytes name
-more_bytes TemplateList = 0
-more_bytes (AutoquotaAdd path name excluded) = text_bytes name + counted text_bytes excluded
-more_bytes (AutoquotaDelete path) = 0
-more_bytes AutoquotaList = 0
-more_bytes (AdminOptions minutes) = number_bytes
-more_bytes AdminList = 0
-more_bytes AdminLog = 0
-more_bytes (FilegroupAdd name members non_members) = text_bytes name + (counted text_bytes members + counted text_bytes non_members)
-more_bytes (FilegroupModify name members non_members) = text_bytes name + (optional (counted text_bytes) members + optional (counted text_bytes) non_members)
-more_bytes (FilegroupDelete name) = text_bytes name
-more_bytes FilegroupList = 0
-more_bytes (ScreenAdd path active groups actions) = choice_bytes + (counted text_bytes groups + counted screen_notice_bytes actions)
-more_bytes (ScreenModify path active removed groups) = optional (λ b. choice_bytes) active + (counted text_bytes removed + counted text_bytes groups)
-more_bytes (ScreenDelete path) = 0
-more_bytes ScreenList = 0
-more_bytes (ExceptionAdd path groups) = counted text_bytes groups
-more_bytes (ExceptionDelete path) = 0
-more_bytes ExceptionList = 0
+more_bytes (Template (TemplateDelete name)) = text_bytes name
+more_bytes (Template TemplateList) = 0
+more_bytes (Autoquota (AutoquotaAdd path name excluded)) = text_bytes name + counted text_bytes excluded
+more_bytes (Autoquota (AutoquotaDelete path)) = 0
+more_bytes (Autoquota AutoquotaList) = 0
+more_bytes (Admin (AdminOptions minutes)) = number_bytes
+more_bytes (Admin AdminList) = 0
+more_bytes (Admin AdminLog) = 0
+more_bytes (Filegroup (FilegroupAdd name members non_members)) = text_bytes name + (counted text_bytes members + counted text_bytes non_members)
+more_bytes (Filegroup (FilegroupModify name members non_members)) = text_bytes name + (optional (counted text_bytes) members + optional (counted text_bytes) non_members)
+more_bytes (Filegroup (FilegroupDelete name)) = text_bytes name
+more_bytes (Filegroup FilegroupList) = 0
+more_bytes (Screen (ScreenAdd path active groups actions)) = choice_bytes + (counted text_bytes groups + counted screen_notice_bytes actions)
+more_bytes (Screen (ScreenModify path active removed groups)) = optional (λ b. choice_bytes) active + (counted text_bytes removed + counted text_bytes groups)
+more_bytes (Screen (ScreenDelete path)) = 0
+more_bytes (Screen ScreenList) = 0
+more_bytes (Exception (ExceptionAdd path groups)) = counted text_bytes groups
+more_bytes (Exception (ExceptionDelete path)) = 0
+more_bytes (Exception ExceptionList) = 0
 
 -- how many bytes the entry of a command has, if it has one
 abbrev pub entry_bytes : Deed → Option ℕ
@@ -268,36 +275,36 @@ abbrev pub work : Capacity → Rows → ℕ → Deed → Work
 work K R moment (File op) = file_work K R op moment
 work K R moment (Usage path) = usage_work K R path
 work K R moment (Step n) = step_work K R n
-work K R moment (QuotaAdd path limit enforce enabled template percents notices) =
+work K R moment (Quota (QuotaAdd path limit enforce enabled template percents notices)) =
     add_work R moment path limit enforce enabled template percents notices
-work K R moment (QuotaModify path limit enforce enabled removed percents notices) =
+work K R moment (Quota (QuotaModify path limit enforce enabled removed percents notices)) =
     modify_work R path limit enforce enabled removed percents notices
-work K R moment (QuotaDelete path) = delete_work R path
-work K R moment (QuotaScan path) = scan_work R path
-work K R moment (QuotaResetpeak path) = reset_work K R moment path
-work K R moment (QuotaList path) = list_work R path
-work K R moment (TemplateAdd name limit enforce percents notices) = template_add_work R name limit enforce percents notices
-work K R moment (TemplateModify name limit enforce removed percents notices mode) =
+work K R moment (Quota (QuotaDelete path)) = delete_work R path
+work K R moment (Quota (QuotaScan path)) = scan_work R path
+work K R moment (Quota (QuotaResetpeak path)) = reset_work K R moment path
+work K R moment (Quota (QuotaList path)) = list_work R path
+work K R moment (Template (TemplateAdd name limit enforce percents notices)) = template_add_work R name limit enforce percents notices
+work K R moment (Template (TemplateModify name limit enforce removed percents notices mode)) =
     template_modify_work R name limit enforce removed percents notices mode
-work K R moment (TemplateDelete name) = template_delete_work R name
-work K R moment TemplateList = template_list_work R
-work K R moment (AutoquotaAdd path name excluded) = auto_add_work R moment path name excluded
-work K R moment (AutoquotaDelete path) = auto_delete_work R path
-work K R moment AutoquotaList = auto_list_work R
-work K R moment (AdminOptions minutes) = options_work R minutes
-work K R moment AdminList = settings_work R
-work K R moment AdminLog = log_work R
-work K R moment (FilegroupAdd name members non_members) = group_add_work R name members non_members
-work K R moment (FilegroupModify name members non_members) = group_modify_work R name members non_members
-work K R moment (FilegroupDelete name) = group_delete_work R name
-work K R moment FilegroupList = group_list_work R
-work K R moment (ScreenAdd path active groups actions) = screen_add_work R path active groups actions
-work K R moment (ScreenModify path active removed groups) = screen_modify_work R path active removed groups
-work K R moment (ScreenDelete path) = screen_delete_work R path
-work K R moment ScreenList = screen_list_work R
-work K R moment (ExceptionAdd path groups) = except_add_work R path groups
-work K R moment (ExceptionDelete path) = except_delete_work R path
-work K R moment ExceptionList = except_list_work R
+work K R moment (Template (TemplateDelete name)) = template_delete_work R name
+work K R moment (Template TemplateList) = template_list_work R
+work K R moment (Autoquota (AutoquotaAdd path name excluded)) = auto_add_work R moment path name excluded
+work K R moment (Autoquota (AutoquotaDelete path)) = auto_delete_work R path
+work K R moment (Autoquota AutoquotaList) = auto_list_work R
+work K R moment (Admin (AdminOptions minutes)) = options_work R minutes
+work K R moment (Admin AdminList) = settings_work R
+work K R moment (Admin AdminLog) = log_work R
+work K R moment (Filegroup (FilegroupAdd name members non_members)) = group_add_work R name members non_members
+work K R moment (Filegroup (FilegroupModify name members non_members)) = group_modify_work R name members non_members
+work K R moment (Filegroup (FilegroupDelete name)) = group_delete_work R name
+work K R moment (Filegroup FilegroupList) = group_list_work R
+work K R moment (Screen (ScreenAdd path active groups actions)) = screen_add_work R path active groups actions
+work K R moment (Screen (ScreenModify path active removed groups)) = screen_modify_work R path active removed groups
+work K R moment (Screen (ScreenDelete path)) = screen_delete_work R path
+work K R moment (Screen ScreenList) = screen_list_work R
+work K R moment (Exception (ExceptionAdd path groups)) = except_add_work R path groups
+work K R moment (Exception (ExceptionDelete path)) = except_delete_work R path
+work K R moment (Exception ExceptionList) = except_list_work R
 
 -- a folder that moves is looked through up to 8 times, a node that is summed up to 4 times, and each child of a folder that gets an
 -- auto-apply quota up to 4 times
@@ -314,30 +321,30 @@ abbrev pub more_cost : List NodeRow → Deed → ℕ
 more_cost nodes (File op) = op_cost nodes op
 more_cost nodes (Usage path) = if leads nodes path then 4 * length (under nodes (target nodes path)) else 0
 more_cost nodes (Step n) = 0
-more_cost nodes (QuotaAdd path limit enforce enabled template percents notices) = 0
-more_cost nodes (QuotaModify path limit enforce enabled removed percents notices) = 0
-more_cost nodes (QuotaDelete path) = 0
-more_cost nodes (QuotaScan path) = 0
-more_cost nodes (QuotaResetpeak path) = 0
-more_cost nodes (QuotaList path) = 0
-more_cost nodes (TemplateAdd name limit enforce percents notices) = 0
-more_cost nodes (TemplateModify name limit enforce removed percents notices mode) = 0
-more_cost nodes (TemplateDelete name) = 0
-more_cost nodes TemplateList = 0
-more_cost nodes (AutoquotaAdd path name excluded) = if leads_to_folder nodes path then 4 * length (children nodes (target nodes path)) else 0
-more_cost nodes (AutoquotaDelete path) = 0
-more_cost nodes AutoquotaList = 0
-more_cost nodes (AdminOptions minutes) = 0
-more_cost nodes AdminList = 0
-more_cost nodes AdminLog = 0
-more_cost nodes (FilegroupAdd name members non_members) = 0
-more_cost nodes (FilegroupModify name members non_members) = 0
-more_cost nodes (FilegroupDelete name) = 0
-more_cost nodes FilegroupList = 0
-more_cost nodes (ScreenAdd path active groups actions) = 0
-more_cost nodes (ScreenModify path active removed groups) = 0
-more_cost nodes (ScreenDelete path) = 0
-more_cost nodes ScreenList = 0
-more_cost nodes (ExceptionAdd path groups) = 0
-more_cost nodes (ExceptionDelete path) = 0
-more_cost nodes ExceptionList = 0
+more_cost nodes (Quota (QuotaAdd path limit enforce enabled template percents notices)) = 0
+more_cost nodes (Quota (QuotaModify path limit enforce enabled removed percents notices)) = 0
+more_cost nodes (Quota (QuotaDelete path)) = 0
+more_cost nodes (Quota (QuotaScan path)) = 0
+more_cost nodes (Quota (QuotaResetpeak path)) = 0
+more_cost nodes (Quota (QuotaList path)) = 0
+more_cost nodes (Template (TemplateAdd name limit enforce percents notices)) = 0
+more_cost nodes (Template (TemplateModify name limit enforce removed percents notices mode)) = 0
+more_cost nodes (Template (TemplateDelete name)) = 0
+more_cost nodes (Template TemplateList) = 0
+more_cost nodes (Autoquota (AutoquotaAdd path name excluded)) = if leads_to_folder nodes path then 4 * length (children nodes (target nodes path)) else 0
+more_cost nodes (Autoquota (AutoquotaDelete path)) = 0
+more_cost nodes (Autoquota AutoquotaList) = 0
+more_cost nodes (Admin (AdminOptions minutes)) = 0
+more_cost nodes (Admin AdminList) = 0
+more_cost nodes (Admin AdminLog) = 0
+more_cost nodes (Filegroup (FilegroupAdd name members non_members)) = 0
+more_cost nodes (Filegroup (FilegroupModify name members non_members)) = 0
+more_cost nodes (Filegroup (FilegroupDelete name)) = 0
+more_cost nodes (Filegroup FilegroupList) = 0
+more_cost nodes (Screen (ScreenAdd path active groups actions)) = 0
+more_cost nodes (Screen (ScreenModify path active removed groups)) = 0
+more_cost nodes (Screen (ScreenDelete path)) = 0
+more_cost nodes (Screen ScreenList) = 0
+more_cost nodes (Exception (ExceptionAdd path groups)) = 0
+more_cost nodes (Exception (ExceptionDelete path)) = 0
+more_cost nodes (Exception ExceptionList) = 0

@@ -1,8 +1,15 @@
 -- The commands of the tools: their names, the options that each takes, and what those ask for.
 use Rattle.std.specs.Prelude.{ℕ, ◌||◌, Bool, true, is_some, List, [], ◌∷◌, codes, Option, Some, None, unwrap_or, option_and_then, if◌then◌else◌}
 use Rattle.std.specs.Str.{str_eq_ignore_ascii_case}
+use Rattle.fsrm_model.specs.declared.command.AdminDeed.TheVariants.{Options as AdminOptions, List as AdminList, Log as AdminLog}
+use Rattle.fsrm_model.specs.declared.command.AutoquotaDeed.TheVariants.{Add as AutoquotaAdd, Delete as AutoquotaDelete, List as AutoquotaList}
 use Rattle.fsrm_model.specs.declared.command.Deed.{Deed}
-use Rattle.fsrm_model.specs.declared.command.Deed.TheVariants.{QuotaAdd, QuotaModify, QuotaDelete, QuotaScan, QuotaResetpeak, QuotaList, TemplateAdd, TemplateModify, TemplateDelete, TemplateList, AutoquotaAdd, AutoquotaDelete, AutoquotaList, AdminOptions, AdminList, AdminLog, FilegroupAdd, FilegroupModify, FilegroupDelete, FilegroupList, ScreenAdd, ScreenModify, ScreenDelete, ScreenList, ExceptionAdd, ExceptionDelete, ExceptionList}
+use Rattle.fsrm_model.specs.declared.command.Deed.TheVariants.{Quota, Template, Autoquota, Filegroup, Screen, Exception, Admin}
+use Rattle.fsrm_model.specs.declared.command.ExceptionDeed.TheVariants.{Add as ExceptionAdd, Delete as ExceptionDelete, List as ExceptionList}
+use Rattle.fsrm_model.specs.declared.command.FilegroupDeed.TheVariants.{Add as FilegroupAdd, Modify as FilegroupModify, Delete as FilegroupDelete, List as FilegroupList}
+use Rattle.fsrm_model.specs.declared.command.QuotaDeed.TheVariants.{Add as QuotaAdd, Modify as QuotaModify, Delete as QuotaDelete, Scan as QuotaScan, Resetpeak as QuotaResetpeak, List as QuotaList}
+use Rattle.fsrm_model.specs.declared.command.ScreenDeed.TheVariants.{Add as ScreenAdd, Modify as ScreenModify, Delete as ScreenDelete, List as ScreenList}
+use Rattle.fsrm_model.specs.declared.command.TemplateDeed.TheVariants.{Add as TemplateAdd, Modify as TemplateModify, Delete as TemplateDelete, List as TemplateList}
 use Rattle.fsrm_model.specs.declared.command.Update.TheVariants.{Keep}
 use Rattle.fsrm_model.specs.Options.{Key, ThePath, TheLimit, TheType, TheStatus, TheRemoval, ThePercent, TheNotice, TheTemplate, TheSource, TheUpdate, TheExclusion, TheRunLimit, TheGroup, TheMembers, TheNonMembers, TheMode, TheGroupRemoval, TheGroupAddition, TheScreenNotice, Given, path_in, limit_in, type_in, status_in, removal_in, percent_in, notice_in, template_in, source_in, update_in, exclusion_in, run_limit_in, group_in, members_in, non_members_in, mode_in, group_removal_in, group_addition_in, screen_notice_in, one, each_of}
 
@@ -42,7 +49,7 @@ quota_add =
       deed = λ given.
           needs path_in given (λ path.
           if has_limit given
-          then Some (QuotaAdd path (one limit_in given) (one type_in given) (unwrap_or (one status_in given) true) (one source_in given) (each_of percent_in given) (each_of notice_in given))
+          then Some (Quota (QuotaAdd path (one limit_in given) (one type_in given) (unwrap_or (one status_in given) true) (one source_in given) (each_of percent_in given) (each_of notice_in given)))
           else None);
     }
 
@@ -52,17 +59,17 @@ quota_modify =
       keys = ThePath ∷ TheLimit ∷ TheType ∷ TheStatus ∷ TheRemoval ∷ ThePercent ∷ TheNotice ∷ [];
       deed = λ given.
           needs path_in given (λ path.
-          Some (QuotaModify path (one limit_in given) (one type_in given) (one status_in given) (each_of removal_in given) (each_of percent_in given) (each_of notice_in given)));
+          Some (Quota (QuotaModify path (one limit_in given) (one type_in given) (one status_in given) (each_of removal_in given) (each_of percent_in given) (each_of notice_in given))));
     }
 
 -- of one quota, or of all
 abbrev pub quota_list : ToolCommand
-quota_list = record { keys = ThePath ∷ []; deed = λ given. Some (QuotaList (one path_in given)) }
+quota_list = record { keys = ThePath ∷ []; deed = λ given. Some (Quota (QuotaList (one path_in given))) }
 
 abbrev pub quota_commands : Names ToolCommand
 quota_commands =
-    (codes "add", quota_add) ∷ (codes "modify", quota_modify) ∷ (codes "delete", of_path QuotaDelete)
-    ∷ (codes "scan", of_path QuotaScan) ∷ (codes "resetpeak", of_path QuotaResetpeak) ∷ (codes "list", quota_list) ∷ []
+    (codes "add", quota_add) ∷ (codes "modify", quota_modify) ∷ (codes "delete", of_path (λ path. Quota (QuotaDelete path)))
+    ∷ (codes "scan", of_path (λ path. Quota (QuotaScan path))) ∷ (codes "resetpeak", of_path (λ path. Quota (QuotaResetpeak path))) ∷ (codes "list", quota_list) ∷ []
 
 -- ---- templates and auto-apply quotas
 -- a template must have a limit, and is hard if nothing else is given
@@ -73,7 +80,7 @@ template_add =
       deed = λ given.
           needs template_in given (λ name.
           needs limit_in given (λ limit.
-          Some (TemplateAdd name limit (unwrap_or (one type_in given) true) (each_of percent_in given) (each_of notice_in given))));
+          Some (Template (TemplateAdd name limit (unwrap_or (one type_in given) true) (each_of percent_in given) (each_of notice_in given)))));
     }
 
 -- its change reaches no derived quota if nothing else is given
@@ -83,15 +90,15 @@ template_modify =
       keys = TheTemplate ∷ TheLimit ∷ TheType ∷ TheRemoval ∷ ThePercent ∷ TheNotice ∷ TheUpdate ∷ [];
       deed = λ given.
           needs template_in given (λ name.
-          Some (TemplateModify name (one limit_in given) (one type_in given) (each_of removal_in given) (each_of percent_in given) (each_of notice_in given) (unwrap_or (one update_in given) Keep)));
+          Some (Template (TemplateModify name (one limit_in given) (one type_in given) (each_of removal_in given) (each_of percent_in given) (each_of notice_in given) (unwrap_or (one update_in given) Keep))));
     }
 
 abbrev pub template_delete : ToolCommand
-template_delete = record { keys = TheTemplate ∷ []; deed = λ given. needs template_in given (λ name. Some (TemplateDelete name)) }
+template_delete = record { keys = TheTemplate ∷ []; deed = λ given. needs template_in given (λ name. Some (Template (TemplateDelete name))) }
 
 abbrev pub template_commands : Names ToolCommand
 template_commands =
-    (codes "add", template_add) ∷ (codes "modify", template_modify) ∷ (codes "delete", template_delete) ∷ (codes "list", alone TemplateList) ∷ []
+    (codes "add", template_add) ∷ (codes "modify", template_modify) ∷ (codes "delete", template_delete) ∷ (codes "list", alone (Template TemplateList)) ∷ []
 
 abbrev pub auto_add : ToolCommand
 auto_add =
@@ -100,18 +107,18 @@ auto_add =
       deed = λ given.
           needs path_in given (λ path.
           needs source_in given (λ name.
-          Some (AutoquotaAdd path name (each_of exclusion_in given))));
+          Some (Autoquota (AutoquotaAdd path name (each_of exclusion_in given)))));
     }
 
 abbrev pub auto_commands : Names ToolCommand
-auto_commands = (codes "add", auto_add) ∷ (codes "delete", of_path AutoquotaDelete) ∷ (codes "list", alone AutoquotaList) ∷ []
+auto_commands = (codes "add", auto_add) ∷ (codes "delete", of_path (λ path. Autoquota (AutoquotaDelete path))) ∷ (codes "list", alone (Autoquota AutoquotaList)) ∷ []
 
 -- ---- settings
 abbrev pub admin_options : ToolCommand
-admin_options = record { keys = TheRunLimit ∷ []; deed = λ given. needs run_limit_in given (λ minutes. Some (AdminOptions minutes)) }
+admin_options = record { keys = TheRunLimit ∷ []; deed = λ given. needs run_limit_in given (λ minutes. Some (Admin (AdminOptions minutes))) }
 
 abbrev pub admin_commands : Names ToolCommand
-admin_commands = (codes "options", admin_options) ∷ (codes "list", alone AdminList) ∷ (codes "log", alone AdminLog) ∷ []
+admin_commands = (codes "options", admin_options) ∷ (codes "list", alone (Admin AdminList)) ∷ (codes "log", alone (Admin AdminLog)) ∷ []
 
 -- ---- file groups, screens and exceptions
 -- a group may have no non-members
@@ -122,22 +129,22 @@ group_add =
       deed = λ given.
           needs group_in given (λ name.
           needs members_in given (λ members.
-          Some (FilegroupAdd name members (unwrap_or (one non_members_in given) []))));
+          Some (Filegroup (FilegroupAdd name members (unwrap_or (one non_members_in given) [])))));
     }
 
 abbrev pub group_modify : ToolCommand
 group_modify =
     record {
       keys = TheGroup ∷ TheMembers ∷ TheNonMembers ∷ [];
-      deed = λ given. needs group_in given (λ name. Some (FilegroupModify name (one members_in given) (one non_members_in given)));
+      deed = λ given. needs group_in given (λ name. Some (Filegroup (FilegroupModify name (one members_in given) (one non_members_in given))));
     }
 
 abbrev pub group_delete : ToolCommand
-group_delete = record { keys = TheGroup ∷ []; deed = λ given. needs group_in given (λ name. Some (FilegroupDelete name)) }
+group_delete = record { keys = TheGroup ∷ []; deed = λ given. needs group_in given (λ name. Some (Filegroup (FilegroupDelete name))) }
 
 abbrev pub group_commands : Names ToolCommand
 group_commands =
-    (codes "add", group_add) ∷ (codes "modify", group_modify) ∷ (codes "delete", group_delete) ∷ (codes "list", alone FilegroupList) ∷ []
+    (codes "add", group_add) ∷ (codes "modify", group_modify) ∷ (codes "delete", group_delete) ∷ (codes "list", alone (Filegroup FilegroupList)) ∷ []
 
 -- a screen is active if nothing else is given. It must have a group
 abbrev pub screen_add : ToolCommand
@@ -147,7 +154,7 @@ screen_add =
       deed = λ given.
           needs path_in given (λ path.
           needs group_addition_in given (λ first.
-          Some (ScreenAdd path (unwrap_or (one mode_in given) true) (each_of group_addition_in given) (each_of screen_notice_in given))));
+          Some (Screen (ScreenAdd path (unwrap_or (one mode_in given) true) (each_of group_addition_in given) (each_of screen_notice_in given)))));
     }
 
 abbrev pub screen_modify : ToolCommand
@@ -156,12 +163,12 @@ screen_modify =
       keys = ThePath ∷ TheMode ∷ TheGroupRemoval ∷ TheGroupAddition ∷ [];
       deed = λ given.
           needs path_in given (λ path.
-          Some (ScreenModify path (one mode_in given) (each_of group_removal_in given) (each_of group_addition_in given)));
+          Some (Screen (ScreenModify path (one mode_in given) (each_of group_removal_in given) (each_of group_addition_in given))));
     }
 
 abbrev pub screen_commands : Names ToolCommand
 screen_commands =
-    (codes "add", screen_add) ∷ (codes "modify", screen_modify) ∷ (codes "delete", of_path ScreenDelete) ∷ (codes "list", alone ScreenList) ∷ []
+    (codes "add", screen_add) ∷ (codes "modify", screen_modify) ∷ (codes "delete", of_path (λ path. Screen (ScreenDelete path))) ∷ (codes "list", alone (Screen ScreenList)) ∷ []
 
 abbrev pub except_add : ToolCommand
 except_add =
@@ -169,11 +176,11 @@ except_add =
       keys = ThePath ∷ TheGroupAddition ∷ [];
       deed = λ given.
           needs path_in given (λ path.
-          needs group_addition_in given (λ first. Some (ExceptionAdd path (each_of group_addition_in given))));
+          needs group_addition_in given (λ first. Some (Exception (ExceptionAdd path (each_of group_addition_in given)))));
     }
 
 abbrev pub except_commands : Names ToolCommand
-except_commands = (codes "add", except_add) ∷ (codes "delete", of_path ExceptionDelete) ∷ (codes "list", alone ExceptionList) ∷ []
+except_commands = (codes "add", except_add) ∷ (codes "delete", of_path (λ path. Exception (ExceptionDelete path))) ∷ (codes "list", alone (Exception ExceptionList)) ∷ []
 
 -- what each tool manages, with the commands for it
 abbrev pub dirquota : Names (Names ToolCommand)

@@ -31,8 +31,8 @@ pub enum Refusal {
     /// A path, or the folder that it names a node in, leads to nothing of the kind that is asked
     /// for (MS-FSRM, FSRM_E_PATH_NOT_FOUND).
     PathNotFound,
-    /// The folder has no such object, the quota or the template not the threshold or the screen not the file group that is
-    /// to be removed, or no template or no file group has the name (MS-FSRM, FSRM_E_NOT_FOUND).
+    /// The folder has no such object; no template or no file group has the name; or what is to be removed, a threshold of
+    /// a quota or a template or a file group of a screen, isn't there or is named twice (MS-FSRM, FSRM_E_NOT_FOUND).
     NotFound,
     /// The place is taken, or the folder has such an object (MS-FSRM, FSRM_E_ALREADY_EXISTS).
     AlreadyExists,
@@ -69,7 +69,8 @@ pub enum Refusal {
 /// A file operation.
 #[derive(Drop)]
 pub enum FileOp {
-    /// Makes a folder.
+    /// Makes a folder. If the folder that it is made in has an auto-apply quota that doesn't exclude its name, it gets a
+    /// quota, or is refused if there is no room for one (TableFull, TextsFull).
     Mkdir { path: Path, owner: u32 },
     /// Makes a file of this length, in bytes.
     Create { path: Path, length: u64, owner: u32 },
@@ -77,7 +78,7 @@ pub enum FileOp {
     Resize { path: Path, length: u64 },
     /// Notes that a file was read.
     Touch { path: Path },
-    /// Gives a node another place, and that place's spelling.
+    /// Gives a node another place, and that place's spelling. A folder without a quota may get one there, as at `Mkdir`.
     Move { from: Path, to: Path },
     /// Takes away a file, or a folder without children.
     Remove { path: Path },
@@ -92,7 +93,7 @@ pub struct Added {
 }
 
 /// Which of the quotas that were derived from a template its change reaches (MS-FSRM, FsrmTemplateApplyOptions). Each of them
-/// gets the template's limit, type and thresholds, whose actions never ran; its state stays.
+/// gets the template's limit, type and thresholds, whose actions never ran; its state and its peak stay.
 #[derive(Clone, Copy, Debug, PartialEq, Eq)]
 pub enum Update {
     /// None of them.
@@ -103,24 +104,14 @@ pub enum Update {
     All,
 }
 
-/// What a command is to do. It has a field for each of its options, in the order of the command's syntax. A field that
-/// is None was not given; what stands for it then is the command's to say.
+/// What a command on a quota is to do.
 #[derive(Drop)]
-pub enum Deed {
-    File(FileOp),
-    /// Sums up what the files at and below a node take.
-    Usage {
-        path: Path,
-    },
-    /// Goes on with the active scan, for at most so many folders: 1 to 1,000,000.
-    Step {
-        n: u32,
-    },
-    /// Limits what the files at and below a folder take, in bytes (MS-FSRM, IFsrmQuota). A hard quota is
-    /// enforced, a soft one only watches. Its limit, its type and its thresholds are those of its template, if one is
-    /// given; without one it is hard. A limit and a type that are given take the place of the template's. To its
-    /// thresholds come the percentages that are added, and those that are given an action.
-    QuotaAdd {
+pub enum QuotaDeed {
+    /// Limits what the files at and below a folder take, in bytes (MS-FSRM, IFsrmQuota). A hard quota is enforced, a soft
+    /// one only watches. Its limit, its type and its thresholds are those of its template, if one is given; without one it
+    /// is hard and has no thresholds. A limit and a type that are given count in place of these. To its thresholds come the
+    /// percentages that are added, and those that are given an action.
+    Add {
         path: Path,
         limit: Option<u64>,
         enforce: Option<bool>,
@@ -131,7 +122,7 @@ pub enum Deed {
     },
     /// Gives a quota another limit, makes it hard or soft, enables or disables it. Of its thresholds some are removed,
     /// then percentages are added, and then actions. Its template stays.
-    QuotaModify {
+    Modify {
         path: Path,
         limit: Option<u64>,
         enforce: Option<bool>,
@@ -141,25 +132,30 @@ pub enum Deed {
         add_notification: List<Added>,
     },
     /// Takes a folder's quota away.
-    QuotaDelete {
+    Delete {
         path: Path,
     },
     /// Has what a folder's files take counted afresh, by a scan that waits for its turn (MS-FSRM, IFsrmQuotaManager,
     /// Scan).
-    QuotaScan {
+    Scan {
         path: Path,
     },
     /// Makes what is used now the peak (MS-FSRM, ResetPeakUsage).
-    QuotaResetpeak {
+    Resetpeak {
         path: Path,
     },
     /// Lists the quota of a folder, or all quotas.
-    QuotaList {
+    List {
         path: Option<Path>,
     },
+}
+
+/// What a command on a template of quotas is to do.
+#[derive(Drop)]
+pub enum TemplateDeed {
     /// Makes a template of quotas (MS-FSRM, IFsrmQuotaTemplate). Its thresholds are the percentages that are added, and
     /// those that are given an action.
-    TemplateAdd {
+    Add {
         template: Text,
         limit: u64,
         enforce: bool,
@@ -168,7 +164,7 @@ pub enum Deed {
     },
     /// Changes a template as a quota is changed, and then the quotas that were derived from it, as far as the update
     /// reaches them (MS-FSRM, IFsrmQuotaTemplate, CommitAndUpdateDerived).
-    TemplateModify {
+    Modify {
         template: Text,
         limit: Option<u64>,
         enforce: Option<bool>,
@@ -179,56 +175,62 @@ pub enum Deed {
     },
     /// Takes a template away that no auto-apply quota names. The quotas that were derived from it stay, without a
     /// template.
-    TemplateDelete {
+    Delete {
         template: Text,
     },
     /// Lists all templates.
-    TemplateList,
+    List,
+}
+
+/// What a command on an auto-apply quota is to do.
+#[derive(Drop)]
+pub enum AutoquotaDeed {
     /// Gives each folder in a folder a quota of a template, and each that is made in it or moved into it later (MS-FSRM,
     /// IFsrmAutoApplyQuota). Folders with an excluded name get none, nor does one that has a quota.
-    AutoquotaAdd {
+    Add {
         path: Path,
         source_template: Text,
         exclude: List<Text>,
     },
     /// Takes a folder's auto-apply quota away. The quotas that it gave stay.
-    AutoquotaDelete {
+    Delete {
         path: Path,
     },
     /// Lists all auto-apply quotas.
-    AutoquotaList,
-    /// Sets how many minutes pass at least between two runs of an action that has none of its own (MS-FSRM,
-    /// IFsrmSetting, SetActionRunLimitInterval).
-    AdminOptions {
-        run_limit: u32,
-    },
-    /// Shows the settings, and how full the store is.
-    AdminList,
-    /// Lists the log of actions.
-    AdminLog,
+    List,
+}
+
+/// What a command on a file group is to do.
+#[derive(Drop)]
+pub enum FilegroupDeed {
     /// Makes a file group: the names that match one of its members and none of its non-members (MS-FSRM,
     /// IFsrmFileGroup). It has 1 to 64 members and at most 64 non-members.
-    FilegroupAdd {
+    Add {
         filegroup: Text,
         members: List<Text>,
         non_members: List<Text>,
     },
     /// Gives a file group other members, other non-members, or both.
-    FilegroupModify {
+    Modify {
         filegroup: Text,
         members: Option<List<Text>>,
         non_members: Option<List<Text>>,
     },
     /// Takes a file group away that no screen and no exception names.
-    FilegroupDelete {
+    Delete {
         filegroup: Text,
     },
     /// Lists all file groups.
-    FilegroupList,
+    List,
+}
+
+/// What a command on a screen is to do.
+#[derive(Drop)]
+pub enum ScreenDeed {
     /// Keeps the names of file groups out of a folder and of all that is below it (MS-FSRM, IFsrmFileScreen). An active
     /// screen blocks them, a passive one reports them. A group that is named twice is kept once. It has 1 to 16 groups
     /// and at most 8 actions, and its folder no exception.
-    ScreenAdd {
+    Add {
         path: Path,
         active: bool,
         add_filegroup: List<Text>,
@@ -236,30 +238,65 @@ pub enum Deed {
     },
     /// Makes a screen active or passive. Of its groups some are removed, and then groups are added. A group that is
     /// removed must be the screen's, and named once. Its actions stay.
-    ScreenModify {
+    Modify {
         path: Path,
         active: Option<bool>,
         remove_filegroup: List<Text>,
         add_filegroup: List<Text>,
     },
     /// Takes a folder's screen away.
-    ScreenDelete {
+    Delete {
         path: Path,
     },
     /// Lists all screens.
-    ScreenList,
+    List,
+}
+
+/// What a command on an exception from screens is to do.
+#[derive(Drop)]
+pub enum ExceptionDeed {
     /// Lets the names of file groups pass the screens of the folders above this one, in it and in all that is below it
     /// (MS-FSRM, IFsrmFileScreenException). It has 1 to 16 groups, and its folder no screen.
-    ExceptionAdd {
+    Add {
         path: Path,
         add_filegroup: List<Text>,
     },
     /// Takes a folder's exception away.
-    ExceptionDelete {
+    Delete {
         path: Path,
     },
     /// Lists all exceptions.
-    ExceptionList,
+    List,
+}
+
+/// What a command on the service as a whole is to do.
+#[derive(Drop)]
+pub enum AdminDeed {
+    /// Sets how many minutes pass at least between two runs of an action that has none of its own (MS-FSRM,
+    /// IFsrmSetting, SetActionRunLimitInterval).
+    Options { run_limit: u32 },
+    /// Shows the settings, and how full the store is.
+    List,
+    /// Lists the log of actions.
+    Log,
+}
+
+/// What a command is to do. It has a field for each of its options, in the order of the command's syntax. A field that
+/// is None was not given; what stands for it then is the command's to say.
+#[derive(Drop)]
+pub enum Deed {
+    File(FileOp),
+    /// Sums up what the files at and below a node take.
+    Usage { path: Path },
+    /// Goes on with the active scan, for at most so many folders: 1 to 1,000,000.
+    Step { n: u32 },
+    Quota(QuotaDeed),
+    Template(TemplateDeed),
+    Autoquota(AutoquotaDeed),
+    Filegroup(FilegroupDeed),
+    Screen(ScreenDeed),
+    Exception(ExceptionDeed),
+    Admin(AdminDeed),
 }
 
 /// A command, at its moment.

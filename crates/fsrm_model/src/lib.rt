@@ -15,7 +15,8 @@ pub mod row;
 pub mod space;
 
 pub use command::{
-    Act, Added, Answer, Ask, Command, Deed, FileOp, Outcome, Refusal, Subject, Update,
+    Act, Added, AdminDeed, Answer, Ask, AutoquotaDeed, Command, Deed, ExceptionDeed, FileOp,
+    FilegroupDeed, Outcome, QuotaDeed, Refusal, ScreenDeed, Subject, TemplateDeed, Update,
 };
 pub use fsrm_base::{Duplicate, Ledger, List, NoMemory, Steps, Text, Weightless, WeightlessPage};
 pub use path::{Names, Path};

@@ -6,8 +6,10 @@ use Rattle.std.specs.List.{cons_option, list_any}
 use Rattle.std.specs.Option.{option_or}
 use Rattle.fsrm_base.proofs.TestLaws.{clash, eq_same, suc_apart}
 use Rattle.fsrm_model.specs.declared.command.Deed.{Deed}
-use Rattle.fsrm_model.specs.declared.command.Deed.TheVariants.{ScreenAdd, ExceptionAdd}
+use Rattle.fsrm_model.specs.declared.command.Deed.TheVariants.{Screen, Exception}
+use Rattle.fsrm_model.specs.declared.command.ExceptionDeed.TheVariants.{Add as ExceptionAdd}
 use Rattle.fsrm_model.specs.declared.command.Refusal.TheVariants.{BadLine}
+use Rattle.fsrm_model.specs.declared.command.ScreenDeed.TheVariants.{Add as ScreenAdd}
 use Rattle.fsrm_model.specs.Line.{option_words}
 use Rattle.fsrm_model.specs.Options.{ThePath, TheMode, may_repeat, Given, key_of, path_in, mode_in, group_removal_in, group_addition_in, screen_notice_in, is_of, one, each_of, options}
 use Rattle.fsrm_model.specs.Reading.{Read, ◌>>=◌, known}
@@ -94,7 +96,7 @@ some_groups given held holds some =
 
 -- ---- screens
 abbrev screen_of : List Given → List (List ℕ) → List ℕ → Option Deed
-screen_of given path first = Some (ScreenAdd path (unwrap_or (one mode_in given) true) (each_of group_addition_in given) (each_of screen_notice_in given))
+screen_of given path first = Some (Screen (ScreenAdd path (unwrap_or (one mode_in given) true) (each_of group_addition_in given) (each_of screen_notice_in given)))
 
 pub no_screen : (last column : ℕ) (words : List Word) (given : List Given) (held : ScreenOptions) (path : List (List ℕ)) → column ≡ last → options screen_add.keys words [] ≡ Ok given → HoldsScreen held given → held.path ≡ Some path → (length held.added_groups == 0) ≡ true → option_words screen_add last words ≡ Err (BadLine column)
 no_screen last column words given held path same read holds is none =
@@ -102,17 +104,17 @@ no_screen last column words given held path same read holds is none =
     (needs_some path_in given (λ path. needs group_addition_in given (screen_of given path)) path (sym holds.path ∙ is)
     ∙ needs_none group_addition_in given (screen_of given path) (no_groups given held holds none))
 
-pub screen_read : (last : ℕ) (words : List Word) (given : List Given) (held : ScreenOptions) (path : List (List ℕ)) (active : Bool) → options screen_add.keys words [] ≡ Ok given → HoldsScreen held given → held.path ≡ Some path → (length held.added_groups == 0) ≡ false → active ≡ unwrap_or held.active true → option_words screen_add last words ≡ Ok (ScreenAdd path active held.added_groups held.actions)
+pub screen_read : (last : ℕ) (words : List Word) (given : List Given) (held : ScreenOptions) (path : List (List ℕ)) (active : Bool) → options screen_add.keys words [] ≡ Ok given → HoldsScreen held given → held.path ≡ Some path → (length held.added_groups == 0) ≡ false → active ≡ unwrap_or held.active true → option_words screen_add last words ≡ Ok (Screen (ScreenAdd path active held.added_groups held.actions))
 screen_read last words given held path active read holds is some active_is =
     let first = some_groups given held holds some in
-    let made : screen_of given path first.0 ≡ Some (ScreenAdd path active held.added_groups held.actions) = rw (active_is, holds.active, holds.added_groups, holds.actions) refl in
+    let made : screen_of given path first.0 ≡ Some (Screen (ScreenAdd path active held.added_groups held.actions)) = rw (active_is, holds.active, holds.added_groups, holds.actions) refl in
     asked screen_add last words given _ read
     (needs_some path_in given (λ path. needs group_addition_in given (screen_of given path)) path (sym holds.path ∙ is)
     ∙ (needs_some group_addition_in given (screen_of given path) first.0 first.1 ∙ made))
 
 -- ---- exceptions
 abbrev except_of : List Given → List (List ℕ) → List ℕ → Option Deed
-except_of given path first = Some (ExceptionAdd path (each_of group_addition_in given))
+except_of given path first = Some (Exception (ExceptionAdd path (each_of group_addition_in given)))
 
 pub no_except : (last column : ℕ) (words : List Word) (given : List Given) (held : ScreenOptions) (path : List (List ℕ)) → column ≡ last → options except_add.keys words [] ≡ Ok given → HoldsScreen held given → held.path ≡ Some path → (length held.added_groups == 0) ≡ true → option_words except_add last words ≡ Err (BadLine column)
 no_except last column words given held path same read holds is none =
@@ -120,10 +122,10 @@ no_except last column words given held path same read holds is none =
     (needs_some path_in given (λ path. needs group_addition_in given (except_of given path)) path (sym holds.path ∙ is)
     ∙ needs_none group_addition_in given (except_of given path) (no_groups given held holds none))
 
-pub except_read : (last : ℕ) (words : List Word) (given : List Given) (held : ScreenOptions) (path : List (List ℕ)) → options except_add.keys words [] ≡ Ok given → HoldsScreen held given → held.path ≡ Some path → (length held.added_groups == 0) ≡ false → option_words except_add last words ≡ Ok (ExceptionAdd path held.added_groups)
+pub except_read : (last : ℕ) (words : List Word) (given : List Given) (held : ScreenOptions) (path : List (List ℕ)) → options except_add.keys words [] ≡ Ok given → HoldsScreen held given → held.path ≡ Some path → (length held.added_groups == 0) ≡ false → option_words except_add last words ≡ Ok (Exception (ExceptionAdd path held.added_groups))
 except_read last words given held path read holds is some =
     let first = some_groups given held holds some in
-    let made : except_of given path first.0 ≡ Some (ExceptionAdd path held.added_groups) = rw holds.added_groups refl in
+    let made : except_of given path first.0 ≡ Some (Exception (ExceptionAdd path held.added_groups)) = rw holds.added_groups refl in
     asked except_add last words given _ read
     (needs_some path_in given (λ path. needs group_addition_in given (except_of given path)) path (sym holds.path ∙ is)
     ∙ (needs_some group_addition_in given (except_of given path) first.0 first.1 ∙ made))

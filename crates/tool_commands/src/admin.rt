@@ -16,7 +16,7 @@ use crate::reading::LineFault;
 use crate::templates::template;
 use crate::values::is_named;
 use crate::words::Words;
-use fsrm_model::Deed;
+use fsrm_model::{AdminDeed, Deed};
 use std::alloc::Global;
 
 /// The one option of the settings.
@@ -63,7 +63,7 @@ fn options(alloc: Global, words: &mut Words<'_>) -> Result<Deed, LineFault>
 {
     let given: RunLimitOption = read_options(alloc, &[RunLimitKey], words)?;
     let run_limit = given.run_limit.ok_or(LineFault::bad_line(words.end()))?;
-    Ok(Deed::AdminOptions { run_limit })
+    Ok(Deed::Admin(AdminDeed::Options { run_limit }))
 }
 
 fn admin(alloc: Global, words: &mut Words<'_>) -> Result<Deed, LineFault>
@@ -76,11 +76,11 @@ fn admin(alloc: Global, words: &mut Words<'_>) -> Result<Deed, LineFault>
     }
     if is_named("list", word) {
         words.finish()?;
-        return Ok(Deed::AdminList);
+        return Ok(Deed::Admin(AdminDeed::List));
     }
     if is_named("log", word) {
         words.finish()?;
-        return Ok(Deed::AdminLog);
+        return Ok(Deed::Admin(AdminDeed::Log));
     }
     Err(LineFault::bad_line(name.column))
 }

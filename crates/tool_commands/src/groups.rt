@@ -12,7 +12,7 @@ use crate::patterns::{read_non_members, read_object_name, read_patterns};
 use crate::reading::LineFault;
 use crate::values::is_named;
 use crate::words::Words;
-use fsrm_model::{Deed, List, Text};
+use fsrm_model::{Deed, FilegroupDeed, List, Text};
 use std::alloc::Global;
 
 /// An option of a file group.
@@ -88,11 +88,11 @@ fn add(alloc: Global, words: &mut Words<'_>) -> Result<Deed, LineFault>
     let missing = LineFault::bad_line(words.end());
     let filegroup = given.name.ok_or(missing)?;
     let members = given.members.ok_or(missing)?;
-    Ok(Deed::FilegroupAdd {
+    Ok(Deed::Filegroup(FilegroupDeed::Add {
         filegroup,
         members,
         non_members: given.non_members.unwrap_or(List::new(alloc)),
-    })
+    }))
 }
 
 fn modify(alloc: Global, words: &mut Words<'_>) -> Result<Deed, LineFault>
@@ -100,11 +100,11 @@ fn modify(alloc: Global, words: &mut Words<'_>) -> Result<Deed, LineFault>
 {
     let given: GroupOptions = read_options(alloc, &KEYS, words)?;
     let filegroup = given.name.ok_or(LineFault::bad_line(words.end()))?;
-    Ok(Deed::FilegroupModify {
+    Ok(Deed::Filegroup(FilegroupDeed::Modify {
         filegroup,
         members: given.members,
         non_members: given.non_members,
-    })
+    }))
 }
 
 fn delete(alloc: Global, words: &mut Words<'_>) -> Result<Deed, LineFault>
@@ -112,7 +112,7 @@ fn delete(alloc: Global, words: &mut Words<'_>) -> Result<Deed, LineFault>
 {
     let given: GroupOptions = read_options(alloc, &[GroupKey::Name], words)?;
     let filegroup = given.name.ok_or(LineFault::bad_line(words.end()))?;
-    Ok(Deed::FilegroupDelete { filegroup })
+    Ok(Deed::Filegroup(FilegroupDeed::Delete { filegroup }))
 }
 
 /// What the words after `filescrn filegroup` spell.
@@ -132,7 +132,7 @@ pub fn filegroup(alloc: Global, words: &mut Words<'_>) -> Result<Deed, LineFault
     }
     if is_named("list", word) {
         words.finish()?;
-        return Ok(Deed::FilegroupList);
+        return Ok(Deed::Filegroup(FilegroupDeed::List));
     }
     Err(LineFault::bad_line(name.column))
 }

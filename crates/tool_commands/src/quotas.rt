@@ -14,7 +14,7 @@ use crate::patterns::read_object_name;
 use crate::reading::LineFault;
 use crate::values::{is_named, read_choice, read_path_word};
 use crate::words::Words;
-use fsrm_model::{Deed, Path, Text};
+use fsrm_model::{Deed, Path, QuotaDeed, Text};
 use std::alloc::Global;
 
 /// An option of a quota.
@@ -113,7 +113,7 @@ fn add(alloc: Global, words: &mut Words<'_>) -> Result<Deed, LineFault>
     if given.base.limit.is_none() && given.source.is_none() {
         return Err(missing);
     }
-    Ok(Deed::QuotaAdd {
+    Ok(Deed::Quota(QuotaDeed::Add {
         path,
         limit: given.base.limit,
         enforce: given.base.enforce,
@@ -121,7 +121,7 @@ fn add(alloc: Global, words: &mut Words<'_>) -> Result<Deed, LineFault>
         source_template: given.source,
         add_threshold: given.base.added,
         add_notification: given.base.notices,
-    })
+    }))
 }
 
 fn modify(alloc: Global, words: &mut Words<'_>) -> Result<Deed, LineFault>
@@ -129,7 +129,7 @@ fn modify(alloc: Global, words: &mut Words<'_>) -> Result<Deed, LineFault>
 {
     let given: QuotaOptions = read_options(alloc, &MODIFY_KEYS, words)?;
     let path = given.path.ok_or(LineFault::bad_line(words.end()))?;
-    Ok(Deed::QuotaModify {
+    Ok(Deed::Quota(QuotaDeed::Modify {
         path,
         limit: given.base.limit,
         enforce: given.base.enforce,
@@ -137,14 +137,14 @@ fn modify(alloc: Global, words: &mut Words<'_>) -> Result<Deed, LineFault>
         remove_threshold: given.base.removed,
         add_threshold: given.base.added,
         add_notification: given.base.notices,
-    })
+    }))
 }
 
 fn list(alloc: Global, words: &mut Words<'_>) -> Result<Deed, LineFault>
     ensures { Reads result (option_words quota_list (end words.old) (left words.old)) }
 {
     let given: PathOption = read_options(alloc, &[PathKey], words)?;
-    Ok(Deed::QuotaList { path: given.path })
+    Ok(Deed::Quota(QuotaDeed::List { path: given.path }))
 }
 
 /// What the words after `dirquota quota` spell.
@@ -161,15 +161,15 @@ pub fn quota(alloc: Global, words: &mut Words<'_>) -> Result<Deed, LineFault>
     }
     if is_named("delete", word) {
         let path = path_alone(alloc, words)?;
-        return Ok(Deed::QuotaDelete { path });
+        return Ok(Deed::Quota(QuotaDeed::Delete { path }));
     }
     if is_named("scan", word) {
         let path = path_alone(alloc, words)?;
-        return Ok(Deed::QuotaScan { path });
+        return Ok(Deed::Quota(QuotaDeed::Scan { path }));
     }
     if is_named("resetpeak", word) {
         let path = path_alone(alloc, words)?;
-        return Ok(Deed::QuotaResetpeak { path });
+        return Ok(Deed::Quota(QuotaDeed::Resetpeak { path }));
     }
     if is_named("list", word) {
         return list(alloc, words);

@@ -16,7 +16,7 @@ use crate::patterns::read_object_name;
 use crate::reading::LineFault;
 use crate::values::{is_named, read_choice, read_path_word};
 use crate::words::Words;
-use fsrm_model::{Action, Deed, List, Path, Text};
+use fsrm_model::{Action, Deed, List, Path, ScreenDeed, Text};
 use std::alloc::Global;
 
 /// An option of a screen. An exception has two of them, the path and the groups that are to come.
@@ -119,12 +119,12 @@ fn add(alloc: Global, words: &mut Words<'_>) -> Result<Deed, LineFault>
     if given.added_groups.is_empty() {
         return Err(missing);
     }
-    Ok(Deed::ScreenAdd {
+    Ok(Deed::Screen(ScreenDeed::Add {
         path,
         active: given.active.unwrap_or(true),
         add_filegroup: given.added_groups,
         add_notification: given.actions,
-    })
+    }))
 }
 
 fn modify(alloc: Global, words: &mut Words<'_>) -> Result<Deed, LineFault>
@@ -132,12 +132,12 @@ fn modify(alloc: Global, words: &mut Words<'_>) -> Result<Deed, LineFault>
 {
     let given: ScreenOptions = read_options(alloc, &MODIFY_KEYS, words)?;
     let path = given.path.ok_or(LineFault::bad_line(words.end()))?;
-    Ok(Deed::ScreenModify {
+    Ok(Deed::Screen(ScreenDeed::Modify {
         path,
         active: given.active,
         remove_filegroup: given.removed_groups,
         add_filegroup: given.added_groups,
-    })
+    }))
 }
 
 fn screen(alloc: Global, words: &mut Words<'_>) -> Result<Deed, LineFault>
@@ -153,11 +153,11 @@ fn screen(alloc: Global, words: &mut Words<'_>) -> Result<Deed, LineFault>
     }
     if is_named("delete", word) {
         let path = path_alone(alloc, words)?;
-        return Ok(Deed::ScreenDelete { path });
+        return Ok(Deed::Screen(ScreenDeed::Delete { path }));
     }
     if is_named("list", word) {
         words.finish()?;
-        return Ok(Deed::ScreenList);
+        return Ok(Deed::Screen(ScreenDeed::List));
     }
     Err(LineFault::bad_line(name.column))
 }

@@ -13,7 +13,7 @@ use crate::patterns::read_object_name;
 use crate::reading::LineFault;
 use crate::values::{is_named, read_update};
 use crate::words::Words;
-use fsrm_model::{Deed, Text, Update};
+use fsrm_model::{Deed, TemplateDeed, Text, Update};
 use std::alloc::Global;
 
 /// An option of a template.
@@ -100,13 +100,13 @@ fn add(alloc: Global, words: &mut Words<'_>) -> Result<Deed, LineFault>
     let missing = LineFault::bad_line(words.end());
     let template = given.name.ok_or(missing)?;
     let limit = given.base.limit.ok_or(missing)?;
-    Ok(Deed::TemplateAdd {
+    Ok(Deed::Template(TemplateDeed::Add {
         template,
         limit,
         enforce: given.base.enforce.unwrap_or(true),
         add_threshold: given.base.added,
         add_notification: given.base.notices,
-    })
+    }))
 }
 
 fn modify(alloc: Global, words: &mut Words<'_>) -> Result<Deed, LineFault>
@@ -114,7 +114,7 @@ fn modify(alloc: Global, words: &mut Words<'_>) -> Result<Deed, LineFault>
 {
     let given: TemplateOptions = read_options(alloc, &MODIFY_KEYS, words)?;
     let template = given.name.ok_or(LineFault::bad_line(words.end()))?;
-    Ok(Deed::TemplateModify {
+    Ok(Deed::Template(TemplateDeed::Modify {
         template,
         limit: given.base.limit,
         enforce: given.base.enforce,
@@ -122,7 +122,7 @@ fn modify(alloc: Global, words: &mut Words<'_>) -> Result<Deed, LineFault>
         add_threshold: given.base.added,
         add_notification: given.base.notices,
         update_derived: given.update.unwrap_or(Update::Keep),
-    })
+    }))
 }
 
 fn delete(alloc: Global, words: &mut Words<'_>) -> Result<Deed, LineFault>
@@ -130,7 +130,7 @@ fn delete(alloc: Global, words: &mut Words<'_>) -> Result<Deed, LineFault>
 {
     let given: TemplateOptions = read_options(alloc, &[TemplateKey::Name], words)?;
     let template = given.name.ok_or(LineFault::bad_line(words.end()))?;
-    Ok(Deed::TemplateDelete { template })
+    Ok(Deed::Template(TemplateDeed::Delete { template }))
 }
 
 /// What the words after `dirquota template` spell.
@@ -150,7 +150,7 @@ pub fn template(alloc: Global, words: &mut Words<'_>) -> Result<Deed, LineFault>
     }
     if is_named("list", word) {
         words.finish()?;
-        return Ok(Deed::TemplateList);
+        return Ok(Deed::Template(TemplateDeed::List));
     }
     Err(LineFault::bad_line(name.column))
 }

@@ -12,8 +12,9 @@ use Rattle.fsrm_base.proofs.EditedRows.{find-with_row_same, length-with_row, sum
 use Rattle.fsrm_base.proofs.Look.{found_has, found_key, found_own, is_some-find}
 use Rattle.fsrm_base.proofs.TestLaws.{both, eq_same, ge_is, le_test, lt_test, neither, not_le}
 use Rattle.fsrm_model.specs.declared.command.Answer.{Answer}
+use Rattle.fsrm_model.specs.declared.command.AutoquotaDeed.TheVariants.{Add as AutoquotaAdd, Delete as AutoquotaDelete}
 use Rattle.fsrm_model.specs.declared.command.Deed.{Deed}
-use Rattle.fsrm_model.specs.declared.command.Deed.TheVariants.{AutoquotaAdd, AutoquotaDelete}
+use Rattle.fsrm_model.specs.declared.command.Deed.TheVariants.{Autoquota}
 use Rattle.fsrm_model.specs.declared.command.Outcome.TheVariants.{Done}
 use Rattle.fsrm_model.specs.declared.command.Refusal.{Refusal}
 use Rattle.fsrm_model.specs.declared.command.Refusal.TheVariants as refusal
@@ -216,7 +217,7 @@ module _ (p : Parts) (row : AutoRow) (count : ℕ) where
 -- ---- a new auto-apply quota
 module _ (p : Parts) (m : ℕ) (path : List (List ℕ)) (name : List ℕ) (excluded : List (List ℕ)) where
   abbrev deed : Deed
-  deed = AutoquotaAdd path name excluded
+  deed = Autoquota (AutoquotaAdd path name excluded)
 
   -- the rows with it, and the quotas that it gives
   abbrev with_it : ℕ → ℕ → Rows
@@ -356,7 +357,7 @@ module _ (p : Parts) (m : ℕ) (path : List (List ℕ)) (name : List ℕ) (exclu
   same_folders : folders ≡ given_folders p.tree.nodes p.objects.quotas own
   same_folders = folders_are ∙ ap (given_folders p.tree.nodes p.objects.quotas) same_row
 
-  pub row_due : due p m (AutoquotaAdd path name excluded) ≡ apply_refusal p row (length folders)
+  pub row_due : due p m (Autoquota (AutoquotaAdd path name excluded)) ≡ apply_refusal p row (length folders)
   row_due =
       auto_due p m path name excluded n source.row w at free source.named source.found
       ∙ (ap (λ (fs : List ℕ). apply_refusal p own (length fs)) (sym same_folders)
@@ -383,7 +384,7 @@ module _ (p : Parts) (m : ℕ) (path : List (List ℕ)) (name : List ℕ) (exclu
       fits.few
       (omega (arith, fits.short, bytes, sum_by-with_row auto_folder auto_bytes row p.templates.autos))
 
-  pub row_added : (mid new : Parts) (answer : Answer) (rows : List QuotaRow) (room : ℕ) → IsIdle p → p.last_moment ≤ m → m ≤ latest_moment → apply_refusal p row (length folders) ≡ None → rows ≡ derived_rows p.tree.nodes source.row m folders → Turned (record (ruled p (with_auto p.templates row)) { objects = record p.objects { room = room } }) mid (fold quotas_with p.objects.quotas rows) (fold queue_with p.scans.queue rows) → new ≡ ended mid m → answer ≡ record { outcome = Done None; lasting = true } → Does p new m (AutoquotaAdd path name excluded) answer
+  pub row_added : (mid new : Parts) (answer : Answer) (rows : List QuotaRow) (room : ℕ) → IsIdle p → p.last_moment ≤ m → m ≤ latest_moment → apply_refusal p row (length folders) ≡ None → rows ≡ derived_rows p.tree.nodes source.row m folders → Turned (record (ruled p (with_auto p.templates row)) { objects = record p.objects { room = room } }) mid (fold quotas_with p.objects.quotas rows) (fold queue_with p.scans.queue rows) → new ≡ ended mid m → answer ≡ record { outcome = Done None; lasting = true } → Does p new m (Autoquota (AutoquotaAdd path name excluded)) answer
   row_added mid new answer rows room idle after late may rows_are t ends e =
       let nodes = p.tree.nodes in
       let same : rows ≡ derived_rows nodes source.row m (given_folders nodes p.objects.quotas own) = rows_are ∙ ap (derived_rows nodes source.row m) same_folders in
@@ -396,7 +397,7 @@ module _ (p : Parts) (m : ℕ) (path : List (List ℕ)) (name : List ℕ) (exclu
       ends e
 
 -- the looks at the children of its folder
-pub auto_cost : (nodes : List NodeRow) (path : List (List ℕ)) (name : List ℕ) (excluded : List (List ℕ)) (n : ℕ) → IsFolder nodes path n → more_cost nodes (AutoquotaAdd path name excluded) ≡ 4 * length (children nodes n)
+pub auto_cost : (nodes : List NodeRow) (path : List (List ℕ)) (name : List ℕ) (excluded : List (List ℕ)) (n : ℕ) → IsFolder nodes path n → more_cost nodes (Autoquota (AutoquotaAdd path name excluded)) ≡ 4 * length (children nodes n)
 auto_cost nodes path name excluded n at =
     ap (λ b. if b then 4 * length (children nodes (target nodes path)) else 0) (leads_to_folder_is nodes path n at.resolved ∙ at.folder)
     ∙ ap (λ k. 4 * length (children nodes k)) (target_is nodes path n at.resolved)
@@ -415,19 +416,19 @@ apply_bare p row count r h =
 
 -- ---- one goes
 module _ (p : Parts) (m n : ℕ) (path : List (List ℕ)) (at : IsFolder p.tree.nodes path n) where
-  gone_due : (b : Bool) → is_none (auto_of (rows_of p) n) ≡ b → due p m (AutoquotaDelete path) ≡ (refusal.NotFound when b)
+  gone_due : (b : Bool) → is_none (auto_of (rows_of p) n) ≡ b → due p m (Autoquota (AutoquotaDelete path)) ≡ (refusal.NotFound when b)
   gone_due b h =
       on_folder (rows_of p) path n (λ k. (refusal.NotFound when is_none (auto_of (rows_of p) k)) ∷ []) at
       ∙ (last_check (refusal.NotFound when is_none (auto_of (rows_of p) n)) ∙ ap (λ b. refusal.NotFound when b) h)
 
-  pub auto_absent : is_none (auto_of (rows_of p) n) ≡ true → due p m (AutoquotaDelete path) ≡ Some refusal.NotFound
+  pub auto_absent : is_none (auto_of (rows_of p) n) ≡ true → due p m (Autoquota (AutoquotaDelete path)) ≡ Some refusal.NotFound
   auto_absent h = gone_due true h
 
-  pub auto_deleted : (new : Parts) (held : Held) (answer : Answer) → IsWhole p → IsIdle p → p.last_moment ≤ m → is_none (auto_of (rows_of p) n) ≡ false → held ≡ without_auto p.templates n → new ≡ ended (ruled p held) m → answer ≡ record { outcome = Done None; lasting = true } → Does p new m (AutoquotaDelete path) answer
+  pub auto_deleted : (new : Parts) (held : Held) (answer : Answer) → IsWhole p → IsIdle p → p.last_moment ≤ m → is_none (auto_of (rows_of p) n) ≡ false → held ≡ without_auto p.templates n → new ≡ ended (ruled p held) m → answer ≡ record { outcome = Done None; lasting = true } → Does p new m (Autoquota (AutoquotaDelete path)) answer
   auto_deleted new held answer w idle late there is ends e =
       let mid = ruled p held in
       let S : Held → Rows = λ held. rows_of (ruled p held) in
-      done_as p mid new m (AutoquotaDelete path) answer
+      done_as p mid new m (Autoquota (AutoquotaDelete path)) answer
       (record {
         quotas = p.objects.quotas;
         after = late;

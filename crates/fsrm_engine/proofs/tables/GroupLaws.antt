@@ -16,7 +16,8 @@ use Rattle.fsrm_base.proofs.Order.{length-with_row}
 use Rattle.fsrm_base.proofs.TestLaws.{both}
 use Rattle.fsrm_model.specs.declared.command.Answer.{Answer}
 use Rattle.fsrm_model.specs.declared.command.Deed.{Deed}
-use Rattle.fsrm_model.specs.declared.command.Deed.TheVariants.{FilegroupAdd, FilegroupModify, FilegroupDelete}
+use Rattle.fsrm_model.specs.declared.command.Deed.TheVariants.{Filegroup}
+use Rattle.fsrm_model.specs.declared.command.FilegroupDeed.TheVariants.{Add as FilegroupAdd, Modify as FilegroupModify, Delete as FilegroupDelete}
 use Rattle.fsrm_model.specs.declared.command.Outcome.TheVariants.{Done}
 use Rattle.fsrm_model.specs.declared.command.Refusal.{Refusal}
 use Rattle.fsrm_model.specs.declared.command.Refusal.TheVariants as refusal
@@ -110,7 +111,7 @@ three false true c = refl
 three false false true = refl
 three false false false = refl
 
-add_due : (p : Parts) (m : ℕ) (name : List ℕ) (members non_members : List (List ℕ)) → IsWhole p → due p m (FilegroupAdd name members non_members) ≡ option_and_then group_refusal (group_fault p.groups (new_group p.groups name members non_members) (text_room p))
+add_due : (p : Parts) (m : ℕ) (name : List ℕ) (members non_members : List (List ℕ)) → IsWhole p → due p m (Filegroup (FilegroupAdd name members non_members)) ≡ option_and_then group_refusal (group_fault p.groups (new_group p.groups name members non_members) (text_room p))
 add_due p m name members non_members w =
     let groups = p.groups in
     let row = new_group groups name members non_members in
@@ -131,7 +132,7 @@ add_due p m name members non_members w =
 -- by the values that were given to the table
 module _ (p : Parts) (m : ℕ) (name lent : List ℕ) (members non_members given others : List (List ℕ)) (room : ℕ) (w : IsWhole p) (idle : IsIdle p) (after : p.last_moment ≤ m) (name_is : lent ≡ name) (given_is : given ≡ members) (others_are : others ≡ non_members) (room_is : room ≡ text_room p) where
   abbrev deed : Deed
-  deed = FilegroupAdd name members non_members
+  deed = Filegroup (FilegroupAdd name members non_members)
 
   same_row : new_group p.groups lent given others ≡ new_group p.groups name members non_members
   same_row =
@@ -153,11 +154,11 @@ module _ (p : Parts) (m : ℕ) (name lent : List ℕ) (members non_members given
   group_unadded groups fault result is same told = refused_by p m deed groups fault _ result idle after add_is is same told
 
 -- ---- a group by its name
-pub group_missing : (p : Parts) (m : ℕ) (name : List ℕ) (members non_members : Option (List (List ℕ))) → number_named name p.groups ≡ None → due p m (FilegroupModify name members non_members) ≡ Some refusal.NotFound
+pub group_missing : (p : Parts) (m : ℕ) (name : List ℕ) (members non_members : Option (List (List ℕ))) → number_named name p.groups ≡ None → due p m (Filegroup (FilegroupModify name members non_members)) ≡ Some refusal.NotFound
 group_missing p m name members non_members h =
     ap (λ o. first ((refusal.NotFound when not (is_some o)) ∷ texts_full (record (rows_of p) { groups = with_patterns (unwrap_or o 0) members non_members p.groups }) ∷ [])) h
 
-pub group_gone : (p : Parts) (m : ℕ) (name : List ℕ) → number_named name p.groups ≡ None → due p m (FilegroupDelete name) ≡ Some refusal.NotFound
+pub group_gone : (p : Parts) (m : ℕ) (name : List ℕ) → number_named name p.groups ≡ None → due p m (Filegroup (FilegroupDelete name)) ≡ Some refusal.NotFound
 group_gone p m name h = ap (λ o. first ((refusal.NotFound when not (is_some o)) ∷ (refusal.InUse when is_used (rows_of p) (unwrap_or o 0)) ∷ [])) h
 
 -- ---- other patterns
@@ -165,7 +166,7 @@ one : (b : Bool) → first ((refusal.TextsFull when b) ∷ []) ≡ option_and_th
 one true = refl
 one false = refl
 
-modify_due : (p : Parts) (m : ℕ) (name : List ℕ) (members non_members : Option (List (List ℕ))) (n : ℕ) → IsWhole p → number_named name p.groups ≡ Some n → has_row group_number n p.groups ≡ true → due p m (FilegroupModify name members non_members) ≡ option_and_then group_refusal (patterns_fault p.groups n members non_members (text_room p))
+modify_due : (p : Parts) (m : ℕ) (name : List ℕ) (members non_members : Option (List (List ℕ))) (n : ℕ) → IsWhole p → number_named name p.groups ≡ Some n → has_row group_number n p.groups ≡ true → due p m (Filegroup (FilegroupModify name members non_members)) ≡ option_and_then group_refusal (patterns_fault p.groups n members non_members (text_room p))
 modify_due p m name members non_members n w h has =
     let groups = p.groups in
     let f = has_found group_number n groups has in
@@ -183,7 +184,7 @@ modify_due p m name members non_members n w h has =
 
 module _ (p : Parts) (m : ℕ) (name lent : List ℕ) (members non_members given others : Option (List (List ℕ))) (n room : ℕ) (w : IsWhole p) (idle : IsIdle p) (after : p.last_moment ≤ m) (name_is : lent ≡ name) (found : Some n ≡ number_named lent p.groups) (has : has_row group_number n p.groups ≡ true) (given_is : given ≡ members) (others_are : others ≡ non_members) (room_is : room ≡ text_room p) where
   abbrev change : Deed
-  change = FilegroupModify name members non_members
+  change = Filegroup (FilegroupModify name members non_members)
 
   named : number_named name p.groups ≡ Some n
   named = ap (λ k. number_named k p.groups) (sym name_is) ∙ sym found
@@ -211,15 +212,15 @@ module _ (p : Parts) (m : ℕ) (name lent : List ℕ) (n : ℕ) (name_is : lent 
   its : number_named name p.groups ≡ Some n
   its = ap (λ k. number_named k p.groups) (sym name_is) ∙ sym found
 
-  delete_due : (b : Bool) → is_used (rows_of p) n ≡ b → due p m (FilegroupDelete name) ≡ (refusal.InUse when b)
+  delete_due : (b : Bool) → is_used (rows_of p) n ≡ b → due p m (Filegroup (FilegroupDelete name)) ≡ (refusal.InUse when b)
   delete_due b h =
       ap (λ o. first ((refusal.NotFound when not (is_some o)) ∷ (refusal.InUse when is_used (rows_of p) (unwrap_or o 0)) ∷ [])) its
       ∙ (last_check (refusal.InUse when is_used (rows_of p) n) ∙ ap (λ b. refusal.InUse when b) h)
 
-  pub group_used : is_used (rows_of p) n ≡ true → due p m (FilegroupDelete name) ≡ Some refusal.InUse
+  pub group_used : is_used (rows_of p) n ≡ true → due p m (Filegroup (FilegroupDelete name)) ≡ Some refusal.InUse
   group_used h = delete_due true h
 
-  pub group_deleted : (new : Parts) (groups : List GroupRow) (answer : Answer) → IsWhole p → IsIdle p → p.last_moment ≤ m → is_used (rows_of p) n ≡ false → groups ≡ without_group n p.groups → new ≡ ended (record p { groups = groups }) m → answer ≡ record { outcome = Done None; lasting = true } → Does p new m (FilegroupDelete name) answer
+  pub group_deleted : (new : Parts) (groups : List GroupRow) (answer : Answer) → IsWhole p → IsIdle p → p.last_moment ≤ m → is_used (rows_of p) n ≡ false → groups ≡ without_group n p.groups → new ≡ ended (record p { groups = groups }) m → answer ≡ record { outcome = Done None; lasting = true } → Does p new m (Filegroup (FilegroupDelete name)) answer
   group_deleted new groups answer w idle after unused is ends e =
-      retabled_as p groups p.objects w refl new m (FilegroupDelete name) answer idle after (delete_due false unused)
+      retabled_as p groups p.objects w refl new m (Filegroup (FilegroupDelete name)) answer idle after (delete_due false unused)
       (ap (λ gs. record (rows_of p) { groups = gs }) (ap (λ o. without_group (unwrap_or o 0) p.groups) its ∙ sym is)) refl refl ends e

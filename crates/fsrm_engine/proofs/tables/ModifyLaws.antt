@@ -8,9 +8,10 @@ use Rattle.fsrm_base.specs.Keyed.{has_row, is_ascending, row_of, with_change}
 use Rattle.fsrm_base.proofs.Look.{found_has, has_row-change}
 use Rattle.fsrm_model.specs.declared.command.Added.{Added}
 use Rattle.fsrm_model.specs.declared.command.Answer.{Answer}
-use Rattle.fsrm_model.specs.declared.command.Deed.{Deed}
-use Rattle.fsrm_model.specs.declared.command.Deed.TheVariants.{QuotaModify}
+use Rattle.fsrm_model.specs.declared.command.Deed.TheVariants.{Quota}
 use Rattle.fsrm_model.specs.declared.command.Outcome.TheVariants.{Done}
+use Rattle.fsrm_model.specs.declared.command.QuotaDeed.{QuotaDeed}
+use Rattle.fsrm_model.specs.declared.command.QuotaDeed.TheVariants.{Modify as QuotaModify}
 use Rattle.fsrm_model.specs.declared.row.QuotaRow.{QuotaRow}
 use Rattle.fsrm_model.specs.declared.row.QuotaState.{QuotaState}
 use Rattle.fsrm_model.specs.declared.row.QuotaState.TheVariants.{Disabled}
@@ -92,12 +93,12 @@ module _ (p mid run new : Parts) (m : ℕ) (path : List (List ℕ)) (limit : Opt
   abbrev change : QuotaRow → QuotaRow
   change quota = remarked removed percents notices (modified limit enforce quota)
 
-  pub modified_as : (answer : Answer) → row ≡ in_state state (change q) → state ≡ state_after (rows_of p) q.folder enabled → may_be_removed removed q.thresholds ≡ true → IsWhole p → IsIdle p → p.last_moment ≤ m → other_fault p.objects row (text_room p) ≡ None → Turned p mid (with_change folder_of row.folder (λ old. row) p.objects.quotas) (queued p.scans.queue row.folder row.state) → AreCounted mid → Ran mid run m (due_in mid.objects (Some q) (used_in p.usage q.folder) (used_in mid.usage q.folder) mid.run_limit m q.folder) → new ≡ ended run m → answer ≡ record { outcome = Done None; lasting = true } → Does p new m (QuotaModify path limit enforce enabled removed percents notices) answer
+  pub modified_as : (answer : Answer) → row ≡ in_state state (change q) → state ≡ state_after (rows_of p) q.folder enabled → may_be_removed removed q.thresholds ≡ true → IsWhole p → IsIdle p → p.last_moment ≤ m → other_fault p.objects row (text_room p) ≡ None → Turned p mid (with_change folder_of row.folder (λ old. row) p.objects.quotas) (queued p.scans.queue row.folder row.state) → AreCounted mid → Ran mid run m (due_in mid.objects (Some q) (used_in p.usage q.folder) (used_in mid.usage q.folder) mid.run_limit m q.folder) → new ≡ ended run m → answer ≡ record { outcome = Done None; lasting = true } → Does p new m (Quota (QuotaModify path limit enforce enabled removed percents notices)) answer
   modified_as answer is state_is may w idle after room t counted ran ends e =
       let R = rows_of p in
       let n = q.folder in
       let asc = w.sound.counted.are_quotas.ascending in
-      let deed = QuotaModify path limit enforce enabled removed percents notices in
+      let deed = Quota (QuotaModify path limit enforce enabled removed percents notices) in
       let quotas = with_change folder_of row.folder (λ old. row) p.objects.quotas in
       let queue = queued p.scans.queue row.folder row.state in
       let folder_is : row.folder ≡ n = ap (λ (r : QuotaRow). r.folder) is in
@@ -114,9 +115,9 @@ module _ (p mid run new : Parts) (m : ℕ) (path : List (List ℕ)) (limit : Opt
       ∙ others_same (put_in row) row.folder p.objects.quotas (λ r. refl) folder (ap (λ k. folder == k) folder_is ∙ off)) at.found)) ends e
 
 -- it is done under the name of the deed, whose lists were lent
-pub modified_named : (old new : Parts) (m : ℕ) (deed : Deed) (result : Result Answer Wanting) (path : List (List ℕ)) (limit : Option ℕ) (enforce enabled : Option Bool) (removed percents r s : List ℕ) (notices t : List Added) → deed ≡ QuotaModify path limit enforce enabled removed percents notices → r ≡ removed → s ≡ percents → t ≡ notices → IfOk result (λ answer. Does old new m (QuotaModify path limit enforce enabled r s t) answer) → IfOk result (λ answer. Does old new m deed answer)
+pub modified_named : (old new : Parts) (m : ℕ) (deed : QuotaDeed) (result : Result Answer Wanting) (path : List (List ℕ)) (limit : Option ℕ) (enforce enabled : Option Bool) (removed percents r s : List ℕ) (notices t : List Added) → deed ≡ QuotaModify path limit enforce enabled removed percents notices → r ≡ removed → s ≡ percents → t ≡ notices → IfOk result (λ answer. Does old new m (Quota (QuotaModify path limit enforce enabled r s t)) answer) → IfOk result (λ answer. Does old new m (Quota deed) answer)
 modified_named old new m deed result path limit enforce enabled removed percents r s notices t is e f h done =
-    subst (λ (d : Deed). IfOk result (λ answer. Does old new m d answer))
+    subst (λ (d : QuotaDeed). IfOk result (λ answer. Does old new m (Quota d) answer))
     (ap (λ (ns : List ℕ). QuotaModify path limit enforce enabled ns s t) e
     ∙ (ap (λ (ns : List ℕ). QuotaModify path limit enforce enabled removed ns t) f
     ∙ (ap (QuotaModify path limit enforce enabled removed percents) h ∙ sym is))) done

@@ -15,7 +15,8 @@ use Rattle.fsrm_base.proofs.TestLaws.{both, both_true}
 use Rattle.fsrm_model.specs.declared.command.Added.{Added}
 use Rattle.fsrm_model.specs.declared.command.Answer.{Answer}
 use Rattle.fsrm_model.specs.declared.command.Deed.{Deed}
-use Rattle.fsrm_model.specs.declared.command.Deed.TheVariants.{QuotaModify}
+use Rattle.fsrm_model.specs.declared.command.Deed.TheVariants.{Quota}
+use Rattle.fsrm_model.specs.declared.command.QuotaDeed.TheVariants.{Modify as QuotaModify}
 use Rattle.fsrm_model.specs.declared.command.Refusal.{Refusal}
 use Rattle.fsrm_model.specs.declared.command.Refusal.TheVariants as refusal
 use Rattle.fsrm_model.specs.declared.row.Action.{Action}
@@ -150,16 +151,16 @@ module _ (p : Parts) (m : ℕ) (path : List (List ℕ)) (limit : Option ℕ) (en
   abbrev after : ℕ → Rows
   after k = with_state (record (rows_of p) { quotas = with_change folder_of k change p.objects.quotas }) k (state_after (rows_of p) k enabled)
 
-  own : due p m (QuotaModify path limit enforce enabled removed percents notices) ≡ first (other_checks removed q.thresholds (changed_thresholds removed percents notices q.thresholds) (after q.folder))
+  own : due p m (Quota (QuotaModify path limit enforce enabled removed percents notices)) ≡ first (other_checks removed q.thresholds (changed_thresholds removed percents notices q.thresholds) (after q.folder))
   own =
       checked (rows_of p) path q.folder false (λ k. other_checks removed (thresholds_of (rows_of p) k) (changed_thresholds removed percents notices (thresholds_of (rows_of p) k)) (after k)) at.at (ap is_none at.found)
       ∙ ap (λ o. first (other_checks removed (option_map_or (λ (r : QuotaRow). r.thresholds) o []) (changed_thresholds removed percents notices (option_map_or (λ (r : QuotaRow). r.thresholds) o [])) (after q.folder))) at.found
 
-  pub modify_missing : may_be_removed removed q.thresholds ≡ false → due p m (QuotaModify path limit enforce enabled removed percents notices) ≡ Some refusal.NotFound
+  pub modify_missing : may_be_removed removed q.thresholds ≡ false → due p m (Quota (QuotaModify path limit enforce enabled removed percents notices)) ≡ Some refusal.NotFound
   modify_missing h =
       own ∙ ap (λ b. first ((refusal.NotFound when not b) ∷ (refusal.OutOfRange when are_too_many (changed_thresholds removed percents notices q.thresholds)) ∷ texts_full (after q.folder) ∷ [])) h
 
-  pub modify_due : (state : QuotaState) (row : QuotaRow) → IsWhole p → may_be_removed removed q.thresholds ≡ true → state ≡ state_after (rows_of p) q.folder enabled → row ≡ in_state state (change q) → due p m (QuotaModify path limit enforce enabled removed percents notices) ≡ option_and_then table_refusal (other_fault p.objects row (text_room p))
+  pub modify_due : (state : QuotaState) (row : QuotaRow) → IsWhole p → may_be_removed removed q.thresholds ≡ true → state ≡ state_after (rows_of p) q.folder enabled → row ≡ in_state state (change q) → due p m (Quota (QuotaModify path limit enforce enabled removed percents notices)) ≡ option_and_then table_refusal (other_fault p.objects row (text_room p))
   modify_due state row w may state_is is =
       let n = q.folder in
       let quotas = p.objects.quotas in

@@ -19,10 +19,12 @@ use Rattle.fsrm_base.proofs.RowLaws.{change_same}
 use Rattle.fsrm_base.proofs.TestLaws.{both, le_is, nor, not_lt}
 use Rattle.fsrm_model.specs.declared.command.Answer.{Answer}
 use Rattle.fsrm_model.specs.declared.command.Deed.{Deed}
-use Rattle.fsrm_model.specs.declared.command.Deed.TheVariants.{ScreenAdd, ScreenModify, ScreenDelete, ExceptionAdd, ExceptionDelete}
+use Rattle.fsrm_model.specs.declared.command.Deed.TheVariants.{Screen, Exception}
+use Rattle.fsrm_model.specs.declared.command.ExceptionDeed.TheVariants.{Add as ExceptionAdd, Delete as ExceptionDelete}
 use Rattle.fsrm_model.specs.declared.command.Outcome.TheVariants.{Done}
 use Rattle.fsrm_model.specs.declared.command.Refusal.{Refusal}
 use Rattle.fsrm_model.specs.declared.command.Refusal.TheVariants as refusal
+use Rattle.fsrm_model.specs.declared.command.ScreenDeed.TheVariants.{Add as ScreenAdd, Modify as ScreenModify, Delete as ScreenDelete}
 use Rattle.fsrm_model.specs.declared.row.Action.{Action}
 use Rattle.fsrm_model.specs.declared.row.ExceptRow.{ExceptRow}
 use Rattle.fsrm_model.specs.declared.row.GroupRow.{GroupRow}
@@ -178,7 +180,7 @@ passed a b more h g =
 -- ---- a new screen
 module _ (p : Parts) (m : ℕ) (path : List (List ℕ)) (active : Bool) (names : List (List ℕ)) (actions : List Action) (n : ℕ) (at : IsFolder p.tree.nodes path n) where
   abbrev deed : Deed
-  deed = ScreenAdd path active names actions
+  deed = Screen (ScreenAdd path active names actions)
 
   abbrev groups : List ℕ
   groups = fold with_last [] (numbers_named p.groups names)
@@ -269,7 +271,7 @@ module _ (p : Parts) (m : ℕ) (path : List (List ℕ)) (active : Bool) (names :
 -- ---- a changed one
 module _ (p : Parts) (m : ℕ) (path : List (List ℕ)) (active : Option Bool) (removed added : List (List ℕ)) (old : ScreenRow) (at : IsFolder p.tree.nodes path old.folder) (found : row_of screen_folder old.folder p.objects.screens ≡ Some old) where
   abbrev change : Deed
-  change = ScreenModify path active removed added
+  change = Screen (ScreenModify path active removed added)
 
   abbrev gone : List ℕ
   gone = numbers_named p.groups removed
@@ -360,17 +362,17 @@ module _ (p : Parts) (m : ℕ) (path : List (List ℕ)) (active : Option Bool) (
           (refused_for_as p m change fault result idle in_time (change_is ∙ is_fault fault _ due_is) given)
 
 -- ---- a screen goes
-pub screen_deleted : (p new : Parts) (m : ℕ) (path : List (List ℕ)) (screen : ScreenRow) (tables : Tables) (answer : Answer) → IsWhole p → IsIdle p → p.last_moment ≤ m → IsFolder p.tree.nodes path screen.folder → row_of screen_folder screen.folder p.objects.screens ≡ Some screen → tables ≡ without_screen p.objects screen.folder → new ≡ ended (record p { objects = tables }) m → answer ≡ record { outcome = Done None; lasting = true } → Does p new m (ScreenDelete path) answer
+pub screen_deleted : (p new : Parts) (m : ℕ) (path : List (List ℕ)) (screen : ScreenRow) (tables : Tables) (answer : Answer) → IsWhole p → IsIdle p → p.last_moment ≤ m → IsFolder p.tree.nodes path screen.folder → row_of screen_folder screen.folder p.objects.screens ≡ Some screen → tables ≡ without_screen p.objects screen.folder → new ≡ ended (record p { objects = tables }) m → answer ≡ record { outcome = Done None; lasting = true } → Does p new m (Screen (ScreenDelete path)) answer
 screen_deleted p new m path screen tables answer w idle after at found made ends e =
     let R = rows_of p in
-    retabled_as p p.groups tables w (ap (λ (t : Tables). t.quotas) made) new m (ScreenDelete path) answer idle after (screen_due R path screen at found)
+    retabled_as p p.groups tables w (ap (λ (t : Tables). t.quotas) made) new m (Screen (ScreenDelete path)) answer idle after (screen_due R path screen at found)
     (ap (λ k. record R { screens = without_row screen_folder k R.screens }) (target_is p.tree.nodes path screen.folder at.resolved)
     ∙ ap (λ (t : Tables). record R { screens = t.screens; excepts = t.excepts }) (sym made)) refl refl ends e
 
 -- ---- a new exception
 module _ (p : Parts) (m : ℕ) (path : List (List ℕ)) (names : List (List ℕ)) (n : ℕ) (at : IsFolder p.tree.nodes path n) where
   abbrev adding : Deed
-  adding = ExceptionAdd path names
+  adding = Exception (ExceptionAdd path names)
 
   abbrev passing_groups : List ℕ
   passing_groups = fold with_last [] (numbers_named p.groups names)
@@ -439,17 +441,17 @@ module _ (p : Parts) (m : ℕ) (path : List (List ℕ)) (names : List (List ℕ)
 
 -- ---- an exception goes
 module _ (p : Parts) (m : ℕ) (path : List (List ℕ)) (n : ℕ) (at : IsFolder p.tree.nodes path n) where
-  except_due : (b : Bool) → is_none (except_of (rows_of p) n) ≡ b → due p m (ExceptionDelete path) ≡ first ((refusal.NotFound when b) ∷ [])
+  except_due : (b : Bool) → is_none (except_of (rows_of p) n) ≡ b → due p m (Exception (ExceptionDelete path)) ≡ first ((refusal.NotFound when b) ∷ [])
   except_due b h =
       on_folder (rows_of p) path n (λ k. (refusal.NotFound when is_none (except_of (rows_of p) k)) ∷ []) at
       ∙ ap (λ b. first ((refusal.NotFound when b) ∷ [])) h
 
-  pub except_missing : is_none (except_of (rows_of p) n) ≡ true → due p m (ExceptionDelete path) ≡ Some refusal.NotFound
+  pub except_missing : is_none (except_of (rows_of p) n) ≡ true → due p m (Exception (ExceptionDelete path)) ≡ Some refusal.NotFound
   except_missing h = except_due true h
 
-  pub except_deleted : (new : Parts) (tables : Tables) (answer : Answer) → IsWhole p → IsIdle p → p.last_moment ≤ m → is_none (except_of (rows_of p) n) ≡ false → tables ≡ without_except p.objects n → new ≡ ended (record p { objects = tables }) m → answer ≡ record { outcome = Done None; lasting = true } → Does p new m (ExceptionDelete path) answer
+  pub except_deleted : (new : Parts) (tables : Tables) (answer : Answer) → IsWhole p → IsIdle p → p.last_moment ≤ m → is_none (except_of (rows_of p) n) ≡ false → tables ≡ without_except p.objects n → new ≡ ended (record p { objects = tables }) m → answer ≡ record { outcome = Done None; lasting = true } → Does p new m (Exception (ExceptionDelete path)) answer
   except_deleted new tables answer w idle after there_is made ends e =
       let R = rows_of p in
-      retabled_as p p.groups tables w (ap (λ (t : Tables). t.quotas) made) new m (ExceptionDelete path) answer idle after (except_due false there_is)
+      retabled_as p p.groups tables w (ap (λ (t : Tables). t.quotas) made) new m (Exception (ExceptionDelete path)) answer idle after (except_due false there_is)
       (ap (λ k. record R { excepts = without_row except_folder k R.excepts }) (target_is p.tree.nodes path n at.resolved)
       ∙ ap (λ (t : Tables). record R { screens = t.screens; excepts = t.excepts }) (sym made)) refl refl ends e

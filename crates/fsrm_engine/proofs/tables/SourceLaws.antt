@@ -12,9 +12,10 @@ use Rattle.fsrm_base.proofs.Members.{all_found}
 use Rattle.fsrm_base.proofs.TestLaws.{both}
 use Rattle.fsrm_model.specs.declared.command.Added.{Added}
 use Rattle.fsrm_model.specs.declared.command.Answer.{Answer}
-use Rattle.fsrm_model.specs.declared.command.Deed.{Deed}
-use Rattle.fsrm_model.specs.declared.command.Deed.TheVariants.{QuotaAdd, QuotaModify}
+use Rattle.fsrm_model.specs.declared.command.Deed.TheVariants.{Quota}
 use Rattle.fsrm_model.specs.declared.command.Outcome.TheVariants.{Done}
+use Rattle.fsrm_model.specs.declared.command.QuotaDeed.{QuotaDeed}
+use Rattle.fsrm_model.specs.declared.command.QuotaDeed.TheVariants.{Add as QuotaAdd, Modify as QuotaModify}
 use Rattle.fsrm_model.specs.declared.command.Refusal.TheVariants as refusal
 use Rattle.fsrm_model.specs.declared.row.QuotaRow.{QuotaRow}
 use Rattle.fsrm_model.specs.declared.row.QuotaState.{QuotaState}
@@ -187,17 +188,17 @@ module _ (p : Parts) (m : ℕ) (path : List (List ℕ)) (limit : Option ℕ) (en
   abbrev all : Bool → Bool → QuotaRow → List Check
   all taken missing row = (refusal.AlreadyExists when taken) ∷ (refusal.NotFound when missing) ∷ late row
 
-  on_path : due p m (QuotaAdd path limit enforce enabled name percents notices) ≡ first (all (is_some (quota_of (rows_of p) n)) (is_missing (rows_of p) name) (made n))
+  on_path : due p m (Quota (QuotaAdd path limit enforce enabled name percents notices)) ≡ first (all (is_some (quota_of (rows_of p) n)) (is_missing (rows_of p) name) (made n))
   on_path = on_folder (rows_of p) path n (λ k. all (is_some (quota_of (rows_of p) k)) (is_missing (rows_of p) name) (made k)) at
 
-  pub add_taken : is_some (quota_of (rows_of p) n) ≡ true → due p m (QuotaAdd path limit enforce enabled name percents notices) ≡ Some refusal.AlreadyExists
+  pub add_taken : is_some (quota_of (rows_of p) n) ≡ true → due p m (Quota (QuotaAdd path limit enforce enabled name percents notices)) ≡ Some refusal.AlreadyExists
   add_taken h = on_path ∙ ap (λ b. first (all b (is_missing (rows_of p) name) (made n))) h
 
-  pub add_missing : is_some (quota_of (rows_of p) n) ≡ false → is_missing (rows_of p) name ≡ true → due p m (QuotaAdd path limit enforce enabled name percents notices) ≡ Some refusal.NotFound
+  pub add_missing : is_some (quota_of (rows_of p) n) ≡ false → is_missing (rows_of p) name ≡ true → due p m (Quota (QuotaAdd path limit enforce enabled name percents notices)) ≡ Some refusal.NotFound
   add_missing free missing =
       on_path ∙ (ap (λ b. first (all b (is_missing (rows_of p) name) (made n))) free ∙ ap (λ b. first (all false b (made n))) missing)
 
-  pub add_due : (row : QuotaRow) → IsWhole p → is_missing (rows_of p) name ≡ false → row ≡ made n → due p m (QuotaAdd path limit enforce enabled name percents notices) ≡ option_and_then table_refusal (quota_fault p.objects row (text_room p))
+  pub add_due : (row : QuotaRow) → IsWhole p → is_missing (rows_of p) name ≡ false → row ≡ made n → due p m (Quota (QuotaAdd path limit enforce enabled name percents notices)) ≡ option_and_then table_refusal (quota_fault p.objects row (text_room p))
   add_due row w there is =
       on_path
       ∙ (ap (λ b. first (all (is_some (quota_of (rows_of p) n)) b (made n))) there
@@ -205,10 +206,10 @@ module _ (p : Parts) (m : ℕ) (path : List (List ℕ)) (limit : Option ℕ) (en
       ∙ (ap (λ k. first ((refusal.AlreadyExists when is_some (quota_of (rows_of p) k)) ∷ late (made n))) (sym (first_folder n (if enabled then start p.tree.nodes n else Disabled) m (source_of (rows_of p) name)))
       ∙ (ap (λ r. first (new_checks (rows_of p) r)) (sym is) ∙ new_is p row w))))
 
-  pub added_as : (mid new : Parts) (row : QuotaRow) (answer : Answer) → row ≡ made n → IsWhole p → IsIdle p → p.last_moment ≤ m → is_missing (rows_of p) name ≡ false → quota_fault p.objects row (text_room p) ≡ None → Turned p mid (with_row folder_of row p.objects.quotas) (queued p.scans.queue row.folder row.state) → are_thresholds row.thresholds ≡ true → is_limit row.limit ≡ true → (counts row ≡ true → usage p.tree.size p.tree.nodes row.folder ≡ 0) → new ≡ ended mid m → answer ≡ record { outcome = Done None; lasting = true } → Does p new m (QuotaAdd path limit enforce enabled name percents notices) answer
+  pub added_as : (mid new : Parts) (row : QuotaRow) (answer : Answer) → row ≡ made n → IsWhole p → IsIdle p → p.last_moment ≤ m → is_missing (rows_of p) name ≡ false → quota_fault p.objects row (text_room p) ≡ None → Turned p mid (with_row folder_of row p.objects.quotas) (queued p.scans.queue row.folder row.state) → are_thresholds row.thresholds ≡ true → is_limit row.limit ≡ true → (counts row ≡ true → usage p.tree.size p.tree.nodes row.folder ≡ 0) → new ≡ ended mid m → answer ≡ record { outcome = Done None; lasting = true } → Does p new m (Quota (QuotaAdd path limit enforce enabled name percents notices)) answer
   added_as mid new row answer is w idle after there may t thresholds limits nothing ends e =
       let R = rows_of p in
-      let deed = QuotaAdd path limit enforce enabled name percents notices in
+      let deed = Quota (QuotaAdd path limit enforce enabled name percents notices) in
       let quotas = with_row folder_of row p.objects.quotas in
       let queue = queued p.scans.queue row.folder row.state in
       done_as p mid new m deed answer
@@ -219,24 +220,24 @@ module _ (p : Parts) (m : ℕ) (path : List (List ℕ)) (limit : Option ℕ) (en
       (calm_added p mid m row queue t (admitted p.objects row (text_room p) may).free thresholds limits nothing) ends e
 
 -- it is done under the name of the deed, whose values were lent
-pub added_named : (old new : Parts) (m : ℕ) (deed : Deed) (result : Result Answer Wanting) (path : List (List ℕ)) (limit : Option ℕ) (enforce : Option Bool) (enabled : Bool) (name lent : Option (List ℕ)) (percents r : List ℕ) (notices s : List Added) → deed ≡ QuotaAdd path limit enforce enabled name percents notices → lent ≡ name → r ≡ percents → s ≡ notices → IfOk result (λ answer. Does old new m (QuotaAdd path limit enforce enabled lent r s) answer) → IfOk result (λ answer. Does old new m deed answer)
+pub added_named : (old new : Parts) (m : ℕ) (deed : QuotaDeed) (result : Result Answer Wanting) (path : List (List ℕ)) (limit : Option ℕ) (enforce : Option Bool) (enabled : Bool) (name lent : Option (List ℕ)) (percents r : List ℕ) (notices s : List Added) → deed ≡ QuotaAdd path limit enforce enabled name percents notices → lent ≡ name → r ≡ percents → s ≡ notices → IfOk result (λ answer. Does old new m (Quota (QuotaAdd path limit enforce enabled lent r s)) answer) → IfOk result (λ answer. Does old new m (Quota deed) answer)
 added_named old new m deed result path limit enforce enabled name lent percents r notices s is e f h done =
-    subst (λ (d : Deed). IfOk result (λ answer. Does old new m d answer))
+    subst (λ (d : QuotaDeed). IfOk result (λ answer. Does old new m (Quota d) answer))
     (ap (λ (o : Option (List ℕ)). QuotaAdd path limit enforce enabled o r s) e
     ∙ (ap (λ (ns : List ℕ). QuotaAdd path limit enforce enabled name ns s) f
     ∙ (ap (QuotaAdd path limit enforce enabled name percents) h ∙ sym is))) done
 
 -- the actions that a valid deed gives
-pub add_notices : (deed : Deed) (path : List (List ℕ)) (limit : Option ℕ) (enforce : Option Bool) (enabled : Bool) (name : Option (List ℕ)) (percents : List ℕ) (notices : List Added) → is_deed deed ≡ true → deed ≡ QuotaAdd path limit enforce enabled name percents notices → list_all is_notice notices ≡ true
+pub add_notices : (deed : QuotaDeed) (path : List (List ℕ)) (limit : Option ℕ) (enforce : Option Bool) (enabled : Bool) (name : Option (List ℕ)) (percents : List ℕ) (notices : List Added) → is_deed (Quota deed) ≡ true → deed ≡ QuotaAdd path limit enforce enabled name percents notices → list_all is_notice notices ≡ true
 add_notices deed path limit enforce enabled name percents notices valid is =
     let given = option_map_or is_limit limit (is_some name) && option_map_or is_object_name name true in
     let lists = list_all is_percent percents && list_all is_notice notices in
-    let values : (given && lists) ≡ true = (both (list_all is_path (path ∷ [])) (given && lists) (sym (ap is_deed is) ∙ valid)).1 in
+    let values : (given && lists) ≡ true = (both (list_all is_path (path ∷ [])) (given && lists) (sym (ap (λ d. is_deed (Quota d)) is) ∙ valid)).1 in
     (both (list_all is_percent percents) (list_all is_notice notices) (both given lists values).1).1
 
-pub modify_notices : (deed : Deed) (path : List (List ℕ)) (limit : Option ℕ) (enforce enabled : Option Bool) (removed percents : List ℕ) (notices : List Added) → is_deed deed ≡ true → deed ≡ QuotaModify path limit enforce enabled removed percents notices → list_all is_notice notices ≡ true
+pub modify_notices : (deed : QuotaDeed) (path : List (List ℕ)) (limit : Option ℕ) (enforce enabled : Option Bool) (removed percents : List ℕ) (notices : List Added) → is_deed (Quota deed) ≡ true → deed ≡ QuotaModify path limit enforce enabled removed percents notices → list_all is_notice notices ≡ true
 modify_notices deed path limit enforce enabled removed percents notices valid is =
     let lists = list_all is_percent percents && list_all is_notice notices in
     let rest = list_all is_percent removed && lists in
-    let values : (option_map_or is_limit limit true && rest) ≡ true = (both (list_all is_path (path ∷ [])) (option_map_or is_limit limit true && rest) (sym (ap is_deed is) ∙ valid)).1 in
+    let values : (option_map_or is_limit limit true && rest) ≡ true = (both (list_all is_path (path ∷ [])) (option_map_or is_limit limit true && rest) (sym (ap (λ d. is_deed (Quota d)) is) ∙ valid)).1 in
     (both (list_all is_percent percents) (list_all is_notice notices) (both (list_all is_percent removed) lists (both (option_map_or is_limit limit true) rest values).1).1).1

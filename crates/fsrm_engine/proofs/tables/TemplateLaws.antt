@@ -13,10 +13,11 @@ use Rattle.file_groups.specs.Kept.{group_texts}
 use Rattle.fsrm_model.specs.declared.command.Added.{Added}
 use Rattle.fsrm_model.specs.declared.command.Answer.{Answer}
 use Rattle.fsrm_model.specs.declared.command.Deed.{Deed}
-use Rattle.fsrm_model.specs.declared.command.Deed.TheVariants.{TemplateAdd, TemplateDelete}
+use Rattle.fsrm_model.specs.declared.command.Deed.TheVariants.{Template}
 use Rattle.fsrm_model.specs.declared.command.Outcome.TheVariants.{Done}
 use Rattle.fsrm_model.specs.declared.command.Refusal.{Refusal}
 use Rattle.fsrm_model.specs.declared.command.Refusal.TheVariants as refusal
+use Rattle.fsrm_model.specs.declared.command.TemplateDeed.TheVariants.{Add as TemplateAdd, Delete as TemplateDelete}
 use Rattle.fsrm_model.specs.declared.row.Capacity.{Capacity}
 use Rattle.fsrm_model.specs.declared.row.NodeRow.{NodeRow}
 use Rattle.fsrm_model.specs.declared.row.QuotaRow.{QuotaRow}
@@ -173,13 +174,13 @@ module _ (p : Parts) (m : ℕ) (name : List ℕ) (limit : ℕ) (enforce : Bool) 
   abbrev long : Bool
   long = nat_lt most_text_bytes (object_texts (record (rows_of p) { templates = grown }))
 
-  pub add_named : is_some (template_named p.templates.templates name) ≡ true → due p m (TemplateAdd name limit enforce percents notices) ≡ Some refusal.DuplicateName
+  pub add_named : is_some (template_named p.templates.templates name) ≡ true → due p m (Template (TemplateAdd name limit enforce percents notices)) ≡ Some refusal.DuplicateName
   add_named h = ap (λ a. test a (are_too_many marks) full long) h
 
-  pub add_many : is_some (template_named p.templates.templates name) ≡ false → are_too_many marks ≡ true → due p m (TemplateAdd name limit enforce percents notices) ≡ Some refusal.OutOfRange
+  pub add_many : is_some (template_named p.templates.templates name) ≡ false → are_too_many marks ≡ true → due p m (Template (TemplateAdd name limit enforce percents notices)) ≡ Some refusal.OutOfRange
   add_many free h = ap (λ a. test a (are_too_many marks) full long) free ∙ ap (λ b. test false b full long) h
 
-  due_blank : are_too_many marks ≡ false → due p m (TemplateAdd name limit enforce percents notices) ≡ option_and_then template_refusal (template_fault p.templates (blank name limit enforce (changed_thresholds [] percents notices [])) (text_room p))
+  due_blank : are_too_many marks ≡ false → due p m (Template (TemplateAdd name limit enforce percents notices)) ≡ option_and_then template_refusal (template_fault p.templates (blank name limit enforce (changed_thresholds [] percents notices [])) (text_room p))
   due_blank few =
       let ts = p.templates.templates in
       let row = new_template ts name limit enforce (changed_thresholds [] percents notices []) in
@@ -195,17 +196,17 @@ module _ (p : Parts) (m : ℕ) (name : List ℕ) (limit : ℕ) (enforce : Bool) 
       ∙ three known (nat_le most_templates (length ts)) (nat_lt (text_room p) (template_bytes row)))))
 
   -- by the row that was given to the table
-  pub add_due : (row : TemplateRow) (thresholds : List Threshold) (room : ℕ) → row ≡ blank name limit enforce thresholds → thresholds ≡ changed_thresholds [] percents notices [] → room ≡ text_room p → are_too_many thresholds ≡ false → due p m (TemplateAdd name limit enforce percents notices) ≡ option_and_then template_refusal (template_fault p.templates row room)
+  pub add_due : (row : TemplateRow) (thresholds : List Threshold) (room : ℕ) → row ≡ blank name limit enforce thresholds → thresholds ≡ changed_thresholds [] percents notices [] → room ≡ text_room p → are_too_many thresholds ≡ false → due p m (Template (TemplateAdd name limit enforce percents notices)) ≡ option_and_then template_refusal (template_fault p.templates row room)
   add_due row thresholds room is are room_is few =
       due_blank (sym (ap are_too_many are) ∙ few)
       ∙ (ap (λ (r : TemplateRow). option_and_then template_refusal (template_fault p.templates r (text_room p))) (sym (is ∙ ap (blank name limit enforce) are))
       ∙ ap (λ k. option_and_then template_refusal (template_fault p.templates row k)) (sym room_is))
 
-  pub template_added : (new : Parts) (held : Held) (row : TemplateRow) (thresholds : List Threshold) (room : ℕ) (answer : Answer) → row ≡ blank name limit enforce thresholds → thresholds ≡ changed_thresholds [] percents notices [] → room ≡ text_room p → are_too_many thresholds ≡ false → IsIdle p → p.last_moment ≤ m → template_fault p.templates row room ≡ None → held ≡ with_template p.templates (numbered p.templates.templates row) → new ≡ ended (record p { templates = held }) m → answer ≡ record { outcome = Done None; lasting = true } → Does p new m (TemplateAdd name limit enforce percents notices) answer
+  pub template_added : (new : Parts) (held : Held) (row : TemplateRow) (thresholds : List Threshold) (room : ℕ) (answer : Answer) → row ≡ blank name limit enforce thresholds → thresholds ≡ changed_thresholds [] percents notices [] → room ≡ text_room p → are_too_many thresholds ≡ false → IsIdle p → p.last_moment ≤ m → template_fault p.templates row room ≡ None → held ≡ with_template p.templates (numbered p.templates.templates row) → new ≡ ended (record p { templates = held }) m → answer ≡ record { outcome = Done None; lasting = true } → Does p new m (Template (TemplateAdd name limit enforce percents notices)) answer
   template_added new held row thresholds room answer is are room_is few idle after may held_is ends e =
       let own : held ≡ with_template p.templates (numbered p.templates.templates (blank name limit enforce (changed_thresholds [] percents notices []))) =
       held_is ∙ ap (λ (r : TemplateRow). with_template p.templates (numbered p.templates.templates r)) (is ∙ ap (blank name limit enforce) are) in
-      rewritten_as p held p.objects.quotas w w.sound.counted new m (TemplateAdd name limit enforce percents notices) answer idle after
+      rewritten_as p held p.objects.quotas w w.sound.counted new m (Template (TemplateAdd name limit enforce percents notices)) answer idle after
       (add_due row thresholds room is are room_is few ∙ ap (option_and_then template_refusal) may)
       (ap (λ (h : Held). record (rows_of p) { templates = h.templates; autos = h.autos }) (sym own)) refl refl
       (calm_same p (rewritten p held p.objects.quotas) m w.sound.counted w.sound.counted refl refl refl) ends e
@@ -258,16 +259,16 @@ taken_by : (b : Bool) (fault : TemplateFault) → (template.InUse when b) ≡ So
 taken_by true fault h = refl
 taken_by false fault h = cc
 
-pub delete_missing : (p : Parts) (m : ℕ) (name : List ℕ) → template_named p.templates.templates name ≡ None → due p m (TemplateDelete name) ≡ Some refusal.NotFound
+pub delete_missing : (p : Parts) (m : ℕ) (name : List ℕ) → template_named p.templates.templates name ≡ None → due p m (Template (TemplateDelete name)) ≡ Some refusal.NotFound
 delete_missing p m name h = ap (λ o. first ((refusal.NotFound when is_none o) ∷ (refusal.InUse when is_applied (rows_of p) (number_in o)) ∷ [])) h
 
 module _ (p : Parts) (m : ℕ) (name : List ℕ) (t : TemplateRow) (is : template_named p.templates.templates name ≡ Some t) where
-  delete_due : (b : Bool) → is_applied (rows_of p) t.number ≡ b → due p m (TemplateDelete name) ≡ (refusal.InUse when b)
+  delete_due : (b : Bool) → is_applied (rows_of p) t.number ≡ b → due p m (Template (TemplateDelete name)) ≡ (refusal.InUse when b)
   delete_due b h =
       ap (λ o. first ((refusal.NotFound when is_none o) ∷ (refusal.InUse when is_applied (rows_of p) (number_in o)) ∷ [])) is
       ∙ (last_check (refusal.InUse when is_applied (rows_of p) t.number) ∙ ap (λ b. refusal.InUse when b) h)
 
-  pub delete_used : (fault : TemplateFault) → delete_fault p.templates t.number ≡ Some fault → due p m (TemplateDelete name) ≡ Some refusal.InUse
+  pub delete_used : (fault : TemplateFault) → delete_fault p.templates t.number ≡ Some fault → due p m (Template (TemplateDelete name)) ≡ Some refusal.InUse
   delete_used fault h = delete_due true (taken_by (is_applied (rows_of p) t.number) fault h)
 
   pub gone_counted : (quotas : List QuotaRow) → IsWhole p → quotas ≡ map (without_source t.number) p.objects.quotas → IsCounted p.tree.size p.tree.nodes quotas p.usage p.level
@@ -275,10 +276,10 @@ module _ (p : Parts) (m : ℕ) (name : List ℕ) (t : TemplateRow) (is : templat
       subst (λ (qs : List QuotaRow). IsCounted p.tree.size p.tree.nodes qs p.usage p.level) (sym made)
       (counted_edited p.tree.size p.tree.nodes p.objects.quotas p.usage (without_source t.number) (source_edit t.number) w.sound.counted)
 
-  pub template_deleted : (new : Parts) (held : Held) (quotas : List QuotaRow) (answer : Answer) → IsWhole p → IsIdle p → p.last_moment ≤ m → delete_fault p.templates t.number ≡ None → held ≡ without_template p.templates t.number → quotas ≡ map (without_source t.number) p.objects.quotas → new ≡ ended (rewritten p held quotas) m → answer ≡ record { outcome = Done None; lasting = true } → Does p new m (TemplateDelete name) answer
+  pub template_deleted : (new : Parts) (held : Held) (quotas : List QuotaRow) (answer : Answer) → IsWhole p → IsIdle p → p.last_moment ≤ m → delete_fault p.templates t.number ≡ None → held ≡ without_template p.templates t.number → quotas ≡ map (without_source t.number) p.objects.quotas → new ≡ ended (rewritten p held quotas) m → answer ≡ record { outcome = Done None; lasting = true } → Does p new m (Template (TemplateDelete name)) answer
   template_deleted new held quotas answer w idle after may held_is made ends e =
       let counted = gone_counted quotas w made in
-      rewritten_as p held quotas w counted new m (TemplateDelete name) answer idle after
+      rewritten_as p held quotas w counted new m (Template (TemplateDelete name)) answer idle after
       (delete_due false (free_of (is_applied (rows_of p) t.number) may))
       (ap (λ o. record (rows_of p) { templates = without_row template_number (number_in o) p.templates.templates; quotas = map (without_source (number_in o)) p.objects.quotas }) is
       ∙ (ap (λ (h : Held). record (rows_of p) { templates = h.templates; autos = h.autos; quotas = map (without_source t.number) p.objects.quotas }) (sym held_is)

@@ -17,10 +17,11 @@ use Rattle.fsrm_base.proofs.RowLaws.{change_none, change_same}
 use Rattle.fsrm_base.proofs.TestLaws.{eq_test}
 use Rattle.fsrm_model.specs.declared.command.Added.{Added}
 use Rattle.fsrm_model.specs.declared.command.Answer.{Answer}
-use Rattle.fsrm_model.specs.declared.command.Deed.TheVariants.{TemplateModify}
+use Rattle.fsrm_model.specs.declared.command.Deed.TheVariants.{Template}
 use Rattle.fsrm_model.specs.declared.command.Outcome.TheVariants.{Done}
 use Rattle.fsrm_model.specs.declared.command.Refusal.{Refusal}
 use Rattle.fsrm_model.specs.declared.command.Refusal.TheVariants as refusal
+use Rattle.fsrm_model.specs.declared.command.TemplateDeed.TheVariants.{Modify as TemplateModify}
 use Rattle.fsrm_model.specs.declared.command.Update.{Update}
 use Rattle.fsrm_model.specs.declared.command.Update.TheVariants.{Keep}
 use Rattle.fsrm_model.specs.declared.row.QuotaRow.{QuotaRow}
@@ -179,20 +180,20 @@ module _ (p : Parts) (m : ℕ) (name : List ℕ) (limit : Option ℕ) (enforce :
   result o =
       tests (is_none o) (not (may_be_removed removed (thresholds_in o))) (are_too_many (changed_thresholds removed percents notices (thresholds_in o))) (nat_lt most_text_bytes (object_texts (after o)))
 
-  pub modify_missing : template_named p.templates.templates name ≡ None → due p m (TemplateModify name limit enforce removed percents notices mode) ≡ Some refusal.NotFound
+  pub modify_missing : template_named p.templates.templates name ≡ None → due p m (Template (TemplateModify name limit enforce removed percents notices mode)) ≡ Some refusal.NotFound
   modify_missing h = ap result h
 
   module _ (t : TemplateRow) (is : template_named p.templates.templates name ≡ Some t) where
     abbrev long : Bool
     long = nat_lt most_text_bytes (object_texts (after (Some t)))
 
-    own : due p m (TemplateModify name limit enforce removed percents notices mode) ≡ tests false (not (may_be_removed removed t.thresholds)) (are_too_many (changed_thresholds removed percents notices t.thresholds)) long
+    own : due p m (Template (TemplateModify name limit enforce removed percents notices mode)) ≡ tests false (not (may_be_removed removed t.thresholds)) (are_too_many (changed_thresholds removed percents notices t.thresholds)) long
     own = ap result is
 
-    pub modify_kept : may_be_removed removed t.thresholds ≡ false → due p m (TemplateModify name limit enforce removed percents notices mode) ≡ Some refusal.NotFound
+    pub modify_kept : may_be_removed removed t.thresholds ≡ false → due p m (Template (TemplateModify name limit enforce removed percents notices mode)) ≡ Some refusal.NotFound
     modify_kept h = own ∙ ap (λ b. tests false (not b) (are_too_many (changed_thresholds removed percents notices t.thresholds)) long) h
 
-    pub modify_many : may_be_removed removed t.thresholds ≡ true → are_too_many (changed_thresholds removed percents notices t.thresholds) ≡ true → due p m (TemplateModify name limit enforce removed percents notices mode) ≡ Some refusal.OutOfRange
+    pub modify_many : may_be_removed removed t.thresholds ≡ true → are_too_many (changed_thresholds removed percents notices t.thresholds) ≡ true → due p m (Template (TemplateModify name limit enforce removed percents notices mode)) ≡ Some refusal.OutOfRange
     modify_many may h =
         own
         ∙ (ap (λ b. tests false (not b) (are_too_many (changed_thresholds removed percents notices t.thresholds)) long) may ∙ ap (λ b. tests false false b long) h)
@@ -212,7 +213,7 @@ module _ (p : Parts) (m : ℕ) (name : List ℕ) (limit : Option ℕ) (enforce :
         let quotas = update_texts mode t (change t) p.objects.quotas in
         long_test most_text_bytes (texts_of p) (template_bytes t + quota_texts reached) (template_bytes (change t) + length reached * threshold_bytes (change t).thresholds) (object_texts (after (Some t))) (few_texts p w) (omega (arith, whole, sum, quotas))
 
-    pub modify_due : (row : TemplateRow) (b : Bool) → IsWhole p → may_be_removed removed t.thresholds ≡ true → row ≡ change t → are_too_many row.thresholds ≡ false → b ≡ nat_lt (text_room p + (template_bytes t + quota_texts (filter (is_reached mode t) p.objects.quotas))) (template_bytes row + length (filter (is_reached mode t) p.objects.quotas) * threshold_bytes row.thresholds) → due p m (TemplateModify name limit enforce removed percents notices mode) ≡ (refusal.TextsFull when b)
+    pub modify_due : (row : TemplateRow) (b : Bool) → IsWhole p → may_be_removed removed t.thresholds ≡ true → row ≡ change t → are_too_many row.thresholds ≡ false → b ≡ nat_lt (text_room p + (template_bytes t + quota_texts (filter (is_reached mode t) p.objects.quotas))) (template_bytes row + length (filter (is_reached mode t) p.objects.quotas) * threshold_bytes row.thresholds) → due p m (Template (TemplateModify name limit enforce removed percents notices mode)) ≡ (refusal.TextsFull when b)
     modify_due row b w may made few is_long =
         own
         ∙ (ap (λ x. tests false (not x) (are_too_many (changed_thresholds removed percents notices t.thresholds)) long) may
@@ -223,7 +224,7 @@ module _ (p : Parts) (m : ℕ) (name : List ℕ) (limit : Option ℕ) (enforce :
         ∙ ap (λ x. refusal.TextsFull when x) (sym is_long))))))
 
     -- ---- what is left
-    pub template_modified : (mid run new : Parts) (row : TemplateRow) (answer : Answer) → IsWhole p → IsIdle p → p.last_moment ≤ m → row ≡ change t → is_template row ≡ true → due p m (TemplateModify name limit enforce removed percents notices mode) ≡ None → mid ≡ rewritten p (with_other p.templates row) (map (updated mode t row) p.objects.quotas) → Ran mid run m (flat_map (updated_acts mid.objects mid.usage mid.run_limit m) (filter (is_reached mode t) p.objects.quotas)) → new ≡ ended run m → answer ≡ record { outcome = Done None; lasting = true } → Does p new m (TemplateModify name limit enforce removed percents notices mode) answer
+    pub template_modified : (mid run new : Parts) (row : TemplateRow) (answer : Answer) → IsWhole p → IsIdle p → p.last_moment ≤ m → row ≡ change t → is_template row ≡ true → due p m (Template (TemplateModify name limit enforce removed percents notices mode)) ≡ None → mid ≡ rewritten p (with_other p.templates row) (map (updated mode t row) p.objects.quotas) → Ran mid run m (flat_map (updated_acts mid.objects mid.usage mid.run_limit m) (filter (is_reached mode t) p.objects.quotas)) → new ≡ ended run m → answer ≡ record { outcome = Done None; lasting = true } → Does p new m (Template (TemplateModify name limit enforce removed percents notices mode)) answer
     template_modified mid run new row answer w idle after_last made legal none mid_is ran ends e =
         let held = with_other p.templates row in
         let quotas = map (updated mode t row) p.objects.quotas in
@@ -236,9 +237,9 @@ module _ (p : Parts) (m : ℕ) (name : List ℕ) (limit : Option ℕ) (enforce :
         change_same template_number t.number change (λ r. row) p.templates.templates (templates_are p w).ascending
         (λ r found. ap change (same_Some r t (sym found ∙ named_found p name t w is)) ∙ sym made)
         ∙ ap (λ k. with_change template_number k (λ r. row) p.templates.templates) (sym number) in
-        done_with p own_mid run new m (TemplateModify name limit enforce removed percents notices mode) answer
+        done_with p own_mid run new m (Template (TemplateModify name limit enforce removed percents notices mode)) answer
         (flat_map (updated_acts own_mid.objects p.usage p.run_limit m) (filter (is_reached mode t) p.objects.quotas))
-        (rewritten_accepts p held quotas w counted m (TemplateModify name limit enforce removed percents notices mode) idle after_last none
+        (rewritten_accepts p held quotas w counted m (Template (TemplateModify name limit enforce removed percents notices mode)) idle after_last none
         (ap after is
         ∙ (ap (λ (ts : List TemplateRow). record (rows_of p) { templates = ts; quotas = map (updated mode t (change t)) p.objects.quotas }) tables
         ∙ ap (λ (r : TemplateRow). record (rows_of p) { templates = held.templates; quotas = map (updated mode t r) p.objects.quotas }) (sym made))) refl)

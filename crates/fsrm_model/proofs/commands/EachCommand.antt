@@ -1,15 +1,22 @@
 -- Each command's work is orderly, and the kind of its entry is its own. Here alone the laws over all commands go
 -- through them, one by one.
 use Rattle.std.proofs.Common.{◌≡◌, ℕ, ◌<◌, ◌≤◌, ◌⊎◌, inl, inr, true, List, false, refl, sym, ap, ◌∙◌, Some, None, Option, nat_lt, subst}
+use Rattle.fsrm_model.specs.declared.command.AdminDeed.TheVariants.{Options as AdminOptions, List as AdminList, Log as AdminLog}
+use Rattle.fsrm_model.specs.declared.command.AutoquotaDeed.TheVariants.{Add as AutoquotaAdd, Delete as AutoquotaDelete, List as AutoquotaList}
 use Rattle.fsrm_model.specs.declared.command.Command.{Command}
 use Rattle.fsrm_model.specs.declared.command.Deed.{Deed}
-use Rattle.fsrm_model.specs.declared.command.Deed.TheVariants.{File, Usage, Step, QuotaAdd, QuotaModify, QuotaDelete, QuotaScan, QuotaResetpeak, QuotaList, TemplateAdd, TemplateModify, TemplateDelete, TemplateList, AutoquotaAdd, AutoquotaDelete, AutoquotaList, AdminOptions, AdminList, AdminLog, FilegroupAdd, FilegroupModify, FilegroupDelete, FilegroupList, ScreenAdd, ScreenModify, ScreenDelete, ScreenList, ExceptionAdd, ExceptionDelete, ExceptionList}
+use Rattle.fsrm_model.specs.declared.command.Deed.TheVariants.{File, Usage, Step, Quota, Template, Autoquota, Filegroup, Screen, Exception, Admin}
+use Rattle.fsrm_model.specs.declared.command.ExceptionDeed.TheVariants.{Add as ExceptionAdd, Delete as ExceptionDelete, List as ExceptionList}
 use Rattle.fsrm_model.specs.declared.command.FileOp.{FileOp}
 use Rattle.fsrm_model.specs.declared.command.FileOp.TheVariants.{Mkdir, Create, Resize, Touch, Move, Remove}
+use Rattle.fsrm_model.specs.declared.command.FilegroupDeed.TheVariants.{Add as FilegroupAdd, Modify as FilegroupModify, Delete as FilegroupDelete, List as FilegroupList}
 use Rattle.fsrm_model.specs.declared.command.Outcome.TheVariants.{Refused}
 use Rattle.fsrm_model.specs.declared.command.Refusal.{Refusal}
 use Rattle.fsrm_model.specs.declared.command.Refusal.TheVariants.{ScreenBlocked, QuotaExceeded}
 use Rattle.fsrm_model.specs.declared.command.Outcome.TheVariants.{Sum}
+use Rattle.fsrm_model.specs.declared.command.QuotaDeed.TheVariants.{Add as QuotaAdd, Modify as QuotaModify, Delete as QuotaDelete, Scan as QuotaScan, Resetpeak as QuotaResetpeak, List as QuotaList}
+use Rattle.fsrm_model.specs.declared.command.ScreenDeed.TheVariants.{Add as ScreenAdd, Modify as ScreenModify, Delete as ScreenDelete, List as ScreenList}
+use Rattle.fsrm_model.specs.declared.command.TemplateDeed.TheVariants.{Add as TemplateAdd, Modify as TemplateModify, Delete as TemplateDelete, List as TemplateList}
 use Rattle.fsrm_model.specs.declared.command.Update.TheVariants.{Keep}
 use Rattle.std.specs.List.{list_all}
 use Rattle.std.specs.Prelude.{◌&&◌, ◌==◌, [], ◌∷◌, find, is_some, length, nat_le, sum_by}
@@ -89,75 +96,75 @@ certified K R moment (File op) =
     }
 certified K R moment (Usage path) = still (usage_still K R path) (λ late legal store h. nothing_followed K R store)
 certified K R moment (Step n) = still (step_still K R n) (λ late legal. step_kept K R n)
-certified K R moment (QuotaAdd path limit enforce enabled template percents notices) =
+certified K R moment (Quota (QuotaAdd path limit enforce enabled template percents notices)) =
     still (add_still K R moment path limit enforce enabled template percents notices) (λ late legal.
     let values : (list_all is_path (path ∷ []) ≡ true) × (((option_map_or is_limit limit (is_some template) && option_map_or is_object_name template true) && (list_all is_percent percents && list_all is_notice notices)) ≡ true) = both _ _ legal in
     let parts : ((option_map_or is_limit limit (is_some template) && option_map_or is_object_name template true) ≡ true) × ((list_all is_percent percents && list_all is_notice notices) ≡ true) = both _ _ values.1 in
     let size : (option_map_or is_limit limit (is_some template) ≡ true) × (option_map_or is_object_name template true ≡ true) = both _ _ parts.0 in
     let marks : (list_all is_percent percents ≡ true) × (list_all is_notice notices ≡ true) = both _ _ parts.1 in
     add_kept K R moment path limit enforce enabled template percents notices size.0 marks.0 marks.1 late)
-certified K R moment (QuotaModify path limit enforce enabled removed percents notices) =
+certified K R moment (Quota (QuotaModify path limit enforce enabled removed percents notices)) =
     still (modify_still K R path limit enforce enabled removed percents notices) (λ late legal.
     let values : (list_all is_path (path ∷ []) ≡ true) × ((option_map_or is_limit limit true && (list_all is_percent removed && (list_all is_percent percents && list_all is_notice notices))) ≡ true) = both _ _ legal in
     let size : (option_map_or is_limit limit true ≡ true) × ((list_all is_percent removed && (list_all is_percent percents && list_all is_notice notices)) ≡ true) = both _ _ values.1 in
     let gone : (list_all is_percent removed ≡ true) × ((list_all is_percent percents && list_all is_notice notices) ≡ true) = both _ _ size.1 in
     let marks : (list_all is_percent percents ≡ true) × (list_all is_notice notices ≡ true) = both _ _ gone.1 in
     modify_kept K R path limit enforce enabled removed percents notices size.0 marks.0 marks.1)
-certified K R moment (QuotaDelete path) = still (delete_still K R path) (λ late legal. delete_kept K R path)
-certified K R moment (QuotaScan path) = still (scan_still K R path) (λ late legal. scan_kept K R path)
-certified K R moment (QuotaResetpeak path) = still (reset_still K R moment path) (λ late legal. reset_kept K R moment path late)
-certified K R moment (QuotaList path) = still (list_still K R path) (λ late legal. list_kept K R path)
-certified K R moment (TemplateAdd name limit enforce percents notices) =
+certified K R moment (Quota (QuotaDelete path)) = still (delete_still K R path) (λ late legal. delete_kept K R path)
+certified K R moment (Quota (QuotaScan path)) = still (scan_still K R path) (λ late legal. scan_kept K R path)
+certified K R moment (Quota (QuotaResetpeak path)) = still (reset_still K R moment path) (λ late legal. reset_kept K R moment path late)
+certified K R moment (Quota (QuotaList path)) = still (list_still K R path) (λ late legal. list_kept K R path)
+certified K R moment (Template (TemplateAdd name limit enforce percents notices)) =
     still (template_add_still K R name limit enforce percents notices) (λ late legal.
     let values : (is_object_name name ≡ true) × ((is_limit limit && (list_all is_percent percents && list_all is_notice notices)) ≡ true) = both _ _ legal in
     let size : (is_limit limit ≡ true) × ((list_all is_percent percents && list_all is_notice notices) ≡ true) = both _ _ values.1 in
     let marks : (list_all is_percent percents ≡ true) × (list_all is_notice notices ≡ true) = both _ _ size.1 in
     template_add_kept K R name limit enforce percents notices values.0 size.0 marks.0 marks.1)
-certified K R moment (TemplateModify name limit enforce removed percents notices mode) =
+certified K R moment (Template (TemplateModify name limit enforce removed percents notices mode)) =
     still (template_modify_still K R name limit enforce removed percents notices mode) (λ late legal.
     let values : (is_object_name name ≡ true) × ((option_map_or is_limit limit true && (list_all is_percent removed && (list_all is_percent percents && list_all is_notice notices))) ≡ true) = both _ _ legal in
     let size : (option_map_or is_limit limit true ≡ true) × ((list_all is_percent removed && (list_all is_percent percents && list_all is_notice notices)) ≡ true) = both _ _ values.1 in
     let gone : (list_all is_percent removed ≡ true) × ((list_all is_percent percents && list_all is_notice notices) ≡ true) = both _ _ size.1 in
     let marks : (list_all is_percent percents ≡ true) × (list_all is_notice notices ≡ true) = both _ _ gone.1 in
     template_modify_kept K R name limit enforce removed percents notices mode size.0 marks.0 marks.1)
-certified K R moment (TemplateDelete name) = still (template_delete_still K R name) (λ late legal. template_delete_kept K R name)
-certified K R moment TemplateList = still (template_list_still K R) (λ late legal. template_list_kept K R)
-certified K R moment (AutoquotaAdd path name excluded) =
+certified K R moment (Template (TemplateDelete name)) = still (template_delete_still K R name) (λ late legal. template_delete_kept K R name)
+certified K R moment (Template TemplateList) = still (template_list_still K R) (λ late legal. template_list_kept K R)
+certified K R moment (Autoquota (AutoquotaAdd path name excluded)) =
     still (auto_add_still K R moment path name excluded) (λ late legal.
     let values : (list_all is_path (path ∷ []) ≡ true) × ((is_object_name name && (nat_le (length excluded) most_excluded && list_all is_name excluded)) ≡ true) = both _ _ legal in
     let names : (is_object_name name ≡ true) × ((nat_le (length excluded) most_excluded && list_all is_name excluded) ≡ true) = both _ _ values.1 in
     auto_add_kept K R moment path name excluded names.1 late)
-certified K R moment (AutoquotaDelete path) = still (auto_delete_still K R path) (λ late legal. auto_delete_kept K R path)
-certified K R moment AutoquotaList = still (auto_list_still K R) (λ late legal. auto_list_kept K R)
-certified K R moment (AdminOptions minutes) = still (options_still K R minutes) (λ late legal. options_kept K R minutes legal)
-certified K R moment AdminList = still (settings_still K R) (λ late legal store h. nothing_followed K R store)
-certified K R moment AdminLog = still (log_still K R) (λ late legal store h. nothing_followed K R store)
-certified K R moment (FilegroupAdd name members non_members) =
+certified K R moment (Autoquota (AutoquotaDelete path)) = still (auto_delete_still K R path) (λ late legal. auto_delete_kept K R path)
+certified K R moment (Autoquota AutoquotaList) = still (auto_list_still K R) (λ late legal. auto_list_kept K R)
+certified K R moment (Admin (AdminOptions minutes)) = still (options_still K R minutes) (λ late legal. options_kept K R minutes legal)
+certified K R moment (Admin AdminList) = still (settings_still K R) (λ late legal store h. nothing_followed K R store)
+certified K R moment (Admin AdminLog) = still (log_still K R) (λ late legal store h. nothing_followed K R store)
+certified K R moment (Filegroup (FilegroupAdd name members non_members)) =
     still (group_add_still K R name members non_members) (λ late legal.
     let values : (is_object_name name ≡ true) × ((are_members members && are_non_members non_members) ≡ true) = both _ _ legal in
     let patterns : (are_members members ≡ true) × (are_non_members non_members ≡ true) = both _ _ values.1 in
     group_add_kept K R name members non_members values.0 patterns.0 patterns.1)
-certified K R moment (FilegroupModify name members non_members) =
+certified K R moment (Filegroup (FilegroupModify name members non_members)) =
     still (group_modify_still K R name members non_members) (λ late legal.
     let values : (is_object_name name ≡ true) × ((option_map_or are_members members true && option_map_or are_non_members non_members true) ≡ true) = both _ _ legal in
     let patterns : (option_map_or are_members members true ≡ true) × (option_map_or are_non_members non_members true ≡ true) = both _ _ values.1 in
     group_modify_kept K R name members non_members patterns.0 patterns.1)
-certified K R moment (FilegroupDelete name) = still (group_delete_still K R name) (λ late legal. group_delete_kept K R name)
-certified K R moment FilegroupList = still (group_list_still K R) (λ late legal. group_list_kept K R)
-certified K R moment (ScreenAdd path active groups actions) =
+certified K R moment (Filegroup (FilegroupDelete name)) = still (group_delete_still K R name) (λ late legal. group_delete_kept K R name)
+certified K R moment (Filegroup FilegroupList) = still (group_list_still K R) (λ late legal. group_list_kept K R)
+certified K R moment (Screen (ScreenAdd path active groups actions)) =
     still (screen_add_still K R path active groups actions) (λ late legal.
     let values : (list_all is_path (path ∷ []) ≡ true) × ((are_some_names groups && list_all is_new_action actions) ≡ true) = both _ _ legal in
     let lists : (are_some_names groups ≡ true) × (list_all is_new_action actions ≡ true) = both _ _ values.1 in
     screen_add_kept K R path active groups actions lists.0 lists.1)
-certified K R moment (ScreenModify path active removed groups) = still (screen_modify_still K R path active removed groups) (λ late legal. screen_modify_kept K R path active removed groups)
-certified K R moment (ScreenDelete path) = still (screen_delete_still K R path) (λ late legal. screen_delete_kept K R path)
-certified K R moment ScreenList = still (screen_list_still K R) (λ late legal. screen_list_kept K R)
-certified K R moment (ExceptionAdd path groups) =
+certified K R moment (Screen (ScreenModify path active removed groups)) = still (screen_modify_still K R path active removed groups) (λ late legal. screen_modify_kept K R path active removed groups)
+certified K R moment (Screen (ScreenDelete path)) = still (screen_delete_still K R path) (λ late legal. screen_delete_kept K R path)
+certified K R moment (Screen ScreenList) = still (screen_list_still K R) (λ late legal. screen_list_kept K R)
+certified K R moment (Exception (ExceptionAdd path groups)) =
     still (except_add_still K R path groups) (λ late legal.
     let values : (list_all is_path (path ∷ []) ≡ true) × (are_some_names groups ≡ true) = both _ _ legal in
     except_add_kept K R path groups values.1)
-certified K R moment (ExceptionDelete path) = still (except_delete_still K R path) (λ late legal. except_delete_kept K R path)
-certified K R moment ExceptionList = still (except_list_still K R) (λ late legal. except_list_kept K R)
+certified K R moment (Exception (ExceptionDelete path)) = still (except_delete_still K R path) (λ late legal. except_delete_kept K R path)
+certified K R moment (Exception ExceptionList) = still (except_list_still K R) (λ late legal. except_list_kept K R)
 
 pub orderly : (K : Capacity) (R : Rows) (moment : ℕ) (deed : Deed) → IsOrderly K R (work K R moment deed)
 orderly K R moment deed = (certified K R moment deed).orderly
@@ -271,11 +278,11 @@ step_acts K R c store legal =
 abbrev kinds : List Deed
 kinds =
     File (Mkdir [] 0) ∷ File (Create [] 0 0) ∷ File (Resize [] 0) ∷ File (Touch []) ∷ File (Move [] []) ∷ File (Remove [])
-    ∷ QuotaAdd [] None None false None [] [] ∷ QuotaModify [] None None None [] [] [] ∷ QuotaDelete [] ∷ QuotaScan []
-    ∷ QuotaResetpeak [] ∷ TemplateAdd [] 0 false [] [] ∷ TemplateModify [] None None [] [] [] Keep ∷ TemplateDelete []
-    ∷ AutoquotaAdd [] [] [] ∷ AutoquotaDelete [] ∷ AdminOptions 0
-    ∷ FilegroupAdd [] [] [] ∷ FilegroupModify [] None None ∷ FilegroupDelete []
-    ∷ ScreenAdd [] false [] [] ∷ ScreenModify [] None [] [] ∷ ScreenDelete [] ∷ ExceptionAdd [] [] ∷ ExceptionDelete [] ∷ []
+    ∷ Quota (QuotaAdd [] None None false None [] []) ∷ Quota (QuotaModify [] None None None [] [] []) ∷ Quota (QuotaDelete []) ∷ Quota (QuotaScan [])
+    ∷ Quota (QuotaResetpeak []) ∷ Template (TemplateAdd [] 0 false [] []) ∷ Template (TemplateModify [] None None [] [] [] Keep) ∷ Template (TemplateDelete [])
+    ∷ Autoquota (AutoquotaAdd [] [] []) ∷ Autoquota (AutoquotaDelete []) ∷ Admin (AdminOptions 0)
+    ∷ Filegroup (FilegroupAdd [] [] []) ∷ Filegroup (FilegroupModify [] None None) ∷ Filegroup (FilegroupDelete [])
+    ∷ Screen (ScreenAdd [] false [] []) ∷ Screen (ScreenModify [] None [] []) ∷ Screen (ScreenDelete []) ∷ Exception (ExceptionAdd [] []) ∷ Exception (ExceptionDelete []) ∷ []
 
 -- the first of them that has this kind
 abbrev of_kind : ℕ → Option Deed
@@ -290,33 +297,33 @@ of_kind_is (File (Move from to)) k h = ap of_kind (sym (same_Some _ _ h))
 of_kind_is (File (Remove path)) k h = ap of_kind (sym (same_Some _ _ h))
 of_kind_is (Usage path) k h = absurd (cc h)
 of_kind_is (Step n) k h = absurd (cc h)
-of_kind_is (QuotaAdd path limit enforce enabled template percents notices) k h = ap of_kind (sym (same_Some _ _ h))
-of_kind_is (QuotaModify path limit enforce enabled removed percents notices) k h = ap of_kind (sym (same_Some _ _ h))
-of_kind_is (QuotaDelete path) k h = ap of_kind (sym (same_Some _ _ h))
-of_kind_is (QuotaScan path) k h = ap of_kind (sym (same_Some _ _ h))
-of_kind_is (QuotaResetpeak path) k h = ap of_kind (sym (same_Some _ _ h))
-of_kind_is (QuotaList path) k h = absurd (cc h)
-of_kind_is (TemplateAdd name limit enforce percents notices) k h = ap of_kind (sym (same_Some _ _ h))
-of_kind_is (TemplateModify name limit enforce removed percents notices mode) k h = ap of_kind (sym (same_Some _ _ h))
-of_kind_is (TemplateDelete name) k h = ap of_kind (sym (same_Some _ _ h))
-of_kind_is TemplateList k h = absurd (cc h)
-of_kind_is (AutoquotaAdd path name excluded) k h = ap of_kind (sym (same_Some _ _ h))
-of_kind_is (AutoquotaDelete path) k h = ap of_kind (sym (same_Some _ _ h))
-of_kind_is AutoquotaList k h = absurd (cc h)
-of_kind_is (AdminOptions minutes) k h = ap of_kind (sym (same_Some _ _ h))
-of_kind_is AdminList k h = absurd (cc h)
-of_kind_is AdminLog k h = absurd (cc h)
-of_kind_is (FilegroupAdd name members non_members) k h = ap of_kind (sym (same_Some _ _ h))
-of_kind_is (FilegroupModify name members non_members) k h = ap of_kind (sym (same_Some _ _ h))
-of_kind_is (FilegroupDelete name) k h = ap of_kind (sym (same_Some _ _ h))
-of_kind_is FilegroupList k h = absurd (cc h)
-of_kind_is (ScreenAdd path active groups actions) k h = ap of_kind (sym (same_Some _ _ h))
-of_kind_is (ScreenModify path active removed groups) k h = ap of_kind (sym (same_Some _ _ h))
-of_kind_is (ScreenDelete path) k h = ap of_kind (sym (same_Some _ _ h))
-of_kind_is ScreenList k h = absurd (cc h)
-of_kind_is (ExceptionAdd path groups) k h = ap of_kind (sym (same_Some _ _ h))
-of_kind_is (ExceptionDelete path) k h = ap of_kind (sym (same_Some _ _ h))
-of_kind_is ExceptionList k h = absurd (cc h)
+of_kind_is (Quota (QuotaAdd path limit enforce enabled template percents notices)) k h = ap of_kind (sym (same_Some _ _ h))
+of_kind_is (Quota (QuotaModify path limit enforce enabled removed percents notices)) k h = ap of_kind (sym (same_Some _ _ h))
+of_kind_is (Quota (QuotaDelete path)) k h = ap of_kind (sym (same_Some _ _ h))
+of_kind_is (Quota (QuotaScan path)) k h = ap of_kind (sym (same_Some _ _ h))
+of_kind_is (Quota (QuotaResetpeak path)) k h = ap of_kind (sym (same_Some _ _ h))
+of_kind_is (Quota (QuotaList path)) k h = absurd (cc h)
+of_kind_is (Template (TemplateAdd name limit enforce percents notices)) k h = ap of_kind (sym (same_Some _ _ h))
+of_kind_is (Template (TemplateModify name limit enforce removed percents notices mode)) k h = ap of_kind (sym (same_Some _ _ h))
+of_kind_is (Template (TemplateDelete name)) k h = ap of_kind (sym (same_Some _ _ h))
+of_kind_is (Template TemplateList) k h = absurd (cc h)
+of_kind_is (Autoquota (AutoquotaAdd path name excluded)) k h = ap of_kind (sym (same_Some _ _ h))
+of_kind_is (Autoquota (AutoquotaDelete path)) k h = ap of_kind (sym (same_Some _ _ h))
+of_kind_is (Autoquota AutoquotaList) k h = absurd (cc h)
+of_kind_is (Admin (AdminOptions minutes)) k h = ap of_kind (sym (same_Some _ _ h))
+of_kind_is (Admin AdminList) k h = absurd (cc h)
+of_kind_is (Admin AdminLog) k h = absurd (cc h)
+of_kind_is (Filegroup (FilegroupAdd name members non_members)) k h = ap of_kind (sym (same_Some _ _ h))
+of_kind_is (Filegroup (FilegroupModify name members non_members)) k h = ap of_kind (sym (same_Some _ _ h))
+of_kind_is (Filegroup (FilegroupDelete name)) k h = ap of_kind (sym (same_Some _ _ h))
+of_kind_is (Filegroup FilegroupList) k h = absurd (cc h)
+of_kind_is (Screen (ScreenAdd path active groups actions)) k h = ap of_kind (sym (same_Some _ _ h))
+of_kind_is (Screen (ScreenModify path active removed groups)) k h = ap of_kind (sym (same_Some _ _ h))
+of_kind_is (Screen (ScreenDelete path)) k h = ap of_kind (sym (same_Some _ _ h))
+of_kind_is (Screen ScreenList) k h = absurd (cc h)
+of_kind_is (Exception (ExceptionAdd path groups)) k h = ap of_kind (sym (same_Some _ _ h))
+of_kind_is (Exception (ExceptionDelete path)) k h = ap of_kind (sym (same_Some _ _ h))
+of_kind_is (Exception ExceptionList) k h = absurd (cc h)
 
 -- so the kind tells the command
 pub same_kind : (one other : Deed) (k : ℕ) → kind one ≡ Some k → kind other ≡ Some k → emptied one ≡ emptied other

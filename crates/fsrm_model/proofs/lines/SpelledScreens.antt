@@ -6,7 +6,10 @@ use Rattle.std.specs.Option.{option_or, option_map_or}
 use Rattle.std.proofs.lemmas.Bool.{lt-ltb, leb-true, and_parts}
 use Rattle.std.proofs.lemmas.List.Sums.{sum_by-cons}
 use Rattle.fsrm_model.specs.declared.command.Deed.{Deed}
-use Rattle.fsrm_model.specs.declared.command.Deed.TheVariants.{FilegroupAdd, FilegroupModify, FilegroupDelete, FilegroupList, ScreenAdd, ScreenModify, ScreenDelete, ScreenList, ExceptionAdd, ExceptionDelete, ExceptionList}
+use Rattle.fsrm_model.specs.declared.command.Deed.TheVariants.{Filegroup, Screen, Exception}
+use Rattle.fsrm_model.specs.declared.command.ExceptionDeed.TheVariants.{Add as ExceptionAdd, Delete as ExceptionDelete, List as ExceptionList}
+use Rattle.fsrm_model.specs.declared.command.FilegroupDeed.TheVariants.{Add as FilegroupAdd, Modify as FilegroupModify, Delete as FilegroupDelete, List as FilegroupList}
+use Rattle.fsrm_model.specs.declared.command.ScreenDeed.TheVariants.{Add as ScreenAdd, Modify as ScreenModify, Delete as ScreenDelete, List as ScreenList}
 use Rattle.fsrm_model.specs.declared.row.Action.{Action}
 use Rattle.fsrm_model.specs.Commands.{are_some_names}
 use Rattle.fsrm_model.specs.Entry.{choice_bytes, text_bytes, path_bytes, optional, counted, screen_notice_bytes}
@@ -151,7 +154,7 @@ group_add_sound =
     record {
       sound = λ L given d s h.
           let others = unwrap_or (one non_members_in given) [] in
-          let make : List ℕ → List (List ℕ) → Deed = λ name members. FilegroupAdd name members others in
+          let make : List ℕ → List (List ℕ) → Deed = λ name members. Filegroup (FilegroupAdd name members others) in
           let name = needed group_in given (λ name. needs members_in given (λ members. Some (make name members))) d h in
           let members = needed members_in given (λ members. Some (make name.0 members)) d name.2 in
           let made : make name.0 members.0 ≡ d = cc members.2 in
@@ -171,7 +174,7 @@ group_modify_sound =
       sound = λ L given d s h.
           let members = one members_in given in
           let others = one non_members_in given in
-          let make : List ℕ → Deed = λ name. FilegroupModify name members others in
+          let make : List ℕ → Deed = λ name. Filegroup (FilegroupModify name members others) in
           let name = needed group_in given (λ name. Some (make name)) d h in
           let made : make name.0 ≡ d = cc name.2 in
           let g = has_group L given name.0 s name.1 in
@@ -188,14 +191,14 @@ group_delete_sound : IsSoundCommand (codes "delete", group_delete)
 group_delete_sound =
     record {
       sound = λ L given d s h.
-          let name = needed group_in given (λ name. Some (FilegroupDelete name)) d h in
-          let made : FilegroupDelete name.0 ≡ d = cc name.2 in
+          let name = needed group_in given (λ name. Some (Filegroup (FilegroupDelete name))) d h in
+          let made : Filegroup (FilegroupDelete name.0) ≡ d = cc name.2 in
           let g = has_group L given name.0 s name.1 in
           subst (IsSound L) made (record { valued = g.named; bytes = omega (arith, g.bytes) });
     }
 
 group_commands_sound : AllByRecursion IsSoundCommand group_commands
-group_commands_sound = (group_add_sound, (group_modify_sound, (group_delete_sound, (alone_sound (codes "list") FilegroupList refl refl refl, tt))))
+group_commands_sound = (group_add_sound, (group_modify_sound, (group_delete_sound, (alone_sound (codes "list") (Filegroup FilegroupList) refl refl refl, tt))))
 
 -- screens
 screen_add_sound : IsSoundCommand (codes "add", screen_add)
@@ -204,7 +207,7 @@ screen_add_sound =
       sound = λ L given d s h.
           let groups = each_of group_addition_in given in
           let actions = each_of screen_notice_in given in
-          let make : Path → Deed = λ path. ScreenAdd path (unwrap_or (one mode_in given) true) groups actions in
+          let make : Path → Deed = λ path. Screen (ScreenAdd path (unwrap_or (one mode_in given) true) groups actions) in
           let path = needed path_in given (λ path. needs group_addition_in given (λ first. Some (make path))) d h in
           let first = needed group_addition_in given (λ first. Some (make path.0)) d path.2 in
           let made : make path.0 ≡ d = cc first.2 in
@@ -222,7 +225,7 @@ screen_modify_sound =
       sound = λ L given d s h.
           let removed = each_of group_removal_in given in
           let groups = each_of group_addition_in given in
-          let make : Path → Deed = λ path. ScreenModify path (one mode_in given) removed groups in
+          let make : Path → Deed = λ path. Screen (ScreenModify path (one mode_in given) removed groups) in
           let path = needed path_in given (λ path. Some (make path)) d h in
           let made : make path.0 ≡ d = cc path.2 in
           let p = has_screen L given path.0 s path.1 in
@@ -238,7 +241,7 @@ screen_commands_sound = (
   screen_add_sound,
   (
     screen_modify_sound,
-    (path_sound_command (codes "delete") ScreenDelete (λ path. refl) (λ path. refl) (λ path. refl), (alone_sound (codes "list") ScreenList refl refl refl, tt)),
+    (path_sound_command (codes "delete") (λ path. Screen (ScreenDelete path)) (λ path. refl) (λ path. refl) (λ path. refl), (alone_sound (codes "list") (Screen ScreenList) refl refl refl, tt)),
   ),
 )
 
@@ -248,7 +251,7 @@ except_add_sound =
     record {
       sound = λ L given d s h.
           let groups = each_of group_addition_in given in
-          let make : Path → Deed = λ path. ExceptionAdd path groups in
+          let make : Path → Deed = λ path. Exception (ExceptionAdd path groups) in
           let path = needed path_in given (λ path. needs group_addition_in given (λ first. Some (make path))) d h in
           let first = needed group_addition_in given (λ first. Some (make path.0)) d path.2 in
           let made : make path.0 ≡ d = cc first.2 in
@@ -262,7 +265,7 @@ except_add_sound =
 except_commands_sound : AllByRecursion IsSoundCommand except_commands
 except_commands_sound = (
   except_add_sound,
-  (path_sound_command (codes "delete") ExceptionDelete (λ path. refl) (λ path. refl) (λ path. refl), (alone_sound (codes "list") ExceptionList refl refl refl, tt)),
+  (path_sound_command (codes "delete") (λ path. Exception (ExceptionDelete path)) (λ path. refl) (λ path. refl) (λ path. refl), (alone_sound (codes "list") (Exception ExceptionList) refl refl refl, tt)),
 )
 
 pub filescrn_sound : AllByRecursion AreSoundCommands filescrn

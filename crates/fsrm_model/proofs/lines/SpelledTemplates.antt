@@ -5,8 +5,10 @@ use Rattle.std.specs.List.{AllByRecursion, cons_option, list_all}
 use Rattle.std.specs.Option.{option_map_or}
 use Rattle.std.proofs.lemmas.Bool.{le-leb}
 use Rattle.std.proofs.lemmas.List.Sums.{sum_by-cons}
+use Rattle.fsrm_model.specs.declared.command.AutoquotaDeed.TheVariants.{Add as AutoquotaAdd, Delete as AutoquotaDelete, List as AutoquotaList}
 use Rattle.fsrm_model.specs.declared.command.Deed.{Deed}
-use Rattle.fsrm_model.specs.declared.command.Deed.TheVariants.{TemplateAdd, TemplateModify, TemplateDelete, TemplateList, AutoquotaAdd, AutoquotaDelete, AutoquotaList}
+use Rattle.fsrm_model.specs.declared.command.Deed.TheVariants.{Template, Autoquota}
+use Rattle.fsrm_model.specs.declared.command.TemplateDeed.TheVariants.{Add as TemplateAdd, Modify as TemplateModify, Delete as TemplateDelete, List as TemplateList}
 use Rattle.fsrm_model.specs.declared.command.Update.TheVariants.{Keep}
 use Rattle.fsrm_model.specs.Entry.{number_bytes, text_bytes, notice_bytes, choice_bytes}
 use Rattle.fsrm_model.specs.Limits.{most_excluded}
@@ -62,7 +64,7 @@ template_add_sound =
       sound = λ L given d s h.
           let percents = each_of percent_in given in
           let notices = each_of notice_in given in
-          let make : List ℕ → ℕ → Deed = λ name limit. TemplateAdd name limit (unwrap_or (one type_in given) true) percents notices in
+          let make : List ℕ → ℕ → Deed = λ name limit. Template (TemplateAdd name limit (unwrap_or (one type_in given) true) percents notices) in
           let name = needed template_in given (λ name. needs limit_in given (λ limit. Some (make name limit))) d h in
           let limit = needed limit_in given (λ limit. Some (make name.0 limit)) d name.2 in
           let made : make name.0 limit.0 ≡ d = cc limit.2 in
@@ -83,7 +85,7 @@ template_modify_sound =
           let removed = each_of removal_in given in
           let percents = each_of percent_in given in
           let notices = each_of notice_in given in
-          let make : List ℕ → Deed = λ name. TemplateModify name (one limit_in given) (one type_in given) removed percents notices (unwrap_or (one update_in given) Keep) in
+          let make : List ℕ → Deed = λ name. Template (TemplateModify name (one limit_in given) (one type_in given) removed percents notices (unwrap_or (one update_in given) Keep)) in
           let name = needed template_in given (λ name. Some (make name)) d h in
           let made : make name.0 ≡ d = cc name.2 in
           let t = has_template L given name.0 s name.1 in
@@ -102,14 +104,14 @@ template_delete_sound : IsSoundCommand (codes "delete", template_delete)
 template_delete_sound =
     record {
       sound = λ L given d s h.
-          let name = needed template_in given (λ name. Some (TemplateDelete name)) d h in
-          let made : TemplateDelete name.0 ≡ d = cc name.2 in
+          let name = needed template_in given (λ name. Some (Template (TemplateDelete name))) d h in
+          let made : Template (TemplateDelete name.0) ≡ d = cc name.2 in
           let t = has_template L given name.0 s name.1 in
           subst (IsSound L) made (record { valued = t.named; bytes = omega (arith, t.bytes) });
     }
 
 pub template_commands_sound : AllByRecursion IsSoundCommand template_commands
-template_commands_sound = (template_add_sound, (template_modify_sound, (template_delete_sound, (alone_sound (codes "list") TemplateList refl refl refl, tt))))
+template_commands_sound = (template_add_sound, (template_modify_sound, (template_delete_sound, (alone_sound (codes "list") (Template TemplateList) refl refl refl, tt))))
 
 -- auto-apply quotas
 auto_add_sound : IsSoundCommand (codes "add", auto_add)
@@ -117,7 +119,7 @@ auto_add_sound =
     record {
       sound = λ L given d s h.
           let excluded = each_of exclusion_in given in
-          let make : Path → List ℕ → Deed = λ path name. AutoquotaAdd path name excluded in
+          let make : Path → List ℕ → Deed = λ path name. Autoquota (AutoquotaAdd path name excluded) in
           let path = needed path_in given (λ path. needs source_in given (λ name. Some (make path name))) d h in
           let name = needed source_in given (λ name. Some (make path.0 name)) d path.2 in
           let made : make path.0 name.0 ≡ d = cc name.2 in
@@ -135,5 +137,5 @@ auto_add_sound =
 pub auto_commands_sound : AllByRecursion IsSoundCommand auto_commands
 auto_commands_sound = (
   auto_add_sound,
-  (path_sound_command (codes "delete") AutoquotaDelete (λ path. refl) (λ path. refl) (λ path. refl), (alone_sound (codes "list") AutoquotaList refl refl refl, tt)),
+  (path_sound_command (codes "delete") (λ path. Autoquota (AutoquotaDelete path)) (λ path. refl) (λ path. refl) (λ path. refl), (alone_sound (codes "list") (Autoquota AutoquotaList) refl refl refl, tt)),
 )

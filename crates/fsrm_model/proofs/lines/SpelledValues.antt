@@ -6,10 +6,12 @@ use Rattle.std.specs.Option.{option_map_or}
 use Rattle.std.proofs.lemmas.Bool.{le-leb}
 use Rattle.std.proofs.lemmas.List.{length-append}
 use Rattle.std.proofs.lemmas.List.Sums.{sum_by-cons}
+use Rattle.fsrm_model.specs.declared.command.AdminDeed.TheVariants.{Options as AdminOptions, List as AdminList, Log as AdminLog}
 use Rattle.fsrm_model.specs.declared.command.Command.{Command}
 use Rattle.fsrm_model.specs.declared.command.Deed.{Deed}
-use Rattle.fsrm_model.specs.declared.command.Deed.TheVariants.{File, Usage, Step, QuotaAdd, QuotaModify, QuotaDelete, QuotaScan, QuotaResetpeak, QuotaList, AdminOptions, AdminList, AdminLog}
+use Rattle.fsrm_model.specs.declared.command.Deed.TheVariants.{File, Usage, Step, Quota, Admin}
 use Rattle.fsrm_model.specs.declared.command.FileOp.TheVariants.{Mkdir, Create, Resize, Touch, Move, Remove}
+use Rattle.fsrm_model.specs.declared.command.QuotaDeed.TheVariants.{Add as QuotaAdd, Modify as QuotaModify, Delete as QuotaDelete, Scan as QuotaScan, Resetpeak as QuotaResetpeak, List as QuotaList}
 use Rattle.fsrm_model.specs.Commands.{paths, is_owner, is_length, kind, more_bytes}
 use Rattle.fsrm_model.specs.Entry.{number_bytes, choice_bytes, text_bytes, path_bytes, optional}
 use Rattle.fsrm_model.specs.Limits.{latest_moment, longest_line, longest_file, longest_entry, last_owner, most_visits, most_minutes}
@@ -106,7 +108,7 @@ add_sound =
           let source = one source_in given in
           let percents = each_of percent_in given in
           let notices = each_of notice_in given in
-          let make : Path → Deed = λ path. QuotaAdd path limit (one type_in given) (unwrap_or (one status_in given) true) source percents notices in
+          let make : Path → Deed = λ path. Quota (QuotaAdd path limit (one type_in given) (unwrap_or (one status_in given) true) source percents notices) in
           let path = needed path_in given (λ path. if has_limit given then Some (make path) else None) d h in
           let picked = chosen (has_limit given) (Some (make path.0)) d path.2 in
           let made : make path.0 ≡ d = cc picked.1 in
@@ -129,7 +131,7 @@ modify_sound =
           let removed = each_of removal_in given in
           let percents = each_of percent_in given in
           let notices = each_of notice_in given in
-          let make : Path → Deed = λ path. QuotaModify path (one limit_in given) (one type_in given) (one status_in given) removed percents notices in
+          let make : Path → Deed = λ path. Quota (QuotaModify path (one limit_in given) (one type_in given) (one status_in given) removed percents notices) in
           let path = needed path_in given (λ path. Some (make path)) d h in
           let made : make path.0 ≡ d = cc path.2 in
           let p = has_path L given path.0 s path.1 in
@@ -147,20 +149,20 @@ options_sound : IsSoundCommand (codes "options", admin_options)
 options_sound =
     record {
       sound = λ L given d s h.
-          let minutes = needed run_limit_in given (λ minutes. Some (AdminOptions minutes)) d h in
-          let made : AdminOptions minutes.0 ≡ d = cc minutes.2 in
+          let minutes = needed run_limit_in given (λ minutes. Some (Admin (AdminOptions minutes))) d h in
+          let made : Admin (AdminOptions minutes.0) ≡ d = cc minutes.2 in
           subst (IsSound L) made (record { valued = given_run_limit L given minutes.0 s minutes.1; bytes = omega arith });
     }
 
 list_sound : IsSoundCommand (codes "list", quota_list)
 list_sound =
     record {
-      sound = λ L given d s h. let made : QuotaList (one path_in given) ≡ d = cc h in subst (IsSound L) made (by L given s (one path_in given) refl);
+      sound = λ L given d s h. let made : Quota (QuotaList (one path_in given)) ≡ d = cc h in subst (IsSound L) made (by L given s (one path_in given) refl);
     }
   where
-    by : (L : ℕ) (given : List Given) → AreSound L given → (o : Option Path) → one path_in given ≡ o → IsSound L (QuotaList o)
+    by : (L : ℕ) (given : List Given) → AreSound L given → (o : Option Path) → one path_in given ≡ o → IsSound L (Quota (QuotaList o))
     by L given s None e = record { valued = refl; bytes = omega arith }
-    by L given s (Some path) e = alone (QuotaList (Some path)) path L refl refl refl (given_path L given path s e)
+    by L given s (Some path) e = alone (Quota (QuotaList (Some path))) path L refl refl refl (given_path L given path s e)
 
 quota_commands_sound : AllByRecursion IsSoundCommand quota_commands
 quota_commands_sound = (
@@ -168,11 +170,11 @@ quota_commands_sound = (
   (
     modify_sound,
     (
-      path_sound_command (codes "delete") QuotaDelete (λ path. refl) (λ path. refl) (λ path. refl),
+      path_sound_command (codes "delete") (λ path. Quota (QuotaDelete path)) (λ path. refl) (λ path. refl) (λ path. refl),
       (
-        path_sound_command (codes "scan") QuotaScan (λ path. refl) (λ path. refl) (λ path. refl),
+        path_sound_command (codes "scan") (λ path. Quota (QuotaScan path)) (λ path. refl) (λ path. refl) (λ path. refl),
         (
-          path_sound_command (codes "resetpeak") QuotaResetpeak (λ path. refl) (λ path. refl) (λ path. refl),
+          path_sound_command (codes "resetpeak") (λ path. Quota (QuotaResetpeak path)) (λ path. refl) (λ path. refl) (λ path. refl),
           (list_sound, tt),
         ),
       ),
@@ -181,7 +183,7 @@ quota_commands_sound = (
 )
 
 admin_commands_sound : AllByRecursion IsSoundCommand admin_commands
-admin_commands_sound = (options_sound, (alone_sound (codes "list") AdminList refl refl refl, (alone_sound (codes "log") AdminLog refl refl refl, tt)))
+admin_commands_sound = (options_sound, (alone_sound (codes "list") (Admin AdminList) refl refl refl, (alone_sound (codes "log") (Admin AdminLog) refl refl refl, tt)))
 
 abbrev IsSoundTool : List ℕ × Names (Names ToolCommand) → Type 0
 IsSoundTool tool = AllByRecursion AreSoundCommands tool.1

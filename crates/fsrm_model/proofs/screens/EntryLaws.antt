@@ -3,15 +3,22 @@ use Rattle.std.proofs.Common.{◌≡◌, ℕ, ◌==◌, nat_lt, Bool, true, fals
 use Rattle.std.specs.Prelude.{is_some, option_map, unwrap_or, length, if◌then◌else◌}
 use Rattle.std.specs.List.{AllByRecursion}
 use Rattle.fsrm_model.specs.declared.command.Act.{Act}
+use Rattle.fsrm_model.specs.declared.command.AdminDeed.TheVariants.{List as AdminList}
+use Rattle.fsrm_model.specs.declared.command.AutoquotaDeed.TheVariants.{List as AutoquotaList}
 use Rattle.fsrm_model.specs.declared.command.Command.{Command}
 use Rattle.fsrm_model.specs.declared.command.Deed.{Deed}
-use Rattle.fsrm_model.specs.declared.command.Deed.TheVariants.{File, Step, QuotaList}
+use Rattle.fsrm_model.specs.declared.command.Deed.TheVariants.{File, Step, Quota, Template, Autoquota, Filegroup, Screen, Exception, Admin}
+use Rattle.fsrm_model.specs.declared.command.ExceptionDeed.TheVariants.{List as ExceptionList}
 use Rattle.fsrm_model.specs.declared.command.FileOp.{FileOp}
 use Rattle.fsrm_model.specs.declared.command.FileOp.TheVariants.{Mkdir, Create, Resize, Touch, Move, Remove}
+use Rattle.fsrm_model.specs.declared.command.FilegroupDeed.TheVariants.{List as FilegroupList}
 use Rattle.fsrm_model.specs.declared.command.Outcome.{Outcome}
 use Rattle.fsrm_model.specs.declared.command.Outcome.TheVariants.{Done, Refused}
+use Rattle.fsrm_model.specs.declared.command.QuotaDeed.TheVariants.{List as QuotaList}
 use Rattle.fsrm_model.specs.declared.command.Refusal.{Refusal}
 use Rattle.fsrm_model.specs.declared.command.Refusal.TheVariants.{ClockBack, ScreenBlocked, QuotaExceeded}
+use Rattle.fsrm_model.specs.declared.command.ScreenDeed.TheVariants.{List as ScreenList}
+use Rattle.fsrm_model.specs.declared.command.TemplateDeed.TheVariants.{List as TemplateList}
 use Rattle.fsrm_model.specs.declared.row.AuditRow.{AuditRow}
 use Rattle.fsrm_model.specs.declared.row.Capacity.{Capacity}
 use Rattle.fsrm_model.specs.declared.row.QuotaState.TheVariants.{Complete}
@@ -54,8 +61,14 @@ pub is_told : (K : Capacity) (R : Rows) (moment : ℕ) (deed : Deed) → IsTold 
 is_told K R moment (File op) = record { log = file_log R op moment; told = told_reported (judged_name R op); lasts = λ never. absurd (cc never) }
 is_told K R moment (Step n) =
     record { log = step_log R (visits n R.nodes R.unvisited) (unwrap_or (head R.queue) 0) (length (visits n R.nodes R.unvisited) == 0); told = refl; lasts = λ h. refl }
-is_told K R moment (QuotaList None) = record { log = refl; told = refl; lasts = λ h. refl }
-is_told K R moment (QuotaList (Some path)) = record { log = refl; told = refl; lasts = λ h. refl }
+is_told K R moment (Quota (QuotaList None)) = record { log = refl; told = refl; lasts = λ h. refl }
+is_told K R moment (Quota (QuotaList (Some path))) = record { log = refl; told = refl; lasts = λ h. refl }
+is_told K R moment (Template TemplateList) = record { log = refl; told = refl; lasts = λ h. refl }
+is_told K R moment (Autoquota AutoquotaList) = record { log = refl; told = refl; lasts = λ h. refl }
+is_told K R moment (Filegroup FilegroupList) = record { log = refl; told = refl; lasts = λ h. refl }
+is_told K R moment (Screen ScreenList) = record { log = refl; told = refl; lasts = λ h. refl }
+is_told K R moment (Exception ExceptionList) = record { log = refl; told = refl; lasts = λ h. refl }
+is_told K R moment (Admin AdminList) = record { log = refl; told = refl; lasts = λ h. refl }
 is_told K R moment other = record { log = refl; told = refl; lasts = λ h. refl }
 
 -- ---- the log
@@ -143,8 +156,14 @@ unblocked K R (Remove path) after h = refl
 reports : (K : Capacity) (R : Rows) (moment : ℕ) (deed : Deed) (folder : ℕ) → first (work K R moment deed).checks ≡ None → (work K R moment deed).outcome ≡ Done (Some folder) → ReportedOp R deed folder
 reports K R moment (File op) folder none h =
     reported_by R op folder (judged_name R op) refl (unblocked K R op (file_effect R op moment) none) h
-reports K R moment (QuotaList None) folder none h = absurd (cc h)
-reports K R moment (QuotaList (Some path)) folder none h = absurd (cc h)
+reports K R moment (Quota (QuotaList None)) folder none h = absurd (cc h)
+reports K R moment (Quota (QuotaList (Some path))) folder none h = absurd (cc h)
+reports K R moment (Template TemplateList) folder none h = absurd (cc h)
+reports K R moment (Autoquota AutoquotaList) folder none h = absurd (cc h)
+reports K R moment (Filegroup FilegroupList) folder none h = absurd (cc h)
+reports K R moment (Screen ScreenList) folder none h = absurd (cc h)
+reports K R moment (Exception ExceptionList) folder none h = absurd (cc h)
+reports K R moment (Admin AdminList) folder none h = absurd (cc h)
 reports K R moment other folder none h = absurd (cc h)
 
 decided_reports : (K : Capacity) (R : Rows) (moment : ℕ) (deed : Deed) (late : Bool) (folder : ℕ) (o : Option Refusal) → verdict late (work K R moment deed) ≡ o → (decided K R moment (work K R moment deed) o).outcome ≡ Done (Some folder) → ReportedOp R deed folder

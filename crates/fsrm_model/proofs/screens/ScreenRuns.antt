@@ -5,15 +5,22 @@ use Rattle.std.specs.Prelude.{if◌then◌else◌}
 use Rattle.std.specs.List.{AllByRecursion}
 use Rattle.std.specs.Option.{option_map_or}
 use Rattle.fsrm_model.specs.declared.command.Act.{Act}
+use Rattle.fsrm_model.specs.declared.command.AdminDeed.TheVariants.{List as AdminList}
+use Rattle.fsrm_model.specs.declared.command.AutoquotaDeed.TheVariants.{List as AutoquotaList}
 use Rattle.fsrm_model.specs.declared.command.Command.{Command}
 use Rattle.fsrm_model.specs.declared.command.Deed.{Deed}
-use Rattle.fsrm_model.specs.declared.command.Deed.TheVariants.{File, QuotaList}
+use Rattle.fsrm_model.specs.declared.command.Deed.TheVariants.{File, Quota, Template, Autoquota, Filegroup, Screen, Exception, Admin}
+use Rattle.fsrm_model.specs.declared.command.ExceptionDeed.TheVariants.{List as ExceptionList}
 use Rattle.fsrm_model.specs.declared.command.FileOp.{FileOp}
 use Rattle.fsrm_model.specs.declared.command.FileOp.TheVariants.{Mkdir, Create, Resize, Touch, Move, Remove}
+use Rattle.fsrm_model.specs.declared.command.FilegroupDeed.TheVariants.{List as FilegroupList}
 use Rattle.fsrm_model.specs.declared.command.Outcome.{Outcome}
 use Rattle.fsrm_model.specs.declared.command.Outcome.TheVariants.{Done, Refused}
+use Rattle.fsrm_model.specs.declared.command.QuotaDeed.TheVariants.{List as QuotaList}
 use Rattle.fsrm_model.specs.declared.command.Refusal.{Refusal}
 use Rattle.fsrm_model.specs.declared.command.Refusal.TheVariants.{ScreenBlocked, QuotaExceeded}
+use Rattle.fsrm_model.specs.declared.command.ScreenDeed.TheVariants.{List as ScreenList}
+use Rattle.fsrm_model.specs.declared.command.TemplateDeed.TheVariants.{List as TemplateList}
 use Rattle.fsrm_model.specs.declared.row.Capacity.{Capacity}
 use Rattle.fsrm_model.specs.declared.row.Rows.{Rows}
 use Rattle.fsrm_model.specs.Acts.{of_screens}
@@ -67,8 +74,14 @@ keeps_limit K R moment (File (Resize path length)) j h = refl
 keeps_limit K R moment (File (Touch path)) j h = refl
 keeps_limit K R moment (File (Move from to)) j h = refl
 keeps_limit K R moment (File (Remove path)) j h = refl
-keeps_limit K R moment (QuotaList None) j h = absurd (cc h)
-keeps_limit K R moment (QuotaList (Some path)) j h = absurd (cc h)
+keeps_limit K R moment (Quota (QuotaList None)) j h = absurd (cc h)
+keeps_limit K R moment (Quota (QuotaList (Some path))) j h = absurd (cc h)
+keeps_limit K R moment (Template TemplateList) j h = absurd (cc h)
+keeps_limit K R moment (Autoquota AutoquotaList) j h = absurd (cc h)
+keeps_limit K R moment (Filegroup FilegroupList) j h = absurd (cc h)
+keeps_limit K R moment (Screen ScreenList) j h = absurd (cc h)
+keeps_limit K R moment (Exception ExceptionList) j h = absurd (cc h)
+keeps_limit K R moment (Admin AdminList) j h = absurd (cc h)
 keeps_limit K R moment other j h = absurd (cc h)
 
 screened_acts : (R E : Rows) (moment : ℕ) (judged : Option Judged) → ((j : Judged) → judged ≡ Some j → E.run_limit ≡ R.run_limit) → (screened E moment judged).acts ≡ own_acts R moment judged

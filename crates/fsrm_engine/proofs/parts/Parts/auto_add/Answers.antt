@@ -2,7 +2,8 @@ use Rattle.std.proofs.Common.{◌≡◌, ◌==◌, Some, ap, length, refl, subst
 use Rattle.std.specs.Global.{Vec}
 use Rattle.fsrm_base.specs.Keyed.{has_row}
 use Rattle.fsrm_base.proofs.Look.{is_some-find}
-use Rattle.fsrm_model.specs.declared.command.Deed.TheVariants.{AutoquotaAdd}
+use Rattle.fsrm_model.specs.declared.command.AutoquotaDeed.TheVariants.{Add as AutoquotaAdd}
+use Rattle.fsrm_model.specs.declared.command.Deed.TheVariants.{Autoquota}
 use Rattle.fsrm_model.specs.declared.row.AutoRow.{AutoRow}
 use Rattle.fsrm_model.specs.declared.row.QuotaRow.{QuotaRow}
 use Rattle.fsrm_model.specs.AutoApply.{auto_folder, auto_of}
@@ -17,14 +18,14 @@ use Rattle.fsrm_engine.proofs.parts.Parts.auto_add.Goals as goal
 pub returns-in_default-clause-ok : goal.returns-in_default-clause-ok
 returns-in_default-clause-ok g c =
     let p = c.args.self.now in
-    refused_as p c.args.moment (AutoquotaAdd c.args.path.now c.args.name.now c.args.excluded.now) c.refused.result _ c.requires.idle c.requires.after
+    refused_as p c.args.moment (Autoquota (AutoquotaAdd c.args.path.now c.args.name.now c.args.excluded.now)) c.refused.result _ c.requires.idle c.requires.after
     (auto_missing p c.args.moment c.args.path.now c.args.name.now c.args.excluded.now c.in_default.ensures.folder) refl c.refused.ensures
 
 pub returns-then-is_some-clause-ok : goal.returns-then-is_some-clause-ok
 returns-then-is_some-clause-ok g c =
     let p = c.args.self.now in
     let n = c.in-Some.folder in
-    refused_as p c.args.moment (AutoquotaAdd c.args.path.now c.args.name.now c.args.excluded.now) c.refused-then-is_some.result _ c.requires.idle c.requires.after
+    refused_as p c.args.moment (Autoquota (AutoquotaAdd c.args.path.now c.args.name.now c.args.excluded.now)) c.refused-then-is_some.result _ c.requires.idle c.requires.after
     (auto_taken p c.args.moment c.args.path.now c.args.name.now c.args.excluded.now n c.in-Some.ensures.folder
     (lent_some c.auto_at.result (auto_of (rows_of p) n) c.is_some.result _ c.auto_at.ensures c.is_some.ensures c.if-is_some.true)) refl c.refused-then-is_some.ensures
 
@@ -32,7 +33,7 @@ pub returns-in_default-find-clause-ok : goal.returns-in_default-find-clause-ok
 returns-in_default-find-clause-ok g c =
     let p = c.args.self.now in
     let n = c.in-Some.folder in
-    refused_as p c.args.moment (AutoquotaAdd c.args.path.now c.args.name.now c.args.excluded.now) c.refused-in_default-find.result _ c.requires.idle c.requires.after
+    refused_as p c.args.moment (Autoquota (AutoquotaAdd c.args.path.now c.args.name.now c.args.excluded.now)) c.refused-in_default-find.result _ c.requires.idle c.requires.after
     (auto_unknown p c.args.moment c.args.path.now c.args.name.now c.args.excluded.now n c.in-Some.ensures.folder
     (lent_some c.auto_at.result (auto_of (rows_of p) n) c.is_some.result _ c.auto_at.ensures c.is_some.ensures c.if-is_some.false)
     (source_none p c.args.name.now c.as_str.result.now c.as_str.ensures c.in_default-find.ensures.found)) refl c.refused-in_default-find.ensures
@@ -100,6 +101,6 @@ returns-in-Err-clause-ok g c =
     let folders = given_folders p.tree.nodes p.objects.quotas row in
     let refusal = c.in-Err.refusal in
     let due = when_refused (λ (rows : Vec QuotaRow). IsGiven p row m rows.items) (λ refusal. apply_refusal p row (length folders) ≡ Some refusal) c.in_ok-rows.field-0 refusal c.in-Err.is c.in_ok-rows.ensures.given in
-    refused_as p m (AutoquotaAdd path name excluded) c.refused-in-Err.result refusal c.requires.idle c.requires.after
+    refused_as p m (Autoquota (AutoquotaAdd path name excluded)) c.refused-in-Err.result refusal c.requires.idle c.requires.after
     (row_due p m path name excluded n number c.requires.whole at free source row c.in_ok-row.ensures folders refl ∙ due)
     (apply_bare p row (length folders) refusal due) c.refused-in-Err.ensures

@@ -1,6 +1,7 @@
 use Rattle.std.proofs.Common.{ap, refl, sym, ◌∙◌}
 use Rattle.std.specs.Option.{option_copied}
-use Rattle.fsrm_model.specs.declared.command.Deed.TheVariants.{FilegroupModify}
+use Rattle.fsrm_model.specs.declared.command.Deed.TheVariants.{Filegroup}
+use Rattle.fsrm_model.specs.declared.command.FilegroupDeed.TheVariants.{Modify as FilegroupModify}
 use Rattle.fsrm_model.specs.Patterns.{number_named}
 use Rattle.fsrm_engine.proofs.steps.StepLaws.{refused_as}
 use Rattle.fsrm_engine.proofs.tables.GroupLaws.{group_changed, group_missing, group_unchanged, retabled_counted, retabled_ended, retabled_sound}
@@ -9,7 +10,7 @@ use Rattle.fsrm_engine.proofs.parts.Parts.group_modify.Goals as goal
 pub returns-in_default-clause-ok : goal.returns-in_default-clause-ok
 returns-in_default-clause-ok c =
     let p = c.args.self.now in
-    refused_as p c.args.moment (FilegroupModify c.args.name.now (option_copied c.args.members) (option_copied c.args.non_members)) c.refused.result _ c.requires.idle c.requires.after
+    refused_as p c.args.moment (Filegroup (FilegroupModify c.args.name.now (option_copied c.args.members) (option_copied c.args.non_members))) c.refused.result _ c.requires.idle c.requires.after
     (group_missing p c.args.moment c.args.name.now (option_copied c.args.members) (option_copied c.args.non_members)
     (ap (λ n. number_named n p.groups) (sym c.as_str.ensures) ∙ (sym c.find.ensures.found ∙ c.in_default.is))) refl c.refused.ensures
 

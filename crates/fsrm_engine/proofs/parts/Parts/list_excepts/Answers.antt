@@ -1,7 +1,8 @@
 use Rattle.std.proofs.Common.{refl}
-use Rattle.fsrm_model.specs.declared.command.Deed.TheVariants.{ExceptionList}
+use Rattle.fsrm_model.specs.declared.command.Deed.TheVariants.{Exception}
+use Rattle.fsrm_model.specs.declared.command.ExceptionDeed.TheVariants.{List as ExceptionList}
 use Rattle.fsrm_engine.proofs.steps.StepLaws.{told_as}
 use Rattle.fsrm_engine.proofs.parts.Parts.list_excepts.Goals as goal
 
 pub returns : goal.returns
-returns c = told_as c.args.self.now c.args.moment ExceptionList c.listing.result c.requires.idle c.requires.after refl refl refl c.listing.ensures
+returns c = told_as c.args.self.now c.args.moment (Exception ExceptionList) c.listing.result c.requires.idle c.requires.after refl refl refl c.listing.ensures

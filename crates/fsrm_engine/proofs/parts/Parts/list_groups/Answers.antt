@@ -1,7 +1,8 @@
 use Rattle.std.proofs.Common.{refl}
-use Rattle.fsrm_model.specs.declared.command.Deed.TheVariants.{FilegroupList}
+use Rattle.fsrm_model.specs.declared.command.Deed.TheVariants.{Filegroup}
+use Rattle.fsrm_model.specs.declared.command.FilegroupDeed.TheVariants.{List as FilegroupList}
 use Rattle.fsrm_engine.proofs.steps.StepLaws.{told_as}
 use Rattle.fsrm_engine.proofs.parts.Parts.list_groups.Goals as goal
 
 pub returns : goal.returns
-returns c = told_as c.args.self.now c.args.moment FilegroupList c.listing.result c.requires.idle c.requires.after refl refl refl c.listing.ensures
+returns c = told_as c.args.self.now c.args.moment (Filegroup FilegroupList) c.listing.result c.requires.idle c.requires.after refl refl refl c.listing.ensures

@@ -1,7 +1,8 @@
 use Rattle.std.proofs.Common.{refl}
-use Rattle.fsrm_model.specs.declared.command.Deed.TheVariants.{ScreenList}
+use Rattle.fsrm_model.specs.declared.command.Deed.TheVariants.{Screen}
+use Rattle.fsrm_model.specs.declared.command.ScreenDeed.TheVariants.{List as ScreenList}
 use Rattle.fsrm_engine.proofs.steps.StepLaws.{told_as}
 use Rattle.fsrm_engine.proofs.parts.Parts.list_screens.Goals as goal
 
 pub returns : goal.returns
-returns c = told_as c.args.self.now c.args.moment ScreenList c.listing.result c.requires.idle c.requires.after refl refl refl c.listing.ensures
+returns c = told_as c.args.self.now c.args.moment (Screen ScreenList) c.listing.result c.requires.idle c.requires.after refl refl refl c.listing.ensures

@@ -1,7 +1,8 @@
 use Rattle.std.proofs.Common.{refl}
-use Rattle.fsrm_model.specs.declared.command.Deed.TheVariants.{TemplateList}
+use Rattle.fsrm_model.specs.declared.command.Deed.TheVariants.{Template}
+use Rattle.fsrm_model.specs.declared.command.TemplateDeed.TheVariants.{List as TemplateList}
 use Rattle.fsrm_engine.proofs.steps.StepLaws.{told_as}
 use Rattle.fsrm_engine.proofs.parts.Parts.list_templates.Goals as goal
 
 pub returns : goal.returns
-returns c = told_as c.args.self.now c.args.moment TemplateList c.listing.result c.requires.idle c.requires.after refl refl refl c.listing.ensures
+returns c = told_as c.args.self.now c.args.moment (Template TemplateList) c.listing.result c.requires.idle c.requires.after refl refl refl c.listing.ensures

@@ -1,7 +1,8 @@
 use Rattle.std.proofs.Common.{ap, sym, ◌∙◌, subst}
 use Rattle.std.specs.Prelude.{IfOk}
 use Rattle.std.specs.Option.{option_copied}
-use Rattle.fsrm_model.specs.declared.command.Deed.TheVariants.{QuotaAdd}
+use Rattle.fsrm_model.specs.declared.command.Deed.TheVariants.{Quota}
+use Rattle.fsrm_model.specs.declared.command.QuotaDeed.TheVariants.{Add as QuotaAdd}
 use Rattle.fsrm_model.specs.Tree.{is_folder}
 use Rattle.fsrm_objects.specs.Tables.{quota_fault}
 use Rattle.fsrm_engine.specs.declared.parts.Parts.{Parts}
@@ -84,7 +85,7 @@ returns-clause-ok g c =
     let fault = c.in-Err.fault in
     let f = first_found (rows_of p) name n state m c.in_ok-first.field-0 begun c.in-Some-2.is c.in_ok-first.ensures in
     let made = made_is p m n name c.args.limit c.args.enforce state change.removed.now change.percents.now change.notices.now begun row w f.1 c.in_ok-row.ensures _ c.requires.removed c.first_state-state.ensures.state in
-    let deed = QuotaAdd c.args.path.now c.args.limit c.args.enforce c.args.enabled name change.percents.now change.notices.now in
+    let deed = Quota (QuotaAdd c.args.path.now c.args.limit c.args.enforce c.args.enabled name change.percents.now change.notices.now) in
     subst (λ (q : Parts). IfOk c.refused_for.result (λ answer. Does p q m deed answer)) (sym c.in-Err.ensures.err)
     (refused_for_as p m deed fault c.refused_for.result c.requires.idle c.requires.after
     (add_due p m c.args.path.now c.args.limit c.args.enforce c.args.enabled name change.percents.now change.notices.now n c.in-Some.ensures.folder row w f.0 made

@@ -1,5 +1,6 @@
 use Rattle.std.proofs.Common.{refl, ap}
-use Rattle.fsrm_model.specs.declared.command.Deed.TheVariants.{QuotaDelete}
+use Rattle.fsrm_model.specs.declared.command.Deed.TheVariants.{Quota}
+use Rattle.fsrm_model.specs.declared.command.QuotaDeed.TheVariants.{Delete as QuotaDelete}
 use Rattle.fsrm_base.specs.Keyed.{without_row}
 use Rattle.fsrm_base.specs.Numbers.{without_number}
 use Rattle.fsrm_model.specs.Quota.{folder_of}
@@ -15,7 +16,7 @@ use Rattle.fsrm_engine.proofs.parts.Parts.quota_delete.Goals as goal
 
 pub returns-in-Err-clause-ok : goal.returns-in-Err-clause-ok
 returns-in-Err-clause-ok g c =
-    refused_as c.args.self.now c.args.moment (QuotaDelete c.args.path.now) c.refused.result _ c.requires.idle c.requires.after c.in-Err.ensures.err (first_bare (rows_of c.args.self.now) c.args.path.now _ c.in-Err.ensures.err) c.refused.ensures
+    refused_as c.args.self.now c.args.moment (Quota (QuotaDelete c.args.path.now)) c.refused.result _ c.requires.idle c.requires.after c.in-Err.ensures.err (first_bare (rows_of c.args.self.now) c.args.path.now _ c.in-Err.ensures.err) c.refused.ensures
 
 pub returns-clause-ok : goal.returns-clause-ok
 returns-clause-ok g c =
@@ -28,8 +29,8 @@ returns-clause-ok g c =
     let turns = c.leave.ensures.turns p.tree c.requires.whole.sound.scanning in
     let mid = c.take_away.new.self in
     let t = turned p mid c.leave.new.self after queue c.take_away.ensures.taken turns c.leave.ensures.queue in
-    done_as p mid c.done.new.self c.args.moment (QuotaDelete c.args.path.now) _
-    (turned_accepts p mid c.args.moment (QuotaDelete c.args.path.now) after queue c.requires.idle c.requires.after (quota_due R _ _ at)
+    done_as p mid c.done.new.self c.args.moment (Quota (QuotaDelete c.args.path.now)) _
+    (turned_accepts p mid c.args.moment (Quota (QuotaDelete c.args.path.now)) after queue c.requires.idle c.requires.after (quota_due R _ _ at)
     (ap (λ k. record R { quotas = without_row folder_of k R.quotas; queue = without_number k R.queue }) (target_is R.nodes c.args.path.now n at.at.resolved)) refl t)
     refl (still_few p mid (turned_keeps p mid after queue t) (few_log p c.requires.whole))
     (calm_deleted p mid c.args.moment n queue t) c.done.ensures.ended c.done.ensures.answer

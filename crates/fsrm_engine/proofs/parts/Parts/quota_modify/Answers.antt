@@ -1,7 +1,8 @@
 use Rattle.std.proofs.Common.{◌≡◌, true, ap, sym, ◌∙◌}
 use Rattle.std.specs.Option.{option_and_then}
 use Rattle.fsrm_base.specs.Keyed.{is_ascending}
-use Rattle.fsrm_model.specs.declared.command.Deed.TheVariants.{QuotaModify}
+use Rattle.fsrm_model.specs.declared.command.Deed.TheVariants.{Quota}
+use Rattle.fsrm_model.specs.declared.command.QuotaDeed.TheVariants.{Modify as QuotaModify}
 use Rattle.fsrm_model.specs.declared.row.QuotaRow.{QuotaRow}
 use Rattle.fsrm_model.specs.QuotaStates.{in_state, state_after}
 use Rattle.fsrm_model.specs.Thresholds.{may_be_removed, percent_of}
@@ -18,7 +19,7 @@ use Rattle.fsrm_engine.proofs.parts.Parts.quota_modify.Goals as goal
 pub returns-in-Err-clause-ok : goal.returns-in-Err-clause-ok
 returns-in-Err-clause-ok g c =
     let R = rows_of c.args.self.now in
-    refused_as c.args.self.now c.args.moment (QuotaModify c.args.path.now c.args.limit c.args.enforce c.args.enabled c.args.change.now.removed.now c.args.change.now.percents.now c.args.change.now.notices.now) c.refused.result _ c.requires.idle c.requires.after
+    refused_as c.args.self.now c.args.moment (Quota (QuotaModify c.args.path.now c.args.limit c.args.enforce c.args.enabled c.args.change.now.removed.now c.args.change.now.percents.now c.args.change.now.notices.now)) c.refused.result _ c.requires.idle c.requires.after
     (quota_first R c.args.path.now _ _ c.in-Err.ensures.err) (first_bare R c.args.path.now _ c.in-Err.ensures.err) c.refused.ensures
 
 pub modified-requires : goal.modified-requires
@@ -46,7 +47,7 @@ returns-in-Err-may_put-clause-ok g c =
     let q = c.in-Ok.quota.now in
     let state = c.state_after-row.result in
     let may : may_be_removed change.removed.now q.thresholds ≡ true = ap (may_be_removed change.removed.now) (sym c.as_slice.ensures) ∙ (sym c.may_be_removed.ensures ∙ c.if-not-may_be_removed.false) in
-    refused_for_as p c.args.moment (QuotaModify c.args.path.now c.args.limit c.args.enforce c.args.enabled change.removed.now change.percents.now change.notices.now) c.in-Err-may_put.fault c.refused_for.result c.requires.idle c.requires.after
+    refused_for_as p c.args.moment (Quota (QuotaModify c.args.path.now c.args.limit c.args.enforce c.args.enabled change.removed.now change.percents.now change.notices.now)) c.in-Err-may_put.fault c.refused_for.result c.requires.idle c.requires.after
     (modify_due p c.args.moment c.args.path.now c.args.limit c.args.enforce c.args.enabled change.removed.now change.percents.now change.notices.now q c.in-Ok.ensures.ok state (in_state state c.in_ok-row.row) c.requires.whole may
     (c.state_after-row.ensures.state ∙ ap (λ (r : QuotaRow). state_after (rows_of p) r.folder c.args.enabled) c.in_ok-before.ensures)
     (changed_row change.removed.now change.percents.now change.notices.now c.args.limit c.args.enforce q c.in_ok-before.before c.in_ok-row.row c.in_ok-before.ensures c.in_ok-row.ensures state)

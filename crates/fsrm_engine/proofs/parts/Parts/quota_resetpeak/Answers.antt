@@ -1,6 +1,7 @@
 use Rattle.std.proofs.Common.{◌==◌, List, refl, ap, ◌∙◌}
 use Rattle.std.specs.Prelude.{unwrap_or, if◌then◌else◌}
-use Rattle.fsrm_model.specs.declared.command.Deed.TheVariants.{QuotaResetpeak}
+use Rattle.fsrm_model.specs.declared.command.Deed.TheVariants.{Quota}
+use Rattle.fsrm_model.specs.declared.command.QuotaDeed.TheVariants.{Resetpeak as QuotaResetpeak}
 use Rattle.fsrm_model.specs.declared.row.QuotaRow.{QuotaRow}
 use Rattle.fsrm_model.specs.Quota.{folder_of}
 use Rattle.fsrm_model.specs.QuotaWork.{reset}
@@ -30,7 +31,7 @@ done-requires-clause-counted g c =
 
 pub returns-in-Err-clause-ok : goal.returns-in-Err-clause-ok
 returns-in-Err-clause-ok g c =
-    refused_as c.args.self.now c.args.moment (QuotaResetpeak c.args.path.now) c.refused.result _ c.requires.idle c.requires.after c.in-Err.ensures.err (first_bare (rows_of c.args.self.now) c.args.path.now _ c.in-Err.ensures.err) c.refused.ensures
+    refused_as c.args.self.now c.args.moment (Quota (QuotaResetpeak c.args.path.now)) c.refused.result _ c.requires.idle c.requires.after c.in-Err.ensures.err (first_bare (rows_of c.args.self.now) c.args.path.now _ c.in-Err.ensures.err) c.refused.ensures
 
 pub returns-clause-ok : goal.returns-clause-ok
 returns-clause-ok g c =
@@ -39,8 +40,8 @@ returns-clause-ok g c =
     let is = ap (λ (t : Tables). t.quotas) c.set_peak.ensures ∙ reset_are in
     let n = c.in-Ok.quota.now.folder in
     let mid : Parts = record p { objects = c.set_peak.new.self } in
-    done_as p mid c.done.new.self c.args.moment (QuotaResetpeak c.args.path.now) c.done.result
-    (changed_as p c.args.moment c.in-Ok.quota.now (QuotaResetpeak c.args.path.now) c.args.path.now (reset p.tree.size (rows_of p) c.args.moment) c.set_peak.new.self c.requires.idle c.requires.after c.in-Ok.ensures.ok refl (c.set_peak.ensures ∙ ap (λ (qs : List QuotaRow). record p.objects { quotas = qs }) reset_are))
+    done_as p mid c.done.new.self c.args.moment (Quota (QuotaResetpeak c.args.path.now)) c.done.result
+    (changed_as p c.args.moment c.in-Ok.quota.now (Quota (QuotaResetpeak c.args.path.now)) c.args.path.now (reset p.tree.size (rows_of p) c.args.moment) c.set_peak.new.self c.requires.idle c.requires.after c.in-Ok.ensures.ok refl (c.set_peak.ensures ∙ ap (λ (qs : List QuotaRow). record p.objects { quotas = qs }) reset_are))
     refl (few_log p c.requires.whole)
     (calm_mapped p mid c.args.moment (λ q. if folder_of q == n then reset p.tree.size (rows_of p) c.args.moment q else q) c.requires.whole.sound.counted (counted_same p.tree.size p.tree.nodes p.usage _ c.set_peak.new.self.quotas is (counted_reset p c.args.moment n c.requires.whole.sound.counted c.requires.moment)) refl is refl
     (λ q. reset_folder p c.args.moment (folder_of q == n) q) (λ q. reset_limit p c.args.moment (folder_of q == n) q) (λ q. reset_thresholds p c.args.moment (folder_of q == n) q))

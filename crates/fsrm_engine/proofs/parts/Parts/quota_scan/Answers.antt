@@ -1,7 +1,8 @@
 use Rattle.std.proofs.Common.{false, refl, ap, sym, ◌∙◌, [], ◌∷◌}
 use Rattle.std.specs.Prelude.{is_none}
 use Rattle.std.specs.Option.{option_map_or}
-use Rattle.fsrm_model.specs.declared.command.Deed.TheVariants.{QuotaScan}
+use Rattle.fsrm_model.specs.declared.command.Deed.TheVariants.{Quota}
+use Rattle.fsrm_model.specs.declared.command.QuotaDeed.TheVariants.{Scan as QuotaScan}
 use Rattle.fsrm_model.specs.declared.command.Refusal.TheVariants.{InvalidCombination}
 use Rattle.fsrm_model.specs.declared.row.QuotaState.TheVariants.{Disabled, Rebuilding}
 use Rattle.fsrm_model.specs.Check.{◌when◌, first}
@@ -24,13 +25,13 @@ use Rattle.fsrm_engine.proofs.parts.Parts.quota_scan.Goals as goal
 pub returns-in-Err-clause-ok : goal.returns-in-Err-clause-ok
 returns-in-Err-clause-ok g c =
     let R = rows_of c.args.self.now in
-    refused_as c.args.self.now c.args.moment (QuotaScan c.args.path.now) c.refused.result _ c.requires.idle c.requires.after
+    refused_as c.args.self.now c.args.moment (Quota (QuotaScan c.args.path.now)) c.refused.result _ c.requires.idle c.requires.after
     (quota_first R c.args.path.now _ _ c.in-Err.ensures.err) (first_bare R c.args.path.now _ c.in-Err.ensures.err) c.refused.ensures
 
 pub returns-then-is_disabled-clause-ok : goal.returns-then-is_disabled-clause-ok
 returns-then-is_disabled-clause-ok g c =
     let R = rows_of c.args.self.now in
-    refused_as c.args.self.now c.args.moment (QuotaScan c.args.path.now) c.refused-then-is_disabled.result InvalidCombination c.requires.idle c.requires.after
+    refused_as c.args.self.now c.args.moment (Quota (QuotaScan c.args.path.now)) c.refused-then-is_disabled.result InvalidCombination c.requires.idle c.requires.after
     (checked R c.args.path.now c.in-Ok.quota.now.folder false (λ k. (InvalidCombination when is_disabled (state_of R k)) ∷ []) c.in-Ok.ensures.ok.at (ap is_none c.in-Ok.ensures.ok.found)
     ∙ ap (λ b. first ((InvalidCombination when b) ∷ [])) (ap (λ o. is_disabled (option_map_or (λ quota. quota.state) o Disabled)) c.in-Ok.ensures.ok.found ∙ (sym c.is_disabled.ensures ∙ c.if-is_disabled.true)))
     refl c.refused-then-is_disabled.ensures
@@ -55,8 +56,8 @@ returns-then-counts-clause-ok g c =
     let after = with_change folder_of n (in_state Rebuilding) p.objects.quotas in
     let queue = queued p.scans.queue n Rebuilding in
     let t = c.rebuild.ensures.rebuilt in
-    done_as p c.rebuild.new.self c.done.new.self c.args.moment (QuotaScan c.args.path.now) c.done.result
-    (turned_accepts p c.rebuild.new.self c.args.moment (QuotaScan c.args.path.now) after queue c.requires.idle c.requires.after
+    done_as p c.rebuild.new.self c.done.new.self c.args.moment (Quota (QuotaScan c.args.path.now)) c.done.result
+    (turned_accepts p c.rebuild.new.self c.args.moment (Quota (QuotaScan c.args.path.now)) after queue c.requires.idle c.requires.after
     (checked R c.args.path.now n false (λ k. (InvalidCombination when is_disabled (state_of R k)) ∷ []) at.at (ap is_none at.found)
     ∙ ap (λ b. first ((InvalidCombination when b) ∷ [])) (ap (λ o. is_disabled (option_map_or (λ quota. quota.state) o Disabled)) c.in-Ok.ensures.ok.found ∙ (sym c.is_disabled.ensures ∙ c.if-is_disabled.false)))
     (ap (λ k. with_state R k Rebuilding) to)
@@ -75,7 +76,7 @@ returns-clause-ok g c =
     let queue = queued p.scans.queue n Rebuilding in
     let t = c.rebuild.ensures.rebuilt in
     let keeps = turned_keeps p c.rebuild.new.self after queue t in
-    passing_as p c.rebuild.new.self c.args.moment (QuotaScan c.args.path.now) _ (with_state R n Rebuilding) (still_idle p c.rebuild.new.self keeps c.requires.idle) c.requires.after
+    passing_as p c.rebuild.new.self c.args.moment (Quota (QuotaScan c.args.path.now)) _ (with_state R n Rebuilding) (still_idle p c.rebuild.new.self keeps c.requires.idle) c.requires.after
     (checked R c.args.path.now n false (λ k. (InvalidCombination when is_disabled (state_of R k)) ∷ []) at.at (ap is_none at.found)
     ∙ ap (λ b. first ((InvalidCombination when b) ∷ [])) (ap (λ o. is_disabled (option_map_or (λ quota. quota.state) o Disabled)) c.in-Ok.ensures.ok.found ∙ (sym c.is_disabled.ensures ∙ c.if-is_disabled.false)))
     (ap (λ k. with_state R k Rebuilding) to)

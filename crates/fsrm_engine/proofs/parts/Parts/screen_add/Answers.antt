@@ -1,6 +1,7 @@
 use Rattle.std.proofs.Common.{ℕ, List, ap, refl, ◌∙◌}
 use Rattle.std.specs.Prelude.{fold}
-use Rattle.fsrm_model.specs.declared.command.Deed.TheVariants.{ScreenAdd}
+use Rattle.fsrm_model.specs.declared.command.Deed.TheVariants.{Screen}
+use Rattle.fsrm_model.specs.declared.command.ScreenDeed.TheVariants.{Add as ScreenAdd}
 use Rattle.fsrm_model.specs.Screens.{except_of, screen_of}
 use Rattle.fsrm_model.specs.ScreenWork.{are_named, new_screen, numbers_named, with_last}
 use Rattle.fsrm_objects.specs.Tables.{Tables, has_short_actions}
@@ -14,19 +15,19 @@ use Rattle.fsrm_engine.proofs.parts.Parts.screen_add.Goals as goal
 pub returns-in_default-clause-ok : goal.returns-in_default-clause-ok
 returns-in_default-clause-ok g c =
     let p = c.args.self.now in
-    refused_as p c.args.moment (ScreenAdd c.args.path.now c.args.active c.args.names.now c.args.actions.now) c.refused.result _ c.requires.idle c.requires.after
+    refused_as p c.args.moment (Screen (ScreenAdd c.args.path.now c.args.active c.args.names.now c.args.actions.now)) c.refused.result _ c.requires.idle c.requires.after
     (missing p.tree.nodes c.args.path.now _ c.in_default.ensures.folder) refl c.refused.ensures
 
 pub returns-then-is_some-clause-ok : goal.returns-then-is_some-clause-ok
 returns-then-is_some-clause-ok g c =
     let p = c.args.self.now in
-    refused_as p c.args.moment (ScreenAdd c.args.path.now c.args.active c.args.names.now c.args.actions.now) c.refused-then-is_some.result _ c.requires.idle c.requires.after
+    refused_as p c.args.moment (Screen (ScreenAdd c.args.path.now c.args.active c.args.names.now c.args.actions.now)) c.refused-then-is_some.result _ c.requires.idle c.requires.after
     (screen_taken p c.args.moment c.args.path.now c.args.active c.args.names.now c.args.actions.now c.in-Some.folder c.in-Some.ensures.folder (lent_some c.screen.result (screen_of (rows_of p) c.in-Some.folder) c.is_some.result _ c.screen.ensures c.is_some.ensures c.if-is_some.true)) refl c.refused-then-is_some.ensures
 
 pub returns-then-is_some-2-clause-ok : goal.returns-then-is_some-2-clause-ok
 returns-then-is_some-2-clause-ok g c =
     let p = c.args.self.now in
-    refused_as p c.args.moment (ScreenAdd c.args.path.now c.args.active c.args.names.now c.args.actions.now) c.refused-then-is_some-2.result _ c.requires.idle c.requires.after
+    refused_as p c.args.moment (Screen (ScreenAdd c.args.path.now c.args.active c.args.names.now c.args.actions.now)) c.refused-then-is_some-2.result _ c.requires.idle c.requires.after
     (screen_excepted p c.args.moment c.args.path.now c.args.active c.args.names.now c.args.actions.now c.in-Some.folder c.in-Some.ensures.folder (lent_some c.screen.result (screen_of (rows_of p) c.in-Some.folder) c.is_some.result _ c.screen.ensures c.is_some.ensures c.if-is_some.false) (lent_some c.except.result (except_of (rows_of p) c.in-Some.folder) c.is_some-2.result _ c.except.ensures c.is_some-2.ensures c.if-is_some-2.true)) refl c.refused-then-is_some-2.ensures
 
 pub add_screen-requires : goal.add_screen-requires

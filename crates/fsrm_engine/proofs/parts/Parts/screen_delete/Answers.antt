@@ -1,6 +1,7 @@
 use Rattle.std.proofs.Common.{ap}
 use Rattle.fsrm_base.proofs.Look.{found_has}
-use Rattle.fsrm_model.specs.declared.command.Deed.TheVariants.{ScreenDelete}
+use Rattle.fsrm_model.specs.declared.command.Deed.TheVariants.{Screen}
+use Rattle.fsrm_model.specs.declared.command.ScreenDeed.TheVariants.{Delete as ScreenDelete}
 use Rattle.fsrm_model.specs.Screens.{screen_folder}
 use Rattle.fsrm_objects.specs.Tables.{Tables}
 use Rattle.fsrm_engine.specs.Machine.{rows_of}
@@ -12,7 +13,7 @@ use Rattle.fsrm_engine.proofs.parts.Parts.screen_delete.Goals as goal
 pub returns-in-Err-clause-ok : goal.returns-in-Err-clause-ok
 returns-in-Err-clause-ok g c =
     let p = c.args.self.now in
-    refused_as p c.args.moment (ScreenDelete c.args.path.now) c.refused.result _ c.requires.idle c.requires.after c.in-Err.ensures.err (screen_bare (rows_of p) c.args.path.now _ c.in-Err.ensures.err) c.refused.ensures
+    refused_as p c.args.moment (Screen (ScreenDelete c.args.path.now)) c.refused.result _ c.requires.idle c.requires.after c.in-Err.ensures.err (screen_bare (rows_of p) c.args.path.now _ c.in-Err.ensures.err) c.refused.ensures
 
 pub drop_screen-requires : goal.drop_screen-requires
 drop_screen-requires g c =

@@ -1,5 +1,6 @@
 use Rattle.std.proofs.Common.{ℕ, ◌&&◌, List, ap, ◌∙◌}
-use Rattle.fsrm_model.specs.declared.command.Deed.TheVariants.{ScreenModify}
+use Rattle.fsrm_model.specs.declared.command.Deed.TheVariants.{Screen}
+use Rattle.fsrm_model.specs.declared.command.ScreenDeed.TheVariants.{Modify as ScreenModify}
 use Rattle.fsrm_model.specs.ScreenWork.{are_named, changed_groups, may_be_taken, numbers_named, rescreened}
 use Rattle.fsrm_objects.specs.Tables.{Tables}
 use Rattle.fsrm_engine.specs.Machine.{rows_of}
@@ -11,7 +12,7 @@ use Rattle.fsrm_engine.proofs.parts.Parts.screen_modify.Goals as goal
 pub returns-in-Err-clause-ok : goal.returns-in-Err-clause-ok
 returns-in-Err-clause-ok g c =
     let p = c.args.self.now in
-    refused_as p c.args.moment (ScreenModify c.args.path.now c.args.active c.args.removed.now c.args.added.now) c.refused.result _ c.requires.idle c.requires.after
+    refused_as p c.args.moment (Screen (ScreenModify c.args.path.now c.args.active c.args.removed.now c.args.added.now)) c.refused.result _ c.requires.idle c.requires.after
     (screen_first (rows_of p) c.args.path.now _ _ c.in-Err.ensures.err) (screen_bare (rows_of p) c.args.path.now _ c.in-Err.ensures.err) c.refused.ensures
 
 pub set_screen-requires-clause-there : goal.set_screen-requires-clause-there

@@ -1,5 +1,6 @@
 use Rattle.std.proofs.Common.{refl}
-use Rattle.fsrm_model.specs.declared.command.Deed.TheVariants.{AdminOptions}
+use Rattle.fsrm_model.specs.declared.command.AdminDeed.TheVariants.{Options as AdminOptions}
+use Rattle.fsrm_model.specs.declared.command.Deed.TheVariants.{Admin}
 use Rattle.fsrm_engine.specs.declared.parts.Parts.{Parts}
 use Rattle.fsrm_engine.specs.Machine.{rows_of}
 use Rattle.fsrm_engine.proofs.settling.CalmLaws.{calm_same}
@@ -12,7 +13,7 @@ returns-clause-ok c =
     let p = c.args.self.now in
     let mid : Parts = record p { run_limit = c.args.run_limit } in
     let e = c.requires.whole.sound.counted in
-    done_as p mid c.done.new.self c.args.moment (AdminOptions c.args.run_limit) c.done.result
+    done_as p mid c.done.new.self c.args.moment (Admin (AdminOptions c.args.run_limit)) c.done.result
     (record {
       quotas = p.objects.quotas;
       after = c.requires.after;

@@ -1,5 +1,6 @@
 use Rattle.std.proofs.Common.{◌≡◌, [], ap, sym, ◌∙◌}
-use Rattle.fsrm_model.specs.declared.command.Deed.TheVariants.{TemplateAdd}
+use Rattle.fsrm_model.specs.declared.command.Deed.TheVariants.{Template}
+use Rattle.fsrm_model.specs.declared.command.TemplateDeed.TheVariants.{Add as TemplateAdd}
 use Rattle.fsrm_model.specs.declared.row.TemplateRow.{TemplateRow}
 use Rattle.fsrm_model.specs.Templates.{is_template}
 use Rattle.fsrm_model.specs.Thresholds.{changed_thresholds}
@@ -49,7 +50,7 @@ returns-in-Err-clause-ok c =
     c.in_ok-thresholds.ensures
     ∙ (ap (λ removed. changed_thresholds removed change.percents.now change.notices.now c.new.result) c.requires.removed
     ∙ ap (changed_thresholds [] change.percents.now change.notices.now) c.new.ensures) in
-    refused_by p c.args.moment (TemplateAdd c.args.name.now c.args.limit c.args.enforce change.percents.now change.notices.now) c.add.new.self c.in-Err.fault (template_fault p.templates c.in_ok-row.row c.room-room.result) c.refused_by_templates.result c.requires.idle c.requires.after
+    refused_by p c.args.moment (Template (TemplateAdd c.args.name.now c.args.limit c.args.enforce change.percents.now change.notices.now)) c.add.new.self c.in-Err.fault (template_fault p.templates c.in_ok-row.row c.room-room.result) c.refused_by_templates.result c.requires.idle c.requires.after
     (add_due p c.args.moment c.args.name.now c.args.limit c.args.enforce change.percents.now change.notices.now c.requires.whole c.in_ok-row.row ts c.room-room.result c.in_ok-row.ensures are c.room-room.ensures (sym c.are_too_many.ensures ∙ c.if-are_too_many.false))
     c.in-Err.ensures.refused c.in-Err.ensures.err c.refused_by_templates.ensures.ok
 

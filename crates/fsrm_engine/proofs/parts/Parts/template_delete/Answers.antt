@@ -1,7 +1,8 @@
 use Rattle.std.proofs.Common.{◌≡◌, Some, refl, ap, sym, ◌∙◌, subst}
 use Rattle.std.specs.Prelude.{map}
 use Rattle.std.specs.Option.{option_copied}
-use Rattle.fsrm_model.specs.declared.command.Deed.TheVariants.{TemplateDelete}
+use Rattle.fsrm_model.specs.declared.command.Deed.TheVariants.{Template}
+use Rattle.fsrm_model.specs.declared.command.TemplateDeed.TheVariants.{Delete as TemplateDelete}
 use Rattle.fsrm_model.specs.Templates.{template_named, without_source}
 use Rattle.fsrm_objects.specs.Tables.{Tables}
 use Rattle.templates.specs.Held.{Held}
@@ -14,7 +15,7 @@ use Rattle.fsrm_engine.proofs.parts.Parts.template_delete.Goals as goal
 pub returns-in_default-clause-ok : goal.returns-in_default-clause-ok
 returns-in_default-clause-ok c =
     let p = c.args.self.now in
-    refused_as p c.args.moment (TemplateDelete c.args.name.now) c.refused.result _ c.requires.idle c.requires.after
+    refused_as p c.args.moment (Template (TemplateDelete c.args.name.now)) c.refused.result _ c.requires.idle c.requires.after
     (delete_missing p c.args.moment c.args.name.now (sym c.template_named.ensures ∙ ap option_copied c.in_default.is)) refl c.refused.ensures
 
 pub delete-requires : goal.delete-requires
@@ -27,8 +28,8 @@ pub returns-in_default-delete-clause-ok : goal.returns-in_default-delete-clause-
 returns-in_default-delete-clause-ok c =
     let p = c.args.self.now in
     let is : template_named p.templates.templates c.args.name.now ≡ Some c.in-Some.template.now = sym c.template_named.ensures ∙ ap option_copied c.in-Some.is in
-    subst (λ (h : Held). Does p (record p { templates = h }) c.args.moment (TemplateDelete c.args.name.now) c.refused-in_default-delete.result) (sym c.in_default-delete.ensures.err)
-    (refused_as p c.args.moment (TemplateDelete c.args.name.now) c.refused-in_default-delete.result _ c.requires.idle c.requires.after
+    subst (λ (h : Held). Does p (record p { templates = h }) c.args.moment (Template (TemplateDelete c.args.name.now)) c.refused-in_default-delete.result) (sym c.in_default-delete.ensures.err)
+    (refused_as p c.args.moment (Template (TemplateDelete c.args.name.now)) c.refused-in_default-delete.result _ c.requires.idle c.requires.after
     (delete_used p c.args.moment c.args.name.now c.in-Some.template.now is _ c.in_default-delete.ensures.refused) refl c.refused-in_default-delete.ensures)
 
 pub done-requires-clause-counted : goal.done-requires-clause-counted

@@ -4,8 +4,9 @@ use Rattle.std.specs.List.{list_all}
 use Rattle.std.specs.Option.{option_copied}
 use Rattle.fsrm_base.specs.Causes.{◌when◌}
 use Rattle.fsrm_base.specs.Keyed.{has_row, is_ascending}
-use Rattle.fsrm_model.specs.declared.command.Deed.TheVariants.{TemplateModify}
+use Rattle.fsrm_model.specs.declared.command.Deed.TheVariants.{Template}
 use Rattle.fsrm_model.specs.declared.command.Refusal.TheVariants as refusal
+use Rattle.fsrm_model.specs.declared.command.TemplateDeed.TheVariants.{Modify as TemplateModify}
 use Rattle.fsrm_model.specs.declared.row.QuotaRow.{QuotaRow}
 use Rattle.fsrm_model.specs.declared.row.TemplateRow.{TemplateRow}
 use Rattle.fsrm_model.specs.Limits.{most_entries}
@@ -35,7 +36,7 @@ pub returns-in_default-clause-ok : goal.returns-in_default-clause-ok
 returns-in_default-clause-ok c =
     let p = c.args.self.now in
     let change = c.args.change.now in
-    refused_as p c.args.moment (TemplateModify c.args.name.now c.args.limit c.args.enforce change.removed.now change.percents.now change.notices.now c.args.mode) c.refused.result _ c.requires.idle c.requires.after
+    refused_as p c.args.moment (Template (TemplateModify c.args.name.now c.args.limit c.args.enforce change.removed.now change.percents.now change.notices.now c.args.mode)) c.refused.result _ c.requires.idle c.requires.after
     (modify_missing p c.args.moment c.args.name.now c.args.limit c.args.enforce change.removed.now change.percents.now change.notices.now c.args.mode (sym c.template_named.ensures ∙ ap option_copied c.in_default.is)) refl c.refused.ensures
 
 pub retemplated-requires : goal.retemplated-requires
@@ -81,7 +82,7 @@ returns-then-is_long_update-clause-ok c =
     c.is_long_update.ensures
     ∙ ap (λ (r : TemplateRow). nat_lt (text_room p + (template_bytes r + quota_texts (filter (is_reached c.args.mode r) p.objects.quotas))) (template_bytes row + length (filter (is_reached c.args.mode r) p.objects.quotas) * threshold_bytes row.thresholds)) c.in_ok-old.ensures in
     let due_is = modify_due p c.args.moment c.args.name.now c.args.limit c.args.enforce change.removed.now change.percents.now change.notices.now c.args.mode t is row c.is_long_update.result w may made few long in
-    refused_as p c.args.moment (TemplateModify c.args.name.now c.args.limit c.args.enforce change.removed.now change.percents.now change.notices.now c.args.mode) c.refused-then-is_long_update.result _ c.requires.idle c.requires.after
+    refused_as p c.args.moment (Template (TemplateModify c.args.name.now c.args.limit c.args.enforce change.removed.now change.percents.now change.notices.now c.args.mode)) c.refused-then-is_long_update.result _ c.requires.idle c.requires.after
     (due_is ∙ ap (λ b. refusal.TextsFull when b) c.if-is_long_update.true) refl c.refused-then-is_long_update.ensures
 
 pub rewrite-requires : goal.rewrite-requires
