@@ -11,11 +11,12 @@ use Rattle.std.specs.Option.{option_map_or}
 use Rattle.std.specs.Prelude.{bit_or}
 use Rattle.ucd_case.specs.CaseFolding.{simple_fold}
 use Rattle.fsrm_base.specs.Keyed.{row_of}
+use Rattle.fsrm_base.proofs.EditedTests.{list_any-with_row}
 use Rattle.fsrm_base.proofs.Look.{found_any}
-use Rattle.fsrm_base.proofs.TestLaws.{both, clash, eq_is, eq_test, is_apart, is_or, not_true, or_false}
+use Rattle.fsrm_base.proofs.TestLaws.{both, clash, eq_is, eq_test, is_apart, is_or, is_or_not, not_true, or_false}
 use Rattle.fsrm_model.specs.declared.row.GroupRow.{GroupRow}
 use Rattle.fsrm_model.specs.Name.{folded}
-use Rattle.fsrm_model.specs.Patterns.{group_number, in_group, in_group_of}
+use Rattle.fsrm_model.specs.Patterns.{group_number, in_group, in_group_of, with_group}
 use Rattle.file_groups.specs.Ends.{Cover, in_some_group, is_end}
 use Rattle.file_groups.specs.Folded.{in_group_folded, matches_folded, pattern_matches_folded, stands_for_folded}
 use Rattle.file_groups.proofs.FoldLaws.{group_folded}
@@ -54,6 +55,18 @@ more_covered test ends bits i xs x within read before its cs c is =
     elim (is_or (list_any (test name) (take i xs)) (test name x || false) (sym split ∙ is)) [
       | inl earlier ↦ end_joined ends bits c (inl (before cs c earlier))
       | inr here ↦ end_joined ends bits c (inr (its cs c (or_false _ here)))
+    ]
+
+-- a group that was put into its place is one more, wherever that is
+pub with_covered : (ends bits : ℕ) (row : GroupRow) (groups : List GroupRow) → Cover ends (in_some_group groups) → Cover bits (in_group_folded row) → Cover (bit_or ends bits) (in_some_group (with_group row groups))
+with_covered ends bits row groups before its cs c is =
+    let name = cs ++ c ∷ [] in
+    elim (is_or_not (in_group_folded row name)) [
+      | inl own ↦ end_joined ends bits c (inr (its cs c own))
+      | inr not_own ↦ elim (is_or_not (in_some_group groups name)) [
+        | inl earlier ↦ end_joined ends bits c (inl (before cs c earlier))
+        | inr none ↦ absurd (clash _ is (list_any-with_row group_number (λ (g : GroupRow). in_group_folded g name) row groups not_own none))
+      ]
     ]
 
 -- a name in a group is one that a member matches

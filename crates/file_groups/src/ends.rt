@@ -30,8 +30,8 @@ pub fn ends_of_groups(groups: &[GroupRow]) -> u64
     ends
 }
 
-// The ends of the names that may match some pattern.
-fn ends_of(patterns: &List<Text>) -> u64
+/// The ends of the names that may match some pattern.
+pub fn ends_of(patterns: &List<Text>) -> u64
     ensures { Cover result (λ name. list_any (pattern_matches_folded name) patterns.now) }
 {
     let mut ends = 0;
@@ -41,7 +41,8 @@ fn ends_of(patterns: &List<Text>) -> u64
     ends
 }
 
-// The end of the names that may match a pattern, or every one if any character may be there.
+// The end of the names that may match a pattern, or every one if any character may be there. An empty pattern, of which
+// no group has one, gives all.
 fn end_of(pattern: &str) -> u64
     ensures { Cover result (λ name. pattern_matches_folded name pattern.now) }
 {

@@ -8,13 +8,13 @@ ghost use Rattle.file_groups.specs.Faults.{IsFault, group_fault, new_fault, patt
 ghost use Rattle.file_groups.specs.Kept.{AreGroups, AreMembers, AreNonMembers, group_texts};
 
 use crate::answer::GroupFault;
-use crate::ends::{ends_of_groups, is_end};
+use crate::ends::{ends_of, ends_of_groups, is_end};
 use crate::folded::FoldedName;
 use crate::matching::Rest;
 use crate::pattern::Pattern;
 use crate::rows;
 use crate::rows::ByNumber;
-use fsrm_base::places::{gap, search};
+use fsrm_base::places::{free_number, gap, search};
 use fsrm_model::limits::MOST_GROUPS;
 use fsrm_model::{GroupRow, List, NoMemory, Text};
 use std::alloc::Global;
@@ -84,7 +84,7 @@ impl Groups {
         let left = rows::left_of_new(name, &members, &non_members, room.into());
         self.admit(name, left)?;
         let row = GroupRow {
-            number: rows::free_number(&self.groups),
+            number: free_number::<ByNumber>(&self.groups),
             name: Text::from_str(self.alloc, name)?,
             members: rows::texts_from(self.alloc, &members)?,
             non_members: rows::texts_from(self.alloc, &non_members)?,
@@ -142,9 +142,10 @@ impl Groups {
     {
         let place = gap::<ByNumber>(&self.groups, row.number);
         let bytes = rows::texts_of(&row);
+        let ends = ends_of(&row.members);
         self.groups.insert(place, row)?;
         self.texts += bytes;
-        self.ends = ends_of_groups(&self.groups);
+        self.ends |= ends;
         Ok(())
     }
 

@@ -175,7 +175,7 @@ fn is_match<N: Rest>(pattern: &str, name: N) -> bool
     }
 }
 
-// The same from the front on, for a pattern that ends with a star, though it holds for each one.
+// The same, from the front on. It is asked of patterns that end with a star, and right for all.
 fn is_front_match<N: Rest>(pattern: &str, name: N) -> bool
     ensures { result ≡ matches_folded (chars pattern.now) (N.characters name) }
 {

@@ -1,11 +1,9 @@
 //! Rows of groups: where they stand, what they take, and how they are made.
 
-ghost use Rattle.std.specs.Prelude.{◌≡◌, ◌+◌, ◌<◌, ◌≤◌, ◌^◌, true, length, IfOk, IfSome, MatchOption, unwrap_or};
+ghost use Rattle.std.specs.Prelude.{◌≡◌, ◌+◌, ◌<◌, ◌^◌, true, length, IfOk, IfSome, MatchOption, unwrap_or};
 ghost use Rattle.std.specs.List.{list_all, list_any};
 ghost use Rattle.std.specs.Option.{option_copied};
-ghost use Rattle.fsrm_base.specs.Keyed.{least_free};
-ghost use Rattle.fsrm_model.specs.Limits.{most_groups};
-ghost use Rattle.fsrm_model.specs.Patterns.{group_number, is_group, is_pattern, number_named, regrouped};
+ghost use Rattle.fsrm_model.specs.Patterns.{is_group, is_pattern, number_named, regrouped};
 ghost use Rattle.fsrm_model.specs.Texts.{group_bytes, texts_bytes};
 ghost use Rattle.file_groups.specs.Folded.{in_group_folded, pattern_matches_folded};
 ghost use Rattle.file_groups.specs.Kept.{AreMembers, AreNonMembers};
@@ -31,21 +29,6 @@ impl Key for ByNumber {
     fn number(group: &GroupRow) -> u32 {
         group.number
     }
-}
-
-/// The least number that no group has.
-pub fn free_number(groups: &[GroupRow]) -> u32
-    requires { length groups.now ≤ most_groups }
-    ensures { result ≡ least_free group_number groups.now }
-{
-    let mut number = 0;
-    for group in groups {
-        if group.number != number {
-            return number;
-        }
-        number += 1;
-    }
-    number
 }
 
 /// The number of the first group of a name, in any spelling.

@@ -168,7 +168,7 @@ pub fn blocked<L: Ledger>(
     if objects.screen_count() == 0 {
         return None;
     }
-    // Most names end as none in a group does.
+    // Most names have a last character that no name in a group has.
     if !groups.may_have(name) {
         return None;
     }

@@ -1,7 +1,7 @@
-//! Where in ascending rows a number stands, or is to stand.
+//! Where in ascending rows a number stands, or is to stand, and which one is free.
 
-ghost use Rattle.std.specs.Prelude.{◌≡◌, ℕ, true, false, IfOk, IfErr};
-ghost use Rattle.fsrm_base.specs.Keyed.{has_row, is_ascending};
+ghost use Rattle.std.specs.Prelude.{◌≡◌, ◌<◌, ◌^◌, ℕ, true, false, length, IfOk, IfErr};
+ghost use Rattle.fsrm_base.specs.Keyed.{has_row, is_ascending, least_free};
 ghost use Rattle.fsrm_base.specs.Places.{IsAt, IsGap};
 
 /// How rows are numbered.
@@ -34,4 +34,19 @@ pub fn gap<K: Key>(rows: &[K::Row], number: u32) -> usize
     match search::<K>(rows, number) {
         Ok(place) | Err(place) => place,
     }
+}
+
+/// The least number that none of the ascending rows has.
+pub fn free_number<K: Key>(rows: &[K::Row]) -> u32
+    requires { length rows.now < 2 ^ 32 }
+    ensures { result ≡ least_free K.key rows.now }
+{
+    let mut number = 0;
+    for row in rows {
+        if K::number(row) != number {
+            return number;
+        }
+        number += 1;
+    }
+    number
 }

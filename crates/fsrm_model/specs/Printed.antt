@@ -18,6 +18,10 @@ body_line words = 32 ∷ 32 ∷ line_of words
 abbrev pub deep_line : List (List ℕ) → List ℕ
 deep_line words = 32 ∷ 32 ∷ body_line words
 
+-- such a line of a text, after the label that tells what it is
+abbrev pub labelled_line : List ℕ → List ℕ → List ℕ
+labelled_line label text = deep_line (label ∷ text ∷ [])
+
 -- whether a quota is enforced, or only watches
 abbrev pub type_word : Bool → List ℕ
 type_word enforce = if enforce then codes "hard" else codes "soft"

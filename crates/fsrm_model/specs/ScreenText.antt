@@ -9,23 +9,20 @@ use Rattle.fsrm_model.specs.declared.row.NodeRow.{NodeRow}
 use Rattle.fsrm_model.specs.declared.row.ScreenRow.{ScreenRow}
 use Rattle.fsrm_model.specs.ActionWords.{action_words}
 use Rattle.fsrm_model.specs.Patterns.{group_number}
-use Rattle.fsrm_model.specs.Printed.{body_line, deep_line, path_text}
+use Rattle.fsrm_model.specs.Printed.{body_line, deep_line, labelled_line, path_text}
 
 -- a group: its name, and, each on a line of its own, its patterns as they were given
-abbrev pub pattern_line : List ℕ → List ℕ → List ℕ
-pattern_line word pattern = deep_line (word ∷ pattern ∷ [])
-
 abbrev pub group_lines : GroupRow → List ℕ
 group_lines group =
-    body_line (group.name ∷ []) ++ flat_map (pattern_line (codes "member")) group.members
-    ++ flat_map (pattern_line (codes "nonmember")) group.non_members
+    body_line (group.name ∷ []) ++ flat_map (labelled_line (codes "member")) group.members
+    ++ flat_map (labelled_line (codes "nonmember")) group.non_members
 
 -- the groups of these numbers, by their names
 abbrev pub name_at : List GroupRow → ℕ → List ℕ
 name_at groups number = option_map_or (λ group. group.name) (row_of group_number number groups) []
 
 abbrev pub named_line : List GroupRow → ℕ → List ℕ
-named_line groups number = deep_line (codes "group" ∷ name_at groups number ∷ [])
+named_line groups number = labelled_line (codes "group") (name_at groups number)
 
 abbrev pub named_lines : List GroupRow → List ℕ → List ℕ
 named_lines groups numbers = flat_map (named_line groups) numbers

@@ -5,7 +5,7 @@ use Rattle.fsrm_model.specs.declared.row.AutoRow.{AutoRow}
 use Rattle.fsrm_model.specs.declared.row.NodeRow.{NodeRow}
 use Rattle.fsrm_model.specs.declared.row.TemplateRow.{TemplateRow}
 use Rattle.fsrm_model.specs.ActText.{threshold_lines}
-use Rattle.fsrm_model.specs.Printed.{body_line, deep_line, path_text, type_word}
+use Rattle.fsrm_model.specs.Printed.{body_line, labelled_line, path_text, type_word}
 use Rattle.fsrm_model.specs.Templates.{template_name, template_of}
 
 -- a template: its limit, whether a quota of it is enforced, and its name; below that its thresholds
@@ -14,11 +14,8 @@ template_lines template =
     body_line (decimal template.limit ∷ type_word template.enforce ∷ template.name ∷ []) ++ threshold_lines template.thresholds
 
 -- an auto-apply quota: its folder, its template, by its name, and the names that it excludes, as they were given
-abbrev pub except_line : List ℕ → List ℕ
-except_line name = deep_line (codes "except" ∷ name ∷ [])
-
 abbrev pub auto_lines : List NodeRow → List TemplateRow → AutoRow → List ℕ
 auto_lines nodes templates auto =
     body_line (path_text nodes auto.folder ∷ [])
-    ++ deep_line (codes "template" ∷ option_map_or template_name (template_of templates auto.template) [] ∷ [])
-    ++ flat_map except_line auto.excluded
+    ++ labelled_line (codes "template") (option_map_or template_name (template_of templates auto.template) [])
+    ++ flat_map (labelled_line (codes "except")) auto.excluded

@@ -1,5 +1,5 @@
--- The thresholds of a quota: percentages of its limit, each with the actions that are to run when the usage reaches it (MS-FSRM,
--- IFsrmQuotaBase, Thresholds). They ascend by percentage.
+-- The thresholds of a quota or a template: percentages of its limit, each with the actions that are to run when a quota's usage
+-- reaches it (MS-FSRM, IFsrmQuotaBase, Thresholds). They ascend by percentage.
 use Rattle.std.specs.Prelude.{ℕ, ◌==◌, ◌&&◌, ◌||◌, not, nat_lt, nat_le, Bool, true, ℤ, pos, negsuc, List, [], ◌∷◌, ◌++◌, length, map, filter, fold, is_none, if◌then◌else◌}
 use Rattle.std.specs.List.{list_all, list_any}
 use Rattle.std.specs.Option.{option_map_or}

@@ -118,7 +118,7 @@ pub struct QuotaRow {
     pub state: QuotaState,
     /// At most 16, ascending by percentage.
     pub thresholds: List<Threshold>,
-    /// The number of the template that it was derived from.
+    /// The number of the template that it was derived from, until that is deleted.
     pub template: Option<u32>,
     /// The greatest usage since the peak was last reset.
     pub peak: u64,
@@ -130,15 +130,18 @@ pub struct QuotaRow {
 pub struct TemplateRow {
     /// Below 1,024. A new template takes the least number that is free.
     pub number: u32,
+    /// Differs from those of all others, in any spelling.
     pub name: Text,
+    /// Bytes, 1,024 to 2^60.
     pub limit: u64,
+    /// Whether its quotas are hard.
     pub enforce: bool,
     /// As those of a quota. Their actions never run.
     pub thresholds: List<Threshold>,
 }
 
-/// An auto-apply quota: each folder that is made in the folder, or moved into it, gets a quota from the template
-/// (MS-FSRM, IFsrmAutoApplyQuota).
+/// An auto-apply quota: each folder that stands in the folder when it is added, and each that is made in the folder or moved
+/// into it later, gets a quota from the template, if it has none (MS-FSRM, IFsrmAutoApplyQuota).
 #[derive(Drop)]
 pub struct AutoRow {
     pub folder: u32,

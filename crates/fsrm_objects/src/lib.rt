@@ -5,8 +5,8 @@
 //! in the order of `ObjectFault`, and then the tables are as they were. NoMemory comes only if nothing else refuses.
 //!
 //! A `PlaceTable` tells where a folder's row stands: it has ascending numbers, and finds each number's place without a
-//! search. Its table by number reaches as far as the greatest number that came, and no further. Contracts see the
-//! numbers, and for how many there is memory.
+//! search. Its table by number reaches as far as the greatest number that came, and no further, unless memory for all
+//! numbers was reserved: then it has 2 MB. Contracts see the numbers, and for how many there is memory.
 #![tactic(auto)]
 
 mod answer;

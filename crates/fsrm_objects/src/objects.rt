@@ -20,8 +20,8 @@ use fsrm_model::{ExceptRow, NoMemory, QuotaRow, QuotaState, ScreenRow};
 use std::alloc::Global;
 use std::marker::Model;
 
-/// The objects of a store. Contracts see the rows of each table, ascending by folder, each folder at
-/// most once.
+/// The objects of a store. Contracts see the rows of each table, ascending by folder, each folder at most once, and for how
+/// many quotas there is memory in any case: none, or after `make_room` all.
 #[derive(Drop)]
 pub struct Objects {
     quotas: Vec<QuotaRow>,
@@ -97,15 +97,6 @@ impl Objects {
         let place = self.places.insert(row.folder)?;
         self.quotas.insert(place, row).unwrap();
         self.texts += bytes;
-        Ok(())
-    }
-
-    /// Whether a quota may be added, as `add_quota` judges it.
-    pub fn may_add(&self, row: &QuotaRow, room: u32) -> Result<(), ObjectFault>
-        ensures may { OnOk result (quota_fault self.now row.now room ≡ None) }
-        ensures refused { IfErr result (λ fault. quota_fault self.now row.now room ≡ Some fault) }
-    {
-        self.admit(row, room)?;
         Ok(())
     }
 

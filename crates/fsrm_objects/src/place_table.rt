@@ -74,7 +74,8 @@ impl PlaceTable {
         })
     }
 
-    /// Makes sure of memory for so many numbers. An `Err` changes nothing.
+    /// Makes sure of memory for so many numbers, whichever they are: the entries take 2 MB for that. An `Err` changes
+    /// nothing.
     pub fn make_room(&mut self, room: u16) -> Result<(), NoMemory>
         requires { self.old.room ≤ room }
         ensures ok { OnOk result (self.new ≡ record self.old { room = room }) }

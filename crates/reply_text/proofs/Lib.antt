@@ -7,5 +7,6 @@ pub mod Answered
 pub mod ActionLines
 pub mod ActLines
 pub mod Settings
+pub mod LabelledLines
 pub mod ScreenLines
 pub mod TemplateLines

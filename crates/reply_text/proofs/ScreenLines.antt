@@ -16,38 +16,31 @@ use Rattle.fsrm_model.specs.declared.row.Rows.{Rows}
 use Rattle.fsrm_model.specs.declared.row.ScreenRow.{ScreenRow}
 use Rattle.fsrm_model.specs.Limits.{most_excepts, most_screens}
 use Rattle.fsrm_model.specs.Patterns.{group_number}
-use Rattle.fsrm_model.specs.Printed.{body_line, deep_line, path_text}
+use Rattle.fsrm_model.specs.Printed.{body_line, labelled_line, path_text}
 use Rattle.fsrm_model.specs.Screens.{screen_folder, except_folder}
-use Rattle.fsrm_model.specs.ScreenText.{do_line, group_lines, mode_word, named_lines, pattern_line, screen_lines}
+use Rattle.fsrm_model.specs.ScreenText.{do_line, group_lines, mode_word, named_line, named_lines, screen_lines}
 use Rattle.fsrm_model.specs.Text.{list_lines}
 use Rattle.fsrm_model.specs.Tree.{number, is_folder}
 use Rattle.fsrm_model.specs.Valid.{IsValid, are_group_numbers, is_sound_except, is_sound_screen}
 use Rattle.fsrm_model.proofs.valid.ScreensKept.{number_parts, screen_at, table_parts}
-use Rattle.reply_text.specs.Lines.{do_text, except_text, group_text, named_text, pattern_text, screen_text}
+use Rattle.reply_text.specs.Lines.{do_text, except_text, group_text, labelled_text, named_text, screen_text}
+use Rattle.reply_text.proofs.LabelledLines.{labelled_is, labelled_same}
 use Rattle.reply_text.proofs.Nodes.{is_node}
 
 -- ---- groups
-pub pattern_shown : (word pattern bytes : List ℕ) → bytes ≡ pattern → 32 ∷ 32 ∷ 32 ∷ 32 ∷ (word ++ 32 ∷ (bytes ++ 10 ∷ [])) ≡ pattern_text word pattern
-unfolding pattern_text
-pattern_shown word pattern bytes same = ap (λ (xs : List ℕ). 32 ∷ 32 ∷ 32 ∷ 32 ∷ (word ++ 32 ∷ (xs ++ 10 ∷ []))) same
-
-patterns_same : (word : List ℕ) (patterns : List (List ℕ)) → flat_map (pattern_text word) patterns ≡ flat_map (pattern_line word) patterns
-unfolding pattern_text
-patterns_same word patterns = refl
-
 group_same : (group : GroupRow) → group_lines group ≡ group_text group
 unfolding group_text
 group_same group = refl
 
-group_parts : (group : GroupRow) → body_line (group.name ∷ []) ++ (flat_map (pattern_text (codes "member")) group.members ++ flat_map (pattern_text (codes "nonmember")) group.non_members) ≡ group_text group
+group_parts : (group : GroupRow) → body_line (group.name ∷ []) ++ (flat_map (labelled_text (codes "member")) group.members ++ flat_map (labelled_text (codes "nonmember")) group.non_members) ≡ group_text group
 group_parts group =
-    ap (λ (xs : List ℕ). body_line (group.name ∷ []) ++ (xs ++ flat_map (pattern_text (codes "nonmember")) group.non_members)) (patterns_same (codes "member") group.members)
-    ∙ ap (λ (xs : List ℕ). body_line (group.name ∷ []) ++ (flat_map (pattern_line (codes "member")) group.members ++ xs)) (patterns_same (codes "nonmember") group.non_members)
-    ∙ sym (append_assoc (body_line (group.name ∷ [])) (flat_map (pattern_line (codes "member")) group.members) (flat_map (pattern_line (codes "nonmember")) group.non_members))
+    ap (λ (xs : List ℕ). body_line (group.name ∷ []) ++ (xs ++ flat_map (labelled_text (codes "nonmember")) group.non_members)) (labelled_same (codes "member") group.members)
+    ∙ ap (λ (xs : List ℕ). body_line (group.name ∷ []) ++ (flat_map (labelled_line (codes "member")) group.members ++ xs)) (labelled_same (codes "nonmember") group.non_members)
+    ∙ sym (append_assoc (body_line (group.name ∷ [])) (flat_map (labelled_line (codes "member")) group.members) (flat_map (labelled_line (codes "nonmember")) group.non_members))
     ∙ group_same group
 
 pub group_shown : (group : GroupRow) (name : List ℕ) (members others : List (List ℕ)) → name ≡ group.name → members ≡ group.members → others ≡ group.non_members
-    → body_line (name ∷ []) ++ (flat_map (pattern_text (codes "member")) members ++ flat_map (pattern_text (codes "nonmember")) others) ≡ group_text group
+    → body_line (name ∷ []) ++ (flat_map (labelled_text (codes "member")) members ++ flat_map (labelled_text (codes "nonmember")) others) ≡ group_text group
 group_shown group name members others names these those = rw (names, these, those) (group_parts group)
 
 pub all_groups : (K : Capacity) (R : Rows) (groups : List GroupRow) → groups ≡ R.groups → flat_map group_text groups ≡ list_lines K R Groups
@@ -55,12 +48,15 @@ unfolding group_text
 all_groups K R groups same = ap (flat_map group_text) same
 
 -- a group, by its number
-named_at : (found : Option GroupRow) (group : GroupRow) (bytes : List ℕ) → found ≡ Some group → bytes ≡ group.name → deep_line (codes "group" ∷ bytes ∷ []) ≡ deep_line (codes "group" ∷ option_map_or (λ group. group.name) found [] ∷ [])
-named_at found group bytes is same = rw (is, same) refl
+named_at : (found : Option GroupRow) (group : GroupRow) → found ≡ Some group → labelled_line (codes "group") group.name ≡ labelled_line (codes "group") (option_map_or (λ group. group.name) found [])
+named_at found group is = rw is refl
 
-pub named_shown : (groups : List GroupRow) (n : ℕ) (group : GroupRow) (bytes : List ℕ) → row_of group_number n groups ≡ Some group → bytes ≡ group.name → 32 ∷ 32 ∷ 32 ∷ 32 ∷ (codes "group " ++ (bytes ++ 10 ∷ [])) ≡ named_text groups n
+named_same : (groups : List GroupRow) (n : ℕ) → named_line groups n ≡ named_text groups n
 unfolding named_text
-named_shown groups n group bytes is same = named_at (row_of group_number n groups) group bytes is same
+named_same groups n = refl
+
+pub named_is : (groups : List GroupRow) (n : ℕ) (group : GroupRow) → row_of group_number n groups ≡ Some group → labelled_text (codes "group") group.name ≡ named_text groups n
+named_is groups n group is = labelled_is (codes "group") group.name ∙ named_at (row_of group_number n groups) group is ∙ named_same groups n
 
 -- ---- what is known of screens and exceptions
 pub screens_ascend : (K : Capacity) (R : Rows) → IsValid K R → is_ascending screen_folder R.screens ≡ true

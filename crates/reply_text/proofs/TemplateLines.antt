@@ -14,20 +14,21 @@ use Rattle.fsrm_model.specs.declared.row.TemplateRow.{TemplateRow}
 use Rattle.fsrm_model.specs.declared.row.Threshold.{Threshold}
 use Rattle.fsrm_model.specs.AutoApply.{auto_folder}
 use Rattle.fsrm_model.specs.Limits.{most_autos}
-use Rattle.fsrm_model.specs.Printed.{body_line, deep_line, path_text, type_word}
+use Rattle.fsrm_model.specs.Printed.{body_line, labelled_line, path_text, type_word}
 use Rattle.fsrm_model.specs.Templates.{template_name, template_number, template_of}
-use Rattle.fsrm_model.specs.TemplateText.{auto_lines, except_line}
+use Rattle.fsrm_model.specs.TemplateText.{auto_lines}
 use Rattle.fsrm_model.specs.Text.{list_lines}
 use Rattle.fsrm_model.specs.Tree.{number}
 use Rattle.fsrm_model.specs.Valid.{IsValid, is_sound_auto}
 use Rattle.fsrm_model.proofs.valid.ScreensKept.{table_parts}
 use Rattle.fsrm_model.proofs.valid.TemplatesKept.{IsAuto, auto_parts}
-use Rattle.reply_text.specs.Lines.{auto_text, excluded_text, template_text, threshold_text}
+use Rattle.reply_text.specs.Lines.{auto_text, labelled_text, template_text, threshold_text}
+use Rattle.reply_text.proofs.LabelledLines.{labelled_is, labelled_same}
 use Rattle.reply_text.proofs.Nodes.{is_node}
 
 -- ---- templates
-pub limit_shown : (template : TemplateRow) (mode bytes : List ℕ) → mode ≡ type_word template.enforce → bytes ≡ template.name → 32 ∷ 32 ∷ (decimal template.limit ++ 32 ∷ (mode ++ 32 ∷ (bytes ++ 10 ∷ []))) ≡ body_line (decimal template.limit ∷ type_word template.enforce ∷ template.name ∷ [])
-limit_shown template mode bytes modes same = rw (modes, same) refl
+pub head_shown : (template : TemplateRow) (mode bytes : List ℕ) → mode ≡ type_word template.enforce → bytes ≡ template.name → 32 ∷ 32 ∷ (decimal template.limit ++ 32 ∷ (mode ++ 32 ∷ (bytes ++ 10 ∷ []))) ≡ body_line (decimal template.limit ∷ type_word template.enforce ∷ template.name ∷ [])
+head_shown template mode bytes modes same = rw (modes, same) refl
 
 template_parts : (template : TemplateRow) → body_line (decimal template.limit ∷ type_word template.enforce ∷ template.name ∷ []) ++ flat_map threshold_text template.thresholds ≡ template_text template
 unfolding template_text threshold_text
@@ -56,34 +57,24 @@ pub auto_source : (K : Capacity) (R : Rows) (auto : AutoRow) → IsValid K R →
 auto_source K R auto store own = (sound_auto K R auto store own).there
 
 -- ---- their lines
-pub source_shown : (name bytes : List ℕ) → bytes ≡ name → 32 ∷ 32 ∷ 32 ∷ 32 ∷ (codes "template " ++ (bytes ++ 10 ∷ [])) ≡ deep_line (codes "template" ∷ name ∷ [])
-source_shown name bytes same = rw same refl
-
-pub name_shown : (name bytes : List ℕ) → bytes ≡ name → 32 ∷ 32 ∷ 32 ∷ 32 ∷ (codes "except " ++ (bytes ++ 10 ∷ [])) ≡ excluded_text name
-unfolding excluded_text
-name_shown name bytes same = rw same refl
-
-excluded_same : (names : List (List ℕ)) → flat_map excluded_text names ≡ flat_map except_line names
-unfolding excluded_text
-excluded_same names = refl
-
 auto_same : (nodes : List NodeRow) (templates : List TemplateRow) (auto : AutoRow) → auto_lines nodes templates auto ≡ auto_text nodes templates auto
 unfolding auto_text
 auto_same nodes templates auto = refl
 
-source_at : (found : Option TemplateRow) (template : TemplateRow) → found ≡ Some template → deep_line (codes "template" ∷ template.name ∷ []) ≡ deep_line (codes "template" ∷ option_map_or template_name found [] ∷ [])
+source_at : (found : Option TemplateRow) (template : TemplateRow) → found ≡ Some template → labelled_line (codes "template") template.name ≡ labelled_line (codes "template") (option_map_or template_name found [])
 source_at found template is = rw is refl
 
-auto_lines_are : (nodes : List NodeRow) (templates : List TemplateRow) (auto : AutoRow) (template : TemplateRow) → template_of templates auto.template ≡ Some template → body_line (path_text nodes auto.folder ∷ []) ++ (deep_line (codes "template" ∷ template.name ∷ []) ++ flat_map excluded_text auto.excluded) ≡ auto_text nodes templates auto
+auto_lines_are : (nodes : List NodeRow) (templates : List TemplateRow) (auto : AutoRow) (template : TemplateRow) → template_of templates auto.template ≡ Some template → body_line (path_text nodes auto.folder ∷ []) ++ (labelled_text (codes "template") template.name ++ flat_map (labelled_text (codes "except")) auto.excluded) ≡ auto_text nodes templates auto
 auto_lines_are nodes templates auto template is =
     let first : List ℕ = body_line (path_text nodes auto.folder ∷ []) in
-    ap (λ (xs : List ℕ). first ++ (xs ++ flat_map excluded_text auto.excluded)) (source_at (template_of templates auto.template) template is)
-    ∙ ap (λ (xs : List ℕ). first ++ (deep_line (codes "template" ∷ option_map_or template_name (template_of templates auto.template) [] ∷ []) ++ xs)) (excluded_same auto.excluded)
-    ∙ sym (append_assoc first (deep_line (codes "template" ∷ option_map_or template_name (template_of templates auto.template) [] ∷ [])) (flat_map except_line auto.excluded))
+    let source : List ℕ = labelled_line (codes "template") (option_map_or template_name (template_of templates auto.template) []) in
+    ap (λ (xs : List ℕ). first ++ (xs ++ flat_map (labelled_text (codes "except")) auto.excluded)) (labelled_is (codes "template") template.name ∙ source_at (template_of templates auto.template) template is)
+    ∙ ap (λ (xs : List ℕ). first ++ (source ++ xs)) (labelled_same (codes "except") auto.excluded)
+    ∙ sym (append_assoc first source (flat_map (labelled_line (codes "except")) auto.excluded))
     ∙ auto_same nodes templates auto
 
 pub auto_shown : (nodes : List NodeRow) (templates : List TemplateRow) (auto : AutoRow) (template : TemplateRow) (path name : List ℕ) (names : List (List ℕ)) → template_of templates auto.template ≡ Some template → path ≡ path_text nodes auto.folder → name ≡ template.name → names ≡ auto.excluded
-    → body_line (path ∷ []) ++ (deep_line (codes "template" ∷ name ∷ []) ++ flat_map excluded_text names) ≡ auto_text nodes templates auto
+    → body_line (path ∷ []) ++ (labelled_text (codes "template") name ++ flat_map (labelled_text (codes "except")) names) ≡ auto_text nodes templates auto
 auto_shown nodes templates auto template path name names is paths same these = rw (paths, same, these) (auto_lines_are nodes templates auto template is)
 
 pub all_autos : (K : Capacity) (R : Rows) → flat_map (auto_text R.nodes R.templates) R.autos ≡ list_lines K R Autos

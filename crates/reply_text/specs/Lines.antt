@@ -18,9 +18,9 @@ use Rattle.fsrm_model.specs.declared.command.Refusal.TheVariants.{BadLine}
 use Rattle.fsrm_model.specs.declared.command.Outcome.TheVariants.{Listing}
 use Rattle.fsrm_model.specs.ActText.{at_lines, entry_line, subject_words}
 use Rattle.fsrm_model.specs.ActionWords.{action_words, kind_word}
-use Rattle.fsrm_model.specs.Printed.{deep_line, type_word}
-use Rattle.fsrm_model.specs.ScreenText.{do_line, except_lines, group_lines, named_line, pattern_line, screen_lines}
-use Rattle.fsrm_model.specs.TemplateText.{auto_lines, except_line, template_lines}
+use Rattle.fsrm_model.specs.Printed.{deep_line, labelled_line, type_word}
+use Rattle.fsrm_model.specs.ScreenText.{do_line, except_lines, group_lines, named_line, screen_lines}
+use Rattle.fsrm_model.specs.TemplateText.{auto_lines, template_lines}
 use Rattle.fsrm_model.specs.Text.{body_line, quota_line, quota_lines, state_word}
 use Rattle.fsrm_model.specs.Date.{date_text}
 
@@ -48,10 +48,11 @@ abbrev pub subject_text : ℕ → ℕ → List ℕ
 subject_text percent folder =
     if percent == 0 then codes " screen " ++ decimal folder else codes " quota " ++ (decimal folder ++ 32 ∷ decimal percent)
 
--- the lines of a group, and that of one of its patterns
-unfoldable pub pattern_text : List ℕ → List ℕ → List ℕ
-pattern_text word pattern = pattern_line word pattern
+-- the line of a text after its label
+unfoldable pub labelled_text : List ℕ → List ℕ → List ℕ
+labelled_text label text = labelled_line label text
 
+-- the lines of a group
 unfoldable pub group_text : GroupRow → List ℕ
 group_text group = group_lines group
 
@@ -69,15 +70,12 @@ screen_text nodes groups screen = screen_lines nodes groups screen
 unfoldable pub except_text : List NodeRow → List GroupRow → ExceptRow → List ℕ
 except_text nodes groups except = except_lines nodes groups except
 
--- the lines of a template, those of an auto-apply quota, and that of a name that it excludes
+-- the lines of a template, and those of an auto-apply quota
 unfoldable pub template_text : TemplateRow → List ℕ
 template_text template = template_lines template
 
 unfoldable pub auto_text : List NodeRow → List TemplateRow → AutoRow → List ℕ
 auto_text nodes templates auto = auto_lines nodes templates auto
-
-unfoldable pub excluded_text : List ℕ → List ℕ
-excluded_text name = except_line name
 
 -- the line of an act, whose folder has this path, and whose action this text
 abbrev pub act_text : Act → List ℕ → List ℕ → List ℕ

@@ -11,6 +11,7 @@ mod dates;
 mod fault;
 mod groups;
 mod heads;
+mod lines;
 mod lists;
 mod quota_templates;
 mod replies;

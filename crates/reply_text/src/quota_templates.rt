@@ -1,29 +1,29 @@
 //! Writes the lists of templates and of auto-apply quotas.
 
-ghost use Rattle.std.specs.Prelude.{◌≡◌, ◌+◌, ◌≤◌, ◌∷◌, [], IsErrOf, Some, codes, decimal, flat_map};
+ghost use Rattle.std.specs.Prelude.{◌≡◌, ◌+◌, ◌≤◌, ◌∷◌, [], IsErrOf, Some, decimal};
 ghost use Rattle.fsrm_base.specs.Keyed.{row_of};
 ghost use Rattle.fsrm_model.specs.declared.command.Ask.TheVariants.{Autos, Templates};
 ghost use Rattle.fsrm_model.specs.AutoApply.{auto_folder};
 ghost use Rattle.fsrm_model.specs.Cost.{list_cost, path_cost};
-ghost use Rattle.fsrm_model.specs.Printed.{body_line, deep_line, type_word};
+ghost use Rattle.fsrm_model.specs.Printed.{body_line, type_word};
 ghost use Rattle.fsrm_model.specs.Text.{list_lines};
 ghost use Rattle.fsrm_model.specs.Valid.{IsValid};
 ghost use Rattle.fsrm_outside.specs.Causes.{Rose};
-ghost use Rattle.reply_text.specs.Lines.{auto_text, excluded_text, template_text};
+ghost use Rattle.reply_text.specs.Lines.{auto_text, template_text};
 ghost use Rattle.reply_text.specs.Writes.{KeepsCount, Sends};
 
 use crate::actions::write_thresholds;
 use crate::fault::TextFault;
-use crate::groups::write_word;
+use crate::lines::{write_each_labelled, write_labelled, write_word};
 use crate::lists::type_word;
 use crate::sending::{Part, send};
 use fsrm_engine::Engine;
-use fsrm_model::{AutoRow, Ledger, Steps, TemplateRow, Text};
+use fsrm_model::{AutoRow, Ledger, Steps, TemplateRow};
 use fsrm_outside::Sink;
 use std::alloc::Global;
 
 // Writes the first line of a template: its limit, its type and its name.
-fn write_limit<S: Sink>(sink: &mut S, template: &TemplateRow) -> Result<(), TextFault>
+fn write_head<S: Sink>(sink: &mut S, template: &TemplateRow) -> Result<(), TextFault>
     ensures text { Sends result (S.shown sink.old) (S.shown sink.new) (body_line (decimal template.now.limit ∷ type_word template.now.enforce ∷ template.now.name ∷ [])) }
     ensures fault { IsErrOf result TextFault.WriteFault → Rose (S.write_faults sink.old) (S.write_faults sink.new) }
     ensures later { S.write_faults sink.old ≤ S.write_faults sink.new }
@@ -52,7 +52,7 @@ fn write_template<S: Sink>(sink: &mut S, template: &TemplateRow) -> Result<(), T
     ensures same { KeepsCount result (S.write_faults sink.old) (S.write_faults sink.new) }
     ensures by { S.by_write sink.old sink.new }
 {
-    write_limit(sink, template)?;
+    write_head(sink, template)?;
     write_thresholds(sink, template.thresholds.as_slice())
 }
 
@@ -67,56 +67,6 @@ pub fn write_templates<S: Sink>(sink: &mut S, engine: &Engine) -> Result<(), Tex
     let templates = engine.templates();
     for place in 0..templates.count() {
         write_template(sink, templates.at(place))?;
-    }
-    Ok(())
-}
-
-// Writes the line of the template of an auto-apply quota.
-fn write_source<S: Sink>(sink: &mut S, name: &str) -> Result<(), TextFault>
-    ensures text { Sends result (S.shown sink.old) (S.shown sink.new) (deep_line (codes "template" ∷ name.now ∷ [])) }
-    ensures fault { IsErrOf result TextFault.WriteFault → Rose (S.write_faults sink.old) (S.write_faults sink.new) }
-    ensures later { S.write_faults sink.old ≤ S.write_faults sink.new }
-    ensures same { KeepsCount result (S.write_faults sink.old) (S.write_faults sink.new) }
-    ensures by { S.by_write sink.old sink.new }
-{
-    send(
-        sink,
-        &[
-            Part::Text(b"    template "),
-            Part::Text(name.as_bytes()),
-            Part::Text(b"\n"),
-        ],
-    )
-}
-
-// Writes the line of a name that an auto-apply quota excludes.
-fn write_name<S: Sink>(sink: &mut S, name: &Text) -> Result<(), TextFault>
-    ensures text { Sends result (S.shown sink.old) (S.shown sink.new) (excluded_text name.now) }
-    ensures fault { IsErrOf result TextFault.WriteFault → Rose (S.write_faults sink.old) (S.write_faults sink.new) }
-    ensures later { S.write_faults sink.old ≤ S.write_faults sink.new }
-    ensures same { KeepsCount result (S.write_faults sink.old) (S.write_faults sink.new) }
-    ensures by { S.by_write sink.old sink.new }
-{
-    send(
-        sink,
-        &[
-            Part::Text(b"    except "),
-            Part::Text(name.as_str().as_bytes()),
-            Part::Text(b"\n"),
-        ],
-    )
-}
-
-// Writes the lines of the names that an auto-apply quota excludes.
-fn write_excluded<S: Sink>(sink: &mut S, names: &[Text]) -> Result<(), TextFault>
-    ensures text { Sends result (S.shown sink.old) (S.shown sink.new) (flat_map excluded_text names.now) }
-    ensures fault { IsErrOf result TextFault.WriteFault → Rose (S.write_faults sink.old) (S.write_faults sink.new) }
-    ensures later { S.write_faults sink.old ≤ S.write_faults sink.new }
-    ensures same { KeepsCount result (S.write_faults sink.old) (S.write_faults sink.new) }
-    ensures by { S.by_write sink.old sink.new }
-{
-    for name in names {
-        write_name(sink, name)?;
     }
     Ok(())
 }
@@ -141,8 +91,8 @@ fn write_auto<S: Sink, L: Ledger>(
     let path = engine.path_text(alloc, auto.folder, steps)?;
     let template = engine.templates().template(auto.template).unwrap();
     write_word(sink, path.as_str())?;
-    write_source(sink, template.name.as_str())?;
-    write_excluded(sink, auto.excluded.as_slice())
+    write_labelled(sink, b"template", &template.name)?;
+    write_each_labelled(sink, b"except", auto.excluded.as_slice())
 }
 
 /// Writes the lines of all auto-apply quotas.

@@ -15,7 +15,8 @@ ghost use Rattle.reply_text.specs.Writes.{KeepsCount, Sends};
 
 use crate::actions::write_dos;
 use crate::fault::TextFault;
-use crate::groups::{write_names, write_word};
+use crate::groups::write_names;
+use crate::lines::write_word;
 use crate::sending::{Part, send};
 use fsrm_engine::Engine;
 use fsrm_model::{ExceptRow, Ledger, ScreenRow, Steps};

@@ -1,10 +1,8 @@
 //! Rows of templates and auto-apply quotas: where they stand, and how long their texts are.
 
-ghost use Rattle.std.specs.Prelude.{◌≡◌, ◌==◌, ◌<◌, ◌≤◌, ◌^◌, length, option_map};
+ghost use Rattle.std.specs.Prelude.{◌≡◌, ◌==◌, ◌<◌, ◌^◌, option_map};
 ghost use Rattle.std.specs.List.{list_any};
-ghost use Rattle.fsrm_base.specs.Keyed.{least_free};
 ghost use Rattle.fsrm_model.specs.AutoApply.{excludes};
-ghost use Rattle.fsrm_model.specs.Limits.{most_templates};
 ghost use Rattle.fsrm_model.specs.Templates.{template_named, template_number};
 ghost use Rattle.fsrm_model.specs.Texts.{auto_bytes, template_bytes};
 
@@ -42,21 +40,6 @@ impl Key for ByFolder {
     fn number(auto: &AutoRow) -> u32 {
         auto.folder
     }
-}
-
-/// The least number that no template has.
-pub fn free_number(templates: &[TemplateRow]) -> u32
-    requires { length templates.now ≤ most_templates }
-    ensures { result ≡ least_free template_number templates.now }
-{
-    let mut number = 0;
-    for template in templates {
-        if template.number != number {
-            return number;
-        }
-        number += 1;
-    }
-    number
 }
 
 /// The number of the first template of a name, in any spelling.

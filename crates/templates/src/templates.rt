@@ -14,7 +14,7 @@ ghost use Rattle.templates.specs.Held.{numbered, texts_in, with_other, with_temp
 use crate::answer::TemplateFault;
 use crate::rows;
 use crate::rows::ByNumber;
-use fsrm_base::places::{gap, search};
+use fsrm_base::places::{free_number, gap, search};
 use fsrm_model::limits::MOST_TEMPLATES;
 use fsrm_model::{AutoRow, NoMemory, TemplateRow};
 use std::alloc::Global;
@@ -69,7 +69,7 @@ impl Templates {
         ensures err { OnErr result (self.new ≡ self.old) }
     {
         self.admit(&row, room)?;
-        let number = rows::free_number(&self.templates);
+        let number = free_number::<ByNumber>(&self.templates);
         self.insert(TemplateRow { number, ..row })?;
         Ok(number)
     }

@@ -1,4 +1,4 @@
-//! The thresholds of quotas and the actions of quotas and screens, in the values of options.
+//! The thresholds of quotas and templates, and the actions of these and of screens, in the values of options.
 
 ghost use Rattle.std.specs.Prelude.{◌≡◌, ◌≤◌, false, IfOk, MatchOption};
 ghost use Rattle.std.specs.List.{list_all, list_any};

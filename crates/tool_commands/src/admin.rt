@@ -1,19 +1,16 @@
-//! The commands on the settings of the service and on the log of actions, and which commands a tool has.
+//! The commands on the settings of the service and on the log of actions, each read from the options after its name.
 
 ghost use Rattle.std.specs.Prelude.{◌≡◌};
-ghost use Rattle.fsrm_model.specs.Line.{option_words, named_word, tool_words};
+ghost use Rattle.fsrm_model.specs.Line.{option_words, named_word};
 ghost use Rattle.fsrm_model.specs.Options.{TheRunLimit};
-ghost use Rattle.fsrm_model.specs.Tools.{admin_commands, admin_options, dirquota};
+ghost use Rattle.fsrm_model.specs.Tools.{admin_commands, admin_options};
 ghost use Rattle.tool_commands.specs.RunLimitOption.{HoldsRunLimit};
 ghost use Rattle.tool_commands.specs.LineFaults.{Reads};
 ghost use Rattle.tool_commands.specs.Taking.{left, end};
 
 use crate::actions::read_run_limit;
-use crate::autos::autoquota;
 use crate::options::{OptionKey, Values, once, read_options};
-use crate::quotas::quota;
 use crate::reading::LineFault;
-use crate::templates::template;
 use crate::values::is_named;
 use crate::words::Words;
 use fsrm_model::{AdminDeed, Deed};
@@ -66,7 +63,8 @@ fn options(alloc: Global, words: &mut Words<'_>) -> Result<Deed, LineFault>
     Ok(Deed::Admin(AdminDeed::Options { run_limit }))
 }
 
-fn admin(alloc: Global, words: &mut Words<'_>) -> Result<Deed, LineFault>
+/// What the words after `dirquota admin` spell.
+pub fn admin(alloc: Global, words: &mut Words<'_>) -> Result<Deed, LineFault>
     ensures { Reads result (named_word admin_commands (end words.old) (left words.old) (λ command more. option_words command (end words.old) more)) }
 {
     let name = words.next(alloc)?;
@@ -81,28 +79,6 @@ fn admin(alloc: Global, words: &mut Words<'_>) -> Result<Deed, LineFault>
     if is_named("log", word) {
         words.finish()?;
         return Ok(Deed::Admin(AdminDeed::Log));
-    }
-    Err(LineFault::bad_line(name.column))
-}
-
-/// What the words after `dirquota` spell.
-#[inline(never)]
-pub fn dirquota(alloc: Global, words: &mut Words<'_>) -> Result<Deed, LineFault>
-    ensures { Reads result (tool_words dirquota (end words.old) (left words.old)) }
-{
-    let name = words.next(alloc)?;
-    let word = name.text.as_str();
-    if is_named("quota", word) {
-        return quota(alloc, words);
-    }
-    if is_named("template", word) {
-        return template(alloc, words);
-    }
-    if is_named("autoquota", word) {
-        return autoquota(alloc, words);
-    }
-    if is_named("admin", word) {
-        return admin(alloc, words);
     }
     Err(LineFault::bad_line(name.column))
 }

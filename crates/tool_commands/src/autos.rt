@@ -8,11 +8,10 @@ ghost use Rattle.tool_commands.specs.LineFaults.{Reads};
 ghost use Rattle.tool_commands.specs.OptionWords.{KeepsFew};
 ghost use Rattle.tool_commands.specs.Taking.{left, end};
 
-use crate::options::{OptionKey, Values, again, once, read_options};
+use crate::options::{OptionKey, Values, once, read_options};
 use crate::paths::path_alone;
-use crate::patterns::read_object_name;
 use crate::reading::LineFault;
-use crate::values::{is_named, read_name, read_path_word};
+use crate::values::{is_named, read_name, read_object_name, read_path_word};
 use crate::words::Words;
 use fsrm_model::limits::MOST_EXCLUDED;
 use fsrm_model::{AutoquotaDeed, Deed, List, Path, Refusal, Text};
@@ -39,7 +38,7 @@ impl OptionKey for AutoKey {
 }
 
 /// What may be given of an auto-apply quota.
-const KEYS: [AutoKey; 3] = [AutoKey::Path, AutoKey::Source, AutoKey::Exclude];
+const ADD_KEYS: [AutoKey; 3] = [AutoKey::Path, AutoKey::Source, AutoKey::Exclude];
 
 /// What was given of it.
 #[derive(Drop)]
@@ -59,7 +58,8 @@ fn exclude(excluded: &mut List<Text>, name: Result<Text, LineFault>) -> Result<(
     if excluded.len() >= MOST_EXCLUDED {
         return Err(LineFault::Refused(Refusal::OutOfRange));
     }
-    again(excluded, Ok(name))
+    excluded.push(name)?;
+    Ok(())
 }
 
 impl Values for AutoOptions {
@@ -93,7 +93,7 @@ impl Values for AutoOptions {
 fn add(alloc: Global, words: &mut Words<'_>) -> Result<Deed, LineFault>
     ensures { Reads result (option_words auto_add (end words.old) (left words.old)) }
 {
-    let given: AutoOptions = read_options(alloc, &KEYS, words)?;
+    let given: AutoOptions = read_options(alloc, &ADD_KEYS, words)?;
     let missing = LineFault::bad_line(words.end());
     let path = given.path.ok_or(missing)?;
     let source_template = given.source.ok_or(missing)?;

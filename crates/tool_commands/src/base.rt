@@ -10,7 +10,7 @@ use crate::values::read_choice;
 use fsrm_model::{Added, List};
 use std::alloc::Global;
 
-/// One of these options.
+/// An option that quotas and templates have alike.
 #[derive(Clone, Copy)]
 pub enum BaseKey {
     Limit,
@@ -34,7 +34,7 @@ impl OptionKey for BaseKey {
     }
 }
 
-/// What they give.
+/// What these options give.
 #[derive(Drop)]
 pub struct BaseOptions {
     /// In bytes.

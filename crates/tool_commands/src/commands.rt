@@ -6,9 +6,8 @@ ghost use Rattle.fsrm_model.specs.Tools.{dirquota, filescrn, tools};
 ghost use Rattle.tool_commands.specs.LineFaults.{ReadsWords, at_moment};
 ghost use Rattle.tool_commands.specs.Taking.{left, end, lent_word, named_by};
 
-use crate::admin::dirquota;
 use crate::reading::LineFault;
-use crate::screens::filescrn;
+use crate::tools::{dirquota, filescrn};
 use crate::values::is_named;
 use crate::words::{LentWord, Words};
 use fsrm_model::{Command, Deed, FileOp};

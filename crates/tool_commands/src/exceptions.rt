@@ -16,12 +16,12 @@ use fsrm_model::{Deed, ExceptionDeed};
 use std::alloc::Global;
 
 /// What may be given of an exception.
-const KEYS: [ScreenKey; 2] = [ScreenKey::Path, ScreenKey::AddGroup];
+const ADD_KEYS: [ScreenKey; 2] = [ScreenKey::Path, ScreenKey::AddGroup];
 
 fn add(alloc: Global, words: &mut Words<'_>) -> Result<Deed, LineFault>
     ensures { Reads result (option_words except_add (end words.old) (left words.old)) }
 {
-    let given: ScreenOptions = read_options(alloc, &KEYS, words)?;
+    let given: ScreenOptions = read_options(alloc, &ADD_KEYS, words)?;
     let missing = LineFault::bad_line(words.end());
     let path = given.path.ok_or(missing)?;
     if given.added_groups.is_empty() {

@@ -8,9 +8,9 @@ ghost use Rattle.tool_commands.specs.LineFaults.{Reads};
 ghost use Rattle.tool_commands.specs.Taking.{left, end};
 
 use crate::options::{OptionKey, Values, once, read_options};
-use crate::patterns::{read_non_members, read_object_name, read_patterns};
+use crate::patterns::{read_non_members, read_patterns};
 use crate::reading::LineFault;
-use crate::values::is_named;
+use crate::values::{is_named, read_object_name};
 use crate::words::Words;
 use fsrm_model::{Deed, FilegroupDeed, List, Text};
 use std::alloc::Global;

@@ -19,6 +19,7 @@ mod quotas;
 mod reading;
 mod screens;
 mod templates;
+mod tools;
 mod values;
 mod words;
 

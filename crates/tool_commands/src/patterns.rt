@@ -1,10 +1,10 @@
-//! The names of file groups and of templates, and the patterns of file groups, in the values of options.
+//! The patterns of file groups, in the values of options.
 
 ghost use Rattle.std.specs.Prelude.{◌≡◌, nat_le, length, IfOk};
 ghost use Rattle.std.specs.List.{list_all, slice_split};
-ghost use Rattle.fsrm_model.specs.GroupWords.{is_bar, non_members_from, object_from, patterns_from};
+ghost use Rattle.fsrm_model.specs.GroupWords.{is_bar, non_members_from, patterns_from};
 ghost use Rattle.fsrm_model.specs.Limits.{most_patterns};
-ghost use Rattle.fsrm_model.specs.Patterns.{is_object_byte, is_object_name, is_pattern};
+ghost use Rattle.fsrm_model.specs.Patterns.{is_pattern};
 ghost use Rattle.tool_commands.specs.LineFaults.{Reads};
 
 use crate::reading::LineFault;
@@ -12,36 +12,7 @@ use file_groups::is_pattern;
 use fsrm_model::limits::MOST_PATTERNS;
 use fsrm_model::{List, NoMemory, Refusal, Text};
 use memchr::memchr_iter;
-use name_rules::is_name_length;
 use std::alloc::Global;
-
-fn is_object_byte(byte: u8) -> bool
-    ensures { result ≡ is_object_byte byte }
-{
-    byte >= 32 && byte != 127 && byte != b'|'
-}
-
-fn are_object_bytes(bytes: &[u8]) -> bool
-    ensures { result ≡ list_all is_object_byte bytes.now }
-{
-    bytes.iter().all(|byte| is_object_byte(*byte))
-}
-
-fn is_object_name(text: &str) -> bool
-    ensures { result ≡ is_object_name text.now }
-{
-    is_name_length(text.len()) && are_object_bytes(text.as_bytes())
-}
-
-/// The name of a file group or of a template that a text is: 1 to 255 bytes, no `|` and no control character.
-pub fn read_object_name(alloc: Global, text: &str) -> Result<Text, LineFault>
-    ensures { Reads result (object_from text.now) }
-{
-    if !is_object_name(text) {
-        return Err(LineFault::Refused(Refusal::InvalidName));
-    }
-    Ok(Text::from_str(alloc, text)?)
-}
 
 // Whether each part of a text between bars is a pattern.
 fn are_patterns(text: &str) -> bool

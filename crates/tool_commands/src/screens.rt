@@ -1,20 +1,17 @@
-//! The commands on screens, each read from the options after its name, and which commands their tool has.
+//! The commands on screens, each read from the options after its name.
 
 ghost use Rattle.std.specs.Prelude.{◌≡◌};
-ghost use Rattle.fsrm_model.specs.Line.{option_words, named_word, tool_words};
-ghost use Rattle.fsrm_model.specs.Tools.{filescrn, screen_add, screen_commands, screen_modify};
+ghost use Rattle.fsrm_model.specs.Line.{option_words, named_word};
+ghost use Rattle.fsrm_model.specs.Tools.{screen_add, screen_commands, screen_modify};
 ghost use Rattle.tool_commands.specs.LineFaults.{Reads};
 ghost use Rattle.tool_commands.specs.ScreenOptions.{HoldsScreen, screen_key};
 ghost use Rattle.tool_commands.specs.Taking.{left, end};
 
 use crate::actions::read_screen_action;
-use crate::exceptions::exception;
-use crate::groups::filegroup;
 use crate::options::{OptionKey, Values, again, once, read_options};
 use crate::paths::path_alone;
-use crate::patterns::read_object_name;
 use crate::reading::LineFault;
-use crate::values::{is_named, read_choice, read_path_word};
+use crate::values::{is_named, read_choice, read_object_name, read_path_word};
 use crate::words::Words;
 use fsrm_model::{Action, Deed, List, Path, ScreenDeed, Text};
 use std::alloc::Global;
@@ -140,7 +137,8 @@ fn modify(alloc: Global, words: &mut Words<'_>) -> Result<Deed, LineFault>
     }))
 }
 
-fn screen(alloc: Global, words: &mut Words<'_>) -> Result<Deed, LineFault>
+/// What the words after `filescrn screen` spell.
+pub fn screen(alloc: Global, words: &mut Words<'_>) -> Result<Deed, LineFault>
     ensures { Reads result (named_word screen_commands (end words.old) (left words.old) (λ command more. option_words command (end words.old) more)) }
 {
     let name = words.next(alloc)?;
@@ -158,25 +156,6 @@ fn screen(alloc: Global, words: &mut Words<'_>) -> Result<Deed, LineFault>
     if is_named("list", word) {
         words.finish()?;
         return Ok(Deed::Screen(ScreenDeed::List));
-    }
-    Err(LineFault::bad_line(name.column))
-}
-
-/// What the words after `filescrn` spell.
-#[inline(never)]
-pub fn filescrn(alloc: Global, words: &mut Words<'_>) -> Result<Deed, LineFault>
-    ensures { Reads result (tool_words filescrn (end words.old) (left words.old)) }
-{
-    let name = words.next(alloc)?;
-    let word = name.text.as_str();
-    if is_named("filegroup", word) {
-        return filegroup(alloc, words);
-    }
-    if is_named("screen", word) {
-        return screen(alloc, words);
-    }
-    if is_named("exception", word) {
-        return exception(alloc, words);
     }
     Err(LineFault::bad_line(name.column))
 }

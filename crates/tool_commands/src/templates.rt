@@ -9,9 +9,8 @@ ghost use Rattle.tool_commands.specs.Taking.{left, end};
 
 use crate::base::{BaseKey, BaseOptions};
 use crate::options::{OptionKey, Values, once, read_options};
-use crate::patterns::read_object_name;
 use crate::reading::LineFault;
-use crate::values::{is_named, read_update};
+use crate::values::{is_named, read_object_name, read_update};
 use crate::words::Words;
 use fsrm_model::{Deed, TemplateDeed, Text, Update};
 use std::alloc::Global;

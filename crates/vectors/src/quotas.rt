@@ -46,14 +46,6 @@ fn roomy(alloc: Global) -> Result<Objects, Fail> {
     Ok(objects)
 }
 
-#[test]
-fn a_quota_may_come(rt: HostRuntime) -> Result<(), Fail> {
-    let objects = roomy(rt.alloc())?;
-    assert!(rt; objects.may_add(&quota(rt.alloc(), 5, 5_000), 0).is_ok());
-    assert!(rt; objects.quota_count() == 0);
-    Ok(())
-}
-
 // Two quotas, of which one was derived from template 3.
 fn derived(alloc: Global) -> Result<Objects, Fail> {
     let mut objects = roomy(alloc)?;

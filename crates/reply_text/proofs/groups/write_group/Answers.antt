@@ -10,17 +10,17 @@ returns-in_err-write_word-clause-text g c =
     sends_front c.from_residual.result _ _ _ c.from_residual.ensures.0
     (front_first (sink.shown c.args.sink.now) (sink.shown c.write_word.new.sink) _ _ _ (group_shown group c.as_str.result.now group.members group.non_members c.as_str.ensures refl refl) c.in_err-write_word.ensures.text)
 
-pub returns-in_err-write_patterns-clause-text : goal.returns-in_err-write_patterns-clause-text
-returns-in_err-write_patterns-clause-text g c =
+pub returns-in_err-write_each_labelled-clause-text : goal.returns-in_err-write_each_labelled-clause-text
+returns-in_err-write_each_labelled-clause-text g c =
     let sink = g.S.Sink in
     let group = c.args.group.now in
-    sends_front c.from_residual-in_err-write_patterns.result _ _ _ c.from_residual-in_err-write_patterns.ensures.0
-    (front_second (sink.shown c.args.sink.now) (sink.shown c.write_word.new.sink) (sink.shown c.write_patterns.new.sink) _ _ _ _ (group_shown group c.as_str.result.now c.as_slice.result.now group.non_members c.as_str.ensures c.as_slice.ensures refl) c.in_ok-write_word.ensures.text c.in_err-write_patterns.ensures.text)
+    sends_front c.from_residual-in_err-write_each_labelled.result _ _ _ c.from_residual-in_err-write_each_labelled.ensures.0
+    (front_second (sink.shown c.args.sink.now) (sink.shown c.write_word.new.sink) (sink.shown c.write_each_labelled.new.sink) _ _ _ _ (group_shown group c.as_str.result.now c.as_slice.result.now group.non_members c.as_str.ensures c.as_slice.ensures refl) c.in_ok-write_word.ensures.text c.in_err-write_each_labelled.ensures.text)
 
 pub returns-clause-text : goal.returns-clause-text
 returns-clause-text g c =
     let sink = g.S.Sink in
     let group = c.args.group.now in
-    sends_third c.write_patterns-2.result (sink.shown c.args.sink.now) (sink.shown c.write_word.new.sink) (sink.shown c.write_patterns.new.sink) (sink.shown c.write_patterns-2.new.sink) _ _ _ _
+    sends_third c.write_each_labelled-2.result (sink.shown c.args.sink.now) (sink.shown c.write_word.new.sink) (sink.shown c.write_each_labelled.new.sink) (sink.shown c.write_each_labelled-2.new.sink) _ _ _ _
     (group_shown group c.as_str.result.now c.as_slice.result.now c.as_slice-2.result.now c.as_str.ensures c.as_slice.ensures c.as_slice-2.ensures)
-    c.in_ok-write_word.ensures.text c.in_ok-write_patterns.ensures.text c.write_patterns-2.ensures.text
+    c.in_ok-write_word.ensures.text c.in_ok-write_each_labelled.ensures.text c.write_each_labelled-2.ensures.text

@@ -23,17 +23,17 @@ returns-in_err-write_word-clause-text g c =
     (auto_shown rows.nodes rows.templates auto template c.as_str.result.now template.name auto.excluded is (c.as_str.ensures ∙ c.in_ok-path.ensures.text) refl refl)
     c.in_err-write_word.ensures.text)
 
-pub returns-in_err-write_source-clause-text : goal.returns-in_err-write_source-clause-text
-returns-in_err-write_source-clause-text g c =
+pub returns-in_err-write_labelled-clause-text : goal.returns-in_err-write_labelled-clause-text
+returns-in_err-write_labelled-clause-text g c =
     let sink = g.S.Sink in
     let rows = c.args.engine.now.rows in
     let auto = c.args.auto.now in
     let template = c.unwrap-template.result.now in
     let is = source_is c.template.result c.unwrap-template.result c.templates.result.now.templates rows.templates auto.template c.template.ensures c.templates.ensures.templates c.unwrap-template.ensures in
-    sends_front c.from_residual-in_err-write_source.result _ _ _ c.from_residual-in_err-write_source.ensures.0
-    (front_second (sink.shown c.args.sink.now) (sink.shown c.write_word.new.sink) (sink.shown c.write_source.new.sink) _ _ _ _
-    (auto_shown rows.nodes rows.templates auto template c.as_str.result.now c.as_str-2.result.now auto.excluded is (c.as_str.ensures ∙ c.in_ok-path.ensures.text) c.as_str-2.ensures refl)
-    c.in_ok-write_word.ensures.text c.in_err-write_source.ensures.text)
+    sends_front c.from_residual-in_err-write_labelled.result _ _ _ c.from_residual-in_err-write_labelled.ensures.0
+    (front_second (sink.shown c.args.sink.now) (sink.shown c.write_word.new.sink) (sink.shown c.write_labelled.new.sink) _ _ _ _
+    (auto_shown rows.nodes rows.templates auto template c.as_str.result.now template.name auto.excluded is (c.as_str.ensures ∙ c.in_ok-path.ensures.text) refl refl)
+    c.in_ok-write_word.ensures.text c.in_err-write_labelled.ensures.text)
 
 pub returns-clause-text : goal.returns-clause-text
 returns-clause-text g c =
@@ -42,6 +42,6 @@ returns-clause-text g c =
     let auto = c.args.auto.now in
     let template = c.unwrap-template.result.now in
     let is = source_is c.template.result c.unwrap-template.result c.templates.result.now.templates rows.templates auto.template c.template.ensures c.templates.ensures.templates c.unwrap-template.ensures in
-    sends_third c.write_excluded.result (sink.shown c.args.sink.now) (sink.shown c.write_word.new.sink) (sink.shown c.write_source.new.sink) (sink.shown c.write_excluded.new.sink) _ _ _ _
-    (auto_shown rows.nodes rows.templates auto template c.as_str.result.now c.as_str-2.result.now c.as_slice.result.now is (c.as_str.ensures ∙ c.in_ok-path.ensures.text) c.as_str-2.ensures c.as_slice.ensures)
-    c.in_ok-write_word.ensures.text c.in_ok-write_source.ensures.text c.write_excluded.ensures.text
+    sends_third c.write_each_labelled.result (sink.shown c.args.sink.now) (sink.shown c.write_word.new.sink) (sink.shown c.write_labelled.new.sink) (sink.shown c.write_each_labelled.new.sink) _ _ _ _
+    (auto_shown rows.nodes rows.templates auto template c.as_str.result.now template.name c.as_slice.result.now is (c.as_str.ensures ∙ c.in_ok-path.ensures.text) refl c.as_slice.ensures)
+    c.in_ok-write_word.ensures.text c.in_ok-write_labelled.ensures.text c.write_each_labelled.ensures.text

@@ -1,0 +1,73 @@
+//! Writes lines that several lists have: those of a word alone, and of a text after the label that tells what it is.
+
+ghost use Rattle.std.specs.Prelude.{◌≤◌, ◌∷◌, [], IsErrOf, flat_map};
+ghost use Rattle.fsrm_model.specs.Printed.{body_line};
+ghost use Rattle.fsrm_outside.specs.Causes.{Rose};
+ghost use Rattle.reply_text.specs.Lines.{labelled_text};
+ghost use Rattle.reply_text.specs.Writes.{KeepsCount, Sends};
+
+use crate::fault::TextFault;
+use crate::sending::{Part, send};
+use fsrm_model::Text;
+use fsrm_outside::Sink;
+
+/// Writes a line that a word stands on alone: a group's name, or the path of the folder of an exception or an auto-apply
+/// quota.
+pub fn write_word<S: Sink>(sink: &mut S, word: &str) -> Result<(), TextFault>
+    ensures text { Sends result (S.shown sink.old) (S.shown sink.new) (body_line (word.now ∷ [])) }
+    ensures fault { IsErrOf result TextFault.WriteFault → Rose (S.write_faults sink.old) (S.write_faults sink.new) }
+    ensures later { S.write_faults sink.old ≤ S.write_faults sink.new }
+    ensures same { KeepsCount result (S.write_faults sink.old) (S.write_faults sink.new) }
+    ensures by { S.by_write sink.old sink.new }
+{
+    send(
+        sink,
+        &[
+            Part::Text(b"  "),
+            Part::Text(word.as_bytes()),
+            Part::Text(b"\n"),
+        ],
+    )
+}
+
+/// Writes the line of a text after its label: a pattern, say, after what it is to its group.
+pub fn write_labelled<S: Sink>(
+    sink: &mut S,
+    label: &'static [u8],
+    text: &Text,
+) -> Result<(), TextFault>
+    ensures text { Sends result (S.shown sink.old) (S.shown sink.new) (labelled_text label.now text.now) }
+    ensures fault { IsErrOf result TextFault.WriteFault → Rose (S.write_faults sink.old) (S.write_faults sink.new) }
+    ensures later { S.write_faults sink.old ≤ S.write_faults sink.new }
+    ensures same { KeepsCount result (S.write_faults sink.old) (S.write_faults sink.new) }
+    ensures by { S.by_write sink.old sink.new }
+{
+    send(
+        sink,
+        &[
+            Part::Text(b"    "),
+            Part::Text(label),
+            Part::Text(b" "),
+            Part::Text(text.as_str().as_bytes()),
+            Part::Text(b"\n"),
+        ],
+    )
+}
+
+/// Writes the lines of texts, each after this label.
+pub fn write_each_labelled<S: Sink>(
+    sink: &mut S,
+    label: &'static [u8],
+    texts: &[Text],
+) -> Result<(), TextFault>
+    ensures text { Sends result (S.shown sink.old) (S.shown sink.new) (flat_map (labelled_text label.now) texts.now) }
+    ensures fault { IsErrOf result TextFault.WriteFault → Rose (S.write_faults sink.old) (S.write_faults sink.new) }
+    ensures later { S.write_faults sink.old ≤ S.write_faults sink.new }
+    ensures same { KeepsCount result (S.write_faults sink.old) (S.write_faults sink.new) }
+    ensures by { S.by_write sink.old sink.new }
+{
+    for text in texts {
+        write_labelled(sink, label, text)?;
+    }
+    Ok(())
+}
