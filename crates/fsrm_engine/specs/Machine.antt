@@ -1,5 +1,5 @@
 -- An engine's parts, and how the plain machine sees them.
-use Rattle.std.specs.Prelude.{◌≡◌, ℕ, ◌≤◌, Bool, true, List, [], map, filter, Some}
+use Rattle.std.specs.Prelude.{◌≡◌, ℕ, ◌≤◌, Bool, true, false, List, [], map, filter, Some}
 use Rattle.fsrm_model.specs.declared.command.Act.{Act}
 use Rattle.fsrm_model.specs.declared.command.Answer.{Answer}
 use Rattle.fsrm_model.specs.declared.command.Deed.{Deed}
@@ -22,9 +22,10 @@ use Rattle.number_set.specs.Numbers.{no_numbers}
 use Rattle.quota_usage.specs.declared.change.Change.{Change}
 use Rattle.quota_usage.specs.declared.change.Counter.{Counter}
 use Rattle.quota_usage.specs.Charge.{charged_counter}
-use Rattle.rescan.specs.Courses.{Scanning, Turns, left}
+use Rattle.rescan.specs.Courses.{Course, Scanning, Turns, left}
 use Rattle.thresholds.specs.Marked.{waiting, are_there, all_waiting, screen_waiting, are_screen_acts}
 use Rattle.thresholds.specs.Settled.{Settles}
+use Rattle.volume_tree.specs.Volume.{Volume}
 use Rattle.fsrm_engine.specs.declared.parts.Parts.{Parts}
 use Rattle.fsrm_engine.specs.Peaks.{raised_above}
 
@@ -64,6 +65,24 @@ rows_of parts =
 abbrev pub machine_of : Parts → Machine
 machine_of parts =
     record { size = parts.tree.size; rows = rows_of parts; waiting = all_waiting parts.objects parts.marks }
+
+-- the parts over a tree, with these scans and nothing else
+abbrev pub bare : Volume → Course → Parts
+bare tree scans =
+    record {
+      tree = tree;
+      objects = record { quotas = []; screens = []; excepts = []; room = 0 };
+      groups = [];
+      templates = record { templates = []; autos = [] };
+      usage = [];
+      scans = scans;
+      marks = record { numbers = []; log = []; folder = 0; places = [] };
+      audit = [];
+      crossing = no_numbers most_quotas;
+      run_limit = 60;
+      last_moment = 0;
+      level = false;
+    }
 
 -- ---- what is known of the parts
 -- what the files at and below a quota's folder take

@@ -1,12 +1,16 @@
 -- A node that moves, and what is known of it before it does.
-use Rattle.std.specs.Prelude.{◌≡◌, ℕ, ◌==◌, ◌≤◌, ◌||◌, nat_lt, true, false, length, List, Option, Some, None, is_some, option_map, if◌then◌else◌}
+use Rattle.std.specs.Prelude.{◌≡◌, ℕ, ◌==◌, ◌≤◌, ◌||◌, nat_lt, true, false, length, List, IfSome, Option, Some, None, is_some, option_map, if◌then◌else◌}
+use Rattle.fsrm_base.specs.Keyed.{has_row}
+use Rattle.fsrm_model.specs.declared.row.QuotaRow.{QuotaRow}
 use Rattle.fsrm_model.specs.Screens.{judging}
+use Rattle.fsrm_model.specs.Templates.{template_number}
 use Rattle.fsrm_model.specs.Tree.{is_folder, owner_of, parent_of, resolve, usage}
 use Rattle.volume_tree.specs.Volume.{Volume, move_fault}
 use Rattle.file_screens.specs.declared.answer.Blocked.{Blocked}
 use Rattle.file_screens.specs.Blocked.{told}
 use Rattle.quota_usage.specs.declared.change.Change.{Change}
 use Rattle.quota_usage.specs.Charge.{exceeded_by}
+use Rattle.templates.specs.Held.{Held}
 use Rattle.fsrm_engine.specs.declared.moves.Moving.{Moving}
 use Rattle.fsrm_engine.specs.declared.parts.Parts.{Parts}
 use Rattle.fsrm_engine.specs.Machine.{rows_of}
@@ -24,9 +28,10 @@ pub record IsMove (v : Volume) (from to : List (List ℕ)) (m : Moving) : Type 0
   pub owner : owner_of v.nodes m.node ≡ m.owner
   pub kind : is_folder v.nodes m.node ≡ m.folder
 
--- the template of which it gets a quota
-abbrev pub source_of_move : Parts → Moving → Option ℕ
-source_of_move parts m = moved_source parts.objects.quotas parts.templates.autos m.node m.folder m.place.folder m.place.name.now
+-- the template of which it gets a quota, which is there
+pub record IsSourceOfMove (quotas : List QuotaRow) (held : Held) (m : Moving) (source : Option ℕ) : Type 0 where
+  pub is : source ≡ moved_source quotas held.autos m.node m.folder m.place.folder m.place.name.now
+  pub there : IfSome source (λ template. has_row template_number template held.templates ≡ true)
 
 -- the screen that judges its new name
 abbrev pub judged_move : Parts → Moving → Option Blocked
@@ -45,7 +50,7 @@ change_of m bytes = record { from = Some m.parent; to = Some m.place.folder; min
 -- nothing refuses the move
 pub record MayMove (parts : Parts) (from to : List (List ℕ)) (m : Moving) (source : Option ℕ) (judged : Option Blocked) (bytes : ℕ) : Type 0 where
   pub is : IsMove parts.tree from to m
-  pub source_is : source ≡ source_of_move parts m
+  pub source_is : IsSourceOfMove parts.objects.quotas parts.templates m source
   pub may_come : source_fault parts source ≡ None
   pub judged_is : judged ≡ judged_move parts m
   pub passive : is_active judged ≡ false

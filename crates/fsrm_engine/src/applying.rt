@@ -39,9 +39,8 @@ pub fn derived_row<L: Ledger>(
     ensures row { IfOk result (λ row. (source : TemplateRow) → template_of templates.now.templates template ≡ Some source → row ≡ derived source folder (start tree.now.nodes folder) moment) }
     ensures looks { steps.new ≤ steps.old + 1 }
 {
-    let mut row = templates.derive(alloc, template, folder, moment)?;
-    row.state = first_state(tree, folder, true, steps);
-    Ok(row)
+    let state = first_state(tree, folder, true, steps);
+    templates.derive(alloc, template, folder, state, moment)
 }
 
 /// The same on each of these folders.
@@ -69,7 +68,7 @@ pub fn derived_rows<L: Ledger>(
 }
 
 impl Parts {
-    /// Refuses a quota of a template, or so many, if there would be too many or their texts too long for this room.
+    /// Refuses so many quotas of a template if there would be more than 4,096 quotas, else if their texts are longer than `room`.
     pub(crate) fn may_derive(&self, template: u32, count: usize, room: u32) -> Result<(), Refusal>
         requires whole { IsWhole self.now }
         requires there { has_row template_number template self.now.templates.templates ≡ true }
@@ -106,7 +105,7 @@ impl Parts {
         Ok(())
     }
 
-    // The same if there is memory for all quotas that there may be.
+    // The same once there is memory for all quotas that there may be: then it can't fail.
     fn receive_each(&mut self, rows: Vec<QuotaRow>)
         requires sound { IsSound self.old }
         requires queue { IsQueue self.old.objects.quotas self.old.scans.queue }
@@ -120,6 +119,7 @@ impl Parts {
         }
     }
 
+    // One of them. Nothing refuses it, and there is memory.
     fn receive_one(&mut self, row: QuotaRow)
         requires sound { IsSound self.old }
         requires queue { IsQueue self.old.objects.quotas self.old.scans.queue }

@@ -17,7 +17,7 @@ ghost use Rattle.fsrm_engine.specs.Arrivals.{Receives, from_source, source_fault
 use crate::applying::derived_row;
 use crate::parts::Parts;
 use crate::places::Place;
-use fsrm_model::{Ledger, NoMemory, Refusal, Steps};
+use fsrm_model::{Ledger, NoMemory, QuotaState, Refusal, Steps};
 use std::alloc::Global;
 use volume_tree::Finger;
 
@@ -97,11 +97,14 @@ impl Parts {
         ensures looks { steps.new ≤ steps.old + 67 }
     {
         // Its number is known once it is made.
-        let mut row = self.templates.derive(alloc, template, 0, moment)?;
+        let mut row = self
+            .templates
+            .derive(alloc, template, 0, QuotaState::Complete, moment)?;
         let node = self
             .tree
             .make_folder(place.folder, place.name, vacancy, owner, moment, steps)?;
         row.folder = node;
+        // Nothing refuses it (`may_come`), so only memory can be wanting.
         let Ok(()) = self.add(row) else {
             self.tree.remove(node, steps).unwrap();
             return Err(NoMemory);

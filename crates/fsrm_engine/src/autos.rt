@@ -1,6 +1,6 @@
 //! The commands on auto-apply quotas.
 
-ghost use Rattle.std.specs.Prelude.{◌≡◌, ◌+◌, ◌*◌, ◌≤◌, ◌&&◌, ◌++◌, true, false, nat_le, length, filter, fold, map, IfErr, IfOk, MatchResult, OnOk, OnErr, Some, None};
+ghost use Rattle.std.specs.Prelude.{◌≡◌, ◌+◌, ◌*◌, ◌≤◌, ◌&&◌, ◌++◌, true, false, nat_le, length, filter, fold, IfErr, IfOk, MatchResult, OnOk, OnErr, Some, None};
 ghost use Rattle.std.specs.List.{list_all};
 ghost use Rattle.fsrm_base.specs.Keyed.{has_row};
 ghost use Rattle.fsrm_model.specs.declared.command.AutoquotaDeed.TheVariants.{Add as AutoquotaAdd, Delete as AutoquotaDelete, List as AutoquotaList};
@@ -11,7 +11,7 @@ ghost use Rattle.fsrm_model.specs.Cost.{deed_cost};
 ghost use Rattle.fsrm_model.specs.Limits.{latest_moment, most_excluded};
 ghost use Rattle.fsrm_model.specs.Name.{is_name};
 ghost use Rattle.fsrm_model.specs.Templates.{template_number};
-ghost use Rattle.fsrm_model.specs.Tree.{number, children, children_in_order, is_folder};
+ghost use Rattle.fsrm_model.specs.Tree.{number, children, is_folder};
 ghost use Rattle.fsrm_model.specs.Valid.{IsVolume};
 ghost use Rattle.templates.specs.Held.{with_auto};
 ghost use Rattle.fsrm_engine.specs.Applying.{AreComing, IsGiven, apply_refusal, gets_one, given_folders};
@@ -188,6 +188,7 @@ impl Parts {
     {
         let folder = row.folder;
         let room = self.room();
+        // Nothing refuses it (`may_apply`), so only memory can be wanting.
         let Ok(()) = self.templates.add_auto(row, room) else {
             return Err(NoMemory);
         };
@@ -222,7 +223,7 @@ impl Parts {
         let Some(folder) = folder_at(&self.tree, path, steps) else {
             return Ok(refused(Refusal::PathNotFound));
         };
-        if self.templates.auto_at(folder).is_some() {
+        if self.templates.auto(folder).is_some() {
             return Ok(refused(Refusal::AlreadyExists));
         }
         let Some(template) = self.templates.find(name.as_str()) else {
@@ -256,7 +257,7 @@ impl Parts {
         let Some(folder) = folder_at(&self.tree, path, steps) else {
             return refused(Refusal::PathNotFound);
         };
-        if self.templates.auto_at(folder).is_none() {
+        if self.templates.auto(folder).is_none() {
             return refused(Refusal::NotFound);
         }
         self.templates.drop_auto(folder);

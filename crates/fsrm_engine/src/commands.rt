@@ -118,7 +118,7 @@ impl Parts {
                 )
             }
             QuotaDeed::Delete { path } => Ok(self.quota_delete(path, moment, steps)),
-            QuotaDeed::Scan { path } => self.quota_scan(path, moment, steps),
+            QuotaDeed::Scan { path } => Ok(self.quota_scan(path, moment, steps)),
             QuotaDeed::Resetpeak { path } => Ok(self.quota_resetpeak(path, moment, steps)),
             QuotaDeed::List { path } => Ok(self.quota_list(path, moment, steps)),
         }

@@ -39,7 +39,7 @@ fn recount(usage: &mut Usage, folder: u32, counting: bool)
 }
 
 impl Parts {
-    /// The bytes of object texts that are left.
+    /// How many bytes of objects' texts may still come.
     pub(crate) fn room(&self) -> u32
         ensures { result ≡ text_room self.now }
     {

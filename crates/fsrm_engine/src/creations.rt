@@ -64,7 +64,7 @@ impl Parts {
             Ok(found) => found,
             Err(refusal) => return Ok(refused(refusal)),
         };
-        let source = self.templates.applies(place.folder, place.name);
+        let source = self.templates.template_for(place.folder, place.name);
         if let Err(refusal) = self.may_come(source) {
             return Ok(refused(refusal));
         }

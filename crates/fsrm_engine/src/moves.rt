@@ -14,8 +14,7 @@ ghost use Rattle.fsrm_model.specs.Tree.{number as key, under, usage};
 ghost use Rattle.fsrm_model.specs.Valid.{IsVolume};
 ghost use Rattle.fsrm_engine.specs.Faults.{refused_answer};
 ghost use Rattle.fsrm_engine.specs.Machine.{Does, IsIdle, IsSound, IsWhole, rows_of};
-ghost use Rattle.fsrm_engine.specs.Moves.{IsMove, MayMove, change_of};
-ghost use Rattle.fsrm_engine.specs.Arrivals.{moved_source};
+ghost use Rattle.fsrm_engine.specs.Moves.{IsMove, IsSourceOfMove, MayMove, change_of};
 
 use crate::exits::{refusal_of, refused};
 use crate::parts::Parts;
@@ -42,12 +41,12 @@ pub struct Moving<'a> {
 
 // The template of which a node gets a quota at its new place: a folder that has none, if an auto-apply quota gives it one there.
 fn moved_source(templates: &Templates, objects: &Objects, moving: &Moving<'_>) -> Option<u32>
-    ensures { result ≡ moved_source objects.now.quotas templates.now.autos moving.now.node moving.now.folder moving.now.place.folder moving.now.place.name.now }
+    ensures { IsSourceOfMove objects.now.quotas templates.now moving.now result }
 {
     if !moving.folder {
         return None;
     }
-    let source = templates.applies(moving.place.folder, moving.place.name)?;
+    let source = templates.template_for(moving.place.folder, moving.place.name)?;
     if objects.quota(moving.node).is_some() {
         return None;
     }

@@ -6,7 +6,7 @@ ghost use Rattle.fsrm_model.specs.Fresh.{new_rows};
 ghost use Rattle.fsrm_model.specs.Limits.{latest_moment};
 ghost use Rattle.fsrm_model.specs.declared.command.Outcome.TheVariants.{Done};
 ghost use Rattle.quota_usage.specs.Charge.{IsChange, Fits, exceeded_by, height};
-ghost use Rattle.fsrm_engine.specs.Machine.{machine_of, ended, AreCounted, IsWhole};
+ghost use Rattle.fsrm_engine.specs.Machine.{bare, machine_of, ended, AreCounted, IsWhole};
 
 use crate::charging::raise_all;
 use file_groups::Groups;
@@ -49,18 +49,39 @@ pub struct Parts {
 }
 
 impl Parts {
-    /// Those of a new volume of this size, without quotas.
+    /// Those of a new volume of this size, without objects.
     pub(crate) fn new(alloc: Global, size: Capacity) -> Result<Parts, NoMemory>
         requires { is_capacity size ≡ true }
         ensures machine { IfOk result (λ parts. machine_of parts ≡ record { size = size; rows = new_rows; waiting = [] }) }
         ensures whole { IfOk result IsWhole }
     {
         let tree = Tree::reserve(alloc, size)?;
-        let usage = Usage::reserve(alloc)?;
         let scans = Scans::reserve(alloc, size.nodes, size.cluster)?;
+        Parts::over(alloc, tree, scans)
+    }
+
+    // Those over a tree, without objects. What has memory of its own comes in two steps, as the proof of a function is the
+    // longer the more of it the function owns.
+    fn over(alloc: Global, tree: Tree, scans: Scans) -> Result<Parts, NoMemory>
+        ensures { IfOk result (λ parts. parts ≡ bare tree scans) }
+    {
+        let usage = Usage::reserve(alloc)?;
+        let crossing = NumberSet::reserve(alloc, MOST_QUOTAS as u32)?;
+        Parts::with_counters(alloc, tree, scans, usage, crossing)
+    }
+
+    // The same with these counters.
+    fn with_counters(
+        alloc: Global,
+        tree: Tree,
+        scans: Scans,
+        usage: Usage,
+        crossing: NumberSet,
+    ) -> Result<Parts, NoMemory>
+        ensures { IfOk result (λ parts. parts ≡ record (bare tree scans) { usage = usage; crossing = crossing }) }
+    {
         let marks = Marks::new(alloc)?;
         let audit = Audit::new(alloc)?;
-        let crossing = NumberSet::reserve(alloc, MOST_QUOTAS as u32)?;
         Ok(Parts {
             tree,
             objects: Objects::new(alloc),

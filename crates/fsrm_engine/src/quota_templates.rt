@@ -17,7 +17,6 @@ ghost use Rattle.fsrm_engine.specs.Machine.{Does, IsIdle, IsSound, IsWhole};
 use crate::exits::{listing, refused, refused_by_templates};
 use crate::parts::Parts;
 use crate::threshold_lists::{ThresholdChange, may_be_removed};
-use crate::updates::reached_quotas;
 use fsrm_model::{
     Answer, Ask, Duplicate, List, NoMemory, Refusal, TemplateRow, Text, Threshold, Update,
 };
@@ -140,18 +139,18 @@ impl Parts {
         if !may_be_removed(change.removed, template.thresholds.as_slice()) {
             return Ok(refused(Refusal::NotFound));
         }
-        let old = template.copy(alloc)?;
-        let new = retemplated(alloc, &old, limit, enforce, change)?;
-        if are_too_many(&new.thresholds) {
+        let row = retemplated(alloc, template, limit, enforce, change)?;
+        if are_too_many(&row.thresholds) {
             return Ok(refused(Refusal::OutOfRange));
         }
-        if self.is_long_update(&old, &new, mode) {
-            return Ok(refused(Refusal::TextsFull));
+        let room = self.room();
+        match self.templates.modify(alloc, &mut self.objects, row, mode, room) {
+            Ok(reached) => {
+                self.settle_reached(&reached, moment);
+                Ok(self.done(moment))
+            }
+            Err(fault) => refused_by_templates(fault),
         }
-        let reached = reached_quotas(alloc, &self.objects, mode, &old)?;
-        self.rewrite(alloc, old, new, mode)?;
-        self.settle_reached(&reached, moment);
-        Ok(self.done(moment))
     }
 
     /// Takes a template away, if no auto-apply quota names it. The quotas that were derived from it stay, without a template.
@@ -168,6 +167,7 @@ impl Parts {
         };
         let number = template.number;
         let Ok(()) = self.templates.delete(number) else {
+            // Nothing else refuses it.
             return refused(Refusal::InUse);
         };
         self.objects.clear_template(number);

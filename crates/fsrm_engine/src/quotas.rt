@@ -93,8 +93,7 @@ impl Parts {
             return Ok(None);
         };
         let number = template.number;
-        let mut row = self.templates.derive(alloc, number, folder, moment)?;
-        row.state = state;
+        let row = self.templates.derive(alloc, number, folder, state, moment)?;
         Ok(Some(row))
     }
 
@@ -214,30 +213,29 @@ impl Parts {
         path: &Path,
         moment: u64,
         steps: &mut Steps<L>,
-    ) -> Result<Answer, NoMemory>
+    ) -> Answer
         requires whole { IsWhole self.old }
         requires idle { IsIdle self.old }
         requires moment { moment ≤ latest_moment }
         requires after { self.old.last_moment ≤ moment }
-        ensures ok { IfOk result (λ answer. Does self.old self.new moment (Quota (QuotaScan path.now)) answer) }
-        ensures err { OnErr result (self.new ≡ self.old) }
+        ensures ok { Does self.old self.new moment (Quota (QuotaScan path.now)) result }
         ensures sound { IsSound self.new }
         ensures looks { steps.new ≤ steps.old + deed_cost (rows_of self.old) (Quota (QuotaScan path.now)) }
     {
         let quota = match self.quota_at(path, steps) {
             Ok(quota) => quota,
-            Err(refusal) => return Ok(refused(refusal)),
+            Err(refusal) => return refused(refusal),
         };
         let folder = quota.folder;
         let state = quota.state;
         if is_disabled(state) {
-            return Ok(refused(Refusal::InvalidCombination));
+            return refused(Refusal::InvalidCombination);
         }
         self.rebuild(folder);
         if state.counts() {
-            return Ok(self.done(moment));
+            return self.done(moment);
         }
-        Ok(passing(Outcome::Done { passive: None }))
+        passing(Outcome::Done { passive: None })
     }
 
     /// Sets a quota's peak to what is used.

@@ -40,7 +40,7 @@ fn drop_except(objects: &mut Objects, folder: u32)
 fn drop_auto(templates: &mut Templates, folder: u32)
     ensures { templates.new ≡ without_auto templates.old folder }
 {
-    if templates.auto_at(folder).is_some() {
+    if templates.auto(folder).is_some() {
         templates.drop_auto(folder);
     }
 }

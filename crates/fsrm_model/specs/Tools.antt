@@ -68,8 +68,9 @@ quota_list = record { keys = ThePath ∷ []; deed = λ given. Some (Quota (Quota
 
 abbrev pub quota_commands : Names ToolCommand
 quota_commands =
-    (codes "add", quota_add) ∷ (codes "modify", quota_modify) ∷ (codes "delete", of_path (λ path. Quota (QuotaDelete path)))
-    ∷ (codes "scan", of_path (λ path. Quota (QuotaScan path))) ∷ (codes "resetpeak", of_path (λ path. Quota (QuotaResetpeak path))) ∷ (codes "list", quota_list) ∷ []
+    (codes "add", quota_add) ∷ (codes "modify", quota_modify)
+    ∷ (codes "delete", of_path (λ path. Quota (QuotaDelete path))) ∷ (codes "scan", of_path (λ path. Quota (QuotaScan path)))
+    ∷ (codes "resetpeak", of_path (λ path. Quota (QuotaResetpeak path))) ∷ (codes "list", quota_list) ∷ []
 
 -- ---- templates and auto-apply quotas
 -- a template must have a limit, and is hard if nothing else is given

@@ -8,6 +8,7 @@ ghost use Rattle.fsrm_model.specs.Quota.{folder_of};
 ghost use Rattle.fsrm_model.specs.Templates.{without_source};
 ghost use Rattle.fsrm_model.specs.Texts.{quota_bytes};
 ghost use Rattle.fsrm_base.specs.Places.{IsAt};
+ghost use Rattle.fsrm_objects.specs.Kept.{AreSmallQuotas};
 ghost use Rattle.fsrm_objects.specs.Tables.{IsFault, has_short_texts, HasAction, other_fault, quota_fault, texts_in, with_quota, with_other, with_peak, with_run, with_state, without_quota};
 
 use crate::answer::ObjectFault;
@@ -238,7 +239,8 @@ impl Objects {
 
     /// How many quotas there are, at most 4,096.
     pub fn quota_count(&self) -> u32
-        ensures { result ≡ length self.now.quotas }
+        ensures count { result ≡ length self.now.quotas }
+        ensures kept { AreSmallQuotas self.now.quotas }
     {
         self.quotas.len() as u32
     }

@@ -65,8 +65,8 @@ pub fn write_templates<S: Sink>(sink: &mut S, engine: &Engine) -> Result<(), Tex
     ensures by { S.by_write sink.old sink.new }
 {
     let templates = engine.templates();
-    for place in 0..templates.count() {
-        write_template(sink, templates.at(place))?;
+    for place in 0..templates.template_count() {
+        write_template(sink, templates.template_at(place))?;
     }
     Ok(())
 }
@@ -111,7 +111,7 @@ pub fn write_autos<S: Sink, L: Ledger>(
 {
     let templates = engine.templates();
     for place in 0..templates.auto_count() {
-        write_auto(alloc, sink, templates.auto_row(place), engine, steps)?;
+        write_auto(alloc, sink, templates.auto_at(place), engine, steps)?;
     }
     Ok(())
 }

@@ -1,21 +1,27 @@
 -- Which fault is due.
-use Rattle.std.proofs.Common.{◌≡◌, ℕ, ◌+◌, ◌<◌, ◌≤◌, nat_lt, nat_le, Bool, true, false, List, [], ◌∷◌, length, Option, Some, None, refl, sym, ◌∙◌, ap}
+use Rattle.std.proofs.Common.{◌≡◌, ℕ, ◌+◌, ◌<◌, ◌≤◌, nat_lt, nat_le, Bool, true, false, List, [], ◌∷◌, length, Option, Some, None, refl, sym, ◌∙◌, ap, arith}
 use Rattle.std.specs.List.{list_any}
-use Rattle.std.specs.Prelude.{is_some, option_map}
+use Rattle.std.specs.Prelude.{is_some, map, option_map}
 use Rattle.fsrm_base.specs.Causes.{◌when◌, first}
-use Rattle.fsrm_base.specs.Keyed.{has_row}
+use Rattle.fsrm_base.specs.Keyed.{has_row, is_ascending}
+use Rattle.fsrm_base.proofs.EditedRows.{sum_by-with_change}
 use Rattle.fsrm_base.proofs.Look.{is_some-find, is_some-mapped}
 use Rattle.fsrm_base.proofs.TestLaws.{gt_is, le_test, lt_test, not_le, not_lt}
+use Rattle.fsrm_model.specs.declared.command.Update.{Update}
 use Rattle.fsrm_model.specs.declared.row.AutoRow.{AutoRow}
+use Rattle.fsrm_model.specs.declared.row.QuotaRow.{QuotaRow}
 use Rattle.fsrm_model.specs.declared.row.TemplateRow.{TemplateRow}
 use Rattle.fsrm_model.specs.AutoApply.{auto_folder}
 use Rattle.fsrm_model.specs.Limits.{most_templates, most_autos}
 use Rattle.fsrm_model.specs.Name.{is_named}
-use Rattle.fsrm_model.specs.Templates.{template_name, template_named, template_number, template_of}
+use Rattle.fsrm_model.specs.Templates.{template_name, template_named, template_number, template_of, updated}
+use Rattle.fsrm_model.specs.TemplateWork.{updated_quotas}
 use Rattle.fsrm_model.specs.Texts.{auto_bytes, template_bytes}
+use Rattle.fsrm_objects.specs.Tables.{quota_texts}
 use Rattle.templates.specs.declared.answer.TemplateFault.TheVariants.{AlreadyExists, DuplicateName, TableFull, TextsFull}
-use Rattle.templates.specs.Faults.{auto_fault, other_fault, template_fault}
-use Rattle.templates.specs.Held.{Held}
+use Rattle.templates.specs.Faults.{auto_fault, modify_fault, template_fault, update_fault}
+use Rattle.templates.specs.Held.{Held, texts_in, with_other}
+use Rattle.templates.proofs.UpdateLaws.{lt_moved}
 
 -- ---- a new template
 -- what a search for a name says of the templates that it was lent
@@ -53,12 +59,13 @@ admitted held row room h =
     record { new = pass.0; few = gt_is _ _ pass.1 }
 
 -- ---- a template in the place of another
-module _ (held : Held) (row old : TemplateRow) (room : ℕ) (found : template_of held.templates row.number ≡ Some old) where
-  pub replaced_due : room + template_bytes old < template_bytes row → other_fault held row room ≡ Some TextsFull
-  replaced_due long = rw (found, lt_test (room + template_bytes old) (template_bytes row) long) refl
-
-  pub replaced_fits : template_bytes row ≤ room + template_bytes old → other_fault held row room ≡ None
-  replaced_fits fits = rw (found, not_lt (room + template_bytes old) (template_bytes row) fits) refl
+pub update_due : (held : Held) (quotas : List QuotaRow) (row old : TemplateRow) (mode : Update) (room : ℕ) → is_ascending template_number held.templates ≡ true → template_of held.templates row.number ≡ Some old → modify_fault held quotas row mode room ≡ update_fault old row quotas mode room
+update_due held quotas row old mode room ascending found =
+    let after = map (updated mode old row) quotas in
+    ap (λ o. TextsFull when nat_lt (room + (texts_in held + quota_texts quotas)) (texts_in (with_other held row) + quota_texts (updated_quotas mode o (λ r. row) quotas))) found
+    ∙ ap (λ b. TextsFull when b)
+    (lt_moved (room + (texts_in held + quota_texts quotas)) (texts_in (with_other held row) + quota_texts after) (room + (template_bytes old + quota_texts quotas)) (template_bytes row + quota_texts after)
+    (omega (arith, sum_by-with_change template_number template_bytes row.number (λ r. row) old held.templates ascending found)))
 
 -- ---- a new auto-apply quota
 module _ (held : Held) (row : AutoRow) (room : ℕ) where

@@ -1,14 +1,14 @@
 -- Tables after an edit are as they are to be held.
-use Rattle.std.proofs.Common.{◌≡◌, ℕ, ◌+◌, ◌-◌, ◌<◌, ◌≤◌, ◌==◌, true, false, List, length, get_or, insert, remove, Result, Ok, Err, IfOk, IfErr, Option, Some, None, refl, sym, ◌∙◌, ap, subst, arith}
+use Rattle.std.proofs.Common.{◌≡◌, ℕ, ◌+◌, ◌-◌, ◌<◌, ◌≤◌, ◌==◌, Bool, true, false, List, length, get_or, insert, remove, Result, Ok, Err, IfOk, IfErr, Option, Some, None, refl, sym, ◌∙◌, ap, subst, arith}
 use Rattle.std.proofs.lemmas.List.{length-set}
 use Rattle.std.proofs.lemmas.Option.{same_Some}
 use Rattle.std.specs.List.{list_all, list_any}
 use Rattle.std.specs.Result.{result_ok}
-use Rattle.std.specs.Prelude.{IfSome, is_ok, option_map, slice_set}
+use Rattle.std.specs.Prelude.{IfSome, is_ok, is_some, option_map, slice_set}
 use Rattle.fsrm_base.specs.Keyed.{row_of, has_row, least_free, with_row, with_change, without_row}
 use Rattle.fsrm_base.specs.Places.{IsAt, IsGap}
 use Rattle.fsrm_base.proofs.EditedTests.{list_all-filter, list_all-with_change, list_all-with_row}
-use Rattle.fsrm_base.proofs.Look.{found_has, found_own}
+use Rattle.fsrm_base.proofs.Look.{found_has, found_key, found_own, has_row-change, has_row-without_other, is_some-find, is_some-mapped}
 use Rattle.fsrm_base.proofs.Members.{all_found}
 use Rattle.fsrm_base.proofs.Order.{least_free_is}
 use Rattle.fsrm_base.proofs.RowLaws.{change_same}
@@ -20,7 +20,8 @@ use Rattle.fsrm_model.specs.Limits.{most_templates, most_autos}
 use Rattle.fsrm_model.specs.Name.{is_named, names_differ}
 use Rattle.fsrm_model.specs.Templates.{is_template, template_name, template_named, template_number, template_of}
 use Rattle.fsrm_model.specs.Texts.{auto_bytes, template_bytes}
-use Rattle.fsrm_model.proofs.valid.NamesApart.{apart-filter, apart-with_change, apart-with_row}
+use Rattle.fsrm_model.proofs.valid.NamesApart.{apart-filter, apart-with_change, apart-with_row, there-with_row}
+use Rattle.fsrm_model.proofs.valid.ScreensKept.{all_apart, all_weaker}
 use Rattle.fsrm_objects.specs.Kept.{AreHeld as AreRows}
 use Rattle.fsrm_objects.proofs.HeldRows.{change_texts, less_held, less_texts, more_held, more_texts, none_found, read_found}
 use Rattle.templates.specs.Held.{Held}
@@ -29,6 +30,10 @@ use Rattle.templates.specs.Kept.{AreHeld}
 -- tables of these rows
 abbrev pub held_of : List TemplateRow → List AutoRow → Held
 held_of templates autos = record { templates = templates; autos = autos }
+
+-- whether the templates of auto-apply quotas are there
+abbrev pub are_there : List TemplateRow → List AutoRow → Bool
+are_there templates autos = list_all (λ auto. has_row template_number auto.template templates) autos
 
 -- the rows of each table ascend, and are no more than may be
 module _ (held : Held) (texts : ℕ) (are : AreHeld held texts) where
@@ -65,6 +70,20 @@ found_there name templates (Some row) held texts are same is =
     subst (λ (rows : List TemplateRow). has_row template_number row.number rows ≡ true) same
     (found_has template_number row.number held.templates row (found_own template_number (is_named template_name name) held.templates row are.ascending (ap (λ (rows : List TemplateRow). template_named rows name) same ∙ is)))
 
+-- the template of a folder's auto-apply quota is there
+abbrev pub SourceIsThere : Held → ℕ → Type 0
+SourceIsThere held folder = IfSome (row_of auto_folder folder held.autos) (λ auto. has_row template_number auto.template held.templates ≡ true)
+
+pub source_there : (held : Held) (texts folder : ℕ) → AreHeld held texts → SourceIsThere held folder
+source_there held texts folder are = at (row_of auto_folder folder held.autos) (λ auto is. all_found (λ a. has_row template_number a.template held.templates) (λ a. a.folder == folder) held.autos auto are.there is)
+  where
+    at : (o : Option AutoRow) → ((auto : AutoRow) → o ≡ Some auto → has_row template_number auto.template held.templates ≡ true) → IfSome o (λ auto. has_row template_number auto.template held.templates ≡ true)
+    at None h = tt
+    at (Some auto) h = h auto refl
+
+pub source_of : (templates : List TemplateRow) (o : Option AutoRow) (auto : AutoRow) → o ≡ Some auto → IfSome o (λ a. has_row template_number a.template templates ≡ true) → has_row template_number auto.template templates ≡ true
+source_of templates o auto is there = subst (λ (found : Option AutoRow). IfSome found (λ a. has_row template_number a.template templates ≡ true)) is there
+
 -- ---- one more template
 module _ (held : Held) (texts p : ℕ) (row : TemplateRow) (are : AreHeld held texts) (gap : IsGap template_number row.number held.templates p) where
   more_is : insert held.templates p row ≡ with_row template_number row held.templates
@@ -81,6 +100,9 @@ module _ (held : Held) (texts p : ℕ) (row : TemplateRow) (are : AreHeld held t
         autos_ascending = are.autos_ascending;
         autos_few = are.autos_few;
         autos_valid = are.autos_valid;
+        there = ap (λ (rows : List TemplateRow). are_there rows held.autos) more_is
+            ∙ all_weaker (λ auto. has_row template_number auto.template held.templates) (λ auto. has_row template_number auto.template (with_row template_number row held.templates)) held.autos
+            (λ auto is. there-with_row template_number row held.templates gap.absent auto.template is) are.there;
         texts_are = omega (arith, more_texts template_number held.templates row p gap template_bytes, its, are.texts_are);
       }
 
@@ -96,8 +118,8 @@ module _ (held : Held) (texts n p : ℕ) (old : TemplateRow) (are : AreHeld held
   less_is : remove held.templates p ≡ without_row template_number n held.templates
   less_is = remove_found template_number n held.templates p are.ascending at
 
-  pub less_are : (bytes : ℕ) → bytes ≡ template_bytes old → AreHeld (held_of (remove held.templates p) held.autos) (texts - bytes)
-  less_are bytes its =
+  pub less_are : (bytes : ℕ) → bytes ≡ template_bytes old → list_any (λ auto. auto.template == n) held.autos ≡ false → AreHeld (held_of (remove held.templates p) held.autos) (texts - bytes)
+  less_are bytes its unused =
       let less = less_held template_number held.templates n p at most_templates (templates_are held texts are) in
       record {
         ascending = less.ascending;
@@ -107,6 +129,9 @@ module _ (held : Held) (texts n p : ℕ) (old : TemplateRow) (are : AreHeld held
         autos_ascending = are.autos_ascending;
         autos_few = are.autos_few;
         autos_valid = are.autos_valid;
+        there = ap (λ (rows : List TemplateRow). are_there rows held.autos) less_is
+            ∙ all_apart (λ auto. auto.template == n) (λ auto. has_row template_number auto.template held.templates) (λ auto. has_row template_number auto.template (without_row template_number n held.templates)) held.autos
+            (λ auto apart is. has_row-without_other template_number n auto.template held.templates apart ∙ is) unused are.there;
         texts_are = omega (arith, less_texts template_number held.templates n p at template_bytes old are.ascending read, its, are.texts_are);
       }
 
@@ -120,16 +145,30 @@ module _ (held : Held) (texts n p : ℕ) (old : TemplateRow) (are : AreHeld held
   old_valid = all_found is_template (λ row. row.number == n) held.templates old are.valid old_is
 
 -- ---- one changed
+-- a template that has the name of another row is there
+pub named_there : (templates : List TemplateRow) (row : TemplateRow) → option_map template_name (template_of templates row.number) ≡ Some row.name → has_row template_number row.number templates ≡ true
+named_there templates row named =
+    sym (is_some-find (λ (r : TemplateRow). r.number == row.number) templates)
+    ∙ (sym (is_some-mapped template_name (template_of templates row.number)) ∙ ap is_some named)
+
 module _ (held : Held) (texts p : ℕ) (old row : TemplateRow) (are : AreHeld held texts) (at : IsAt template_number row.number held.templates p) (read : old ≡ get_or held.templates p old) where
   other_is : slice_set held.templates p row ≡ with_change template_number row.number (λ old. row) held.templates
   other_is = set_found template_number row.number (λ (r : TemplateRow). row) held.templates p old are.ascending at read
 
-  pub other_are : (replaced bytes : ℕ) → replaced ≡ template_bytes old → bytes ≡ template_bytes row → is_template row ≡ true → ((r : TemplateRow) → template_of held.templates row.number ≡ Some r → row.name ≡ r.name) → AreHeld (held_of (slice_set held.templates p row) held.autos) (texts - replaced + bytes)
-  other_are replaced bytes its its' valid names =
+  -- where a template was one is
+  has_other : (n : ℕ) → has_row template_number n (with_change template_number row.number (λ old. row) held.templates) ≡ has_row template_number n held.templates
+  has_other n =
+      ap (has_row template_number n)
+      (change_same template_number row.number (λ (r : TemplateRow). row) (λ (r : TemplateRow). record row { number = r.number }) held.templates are.ascending
+      (λ r is. ap (λ (k : ℕ). record row { number = k }) (sym (found_key template_number row.number held.templates r is))))
+      ∙ has_row-change template_number row.number (λ (r : TemplateRow). record row { number = r.number }) (λ r. refl) n held.templates
+
+  pub other_are : (replaced bytes : ℕ) → replaced ≡ template_bytes old → bytes ≡ template_bytes row → is_template row ≡ true → option_map template_name (template_of held.templates row.number) ≡ Some row.name → AreHeld (held_of (slice_set held.templates p row) held.autos) (texts - replaced + bytes)
+  other_are replaced bytes its its' valid named =
       let size : length (slice_set held.templates p row) ≡ length held.templates = length-set held.templates p row in
       let few = are.few in
       let same : with_change template_number row.number (λ (r : TemplateRow). row) held.templates ≡ with_change template_number row.number (λ (r : TemplateRow). record row { name = r.name }) held.templates =
-      change_same template_number row.number (λ (r : TemplateRow). row) (λ (r : TemplateRow). record row { name = r.name }) held.templates are.ascending (λ r is. ap (λ (name : List ℕ). record row { name = name }) (names r is)) in
+      change_same template_number row.number (λ (r : TemplateRow). row) (λ (r : TemplateRow). record row { name = r.name }) held.templates are.ascending (λ r is. ap (λ (name : List ℕ). record row { name = name }) (same_Some row.name r.name (sym named ∙ ap (option_map template_name) is))) in
       record {
         ascending = ascending-set template_number row.number (λ (r : TemplateRow). row) held.templates p old (λ r is. refl) are.ascending at read;
         few = omega arith;
@@ -138,6 +177,9 @@ module _ (held : Held) (texts p : ℕ) (old row : TemplateRow) (are : AreHeld he
         autos_ascending = are.autos_ascending;
         autos_few = are.autos_few;
         autos_valid = are.autos_valid;
+        there = ap (λ (rows : List TemplateRow). are_there rows held.autos) other_is
+            ∙ all_weaker (λ auto. has_row template_number auto.template held.templates) (λ auto. has_row template_number auto.template (with_change template_number row.number (λ old. row) held.templates)) held.autos
+            (λ auto is. has_other auto.template ∙ is) are.there;
         texts_are = omega (
           arith,
           change_texts template_number held.templates row.number p (λ (r : TemplateRow). row) old (λ r is. refl) at read template_bytes are.ascending,
@@ -153,8 +195,8 @@ module _ (held : Held) (texts p : ℕ) (row : AutoRow) (are : AreHeld held texts
   more_autos : insert held.autos p row ≡ with_row auto_folder row held.autos
   more_autos = insert_row auto_folder row held.autos p gap
 
-  pub auto_more : (bytes : ℕ) → bytes ≡ auto_bytes row → length held.autos < most_autos → is_auto row ≡ true → AreHeld (held_of held.templates (insert held.autos p row)) (texts + bytes)
-  auto_more bytes its few valid =
+  pub auto_more : (bytes : ℕ) → bytes ≡ auto_bytes row → length held.autos < most_autos → has_row template_number row.template held.templates ≡ true → is_auto row ≡ true → AreHeld (held_of held.templates (insert held.autos p row)) (texts + bytes)
+  auto_more bytes its few there valid =
       let more = more_held auto_folder held.autos row p gap most_autos (autos_are held texts are) few in
       record {
         ascending = are.ascending;
@@ -164,6 +206,8 @@ module _ (held : Held) (texts p : ℕ) (row : AutoRow) (are : AreHeld held texts
         autos_ascending = more.ascending;
         autos_few = more.few;
         autos_valid = ap (list_all is_auto) more_autos ∙ list_all-with_row auto_folder is_auto row held.autos valid are.autos_valid;
+        there = ap (are_there held.templates) more_autos
+            ∙ list_all-with_row auto_folder (λ auto. has_row template_number auto.template held.templates) row held.autos there are.there;
         texts_are = omega (arith, more_texts auto_folder held.autos row p gap auto_bytes, its, are.texts_are);
       }
 
@@ -183,6 +227,7 @@ module _ (held : Held) (texts n p : ℕ) (old : AutoRow) (are : AreHeld held tex
         autos_ascending = less.ascending;
         autos_few = less.few;
         autos_valid = ap (list_all is_auto) less_autos ∙ list_all-filter is_auto _ held.autos are.autos_valid;
+        there = ap (are_there held.templates) less_autos ∙ list_all-filter (λ auto. has_row template_number auto.template held.templates) _ held.autos are.there;
         texts_are = omega (arith, less_texts auto_folder held.autos n p at auto_bytes old are.autos_ascending read, its, are.texts_are);
       }
 

@@ -1,19 +1,18 @@
 -- The quotas that an update reaches: which they are, what their texts are, and how they are put back.
-use Rattle.std.proofs.Common.{◌≡◌, ℕ, ◌+◌, ◌*◌, ◌<◌, ◌≤◌, ◌==◌, ◌||◌, ◌&&◌, nat_lt, Bool, true, false, cond, not, List, [], ◌∷◌, ◌++◌, length, get_or, take, Option, Some, None, Result, Ok, Err, IfErr, OnOk, refl, sym, ◌∙◌, ap, subst, arith}
-use Rattle.std.proofs.Math.Nat.{suc-mul}
-use Rattle.std.proofs.lemmas.List.{append-nil, length-take-le}
+use Rattle.std.proofs.Common.{◌≡◌, ℕ, ◌+◌, ◌-◌, ◌<◌, ◌≤◌, ◌==◌, ◌||◌, ◌&&◌, nat_le, nat_lt, Bool, true, false, cond, not, List, [], ◌∷◌, ◌++◌, length, get_or, take, Some, None, Result, Ok, Err, IfErr, refl, sym, ◌∙◌, ap, arith}
+use Rattle.std.proofs.lemmas.List.{append-nil, map-append, take_more}
 use Rattle.std.proofs.lemmas.List.Elements.{filter_more}
 use Rattle.std.proofs.lemmas.List.Folds.{list_all-map, list_all_at}
-use Rattle.std.proofs.lemmas.List.Sums.{sum_by-append, sum_by-cons, sum_by-take-le}
-use Rattle.std.proofs.lemmas.Option.{get_or_from_slice_get, same_Some, slice_get_within}
+use Rattle.std.proofs.lemmas.List.Sums.{sum_by-append, sum_by-cons}
+use Rattle.std.proofs.lemmas.Option.{get_or_from_slice_get, slice_get_within}
 use Rattle.std.specs.Result.{IsOk}
 use Rattle.std.specs.List.{list_all}
-use Rattle.std.specs.Prelude.{filter, fold, map, slice_get, sum_by}
+use Rattle.std.specs.Prelude.{filter, fold, map, slice_get}
 use Rattle.fsrm_base.specs.Keyed.{has_row, is_ascending}
 use Rattle.fsrm_base.proofs.EditedTests.{list_all-filter}
 use Rattle.fsrm_base.proofs.Look.{found_has}
 use Rattle.fsrm_base.proofs.Members.{all_pass}
-use Rattle.fsrm_base.proofs.TestLaws.{both, both_true, clash, eq_is, is_false, lt_is, lt_test, not_lt, same_tests}
+use Rattle.fsrm_base.proofs.TestLaws.{both, both_true, clash, eq_is, is_false, le_is, lt_is, lt_test, not_lt, same_tests}
 use Rattle.fsrm_model.specs.declared.command.Update.{Update}
 use Rattle.fsrm_model.specs.declared.row.QuotaRow.{QuotaRow}
 use Rattle.fsrm_model.specs.declared.row.TemplateRow.{TemplateRow}
@@ -22,13 +21,12 @@ use Rattle.fsrm_model.specs.Templates.{as_template, is_reached, is_template, upd
 use Rattle.fsrm_model.specs.Texts.{quota_bytes, threshold_bytes}
 use Rattle.fsrm_model.specs.Thresholds.{are_too_many}
 use Rattle.fsrm_model.proofs.templates.PutLaws.{put_each}
-use Rattle.fsrm_model.proofs.valid.QuotasKept.{filter_few}
 use Rattle.fsrm_model.proofs.valid.TemplatesKept.{template_parts}
+use Rattle.fsrm_objects.specs.Kept.{AreSmallQuotas}
 use Rattle.fsrm_objects.specs.Tables.{Tables, has_short_texts, is_short, other_fault, quota_texts, texts_at}
 use Rattle.fsrm_objects.specs.declared.answer.ObjectFault.{ObjectFault}
 use Rattle.fsrm_objects.proofs.QuotaRows.{quota_fits}
-use Rattle.templates.specs.declared.answer.TemplateFault.{TemplateFault}
-use Rattle.templates.specs.Held.{is_small, with_quota}
+use Rattle.templates.specs.Held.{is_small, with_replaced}
 use Rattle.templates.proofs.PartLaws.{small_thresholds}
 
 -- ---- one more place
@@ -47,61 +45,42 @@ module _ (mode : Update) (old : TemplateRow) (quotas : List QuotaRow) (place : �
   pub reached_none : is_reached mode old quota ≡ false → filter (is_reached mode old) (take (place + 1) quotas) ≡ filter (is_reached mode old) (take place quotas)
   reached_none is = more ∙ (ap (λ b. reached_to place ++ cond b (quota ∷ []) []) is ∙ append-nil (reached_to place))
 
-  pub few_reached : length (filter (is_reached mode old) (take place quotas)) ≤ place
-  few_reached =
-      let within : place < length quotas = slice_get_within quotas place quota at in
-      omega (arith, filter_few (is_reached mode old) (take place quotas), length-take-le place quotas (omega arith))
-
 -- ---- texts
-sum_filter : {X : Type 0} (p : X → Bool) (f : X → ℕ) (xs : List X) → sum_by f (filter p xs) ≤ sum_by f xs
-sum_filter p f [] = omega arith
-sum_filter {X} p f (x ∷ xs) = at (p x) (sum_filter p f xs)
-  where
-    at : (b : Bool) → sum_by f (filter p xs) ≤ sum_by f xs → sum_by f (cond b (x ∷ filter p xs) (filter p xs)) ≤ sum_by f (x ∷ xs)
-    at true h = omega (arith, sum_by-cons f x (filter p xs), sum_by-cons f x xs, h)
-    at false h = omega (arith, sum_by-cons f x xs, h)
+-- those of the quotas before a place and of the one there
+module _ (mode : Update) (old new : TemplateRow) (quotas : List QuotaRow) (place : ℕ) (quota : QuotaRow) (at : slice_get quotas place ≡ Some quota) where
+  next : take (place + 1) quotas ≡ take place quotas ++ quota ∷ []
+  next =
+      take_more quotas place quota (slice_get_within quotas place quota at)
+      ∙ ap (λ (q : QuotaRow). take place quotas ++ q ∷ []) (get_or_from_slice_get quotas place quota quota at)
 
-pub texts_more : (quotas : List QuotaRow) (quota : QuotaRow) → quota_texts (quotas ++ quota ∷ []) ≡ quota_texts quotas + quota_bytes quota
-texts_more quotas quota = omega (arith, sum_by-append quota_bytes quotas (quota ∷ []), sum_by-cons quota_bytes quota [])
+  pub texts_next : quota_texts (take (place + 1) quotas) ≡ quota_texts (take place quotas) + quota_bytes quota
+  texts_next = omega (arith, ap quota_texts next, sum_by-append quota_bytes (take place quotas) (quota ∷ []), sum_by-cons quota_bytes quota [])
 
--- those of the quotas that were reached and of one more that is, are no more than those of all
-pub reached_small : (mode : Update) (old : TemplateRow) (quotas : List QuotaRow) (place : ℕ) (quota : QuotaRow) → slice_get quotas place ≡ Some quota → is_reached mode old quota ≡ true → quota_texts (filter (is_reached mode old) (take place quotas)) + quota_bytes quota ≤ quota_texts quotas
-reached_small mode old quotas place quota at is =
-    omega (
-      arith,
-      texts_more (filter (is_reached mode old) (take place quotas)) quota,
-      ap quota_texts (reached_one mode old quotas place quota at is),
-      sum_filter (is_reached mode old) quota_bytes (take (place + 1) quotas),
-      sum_by-take-le quota_bytes quotas (place + 1),
-    )
+  pub updated_next : quota_texts (map (updated mode old new) (take (place + 1) quotas)) ≡ quota_texts (map (updated mode old new) (take place quotas)) + quota_bytes (updated mode old new quota)
+  updated_next =
+      let change = updated mode old new in
+      omega (
+        arith,
+        ap (λ (rows : List QuotaRow). quota_texts (map change rows)) next ∙ ap quota_texts (map-append change (take place quotas) (quota ∷ [])),
+        sum_by-append quota_bytes (map change (take place quotas)) (change quota ∷ []),
+        sum_by-cons quota_bytes (change quota) [],
+      )
 
--- the texts of all quotas after an update
-pub update_texts : (mode : Update) (old new : TemplateRow) (quotas : List QuotaRow) → quota_texts (map (updated mode old new) quotas) + quota_texts (filter (is_reached mode old) quotas) ≡ quota_texts quotas + length (filter (is_reached mode old) quotas) * threshold_bytes new.thresholds
-update_texts mode old new [] = omega arith
-update_texts mode old new (quota ∷ quotas) = at (is_reached mode old quota) (update_texts mode old new quotas)
-  where
-    reached : List QuotaRow
-    reached = filter (is_reached mode old) quotas
+  pub reached_bytes : is_reached mode old quota ≡ true → quota_bytes (updated mode old new quota) ≡ threshold_bytes new.thresholds
+  reached_bytes is = ap (λ b. quota_bytes (cond b (as_template new quota) quota)) is
 
-    after : List QuotaRow
-    after = map (updated mode old new) quotas
+  pub other_bytes : is_reached mode old quota ≡ false → quota_bytes (updated mode old new quota) ≡ quota_bytes quota
+  other_bytes is = ap (λ b. quota_bytes (cond b (as_template new quota) quota)) is
 
-    at : (b : Bool) → quota_texts after + quota_texts reached ≡ quota_texts quotas + length reached * threshold_bytes new.thresholds → quota_texts (cond b (as_template new quota) quota ∷ after) + quota_texts (cond b (quota ∷ reached) reached) ≡ quota_texts (quota ∷ quotas) + length (cond b (quota ∷ reached) reached) * threshold_bytes new.thresholds
-    at true h =
-        omega (arith, sum_by-cons quota_bytes (as_template new quota) after, sum_by-cons quota_bytes quota reached, sum_by-cons quota_bytes quota quotas, suc-mul (length reached) (threshold_bytes new.thresholds), h)
-    at false h = omega (arith, sum_by-cons quota_bytes quota after, sum_by-cons quota_bytes quota quotas, h)
+-- what a test of the difference tells
+pub longer_by : (room lost gained a b : ℕ) → gained + a ≡ lost + b → nat_lt room (gained - lost) ≡ nat_lt (room + a) b
+longer_by room lost gained a b h =
+    same_tests (nat_lt room (gained - lost)) (nat_lt (room + a) b)
+    (λ l. let k : room < gained - lost = lt_is room (gained - lost) l in lt_test (room + a) b (omega arith))
+    (λ l. let k : room + a < b = lt_is (room + a) b l in lt_test room (gained - lost) (omega arith))
 
-lt_moved : (a b c d : ℕ) → a + d ≡ b + c → nat_lt a b ≡ nat_lt c d
+pub lt_moved : (a b c d : ℕ) → a + d ≡ b + c → nat_lt a b ≡ nat_lt c d
 lt_moved a b c d h = same_tests (nat_lt a b) (nat_lt c d) (λ l. let k : a < b = lt_is a b l in lt_test c d (omega arith)) (λ l. let k : c < d = lt_is c d l in lt_test a b (omega arith))
-
-pub is_long : (mode : Update) (old new : TemplateRow) (quotas : List QuotaRow) (room left bytes count each : ℕ) → left ≡ room → bytes ≡ quota_texts (filter (is_reached mode old) quotas) → count ≡ length (filter (is_reached mode old) quotas) → each ≡ threshold_bytes new.thresholds → nat_lt (left + bytes) (count * each) ≡ nat_lt (room + quota_texts quotas) (quota_texts (map (updated mode old new) quotas))
-is_long mode old new quotas room left bytes count each left_is bytes_are count_is each_is =
-    let reached : List QuotaRow = filter (is_reached mode old) quotas in
-    ap (λ n. nat_lt (n + bytes) (count * each)) left_is
-    ∙ (ap (λ n. nat_lt (room + n) (count * each)) bytes_are
-    ∙ (ap (λ n. nat_lt (room + quota_texts reached) (n * each)) count_is
-    ∙ (ap (λ n. nat_lt (room + quota_texts reached) (length reached * n)) each_is
-    ∙ lt_moved (room + quota_texts reached) (length reached * threshold_bytes new.thresholds) (room + quota_texts quotas) (quota_texts (map (updated mode old new) quotas)) (omega (arith, update_texts mode old new quotas)))))
 
 -- ---- rows that are put back
 abbrev pub with_quotas : Tables → List QuotaRow → Tables
@@ -152,7 +131,13 @@ passes_at p rows place row all within read = at (p row) refl
     at true e = e
     at false e = absurd (clash (list_all p rows) all (list_all_at p rows place row within (sym (ap p read) ∙ e)))
 
-pub put_back : (mode : Update) (old new : TemplateRow) (quotas : List QuotaRow) → is_ascending folder_of quotas ≡ true → fold with_quota quotas (map (as_template new) (filter (is_reached mode old) quotas)) ≡ map (updated mode old new) quotas
+-- each quota's are few
+pub quota_small : (quotas : List QuotaRow) (place : ℕ) (quota : QuotaRow) → AreSmallQuotas quotas → slice_get quotas place ≡ Some quota → quota_bytes quota ≤ 131072
+quota_small quotas place quota are at =
+    le_is (quota_bytes quota) 131072
+    (passes_at (λ row. nat_le (quota_bytes row) 131072) quotas place quota are.small (slice_get_within quotas place quota at) (sym (get_or_from_slice_get quotas place quota quota at)))
+
+pub put_back : (mode : Update) (old new : TemplateRow) (quotas : List QuotaRow) → is_ascending folder_of quotas ≡ true → fold with_replaced quotas (map (as_template new) (filter (is_reached mode old) quotas)) ≡ map (updated mode old new) quotas
 put_back mode old new quotas ascending = put_each folder_of (as_template new) (is_reached mode old) (λ x. refl) quotas ascending
 
 -- one that is put back takes no folder's quota away
@@ -160,22 +145,12 @@ folder_at : (row quota : QuotaRow) (b : Bool) → (quota.folder == row.folder) �
 folder_at row quota true e = sym (eq_is quota.folder row.folder e)
 folder_at row quota false e = refl
 
-has_put : (n : ℕ) (row : QuotaRow) (quotas : List QuotaRow) → has_row folder_of n (with_quota quotas row) ≡ has_row folder_of n quotas
+has_put : (n : ℕ) (row : QuotaRow) (quotas : List QuotaRow) → has_row folder_of n (with_replaced quotas row) ≡ has_row folder_of n quotas
 has_put n row [] = refl
 has_put n row (quota ∷ quotas) =
-    ap (λ m. (m == n) || has_row folder_of n (with_quota quotas row)) (folder_at row quota (quota.folder == row.folder) refl)
+    ap (λ m. (m == n) || has_row folder_of n (with_replaced quotas row)) (folder_at row quota (quota.folder == row.folder) refl)
     ∙ ap (λ b. (quota.folder == n) || b) (has_put n row quotas)
 
-pub has_put_all : (n : ℕ) (rows quotas : List QuotaRow) → has_row folder_of n (fold with_quota quotas rows) ≡ has_row folder_of n quotas
+pub has_put_all : (n : ℕ) (rows quotas : List QuotaRow) → has_row folder_of n (fold with_replaced quotas rows) ≡ has_row folder_of n quotas
 has_put_all n [] quotas = refl
-has_put_all n (row ∷ rows) quotas = has_put_all n rows (with_quota quotas row) ∙ has_put n row quotas
-
--- ---- the template that is found
--- what is known of it is known of each that is found
-pub of_each_ok : (r : Result (Unit {0}) TemplateFault) (P : TemplateRow → Type 0) (o : Option TemplateRow) (new : TemplateRow) → o ≡ Some new → OnOk r (P new) → OnOk r ((row : TemplateRow) → o ≡ Some row → P row)
-of_each_ok (Ok done) P o new is h = λ row found. subst P (same_Some new row (sym is ∙ found)) h
-of_each_ok (Err fault) P o new is h = tt
-
-pub of_each_err : (r : Result (Unit {0}) TemplateFault) (P : TemplateFault → TemplateRow → Type 0) (o : Option TemplateRow) (new : TemplateRow) → o ≡ Some new → IfErr r (λ fault. P fault new) → IfErr r (λ fault. (row : TemplateRow) → o ≡ Some row → P fault row)
-of_each_err (Ok done) P o new is h = tt
-of_each_err (Err fault) P o new is h = λ row found. subst (P fault) (same_Some new row (sym is ∙ found)) h
+has_put_all n (row ∷ rows) quotas = has_put_all n rows (with_replaced quotas row) ∙ has_put n row quotas

@@ -1,14 +1,15 @@
 -- Templates and auto-apply quotas, and edits of their tables.
-use Rattle.std.specs.Prelude.{ℕ, ◌+◌, ◌&&◌, not, Bool, true, false, List, sum_by}
+use Rattle.std.specs.Prelude.{ℕ, ◌+◌, ◌&&◌, not, Bool, List, [], filter, sum_by}
+use Rattle.std.specs.Option.{option_map_or}
 use Rattle.fsrm_base.specs.Keyed.{least_free, with_row, with_change, without_row}
 use Rattle.fsrm_model.specs.declared.command.Update.{Update}
-use Rattle.fsrm_model.specs.declared.command.Update.TheVariants.{Matching, All}
 use Rattle.fsrm_model.specs.declared.row.AutoRow.{AutoRow}
 use Rattle.fsrm_model.specs.declared.row.QuotaRow.{QuotaRow}
 use Rattle.fsrm_model.specs.declared.row.TemplateRow.{TemplateRow}
 use Rattle.fsrm_model.specs.AutoApply.{auto_folder}
 use Rattle.fsrm_model.specs.Quota.{folder_of}
-use Rattle.fsrm_model.specs.Templates.{template_number}
+use Rattle.fsrm_model.specs.Templates.{is_reached, template_number, template_of}
+use Rattle.fsrm_model.specs.TemplateWork.{updated_quotas}
 use Rattle.fsrm_model.specs.Texts.{auto_bytes, template_bytes}
 use Rattle.fsrm_model.specs.Thresholds.{are_too_many}
 use Rattle.fsrm_objects.specs.Tables.{has_short_texts}
@@ -44,16 +45,19 @@ with_auto held row = record held { autos = with_row auto_folder row held.autos }
 abbrev pub without_auto : Held → ℕ → Held
 without_auto held folder = record held { autos = without_row auto_folder folder held.autos }
 
--- ---- updates
--- quotas in which one stands in the place of that of its folder
-abbrev pub with_quota : List QuotaRow → QuotaRow → List QuotaRow
-with_quota quotas row = with_change folder_of row.folder (λ old. row) quotas
+-- ---- a template's change
+-- the quotas that it reaches if this row takes the place of the template of its number, and all quotas after it
+abbrev pub reached_by : Held → TemplateRow → Update → List QuotaRow → List QuotaRow
+reached_by held row mode quotas =
+    option_map_or (λ old. filter (is_reached mode old) quotas) (template_of held.templates row.number) []
 
--- whether the lists and the texts of a quota are as long as they may be
+abbrev pub updated_by : Held → TemplateRow → Update → List QuotaRow → List QuotaRow
+updated_by held row mode quotas = updated_quotas mode (template_of held.templates row.number) (λ old. row) quotas
+
+-- quotas in which one stands in the place of that of its folder
+abbrev pub with_replaced : List QuotaRow → QuotaRow → List QuotaRow
+with_replaced quotas row = with_change folder_of row.folder (λ old. row) quotas
+
+-- whether the lists and the texts of a quota are no longer than they may be
 abbrev pub is_small : QuotaRow → Bool
 is_small row = not (are_too_many row.thresholds) && has_short_texts row
-
--- which quotas an update reaches: those that match the template as it was, or all that were derived from it
-abbrev pub mode_of : Bool → Update
-mode_of true = Matching
-mode_of false = All

@@ -1,7 +1,7 @@
 -- How the tables are held.
 use Rattle.std.specs.Prelude.{◌≡◌, ℕ, ◌≤◌, true, length}
 use Rattle.std.specs.List.{list_all}
-use Rattle.fsrm_base.specs.Keyed.{is_ascending}
+use Rattle.fsrm_base.specs.Keyed.{has_row, is_ascending}
 use Rattle.fsrm_model.specs.AutoApply.{auto_folder, is_auto}
 use Rattle.fsrm_model.specs.Limits.{most_templates, most_autos}
 use Rattle.fsrm_model.specs.Name.{names_differ}
@@ -9,7 +9,7 @@ use Rattle.fsrm_model.specs.Templates.{is_template, template_name, template_numb
 use Rattle.templates.specs.Held.{Held, texts_in}
 
 -- Templates in the order of their numbers, no two of one name, and auto-apply quotas in the order of their folders. Each row is
--- as it may be, and the bytes of all texts are counted
+-- as it may be, the template of each auto-apply quota is there, and the bytes of all texts are counted
 pub record AreHeld (held : Held) (texts : ℕ) : Type 0 where
   pub ascending : is_ascending template_number held.templates ≡ true
   pub few : length held.templates ≤ most_templates
@@ -18,4 +18,5 @@ pub record AreHeld (held : Held) (texts : ℕ) : Type 0 where
   pub autos_ascending : is_ascending auto_folder held.autos ≡ true
   pub autos_few : length held.autos ≤ most_autos
   pub autos_valid : list_all is_auto held.autos ≡ true
+  pub there : list_all (λ auto. has_row template_number auto.template held.templates) held.autos ≡ true
   pub texts_are : texts ≡ texts_in held

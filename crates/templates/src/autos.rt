@@ -1,6 +1,6 @@
 //! The auto-apply quotas.
 
-ghost use Rattle.std.specs.Prelude.{◌≡◌, ◌<◌, IfErr, OnOk, OnErr, None, Some, true, false, length, slice_get};
+ghost use Rattle.std.specs.Prelude.{◌≡◌, ◌<◌, IfErr, IfSome, OnOk, OnErr, None, Some, true, false, length, slice_get};
 ghost use Rattle.std.specs.Option.{option_copied};
 ghost use Rattle.fsrm_base.specs.Keyed.{has_row, row_of};
 ghost use Rattle.fsrm_model.specs.AutoApply.{auto_folder, is_auto, template_for};
@@ -20,9 +20,9 @@ use fsrm_model::{AutoRow, NoMemory};
 impl Templates {
     /// Adds an auto-apply quota, whose template is there. It excludes at most 32 names.
     ///
-    /// `room` is how many bytes of texts may still come. It is refused if its folder has one (AlreadyExists), else if there are
-    /// 1,024 of them (TableFull), else if the names that it excludes are longer than `room` (TextsFull). NoMemory comes only if
-    /// nothing else refuses it. An `Err` changes nothing, and the row is dropped.
+    /// `room` is how many bytes of texts may still come. The auto-apply quota is refused if its folder has one (AlreadyExists),
+    /// else if there are 1,024 of them (TableFull), else if the names that it excludes are longer than `room` (TextsFull).
+    /// NoMemory comes only if nothing else refuses it. An `Err` changes nothing, and the row is dropped.
     pub fn add_auto(&mut self, row: AutoRow, room: u32) -> Result<(), TemplateFault>
         requires there { has_row template_number row.template self.old.templates ≡ true }
         requires valid { is_auto row ≡ true }
@@ -56,6 +56,7 @@ impl Templates {
 
     // Puts an auto-apply quota that nothing refuses into its place.
     fn insert_auto(&mut self, row: AutoRow) -> Result<(), NoMemory>
+        requires there { has_row template_number row.template self.old.templates ≡ true }
         requires valid { is_auto row ≡ true }
         requires free { has_row auto_folder row.folder self.old.autos ≡ false }
         requires few { length self.old.autos < most_autos }
@@ -79,19 +80,21 @@ impl Templates {
         self.autos.remove(place);
     }
 
-    /// A folder's auto-apply quota.
-    pub fn auto_at(&self, folder: u32) -> Option<&AutoRow>
-        ensures { option_copied result ≡ row_of auto_folder folder self.now.autos }
+    /// A folder's auto-apply quota, whose template is there.
+    pub fn auto(&self, folder: u32) -> Option<&AutoRow>
+        ensures found { option_copied result ≡ row_of auto_folder folder self.now.autos }
+        ensures there { IfSome (row_of auto_folder folder self.now.autos) (λ auto. has_row template_number auto.template self.now.templates ≡ true) }
     {
         let place = search::<ByFolder>(&self.autos, folder).ok()?;
         Some(&self.autos[place])
     }
 
     /// The number of the template of which a folder gives the folders of a name in it their quotas. It takes no memory.
-    pub fn applies(&self, folder: u32, name: &str) -> Option<u32>
-        ensures { result ≡ template_for self.now.autos folder name.now }
+    pub fn template_for(&self, folder: u32, name: &str) -> Option<u32>
+        ensures found { result ≡ template_for self.now.autos folder name.now }
+        ensures there { IfSome result (λ number. has_row template_number number self.now.templates ≡ true) }
     {
-        let auto = self.auto_at(folder)?;
+        let auto = self.auto(folder)?;
         if rows::excludes(auto, name) {
             return None;
         }
@@ -106,7 +109,7 @@ impl Templates {
     }
 
     /// The auto-apply quota at a place, from 0, in the order of the folders' numbers.
-    pub fn auto_row(&self, place: u32) -> &AutoRow
+    pub fn auto_at(&self, place: u32) -> &AutoRow
         requires { place < length self.now.autos }
         ensures { slice_get self.now.autos place ≡ Some result.now }
     {

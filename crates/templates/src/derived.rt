@@ -1,102 +1,73 @@
 //! Quotas that are derived from a template, and what its change makes of them.
 
-ghost use Rattle.std.specs.Prelude.{◌≡◌, ◌+◌, ◌^◌, ◌<◌, IfOk, IfErr, OnOk, OnErr, None, Some, true, filter, fold, length, map, nat_lt};
+ghost use Rattle.std.specs.Prelude.{◌≡◌, ◌+◌, IfOk, IfErr, OnOk, OnErr, None, Some, true, filter, fold, map, nat_lt, option_map};
 ghost use Rattle.std.specs.List.{list_all};
 ghost use Rattle.fsrm_base.specs.Keyed.{has_row, is_ascending};
-ghost use Rattle.fsrm_model.specs.declared.row.QuotaState.TheVariants.{Complete};
 ghost use Rattle.fsrm_model.specs.declared.row.TemplateRow.{TemplateRow};
 ghost use Rattle.fsrm_model.specs.Quota.{folder_of};
-ghost use Rattle.fsrm_model.specs.Templates.{as_template, derived, is_reached, is_template, template_number, template_of, updated};
-ghost use Rattle.fsrm_model.specs.Texts.{threshold_bytes};
+ghost use Rattle.fsrm_model.specs.Templates.{as_template, derived, is_reached, is_template, template_name, template_number, template_of, updated};
+ghost use Rattle.fsrm_model.specs.Texts.{template_bytes};
 ghost use Rattle.fsrm_objects.specs.Tables.{quota_texts};
-ghost use Rattle.templates.specs.Faults.{IsFault, update_fault};
-ghost use Rattle.templates.specs.Held.{is_small, mode_of, with_quota};
+ghost use Rattle.templates.specs.Faults.{IsFault, modify_fault, update_fault};
+ghost use Rattle.templates.specs.Held.{is_small, reached_by, updated_by, with_other, with_replaced};
 
 use crate::answer::TemplateFault;
 use crate::matching::is_reached;
-use crate::rows::ByNumber;
+use crate::rows::{ByNumber, template_texts};
 use crate::templates::Templates;
 use fsrm_base::places::search;
-use fsrm_model::{Duplicate, NoMemory, QuotaRow, QuotaState, TemplateRow, Update};
+use fsrm_model::{Duplicate, List, NoMemory, QuotaRow, QuotaState, TemplateRow, Update};
 use fsrm_objects::{Objects, threshold_texts};
 use std::alloc::Global;
 
 impl Templates {
-    /// The quota that a template that is there gives a folder at a moment: one that counts, with a peak of 0. Whether it does
-    /// count is the caller's to settle.
+    /// The quota that a template that is there gives a folder at a moment: one in this state, with a peak of 0.
     pub fn derive(
         &self,
         alloc: Global,
         number: u32,
         folder: u32,
+        state: QuotaState,
         moment: u64,
     ) -> Result<QuotaRow, NoMemory>
         requires { has_row template_number number self.now.templates ≡ true }
-        ensures { IfOk result (λ row. (template : TemplateRow) → template_of self.now.templates number ≡ Some template → row ≡ derived template folder Complete moment) }
+        ensures { IfOk result (λ row. (template : TemplateRow) → template_of self.now.templates number ≡ Some template → row ≡ derived template folder state moment) }
     {
         let place = search::<ByNumber>(&self.templates, number).unwrap();
-        derived(alloc, &self.templates[place], folder, moment)
+        derived(alloc, &self.templates[place], folder, state, moment)
     }
 
-    /// Gives the quotas that were derived from a template what it says now, the template of the number of `old`: its limit,
-    /// its type and its thresholds, whose actions never ran. It reaches those that match the template as it was (`old`), or all
-    /// of them. Their states stay.
+    /// Puts this row in the place of the template of its number, which has its name, and gives the quotas that were derived
+    /// from the template what it says now: its limit, its type and its thresholds, whose actions never ran. By `mode` it reaches
+    /// none of them, those that match the template as it was, or all. All else of a quota stays. The answer is the quotas that
+    /// it reached, as they were.
     ///
-    /// `room` is how many bytes of texts may still come. It is refused if the texts of the quotas after it, less those before
-    /// it, are longer than `room` (TextsFull); else NoMemory alone may come. An `Err` changes nothing.
-    pub fn update(
-        &self,
+    /// `room` is how many bytes of texts may still come. It is refused, by TextsFull alone, if the texts of all templates and
+    /// quotas after it, less those before it, are longer than `room`; else NoMemory alone may come. An `Err` changes nothing,
+    /// and the row is dropped.
+    pub fn modify(
+        &mut self,
         alloc: Global,
         objects: &mut Objects,
-        old: &TemplateRow,
-        matching: bool,
+        row: TemplateRow,
+        mode: Update,
         room: u32,
-    ) -> Result<(), TemplateFault>
-        requires there { has_row template_number old.now.number self.now.templates ≡ true }
-        requires ascending { is_ascending folder_of objects.old.quotas ≡ true }
-        ensures ok { OnOk result ((new : TemplateRow) → template_of self.now.templates old.now.number ≡ Some new → objects.new ≡ record objects.old { quotas = map (updated (mode_of matching) old.now new) objects.old.quotas }) }
-        ensures may { OnOk result ((new : TemplateRow) → template_of self.now.templates old.now.number ≡ Some new → update_fault (mode_of matching) old.now new objects.old.quotas room ≡ None) }
-        ensures refused { IfErr result (λ fault. (new : TemplateRow) → template_of self.now.templates old.now.number ≡ Some new → IsFault fault (update_fault (mode_of matching) old.now new objects.old.quotas room)) }
-        ensures err { OnErr result (objects.new ≡ objects.old) }
+    ) -> Result<List<QuotaRow>, TemplateFault>
+        requires named { option_map template_name (template_of self.old.templates row.number) ≡ Some row.name }
+        requires valid { is_template row ≡ true }
+        ensures ok { OnOk result (self.new ≡ with_other self.old row) }
+        ensures quotas { OnOk result (objects.new ≡ record objects.old { quotas = updated_by self.old row mode objects.old.quotas }) }
+        ensures reached { IfOk result (λ reached. reached ≡ reached_by self.old row mode objects.old.quotas) }
+        ensures may { OnOk result (modify_fault self.old objects.old.quotas row mode room ≡ None) }
+        ensures refused { IfErr result (λ fault. IsFault fault (modify_fault self.old objects.old.quotas row mode room)) }
+        ensures err { OnErr result (self.new ≡ self.old) }
+        ensures kept { OnErr result (objects.new ≡ objects.old) }
     {
-        let place = search::<ByNumber>(&self.templates, old.number).unwrap();
-        let new = &self.templates[place];
-        update_quotas(alloc, objects, mode_of(matching), old, new, room)
+        let place = search::<ByNumber>(&self.templates, row.number).unwrap();
+        let reached = update(alloc, objects, &self.templates[place], &row, mode, room)?;
+        self.replace(row);
+        Ok(reached)
     }
-}
-
-fn mode_of(matching: bool) -> Update
-    ensures { result ≡ mode_of matching }
-{
-    if matching {
-        Update::Matching
-    } else {
-        Update::All
-    }
-}
-
-// Gives the quotas that a template's change reaches what it says now (`new`).
-fn update_quotas(
-    alloc: Global,
-    objects: &mut Objects,
-    mode: Update,
-    old: &TemplateRow,
-    new: &TemplateRow,
-    room: u32,
-) -> Result<(), TemplateFault>
-    requires valid { is_template new.now ≡ true }
-    requires ascending { is_ascending folder_of objects.old.quotas ≡ true }
-    ensures ok { OnOk result (objects.new ≡ record objects.old { quotas = map (updated mode old.now new.now) objects.old.quotas }) }
-    ensures may { OnOk result (update_fault mode old.now new.now objects.old.quotas room ≡ None) }
-    ensures refused { IfErr result (λ fault. IsFault fault (update_fault mode old.now new.now objects.old.quotas room)) }
-    ensures err { OnErr result (objects.new ≡ objects.old) }
-{
-    if is_long_update(objects, mode, old, new, room) {
-        return Err(TemplateFault::TextsFull);
-    }
-    let quotas = reached_rows(alloc, objects, mode, old, new)?;
-    put_all(objects, quotas);
-    Ok(())
 }
 
 // The quota that a template gives a folder.
@@ -104,15 +75,16 @@ fn derived(
     alloc: Global,
     template: &TemplateRow,
     folder: u32,
+    state: QuotaState,
     moment: u64,
 ) -> Result<QuotaRow, NoMemory>
-    ensures { IfOk result (λ row. row ≡ derived template.now folder Complete moment) }
+    ensures { IfOk result (λ row. row ≡ derived template.now folder state moment) }
 {
     Ok(QuotaRow {
         folder,
         limit: template.limit,
         enforce: template.enforce,
-        state: QuotaState::Complete,
+        state,
         thresholds: template.thresholds.copy(alloc)?,
         template: Some(template.number),
         peak: 0,
@@ -120,58 +92,90 @@ fn derived(
     })
 }
 
-// Whether the texts of all quotas after an update, less those before it, are longer than the room.
+// Gives the quotas that a template's change reaches what it says now (`new`). The answer is these quotas, as they were.
+fn update(
+    alloc: Global,
+    objects: &mut Objects,
+    old: &TemplateRow,
+    new: &TemplateRow,
+    mode: Update,
+    room: u32,
+) -> Result<List<QuotaRow>, TemplateFault>
+    requires old { is_template old.now ≡ true }
+    requires new { is_template new.now ≡ true }
+    ensures ok { OnOk result (objects.new ≡ record objects.old { quotas = map (updated mode old.now new.now) objects.old.quotas }) }
+    ensures reached { IfOk result (λ reached. reached ≡ filter (is_reached mode old.now) objects.old.quotas) }
+    ensures may { OnOk result (update_fault old.now new.now objects.old.quotas mode room ≡ None) }
+    ensures refused { IfErr result (λ fault. IsFault fault (update_fault old.now new.now objects.old.quotas mode room)) }
+    ensures err { OnErr result (objects.new ≡ objects.old) }
+{
+    if is_long_update(objects, old, new, mode, room) {
+        return Err(TemplateFault::TextsFull);
+    }
+    let reached = reached_quotas(alloc, objects, old, mode)?;
+    let rows = updated_rows(alloc, new, &reached)?;
+    put_all(objects, rows);
+    Ok(reached)
+}
+
+// Whether the texts of a template and of all quotas after its change, less those before it, are longer than the room.
 fn is_long_update(
     objects: &Objects,
-    mode: Update,
     old: &TemplateRow,
     new: &TemplateRow,
+    mode: Update,
     room: u32,
 ) -> bool
-    requires { threshold_bytes new.now.thresholds < 2 ^ 32 }
-    ensures { result ≡ nat_lt (room + quota_texts objects.now.quotas) (quota_texts (map (updated mode old.now new.now) objects.now.quotas)) }
+    requires old { is_template old.now ≡ true }
+    requires new { is_template new.now ≡ true }
+    ensures { result ≡ nat_lt (room + (template_bytes old.now + quota_texts objects.now.quotas)) (template_bytes new.now + quota_texts (map (updated mode old.now new.now) objects.now.quotas)) }
 {
-    let (count, bytes) = reached_texts(objects, mode, old);
     let each = threshold_texts(&new.thresholds);
-    u64::from(room) + u64::from(bytes) < u64::from(count) * u64::from(each)
-}
-
-/// How many quotas a template's change reaches, and the bytes of their texts.
-pub fn reached_texts(objects: &Objects, mode: Update, old: &TemplateRow) -> (u32, u32)
-    ensures count { result.0 ≡ length (filter (is_reached mode old.now) objects.now.quotas) }
-    ensures bytes { result.1 ≡ quota_texts (filter (is_reached mode old.now) objects.now.quotas) }
-{
-    let _texts = objects.texts();
-    let mut count = 0;
-    let mut bytes = 0;
+    let mut before = template_texts(old);
+    let mut after = template_texts(new);
     for place in 0..objects.quota_count() {
         let quota = objects.quota_at(place);
         if is_reached(mode, old, quota) {
-            count += 1;
-            bytes += threshold_texts(&quota.thresholds);
+            before += threshold_texts(&quota.thresholds);
+            after += each;
         }
     }
-    (count, bytes)
+    after.saturating_sub(before) > room
 }
 
-// The quotas that a template's change reaches, as they are after it.
-fn reached_rows(
+// Copies of the quotas that a template's change reaches, in the order of their folders.
+fn reached_quotas(
     alloc: Global,
     objects: &Objects,
-    mode: Update,
     old: &TemplateRow,
-    new: &TemplateRow,
-) -> Result<Vec<QuotaRow>, NoMemory>
-    ensures { IfOk result (λ quotas. quotas.items ≡ map (as_template new.now) (filter (is_reached mode old.now) objects.now.quotas)) }
+    mode: Update,
+) -> Result<List<QuotaRow>, NoMemory>
+    ensures reached { IfOk result (λ quotas. quotas ≡ filter (is_reached mode old.now) objects.now.quotas) }
+    ensures ascending { is_ascending folder_of objects.now.quotas ≡ true }
 {
-    let mut quotas = Vec::new(alloc);
+    let mut quotas = List::new(alloc);
     for place in 0..objects.quota_count() {
         let quota = objects.quota_at(place);
         if is_reached(mode, old, quota) {
-            quotas.push(as_template(alloc, new, quota)?)?;
+            quotas.push(quota.copy(alloc)?)?;
         }
     }
     Ok(quotas)
+}
+
+// What a template's change makes of quotas that it reaches.
+fn updated_rows(
+    alloc: Global,
+    template: &TemplateRow,
+    quotas: &List<QuotaRow>,
+) -> Result<Vec<QuotaRow>, NoMemory>
+    ensures { IfOk result (λ rows. rows.items ≡ map (as_template template.now) quotas.now) }
+{
+    let mut rows = Vec::new(alloc);
+    for quota in quotas.as_slice() {
+        rows.push(as_template(alloc, template, quota)?)?;
+    }
+    Ok(rows)
 }
 
 // A quota with the limit, the type and the thresholds of a template.
@@ -198,9 +202,10 @@ fn as_template(
 fn put_all(objects: &mut Objects, quotas: Vec<QuotaRow>)
     requires there { list_all (λ row. has_row folder_of row.folder objects.old.quotas) quotas.items ≡ true }
     requires small { list_all is_small quotas.items ≡ true }
-    ensures { objects.new ≡ record objects.old { quotas = fold with_quota objects.old.quotas quotas.items } }
+    ensures { objects.new ≡ record objects.old { quotas = fold with_replaced objects.old.quotas quotas.items } }
 {
     for quota in quotas {
+        // That the texts of all of them fit was judged at once, before any was put (`is_long_update`).
         objects.set_quota(quota, u32::MAX).unwrap();
     }
 }

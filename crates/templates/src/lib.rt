@@ -13,7 +13,5 @@ mod rows;
 mod templates;
 
 pub use answer::TemplateFault;
-pub use derived::reached_texts;
-pub use matching::is_reached;
-pub use rows::{excludes, template_texts};
+pub use rows::excludes;
 pub use templates::Templates;

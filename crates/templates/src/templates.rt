@@ -8,8 +8,9 @@ ghost use Rattle.fsrm_model.specs.declared.row.TemplateRow.{TemplateRow};
 ghost use Rattle.fsrm_model.specs.Limits.{most_templates};
 ghost use Rattle.fsrm_model.specs.Name.{is_named};
 ghost use Rattle.fsrm_model.specs.Templates.{is_template, template_name, template_named, template_number, template_of};
-ghost use Rattle.templates.specs.Faults.{IsFault, delete_fault, other_fault, template_fault};
+ghost use Rattle.templates.specs.Faults.{IsFault, delete_fault, template_fault};
 ghost use Rattle.templates.specs.Held.{numbered, texts_in, with_other, with_template, without_template};
+ghost use Rattle.templates.specs.Kept.{AreHeld};
 
 use crate::answer::TemplateFault;
 use crate::rows;
@@ -123,28 +124,17 @@ impl Templates {
         Ok(())
     }
 
-    /// Gives the template of a number another row, which has its name. It takes no memory.
-    ///
-    /// `room` is as at `add`. It is refused, by TextsFull alone, if the row's texts, less those that they replace, are longer
-    /// than `room`. An `Err` changes nothing, and the row is dropped.
-    pub fn modify(&mut self, row: TemplateRow, room: u32) -> Result<(), TemplateFault>
-        requires there { has_row template_number row.number self.old.templates ≡ true }
-        requires name { (old : TemplateRow) → template_of self.old.templates row.number ≡ Some old → row.name ≡ old.name }
+    // Puts this row in the place of the template of its number, which has its name. It takes no memory.
+    pub(crate) fn replace(&mut self, row: TemplateRow)
+        requires named { option_map template_name (template_of self.old.templates row.number) ≡ Some row.name }
         requires valid { is_template row ≡ true }
-        ensures ok { OnOk result (self.new ≡ with_other self.old row) }
-        ensures may { OnOk result (other_fault self.old row room ≡ None) }
-        ensures refused { IfErr result (λ fault. other_fault self.old row room ≡ Some fault) }
-        ensures err { OnErr result (self.new ≡ self.old) }
+        ensures { self.new ≡ with_other self.old row }
     {
         let place = search::<ByNumber>(&self.templates, row.number).unwrap();
         let replaced = rows::template_texts(&self.templates[place]);
         let bytes = rows::template_texts(&row);
-        if bytes.saturating_sub(replaced) > room {
-            return Err(TemplateFault::TextsFull);
-        }
         self.texts = self.texts - replaced + bytes;
         self.templates[place] = row;
-        Ok(())
     }
 
     /// Takes the template of a number away, which is there. It is refused, by InUse alone, if an auto-apply quota names it.
@@ -183,20 +173,21 @@ impl Templates {
 
     /// The bytes of all texts: names of templates, texts of their actions, excluded names.
     pub fn texts(&self) -> u32
-        ensures { result ≡ texts_in self.now }
+        ensures bytes { result ≡ texts_in self.now }
+        ensures kept { AreHeld self.now result }
     {
         self.texts
     }
 
     /// How many templates there are, at most 1,024.
-    pub fn count(&self) -> u32
+    pub fn template_count(&self) -> u32
         ensures { result ≡ length self.now.templates }
     {
         self.templates.len() as u32
     }
 
     /// The template at a place, from 0, in the order of the numbers.
-    pub fn at(&self, place: u32) -> &TemplateRow
+    pub fn template_at(&self, place: u32) -> &TemplateRow
         requires { place < length self.now.templates }
         ensures { slice_get self.now.templates place ≡ Some result.now }
     {

@@ -1,16 +1,16 @@
 //! Quota templates, the quotas that are derived from them, and auto-apply quotas. What they do is shown by scripts.
 
-ghost use Rattle.std.specs.Prelude.{◌≡◌, [], None, Some, IfOk, OnOk, true, codes, nat_lt};
-ghost use Rattle.fsrm_base.specs.Keyed.{has_row, is_ascending};
+ghost use Rattle.std.specs.Prelude.{◌≡◌, None, Some, IfOk, true, nat_lt};
+ghost use Rattle.fsrm_base.specs.Keyed.{has_row};
 ghost use Rattle.fsrm_model.specs.declared.row.TemplateRow.{TemplateRow};
 ghost use Rattle.fsrm_model.specs.AutoApply.{is_auto};
 ghost use Rattle.fsrm_model.specs.Limits.{most_templates};
-ghost use Rattle.fsrm_model.specs.Quota.{folder_of, is_limit};
+ghost use Rattle.fsrm_model.specs.Quota.{is_limit};
 ghost use Rattle.fsrm_model.specs.Templates.{is_template, template_number, template_of};
 ghost use Rattle.vectors.specs.Kept.{IsPlain};
 
 use crate::values::{one, text};
-use fsrm_model::{AutoRow, List, TemplateRow};
+use fsrm_model::{AutoRow, List, QuotaState, TemplateRow, Update};
 use fsrm_objects::Objects;
 use std::alloc::Global;
 use std::test::Fail;
@@ -44,8 +44,8 @@ fn kept(alloc: Global) -> Result<Templates, Fail>
 
 // Whether the only template has this limit.
 fn has_limit(templates: &Templates, limit: u64) -> bool {
-    templates.count() == 1
-        && templates.at(0).limit == limit
+    templates.template_count() == 1
+        && templates.template_at(0).limit == limit
         && matches!(templates.template(0), Some(row) if row.limit == limit)
 }
 
@@ -75,7 +75,7 @@ fn deletes(templates: &mut Templates) -> bool {
 fn a_stored_template_keeps_its_number(rt: HostRuntime) -> Result<(), Fail> {
     let mut templates = stored(rt.alloc())?;
     assert!(rt; deletes(&mut templates));
-    assert!(rt; templates.count() == 0);
+    assert!(rt; templates.template_count() == 0);
     Ok(())
 }
 
@@ -83,32 +83,25 @@ fn a_stored_template_keeps_its_number(rt: HostRuntime) -> Result<(), Fail> {
 fn derived(templates: &Templates, alloc: Global) -> Result<Objects, Fail>
     requires there { has_row template_number 0 templates.now.templates ≡ true }
     requires plain { (row : TemplateRow) → template_of templates.now.templates 0 ≡ Some row → IsPlain row }
-    ensures { IfOk result (λ objects. is_ascending folder_of objects.quotas ≡ true) }
 {
     let mut objects = Objects::new(alloc);
-    let quota = templates.derive(alloc, 0, 5, 7)?;
+    let quota = templates.derive(alloc, 0, 5, QuotaState::Complete, 7)?;
     objects.add_quota(quota, 0)?;
     Ok(objects)
 }
 
-// The template has another limit now.
-fn change(templates: &mut Templates, alloc: Global) -> Result<(), Fail>
+// The template gets another limit, and the quotas that match it as it was follow it: so many.
+fn follow(
+    templates: &mut Templates,
+    alloc: Global,
+    objects: &mut Objects,
+) -> Result<usize, Fail>
     requires there { has_row template_number 0 templates.old.templates ≡ true }
     requires plain { (row : TemplateRow) → template_of templates.old.templates 0 ≡ Some row → IsPlain row }
-    ensures { OnOk result (has_row template_number 0 templates.new.templates ≡ true) }
 {
-    templates.modify(template(alloc, 0, 6_000)?, 0)?;
-    Ok(())
-}
-
-// The quotas that match the template as it was follow it.
-fn follow(templates: &Templates, alloc: Global, objects: &mut Objects) -> Result<(), Fail>
-    requires there { has_row template_number 0 templates.now.templates ≡ true }
-    requires ascending { is_ascending folder_of objects.old.quotas ≡ true }
-{
-    let old = template(alloc, 0, 5_000)?;
-    templates.update(alloc, objects, &old, true, 0)?;
-    Ok(())
+    let row = template(alloc, 0, 6_000)?;
+    let reached = templates.modify(alloc, objects, row, Update::Matching, 0)?;
+    Ok(reached.len())
 }
 
 fn is_limited(objects: &Objects, limit: u64) -> bool {
@@ -123,8 +116,8 @@ fn a_quota_follows_its_template(rt: HostRuntime) -> Result<(), Fail> {
     let mut templates = kept(rt.alloc())?;
     let mut objects = derived(&templates, rt.alloc())?;
     assert!(rt; is_limited(&objects, 5_000));
-    change(&mut templates, rt.alloc())?;
-    follow(&templates, rt.alloc(), &mut objects)?;
+    let reached = follow(&mut templates, rt.alloc(), &mut objects)?;
+    assert!(rt; reached == 1);
     assert!(rt; is_limited(&objects, 6_000));
     Ok(())
 }
@@ -151,17 +144,17 @@ fn applied(alloc: Global) -> Result<Templates, Fail> {
 // Whether the only auto-apply quota is that of folder 5.
 fn applies(templates: &Templates) -> bool {
     templates.auto_count() == 1
-        && templates.auto_row(0).folder == 5
-        && templates.applies(5, "new") == Some(0)
-        && templates.applies(5, "TEXT").is_none()
+        && templates.auto_at(0).folder == 5
+        && templates.template_for(5, "new") == Some(0)
+        && templates.template_for(5, "TEXT").is_none()
 }
 
 fn drops(templates: &mut Templates) -> bool {
-    let there = templates.auto_at(5).is_some();
+    let there = templates.auto(5).is_some();
     if there {
         templates.drop_auto(5);
     }
-    there && templates.auto_at(5).is_none()
+    there && templates.auto(5).is_none()
 }
 
 #[test]

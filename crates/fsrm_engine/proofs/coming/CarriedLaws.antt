@@ -34,12 +34,12 @@ use Rattle.fsrm_engine.specs.declared.moves.Moving.{Moving}
 use Rattle.fsrm_engine.specs.declared.parts.Parts.{Parts}
 use Rattle.fsrm_engine.specs.Faults.{exceeded_refusal}
 use Rattle.fsrm_engine.specs.Machine.{AreCounted, Does, IsIdle, IsSound, IsWhole, recounted, rows_of}
-use Rattle.fsrm_engine.specs.Moves.{AreMoved, IsMove, MayMove, change_of, judged_move, source_of_move}
+use Rattle.fsrm_engine.specs.Moves.{AreMoved, IsMove, IsSourceOfMove, MayMove, change_of, judged_move}
 use Rattle.fsrm_engine.specs.Places.{IsMoved}
 use Rattle.fsrm_engine.specs.Reporting.{is_active}
 use Rattle.fsrm_engine.specs.Arrivals.{Receives, from_source, queue_given, quotas_given, roomed, source_fault}
 use Rattle.fsrm_engine.proofs.coming.MovedQuota.{coming_moved, folders_moved, given_head, moved_left}
-use Rattle.fsrm_engine.proofs.coming.SourceLaws.{given_full, moved_known, moved_there, not_queued}
+use Rattle.fsrm_engine.proofs.coming.SourceLaws.{given_full, moved_known, not_queued}
 use Rattle.fsrm_engine.proofs.judging.NameLaws.{IsJudged, moved_judged, unblocked}
 use Rattle.fsrm_engine.proofs.operations.ChangeLaws.{MovesTo}
 use Rattle.fsrm_engine.proofs.operations.FollowLaws.{effect_as, move_next, move_nodes}
@@ -88,7 +88,7 @@ use Rattle.fsrm_engine.proofs.steps.PlaceLaws.{place_depth}
 use Rattle.fsrm_engine.proofs.tables.StateLaws.{empty_folder, first_empty}
 use Rattle.fsrm_engine.proofs.steps.StepLaws.{asked, due, followed_rows, or_else, same_own, tree_first}
 
-module _ (p : Parts) (w : IsWhole p) (m : ℕ) (from to : List (List ℕ)) (v : Moving) (is : IsMove p.tree from to v) (source : Option ℕ) (source_is : source ≡ source_of_move p v) where
+module _ (p : Parts) (w : IsWhole p) (m : ℕ) (from to : List (List ℕ)) (v : Moving) (is : IsMove p.tree from to v) (source : Option ℕ) (source_is : IsSourceOfMove p.objects.quotas p.templates v source) where
   abbrev R : Rows
   R = rows_of p
 
@@ -113,18 +113,15 @@ module _ (p : Parts) (w : IsWhole p) (m : ℕ) (from to : List (List ℕ)) (v : 
   pub to_it : MovesTo p.tree.nodes x d
   to_it = moves_to p.tree.nodes x d (has_resolved p.tree.size p.tree.nodes from x w.valid.volume is.resolved) is.inner is.at.folder_is (ready_apart p.tree x d name is.may)
 
-  pub there : IfSome source (λ n. has_row template_number n p.templates.templates ≡ true)
-  there = moved_there p w x v.folder d name source source_is
-
   coming : coming_quotas op R between m ≡ option_to_list given
   coming =
       coming_moved p.tree.size R m from to x d name between.unvisited v.folder w.valid.volume is.resolved to_it is.at is.kind
-      ∙ ap (λ o. option_to_list (from_source p.templates.templates x (start p.tree.nodes x) m o)) (sym source_is)
+      ∙ ap (λ o. option_to_list (from_source p.templates.templates x (start p.tree.nodes x) m o)) (sym source_is.is)
 
   room : room_after p m op ≡ source_fault p source
   room =
       ap (λ (qs : List QuotaRow). first (table_full (with_quotas between qs) ∷ texts_full (with_quotas between qs) ∷ [])) coming
-      ∙ given_full p w (plain R.nodes op m) between.unvisited x (start p.tree.nodes x) m source there
+      ∙ given_full p w (plain R.nodes op m) between.unvisited x (start p.tree.nodes x) m source source_is.there
 
   -- ---- the refusal that is due
   pub moved_due : due p m (File op) ≡ or_else (source_fault p source) (or_else (blocked (judged_name R op)) (exceeded p.tree.size R (with_place p.tree x d name).nodes))
@@ -169,7 +166,7 @@ module _ (p : Parts) (w : IsWhole p) (m : ℕ) (from to : List (List ℕ)) (v : 
       by None e other = absurd (clash (same_head p.scans.queue p.scans.queue) (same_own p.scans.queue)
           (sym (ap (λ o. same_head p.scans.queue (queue_given p.scans.queue (from_source p.templates.templates x (start p.tree.nodes x) m o))) e) ∙ other))
       by (Some n) e other =
-          given_head p.scans.queue x given on_it (not_queued p w x (moved_known p x v.folder d name source source_is (ap is_some e)).absent) other
+          given_head p.scans.queue x given on_it (not_queued p w x (moved_known p x v.folder d name source source_is.is (ap is_some e)).absent) other
 
   -- the rows are those that the move makes
   pub moved_made : (o : Parts) (r t : Course) (tree : Volume) → tree ≡ with_place p.tree x d name → IsVolume tree.size tree.nodes → Turns p.scans r p.tree → r.queue ≡ queue_given p.scans.queue given → Goes r t tree (λ scanned. unvisited_moved p.tree.nodes (with_place p.tree x d name).nodes scanned x d (left p.tree.nodes r)) →
@@ -350,10 +347,10 @@ module _ (p o : Parts) (w : IsWhole p) (idle : IsIdle p) (m : ℕ) (after : p.la
   came = recounted (record (roomed p o) { scans = r }) (quotas_given p.objects.quotas the_quota)
 
   is_kind : is_some source ≡ true → is_folder the_nodes the_node ≡ true
-  is_kind h = may.is.kind ∙ (moved_known p the_node v.folder the_place the_name source may.source_is h).moves
+  is_kind h = may.is.kind ∙ (moved_known p the_node v.folder the_place the_name source may.source_is.is h).moves
 
   has_none : is_some source ≡ true → has_row folder_of the_node p.objects.quotas ≡ false
-  has_none h = (moved_known p the_node v.folder the_place the_name source may.source_is h).absent
+  has_none h = (moved_known p the_node v.folder the_place the_name source may.source_is.is h).absent
 
   carried_at : (tree : Volume) → IsSound came → Turns p.scans r p.tree → r.queue ≡ queue_given p.scans.queue the_quota → Goes r t tree (λ scanned. unvisited_moved the_nodes (with_place p.tree the_node the_place the_name).nodes scanned the_node the_place (left the_nodes r)) → tree ≡ with_place p.tree the_node the_place the_name → IsVolume tree.size tree.nodes → IsCarried p came t tree m from to v judged (change_of v bytes)
   carried_at tree sound turns queue goes made kept =
@@ -395,7 +392,7 @@ module _ (p o : Parts) (w : IsWhole p) (idle : IsIdle p) (m : ℕ) (after : p.la
         };
         raised = done.raised_are;
         due = charged_due came tree t change m size e done.engine
-            ∙ dues the_size (rows_of came) (rows_of p) (rows_of charged) m (λ f n. given_reached p w the_node m f n source (there p w m from to v may.is source may.source_is) is_kind has_none);
+            ∙ dues the_size (rows_of came) (rows_of p) (rows_of charged) m (λ f n. given_reached p w the_node m f n source may.source_is.there is_kind has_none);
         high =
             let left : length (chain tree.nodes v.parent) ≤ length from = subst (λ k. k ≤ length from) (sym (left_height p.tree tree the_node the_place the_name v.parent e.volume it may.is.parent made)) (from_height the_size the_nodes from the_node v.parent e.volume may.is.resolved may.is.inner may.is.parent) in
             let new : length (chain tree.nodes the_place) ≤ length to = subst (λ k. k ≤ length to) (sym (to_height p.tree tree the_node the_place the_name e.volume it made)) (place_depth the_size the_nodes to the_place the_name e.volume may.is.at) in

@@ -41,7 +41,7 @@ use Rattle.fsrm_engine.specs.declared.parts.Parts.{Parts}
 use Rattle.fsrm_engine.specs.Machine.{AreCounted, Does, IsIdle, IsSound, IsWhole, ended, recounted, rows_of}
 use Rattle.fsrm_engine.specs.Places.{IsPlace, IsVacant}
 use Rattle.fsrm_engine.specs.Arrivals.{from_source, queue_given, quotas_given, source_fault, with_folder}
-use Rattle.fsrm_engine.proofs.coming.SourceLaws.{IsSource, given_full, not_queued, source_gives, source_is, source_there}
+use Rattle.fsrm_engine.proofs.coming.SourceLaws.{IsSource, given_full, not_queued, source_gives, source_is}
 use Rattle.fsrm_engine.proofs.operations.FollowLaws.{back_scans, is_made, mkdir_next, op_accepts}
 use Rattle.fsrm_engine.proofs.operations.IdleLaws.{idle_made, usage_made}
 use Rattle.fsrm_engine.proofs.operations.NewLaws.{made_is, mkdir_free, room_after}
@@ -157,7 +157,7 @@ made_empty p tree d name owner m n v folder made is_n =
     ∙ first_empty (with_row number node p.tree.nodes) (fresh p.tree.nodes) true (ap is_complete (start_made p.tree.size p.tree.nodes node v (made_free p.tree.size p.tree.nodes v) folder)))
 
 -- ---- what it gets
-module _ (p : Parts) (w : IsWhole p) (m : ℕ) (path : List (List ℕ)) (owner d : ℕ) (name : List ℕ) (at : IsPlace p.tree.nodes path d name) (source : Option ℕ) (is : source ≡ template_for p.templates.autos d name) where
+module _ (p : Parts) (w : IsWhole p) (m : ℕ) (path : List (List ℕ)) (owner d : ℕ) (name : List ℕ) (at : IsPlace p.tree.nodes path d name) (source : Option ℕ) (is : source ≡ template_for p.templates.autos d name) (there : IfSome source (λ n. has_row template_number n p.templates.templates ≡ true)) where
   abbrev R : Rows
   R = rows_of p
 
@@ -172,9 +172,6 @@ module _ (p : Parts) (w : IsWhole p) (m : ℕ) (path : List (List ℕ)) (owner d
 
   abbrev between : Rows
   between = record R { nodes = plain nodes op m; unvisited = unvisited_after R (plain nodes op m) op }
-
-  there : IfSome source (λ n. has_row template_number n p.templates.templates ≡ true)
-  there = source_there p w d name source is
 
   coming : coming_quotas op R between m ≡ option_to_list given
   coming =

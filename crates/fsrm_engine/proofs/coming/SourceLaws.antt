@@ -1,24 +1,22 @@
 -- Of which template a folder gets a quota, whether it may come, and what it is.
-use Rattle.std.proofs.Common.{◌≡◌, ℕ, ◌+◌, ◌*◌, ◌<◌, ◌≤◌, ◌==◌, Bool, true, false, cond, List, [], ◌∷◌, length, Option, Some, None, nat_lt, refl, ap, sym, ◌∙◌, subst, arith}
+use Rattle.std.proofs.Common.{◌≡◌, ℕ, ◌+◌, ◌*◌, ◌<◌, ◌≤◌, ◌==◌, Bool, true, false, cond, List, [], ◌∷◌, length, Option, Some, None, nat_lt, refl, ap, sym, ◌∙◌, arith}
 use Rattle.std.proofs.lemmas.Option.{same_Some}
-use Rattle.std.specs.Prelude.{IfSome, is_some, option_map, option_to_list, if◌then◌else◌}
-use Rattle.std.specs.List.{list_all}
-use Rattle.std.specs.Option.{option_and_then, option_map_or}
+use Rattle.std.specs.Prelude.{IfSome, is_some, option_map, option_to_list}
+use Rattle.std.specs.Option.{option_map_or}
 use Rattle.fsrm_base.specs.Keyed.{has_row, row_of, with_row}
 use Rattle.fsrm_base.specs.Numbers.{is_in}
 use Rattle.fsrm_base.proofs.EditedRows.{length-with_row, sum_by-with_row}
 use Rattle.fsrm_base.proofs.Look.{has_found, is_some-find}
 use Rattle.fsrm_base.proofs.Members.{all_found}
-use Rattle.fsrm_base.proofs.TestLaws.{both, clash, ge_is, not_lt, not_true}
+use Rattle.fsrm_base.proofs.TestLaws.{clash, ge_is, not_lt, not_true}
 use Rattle.fsrm_model.specs.declared.command.Refusal.{Refusal}
 use Rattle.fsrm_model.specs.declared.command.Refusal.TheVariants.{TableFull, TextsFull}
-use Rattle.fsrm_model.specs.declared.row.AutoRow.{AutoRow}
 use Rattle.fsrm_model.specs.declared.row.NodeRow.{NodeRow}
 use Rattle.fsrm_model.specs.declared.row.QuotaRow.{QuotaRow}
 use Rattle.fsrm_model.specs.declared.row.QuotaState.{QuotaState}
 use Rattle.fsrm_model.specs.declared.row.Rows.{Rows}
 use Rattle.fsrm_model.specs.declared.row.TemplateRow.{TemplateRow}
-use Rattle.fsrm_model.specs.AutoApply.{auto_folder, excludes, template_for, with_quotas}
+use Rattle.fsrm_model.specs.AutoApply.{template_for, with_quotas}
 use Rattle.fsrm_model.specs.Check.{◌when◌, first, table_full, texts_full}
 use Rattle.fsrm_model.specs.Limits.{most_quotas, most_templates, most_text_bytes}
 use Rattle.fsrm_model.specs.Quota.{folder_of, is_limit}
@@ -26,9 +24,8 @@ use Rattle.fsrm_model.specs.Templates.{derived, is_template, template_name, temp
 use Rattle.fsrm_model.specs.Text.{is_bare}
 use Rattle.fsrm_model.specs.Texts.{object_texts, quota_bytes, threshold_bytes}
 use Rattle.fsrm_model.specs.Thresholds.{are_thresholds}
-use Rattle.fsrm_model.specs.Valid.{is_sound_auto}
 use Rattle.fsrm_model.proofs.valid.NamesApart.{named_parts}
-use Rattle.fsrm_model.proofs.valid.TemplatesKept.{auto_parts, template_parts}
+use Rattle.fsrm_model.proofs.valid.TemplatesKept.{template_parts}
 use Rattle.fsrm_objects.specs.Tables.{quota_texts}
 use Rattle.fsrm_engine.specs.declared.parts.Parts.{Parts}
 use Rattle.fsrm_engine.specs.Applying.{derived_bytes}
@@ -37,35 +34,7 @@ use Rattle.fsrm_engine.specs.Machine.{IsWhole, rows_of}
 use Rattle.fsrm_engine.specs.Arrivals.{from_source, moved_source, source_fault}
 use Rattle.fsrm_engine.proofs.tables.RoomLaws.{few_texts, room_test}
 
--- ---- the template is there
--- of an auto-apply quota
-auto_source : (nodes : List NodeRow) (templates : List TemplateRow) (name : List ℕ) (o : Option AutoRow) → ((auto : AutoRow) → o ≡ Some auto → is_sound_auto nodes templates auto ≡ true) → (n : ℕ) → option_and_then (λ auto. if excludes auto name then None else Some auto.template) o ≡ Some n → has_row template_number n templates ≡ true
-auto_source nodes templates name None sound n h = absurd (cc h)
-auto_source nodes templates name (Some auto) sound n h = at (excludes auto name) h
-  where
-    at : (b : Bool) → cond b None (Some auto.template) ≡ Some n → has_row template_number n templates ≡ true
-    at true h = absurd (cc h)
-    at false h =
-        subst (λ k. has_row template_number k templates ≡ true) (same_Some auto.template n h)
-        (auto_parts nodes templates auto (sound auto refl)).there
-
-source_found : (p : Parts) → IsWhole p → (d : ℕ) (name : List ℕ) (n : ℕ) → template_for p.templates.autos d name ≡ Some n → has_row template_number n p.templates.templates ≡ true
-source_found p w d name n h =
-    let nodes = p.tree.nodes in
-    let templates = p.templates.templates in
-    let autos = p.templates.autos in
-    let each = (both _ (list_all (is_sound_auto nodes templates) autos) w.valid.tables.autos).1 in
-    auto_source nodes templates name (row_of auto_folder d autos)
-    (λ auto found. all_found (is_sound_auto nodes templates) (λ a. auto_folder a == d) autos auto each found) n h
-
--- so it is of each source that is found so
-if_found : (templates : List TemplateRow) (source : Option ℕ) → ((n : ℕ) → source ≡ Some n → has_row template_number n templates ≡ true) → IfSome source (λ n. has_row template_number n templates ≡ true)
-if_found templates None h = tt
-if_found templates (Some n) h = h n refl
-
-pub source_there : (p : Parts) → IsWhole p → (d : ℕ) (name : List ℕ) (source : Option ℕ) → source ≡ template_for p.templates.autos d name → IfSome source (λ n. has_row template_number n p.templates.templates ≡ true)
-source_there p w d name source is = if_found p.templates.templates source (λ n e. source_found p w d name n (sym is ∙ e))
-
+-- ---- the template
 -- what is known of the source of a move, if there is one
 pub record MovedSource (p : Parts) (node : ℕ) (moves_folder : Bool) (d : ℕ) (name : List ℕ) : Type 0 where
   pub moves : moves_folder ≡ true
@@ -78,14 +47,6 @@ moved_known p node true d name source is h = at (is_some (row_of folder_of node 
     at : (b : Bool) → is_some (row_of folder_of node p.objects.quotas) ≡ b → is_some (cond b None (template_for p.templates.autos d name)) ≡ true → MovedSource p node true d name
     at true e h = absurd (clash false h refl)
     at false e h = record { moves = refl; absent = sym (is_some-find (λ q. folder_of q == node) p.objects.quotas) ∙ e }
-
-pub moved_there : (p : Parts) → IsWhole p → (node : ℕ) (moves_folder : Bool) (d : ℕ) (name : List ℕ) (source : Option ℕ) → source ≡ moved_source p.objects.quotas p.templates.autos node moves_folder d name → IfSome source (λ n. has_row template_number n p.templates.templates ≡ true)
-moved_there p w node moves_folder d name source is = if_found p.templates.templates source (λ n e. at moves_folder (is_some (row_of folder_of node p.objects.quotas)) n (sym is ∙ e))
-  where
-    at : (a b : Bool) (n : ℕ) → cond a (cond b None (template_for p.templates.autos d name)) None ≡ Some n → has_row template_number n p.templates.templates ≡ true
-    at true true n h = absurd (cc h)
-    at true false n h = source_found p w d name n h
-    at false b n h = absurd (cc h)
 
 -- ---- the quota
 -- what a template that is there is

@@ -278,11 +278,14 @@ step_acts K R c store legal =
 abbrev kinds : List Deed
 kinds =
     File (Mkdir [] 0) ∷ File (Create [] 0 0) ∷ File (Resize [] 0) ∷ File (Touch []) ∷ File (Move [] []) ∷ File (Remove [])
-    ∷ Quota (QuotaAdd [] None None false None [] []) ∷ Quota (QuotaModify [] None None None [] [] []) ∷ Quota (QuotaDelete []) ∷ Quota (QuotaScan [])
-    ∷ Quota (QuotaResetpeak []) ∷ Template (TemplateAdd [] 0 false [] []) ∷ Template (TemplateModify [] None None [] [] [] Keep) ∷ Template (TemplateDelete [])
-    ∷ Autoquota (AutoquotaAdd [] [] []) ∷ Autoquota (AutoquotaDelete []) ∷ Admin (AdminOptions 0)
+    ∷ Quota (QuotaAdd [] None None false None [] []) ∷ Quota (QuotaModify [] None None None [] [] []) ∷ Quota (QuotaDelete [])
+    ∷ Quota (QuotaScan []) ∷ Quota (QuotaResetpeak [])
+    ∷ Template (TemplateAdd [] 0 false [] []) ∷ Template (TemplateModify [] None None [] [] [] Keep) ∷ Template (TemplateDelete [])
+    ∷ Autoquota (AutoquotaAdd [] [] []) ∷ Autoquota (AutoquotaDelete [])
+    ∷ Admin (AdminOptions 0)
     ∷ Filegroup (FilegroupAdd [] [] []) ∷ Filegroup (FilegroupModify [] None None) ∷ Filegroup (FilegroupDelete [])
-    ∷ Screen (ScreenAdd [] false [] []) ∷ Screen (ScreenModify [] None [] []) ∷ Screen (ScreenDelete []) ∷ Exception (ExceptionAdd [] []) ∷ Exception (ExceptionDelete []) ∷ []
+    ∷ Screen (ScreenAdd [] false [] []) ∷ Screen (ScreenModify [] None [] []) ∷ Screen (ScreenDelete [])
+    ∷ Exception (ExceptionAdd [] []) ∷ Exception (ExceptionDelete []) ∷ []
 
 -- the first of them that has this kind
 abbrev of_kind : ℕ → Option Deed

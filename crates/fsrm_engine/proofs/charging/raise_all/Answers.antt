@@ -27,4 +27,4 @@ pub returns : goal.returns
 returns c =
     c.loop-place.invariant.rest
     ∙ ap (λ (rows : List QuotaRow). record c.args.objects.now { quotas = rows })
-    (raised_whole (raised c.args.usage.now c.args.moment) c.args.objects.now.quotas c.loop-place.objects.quotas c.loop-place.place (omega (arith, c.quota_count-place-end.ensures, c.loop-place-test.false)) c.loop-place.invariant.raised_to)
+    (raised_whole (raised c.args.usage.now c.args.moment) c.args.objects.now.quotas c.loop-place.objects.quotas c.loop-place.place (omega (arith, c.quota_count-place-end.ensures.count, c.loop-place-test.false)) c.loop-place.invariant.raised_to)

@@ -15,7 +15,7 @@ use Rattle.reply_text.proofs.quota_templates.write_autos.Goals as goal
 pub write_auto-requires-clause-own : goal.write_auto-requires-clause-own
 write_auto-requires-clause-own g c =
     let autos = c.args.engine.now.rows.autos in
-    at_place auto_folder autos c.loop-place.place c.auto_row.result.now (autos_ascend c.args.engine.now.size c.args.engine.now.rows c.templates-templates.ensures.store) (rw c.templates-templates.ensures.autos at c.auto_row.ensures)
+    at_place auto_folder autos c.loop-place.place c.auto_at.result.now (autos_ascend c.args.engine.now.size c.args.engine.now.rows c.templates-templates.ensures.store) (rw c.templates-templates.ensures.autos at c.auto_at.ensures)
 
 pub returns-in_err-write_auto-clause-text : goal.returns-in_err-write_auto-clause-text
 returns-in_err-write_auto-clause-text g c =
@@ -23,13 +23,13 @@ returns-in_err-write_auto-clause-text g c =
     let engine = c.args.engine.now in
     sends_front c.from_residual.result _ _ _ c.from_residual.ensures.0
     (subst (ShowsFront (sink.shown c.args.sink.now) (sink.shown c.write_auto.new.sink)) (all_autos engine.size engine.rows)
-    (shows_one_front (auto_text engine.rows.nodes engine.rows.templates) engine.rows.autos c.loop-place.place c.auto_row.result.now (sink.shown c.args.sink.now) (sink.shown c.loop-place.sink) (sink.shown c.write_auto.new.sink) (rw c.templates-templates.ensures.autos at c.auto_row.ensures) c.loop-place.invariant.shown c.in_err-write_auto.ensures.text))
+    (shows_one_front (auto_text engine.rows.nodes engine.rows.templates) engine.rows.autos c.loop-place.place c.auto_at.result.now (sink.shown c.args.sink.now) (sink.shown c.loop-place.sink) (sink.shown c.write_auto.new.sink) (rw c.templates-templates.ensures.autos at c.auto_at.ensures) c.loop-place.invariant.shown c.in_err-write_auto.ensures.text))
 
 pub returns-in_err-write_auto-clause-looks : goal.returns-in_err-write_auto-clause-looks
 returns-in_err-write_auto-clause-looks g c =
     let nodes = c.args.engine.now.rows.nodes in
     let autos = c.args.engine.now.rows.autos in
-    omega (arith, c.loop-place.invariant.looks, c.in_err-write_auto.ensures.looks, sum_more (λ auto. path_cost nodes auto.folder) autos c.loop-place.place c.auto_row.result.now (rw c.templates-templates.ensures.autos at c.auto_row.ensures), sum_by-take-le (λ (auto : AutoRow). path_cost nodes auto.folder) autos (c.loop-place.place + 1))
+    omega (arith, c.loop-place.invariant.looks, c.in_err-write_auto.ensures.looks, sum_more (λ auto. path_cost nodes auto.folder) autos c.loop-place.place c.auto_at.result.now (rw c.templates-templates.ensures.autos at c.auto_at.ensures), sum_by-take-le (λ (auto : AutoRow). path_cost nodes auto.folder) autos (c.loop-place.place + 1))
 
 pub returns-clause-text : goal.returns-clause-text
 returns-clause-text g c =
@@ -45,10 +45,10 @@ loop-place-preserved g c =
     let nodes = c.args.engine.now.rows.nodes in
     let autos = c.args.engine.now.rows.autos in
     record {
-      shown = shows_one (auto_text nodes engine.rows.templates) autos c.loop-place.place c.auto_row.result.now (sink.shown c.args.sink.now) (sink.shown c.loop-place.sink) (sink.shown c.write_auto.new.sink) (rw c.templates-templates.ensures.autos at c.auto_row.ensures) c.loop-place.invariant.shown c.in_ok-write_auto.ensures.text;
+      shown = shows_one (auto_text nodes engine.rows.templates) autos c.loop-place.place c.auto_at.result.now (sink.shown c.args.sink.now) (sink.shown c.loop-place.sink) (sink.shown c.write_auto.new.sink) (rw c.templates-templates.ensures.autos at c.auto_at.ensures) c.loop-place.invariant.shown c.in_ok-write_auto.ensures.text;
       same = c.in_ok-write_auto.ensures.same ∙ c.loop-place.invariant.same;
       by = g.met.S.Sink.write_then c.args.sink.now c.loop-place.sink c.write_auto.new.sink c.loop-place.invariant.by c.in_ok-write_auto.ensures.by;
-      looks = omega (arith, c.loop-place.invariant.looks, c.in_ok-write_auto.ensures.looks, sum_more (λ auto. path_cost nodes auto.folder) autos c.loop-place.place c.auto_row.result.now (rw c.templates-templates.ensures.autos at c.auto_row.ensures));
+      looks = omega (arith, c.loop-place.invariant.looks, c.in_ok-write_auto.ensures.looks, sum_more (λ auto. path_cost nodes auto.folder) autos c.loop-place.place c.auto_at.result.now (rw c.templates-templates.ensures.autos at c.auto_at.ensures));
     }
 
 pub returns-clause-same : goal.returns-clause-same

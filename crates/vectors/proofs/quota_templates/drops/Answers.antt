@@ -5,4 +5,4 @@ use Rattle.vectors.proofs.quota_templates.drops.Goals as goal
 
 pub drop_auto-requires : goal.drop_auto-requires
 drop_auto-requires c =
-    sym (has_lent auto_folder 5 c.args.templates.now.autos c.auto_at.result c.auto_at.ensures) ∙ (sym c.is_some-there.ensures ∙ c.if-there.true)
+    sym (has_lent auto_folder 5 c.args.templates.now.autos c.auto.result c.auto.ensures.found) ∙ (sym c.is_some-there.ensures ∙ c.if-there.true)

@@ -27,7 +27,7 @@ returns-then-is_some-clause-ok g c =
     let n = c.in-Some.folder in
     refused_as p c.args.moment (Autoquota (AutoquotaAdd c.args.path.now c.args.name.now c.args.excluded.now)) c.refused-then-is_some.result _ c.requires.idle c.requires.after
     (auto_taken p c.args.moment c.args.path.now c.args.name.now c.args.excluded.now n c.in-Some.ensures.folder
-    (lent_some c.auto_at.result (auto_of (rows_of p) n) c.is_some.result _ c.auto_at.ensures c.is_some.ensures c.if-is_some.true)) refl c.refused-then-is_some.ensures
+    (lent_some c.auto.result (auto_of (rows_of p) n) c.is_some.result _ c.auto.ensures.found c.is_some.ensures c.if-is_some.true)) refl c.refused-then-is_some.ensures
 
 pub returns-in_default-find-clause-ok : goal.returns-in_default-find-clause-ok
 returns-in_default-find-clause-ok g c =
@@ -35,7 +35,7 @@ returns-in_default-find-clause-ok g c =
     let n = c.in-Some.folder in
     refused_as p c.args.moment (Autoquota (AutoquotaAdd c.args.path.now c.args.name.now c.args.excluded.now)) c.refused-in_default-find.result _ c.requires.idle c.requires.after
     (auto_unknown p c.args.moment c.args.path.now c.args.name.now c.args.excluded.now n c.in-Some.ensures.folder
-    (lent_some c.auto_at.result (auto_of (rows_of p) n) c.is_some.result _ c.auto_at.ensures c.is_some.ensures c.if-is_some.false)
+    (lent_some c.auto.result (auto_of (rows_of p) n) c.is_some.result _ c.auto.ensures.found c.is_some.ensures c.if-is_some.false)
     (source_none p c.args.name.now c.as_str.result.now c.as_str.ensures c.in_default-find.ensures.found)) refl c.refused-in_default-find.ensures
 
 pub apply_auto-requires-clause-absent : goal.apply_auto-requires-clause-absent
@@ -44,7 +44,7 @@ apply_auto-requires-clause-absent g c =
     let n = c.in-Some.folder in
     ap (λ (row : AutoRow). has_row auto_folder row.folder p.templates.autos) c.in_ok-row.ensures
     ∙ (sym (is_some-find (λ auto. auto_folder auto == n) p.templates.autos)
-    ∙ lent_some c.auto_at.result (auto_of (rows_of p) n) c.is_some.result _ c.auto_at.ensures c.is_some.ensures c.if-is_some.false)
+    ∙ lent_some c.auto.result (auto_of (rows_of p) n) c.is_some.result _ c.auto.ensures.found c.is_some.ensures c.if-is_some.false)
 
 pub apply_auto-requires-clause-coming : goal.apply_auto-requires-clause-coming
 apply_auto-requires-clause-coming g c =
@@ -57,7 +57,7 @@ apply_auto-requires-clause-coming g c =
     let number = c.in-Some-find.template in
     let row = c.in_ok-row.row in
     let at = c.in-Some.ensures.folder in
-    let free = lent_some c.auto_at.result (auto_of (rows_of p) n) c.is_some.result _ c.auto_at.ensures c.is_some.ensures c.if-is_some.false in
+    let free = lent_some c.auto.result (auto_of (rows_of p) n) c.is_some.result _ c.auto.ensures.found c.is_some.ensures c.if-is_some.false in
     let source = source_found p name c.as_str.result.now number c.requires.whole c.as_str.ensures c.in-Some-find.ensures.found in
     let folders = given_folders p.tree.nodes p.objects.quotas row in
     let given = when_given (λ (rows : Vec QuotaRow). IsGiven p row m rows.items) (λ refusal. apply_refusal p row (length folders) ≡ Some refusal) c.in_ok-rows.field-0 c.in-Ok.rows c.in-Ok.is c.in_ok-rows.ensures.given in
@@ -76,7 +76,7 @@ returns-in_ok-apply_auto-in-Ok-clause-ok g c =
     let number = c.in-Some-find.template in
     let row = c.in_ok-row.row in
     let at = c.in-Some.ensures.folder in
-    let free = lent_some c.auto_at.result (auto_of (rows_of p) n) c.is_some.result _ c.auto_at.ensures c.is_some.ensures c.if-is_some.false in
+    let free = lent_some c.auto.result (auto_of (rows_of p) n) c.is_some.result _ c.auto.ensures.found c.is_some.ensures c.if-is_some.false in
     let source = source_found p name c.as_str.result.now number c.requires.whole c.as_str.ensures c.in-Some-find.ensures.found in
     let folders = given_folders p.tree.nodes p.objects.quotas row in
     let given = when_given (λ (rows : Vec QuotaRow). IsGiven p row m rows.items) (λ refusal. apply_refusal p row (length folders) ≡ Some refusal) c.in_ok-rows.field-0 c.in-Ok.rows c.in-Ok.is c.in_ok-rows.ensures.given in
@@ -96,7 +96,7 @@ returns-in-Err-clause-ok g c =
     let number = c.in-Some-find.template in
     let row = c.in_ok-row.row in
     let at = c.in-Some.ensures.folder in
-    let free = lent_some c.auto_at.result (auto_of (rows_of p) n) c.is_some.result _ c.auto_at.ensures c.is_some.ensures c.if-is_some.false in
+    let free = lent_some c.auto.result (auto_of (rows_of p) n) c.is_some.result _ c.auto.ensures.found c.is_some.ensures c.if-is_some.false in
     let source = source_found p name c.as_str.result.now number c.requires.whole c.as_str.ensures c.in-Some-find.ensures.found in
     let folders = given_folders p.tree.nodes p.objects.quotas row in
     let refusal = c.in-Err.refusal in

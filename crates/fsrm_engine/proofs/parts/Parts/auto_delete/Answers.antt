@@ -8,13 +8,13 @@ use Rattle.fsrm_engine.proofs.parts.Parts.auto_delete.Goals as goal
 pub drop_auto-requires : goal.drop_auto-requires
 drop_auto-requires g c =
     let R = rows_of c.args.self.now in
-    has_auto R.autos c.in-Some.folder (lent_there c.auto_at.result (auto_of R c.in-Some.folder) c.is_none.result c.auto_at.ensures c.is_none.ensures c.if-is_none.false)
+    has_auto R.autos c.in-Some.folder (lent_there c.auto.result (auto_of R c.in-Some.folder) c.is_none.result c.auto.ensures.found c.is_none.ensures c.if-is_none.false)
 
 pub returns-clause-ok : goal.returns-clause-ok
 returns-clause-ok g c =
     let p = c.args.self.now in
     auto_deleted p c.args.moment c.in-Some.folder c.args.path.now c.in-Some.ensures.folder c.done.new.self c.drop_auto.new.self c.done.result c.requires.whole c.requires.idle c.requires.after
-    (lent_there c.auto_at.result (auto_of (rows_of p) c.in-Some.folder) c.is_none.result c.auto_at.ensures c.is_none.ensures c.if-is_none.false)
+    (lent_there c.auto.result (auto_of (rows_of p) c.in-Some.folder) c.is_none.result c.auto.ensures.found c.is_none.ensures c.if-is_none.false)
     c.drop_auto.ensures c.done.ensures.ended c.done.ensures.answer
 
 pub returns-clause-sound : goal.returns-clause-sound

@@ -1,6 +1,5 @@
 use Rattle.std.proofs.Common.{◌≡◌, Some, None, is_none, refl, ap, sym, ◌∙◌, subst}
 use Rattle.std.specs.Option.{option_copied}
-use Rattle.fsrm_model.specs.declared.row.QuotaRow.{QuotaRow}
 use Rattle.fsrm_model.specs.QuotaWork.{first_quota}
 use Rattle.fsrm_model.specs.Templates.{template_named}
 use Rattle.fsrm_engine.specs.Machine.{rows_of}
@@ -29,5 +28,5 @@ returns c =
     let t = c.in-Some-template_named.template.now in
     let state = c.args.state in
     let is : template_named p.templates.templates c.in-Some.name.now ≡ Some t = sym c.template_named.ensures ∙ ap option_copied c.in-Some-template_named.is in
-    subst (λ o. IsFirst (rows_of p) (option_copied o) c.args.folder state c.args.moment (Some (record c.in_ok-row.row { state = state }))) (sym c.in-Some.is)
-    (ap is_none is, ap (λ (r : QuotaRow). record r { state = state }) (c.in_ok-row.ensures t (named_found p c.in-Some.name.now t c.requires is)) ∙ sym (ap (λ o. first_quota o c.args.folder state c.args.moment) is))
+    subst (λ o. IsFirst (rows_of p) (option_copied o) c.args.folder state c.args.moment (Some c.in_ok-row.row)) (sym c.in-Some.is)
+    (ap is_none is, c.in_ok-row.ensures t (named_found p c.in-Some.name.now t c.requires is) ∙ sym (ap (λ o. first_quota o c.args.folder state c.args.moment) is))

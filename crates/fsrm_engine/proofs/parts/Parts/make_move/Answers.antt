@@ -7,25 +7,24 @@ use Rattle.fsrm_model.specs.Tree.{number, is_folder}
 use Rattle.volume_tree.specs.Volume.{Move as Moving, move_fault}
 use Rattle.fsrm_engine.specs.declared.parts.Parts.{Parts}
 use Rattle.fsrm_engine.proofs.coming.CarriedLaws.{carried, going, judged_is}
-use Rattle.fsrm_engine.proofs.coming.SourceLaws.{moved_known, moved_there}
+use Rattle.fsrm_engine.proofs.coming.SourceLaws.{moved_known}
 use Rattle.fsrm_engine.proofs.judging.DoneLaws.{done_named, sound_named}
 use Rattle.fsrm_engine.proofs.judging.NameLaws.{answers_it}
 use Rattle.fsrm_engine.proofs.parts.Parts.make_move.Goals as goal
 
 pub receive_moved-requires-clause-there : goal.receive_moved-requires-clause-there
 receive_moved-requires-clause-there g c =
-    let v = c.args.moving.now in
-    moved_there c.args.self.now c.requires.whole v.node v.folder v.place.folder v.place.name.now c.args.source c.requires.may.source_is
+    c.requires.may.source_is.there
 
 pub receive_moved-requires-clause-kind : goal.receive_moved-requires-clause-kind
 receive_moved-requires-clause-kind g c = λ h.
     let v = c.args.moving.now in
-    c.requires.may.is.kind ∙ (moved_known c.args.self.now v.node v.folder v.place.folder v.place.name.now c.args.source c.requires.may.source_is h).moves
+    c.requires.may.is.kind ∙ (moved_known c.args.self.now v.node v.folder v.place.folder v.place.name.now c.args.source c.requires.may.source_is.is h).moves
 
 pub receive_moved-requires-clause-absent : goal.receive_moved-requires-clause-absent
 receive_moved-requires-clause-absent g c = λ h.
     let v = c.args.moving.now in
-    (moved_known c.args.self.now v.node v.folder v.place.folder v.place.name.now c.args.source c.requires.may.source_is h).absent
+    (moved_known c.args.self.now v.node v.folder v.place.folder v.place.name.now c.args.source c.requires.may.source_is.is h).absent
 
 pub follow_move-requires-clause-there : goal.follow_move-requires-clause-there
 follow_move-requires-clause-there g c =

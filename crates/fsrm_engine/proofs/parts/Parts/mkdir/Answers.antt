@@ -2,7 +2,7 @@ use Rattle.std.proofs.Common.{ap, ◌∙◌, arith}
 use Rattle.fsrm_model.specs.declared.command.Deed.TheVariants.{File}
 use Rattle.fsrm_model.specs.declared.command.FileOp.TheVariants.{Mkdir}
 use Rattle.fsrm_engine.proofs.coming.MadeQuota.{made_as, made_due, made_follows, made_found}
-use Rattle.fsrm_engine.proofs.coming.SourceLaws.{source_bare, source_there}
+use Rattle.fsrm_engine.proofs.coming.SourceLaws.{source_bare}
 use Rattle.fsrm_engine.proofs.operations.NewLaws.{mkdir_due, new_bare, room_after}
 use Rattle.fsrm_engine.proofs.steps.PlaceLaws.{place_inner}
 use Rattle.fsrm_engine.proofs.steps.StepLaws.{or_else, refused_as}
@@ -18,17 +18,17 @@ returns-in-Err-clause-ok g c =
     (new_bare p.tree c.args.path.now c.in-Err.refusal c.in-Err.ensures.err) c.refused.ensures
 
 pub may_come-requires-clause-there : goal.may_come-requires-clause-there
-may_come-requires-clause-there g c = source_there c.args.self.now c.requires.whole c.in-Ok.found.0.folder c.in-Ok.found.0.name.now c.applies-source.result c.applies-source.ensures
+may_come-requires-clause-there g c = c.template_for-source.ensures.there
 
 pub make_in-requires-clause-there : goal.make_in-requires-clause-there
-make_in-requires-clause-there g c = source_there c.args.self.now c.requires.whole c.in-Ok.found.0.folder c.in-Ok.found.0.name.now c.applies-source.result c.applies-source.ensures
+make_in-requires-clause-there g c = c.template_for-source.ensures.there
 
 pub returns-in-Err-may_come-clause-ok : goal.returns-in-Err-may_come-clause-ok
 returns-in-Err-may_come-clause-ok g c =
     let p = c.args.self.now in
-    let source = c.applies-source.result in
+    let source = c.template_for-source.result in
     refused_as p c.args.moment (File (Mkdir c.args.path.now c.args.owner)) _ c.in-Err-may_come.refusal c.requires.idle c.requires.after
-    (made_due p c.requires.whole c.args.moment c.args.path.now c.args.owner c.in-Ok.found.0.folder c.in-Ok.found.0.name.now c.in-Ok.ensures.ok.at source c.applies-source.ensures c.in-Ok.ensures.ok
+    (made_due p c.requires.whole c.args.moment c.args.path.now c.args.owner c.in-Ok.found.0.folder c.in-Ok.found.0.name.now c.in-Ok.ensures.ok.at source c.template_for-source.ensures.found c.template_for-source.ensures.there c.in-Ok.ensures.ok
     ∙ c.in-Err-may_come.ensures.refused)
     (source_bare p source c.in-Err-may_come.refusal c.in-Err-may_come.ensures.refused) c.refused-in-Err-may_come.ensures
 
@@ -47,7 +47,7 @@ follow_mkdir-requires-clause-scanning g c =
 pub returns-clause-ok : goal.returns-clause-ok
 returns-clause-ok g c =
     let p = c.args.self.now in
-    made_as p c.requires.whole c.args.moment c.args.path.now c.args.owner c.in-Ok.found.0.folder c.in-Ok.found.0.name.now c.in-Ok.ensures.ok.at c.applies-source.result c.applies-source.ensures
+    made_as p c.requires.whole c.args.moment c.args.path.now c.args.owner c.in-Ok.found.0.folder c.in-Ok.found.0.name.now c.in-Ok.ensures.ok.at c.template_for-source.result c.template_for-source.ensures.found c.template_for-source.ensures.there
     c.make_in.new.self c.done.new.self c.follow_mkdir.new.self c.in_ok-node.node c.done.result c.requires.idle c.requires.after c.in-Ok.ensures.ok c.in_default.ensures.may c.in_ok-node.ensures.made c.make_in.ensures.counted c.in_ok-node.ensures.number
     c.follow_mkdir.ensures.follows c.done.ensures.ended c.done.ensures.answer
 

@@ -3,7 +3,7 @@ use Rattle.fsrm_model.specs.declared.command.Deed.TheVariants.{File}
 use Rattle.fsrm_model.specs.declared.command.FileOp.TheVariants.{Move}
 use Rattle.fsrm_model.proofs.valid.ValidLaws.{folder_has}
 use Rattle.fsrm_engine.proofs.coming.CarriedLaws.{judged_is, moved_old, quota_due, screen_due, source_due, to_it, unmade_as}
-use Rattle.fsrm_engine.proofs.coming.SourceLaws.{moved_there, source_bare}
+use Rattle.fsrm_engine.proofs.coming.SourceLaws.{source_bare}
 use Rattle.fsrm_engine.proofs.judging.JudgedLaws.{few_at, told_one}
 use Rattle.fsrm_engine.proofs.judging.NameLaws.{block_sound, blocked_op}
 use Rattle.fsrm_engine.proofs.operations.ChargedLaws.{refused_op}
@@ -20,9 +20,7 @@ returns-in-Err-clause-ok g c =
     unmade_as c.args.self.now c.args.moment (File (Move c.args.from.now c.args.to.now)) c.in-Err.why c.unmade.result c.requires.idle c.requires.after c.in-Err.ensures.err c.in-Err.ensures.bare c.unmade.ensures
 
 pub may_come-requires-clause-there : goal.may_come-requires-clause-there
-may_come-requires-clause-there g c =
-    let v = c.in-Ok.found.0 in
-    moved_there c.args.self.now c.requires.whole v.node v.folder v.place.folder v.place.name.now c.moved_source-source.result c.moved_source-source.ensures
+may_come-requires-clause-there g c = c.moved_source-source.ensures.there
 
 pub returns-in-Err-may_come-clause-ok : goal.returns-in-Err-may_come-clause-ok
 returns-in-Err-may_come-clause-ok g c =

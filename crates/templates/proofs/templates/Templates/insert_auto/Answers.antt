@@ -1,9 +1,11 @@
-use Rattle.std.proofs.Common.{◌+◌, ◌≤◌, ◌<◌, List, length, sym, ◌∙◌, ap, subst, arith}
+use Rattle.std.proofs.Common.{◌≡◌, true, ◌+◌, ◌≤◌, ◌<◌, List, length, sym, ◌∙◌, ap, subst, arith}
+use Rattle.fsrm_base.specs.Keyed.{has_row}
 use Rattle.fsrm_base.specs.Places.{IsGap}
 use Rattle.fsrm_base.proofs.SortedRows.{insert_row}
 use Rattle.fsrm_model.specs.declared.row.AutoRow.{AutoRow}
 use Rattle.fsrm_model.specs.AutoApply.{auto_folder}
 use Rattle.fsrm_model.specs.Limits.{most_autos}
+use Rattle.fsrm_model.specs.Templates.{template_number}
 use Rattle.fsrm_model.specs.Texts.{auto_bytes}
 use Rattle.templates.specs.Held.{Held, with_auto}
 use Rattle.templates.specs.Kept.{AreHeld}
@@ -25,8 +27,9 @@ invariant_of-self-2 c =
     let autos = c.self.inside.autos.items in
     let gap = subst (λ (rows : List AutoRow). IsGap auto_folder c.args.row.folder rows c.gap-place.result) c.deref.ensures.value c.gap-place.ensures in
     let few : length autos < most_autos = subst (λ (h : Held). length h.autos < most_autos) (sym c.self.view_is) c.requires.few in
+    let there : has_row template_number c.args.row.template templates ≡ true = ap (λ (h : Held). has_row template_number c.args.row.template h.templates) c.self.view_is ∙ c.requires.there in
     subst (λ (rows : List AutoRow). AreHeld (held_of templates rows) (c.self.inside.texts + c.auto_texts-bytes.result)) (sym c.in_ok-insert.ensures.items)
-    (auto_more (held_of templates autos) c.self.inside.texts c.gap-place.result c.args.row c.self.invariant gap c.auto_texts-bytes.result c.auto_texts-bytes.ensures few c.requires.valid)
+    (auto_more (held_of templates autos) c.self.inside.texts c.gap-place.result c.args.row c.self.invariant gap c.auto_texts-bytes.result c.auto_texts-bytes.ensures few there c.requires.valid)
 
 pub returns-clause-ok : goal.returns-clause-ok
 returns-clause-ok c =

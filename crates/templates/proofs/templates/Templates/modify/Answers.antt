@@ -1,78 +1,75 @@
-use Rattle.std.proofs.Common.{◌≡◌, ◌+◌, ◌<◌, ◌≤◌, ◌-◌, List, sym, ◌∙◌, ap, subst, arith}
-use Rattle.std.specs.Prelude.{Some, slice_set}
-use Rattle.fsrm_base.proofs.SortedRows.{set_found}
+use Rattle.std.proofs.Common.{rules, ◌≡◌, [], true, sym, ◌∙◌, ap, subst}
+use Rattle.std.specs.Prelude.{IfErr, Option, Some, filter, option_map}
+use Rattle.std.specs.Option.{option_map_or}
+use Rattle.fsrm_base.specs.Keyed.{has_row, is_ascending}
 use Rattle.fsrm_model.specs.declared.row.TemplateRow.{TemplateRow}
-use Rattle.fsrm_model.specs.Templates.{template_number, template_of}
-use Rattle.fsrm_model.specs.Texts.{template_bytes}
-use Rattle.templates.specs.Faults.{other_fault}
-use Rattle.templates.specs.Held.{Held, with_other}
-use Rattle.templates.proofs.FaultLaws.{replaced_due, replaced_fits}
-use Rattle.templates.proofs.HeldLaws.{at_place, held_of, old_is, old_valid, other_are}
-use Rattle.templates.proofs.PartLaws.{template_fits, texts_most}
+use Rattle.fsrm_model.specs.Templates.{is_reached, template_name, template_number, template_of}
+use Rattle.fsrm_model.specs.TemplateWork.{updated_quotas}
+use Rattle.templates.specs.Faults.{IsFault, modify_fault, update_fault}
+use Rattle.templates.specs.Held.{Held}
+use Rattle.templates.proofs.FaultLaws.{update_due}
+use Rattle.templates.proofs.HeldLaws.{at_place, held_of, named_there, old_is, old_valid, searched_has}
 use Rattle.templates.proofs.templates.Templates.modify.Goals as goal
 
-pub template_texts-replaced-requires : goal.template_texts-replaced-requires
-template_texts-replaced-requires c =
+pub unwrap-place-requires : goal.unwrap-place-requires
+unwrap-place-requires c =
+    let templates = c.self.inside.templates.items in
+    let there = ap (has_row template_number c.args.row.number) c.deref.ensures.value ∙ named_there templates c.args.row (ap (λ (h : Held). option_map template_name (template_of h.templates c.args.row.number)) c.self.view_is ∙ c.requires.named) in
+    sym (searched_has template_number c.deref.result.now c.args.row.number c.search.result c.search.ensures.found c.search.ensures.free) ∙ there
+
+pub update-requires-clause-old : goal.update-requires-clause-old
+update-requires-clause-old c =
     let templates = c.self.inside.templates.items in
     let held = held_of templates c.self.inside.autos.items in
     let place = c.unwrap-place.result in
-    let old = c.index.result.now in
     let at = at_place template_number templates c.deref.result.now c.args.row.number place c.search.result c.deref.ensures.value c.unwrap-place.ensures c.search.ensures.found in
-    let its : template_bytes old ≤ 131327 = template_fits old (old_valid held c.self.inside.texts c.args.row.number place old c.self.invariant at c.index.ensures) in
-    omega arith
+    old_valid held c.self.inside.texts c.args.row.number place c.index.result.now c.self.invariant at c.index.ensures
 
-pub template_texts-bytes-requires : goal.template_texts-bytes-requires
-template_texts-bytes-requires c = let its : template_bytes c.args.row ≤ 131327 = template_fits c.args.row c.requires.valid in omega arith
-
-pub returns-then-saturating_sub-room-clause-refused :
-    goal.returns-then-saturating_sub-room-clause-refused
-returns-then-saturating_sub-room-clause-refused c =
+pub returns-in_err-reached-clause-refused : goal.returns-in_err-reached-clause-refused
+returns-in_err-reached-clause-refused c =
+    let p = c.args.self.now in
     let templates = c.self.inside.templates.items in
     let held = held_of templates c.self.inside.autos.items in
     let place = c.unwrap-place.result in
-    let old = c.index.result.now in
     let at = at_place template_number templates c.deref.result.now c.args.row.number place c.search.result c.deref.ensures.value c.unwrap-place.ensures c.search.ensures.found in
-    let long : c.args.room + template_bytes old < template_bytes c.args.row = omega arith in
-    ap (λ (h : Held). other_fault h c.args.row c.args.room) (sym c.self.view_is)
-    ∙ replaced_due held c.args.row old c.args.room (old_is held c.self.inside.texts c.args.row.number place old c.self.invariant at c.index.ensures) long
+    let found : template_of p.templates c.args.row.number ≡ Some c.index.result.now = ap (λ (h : Held). template_of h.templates c.args.row.number) (sym c.self.view_is) ∙ old_is held c.self.inside.texts c.args.row.number place c.index.result.now c.self.invariant at c.index.ensures in
+    let quotas = c.args.objects.now.quotas in
+    let ascending : is_ascending template_number p.templates ≡ true = ap (λ (h : Held). is_ascending template_number h.templates) (sym c.self.view_is) ∙ c.self.invariant.ascending in
+    let due : modify_fault p quotas c.args.row c.args.mode c.args.room ≡ update_fault c.index.result.now c.args.row quotas c.args.mode c.args.room = update_due p quotas c.args.row c.index.result.now c.args.mode c.args.room ascending found in
+    subst (λ o. IfErr c.from_residual.result (λ fault. IsFault fault o)) (sym due) (search rules)
 
-pub overflow_add-self : goal.overflow_add-self
-overflow_add-self c =
+pub returns-clause-quotas : goal.returns-clause-quotas
+returns-clause-quotas c =
+    let p = c.args.self.now in
     let templates = c.self.inside.templates.items in
     let held = held_of templates c.self.inside.autos.items in
     let place = c.unwrap-place.result in
-    let old = c.index.result.now in
     let at = at_place template_number templates c.deref.result.now c.args.row.number place c.search.result c.deref.ensures.value c.unwrap-place.ensures c.search.ensures.found in
-    let after = other_are held c.self.inside.texts place old c.args.row c.self.invariant at c.index.ensures c.template_texts-replaced.result c.template_texts-bytes.result c.template_texts-replaced.ensures c.template_texts-bytes.ensures c.requires.valid (subst (λ (h : Held). (r : TemplateRow) → template_of h.templates c.args.row.number ≡ Some r → c.args.row.name ≡ r.name) (sym c.self.view_is) c.requires.name) in
-    omega (arith, texts_most (held_of (slice_set templates place c.args.row) c.self.inside.autos.items) (c.self.inside.texts - c.template_texts-replaced.result + c.template_texts-bytes.result) after, after.few, after.autos_few)
+    let found : template_of p.templates c.args.row.number ≡ Some c.index.result.now = ap (λ (h : Held). template_of h.templates c.args.row.number) (sym c.self.view_is) ∙ old_is held c.self.inside.texts c.args.row.number place c.index.result.now c.self.invariant at c.index.ensures in
+    let quotas = c.args.objects.now.quotas in
+    c.in_ok-reached.ensures.ok
+    ∙ ap (λ (o : Option TemplateRow). record c.args.objects.now { quotas = updated_quotas c.args.mode o (λ (r : TemplateRow). c.args.row) quotas }) (sym found)
 
-pub invariant_of-self : goal.invariant_of-self
-invariant_of-self c =
+pub returns-clause-reached : goal.returns-clause-reached
+returns-clause-reached c =
+    let p = c.args.self.now in
     let templates = c.self.inside.templates.items in
     let held = held_of templates c.self.inside.autos.items in
     let place = c.unwrap-place.result in
-    let old = c.index.result.now in
     let at = at_place template_number templates c.deref.result.now c.args.row.number place c.search.result c.deref.ensures.value c.unwrap-place.ensures c.search.ensures.found in
-    other_are held c.self.inside.texts place old c.args.row c.self.invariant at c.index.ensures c.template_texts-replaced.result c.template_texts-bytes.result c.template_texts-replaced.ensures c.template_texts-bytes.ensures c.requires.valid (subst (λ (h : Held). (r : TemplateRow) → template_of h.templates c.args.row.number ≡ Some r → c.args.row.name ≡ r.name) (sym c.self.view_is) c.requires.name)
-
-pub returns-clause-ok : goal.returns-clause-ok
-returns-clause-ok c =
-    let templates = c.self.inside.templates.items in
-    let held = held_of templates c.self.inside.autos.items in
-    let place = c.unwrap-place.result in
-    let old = c.index.result.now in
-    let at = at_place template_number templates c.deref.result.now c.args.row.number place c.search.result c.deref.ensures.value c.unwrap-place.ensures c.search.ensures.found in
-    ap (λ (rows : List TemplateRow). held_of rows c.self.inside.autos.items)
-    (set_found template_number c.args.row.number (λ (r : TemplateRow). c.args.row) templates place old c.self.invariant.ascending at c.index.ensures)
-    ∙ ap (λ (h : Held). with_other h c.args.row) c.self.view_is
+    let found : template_of p.templates c.args.row.number ≡ Some c.index.result.now = ap (λ (h : Held). template_of h.templates c.args.row.number) (sym c.self.view_is) ∙ old_is held c.self.inside.texts c.args.row.number place c.index.result.now c.self.invariant at c.index.ensures in
+    c.in_ok-reached.ensures.reached
+    ∙ ap (λ (o : Option TemplateRow). option_map_or (λ (old : TemplateRow). filter (is_reached c.args.mode old) c.args.objects.now.quotas) o []) (sym found)
 
 pub returns-clause-may : goal.returns-clause-may
 returns-clause-may c =
+    let p = c.args.self.now in
     let templates = c.self.inside.templates.items in
     let held = held_of templates c.self.inside.autos.items in
     let place = c.unwrap-place.result in
-    let old = c.index.result.now in
     let at = at_place template_number templates c.deref.result.now c.args.row.number place c.search.result c.deref.ensures.value c.unwrap-place.ensures c.search.ensures.found in
-    let fits : template_bytes c.args.row ≤ c.args.room + template_bytes old = omega arith in
-    ap (λ (h : Held). other_fault h c.args.row c.args.room) (sym c.self.view_is)
-    ∙ replaced_fits held c.args.row old c.args.room (old_is held c.self.inside.texts c.args.row.number place old c.self.invariant at c.index.ensures) fits
+    let found : template_of p.templates c.args.row.number ≡ Some c.index.result.now = ap (λ (h : Held). template_of h.templates c.args.row.number) (sym c.self.view_is) ∙ old_is held c.self.inside.texts c.args.row.number place c.index.result.now c.self.invariant at c.index.ensures in
+    let quotas = c.args.objects.now.quotas in
+    let ascending : is_ascending template_number p.templates ≡ true = ap (λ (h : Held). is_ascending template_number h.templates) (sym c.self.view_is) ∙ c.self.invariant.ascending in
+    let due : modify_fault p quotas c.args.row c.args.mode c.args.room ≡ update_fault c.index.result.now c.args.row quotas c.args.mode c.args.room = update_due p quotas c.args.row c.index.result.now c.args.mode c.args.room ascending found in
+    due ∙ c.in_ok-reached.ensures.may

@@ -3,8 +3,8 @@ use Rattle.std.specs.Prelude.{filter}
 use Rattle.fsrm_model.specs.declared.row.QuotaRow.{QuotaRow}
 use Rattle.fsrm_model.specs.Templates.{is_reached}
 use Rattle.templates.proofs.UpdateLaws.{reached_none, reached_one}
-use Rattle.fsrm_engine.proofs.updates.reached_quotas.Goals.{then-is_reached+in_ok-copy+in_ok-push, else-is_reached}
-use Rattle.fsrm_engine.proofs.updates.reached_quotas.Goals as goal
+use Rattle.templates.proofs.derived.reached_quotas.Goals.{then-is_reached+in_ok-copy+in_ok-push, else-is_reached}
+use Rattle.templates.proofs.derived.reached_quotas.Goals as goal
 
 pub loop-place-preserved : goal.loop-place-preserved
 loop-place-preserved c =

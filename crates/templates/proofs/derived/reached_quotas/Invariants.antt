@@ -1,7 +1,7 @@
 use Rattle.std.proofs.Common.{◌≡◌, take}
 use Rattle.std.specs.Prelude.{filter}
 use Rattle.fsrm_model.specs.Templates.{is_reached}
-use Rattle.fsrm_engine.proofs.updates.reached_quotas.Given as goal
+use Rattle.templates.proofs.derived.reached_quotas.Given as goal
 
 abbrev pub invariant-loop-place : goal.invariant-loop-place
 invariant-loop-place l = l.quotas ≡ filter (is_reached l.mode l.old) (take l.place l.objects.quotas)
