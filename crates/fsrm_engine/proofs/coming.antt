@@ -3,3 +3,4 @@ pub mod OneComes
 pub mod MadeQuota
 pub mod MovedQuota
 pub mod CarriedLaws
+pub mod MemoryLaws

@@ -39,14 +39,9 @@ quotas_given quotas given = fold quotas_with quotas (option_to_list given)
 abbrev pub queue_given : List ℕ → Option QuotaRow → List ℕ
 queue_given queue given = fold queue_with queue (option_to_list given)
 
--- parts with the memory for quotas that others have
-abbrev pub roomed : Parts → Parts → Parts
-roomed parts other = record parts { objects = record parts.objects { room = other.objects.room } }
-
--- the quota comes to a folder that is there: nothing else changed but that memory
+-- the quota comes to a folder that is there: nothing else changed
 abbrev pub Receives : Parts → Parts → Option QuotaRow → Type 0
-Receives old new given =
-    Turned (roomed old new) new (quotas_given old.objects.quotas given) (queue_given old.scans.queue given)
+Receives old new given = Turned old new (quotas_given old.objects.quotas given) (queue_given old.scans.queue given)
 
 -- parts with a new folder, and with the quota that it gets
 abbrev pub with_folder : Parts → ℕ → List ℕ → ℕ → ℕ → Option QuotaRow → Parts

@@ -1,6 +1,5 @@
 -- Faults of the tree and of the tables as refusals of a command.
 use Rattle.std.specs.Prelude.{ℕ, ◌+◌, ◌-◌, false, not, List, [], ◌∷◌, Option, Some, None, option_map}
-use Rattle.std.specs.Option.{option_and_then}
 use Rattle.file_groups.specs.declared.answer.GroupFault.{GroupFault}
 use Rattle.file_groups.specs.declared.answer.GroupFault.TheVariants as group
 use Rattle.file_groups.specs.Kept.{group_texts}
@@ -23,35 +22,29 @@ use Rattle.templates.specs.declared.answer.TemplateFault.{TemplateFault}
 use Rattle.templates.specs.declared.answer.TemplateFault.TheVariants as template
 use Rattle.templates.specs.Held.{texts_in as template_texts}
 use Rattle.volume_tree.specs.declared.answer.TreeFault.{TreeFault}
-use Rattle.volume_tree.specs.declared.answer.TreeFault.TheVariants.{AlreadyExists, InvalidMove, NotEmpty, VolumeFull, NamesFull, NoMemory}
+use Rattle.volume_tree.specs.declared.answer.TreeFault.TheVariants.{AlreadyExists, InvalidMove, NotEmpty, VolumeFull, NamesFull}
 use Rattle.volume_tree.specs.Volume.{Volume, new_fault}
 use Rattle.fsrm_engine.specs.declared.parts.Parts.{Parts}
 
--- a lack of memory is no refusal
-abbrev pub refusal_of : TreeFault → Option Refusal
-refusal_of AlreadyExists = Some refusal.AlreadyExists
-refusal_of InvalidMove = Some refusal.InvalidMove
-refusal_of NotEmpty = Some refusal.NotEmpty
-refusal_of VolumeFull = Some refusal.VolumeFull
-refusal_of NamesFull = Some refusal.NamesFull
-refusal_of NoMemory = None
+abbrev pub refusal_of : TreeFault → Refusal
+refusal_of AlreadyExists = refusal.AlreadyExists
+refusal_of InvalidMove = refusal.InvalidMove
+refusal_of NotEmpty = refusal.NotEmpty
+refusal_of VolumeFull = refusal.VolumeFull
+refusal_of NamesFull = refusal.NamesFull
 
 -- the answer of a refused command that leaves nothing
 abbrev pub refused_answer : Refusal → Answer
 refused_answer refusal = record { outcome = Refused refusal; lasting = false }
-
--- the answer if the tree refused
-abbrev pub answer_of : TreeFault → Option Answer
-answer_of fault = option_map refused_answer (refusal_of fault)
 
 -- why no node can be made at a path: it names no place, or the tree can't hold the node there
 abbrev pub new_refusal : Volume → List (List ℕ) → Option Refusal
 new_refusal v path =
     first ((refusal.AlreadyExists when is_root path)
     ∷ (refusal.PathNotFound when not (leads_to_folder v.nodes (folder_part path)))
-    ∷ option_and_then refusal_of (new_fault v (target_folder v.nodes path) (last_name path)) ∷ [])
+    ∷ option_map refusal_of (new_fault v (target_folder v.nodes path) (last_name path)) ∷ [])
 
--- ---- the same of the tables
+-- ---- the same of the tables. A lack of memory is no refusal
 abbrev pub table_refusal : ObjectFault → Option Refusal
 table_refusal object.AlreadyExists = Some refusal.AlreadyExists
 table_refusal object.InvalidCombination = Some refusal.InvalidCombination

@@ -1,4 +1,5 @@
 pub mod Machine
+pub mod Memory
 pub mod Acts
 pub mod Applying
 pub mod Peaks

@@ -8,6 +8,7 @@ use Rattle.fsrm_model.specs.Tree.{is_folder, owner_of, parent_of, resolve, usage
 use Rattle.volume_tree.specs.Volume.{Volume, move_fault}
 use Rattle.file_screens.specs.declared.answer.Blocked.{Blocked}
 use Rattle.file_screens.specs.Blocked.{told}
+use Rattle.file_screens.specs.Way.{is_active}
 use Rattle.quota_usage.specs.declared.change.Change.{Change}
 use Rattle.quota_usage.specs.Charge.{exceeded_by}
 use Rattle.templates.specs.Held.{Held}
@@ -15,7 +16,6 @@ use Rattle.fsrm_engine.specs.declared.moves.Moving.{Moving}
 use Rattle.fsrm_engine.specs.declared.parts.Parts.{Parts}
 use Rattle.fsrm_engine.specs.Machine.{rows_of}
 use Rattle.fsrm_engine.specs.Places.{IsPlace}
-use Rattle.fsrm_engine.specs.Reporting.{is_active}
 use Rattle.fsrm_engine.specs.Arrivals.{moved_source, source_fault}
 
 -- paths name what moves and where to, and the tree has nothing against it

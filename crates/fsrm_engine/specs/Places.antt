@@ -2,7 +2,6 @@
 use Rattle.std.specs.Prelude.{◌≡◌, ℕ, ◌≤◌, true, false, List, Option, Some, None}
 use Rattle.fsrm_model.specs.declared.command.Refusal.{Refusal}
 use Rattle.fsrm_model.specs.declared.command.Refusal.TheVariants.{AlreadyExists, PathNotFound}
-use Rattle.fsrm_model.specs.declared.row.Capacity.{Capacity}
 use Rattle.fsrm_model.specs.declared.row.NodeRow.{NodeRow}
 use Rattle.fsrm_model.specs.declared.row.QuotaRow.{QuotaRow}
 use Rattle.fsrm_base.specs.Keyed.{row_of, has_row}
@@ -10,7 +9,7 @@ use Rattle.fsrm_model.specs.Limits.{longest_file}
 use Rattle.fsrm_model.specs.Quota.{folder_of}
 use Rattle.fsrm_model.specs.Leads.{is_root, leads_to_folder, leads_to_file}
 use Rattle.fsrm_model.specs.Name.{is_name}
-use Rattle.fsrm_model.specs.Tree.{number, resolve, is_folder, folder_part, last_name, usage}
+use Rattle.fsrm_model.specs.Tree.{number, resolve, is_folder, folder_part, last_name}
 use Rattle.node_table.specs.declared.view.NodeView.{NodeView}
 use Rattle.volume_tree.specs.Volume.{Volume, Shows, new_fault}
 
@@ -58,8 +57,3 @@ IsFolderAt nodes path (Some n) = IsFolder nodes path n
 pub record IsQuotaAt (nodes : List NodeRow) (quotas : List QuotaRow) (path : List (List ℕ)) (quota : QuotaRow) : Type 0 where
   pub at : IsFolder nodes path quota.folder
   pub found : row_of folder_of quota.folder quotas ≡ Some quota
-
--- the bytes that move with a node; if there is no quota, they may be any number up to that
-pub record IsMoved (K : Capacity) (nodes : List NodeRow) (quotas : List QuotaRow) (n bytes : ℕ) : Type 0 where
-  pub few : bytes ≤ usage K nodes n
-  pub all : (folder : ℕ) (quota : QuotaRow) → row_of folder_of folder quotas ≡ Some quota → bytes ≡ usage K nodes n

@@ -1,6 +1,6 @@
 -- A name that a file gets, and the screen that may judge it.
-use Rattle.std.specs.Prelude.{◌≡◌, ℕ, Bool, false, List, Option, Some, None, option_map}
-use Rattle.std.specs.Option.{option_and_then, option_map_or}
+use Rattle.std.specs.Prelude.{◌≡◌, ℕ, List, Option, Some, None, option_map}
+use Rattle.std.specs.Option.{option_and_then}
 use Rattle.fsrm_model.specs.declared.row.ScreenRow.{ScreenRow}
 use Rattle.fsrm_model.specs.Work.{Judged}
 use Rattle.file_screens.specs.declared.answer.Blocked.{Blocked}
@@ -13,10 +13,6 @@ use Rattle.fsrm_engine.specs.Screening.{judged_screen, NotesName}
 -- the screen that is told of, if one is
 abbrev pub screen_told : Parts → Option Blocked → Option ScreenRow
 screen_told parts judged = option_and_then (judged_screen parts) judged
-
--- whether it is active
-abbrev pub is_active : Option Blocked → Bool
-is_active judged = option_map_or (λ (judged : Blocked). judged.active) judged false
 
 -- the name, and the screen that judges it
 abbrev pub name_under : Option ScreenRow → ℕ → ℕ → List ℕ → Option Judged

@@ -22,7 +22,8 @@ use std::alloc::Global;
 use volume_tree::Finger;
 
 impl Parts {
-    /// Refuses a quota of a template, if one is named, if there would be too many or their texts too long.
+    /// Refuses the quota that a template is to give, if there is one, for which there is no room: too many quotas, or too long
+    /// texts.
     pub(crate) fn may_come(&self, source: Option<u32>) -> Result<(), Refusal>
         requires whole { IsWhole self.now }
         requires there { IfSome source (λ template. has_row template_number template self.now.templates.templates ≡ true) }
@@ -35,8 +36,8 @@ impl Parts {
         }
     }
 
-    /// Makes a folder, with its quota if it gets one. An `Err` changes nothing.
-    pub(crate) fn make_in<L: Ledger>(
+    /// Makes a folder, with its quota if it gets one: only then can memory run out. An `Err` changes nothing.
+    pub(crate) fn make_folder<L: Ledger>(
         &mut self,
         alloc: Global,
         place: Place<'_>,
@@ -55,25 +56,24 @@ impl Parts {
         requires there { IfSome source (λ template. has_row template_number template self.old.templates.templates ≡ true) }
         ensures number { IfOk result (λ number. number ≡ fresh self.old.tree.nodes) }
         ensures made { OnOk result (self.new ≡ with_folder self.old place.entry.folder place.entry.name.now owner moment (from_source self.old.templates.templates (fresh self.old.tree.nodes) Complete moment source)) }
+        ensures memory { OnErr result (is_some source ≡ true) }
         ensures err { OnErr result (self.new ≡ self.old) }
         ensures counted { AreCounted self.new }
         ensures looks { steps.new ≤ steps.old + 67 }
     {
         match source {
             Some(template) => {
-                self.make_with(alloc, place, vacancy, template, owner, moment, steps)
+                self.make_with_quota(alloc, place, vacancy, template, owner, moment, steps)
             }
-            None => {
-                let node = self
-                    .tree
-                    .make_folder(place.folder, place.name, vacancy, owner, moment, steps)?;
-                Ok(node)
-            }
+            None => Ok(
+                self.tree
+                    .make_folder(place.folder, place.name, vacancy, owner, moment, steps),
+            ),
         }
     }
 
     // Makes a folder with a quota of a template. Nothing is in it, so the quota counts from the first.
-    fn make_with<L: Ledger>(
+    fn make_with_quota<L: Ledger>(
         &mut self,
         alloc: Global,
         place: Place<'_>,
@@ -96,15 +96,15 @@ impl Parts {
         ensures counted { AreCounted self.new }
         ensures looks { steps.new ≤ steps.old + 67 }
     {
-        // Its number is known once it is made.
+        // 0 stands for the folder, whose number is known once it is made.
         let mut row = self
             .templates
             .derive(alloc, template, 0, QuotaState::Complete, moment)?;
         let node = self
             .tree
-            .make_folder(place.folder, place.name, vacancy, owner, moment, steps)?;
+            .make_folder(place.folder, place.name, vacancy, owner, moment, steps);
         row.folder = node;
-        // Nothing refuses it (`may_come`), so only memory can be wanting.
+        // `may_come` was asked, so only memory can be wanting.
         let Ok(()) = self.add(row) else {
             self.tree.remove(node, steps).unwrap();
             return Err(NoMemory);
@@ -112,8 +112,9 @@ impl Parts {
         Ok(node)
     }
 
-    /// Gives a folder that is about to move the quota that it gets at its new place, if it gets one: its children move with
-    /// it, so that it is the same before. An `Err` changes nothing.
+    /// Gives a folder that is about to move the quota of its new place, if it gets one. What stands in the folder moves with it,
+    /// so the quota is the same as if it were given after the move. Memory can run out only if it gets one. An `Err` changes
+    /// nothing.
     pub(crate) fn receive_moved<L: Ledger>(
         &mut self,
         alloc: Global,
@@ -129,26 +130,27 @@ impl Parts {
         requires absent { is_some source ≡ true → has_row folder_of node self.old.objects.quotas ≡ false }
         requires may { source_fault self.old source ≡ None }
         ensures received { OnOk result (Receives self.old self.new (from_source self.old.templates.templates node (start self.old.tree.nodes node) moment source)) }
+        ensures memory { OnErr result (is_some source ≡ true) }
         ensures err { OnErr result (self.new ≡ self.old) }
         ensures sound { IsSound self.new }
         ensures looks { steps.new ≤ steps.old + 1 }
     {
-        match source {
-            Some(template) => {
-                let row = derived_row(
-                    &self.tree,
-                    &self.templates,
-                    alloc,
-                    template,
-                    node,
-                    moment,
-                    steps,
-                )?;
-                let mut rows = Vec::new(alloc);
-                rows.push(row)?;
-                self.receive(rows)
-            }
-            None => Ok(()),
-        }
+        let Some(template) = source else {
+            return Ok(());
+        };
+        let row = derived_row(
+            &self.tree,
+            &self.templates,
+            alloc,
+            template,
+            node,
+            moment,
+            steps,
+        )?;
+        // `may_come` was asked, so only memory can be wanting.
+        let Ok(()) = self.enlist(row) else {
+            return Err(NoMemory);
+        };
+        Ok(())
     }
 }

@@ -6,6 +6,7 @@ ghost use Rattle.fsrm_model.specs.Cost.{deed_cost};
 ghost use Rattle.fsrm_model.specs.Limits.{latest_moment};
 ghost use Rattle.fsrm_model.specs.Valued.{is_op, is_deed, is_command};
 ghost use Rattle.fsrm_engine.specs.Machine.{Does, IsIdle, IsSound, IsWhole, rows_of};
+ghost use Rattle.fsrm_engine.specs.Memory.{may_want_memory};
 
 use crate::parts::Parts;
 use crate::threshold_lists::ThresholdChange;
@@ -30,6 +31,7 @@ impl Parts {
         requires moment { moment ≤ latest_moment }
         requires after { self.old.last_moment ≤ moment }
         ensures ok { IfOk result (λ answer. Does self.old self.new moment (File op.now) answer) }
+        ensures memory { OnErr result (may_want_memory (rows_of self.old) op.now ≡ true) }
         ensures err { OnErr result (self.new ≡ self.old) }
         ensures sound { IsSound self.new }
         ensures looks { steps.new ≤ steps.old + deed_cost (rows_of self.old) (File op.now) }
@@ -40,7 +42,7 @@ impl Parts {
                 path,
                 length,
                 owner,
-            } => self.create(path, *length, *owner, moment, steps),
+            } => Ok(self.create(path, *length, *owner, moment, steps)),
             FileOp::Resize { path, length } => Ok(self.resize(path, *length, moment, steps)),
             FileOp::Touch { path } => Ok(self.touch(path, moment, steps)),
             FileOp::Move { from, to } => self.move_path(alloc, from, to, moment, steps),
@@ -62,6 +64,7 @@ impl Parts {
         requires moment { moment ≤ latest_moment }
         requires after { self.old.last_moment ≤ moment }
         ensures ok { IfOk result (λ answer. Does self.old self.new moment (File op.now) answer) }
+        ensures memory { OnErr result (may_want_memory (rows_of self.old) op.now ≡ true) }
         ensures err { OnErr result (self.new ≡ self.old) }
         ensures whole { IsWhole self.new }
         ensures looks { steps.new ≤ steps.old + deed_cost (rows_of self.old) (File op.now) }
@@ -297,7 +300,6 @@ impl Parts {
     fn on_admin(&mut self, deed: &AdminDeed, moment: u64) -> Answer
         requires whole { IsWhole self.old }
         requires idle { IsIdle self.old }
-        requires valid { is_deed (Admin deed.now) ≡ true }
         requires moment { moment ≤ latest_moment }
         requires after { self.old.last_moment ≤ moment }
         ensures ok { Does self.old self.new moment (Admin deed.now) result }

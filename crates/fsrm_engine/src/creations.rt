@@ -1,6 +1,6 @@
 //! Folders and files that are made.
 
-ghost use Rattle.std.specs.Prelude.{◌≡◌, ◌+◌, ◌*◌, ◌≤◌, length, IfErr, IfOk, OnErr, Some};
+ghost use Rattle.std.specs.Prelude.{◌≡◌, ◌+◌, ◌*◌, ◌≤◌, true, length, IfErr, IfOk, OnErr, Some};
 ghost use Rattle.fsrm_model.specs.declared.command.Deed.TheVariants.{File};
 ghost use Rattle.fsrm_model.specs.declared.command.FileOp.TheVariants.{Mkdir, Create};
 ghost use Rattle.fsrm_model.specs.Cost.{deed_cost};
@@ -8,6 +8,7 @@ ghost use Rattle.fsrm_model.specs.Limits.{latest_moment, longest_file};
 ghost use Rattle.fsrm_model.specs.Valid.{IsVolume};
 ghost use Rattle.fsrm_engine.specs.Faults.{new_refusal};
 ghost use Rattle.fsrm_engine.specs.Machine.{Does, IsIdle, IsSound, IsWhole, rows_of};
+ghost use Rattle.fsrm_engine.specs.Memory.{may_want_memory};
 ghost use Rattle.fsrm_engine.specs.Places.{IsVacant};
 
 use crate::exits::{refusal_of, refused};
@@ -37,11 +38,12 @@ impl Parts {
         };
         match self.tree.may_create(place.folder, place.name, steps) {
             Ok(finger) => Ok((place, finger)),
-            Err(fault) => Err(refusal_of(fault).unwrap()),
+            Err(fault) => Err(refusal_of(fault)),
         }
     }
 
-    /// Makes a folder. If the folder that it stands in has an auto-apply quota that doesn't leave it out, it gets a quota.
+    /// Makes a folder. If the folder that it stands in has an auto-apply quota that doesn't leave it out, it gets a quota: only
+    /// then can memory run out.
     pub(crate) fn mkdir<L: Ledger>(
         &mut self,
         alloc: Global,
@@ -56,6 +58,7 @@ impl Parts {
         requires moment { moment ≤ latest_moment }
         requires after { self.old.last_moment ≤ moment }
         ensures ok { IfOk result (λ answer. Does self.old self.new moment (File (Mkdir path.now owner)) answer) }
+        ensures memory { OnErr result (may_want_memory (rows_of self.old) (Mkdir path.now owner) ≡ true) }
         ensures err { OnErr result (self.new ≡ self.old) }
         ensures sound { IsSound self.new }
         ensures looks { steps.new ≤ steps.old + deed_cost (rows_of self.old) (File (Mkdir path.now owner)) }
@@ -68,7 +71,7 @@ impl Parts {
         if let Err(refusal) = self.may_come(source) {
             return Ok(refused(refusal));
         }
-        let node = self.make_in(alloc, place, vacancy, source, owner, moment, steps)?;
+        let node = self.make_folder(alloc, place, vacancy, source, owner, moment, steps)?;
         self.scans.follow_mkdir(&self.tree, node);
         Ok(self.done(moment))
     }
@@ -81,25 +84,24 @@ impl Parts {
         owner: u32,
         moment: u64,
         steps: &mut Steps<L>,
-    ) -> Result<Answer, NoMemory>
+    ) -> Answer
         requires whole { IsWhole self.old }
         requires idle { IsIdle self.old }
         requires length { length ≤ longest_file }
         requires owner { 1 ≤ owner }
         requires moment { moment ≤ latest_moment }
         requires after { self.old.last_moment ≤ moment }
-        ensures ok { IfOk result (λ answer. Does self.old self.new moment (File (Create path.now length owner)) answer) }
-        ensures err { OnErr result (self.new ≡ self.old) }
+        ensures ok { Does self.old self.new moment (File (Create path.now length owner)) result }
         ensures sound { IsSound self.new }
         ensures looks { steps.new ≤ steps.old + deed_cost (rows_of self.old) (File (Create path.now length owner)) }
     {
         let (place, vacancy) = match self.vacancy_at(path, steps) {
             Ok(found) => found,
-            Err(refusal) => return Ok(refused(refusal)),
+            Err(refusal) => return refused(refusal),
         };
         let judged = self.judge(place.folder, place.name, steps);
         if let Some(active) = blocking(judged) {
-            return Ok(self.block(active, owner, place.folder, place.name, moment));
+            return self.block(active, owner, place.folder, place.name, moment);
         }
         let change = Change {
             from: None,
@@ -108,7 +110,7 @@ impl Parts {
             plus: self.tree.allocated(length),
         };
         if let Err(exceeded) = self.admit(&change, steps) {
-            return Ok(self.refuse(exceeded, moment));
+            return self.refuse(exceeded, moment);
         }
         let node = self.tree.make_file(
             place.folder,
@@ -118,8 +120,8 @@ impl Parts {
             owner,
             moment,
             steps,
-        )?;
+        );
         self.scans.follow_create(&self.tree, node, length, steps);
-        Ok(self.end_named(judged, owner, place, &change, moment, steps))
+        self.end_named(judged, owner, place, &change, moment, steps)
     }
 }

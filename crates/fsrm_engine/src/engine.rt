@@ -14,6 +14,7 @@ ghost use Rattle.fsrm_model.specs.Step.{step};
 ghost use Rattle.fsrm_model.specs.Valid.{IsVolume, IsValid};
 ghost use Rattle.fsrm_model.specs.Valued.{is_op, is_command};
 ghost use Rattle.fsrm_engine.specs.Machine.{Takes};
+ghost use Rattle.fsrm_engine.specs.Memory.{may_want_memory};
 
 use crate::acts::text_of;
 use crate::exits::refused;
@@ -188,7 +189,8 @@ impl Engine {
     }
 
     /// Takes a file operation at this moment, in seconds since 1970-01-01 00:00:00 UTC, when no act waits. What its
-    /// answer names is there. An `Err` changes nothing.
+    /// answer names is there. An `Err` changes nothing, and says that memory ran out: that can only be where a folder is
+    /// made that gets a quota by auto-apply, or a folder moves.
     pub fn file_op<L: Ledger>(
         &mut self,
         alloc: Global,
@@ -200,6 +202,7 @@ impl Engine {
         requires moment { moment ≤ latest_moment }
         requires idle { self.old.waiting ≡ [] }
         ensures ok { IfOk result (λ answer. Takes self.old self.new (step self.old.size self.old.rows (record { moment = moment; deed = File op.now })) answer) }
+        ensures memory { OnErr result (may_want_memory self.old.rows op.now ≡ true) }
         ensures named { IfOk result (λ answer. IsNamed self.new.rows answer.outcome) }
         ensures err { OnErr result (self.new ≡ self.old) }
         ensures kept { IsValid self.new.size self.new.rows }

@@ -2,7 +2,7 @@
 
 ghost use Rattle.std.specs.Prelude.{◌≡◌, false, IfOk, OnErr, Some, None};
 ghost use Rattle.fsrm_model.specs.declared.command.Outcome.TheVariants.{Listing};
-ghost use Rattle.fsrm_engine.specs.Faults.{answer_of, exceeded_refusal, group_answer, refusal_of, refused_answer, table_answer, template_answer};
+ghost use Rattle.fsrm_engine.specs.Faults.{exceeded_refusal, group_answer, refusal_of, refused_answer, table_answer, template_answer};
 
 use file_groups::GroupFault;
 use fsrm_model::{Answer, Ask, NoMemory, Outcome, Refusal};
@@ -35,32 +35,20 @@ pub fn refused(refusal: Refusal) -> Answer
     passing(Outcome::Refused(refusal))
 }
 
-/// The refusal of a command that the tree refused. A lack of memory is none.
-pub fn refusal_of(fault: TreeFault) -> Option<Refusal>
+/// The refusal of a command that the tree refused.
+pub fn refusal_of(fault: TreeFault) -> Refusal
     ensures { result ≡ refusal_of fault }
 {
     match fault {
-        TreeFault::AlreadyExists => Some(Refusal::AlreadyExists),
-        TreeFault::InvalidMove => Some(Refusal::InvalidMove),
-        TreeFault::NotEmpty => Some(Refusal::NotEmpty),
-        TreeFault::VolumeFull => Some(Refusal::VolumeFull),
-        TreeFault::NamesFull => Some(Refusal::NamesFull),
-        TreeFault::NoMemory => None,
+        TreeFault::AlreadyExists => Refusal::AlreadyExists,
+        TreeFault::InvalidMove => Refusal::InvalidMove,
+        TreeFault::NotEmpty => Refusal::NotEmpty,
+        TreeFault::VolumeFull => Refusal::VolumeFull,
+        TreeFault::NamesFull => Refusal::NamesFull,
     }
 }
 
-/// The answer of a command that the tree refused and that doesn't last.
-pub fn refused_by(fault: TreeFault) -> Result<Answer, NoMemory>
-    ensures ok { IfOk result (λ answer. answer_of fault ≡ Some answer) }
-    ensures err { OnErr result (answer_of fault ≡ None) }
-{
-    match refusal_of(fault) {
-        Some(refusal) => Ok(refused(refusal)),
-        None => Err(NoMemory),
-    }
-}
-
-/// The same if the tables refused.
+/// The answer of a command that the tables of objects refused, and that doesn't last. A lack of memory is no refusal.
 pub fn refused_for(fault: ObjectFault) -> Result<Answer, NoMemory>
     ensures ok { IfOk result (λ answer. table_answer fault ≡ Some answer) }
     ensures err { OnErr result (table_answer fault ≡ None) }
@@ -76,7 +64,7 @@ pub fn refused_for(fault: ObjectFault) -> Result<Answer, NoMemory>
     Ok(refused(refusal))
 }
 
-/// The same if the table of groups refused.
+/// The same of the table of groups.
 pub fn refused_by_groups(fault: GroupFault) -> Result<Answer, NoMemory>
     ensures ok { IfOk result (λ answer. group_answer fault ≡ Some answer) }
     ensures err { OnErr result (group_answer fault ≡ None) }
@@ -90,7 +78,7 @@ pub fn refused_by_groups(fault: GroupFault) -> Result<Answer, NoMemory>
     Ok(refused(refusal))
 }
 
-/// The same if the tables of templates and auto-apply quotas refused.
+/// The same of the tables of templates and auto-apply quotas.
 pub fn refused_by_templates(fault: TemplateFault) -> Result<Answer, NoMemory>
     ensures ok { IfOk result (λ answer. template_answer fault ≡ Some answer) }
     ensures err { OnErr result (template_answer fault ≡ None) }

@@ -1,20 +1,20 @@
-//! Moves: what moves is taken from the quotas on the old way up and given to those on the new one.
+//! Moves: what moves is taken from the quotas on the old way up and given to those on the new one. A folder may get a quota at
+//! its new place.
 
-ghost use Rattle.std.specs.Prelude.{◌≡◌, ℕ, ◌+◌, ◌*◌, ◌≤◌, ◌||◌, nat_lt, true, length, is_some, IfErr, IfOk, IfSome, OnErr, OnOk, Some, None, option_map};
+ghost use Rattle.std.specs.Prelude.{◌≡◌, ℕ, ◌+◌, ◌*◌, ◌≤◌, true, length, IfErr, IfOk, OnErr, Some};
 ghost use Rattle.fsrm_model.specs.declared.command.Deed.TheVariants.{File};
 ghost use Rattle.fsrm_model.specs.declared.command.FileOp.TheVariants.{Move};
-ghost use Rattle.fsrm_model.specs.Capacities.{is_capacity};
 ghost use Rattle.fsrm_model.specs.Check.{first};
 ghost use Rattle.fsrm_model.specs.Cost.{deed_cost};
 ghost use Rattle.fsrm_model.specs.FileWork.{file_effect, move_checks};
 ghost use Rattle.fsrm_model.specs.Limits.{latest_moment};
 ghost use Rattle.fsrm_model.specs.Text.{is_bare};
 ghost use Rattle.fsrm_base.specs.Keyed.{has_row};
-ghost use Rattle.fsrm_model.specs.Tree.{number as key, under, usage};
+ghost use Rattle.fsrm_model.specs.Tree.{number as key, is_folder, under};
 ghost use Rattle.fsrm_model.specs.Valid.{IsVolume};
-ghost use Rattle.fsrm_engine.specs.Faults.{refused_answer};
-ghost use Rattle.fsrm_engine.specs.Machine.{Does, IsIdle, IsSound, IsWhole, rows_of};
-ghost use Rattle.fsrm_engine.specs.Moves.{IsMove, IsSourceOfMove, MayMove, change_of};
+ghost use Rattle.fsrm_engine.specs.Machine.{AreCounted, Does, IsIdle, IsSound, IsWhole, rows_of};
+ghost use Rattle.fsrm_engine.specs.Memory.{may_want_memory};
+ghost use Rattle.fsrm_engine.specs.Moves.{AreMoved, IsMove, IsSourceOfMove, MayMove, change_of};
 
 use crate::exits::{refusal_of, refused};
 use crate::parts::Parts;
@@ -27,7 +27,7 @@ use fsrm_objects::Objects;
 use quota_usage::Change;
 use std::alloc::Global;
 use templates::Templates;
-use volume_tree::{ReadyMove, Tree};
+use volume_tree::ReadyMove;
 
 /// A node that moves, as it is before, and the place that it goes to.
 #[derive(Clone, Copy)]
@@ -39,7 +39,7 @@ pub struct Moving<'a> {
     pub place: Place<'a>,
 }
 
-// The template of which a node gets a quota at its new place: a folder that has none, if an auto-apply quota gives it one there.
+// The template of the quota that a node gets at its new place. A file gets none, and a folder that has one no other.
 fn moved_source(templates: &Templates, objects: &Objects, moving: &Moving<'_>) -> Option<u32>
     ensures { IsSourceOfMove objects.now.quotas templates.now moving.now result }
 {
@@ -53,62 +53,30 @@ fn moved_source(templates: &Templates, objects: &Objects, moving: &Moving<'_>) -
     Some(source)
 }
 
-// The bytes that move with a node. If there is no quota, and none comes, nothing asks for them, and none are summed.
-fn moved_bytes<L: Ledger>(
-    tree: &Tree,
-    objects: &Objects,
-    alloc: Global,
-    node: u32,
-    source: Option<u32>,
-    steps: &mut Steps<L>,
-) -> Result<u64, NoMemory>
-    requires volume { IsVolume tree.now.size tree.now.nodes }
-    requires legal { is_capacity tree.now.size ≡ true }
-    requires there { has_row key node tree.now.nodes ≡ true }
-    ensures few { IfOk result (λ bytes. bytes ≤ usage tree.now.size tree.now.nodes node) }
-    ensures all { IfOk result (λ bytes. (is_some source || nat_lt 0 (length objects.now.quotas)) ≡ true → bytes ≡ usage tree.now.size tree.now.nodes node) }
-    ensures looks { steps.new ≤ steps.old + 3 * length (under tree.now.nodes node) }
-{
-    if source.is_none() && objects.quota_count() == 0 {
-        return Ok(0);
-    }
-    usage_of(tree, alloc, node, steps)
-}
-
-// The answer to a move that isn't made. If no refusal is told memory ran out.
-fn unmade(why: Option<Refusal>) -> Result<Answer, NoMemory>
-    ensures { IfOk result (λ answer. option_map refused_answer why ≡ Some answer) }
-{
-    match why {
-        Some(refusal) => Ok(refused(refusal)),
-        None => Err(NoMemory),
-    }
-}
-
 impl Parts {
-    // What is to move, and the move that the tree has ready. Or why it can't be made: None says that memory ran out.
+    // What is to move, and the move that the tree has ready. Or why it can't be made.
     fn ready_move<'a, L: Ledger>(
         &self,
         from: &Path,
         to: &'a Path,
         steps: &mut Steps<L>,
-    ) -> Result<(Moving<'a>, ReadyMove), Option<Refusal>>
+    ) -> Result<(Moving<'a>, ReadyMove<'a>), Refusal>
         requires { IsVolume self.now.tree.size self.now.tree.nodes }
         ensures ok { IfOk result (λ found. IsMove self.now.tree from.now to.now found.0) }
         ensures ready { IfOk result (λ found. found.1 ≡ record { node = found.0.node; folder = found.0.place.folder; name = found.0.place.name.now }) }
-        ensures err { IfErr result (λ why. IfSome why (λ refusal. (moment : ℕ) → first (move_checks self.now.tree.size (rows_of self.now) from.now to.now (file_effect (rows_of self.now) (Move from.now to.now) moment)) ≡ Some refusal)) }
-        ensures bare { IfErr result (λ why. IfSome why (λ refusal. is_bare refusal ≡ true)) }
+        ensures err { IfErr result (λ refusal. (moment : ℕ) → first (move_checks self.now.tree.size (rows_of self.now) from.now to.now (file_effect (rows_of self.now) (Move from.now to.now) moment)) ≡ Some refusal) }
+        ensures bare { IfErr result (λ refusal. is_bare refusal ≡ true) }
         ensures looks { steps.new ≤ steps.old + (22 * length from.now + 23 * length to.now + 26) }
     {
         let Some(node) = self.tree.resolve(from, steps) else {
-            return Err(Some(Refusal::PathNotFound));
+            return Err(Refusal::PathNotFound);
         };
         if node == 0 {
-            return Err(Some(Refusal::InvalidMove));
+            return Err(Refusal::InvalidMove);
         }
         let place = match place_at(&self.tree, to, steps) {
             Ok(place) => place,
-            Err(refusal) => return Err(Some(refusal)),
+            Err(refusal) => return Err(refusal),
         };
         let ready = match self.tree.ready_move(node, place.folder, place.name, steps) {
             Ok(ready) => ready,
@@ -125,8 +93,34 @@ impl Parts {
         Ok((moving, ready))
     }
 
+    // The bytes that move with a node. A file's are those that it takes. A folder's are added up, and that takes memory; none are
+    // if there is no quota, and none comes. (If one comes and there is no other, nothing asks for them either.)
+    fn moved_bytes<L: Ledger>(
+        &self,
+        alloc: Global,
+        moving: &Moving<'_>,
+        source: Option<u32>,
+        steps: &mut Steps<L>,
+    ) -> Result<u64, NoMemory>
+        requires counted { AreCounted self.now }
+        requires there { has_row key moving.now.node self.now.tree.nodes ≡ true }
+        requires kind { is_folder self.now.tree.nodes moving.now.node ≡ moving.now.folder }
+        ensures moved { IfOk result (λ bytes. AreMoved self.now moving.now.node source bytes) }
+        ensures memory { OnErr result (moving.now.folder ≡ true) }
+        ensures looks { steps.new ≤ steps.old + 3 * length (under self.now.tree.nodes moving.now.node) }
+    {
+        if !moving.folder {
+            let file = self.tree.node(moving.node, steps);
+            return Ok(self.tree.allocated(file.length));
+        }
+        if source.is_none() && self.objects.quota_count() == 0 {
+            return Ok(0);
+        }
+        usage_of(&self.tree, alloc, moving.node, steps)
+    }
+
     /// Moves a file, or a folder with all that is in it, if no screen blocks the file's new name and no quota refuses it. A
-    /// folder gets a quota if its new place gives it one.
+    /// folder gets a quota if its new place gives it one. Memory can run out only for a folder.
     pub(crate) fn move_path<L: Ledger>(
         &mut self,
         alloc: Global,
@@ -140,13 +134,14 @@ impl Parts {
         requires moment { moment ≤ latest_moment }
         requires after { self.old.last_moment ≤ moment }
         ensures ok { IfOk result (λ answer. Does self.old self.new moment (File (Move from.now to.now)) answer) }
+        ensures memory { OnErr result (may_want_memory (rows_of self.old) (Move from.now to.now) ≡ true) }
         ensures err { OnErr result (self.new ≡ self.old) }
         ensures sound { IsSound self.new }
         ensures looks { steps.new ≤ steps.old + deed_cost (rows_of self.old) (File (Move from.now to.now)) }
     {
         let (moving, ready) = match self.ready_move(from, to, steps) {
             Ok(found) => found,
-            Err(why) => return unmade(why),
+            Err(refusal) => return Ok(refused(refusal)),
         };
         let source = moved_source(&self.templates, &self.objects, &moving);
         if let Err(refusal) = self.may_come(source) {
@@ -157,7 +152,7 @@ impl Parts {
         if let Some(active) = blocking(judged) {
             return Ok(self.block(active, moving.owner, place.folder, place.name, moment));
         }
-        let bytes = moved_bytes(&self.tree, &self.objects, alloc, moving.node, source, steps)?;
+        let bytes = self.moved_bytes(alloc, &moving, source, steps)?;
         let change = Change {
             from: Some(moving.parent),
             to: Some(place.folder),
@@ -172,14 +167,14 @@ impl Parts {
         )
     }
 
-    // Makes a move that nothing refuses.
+    // Makes a move that nothing refuses. The paths stand here for the clauses alone.
     fn make_move<L: Ledger>(
         &mut self,
         alloc: Global,
         from: &Path,
         to: &Path,
         moving: &Moving<'_>,
-        ready: ReadyMove,
+        ready: ReadyMove<'_>,
         source: Option<u32>,
         judged: Option<Blocked>,
         change: &Change,
@@ -194,6 +189,7 @@ impl Parts {
         requires change { change.now ≡ change_of moving.now change.now.minus }
         requires ready { ready ≡ record { node = moving.now.node; folder = moving.now.place.folder; name = moving.now.place.name.now } }
         ensures ok { IfOk result (λ answer. Does self.old self.new moment (File (Move from.now to.now)) answer) }
+        ensures memory { OnErr result (moving.now.folder ≡ true) }
         ensures err { OnErr result (self.new ≡ self.old) }
         ensures sound { IsSound self.new }
         ensures looks { steps.new ≤ steps.old + (4 * length (under self.old.tree.nodes moving.now.node) + 5 * (length from.now + length to.now) + 47) }

@@ -144,7 +144,10 @@ impl Parts {
             return Ok(refused(Refusal::OutOfRange));
         }
         let room = self.room();
-        match self.templates.modify(alloc, &mut self.objects, row, mode, room) {
+        match self
+            .templates
+            .modify(alloc, &mut self.objects, row, mode, room)
+        {
             Ok(reached) => {
                 self.settle_reached(&reached, moment);
                 Ok(self.done(moment))

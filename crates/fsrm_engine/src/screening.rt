@@ -13,7 +13,8 @@ ghost use Rattle.thresholds.specs.Settled.{are_orderly};
 ghost use Rattle.file_screens.specs.Blocked.{told};
 ghost use Rattle.fsrm_engine.specs.Crossing.{IsCovered};
 ghost use Rattle.fsrm_engine.specs.Machine.{charged_parts, AreCounted, IsIdle, IsWhole, rows_of};
-ghost use Rattle.fsrm_engine.specs.Reporting.{EndsNamed, Reports, is_active, name_under, screen_told};
+ghost use Rattle.file_screens.specs.Way.{is_active};
+ghost use Rattle.fsrm_engine.specs.Reporting.{EndsNamed, Reports, name_under, screen_told};
 ghost use Rattle.fsrm_engine.specs.Screening.{Blocks, NotesName, judged_screen};
 
 use crate::parts::Parts;

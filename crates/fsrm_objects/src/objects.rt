@@ -237,7 +237,7 @@ impl Objects {
         self.texts
     }
 
-    /// How many quotas there are, at most 4,096.
+    /// How many quotas there are, at most 4,096. `kept` says that they ascend by folder, and how long the texts of each may be.
     pub fn quota_count(&self) -> u32
         ensures count { result ≡ length self.now.quotas }
         ensures kept { AreSmallQuotas self.now.quotas }

@@ -12,11 +12,11 @@ use Rattle.fsrm_model.specs.declared.row.AutoRow.{AutoRow}
 use Rattle.fsrm_model.specs.declared.row.QuotaRow.{QuotaRow}
 use Rattle.fsrm_model.specs.declared.row.TemplateRow.{TemplateRow}
 use Rattle.fsrm_model.specs.AutoApply.{auto_folder}
-use Rattle.fsrm_model.specs.Limits.{most_templates, most_autos}
+use Rattle.fsrm_model.specs.Limits.{most_templates}
 use Rattle.fsrm_model.specs.Name.{is_named}
 use Rattle.fsrm_model.specs.Templates.{template_name, template_named, template_number, template_of, updated}
 use Rattle.fsrm_model.specs.TemplateWork.{updated_quotas}
-use Rattle.fsrm_model.specs.Texts.{auto_bytes, template_bytes}
+use Rattle.fsrm_model.specs.Texts.{template_bytes}
 use Rattle.fsrm_objects.specs.Tables.{quota_texts}
 use Rattle.templates.specs.declared.answer.TemplateFault.TheVariants.{AlreadyExists, DuplicateName, TableFull, TextsFull}
 use Rattle.templates.specs.Faults.{auto_fault, modify_fault, template_fault, update_fault}
@@ -71,26 +71,3 @@ update_due held quotas row old mode room ascending found =
 module _ (held : Held) (row : AutoRow) (room : ℕ) where
   pub taken_due : has_row auto_folder row.folder held.autos ≡ true → auto_fault held row room ≡ Some AlreadyExists
   taken_due taken = rw taken refl
-
-  pub autos_due : has_row auto_folder row.folder held.autos ≡ false → most_autos ≤ length held.autos → auto_fault held row room ≡ Some TableFull
-  autos_due free full = rw (free, le_test most_autos (length held.autos) full) refl
-
-  pub auto_texts_due : has_row auto_folder row.folder held.autos ≡ false → length held.autos < most_autos → room < auto_bytes row → auto_fault held row room ≡ Some TextsFull
-  auto_texts_due free few long = rw (free, not_le most_autos (length held.autos) few, lt_test room (auto_bytes row) long) refl
-
-  pub no_auto_due : has_row auto_folder row.folder held.autos ≡ false → length held.autos < most_autos → auto_bytes row ≤ room → auto_fault held row room ≡ None
-  no_auto_due free few short = rw (free, not_le most_autos (length held.autos) few, not_lt room (auto_bytes row) short) refl
-
-pub record AutoAdmitted (held : Held) (row : AutoRow) : Type 0 where
-  pub free : has_row auto_folder row.folder held.autos ≡ false
-  pub few : length held.autos < most_autos
-
-auto_pass : (taken full long : Bool) → first ((AlreadyExists when taken) ∷ (TableFull when full) ∷ (TextsFull when long) ∷ []) ≡ None → (taken ≡ false) × (full ≡ false)
-auto_pass false false long h = (refl, refl)
-auto_pass false true long h = cc
-auto_pass true full long h = cc
-
-pub auto_admitted : (held : Held) (row : AutoRow) (room : ℕ) → auto_fault held row room ≡ None → AutoAdmitted held row
-auto_admitted held row room h =
-    let pass = auto_pass (has_row auto_folder row.folder held.autos) (nat_le most_autos (length held.autos)) (nat_lt room (auto_bytes row)) h in
-    record { free = pass.0; few = gt_is _ _ pass.1 }

@@ -230,12 +230,3 @@ module _ (held : Held) (texts n p : ℕ) (old : AutoRow) (are : AreHeld held tex
         there = ap (are_there held.templates) less_autos ∙ list_all-filter (λ auto. has_row template_number auto.template held.templates) _ held.autos are.there;
         texts_are = omega (arith, less_texts auto_folder held.autos n p at auto_bytes old are.autos_ascending read, its, are.texts_are);
       }
-
-  pub auto_bytes_old : auto_bytes old ≤ texts
-  auto_bytes_old = omega (arith, less_texts auto_folder held.autos n p at auto_bytes old are.autos_ascending read, are.texts_are)
-
-  pub auto_is : row_of auto_folder n held.autos ≡ Some old
-  auto_is = read_found auto_folder held.autos n p old at read
-
-  pub auto_valid : is_auto old ≡ true
-  auto_valid = all_found is_auto (λ row. row.folder == n) held.autos old are.autos_valid auto_is

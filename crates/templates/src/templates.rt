@@ -23,7 +23,8 @@ use std::marker::Model;
 
 /// The quota templates of a store (MS-FSRM, IFsrmQuotaTemplate), at most 1,024, and its auto-apply quotas
 /// (IFsrmAutoApplyQuota), as many. Contracts see the rows of both: the templates ascend by number, which is below 1,024, and
-/// no two of them have one name, in any spelling; the auto-apply quotas ascend by folder, each folder at most once.
+/// no two of them have one name, in any spelling; the auto-apply quotas ascend by folder, each folder at most once, and the
+/// template of each is there. `texts` has a clause that says so.
 #[derive(Drop)]
 pub struct Templates {
     pub(crate) templates: Vec<TemplateRow>,
@@ -171,7 +172,7 @@ impl Templates {
         Some(&self.templates[place])
     }
 
-    /// The bytes of all texts: names of templates, texts of their actions, excluded names.
+    /// The bytes of all texts: names of templates, texts of their actions, excluded names. `kept` says how the tables are held.
     pub fn texts(&self) -> u32
         ensures bytes { result ≡ texts_in self.now }
         ensures kept { AreHeld self.now result }

@@ -91,11 +91,7 @@ fn derived(templates: &Templates, alloc: Global) -> Result<Objects, Fail>
 }
 
 // The template gets another limit, and the quotas that match it as it was follow it: so many.
-fn follow(
-    templates: &mut Templates,
-    alloc: Global,
-    objects: &mut Objects,
-) -> Result<usize, Fail>
+fn follow(templates: &mut Templates, alloc: Global, objects: &mut Objects) -> Result<usize, Fail>
     requires there { has_row template_number 0 templates.old.templates ≡ true }
     requires plain { (row : TemplateRow) → template_of templates.old.templates 0 ≡ Some row → IsPlain row }
 {

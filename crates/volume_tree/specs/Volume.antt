@@ -8,7 +8,7 @@ use Rattle.fsrm_model.specs.FileOps.{resized, touched, placed}
 use Rattle.fsrm_base.specs.Keyed.{with_row, with_change, without_row}
 use Rattle.fsrm_model.specs.Tree.{number, node_of, name_of, is_under, children, child_number, children_in_order, name_bytes}
 use Rattle.volume_tree.specs.declared.answer.TreeFault.{TreeFault}
-use Rattle.volume_tree.specs.declared.answer.TreeFault.TheVariants.{AlreadyExists, InvalidMove, NotEmpty, VolumeFull, NamesFull, NoMemory}
+use Rattle.volume_tree.specs.declared.answer.TreeFault.TheVariants.{AlreadyExists, InvalidMove, NotEmpty, VolumeFull, NamesFull}
 pub use Rattle.node_table.specs.declared.view.NodeView.{NodeView}
 
 -- a tree: how much of it there may be, and its nodes
@@ -21,15 +21,6 @@ pub record Move : Type 0 where
   pub node : ℕ
   pub folder : ℕ
   pub name : List ℕ
-
--- a fault says that memory ran out, or is the one that is due
-abbrev pub IsFault : TreeFault → Option TreeFault → Type 0
-IsFault NoMemory due = Unit {0}
-IsFault AlreadyExists due = due ≡ Some AlreadyExists
-IsFault InvalidMove due = due ≡ Some InvalidMove
-IsFault NotEmpty due = due ≡ Some NotEmpty
-IsFault VolumeFull due = due ≡ Some VolumeFull
-IsFault NamesFull due = due ≡ Some NamesFull
 
 -- why a node can't be made
 abbrev pub new_fault : Volume → ℕ → List ℕ → Option TreeFault

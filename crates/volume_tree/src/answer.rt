@@ -1,9 +1,5 @@
 //! What a tree answers.
 
-ghost use Rattle.std.specs.Prelude.{◌≡◌};
-
-use fsrm_model::NoMemory;
-
 /// Why a tree refused.
 #[derive(Clone, Copy, Debug, PartialEq, Eq)]
 pub enum TreeFault {
@@ -17,18 +13,6 @@ pub enum TreeFault {
     VolumeFull,
     /// The names would take more bytes than they may.
     NamesFull,
-    /// Memory ran out. Nothing in the volume is the cause.
-    NoMemory,
-}
-
-impl From<NoMemory> for TreeFault {
-    ghost use Rattle.volume_tree.specs.declared.answer.TreeFault.{TreeFault};
-
-    ghost from_gives = { λ _ fault. fault ≡ TreeFault.NoMemory };
-
-    fn from(_fault: NoMemory) -> Self {
-        TreeFault::NoMemory
-    }
 }
 
 /// Why rows made no tree.

@@ -1,4 +1,4 @@
-//! New nodes, in two halves: what can refuse one, and then the creation, which can only run out of memory.
+//! New nodes, in two halves: what can refuse one, and then the creation, which can't fail.
 
 ghost use Rattle.std.specs.Prelude.{◌≡◌, ◌+◌, ◌≤◌, if◌then◌else◌, IfOk, IfErr, OnOk, OnErr, true, false, length, None, Some};
 ghost use Rattle.fsrm_model.specs.FileOps.{made_node};
@@ -7,7 +7,7 @@ ghost use Rattle.fsrm_model.specs.Name.{is_name};
 ghost use Rattle.fsrm_model.specs.Tree.{fresh, is_folder};
 ghost use Rattle.fsrm_model.specs.Valid.{IsVolume};
 ghost use Rattle.node_table.specs.Views.{seen};
-ghost use Rattle.volume_tree.specs.Volume.{IsFault, new_fault, with_node};
+ghost use Rattle.volume_tree.specs.Volume.{new_fault, with_node};
 
 use crate::answer::TreeFault;
 use crate::entries::Entry;
@@ -16,7 +16,7 @@ use crate::order::search;
 use crate::slots;
 use crate::tree::Tree;
 use crate::vacancy::new_place;
-use fsrm_model::{Ledger, NoMemory, Steps};
+use fsrm_model::{Ledger, Steps};
 use node_table::NodeView;
 
 // What a new node is, beside its place. A folder has no length.
@@ -67,13 +67,13 @@ impl Tree {
         ensures number { IfOk result (λ number. number ≡ fresh self.old.nodes) }
         ensures made { OnOk result (self.new ≡ with_node self.old (made_node self.old.nodes folder name.now true 0 owner moment)) }
         ensures may { OnOk result (new_fault self.old folder name.now ≡ None) }
-        ensures refused { IfErr result (λ fault. IsFault fault (new_fault self.old folder name.now)) }
+        ensures refused { IfErr result (λ fault. new_fault self.old folder name.now ≡ Some fault) }
         ensures err { OnErr result (self.new ≡ self.old) }
         ensures kept { IsVolume self.new.size self.new.nodes }
         ensures looks { steps.new ≤ steps.old + 44 }
     {
         let vacancy = self.may_create(folder, name, steps)?;
-        Ok(self.make_folder(folder, name, vacancy, owner, moment, steps)?)
+        Ok(self.make_folder(folder, name, vacancy, owner, moment, steps))
     }
 
     /// Makes a file of so many bytes in a folder, and gives its number, the least that is free. It
@@ -97,19 +97,19 @@ impl Tree {
         ensures number { IfOk result (λ number. number ≡ fresh self.old.nodes) }
         ensures made { OnOk result (self.new ≡ with_node self.old (made_node self.old.nodes folder name.now false length owner moment)) }
         ensures may { OnOk result (new_fault self.old folder name.now ≡ None) }
-        ensures refused { IfErr result (λ fault. IsFault fault (new_fault self.old folder name.now)) }
+        ensures refused { IfErr result (λ fault. new_fault self.old folder name.now ≡ Some fault) }
         ensures err { OnErr result (self.new ≡ self.old) }
         ensures kept { IsVolume self.new.size self.new.nodes }
         ensures looks { steps.new ≤ steps.old + 44 }
     {
         let vacancy = self.may_create(folder, name, steps)?;
-        Ok(self.make_file(folder, name, vacancy, length, owner, moment, steps)?)
+        Ok(self.make_file(folder, name, vacancy, length, owner, moment, steps))
     }
 
     /// The first half of `mkdir` and `create`: all that can refuse a new node of this name in a folder.
-    /// It gives where the node is to stand. It takes no memory, and no more than 21 looks.
+    /// It gives where the node is to stand. It takes no more than 21 looks.
     ///
-    /// It is refused as they are, but for memory.
+    /// It is refused as they are.
     pub fn may_create<L: Ledger>(
         &self,
         folder: u32,
@@ -137,7 +137,7 @@ impl Tree {
     }
 
     /// The second half of `mkdir`: makes a folder that the tree has nothing against, and gives its number,
-    /// the least that is free. It takes no more than 23 looks. An `Err` changes nothing.
+    /// the least that is free. It can't fail. It takes no more than 23 looks.
     pub fn make_folder<L: Ledger>(
         &mut self,
         folder: u32,
@@ -146,15 +146,14 @@ impl Tree {
         owner: u32,
         moment: u64,
         steps: &mut Steps<L>,
-    ) -> Result<u32, NoMemory>
+    ) -> u32
         requires folder { is_folder self.old.nodes folder ≡ true }
         requires name { is_name name.now ≡ true }
         requires owner { 1 ≤ owner }
         requires moment { moment ≤ latest_moment }
         requires may { new_fault self.old folder name.now ≡ None }
-        ensures number { IfOk result (λ number. number ≡ fresh self.old.nodes) }
-        ensures made { OnOk result (self.new ≡ with_node self.old (made_node self.old.nodes folder name.now true 0 owner moment)) }
-        ensures err { OnErr result (self.new ≡ self.old) }
+        ensures number { result ≡ fresh self.old.nodes }
+        ensures made { self.new ≡ with_node self.old (made_node self.old.nodes folder name.now true 0 owner moment) }
         ensures kept { IsVolume self.new.size self.new.nodes }
         ensures looks { steps.new ≤ steps.old + 23 }
     {
@@ -168,7 +167,7 @@ impl Tree {
     }
 
     /// The second half of `create`: makes a file that the tree has nothing against, and gives its number,
-    /// the least that is free. It takes no more than 23 looks. An `Err` changes nothing.
+    /// the least that is free. It can't fail. It takes no more than 23 looks.
     pub fn make_file<L: Ledger>(
         &mut self,
         folder: u32,
@@ -178,16 +177,15 @@ impl Tree {
         owner: u32,
         moment: u64,
         steps: &mut Steps<L>,
-    ) -> Result<u32, NoMemory>
+    ) -> u32
         requires folder { is_folder self.old.nodes folder ≡ true }
         requires name { is_name name.now ≡ true }
         requires length { length ≤ longest_file }
         requires owner { 1 ≤ owner }
         requires moment { moment ≤ latest_moment }
         requires may { new_fault self.old folder name.now ≡ None }
-        ensures number { IfOk result (λ number. number ≡ fresh self.old.nodes) }
-        ensures made { OnOk result (self.new ≡ with_node self.old (made_node self.old.nodes folder name.now false length owner moment)) }
-        ensures err { OnErr result (self.new ≡ self.old) }
+        ensures number { result ≡ fresh self.old.nodes }
+        ensures made { self.new ≡ with_node self.old (made_node self.old.nodes folder name.now false length owner moment) }
         ensures kept { IsVolume self.new.size self.new.nodes }
         ensures looks { steps.new ≤ steps.old + 23 }
     {
@@ -208,16 +206,15 @@ impl Tree {
         vacancy: Finger,
         new: NewNode,
         steps: &mut Steps<L>,
-    ) -> Result<u32, NoMemory>
+    ) -> u32
         requires folder { is_folder self.old.nodes folder ≡ true }
         requires name { is_name name.now ≡ true }
         requires length { new.length ≤ (if new.folder then 0 else longest_file) }
         requires owner { 1 ≤ new.owner }
         requires moment { new.moment ≤ latest_moment }
         requires may { new_fault self.old folder name.now ≡ None }
-        ensures number { IfOk result (λ number. number ≡ fresh self.old.nodes) }
-        ensures made { OnOk result (self.new ≡ with_node self.old (made_node self.old.nodes folder name.now new.folder new.length new.owner new.moment)) }
-        ensures err { OnErr result (self.new ≡ self.old) }
+        ensures number { result ≡ fresh self.old.nodes }
+        ensures made { self.new ≡ with_node self.old (made_node self.old.nodes folder name.now new.folder new.length new.owner new.moment) }
         ensures kept { IsVolume self.new.size self.new.nodes }
         ensures looks { steps.new ≤ steps.old + 23 }
     {
@@ -231,6 +228,6 @@ impl Tree {
         self.order.insert(place, entry);
         self.count += 1;
         self.used += name.len() as u32;
-        Ok(number)
+        number
     }
 }

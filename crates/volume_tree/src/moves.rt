@@ -1,11 +1,11 @@
-//! Moves, in two halves: what can refuse or fail, and then the change, which can't.
+//! Moves, in two halves: what can refuse one, and then the change, which can't fail.
 
-ghost use Rattle.std.specs.Prelude.{◌≡◌, ◌+◌, ◌≤◌, ◌==◌, IfOk, IfErr, OnOk, OnErr, true, false, length, None};
+ghost use Rattle.std.specs.Prelude.{◌≡◌, ◌+◌, ◌≤◌, ◌==◌, IfOk, IfErr, OnOk, OnErr, true, false, length, None, Some};
 ghost use Rattle.fsrm_base.specs.Keyed.{has_row};
 ghost use Rattle.fsrm_model.specs.Name.{is_name};
 ghost use Rattle.fsrm_model.specs.Tree.{number as key, is_folder, chain};
 ghost use Rattle.fsrm_model.specs.Valid.{IsVolume};
-ghost use Rattle.volume_tree.specs.Volume.{IsFault, move_fault, with_place};
+ghost use Rattle.volume_tree.specs.Volume.{move_fault, with_place};
 
 use crate::answer::TreeFault;
 use crate::climb::is_at_or_below;
@@ -13,26 +13,26 @@ use crate::entries::Entry;
 use crate::entry::{is_other, reorder};
 use crate::tree::Tree;
 use crate::{order, slots};
-use fsrm_model::{Ledger, Steps, Text};
+use fsrm_model::{Ledger, Steps};
 use std::marker::Model;
 
-/// A move that a tree had nothing against, with the memory that it takes. It has changed nothing yet.
+/// A move that a tree had nothing against, with the name that it gives, lent. It has changed nothing yet.
 ///
 /// It says nothing of a tree that has changed since. Contracts see which node goes into which folder
 /// under which name.
 #[derive(Drop)]
-pub struct ReadyMove {
+pub struct ReadyMove<'a> {
     node: u32,
     folder: u32,
-    name: Text,
+    name: &'a str,
 }
 
-impl Model for ReadyMove {
+impl<'a> Model for ReadyMove<'a> {
     ghost use Rattle.volume_tree.specs.Volume.{Move};
 
     ghost Value = { Move };
 
-    ghost view = { λ m. record { node = m.node; folder = m.folder; name = m.name } };
+    ghost view = { λ m. record { node = m.node; folder = m.folder; name = m.name.now } };
 }
 
 impl Tree {
@@ -55,7 +55,7 @@ impl Tree {
         requires name { is_name name.now ≡ true }
         ensures made { OnOk result (self.new ≡ with_place self.old node folder name.now) }
         ensures may { OnOk result (move_fault self.old node folder name.now ≡ None) }
-        ensures refused { IfErr result (λ fault. IsFault fault (move_fault self.old node folder name.now)) }
+        ensures refused { IfErr result (λ fault. move_fault self.old node folder name.now ≡ Some fault) }
         ensures err { OnErr result (self.new ≡ self.old) }
         ensures kept { IsVolume self.new.size self.new.nodes }
         ensures looks { steps.new ≤ steps.old + (66 + length (chain self.old.nodes folder)) }
@@ -65,25 +65,25 @@ impl Tree {
         Ok(())
     }
 
-    /// The first half of `move_node`: all that can refuse a move or fail in it. It changes nothing, and
-    /// the same tree can then make the move. It takes no more than 22 looks, and one for each node from
-    /// the folder up to the root.
+    /// The first half of `move_node`: all that can refuse a move. It changes nothing, and the same tree can
+    /// then make the move. It takes no more than 22 looks, and one for each node from the folder up to the
+    /// root.
     ///
     /// It is refused as `move_node` is.
-    pub fn ready_move<L: Ledger>(
+    pub fn ready_move<'a, L: Ledger>(
         &self,
         node: u32,
         folder: u32,
-        name: &str,
+        name: &'a str,
         steps: &mut Steps<L>,
-    ) -> Result<ReadyMove, TreeFault>
+    ) -> Result<ReadyMove<'a>, TreeFault>
         requires there { has_row key node self.now.nodes ≡ true }
         requires inner { (node == 0) ≡ false }
         requires folder { is_folder self.now.nodes folder ≡ true }
         requires name { is_name name.now ≡ true }
         ensures ready { IfOk result (λ ready. ready ≡ record { node = node; folder = folder; name = name.now }) }
         ensures may { OnOk result (move_fault self.now node folder name.now ≡ None) }
-        ensures refused { IfErr result (λ fault. IsFault fault (move_fault self.now node folder name.now)) }
+        ensures refused { IfErr result (λ fault. move_fault self.now node folder name.now ≡ Some fault) }
         ensures volume { OnOk result (IsVolume self.now.size (with_place self.now node folder name.now).nodes) }
         ensures kept { IsVolume self.now.size self.now.nodes }
         ensures looks { steps.new ≤ steps.old + (22 + length (chain self.now.nodes folder)) }
@@ -100,34 +100,31 @@ impl Tree {
         if bytes > self.size.names as u64 + old_bytes as u64 {
             return Err(TreeFault::NamesFull);
         }
-        let Ok(name) = Text::from_str(self.alloc, name) else {
-            return Err(TreeFault::NoMemory);
-        };
         Ok(ReadyMove { node, folder, name })
     }
 
     /// The second half of `move_node`: makes a move that is ready, and that the tree still has nothing
-    /// against. It can't fail, and takes no memory. It takes no more than 44 looks.
-    pub fn make_move<L: Ledger>(&mut self, ready: ReadyMove, steps: &mut Steps<L>)
+    /// against. It can't fail. It takes no more than 44 looks.
+    pub fn make_move<L: Ledger>(&mut self, ready: ReadyMove<'_>, steps: &mut Steps<L>)
         requires there { has_row key ready.node self.old.nodes ≡ true }
         requires inner { (ready.node == 0) ≡ false }
         requires folder { is_folder self.old.nodes ready.folder ≡ true }
         requires name { is_name ready.name ≡ true }
         requires may { move_fault self.old ready.node ready.folder ready.name ≡ None }
-        ensures made { self.new ≡ with_place self.old ready.node ready.folder ready.name }
+        ensures made { self.new ≡ with_place self.old ready.entry.node ready.entry.folder ready.entry.name }
         ensures kept { IsVolume self.new.size self.new.nodes }
         ensures looks { steps.new ≤ steps.old + 44 }
     {
         let ReadyMove { node, folder, name } = ready;
         // The place isn't kept from the first half, since other places may have moved since.
-        let found = order::search(&self.slots, &self.order, folder, name.as_str(), steps);
-        let entry = Entry::at(node, folder, name.as_str());
+        let found = order::search(&self.slots, &self.order, folder, name, steps);
+        let entry = Entry::at(node, folder, name);
         reorder(&self.slots, &mut self.order, entry, found, steps);
-        let bytes = name.as_str().len() as u32;
+        let bytes = name.len() as u32;
         self.hints.forget(&self.slots, node);
-        self.hints.enter(&self.slots, folder, name.as_str(), node);
+        self.hints.enter(&self.slots, folder, name, node);
         let old_bytes = slots::name_length(&self.slots, node, steps);
-        self.slots.set_place(node, folder, name.as_str());
+        self.slots.set_place(node, folder, name);
         self.used = self.used - old_bytes + bytes;
     }
 }

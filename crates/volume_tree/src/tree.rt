@@ -12,7 +12,7 @@ ghost use Rattle.fsrm_model.specs.Space.{alloc};
 ghost use Rattle.fsrm_model.specs.Tree.{number as key, fresh, is_folder, is_under, children, children_in_order, child_number, chain, resolve, name_bytes};
 ghost use Rattle.fsrm_model.specs.Valid.{is_tree, IsVolume};
 ghost use Rattle.volume_tree.specs.Looks.{passed};
-ghost use Rattle.volume_tree.specs.Volume.{IsFault, IsChildAt, Shows, new_fault, remove_fault, with_node, with_length, with_touch, without_node};
+ghost use Rattle.volume_tree.specs.Volume.{IsChildAt, Shows, new_fault, remove_fault, with_node, with_length, with_touch, without_node};
 
 use crate::answer::{RowsFault, TreeFault};
 use crate::children::Children;
@@ -46,7 +46,6 @@ pub struct Tree {
     pub(crate) order: Order,
     // Where a name is looked for first. Nothing rests on it.
     pub(crate) hints: Hints,
-    pub(crate) alloc: Global,
 }
 
 impl Model for Tree {
@@ -79,7 +78,6 @@ impl Tree {
             holes,
             order,
             hints: Hints::new(alloc),
-            alloc,
         })
     }
 
@@ -272,8 +270,7 @@ impl Tree {
         requires inner { (node == 0) ≡ false }
         ensures made { OnOk result (self.new ≡ without_node self.old node) }
         ensures may { OnOk result (remove_fault self.old node ≡ None) }
-        ensures refused { IfErr result (λ fault. IsFault fault (remove_fault self.old node)) }
-        ensures only { IsErrOf result TreeFault.NoMemory → ⊥ }
+        ensures refused { IfErr result (λ fault. remove_fault self.old node ≡ Some fault) }
         ensures err { OnErr result (self.new ≡ self.old) }
         ensures kept { IsVolume self.new.size self.new.nodes }
         ensures file { is_folder self.old.nodes node ≡ false → steps.new ≤ steps.old + 22 }
@@ -333,7 +330,6 @@ impl Tree {
             holes: parts.holes,
             order: parts.order,
             hints,
-            alloc,
         })
     }
 }

@@ -1,8 +1,7 @@
 -- The commands on auto-apply quotas: which refusal is due, and what is left.
-use Rattle.std.proofs.Common.{◌≡◌, ℕ, ◌+◌, ◌*◌, ◌≤◌, ◌<◌, ◌==◌, ◌⊎◌, inl, inr, nat_le, nat_lt, Bool, true, false, cond, not, ◌&&◌, List, [], ◌∷◌, length, Option, Some, None, refl, sym, ◌∙◌, ap, subst, arith}
-use Rattle.std.proofs.lemmas.Bool.Decides.{nat_tests}
+use Rattle.std.proofs.Common.{◌≡◌, ℕ, ◌+◌, ◌*◌, ◌≤◌, ◌==◌, ◌⊎◌, inl, inr, nat_le, nat_lt, Bool, true, false, cond, not, ◌&&◌, List, [], ◌∷◌, length, Option, Some, None, refl, sym, ◌∙◌, ap, subst, arith}
 use Rattle.std.proofs.lemmas.Option.{same_Some}
-use Rattle.std.specs.Prelude.{MatchResult, Result, Ok, Err, filter_map, fold, is_none, is_some, option_map, if◌then◌else◌}
+use Rattle.std.specs.Prelude.{MatchResult, Result, Ok, Err, filter_map, fold, is_none, is_some, option_map}
 use Rattle.std.specs.List.{AllByRecursion, list_all}
 use Rattle.std.specs.Option.{option_map_or}
 use Rattle.fsrm_base.specs.Causes.{◌when◌, first}
@@ -10,7 +9,7 @@ use Rattle.fsrm_base.specs.Keyed.{has_row, row_of, with_row, without_row}
 use Rattle.fsrm_base.specs.Numbers.{is_set}
 use Rattle.fsrm_base.proofs.EditedRows.{find-with_row_same, length-with_row, sum_by-with_row, without_absent}
 use Rattle.fsrm_base.proofs.Look.{found_has, found_key, found_own, is_some-find}
-use Rattle.fsrm_base.proofs.TestLaws.{both, eq_same, ge_is, le_test, lt_test, neither, not_le}
+use Rattle.fsrm_base.proofs.TestLaws.{both, eq_same, ge_is, neither}
 use Rattle.fsrm_model.specs.declared.command.Answer.{Answer}
 use Rattle.fsrm_model.specs.declared.command.AutoquotaDeed.TheVariants.{Add as AutoquotaAdd, Delete as AutoquotaDelete}
 use Rattle.fsrm_model.specs.declared.command.Deed.{Deed}
@@ -26,7 +25,6 @@ use Rattle.fsrm_model.specs.declared.row.TemplateRow.{TemplateRow}
 use Rattle.fsrm_model.specs.AutoApply.{applied, auto_folder, auto_of, excludes, queue_with, quotas_with, subfolders, with_quotas}
 use Rattle.fsrm_model.specs.AutoWork.{new_auto}
 use Rattle.fsrm_model.specs.Check.{Check, autos_full, table_full, texts_full}
-use Rattle.fsrm_model.specs.Commands.{more_cost}
 use Rattle.fsrm_model.specs.FileOps.{target}
 use Rattle.fsrm_model.specs.Name.{is_named}
 use Rattle.fsrm_model.specs.Leads.{leads_to_folder}
@@ -39,7 +37,7 @@ use Rattle.fsrm_model.specs.TemplateWork.{number_in}
 use Rattle.fsrm_model.specs.Text.{is_bare}
 use Rattle.fsrm_model.specs.Texts.{auto_bytes, object_texts, threshold_bytes}
 use Rattle.fsrm_model.specs.Thresholds.{are_thresholds}
-use Rattle.fsrm_model.specs.Tree.{children, is_folder, name_of, usage}
+use Rattle.fsrm_model.specs.Tree.{is_folder, name_of, usage}
 use Rattle.fsrm_model.specs.Valid.{is_moment}
 use Rattle.fsrm_model.proofs.templates.EligibleLaws.{eligible, subfolders_inner}
 use Rattle.fsrm_objects.specs.Tables.{quota_texts}
@@ -47,7 +45,7 @@ use Rattle.templates.specs.Held.{Held, with_auto, without_auto}
 use Rattle.thresholds.specs.Marked.{Marked}
 use Rattle.volume_tree.specs.Volume.{Volume}
 use Rattle.fsrm_engine.specs.declared.parts.Parts.{Parts}
-use Rattle.fsrm_engine.specs.Applying.{AreComing, apply_refusal, derived_bytes, derived_rows, gets_one, given_folders, quotas_full}
+use Rattle.fsrm_engine.specs.Applying.{AreComing, apply_refusal, derived_bytes, derived_rows, gets_one, given_folders}
 use Rattle.fsrm_engine.specs.Faults.{text_room, texts_of}
 use Rattle.fsrm_engine.specs.Machine.{Does, IsIdle, IsSound, IsWhole, Turned, ended, rows_of}
 use Rattle.fsrm_engine.specs.Places.{IsFolder}
@@ -56,7 +54,7 @@ use Rattle.fsrm_engine.proofs.applied.DerivedLaws.{bytes_are, derived_coming, te
 use Rattle.fsrm_engine.proofs.applied.EligibleFolders.{passing_folders, passing_set, passing_weaker}
 use Rattle.fsrm_engine.proofs.settling.CalmLaws.{calm, calm_same, unused_reached}
 use Rattle.fsrm_engine.proofs.settling.EndLaws.{due_of, few_log}
-use Rattle.fsrm_engine.proofs.steps.PlaceLaws.{leads_to_folder_is, target_is}
+use Rattle.fsrm_engine.proofs.steps.PlaceLaws.{target_is}
 use Rattle.fsrm_engine.proofs.steps.StepLaws.{asked, done_as, due, followed_own, last_check}
 use Rattle.fsrm_engine.proofs.tables.RoomLaws.{few_texts, full_test, room_test}
 use Rattle.fsrm_engine.proofs.tables.StateLaws.{missing, on_folder}
@@ -168,51 +166,6 @@ applies_none : (p : Parts) (row : AutoRow) (count : ℕ) → apply_refusal p row
 applies_none p row count h =
     let parts = three_none (nat_le most_autos (length p.templates.autos)) (nat_lt most_quotas (length p.objects.quotas + count)) (nat_lt (text_room p) (count * derived_bytes p.templates.templates row.template + auto_bytes row)) h in
     record { few = ge_is _ _ parts.0; short = ge_is _ _ parts.1 }
-
--- which refusal it is
-module _ (p : Parts) (row : AutoRow) (count : ℕ) where
-  abbrev all_three : Bool → Bool → Bool → Option Refusal
-  all_three a b c = first ((refusal.TableFull when a) ∷ (refusal.TableFull when b) ∷ (refusal.TextsFull when c) ∷ [])
-
-  abbrev many : Bool
-  many = nat_lt most_quotas (length p.objects.quotas + count)
-
-  abbrev given : ℕ
-  given = count * derived_bytes p.templates.templates row.template
-
-  pub autos_many : most_autos ≤ length p.templates.autos → apply_refusal p row count ≡ Some refusal.TableFull
-  autos_many h = ap (λ a. all_three a many (nat_lt (text_room p) (given + auto_bytes row))) (le_test most_autos (length p.templates.autos) h)
-
-  few_autos : length p.templates.autos < most_autos → apply_refusal p row count ≡ all_three false many (nat_lt (text_room p) (given + auto_bytes row))
-  few_autos h = ap (λ a. all_three a many (nat_lt (text_room p) (given + auto_bytes row))) (not_le most_autos (length p.templates.autos) h)
-
-  room_left : (left room new bytes : ℕ) → left + bytes ≡ room → nat_lt room (new + bytes) ≡ nat_lt left new
-  room_left left room new bytes h = grind (arith, nat_tests)
-
-  two_as : (b c : Bool) → all_three false b c ≡ first ((refusal.TableFull when b) ∷ (refusal.TextsFull when c) ∷ [])
-  two_as b c = refl
-
-  -- its names leave so much for the quotas' texts
-  pub autos_fit : (left : ℕ) → length p.templates.autos < most_autos → left + auto_bytes row ≡ text_room p → apply_refusal p row count ≡ quotas_full p row.template count left
-  autos_fit left few h = few_autos few ∙ ap (all_three false many) (room_left left (text_room p) given (auto_bytes row) h)
-
-  -- they are too long by themselves
-  pub autos_long : length p.templates.autos < most_autos → text_room p < auto_bytes row → quotas_full p row.template count 0 ≡ None → apply_refusal p row count ≡ Some refusal.TextsFull
-  autos_long few long h =
-      few_autos few ∙ (ap (all_three false many) (lt_test (text_room p) (given + auto_bytes row) (omega (arith, long))) ∙ at many (nat_lt 0 given) h)
-    where
-      at : (b c : Bool) → first ((refusal.TableFull when b) ∷ (refusal.TextsFull when c) ∷ []) ≡ None → all_three false b true ≡ Some refusal.TextsFull
-      at true c h = cc h
-      at false c h = refl
-
-  pub autos_long_too : (r : Refusal) → length p.templates.autos < most_autos → text_room p < auto_bytes row → quotas_full p row.template count 0 ≡ Some r → apply_refusal p row count ≡ Some r
-  autos_long_too r few long h =
-      few_autos few ∙ (ap (all_three false many) (lt_test (text_room p) (given + auto_bytes row) (omega (arith, long))) ∙ at many (nat_lt 0 given) h)
-    where
-      at : (b c : Bool) → first ((refusal.TableFull when b) ∷ (refusal.TextsFull when c) ∷ []) ≡ Some r → all_three false b true ≡ Some r
-      at true c h = h
-      at false true h = h
-      at false false h = cc h
 
 -- ---- a new auto-apply quota
 module _ (p : Parts) (m : ℕ) (path : List (List ℕ)) (name : List ℕ) (excluded : List (List ℕ)) where
@@ -396,12 +349,6 @@ module _ (p : Parts) (m : ℕ) (path : List (List ℕ)) (name : List ℕ) (exclu
       (subst (λ (qs : List QuotaRow). Turned (record (ruled p (with_auto p.templates row)) { objects = record p.objects { room = room } }) mid (fold quotas_with p.objects.quotas qs) (fold queue_with p.scans.queue qs)) same t))
       ends e
 
--- the looks at the children of its folder
-pub auto_cost : (nodes : List NodeRow) (path : List (List ℕ)) (name : List ℕ) (excluded : List (List ℕ)) (n : ℕ) → IsFolder nodes path n → more_cost nodes (Autoquota (AutoquotaAdd path name excluded)) ≡ 4 * length (children nodes n)
-auto_cost nodes path name excluded n at =
-    ap (λ b. if b then 4 * length (children nodes (target nodes path)) else 0) (leads_to_folder_is nodes path n at.resolved ∙ at.folder)
-    ∙ ap (λ k. 4 * length (children nodes k)) (target_is nodes path n at.resolved)
-
 -- the refusal of one that can't come is by no quota
 three_bare : (a b c : Bool) (r : Refusal) → first ((refusal.TableFull when a) ∷ (refusal.TableFull when b) ∷ (refusal.TextsFull when c) ∷ []) ≡ Some r → is_bare r ≡ true
 three_bare true b c r h = sym (ap is_bare (same_Some refusal.TableFull r h))
@@ -420,9 +367,6 @@ module _ (p : Parts) (m n : ℕ) (path : List (List ℕ)) (at : IsFolder p.tree.
   gone_due b h =
       on_folder (rows_of p) path n (λ k. (refusal.NotFound when is_none (auto_of (rows_of p) k)) ∷ []) at
       ∙ (last_check (refusal.NotFound when is_none (auto_of (rows_of p) n)) ∙ ap (λ b. refusal.NotFound when b) h)
-
-  pub auto_absent : is_none (auto_of (rows_of p) n) ≡ true → due p m (Autoquota (AutoquotaDelete path)) ≡ Some refusal.NotFound
-  auto_absent h = gone_due true h
 
   pub auto_deleted : (new : Parts) (held : Held) (answer : Answer) → IsWhole p → IsIdle p → p.last_moment ≤ m → is_none (auto_of (rows_of p) n) ≡ false → held ≡ without_auto p.templates n → new ≡ ended (ruled p held) m → answer ≡ record { outcome = Done None; lasting = true } → Does p new m (Autoquota (AutoquotaDelete path)) answer
   auto_deleted new held answer w idle late there is ends e =

@@ -1,5 +1,5 @@
 -- Quotas of a template, on folders that have none, may come.
-use Rattle.std.proofs.Common.{◌≡◌, ℕ, ◌+◌, ◌*◌, ◌≤◌, ◌<◌, ◌==◌, nat_lt, Bool, true, false, ◌&&◌, List, [], ◌∷◌, length, Option, Some, None, refl, ◌∙◌, ap, arith}
+use Rattle.std.proofs.Common.{◌≡◌, ℕ, ◌+◌, ◌*◌, ◌≤◌, ◌==◌, nat_lt, Bool, true, false, ◌&&◌, List, [], ◌∷◌, length, Option, Some, None, refl, ap, arith}
 use Rattle.std.specs.Prelude.{is_none}
 use Rattle.std.specs.List.{AllByRecursion, list_all}
 use Rattle.std.specs.Option.{option_map_or}
@@ -8,8 +8,7 @@ use Rattle.fsrm_base.specs.Keyed.{is_ascending, row_of}
 use Rattle.fsrm_base.specs.Numbers.{is_set}
 use Rattle.fsrm_base.proofs.EditedRows.{sum_by-without_row}
 use Rattle.fsrm_base.proofs.Members.{all_found}
-use Rattle.fsrm_base.proofs.TestLaws.{both, both_true, ge_is, le_test, lt_test, not_lt}
-use Rattle.fsrm_model.specs.declared.command.Refusal.{Refusal}
+use Rattle.fsrm_base.proofs.TestLaws.{both, both_true, ge_is, le_test}
 use Rattle.fsrm_model.specs.declared.command.Refusal.TheVariants.{TableFull, TextsFull}
 use Rattle.fsrm_model.specs.declared.row.QuotaRow.{QuotaRow}
 use Rattle.fsrm_model.specs.declared.row.TemplateRow.{TemplateRow}
@@ -88,21 +87,3 @@ may_come p n count room h =
 -- the bytes of one, where its template is known
 pub bytes_are : (p : Parts) (n : ℕ) (t : TemplateRow) → template_of p.templates.templates n ≡ Some t → derived_bytes p.templates.templates n ≡ threshold_bytes t.thresholds
 bytes_are p n t found = ap (λ (o : Option TemplateRow). option_map_or (λ (row : TemplateRow). threshold_bytes row.thresholds) o 0) found
-
--- which refusal it is
-module _ (p : Parts) (n count room : ℕ) where
-  abbrev both_tests : Bool → Bool → Option Refusal
-  both_tests a b = first ((TableFull when a) ∷ (TextsFull when b) ∷ [])
-
-  pub quotas_many : most_quotas < length p.objects.quotas + count → quotas_full p n count room ≡ Some TableFull
-  quotas_many h = ap (λ a. both_tests a (nat_lt room (count * derived_bytes p.templates.templates n))) (lt_test most_quotas (length p.objects.quotas + count) h)
-
-  pub quotas_long : length p.objects.quotas + count ≤ most_quotas → room < count * derived_bytes p.templates.templates n → quotas_full p n count room ≡ Some TextsFull
-  quotas_long few h =
-      ap (λ a. both_tests a (nat_lt room (count * derived_bytes p.templates.templates n))) (not_lt most_quotas (length p.objects.quotas + count) few)
-      ∙ ap (both_tests false) (lt_test room (count * derived_bytes p.templates.templates n) h)
-
-  pub quotas_fit : length p.objects.quotas + count ≤ most_quotas → count * derived_bytes p.templates.templates n ≤ room → quotas_full p n count room ≡ None
-  quotas_fit few h =
-      ap (λ a. both_tests a (nat_lt room (count * derived_bytes p.templates.templates n))) (not_lt most_quotas (length p.objects.quotas + count) few)
-      ∙ ap (both_tests false) (not_lt room (count * derived_bytes p.templates.templates n) h)

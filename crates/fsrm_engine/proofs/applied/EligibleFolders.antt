@@ -3,7 +3,7 @@ use Rattle.std.proofs.Common.{◌≡◌, ℕ, zero, suc, ◌+◌, ◌<◌, ◌�
 use Rattle.std.specs.Prelude.{filter, map}
 use Rattle.std.specs.List.{AllByRecursion, list_all}
 use Rattle.std.specs.List.Sorted.{IsNonDecreasing}
-use Rattle.std.proofs.lemmas.List.{append-nil, length-map, take_more}
+use Rattle.std.proofs.lemmas.List.{length-map, take_more}
 use Rattle.std.proofs.lemmas.List.Sorted.{IsPermutation-map}
 use Rattle.fsrm_base.specs.Keyed.{has_row, is_ascending}
 use Rattle.fsrm_base.specs.Numbers.{itself, is_set}
@@ -62,11 +62,6 @@ module _ (test : ℕ → Bool) (numbers old folders : List ℕ) (place child : �
       ap (λ ns. ns ++ child ∷ []) was
       ∙ (append_assoc old (filter test (take place numbers)) (child ∷ [])
       ∙ ap (λ ns. old ++ ns) (ap (λ b. filter test (take place numbers) ++ cond b (child ∷ []) []) (sym h) ∙ both_are))
-
-  pub one_fails : test child ≡ false → folders ≡ old ++ filter test (take (place + 1) numbers)
-  one_fails h =
-      was
-      ∙ ap (λ ns. old ++ ns) (sym (append-nil (filter test (take place numbers))) ∙ (ap (λ b. filter test (take place numbers) ++ cond b (child ∷ []) []) (sym h) ∙ both_are))
 
 -- the numbers of those that are folders
 folders_first : (nodes rows : List NodeRow) → AllByRecursion (λ (r : NodeRow). is_folder nodes r.number ≡ r.folder) rows → map number (filter (λ (node : NodeRow). node.folder) rows) ≡ filter (is_folder nodes) (map number rows)

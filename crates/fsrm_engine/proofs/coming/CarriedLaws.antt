@@ -6,7 +6,6 @@ use Rattle.fsrm_base.specs.Keyed.{has_row, row_of, with_row}
 use Rattle.fsrm_base.proofs.Look.{found_has, row_of-new_other}
 use Rattle.fsrm_base.proofs.EditedRows.{find-with_row_same}
 use Rattle.fsrm_base.proofs.TestLaws.{clash, eq_is, eq_same, lt_test, or_later, same_tests}
-use Rattle.fsrm_model.specs.declared.command.Answer.{Answer}
 use Rattle.fsrm_model.specs.declared.command.Deed.TheVariants.{File}
 use Rattle.fsrm_model.specs.declared.command.FileOp.{FileOp}
 use Rattle.fsrm_model.specs.declared.command.FileOp.TheVariants.{Move}
@@ -29,34 +28,27 @@ use Rattle.quota_usage.specs.declared.change.Change.{Change}
 use Rattle.rescan.specs.Courses.{Course, Goes, Turns, left}
 use Rattle.file_screens.specs.declared.answer.Blocked.{Blocked}
 use Rattle.file_screens.specs.Blocked.{told}
+use Rattle.file_screens.specs.Way.{is_active}
 use Rattle.volume_tree.specs.Volume.{Volume, with_place}
 use Rattle.fsrm_engine.specs.declared.moves.Moving.{Moving}
 use Rattle.fsrm_engine.specs.declared.parts.Parts.{Parts}
 use Rattle.fsrm_engine.specs.Faults.{exceeded_refusal}
-use Rattle.fsrm_engine.specs.Machine.{AreCounted, Does, IsIdle, IsSound, IsWhole, recounted, rows_of}
+use Rattle.fsrm_engine.specs.Machine.{AreCounted, IsIdle, IsSound, IsWhole, recounted, rows_of}
 use Rattle.fsrm_engine.specs.Moves.{AreMoved, IsMove, IsSourceOfMove, MayMove, change_of, judged_move}
-use Rattle.fsrm_engine.specs.Places.{IsMoved}
-use Rattle.fsrm_engine.specs.Reporting.{is_active}
-use Rattle.fsrm_engine.specs.Arrivals.{Receives, from_source, queue_given, quotas_given, roomed, source_fault}
+use Rattle.fsrm_engine.specs.Arrivals.{Receives, from_source, queue_given, quotas_given, source_fault}
 use Rattle.fsrm_engine.proofs.coming.MovedQuota.{coming_moved, folders_moved, given_head, moved_left}
 use Rattle.fsrm_engine.proofs.coming.SourceLaws.{given_full, moved_known, not_queued}
 use Rattle.fsrm_engine.proofs.judging.NameLaws.{IsJudged, moved_judged, unblocked}
-use Rattle.fsrm_engine.proofs.operations.ChangeLaws.{MovesTo}
+use Rattle.fsrm_engine.proofs.operations.ChangeLaws.{IsMoved, MovesTo}
 use Rattle.fsrm_engine.proofs.operations.FollowLaws.{effect_as, move_next, move_nodes}
 use Rattle.fsrm_engine.proofs.operations.MoveKept.{moves_to, ready_apart}
 use Rattle.fsrm_engine.proofs.operations.MoveLaws.{move_due}
 use Rattle.fsrm_engine.proofs.operations.NewLaws.{none_by, room_after}
 use Rattle.fsrm_engine.proofs.steps.PlaceLaws.{has_resolved}
 use Rattle.std.proofs.Common.{◌++◌, ◌+◌, not, ◌&&◌, suc}
-use Rattle.std.specs.Prelude.{flat_map, Result, Ok, Err, IfOk}
-use Rattle.std.proofs.lemmas.Option.{same_Some}
-use Rattle.fsrm_base.specs.declared.memory.NoMemory.{NoMemory as Wanting}
-use Rattle.fsrm_model.specs.declared.command.Deed.{Deed}
-use Rattle.fsrm_model.specs.Text.{is_bare}
+use Rattle.std.specs.Prelude.{flat_map}
 use Rattle.volume_tree.specs.Volume.{Move as ReadyMove}
-use Rattle.fsrm_engine.specs.Faults.{refused_answer}
 use Rattle.fsrm_engine.proofs.operations.FollowLaws.{made_ready, volume_is}
-use Rattle.fsrm_engine.proofs.steps.StepLaws.{refused_as}
 use Rattle.fsrm_model.specs.declared.row.Capacity.{Capacity}
 use Rattle.fsrm_model.specs.declared.row.QuotaState.{QuotaState}
 use Rattle.fsrm_model.specs.declared.row.ScreenRow.{ScreenRow}
@@ -169,9 +161,9 @@ module _ (p : Parts) (w : IsWhole p) (m : ℕ) (from to : List (List ℕ)) (v : 
           given_head p.scans.queue x given on_it (not_queued p w x (moved_known p x v.folder d name source source_is.is (ap is_some e)).absent) other
 
   -- the rows are those that the move makes
-  pub moved_made : (o : Parts) (r t : Course) (tree : Volume) → tree ≡ with_place p.tree x d name → IsVolume tree.size tree.nodes → Turns p.scans r p.tree → r.queue ≡ queue_given p.scans.queue given → Goes r t tree (λ scanned. unvisited_moved p.tree.nodes (with_place p.tree x d name).nodes scanned x d (left p.tree.nodes r)) →
-      followed R (asked p m (File op)).effect ≡ rows_of (record (recounted (record (roomed p o) { scans = r }) (quotas_given p.objects.quotas given)) { tree = tree; scans = t })
-  moved_made o r t tree made kept turns queue goes =
+  pub moved_made : (r t : Course) (tree : Volume) → tree ≡ with_place p.tree x d name → IsVolume tree.size tree.nodes → Turns p.scans r p.tree → r.queue ≡ queue_given p.scans.queue given → Goes r t tree (λ scanned. unvisited_moved p.tree.nodes (with_place p.tree x d name).nodes scanned x d (left p.tree.nodes r)) →
+      followed R (asked p m (File op)).effect ≡ rows_of (record (recounted (record p { scans = r }) (quotas_given p.objects.quotas given)) { tree = tree; scans = t })
+  moved_made r t tree made kept turns queue goes =
       subst (λ (u : Volume). IsVolume u.size u.nodes → Goes r t u next → followed R (asked p m (File op)).effect ≡ rows_of (mid u)) (sym made) explicit kept goes
     where
       new : Volume
@@ -184,7 +176,7 @@ module _ (p : Parts) (w : IsWhole p) (m : ℕ) (from to : List (List ℕ)) (v : 
       quotas = quotas_given p.objects.quotas given
 
       mid : Volume → Parts
-      mid u = record (recounted (record (roomed p o) { scans = r }) quotas) { tree = u; scans = t }
+      mid u = record (recounted (record p { scans = r }) quotas) { tree = u; scans = t }
 
       nodes : plain R.nodes op m ≡ new.nodes
       nodes = move_nodes p.tree from to x d name m is.resolved is.at
@@ -321,7 +313,7 @@ given_reached p w x m f n (Some k) known kind absent =
         (subst (λ k. has_row folder_of k p.objects.quotas ≡ true) (eq_is f x e) (found_has folder_of f p.objects.quotas is.quota is.is_there)) (absent refl)))
     one false e = other (row_of-new_other folder_of row f p.objects.quotas e)
 
-module _ (p o : Parts) (w : IsWhole p) (idle : IsIdle p) (m : ℕ) (after : p.last_moment ≤ m) (late : m ≤ latest_moment) (from to : List (List ℕ)) (v : Moving) (source : Option ℕ) (judged : Option Blocked) (bytes : ℕ) (may : MayMove p from to v source judged bytes) (r t : Course) where
+module _ (p : Parts) (w : IsWhole p) (idle : IsIdle p) (m : ℕ) (after : p.last_moment ≤ m) (late : m ≤ latest_moment) (from to : List (List ℕ)) (v : Moving) (source : Option ℕ) (judged : Option Blocked) (bytes : ℕ) (may : MayMove p from to v source judged bytes) (r t : Course) where
   abbrev the_size : Capacity
   the_size = p.tree.size
 
@@ -344,7 +336,7 @@ module _ (p o : Parts) (w : IsWhole p) (idle : IsIdle p) (m : ℕ) (after : p.la
   the_quota = from_source p.templates.templates the_node (start the_nodes the_node) m source
 
   abbrev came : Parts
-  came = recounted (record (roomed p o) { scans = r }) (quotas_given p.objects.quotas the_quota)
+  came = recounted (record p { scans = r }) (quotas_given p.objects.quotas the_quota)
 
   is_kind : is_some source ≡ true → is_folder the_nodes the_node ≡ true
   is_kind h = may.is.kind ∙ (moved_known p the_node v.folder the_place the_name source may.source_is.is h).moves
@@ -388,7 +380,7 @@ module _ (p o : Parts) (w : IsWhole p) (idle : IsIdle p) (m : ℕ) (after : p.la
           judged_is = j.named;
           size = size;
           idle = record { numbers = idle.numbers; places = idle.places; crossing = idle.crossing };
-          made = moved_made p w m from to v may.is source may.source_is o r t tree made kept turns queue goes;
+          made = moved_made p w m from to v may.is source may.source_is r t tree made kept turns queue goes;
         };
         raised = done.raised_are;
         due = charged_due came tree t change m size e done.engine
@@ -406,7 +398,7 @@ pub carried : (p q : Parts) (w : IsWhole p) (idle : IsIdle p) (m : ℕ) (after :
 carried p q w idle m after late from to v source judged change may change_is t tree ready received sound ready_is follows makes kept =
     subst (IsCarried p q t tree m from to v judged) (sym change_is)
     (subst (λ (y : Parts). IsSound y → tree ≡ moved y → Goes q.scans t (moved y) (next y) → IsCarried p y t tree m from to v judged (change_of v change.minus)) (sym received.parts_are)
-    (λ sound made goes. carried_at p q w idle m after late from to v source judged change.minus may q.scans t tree sound received.turns received.queue_is
+    (λ sound made goes. carried_at p w idle m after late from to v source judged change.minus may q.scans t tree sound received.turns received.queue_is
     (subst (λ (u : Volume). Goes q.scans t u (next p)) (sym made) goes) made kept)
     sound own (follows v.place.name.now (volume_is tree (moved q) own kept)))
   where
@@ -418,10 +410,3 @@ carried p q w idle m after late from to v source judged change may change_is t t
 
     own : tree ≡ moved q
     own = made_ready q.tree tree ready v.node v.place.folder v.place.name.now ready_is makes
-
--- ---- a move that isn't made
-pub unmade_as : (p : Parts) (m : ℕ) (deed : Deed) (why : Option Refusal) (result : Result Answer Wanting) → IsIdle p → p.last_moment ≤ m → IfSome why (λ refusal. (m : ℕ) → due p m deed ≡ Some refusal) → IfSome why (λ refusal. is_bare refusal ≡ true) → IfOk result (λ answer. option_map refused_answer why ≡ Some answer) → IfOk result (λ answer. Does p p m deed answer)
-unmade_as p m deed why (Err e) idle after h bare given = tt
-unmade_as p m deed None (Ok answer) idle after h bare given = absurd (cc given)
-unmade_as p m deed (Some refusal) (Ok answer) idle after h bare given =
-    refused_as p m deed answer refusal idle after (h m) bare (sym (same_Some (refused_answer refusal) answer given))

@@ -19,10 +19,11 @@ use Rattle.fsrm_model.specs.Work.{Judged}
 use Rattle.rescan.specs.Courses.{Scanning}
 use Rattle.file_screens.specs.declared.answer.Blocked.{Blocked}
 use Rattle.file_screens.specs.Blocked.{told}
+use Rattle.file_screens.specs.Way.{is_active}
 use Rattle.fsrm_engine.specs.declared.parts.Parts.{Parts}
 use Rattle.fsrm_engine.specs.Machine.{AreCounted, Does, IsIdle, IsSound, rows_of}
 use Rattle.fsrm_engine.specs.Places.{IsPlace}
-use Rattle.fsrm_engine.specs.Reporting.{is_active, name_under, screen_told}
+use Rattle.fsrm_engine.specs.Reporting.{name_under, screen_told}
 use Rattle.fsrm_engine.specs.Screening.{Blocks, judged_screen}
 use Rattle.fsrm_engine.proofs.judging.BlockLaws.{blocked_sound, blocked_with}
 use Rattle.fsrm_engine.proofs.judging.JudgedLaws.{told_is, told_of, told_one, told_there}

@@ -28,7 +28,6 @@ use Rattle.fsrm_model.proofs.nodes.Climbs.{shorter, under_up, under_own}
 use Rattle.fsrm_base.proofs.TestLaws.{eq_is, eq_same, is_or_not, clash, not_true}
 use Rattle.quota_usage.specs.declared.change.Change.{Change}
 use Rattle.quota_usage.specs.Charge.{is_above, charged}
-use Rattle.fsrm_engine.specs.Places.{IsMoved}
 use Rattle.fsrm_base.proofs.Sums.{sum_by_most}
 
 -- what a change of nodes makes of the usage of the quotas' folders, and of the ways up from the folders of the change
@@ -189,6 +188,11 @@ moved_held K nodes x f t inner hx hf on =
     let apart : is_under nodes x f ≡ false = not_true _ (λ below. clash _ (above_all nodes t x f (parent_of nodes x) inner hf (t.closed x hx) on below) (not_above nodes t x hx inner)) in
     let other : (x ≡ f → ⊥) = λ s. clash (is_under nodes x f) (subst (λ j. is_under nodes x j ≡ true) s (under_own nodes x)) apart in
     usage-above K nodes t f x hx (under_up nodes t f x hx (not_zero x inner) other ∙ on)
+
+-- the bytes that move with a node; if there is no quota, they may be any number up to that
+pub record IsMoved (K : Capacity) (nodes : List NodeRow) (quotas : List QuotaRow) (n bytes : ℕ) : Type 0 where
+  pub few : bytes ≤ usage K nodes n
+  pub all : (folder : ℕ) (quota : QuotaRow) → row_of folder_of folder quotas ≡ Some quota → bytes ≡ usage K nodes n
 
 -- a node moves
 pub changes_moved : (K : Capacity) (nodes : List NodeRow) (quotas : List QuotaRow) (x d : ℕ) (name : List ℕ) (bytes : ℕ) → IsVolume K nodes → AreQuotas nodes quotas → MovesTo nodes x d → IsMoved K nodes quotas x bytes →

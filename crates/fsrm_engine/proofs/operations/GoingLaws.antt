@@ -1,6 +1,6 @@
 -- A removal that can't be refused, and what that of a folder leaves to the scans.
 use Rattle.std.proofs.Common.{◌≡◌, ℕ, ◌==◌, ◌≤◌, Bool, true, false, not, ◌&&◌, List, [], ◌∷◌, length, Option, Some, None, ◌<◌, arith, refl, ap, sym, ◌∙◌}
-use Rattle.std.specs.Prelude.{Result, Ok, Err, IfErr, IsErrOf, if◌then◌else◌}
+use Rattle.std.specs.Prelude.{Result, Ok, Err, IfErr, if◌then◌else◌}
 use Rattle.std.specs.Result.{IsOk}
 use Rattle.std.specs.Option.{option_map_or}
 use Rattle.fsrm_base.specs.Causes.{◌when◌}
@@ -32,8 +32,8 @@ use Rattle.rescan.proofs.queued.Following.{absent_apart}
 use Rattle.rescan.proofs.queued.Queues.{first_in}
 use Rattle.rescan.specs.Courses.{Course, Scanning, Goes, Turns, left}
 use Rattle.volume_tree.specs.declared.answer.TreeFault.{TreeFault}
-use Rattle.volume_tree.specs.declared.answer.TreeFault.TheVariants.{AlreadyExists, InvalidMove, NotEmpty, VolumeFull, NamesFull, NoMemory}
-use Rattle.volume_tree.specs.Volume.{Volume, IsFault, remove_fault, without_node}
+use Rattle.volume_tree.specs.declared.answer.TreeFault.TheVariants.{NotEmpty}
+use Rattle.volume_tree.specs.Volume.{Volume, remove_fault, without_node}
 use Rattle.fsrm_engine.specs.declared.parts.Parts.{Parts}
 use Rattle.fsrm_engine.specs.Machine.{IsIdle, rows_of}
 use Rattle.fsrm_engine.proofs.operations.FollowLaws.{remove_queue, volume_is, effect_as}
@@ -44,14 +44,9 @@ use Rattle.fsrm_engine.proofs.steps.StepLaws.{Accepts, Keeps, asked, due, follow
 pub no_fault : (v : Volume) (n : ℕ) → length (children v.nodes n) ≡ 0 → remove_fault v n ≡ None
 no_fault v n h = ap (λ k. (NotEmpty when (not (k == 0)))) h
 
-pub goes_well : (v : Volume) (n : ℕ) (r : Result (Unit {0}) TreeFault) → remove_fault v n ≡ None → IfErr r (λ fault. IsFault fault (remove_fault v n)) → (IsErrOf r NoMemory → ⊥) → IsOk r
-goes_well v n (Ok u) none refused only = refl
-goes_well v n (Err NoMemory) none refused only = absurd (only refl)
-goes_well v n (Err AlreadyExists) none refused only = let e = sym none ∙ refused in absurd (cc e)
-goes_well v n (Err InvalidMove) none refused only = let e = sym none ∙ refused in absurd (cc e)
-goes_well v n (Err NotEmpty) none refused only = let e = sym none ∙ refused in absurd (cc e)
-goes_well v n (Err VolumeFull) none refused only = let e = sym none ∙ refused in absurd (cc e)
-goes_well v n (Err NamesFull) none refused only = let e = sym none ∙ refused in absurd (cc e)
+pub goes_well : (v : Volume) (n : ℕ) (r : Result (Unit {0}) TreeFault) → remove_fault v n ≡ None → IfErr r (λ fault. remove_fault v n ≡ Some fault) → IsOk r
+goes_well v n (Ok u) none refused = refl
+goes_well v n (Err fault) none refused = let e = sym none ∙ refused in absurd (cc e)
 
 -- it isn't in the queue that it has left
 pub left_queue : (n : ℕ) (old new : List ℕ) → new ≡ without_number n old → is_in new n ≡ false

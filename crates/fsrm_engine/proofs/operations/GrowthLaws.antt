@@ -129,10 +129,6 @@ resize_due p m path view bytes k f =
 pub by_quotas : (p : Parts) (new : List NodeRow) (change : Change) (o : Option Refusal) → AreCounted p → Changes p.tree.size p.tree.nodes new p.objects.quotas change → quota_refusal p change ≡ o → exceeded p.tree.size (rows_of p) new ≡ o
 by_quotas p new change o e c h = exceeded_is p.tree.size (rows_of p) new change p.usage e.sums e.are_quotas c ∙ h
 
--- where the tree has nothing against it, they decide
-pub due_next : (o : Option TreeFault) (more refusal : Option Refusal) → o ≡ None → more ≡ refusal → tree_first o more ≡ refusal
-due_next o more refusal h is = ap (λ o. tree_first o more) h ∙ is
-
 -- the folders of quotas stay folders
 pub resized_folder : (nodes : List NodeRow) (x bytes m f : ℕ) → is_folder nodes f ≡ true → is_folder (with_change number x (resized bytes m) nodes) f ≡ true
 resized_folder nodes x bytes m f h = folder-change nodes x f (resized bytes m) (λ r. refl) (λ r. refl) ∙ h

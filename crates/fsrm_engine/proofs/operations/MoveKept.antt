@@ -25,9 +25,8 @@ use Rattle.volume_tree.specs.declared.answer.TreeFault.{TreeFault}
 use Rattle.volume_tree.specs.declared.answer.TreeFault.TheVariants as fault
 use Rattle.fsrm_engine.specs.Machine.{IsCounted}
 use Rattle.fsrm_engine.specs.Peaks.{raised_above}
-use Rattle.fsrm_engine.specs.Places.{IsMoved}
 use Rattle.fsrm_engine.proofs.steps.PlaceLaws.{leads_to_folder_is, target_is}
-use Rattle.fsrm_engine.proofs.operations.ChangeLaws.{Changes, MovesTo, changes_moved, moved_chain_to, moved_chain_from, not_zero}
+use Rattle.fsrm_engine.proofs.operations.ChangeLaws.{Changes, IsMoved, MovesTo, changes_moved, moved_chain_to, moved_chain_from, not_zero}
 use Rattle.fsrm_engine.proofs.operations.FitLaws.{fits_moved, fits_new}
 use Rattle.fsrm_engine.proofs.operations.GrowthLaws.{ChargedTo, charged_at, placed_folder}
 

@@ -1,7 +1,7 @@
 -- The refusals of a move are the faults of the tree.
-use Rattle.std.proofs.Common.{◌≡◌, ℕ, ◌+◌, ◌==◌, Bool, true, false, not, ◌&&◌, List, [], ◌∷◌, length, Option, Some, None, nat_lt, refl, ap, sym, ◌∙◌, subst, arith}
+use Rattle.std.proofs.Common.{◌≡◌, ℕ, ◌+◌, ◌==◌, Bool, true, false, not, ◌&&◌, List, [], ◌∷◌, length, Some, None, nat_lt, refl, ap, sym, ◌∙◌, subst, arith}
 use Rattle.std.proofs.lemmas.Bool.Decides.{nat_tests}
-use Rattle.std.specs.Prelude.{IfSome, unwrap_or}
+use Rattle.std.specs.Prelude.{unwrap_or}
 use Rattle.fsrm_model.specs.declared.command.Deed.TheVariants.{File}
 use Rattle.fsrm_model.specs.declared.command.FileOp.TheVariants.{Move}
 use Rattle.fsrm_model.specs.declared.command.Refusal.{Refusal}
@@ -21,13 +21,13 @@ use Rattle.fsrm_model.proofs.nodes.Files.{below_file}
 use Rattle.fsrm_model.proofs.nodes.Sizes.{name_bytes-placed}
 use Rattle.volume_tree.specs.declared.answer.TreeFault.{TreeFault}
 use Rattle.volume_tree.specs.declared.answer.TreeFault.TheVariants as fault
-use Rattle.volume_tree.specs.Volume.{IsFault, Volume, is_other, move_fault, with_place}
+use Rattle.volume_tree.specs.Volume.{Volume, is_other, move_fault, with_place}
 use Rattle.fsrm_engine.specs.declared.parts.Parts.{Parts}
 use Rattle.fsrm_engine.specs.Machine.{rows_of}
 use Rattle.fsrm_engine.specs.Faults.{refusal_of}
 use Rattle.fsrm_engine.specs.Places.{IsPlace, IsRefusedPlace}
 use Rattle.fsrm_engine.proofs.operations.NewLaws.{room_after, two_checks}
-use Rattle.fsrm_engine.proofs.steps.StepLaws.{due, fault_due, or_else, tree_first}
+use Rattle.fsrm_engine.proofs.steps.StepLaws.{due, or_else, tree_first}
 use Rattle.fsrm_engine.proofs.steps.PlaceLaws.{root_is, has_resolved, leads_is, target_is, leads_to_folder_is, place_leads, place_folder}
 
 -- the checks that the tree makes too
@@ -119,8 +119,8 @@ stray_due p m from to n PathNotFound k h inner at =
     third_move (leads p.tree.nodes from) (is_root from) (is_root to) (leads_to_folder p.tree.nodes (folder_part to)) _ (leads_is p.tree.nodes from n h) (root_is p.tree.size p.tree.nodes from n k h ∙ inner) at.0 at.1
 stray_due p m from to n other k h inner at = absurd at
 
--- a move that the tree refuses, if it wasn't for want of memory
-pub move_faulty : (p : Parts) (from to : List (List ℕ)) (n d : ℕ) (name : List ℕ) (told : TreeFault) (why : Option Refusal) → IsVolume p.tree.size p.tree.nodes → resolve p.tree.nodes from ≡ Some n → (n == 0) ≡ false → IsPlace p.tree.nodes to d name → IsFault told (move_fault p.tree n d name) → why ≡ refusal_of told → IfSome why (λ refusal. (m : ℕ) → due p m (File (Move from to)) ≡ Some refusal)
-move_faulty p from to n d name told None k h inner place is e = tt
-move_faulty p from to n d name told (Some refusal) k h inner place is e = λ m.
-    move_due p m from to n d name k h inner place ∙ fault_due told (move_fault p.tree n d name) _ refusal is (sym e)
+-- a move that the tree refuses
+pub move_faulty : (p : Parts) (m : ℕ) (from to : List (List ℕ)) (n d : ℕ) (name : List ℕ) (told : TreeFault) → IsVolume p.tree.size p.tree.nodes → resolve p.tree.nodes from ≡ Some n → (n == 0) ≡ false → IsPlace p.tree.nodes to d name → move_fault p.tree n d name ≡ Some told → due p m (File (Move from to)) ≡ Some (refusal_of told)
+move_faulty p m from to n d name told k h inner place is =
+    move_due p m from to n d name k h inner place
+    ∙ ap (λ o. tree_first o (or_else (room_after p m (Move from to)) (or_else (blocked (judged_name (rows_of p) (Move from to))) (exceeded p.tree.size (rows_of p) (with_place p.tree n d name).nodes)))) is

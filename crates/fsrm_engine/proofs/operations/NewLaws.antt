@@ -2,8 +2,8 @@
 use Rattle.std.proofs.Common.{◌≡◌, ℕ, suc, ◌+◌, Bool, true, false, not, List, [], ◌∷◌, length, Option, Some, None, nat_lt, refl, ap, sym, ◌∙◌, arith}
 use Rattle.std.proofs.lemmas.Bool.Decides.{nat_tests}
 use Rattle.std.proofs.lemmas.Option.{same_Some}
-use Rattle.std.specs.Prelude.{is_some, nat_le, unwrap_or}
-use Rattle.std.specs.Option.{option_and_then, option_map_or}
+use Rattle.std.specs.Prelude.{is_some, nat_le, option_map, unwrap_or}
+use Rattle.std.specs.Option.{option_map_or}
 use Rattle.fsrm_model.specs.declared.command.Deed.TheVariants.{File}
 use Rattle.fsrm_model.specs.declared.command.FileOp.{FileOp}
 use Rattle.fsrm_model.specs.declared.command.FileOp.TheVariants.{Mkdir, Create}
@@ -70,40 +70,30 @@ stray_new v path PathNotFound h = stray_folder (is_root path) (leads_to_folder v
 stray_new v path other h = absurd h
 
 -- or else it is the tree's fault
-in_folder : (v : Volume) (path : List (List ℕ)) (d : ℕ) → is_root path ≡ false → leads_to_folder v.nodes (folder_part path) ≡ true → resolve v.nodes (folder_part path) ≡ Some d → new_refusal v path ≡ option_and_then refusal_of (new_fault v d (last_name path))
+in_folder : (v : Volume) (path : List (List ℕ)) (d : ℕ) → is_root path ≡ false → leads_to_folder v.nodes (folder_part path) ≡ true → resolve v.nodes (folder_part path) ≡ Some d → new_refusal v path ≡ option_map refusal_of (new_fault v d (last_name path))
 in_folder v path d inner folder at =
-    tree_last (is_root path) (leads_to_folder v.nodes (folder_part path)) (option_and_then refusal_of (new_fault v (target_folder v.nodes path) (last_name path))) inner folder
-    ∙ ap (λ n. option_and_then refusal_of (new_fault v n (last_name path))) (target_is v.nodes (folder_part path) d at)
+    tree_last (is_root path) (leads_to_folder v.nodes (folder_part path)) (option_map refusal_of (new_fault v (target_folder v.nodes path) (last_name path))) inner folder
+    ∙ ap (λ n. option_map refusal_of (new_fault v n (last_name path))) (target_is v.nodes (folder_part path) d at)
 
-at_place : (v : Volume) (path : List (List ℕ)) (d : ℕ) (name : List ℕ) → IsPlace v.nodes path d name → new_refusal v path ≡ option_and_then refusal_of (new_fault v d name)
+at_place : (v : Volume) (path : List (List ℕ)) (d : ℕ) (name : List ℕ) → IsPlace v.nodes path d name → new_refusal v path ≡ option_map refusal_of (new_fault v d name)
 at_place v path d name p =
-    in_folder v path d p.inner (place_folder v.nodes path d name p) p.resolved ∙ ap (λ t. option_and_then refusal_of (new_fault v d t)) p.name_is
+    in_folder v path d p.inner (place_folder v.nodes path d name p) p.resolved ∙ ap (λ t. option_map refusal_of (new_fault v d t)) p.name_is
 
-pub faulty_new : (v : Volume) (path : List (List ℕ)) (d : ℕ) (name : List ℕ) (fault : TreeFault) (refusal : Refusal) → IsPlace v.nodes path d name → new_fault v d name ≡ Some fault → refusal_of fault ≡ Some refusal → new_refusal v path ≡ Some refusal
-faulty_new v path d name fault refusal p h r = at_place v path d name p ∙ (ap (option_and_then refusal_of) h ∙ r)
+pub faulty_new : (v : Volume) (path : List (List ℕ)) (d : ℕ) (name : List ℕ) (fault : TreeFault) → IsPlace v.nodes path d name → new_fault v d name ≡ Some fault → new_refusal v path ≡ Some (refusal_of fault)
+faulty_new v path d name fault p h = at_place v path d name p ∙ ap (option_map refusal_of) h
 
 vacant_new : (v : Volume) (path : List (List ℕ)) (d : ℕ) (name : List ℕ) → IsVacant v path d name → new_refusal v path ≡ None
-vacant_new v path d name free = at_place v path d name free.at ∙ ap (option_and_then refusal_of) free.may
-
--- which is no lack of memory
-pub fault_told : (v : Volume) (d : ℕ) (name : List ℕ) (told : TreeFault) → new_fault v d name ≡ Some told → is_some (refusal_of told) ≡ true
-fault_told v d name told h = at (is_some (child_number v.nodes d name)) (nat_le v.size.nodes (length v.nodes)) (nat_lt v.size.names (name_bytes v.nodes + length name)) h
-  where
-    at : (taken full long : Bool) → first ((fault.AlreadyExists when taken) ∷ (fault.VolumeFull when full) ∷ (fault.NamesFull when long) ∷ []) ≡ Some told → is_some (refusal_of told) ≡ true
-    at true full long h = ap (λ o. is_some (option_and_then refusal_of o)) (sym h)
-    at false true long h = ap (λ o. is_some (option_and_then refusal_of o)) (sym h)
-    at false false true h = ap (λ o. is_some (option_and_then refusal_of o)) (sym h)
-    at false false false h = cc h
+vacant_new v path d name free = at_place v path d name free.at ∙ ap (option_map refusal_of) free.may
 
 -- none of these is by a screen or a quota
 pub new_bare : (v : Volume) (path : List (List ℕ)) (refusal : Refusal) → new_refusal v path ≡ Some refusal → is_bare refusal ≡ true
 new_bare v path refusal h = at (is_root path) (leads_to_folder v.nodes (folder_part path)) (new_fault v (target_folder v.nodes path) (last_name path)) h
   where
-    at : (root folder : Bool) (o : Option TreeFault) → first ((AlreadyExists when root) ∷ (PathNotFound when not folder) ∷ option_and_then refusal_of o ∷ []) ≡ Some refusal → is_bare refusal ≡ true
+    at : (root folder : Bool) (o : Option TreeFault) → first ((AlreadyExists when root) ∷ (PathNotFound when not folder) ∷ option_map refusal_of o ∷ []) ≡ Some refusal → is_bare refusal ≡ true
     at true folder o h = sym (ap is_bare (same_Some _ refusal h))
     at false false o h = sym (ap is_bare (same_Some _ refusal h))
     at false true None h = cc h
-    at false true (Some fault) h = tree_bare fault refusal (sym (last_check (refusal_of fault)) ∙ h)
+    at false true (Some fault) h = sym (ap is_bare (same_Some (refusal_of fault) refusal h)) ∙ tree_bare fault
 
 -- these come first
 checks_are : (K : Capacity) (nodes new : List NodeRow) (path : List (List ℕ)) (more : List Check) → IsVolume K nodes → length new ≡ suc (length nodes) → name_bytes new ≡ name_bytes nodes + length (last_name path) →
@@ -120,7 +110,7 @@ checks_are K nodes new path more k longer bytes = by_root (is_root path) refl
     all = (AlreadyExists when is_root path) ∷ (PathNotFound when not (leads_to_folder nodes (folder_part path))) ∷ rest
 
     fault_in : ℕ → Option Refusal
-    fault_in d = option_and_then refusal_of (new_fault v d (last_name path))
+    fault_in d = option_map refusal_of (new_fault v d (last_name path))
 
     by_place : is_root path ≡ false → (o : Option ℕ) → resolve nodes (folder_part path) ≡ o → (b : Bool) → leads_to_folder nodes (folder_part path) ≡ b → option_map_or (is_folder nodes) o false ≡ b → first all ≡ or_else (new_refusal v path) (first more)
     by_place inner o e false f g = folder_first (is_root path) (leads_to_folder nodes (folder_part path)) (fault_in (target_folder nodes path)) (first more) rest inner f
@@ -154,12 +144,6 @@ some_by by over refusal is = ap (λ o. or_else o over) is
 
 pub none_by : (by over : Option Refusal) → by ≡ None → or_else by over ≡ over
 none_by by over none = ap (λ o. or_else o over) none
-
-pub by_screen : (fault : Option TreeFault) (by over : Option Refusal) (refusal : Refusal) → fault ≡ None → by ≡ Some refusal → tree_first fault (or_else by over) ≡ Some refusal
-by_screen fault by over refusal may is = ap (λ o. tree_first o (or_else by over)) may ∙ some_by by over refusal is
-
-pub by_no_screen : (fault : Option TreeFault) (by over : Option Refusal) → fault ≡ None → by ≡ None → tree_first fault (or_else by over) ≡ over
-by_no_screen fault by over may none = ap (λ o. tree_first o (or_else by over)) may ∙ none_by by over none
 
 -- ---- the refusal that is due
 -- what there is no room for, of the quotas and texts that an operation would leave

@@ -1,10 +1,9 @@
 -- What an engine's parts do is the plain machine's step.
-use Rattle.std.proofs.Common.{◌≡◌, ℕ, ◌≤◌, Bool, true, false, List, [], ◌∷◌, length, Option, Some, None, Result, Ok, Err, nat_lt, refl, ap, sym, ◌∙◌, subst, arith}
+use Rattle.std.proofs.Common.{◌≡◌, ℕ, ◌≤◌, Bool, true, false, List, [], ◌∷◌, length, Option, Some, None, nat_lt, refl, ap, sym, ◌∙◌, subst, arith}
 use Rattle.std.proofs.lemmas.Bool.Decides.{nat_tests}
 use Rattle.std.proofs.lemmas.Option.{same_Some}
-use Rattle.std.specs.Prelude.{option_map, map, IfOk, if◌then◌else◌}
+use Rattle.std.specs.Prelude.{option_map, map, if◌then◌else◌}
 use Rattle.std.specs.List.{AllByRecursion}
-use Rattle.std.specs.Option.{option_and_then}
 use Rattle.fsrm_model.specs.declared.command.Act.{Act}
 use Rattle.fsrm_model.specs.declared.command.Answer.{Answer}
 use Rattle.fsrm_model.specs.declared.command.Command.{Command}
@@ -12,7 +11,6 @@ use Rattle.fsrm_model.specs.declared.command.Deed.{Deed}
 use Rattle.fsrm_model.specs.declared.command.Outcome.TheVariants.{Refused}
 use Rattle.fsrm_model.specs.declared.command.Refusal.{Refusal}
 use Rattle.fsrm_model.specs.declared.command.Refusal.TheVariants.{ClockBack, QuotaExceeded, ScreenBlocked}
-use Rattle.fsrm_base.specs.declared.memory.NoMemory.{NoMemory as Wanting}
 use Rattle.fsrm_model.specs.declared.row.ActRow.{ActRow}
 use Rattle.fsrm_model.specs.declared.row.AuditRow.{AuditRow}
 use Rattle.fsrm_model.specs.declared.row.Capacity.{Capacity}
@@ -41,11 +39,11 @@ use Rattle.quota_usage.specs.declared.change.Counter.{Counter}
 use Rattle.templates.specs.Held.{Held}
 use Rattle.thresholds.specs.Marked.{Marked}
 use Rattle.volume_tree.specs.declared.answer.TreeFault.{TreeFault}
-use Rattle.volume_tree.specs.declared.answer.TreeFault.TheVariants.{AlreadyExists, InvalidMove, NotEmpty, VolumeFull, NamesFull, NoMemory}
-use Rattle.volume_tree.specs.Volume.{Volume, IsFault}
+use Rattle.volume_tree.specs.declared.answer.TreeFault.TheVariants.{AlreadyExists, InvalidMove, NotEmpty, VolumeFull, NamesFull}
+use Rattle.volume_tree.specs.Volume.{Volume}
 use Rattle.fsrm_engine.specs.declared.parts.Parts.{Parts}
 use Rattle.fsrm_engine.specs.Due.{LeavesActs, Refuses, refused_acts}
-use Rattle.fsrm_engine.specs.Faults.{refusal_of, refused_answer, answer_of, exceeded_refusal}
+use Rattle.fsrm_engine.specs.Faults.{refusal_of, refused_answer, exceeded_refusal}
 use Rattle.fsrm_engine.specs.Machine.{AreMarked, Does, IsIdle, Ran, rows_of, step_of, ended}
 use Rattle.fsrm_engine.proofs.settling.EndLaws.{due_made, due_of, ended_rows, left_rows, unran}
 use Rattle.fsrm_engine.proofs.settling.MarkLaws.{idle_marked, marked_ended}
@@ -270,42 +268,17 @@ or_else None more = more
 or_else (Some refusal) more = Some refusal
 
 abbrev pub tree_first : Option TreeFault → Option Refusal → Option Refusal
-tree_first fault more = or_else (option_and_then refusal_of fault) more
+tree_first fault more = or_else (option_map refusal_of fault) more
 
 -- the one check that is left decides
 pub last_check : (o : Option Refusal) → first (o ∷ []) ≡ o
 last_check None = refl
 last_check (Some refusal) = refl
 
-pub fault_due : (fault : TreeFault) (o : Option TreeFault) (more : Option Refusal) (refusal : Refusal) → IsFault fault o → refusal_of fault ≡ Some refusal → tree_first o more ≡ Some refusal
-fault_due AlreadyExists o more refusal h r = ap (λ o. tree_first o more) h ∙ r
-fault_due InvalidMove o more refusal h r = ap (λ o. tree_first o more) h ∙ r
-fault_due NotEmpty o more refusal h r = ap (λ o. tree_first o more) h ∙ r
-fault_due VolumeFull o more refusal h r = ap (λ o. tree_first o more) h ∙ r
-fault_due NamesFull o more refusal h r = ap (λ o. tree_first o more) h ∙ r
-fault_due NoMemory o more refusal h r = cc
-
--- a fault that is due, and isn't for want of memory
-pub is_fault : (fault : TreeFault) (o : Option TreeFault) → o ≡ Some fault → IsFault fault o
-is_fault AlreadyExists o h = h
-is_fault InvalidMove o h = h
-is_fault NotEmpty o h = h
-is_fault VolumeFull o h = h
-is_fault NamesFull o h = h
-is_fault NoMemory o h = tt
-
 -- none of these is by a quota
-pub tree_bare : (fault : TreeFault) (refusal : Refusal) → refusal_of fault ≡ Some refusal → is_bare refusal ≡ true
-tree_bare AlreadyExists refusal h = sym (ap is_bare (same_Some _ refusal h))
-tree_bare InvalidMove refusal h = sym (ap is_bare (same_Some _ refusal h))
-tree_bare NotEmpty refusal h = sym (ap is_bare (same_Some _ refusal h))
-tree_bare VolumeFull refusal h = sym (ap is_bare (same_Some _ refusal h))
-tree_bare NamesFull refusal h = sym (ap is_bare (same_Some _ refusal h))
-tree_bare NoMemory refusal h = cc h
-
--- the answer to a command that the tree refused, if it wasn't for want of memory
-pub refused_by_as : (p : Parts) (m : ℕ) (deed : Deed) (fault : TreeFault) (fault_is : Option TreeFault) (more : Option Refusal) (result : Result Answer Wanting) → IsIdle p → p.last_moment ≤ m → due p m deed ≡ tree_first fault_is more → IsFault fault fault_is → IfOk result (λ answer. answer_of fault ≡ Some answer) → IfOk result (λ answer. Does p p m deed answer)
-refused_by_as p m deed fault fault_is more (Err e) idle after h is given = tt
-refused_by_as p m deed fault fault_is more (Ok answer) idle after h is given =
-    let t = told (refusal_of fault) answer given in
-    refused_as p m deed answer t.refusal idle after (h ∙ fault_due fault fault_is more t.refusal is t.is) (tree_bare fault t.refusal t.is) t.answer_is
+pub tree_bare : (fault : TreeFault) → is_bare (refusal_of fault) ≡ true
+tree_bare AlreadyExists = refl
+tree_bare InvalidMove = refl
+tree_bare NotEmpty = refl
+tree_bare VolumeFull = refl
+tree_bare NamesFull = refl

@@ -217,9 +217,6 @@ module _ (p : Parts) (m : ℕ) (path : List (List ℕ)) (active : Bool) (names :
       unexcepted : due p m deed ≡ first (later n)
       unexcepted = unscreened ∙ ap (λ b. first ((refusal.InvalidCombination when b) ∷ later n)) bare
 
-      pub screen_unnamed : are_named p.groups names ≡ false → due p m deed ≡ Some refusal.NotFound
-      screen_unnamed h = unexcepted ∙ ap (λ b. first ((refusal.NotFound when not b) ∷ late n)) h
-
       module _ (w : IsWhole p) (some : are_some_names names ≡ true) (named : are_named p.groups names ≡ true) (row : ScreenRow) (is : row ≡ row_at n) (room : ℕ) (room_is : room ≡ text_room p) where
         abbrev test : Bool → Bool → Option Refusal
         test d e = first ((refusal.OutOfRange when (are_many_groups groups || nat_lt most_actions (length actions))) ∷ (refusal.TableFull when d) ∷ (refusal.TextsFull when e) ∷ [])
@@ -292,14 +289,6 @@ module _ (p : Parts) (m : ℕ) (path : List (List ℕ)) (active : Option Bool) (
   own_change =
       on_folder (rows_of p) path old.folder (λ k. (refusal.NotFound when is_none (screen_of (rows_of p) k)) ∷ asked_of (groups_of (rows_of p) k)) at
       ∙ ap (λ o. first ((refusal.NotFound when is_none o) ∷ asked_of (option_map_or (λ (screen : ScreenRow). screen.groups) o []))) found
-
-  pub change_missing : (all_named && may_be_taken gone old.groups) ≡ false → due p m change ≡ Some refusal.NotFound
-  change_missing h = own_change ∙ by_case all_named (may_be_taken gone old.groups) h
-    where
-      by_case : (a b : Bool) → (a && b) ≡ false → first ((refusal.NotFound when not a) ∷ (refusal.NotFound when not b) ∷ sized (changed old.groups)) ≡ Some refusal.NotFound
-      by_case true true h = absurd (cc h)
-      by_case true false h = refl
-      by_case false b h = refl
 
   module _ (w : IsWhole p) (may : (all_named && may_be_taken gone old.groups) ≡ true) (row : ScreenRow) (is : row ≡ rescreened active (changed old.groups) old) (room : ℕ) where
     sound : IsScreen p.tree.nodes p.groups p.objects.excepts old
@@ -392,22 +381,13 @@ module _ (p : Parts) (m : ℕ) (path : List (List ℕ)) (names : List (List ℕ)
   own_except : due p m adding ≡ first ((refusal.AlreadyExists when is_some (except_of (rows_of p) n)) ∷ (refusal.InvalidCombination when is_some (screen_of (rows_of p) n)) ∷ named_last n)
   own_except = on_folder (rows_of p) path n (λ k. (refusal.AlreadyExists when is_some (except_of (rows_of p) k)) ∷ (refusal.InvalidCombination when is_some (screen_of (rows_of p) k)) ∷ named_last k) at
 
-  pub except_taken : is_some (except_of (rows_of p) n) ≡ true → due p m adding ≡ Some refusal.AlreadyExists
-  except_taken h = own_except ∙ ap (λ b. first ((refusal.AlreadyExists when b) ∷ (refusal.InvalidCombination when is_some (screen_of (rows_of p) n)) ∷ named_last n)) h
-
   module _ (free : is_some (except_of (rows_of p) n) ≡ false) where
     untaken : due p m adding ≡ first ((refusal.InvalidCombination when is_some (screen_of (rows_of p) n)) ∷ named_last n)
     untaken = own_except ∙ ap (λ b. first ((refusal.AlreadyExists when b) ∷ (refusal.InvalidCombination when is_some (screen_of (rows_of p) n)) ∷ named_last n)) free
 
-    pub except_screened : is_some (screen_of (rows_of p) n) ≡ true → due p m adding ≡ Some refusal.InvalidCombination
-    except_screened h = untaken ∙ ap (λ b. first ((refusal.InvalidCombination when b) ∷ named_last n)) h
-
     module _ (bare : is_some (screen_of (rows_of p) n) ≡ false) where
       unmet : due p m adding ≡ first (named_last n)
       unmet = untaken ∙ ap (λ b. first ((refusal.InvalidCombination when b) ∷ named_last n)) bare
-
-      pub except_unnamed : are_named p.groups names ≡ false → due p m adding ≡ Some refusal.NotFound
-      except_unnamed h = unmet ∙ ap (λ b. first ((refusal.NotFound when not b) ∷ last n)) h
 
       module _ (some : are_some_names names ≡ true) (named : are_named p.groups names ≡ true) (row : ExceptRow) (is : row ≡ except_at n) where
         grown : nat_lt most_excepts (length (excepted n).excepts) ≡ nat_le most_excepts (length p.objects.excepts)
@@ -445,9 +425,6 @@ module _ (p : Parts) (m : ℕ) (path : List (List ℕ)) (n : ℕ) (at : IsFolder
   except_due b h =
       on_folder (rows_of p) path n (λ k. (refusal.NotFound when is_none (except_of (rows_of p) k)) ∷ []) at
       ∙ ap (λ b. first ((refusal.NotFound when b) ∷ [])) h
-
-  pub except_missing : is_none (except_of (rows_of p) n) ≡ true → due p m (Exception (ExceptionDelete path)) ≡ Some refusal.NotFound
-  except_missing h = except_due true h
 
   pub except_deleted : (new : Parts) (tables : Tables) (answer : Answer) → IsWhole p → IsIdle p → p.last_moment ≤ m → is_none (except_of (rows_of p) n) ≡ false → tables ≡ without_except p.objects n → new ≡ ended (record p { objects = tables }) m → answer ≡ record { outcome = Done None; lasting = true } → Does p new m (Exception (ExceptionDelete path)) answer
   except_deleted new tables answer w idle after there_is made ends e =

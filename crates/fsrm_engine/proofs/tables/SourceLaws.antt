@@ -191,13 +191,6 @@ module _ (p : Parts) (m : ℕ) (path : List (List ℕ)) (limit : Option ℕ) (en
   on_path : due p m (Quota (QuotaAdd path limit enforce enabled name percents notices)) ≡ first (all (is_some (quota_of (rows_of p) n)) (is_missing (rows_of p) name) (made n))
   on_path = on_folder (rows_of p) path n (λ k. all (is_some (quota_of (rows_of p) k)) (is_missing (rows_of p) name) (made k)) at
 
-  pub add_taken : is_some (quota_of (rows_of p) n) ≡ true → due p m (Quota (QuotaAdd path limit enforce enabled name percents notices)) ≡ Some refusal.AlreadyExists
-  add_taken h = on_path ∙ ap (λ b. first (all b (is_missing (rows_of p) name) (made n))) h
-
-  pub add_missing : is_some (quota_of (rows_of p) n) ≡ false → is_missing (rows_of p) name ≡ true → due p m (Quota (QuotaAdd path limit enforce enabled name percents notices)) ≡ Some refusal.NotFound
-  add_missing free missing =
-      on_path ∙ (ap (λ b. first (all b (is_missing (rows_of p) name) (made n))) free ∙ ap (λ b. first (all false b (made n))) missing)
-
   pub add_due : (row : QuotaRow) → IsWhole p → is_missing (rows_of p) name ≡ false → row ≡ made n → due p m (Quota (QuotaAdd path limit enforce enabled name percents notices)) ≡ option_and_then table_refusal (quota_fault p.objects row (text_room p))
   add_due row w there is =
       on_path

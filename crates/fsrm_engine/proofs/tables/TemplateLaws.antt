@@ -174,12 +174,6 @@ module _ (p : Parts) (m : ℕ) (name : List ℕ) (limit : ℕ) (enforce : Bool) 
   abbrev long : Bool
   long = nat_lt most_text_bytes (object_texts (record (rows_of p) { templates = grown }))
 
-  pub add_named : is_some (template_named p.templates.templates name) ≡ true → due p m (Template (TemplateAdd name limit enforce percents notices)) ≡ Some refusal.DuplicateName
-  add_named h = ap (λ a. test a (are_too_many marks) full long) h
-
-  pub add_many : is_some (template_named p.templates.templates name) ≡ false → are_too_many marks ≡ true → due p m (Template (TemplateAdd name limit enforce percents notices)) ≡ Some refusal.OutOfRange
-  add_many free h = ap (λ a. test a (are_too_many marks) full long) free ∙ ap (λ b. test false b full long) h
-
   due_blank : are_too_many marks ≡ false → due p m (Template (TemplateAdd name limit enforce percents notices)) ≡ option_and_then template_refusal (template_fault p.templates (blank name limit enforce (changed_thresholds [] percents notices [])) (text_room p))
   due_blank few =
       let ts = p.templates.templates in

@@ -1,8 +1,10 @@
-use Rattle.std.proofs.Common.{refl, arith}
+use Rattle.std.proofs.Common.{◌≡◌, true, refl, subst, arith}
+use Rattle.std.specs.Prelude.{OnErr}
 use Rattle.fsrm_model.specs.declared.command.Command.{Command}
 use Rattle.fsrm_model.specs.declared.command.Deed.TheVariants.{File}
 use Rattle.fsrm_model.proofs.commands.EachCommand.{deed_acts}
-use Rattle.fsrm_engine.specs.Machine.{machine_of, rows_of}
+use Rattle.fsrm_engine.specs.Machine.{Machine, machine_of, rows_of}
+use Rattle.fsrm_engine.specs.Memory.{may_want_memory}
 use Rattle.fsrm_engine.proofs.steps.WholeLaws.{result_named, seen_cost, seen_err, seen_idle, seen_ok}
 use Rattle.fsrm_engine.proofs.engine.Engine.file_op.Goals as goal
 
@@ -23,6 +25,10 @@ returns-clause-named g c =
     result_named (machine_of p) (machine_of c.file_op.new.self) command c.file_op.result
     (seen_ok p c.file_op.new.self (machine_of p) command c.file_op.result refl c.file_op.ensures.ok c.file_op.ensures.whole.valid.quotas
     (deed_acts p.tree.size (rows_of p) c.args.moment (File c.args.op.now) c.self.invariant.valid c.requires.moment c.requires.valid)) c.self.invariant.valid
+
+pub returns-clause-memory : goal.returns-clause-memory
+returns-clause-memory g c =
+    subst (λ (seen : Machine). OnErr c.file_op.result (may_want_memory seen.rows c.args.op.now ≡ true)) c.self.view_is c.file_op.ensures.memory
 
 pub returns-clause-err : goal.returns-clause-err
 returns-clause-err g c = seen_err c.self.inside.parts c.file_op.new.self c.args.self.now c.file_op.result c.self.view_is c.file_op.ensures.err

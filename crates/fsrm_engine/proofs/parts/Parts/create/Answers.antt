@@ -8,7 +8,7 @@ use Rattle.std.specs.Prelude.{option_map}
 use Rattle.fsrm_engine.specs.Crossing.{IsCovered}
 use Rattle.fsrm_engine.specs.Faults.{exceeded_refusal}
 use Rattle.fsrm_engine.specs.declared.parts.Parts.{Parts}
-use Rattle.fsrm_engine.specs.Machine.{charged_parts, IsSound}
+use Rattle.fsrm_engine.specs.Machine.{charged_parts}
 use Rattle.fsrm_engine.specs.Reporting.{name_under, screen_told}
 use Rattle.fsrm_engine.proofs.judging.DoneLaws.{done_named, sound_named}
 use Rattle.fsrm_engine.proofs.judging.JudgedLaws.{few_at, few_told, told_one, told_there}
@@ -75,13 +75,13 @@ returns-in-Err-admit-clause-looks g c =
 
 pub end_named-requires-clause-change : goal.end_named-requires-clause-change
 end_named-requires-clause-change g c =
-    record { from = tt; to = there_made c.args.self.now.tree c.make_file.new.self c.in-Ok.found.0.folder c.in-Ok.found.0.name.now c.args.length c.args.owner c.args.moment c.requires.whole.sound.counted.volume c.in-Ok.ensures.ok.at.folder_is c.in_ok-node.ensures.made }
+    record { from = tt; to = there_made c.args.self.now.tree c.make_file-node.new.self c.in-Ok.found.0.folder c.in-Ok.found.0.name.now c.args.length c.args.owner c.args.moment c.requires.whole.sound.counted.volume c.in-Ok.ensures.ok.at.folder_is c.make_file-node.ensures.made }
 
 pub end_named-requires-clause-fits : goal.end_named-requires-clause-fits
 end_named-requires-clause-fits g c =
     let p = c.args.self.now in
     let e = c.requires.whole.sound.counted in
-    fits_plus p.tree.size p.tree.nodes c.make_file.new.self.nodes p.objects.quotas p.usage _ e.volume e.legal e.are_quotas e.sums c.allocated.ensures.small
+    fits_plus p.tree.size p.tree.nodes c.make_file-node.new.self.nodes p.objects.quotas p.usage _ e.volume e.legal e.are_quotas e.sums c.allocated.ensures.small
 
 pub end_named-requires-clause-quotas : goal.end_named-requires-clause-quotas
 end_named-requires-clause-quotas g c = let p = c.args.self.now in quotas_orderly p.tree.nodes p.objects.quotas c.requires.whole.sound.counted.are_quotas
@@ -91,7 +91,7 @@ end_named-requires-clause-covered g c =
     let p = c.args.self.now in
     let e = c.requires.whole.sound.counted in
     let change : Change = record { from = None; to = Some c.in-Ok.found.0.folder; minus = 0; plus = c.allocated.result } in
-    subst (λ (w : Volume). IsCovered w.nodes p.usage change) (sym c.in_ok-node.ensures.made)
+    subst (λ (w : Volume). IsCovered w.nodes p.usage change) (sym c.make_file-node.ensures.made)
     (covered_by p _ change e
     (make_changes p.tree.size p.tree.nodes p.objects.quotas c.in-Ok.found.0.folder c.in-Ok.found.0.name.now c.args.length c.args.owner c.args.moment c.allocated.result e.volume e.are_quotas c.in-Ok.ensures.ok.at.folder_is c.allocated.ensures.space)
     (λ from to given at other. absurd (cc given)))
@@ -105,8 +105,8 @@ end_named-requires-clause-log g c = few_log c.args.self.now c.requires.whole
 pub end_named-requires-clause-counted : goal.end_named-requires-clause-counted
 end_named-requires-clause-counted g c =
     let p = c.args.self.now in
-    (make_done p.tree c.make_file.new.self p.objects.quotas _ p.usage _ c.in-Ok.found.0.folder c.in-Ok.found.0.name.now c.args.length c.args.owner c.args.moment c.allocated.result
-    c.requires.whole.sound.counted c.in-Ok.ensures.ok.at.folder_is c.allocated.ensures.space c.in_ok-node.ensures.made c.in_ok-node.ensures.kept c.requires.moment refl refl).engine
+    (make_done p.tree c.make_file-node.new.self p.objects.quotas _ p.usage _ c.in-Ok.found.0.folder c.in-Ok.found.0.name.now c.args.length c.args.owner c.args.moment c.allocated.result
+    c.requires.whole.sound.counted c.in-Ok.ensures.ok.at.folder_is c.allocated.ensures.space c.make_file-node.ensures.made c.make_file-node.ensures.kept c.requires.moment refl refl).engine
 
 pub returns-clause-ok : goal.returns-clause-ok
 returns-clause-ok g c =
@@ -117,15 +117,15 @@ returns-clause-ok g c =
     let j = created_judged p c.args.path.now c.args.length c.args.owner d name judged c.in-Ok.ensures.ok.at c.judge-judged.ensures.judged in
     let e = c.requires.whole.sound.counted in
     let at = c.in-Ok.ensures.ok.at in
-    let w = c.make_file.new.self in
+    let w = c.make_file-node.new.self in
     let changes = make_changes p.tree.size p.tree.nodes p.objects.quotas d name c.args.length c.args.owner c.args.moment c.allocated.result e.volume e.are_quotas at.folder_is c.allocated.ensures.space in
-    let made = is_made p.tree w c.in_ok-node.node d name false c.args.length c.args.owner c.args.moment e.volume c.in_ok-node.ensures.made c.in_ok-node.ensures.number in
+    let made = is_made p.tree w c.make_file-node.result d name false c.args.length c.args.owner c.args.moment e.volume c.make_file-node.ensures.made c.make_file-node.ensures.number in
     let change : Change = record { from = None; to = Some d; minus = 0; plus = c.allocated.result } in
     let mid : Parts = record p { tree = w; scans = c.follow_create.new.self } in
     let charged = charged_parts mid change c.args.moment in
     let done = make_done p.tree w p.objects.quotas charged.objects.quotas p.usage charged.usage d name c.args.length c.args.owner c.args.moment c.allocated.result
-    e at.folder_is c.allocated.ensures.space c.in_ok-node.ensures.made c.in_ok-node.ensures.kept c.requires.moment refl refl in
-    let size = ap (λ (w : Volume). w.size) c.in_ok-node.ensures.made in
+    e at.folder_is c.allocated.ensures.space c.make_file-node.ensures.made c.make_file-node.ensures.kept c.requires.moment refl refl in
+    let size = ap (λ (w : Volume). w.size) c.make_file-node.ensures.made in
     let op = Create c.args.path.now c.args.length c.args.owner in
     let oj = name_under (screen_told p judged) c.args.owner d name in
     done_named p mid c.end_named.new.self c.args.moment (File op) c.end_named.result change oj
@@ -139,8 +139,8 @@ returns-clause-ok g c =
       size = size;
       idle = record { numbers = c.requires.idle.numbers; places = c.requires.idle.places; crossing = c.requires.idle.crossing };
       made = op_made p mid c.args.moment op p.objects.quotas _
-          (ap (λ (w : Volume). w.nodes) (sym (c.in_ok-node.ensures.made ∙ made_is p.tree _ _ _ false c.args.length c.args.owner c.args.moment at)))
-          (record { quotas_are = refl; screens_are = refl; excepts_are = refl; autos_are = refl }) refl (λ k. left_back p w c.in_ok-node.node made.back)
+          (ap (λ (w : Volume). w.nodes) (sym (c.make_file-node.ensures.made ∙ made_is p.tree _ _ _ false c.args.length c.args.owner c.args.moment at)))
+          (record { quotas_are = refl; screens_are = refl; excepts_are = refl; autos_are = refl }) refl (λ k. left_back p w c.make_file-node.result made.back)
           c.follow_create.ensures.follows (record { size = size; marks = refl; crossing = refl; groups = refl; templates = refl; audit = refl; run_limit = refl; last_moment = refl });
     })
     (few_log p c.requires.whole) c.end_named.ensures.ended done.raised_are (charged_due p w c.follow_create.new.self change c.args.moment size e done.engine)
@@ -149,7 +149,7 @@ returns-clause-ok g c =
 pub returns-clause-sound : goal.returns-clause-sound
 returns-clause-sound g c =
     let p = c.args.self.now in
-    let mid : Parts = record p { tree = c.make_file.new.self; scans = c.follow_create.new.self } in
+    let mid : Parts = record p { tree = c.make_file-node.new.self; scans = c.follow_create.new.self } in
     sound_named mid c.end_named.new.self _ _ c.args.moment c.requires.idle.places (few_log p c.requires.whole) c.end_named.ensures.ended c.end_named.ensures.counted c.follow_create.ensures.follows.scanning
 
 pub returns-clause-looks : goal.returns-clause-looks
@@ -162,38 +162,31 @@ returns-clause-looks g c =
       c.in-Ok.ensures.looks,
       c.judge-judged.ensures.looks,
       c.in_default-admit.ensures.looks,
-      c.in_ok-node.ensures.looks,
+      c.make_file-node.ensures.looks,
       c.follow_create.ensures.looks,
       c.end_named.ensures.looks,
-      made_chain v c.make_file.new.self c.in_ok-node.node c.in-Ok.found.0.folder c.in-Ok.found.0.name.now false c.args.length c.args.owner c.args.moment k at.folder_is c.in_ok-node.ensures.made c.in_ok-node.ensures.number,
+      made_chain v c.make_file-node.new.self c.make_file-node.result c.in-Ok.found.0.folder c.in-Ok.found.0.name.now false c.args.length c.args.owner c.args.moment k at.folder_is c.make_file-node.ensures.made c.make_file-node.ensures.number,
       place_depth _ _ _ _ _ k at,
-      made_height v c.make_file.new.self c.in-Ok.found.0.folder c.in-Ok.found.0.name.now c.args.length c.args.owner c.args.moment k at.folder_is c.in_ok-node.ensures.made,
+      made_height v c.make_file-node.new.self c.in-Ok.found.0.folder c.in-Ok.found.0.name.now c.args.length c.args.owner c.args.moment k at.folder_is c.make_file-node.ensures.made,
     )
 
 pub follow_create-requires-clause-there : goal.follow_create-requires-clause-there
 follow_create-requires-clause-there g c =
-    (is_made c.args.self.now.tree c.make_file.new.self c.in_ok-node.node c.in-Ok.found.0.folder c.in-Ok.found.0.name.now false c.args.length c.args.owner c.args.moment c.requires.whole.sound.counted.volume c.in_ok-node.ensures.made c.in_ok-node.ensures.number).there
+    (is_made c.args.self.now.tree c.make_file-node.new.self c.make_file-node.result c.in-Ok.found.0.folder c.in-Ok.found.0.name.now false c.args.length c.args.owner c.args.moment c.requires.whole.sound.counted.volume c.make_file-node.ensures.made c.make_file-node.ensures.number).there
 
 pub follow_create-requires-clause-file : goal.follow_create-requires-clause-file
 follow_create-requires-clause-file g c =
-    (is_made c.args.self.now.tree c.make_file.new.self c.in_ok-node.node c.in-Ok.found.0.folder c.in-Ok.found.0.name.now false c.args.length c.args.owner c.args.moment c.requires.whole.sound.counted.volume c.in_ok-node.ensures.made c.in_ok-node.ensures.number).kind
+    (is_made c.args.self.now.tree c.make_file-node.new.self c.make_file-node.result c.in-Ok.found.0.folder c.in-Ok.found.0.name.now false c.args.length c.args.owner c.args.moment c.requires.whole.sound.counted.volume c.make_file-node.ensures.made c.make_file-node.ensures.number).kind
 
 pub follow_create-requires-clause-own : goal.follow_create-requires-clause-own
 follow_create-requires-clause-own g c = λ row found.
     let v = c.args.self.now.tree in
-    made_length v c.make_file.new.self c.in_ok-node.node _ row (is_made v c.make_file.new.self c.in_ok-node.node c.in-Ok.found.0.folder c.in-Ok.found.0.name.now false c.args.length c.args.owner c.args.moment c.requires.whole.sound.counted.volume c.in_ok-node.ensures.made c.in_ok-node.ensures.number) found
+    made_length v c.make_file-node.new.self c.make_file-node.result _ row (is_made v c.make_file-node.new.self c.make_file-node.result c.in-Ok.found.0.folder c.in-Ok.found.0.name.now false c.args.length c.args.owner c.args.moment c.requires.whole.sound.counted.volume c.make_file-node.ensures.made c.make_file-node.ensures.number) found
 
 pub follow_create-requires-clause-scanning : goal.follow_create-requires-clause-scanning
 follow_create-requires-clause-scanning g c =
     let v = c.args.self.now.tree in
-    back_scans v c.make_file.new.self c.in_ok-node.node _ (is_made v c.make_file.new.self c.in_ok-node.node c.in-Ok.found.0.folder c.in-Ok.found.0.name.now false c.args.length c.args.owner c.args.moment c.requires.whole.sound.counted.volume c.in_ok-node.ensures.made c.in_ok-node.ensures.number).back c.requires.whole.sound.scanning
-
-pub returns-in_err-node-clause-sound : goal.returns-in_err-node-clause-sound
-returns-in_err-node-clause-sound g c = subst (λ (w : Volume). IsSound (record c.args.self.now { tree = w })) (sym c.in_err-node.ensures.err) c.requires.whole.sound
-
-pub returns-in_err-node-clause-looks : goal.returns-in_err-node-clause-looks
-returns-in_err-node-clause-looks g c =
-    omega (arith, c.in-Ok.ensures.looks, c.judge-judged.ensures.looks, c.in_default-admit.ensures.looks, c.make_file.ensures.looks, place_depth _ _ _ _ _ c.requires.whole.sound.counted.volume c.in-Ok.ensures.ok.at)
+    back_scans v c.make_file-node.new.self c.make_file-node.result _ (is_made v c.make_file-node.new.self c.make_file-node.result c.in-Ok.found.0.folder c.in-Ok.found.0.name.now false c.args.length c.args.owner c.args.moment c.requires.whole.sound.counted.volume c.make_file-node.ensures.made c.make_file-node.ensures.number).back c.requires.whole.sound.scanning
 
 pub end_named-requires-clause-there : goal.end_named-requires-clause-there
 end_named-requires-clause-there g c = told_there c.args.self.now c.in-Ok.found.0.folder c.in-Ok.found.0.name.now c.judge-judged.result c.judge-judged.ensures.judged

@@ -7,6 +7,7 @@ use Rattle.fsrm_model.specs.Tree.{number, is_folder}
 use Rattle.volume_tree.specs.Volume.{Move as Moving, move_fault}
 use Rattle.fsrm_engine.specs.declared.parts.Parts.{Parts}
 use Rattle.fsrm_engine.proofs.coming.CarriedLaws.{carried, going, judged_is}
+use Rattle.fsrm_engine.proofs.coming.MemoryLaws.{on_err}
 use Rattle.fsrm_engine.proofs.coming.SourceLaws.{moved_known}
 use Rattle.fsrm_engine.proofs.judging.DoneLaws.{done_named, sound_named}
 use Rattle.fsrm_engine.proofs.judging.NameLaws.{answers_it}
@@ -138,3 +139,8 @@ returns-clause-looks g c =
     c.follow_move.new.self c.make_move.new.self c.args.ready c.in_ok-receive_moved.ensures.received c.receive_moved.ensures.sound c.requires.ready c.follow_move.ensures.follows c.make_move.ensures.made c.make_move.ensures.kept in
     let on = going c.args.self.now c.receive_moved.new.self c.args.from.now c.args.to.now c.args.moving.now _ c.requires.whole c.requires.may.is c.in_ok-receive_moved.ensures.received in
     omega (arith, c.receive_moved.ensures.looks, c.follow_move.ensures.looks, c.make_move.ensures.looks, c.end_named.ensures.looks, k.high, on.below, on.deep, on.high)
+
+pub returns-in_err-receive_moved-clause-memory : goal.returns-in_err-receive_moved-clause-memory
+returns-in_err-receive_moved-clause-memory g c =
+    let v = c.args.moving.now in
+    on_err _ (moved_known c.args.self.now v.node v.folder v.place.folder v.place.name.now c.args.source c.requires.may.source_is.is c.in_err-receive_moved.ensures.memory).moves

@@ -2,7 +2,8 @@ use Rattle.std.proofs.Common.{sym, arith}
 use Rattle.fsrm_model.specs.declared.command.Deed.TheVariants.{File}
 use Rattle.fsrm_model.specs.declared.command.FileOp.TheVariants.{Move}
 use Rattle.fsrm_model.proofs.valid.ValidLaws.{folder_has}
-use Rattle.fsrm_engine.proofs.coming.CarriedLaws.{judged_is, moved_old, quota_due, screen_due, source_due, to_it, unmade_as}
+use Rattle.fsrm_engine.proofs.coming.CarriedLaws.{judged_is, moved_old, quota_due, screen_due, source_due, to_it}
+use Rattle.fsrm_engine.proofs.coming.MemoryLaws.{err_with, moved_wants, on_err}
 use Rattle.fsrm_engine.proofs.coming.SourceLaws.{source_bare}
 use Rattle.fsrm_engine.proofs.judging.JudgedLaws.{few_at, told_one}
 use Rattle.fsrm_engine.proofs.judging.NameLaws.{block_sound, blocked_op}
@@ -17,7 +18,7 @@ use Rattle.fsrm_engine.proofs.parts.Parts.move_path.Goals as goal
 
 pub returns-in-Err-clause-ok : goal.returns-in-Err-clause-ok
 returns-in-Err-clause-ok g c =
-    unmade_as c.args.self.now c.args.moment (File (Move c.args.from.now c.args.to.now)) c.in-Err.why c.unmade.result c.requires.idle c.requires.after c.in-Err.ensures.err c.in-Err.ensures.bare c.unmade.ensures
+    refused_as c.args.self.now c.args.moment (File (Move c.args.from.now c.args.to.now)) _ c.in-Err.refusal c.requires.idle c.requires.after (c.in-Err.ensures.err c.args.moment) c.in-Err.ensures.bare c.refused.ensures
 
 pub may_come-requires-clause-there : goal.may_come-requires-clause-there
 may_come-requires-clause-there g c = c.moved_source-source.ensures.there
@@ -28,7 +29,7 @@ returns-in-Err-may_come-clause-ok g c =
     let source = c.moved_source-source.result in
     refused_as p c.args.moment (File (Move c.args.from.now c.args.to.now)) _ c.in-Err-may_come.refusal c.requires.idle c.requires.after
     (source_due p c.requires.whole c.args.moment c.args.from.now c.args.to.now c.in-Ok.found.0 c.in-Ok.ensures.ok source c.moved_source-source.ensures c.in-Err-may_come.refusal c.in-Err-may_come.ensures.refused)
-    (source_bare p source c.in-Err-may_come.refusal c.in-Err-may_come.ensures.refused) c.refused.ensures
+    (source_bare p source c.in-Err-may_come.refusal c.in-Err-may_come.ensures.refused) c.refused-in-Err-may_come.ensures
 
 pub block-requires-clause-there : goal.block-requires-clause-there
 block-requires-clause-there g c =
@@ -63,6 +64,14 @@ returns-in-Some-clause-sound g c =
 pub moved_bytes-requires-clause-there : goal.moved_bytes-requires-clause-there
 moved_bytes-requires-clause-there g c = has_resolved _ _ _ _ c.requires.whole.sound.counted.volume c.in-Ok.ensures.ok.resolved
 
+pub moved_bytes-requires-clause-kind : goal.moved_bytes-requires-clause-kind
+moved_bytes-requires-clause-kind g c = c.in-Ok.ensures.ok.kind
+
+pub returns-in_err-bytes-clause-memory : goal.returns-in_err-bytes-clause-memory
+returns-in_err-bytes-clause-memory g c =
+    let p = c.args.self.now in
+    on_err _ (moved_wants p c.args.from.now c.args.to.now c.in-Ok.found.0 c.in-Ok.ensures.ok c.in_err-bytes.ensures.memory)
+
 pub admit-requires-clause-change : goal.admit-requires-clause-change
 admit-requires-clause-change g c =
     let v = c.args.self.now.tree in
@@ -75,7 +84,7 @@ admit-requires-clause-fits g c =
     let p = c.args.self.now in
     let v = c.in-Ok.found.0 in
     let source = c.moved_source-source.result in
-    let moved = moved_old p v.node source c.in_ok-bytes.bytes (record { few = c.in_ok-bytes.ensures.few; all = c.in_ok-bytes.ensures.all }) in
+    let moved = moved_old p v.node source c.in_ok-bytes.bytes c.in_ok-bytes.ensures.moved in
     move_fits p.tree p.objects.quotas p.usage v.node v.place.folder v.place.name.now v.parent c.in_ok-bytes.bytes c.requires.whole.sound.counted c.in-Ok.ensures.ok.parent
     (to_it p c.requires.whole c.args.moment c.args.from.now c.args.to.now v c.in-Ok.ensures.ok source c.moved_source-source.ensures) moved
 
@@ -97,7 +106,7 @@ returns-in-Err-admit-clause-ok g c =
     let from = c.args.from.now in
     let to = c.args.to.now in
     let e = c.requires.whole.sound.counted in
-    let moved = moved_old p v.node source c.in_ok-bytes.bytes (record { few = c.in_ok-bytes.ensures.few; all = c.in_ok-bytes.ensures.all }) in
+    let moved = moved_old p v.node source c.in_ok-bytes.bytes c.in_ok-bytes.ensures.moved in
     let j = judged_is p c.requires.whole c.args.moment from to v is source c.moved_source-source.ensures judged c.judge_moved-judged.ensures.judged in
     refused_op p c.refuse.new.self c.args.moment (File (Move from to)) c.refuse.result (move_change v.parent v.place.folder c.in_ok-bytes.bytes) _ c.in-Err-admit.exceeded e c.requires.idle c.requires.after
     (quota_due p c.requires.whole c.args.moment from to v is source c.moved_source-source.ensures judged c.in_default.ensures.may j c.in_default-blocking.ensures)
@@ -117,7 +126,7 @@ make_move-requires-clause-may g c = record {
   may_come = c.in_default.ensures.may;
   judged_is = c.judge_moved-judged.ensures.judged;
   passive = c.in_default-blocking.ensures;
-  moved = record { few = c.in_ok-bytes.ensures.few; all = c.in_ok-bytes.ensures.all };
+  moved = c.in_ok-bytes.ensures.moved;
   admitted = c.in_default-admit.ensures.ok;
 }
 
@@ -169,3 +178,7 @@ returns-clause-looks g c =
       from_height v.size v.nodes c.args.from.now c.in-Ok.found.0.node c.in-Ok.found.0.parent k is.resolved is.inner is.parent,
       move_room v.size v.nodes c.args.from.now c.args.to.now c.in-Ok.found.0.node k is.resolved,
     )
+
+pub returns-clause-memory : goal.returns-clause-memory
+returns-clause-memory g c =
+    err_with c.make_move.result (moved_wants c.args.self.now c.args.from.now c.args.to.now c.in-Ok.found.0 c.in-Ok.ensures.ok) c.make_move.ensures.memory

@@ -1,10 +1,7 @@
-use Rattle.std.proofs.Common.{ap, sym, ◌∙◌, subst}
+use Rattle.std.proofs.Common.{ap, ◌∙◌}
 use Rattle.std.specs.List.{list_all}
 use Rattle.std.specs.Option.{option_copied}
-use Rattle.fsrm_model.specs.declared.command.Deed.TheVariants.{Quota}
-use Rattle.fsrm_model.specs.declared.command.QuotaDeed.{QuotaDeed}
 use Rattle.fsrm_model.specs.Thresholds.{is_notice}
-use Rattle.fsrm_engine.specs.Machine.{Does}
 use Rattle.fsrm_engine.proofs.tables.ModifyLaws.{modified_named}
 use Rattle.fsrm_engine.proofs.tables.SourceLaws.{add_notices, added_named, modify_notices}
 use Rattle.fsrm_engine.proofs.parts.Parts.on_quotas.Goals as goal
@@ -30,7 +27,3 @@ returns-in-Modify-clause-ok g c =
     let given = c.new-change.result in
     modified_named c.args.self.now c.quota_modify.new.self c.args.moment c.args.deed.now c.quota_modify.result c.in-Modify.path c.in-Modify.limit c.in-Modify.enforce c.in-Modify.enabled
     c.in-Modify.removed c.in-Modify.percents given.removed.now given.percents.now c.in-Modify.notices given.notices.now c.in-Modify.is c.new-change.ensures.removed c.new-change.ensures.percents c.new-change.ensures.notices c.quota_modify.ensures.ok
-
-pub returns-in-Resetpeak-clause-ok : goal.returns-in-Resetpeak-clause-ok
-returns-in-Resetpeak-clause-ok g c =
-    subst (λ (deed : QuotaDeed). Does c.args.self.now c.quota_resetpeak.new.self c.args.moment (Quota deed) c.quota_resetpeak.result) (sym c.in-Resetpeak.is) c.quota_resetpeak.ensures.ok

@@ -4,6 +4,9 @@ use Rattle.fsrm_model.specs.declared.command.FileOp.{FileOp}
 use Rattle.fsrm_engine.specs.Machine.{Does}
 use Rattle.fsrm_engine.proofs.parts.Parts.operate.Goals as goal
 
+pub returns-in-Create-clause-ok : goal.returns-in-Create-clause-ok
+returns-in-Create-clause-ok g c = subst (λ (op : FileOp). Does c.args.self.now c.create.new.self c.args.moment (File op) c.create.result) (sym c.in-Create.is) c.create.ensures.ok
+
 pub returns-in-Resize-clause-ok : goal.returns-in-Resize-clause-ok
 returns-in-Resize-clause-ok g c = subst (λ (op : FileOp). Does c.args.self.now c.resize.new.self c.args.moment (File op) c.resize.result) (sym c.in-Resize.is) c.resize.ensures.ok
 

@@ -1,7 +1,9 @@
-use Rattle.std.proofs.Common.{sym, arith}
+use Rattle.std.proofs.Common.{Some, ap, sym, ◌∙◌, arith}
 use Rattle.fsrm_base.proofs.TestLaws.{is_inner}
+use Rattle.fsrm_model.specs.Text.{is_bare}
 use Rattle.fsrm_engine.proofs.operations.MoveLaws.{move_faulty, move_root, stray_due}
 use Rattle.fsrm_engine.proofs.steps.PlaceLaws.{has_resolved, place_bare, place_depth, shown_folder, shown_owner, shown_parent}
+use Rattle.fsrm_engine.proofs.steps.StepLaws.{tree_bare}
 use Rattle.fsrm_engine.proofs.parts.Parts.ready_move.Goals as goal
 
 pub ready_move-requires-clause-there : goal.ready_move-requires-clause-there
@@ -36,8 +38,12 @@ returns-clause-ok g c =
 
 pub returns-in-Err-ready_move-clause-err : goal.returns-in-Err-ready_move-clause-err
 returns-in-Err-ready_move-clause-err g c =
-    move_faulty c.args.self.now c.args.from.now c.args.to.now c.in-Some.node c.in-Ok.place.folder c.in-Ok.place.name.now c.in-Err-ready_move.fault c.refusal_of.result c.requires (sym c.in-Some.ensures.value) (is_inner _ c.if-node-eq0.false) c.in-Ok.ensures.ok
-    c.in-Err-ready_move.ensures.refused c.refusal_of.ensures
+    λ m. move_faulty c.args.self.now m c.args.from.now c.args.to.now c.in-Some.node c.in-Ok.place.folder c.in-Ok.place.name.now c.in-Err-ready_move.fault c.requires (sym c.in-Some.ensures.value) (is_inner _ c.if-node-eq0.false) c.in-Ok.ensures.ok
+    c.in-Err-ready_move.ensures.refused
+    ∙ ap (λ refusal. Some refusal) (sym c.refusal_of.ensures)
+
+pub returns-in-Err-ready_move-clause-bare : goal.returns-in-Err-ready_move-clause-bare
+returns-in-Err-ready_move-clause-bare g c = ap is_bare c.refusal_of.ensures ∙ tree_bare c.in-Err-ready_move.fault
 
 pub returns-in-Err-ready_move-clause-looks : goal.returns-in-Err-ready_move-clause-looks
 returns-in-Err-ready_move-clause-looks g c =

@@ -44,7 +44,7 @@ pub unwrap-requires : goal.unwrap-requires
 unwrap-requires g c =
     let v = c.args.self.now.tree in
     let file = shown_folder v.nodes c.in-Some.node c.node-view.result c.node-view.ensures.view ∙ c.if-view.false in
-    goes_well v c.in-Some.node c.remove.result (no_fault v c.in-Some.node (file_children v.size v.nodes c.in-Some.node c.requires.whole.sound.counted.volume file)) c.remove.ensures.refused c.remove.ensures.only
+    goes_well v c.in-Some.node c.remove.result (no_fault v c.in-Some.node (file_children v.size v.nodes c.in-Some.node c.requires.whole.sound.counted.volume file)) c.remove.ensures.refused
 
 pub charge-requires-clause-change : goal.charge-requires-clause-change
 charge-requires-clause-change g c =

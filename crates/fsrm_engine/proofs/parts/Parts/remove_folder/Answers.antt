@@ -60,7 +60,7 @@ returns-clause-sound g c =
     sound_ended (record p { tree = c.remove.new.self; scans = c.follow_rmdir.new.self; usage = c.drop_quota.new.usage; objects = c.drop_screens.new.objects; templates = c.drop_auto.new.templates }) c.done.new.self c.args.moment c.done.ensures.ended c.done.ensures.counted goes.scanning
 
 pub unwrap-requires : goal.unwrap-requires
-unwrap-requires g c = goes_well c.args.self.now.tree c.args.node c.remove.result (no_fault c.args.self.now.tree c.args.node (omega (arith, c.child_count.ensures.value, c.if-child_count-gt0.false))) c.remove.ensures.refused c.remove.ensures.only
+unwrap-requires g c = goes_well c.args.self.now.tree c.args.node c.remove.result (no_fault c.args.self.now.tree c.args.node (omega (arith, c.child_count.ensures.value, c.if-child_count-gt0.false))) c.remove.ensures.refused
 
 pub returns-then-child_count-gt0-clause-ok : goal.returns-then-child_count-gt0-clause-ok
 returns-then-child_count-gt0-clause-ok g c =

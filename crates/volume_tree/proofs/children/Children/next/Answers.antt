@@ -1,4 +1,4 @@
-use Rattle.std.proofs.Common.{◌≡◌, ℕ, ◌+◌, ◌-◌, ◌<◌, ◌≤◌, ◌∙◌, ◌++◌, List, length, map, take, drop, ap, sym, arith}
+use Rattle.std.proofs.Common.{◌≡◌, ℕ, ◌-◌, ◌<◌, ◌∙◌, ◌++◌, List, length, map, take, drop, ap, sym, arith}
 use Rattle.std.proofs.lemmas.List.{drop-map, take-map, take_rest}
 use Rattle.block_list.specs.Runs.{run_at}
 use Rattle.volume_tree.specs.Entries.{number_in}

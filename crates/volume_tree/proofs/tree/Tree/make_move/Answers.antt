@@ -1,4 +1,4 @@
-use Rattle.std.proofs.Common.{◌≡◌, ℕ, ◌+◌, ◌-◌, true, false, length, List, Some, None, refl, ◌≤◌, sym, ◌∙◌, ap, subst, arith}
+use Rattle.std.proofs.Common.{◌≡◌, ℕ, ◌+◌, ◌-◌, true, false, length, Some, None, refl, sym, ◌∙◌, ap, subst, arith}
 use Rattle.std.specs.Prelude.{◌==◌}
 use Rattle.fsrm_base.specs.Keyed.{has_row}
 use Rattle.fsrm_model.specs.Name.{is_name}
@@ -61,15 +61,14 @@ overflow_add-self g c =
     let slots = c.self.inside.slots.slots in
     let m = c.ready.inside in
     let held : Volume = record { size = c.self.inside.size; nodes = rows_of slots } in
-    let may : move_fault held m.node m.folder m.name ≡ None = ap (λ (move : Move). move_fault held move.node move.folder move.name) c.ready.view_is ∙ (ap (λ (v : Volume). move_fault v c.args.ready.node c.args.ready.folder c.args.ready.name) c.self.view_is ∙ c.requires.may) in
+    let may : move_fault held m.node m.folder m.name.now ≡ None = ap (λ (move : Move). move_fault held move.node move.folder move.name) c.ready.view_is ∙ (ap (λ (v : Volume). move_fault v c.args.ready.node c.args.ready.folder c.args.ready.name) c.self.view_is ∙ c.requires.may) in
     let has : has_row number m.node (rows_of slots) ≡ true = ap (λ (move : Move). has_row number move.node (rows_of slots)) c.ready.view_is ∙ (ap (λ (v : Volume). has_row number c.args.ready.node v.nodes) c.self.view_is ∙ c.requires.there) in
     let fit = name_fits c.self.inside.size _ m.node c.self.invariant.kept.volume has in
-    let room = (may_move held m.node m.folder m.name may).room in
+    let room = (may_move held m.node m.folder m.name.now may).room in
     let bytes : c.name_length-old_bytes.result ≡ length (name_of (rows_of slots) m.node) = c.name_length-old_bytes.ensures.bytes in
     let used = c.self.invariant.kept.used_is in
     let most = names_most c.self.inside.size c.self.invariant.kept.size in
-    let text : length c.as_str-3.result.now ≡ length m.name = ap length c.as_str-3.ensures in
-    omega (arith, fit, room, bytes, used, most, text)
+    omega (arith, fit, room, bytes, used, most)
 
 pub invariant_of-self : goal.invariant_of-self
 invariant_of-self g c =
@@ -81,27 +80,26 @@ invariant_of-self g c =
     let has : has_row number m.node (rows_of slots) ≡ true = ap (λ (move : Move). has_row number move.node (rows_of slots)) c.ready.view_is ∙ (ap (λ (v : Volume). has_row number c.args.ready.node v.nodes) c.self.view_is ∙ c.requires.there) in
     let inner : (m.node == 0) ≡ false = ap (λ (move : Move). move.node == 0) c.ready.view_is ∙ c.requires.inner in
     let folder : is_folder (rows_of slots) m.folder ≡ true = ap (λ (move : Move). is_folder (rows_of slots) move.folder) c.ready.view_is ∙ (ap (λ (v : Volume). is_folder v.nodes c.args.ready.folder) c.self.view_is ∙ c.requires.folder) in
-    let named : is_name m.name ≡ true = ap (λ (move : Move). is_name move.name) c.ready.view_is ∙ c.requires.name in
-    let may : move_fault held m.node m.folder m.name ≡ None = ap (λ (move : Move). move_fault held move.node move.folder move.name) c.ready.view_is ∙ (ap (λ (v : Volume). move_fault v c.args.ready.node c.args.ready.folder c.args.ready.name) c.self.view_is ∙ c.requires.may) in
+    let named : is_name m.name.now ≡ true = ap (λ (move : Move). is_name move.name) c.ready.view_is ∙ c.requires.name in
+    let may : move_fault held m.node m.folder m.name.now ≡ None = ap (λ (move : Move). move_fault held move.node move.folder move.name) c.ready.view_is ∙ (ap (λ (v : Volume). move_fault v c.args.ready.node c.args.ready.folder c.args.ready.name) c.self.view_is ∙ c.requires.may) in
     let search = c.search-found.ensures in
-    let sought = sought_in slots slots runs m.folder m.name c.as_str.result.now c.search-found.result refl c.as_str.ensures
+    let sought = sought_in slots slots runs m.folder m.name.now m.name.now c.search-found.result refl refl
     (record { free = search.free; taken = search.found; none = search.none }) in
-    let alone = (may_move held m.node m.folder m.name may).alone in
-    let entry : c.at-entry.result ≡ record { prefix = prefix m.name; parent = m.folder; node = m.node } = c.at-entry.ensures ∙ ap (λ (bytes : List ℕ). record { prefix = prefix bytes; parent = m.folder; node = m.node }) c.as_str-2.ensures in
-    let placed_at = placed_order i.size (rows_of slots) i.order c.reorder.new.order m.node m.folder m.name c.at-entry.result c.search-found.result c.self.invariant.kept.volume c.self.invariant.kept.order_is sought search.entry alone (ap (λ (e : Entry). e.node) entry) c.reorder.ensures.ok c.reorder.ensures.err in
-    let entries = placed_entries i.size (rows_of slots) i.order c.reorder.new.order m.node m.folder m.name c.at-entry.result c.search-found.result c.self.invariant.kept.volume has c.self.invariant.kept.order_is c.self.invariant.kept.entries_are sought search.entry alone entry c.reorder.ensures.ok c.reorder.ensures.err in
-    let volume = volume_moved held m.node m.folder m.name c.self.invariant.kept.volume has inner folder named may in
+    let alone = (may_move held m.node m.folder m.name.now may).alone in
+    let entry : c.at-entry.result ≡ record { prefix = prefix m.name.now; parent = m.folder; node = m.node } = c.at-entry.ensures in
+    let placed_at = placed_order i.size (rows_of slots) i.order c.reorder.new.order m.node m.folder m.name.now c.at-entry.result c.search-found.result c.self.invariant.kept.volume c.self.invariant.kept.order_is sought search.entry alone (ap (λ (e : Entry). e.node) entry) c.reorder.ensures.ok c.reorder.ensures.err in
+    let entries = placed_entries i.size (rows_of slots) i.order c.reorder.new.order m.node m.folder m.name.now c.at-entry.result c.search-found.result c.self.invariant.kept.volume has c.self.invariant.kept.order_is c.self.invariant.kept.entries_are sought search.entry alone entry c.reorder.ensures.ok c.reorder.ensures.err in
+    let volume = volume_moved held m.node m.folder m.name.now c.self.invariant.kept.volume has inner folder named may in
     let bytes : c.name_length-old_bytes.result ≡ length (name_of (rows_of slots) m.node) = c.name_length-old_bytes.ensures.bytes in
     let fit = name_fits i.size _ m.node c.self.invariant.kept.volume has in
     let same = c.self.invariant.kept.used_is in
-    let text : length c.as_str-3.result.now ≡ length m.name = ap length c.as_str-3.ensures in
     let h = c.self.invariant in
-    let new = changed slots m.node (placed m.folder m.name) h.kept.slots_are has (λ r. refl) in
-    let kept = kept_moved i.size i.count i.used (i.used - c.name_length-old_bytes.result + length c.as_str-3.result.now) i.holes slots (with_change_at slots m.node (placed m.folder m.name)) i.order c.reorder.new.order m.node m.folder m.name h.kept has volume
-    (omega (arith, bytes, fit, same, text)) new.slots_are new.rows_are new.size placed_at entries c.reorder.ensures.room in
-    let table : c.set_place.new.self ≡ record i.slots { slots = with_change_at slots m.node (placed m.folder m.name) } =
-    c.set_place.ensures ∙ ap (λ (text : List ℕ). record i.slots { slots = with_change_at slots m.node (placed m.folder text) }) c.as_str-5.ensures in
-    subst (λ (t : Table). IsHeld i.size i.count (i.used - c.name_length-old_bytes.result + length c.as_str-3.result.now) i.holes t c.reorder.new.order) (sym table) (record { nodes_are = h.nodes_are; names_are = h.names_are; kept = kept })
+    let new = changed slots m.node (placed m.folder m.name.now) h.kept.slots_are has (λ r. refl) in
+    let kept = kept_moved i.size i.count i.used (i.used - c.name_length-old_bytes.result + length m.name.now) i.holes slots (with_change_at slots m.node (placed m.folder m.name.now)) i.order c.reorder.new.order m.node m.folder m.name.now h.kept has volume
+    (omega (arith, bytes, fit, same)) new.slots_are new.rows_are new.size placed_at entries c.reorder.ensures.room in
+    let table : c.set_place.new.self ≡ record i.slots { slots = with_change_at slots m.node (placed m.folder m.name.now) } =
+    c.set_place.ensures in
+    subst (λ (t : Table). IsHeld i.size i.count (i.used - c.name_length-old_bytes.result + length m.name.now) i.holes t c.reorder.new.order) (sym table) (record { nodes_are = h.nodes_are; names_are = h.names_are; kept = kept })
 
 pub set_place-requires-clause-taken : goal.set_place-requires-clause-taken
 set_place-requires-clause-taken g c =
@@ -120,12 +118,11 @@ set_place-requires-clause-room g c =
     let has : has_row number m.node (rows_of slots) ≡ true = ap (λ (move : Move). has_row number move.node (rows_of slots)) c.ready.view_is ∙ (ap (λ (v : Volume). has_row number c.args.ready.node v.nodes) c.self.view_is ∙ c.requires.there) in
     let inner : (m.node == 0) ≡ false = ap (λ (move : Move). move.node == 0) c.ready.view_is ∙ c.requires.inner in
     let folder : is_folder (rows_of slots) m.folder ≡ true = ap (λ (move : Move). is_folder (rows_of slots) move.folder) c.ready.view_is ∙ (ap (λ (v : Volume). is_folder v.nodes c.args.ready.folder) c.self.view_is ∙ c.requires.folder) in
-    let named : is_name m.name ≡ true = ap (λ (move : Move). is_name move.name) c.ready.view_is ∙ c.requires.name in
-    let may : move_fault held m.node m.folder m.name ≡ None = ap (λ (move : Move). move_fault held move.node move.folder move.name) c.ready.view_is ∙ (ap (λ (v : Volume). move_fault v c.args.ready.node c.args.ready.folder c.args.ready.name) c.self.view_is ∙ c.requires.may) in
-    let names = (volume_moved held m.node m.folder m.name h.kept.volume has inner folder named may).names in
-    let new = changed slots m.node (placed m.folder m.name) h.kept.slots_are has (λ r. refl) in
-    subst (λ (text : List ℕ). name_bytes (rows_of (with_change_at slots m.node (placed m.folder text))) ≤ i.slots.names) (sym c.as_str-5.ensures)
-    (omega (arith, names, ap name_bytes new.rows_are, h.names_are))
+    let named : is_name m.name.now ≡ true = ap (λ (move : Move). is_name move.name) c.ready.view_is ∙ c.requires.name in
+    let may : move_fault held m.node m.folder m.name.now ≡ None = ap (λ (move : Move). move_fault held move.node move.folder move.name) c.ready.view_is ∙ (ap (λ (v : Volume). move_fault v c.args.ready.node c.args.ready.folder c.args.ready.name) c.self.view_is ∙ c.requires.may) in
+    let names = (volume_moved held m.node m.folder m.name.now h.kept.volume has inner folder named may).names in
+    let new = changed slots m.node (placed m.folder m.name.now) h.kept.slots_are has (λ r. refl) in
+    omega (arith, names, ap name_bytes new.rows_are, h.names_are)
 
 pub returns-clause-made : goal.returns-clause-made
 returns-clause-made g c =
@@ -134,9 +131,9 @@ returns-clause-made g c =
     let slots = i.slots.slots in
     let m = c.ready.inside in
     let has : has_row number m.node (rows_of slots) ≡ true = ap (λ (move : Move). has_row number move.node (rows_of slots)) c.ready.view_is ∙ (ap (λ (v : Volume). has_row number c.args.ready.node v.nodes) c.self.view_is ∙ c.requires.there) in
-    let new = changed slots m.node (placed m.folder m.name) h.kept.slots_are has (λ r. refl) in
-    let table : c.set_place.new.self ≡ record i.slots { slots = with_change_at slots m.node (placed m.folder m.name) } =
-    c.set_place.ensures ∙ ap (λ (text : List ℕ). record i.slots { slots = with_change_at slots m.node (placed m.folder text) }) c.as_str-5.ensures in
+    let new = changed slots m.node (placed m.folder m.name.now) h.kept.slots_are has (λ r. refl) in
+    let table : c.set_place.new.self ≡ record i.slots { slots = with_change_at slots m.node (placed m.folder m.name.now) } =
+    c.set_place.ensures in
     ap (λ (t : Table). volume_of i.size (rows_of t.slots)) table
     ∙ (ap (volume_of i.size) new.rows_are
     ∙ (ap (λ (move : Move). with_place (volume_of i.size (rows_of slots)) move.node move.folder move.name) c.ready.view_is ∙ ap (λ (v : Volume). with_place v c.args.ready.node c.args.ready.folder c.args.ready.name) c.self.view_is))
