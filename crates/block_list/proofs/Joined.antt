@@ -124,9 +124,6 @@ module _ {T : Type 0} where
       let rest = run_within runs i (omega (arith, length-append run (entries_of (take i runs)), length-append run (entries_of runs))) in
       omega (arith, rest)
 
-  pub insert-end : (xs : List T) (n : ℕ) (e : T) → n ≡ length xs → insert xs n e ≡ xs ++ e ∷ []
-  insert-end xs n e at = rw at (rw (take_all (length xs) xs (omega arith), drop_all (length xs) xs (omega arith)) refl)
-
   -- an entry may be put no further than after the last one
   pub gap_within : (runs : List (List T)) (place : Place) → IsGap runs place → start_of runs place.run + place.offset ≤ length (entries_of runs)
   gap_within [] place gap = within_none place.run place.offset (omega (arith, gap.run)) gap.offset

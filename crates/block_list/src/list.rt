@@ -136,7 +136,8 @@ impl<T: Copy> BlockList<T> {
         Place { run, offset }
     }
 
-    /// Puts an entry at a place. Those from there on come after it. It moves as many entries as two blocks hold at most.
+    /// Puts an entry at a place. Those from there on come after it. It moves as many entries as two blocks hold at
+    /// most.
     pub fn insert(&mut self, place: Place, entry: T)
         requires room { length (entries_of self.old.runs) < self.old.room }
         requires place { IsGap self.old.runs place }
@@ -170,8 +171,8 @@ impl<T: Copy> BlockList<T> {
         self.runs.replace(place.run, place.offset, entry);
     }
 
-    /// Which entry of the list stands at a place, or would if one were put there, counted from 0. It passes each run before
-    /// the place.
+    /// Which entry of the list stands at a place, or would if one were put there, counted from 0. It passes each run
+    /// before the place.
     pub fn index_of(&self, place: Place) -> u32
         requires { IsGap self.now.runs place }
         ensures { result ≡ index_of self.now.runs place }

@@ -44,9 +44,6 @@ one_covers w ps before no_star no_any ends cs c is =
     eq_test _ 1 (ap (λ n. bit_at (1 * 2 ^ k % 2 ^ 64) (n % 64)) (sym same) ∙ bit)
 
 -- ---- ends of one more of some patterns or groups
-pub none_covered : (ends : ℕ) (test : List ℕ → Bool) → ((name : List ℕ) → test name ≡ false) → Cover ends test
-none_covered ends test none cs c is = absurd (clash _ is (none (cs ++ c ∷ [])))
-
 pub more_covered : {X : Type 0} (test : List ℕ → X → Bool) (ends bits i : ℕ) (xs : List X) (x : X) → i < length xs → x ≡ get_or xs i x → Cover ends (λ name. list_any (test name) (take i xs)) → Cover bits (λ name. test name x) → Cover (bit_or ends bits) (λ name. list_any (test name) (take (i + 1) xs))
 more_covered test ends bits i xs x within read before its cs c is =
     let name = cs ++ c ∷ [] in

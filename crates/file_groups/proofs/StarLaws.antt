@@ -95,23 +95,6 @@ module _ (wanted given starred end : List ℕ) where
       passed first.wanted first.character after rest first.no_star first.stands_is
       (subst (λ cs. IsTried wanted given starred end (first.wanted ∷ after) cs) first.name_is (subst (λ ps. IsTried wanted given starred end ps name) first.pattern_is tried))
 
-  -- this end doesn't match: the next one is tried
-  pub tried_again : (pattern name next : List ℕ) (c : ℕ) → end ≡ c ∷ next → matches_folded pattern name ≡ false → IsTried wanted given starred end pattern name → IsTried wanted given starred next starred next
-  tried_again pattern name next c is apart tried =
-      record {
-        whole = sym (ap (λ b. b || some_end (matches_folded starred) next) (ap (matches_folded starred) (sym is) ∙ (tried.here ∙ apart))) ∙ (sym (ap (some_end (matches_folded starred)) is) ∙ tried.whole);
-        here = refl;
-        later = λ h. h;
-        starred_most = tried.starred_most;
-        pattern_most = omega arith;
-        name_most = omega arith;
-      }
-
-  -- or there is none
-  pub tried_last : (pattern name : List ℕ) → end ≡ [] → matches_folded pattern name ≡ false → IsTried wanted given starred end pattern name → some_end (matches_folded wanted) given ≡ false
-  tried_last pattern name is apart tried =
-      sym tried.whole ∙ (ap (some_end (matches_folded starred)) is ∙ (ap (matches_folded starred) (sym is) ∙ (tried.here ∙ apart)))
-
   -- this end matches
   pub tried_well : (pattern name : List ℕ) → (pattern ≡ []) × (name ≡ []) → IsTried wanted given starred end pattern name → some_end (matches_folded wanted) given ≡ true
   tried_well pattern name ended tried =

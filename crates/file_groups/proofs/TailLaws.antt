@@ -106,6 +106,3 @@ last_done whole ps name before rest ends is =
     ∙ (ap (λ (l : List ℕ). matches_folded l name) ends.pattern_is
     ∙ (ap (λ (l : List ℕ). matches_folded (before ++ ends.wanted ∷ []) l) ends.name_is
     ∙ (last_stands ends.wanted ends.no_star ends.character before rest ∙ ap (λ b. b && matches_folded before rest) ends.stands_is)))
-
-pub shorter_left : (ps name before rest : List ℕ) → StandsLast ps name before rest → length ps ≡ length before + 1
-shorter_left ps name before rest ends = omega (arith, ap length ends.pattern_is, length-append before (ends.wanted ∷ []))

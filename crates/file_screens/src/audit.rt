@@ -80,8 +80,8 @@ impl Entry {
     }
 }
 
-/// The audit log: its last 1,024 entries, in memory that is reserved once. Contracts see the list of its entries, the oldest
-/// first.
+/// The audit log: its last 1,024 entries, in memory that is reserved once. Contracts see the list of its entries, the
+/// oldest first.
 #[derive(Drop)]
 pub struct Audit {
     log: HeapCircularBuffer<Entry>,
@@ -108,8 +108,8 @@ impl Audit {
         Ok(Audit { log })
     }
 
-    /// Adds an entry of a moment, in seconds since 1970-01-01 00:00:00 UTC, and a name of at most 255 bytes. Into a full log
-    /// it comes in place of the oldest one. It takes no memory.
+    /// Adds an entry of a moment, in seconds since 1970-01-01 00:00:00 UTC, and a name of at most 255 bytes. Into a
+    /// full log it comes in place of the oldest one. It takes no memory.
     pub fn push(
         &mut self,
         moment: u64,

@@ -146,10 +146,10 @@ fn climb<L: Ledger>(
     }
 }
 
-/// The screen that judges a name which a file is given in a folder: the nearest active one that applies, else the nearest
-/// passive one. A screen applies, on the way from the folder up to the root, to a name that is in one of its groups, unless
-/// an exception nearer to the folder than the screen has the name in one of its groups. None exactly if none applies. It
-/// takes at most one look for each folder on the way, and no memory.
+/// The screen that judges a name which a file is given in a folder: the nearest active one that applies, else the
+/// nearest passive one. A screen applies, on the way from the folder up to the root, to a name that is in one of its
+/// groups, unless an exception nearer to the folder than the screen has the name in one of its groups. None exactly if
+/// none applies. It takes at most one look for each folder on the way, and no memory.
 pub fn blocked<L: Ledger>(
     tree: &Tree,
     objects: &Objects,

@@ -9,7 +9,7 @@ use Rattle.fsrm_model.specs.Leads.{leads_to_folder}
 use Rattle.fsrm_model.specs.Tree.{last_name}
 
 -- A folder is made that gets a quota, or a folder moves: what is in it may be summed up, and it may get a quota. No other
--- operation can want memory
+-- operation can run out of memory
 abbrev pub may_want_memory : Rows → FileOp → Bool
 may_want_memory R (Mkdir path owner) = is_some (template_for R.autos (target_folder R.nodes path) (last_name path))
 may_want_memory R (Move from to) = leads_to_folder R.nodes from

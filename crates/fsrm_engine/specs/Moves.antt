@@ -18,7 +18,7 @@ use Rattle.fsrm_engine.specs.Machine.{rows_of}
 use Rattle.fsrm_engine.specs.Places.{IsPlace}
 use Rattle.fsrm_engine.specs.Arrivals.{moved_source, source_fault}
 
--- paths name what moves and where to, and the tree has nothing against it
+-- paths name what moves and where it goes, and the tree has nothing against it
 pub record IsMove (v : Volume) (from to : List (List ℕ)) (m : Moving) : Type 0 where
   pub resolved : resolve v.nodes from ≡ Some m.node
   pub inner : (m.node == 0) ≡ false
@@ -38,7 +38,7 @@ abbrev pub judged_move : Parts → Moving → Option Blocked
 judged_move parts m =
     if m.folder then None else option_map told (judging (rows_of parts) m.place.folder m.place.name.now)
 
--- the bytes that move. If there is no quota, and none comes, they may be any number up to that
+-- the bytes that move. If there is no quota, and none comes, they may be any number up to the node's usage
 pub record AreMoved (parts : Parts) (node : ℕ) (source : Option ℕ) (bytes : ℕ) : Type 0 where
   pub few : bytes ≤ usage parts.tree.size parts.tree.nodes node
   pub all : (is_some source || nat_lt 0 (length parts.objects.quotas)) ≡ true → bytes ≡ usage parts.tree.size parts.tree.nodes node

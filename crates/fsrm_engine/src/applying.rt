@@ -68,7 +68,8 @@ pub fn derived_rows<L: Ledger>(
 }
 
 impl Parts {
-    /// Refuses so many quotas of a template if there would be more than 4,096 quotas, else if their texts are longer than `room`.
+    /// Refuses so many quotas of a template if there would be more than 4,096 quotas, else if their texts are longer
+    /// than `room`.
     pub(crate) fn may_derive(&self, template: u32, count: usize, room: u32) -> Result<(), Refusal>
         requires whole { IsWhole self.now }
         requires there { has_row template_number template self.now.templates.templates ≡ true }
@@ -87,8 +88,8 @@ impl Parts {
         Ok(())
     }
 
-    /// Puts quotas on folders that have none, and those that are to be scanned into the queue, one after another. An `Err`
-    /// changes nothing.
+    /// Puts quotas on folders that have none, and those that are to be scanned into the queue, one after another. An
+    /// `Err` changes nothing.
     pub(crate) fn receive(&mut self, rows: Vec<QuotaRow>) -> Result<(), NoMemory>
         requires sound { IsSound self.old }
         requires queue { IsQueue self.old.objects.quotas self.old.scans.queue }

@@ -1,5 +1,5 @@
-//! The quota that a folder gets when it is made or moved: one of the template of the auto-apply quota of the folder that it
-//! stands in.
+//! The quota that a folder gets when it is made or moved, if the folder that it then stands in has an auto-apply quota:
+//! one of that one's template.
 
 ghost use Rattle.std.specs.Prelude.{◌≡◌, ◌+◌, ◌*◌, ◌≤◌, ◌==◌, true, false, length, is_some, IfErr, IfOk, IfSome, OnErr, OnOk, Some, None};
 ghost use Rattle.fsrm_base.specs.Keyed.{has_row};
@@ -22,8 +22,8 @@ use std::alloc::Global;
 use volume_tree::Finger;
 
 impl Parts {
-    /// Refuses the quota that a template is to give, if there is one, for which there is no room: too many quotas, or too long
-    /// texts.
+    /// Refuses a quota that is to come of a template, if one is named and there is no room: there would be too many
+    /// quotas, or too long texts.
     pub(crate) fn may_come(&self, source: Option<u32>) -> Result<(), Refusal>
         requires whole { IsWhole self.now }
         requires there { IfSome source (λ template. has_row template_number template self.now.templates.templates ≡ true) }
@@ -112,9 +112,9 @@ impl Parts {
         Ok(node)
     }
 
-    /// Gives a folder that is about to move the quota of its new place, if it gets one. What stands in the folder moves with it,
-    /// so the quota is the same as if it were given after the move. Memory can run out only if it gets one. An `Err` changes
-    /// nothing.
+    /// Gives a folder that is about to move the quota of its new place, if it gets one. What stands in the folder moves
+    /// with it, so the quota is the same as if it were given after the move. Memory can run out only if it gets one. An
+    /// `Err` changes nothing.
     pub(crate) fn receive_moved<L: Ledger>(
         &mut self,
         alloc: Global,

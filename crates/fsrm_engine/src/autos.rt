@@ -125,7 +125,8 @@ fn given_folders<L: Ledger>(
 }
 
 impl Parts {
-    // Refuses an auto-apply quota that gives so many quotas, if there would be too many of either or their texts too long.
+    // Refuses an auto-apply quota that gives so many quotas, if there would be too many of either or their texts too
+    // long.
     fn may_apply(&self, row: &AutoRow, count: usize) -> Result<(), Refusal>
         requires whole { IsWhole self.now }
         requires there { has_row template_number row.now.template self.now.templates.templates ≡ true }
@@ -174,8 +175,8 @@ impl Parts {
         Ok(Ok(rows))
     }
 
-    // Puts an auto-apply quota on a folder that has none, and the quotas that it gives on their folders. An `Err` changes
-    // nothing.
+    // Puts an auto-apply quota on a folder that has none, and the quotas that it gives on their folders. An `Err`
+    // changes nothing.
     fn apply_auto(&mut self, row: AutoRow, rows: Vec<QuotaRow>) -> Result<(), NoMemory>
         requires whole { IsWhole self.old }
         requires absent { has_row auto_folder row.folder self.old.templates.autos ≡ false }
@@ -199,8 +200,8 @@ impl Parts {
         Ok(())
     }
 
-    /// Gives a folder an auto-apply quota, and quotas of its template to the folders in it, but for those whose names it
-    /// excludes and those that have one.
+    /// Gives a folder an auto-apply quota, and quotas of its template to the folders in it, but for those whose names
+    /// it excludes and those that have one.
     pub(crate) fn auto_add<L: Ledger>(
         &mut self,
         alloc: Global,

@@ -122,8 +122,8 @@ impl Parts {
         self.objects.set_state(folder, QuotaState::Rebuilding);
     }
 
-    /// A folder's quota, which didn't count, counts from now on, beginning with what is used. That ends the command: the
-    /// quota's peak may rise, the actions run of the thresholds that it reaches, and the moment is the last one.
+    /// A folder's quota, which didn't count, counts from now on, beginning with what is used. That ends the command:
+    /// the quota's peak may rise, the actions run of the thresholds that it reaches, and the moment is the last one.
     pub(crate) fn complete(&mut self, folder: u32, used: u64, moment: u64)
         requires counted { AreCounted self.old }
         requires idle { IsIdle self.old }

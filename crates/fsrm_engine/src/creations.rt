@@ -42,8 +42,8 @@ impl Parts {
         }
     }
 
-    /// Makes a folder. If the folder that it stands in has an auto-apply quota that doesn't leave it out, it gets a quota: only
-    /// then can memory run out.
+    /// Makes a folder. If the folder that it stands in has an auto-apply quota that doesn't leave it out, it gets a
+    /// quota: only then can memory run out.
     pub(crate) fn mkdir<L: Ledger>(
         &mut self,
         alloc: Global,

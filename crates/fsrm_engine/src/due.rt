@@ -86,7 +86,8 @@ impl Parts {
         }
     }
 
-    /// Makes a change of the counters, raises the peaks of the folders that gained, and has the actions run that are due.
+    /// Makes a change of the counters, raises the peaks of the folders that gained, and has the actions run that are
+    /// due.
     pub(crate) fn charge<L: Ledger>(&mut self, change: &Change, moment: u64, steps: &mut Steps<L>)
         requires volume { IsVolume self.old.tree.size self.old.tree.nodes }
         requires quotas { are_orderly self.old.objects.quotas ≡ true }
@@ -127,8 +128,8 @@ impl Parts {
         );
     }
 
-    // Has the actions of a folder's quota run that are due once it uses so much, where it used so much before; None is used
-    // if it doesn't count. `before` is the row as it was; None says that its limit and thresholds stayed.
+    // Has the actions of a folder's quota run that are due once it uses so much, where it used so much before; None is
+    // used if it doesn't count. `before` is the row as it was; None says that its limit and thresholds stayed.
     fn settle_used(
         &mut self,
         folder: u32,
@@ -155,8 +156,8 @@ impl Parts {
         );
     }
 
-    /// Has the actions of a folder's quota run that are due, since a command changed its row, or what it uses. `before` is
-    /// the row as it was; None says that its limit and thresholds stayed. What it used is None if it didn't count.
+    /// Has the actions of a folder's quota run that are due, since a command changed its row, or what it uses. `before`
+    /// is the row as it was; None says that its limit and thresholds stayed. What it used is None if it didn't count.
     pub(crate) fn settle_quota(
         &mut self,
         folder: u32,

@@ -34,7 +34,7 @@ use volume_tree::Tree;
 pub struct Settings {
     /// Minutes: what an action's run limit of -1 stands for.
     pub run_limit: u32,
-    /// How many quotas wait to be scanned.
+    /// How many quotas wait to be scanned, the active one's among them.
     pub scans: u32,
     /// The moment of the last command that lasts, in seconds since 1970-01-01 00:00:00 UTC.
     pub last_moment: u64,
@@ -146,8 +146,8 @@ impl Engine {
     }
 
     /// Hands out the first act that waits, which waits no longer: those of a screen come first, in the order of their
-    /// places, and then those of quotas, in the order of folders, percentages and places. None exactly if none waits. The
-    /// action that it names is there.
+    /// places, and then those of quotas, in the order of folders, percentages and places. None exactly if none waits.
+    /// The action that it names is there.
     pub fn next_act(&mut self) -> Option<Act>
         ensures handed_out { MatchOption result (self.old.waiting ≡ []) (λ act. self.old.waiting ≡ act ∷ self.new.waiting) }
         ensures named { IfSome result (λ act. IsAct self.new.rows act) }
@@ -189,7 +189,7 @@ impl Engine {
     }
 
     /// Takes a file operation at this moment, in seconds since 1970-01-01 00:00:00 UTC, when no act waits. What its
-    /// answer names is there. An `Err` changes nothing, and says that memory ran out: that can only be where a folder is
+    /// answer names is there. An `Err` changes nothing, and says that memory ran out: that can be only if a folder is
     /// made that gets a quota by auto-apply, or a folder moves.
     pub fn file_op<L: Ledger>(
         &mut self,

@@ -91,8 +91,8 @@ fn without(alloc: Global, removed: &[u32], numbers: &[u32]) -> Result<List<u32>,
     Ok(kept)
 }
 
-/// Groups of which some are removed, and then others are added, by their names. None if a name is no group's, or if what is
-/// removed isn't there, or is named twice.
+/// Groups of which some are removed, and then others are added, by their names. None if a name is no group's, or if
+/// what is removed isn't there, or is named twice.
 pub fn changed_groups(
     alloc: Global,
     groups: &Groups,

@@ -10,8 +10,9 @@
 //! A command may leave acts that wait: actions of a screen and of thresholds that ran. `next_act` hands them out one by
 //! one, and the next command is taken once none waits.
 //!
-//! In every command what can refuse comes first, then what takes memory, and then what can't fail. Only two commands undo
-//! a first step if memory runs out in the second: a folder is made and gets a quota, and an auto-apply quota gives quotas.
+//! In every command what can refuse and what takes memory come before the first change, and then what can't fail. Only
+//! two undo a first step if memory runs out in the second: a folder is made and gets a quota, and an auto-apply quota
+//! gives quotas.
 #![tactic(auto)]
 
 mod acts;

@@ -1,5 +1,5 @@
-//! Moves: what moves is taken from the quotas on the old way up and given to those on the new one. A folder may get a quota at
-//! its new place.
+//! Moves: what moves is taken from the quotas on the old way up and given to those on the new one. A folder may get a
+//! quota at its new place.
 
 ghost use Rattle.std.specs.Prelude.{◌≡◌, ℕ, ◌+◌, ◌*◌, ◌≤◌, true, length, IfErr, IfOk, OnErr, Some};
 ghost use Rattle.fsrm_model.specs.declared.command.Deed.TheVariants.{File};
@@ -29,7 +29,7 @@ use std::alloc::Global;
 use templates::Templates;
 use volume_tree::ReadyMove;
 
-/// A node that moves, as it is before, and the place that it goes to.
+/// A node that moves, as it is before the move, and the place that it goes to.
 #[derive(Clone, Copy)]
 pub struct Moving<'a> {
     pub node: u32,
@@ -93,8 +93,9 @@ impl Parts {
         Ok((moving, ready))
     }
 
-    // The bytes that move with a node. A file's are those that it takes. A folder's are added up, and that takes memory; none are
-    // if there is no quota, and none comes. (If one comes and there is no other, nothing asks for them either.)
+    // The bytes that move with a node. A file's are those that it takes. A folder's are added up, which takes memory;
+    // they aren't if there is no quota and none comes. (If one comes and there is no other, nothing asks for them
+    // either.)
     fn moved_bytes<L: Ledger>(
         &self,
         alloc: Global,
@@ -119,8 +120,8 @@ impl Parts {
         usage_of(&self.tree, alloc, moving.node, steps)
     }
 
-    /// Moves a file, or a folder with all that is in it, if no screen blocks the file's new name and no quota refuses it. A
-    /// folder gets a quota if its new place gives it one. Memory can run out only for a folder.
+    /// Moves a file, or a folder with all that is in it, if no screen blocks the file's new name and no quota refuses
+    /// it. A folder gets a quota if its new place gives it one. Memory can run out only for a folder.
     pub(crate) fn move_path<L: Ledger>(
         &mut self,
         alloc: Global,

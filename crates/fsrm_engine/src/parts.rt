@@ -22,11 +22,11 @@ use templates::Templates;
 use thresholds::Marks;
 use volume_tree::Tree;
 
-// What a new engine is set to, in minutes.
+// The run limit of a new engine, in minutes.
 const RUN_LIMIT: u32 = 60;
 
-/// The tree, the objects on it, the file groups, the quota templates and the auto-apply quotas, what is used below each quota
-/// that counts, the scans, the actions that wait, and the log of the names that screens judged.
+/// The tree, the objects on it, the file groups, the quota templates and the auto-apply quotas, what is used below each
+/// quota that counts, the scans, the actions that wait, and the log of the names that screens judged.
 #[derive(Drop)]
 pub struct Parts {
     pub(crate) tree: Tree,
@@ -39,7 +39,8 @@ pub struct Parts {
     // Which actions ran and wait to be handed out, and the log of those that ran.
     pub(crate) marks: Marks,
     pub(crate) audit: Audit,
-    // The places of the quotas that cross a threshold in a command, until they are settled: between commands there is none.
+    // The places of the quotas that cross a threshold in a command, until they are settled: between commands there is
+    // none.
     pub(crate) crossing: NumberSet,
     // Minutes: what an action's -1 stands for.
     pub(crate) run_limit: u32,
@@ -60,8 +61,8 @@ impl Parts {
         Parts::over(alloc, tree, scans)
     }
 
-    // Those over a tree, without objects. What has memory of its own comes in two steps, as the proof of a function is the
-    // longer the more of it the function owns.
+    // Those over a tree, without objects. What has memory of its own comes in steps, since the proof of a function
+    // takes longer the more such parts it owns.
     fn over(alloc: Global, tree: Tree, scans: Scans) -> Result<Parts, NoMemory>
         ensures { IfOk result (λ parts. parts ≡ bare tree scans) }
     {
@@ -138,7 +139,7 @@ impl Parts {
         self.last_moment = moment;
     }
 
-    /// The answer to a file operation of this moment that was done. A passive screen may report it.
+    /// Ends a file operation of this moment that was done, and gives its answer. A passive screen may report it.
     pub(crate) fn done_under(&mut self, judged: Option<Blocked>, moment: u64) -> Answer
         requires counted { AreCounted self.old }
         requires moment { moment ≤ latest_moment }
@@ -155,7 +156,7 @@ impl Parts {
         }
     }
 
-    /// The answer to a command of this moment that was done.
+    /// Ends a command of this moment that was done, and gives its answer.
     pub(crate) fn done(&mut self, moment: u64) -> Answer
         requires counted { AreCounted self.old }
         requires moment { moment ≤ latest_moment }

@@ -110,8 +110,8 @@ impl Parts {
         }
     }
 
-    /// Changes what is given of a template: its limit, its type, its thresholds. Then the quotas that were derived from it
-    /// take what it says, as far as the update reaches them.
+    /// Changes what is given of a template: its limit, its type, its thresholds. Then the quotas that were derived from
+    /// it take what it says, as far as the update reaches them.
     pub(crate) fn template_modify(
         &mut self,
         alloc: Global,
@@ -156,7 +156,8 @@ impl Parts {
         }
     }
 
-    /// Takes a template away, if no auto-apply quota names it. The quotas that were derived from it stay, without a template.
+    /// Takes a template away, if no auto-apply quota names it. The quotas that were derived from it stay, without a
+    /// template.
     pub(crate) fn template_delete(&mut self, name: &Text, moment: u64) -> Answer
         requires whole { IsWhole self.old }
         requires idle { IsIdle self.old }

@@ -73,8 +73,8 @@ fn modified(
 }
 
 impl Parts {
-    // A folder's quota before the options of a command change it: that of a template, if one is named, else a hard one without
-    // thresholds. None if no template has the name.
+    // A folder's quota before the options of a command change it: that of a template, if one is named, else a hard one
+    // without thresholds. None if no template has the name.
     fn first_quota(
         &self,
         alloc: Global,

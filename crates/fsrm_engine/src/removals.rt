@@ -93,8 +93,8 @@ impl Parts {
         self.done(moment)
     }
 
-    // Removes a folder, and with it its quota and its scan, its auto-apply quota, its screen and its exception. The path stands
-    // here for the clauses alone.
+    // Removes a folder, and with it its quota and its scan, its auto-apply quota, its screen and its exception. The
+    // path stands here for the clauses alone.
     fn remove_folder<L: Ledger>(
         &mut self,
         path: &Path,

@@ -60,8 +60,8 @@ impl Parts {
         self.scans.visit(&self.tree, n, steps)
     }
 
-    // Ends the active scan, which has nothing more to visit: its quota counts from now on, and the next scan begins. The
-    // quota may have reached thresholds. It gives what the quota's folder uses.
+    // Ends the active scan, which has nothing more to visit: its quota counts from now on, and the next scan begins.
+    // The quota may have reached thresholds. It gives what the quota's folder uses.
     fn finish(&mut self, folder: u32, moment: u64) -> u64
         requires whole { IsWhole self.old }
         requires idle { IsIdle self.old }

@@ -1,5 +1,5 @@
-//! What screens do to a file operation: they judge the name that it gives a file. The active screen that judges a name blocks
-//! it, and a passive one reports it.
+//! What screens do to a file operation: they judge the name that it gives a file. The active screen that judges a name
+//! blocks it, and a passive one reports it.
 
 ghost use Rattle.std.specs.Prelude.{◌≡◌, ◌+◌, ◌*◌, ◌≤◌, [], length, true, false, Some, None, MatchOption, option_map, if◌then◌else◌};
 ghost use Rattle.fsrm_model.specs.declared.command.Outcome.TheVariants.{Done};
@@ -98,8 +98,8 @@ impl Parts {
         }
     }
 
-    /// Ends an operation that gave a file a name, once the tree and the scans have it: a passive screen may report the name,
-    /// and then the change of the counters is made. The answer says that it was done.
+    /// Ends an operation that gave a file a name, once the tree and the scans have it: a passive screen may report the
+    /// name, and then the change of the counters is made. The answer says that it was done.
     pub(crate) fn end_named<L: Ledger>(
         &mut self,
         judged: Option<Blocked>,

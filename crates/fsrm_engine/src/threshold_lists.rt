@@ -130,8 +130,8 @@ fn add_notices(
     Ok(())
 }
 
-/// What a command does to the thresholds of a quota or a template: some percentages are removed, then some are added, and
-/// then some are given an action each.
+/// What a command does to the thresholds of a quota or a template: some percentages are removed, then some are added,
+/// and then some are given an action each.
 #[derive(Clone, Copy)]
 pub struct ThresholdChange<'a> {
     pub removed: &'a [u16],

@@ -17,7 +17,7 @@ use fsrm_objects::Objects;
 use quota_usage::Usage;
 use thresholds::Marks;
 
-// Settles quotas that had these rows before, one after the other. What they use stayed.
+// Settles quotas that had these rows before, one after the other. What they use is as before.
 fn settle_rows(
     usage: &Usage,
     objects: &mut Objects,

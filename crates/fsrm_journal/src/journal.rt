@@ -133,8 +133,8 @@ impl Journal {
         Ok((journal, head))
     }
 
-    /// Fills `into` with the next bytes of the image, and answers how many. Into room that is 0 only at the image's end,
-    /// or at the half's if that comes first.
+    /// Fills `into` with the next bytes of the image, and answers how many. Into room that is 0 only at the image's
+    /// end, or at the half's if that comes first.
     pub fn read_image<D: Disk>(
         &mut self,
         disk: &mut D,
@@ -159,9 +159,9 @@ impl Journal {
         Ok(count)
     }
 
-    /// The place and the length of the next record's body, with which `into` then begins. `None` exactly at the first closed
-    /// gate. `Damaged` exactly at a gate that is missing, at a length that isn't there or isn't legal, or at a body that isn't
-    /// there whole.
+    /// The place and the length of the next record's body, with which `into` then begins. `None` exactly at the first
+    /// closed gate. `Damaged` exactly at a gate that is missing, at a length that isn't there or isn't legal, or at a
+    /// body that isn't there whole.
     pub fn next<D: Disk>(
         &mut self,
         disk: &mut D,

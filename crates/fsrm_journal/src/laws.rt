@@ -5,7 +5,8 @@ ghost use Rattle.fsrm_outside.specs.Parts.{Parts, part_of};
 ghost use Rattle.fsrm_journal.specs.Next.{record_at};
 ghost use Rattle.fsrm_journal.specs.Records.{records, Holds, Log};
 
-/// A reader that begins after the lead comes to each record that the parts hold, in order, and stops after the last one.
+/// A reader that begins after the lead comes to each record that the parts hold, in order, and stops after the last
+/// one.
 pub fn records_are_read()
     ensures each { (log : Log) (before after : List (List ℕ)) (body : List ℕ) (parts : Parts) → Holds log (before ++ body ∷ after) parts
         → 1 ≤ length body → length body ≤ 131072

@@ -30,7 +30,7 @@ is_auto auto = nat_le (length auto.excluded) most_excluded && list_all is_name a
 abbrev pub excludes : AutoRow → List ℕ → Bool
 excludes auto name = list_any (λ excluded. same_name excluded name) auto.excluded
 
--- the number of the template of which a folder gives the folders of a name in it their quotas
+-- the number of the template of which a folder of this name in this folder gets a quota
 abbrev pub template_for : List AutoRow → ℕ → List ℕ → Option ℕ
 template_for autos folder name =
     option_and_then (λ auto. if excludes auto name then None else Some auto.template) (row_of auto_folder folder autos)

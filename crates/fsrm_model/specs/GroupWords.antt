@@ -6,7 +6,7 @@ use Rattle.fsrm_model.specs.Limits.{most_patterns}
 use Rattle.fsrm_model.specs.Patterns.{is_object_name, is_pattern}
 use Rattle.fsrm_model.specs.Reading.{Read, ◌>>=◌, guarded}
 
--- the name of a group
+-- the name of a group or a template
 abbrev pub object_from : List ℕ → Read (List ℕ)
 object_from text = guarded (is_object_name text) InvalidName text
 

@@ -7,12 +7,14 @@ use crate::path::Path;
 use crate::row::{Action, ActionKind};
 use fsrm_base::{List, Text};
 
-/// Why a command is refused. A refused command changes nothing, with two exceptions. A name that a screen blocks leaves its
-/// entry in the audit log and has the screen's actions run that are due. A file operation that a quota refuses may have
-/// actions that are due. The refusals up to `InvalidLimit` come from reading the line, `OutOfRange` from the tables too.
+/// Why a command is refused. A refused command changes nothing, with two exceptions. A name that a screen blocks leaves
+/// its entry in the audit log and has the screen's actions run that are due. A file operation that a quota refuses has
+/// those actions of the quota run that are due. The refusals up to `InvalidLimit` come from reading the line,
+/// `OutOfRange` from the command, too.
 #[derive(Clone, Copy, Debug, PartialEq, Eq)]
 pub enum Refusal {
-    /// A word of the line hasn't its form, or is missing. The column counts bytes from 1.
+    /// At this column, in bytes from 1, a word hasn't its form, is missing or is one too many, an option is unknown or
+    /// given twice, a quote isn't ended, or a character isn't UTF-8.
     BadLine { column: u32 },
     /// The line has more than 65,536 bytes.
     LineTooLong,
@@ -21,18 +23,18 @@ pub enum Refusal {
     /// A name isn't one (MS-FSRM, FSRM_E_INVALID_NAME).
     InvalidName,
     /// A number isn't in its range, or a list would be too long: a quota or a template has at most 16 thresholds, a
-    /// threshold or a screen at most 8 actions, an auto-apply quota at most 32 excluded names, a list of patterns at most
-    /// 64 of them, and a screen or an exception at most 16 file groups (MS-FSRM, FSRM_E_OUT_OF_RANGE).
+    /// threshold or a screen at most 8 actions, an auto-apply quota at most 32 excluded names, a list of patterns at
+    /// most 64 of them, and a screen or an exception at most 16 file groups (MS-FSRM, FSRM_E_OUT_OF_RANGE).
     OutOfRange,
     /// A quota's limit is below 1,024 bytes or above 2^60 (MS-FSRM, FSRM_E_INVALID_LIMIT).
     InvalidLimit,
-    /// The command's moment is earlier than that of the last command that lasts.
+    /// The command's moment is earlier than that of the last command that lasted.
     ClockBack,
-    /// A path, or the folder that it names a node in, leads to nothing of the kind that is asked
-    /// for (MS-FSRM, FSRM_E_PATH_NOT_FOUND).
+    /// A path, or a path without its last name, leads to nothing of the kind that is wanted (MS-FSRM,
+    /// FSRM_E_PATH_NOT_FOUND).
     PathNotFound,
-    /// The folder has no such object; no template or no file group has the name; or what is to be removed, a threshold of
-    /// a quota or a template or a file group of a screen, isn't there or is named twice (MS-FSRM, FSRM_E_NOT_FOUND).
+    /// The folder has no such object; no template or no file group has the name; or what is to be removed, a threshold
+    /// of a quota or a template or a file group of a screen, isn't there or is named twice (MS-FSRM, FSRM_E_NOT_FOUND).
     NotFound,
     /// The place is taken, or the folder has such an object (MS-FSRM, FSRM_E_ALREADY_EXISTS).
     AlreadyExists,
@@ -40,18 +42,18 @@ pub enum Refusal {
     DuplicateName,
     /// An auto-apply quota names the template, or a screen or an exception the file group.
     InUse,
-    /// A quota that is disabled isn't scanned. A folder doesn't have both a screen and an exception, and a screen has at
-    /// least one file group (MS-FSRM, FSRM_E_INVALID_COMBINATION).
+    /// The quota is disabled, so it can't be scanned; or a folder would have both a screen and an exception, or a
+    /// screen no file group (MS-FSRM, FSRM_E_INVALID_COMBINATION).
     InvalidCombination,
     /// The folder has a child.
     NotEmpty,
-    /// The root isn't moved or removed, nor a folder moved to a place below itself.
+    /// The root can't be moved or removed, nor a folder moved below itself.
     InvalidMove,
     /// No scan is active.
     NothingToScan,
     /// The store holds as many nodes as it may.
     VolumeFull,
-    /// The names of all nodes would have more bytes than the store holds.
+    /// The names of all nodes would have more bytes than the store may hold.
     NamesFull,
     /// There would be more than 4,096 quotas, screens or exceptions, or more than 1,024 templates, auto-apply quotas or
     /// file groups.
@@ -61,7 +63,7 @@ pub enum Refusal {
     /// The file would get a name that a screen blocks. `screen` is the screen's folder. It is the nearest active screen
     /// that applies to the name.
     ScreenBlocked { screen: u32 },
-    /// The usage of a folder with a hard quota would rise, and above the limit. It is the deepest such
+    /// The usage of a folder with a hard quota that counts would rise, and above the limit. It is the deepest such
     /// folder. `would` is what the files at and below it would take, in bytes.
     QuotaExceeded { folder: u32, would: u64, limit: u64 },
 }
@@ -69,8 +71,8 @@ pub enum Refusal {
 /// A file operation.
 #[derive(Drop)]
 pub enum FileOp {
-    /// Makes a folder. If the folder that it is made in has an auto-apply quota that doesn't exclude its name, it gets a
-    /// quota, or is refused if there is no room for one (TableFull, TextsFull).
+    /// Makes a folder. If the folder that it is made in has an auto-apply quota that doesn't exclude its name, the new
+    /// folder gets a quota, or the operation is refused if there is no room for one (TableFull, TextsFull).
     Mkdir { path: Path, owner: u32 },
     /// Makes a file of this length, in bytes.
     Create { path: Path, length: u64, owner: u32 },
@@ -78,13 +80,15 @@ pub enum FileOp {
     Resize { path: Path, length: u64 },
     /// Notes that a file was read.
     Touch { path: Path },
-    /// Gives a node another place, and that place's spelling. A folder without a quota may get one there, as at `Mkdir`.
+    /// Gives a node another place, and that place's spelling. A folder without a quota may get one there, as at
+    /// `Mkdir`.
     Move { from: Path, to: Path },
     /// Takes away a file, or a folder without children.
     Remove { path: Path },
 }
 
-/// An action that a threshold gets; a quota that hasn't the threshold gets that too. The action has no last run.
+/// An action that a threshold gets; a quota or a template that hasn't the threshold gets that, too. The action has no
+/// last run.
 #[derive(Drop)]
 pub struct Added {
     /// 1 to 250.
@@ -92,8 +96,8 @@ pub struct Added {
     pub action: Action,
 }
 
-/// Which of the quotas that were derived from a template its change reaches (MS-FSRM, FsrmTemplateApplyOptions). Each of them
-/// gets the template's limit, type and thresholds, whose actions never ran; its state and its peak stay.
+/// Which of the quotas that were derived from a template its change reaches (MS-FSRM, FsrmTemplateApplyOptions). Each
+/// of them gets the template's limit, type and thresholds, whose actions never ran; its state and its peak stay.
 #[derive(Clone, Copy, Debug, PartialEq, Eq)]
 pub enum Update {
     /// None of them.
@@ -107,10 +111,10 @@ pub enum Update {
 /// What a command on a quota is to do.
 #[derive(Drop)]
 pub enum QuotaDeed {
-    /// Limits what the files at and below a folder take, in bytes (MS-FSRM, IFsrmQuota). A hard quota is enforced, a soft
-    /// one only watches. Its limit, its type and its thresholds are those of its template, if one is given; without one it
-    /// is hard and has no thresholds. A limit and a type that are given count in place of these. To its thresholds come the
-    /// percentages that are added, and those that are given an action.
+    /// Limits what the files at and below a folder take, in bytes (MS-FSRM, IFsrmQuota). A hard quota is enforced, a
+    /// soft one only watches. Its limit, its type and its thresholds are those of its template, if one is given;
+    /// without one it is hard and has no thresholds. A limit and a type that are given count in place of these. To its
+    /// thresholds come the percentages that are added, and those that are given an action.
     Add {
         path: Path,
         limit: Option<u64>,
@@ -140,7 +144,7 @@ pub enum QuotaDeed {
     Scan {
         path: Path,
     },
-    /// Makes what is used now the peak (MS-FSRM, ResetPeakUsage).
+    /// Makes what is used now the peak, or 0 if the quota doesn't count (MS-FSRM, ResetPeakUsage).
     Resetpeak {
         path: Path,
     },
@@ -185,8 +189,8 @@ pub enum TemplateDeed {
 /// What a command on an auto-apply quota is to do.
 #[derive(Drop)]
 pub enum AutoquotaDeed {
-    /// Gives each folder in a folder a quota of a template, and each that is made in it or moved into it later (MS-FSRM,
-    /// IFsrmAutoApplyQuota). Folders with an excluded name get none, nor does one that has a quota.
+    /// Gives each folder in a folder a quota of a template, and each that is made in it or moved into it later
+    /// (MS-FSRM, IFsrmAutoApplyQuota). Folders with an excluded name get none, nor does one that has a quota.
     Add {
         path: Path,
         source_template: Text,
@@ -228,8 +232,8 @@ pub enum FilegroupDeed {
 #[derive(Drop)]
 pub enum ScreenDeed {
     /// Keeps the names of file groups out of a folder and of all that is below it (MS-FSRM, IFsrmFileScreen). An active
-    /// screen blocks them, a passive one reports them. A group that is named twice is kept once. It has 1 to 16 groups
-    /// and at most 8 actions, and its folder no exception.
+    /// screen blocks them, a passive one reports them. A group that is named twice is kept once. The screen has 1 to 16
+    /// groups and at most 8 actions, and its folder no exception.
     Add {
         path: Path,
         active: bool,
@@ -237,7 +241,7 @@ pub enum ScreenDeed {
         add_notification: List<Action>,
     },
     /// Makes a screen active or passive. Of its groups some are removed, and then groups are added. A group that is
-    /// removed must be the screen's, and named once. Its actions stay.
+    /// removed must be the screen's, and named once. The screen's actions stay.
     Modify {
         path: Path,
         active: Option<bool>,
@@ -281,8 +285,8 @@ pub enum AdminDeed {
     Log,
 }
 
-/// What a command is to do. It has a field for each of its options, in the order of the command's syntax. A field that
-/// is None was not given; what stands for it then is the command's to say.
+/// What a command is to do. Each command has a field for each of its values and options, in the order of `specs/Tools`.
+/// A field that is None wasn't given; what stands for it then is the command's to say.
 #[derive(Drop)]
 pub enum Deed {
     File(FileOp),
@@ -340,8 +344,8 @@ pub enum Outcome {
         bytes: u64,
     },
     Listing(Ask),
-    /// Folders that the scan of a folder visited, and, if it is finished, the bytes that the files at and below
-    /// the folder take.
+    /// How many folders the scan of `folder` visited, and, if it is finished, the bytes that the files at and below
+    /// that folder take.
     Scanned {
         folder: u32,
         visited: u32,

@@ -219,7 +219,8 @@ pub fn plain_machine()
     // A line that is refused as it is read changes nothing.
     ensures unread_rows { (K : Capacity) (R : Rows) (n : ℕ) (line : List ℕ) (refusal : Refusal) → read_line (without_cr line) ≡ Some (Err refusal) → (replied K R n line).rows ≡ R }
     ensures unread_text { (K : Capacity) (R : Rows) (n : ℕ) (line : List ℕ) (refusal : Refusal) → read_line (without_cr line) ≡ Some (Err refusal) → (replied K R n line).text ≡ reply K R 0 n (Refused refusal) }
-    // A command that is refused changes nothing, unless a screen blocks a name, or a quota refuses it and actions are due.
+    // A command that is refused changes nothing, unless a screen blocks a name, or a quota refuses it and actions are
+    // due.
     ensures refused { (K : Capacity) (R : Rows) (c : Command) (refusal : Refusal) → (step K R c).outcome ≡ Refused refusal → ((step K R c).rows ≡ R) ⊎ (may_leave K R c.moment (work K R c.moment c.deed) refusal ≡ true) }
     // Then these have run, and nothing else is left but their entries, that of the blocked name, the moment, and peaks
     // that were too low.
@@ -276,8 +277,8 @@ pub fn due_actions()
 {}
 
 /// The acts of a command: first those of the screen that judges a name, in the order of their places, and then those of
-/// quotas in the order of folders, percentages and places, each once. Each act names an action that is there in the rows
-/// after it.
+/// quotas in the order of folders, percentages and places, each once. Each act names an action that is there in the
+/// rows after it.
 pub fn acts()
     ensures first { (K : Capacity) (R : Rows) (c : Command) → IsValid K R → is_command c ≡ true → (step K R c).acts ≡ of_screens (step K R c).acts ++ of_quotas (step K R c).acts }
     ensures places { (K : Capacity) (R : Rows) (c : Command) → IsValid K R → is_command c ≡ true → are_in_order (of_screens (step K R c).acts) ≡ true }

@@ -140,8 +140,8 @@ pub struct TemplateRow {
     pub thresholds: List<Threshold>,
 }
 
-/// An auto-apply quota: each folder that stands in the folder when it is added, and each that is made in the folder or moved
-/// into it later, gets a quota from the template, if it has none (MS-FSRM, IFsrmAutoApplyQuota).
+/// An auto-apply quota: each folder that stands in the folder when it is added, and each that is made in the folder or
+/// moved into it later, gets a quota from the template, if it has none (MS-FSRM, IFsrmAutoApplyQuota).
 #[derive(Drop)]
 pub struct AutoRow {
     pub folder: u32,

@@ -21,8 +21,8 @@ use fsrm_model::{ExceptRow, NoMemory, QuotaRow, QuotaState, ScreenRow};
 use std::alloc::Global;
 use std::marker::Model;
 
-/// The objects of a store. Contracts see the rows of each table, ascending by folder, each folder at most once, and for how
-/// many quotas there is memory in any case: none, or after `make_room` all.
+/// The objects of a store. Contracts see the rows of each table, ascending by folder, each folder at most once, and for
+/// how many quotas there is memory in any case: none, or after `make_room` all.
 #[derive(Drop)]
 pub struct Objects {
     quotas: Vec<QuotaRow>,
@@ -237,7 +237,8 @@ impl Objects {
         self.texts
     }
 
-    /// How many quotas there are, at most 4,096. `kept` says that they ascend by folder, and how long the texts of each may be.
+    /// How many quotas there are, at most 4,096. `kept` says that they ascend by folder, and how long the texts of each
+    /// may be.
     pub fn quota_count(&self) -> u32
         ensures count { result ≡ length self.now.quotas }
         ensures kept { AreSmallQuotas self.now.quotas }

@@ -131,8 +131,8 @@ impl Objects {
         self.screen_places.remove(folder);
     }
 
-    /// Notes that an action of a folder's screen ran at a moment, in seconds since 1970-01-01 00:00:00 UTC: the one at a place,
-    /// from 0, which is there.
+    /// Notes that an action of a folder's screen ran at a moment, in seconds since 1970-01-01 00:00:00 UTC: the one at
+    /// a place, from 0, which is there.
     pub fn set_screen_run(&mut self, folder: u32, place: u16, moment: u64)
         requires { HasScreenAction self.old folder place }
         ensures { self.new ≡ with_screen_run self.old folder place moment }

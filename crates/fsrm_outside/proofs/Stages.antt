@@ -21,17 +21,6 @@ later_back (Some a) None t later told = absurd (cc)
 later_back None (Some b) t later told = absurd later
 later_back (Some a) (Some b) t later told = (a, refl, subst (λ (k : ℕ). a ≤ k) (some_is told) later)
 
-pub later_same : (a : Option ℕ) → Later a a
-later_same None = tt
-later_same (Some a) = omega arith
-
-pub later_then : (a b c : Option ℕ) → Later a b → Later b c → Later a c
-later_then None None c first second = second
-later_then None (Some b) c first second = absurd first
-later_then (Some a) None c first second = absurd first
-later_then (Some a) (Some b) None first second = second
-later_then (Some a) (Some b) (Some c) first second = omega arith
-
 -- the laws of a disk that a run of calls stands on
 pub record DiskLaws {D : Type 0} (clock : D → Option ℕ) (images : D → ℕ → Parts → Type 0) (by : D → D → Type 0) : Type 0 where
   pub same : (d : D) → by d d
@@ -111,13 +100,6 @@ stayed laws new {P} {Q} before ran by_step weak = stepped laws new Q Same before
 
 pub weaker : {D : Type 0} {clock : D → Option ℕ} {images : D → ℕ → Parts → Type 0} {old new : D} {P : Parts → Type 0} (Q : Parts → Type 0) → ((i : Parts) → P i → Q i) → EachImage clock images P old new → EachImage clock images Q old new
 weaker Q weak a = record { each = λ s t m i at_old at_new from to left. weak i (a.each s t m i at_old at_new from to left) }
-
--- calls that change nothing
-pub quiet_same : {D : Type 0} (clock : D → Option ℕ) (images : D → ℕ → Parts → Type 0) (d : D) → Through clock images Same d d
-quiet_same clock images d s t m i at_old at_new from to left =
-    let same : s ≡ t = some_is (sym at_old ∙ at_new) in
-    let is : m ≡ s = omega arith in
-    (i, subst (λ (k : ℕ). images d k i) is left, refl)
 
 pub quiet_then : {D : Type 0} {clock : D → Option ℕ} {images : D → ℕ → Parts → Type 0} {by : D → D → Type 0} → DiskLaws clock images by → (old mid new : D)
     → by old mid → by mid new → Through clock images Same old mid → Through clock images Same mid new → Through clock images Same old new

@@ -4,8 +4,8 @@
 //! it. A device may tell its contents, as `Some` of the bytes, or `None`. Contracts on bytes say
 //! something if they are told; safety and causes hold in either case.
 //!
-//! A disk that tells its clock also tells its *images*: what a crash may leave, at each moment so far. A call of a trait
-//! gives its relation (`by_read`, `by_write`, `by_disk`), so code that knows one trait alone can say that it made
+//! A disk that tells its clock also tells its *images*: what a crash may leave, at each moment so far. A call of a
+//! trait gives its relation (`by_read`, `by_write`, `by_disk`), so code that knows one trait alone can say that it made
 //! nothing but such calls, and the laws of `Outside` say what these leave of the other two.
 //!
 //! `MemoryOutside` is a script, a record of what was shown and a disk in memory; it fails and crashes when it is told

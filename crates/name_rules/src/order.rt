@@ -37,8 +37,8 @@ pub fn fold_cmp(a: &str, b: &str) -> Ordering
 }
 
 // Folding lowers the letters of ASCII and leaves its other characters, so bytes are compared as long as both names have
-// characters of ASCII. If either has another, the rest is compared by characters: some fold to a letter of ASCII, as the
-// Kelvin sign does to k.
+// characters of ASCII. If either has another, the rest is compared by characters: some fold to a letter of ASCII, as
+// the Kelvin sign does to k.
 fn same_front(a: &[u8], b: &[u8]) -> usize
     ensures front { HasSameFront a.now b.now result }
     ensures apart { result < length a.now → result < length b.now →

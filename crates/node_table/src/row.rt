@@ -19,8 +19,8 @@ const EMPTY: u64 = 1 << 62;
 // The bits of a length.
 const LENGTH: u64 = EMPTY - 1;
 
-/// What a slot holds: the row of a node, but for its number, which is the slot's, and its name, of which it has the key;
-/// or nothing.
+/// What a slot holds: the row of a node, but for its number, which is the slot's, and its name, of which it has the
+/// key; or nothing.
 #[derive(Clone, Copy)]
 pub struct Row {
     // The length, and the two bits above it.

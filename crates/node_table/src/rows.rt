@@ -10,8 +10,8 @@ use fsrm_base::NoMemory;
 use std::alloc::Global;
 use std::marker::Model;
 
-/// Rows in slots, in memory that is reserved once. Contracts see how many slots there may be, and the rows; past the last
-/// one all slots are empty.
+/// Rows in slots, in memory that is reserved once. Contracts see how many slots there may be, and the rows; past the
+/// last one all slots are empty.
 #[derive(Drop)]
 pub struct Rows {
     room: u32,

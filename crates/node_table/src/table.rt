@@ -50,8 +50,8 @@ fn store(names: &mut Region, name: &str) -> u32
 }
 
 impl NodeTable {
-    /// A table without nodes, for so many of them and for so many bytes of their names together. It takes all the memory
-    /// that the table will ever need.
+    /// A table without nodes, for so many of them and for so many bytes of their names together. It takes all the
+    /// memory that the table will ever need.
     pub fn reserve(alloc: Global, nodes: u32, names: u32) -> Result<NodeTable, NoMemory>
         ensures { IfOk result (λ table. table ≡ no_nodes nodes names) }
     {

@@ -39,16 +39,6 @@ visited_text K R moment line folder visited done outcome path is same =
 pub refused_text : (K : Capacity) (R : Rows) (moment line : ℕ) (refusal : Refusal) (outcome : Outcome) → outcome ≡ Refused refusal → head_line R.nodes line (Refused refusal) ≡ reply K R moment line outcome
 refused_text K R moment line refusal outcome is = sym (append-nil (head_line R.nodes line (Refused refusal))) ∙ ap (reply K R moment line) (sym is)
 
-pub exceeded_text : (nodes : List NodeRow) (line folder would limit : ℕ) (refusal : Refusal) (path : List ℕ) → refusal ≡ QuotaExceeded folder would limit → path ≡ path_text nodes folder → line_of (decimal line ∷ codes "refused" ∷ codes "QuotaExceeded" ∷ decimal would ∷ decimal limit ∷ path ∷ []) ≡ head_line nodes line (Refused refusal)
-exceeded_text nodes line folder would limit refusal path is same =
-    ap (λ (xs : List ℕ). line_of (decimal line ∷ codes "refused" ∷ codes "QuotaExceeded" ∷ decimal would ∷ decimal limit ∷ xs ∷ [])) same
-    ∙ ap (λ r. head_line nodes line (Refused r)) (sym is)
-
-pub blocked_text : (nodes : List NodeRow) (line screen : ℕ) (refusal : Refusal) (path : List ℕ) → refusal ≡ ScreenBlocked screen → path ≡ path_text nodes screen → line_of (decimal line ∷ codes "refused" ∷ codes "ScreenBlocked" ∷ path ∷ []) ≡ head_line nodes line (Refused refusal)
-blocked_text nodes line screen refusal path is same =
-    ap (λ (xs : List ℕ). line_of (decimal line ∷ codes "refused" ∷ codes "ScreenBlocked" ∷ xs ∷ [])) same
-    ∙ ap (λ r. head_line nodes line (Refused r)) (sym is)
-
 -- nothing was shown
 pub shows_nothing : (a : Option (List ℕ)) (text : List ℕ) → ShowsFront a a text
 shows_nothing a text = record { front = []; shown = sym (append_known-nil a); is_front = (text, refl) }

@@ -20,7 +20,8 @@ use fsrm_outside::Sink;
 use std::alloc::Global;
 use thresholds::Marks;
 
-// What an entry of this percentage belongs to, and, of a quota, what stands after its folder: a space and the percentage.
+// What an entry of this percentage belongs to, and, of a quota, what stands after its folder: a space and the
+// percentage.
 fn subject_parts<'a>(percent: u16) -> (Part<'a>, Part<'a>, Part<'a>)
     ensures { (folder : ℕ) → part_text result.0 ++ (decimal folder ++ (part_text result.1 ++ part_text result.2)) ≡ subject_text percent folder }
 {

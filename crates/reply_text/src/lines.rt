@@ -11,8 +11,8 @@ use crate::sending::{Part, send};
 use fsrm_model::Text;
 use fsrm_outside::Sink;
 
-/// Writes a line that a word stands on alone: a group's name, or the path of the folder of an exception or an auto-apply
-/// quota.
+/// Writes a line that a word stands on alone: a group's name, or the path of the folder of an exception or an
+/// auto-apply quota.
 pub fn write_word<S: Sink>(sink: &mut S, word: &str) -> Result<(), TextFault>
     ensures text { Sends result (S.shown sink.old) (S.shown sink.new) (body_line (word.now ∷ [])) }
     ensures fault { IsErrOf result TextFault.WriteFault → Rose (S.write_faults sink.old) (S.write_faults sink.new) }
@@ -30,7 +30,7 @@ pub fn write_word<S: Sink>(sink: &mut S, word: &str) -> Result<(), TextFault>
     )
 }
 
-/// Writes the line of a text after its label: a pattern, say, after what it is to its group.
+/// Writes a line of a label and a text, for example a group's pattern after `member`.
 pub fn write_labelled<S: Sink>(
     sink: &mut S,
     label: &'static [u8],

@@ -44,8 +44,8 @@ impl Frontier {
         self.tops.remove(node);
     }
 
-    /// Follows a file whose length goes from one to another, in bytes. The tree may have changed already, or not yet. It
-    /// takes no more than 2 looks for each node from the file up to the root.
+    /// Follows a file whose length goes from one to another, in bytes. The tree may have changed already, or not yet.
+    /// It takes no more than 2 looks for each node from the file up to the root.
     pub fn on_resize<L: Ledger>(
         &mut self,
         tree: &Tree,

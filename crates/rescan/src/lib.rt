@@ -1,7 +1,7 @@
 //! The scans of folders that are in use: the queue of those that wait, and how far the active one has come.
 //!
-//! `Scans` is the queue, and the active scan among all changes of the tree. The active scan is that of the folder at the
-//! head; when another folder comes to the head, its scan begins with all folders at and below it (`turns`). The
+//! `Scans` is the queue, and the active scan among all changes of the tree. The active scan is that of the folder at
+//! the head; when another folder comes to the head, its scan begins with all folders at and below it (`turns`). The
 //! `follow_` calls leave, of a change of the tree, exactly the definition's unvisited folders (`follows`).
 //!
 //! A `Frontier` is how far one scan has come. It holds the topmost unvisited folders, whose parent is visited, and one

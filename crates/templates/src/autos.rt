@@ -20,9 +20,10 @@ use fsrm_model::{AutoRow, NoMemory};
 impl Templates {
     /// Adds an auto-apply quota, whose template is there. It excludes at most 32 names.
     ///
-    /// `room` is how many bytes of texts may still come. The auto-apply quota is refused if its folder has one (AlreadyExists),
-    /// else if there are 1,024 of them (TableFull), else if the names that it excludes are longer than `room` (TextsFull).
-    /// NoMemory comes only if nothing else refuses it. An `Err` changes nothing, and the row is dropped.
+    /// `room` is how many bytes of texts may still come. The auto-apply quota is refused if its folder has one
+    /// (AlreadyExists), else if there are 1,024 of them (TableFull), else if the names that it excludes are longer than
+    /// `room` (TextsFull). NoMemory comes only if nothing else refuses it. An `Err` changes nothing, and the row is
+    /// dropped.
     pub fn add_auto(&mut self, row: AutoRow, room: u32) -> Result<(), TemplateFault>
         requires there { has_row template_number row.template self.old.templates ≡ true }
         requires valid { is_auto row ≡ true }
@@ -89,7 +90,8 @@ impl Templates {
         Some(&self.autos[place])
     }
 
-    /// The number of the template of which a folder gives the folders of a name in it their quotas. It takes no memory.
+    /// The number of the template of which a folder of this name in this folder gets a quota. None if this folder has
+    /// no auto-apply quota, or if that excludes the name. It takes no memory.
     pub fn template_for(&self, folder: u32, name: &str) -> Option<u32>
         ensures found { result ≡ template_for self.now.autos folder name.now }
         ensures there { IfSome result (λ number. has_row template_number number self.now.templates ≡ true) }

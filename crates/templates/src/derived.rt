@@ -21,7 +21,8 @@ use fsrm_objects::{Objects, threshold_texts};
 use std::alloc::Global;
 
 impl Templates {
-    /// The quota that a template that is there gives a folder at a moment: one in this state, with a peak of 0.
+    /// The quota that the template of a number, which is there, gives a folder at a moment: in this state, with a peak
+    /// of 0.
     pub fn derive(
         &self,
         alloc: Global,
@@ -37,14 +38,14 @@ impl Templates {
         derived(alloc, &self.templates[place], folder, state, moment)
     }
 
-    /// Puts this row in the place of the template of its number, which has its name, and gives the quotas that were derived
-    /// from the template what it says now: its limit, its type and its thresholds, whose actions never ran. By `mode` it reaches
-    /// none of them, those that match the template as it was, or all. All else of a quota stays. The answer is the quotas that
-    /// it reached, as they were.
+    /// Puts this row in the place of the template of its number, which has its name, and gives the quotas that were
+    /// derived from the template what it says now: its limit, its type and its thresholds, whose actions never ran. By
+    /// `mode` it reaches none of them, those that match the template as it was, or all. All else of a quota stays. The
+    /// answer is the quotas that it reached, as they were.
     ///
-    /// `room` is how many bytes of texts may still come. It is refused, by TextsFull alone, if the texts of all templates and
-    /// quotas after it, less those before it, are longer than `room`; else NoMemory alone may come. An `Err` changes nothing,
-    /// and the row is dropped.
+    /// `room` is how many bytes of texts may still come. The change is refused, by TextsFull alone, if the texts of all
+    /// templates and quotas after it, less those before it, are longer than `room`; else NoMemory alone may come. An
+    /// `Err` changes nothing, and the row is dropped.
     pub fn modify(
         &mut self,
         alloc: Global,

@@ -6,8 +6,8 @@ ghost use Rattle.fsrm_model.specs.Templates.{is_derived, is_reached, matches_tem
 
 use fsrm_model::{Action, QuotaRow, TemplateRow, Threshold, Update};
 
-/// Whether a template's change reaches a quota. By its mode it reaches none, those that were derived from the template and match
-/// it as it was (`old`), or all that were derived from it (MS-FSRM, FsrmTemplateApplyOptions).
+/// Whether a template's change reaches a quota. By its mode it reaches none, those that were derived from the template
+/// and match it as it was (`old`), or all that were derived from it (MS-FSRM, FsrmTemplateApplyOptions).
 pub fn is_reached(mode: Update, old: &TemplateRow, quota: &QuotaRow) -> bool
     ensures { result ≡ is_reached mode old.now quota.now }
 {

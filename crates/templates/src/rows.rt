@@ -69,7 +69,7 @@ pub fn is_used(autos: &[AutoRow], number: u32) -> bool
     autos.iter().any(|auto| auto.template == number)
 }
 
-/// The bytes of a template's texts, which fit.
+/// The bytes of a template's texts, which fit 32 bits.
 pub fn template_texts(template: &TemplateRow) -> u32
     requires { template_bytes template.now < 2 ^ 32 }
     ensures { result ≡ template_bytes template.now }
@@ -77,7 +77,7 @@ pub fn template_texts(template: &TemplateRow) -> u32
     template.name.as_str().len() as u32 + threshold_texts(&template.thresholds)
 }
 
-/// The bytes of the names that an auto-apply quota excludes, which fit.
+/// The bytes of the names that an auto-apply quota excludes, which fit 32 bits.
 pub fn auto_texts(auto: &AutoRow) -> u32
     requires { auto_bytes auto.now < 2 ^ 32 }
     ensures { result ≡ auto_bytes auto.now }

@@ -22,9 +22,9 @@ use std::alloc::Global;
 use std::marker::Model;
 
 /// The quota templates of a store (MS-FSRM, IFsrmQuotaTemplate), at most 1,024, and its auto-apply quotas
-/// (IFsrmAutoApplyQuota), as many. Contracts see the rows of both: the templates ascend by number, which is below 1,024, and
-/// no two of them have one name, in any spelling; the auto-apply quotas ascend by folder, each folder at most once, and the
-/// template of each is there. `texts` has a clause that says so.
+/// (IFsrmAutoApplyQuota), as many. Contracts see the rows of both: the templates ascend by number, which is below
+/// 1,024, and no two of them have one name, in any spelling; the auto-apply quotas ascend by folder, each folder at
+/// most once, and the template of each is there. `texts` has a clause that says so.
 #[derive(Drop)]
 pub struct Templates {
     pub(crate) templates: Vec<TemplateRow>,
@@ -56,12 +56,13 @@ impl Templates {
         }
     }
 
-    /// Adds a template under the least number that is free, which is the answer. The row's own number isn't looked at. All
-    /// else of it is as a template has it: an object's name, a limit, and thresholds whose actions never ran.
+    /// Adds a template under the least number that is free, which is the answer. The row's own number isn't looked at.
+    /// All else of it is as a template has it: an object's name, a limit, and thresholds whose actions never ran.
     ///
-    /// `room` is how many bytes of texts may still come. The template is refused if its name is another one's, in any spelling
-    /// (DuplicateName), else if there are 1,024 templates (TableFull), else if its texts are longer than `room` (TextsFull).
-    /// NoMemory comes only if nothing else refuses it. An `Err` changes nothing, and the row is dropped.
+    /// `room` is how many bytes of texts may still come. The template is refused if its name is another one's, in any
+    /// spelling (DuplicateName), else if there are 1,024 templates (TableFull), else if its texts are longer than
+    /// `room` (TextsFull). NoMemory comes only if nothing else refuses it. An `Err` changes nothing, and the row is
+    /// dropped.
     pub fn add(&mut self, row: TemplateRow, room: u32) -> Result<u32, TemplateFault>
         requires valid { is_template (record row { number = 0 }) ≡ true }
         ensures ok { OnOk result (self.new ≡ with_template self.old (numbered self.old.templates row)) }
@@ -76,8 +77,8 @@ impl Templates {
         Ok(number)
     }
 
-    /// Puts a stored template under its own number, which is below 1,024 and free. It is refused as `add` refuses it. An
-    /// `Err` changes nothing, and the row is dropped.
+    /// Puts a stored template under its own number, which is below 1,024 and free. It is refused as `add` refuses it.
+    /// An `Err` changes nothing, and the row is dropped.
     pub fn put(&mut self, row: TemplateRow, room: u32) -> Result<(), TemplateFault>
         requires valid { is_template row ≡ true }
         requires free { has_row template_number row.number self.old.templates ≡ false }
@@ -138,8 +139,9 @@ impl Templates {
         self.templates[place] = row;
     }
 
-    /// Takes the template of a number away, which is there. It is refused, by InUse alone, if an auto-apply quota names it.
-    /// Quotas that were derived from it don't keep it. An `Err` changes nothing.
+    /// Takes the template of a number away, which is there. It is refused, by InUse alone, if an auto-apply quota names
+    /// it. Quotas that were derived from it don't prevent that; `Objects::clear_template` takes it from them. An `Err`
+    /// changes nothing.
     pub fn delete(&mut self, number: u32) -> Result<(), TemplateFault>
         requires { has_row template_number number self.old.templates ≡ true }
         ensures ok { OnOk result (self.new ≡ without_template self.old number) }
@@ -172,7 +174,8 @@ impl Templates {
         Some(&self.templates[place])
     }
 
-    /// The bytes of all texts: names of templates, texts of their actions, excluded names. `kept` says how the tables are held.
+    /// The bytes of all texts: names of templates, texts of their actions, excluded names. `kept` says how the tables
+    /// are held.
     pub fn texts(&self) -> u32
         ensures bytes { result ≡ texts_in self.now }
         ensures kept { AreHeld self.now result }

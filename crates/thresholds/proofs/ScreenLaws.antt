@@ -119,9 +119,6 @@ module _ (screens : List ScreenRow) (folder place : ℕ) (is : IsAction screens 
       ap (option_and_then (λ (s : ScreenRow). option_map (λ action. act_of (Screen folder) (place, action)) (slice_get s.actions place))) is.screen_is
       ∙ ap (option_map (λ action. act_of (Screen folder) (place, action))) is.action_is
 
-  pub action_found : screen_action_at screens folder place ≡ Some is.action
-  action_found = ap (option_and_then (λ (s : ScreenRow). slice_get s.actions place)) is.screen_is ∙ is.action_is
-
 pub has_action : (tables : Tables) (folder place : ℕ) → IsAction tables.screens folder place → HasScreenAction tables folder place
 has_action tables folder place is = record {
   screen = is.screen;

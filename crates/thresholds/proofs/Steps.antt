@@ -172,14 +172,6 @@ pub whole : {X : Type 0} (xs : List X) → take (length xs) xs ≡ xs
 whole [] = refl
 whole (x ∷ xs) = ap (λ more. x ∷ more) (whole xs)
 
-pub ready_all : (quotas : List QuotaRow) (place threshold run_limit moment : ℕ) (quota : QuotaRow) (t : Threshold) → slice_get quotas place ≡ Some quota → slice_get quota.thresholds threshold ≡ Some t → ready_upto quotas place threshold run_limit moment (length t.actions) ≡ ready_in quotas place threshold run_limit moment
-ready_all quotas place threshold run_limit moment quota t at in_quota =
-    ap (λ o. option_map_or (λ quota. option_map_or (λ (s : Threshold). ready_acts run_limit moment (Quota quota.folder s.percent) (take (length t.actions) s.actions)) (slice_get quota.thresholds threshold) []) o []) at
-    ∙ (ap (λ o. option_map_or (λ (s : Threshold). ready_acts run_limit moment (Quota quota.folder s.percent) (take (length t.actions) s.actions)) o []) in_quota
-    ∙ (ap (ready_acts run_limit moment (Quota quota.folder t.percent)) (whole t.actions)
-    ∙ (ap (λ o. option_map_or (λ (s : Threshold). ready_acts run_limit moment (Quota quota.folder s.percent) s.actions) o []) (sym in_quota)
-    ∙ ap (λ o. option_map_or (λ quota. option_map_or (λ (s : Threshold). ready_acts run_limit moment (Quota quota.folder s.percent) s.actions) (slice_get quota.thresholds threshold) []) o []) (sym at))))
-
 -- ---- one threshold more
 -- a folder's quota is the one at its place
 pub found_at : (quotas : List QuotaRow) (folder place : ℕ) (quota : QuotaRow) (o : Option ℕ) → MatchOption o (has_row folder_of folder quotas ≡ false) (IsAt folder_of folder quotas) → o ≡ Some place → slice_get quotas place ≡ Some quota → row_of folder_of folder quotas ≡ Some quota

@@ -46,10 +46,6 @@ due_in tables before used_before used_after run_limit moment folder =
     option_map_or (λ quota. quota_acts (crosses before used_before used_after quota) run_limit moment quota)
     (row_of folder_of folder tables.quotas) []
 
--- those of a quota that refuses to use more: that are due if it would
-abbrev pub refused_in : Tables → ℕ → ℕ → ℕ → ℕ → ℕ → List Act
-refused_in tables would used run_limit moment folder = due_in tables None (Some used) (Some would) run_limit moment folder
-
 -- those of a threshold's actions that may run. It is named by the places of the quota and of itself
 abbrev pub ready_in : List QuotaRow → ℕ → ℕ → ℕ → ℕ → List Act
 ready_in quotas place threshold run_limit moment =

@@ -22,13 +22,13 @@ use number_set::NumberSet;
 use std::alloc::Global;
 use std::marker::Model;
 
-/// The actions of quotas and of a screen that ran and weren't handed out yet, and the log of those that ran, its last 1,024
-/// entries. All is in memory that is reserved once. Contracts see the numbers of the marked actions of quotas, ascending, the
-/// log, oldest first, and the places of the marked actions of one folder's screen, ascending.
+/// The actions of quotas and of a screen that ran and weren't handed out yet, and the log of those that ran, its last
+/// 1,024 entries. All is in memory that is reserved once. Contracts see the numbers of the marked actions of quotas,
+/// ascending, the log, oldest first, and the places of the marked actions of one folder's screen, ascending.
 #[derive(Drop)]
 pub struct Marks {
-    // An action's number is made of the places of its quota, of its threshold, and of its own. So numbers ascend as acts do,
-    // and the least number is that of the act that comes next.
+    // An action's number is made of the places of its quota, of its threshold, and of its own. So numbers ascend as
+    // acts do, and the least number is that of the act that comes next.
     numbers: NumberSet,
     pub(crate) log: HeapCircularBuffer<ActRow>,
     // A command is judged by one screen at most: its folder, and the places of those of its actions that are marked.
@@ -64,12 +64,12 @@ impl Marks {
         })
     }
 
-    /// Settles a folder's quota at a moment: of the thresholds that it reaches and didn't reach before, the actions that may run
-    /// are marked, have the moment as their last run, and come into the log.
+    /// Settles a folder's quota at a moment: of the thresholds that it reaches and didn't reach before, the actions
+    /// that may run are marked, have the moment as their last run, and come into the log.
     ///
-    /// `before` is the row as it was before the command; None says that its limit and thresholds stayed. What the quota used is
-    /// None if it didn't count, or wasn't there. Of a quota that refuses a write, `used_after` is what it would have used then.
-    /// `run_limit` is in minutes.
+    /// `before` is the row as it was before the command; None says that its limit and thresholds stayed. What the quota
+    /// used is None if it didn't count, or wasn't there. Of a quota that refuses a write, `used_after` is what it would
+    /// have used then. `run_limit` is in minutes.
     pub fn settle(
         &mut self,
         objects: &mut Objects,
@@ -158,8 +158,8 @@ impl Marks {
         objects.set_run(folder, percent, act.place, moment);
     }
 
-    /// Hands out the act of a marked action, which is marked no longer: first those of the screen, by their places, then those of
-    /// quotas, in the order of folders, percentages and places. None exactly if none is marked.
+    /// Hands out the act of a marked action, which is marked no longer: first those of the screen, by their places,
+    /// then those of quotas, in the order of folders, percentages and places. None exactly if none is marked.
     pub fn next(&mut self, objects: &Objects) -> Option<Act>
         requires orderly { are_orderly objects.now.quotas ≡ true }
         requires marked { are_there objects.now.quotas self.old.numbers ≡ true }

@@ -10,8 +10,8 @@ ghost use Rattle.thresholds.specs.Settled.{crosses, crosses_any};
 
 use fsrm_model::{Action, QuotaRow, Threshold};
 
-/// Whether what is used comes up to a percentage of a limit; both in bytes. None, which a quota uses that doesn't count,
-/// comes up to none.
+/// Whether what is used comes up to a percentage of a limit; both in bytes. None, which a quota uses that doesn't
+/// count, comes up to none.
 pub fn reached(limit: u64, percent: u16, used: Option<u64>) -> bool
     ensures { result ≡ reaches limit percent used }
 {
@@ -21,8 +21,8 @@ pub fn reached(limit: u64, percent: u16, used: Option<u64>) -> bool
     }
 }
 
-/// Whether an action may run at a moment: it never ran, or its minutes have passed since its last run. If it has none of
-/// its own (-1) they are the run limit.
+/// Whether an action may run at a moment: it never ran, or its minutes have passed since its last run. If it has none
+/// of its own (-1) they are the run limit.
 pub fn ready(action: &Action, run_limit: u32, moment: u64) -> bool
     ensures { result ≡ ready run_limit moment action.now }
 {
@@ -61,8 +61,8 @@ pub fn has_percent(thresholds: &[Threshold], percent: u16) -> bool
         .any(|threshold| threshold.percent == percent)
 }
 
-/// Whether a command crosses a percentage of a quota: it is reached now, and wasn't before. `before` is the row as it was
-/// then; None says that its limit and thresholds were the same.
+/// Whether a command crosses a percentage of a quota: it is reached now, and wasn't before. `before` is the row as it
+/// was then; None says that its limit and thresholds were the same.
 pub fn crosses(
     quota: &QuotaRow,
     percent: u16,
@@ -76,8 +76,8 @@ pub fn crosses(
         && !has_reached(before.unwrap_or(quota), percent, used_before)
 }
 
-/// Whether a quota that counts, and used so much before and uses so much now, crosses one of its thresholds: it is reached
-/// now, and wasn't before. Both are in bytes.
+/// Whether a quota that counts, and used so much before and uses so much now, crosses one of its thresholds: it is
+/// reached now, and wasn't before. Both are in bytes.
 pub fn crosses_any(quota: &QuotaRow, before: u64, now: u64) -> bool
     ensures { result ≡ crosses_any quota.now before now }
 {

@@ -18,9 +18,9 @@ use fsrm_model::{Act, ActRow, Action, ScreenRow, Subject};
 use fsrm_objects::Objects;
 
 impl Marks {
-    /// Runs those actions of a folder's screen, at most 8, that may run at a moment, in seconds since 1970-01-01 00:00:00 UTC: they
-    /// are marked, have the moment as their last run, and come into the log. No action of a screen may be marked before.
-    /// `run_limit` is in minutes. It takes no memory.
+    /// Runs those actions of a folder's screen, at most 8, that may run at a moment, in seconds since 1970-01-01
+    /// 00:00:00 UTC: they are marked, have the moment as their last run, and come into the log. No action of a screen
+    /// may be marked before. `run_limit` is in minutes. It takes no memory.
     pub fn settle_screen(&mut self, objects: &mut Objects, folder: u32, run_limit: u32, moment: u64)
         requires screen { has_row screen_folder folder objects.old.screens ≡ true }
         requires few { (screen : ScreenRow) → row_of screen_folder folder objects.old.screens ≡ Some screen → length screen.actions ≤ most_actions }

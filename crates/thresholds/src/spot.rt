@@ -13,8 +13,8 @@ const PER_QUOTA: u32 = MOST_THRESHOLDS as u32 * PER_THRESHOLD;
 
 pub(crate) const MOST_MARKS: u32 = MOST_QUOTAS as u32 * PER_QUOTA;
 
-/// Where an action stands: the places of its quota among all quotas, of its threshold among those of the quota, and its own
-/// among those of the threshold. They are the digits of the action's number.
+/// Where an action stands: the places of its quota among all quotas, of its threshold among those of the quota, and its
+/// own among those of the threshold. They are the digits of the action's number.
 #[derive(Clone, Copy)]
 pub(crate) struct Spot {
     pub(crate) quota: u32,

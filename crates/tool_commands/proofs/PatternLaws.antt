@@ -23,10 +23,6 @@ few_parts text bytes found count same found_is count_is =
     rw (bars, length-slice_split is_bar text) (one_more (count_by is_bar text))
 
 -- ---- patterns are judged before their number
-pub not_patterns : (text : List ℕ) → list_all is_pattern (slice_split is_bar text) ≡ false → patterns_from text ≡ Err InvalidName
-not_patterns text e =
-    ap (λ (b : Bool). guarded b InvalidName (slice_split is_bar text) >>= λ patterns. guarded (nat_le (length patterns) most_patterns) OutOfRange patterns) e
-
 counted : (text : List ℕ) → list_all is_pattern (slice_split is_bar text) ≡ true → patterns_from text ≡ guarded (nat_le (length (slice_split is_bar text)) most_patterns) OutOfRange (slice_split is_bar text)
 counted text e =
     ap (λ (b : Bool). guarded b InvalidName (slice_split is_bar text) >>= λ patterns. guarded (nat_le (length patterns) most_patterns) OutOfRange patterns) e

@@ -23,7 +23,7 @@ KeepsMore (Ok done) old new (Err fault) = ⊥
 KeepsMore (Err fault) old new (Ok x) = fault ≡ NoMemory
 KeepsMore (Err fault) old new (Err other) = fault ≡ other
 
--- the same, if there may be one more
+-- the same; if the list is full the value is refused
 abbrev pub KeepsRoom : {X : Type 0} → Bool → Result (Unit {0}) LineFault → List X → List X → X → Type 0
 KeepsRoom true result old new x = result ≡ Err (Refused OutOfRange)
 KeepsRoom false result old new x = KeepsMore result old new (Ok x)

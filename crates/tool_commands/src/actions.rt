@@ -144,8 +144,8 @@ fn read_added(
     Ok(Added { percent, action })
 }
 
-/// The notification that a text of a word at this column is: a percentage, the letter of a kind, minutes and a text, with
-/// commas between them. All three commas are looked for before any part is judged.
+/// The notification that a text of a word at this column is: a percentage, the letter of a kind, minutes and a text,
+/// with commas between them. All three commas are looked for before any part is judged.
 pub fn read_notice(alloc: Global, text: &str, column: usize) -> Result<Added, LineFault>
     requires { column ≤ 65537 }
     ensures { Reads result (notice_from column text.now) }
@@ -159,8 +159,8 @@ pub fn read_notice(alloc: Global, text: &str, column: usize) -> Result<Added, Li
     read_added(alloc, percent, &action, column)
 }
 
-/// The action of a screen that a text of a word at this column is: the letter of a kind, minutes and a text, with commas
-/// between them. Both commas are looked for before any part is judged.
+/// The action of a screen that a text of a word at this column is: the letter of a kind, minutes and a text, with
+/// commas between them. Both commas are looked for before any part is judged.
 pub fn read_screen_action(alloc: Global, text: &str, column: usize) -> Result<Action, LineFault>
     requires { column ≤ 65537 }
     ensures { Reads result (action_from column text.now) }

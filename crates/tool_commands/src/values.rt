@@ -105,7 +105,7 @@ fn in_range(low: u64, high: u64, number: u64) -> Result<u64, LineFault>
     Ok(number)
 }
 
-/// The number from low to high that a text of a word at this column is.
+/// Reads the text of a word at this column as a number from low to high.
 pub fn read_number(text: &str, column: usize, low: u64, high: u64) -> Result<u64, LineFault>
     requires column { column ≤ 65537 }
     requires high { high < greatest_number }
@@ -130,7 +130,7 @@ pub fn read_path_word(alloc: Global, text: &str) -> Result<Path, LineFault>
     }
 }
 
-/// The name of a file or a folder that a text is.
+/// Reads a text as the name of a file or a folder.
 pub fn read_name(alloc: Global, text: &str) -> Result<Text, LineFault>
     ensures { Reads result (name_from text.now) }
 {
@@ -158,7 +158,7 @@ fn is_object_name(text: &str) -> bool
     is_name_length(text.len()) && are_object_bytes(text.as_bytes())
 }
 
-/// The name of a file group or of a template that a text is: 1 to 255 bytes, no `|` and no control character.
+/// Reads a text as the name of a file group or of a template: 1 to 255 bytes, no `|` and no control character.
 pub fn read_object_name(alloc: Global, text: &str) -> Result<Text, LineFault>
     ensures { Reads result (object_from text.now) }
 {
@@ -208,8 +208,8 @@ pub fn read_update(text: &str, column: usize) -> Result<Update, LineFault>
 }
 
 impl<'a> Words<'a> {
-    // Takes a number from low to high. This and its callers are inlined, since a call with its result would take as
-    // long as the reading itself.
+    // Takes a number from low to high. This, `length` and `owner` are inlined, since a call with its result would take
+    // as long as the reading itself.
     #[inline(always)]
     fn number(&mut self, alloc: Global, low: u64, high: u64) -> Result<u64, LineFault>
         requires { high < greatest_number }

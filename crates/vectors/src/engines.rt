@@ -1,6 +1,6 @@
-//! The machine, of which scripts show the replies to what it is asked by `apply`. What they don't show is asked here of one
-//! engine: an operation that comes by `file_op`, who owns a node, the texts of acts (`acts`), the templates, and the audit log
-//! (`audits`).
+//! The machine, of which scripts show the replies to what it is asked by `apply`. What they don't show is asked here of
+//! one engine: an operation that comes by `file_op`, who owns a node, the texts of acts (`acts`), the templates, and
+//! the audit log (`audits`).
 
 ghost use Rattle.std.specs.Prelude.{◌≡◌, [], true};
 ghost use Rattle.fsrm_model.specs.Valued.{is_command, is_op};
@@ -117,7 +117,8 @@ fn takes<L: Ledger>(
     Ok(())
 }
 
-// A function that owns an engine is dear to prove by each of its statements, so this one has two, and no other owns one.
+// A function that owns an engine is dear to prove by each of its statements, so this one has two, and no other owns
+// one.
 fn new_engine<L: Ledger>(
     alloc: Global,
     end: &impl Abort,

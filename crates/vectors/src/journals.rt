@@ -5,8 +5,8 @@ use fsrm_outside::{MemoryOutside, Part};
 use std::alloc::Global;
 use std::test::Fail;
 
-// Generation 1, version 2, 65,536 nodes, 4,194,304 bytes of names, clusters of 4,096 bytes, an image of three bytes, and
-// one record with the body `hi`.
+// Generation 1, version 2, 65,536 nodes, 4,194,304 bytes of names, clusters of 4,096 bytes, an image of three bytes,
+// and one record with the body `hi`.
 const HALF: [u8; 59] = [
     1, 0, 0, 0, 0, 0, 0, 0, b'F', b'S', b'R', b'M', b'H', b'A', b'L', b'F', // gate, zeros, name
     1, 0, 0, 0, 0, 0, 0, 0, 2, 0, 0, 0, 0, 0, 1, 0, // generation, version, nodes

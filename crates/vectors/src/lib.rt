@@ -4,8 +4,8 @@
 //! state are scripts (`.ci/scripts`).
 //!
 //! What a check of a function costs grows with its statements times the values that it owns times the size of their
-//! types. So a function that owns an engine or a tree only makes it and lends it to one that owns nothing, a row is made
-//! in a function of its own, and `assert!(rt; a == b)` stands for `assert_eq!`.
+//! types. So a function that owns an engine or a tree only makes it and lends it to one that owns nothing, a row is
+//! made in a function of its own, and `assert!(rt; a == b)` stands for `assert_eq!`.
 #![tactic(auto)]
 
 #[cfg(test)]

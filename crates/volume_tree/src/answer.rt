@@ -5,7 +5,7 @@
 pub enum TreeFault {
     /// The folder has a child of this name.
     AlreadyExists,
-    /// The folder is the node that was to be moved, or below it.
+    /// The folder that the node was to come into is that node, or below it.
     InvalidMove,
     /// The folder that was to be removed has a child.
     NotEmpty,

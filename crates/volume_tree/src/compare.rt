@@ -12,8 +12,8 @@ use name_rules::fold_cmp;
 use node_table::NodeTable;
 use std::cmp::Ordering;
 
-/// Whether an entry stands before the place of a name in a folder, not after it. None if it has the name. Its node's row
-/// is read only if the folder and the first characters are the same. It takes a look, whether or not it reads it.
+/// Whether an entry stands before the place of a name in a folder, not after it. None if it has the name. Its node's
+/// row is read only if the folder and the first characters are the same. It takes a look, whether or not it reads it.
 #[inline]
 pub fn is_before<L: Ledger>(
     slots: &NodeTable,

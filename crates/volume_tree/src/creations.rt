@@ -136,8 +136,9 @@ impl Tree {
         Ok(Finger::at(place))
     }
 
-    /// The second half of `mkdir`: makes a folder that the tree has nothing against, and gives its number,
-    /// the least that is free. It can't fail. It takes no more than 23 looks.
+    /// The second half of `mkdir`: makes a folder that the tree has nothing against, and gives its number, the least
+    /// that is free. It can't fail. `vacancy` is what `may_create` answered: where to look first. It takes no more than
+    /// 23 looks.
     pub fn make_folder<L: Ledger>(
         &mut self,
         folder: u32,
@@ -166,8 +167,9 @@ impl Tree {
         self.make(folder, name, vacancy, new, steps)
     }
 
-    /// The second half of `create`: makes a file that the tree has nothing against, and gives its number,
-    /// the least that is free. It can't fail. It takes no more than 23 looks.
+    /// The second half of `create`: makes a file that the tree has nothing against, and gives its number, the least
+    /// that is free. It can't fail. `vacancy` is what `may_create` answered: where to look first. It takes no more than
+    /// 23 looks.
     pub fn make_file<L: Ledger>(
         &mut self,
         folder: u32,

@@ -5,8 +5,8 @@ ghost use Rattle.volume_tree.specs.Entries.{parent_at};
 
 use crate::entries::Entry;
 
-// Passes entries by 1, 2, 4 and so on, as long as the last of so many is of a lower folder than this one. It gives up to
-// where it came, and among how many entries from there on those of lower folders end.
+// Passes entries by 1, 2, 4 and so on, as long as the last of so many is of a lower folder than this one. It gives up
+// to where it came, and among how many entries from there on those of lower folders end.
 fn leap(entries: &[Entry], from: usize, folder: u64) -> (usize, usize)
     requires from { from ≤ length entries.now }
     requires few { length entries.now ≤ 256 }
@@ -51,8 +51,8 @@ pub fn halve(entries: &[Entry], from: usize, count: usize, folder: u64) -> usize
     low
 }
 
-/// Where the entries of lower folders than this one end in a run, from one of them on or at once. It takes about two steps
-/// for each doubling of their number.
+/// Where the entries of lower folders than this one end in a run, from one of them on or at once. It takes about two
+/// steps for each doubling of their number.
 pub fn lower_end(entries: &[Entry], from: usize, folder: u64) -> usize
     requires from { from ≤ length entries.now }
     requires few { length entries.now ≤ 256 }

@@ -77,8 +77,8 @@ fn put(bucket: &mut [u32; SLOTS], entry: u32) {
     bucket[entry as usize % SLOTS] = entry;
 }
 
-/// A table of nodes by their folders and names. A node's entry stands in the bucket that the hash of both leads to, or in
-/// none, and is a part of the hash and the node's number.
+/// A table of nodes by their folders and names. A node's entry stands in the bucket that the hash of both leads to, or
+/// in none, and is a part of the hash and the node's number.
 #[derive(Drop)]
 pub struct Hints {
     buckets: Vec<[u32; SLOTS]>,

@@ -3,9 +3,9 @@
 //! The entries of all nodes are kept in the order of their places, by folder and folded name, in the runs of a list in
 //! blocks. A search halves the runs' first entries and then one run, and ends where it finds the name: at no more than
 //! 13 and 8 looks. An entry has the folder and the first characters of the name, so that a look seldom reads the node's
-//! row, which stands in the slot of its number. A new node moves the entries of at most two blocks. Which node has a name
-//! in a folder is guessed first, so that most searches take one look, at the node that is guessed. Contracts see a tree
-//! as its capacity and its nodes in the order of their numbers.
+//! row, which stands in the slot of its number. A new node moves the entries of at most two blocks. Which node has a
+//! name in a folder is guessed first, so that most searches take one look, at the node that is guessed. Contracts see a
+//! tree as its capacity and its nodes in the order of their numbers.
 //!
 //! A call that reads nodes counts them as looks. `children`, `child_count` and `child_at` count one look for the call,
 //! and `Children::next` one for each child that it lends. What these three compare to find where a folder's children

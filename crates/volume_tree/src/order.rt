@@ -17,9 +17,9 @@ use fsrm_model::{Ledger, Steps};
 use name_rules::fold_prefix;
 use node_table::{NodeTable, NodeView};
 
-/// How many of the entries among which a place is sought are passed after a look at the middle one, and how many are left:
-/// those after it if it stands before the place, else those before it. Nobody can foresee which, so it is computed
-/// without a branch.
+/// How many of the entries among which a place is sought are passed after a look at the middle one, and how many are
+/// left: those after it if it stands before the place, else those before it. Nobody can foresee which, so it is
+/// computed without a branch.
 #[inline]
 pub fn halved(size: usize, before: bool) -> (usize, usize)
     requires { 0 < size }
@@ -111,8 +111,8 @@ fn offset_of<L: Ledger>(
     Err(low)
 }
 
-// The place in the order of a folder's child of a name, or as an `Err` the place where one is to stand. It takes a look,
-// if there is a run, and no more than 21. The folder may be any number.
+// The place in the order of a folder's child of a name, or as an `Err` the place where one is to stand. It takes a
+// look, if there is a run, and no more than 21. The folder may be any number.
 fn place_of<L: Ledger>(
     slots: &NodeTable,
     order: &Order,

@@ -12,8 +12,8 @@ use crate::gallop::{halve, lower_end};
 use crate::order::{entry_at, halved};
 use block_list::Place;
 
-// Whether what stands in front of a place is known to be of lower folders than this one: at a place in a run, not at its
-// beginning, or at the first of all.
+// Whether what stands in front of a place is known to be of lower folders than this one: at a place in a run, not at
+// its beginning, or at the first of all.
 fn is_after_lower(order: &Order, folder: u64, place: Place) -> bool
     ensures gap { result ≡ true → IsGap order.now.runs place }
     ensures lower { result ≡ true → 0 < index_of order.now.runs place → IsLower order.now folder (index_of order.now.runs place - 1) }

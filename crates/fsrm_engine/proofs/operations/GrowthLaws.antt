@@ -1,5 +1,5 @@
 -- Files that are made, or get another length, and moves: what quotas refuse, and what is kept.
-use Rattle.std.proofs.Common.{◌≡◌, ℕ, ◌≤◌, Bool, true, false, cond, List, [], ◌∷◌, length, Option, Some, None, nat_le, refl, ap, sym, ◌∙◌, subst, arith}
+use Rattle.std.proofs.Common.{◌≡◌, ℕ, ◌≤◌, Bool, true, false, cond, List, [], ◌∷◌, length, Option, Some, nat_le, refl, ap, sym, ◌∙◌, subst, arith}
 use Rattle.std.proofs.lemmas.Bool.Decides.{nat_tests}
 use Rattle.std.specs.Prelude.{map, not}
 use Rattle.std.specs.Option.{option_map_or}
@@ -30,14 +30,13 @@ use Rattle.quota_usage.specs.declared.change.Counter.{Counter}
 use Rattle.quota_usage.specs.Charge.{is_above, charged_counter}
 use Rattle.quota_usage.specs.Counters.{counted}
 use Rattle.node_table.specs.declared.view.NodeView.{NodeView}
-use Rattle.volume_tree.specs.declared.answer.TreeFault.{TreeFault}
 use Rattle.volume_tree.specs.Volume.{Volume, with_length}
 use Rattle.fsrm_engine.specs.Faults.{quota_refusal}
 use Rattle.fsrm_engine.specs.declared.parts.Parts.{Parts}
 use Rattle.fsrm_engine.specs.Machine.{rows_of, sums_of, IsCounted, AreCounted}
 use Rattle.fsrm_engine.specs.Peaks.{raised_above}
 use Rattle.fsrm_engine.specs.Places.{IsFile}
-use Rattle.fsrm_engine.proofs.steps.StepLaws.{due, tree_first, last_check}
+use Rattle.fsrm_engine.proofs.steps.StepLaws.{due, last_check}
 use Rattle.fsrm_engine.proofs.steps.PlaceLaws.{target_is}
 use Rattle.fsrm_engine.proofs.tables.SumLaws.{sums_has}
 use Rattle.fsrm_engine.proofs.operations.ChangeLaws.{Changes, changes_resized}

@@ -1,6 +1,6 @@
 -- Commands on templates: parts whose templates, auto-apply quotas and quotas are others, and what the tables refuse.
 use Rattle.std.proofs.Common.{◌≡◌, ℕ, ◌+◌, ◌≤◌, Bool, true, false, cond, List, [], ◌∷◌, length, Option, Some, None, nat_lt, nat_le, refl, ap, sym, ◌∙◌, subst, arith}
-use Rattle.std.specs.Prelude.{is_none, is_some, map, sum_by, Result, Ok, Err, IfOk}
+use Rattle.std.specs.Prelude.{is_none, map, sum_by, Result, Ok, Err, IfOk}
 use Rattle.std.specs.List.{list_all, list_any}
 use Rattle.std.specs.Option.{option_and_then}
 use Rattle.fsrm_base.specs.declared.memory.NoMemory.{NoMemory as Wanting}

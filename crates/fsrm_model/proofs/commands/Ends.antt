@@ -71,6 +71,3 @@ effect_nodes R (Resize path length) moment = refl
 effect_nodes R (Touch path) moment = refl
 effect_nodes R (Move from to) moment = refl
 effect_nodes R (Remove path) moment = refl
-
-pub op_nodes : (K : Capacity) (R : Rows) (op : FileOp) (moment : ℕ) → (decided K R moment (file_work K R op moment) None).rows.nodes ≡ plain R.nodes op moment
-op_nodes K R op moment = nodes_kept K R moment (file_work K R op moment) ∙ effect_nodes R op moment

@@ -147,13 +147,6 @@ applies_test R folder name screen p a =
     both_true (in_groups R.groups screen.groups name) (not (list_any (is_excepted R name) front)) a.grouped
     (ap not (none_any (is_excepted R name) front (λ f near. let b = between R.nodes p.tree folder screen.folder f a.on near in a.barred f b.on b.below b.apart)))
 
--- of active screens, and of passive ones
-abbrev active_test : Rows → ℕ → List ℕ → ScreenRow → Bool
-active_test R folder name screen = applies R (chain R.nodes folder) name screen && screen.active
-
-abbrev passive_test : Rows → ℕ → List ℕ → ScreenRow → Bool
-passive_test R folder name screen = applies R (chain R.nodes folder) name screen && not screen.active
-
 -- one of a kind that is found
 found_judges : (R : Rows) (folder : ℕ) (name : List ℕ) (kind : ScreenRow → Bool) (screen : ScreenRow) → find kind (applying R folder name) ≡ Some screen → FoundAt (screen_of R) (λ s. applies R (chain R.nodes folder) name s && kind s) (chain R.nodes folder) screen
 found_judges R folder name kind screen h =

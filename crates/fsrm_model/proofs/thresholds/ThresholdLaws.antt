@@ -56,12 +56,6 @@ or_joined : (a b c : Bool) → ((a || b) || c) ≡ (a || (b || c))
 or_joined true b c = refl
 or_joined false b c = refl
 
-or_turned : (a b : Bool) → (a || b) ≡ (b || a)
-or_turned true true = refl
-or_turned true false = refl
-or_turned false true = refl
-or_turned false false = refl
-
 any-with_row : (p : Threshold → Bool) (row : Threshold) (rows : List Threshold) → list_any p (with_row percent_of row rows) ≡ (p row || list_any p rows)
 any-with_row p row [] = refl
 any-with_row p row (r ∷ rows) = at (nat_lt row.percent r.percent) (any-with_row p row rows)

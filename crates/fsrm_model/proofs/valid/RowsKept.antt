@@ -283,16 +283,6 @@ screens_folder R folder h there =
     ap (is_folder R.nodes) (sym (found_key screen_folder folder R.screens found.row found.is))
     ∙ (screen_at R.nodes R.groups R.excepts R.screens folder found.row h found.is).folder
 
--- another last moment alone
-pub valid_at : (K : Capacity) (R : Rows) (moment : ℕ) → IsValid K R → moment ≤ latest_moment → IsValid K (record R { last_moment = moment })
-valid_at K R moment s late = valid_with K R R.nodes R.quotas R.queue R.unvisited moment s s.volume (all_stay R.nodes) s.quotas s.tables.sources s.texts s.queue s.unvisited late
-
--- visits alone
-pub valid_visited : (K : Capacity) (R : Rows) (n : ℕ) → IsValid K R → IsValid K (record R { unvisited = visits n R.nodes R.unvisited })
-valid_visited K R n s =
-    valid_with K R R.nodes R.quotas R.queue (visits n R.nodes R.unvisited) R.last_moment s s.volume (all_stay R.nodes) s.quotas s.tables.sources s.texts s.queue
-    (left_visits n R.nodes (head R.queue) R.unvisited s.unvisited) s.last_moment
-
 -- the folder of the active scan
 pub head_in : (queue : List ℕ) (n : ℕ) → head queue ≡ Some n → is_in queue n ≡ true
 head_in [] n h = absurd (cc h)

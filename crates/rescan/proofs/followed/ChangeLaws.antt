@@ -49,10 +49,6 @@ alike v f n c k s w =
 pub alike_unvisited : (v : Volume) (f : Front) (n : ℕ) (c : NodeRow → NodeRow) → KeepsShape c → unvisited (with_change number n c v.nodes) f ≡ unvisited v.nodes f
 alike_unvisited v f n c k = kind_unvisited n c (kind_of c k) v.nodes f
 
-pub alike_follows : (v : Volume) (old f : Front) (left : List ℕ) (n : ℕ) (c : NodeRow → NodeRow) → KeepsShape c → Follows old f v left → IsVolume v.size (with_change number n c v.nodes) → Follows old f (record v { nodes = with_change number n c v.nodes }) left
-alike_follows v old f left n c k g w =
-    record { stands = alike v f n c k g.stands w; unvisited_are = alike_unvisited v f n c k ∙ g.unvisited_are; folder = g.folder; room = g.room }
-
 -- a file that was read, and a moment that isn't of a scan
 pub touched_keeps : (moment : ℕ) → KeepsShape (touched moment)
 touched_keeps moment = record { same_number = λ r. refl; same_parent = λ r. refl; same_folder = λ r. refl; same_length = λ r. refl }

@@ -49,20 +49,6 @@ pub with_one_more : (ms ns : List ℕ) (n : ℕ) → with_numbers (ms ++ n ∷ [
 with_one_more [] ns n = refl
 with_one_more (m ∷ ms) ns n = with_one_more ms (with_number m ns) n
 
-folder_kept : (rows : List NodeRow) (row : NodeRow) (ns : List ℕ) (b : Bool) → row.folder ≡ b → with_numbers (folders_of (rows ++ row ∷ [])) ns ≡ cond b (with_number row.number (with_numbers (folders_of rows) ns)) (with_numbers (folders_of rows) ns)
-folder_kept rows row ns b e =
-    ap (λ rs. with_numbers (map number rs) ns) (filter-append (λ node. node.folder) rows (row ∷ []) ∙ ap (λ c. filter (λ node. node.folder) rows ++ cond c (row ∷ []) []) e)
-    ∙ (ap (λ ks. with_numbers ks ns) (map-append number (filter (λ node. node.folder) rows) (cond b (row ∷ []) []))
-    ∙ at b)
-  where
-    nothing : (ks : List ℕ) → ks ++ [] ≡ ks
-    nothing [] = refl
-    nothing (k ∷ ks) = ap (λ js. k ∷ js) (nothing ks)
-
-    at : (b : Bool) → with_numbers (folders_of rows ++ map number (cond b (row ∷ []) [])) ns ≡ cond b (with_number row.number (with_numbers (folders_of rows) ns)) (with_numbers (folders_of rows) ns)
-    at true = with_one_more (folders_of rows) ns row.number
-    at false = ap (λ ks. with_numbers ks ns) (nothing (folders_of rows))
-
 -- the first children, so many of them, taken up: their folders are in the set, and the space of their files is summed
 pub record TakenUp (K : Capacity) (nodes : List NodeRow) (folder place : ℕ) (old new : Numbers) (sum : ℕ) : Type 0 where
   pub set : new ≡ record old { members = with_numbers (folders_of (take place (children_in_order nodes folder))) old.members }
@@ -70,33 +56,6 @@ pub record TakenUp (K : Capacity) (nodes : List NodeRow) (folder place : ℕ) (o
 
 same_row : (nodes : List NodeRow) (folder place n : ℕ) (view : NodeView) (at : IsChildAt nodes folder place n) (s : Shows view nodes n) → s.row ≡ at.row
 same_row nodes folder place n view at s = same_Some s.row at.row (sym s.found ∙ at.found)
-
-pub folder_taken : (K : Capacity) (nodes : List NodeRow) (folder place n : ℕ) (view : NodeView) (old mid new : Numbers) (bytes : ℕ) → IsChildAt nodes folder place n → Shows view nodes n → view.folder ≡ true → TakenUp K nodes folder place old mid bytes → new ≡ record mid { members = with_number n mid.members } → (sum : ℕ) → sum ≡ bytes → TakenUp K nodes folder (place + 1) old new sum
-folder_taken K nodes folder place n view old mid new bytes at s e t put sum same =
-    let rows = take place (children_in_order nodes folder) in
-    let kind : at.row.folder ≡ true = ap (λ (r : NodeRow). r.folder) (sym (same_row nodes folder place n view at s)) ∙ (sym s.is.folder ∙ e) in
-    let more = taken_more nodes folder place n at in
-    let members : with_numbers (folders_of (take (place + 1) (children_in_order nodes folder))) old.members ≡ with_number n (with_numbers (folders_of rows) old.members) =
-    ap (λ rs. with_numbers (folders_of rs) old.members) more ∙ (folder_kept rows at.row old.members true kind ∙ ap (λ k. with_number k (with_numbers (folders_of rows) old.members)) at.number_is) in
-    let none : space K at.row ≡ 0 = ap (λ b. cond b 0 (alloc K at.row.length)) kind in
-    record {
-      set = put ∙ (ap (λ (m : Numbers). record m { members = with_number n m.members }) t.set ∙ ap (λ ms. record old { members = ms }) (sym members));
-      bytes = omega (arith, same, t.bytes, ap (sum_by (space K)) more, sum_by_push (space K) rows at.row, none);
-    }
-
-pub file_taken : (K : Capacity) (nodes : List NodeRow) (folder place n : ℕ) (view : NodeView) (old mid new : Numbers) (bytes : ℕ) → IsChildAt nodes folder place n → Shows view nodes n → view.folder ≡ false → TakenUp K nodes folder place old mid bytes → new ≡ mid → (sum : ℕ) → sum ≡ bytes + alloc K view.length → TakenUp K nodes folder (place + 1) old new sum
-file_taken K nodes folder place n view old mid new bytes at s e t stays sum plus =
-    let rows = take place (children_in_order nodes folder) in
-    let same = same_row nodes folder place n view at s in
-    let kind : at.row.folder ≡ false = ap (λ (r : NodeRow). r.folder) (sym same) ∙ (sym s.is.folder ∙ e) in
-    let more = taken_more nodes folder place n at in
-    let members : with_numbers (folders_of (take (place + 1) (children_in_order nodes folder))) old.members ≡ with_numbers (folders_of rows) old.members =
-    ap (λ rs. with_numbers (folders_of rs) old.members) more ∙ folder_kept rows at.row old.members false kind in
-    let own : space K at.row ≡ alloc K view.length = ap (λ b. cond b 0 (alloc K at.row.length)) kind ∙ ap (alloc K) (ap (λ (r : NodeRow). r.length) (sym same) ∙ sym s.is.bytes) in
-    record {
-      set = stays ∙ (t.set ∙ ap (λ ms. record old { members = ms }) (sym members));
-      bytes = omega (arith, plus, t.bytes, ap (sum_by (space K)) more, sum_by_push (space K) rows at.row, own);
-    }
 
 pub none_taken : (K : Capacity) (nodes : List NodeRow) (folder : ℕ) (old : Numbers) → TakenUp K nodes folder 0 old old 0
 none_taken K nodes folder old = record { set = refl; bytes = refl }
@@ -177,11 +136,3 @@ filter_least {X} f p (x ∷ xs) = at (p x) (filter_least f p xs)
     at : (b : Bool) → sum_by f (filter p xs) ≤ sum_by f xs → sum_by f (cond b (x ∷ filter p xs) (filter p xs)) ≤ sum_by f (x ∷ xs)
     at true h = omega (arith, sum_by-cons f x (filter p xs), sum_by-cons f x xs, h)
     at false h = omega (arith, sum_by-cons f x xs, h)
-
-pub taken_least : (K : Capacity) (nodes : List NodeRow) (folder place : ℕ) (old new : Numbers) (sum : ℕ) → TakenUp K nodes folder place old new sum → sum ≤ sum_by (space K) nodes
-taken_least K nodes folder place old new sum t =
-    omega (arith, t.bytes, sum_by-take-le (space K) (children_in_order nodes folder) place, sum-children (space K) nodes folder, filter_least (space K) (is_child folder) nodes)
-
--- a child's number is below the bound of the volume
-pub child_low : (K : Capacity) (nodes : List NodeRow) (folder place n : ℕ) → IsVolume K nodes → IsChildAt nodes folder place n → n < K.nodes
-child_low K nodes folder place n v at = lt_is n K.nodes (v.below n at.row at.found)

@@ -351,16 +351,3 @@ filter_fit p (r ∷ nodes) = children_fit_at p r nodes (p r) (filter_fit p nodes
 -- a folder has no more children than there are nodes
 pub children_fit : (nodes : List NodeRow) (folder : ℕ) → length (children nodes folder) ≤ length nodes
 children_fit nodes folder = filter_fit (is_child folder) nodes
-
--- what a result that is `Ok` says
-pub ok_is : {A E : Type 0} (P : A → Type 0) (r : Result A E) (u : A) → r ≡ Ok u → IfOk r P → P u
-ok_is P r u e h = subst (λ r. IfOk r P) e h
-
--- if a node was found by its own place, its number stands there
-pub own_place_is : (nodes : List NodeRow) (order : List ℕ) (n k : ℕ) (row : NodeRow) (name : List ℕ) → node_of nodes n ≡ Some row → name ≡ row.name → child_number nodes (parent_of nodes n) (name_of nodes n) ≡ Some n → child_number nodes row.parent name ≡ slice_get order k → slice_get order k ≡ Some n
-own_place_is nodes order n k row name h e own found =
-    let up = found_parent nodes n row h in
-    let named = found_name nodes n row h in
-    let same : child_number nodes row.parent name ≡ child_number nodes (parent_of nodes n) (name_of nodes n) =
-    ap (λ p. child_number nodes p name) (sym up) ∙ ap (child_number nodes (parent_of nodes n)) (e ∙ sym named) in
-    sym found ∙ (same ∙ own)

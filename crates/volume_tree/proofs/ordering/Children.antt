@@ -77,23 +77,6 @@ child_there nodes order folder f first place h a e p l =
       },
     )
 
--- the child whose number stands at a place among the numbers of all
-pub child_numbered : (nodes : List NodeRow) (folder place : ℕ) (numbers : List ℕ) → is_ascending number nodes ≡ true → numbers ≡ map number (children_in_order nodes folder) → place < length numbers → IsChildAt nodes folder place (get_or numbers place 0)
-child_numbered nodes folder place numbers a e l =
-    let before : NodeRow → NodeRow → Bool = λ x y. name_before x.name y.name in
-    let rows = children_in_order nodes folder in
-    let size : length numbers ≡ length rows = ap length e ∙ length-map rows number in
-    let row = get_or rows place root_node in
-    let is : row.number ≡ get_or numbers place 0 = sym (ap (λ ns. get_or ns place 0) e ∙ get_or-map number rows place root_node 0 (omega arith)) in
-    let own = All-filter (is_child folder) (λ (r : NodeRow). node_of nodes r.number ≡ Some r) nodes (rows_found number nodes a) in
-    let all = All-permutation (λ (r : NodeRow). node_of nodes r.number ≡ Some r) (children nodes folder) rows (in_order_moves before (children nodes folder)) own in
-    record {
-      row = row;
-      at = slice_get-get_or rows place root_node (omega arith);
-      number_is = is;
-      found = ap (node_of nodes) (sym is) ∙ all place root_node (omega arith);
-    }
-
 -- whether there is one
 no_items : {X : Type 0} (xs : List X) → ((x : X) → Contains xs x → ⊥) → length xs ≡ 0
 no_items [] h = refl

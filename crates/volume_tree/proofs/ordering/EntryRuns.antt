@@ -100,9 +100,3 @@ run_get runs run i each k d l = each k l ∙ slice_get-get_or run k d l
 
 pub run_listed : (runs : List (List Entry)) (run : List Entry) (i : ℕ) → ((k : ℕ) → k < length run → slice_get (entries_of runs) (start_of runs i + k) ≡ slice_get run k) → All (Contains (entries_of runs)) run
 run_listed runs run i each k d l = contains_read (entries_of runs) (start_of runs i + k) (get_or run k d) (run_get runs run i each k d l)
-
--- numbers of a part of a run
-pub numbers-part : (run : List Entry) (from count few : ℕ) → map number_in (take few (take count (drop from run))) ≡ take few (take count (drop from (map number_in run)))
-numbers-part run from count few =
-    sym (ap (λ (ns : List ℕ). take few (take count ns)) (drop-map number_in from run)
-    ∙ (ap (take few) (take-map number_in count (drop from run)) ∙ take-map number_in few (take count (drop from run))))

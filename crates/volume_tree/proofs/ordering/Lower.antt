@@ -50,43 +50,11 @@ pub place_first : (nodes : List NodeRow) (order : Sequence) (folder k : ℕ) →
 place_first nodes order folder k a h own f =
     place_on nodes order folder k a h own (floor_on nodes order folder 0 k a h own (floor_first nodes (entries_of order.runs) folder []) (omega arith) f.lower) f.other
 
--- what is of lower folders than one is of lower ones than the next
-pub lower_next : (order : Sequence) (folder k : ℕ) → IsLower order folder k → IsLower order (folder + 1) k
-lower_next order folder k e = let less = e.lower in record { entry = e.entry; at = e.at; listed = e.listed; lower = omega arith }
-
--- an entry of a lower folder stands in front of a place, since it does in front of an earlier one or was passed
-pub lower_on : (order : Sequence) (folder i j : ℕ) → i ≤ j → (0 < i → IsLower order folder (i - 1)) → (i < j → IsLower order folder (j - 1)) → 0 < j → IsLower order folder (j - 1)
-lower_on order folder i j l e f s =
-    elim (cases_lt i j) [
-      | inl m ↦ f m
-      | inr m ↦ let is : i ≡ j = omega arith in subst (λ n. IsLower order folder (n - 1)) is (e (omega arith))
-    ]
-
 -- so many runs from one on, in front of which the last run begins with an entry of a lower folder, and after which the next one doesn't
 pub record AreLowerLeft (order : Sequence) (folder low size : ℕ) : Type 0 where
   pub within : low + size ≤ length order.runs
   pub lower : (run : ℕ) → run + 1 ≡ low → IsLower order folder (start_of order.runs run)
   pub other : low + size < length order.runs → IsNotLower order folder (start_of order.runs (low + size))
-
-pub lower_left : (order : Sequence) (folder low size passed left : ℕ) (entry : Entry) (before : Bool) → AreLowerLeft order folder low size → 0 < size → slice_get (entries_of order.runs) (start_of order.runs (low + size / 2)) ≡ Some entry.node → Contains order.entries entry → nat_lt entry.parent folder ≡ before → Passes before size passed → Leaves before size left → AreLowerLeft order folder (low + passed) left
-lower_left order folder low size passed left entry true h s at listed t p l =
-    let same : low + size ≡ low + passed + left = omega (arith, p, l, s) in
-    let less : entry.parent < folder = grind (arith, nat_tests) in
-    record {
-      within = omega (arith, same, h.within);
-      lower = λ run e.
-          let is : low + size / 2 ≡ run = omega (arith, e, p) in
-          subst (λ i. IsLower order folder (start_of order.runs i)) is (record { entry = entry; at = at; listed = listed; lower = less });
-      other = λ m. subst (λ k. IsNotLower order folder (start_of order.runs k)) same (h.other (omega (arith, m, same)));
-    }
-lower_left order folder low size passed left entry false h s at listed t p l =
-    let same : low + size / 2 ≡ low + passed + left = omega (arith, p, l) in
-    let most : folder ≤ entry.parent = grind (arith, nat_tests) in
-    record {
-      within = omega (arith, same, h.within, s);
-      lower = λ run e. h.lower run (omega (arith, e, p));
-      other = λ m. subst (λ k. IsNotLower order folder (start_of order.runs k)) same (record { entry = entry; at = at; listed = listed; other = most });
-    }
 
 -- something stands before the end
 pub none_past : (xs : List ℕ) (k : ℕ) → slice_get xs k ≡ None → k < length xs → ⊥

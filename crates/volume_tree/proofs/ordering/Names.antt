@@ -143,17 +143,3 @@ comes_as p a q b c h = ap (λ t. nat_lt p q || ((p == q) && t)) (name_before_as 
 
 pub as_comes : (p : ℕ) (a b : List ℕ) (q : ℕ) (c : List ℕ) → same_name a b ≡ true → comes p a q c ≡ comes p b q c
 as_comes p a b q c h = ap (λ t. nat_lt p q || ((p == q) && t)) (name_as_before a b c h)
-
--- two places that tie have one folder and one name
-pub named_tie : (p q : ℕ) (a b : List ℕ) → p ≡ q → is_eq (name_cmp a b) ≡ ((p == q) && same_name a b)
-named_tie p q a b e = let t : (p == q) ≡ true = grind (arith, nat_tests) in sym (texts_ties (folded a) (folded b)) ∙ ap (λ c. c && same_name a b) (sym t)
-
-not_tied : (o : Ordering) → (o ≡ Equal → ⊥) → is_eq o ≡ false
-not_tied Less h = refl
-not_tied Equal h = absurd (h refl)
-not_tied Greater h = refl
-
-pub named_apart : (p q : ℕ) (o : Ordering) (b : Bool) → o ≡ nat_cmp p q → (o ≡ Equal → ⊥) → is_eq o ≡ ((p == q) && b)
-named_apart p q o b e h =
-    let apart : (p == q) ≡ false = is_apart p q (λ same. h (e ∙ (ap (nat_cmp p) (sym same) ∙ tied_itself nat_cmp_total p))) in
-    not_tied o h ∙ ap (λ c. c && b) (sym apart)

@@ -20,10 +20,6 @@ pub fewer : (before : Bool) (size left : ℕ) → 0 < size → Leaves before siz
 fewer true size left s l = omega (arith, l)
 fewer false size left s l = omega (arith, l)
 
-pub passes_few : (before : Bool) (size passed : ℕ) → 0 < size → Passes before size passed → passed ≤ size
-passes_few true size passed s p = omega (arith, p)
-passes_few false size passed s p = omega (arith, p)
-
 -- so many runs from one on, in front of which the runs begin before the name's place, and behind which no entry does
 pub record AreRunsLeft (nodes : List NodeRow) (runs : List (List ℕ)) (folder : ℕ) (name : List ℕ) (begun low size looks : ℕ) : Type 0 where
   pub within : low + size ≤ length runs

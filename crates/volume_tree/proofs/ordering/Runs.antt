@@ -37,22 +37,6 @@ get_past [] (suc k) l = refl
 get_past (x ∷ xs) zero l = absurd (omega arith)
 get_past (x ∷ xs) (suc k) l = get_past xs k (omega arith)
 
-no_run : (run : ℕ) → length (run_at {T = ℕ} [] run) ≡ 0
-no_run zero = refl
-no_run (suc run) = refl
-
-pub no_entries : (runs : List (List ℕ)) (k : ℕ) → length runs ≡ 0 → slice_get (entries_of runs) k ≡ None
-no_entries [] k e = get_past [] k (omega arith)
-no_entries (run ∷ runs) k e = absurd (omega arith)
-
--- a gap after an entry is in a run
-pub gap_run : (runs : List (List ℕ)) (place : Place) → IsGap runs place → 0 < place.offset → place.run < length runs
-gap_run [] place g l = let most = g.offset in absurd (omega (arith, most, no_run place.run))
-gap_run (run ∷ runs) place g l = let in_run = g.run in omega arith
-
-pub entry_gap : (runs : List (List ℕ)) (place : Place) → IsEntry runs place → IsGap runs place
-entry_gap runs place e = let run = e.run in let offset = e.offset in record { run = omega arith; offset = omega arith }
-
 -- what each place of a result has
 pub ok_map : {A E : Type 0} {P Q : A → Type 0} (r : Result A E) → ((x : A) → P x → Q x) → IfOk r P → IfOk r Q
 ok_map (Ok x) f p = f x p

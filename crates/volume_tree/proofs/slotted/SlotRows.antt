@@ -52,19 +52,6 @@ slotted_from n m (None ∷ slots) row h f = slotted_more n m None slots row (slo
 slotted_from n m (Some first ∷ slots) row h f =
     slotted_at n m first row slots (first.number == m) h.0 refl f (slotted_from (suc n) m slots row h.1)
 
-pub slot_is : (slots : List (Option NodeRow)) (m : ℕ) (row : NodeRow) → AreSlots 0 slots → node_of (rows_of slots) m ≡ Some row → slice_get slots m ≡ Some (Some row)
-slot_is slots m row h f =
-    let s = slotted_from 0 m slots row h f in
-    let is = s.is in
-    let e : s.place ≡ m = omega arith in
-    subst (λ k. slice_get slots k ≡ Some (Some row)) e s.slot
-
-pub slot_within : (slots : List (Option NodeRow)) (m : ℕ) (row : NodeRow) → AreSlots 0 slots → node_of (rows_of slots) m ≡ Some row → m < length slots
-slot_within slots m row h f = slice_get_within slots m (Some row) (slot_is slots m row h f)
-
-pub slot_read : (slots : List (Option NodeRow)) (m : ℕ) (row : NodeRow) (read : Option NodeRow) → AreSlots 0 slots → node_of (rows_of slots) m ≡ Some row → read ≡ get_or slots m read → read ≡ Some row
-slot_read slots m row read h f e = e ∙ get_or_from_slice_get slots m (Some row) read (slot_is slots m row h f)
-
 -- there are no more rows than slots
 pub rows_fit : (slots : List (Option NodeRow)) → length (rows_of slots) ≤ length slots
 rows_fit [] = omega arith
