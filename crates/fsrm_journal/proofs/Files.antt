@@ -26,6 +26,13 @@ pub written_there : (r : Part) (place : ℕ) (bytes : List ℕ) (p : Parts) → 
 written_there Zero place bytes p = refl
 written_there One place bytes p = refl
 
+pub written_beside : (r o : Part) (place : ℕ) (bytes : List ℕ) (p : Parts) → o ≡ other r → part_of r (Written o place bytes p) ≡ part_of r p
+written_beside r o place bytes p is = subst (λ (x : Part). part_of r (Written x place bytes p) ≡ part_of r p) (sym is) (go r)
+  where
+    go : (x : Part) → part_of x (Written (other x) place bytes p) ≡ part_of x p
+    go Zero = refl
+    go One = refl
+
 -- the front of the half r, and all of the other
 pub record Front (r : Part) (front beside : List ℕ) (parts : Parts) : Type 0 where
   pub is : take (length front) (part_of r parts) ≡ front

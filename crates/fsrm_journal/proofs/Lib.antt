@@ -1,6 +1,12 @@
+pub mod Besides
 pub mod Files
+pub mod HeadBytes
 pub mod HeadLaws
 pub mod NextLaws
+pub mod NewStore
 pub mod Numbers
 pub mod Quiet
 pub mod Staging
+pub mod Switched
+pub mod Turns
+pub mod Walks

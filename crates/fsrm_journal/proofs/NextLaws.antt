@@ -6,26 +6,23 @@ use Rattle.std.proofs.lemmas.Bool.Decides.{eqb_tells}
 use Rattle.std.proofs.lemmas.List.{drop_at, get_or-append_right}
 use Rattle.byteorder.specs.Endian.{little_number, little_bytes}
 use Rattle.byteorder.specs.Numbers.{little_number-reads_back}
+use Rattle.fsrm_base.proofs.TestLaws.{both_true}
 use Rattle.fsrm_journal.specs.Next.{length_at, has_length, next_length, with_body, record_at}
 use Rattle.fsrm_outside.specs.Parts.{Parts, part_of}
 use Rattle.fsrm_journal.specs.Records.{counted, records, Log, Holds}
 use Rattle.fsrm_journal.proofs.Files.{records-append}
 use Rattle.fsrm_journal.proofs.Numbers.{tells_some}
 
-second : {A : Type 0} (a b : Bool) (x y z : A) → a ≡ true → b ≡ false → cond (not a) x (cond (not b) y z) ≡ y
+pub second : {A : Type 0} (a b : Bool) (x y z : A) → a ≡ true → b ≡ false → cond (not a) x (cond (not b) y z) ≡ y
 second true false x y z p q = refl
 second true true x y z p q = absurd (cc)
 second false b x y z p q = absurd (cc)
 
-fourth : {A : Type 0} (a b c : Bool) (w x y z : A) → a ≡ true → b ≡ true → c ≡ true → cond (not a) w (cond (not b) x (cond (not c) y z)) ≡ z
+pub fourth : {A : Type 0} (a b c : Bool) (w x y z : A) → a ≡ true → b ≡ true → c ≡ true → cond (not a) w (cond (not b) x (cond (not c) y z)) ≡ z
 fourth true true true w x y z p q r = refl
 fourth true true false w x y z p q r = absurd (cc)
 fourth true false c w x y z p q r = absurd (cc)
 fourth false b c w x y z p q r = absurd (cc)
-
-and_true : (a b : Bool) → a ≡ true → b ≡ true → (a && b) ≡ true
-and_true true b p q = q
-and_true false b p q = absurd (cc)
 
 gate_at : (front rest : List ℕ) (gate : ℕ) → get_or (front ++ gate ∷ rest) (length front) 0 ≡ gate
 gate_at front rest gate =
@@ -57,9 +54,9 @@ record_there front body rest some most =
     ap (little_number 4) (after ∙ append_assoc (little_bytes 4 (length body)) body rest) ∙ little_number-reads_back 4 (length body) (body ++ rest) few in
     let size : length half ≡ place + 5 + length body + length rest = omega (arith, length-append front (1 ∷ tail), length-append (counted body) rest) in
     let has : has_length half place ≡ true =
-    and_true (nat_le (place + 5) (length half)) (nat_le 1 (length_at half place) && nat_le (length_at half place) 131072)
+    both_true (nat_le (place + 5) (length half)) (nat_le 1 (length_at half place) && nat_le (length_at half place) 131072)
     (le-leb (place + 5) (length half) (omega (arith, size)))
-    (and_true (nat_le 1 (length_at half place)) (nat_le (length_at half place) 131072) (le-leb 1 (length_at half place) (omega (arith, n, some))) (le-leb (length_at half place) 131072 (omega (arith, n, most)))) in
+    (both_true (nat_le 1 (length_at half place)) (nat_le (length_at half place) 131072) (le-leb 1 (length_at half place) (omega (arith, n, some))) (le-leb (length_at half place) 131072 (omega (arith, n, most)))) in
     let next : next_length half place ≡ Ok (Some (length body)) =
     fourth (nat_lt place (length half)) (nat_eq (get_or half place 0) 1) (has_length half place) (Err place) (Ok None) (Err (place + 1)) (Ok (Some (length_at half place)))
     (there front tail 1) (eq-eqb (get_or half place 0) 1 (gate_at front tail 1)) has
@@ -81,3 +78,11 @@ held_there log before after body parts h some most =
 pub ended_there : (log : Log) (bodies : List (List ℕ)) (parts : Parts) → Holds log bodies parts → record_at (part_of log.ruling parts) (length (log.lead ++ records bodies)) ≡ Ok None
 ended_there log bodies parts h =
     ap (λ (half : List ℕ). record_at half (length (log.lead ++ records bodies))) h.split ∙ closed_there (log.lead ++ records bodies) h.rest h.gate h.closed
+
+-- a reader stops at a closed gate
+pub closed_next : (front rest : List ℕ) (gate : ℕ) → gate ≢ 1 → next_length (front ++ gate ∷ rest) (length front) ≡ Ok None
+closed_next front rest gate closed =
+    let half = front ++ gate ∷ rest in
+    let shut : nat_eq (get_or half (length front) 0) 1 ≡ false = ⊎_elim (λ yes. absurd (closed (sym (gate_at front rest gate) ∙ yes.1))) (λ other. other.0) (eqb_tells (get_or half (length front) 0) 1) in
+    second (nat_lt (length front) (length half)) (nat_eq (get_or half (length front) 0) 1) (Err (length front)) (Ok None)
+    (cond (not (has_length half (length front))) (Err (length front + 1)) (Ok (Some (length_at half (length front))))) (there front rest gate) shut

@@ -2,15 +2,10 @@
 use Rattle.std.proofs.Common.{◌≡◌, ℕ, ◌+◌, ◌≤◌, ◌<◌, List, length, get_or, take, drop, refl, sym, ◌∙◌, ap, arith, length-take, length-drop}
 use Rattle.std.proofs.lemmas.List.{get_or-take}
 use Rattle.std.proofs.Common.{cond}
-use Rattle.std.specs.Prelude.{Bool, Option, Some, Ok, Err}
+use Rattle.std.specs.Prelude.{Bool, Some, Ok, Err}
 use Rattle.std.proofs.lemmas.Bool.{le-leb}
-use Rattle.std.proofs.lemmas.Bool.Decides.{leb_tells}
-use Rattle.std.proofs.Common.{⊎_elim}
 use Rattle.byteorder.specs.Endian.{little_number}
-use Rattle.fsrm_outside.specs.declared.traits.Part.{Part}
-use Rattle.fsrm_journal.specs.Next.{next_length, with_body, record_at, Tells}
-use Rattle.fsrm_journal.specs.declared.fault.JournalFault.{JournalFault}
-use Rattle.fsrm_journal.specs.declared.fault.JournalFault.TheVariants.{NoStore, AlreadyStore, Damaged, DiskFault, NoMemory}
+use Rattle.fsrm_journal.specs.Next.{next_length, with_body, record_at}
 
 -- what was read of four bytes that are there
 pub read_four : (n : ℕ) (xs half : List ℕ) (place : ℕ) → take n xs ≡ take 4 (drop place half) → place + 4 ≤ length half → (k : ℕ) → k < 4 → get_or xs k 0 ≡ get_or (drop place half) k 0
@@ -27,20 +22,9 @@ number_four xs ys same =
     rw (a, b, c, d) refl
 
 -- a record is as its length says
-pub tells_err : (ruling : Part) (half : List ℕ) (place : ℕ) (fault : JournalFault) → Tells {A = Option ℕ} ruling (next_length half place) (Err fault) → Tells {A = Option (ℕ × ℕ)} ruling (record_at half place) (Err fault)
-tells_err ruling half place NoStore t = t
-tells_err ruling half place AlreadyStore t = t
-tells_err ruling half place (Damaged part at) t = (t.0, ap (with_body half place) t.1)
-tells_err ruling half place DiskFault t = t
-tells_err ruling half place NoMemory t = t
-
 pub tells_some : (half : List ℕ) (place n : ℕ) → next_length half place ≡ Ok (Some n) → place + 5 + n ≤ length half → record_at half place ≡ Ok (Some (place + 5, n))
 tells_some half place n is whole =
     ap (with_body half place) is ∙ ap (λ (b : Bool). cond b (Ok (Some (place + 5, n))) (Err (place + 5))) (le-leb (place + 5 + n) (length half) whole)
-
-pub tells_short : (half : List ℕ) (place n : ℕ) → next_length half place ≡ Ok (Some n) → length half < place + 5 + n → record_at half place ≡ Err (place + 5)
-tells_short half place n is short =
-    ap (with_body half place) is ∙ ap (λ (b : Bool). cond b (Ok (Some (place + 5, n))) (Err (place + 5))) (⊎_elim (λ yes. absurd (omega (arith, yes.1, short))) (λ other. other.0) (leb_tells (place + 5 + n) (length half)))
 
 -- what is there is read whole
 pub all_read : (count size : ℕ) (given half : List ℕ) (place : ℕ) → take count given ≡ take size (drop place half) → place + size ≤ length half → size ≤ count

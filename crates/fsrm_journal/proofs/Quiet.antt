@@ -1,16 +1,17 @@
 -- Reads leave what is stable.
 use Rattle.std.proofs.Common.{◌≡◌, ℕ, Some, List, refl, sym, ◌∙◌, ap, arith}
-use Rattle.std.specs.Prelude.{Option, Result, Err}
+use Rattle.std.specs.Prelude.{Bool, Option, Result, Err}
 use Rattle.fsrm_outside.specs.declared.traits.Part.{Part}
 use Rattle.fsrm_outside.specs.declared.traits.Part.TheVariants.{Zero, One}
-use Rattle.fsrm_journal.specs.Heads.{head_of, judged}
+use Rattle.fsrm_journal.specs.Heads.{head_of, is_open, judged}
 use Rattle.fsrm_journal.specs.HeadSays.{head_says}
-use Rattle.fsrm_journal.specs.Opened.{judged_parts, IsRefused}
+use Rattle.fsrm_journal.specs.Opened.{judged_parts, IsRefused, StandsOn}
 use Rattle.fsrm_journal.specs.declared.fault.JournalFault.{JournalFault}
 use Rattle.fsrm_journal.specs.declared.fault.JournalFault.TheVariants.{NoStore, AlreadyStore, Damaged, DiskFault, NoMemory}
 use Rattle.fsrm_journal.specs.declared.heads.Head.{Head}
+use Rattle.fsrm_journal.specs.declared.journal.Journal.{Journal}
 use Rattle.fsrm_outside.specs.Changes.{Same, Through}
-use Rattle.fsrm_outside.specs.Parts.{Parts, part_of}
+use Rattle.fsrm_outside.specs.Parts.{Parts, part_of, other}
 use Rattle.fsrm_outside.proofs.Stages.{DiskLaws, later_back}
 
 pub still_stable : {D : Type 0} (reads : D → Option Parts) {clock : D → Option ℕ} {images : D → ℕ → Parts → Type 0} {by : D → D → Type 0} → DiskLaws clock images by → (old new : D)
@@ -37,3 +38,11 @@ pub says_read : (r : Part) (head : Head) (zero one : List ℕ) (parts : Parts) �
     → head ≡ head_says (head_of (part_of r parts))
 says_read Zero head zero one parts first second is_zero is_one = first refl ∙ ap head_says is_zero
 says_read One head zero one parts first second is_zero is_one = second refl ∙ ap head_says is_one
+
+pub beside_read : (r : Part) (still : Bool) (zero one : List ℕ) (parts : Parts) → (r ≡ Zero → still ≡ is_open one) → (r ≡ One → still ≡ is_open zero) → zero ≡ head_of parts.zero → one ≡ head_of parts.one
+    → still ≡ is_open (head_of (part_of (other r) parts))
+beside_read Zero still zero one parts first second is_zero is_one = first refl ∙ ap is_open is_one
+beside_read One still zero one parts first second is_zero is_one = second refl ∙ ap is_open is_zero
+
+pub stands_then : (a b c : Journal) → StandsOn a b → StandsOn b c → StandsOn a c
+stands_then a b c first second = record { ruling = second.ruling ∙ first.ruling; generation = second.generation ∙ first.generation; beside = second.beside ∙ first.beside }

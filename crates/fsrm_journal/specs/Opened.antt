@@ -1,8 +1,8 @@
 -- What opening a journal answers.
 use Rattle.std.specs.Prelude.{◌≡◌, ◌+◌, ◌-◌, ◌^◌, min, Result, Ok, Err, length}
-use Rattle.fsrm_outside.specs.Parts.{Parts, part_of}
+use Rattle.fsrm_outside.specs.Parts.{Parts, part_of, other}
 use Rattle.fsrm_outside.specs.declared.traits.Part.{Part}
-use Rattle.fsrm_journal.specs.Heads.{head_of, judged}
+use Rattle.fsrm_journal.specs.Heads.{head_of, is_open, judged}
 use Rattle.fsrm_journal.specs.HeadSays.{head_says}
 use Rattle.fsrm_journal.specs.declared.fault.JournalFault.{JournalFault}
 use Rattle.fsrm_journal.specs.declared.fault.JournalFault.TheVariants.{NoStore, AlreadyStore, Damaged, DiskFault, NoMemory}
@@ -20,8 +20,9 @@ pub record IsOpened (parts : Parts) (journal : Journal) (head : Head) : Type 0 w
   pub at : journal.end ≡ 48
   pub image : journal.image_end ≡ min (head.image + 48) (2 ^ 64 - 1)
   pub long : journal.len ≡ length (part_of journal.ruling parts)
-  pub held : journal.held ≡ 0
-  pub group : journal.group ≡ 1
+  -- what is known for the change to the other half
+  pub generation : journal.generation ≡ head.generation
+  pub beside : journal.beside_open ≡ is_open (head_of (part_of (other journal.ruling) parts))
 
 -- a refusal is that of the heads, but for those of the device and of memory
 abbrev pub IsRefused : Parts → JournalFault → Type 0
@@ -31,9 +32,23 @@ IsRefused parts AlreadyStore = judged_parts parts ≡ Err AlreadyStore
 IsRefused parts DiskFault = Unit {0}
 IsRefused parts NoMemory = Unit {0}
 
+-- the same half rules, and what is known of both stays
+pub record StandsOn (old new : Journal) : Type 0 where
+  pub ruling : new.ruling ≡ old.ruling
+  pub generation : new.generation ≡ old.generation
+  pub beside : new.beside_open ≡ old.beside_open
+
+-- the same records are held
+pub record HoldsOn (old new : Journal) : Type 0 where
+  pub held : new.held ≡ old.held
+  pub bytes : new.bytes.items ≡ old.bytes.items
+  pub group : new.group ≡ old.group
+
 -- reading goes on, and changes nothing but its place
 pub record ReadsOn (old new : Journal) : Type 0 where
   pub ruling : new.ruling ≡ old.ruling
+  pub generation : new.generation ≡ old.generation
+  pub beside : new.beside_open ≡ old.beside_open
   pub image_end : new.image_end ≡ old.image_end
   pub len : new.len ≡ old.len
   pub bytes : new.bytes.items ≡ old.bytes.items

@@ -4,7 +4,7 @@ ghost use Rattle.std.specs.Prelude.{◌≡◌, ◌≤◌, ◌<◌, ◌+◌, ◌^
 ghost use Rattle.std.specs.Option.{ForSome};
 ghost use Rattle.fsrm_outside.specs.Causes.{HasCause};
 ghost use Rattle.fsrm_outside.specs.Moments.{EachImage};
-ghost use Rattle.fsrm_outside.specs.Parts.{part_of};
+ghost use Rattle.fsrm_outside.specs.Parts.{part_of, other};
 ghost use Rattle.fsrm_journal.specs.Records.{batch, Holds, HoldsAllOrNone, Log, Settled, Staged};
 
 use fsrm_outside::{Disk, Failed, Part};
@@ -17,6 +17,7 @@ pub fn stage<D: Disk>(disk: &mut D, ruling: Part, gate: u64, closed: &[u8]) -> R
 
     ensures next { IfOk result (λ n. (n ≡ gate + length closed.now) × (n ≤ 2 ^ 62)) }
     ensures longer { IfOk result (λ n. ForSome (D.reads disk.new) (λ parts. n < length (part_of ruling parts))) }
+    ensures beside { (n : ℕ) → ForSome (D.reads disk.old) (λ parts. n ≤ length (part_of (other ruling) parts)) → OnOk result (ForSome (D.reads disk.new) (λ parts. n ≤ length (part_of (other ruling) parts))) }
     ensures staged { (log : Log) (bodies : List (List ℕ)) (bytes : List ℕ) → closed.now ≡ bytes ++ 0 ∷ []
         → Settled D.reads D.disk_clock D.images log bodies ruling gate disk.old
         → OnOk result (Staged D.reads D.disk_clock D.images log bodies bytes gate disk.new) }
@@ -38,6 +39,7 @@ pub fn open_gate<D: Disk>(disk: &mut D, ruling: Part, gate: u64) -> Result<(), F
         → Staged D.reads D.disk_clock D.images log bodies (batch (body ∷ more)) gate disk.old
         → OnOk result (Settled D.reads D.disk_clock D.images log (bodies ++ body ∷ more) ruling (gate + 1 + length (batch (body ∷ more))) disk.new) }
     ensures longer { (n : ℕ) → ForSome (D.reads disk.old) (λ parts. n < length (part_of ruling parts)) → OnOk result (ForSome (D.reads disk.new) (λ parts. n < length (part_of ruling parts))) }
+    ensures beside { (n : ℕ) → ForSome (D.reads disk.old) (λ parts. n ≤ length (part_of (other ruling) parts)) → OnOk result (ForSome (D.reads disk.new) (λ parts. n ≤ length (part_of (other ruling) parts))) }
     ensures any_moment { (log : Log) (bodies : List (List ℕ)) (body : List ℕ) (more : List (List ℕ)) → ruling ≡ log.ruling
         → Staged D.reads D.disk_clock D.images log bodies (batch (body ∷ more)) gate disk.old
         → EachImage D.disk_clock D.images (HoldsAllOrNone log bodies (body ∷ more)) disk.old disk.new }

@@ -11,7 +11,7 @@ pub enum JournalFault {
     /// Neither part's gate is open.
     #[error("no store here")]
     NoStore,
-    /// A part's gate is open. No call answers this so far.
+    /// A part's gate is open, so no store is made.
     #[error("a store is here already")]
     AlreadyStore,
     /// A field is missing or isn't legal. It begins at this place, and is the first such one.

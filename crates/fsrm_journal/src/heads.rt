@@ -14,7 +14,7 @@ use fsrm_model::limits::{MOST_NAMES, MOST_NODES};
 use fsrm_outside::Part;
 
 // `FSRMHALF`, as a number.
-const MAGIC: u64 = 0x464c_4148_4d52_5346;
+pub const MAGIC: u64 = 0x464c_4148_4d52_5346;
 
 const CLUSTER_SIZES: [u32; 8] = [512, 1_024, 2_048, 4_096, 8_192, 16_384, 32_768, 65_536];
 
@@ -47,7 +47,8 @@ pub fn head_says(head: &[u8]) -> Head
     }
 }
 
-fn is_open(head: &[u8]) -> bool
+/// Whether its gate is open.
+pub fn is_open(head: &[u8]) -> bool
     ensures { result ≡ is_open head.now }
 {
     !head.is_empty() && head[0] == 1

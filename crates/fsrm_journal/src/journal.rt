@@ -6,16 +6,19 @@ ghost use Rattle.std.specs.Option.{ForSome};
 ghost use Rattle.fsrm_outside.specs.Causes.{HasCause, Rose};
 ghost use Rattle.fsrm_outside.specs.Changes.{Same, Through};
 ghost use Rattle.fsrm_journal.specs.HeadSays.{head_says};
-ghost use Rattle.fsrm_journal.specs.Heads.{head_of};
+ghost use Rattle.fsrm_journal.specs.Heads.{head_of, is_open};
 ghost use Rattle.fsrm_outside.specs.declared.traits.Part.TheVariants.{Zero, One};
 ghost use Rattle.fsrm_outside.specs.Moments.{EachImage};
-ghost use Rattle.fsrm_outside.specs.Parts.{Parts, part_of};
+ghost use Rattle.fsrm_outside.specs.Parts.{Parts, part_of, other};
 ghost use Rattle.fsrm_journal.specs.Records.{batch, counted, Holds, HoldsAllOrNone, Log, Settled};
 ghost use Rattle.fsrm_journal.specs.declared.fault.JournalFault.TheVariants.{DiskFault};
 
+mod checkpoint;
+mod format;
+
 use crate::batches::{open_gate, stage};
 use crate::fault::JournalFault;
-use crate::heads::{Head, head_says, judged};
+use crate::heads::{Head, head_says, is_open, judged};
 use crate::reading::{damaged, next_length};
 use byteorder::{ByteOrder, LittleEndian};
 use fsrm_base::NoMemory;
@@ -26,21 +29,28 @@ use std::alloc::Global;
 /// The most bytes that a record takes: its gate, its length and its body.
 const MOST_RECORD: usize = LONGEST_ENTRY + 5;
 
-/// The records of the half that rules: where they end, and those that are held until a flush.
+/// The records of the half that rules: where they end, those that are held until a flush, and what is known of both
+/// halves for the change to the other one.
 #[derive(Drop)]
 pub struct Journal {
     ruling: Part,
+    generation: u64,
+    // Whether the other half's gate is open.
+    beside_open: bool,
     // Up to where it was read; after all is read, the place of the first closed gate.
     end: u64,
     // Where the image ends, and how many bytes the half had when it was opened.
     image_end: u64,
     len: u64,
+    // Where the next piece comes in the half that is being written.
+    written: u64,
     // The records that are held, without the first one's gate.
     bytes: Vec<u8>,
     held: u32,
     group: u32,
     ghost in_part: { end ≤ 2 ^ 62 },
     ghost in_half: { len ≤ 2 ^ 62 },
+    ghost in_beside: { written ≤ 2 ^ 62 },
     ghost room: { group * 131077 ≤ vec_capacity bytes },
     ghost fits: { length bytes.items ≤ held * 131077 - 1 },
     ghost few: { held ≤ group },
@@ -94,9 +104,21 @@ fn head_ruling(ruling: Part, zero: &[u8], one: &[u8]) -> Head
     }
 }
 
+// Whether the gate of the half that doesn't rule is open.
+fn is_open_beside(ruling: Part, zero: &[u8], one: &[u8]) -> bool
+    ensures zero { ruling ≡ Zero → result ≡ is_open one.now }
+    ensures one { ruling ≡ One → result ≡ is_open zero.now }
+{
+    match ruling {
+        Part::Zero => is_open(one),
+        Part::One => is_open(zero),
+    }
+}
+
 impl Journal {
-    ghost use Rattle.fsrm_journal.specs.Opened.{IsOpened, IsRefused, ReadsOn};
+    ghost use Rattle.fsrm_journal.specs.Opened.{IsOpened, IsRefused, ReadsOn, StandsOn};
     ghost use Rattle.fsrm_journal.specs.Next.{record_at, Tells};
+    ghost use Rattle.fsrm_journal.specs.Reading.{log_at, Stable};
 
     /// Finds the half that rules, and reads its head. The image comes next, and then the records.
     ///
@@ -104,6 +126,9 @@ impl Journal {
     /// legal, or at the generation of part 1 if both have the same. `NoMemory`: there is no memory to hold a record.
     pub fn open_at<D: Disk>(alloc: Global, disk: &mut D) -> Result<(Journal, Head), JournalFault>
         ensures opened { ForSome (D.reads disk.old) (λ parts. IfOk result (λ opened. IsOpened parts opened.0 opened.1)) }
+        ensures beside { ForSome (D.reads disk.old) (λ parts. IfOk result (λ opened. 0 < length (part_of (other opened.0.ruling) parts))) }
+        ensures none { IfOk result (λ opened. opened.0.held ≡ 0) }
+        ensures group { IfOk result (λ opened. opened.0.group ≡ 1) }
         ensures refused { ForSome (D.reads disk.old) (λ parts. IfErr result (λ fault. IsRefused parts fault)) }
         ensures reads { D.reads disk.new ≡ D.reads disk.old }
         ensures stable { (t : ℕ) (image : Parts) → OnOk result (D.disk_clock disk.new ≡ Some t → D.images disk.new t image → D.reads disk.new ≡ Some image) }
@@ -118,14 +143,18 @@ impl Journal {
         let ruling = judged(&zero[..zero_len], &one[..one_len])?;
         let len = disk.len(ruling)?;
         let head = head_ruling(ruling, &zero[..zero_len], &one[..one_len]);
+        let beside_open = is_open_beside(ruling, &zero[..zero_len], &one[..one_len]);
         let Ok(bytes) = Vec::with_capacity(alloc, MOST_RECORD) else {
             return Err(JournalFault::NoMemory);
         };
         let journal = Journal {
             ruling,
+            generation: head.generation,
+            beside_open,
             end: 48,
             image_end: head.image.saturating_add(48),
             len,
+            written: 0,
             bytes,
             held: 0,
             group: 1,
@@ -160,8 +189,8 @@ impl Journal {
     }
 
     /// The place and the length of the next record's body, with which `into` then begins. `None` exactly at the first
-    /// closed gate. `Damaged` exactly at a gate that is missing, at a length that isn't there or isn't legal, or at a
-    /// body that isn't there whole.
+    /// closed gate: from then on records may be added there. `Damaged` exactly at a gate that is missing, at a length
+    /// that isn't there or isn't legal, or at a body that isn't there whole.
     pub fn next<D: Disk>(
         &mut self,
         disk: &mut D,
@@ -172,8 +201,13 @@ impl Journal {
             → Tells self.old.ruling (record_at (part_of self.old.ruling parts) self.old.end) result) }
         ensures body { ForSome (D.reads disk.old) (λ parts. self.old.len ≡ length (part_of self.old.ruling parts)
             → IfOk result (λ found. IfSome found (λ at. take at.1 into.new ≡ take at.1 (drop at.0 (part_of self.old.ruling parts))))) }
+        ensures size { IfOk result (λ found. IfSome found (λ at. (1 ≤ at.1) × (at.1 ≤ 131072))) }
         ensures end { IfOk result (λ found. IfSome found (λ at. self.new.end ≡ at.0 + at.1)) }
         ensures stays { IfOk result (λ found. found ≡ None → self.new.end ≡ self.old.end) }
+        ensures settled { ForSome (D.reads disk.old) (λ parts. self.old.len ≡ length (part_of self.old.ruling parts) → Stable D.reads D.disk_clock D.images disk.old
+            → IfOk result (λ found. found ≡ None → Settled D.reads D.disk_clock D.images (log_at self.old.ruling self.old.end parts) [] self.new.ruling self.new.end disk.new)) }
+        ensures ready { ForSome (D.reads disk.old) (λ parts. self.old.len ≡ length (part_of self.old.ruling parts)
+            → IfOk result (λ found. found ≡ None → ForSome (D.reads disk.new) (λ now. self.new.end < length (part_of self.new.ruling now)))) }
         ensures same { ReadsOn self.old self.new }
         ensures reads { D.reads disk.new ≡ D.reads disk.old }
         ensures crash { Through D.disk_clock D.images Same disk.old disk.new }
@@ -215,6 +249,7 @@ impl Journal {
         ensures end { self.new.end ≡ self.old.end }
         ensures held { self.new.held ≡ 0 }
         ensures bytes { self.new.bytes.items ≡ self.old.bytes.items }
+        ensures stands { StandsOn self.old self.new }
     {
         self.bytes.try_reserve(n as usize * MOST_RECORD)?;
         self.group = n;
@@ -231,6 +266,7 @@ impl Journal {
         ensures group { self.new.group ≡ self.old.group }
         ensures ruling { self.new.ruling ≡ self.old.ruling }
         ensures end { self.new.end ≡ self.old.end }
+        ensures stands { StandsOn self.old self.new }
     {
         let first = self.held == 0;
         append_record(&mut self.bytes, first, body);
@@ -250,7 +286,9 @@ impl Journal {
         ensures none { OnOk result (self.new.held ≡ 0) }
         ensures empty { OnOk result (self.new.bytes.items ≡ []) }
         ensures group { self.new.group ≡ self.old.group }
+        ensures stands { StandsOn self.old self.new }
         ensures ready { OnOk result (ForSome (D.reads disk.new) (λ parts. self.new.end < length (part_of self.new.ruling parts))) }
+        ensures beside { (n : ℕ) → ForSome (D.reads disk.old) (λ parts. n ≤ length (part_of (other self.old.ruling) parts)) → OnOk result (ForSome (D.reads disk.new) (λ parts. n ≤ length (part_of (other self.new.ruling) parts))) }
         ensures by { D.by_disk disk.old disk.new }
         ensures only { OnErr result (result ≡ Err DiskFault) }
         ensures cause { HasCause (D.disk_faults disk.old) (D.disk_faults disk.new) result }
@@ -284,7 +322,9 @@ impl Journal {
             → EachImage D.disk_clock D.images (HoldsAllOrNone log bodies (body.now ∷ [])) disk.old disk.new }
         ensures none { OnOk result (self.new.held ≡ 0) }
         ensures group { self.new.group ≡ self.old.group }
+        ensures stands { StandsOn self.old self.new }
         ensures ready { OnOk result (ForSome (D.reads disk.new) (λ parts. self.new.end < length (part_of self.new.ruling parts))) }
+        ensures beside { (n : ℕ) → ForSome (D.reads disk.old) (λ parts. n ≤ length (part_of (other self.old.ruling) parts)) → OnOk result (ForSome (D.reads disk.new) (λ parts. n ≤ length (part_of (other self.new.ruling) parts))) }
         ensures by { D.by_disk disk.old disk.new }
         ensures only { OnErr result (result ≡ Err DiskFault) }
         ensures cause { HasCause (D.disk_faults disk.old) (D.disk_faults disk.new) result }

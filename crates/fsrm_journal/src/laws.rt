@@ -1,8 +1,13 @@
 //! What the definitions of the journal say together.
 
-ghost use Rattle.std.specs.Prelude.{◌≡◌, ◌≤◌, ◌+◌, ℕ, List, ◌∷◌, ◌++◌, Ok, Some, None, length};
+ghost use Rattle.std.specs.Prelude.{◌≡◌, ◌≤◌, ◌+◌, ℕ, List, [], ◌∷◌, ◌++◌, All, Ok, Some, None, length};
 ghost use Rattle.fsrm_outside.specs.Parts.{Parts, part_of};
 ghost use Rattle.fsrm_journal.specs.Next.{record_at};
+ghost use Rattle.fsrm_journal.specs.Halves.{Knows};
+ghost use Rattle.fsrm_journal.specs.Opened.{IsOpened, ReadsOn, StandsOn};
+ghost use Rattle.fsrm_journal.specs.Reading.{IsBody, Comes, Read};
+ghost use Rattle.fsrm_journal.specs.declared.heads.Head.{Head};
+ghost use Rattle.fsrm_journal.specs.declared.journal.Journal.{Journal};
 ghost use Rattle.fsrm_journal.specs.Records.{records, Holds, Log};
 
 /// A reader that begins after the lead comes to each record that the parts hold, in order, and stops after the last
@@ -13,4 +18,25 @@ pub fn records_are_read()
         → record_at (part_of log.ruling parts) (length (log.lead ++ records before)) ≡ Ok (Some (length (log.lead ++ records before) + 5, length body)) }
     ensures last { (log : Log) (bodies : List (List ℕ)) (parts : Parts) → Holds log bodies parts
         → record_at (part_of log.ruling parts) (length (log.lead ++ records bodies)) ≡ Ok None }
+{}
+
+/// One list of bytes has one reading: from a place on there stands one list of bodies at most.
+pub fn reading_is_one()
+    ensures { (half : List ℕ) (place : ℕ) (first second : List (List ℕ)) → Read half place first → Read half place second → first ≡ second }
+{}
+
+/// Records are added to what was read. A reader came to `before`, and from where it stood on the parts then held no
+/// record. Once they hold `bodies` there, a reader comes to all of both.
+pub fn records_are_added_to_what_was_read()
+    ensures { (log : Log) (place : ℕ) (before bodies : List (List ℕ)) (old parts : Parts) → Holds log [] old → Comes (part_of log.ruling old) place before (length log.lead)
+        → Holds log bodies parts → All IsBody bodies → Read (part_of log.ruling parts) place (before ++ bodies) }
+{}
+
+/// What the journal knows of the parts, it knows from when it is opened. It stays so while the parts are read, and when
+/// records are added, since they stand after the heads.
+pub fn what_is_known()
+    ensures opened { (parts : Parts) (journal : Journal) (head : Head) → IsOpened parts journal head → Knows parts journal }
+    ensures read { (parts : Parts) (before after : Journal) → ReadsOn before after → Knows parts before → Knows parts after }
+    ensures added { (log : Log) (bodies more : List (List ℕ)) (old new : Parts) (before after : Journal) → Holds log bodies old → Holds log more new → 48 ≤ length log.lead
+        → before.ruling ≡ log.ruling → StandsOn before after → Knows old before → Knows new after }
 {}

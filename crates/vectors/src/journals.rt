@@ -48,16 +48,19 @@ fn is_read(alloc: Global, journal: &mut Journal, disk: &mut MemoryOutside) -> Re
     )
 }
 
-fn half_is_read(alloc: Global) -> Result<bool, Fail> {
-    let mut disk = MemoryOutside::with_parts(alloc, &HALF, &[0], &[], [].as_slice())?;
+fn half_is_read(alloc: Global, version: u8) -> Result<bool, Fail> {
+    let mut half = HALF;
+    half[24] = version;
+    let mut disk = MemoryOutside::with_parts(alloc, &half, &[0], &[], [].as_slice())?;
     let (mut journal, head) = Journal::open_at(alloc, &mut disk)?;
-    let is_head = head.generation == 1 && head.size.cluster == 4_096;
+    let is_head = head.version == version as u32 && head.size.cluster == 4_096;
     Ok(is_head && is_read(alloc, &mut journal, &mut disk)?)
 }
 
 #[test]
 fn a_half_is_read(rt: HostRuntime) -> Result<(), Fail> {
-    assert!(rt; half_is_read(rt.alloc())?);
+    assert!(rt; half_is_read(rt.alloc(), 1)?);
+    assert!(rt; half_is_read(rt.alloc(), 2)?);
     Ok(())
 }
 

@@ -13,6 +13,8 @@ mod acts;
 #[cfg(test)]
 mod audits;
 #[cfg(test)]
+mod crashes;
+#[cfg(test)]
 mod devices;
 #[cfg(test)]
 mod disks;

@@ -1,7 +1,7 @@
 use Rattle.std.proofs.Common.{[], ◌∷◌, length, ap, sym, ◌∙◌, arith}
-use Rattle.fsrm_outside.specs.Parts.{Parts, part_of}
+use Rattle.fsrm_outside.specs.Parts.{Parts, part_of, other}
 use Rattle.fsrm_outside.proofs.Stages.{DiskLaws, stayed}
-use Rattle.fsrm_journal.proofs.Files.{told_back, told_forth, written_here, length-over-old}
+use Rattle.fsrm_journal.proofs.Files.{told_back, told_forth, written_here, written_there, length-over-old}
 use Rattle.fsrm_journal.proofs.Staging.{opens, makes_settled}
 use Rattle.fsrm_journal.proofs.batches.open_gate.Goals as goal
 
@@ -37,3 +37,9 @@ returns-clause-longer g c n long x told =
     let b = told_back _ _ x (sym c.in_ok-write_at.ensures.written ∙ (sym c.sync.ensures.reads ∙ told)) in
     let r = c.args.ruling in
     omega (arith, long b.0 b.1, length-over-old c.args.gate (1 ∷ []) (part_of r b.0) (omega (arith, c.requires b.0 b.1)), ap (λ (p : Parts). length (part_of r p)) b.2, ap length (written_here r c.args.gate (1 ∷ []) b.0))
+
+pub returns-clause-beside : goal.returns-clause-beside
+returns-clause-beside g c n long x told =
+    let b = told_back _ _ x (sym c.in_ok-write_at.ensures.written ∙ (sym c.sync.ensures.reads ∙ told)) in
+    let r = c.args.ruling in
+    omega (arith, long b.0 b.1, ap (λ (p : Parts). length (part_of (other r) p)) b.2, ap length (written_there r c.args.gate (1 ∷ []) b.0))

@@ -1,6 +1,7 @@
-use Rattle.std.proofs.Common.{◌+◌, ◌∙◌, arith}
+use Rattle.std.proofs.Common.{◌+◌, length, ap, sym, ◌∙◌, arith}
+use Rattle.fsrm_outside.specs.Parts.{Parts, part_of, other}
 use Rattle.fsrm_outside.proofs.Stages.{DiskLaws, stayed}
-use Rattle.fsrm_journal.proofs.Files.{told_forth, front_holds}
+use Rattle.fsrm_journal.proofs.Files.{told_back, told_forth, front_holds, written_there}
 use Rattle.fsrm_journal.proofs.Staging.{begins, writes, makes_staged}
 use Rattle.fsrm_journal.proofs.batches.stage.Goals as goal
 
@@ -30,3 +31,9 @@ returns-clause-any_moment g c log bodies s =
 pub returns-clause-staged : goal.returns-clause-staged
 returns-clause-staged g c log bodies bytes is s =
     makes_staged s c.sync.new.self bytes c.args.closed.now is (c.sync.ensures.reads ∙ (c.in_ok-write_at.ensures.written ∙ told_forth _ _ s.parts s.told)) c.in_ok-sync.ensures.durable
+
+pub returns-clause-beside : goal.returns-clause-beside
+returns-clause-beside g c n long x told =
+    let b = told_back _ _ x (sym c.in_ok-write_at.ensures.written ∙ (sym c.sync.ensures.reads ∙ told)) in
+    let r = c.args.ruling in
+    omega (arith, long b.0 b.1, ap (λ (p : Parts). length (part_of (other r) p)) b.2, ap length (written_there r (c.args.gate + 1) c.args.closed.now b.0))

@@ -44,3 +44,6 @@ returns-clause-any_moment g c log bodies held few is s =
 
 pub returns-clause-ready : goal.returns-clause-ready
 returns-clause-ready g c = c.in_ok-open_gate.ensures.longer c.in_ok-next.next c.in_ok-next.ensures.longer
+
+pub returns-clause-beside : goal.returns-clause-beside
+returns-clause-beside g c n long = c.in_ok-open_gate.ensures.beside n (c.in_ok-next.ensures.beside n long)

@@ -1,7 +1,9 @@
-use Rattle.std.proofs.Common.{Err, refl, ap, ◌∙◌}
+use Rattle.std.proofs.Common.{Err, length, refl, ap, ◌∙◌, arith}
+use Rattle.fsrm_outside.specs.Parts.{part_of, other}
+use Rattle.fsrm_journal.proofs.Turns.{rules_wins, has_gate}
 use Rattle.std.proofs.lemmas.Result.{err_from_is_err_and}
 use Rattle.fsrm_outside.proofs.Stages.{DiskLaws, quiet_then}
-use Rattle.fsrm_journal.proofs.Quiet.{still_stable, judged_read, refused_read, says_read}
+use Rattle.fsrm_journal.proofs.Quiet.{beside_read, still_stable, judged_read, refused_read, says_read}
 use Rattle.fsrm_journal.proofs.journal.Journal.open_at.Goals as goal
 
 pub returns-in_err-len-clause-crash : goal.returns-in_err-len-clause-crash
@@ -54,6 +56,13 @@ returns-clause-opened g c parts told =
       at = refl;
       image = c.saturating_add.ensures;
       long = c.in_ok-len.ensures.length parts (c.read_heads.ensures.reads ∙ told);
-      held = refl;
-      group = refl;
+      generation = refl;
+      beside = beside_read c.in_ok-ruling.ruling c.is_open_beside-beside_open.result _ _ parts c.is_open_beside-beside_open.ensures.zero c.is_open_beside-beside_open.ensures.one zero one;
     }
+
+pub returns-clause-beside : goal.returns-clause-beside
+returns-clause-beside g c parts told =
+    let r = c.in_ok-ruling.ruling in
+    let w = rules_wins r parts (judged_read parts _ _ _ c.in_ok-ruling.ensures.judged (c.in_ok-zero_len.ensures.zero parts told) (c.in_ok-zero_len.ensures.one parts told)) in
+    let gate = has_gate (part_of (other r) parts) w.beside in
+    omega (arith, ap length gate.2)

@@ -1,0 +1,68 @@
+use Rattle.std.proofs.Common.{◌+◌, inl, length, ◌++◌, ap, refl, arith}
+use Rattle.fsrm_outside.specs.Parts.{part_of, other}
+use Rattle.fsrm_outside.specs.declared.traits.Part.{Part}
+use Rattle.fsrm_outside.proofs.Stages.{DiskLaws, joined, weaker}
+use Rattle.fsrm_journal.specs.Halves.{head_tail, StaysOrFresh}
+use Rattle.fsrm_journal.proofs.HeadBytes.{place_after}
+use Rattle.fsrm_journal.proofs.Switched.{switched_now}
+use Rattle.fsrm_journal.proofs.Turns.{either_rules, back, shut_stays}
+use Rattle.fsrm_journal.proofs.journal.Journal.switch.Goals as goal
+
+pub returns-in_err-write_beside-clause-any_moment : goal.returns-in_err-write_beside-clause-any_moment
+returns-in_err-write_beside-clause-any_moment g c half image head whole f =
+    let r = c.args.self.now.ruling in
+    weaker (StaysOrFresh r half head image) (λ i s. inl (shut_stays r half i f.follows.opened f.follows.sound s)) (c.write_beside.ensures.any_moment half (head_tail head ++ image) (place_after head image c.args.self.now.written f.at) f.beside)
+
+pub returns-in_err-open_beside-clause-any_moment : goal.returns-in_err-open_beside-clause-any_moment
+returns-in_err-open_beside-clause-any_moment g c half image head whole f =
+    let M = g.met.D.Disk in
+    let laws : DiskLaws g.D.Disk.disk_clock g.D.Disk.images g.D.Disk.by_disk = record { same = M.disk_same; then_by = M.disk_then; later = M.disk_later; past = M.disk_past } in
+    let r = c.args.self.now.ruling in
+    let place = place_after head image c.args.self.now.written f.at in
+    let first = weaker (StaysOrFresh r half head image) (λ i s. inl (shut_stays r half i f.follows.opened f.follows.sound s)) (c.write_beside.ensures.any_moment half (head_tail head ++ image) place f.beside) in
+    let b = c.in_ok-write_beside.ensures.written half (head_tail head ++ image) place f.beside in
+    joined laws c.write_beside.ensures.by c.open_beside.ensures.by first (weaker (StaysOrFresh r half head image) (λ i s. either_rules r half head image i f.follows whole s) (c.open_beside.ensures.any_moment half image head b))
+
+pub returns-in_err-still_open-clause-any_moment : goal.returns-in_err-still_open-clause-any_moment
+returns-in_err-still_open-clause-any_moment g c half image head whole f =
+    let M = g.met.D.Disk in
+    let laws : DiskLaws g.D.Disk.disk_clock g.D.Disk.images g.D.Disk.by_disk = record { same = M.disk_same; then_by = M.disk_then; later = M.disk_later; past = M.disk_past } in
+    let r = c.args.self.now.ruling in
+    let place = place_after head image c.args.self.now.written f.at in
+    let first = weaker (StaysOrFresh r half head image) (λ i s. inl (shut_stays r half i f.follows.opened f.follows.sound s)) (c.write_beside.ensures.any_moment half (head_tail head ++ image) place f.beside) in
+    let b = c.in_ok-write_beside.ensures.written half (head_tail head ++ image) place f.beside in
+    let two = joined laws c.write_beside.ensures.by c.open_beside.ensures.by first (weaker (StaysOrFresh r half head image) (λ i s. either_rules r half head image i f.follows whole s) (c.open_beside.ensures.any_moment half image head b)) in
+    let o = c.in_ok-open_beside.ensures.opened half image head b in
+    joined laws (M.disk_then _ _ _ c.write_beside.ensures.by c.open_beside.ensures.by) c.retire.ensures.by two (c.retire.ensures.any_moment half image head o.0 f.follows whole f.generation o.1 o.2)
+
+pub returns-clause-any_moment : goal.returns-clause-any_moment
+returns-clause-any_moment g c half image head whole f =
+    let M = g.met.D.Disk in
+    let laws : DiskLaws g.D.Disk.disk_clock g.D.Disk.images g.D.Disk.by_disk = record { same = M.disk_same; then_by = M.disk_then; later = M.disk_later; past = M.disk_past } in
+    let r = c.args.self.now.ruling in
+    let place = place_after head image c.args.self.now.written f.at in
+    let first = weaker (StaysOrFresh r half head image) (λ i s. inl (shut_stays r half i f.follows.opened f.follows.sound s)) (c.write_beside.ensures.any_moment half (head_tail head ++ image) place f.beside) in
+    let b = c.in_ok-write_beside.ensures.written half (head_tail head ++ image) place f.beside in
+    let two = joined laws c.write_beside.ensures.by c.open_beside.ensures.by first (weaker (StaysOrFresh r half head image) (λ i s. either_rules r half head image i f.follows whole s) (c.open_beside.ensures.any_moment half image head b)) in
+    let o = c.in_ok-open_beside.ensures.opened half image head b in
+    joined laws (M.disk_then _ _ _ c.write_beside.ensures.by c.open_beside.ensures.by) c.retire.ensures.by two (c.retire.ensures.any_moment half image head o.0 f.follows whole f.generation o.1 o.2)
+
+pub returns-clause-switched : goal.returns-clause-switched
+returns-clause-switched g c half image head whole f =
+    let D = g.D.Disk in
+    let place = place_after head image c.args.self.now.written f.at in
+    let b = c.in_ok-write_beside.ensures.written half (head_tail head ++ image) place f.beside in
+    let o = c.in_ok-open_beside.ensures.opened half image head b in
+    let n = c.in_ok-still_open.ensures.rules half image head o.0 f.follows whole f.generation o.1 o.2 in
+    switched_now D.reads D.disk_clock D.images c.retire.new.disk c.args.self.now.generation f.follows whole f.generation n.1 n.2 _ c.other-self.ensures c.next_generation-self.ensures refl f.at
+
+pub returns-clause-ready : goal.returns-clause-ready
+returns-clause-ready g c x told =
+    let n = c.args.self.now.written + 1 in
+    let long = c.in_ok-still_open.ensures.longer n (c.in_ok-open_beside.ensures.longer n c.in_ok-write_beside.ensures.longer) x told in
+    omega (arith, long, ap (λ (r : Part). length (part_of r x)) c.other-self.ensures)
+
+pub returns-clause-beside : goal.returns-clause-beside
+returns-clause-beside g c n long x told =
+    let kept = c.in_ok-still_open.ensures.here n (c.in_ok-open_beside.ensures.here n (c.in_ok-write_beside.ensures.here n long)) x told in
+    omega (arith, kept, ap length (back c.args.self.now.ruling x), ap (λ (r : Part). length (part_of (other r) x)) c.other-self.ensures)
