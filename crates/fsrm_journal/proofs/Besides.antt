@@ -1,5 +1,5 @@
 -- What calls of a disk make of the half that doesn't rule.
-use Rattle.std.proofs.Common.{◌≡◌, ◌≢◌, inl, ℕ, ◌+◌, ◌-◌, ◌^◌, ◌≤◌, ◌<◌, true, false, Some, List, [], ◌∷◌, ◌++◌, length, drop, refl, sym, ◌∙◌, ap, subst, arith, append_assoc}
+use Rattle.std.proofs.Common.{◌≡◌, ◌≢◌, inl, inr, ℕ, ◌+◌, ◌-◌, ◌^◌, ◌≤◌, ◌<◌, true, false, Some, List, [], ◌∷◌, ◌++◌, length, drop, refl, sym, ◌∙◌, ap, subst, arith, append_assoc}
 use Rattle.std.specs.Prelude.{Option, Ok}
 use Rattle.fsrm_outside.specs.Changes.{Same, Torn, Through, Written, over}
 use Rattle.fsrm_outside.specs.Moments.{EachImage, EachNow}
@@ -7,11 +7,11 @@ use Rattle.fsrm_outside.specs.Parts.{Parts, part_of, other}
 use Rattle.fsrm_outside.specs.declared.traits.Part.{Part}
 use Rattle.fsrm_outside.proofs.Stages.{DiskLaws, Stage, begun, stepped, joined, through, at_end, some_is}
 use Rattle.fsrm_journal.specs.Heads.{head_of, is_open, generation_at}
-use Rattle.fsrm_journal.specs.Halves.{head_tail, Beside, Certain, Follows, OpenBeside, Ruled, Shut, ShutOrOpen, Stays, StaysOrFresh}
+use Rattle.fsrm_journal.specs.Halves.{head_tail, AllButGate, Beside, Certain, Follows, OpenBeside, Ruled, Shut, Stays, StaysOrFresh}
 use Rattle.fsrm_journal.specs.Opened.{judged_parts}
 use Rattle.fsrm_journal.specs.declared.heads.Head.{Head}
 use Rattle.fsrm_journal.proofs.Files.{over_at, written_here, written_there}
-use Rattle.fsrm_journal.proofs.Turns.{back, rules_wins, has_gate, gate_shut, shut_gate, closing, shut_torn, opening, both_open, new_rules, alone, retiring}
+use Rattle.fsrm_journal.proofs.Turns.{back, rules_wins, has_gate, gate_shut, shut_gate, closing, shut_torn, opening_whole, both_open, new_rules, alone, retiring}
 
 -- parts that a crash leaves
 pub always : {D : Type 0} {reads : D → Option Parts} {clock : D → Option ℕ} {images : D → ℕ → Parts → Type 0} {parts : Parts} {disk : D} (P : Parts → Type 0) → Certain reads clock images parts disk → P parts → EachNow clock images P disk
@@ -102,14 +102,6 @@ pub synced_beside : {D : Type 0} {reads : D → Option Parts} {clock : D → Opt
     → ((t : ℕ) (i : Parts) → clock new ≡ Some t → images new t i → reads new ≡ Some i) → Certain reads clock images b.parts new
 synced_beside b new same durable = certain_now b.parts new (same ∙ b.told) durable
 
-pub opens_beside : {D : Type 0} {reads : D → Option Parts} {clock : D → Option ℕ} {images : D → ℕ → Parts → Type 0} {half : List ℕ} {disk : D} → (r o : Part) (image : List ℕ) (head : Head) → o ≡ other r
-    → (b : Beside reads clock images r half (head_tail head ++ (image ++ 0 ∷ [])) disk) → (mid new : D) → Certain reads clock images b.parts mid
-    → Through clock images (Torn o 0 1) mid new → EachImage clock images (ShutOrOpen r half head image) mid new
-opens_beside {half = half} r o image head is b mid new certain by_step =
-    let Q : Parts → Type 0 = λ i. i ≡ b.parts in
-    through new (ShutOrOpen r half head image) {Q = Q} (Torn o 0 1) (record { now = certain.only }) by_step
-    (λ d i same torn. opening r o half head image b.gate b.rest b.parts i is b.same (b.split ∙ ap (λ (l : List ℕ). b.gate ∷ l) (filled head image b.rest)) (subst (λ (x : Parts). Torn o 0 1 x i) same torn))
-
 pub opened_now : {D : Type 0} {reads : D → Option Parts} {clock : D → Option ℕ} {images : D → ℕ → Parts → Type 0} {half : List ℕ} {disk : D} (r o : Part) (image : List ℕ) (head : Head) → o ≡ other r
     → (b : Beside reads clock images r half (head_tail head ++ (image ++ 0 ∷ [])) disk) → (new : D) → reads new ≡ Some (Written o 0 (1 ∷ []) b.parts) → ((t : ℕ) (i : Parts) → clock new ≡ Some t → images new t i → reads new ≡ Some i)
     → (parts : Parts) × Certain reads clock images parts new × OpenBeside r half head image parts
@@ -125,12 +117,13 @@ opened_now r o image head is b new told durable =
     )
 
 -- the old half's gate stays open, and the new one rules
-pub rules_by_generation : {half : List ℕ} {parts : Parts} (r : Part) (image : List ℕ) (head : Head) → Follows half head → generation_at (head_of half) < 2 ^ 64 - 1 → OpenBeside r half head image parts → Ruled r head image true parts
+pub rules_by_generation : {half : List ℕ} {parts : Parts} (r : Part) (image : List ℕ) (head : Head) → Follows half head → generation_at (head_of half) < 2 ^ 64 - 1 → OpenBeside r half head image parts → Ruled r half head image true parts
 rules_by_generation {half} {parts} r image head f small o = record {
   rules = new_rules r half head (image ++ 0 ∷ o.rest) parts f small o.same o.split;
   rest = o.rest;
   split = o.split;
   beside = sym (ap (λ (l : List ℕ). is_open (head_of l)) o.same ∙ f.opened);
+  retired = inl (small, o.same);
 }
 
 -- it is closed
@@ -143,10 +136,10 @@ retires {half = half} {parts = parts} laws r image head f whole certain o new ra
     let start = begun laws P {Q = Q} (record { now = certain.only }) (λ i same. subst P (sym same) (both_open r half head image parts f whole o)) in
     stepped laws new P (Torn r 0 1) start ran by_step (λ d i same torn. retiring r half head image parts i f whole o (subst (λ (x : Parts). Torn r 0 1 x i) same torn)) (λ i p. p)
 
-pub retired_now : {D : Type 0} {reads : D → Option Parts} {clock : D → Option ℕ} {images : D → ℕ → Parts → Type 0} {half : List ℕ} {parts : Parts} (r : Part) (image : List ℕ) (head : Head) → Follows half head → OpenBeside r half head image parts
+pub retired_now : {D : Type 0} {reads : D → Option Parts} {clock : D → Option ℕ} {images : D → ℕ → Parts → Type 0} {half : List ℕ} {parts : Parts} (r : Part) (image : List ℕ) (head : Head) → Follows half head → generation_at (head_of half) ≡ 2 ^ 64 - 1 → OpenBeside r half head image parts
     → (new : D) → reads new ≡ Some (Written r 0 (0 ∷ []) parts) → ((t : ℕ) (i : Parts) → clock new ≡ Some t → images new t i → reads new ≡ Some i)
-    → (now : Parts) × Certain reads clock images now new × Ruled r head image false now
-retired_now {half = half} {parts = parts} r image head f o new told durable =
+    → (now : Parts) × Certain reads clock images now new × Ruled r half head image false now
+retired_now {half = half} {parts = parts} r image head f greatest o new told durable =
     let p = Written r 0 (0 ∷ []) parts in
     let g = has_gate half f.sound in
     let is : part_of r p ≡ 0 ∷ g.1 = written_here r 0 (0 ∷ []) parts ∙ ap (over 0 (0 ∷ [])) (o.same ∙ g.2) in
@@ -159,14 +152,24 @@ retired_now {half = half} {parts = parts} r image head f o new told durable =
         rest = o.rest;
         split = split;
         beside = sym (ap (λ (l : List ℕ). is_open (head_of l)) is ∙ shut_gate 0 g.1 closed);
+        retired = inr (greatest, is ∙ ap (λ (l : List ℕ). 0 ∷ drop 1 l) (sym g.2));
       },
     )
 
 -- before the gate is opened it is closed
-pub still_shut : {D : Type 0} {reads : D → Option Parts} {clock : D → Option ℕ} {images : D → ℕ → Parts → Type 0} {half front : List ℕ} {disk : D} (r : Part) (image : List ℕ) (head : Head) → Beside reads clock images r half front disk
-    → (new : D) → Through clock images Same disk new → EachImage clock images (ShutOrOpen r half head image) disk new
-still_shut {half = half} r image head b new by_step =
-    through new (ShutOrOpen r half head image) {Q = Shut r half} Same (record { now = b.now }) by_step (λ d i s same. inl (subst (Shut r half) (sym same) s))
+pub stays_shut : {D : Type 0} {reads : D → Option Parts} {clock : D → Option ℕ} {images : D → ℕ → Parts → Type 0} {half front : List ℕ} {disk : D} (r : Part) → Beside reads clock images r half front disk
+    → (new : D) → Through clock images Same disk new → EachImage clock images (Shut r half) disk new
+stays_shut {half = half} r b new by_step =
+    through new (Shut r half) {Q = Shut r half} Same (record { now = b.now }) by_step (λ d i s same. subst (Shut r half) (sym same) s)
+
+-- the gate is written, and all else is there
+pub opens_whole : {D : Type 0} {reads : D → Option Parts} {clock : D → Option ℕ} {images : D → ℕ → Parts → Type 0} {half : List ℕ} {disk : D} → (r o : Part) (image : List ℕ) (head : Head) → o ≡ other r
+    → (b : Beside reads clock images r half (head_tail head ++ (image ++ 0 ∷ [])) disk) → (mid new : D) → Certain reads clock images b.parts mid
+    → Through clock images (Torn o 0 1) mid new → EachImage clock images (AllButGate r half head image b.rest) mid new
+opens_whole {half = half} r o image head is b mid new certain by_step =
+    let Q : Parts → Type 0 = λ i. i ≡ b.parts in
+    through new (AllButGate r half head image b.rest) {Q = Q} (Torn o 0 1) (record { now = certain.only }) by_step
+    (λ d i same torn. opening_whole r o half head image b.gate b.rest b.parts i is b.same (b.split ∙ ap (λ (l : List ℕ). b.gate ∷ l) (filled head image b.rest)) (subst (λ (x : Parts). Torn o 0 1 x i) same torn))
 
 -- a call after a run that leaves the images as they may be
 pub quiet_after : {D : Type 0} {clock : D → Option ℕ} {images : D → ℕ → Parts → Type 0} {by : D → D → Type 0} → DiskLaws clock images by → {old mid new : D} {P : Parts → Type 0} → by old mid → by mid new → Through clock images Same mid new

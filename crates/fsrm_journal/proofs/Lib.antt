@@ -9,4 +9,5 @@ pub mod Quiet
 pub mod Staging
 pub mod Switched
 pub mod Turns
+pub mod Untils
 pub mod Walks

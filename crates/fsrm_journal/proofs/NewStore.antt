@@ -1,20 +1,23 @@
 -- What the steps by which a store is made do.
-use Rattle.std.proofs.Common.{◌≡◌, ◌≢◌, inl, inr, ⊎_elim, ℕ, ◌+◌, ◌≤◌, Bool, false, cond, List, [], ◌∷◌, length, drop, refl, sym, ◌∙◌, ap, subst, arith}
-use Rattle.std.specs.Prelude.{Option, None, Some, Result, Err, ◌||◌}
+use Rattle.std.proofs.Common.{◌≡◌, ◌≢◌, inl, inr, ⊎_elim, ℕ, ◌+◌, ◌≤◌, Bool, false, cond, List, [], ◌∷◌, ◌++◌, length, drop, length-append, refl, sym, ◌∙◌, ap, subst, arith}
+use Rattle.std.specs.Prelude.{Option, Some, Result, Err, ◌||◌, slice_index}
 use Rattle.std.proofs.lemmas.Bool.{cases_lt}
 use Rattle.fsrm_outside.specs.Changes.{Same, Torn, Through, Written}
-use Rattle.fsrm_outside.specs.Moments.{EachImage}
 use Rattle.fsrm_outside.specs.Parts.{Parts}
 use Rattle.fsrm_outside.specs.declared.traits.Part.{Part}
 use Rattle.fsrm_outside.specs.declared.traits.Part.TheVariants.{Zero, One}
 use Rattle.fsrm_outside.proofs.Stages.{DiskLaws, later_forth, later_back, some_is}
-use Rattle.fsrm_journal.specs.Formatted.{SameButGates, NoneOrFresh, Formats}
-use Rattle.fsrm_journal.specs.Halves.{IsLegal, Beside, Shut, ShutOrOpen}
+use Rattle.fsrm_journal.specs.Formatted.{IsMade, SameButGates, NoneOrFresh, Formats}
+use Rattle.fsrm_journal.specs.Halves.{IsLegal, head_tail, AllButGate, Beside, Shut, Until}
 use Rattle.fsrm_journal.specs.Heads.{head_of, is_open, half_fault, judged, ruling, unless_damaged}
+use Rattle.fsrm_journal.specs.Opened.{judged_parts}
 use Rattle.fsrm_journal.specs.declared.fault.JournalFault.{JournalFault}
 use Rattle.fsrm_journal.specs.declared.fault.JournalFault.TheVariants.{NoStore}
 use Rattle.fsrm_journal.specs.declared.heads.Head.{Head}
-use Rattle.fsrm_journal.proofs.Turns.{alone, fresh_is, shut_gate}
+use Rattle.fsrm_journal.proofs.HeadBytes.{spelled}
+use Rattle.fsrm_journal.proofs.NextLaws.{gate_at}
+use Rattle.fsrm_journal.proofs.Quiet.{at_clock, after_clock}
+use Rattle.fsrm_journal.proofs.Turns.{ShutOrOpen, alone, fresh_is, shut_gate, shut_or_open}
 
 -- a gate is written
 pub gate_torn : (p : Part) (old new : Parts) → Torn p 0 1 old new → SameButGates old new
@@ -68,42 +71,61 @@ none_open a b r p q = rw (p, q) refl
 no_store : (zero one : List ℕ) → is_open zero ≡ false → is_open one ≡ false → judged zero one ≡ Err NoStore
 no_store zero one p q = none_open (is_open zero) (is_open one) (unless_damaged Zero (half_fault zero) (unless_damaged One (half_fault one) (ruling zero one))) p q
 
+-- beside a closed gate there is none
+shut_none : (rest : List ℕ) (parts : Parts) → Shut One (0 ∷ rest) parts → judged_parts parts ≡ Err NoStore
+shut_none rest parts shut =
+    no_store (head_of parts.zero) (head_of parts.one) (ap (λ (l : List ℕ). is_open (head_of l)) shut.split ∙ shut_gate shut.gate shut.rest shut.closed) (ap (λ (l : List ℕ). is_open (head_of l)) shut.same)
+
 -- the half that is written rules once its gate is open
 pub none_or_fresh : (head : Head) (image rest : List ℕ) (parts : Parts) → IsLegal head → head.image ≡ length image → ShutOrOpen One (0 ∷ rest) head image parts → NoneOrFresh head image parts
-none_or_fresh head image rest parts legal whole (inl shut) =
-    inl (no_store (head_of parts.zero) (head_of parts.one) (ap (λ (l : List ℕ). is_open (head_of l)) shut.split ∙ shut_gate shut.gate shut.rest shut.closed) (ap (λ (l : List ℕ). is_open (head_of l)) shut.same))
+none_or_fresh head image rest parts legal whole (inl shut) = inl (shut_none rest parts shut)
 none_or_fresh head image rest parts legal whole (inr o) =
     inr (fresh_is Zero head image o.rest parts legal whole o.split (alone One head image o.rest 0 rest parts legal o.split o.same (λ one. absurd (omega (arith, one)))))
 
--- the moment of a clock, and the one after it
-at_clock : Option ℕ → ℕ
-at_clock None = 0
-at_clock (Some t) = t
-
-after_clock : Option ℕ → ℕ
-after_clock None = 0
-after_clock (Some t) = t + 1
+-- the new store is there
+pub made : (head : Head) (image rest : List ℕ) (was now : Parts) → IsLegal head → head.image ≡ length image → now.zero ≡ 1 ∷ (head_tail head ++ (image ++ 0 ∷ rest)) → now.one ≡ 0 ∷ drop 1 was.one → IsMade head image was now
+made head image rest was now legal whole split beside =
+    let front = spelled head ++ image in
+    let size : length (spelled head) ≡ 48 = refl in
+    let long : length front ≡ 48 + length image = omega (arith, size, length-append (spelled head) image) in
+    let closed : 0 ≢ 1 = λ one. absurd (omega (arith, one)) in
+    record {
+      fresh = fresh_is Zero head image rest now legal whole split (alone One head image rest 0 (drop 1 was.one) now legal split beside closed);
+      gate = ap (λ (l : List ℕ). slice_index l (48 + length image)) split ∙ ap (λ (k : ℕ). slice_index (front ++ 0 ∷ rest) k) (sym long) ∙ gate_at front rest 0;
+      beside = beside;
+    }
 
 -- until the gates are stable
 pub formats_before : {D : Type 0} {clock : D → Option ℕ} {images : D → ℕ → Parts → Type 0} (head : Head) (image : List ℕ) {old new : D} → Through clock images SameButGates old new → Formats clock images head image old new
 unfolding after_clock
 formats_before {clock = clock} head image {old} {new} by_step = record {
-  since = after_clock (clock new);
+  closed = after_clock (clock new);
+  whole = after_clock (clock new);
+  rest = [];
+  beside = [];
   before = λ s t m i at_old at_new from to less left. by_step s t m i at_old at_new from to left;
-  after = λ t m i at_new from to left. absurd (omega (arith, ap after_clock at_new, from, to));
+  shut = λ t m i at_new from to less left. absurd (omega (arith, ap after_clock at_new, from, to));
+  after = λ t m i at_new from to whole left. absurd (omega (arith, ap after_clock at_new, from, to));
 }
 
 -- and then
-pub formats_then : {D : Type 0} {clock : D → Option ℕ} {images : D → ℕ → Parts → Type 0} {by : D → D → Type 0} → DiskLaws clock images by → (head : Head) (image : List ℕ) {old mid new : D}
-    → by old mid → by mid new → Through clock images SameButGates old mid → EachImage clock images (NoneOrFresh head image) mid new → Formats clock images head image old new
+pub formats_then : {D : Type 0} {clock : D → Option ℕ} {images : D → ℕ → Parts → Type 0} {by : D → D → Type 0} → DiskLaws clock images by → (head : Head) (image one : List ℕ) → IsLegal head → head.image ≡ length image → {old mid new : D}
+    → by old mid → by mid new → Through clock images SameButGates old mid → (rest : List ℕ) × Until clock images (Shut One (0 ∷ one)) (AllButGate One (0 ∷ one) head image rest) mid new → Formats clock images head image old new
 unfolding at_clock
-formats_then {clock = clock} laws head image {old} {mid} {new} first second by_step each = record {
-  since = at_clock (clock mid);
+formats_then {clock = clock} laws head image one legal is_whole {old} {mid} {new} first second by_step u = record {
+  closed = at_clock (clock mid);
+  whole = u.1.since;
+  rest = u.0;
+  beside = 0 ∷ one;
   before = λ s t m i at_old at_new from to less left.
-      let u = later_forth (clock old) (clock mid) s (laws.later old mid first) at_old in
-      let within : m ≤ u.0 = omega (arith, less, ap at_clock u.1) in
-      by_step s u.0 m i at_old u.1 from within ((laws.past mid new u.0 m i second u.1 within).0 left);
-  after = λ t m i at_new from to left.
-      let u = later_back (clock mid) (clock new) t (laws.later mid new second) at_new in
-      each.each u.0 t m i u.1 at_new (omega (arith, from, ap at_clock u.1)) to left;
+      let v = later_forth (clock old) (clock mid) s (laws.later old mid first) at_old in
+      let within : m ≤ v.0 = omega (arith, less, ap at_clock v.1) in
+      by_step s v.0 m i at_old v.1 from within ((laws.past mid new v.0 m i second v.1 within).0 left);
+  shut = λ t m i at_new from to less left.
+      let v = later_back (clock mid) (clock new) t (laws.later mid new second) at_new in
+      shut_none one i (u.1.before v.0 t m i v.1 at_new (omega (arith, from, ap at_clock v.1)) to less left);
+  after = λ t m i at_new from to whole left.
+      let v = later_back (clock mid) (clock new) t (laws.later mid new second) at_new in
+      let a = u.1.after v.0 t m i v.1 at_new (omega (arith, from, ap at_clock v.1)) to whole left in
+      (none_or_fresh head image one i legal is_whole (shut_or_open One (0 ∷ one) head image u.0 i a), a);
 }

@@ -24,7 +24,7 @@ fourth true true false w x y z p q r = absurd (cc)
 fourth true false c w x y z p q r = absurd (cc)
 fourth false b c w x y z p q r = absurd (cc)
 
-gate_at : (front rest : List ℕ) (gate : ℕ) → get_or (front ++ gate ∷ rest) (length front) 0 ≡ gate
+pub gate_at : (front rest : List ℕ) (gate : ℕ) → get_or (front ++ gate ∷ rest) (length front) 0 ≡ gate
 gate_at front rest gate =
     let none : length front - length front ≡ 0 = omega arith in
     get_or-append_right front (gate ∷ rest) (length front) (length front) 0 refl (omega arith) ∙ ap (λ (k : ℕ). get_or (gate ∷ rest) k 0) none

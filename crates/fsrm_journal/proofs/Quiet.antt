@@ -1,11 +1,13 @@
 -- Reads leave what is stable.
-use Rattle.std.proofs.Common.{◌≡◌, ℕ, Some, List, refl, sym, ◌∙◌, ap, arith}
-use Rattle.std.specs.Prelude.{Bool, Option, Result, Err}
+use Rattle.std.proofs.Common.{◌≡◌, inl, inr, ⊎_elim, ℕ, ◌+◌, ◌≤◌, Some, List, refl, sym, ◌∙◌, ap, arith}
+use Rattle.std.specs.Prelude.{Bool, Option, None, Result, Err}
+use Rattle.std.proofs.lemmas.Bool.{cases_lt}
 use Rattle.fsrm_outside.specs.declared.traits.Part.{Part}
 use Rattle.fsrm_outside.specs.declared.traits.Part.TheVariants.{Zero, One}
 use Rattle.fsrm_journal.specs.Heads.{head_of, is_open, judged}
 use Rattle.fsrm_journal.specs.HeadSays.{head_says}
 use Rattle.fsrm_journal.specs.Opened.{judged_parts, IsRefused, StandsOn}
+use Rattle.fsrm_journal.specs.Reading.{Settles}
 use Rattle.fsrm_journal.specs.declared.fault.JournalFault.{JournalFault}
 use Rattle.fsrm_journal.specs.declared.fault.JournalFault.TheVariants.{NoStore, AlreadyStore, Damaged, DiskFault, NoMemory}
 use Rattle.fsrm_journal.specs.declared.heads.Head.{Head}
@@ -22,6 +24,61 @@ still_stable {D} reads {clock} {images} {by} laws old new ran same same_reads du
     let s = later_back (clock old) (clock new) t (laws.later old new ran) at in
     let was = same s.0 t t i s.1 at s.2 (omega arith) left in
     same_reads ∙ durable s.0 was.0 s.1 was.1 ∙ ap (λ (p : Parts). Some p) (sym was.2)
+
+-- the moment of a clock, and the one after it
+unfoldable pub at_clock : Option ℕ → ℕ
+at_clock None = 0
+at_clock (Some t) = t
+
+unfoldable pub after_clock : Option ℕ → ℕ
+after_clock None = 0
+after_clock (Some t) = t + 1
+
+-- a sync failed
+pub settles_never : {D : Type 0} {reads : D → Option Parts} {clock : D → Option ℕ} {images : D → ℕ → Parts → Type 0} {failed : Type 0} (disk : D) → failed → Settles reads clock images failed disk
+unfolding after_clock
+settles_never {clock = clock} disk fails = record {
+  since = after_clock (clock disk);
+  after = λ t m i at from to left. absurd (omega (arith, ap after_clock at, from, to));
+  comes = λ t at. inr fails;
+}
+
+-- a sync made stable what a read gives, and then there were reads alone
+pub settles_from : {D : Type 0} {reads : D → Option Parts} {clock : D → Option ℕ} {images : D → ℕ → Parts → Type 0} {by : D → D → Type 0} {failed : Type 0} → DiskLaws clock images by → (mid new : D)
+    → by mid new → Through clock images Same mid new → reads new ≡ reads mid → ((t : ℕ) (i : Parts) → clock mid ≡ Some t → images mid t i → reads mid ≡ Some i) → Settles reads clock images failed new
+unfolding at_clock
+settles_from {reads = reads} {clock = clock} laws mid new ran same same_reads durable = record {
+  since = at_clock (clock mid);
+  after = λ t m i at from to left.
+      let s = later_back (clock mid) (clock new) t (laws.later mid new ran) at in
+      let was = same s.0 t m i s.1 at (omega (arith, from, ap at_clock s.1)) to left in
+      same_reads ∙ durable s.0 was.0 s.1 was.1 ∙ ap (λ (p : Parts). Some p) (sym was.2);
+  comes = λ t at.
+      let s = later_back (clock mid) (clock new) t (laws.later mid new ran) at in
+      inl (omega (arith, s.2, ap at_clock s.1));
+}
+
+-- reads leave it so
+pub settles_then : {D : Type 0} {reads : D → Option Parts} {clock : D → Option ℕ} {images : D → ℕ → Parts → Type 0} {by : D → D → Type 0} {failed fails : Type 0} → DiskLaws clock images by → (mid new : D)
+    → by mid new → Through clock images Same mid new → reads new ≡ reads mid → (failed → ⊥) → Settles reads clock images failed mid → Settles reads clock images fails new
+settles_then {clock = clock} laws mid new ran same same_reads never s = record {
+  since = s.since;
+  after = λ t m i at from to left.
+      let u = later_back (clock mid) (clock new) t (laws.later mid new ran) at in
+      let reached : s.since ≤ u.0 = ⊎_elim (λ less. less) (λ fails. absurd (never fails)) (s.comes u.0 u.1) in
+      ⊎_elim
+      (λ less. same_reads ∙ s.after u.0 m i u.1 from (omega (arith, less)) ((laws.past mid new u.0 m i ran u.1 (omega (arith, less))).0 left))
+      (λ more.
+      let was = same u.0 t m i u.1 at more to left in
+      same_reads ∙ s.after u.0 u.0 was.0 u.1 reached (omega arith) was.1 ∙ ap (λ (p : Parts). Some p) (sym was.2))
+      (cases_lt m u.0);
+  comes = λ t at.
+      let u = later_back (clock mid) (clock new) t (laws.later mid new ran) at in
+      inl (⊎_elim (λ less. omega (arith, less, u.2)) (λ fails. absurd (never fails)) (s.comes u.0 u.1));
+}
+
+pub settles_as : {D : Type 0} {reads : D → Option Parts} {clock : D → Option ℕ} {images : D → ℕ → Parts → Type 0} {failed fails : Type 0} (disk : D) → (failed → fails) → Settles reads clock images failed disk → Settles reads clock images fails disk
+settles_as disk weak s = record { since = s.since; after = s.after; comes = λ t at. ⊎_elim (λ less. inl less) (λ so. inr (weak so)) (s.comes t at) }
 
 -- the heads that were read are those of the parts
 pub judged_read : (parts : Parts) (zero one : List ℕ) (r : Result Part JournalFault) → r ≡ judged zero one → zero ≡ head_of parts.zero → one ≡ head_of parts.one → judged_parts parts ≡ r

@@ -5,7 +5,7 @@ use Rattle.std.proofs.lemmas.List.{take-append-le}
 use Rattle.fsrm_outside.specs.Parts.{Parts, part_of, other}
 use Rattle.fsrm_outside.specs.declared.traits.Part.{Part}
 use Rattle.fsrm_journal.specs.Heads.{head_of, is_open, generation_at}
-use Rattle.fsrm_journal.specs.Halves.{IsNext, head_tail, Certain, Follows, Knows, Ruled, Switched}
+use Rattle.fsrm_journal.specs.Halves.{IsNext, IsRetired, head_tail, Certain, Follows, Knows, Ruled, Switched}
 use Rattle.fsrm_journal.specs.Next.{next_length}
 use Rattle.fsrm_journal.specs.Opened.{judged_parts, IsOpened, ReadsOn, StandsOn}
 use Rattle.fsrm_journal.specs.Records.{records, Log, Holds}
@@ -24,8 +24,8 @@ one_next old m n (inr a) (inl b) = absurd (omega (arith, a.0, b.0))
 one_next old m n (inr a) (inr b) = omega (arith, a.1, b.1)
 
 pub switched_now : {D : Type 0} (reads : D → Option Parts) (clock : D → Option ℕ) (images : D → ℕ → Parts → Type 0) {r : Part} {half image : List ℕ} {head : Head} {still : Bool} {now : Parts} → (disk : D) (generation : ℕ) → Follows half head → head.image ≡ length image
-    → generation ≡ generation_at (head_of half) → Certain reads clock images now disk → Ruled r head image still now
-    → (journal : Journal) → journal.ruling ≡ other r → IsNext generation journal.generation → journal.beside_open ≡ still → journal.end ≡ 48 + length image → Switched reads clock images head image journal disk
+    → generation ≡ generation_at (head_of half) → Certain reads clock images now disk → Ruled r half head image still now
+    → (journal : Journal) → journal.ruling ≡ other r → IsNext generation journal.generation → journal.beside_open ≡ still → journal.end ≡ 48 + length image → Switched reads clock images half head image journal disk
 switched_now reads clock images {r} {half} {image} {head} {still} {now} disk generation f whole at certain ruled journal rules next beside end =
     let j = journal.ruling in
     let split : part_of j now ≡ 1 ∷ (head_tail head ++ (image ++ 0 ∷ ruled.rest)) = ap (λ (x : Part). part_of x now) rules ∙ ruled.split in
@@ -45,6 +45,7 @@ switched_now reads clock images {r} {half} {image} {head} {still} {now} disk gen
         beside = beside ∙ ruled.beside ∙ ap (λ (l : List ℕ). is_open (head_of l)) (sym (back r now)) ∙ ap (λ (x : Part). is_open (head_of (part_of (other x) now))) (sym rules);
       };
       fresh = fresh_is j head image ruled.rest now f.legal whole split is;
+      retired = subst (λ (l : List ℕ). IsRetired half l) (sym (back r now) ∙ ap (λ (x : Part). part_of (other x) now) (sym rules)) ruled.retired;
       at = end;
       settled = settled_at reads clock images disk j journal.end now certain.told (λ t i told left. certain.told ∙ ap (λ (p : Parts). Some p) (sym (certain.only t i told left))) none;
     }

@@ -9,7 +9,7 @@ use Rattle.fsrm_outside.specs.declared.traits.Part.{Part}
 use Rattle.fsrm_outside.specs.declared.traits.Part.TheVariants.{Zero, One}
 use Rattle.fsrm_journal.specs.Heads.{head_of, head_fault, half_fault, is_open, generation_at, judged, unless_damaged}
 use Rattle.fsrm_journal.specs.HeadSays.{head_says}
-use Rattle.fsrm_journal.specs.Halves.{IsLegal, head_tail, Stays, Fresh, StaysOrFresh, Shut, Follows, OpenBeside, ShutOrOpen}
+use Rattle.fsrm_journal.specs.Halves.{IsLegal, head_tail, AllButGate, Stays, Fresh, StaysOrFresh, Shut, Follows, OpenBeside}
 use Rattle.fsrm_journal.specs.Next.{record_at}
 use Rattle.fsrm_journal.specs.Opened.{judged_parts}
 use Rattle.fsrm_journal.specs.declared.fault.JournalFault.{JournalFault}
@@ -246,17 +246,24 @@ both_open r half head image parts f whole o =
     (λ last. inl (record { rules = old_rules r half head (image ++ 0 ∷ o.rest) parts f last.0 o.same o.split; same = o.same }))
     f.next
 
--- the gate of the new half is opened
-pub opening : (r o : Part) (half : List ℕ) (head : Head) (image : List ℕ) (gate : ℕ) (rest : List ℕ) (old new : Parts) → o ≡ other r
-    → part_of r old ≡ half → part_of (other r) old ≡ gate ∷ (head_tail head ++ (image ++ 0 ∷ rest)) → Torn o 0 1 old new → ShutOrOpen r half head image new
-opening r o half head image gate rest old new is same split torn =
+-- before the other half's gate is opened, or after it
+abbrev pub ShutOrOpen : Part → List ℕ → Head → List ℕ → Parts → Type 0
+ShutOrOpen ruling half head image parts = Shut ruling half parts ⊎ OpenBeside ruling half head image parts
+
+-- the gate of the new half is opened, and all else is there
+pub opening_whole : (r o : Part) (half : List ℕ) (head : Head) (image : List ℕ) (gate : ℕ) (rest : List ℕ) (old new : Parts) → o ≡ other r
+    → part_of r old ≡ half → part_of (other r) old ≡ gate ∷ (head_tail head ++ (image ++ 0 ∷ rest)) → Torn o 0 1 old new → AllButGate r half head image rest new
+opening_whole r o half head image gate rest old new is same split torn =
     let t = subst (λ (x : Part). Torn x 0 1 old new) is torn in
     let at = first_torn (other r) old new gate (head_tail head ++ (image ++ 0 ∷ rest)) split t in
-    let kept : part_of r new ≡ half = sym (back r new) ∙ t.other_part ∙ back r old ∙ same in
-    elim (cases_eq at.0 1) [
-      | inl one ↦ inr (record { same = kept; rest = rest; split = at.1 ∙ ap (λ (n : ℕ). n ∷ (head_tail head ++ (image ++ 0 ∷ rest))) one })
-      | inr shut ↦ inl (record { same = kept; gate = at.0; rest = head_tail head ++ (image ++ 0 ∷ rest); split = at.1; closed = shut })
-    ]
+    record { same = sym (back r new) ∙ t.other_part ∙ back r old ∙ same; gate = at.0; split = at.1 }
+
+-- the gate is open or not
+pub shut_or_open : (r : Part) (half : List ℕ) (head : Head) (image rest : List ℕ) (parts : Parts) → AllButGate r half head image rest parts → ShutOrOpen r half head image parts
+shut_or_open r half head image rest parts a = elim (cases_eq a.gate 1) [
+  | inl one ↦ inr (record { same = a.same; rest = rest; split = a.split ∙ ap (λ (n : ℕ). n ∷ (head_tail head ++ (image ++ 0 ∷ rest))) one })
+  | inr shut ↦ inl (record { same = a.same; gate = a.gate; rest = head_tail head ++ (image ++ 0 ∷ rest); split = a.split; closed = shut })
+]
 
 -- of both the old half rules, or the new one
 pub either_rules : (r : Part) (half : List ℕ) (head : Head) (image : List ℕ) (parts : Parts) → Follows half head → head.image ≡ length image → ShutOrOpen r half head image parts → StaysOrFresh r half head image parts

@@ -86,16 +86,30 @@ pub record OpenBeside (ruling : Part) (half : List ℕ) (head : Head) (image : L
   pub rest : List ℕ
   pub split : part_of (other ruling) parts ≡ 1 ∷ (head_tail head ++ (image ++ 0 ∷ rest))
 
--- before the other half's gate is opened, or after it
-abbrev pub ShutOrOpen : Part → List ℕ → Head → List ℕ → Parts → Type 0
-ShutOrOpen ruling half head image parts = Shut ruling half parts ⊎ OpenBeside ruling half head image parts
+-- The half has these bytes, and the other one is there whole but for its gate, which may be any.
+pub record AllButGate (ruling : Part) (half : List ℕ) (head : Head) (image rest : List ℕ) (parts : Parts) : Type 0 where
+  pub same : part_of ruling parts ≡ half
+  pub gate : ℕ
+  pub split : part_of (other ruling) parts ≡ gate ∷ (head_tail head ++ (image ++ 0 ∷ rest))
+
+-- Up to a moment each image has P, and since then Q.
+pub record Until {D : Type 0} (clock : D → Option ℕ) (images : D → ℕ → Parts → Type 0) (P Q : Parts → Type 0) (old new : D) : Type 0 where
+  pub since : ℕ
+  pub before : (s t m : ℕ) (image : Parts) → clock old ≡ Some s → clock new ≡ Some t → s ≤ m → m ≤ t → m < since → images new m image → P image
+  pub after : (s t m : ℕ) (image : Parts) → clock old ≡ Some s → clock new ≡ Some t → s ≤ m → m ≤ t → since ≤ m → images new m image → Q image
+
+-- What is left of a half that ruled: it stays open with its bytes, but after the greatest generation its gate is 0.
+abbrev pub IsRetired : List ℕ → List ℕ → Type 0
+IsRetired half left =
+    ((generation_at (head_of half) < 2 ^ 64 - 1) × (left ≡ half)) ⊎ ((generation_at (head_of half) ≡ 2 ^ 64 - 1) × (left ≡ 0 ∷ drop 1 half))
 
 -- The other half rules, with this head, this image and no record. The gate of the half that ruled is open or not.
-pub record Ruled (ruling : Part) (head : Head) (image : List ℕ) (is_open_still : Bool) (parts : Parts) : Type 0 where
+pub record Ruled (ruling : Part) (half : List ℕ) (head : Head) (image : List ℕ) (is_open_still : Bool) (parts : Parts) : Type 0 where
   pub rules : judged_parts parts ≡ Ok (other ruling)
   pub rest : List ℕ
   pub split : part_of (other ruling) parts ≡ 1 ∷ (head_tail head ++ (image ++ 0 ∷ rest))
   pub beside : is_open_still ≡ is_open (head_of (part_of ruling parts))
+  pub retired : IsRetired half (part_of ruling parts)
 
 -- What the journal knows of these parts: which half rules, its generation, and whether the other one's gate is open.
 pub record Knows (parts : Parts) (journal : Journal) : Type 0 where
@@ -110,11 +124,12 @@ pub record Filling {D : Type 0} (reads : D → Option Parts) (clock : D → Opti
   pub beside : Beside reads clock images journal.ruling half (head_tail head ++ front) disk
   pub at : journal.written ≡ 48 + length front
 
--- The other half rules, with this head and this image, and records may be added to it.
-pub record Switched {D : Type 0} (reads : D → Option Parts) (clock : D → Option ℕ) (images : D → ℕ → Parts → Type 0) (head : Head) (image : List ℕ) (journal : Journal) (disk : D) : Type 0 where
+-- The other half rules, with this head and this image, and records may be added to it. The half that ruled is left.
+pub record Switched {D : Type 0} (reads : D → Option Parts) (clock : D → Option ℕ) (images : D → ℕ → Parts → Type 0) (half : List ℕ) (head : Head) (image : List ℕ) (journal : Journal) (disk : D) : Type 0 where
   pub parts : Parts
   pub certain : Certain reads clock images parts disk
   pub knows : Knows parts journal
   pub fresh : Fresh journal.ruling head image parts
+  pub retired : IsRetired half (part_of (other journal.ruling) parts)
   pub at : journal.end ≡ 48 + length image
   pub settled : Settled reads clock images (log_at journal.ruling journal.end parts) [] journal.ruling journal.end disk

@@ -1,5 +1,5 @@
 -- What a reader comes to in a half.
-use Rattle.std.specs.Prelude.{◌≡◌, ℕ, ◌+◌, ◌≤◌, Option, None, Some, Ok, List, [], ◌∷◌, length, take, drop}
+use Rattle.std.specs.Prelude.{◌≡◌, ◌⊎◌, ℕ, ◌+◌, ◌≤◌, Option, None, Some, Ok, List, [], ◌∷◌, length, take, drop}
 use Rattle.fsrm_outside.specs.Parts.{Parts, part_of, other}
 use Rattle.fsrm_outside.specs.declared.traits.Part.{Part}
 use Rattle.fsrm_journal.specs.Next.{record_at}
@@ -27,6 +27,12 @@ pub record Read (half : List ℕ) (place : ℕ) (bodies : List (List ℕ)) : Typ
 -- a crash leaves what a read gives
 abbrev pub Stable : {D : Type 0} → (D → Option Parts) → (D → Option ℕ) → (D → ℕ → Parts → Type 0) → D → Type 0
 Stable reads clock images disk = (t : ℕ) (image : Parts) → clock disk ≡ Some t → images disk t image → reads disk ≡ Some image
+
+-- From a moment on a crash leaves what a read gives. It has come, unless the call failed in this way.
+pub record Settles {D : Type 0} (reads : D → Option Parts) (clock : D → Option ℕ) (images : D → ℕ → Parts → Type 0) (failed : Type 0) (disk : D) : Type 0 where
+  pub since : ℕ
+  pub after : (t m : ℕ) (image : Parts) → clock disk ≡ Some t → since ≤ m → m ≤ t → images disk m image → reads disk ≡ Some image
+  pub comes : (t : ℕ) → clock disk ≡ Some t → (since ≤ t) ⊎ failed
 
 -- Where records are added from a place of the half that rules on. All that stands before it is the lead: the head, the
 -- image, and the records that were read.

@@ -9,19 +9,19 @@ use thiserror::Error;
 #[derive(Clone, Copy, Debug, PartialEq, Eq, Drop, Error)]
 pub enum JournalFault {
     /// Neither part's gate is open.
-    #[error("no store here")]
+    #[error("NoStore")]
     NoStore,
     /// A part's gate is open, so no store is made.
-    #[error("a store is here already")]
+    #[error("AlreadyStore")]
     AlreadyStore,
     /// A field is missing or isn't legal. It begins at this place, and is the first such one.
-    #[error("store damaged at {part:?}, place {place}")]
+    #[error("Damaged")]
     Damaged { part: Part, place: u64 },
     /// A call of the disk failed, and was counted. The journal has to be opened again.
-    #[error("store device failed")]
+    #[error("DiskFault")]
     DiskFault,
     /// There is no memory for the records that are held.
-    #[error("out of memory")]
+    #[error("NoMemory")]
     NoMemory,
 }
 

@@ -9,7 +9,7 @@ ghost use Rattle.fsrm_outside.specs.Parts.{Parts, part_of, other};
 ghost use Rattle.fsrm_outside.specs.declared.traits.Part.TheVariants.{One};
 ghost use Rattle.fsrm_journal.specs.Formatted.{has_store, SameButGates};
 ghost use Rattle.fsrm_journal.specs.Heads.{head_of, is_open};
-ghost use Rattle.fsrm_journal.specs.Halves.{head_tail, Beside, Certain, OpenBeside, Shut, ShutOrOpen};
+ghost use Rattle.fsrm_journal.specs.Halves.{head_tail, AllButGate, Beside, Certain, OpenBeside, Shut, Until};
 
 use crate::halves::{open_beside, spelled_head, write_beside};
 use crate::heads::{Head, is_open};
@@ -65,7 +65,7 @@ pub fn write_half<D: Disk>(
 ) -> Result<(), Failed>
     requires { ForSome (D.reads disk.old) (λ parts. 1 ≤ length (part_of (other ruling) parts)) }
     ensures any_moment { (half : List ℕ) → Beside D.reads D.disk_clock D.images ruling half [] disk.old
-        → EachImage D.disk_clock D.images (ShutOrOpen ruling half head.now image.now) disk.old disk.new }
+        → (rest : List ℕ) × Until D.disk_clock D.images (Shut ruling half) (AllButGate ruling half head.now image.now rest) disk.old disk.new }
     ensures opened { (half : List ℕ) → Beside D.reads D.disk_clock D.images ruling half [] disk.old
         → OnOk result ((parts : Parts) × Certain D.reads D.disk_clock D.images parts disk.new × OpenBeside ruling half head.now image.now parts) }
     ensures by { D.by_disk disk.old disk.new }

@@ -7,7 +7,7 @@ ghost use Rattle.fsrm_outside.specs.Causes.{HasCause};
 ghost use Rattle.fsrm_outside.specs.Moments.{EachImage};
 ghost use Rattle.fsrm_outside.specs.Parts.{Parts, part_of, other};
 ghost use Rattle.fsrm_journal.specs.Heads.{head_of, is_open, magic, generation_at};
-ghost use Rattle.fsrm_journal.specs.Halves.{head_tail, Beside, Certain, Follows, IsNext, OpenBeside, Ruled, Shut, ShutOrOpen, Stays, StaysOrFresh};
+ghost use Rattle.fsrm_journal.specs.Halves.{head_tail, AllButGate, Beside, Certain, Follows, IsNext, OpenBeside, Ruled, Shut, Stays, StaysOrFresh, Until};
 ghost use Rattle.fsrm_journal.specs.Opened.{judged_parts};
 ghost use Rattle.fsrm_journal.specs.declared.heads.Head.{Head};
 
@@ -121,7 +121,7 @@ pub fn write_beside<D: Disk>(
 /// Makes stable what was written after the closed gate, and opens the gate.
 pub fn open_beside<D: Disk>(disk: &mut D, ruling: Part) -> Result<(), Failed>
     ensures any_moment { (half image : List ℕ) (head : Head) → Beside D.reads D.disk_clock D.images ruling half (head_tail head ++ (image ++ 0 ∷ [])) disk.old
-        → EachImage D.disk_clock D.images (ShutOrOpen ruling half head image) disk.old disk.new }
+        → (rest : List ℕ) × Until D.disk_clock D.images (Shut ruling half) (AllButGate ruling half head image rest) disk.old disk.new }
     ensures opened { (half image : List ℕ) (head : Head) → Beside D.reads D.disk_clock D.images ruling half (head_tail head ++ (image ++ 0 ∷ [])) disk.old
         → OnOk result ((parts : Parts) × Certain D.reads D.disk_clock D.images parts disk.new × OpenBeside ruling half head image parts) }
     ensures longer { (n : ℕ) → ForSome (D.reads disk.old) (λ parts. n ≤ length (part_of (other ruling) parts)) → OnOk result (ForSome (D.reads disk.new) (λ parts. n ≤ length (part_of (other ruling) parts))) }
@@ -144,7 +144,7 @@ pub fn retire<D: Disk>(disk: &mut D, ruling: Part, generation: u64) -> Result<bo
         → EachImage D.disk_clock D.images (StaysOrFresh ruling half head image) disk.old disk.new }
     ensures rules { (half image : List ℕ) (head : Head) (parts : Parts) → Follows half head → head.image ≡ length image → generation ≡ generation_at (head_of half)
         → Certain D.reads D.disk_clock D.images parts disk.old → OpenBeside ruling half head image parts
-        → IfOk result (λ still. (now : Parts) × Certain D.reads D.disk_clock D.images now disk.new × Ruled ruling head image still now) }
+        → IfOk result (λ still. (now : Parts) × Certain D.reads D.disk_clock D.images now disk.new × Ruled ruling half head image still now) }
     ensures longer { (n : ℕ) → ForSome (D.reads disk.old) (λ parts. n ≤ length (part_of (other ruling) parts)) → OnOk result (ForSome (D.reads disk.new) (λ parts. n ≤ length (part_of (other ruling) parts))) }
     ensures here { (n : ℕ) → ForSome (D.reads disk.old) (λ parts. n ≤ length (part_of ruling parts)) → OnOk result (ForSome (D.reads disk.new) (λ parts. n ≤ length (part_of ruling parts))) }
     ensures by { D.by_disk disk.old disk.new }

@@ -1,10 +1,11 @@
 //! Heads of halves, and which half rules.
 
-ghost use Rattle.std.specs.Prelude.{◌≡◌, ◌≤◌, length, drop, IsTrue, Ok, true, false};
+ghost use Rattle.std.specs.Prelude.{◌≡◌, ◌≢◌, ◌≤◌, length, drop, IsTrue, Ok, Err, true, false};
 ghost use Rattle.fsrm_outside.specs.declared.traits.Part.TheVariants.{Zero, One};
 ghost use Rattle.byteorder.specs.Endian.{little_number};
 ghost use Rattle.fsrm_model.specs.Capacities.{is_cluster as is_cluster_size};
 ghost use Rattle.fsrm_journal.specs.HeadSays.{head_says};
+ghost use Rattle.fsrm_journal.specs.declared.fault.JournalFault.TheVariants.{AlreadyStore};
 ghost use Rattle.fsrm_journal.specs.Heads.{head_fault, half_fault, has_zeros, has_magic, has_generation, has_version, has_nodes, has_names, has_cluster, has_image, is_cluster, is_open, is_version, judged, ruling, generation_at};
 
 use crate::fault::JournalFault;
@@ -198,6 +199,7 @@ fn ruling(zero: &[u8], one: &[u8]) -> Result<Part, JournalFault>
     ensures ruling { result ≡ ruling zero.now one.now }
     ensures zero { result ≡ Ok Zero → is_open zero.now ≡ true }
     ensures one { result ≡ Ok One → is_open one.now ≡ true }
+    ensures only { result ≢ Err AlreadyStore }
 {
     if !is_open(one) {
         return Ok(Part::Zero);
@@ -223,6 +225,7 @@ pub fn judged(zero: &[u8], one: &[u8]) -> Result<Part, JournalFault>
     ensures judged { result ≡ judged zero.now one.now }
     ensures zero { result ≡ Ok Zero → 48 ≤ length zero.now }
     ensures one { result ≡ Ok One → 48 ≤ length one.now }
+    ensures only { result ≢ Err AlreadyStore }
 {
     if !is_open(zero) && !is_open(one) {
         return Err(JournalFault::NoStore);

@@ -1,6 +1,6 @@
 //! The journal: where its first closed gate stands, and the records that are held.
 
-ghost use Rattle.std.specs.Prelude.{◌≡◌, ◌≢◌, ◌≤◌, ◌<◌, ◌+◌, ◌-◌, ◌*◌, ◌^◌, ℕ, List, [], ◌∷◌, ◌++◌, length, take, drop, vec_capacity, true, false, Err, None, Some, IfOk, IfSome, IfErr, IsErrOf, OnOk, OnErr};
+ghost use Rattle.std.specs.Prelude.{◌≡◌, ◌≢◌, ◌⊎◌, ◌≤◌, ◌<◌, ◌+◌, ◌-◌, ◌*◌, ◌^◌, ℕ, List, [], ◌∷◌, ◌++◌, length, take, drop, vec_capacity, true, false, Err, None, Some, IfOk, IfSome, IfErr, IsErrOf, OnOk, OnErr};
 ghost use Rattle.byteorder.specs.Endian.{little_bytes};
 ghost use Rattle.std.specs.Option.{ForSome};
 ghost use Rattle.fsrm_outside.specs.Causes.{HasCause, Rose};
@@ -10,8 +10,9 @@ ghost use Rattle.fsrm_journal.specs.Heads.{head_of, is_open};
 ghost use Rattle.fsrm_outside.specs.declared.traits.Part.TheVariants.{Zero, One};
 ghost use Rattle.fsrm_outside.specs.Moments.{EachImage};
 ghost use Rattle.fsrm_outside.specs.Parts.{Parts, part_of, other};
+ghost use Rattle.fsrm_journal.specs.Reading.{Settles};
 ghost use Rattle.fsrm_journal.specs.Records.{batch, counted, Holds, HoldsAllOrNone, Log, Settled};
-ghost use Rattle.fsrm_journal.specs.declared.fault.JournalFault.TheVariants.{DiskFault};
+ghost use Rattle.fsrm_journal.specs.declared.fault.JournalFault.TheVariants.{AlreadyStore, Damaged, DiskFault};
 
 mod checkpoint;
 mod format;
@@ -81,6 +82,7 @@ fn read_heads<D: Disk>(
     ensures one { ForSome (D.reads disk.old) (λ parts. IfOk result (λ n. take n.1 one.new ≡ head_of parts.one)) }
     ensures reads { D.reads disk.new ≡ D.reads disk.old }
     ensures stable { (t : ℕ) (image : Parts) → OnOk result (D.disk_clock disk.new ≡ Some t → D.images disk.new t image → D.reads disk.new ≡ Some image) }
+    ensures any_moment { Settles D.reads D.disk_clock D.images ((failed : Failed) × (result ≡ Err failed)) disk.new }
     ensures crash { Through D.disk_clock D.images Same disk.old disk.new }
     ensures by { D.by_disk disk.old disk.new }
     ensures cause { HasCause (D.disk_faults disk.old) (D.disk_faults disk.new) result }
@@ -120,7 +122,8 @@ impl Journal {
     ghost use Rattle.fsrm_journal.specs.Next.{record_at, Tells};
     ghost use Rattle.fsrm_journal.specs.Reading.{log_at, Stable};
 
-    /// Finds the half that rules, and reads its head. The image comes next, and then the records.
+    /// Finds the half that rules, and reads its head. The image comes next, and then the records. What is read is first
+    /// made stable, and nothing is written: a crash leaves it, or before that what it might have left already.
     ///
     /// `NoStore` exactly if neither gate is 1; `Damaged` exactly at the first field of a head that is missing or isn't
     /// legal, or at the generation of part 1 if both have the same. `NoMemory`: there is no memory to hold a record.
@@ -130,8 +133,10 @@ impl Journal {
         ensures none { IfOk result (λ opened. opened.0.held ≡ 0) }
         ensures group { IfOk result (λ opened. opened.0.group ≡ 1) }
         ensures refused { ForSome (D.reads disk.old) (λ parts. IfErr result (λ fault. IsRefused parts fault)) }
+        ensures only { result ≢ Err AlreadyStore }
         ensures reads { D.reads disk.new ≡ D.reads disk.old }
         ensures stable { (t : ℕ) (image : Parts) → OnOk result (D.disk_clock disk.new ≡ Some t → D.images disk.new t image → D.reads disk.new ≡ Some image) }
+        ensures any_moment { Settles D.reads D.disk_clock D.images (IsErrOf result DiskFault) disk.new }
         ensures crash { Through D.disk_clock D.images Same disk.old disk.new }
         ensures by { D.by_disk disk.old disk.new }
         ensures later { D.disk_faults disk.old ≤ D.disk_faults disk.new }
@@ -199,6 +204,7 @@ impl Journal {
         requires room { 131072 ≤ length into.old }
         ensures tells { ForSome (D.reads disk.old) (λ parts. self.old.len ≡ length (part_of self.old.ruling parts)
             → Tells self.old.ruling (record_at (part_of self.old.ruling parts) self.old.end) result) }
+        ensures only { OnErr result ((result ≡ Err DiskFault) ⊎ ((place : ℕ) × (result ≡ Err (Damaged self.old.ruling place)))) }
         ensures body { ForSome (D.reads disk.old) (λ parts. self.old.len ≡ length (part_of self.old.ruling parts)
             → IfOk result (λ found. IfSome found (λ at. take at.1 into.new ≡ take at.1 (drop at.0 (part_of self.old.ruling parts))))) }
         ensures size { IfOk result (λ found. IfSome found (λ at. (1 ≤ at.1) × (at.1 ≤ 131072))) }

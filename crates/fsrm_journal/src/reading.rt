@@ -1,6 +1,6 @@
 //! Parts of a record, read.
 
-ghost use Rattle.std.specs.Prelude.{◌≡◌, ◌≤◌, ◌<◌, ◌+◌, ◌^◌, length, drop, slice_index, IfOk, IfSome, IsErrOf};
+ghost use Rattle.std.specs.Prelude.{◌≡◌, ◌⊎◌, ◌≤◌, ◌<◌, ◌+◌, ◌^◌, ℕ, length, drop, slice_index, Err, IfOk, IfSome, IsErrOf, OnErr};
 ghost use Rattle.byteorder.specs.Endian.{little_number};
 ghost use Rattle.std.specs.Option.{ForSome};
 ghost use Rattle.fsrm_outside.specs.Causes.{HasCause, Rose};
@@ -49,6 +49,7 @@ pub fn next_length<D: Disk>(
 ) -> Result<Option<u32>, JournalFault>
     requires { place ≤ 2 ^ 62 }
     ensures tells { ForSome (D.reads disk.old) (λ parts. len ≡ length (part_of ruling parts) → Tells ruling (next_length (part_of ruling parts) place) result) }
+    ensures only { OnErr result ((result ≡ Err DiskFault) ⊎ ((at : ℕ) × (result ≡ Err (Damaged ruling at)))) }
     ensures legal { IfOk result (λ found. IfSome found (λ n. (1 ≤ n) × (n ≤ 131072) × (place + 5 ≤ len))) }
     ensures reads { D.reads disk.new ≡ D.reads disk.old }
     ensures crash { Through D.disk_clock D.images Same disk.old disk.new }

@@ -73,13 +73,14 @@ impl Journal {
         Ok(())
     }
 
-    /// Makes the half that was written rule. Records may be added to it, and it holds none yet.
+    /// Makes the half that was written rule. Records may be added to it, and it holds none yet. The half that ruled
+    /// stays open with its lesser generation and all its bytes; only after the greatest generation its gate is closed.
     pub fn switch<D: Disk>(&mut self, disk: &mut D) -> Result<(), JournalFault>
         requires place { ForSome (D.reads disk.old) (λ parts. self.old.written ≤ length (part_of (other self.old.ruling) parts)) }
         ensures any_moment { (half image : List ℕ) (head : Head) → head.image ≡ length image → Filling D.reads D.disk_clock D.images half head image self.old disk.old
             → EachImage D.disk_clock D.images (StaysOrFresh self.old.ruling half head image) disk.old disk.new }
         ensures switched { (half image : List ℕ) (head : Head) → head.image ≡ length image → Filling D.reads D.disk_clock D.images half head image self.old disk.old
-            → OnOk result (Switched D.reads D.disk_clock D.images head image self.new disk.new) }
+            → OnOk result (Switched D.reads D.disk_clock D.images half head image self.new disk.new) }
         ensures held { HoldsOn self.old self.new }
         ensures ruling { OnOk result (self.new.ruling ≡ other self.old.ruling) }
         ensures beside { (n : ℕ) → ForSome (D.reads disk.old) (λ parts. n ≤ length (part_of self.old.ruling parts)) → OnOk result (ForSome (D.reads disk.new) (λ parts. n ≤ length (part_of (other self.new.ruling) parts))) }

@@ -1,7 +1,8 @@
-use Rattle.std.proofs.Common.{[], ◌∷◌, length, ap, sym, ◌∙◌, arith}
+use Rattle.std.proofs.Common.{◌≡◌, ⊎_elim, ◌-◌, ◌^◌, [], ◌∷◌, length, ap, sym, ◌∙◌, arith}
 use Rattle.fsrm_outside.specs.Parts.{Parts, part_of, other}
 use Rattle.fsrm_outside.proofs.Stages.{DiskLaws, started, stayed}
 use Rattle.fsrm_journal.specs.Halves.{StaysOrFresh}
+use Rattle.fsrm_journal.specs.Heads.{head_of, generation_at}
 use Rattle.fsrm_journal.proofs.Besides.{always, rules_by_generation, retires, retired_now}
 use Rattle.fsrm_journal.proofs.Files.{told_back, told_forth, written_here, written_there, length-over-old}
 use Rattle.fsrm_journal.proofs.Turns.{both_open}
@@ -40,7 +41,8 @@ returns-clause-any_moment g c half image head parts f whole at certain o =
 
 pub returns-clause-rules : goal.returns-clause-rules
 returns-clause-rules g c half image head parts f whole at certain o =
-    retired_now c.args.ruling image head f o c.sync.new.self (c.sync.ensures.reads ∙ (c.in_ok-write_at.ensures.written ∙ told_forth _ _ parts certain.told)) c.in_ok-sync.ensures.durable
+    let greatest : generation_at (head_of half) ≡ 2 ^ 64 - 1 = ⊎_elim (λ less. absurd (omega (arith, less.0, at, c.if-generation-lt18446744073709551615.false))) (λ last. last.0) f.next in
+    retired_now c.args.ruling image head f greatest o c.sync.new.self (c.sync.ensures.reads ∙ (c.in_ok-write_at.ensures.written ∙ told_forth _ _ parts certain.told)) c.in_ok-sync.ensures.durable
 
 pub returns-clause-longer : goal.returns-clause-longer
 returns-clause-longer g c n long x told =

@@ -1,9 +1,7 @@
-use Rattle.std.proofs.Common.{◌≢◌, ◌∙◌, ◌∷◌, drop, arith}
-use Rattle.fsrm_outside.specs.declared.traits.Part.TheVariants.{Zero, One}
-use Rattle.fsrm_outside.proofs.Stages.{DiskLaws, weaker}
-use Rattle.fsrm_journal.specs.Formatted.{SameButGates, NoneOrFresh}
-use Rattle.fsrm_journal.proofs.NewStore.{gates_stay, through_as, gates_then, none_or_fresh, formats_before, formats_then}
-use Rattle.fsrm_journal.proofs.Turns.{alone, fresh_is}
+use Rattle.std.proofs.Common.{◌∙◌, ◌∷◌, drop}
+use Rattle.fsrm_outside.proofs.Stages.{DiskLaws}
+use Rattle.fsrm_journal.specs.Formatted.{SameButGates}
+use Rattle.fsrm_journal.proofs.NewStore.{gates_stay, through_as, gates_then, made, formats_before, formats_then}
 use Rattle.fsrm_journal.proofs.journal.Journal.format.Goals as goal
 
 pub returns-in_err-has_store-clause-any_moment : goal.returns-in_err-has_store-clause-any_moment
@@ -26,8 +24,7 @@ returns-in_err-write_half-clause-any_moment g c parts told =
     let image = c.args.image.now in
     let gates = gates_then laws _ _ _ c.has_store.ensures.by c.close_both.ensures.by (through_as g.D.Disk.disk_clock g.D.Disk.images _ _ _ SameButGates gates_stay c.has_store.ensures.crash) c.close_both.ensures.crash in
     let b = c.in_ok-close_both.ensures.closed parts (c.has_store.ensures.reads ∙ told) in
-    let each = weaker (NoneOrFresh head image) (λ i s. none_or_fresh head image (drop 1 parts.one) i c.requires.legal c.requires.whole s) (c.write_half.ensures.any_moment (0 ∷ drop 1 parts.one) b) in
-    formats_then laws head image (M.disk_then _ _ _ c.has_store.ensures.by c.close_both.ensures.by) c.write_half.ensures.by gates each
+    formats_then laws head image (drop 1 parts.one) c.requires.legal c.requires.whole (M.disk_then _ _ _ c.has_store.ensures.by c.close_both.ensures.by) c.write_half.ensures.by gates (c.write_half.ensures.any_moment (0 ∷ drop 1 parts.one) b)
 
 pub returns-clause-any_moment : goal.returns-clause-any_moment
 returns-clause-any_moment g c parts told =
@@ -37,8 +34,7 @@ returns-clause-any_moment g c parts told =
     let image = c.args.image.now in
     let gates = gates_then laws _ _ _ c.has_store.ensures.by c.close_both.ensures.by (through_as g.D.Disk.disk_clock g.D.Disk.images _ _ _ SameButGates gates_stay c.has_store.ensures.crash) c.close_both.ensures.crash in
     let b = c.in_ok-close_both.ensures.closed parts (c.has_store.ensures.reads ∙ told) in
-    let each = weaker (NoneOrFresh head image) (λ i s. none_or_fresh head image (drop 1 parts.one) i c.requires.legal c.requires.whole s) (c.write_half.ensures.any_moment (0 ∷ drop 1 parts.one) b) in
-    formats_then laws head image (M.disk_then _ _ _ c.has_store.ensures.by c.close_both.ensures.by) c.write_half.ensures.by gates each
+    formats_then laws head image (drop 1 parts.one) c.requires.legal c.requires.whole (M.disk_then _ _ _ c.has_store.ensures.by c.close_both.ensures.by) c.write_half.ensures.by gates (c.write_half.ensures.any_moment (0 ∷ drop 1 parts.one) b)
 
 pub returns-clause-formatted : goal.returns-clause-formatted
 returns-clause-formatted g c parts told =
@@ -46,5 +42,4 @@ returns-clause-formatted g c parts told =
     let image = c.args.image.now in
     let b = c.in_ok-close_both.ensures.closed parts (c.has_store.ensures.reads ∙ told) in
     let n = c.in_ok-write_half.ensures.opened (0 ∷ drop 1 parts.one) b in
-    let closed : 0 ≢ 1 = λ one. absurd (omega (arith, one)) in
-    (n.0, n.1, fresh_is Zero head image n.2.rest n.0 c.requires.legal c.requires.whole n.2.split (alone One head image n.2.rest 0 (drop 1 parts.one) n.0 c.requires.legal n.2.split n.2.same closed))
+    (n.0, n.1, made head image n.2.rest parts n.0 c.requires.legal c.requires.whole n.2.split n.2.same)

@@ -3,7 +3,7 @@ use Rattle.fsrm_outside.specs.Parts.{part_of, other}
 use Rattle.fsrm_journal.proofs.Turns.{rules_wins, has_gate}
 use Rattle.std.proofs.lemmas.Result.{err_from_is_err_and}
 use Rattle.fsrm_outside.proofs.Stages.{DiskLaws, quiet_then}
-use Rattle.fsrm_journal.proofs.Quiet.{beside_read, still_stable, judged_read, refused_read, says_read}
+use Rattle.fsrm_journal.proofs.Quiet.{beside_read, still_stable, settles_then, settles_as, judged_read, refused_read, says_read}
 use Rattle.fsrm_journal.proofs.journal.Journal.open_at.Goals as goal
 
 pub returns-in_err-len-clause-crash : goal.returns-in_err-len-clause-crash
@@ -66,3 +66,25 @@ returns-clause-beside g c parts told =
     let w = rules_wins r parts (judged_read parts _ _ _ c.in_ok-ruling.ensures.judged (c.in_ok-zero_len.ensures.zero parts told) (c.in_ok-zero_len.ensures.one parts told)) in
     let gate = has_gate (part_of (other r) parts) w.beside in
     omega (arith, ap length gate.2)
+
+pub returns-in_err-ruling-clause-any_moment : goal.returns-in_err-ruling-clause-any_moment
+returns-in_err-ruling-clause-any_moment g c =
+    settles_as _ (λ err. absurd (cc (err.1))) c.in_ok-zero_len.ensures.any_moment
+
+pub returns-in_err-len-clause-any_moment : goal.returns-in_err-len-clause-any_moment
+returns-in_err-len-clause-any_moment g c =
+    let M = g.met.D.Disk in
+    let laws : DiskLaws g.D.Disk.disk_clock g.D.Disk.images g.D.Disk.by_disk = record { same = M.disk_same; then_by = M.disk_then; later = M.disk_later; past = M.disk_past } in
+    settles_then laws _ _ c.len.ensures.by c.len.ensures.crash c.len.ensures.reads (λ err. absurd (cc (err.1))) c.in_ok-zero_len.ensures.any_moment
+
+pub returns-in_default-clause-any_moment : goal.returns-in_default-clause-any_moment
+returns-in_default-clause-any_moment g c =
+    let M = g.met.D.Disk in
+    let laws : DiskLaws g.D.Disk.disk_clock g.D.Disk.images g.D.Disk.by_disk = record { same = M.disk_same; then_by = M.disk_then; later = M.disk_later; past = M.disk_past } in
+    settles_then laws _ _ c.len.ensures.by c.len.ensures.crash c.len.ensures.reads (λ err. absurd (cc (err.1))) c.in_ok-zero_len.ensures.any_moment
+
+pub returns-clause-any_moment : goal.returns-clause-any_moment
+returns-clause-any_moment g c =
+    let M = g.met.D.Disk in
+    let laws : DiskLaws g.D.Disk.disk_clock g.D.Disk.images g.D.Disk.by_disk = record { same = M.disk_same; then_by = M.disk_then; later = M.disk_later; past = M.disk_past } in
+    settles_then laws _ _ c.len.ensures.by c.len.ensures.crash c.len.ensures.reads (λ err. absurd (cc (err.1))) c.in_ok-zero_len.ensures.any_moment

@@ -5,7 +5,8 @@ use Rattle.fsrm_outside.proofs.Stages.{DiskLaws, joined, weaker}
 use Rattle.fsrm_journal.specs.Halves.{head_tail, StaysOrFresh}
 use Rattle.fsrm_journal.proofs.HeadBytes.{place_after}
 use Rattle.fsrm_journal.proofs.Switched.{switched_now}
-use Rattle.fsrm_journal.proofs.Turns.{either_rules, back, shut_stays}
+use Rattle.fsrm_journal.proofs.Turns.{either_rules, back, shut_or_open, shut_stays}
+use Rattle.fsrm_journal.proofs.Untils.{until_each}
 use Rattle.fsrm_journal.proofs.journal.Journal.switch.Goals as goal
 
 pub returns-in_err-write_beside-clause-any_moment : goal.returns-in_err-write_beside-clause-any_moment
@@ -21,7 +22,8 @@ returns-in_err-open_beside-clause-any_moment g c half image head whole f =
     let place = place_after head image c.args.self.now.written f.at in
     let first = weaker (StaysOrFresh r half head image) (λ i s. inl (shut_stays r half i f.follows.opened f.follows.sound s)) (c.write_beside.ensures.any_moment half (head_tail head ++ image) place f.beside) in
     let b = c.in_ok-write_beside.ensures.written half (head_tail head ++ image) place f.beside in
-    joined laws c.write_beside.ensures.by c.open_beside.ensures.by first (weaker (StaysOrFresh r half head image) (λ i s. either_rules r half head image i f.follows whole s) (c.open_beside.ensures.any_moment half image head b))
+    let w = c.open_beside.ensures.any_moment half image head b in
+    joined laws c.write_beside.ensures.by c.open_beside.ensures.by first (until_each (StaysOrFresh r half head image) (λ i s. inl (shut_stays r half i f.follows.opened f.follows.sound s)) (λ i s. either_rules r half head image i f.follows whole (shut_or_open r half head image w.0 i s)) w.1)
 
 pub returns-in_err-still_open-clause-any_moment : goal.returns-in_err-still_open-clause-any_moment
 returns-in_err-still_open-clause-any_moment g c half image head whole f =
@@ -31,7 +33,8 @@ returns-in_err-still_open-clause-any_moment g c half image head whole f =
     let place = place_after head image c.args.self.now.written f.at in
     let first = weaker (StaysOrFresh r half head image) (λ i s. inl (shut_stays r half i f.follows.opened f.follows.sound s)) (c.write_beside.ensures.any_moment half (head_tail head ++ image) place f.beside) in
     let b = c.in_ok-write_beside.ensures.written half (head_tail head ++ image) place f.beside in
-    let two = joined laws c.write_beside.ensures.by c.open_beside.ensures.by first (weaker (StaysOrFresh r half head image) (λ i s. either_rules r half head image i f.follows whole s) (c.open_beside.ensures.any_moment half image head b)) in
+    let w = c.open_beside.ensures.any_moment half image head b in
+    let two = joined laws c.write_beside.ensures.by c.open_beside.ensures.by first (until_each (StaysOrFresh r half head image) (λ i s. inl (shut_stays r half i f.follows.opened f.follows.sound s)) (λ i s. either_rules r half head image i f.follows whole (shut_or_open r half head image w.0 i s)) w.1) in
     let o = c.in_ok-open_beside.ensures.opened half image head b in
     joined laws (M.disk_then _ _ _ c.write_beside.ensures.by c.open_beside.ensures.by) c.retire.ensures.by two (c.retire.ensures.any_moment half image head o.0 f.follows whole f.generation o.1 o.2)
 
@@ -43,7 +46,8 @@ returns-clause-any_moment g c half image head whole f =
     let place = place_after head image c.args.self.now.written f.at in
     let first = weaker (StaysOrFresh r half head image) (λ i s. inl (shut_stays r half i f.follows.opened f.follows.sound s)) (c.write_beside.ensures.any_moment half (head_tail head ++ image) place f.beside) in
     let b = c.in_ok-write_beside.ensures.written half (head_tail head ++ image) place f.beside in
-    let two = joined laws c.write_beside.ensures.by c.open_beside.ensures.by first (weaker (StaysOrFresh r half head image) (λ i s. either_rules r half head image i f.follows whole s) (c.open_beside.ensures.any_moment half image head b)) in
+    let w = c.open_beside.ensures.any_moment half image head b in
+    let two = joined laws c.write_beside.ensures.by c.open_beside.ensures.by first (until_each (StaysOrFresh r half head image) (λ i s. inl (shut_stays r half i f.follows.opened f.follows.sound s)) (λ i s. either_rules r half head image i f.follows whole (shut_or_open r half head image w.0 i s)) w.1) in
     let o = c.in_ok-open_beside.ensures.opened half image head b in
     joined laws (M.disk_then _ _ _ c.write_beside.ensures.by c.open_beside.ensures.by) c.retire.ensures.by two (c.retire.ensures.any_moment half image head o.0 f.follows whole f.generation o.1 o.2)
 
