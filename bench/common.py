@@ -1,4 +1,4 @@
-"""What bench/lines and bench/scans share: the program, its rival, and how a script is measured."""
+"""What bench/lines, bench/scans and bench/journal share: the program, its rival, and how a script is measured."""
 import os
 import re
 import resource
@@ -56,10 +56,14 @@ def peak(program, script, replies):
         return int(text.read())
 
 
-def instructions(program, script, folder):
-    counts = os.path.join(folder, 'callgrind.out')
-    with open(script, 'rb') as lines:
-        done = subprocess.run(
-            ['valgrind', '--tool=callgrind', '--callgrind-out-file=' + counts, program, 'replay'],
-            stdin=lines, stdout=subprocess.DEVNULL, stderr=subprocess.PIPE, check=True)
+def counted(words, counts, **streams):
+    """The instructions that these words take, which run as streams say; valgrind writes the rest to the file counts."""
+    done = subprocess.run(
+        ['valgrind', '--tool=callgrind', '--callgrind-out-file=' + counts, *words],
+        stdout=subprocess.DEVNULL, stderr=subprocess.PIPE, check=True, **streams)
     return int(re.search(rb'Collected : (\d+)', done.stderr).group(1))
+
+
+def instructions(program, script, folder):
+    with open(script, 'rb') as lines:
+        return counted([program, 'replay'], os.path.join(folder, 'callgrind.out'), stdin=lines)
