@@ -146,6 +146,28 @@ fn climb<L: Ledger>(
     }
 }
 
+// The same of a name, which is folded once for all patterns. It isn't inlined, since a function clears the room of all that it
+// may need when it begins, and a folded name takes a KiB.
+#[inline(never)]
+fn climb_with<L: Ledger>(
+    tree: &Tree,
+    objects: &Objects,
+    groups: &Groups,
+    start: u32,
+    name: &str,
+    steps: &mut Steps<L>,
+) -> Option<Blocked>
+    requires tree { IsTree tree.now.nodes }
+    requires there { has_row key start tree.now.nodes ≡ true }
+    requires named { is_name name.now ≡ true }
+    requires known { are_known groups.now objects.now ≡ true }
+    ensures judged { result ≡ option_map told (judging (screened_rows tree.now.nodes groups.now objects.now) start name.now) }
+    ensures looks { steps.new ≤ steps.old + length (chain tree.now.nodes start) }
+{
+    let name = FoldedName::of(name);
+    climb(tree, objects, groups, start, &name, steps)
+}
+
 /// The screen that judges a name which a file is given in a folder: the nearest active one that applies, else the
 /// nearest passive one. A screen applies, on the way from the folder up to the root, to a name that is in one of its
 /// groups, unless an exception nearer to the folder than the screen has the name in one of its groups. None exactly if
@@ -175,7 +197,5 @@ pub fn blocked<L: Ledger>(
     let Some(start) = first_asked(tree, objects, folder, steps) else {
         return None;
     };
-    // The name is folded once for all patterns, and only if there are some to match.
-    let name = FoldedName::of(name);
-    climb(tree, objects, groups, start, &name, steps)
+    climb_with(tree, objects, groups, start, name, steps)
 }

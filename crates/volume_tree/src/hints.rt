@@ -45,7 +45,7 @@ fn short_word(bytes: &[u8]) -> u64 {
 #[inline]
 fn hash(folder: u32, name: &str) -> u32 {
     let bytes = name.as_bytes();
-    let mut hash = u64::from(folder).wrapping_mul(STIR);
+    let mut hash = STIR;
     match bytes.last_chunk::<8>() {
         Some(last) => {
             let (words, _) = bytes.as_chunks::<8>();
@@ -56,8 +56,9 @@ fn hash(folder: u32, name: &str) -> u32 {
         }
         None => hash = stir(hash, short_word(bytes)),
     }
-    // The high half depends on all bits, the low one doesn't.
-    ((hash ^ hash >> 32).wrapping_mul(STIR) >> 32) as u32
+    // The folder comes last: on a path it is known only when the name before this one is found, and then little is left
+    // to wait for. The high half depends on all bits, the low one doesn't.
+    ((hash ^ hash >> 32 ^ u64::from(folder)).wrapping_mul(STIR) >> 32) as u32
 }
 
 // The bits of a hash that an entry has.
@@ -68,13 +69,14 @@ fn mark(hash: u32) -> u32 {
 
 // Writes an entry into a free slot, or if there is none over another entry.
 fn put(bucket: &mut [u32; SLOTS], entry: u32) {
-    for slot in bucket.iter_mut() {
-        if *slot == FREE {
-            *slot = entry;
-            return;
+    let mut place = entry as usize % SLOTS;
+    // Nobody can foresee which slot is free, so it is sought without a branch.
+    for other in 0..SLOTS {
+        if bucket[other] == FREE {
+            place = other;
         }
     }
-    bucket[entry as usize % SLOTS] = entry;
+    bucket[place] = entry;
 }
 
 /// A table of nodes by their folders and names. A node's entry stands in the bucket that the hash of both leads to, or
@@ -137,12 +139,11 @@ impl Hints {
         if count / 4 < self.buckets.len() {
             return;
         }
-        if self.buckets.resize(count, [FREE; SLOTS]).is_err() {
+        if self.buckets.reserve(count - self.buckets.len()).is_err() {
             return;
         }
-        for bucket in &mut self.buckets {
-            *bucket = [FREE; SLOTS];
-        }
+        self.buckets.clear();
+        let _ = self.buckets.resize(count, [FREE; SLOTS]);
         for number in 0..nodes.len() {
             if let Some(node) = nodes.get(number) {
                 self.note(node.parent, node.name, number);

@@ -5,7 +5,6 @@ use Rattle.fsrm_model.proofs.valid.ValidLaws.{folder_has}
 use Rattle.file_screens.specs.Blocked.{screened_rows}
 use Rattle.file_screens.specs.Way.{ApplyAlike, NoneApply}
 use Rattle.file_screens.proofs.JudgeLaws.{none_judges, none_apply, unnamed_apply, alike_judge}
-use Rattle.file_screens.proofs.NameLaws.{name_short}
 use Rattle.file_screens.proofs.screening.blocked.Goals as goal
 
 pub returns-then-screen_count-eq0-clause-judged : goal.returns-then-screen_count-eq0-clause-judged
@@ -32,17 +31,13 @@ returns-in_default-clause-judged g c =
     none_judges (screened_rows nodes c.args.groups.now c.args.objects.now) c.args.folder c.args.name.now
     (MatchOption-at_none (NoneApply nodes c.args.objects.now c.args.folder) (ApplyAlike nodes c.args.objects.now c.args.folder) c.in_default.is c.first_asked.ensures.alike c.args.groups.now c.args.name.now)
 
-pub of-name-requires : goal.of-name-requires
-of-name-requires g c = name_short c.args.name.now c.requires.named
+pub climb_with-requires-clause-tree : goal.climb_with-requires-clause-tree
+climb_with-requires-clause-tree g c = tree_of c.args.tree.now.size c.args.tree.now.nodes c.requires.volume
 
-pub climb-requires-clause-tree : goal.climb-requires-clause-tree
-climb-requires-clause-tree g c = tree_of c.args.tree.now.size c.args.tree.now.nodes c.requires.volume
-
-pub climb-requires-clause-there : goal.climb-requires-clause-there
-climb-requires-clause-there g c = c.in-Some.ensures.there
+pub climb_with-requires-clause-there : goal.climb_with-requires-clause-there
+climb_with-requires-clause-there g c = c.in-Some.ensures.there
 
 pub returns-clause-judged : goal.returns-clause-judged
 returns-clause-judged g c =
-    alike_judge (screened_rows c.args.tree.now.nodes c.args.groups.now c.args.objects.now) c.args.folder c.in-Some.start c.args.name.now c.climb.result
-    (c.in-Some.ensures.alike c.args.groups.now c.args.name.now)
-    (c.climb.ensures.judged c.args.name.now (sym c.of-name.ensures))
+    alike_judge (screened_rows c.args.tree.now.nodes c.args.groups.now c.args.objects.now) c.args.folder c.in-Some.start c.args.name.now c.climb_with.result
+    (c.in-Some.ensures.alike c.args.groups.now c.args.name.now) c.climb_with.ensures.judged
