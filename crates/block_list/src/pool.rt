@@ -35,8 +35,10 @@ pub(crate) fn insert_in<T: Copy>(
     ensures others { SameBut pool.old.items pool.new.items block }
 {
     let from = block * BLOCK + place;
-    pool.copy_within(from..block * BLOCK + len, from + 1);
-    pool[from] = entry;
+    let end = block * BLOCK + len;
+    // It comes last and is turned to its place: a turn by one moves the others together, not one by one.
+    pool[end] = entry;
+    pool[from..end + 1].rotate_right(1);
 }
 
 /// Takes an entry out of the run in a block.
@@ -49,7 +51,7 @@ pub(crate) fn remove_in<T: Copy>(pool: &mut Vec<T>, block: usize, len: usize, pl
     ensures others { SameBut pool.old.items pool.new.items block }
 {
     let from = block * BLOCK + place;
-    pool.copy_within(from + 1..block * BLOCK + len, from);
+    pool[from..block * BLOCK + len].rotate_left(1);
 }
 
 /// Copies the entries of a run from a place on to the end of another run.

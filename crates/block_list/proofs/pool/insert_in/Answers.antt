@@ -1,19 +1,31 @@
--- The entries after the place are moved up.
-use Rattle.std.proofs.Common.{◌+◌, ◌-◌, ◌*◌, arith}
-use Rattle.block_list.proofs.PoolLaws.{copied_by, same_but-copied, same_but-set, run-insert}
+-- The entry comes after the others, and is turned to its place.
+use Rattle.std.proofs.Common.{◌+◌, ◌-◌, ◌*◌, ap, set, drop, length, arith}
+use Rattle.std.proofs.lemmas.List.{length-set, length-take, length-drop}
+use Rattle.block_list.proofs.PoolLaws.{turned_by, same_but-refl, same_but-set, same_but-turned, run-insert}
 use Rattle.block_list.proofs.pool.insert_in.Goals as goal
 
 pub returns-clause-run : goal.returns-clause-run
 returns-clause-run g c =
     let a = c.args in
-    run-insert a.pool.now.items c.copy_within.new.self.items a.block a.len a.place a.entry c.requires.block c.requires.len c.requires.place
-    (copied_by _ _ _ _ (a.block * 256 + a.len) _ (grind arith) (omega arith) c.copy_within.ensures.by_index)
+    let pool = a.pool.now.items in
+    let lent = c.deref_mut.result.now in
+    let low = a.block * 256 + a.place in
+    let same = c.deref_mut.ensures.value in
+    let longer = length-set pool (a.block * 256 + a.len) a.entry in
+    let long = length-take (a.block * 256 + a.len + 1 - low) (drop low lent) in
+    run-insert pool _ a.block a.len a.place a.entry c.requires.block c.requires.len c.requires.place
+    (turned_by _ lent _ _ low (a.len - a.place) 1 _ _ _ same (omega (arith, longer)) (omega arith) (omega (arith, long, length-drop low lent, ap length same, longer)) (omega (arith, a.pool.now.ok.0, longer)) c.rotate_right.ensures.after)
 
 pub returns-clause-others : goal.returns-clause-others
 returns-clause-others g c =
     let a = c.args in
-    let from = a.block * 256 + a.place in
-    same_but-set a.pool.now.items c.copy_within.new.self.items a.block from a.entry
-    (same_but-copied a.pool.now.items c.copy_within.new.self.items from (from + 1) (a.len - a.place) a.block
-    (copied_by _ _ _ _ (a.block * 256 + a.len) _ (grind arith) (omega arith) c.copy_within.ensures.by_index) (omega arith) (omega (arith, c.requires.len, c.requires.place)))
+    let pool = a.pool.now.items in
+    let lent = c.deref_mut.result.now in
+    let low = a.block * 256 + a.place in
+    let end = a.block * 256 + a.len in
+    let same = c.deref_mut.ensures.value in
+    let longer = length-set pool end a.entry in
+    let long = length-take (end + 1 - low) (drop low lent) in
+    same_but-turned pool (set pool end a.entry) _ low (a.len - a.place) 1 a.block (same_but-set pool pool a.block end a.entry (same_but-refl pool a.block) (omega arith) (omega (arith, c.requires.len)))
+    (turned_by _ lent _ _ low (a.len - a.place) 1 _ _ _ same (omega (arith, longer)) (omega arith) (omega (arith, long, length-drop low lent, ap length same, longer)) (omega (arith, a.pool.now.ok.0, longer)) c.rotate_right.ensures.after)
     (omega arith) (omega (arith, c.requires.len, c.requires.place))
