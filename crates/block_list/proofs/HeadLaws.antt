@@ -343,6 +343,25 @@ module _ {T : Type 0} where
         view = ap (λ hs'. shelf most (runs_in hs' pool'.items)) edited ∙ (ap (shelf most) runs ∙ ap (λ (v : Shelf T). shelf v.most (set v.runs i run)) view);
       }
 
+  -- a head whose run was changed behind its first entry
+  kept_front : (pool : List T) (head : Head T) (len : ℕ) (run : List T) → len ≤ 256 → run_in pool head.block len ≡ run → ((d : T) → get_or run 0 d ≡ head.first) → IsHead pool (record head { len = len })
+  kept_front pool head len run most is_run first = record { len = most; first = λ d some. ap (λ r. get_or r 0 d) is_run ∙ first d }
+
+  pub front-insert : (heads : List (Head T)) (old new : List T) (now : List (List T)) (i place : ℕ) (head : Head T) (e : T) → IsKnown heads old now i head → head.len < 256 → place ≤ head.len → 0 < place → run_in new head.block (head.len + 1) ≡ insert (run_in old head.block head.len) place e → IsHead new (record head { len = head.len + 1 })
+  front-insert heads old new now i place head e k room le behind is =
+      let run = run_at now i in
+      kept_front new head (head.len + 1) (insert run place e) (omega arith) (is ∙ ap (λ r. insert r place e) k.run) (λ d. get_or-insert_below run place e d 0 behind (omega (arith, k.len)) ∙ k.first d (omega arith))
+
+  pub front-remove : (heads : List (Head T)) (old new : List T) (now : List (List T)) (i place : ℕ) (head : Head T) → IsKnown heads old now i head → place < head.len → 0 < place → run_in new head.block (head.len - 1) ≡ remove (run_in old head.block head.len) place → IsHead new (record head { len = head.len - 1 })
+  front-remove heads old new now i place head k lt behind is =
+      let run = run_at now i in
+      kept_front new head (head.len - 1) (remove run place) (omega (arith, k.most)) (is ∙ ap (λ r. remove r place) k.run) (λ d. get_or-remove_below run place d 0 behind (omega (arith, k.len)) ∙ k.first d (omega arith))
+
+  pub front-set : (heads : List (Head T)) (old new : List T) (now : List (List T)) (i place : ℕ) (head : Head T) (e : T) → IsKnown heads old now i head → place < head.len → 0 < place → run_in new head.block head.len ≡ set (run_in old head.block head.len) place e → IsHead new (record head { len = head.len })
+  front-set heads old new now i place head e k lt behind is =
+      let run = run_at now i in
+      kept_front new head head.len (set run place e) k.most (is ∙ ap (λ r. set r place e) k.run) (λ d. get_or-set_other run place 0 e d (omega arith) ∙ k.first d (omega arith))
+
   -- the entries from a place on were moved to the end of another run
   pub shifted : (most : ℕ) (heads heads' : Vec (Head T) Global) (free : Vec ℕ Global) (pool pool' : Vec T Global) (now : Shelf T) (i to place : ℕ) (source target first second : Head T) → IsStore most heads free pool → shelf most (runs_in heads.items pool.items) ≡ now
       → i < length now.runs → to < length now.runs → i ≢ to → place ≤ length (run_at now.runs i) → source ≡ get_or heads.items i source → target ≡ get_or heads.items to target

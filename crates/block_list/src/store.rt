@@ -4,7 +4,7 @@ ghost use Rattle.std.specs.Prelude.{◌≡◌, ◌≢◌, ◌+◌, ◌-◌, ◌<
 ghost use Rattle.std.specs.List.{slice_index_or, slice_set};
 ghost use Rattle.block_list.specs.Runs.{run_at};
 
-use crate::head::{Head, head_of};
+use crate::head::{Head, head_after, head_of};
 use crate::pool::{BLOCK, copy_in, insert_in, remove_in, replace_in, run_in, take_block};
 use fsrm_base::NoMemory;
 use std::alloc::Global;
@@ -93,7 +93,7 @@ impl<T: Copy> Store<T> {
             place,
             entry,
         );
-        self.heads[run] = head_of(&self.pool, head.block, head.len + 1);
+        self.heads[run] = head_after(&self.pool, head, place, head.len + 1);
     }
 
     /// Takes an entry out of a run.
@@ -109,7 +109,7 @@ impl<T: Copy> Store<T> {
             head.len as usize,
             place,
         );
-        self.heads[run] = head_of(&self.pool, head.block, head.len - 1);
+        self.heads[run] = head_after(&self.pool, head, place, head.len - 1);
     }
 
     /// Writes another entry over one of a run.
@@ -126,7 +126,7 @@ impl<T: Copy> Store<T> {
             place,
             entry,
         );
-        self.heads[run] = head_of(&self.pool, head.block, head.len);
+        self.heads[run] = head_after(&self.pool, head, place, head.len);
     }
 
     /// Takes the entries from a place on out of a run, and appends them to another run.
