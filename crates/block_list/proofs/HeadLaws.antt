@@ -67,7 +67,7 @@ module _ {T : Type 0} where
   same_head : (old new : List T) (head : Head T) → IsHead old head → run_of new head ≡ run_of old head → IsHead new head
   same_head old new head is_head same = record { len = is_head.len; first = λ d some. ap (λ run. get_or run 0 d) same ∙ is_head.first d some }
 
-  pub block_within : (heads : List (Head T)) (free : List ℕ) (pool : List T) (i : ℕ) (d : Head T) → IsLaid heads free pool → i < length heads → (get_or heads i d).block * 256 + 256 ≤ length pool
+  pub block_within : (heads : List (Head T)) (free : List ℕ) (pool : List T) (i : ℕ) (d : Head T) → IsLaid heads free pool → i < length heads → (get_or heads i d).block * 128 + 128 ≤ length pool
   block_within heads free pool i d laid within =
       let some = held_at heads i d within in
       let low = laid.within (get_or heads i d).block (omega (arith, some)) in
@@ -94,7 +94,7 @@ module _ {T : Type 0} where
   -- ---- a head is changed, and its block
   pub laid-set : (heads : List (Head T)) (free : List ℕ) (old new : List T) (i : ℕ) (d head : Head T) → IsLaid heads free old → i < length heads → head.block ≡ (get_or heads i d).block → SameBut old new (get_or heads i d).block → IsHead new head → IsLaid (set heads i head) free new
   laid-set heads free old new i d head laid within block same is_head = record {
-    blocks = same.length ∙ (laid.blocks ∙ ap (λ n. (n + length free) * 256) (sym (length-set heads i head)));
+    blocks = same.length ∙ (laid.blocks ∙ ap (λ n. (n + length free) * 128) (sym (length-set heads i head)));
     once = λ b. let is = held-set b heads i d head within block in let once = laid.once b in omega (arith, is, once);
     within = λ b some. let is = held-set b heads i d head within block in let low = laid.within b (omega (arith, is)) in omega (arith, low, length-set heads i head);
     each = λ k e k_in.
@@ -286,9 +286,9 @@ module _ {T : Type 0} where
     pub within : i < length heads
     pub is : head ≡ get_or heads i head
     pub small : head.block < 4294967296
-    pub block : head.block * 256 + 256 ≤ length pool
+    pub block : head.block * 128 + 128 ≤ length pool
     pub len : length (run_at now i) ≡ head.len
-    pub most : head.len ≤ 256
+    pub most : head.len ≤ 128
     pub run : run_in pool head.block head.len ≡ run_at now i
     pub first : (d : T) → 0 < head.len → get_or (run_at now i) 0 d ≡ head.first
 
@@ -309,7 +309,7 @@ module _ {T : Type 0} where
         within = within;
         is = is;
         small = subst (λ (h : Head T). h.block < 4294967296) (sym is) (omega (arith, low, store.room, store.small));
-        block = subst (λ (h : Head T). h.block * 256 + 256 ≤ length es) (sym is) (block_within hs free.items es i head laid within);
+        block = subst (λ (h : Head T). h.block * 128 + 128 ≤ length es) (sym is) (block_within hs free.items es i head laid within);
         len = ap (λ runs. length (run_at runs i)) (sym same) ∙ (length-runs_at hs free.items es i head laid within ∙ ap (λ (h : Head T). h.len) (sym is));
         most = is_head.len;
         run = run ∙ ap (λ runs. run_at runs i) same;
@@ -344,10 +344,10 @@ module _ {T : Type 0} where
       }
 
   -- a head whose run was changed behind its first entry
-  kept_front : (pool : List T) (head : Head T) (len : ℕ) (run : List T) → len ≤ 256 → run_in pool head.block len ≡ run → ((d : T) → get_or run 0 d ≡ head.first) → IsHead pool (record head { len = len })
+  kept_front : (pool : List T) (head : Head T) (len : ℕ) (run : List T) → len ≤ 128 → run_in pool head.block len ≡ run → ((d : T) → get_or run 0 d ≡ head.first) → IsHead pool (record head { len = len })
   kept_front pool head len run most is_run first = record { len = most; first = λ d some. ap (λ r. get_or r 0 d) is_run ∙ first d }
 
-  pub front-insert : (heads : List (Head T)) (old new : List T) (now : List (List T)) (i place : ℕ) (head : Head T) (e : T) → IsKnown heads old now i head → head.len < 256 → place ≤ head.len → 0 < place → run_in new head.block (head.len + 1) ≡ insert (run_in old head.block head.len) place e → IsHead new (record head { len = head.len + 1 })
+  pub front-insert : (heads : List (Head T)) (old new : List T) (now : List (List T)) (i place : ℕ) (head : Head T) (e : T) → IsKnown heads old now i head → head.len < 128 → place ≤ head.len → 0 < place → run_in new head.block (head.len + 1) ≡ insert (run_in old head.block head.len) place e → IsHead new (record head { len = head.len + 1 })
   front-insert heads old new now i place head e k room le behind is =
       let run = run_at now i in
       kept_front new head (head.len + 1) (insert run place e) (omega arith) (is ∙ ap (λ r. insert r place e) k.run) (λ d. get_or-insert_below run place e d 0 behind (omega (arith, k.len)) ∙ k.first d (omega arith))
@@ -383,7 +383,7 @@ module _ {T : Type 0} where
       let is_second : run_in pool'.items source.block second.len ≡ take place (run_at now.runs i) =
       ap (run_in pool'.items source.block) second_len
       ∙ (others.runs source.block place apart (omega (arith, few, k.most))
-      ∙ (sym (take-take place source.len (drop (source.block * 256) pool.items) few) ∙ ap (take place) k.run)) in
+      ∙ (sym (take-take place source.len (drop (source.block * 128) pool.items) few) ∙ ap (take place) k.run)) in
       changed most between heads' free pool' pool' _ i source second _ one.store one.view (omega (arith, within, length-set now.runs to (run_at now.runs to ++ drop place (run_at now.runs i)))) (k.is ∙ sym (get_or-set_other hs to i first source other))
       edited heads_room refl second_block (same_but-refl pool'.items source.block) second_head is_second
 

@@ -9,18 +9,18 @@ use Rattle.block_list.specs.Pool.{run_in, SameBut}
 
 module _ {T : Type 0} where
   -- an entry of a run
-  pub run_get : (pool : List T) (b n k : ℕ) (d : T) → k < n → get_or (run_in pool b n) k d ≡ get_or pool (b * 256 + k) d
-  run_get pool b n k d lt = get_or-take n (drop (b * 256) pool) k d lt ∙ get_or-drop (b * 256) pool k d
+  pub run_get : (pool : List T) (b n k : ℕ) (d : T) → k < n → get_or (run_in pool b n) k d ≡ get_or pool (b * 128 + k) d
+  run_get pool b n k d lt = get_or-take n (drop (b * 128) pool) k d lt ∙ get_or-drop (b * 128) pool k d
 
-  pub length-run_in : (pool : List T) (b n : ℕ) → b * 256 + n ≤ length pool → length (run_in pool b n) ≡ n
-  length-run_in pool b n within = omega (arith, length-take n (drop (b * 256) pool), length-drop (b * 256) pool)
+  pub length-run_in : (pool : List T) (b n : ℕ) → b * 128 + n ≤ length pool → length (run_in pool b n) ≡ n
+  length-run_in pool b n within = omega (arith, length-take n (drop (b * 128) pool), length-drop (b * 128) pool)
 
   -- a run of which no entry is changed
-  pub same_run : (old new : List T) (b n : ℕ) → length new ≡ length old → ((k : ℕ) (d : T) → k < n → get_or new (b * 256 + k) d ≡ get_or old (b * 256 + k) d) → run_in new b n ≡ run_in old b n
+  pub same_run : (old new : List T) (b n : ℕ) → length new ≡ length old → ((k : ℕ) (d : T) → k < n → get_or new (b * 128 + k) d ≡ get_or old (b * 128 + k) d) → run_in new b n ≡ run_in old b n
   same_run old new b n count same =
-      let new_count = length-take n (drop (b * 256) new) in
+      let new_count = length-take n (drop (b * 128) new) in
       same_lists (run_in new b n) (run_in old b n)
-      (omega (arith, length-take n (drop (b * 256) new), length-drop (b * 256) new, length-take n (drop (b * 256) old), length-drop (b * 256) old, count))
+      (omega (arith, length-take n (drop (b * 128) new), length-drop (b * 128) new, length-take n (drop (b * 128) old), length-drop (b * 128) old, count))
       (λ k d lt. let within : k < n = omega (arith, new_count) in run_get new b n k d within ∙ (same k d within ∙ sym (run_get old b n k d within)))
 
   -- so many entries are copied to a place
@@ -85,38 +85,38 @@ module _ {T : Type 0} where
       subst (λ from. IsTurned from (take count (put_mid low n lent part ++ rest)) low left right) is_lent (subst (λ new. IsTurned lent new low left right) (sym same) is_turned)
 
   -- the other blocks
-  pub same_but-copied : (old new : List T) (from to n block : ℕ) → IsCopied old new from to n → block * 256 ≤ to → to + n ≤ block * 256 + 256 → SameBut old new block
+  pub same_but-copied : (old new : List T) (from to n block : ℕ) → IsCopied old new from to n → block * 128 ≤ to → to + n ≤ block * 128 + 128 → SameBut old new block
   same_but-copied old new from to n block is_copied low high = record { length = is_copied.count; runs = λ b len other most. same_run old new b len is_copied.count (λ k d lt. same b len k d other most lt) }
     where
-      same : (b len k : ℕ) (d : T) → b ≢ block → len ≤ 256 → k < len → get_or new (b * 256 + k) d ≡ get_or old (b * 256 + k) d
+      same : (b len k : ℕ) (d : T) → b ≢ block → len ≤ 128 → k < len → get_or new (b * 128 + k) d ≡ get_or old (b * 128 + k) d
       same b len k d other most lt =
           elim (cases_lt b block) [
-            | inl below ↦ is_copied.below (b * 256 + k) d (omega arith)
-            | inr above ↦ is_copied.above (b * 256 + k) d (omega arith)
+            | inl below ↦ is_copied.below (b * 128 + k) d (omega arith)
+            | inr above ↦ is_copied.above (b * 128 + k) d (omega arith)
           ]
 
-  pub same_but-turned : (old mid new : List T) (low left right block : ℕ) → SameBut old mid block → IsTurned mid new low left right → block * 256 ≤ low → low + (left + right) ≤ block * 256 + 256 → SameBut old new block
+  pub same_but-turned : (old mid new : List T) (low left right block : ℕ) → SameBut old mid block → IsTurned mid new low left right → block * 128 ≤ low → low + (left + right) ≤ block * 128 + 128 → SameBut old new block
   same_but-turned old mid new low left right block before is_turned least most = record { length = is_turned.count ∙ before.length; runs = λ b len other short. same_run mid new b len is_turned.count (λ k d lt. same b len k d other short lt) ∙ before.runs b len other short }
     where
-      same : (b len k : ℕ) (d : T) → b ≢ block → len ≤ 256 → k < len → get_or new (b * 256 + k) d ≡ get_or mid (b * 256 + k) d
+      same : (b len k : ℕ) (d : T) → b ≢ block → len ≤ 128 → k < len → get_or new (b * 128 + k) d ≡ get_or mid (b * 128 + k) d
       same b len k d other short lt =
           elim (cases_lt b block) [
-            | inl below ↦ is_turned.turned.below (b * 256 + k) d (omega arith)
-            | inr above ↦ is_turned.turned.above (b * 256 + k) d (omega arith)
+            | inl below ↦ is_turned.turned.below (b * 128 + k) d (omega arith)
+            | inr above ↦ is_turned.turned.above (b * 128 + k) d (omega arith)
           ]
 
-  pub same_but-set : (old new : List T) (block i : ℕ) (e : T) → SameBut old new block → block * 256 ≤ i → i < block * 256 + 256 → SameBut old (set new i e) block
-  same_but-set old new block i e same low high = record { length = length-set new i e ∙ same.length; runs = λ b len other most. same_run new (set new i e) b len (length-set new i e) (λ k d lt. get_or-set_other new i (b * 256 + k) e d (apart b len k other most lt)) ∙ same.runs b len other most }
+  pub same_but-set : (old new : List T) (block i : ℕ) (e : T) → SameBut old new block → block * 128 ≤ i → i < block * 128 + 128 → SameBut old (set new i e) block
+  same_but-set old new block i e same low high = record { length = length-set new i e ∙ same.length; runs = λ b len other most. same_run new (set new i e) b len (length-set new i e) (λ k d lt. get_or-set_other new i (b * 128 + k) e d (apart b len k other most lt)) ∙ same.runs b len other most }
     where
-      apart : (b len k : ℕ) → b ≢ block → len ≤ 256 → k < len → b * 256 + k ≢ i
+      apart : (b len k : ℕ) → b ≢ block → len ≤ 128 → k < len → b * 128 + k ≢ i
       apart b len k other most lt = elim (cases_lt b block) [ inl below ↦ omega arith | inr above ↦ omega arith ]
 
   -- the run of the block
 
-  pub run-insert : (old new : List T) (block len place : ℕ) (e : T) → block * 256 + 256 ≤ length old → len < 256 → place ≤ len → IsTurned (set old (block * 256 + len) e) new (block * 256 + place) (len - place) 1 → run_in new block (len + 1) ≡ insert (run_in old block len) place e
+  pub run-insert : (old new : List T) (block len place : ℕ) (e : T) → block * 128 + 128 ≤ length old → len < 128 → place ≤ len → IsTurned (set old (block * 128 + len) e) new (block * 128 + place) (len - place) 1 → run_in new block (len + 1) ≡ insert (run_in old block len) place e
   run-insert old new block len place e within room le is_turned =
       let run = run_in old block len in
-      let end = block * 256 + len in
+      let end = block * 128 + len in
       let longer = set old end e in
       let turned = is_turned.turned in
       let same = length-set old end e in
@@ -129,29 +129,29 @@ module _ {T : Type 0} where
       run_get new block (len + 1) k d short
       ∙ elim (cases_lt k place) [
         | inl below ↦
-            turned.below (block * 256 + k) d (omega arith)
-            ∙ (get_or-set_other old end (block * 256 + k) e d (omega arith)
+            turned.below (block * 128 + k) d (omega arith)
+            ∙ (get_or-set_other old end (block * 128 + k) e d (omega arith)
             ∙ (sym (run_get old block len k d (omega arith)) ∙ sym (get_or-insert_below run place e d k below within')))
         | inr above ↦
             elim (cases_eq k place) [
               | inl is ↦
-                  let source : block * 256 + k + (len - place) ≡ end = omega arith in
-                  turned.first (block * 256 + k) d (omega arith) (omega arith)
+                  let source : block * 128 + k + (len - place) ≡ end = omega arith in
+                  turned.first (block * 128 + k) d (omega arith) (omega arith)
                   ∙ (ap (λ i. get_or longer i d) source
                   ∙ (get_or-set_same old end e d (omega arith)
                   ∙ (sym (get_or-insert_at run place e d within') ∙ ap (λ i. get_or (insert run place e) i d) (sym is))))
               | inr ne ↦
                   let more : k - 1 + 1 ≡ k = omega arith in
-                  let source : block * 256 + k - 1 ≡ block * 256 + (k - 1) = omega arith in
-                  turned.second (block * 256 + k) d (omega arith) (omega arith)
+                  let source : block * 128 + k - 1 ≡ block * 128 + (k - 1) = omega arith in
+                  turned.second (block * 128 + k) d (omega arith) (omega arith)
                   ∙ (ap (λ i. get_or longer i d) source
-                  ∙ (get_or-set_other old end (block * 256 + (k - 1)) e d (omega arith)
+                  ∙ (get_or-set_other old end (block * 128 + (k - 1)) e d (omega arith)
                   ∙ (sym (run_get old block len (k - 1) d (omega arith))
                   ∙ (sym (get_or-insert_above run place e d (k - 1) (omega arith) within') ∙ ap (λ i. get_or (insert run place e) i d) more))))
             ]
       ])
 
-  pub run-remove : (old new : List T) (block len place : ℕ) → block * 256 + 256 ≤ length old → len ≤ 256 → place < len → IsTurned old new (block * 256 + place) 1 (len - (place + 1)) → run_in new block (len - 1) ≡ remove (run_in old block len) place
+  pub run-remove : (old new : List T) (block len place : ℕ) → block * 128 + 128 ≤ length old → len ≤ 128 → place < len → IsTurned old new (block * 128 + place) 1 (len - (place + 1)) → run_in new block (len - 1) ≡ remove (run_in old block len) place
   run-remove old new block len place within most lt is_turned =
       let run = run_in old block len in
       let turned = is_turned.turned in
@@ -164,16 +164,16 @@ module _ {T : Type 0} where
       run_get new block (len - 1) k d short
       ∙ elim (cases_lt k place) [
         | inl below ↦
-            turned.below (block * 256 + k) d (omega arith)
+            turned.below (block * 128 + k) d (omega arith)
             ∙ (sym (run_get old block len k d (omega arith)) ∙ sym (get_or-remove_below run place d k below within'))
         | inr above ↦
-            let source : block * 256 + k + 1 ≡ block * 256 + (k + 1) = omega arith in
-            turned.first (block * 256 + k) d (omega arith) (omega arith)
+            let source : block * 128 + k + 1 ≡ block * 128 + (k + 1) = omega arith in
+            turned.first (block * 128 + k) d (omega arith) (omega arith)
             ∙ (ap (λ i. get_or old i d) source
             ∙ (sym (run_get old block len (k + 1) d (omega arith)) ∙ sym (get_or-remove_above run place d k above within')))
       ])
 
-  pub run-copy : (old new : List T) (block len place to to_len : ℕ) → block * 256 + 256 ≤ length old → len ≤ 256 → place ≤ len → to * 256 + 256 ≤ length old → to_len + (len - place) ≤ 256 → IsCopied old new (block * 256 + place) (to * 256 + to_len) (len - place) → run_in new to (to_len + (len - place)) ≡ run_in old to to_len ++ drop place (run_in old block len)
+  pub run-copy : (old new : List T) (block len place to to_len : ℕ) → block * 128 + 128 ≤ length old → len ≤ 128 → place ≤ len → to * 128 + 128 ≤ length old → to_len + (len - place) ≤ 128 → IsCopied old new (block * 128 + place) (to * 128 + to_len) (len - place) → run_in new to (to_len + (len - place)) ≡ run_in old to to_len ++ drop place (run_in old block len)
   run-copy old new block len place to to_len within most le to_within room is_copied =
       let run = run_in old block len in
       let head = run_in old to to_len in
@@ -186,20 +186,20 @@ module _ {T : Type 0} where
       run_get new to (to_len + (len - place)) k d short
       ∙ elim (cases_lt k to_len) [
         | inl below ↦
-            is_copied.below (to * 256 + k) d (omega arith)
+            is_copied.below (to * 128 + k) d (omega arith)
             ∙ (sym (run_get old to to_len k d below) ∙ sym (get_or_append_left head (drop place run) d k (omega (arith, head_width))))
         | inr above ↦
-            let source : block * 256 + place + (to * 256 + k - (to * 256 + to_len)) ≡ block * 256 + (place + (k - to_len)) = omega arith in
-            is_copied.copied (to * 256 + k) d (omega arith) (omega arith)
+            let source : block * 128 + place + (to * 128 + k - (to * 128 + to_len)) ≡ block * 128 + (place + (k - to_len)) = omega arith in
+            is_copied.copied (to * 128 + k) d (omega arith) (omega arith)
             ∙ (ap (λ i. get_or old i d) source
             ∙ (sym (run_get old block len (place + (k - to_len)) d (omega arith))
             ∙ (sym (get_or-drop place run (k - to_len) d) ∙ sym (get_or-append_right head (drop place run) to_len k d head_width above))))
       ])
 
-  pub run-replace : (pool : List T) (block len place : ℕ) (e : T) → block * 256 + 256 ≤ length pool → len ≤ 256 → place < len → run_in (set pool (block * 256 + place) e) block len ≡ set (run_in pool block len) place e
+  pub run-replace : (pool : List T) (block len place : ℕ) (e : T) → block * 128 + 128 ≤ length pool → len ≤ 128 → place < len → run_in (set pool (block * 128 + place) e) block len ≡ set (run_in pool block len) place e
   run-replace pool block len place e within most lt =
       let run = run_in pool block len in
-      let from = block * 256 + place in
+      let from = block * 128 + place in
       let pool' = set pool from e in
       let width : length run ≡ len = length-run_in pool block len (omega arith) in
       let count : length (run_in pool' block len) ≡ len = length-run_in pool' block len (omega (arith, length-set pool from e)) in
@@ -209,11 +209,11 @@ module _ {T : Type 0} where
       run_get pool' block len k d short
       ∙ elim (cases_eq k place) [
         | inl is ↦
-            ap (λ i. get_or pool' (block * 256 + i) d) is
+            ap (λ i. get_or pool' (block * 128 + i) d) is
             ∙ (get_or-set_same pool from e d (omega arith)
             ∙ (sym (get_or-set_same run place e d (omega (arith, width))) ∙ ap (λ i. get_or (set run place e) i d) (sym is)))
         | inr ne ↦
-            get_or-set_other pool from (block * 256 + k) e d (omega arith)
+            get_or-set_other pool from (block * 128 + k) e d (omega arith)
             ∙ (sym (run_get pool block len k d short) ∙ sym (get_or-set_other run place k e d ne))
       ])
 

@@ -3,9 +3,9 @@ use Rattle.std.specs.Prelude.{◌≡◌, ◌≢◌, ℕ, ◌*◌, ◌≤◌, Lis
 
 -- the first entries of a block
 abbrev pub run_in : {T : Type 0} → List T → ℕ → ℕ → List T
-run_in pool block len = take len (drop (block * 256) pool)
+run_in pool block len = take len (drop (block * 128) pool)
 
 -- the same in all blocks but one
 pub record SameBut {T : Type 0} (old new : List T) (block : ℕ) : Type 0 where
   pub length : length new ≡ length old
-  pub runs : (b n : ℕ) → b ≢ block → n ≤ 256 → run_in new b n ≡ run_in old b n
+  pub runs : (b n : ℕ) → b ≢ block → n ≤ 128 → run_in new b n ≡ run_in old b n

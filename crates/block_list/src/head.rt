@@ -15,8 +15,8 @@ pub(crate) struct Head<T> {
 
 /// The head of the first entries of a block.
 pub(crate) fn head_of<T: Copy>(pool: &Vec<T>, block: u32, len: u32) -> Head<T>
-    requires block { block * 256 + 256 ≤ length pool.now.items }
-    requires len { len ≤ 256 }
+    requires block { block * 128 + 128 ≤ length pool.now.items }
+    requires len { len ≤ 128 }
     ensures block { result.block ≡ block }
     ensures len { result.len ≡ len }
     ensures head { IsHead pool.now.items result }
@@ -28,8 +28,8 @@ pub(crate) fn head_of<T: Copy>(pool: &Vec<T>, block: u32, len: u32) -> Head<T>
 /// The head of a run after an edit at a place. The block's front is far from most places, so it isn't read if the place
 /// is behind it.
 pub(crate) fn head_after<T: Copy>(pool: &Vec<T>, head: Head<T>, place: usize, len: u32) -> Head<T>
-    requires block { head.block * 256 + 256 ≤ length pool.now.items }
-    requires len { len ≤ 256 }
+    requires block { head.block * 128 + 128 ≤ length pool.now.items }
+    requires len { len ≤ 128 }
     requires front { 0 < place → IsHead pool.now.items (record head { len = len }) }
     ensures block { result.block ≡ head.block }
     ensures len { result.len ≡ len }

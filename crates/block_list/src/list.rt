@@ -37,7 +37,7 @@ impl<T: Copy> BlockList<T> {
     pub fn reserve(alloc: Global, entries: u32) -> Result<BlockList<T>, NoMemory>
         ensures { IfOk result (λ list. list ≡ record { room = entries; runs = [] }) }
     {
-        let most = 2 * u64::from(entries) / 257 + 2;
+        let most = 2 * u64::from(entries) / 129 + 2;
         let runs = Runs::reserve(alloc, most as u32)?;
         Ok(BlockList {
             room: entries,
@@ -78,7 +78,7 @@ impl<T: Copy> BlockList<T> {
     /// How many runs there are. They are few, since no two neighbours would fit into one block.
     pub fn run_count(&self) -> usize
         ensures count { result ≡ length self.now.runs }
-        ensures few { 257 * result ≤ 2 * length (entries_of self.now.runs) + 257 }
+        ensures few { 129 * result ≤ 2 * length (entries_of self.now.runs) + 129 }
         ensures all { start_of self.now.runs result ≡ length (entries_of self.now.runs) }
     {
         self.runs.count()
@@ -92,12 +92,12 @@ impl<T: Copy> BlockList<T> {
         self.runs.first(run)
     }
 
-    /// A run, lent: 1 to 256 entries.
+    /// A run, lent: 1 to 128 entries.
     pub fn run(&self, run: usize) -> &[T]
         requires { run < length self.now.runs }
         ensures run { result.now ≡ run_at self.now.runs run }
         ensures some { 0 < length result.now }
-        ensures most { length result.now ≤ 256 }
+        ensures most { length result.now ≤ 128 }
         ensures entries { (k : ℕ) → k < length result.now → slice_get (entries_of self.now.runs) (start_of self.now.runs run + k) ≡ slice_get result.now k }
         ensures next { start_of self.now.runs (run + 1) ≡ start_of self.now.runs run + length result.now }
     {

@@ -7,12 +7,12 @@ ghost use Rattle.block_list.specs.Heads.{TakesBlock};
 ghost use Rattle.block_list.specs.Pool.{run_in, SameBut};
 
 /// How many entries a block has room for.
-pub(crate) const BLOCK: usize = 256;
+pub(crate) const BLOCK: usize = 128;
 
 /// The run in a block, lent.
 pub(crate) fn run_in<T: Copy>(pool: &[T], block: usize, len: usize) -> &[T]
-    requires block { block * 256 + 256 ≤ length pool.now }
-    requires len { len ≤ 256 }
+    requires block { block * 128 + 128 ≤ length pool.now }
+    requires len { len ≤ 128 }
     ensures { result.now ≡ run_in pool.now block len }
 {
     let from = block * BLOCK;
@@ -27,8 +27,8 @@ pub(crate) fn insert_in<T: Copy>(
     place: usize,
     entry: T,
 )
-    requires block { block * 256 + 256 ≤ length pool.old.items }
-    requires len { len < 256 }
+    requires block { block * 128 + 128 ≤ length pool.old.items }
+    requires len { len < 128 }
     requires place { place ≤ len }
     ensures capacity { vec_capacity pool.new ≡ vec_capacity pool.old }
     ensures run { run_in pool.new.items block (len + 1) ≡ insert (run_in pool.old.items block len) place entry }
@@ -43,8 +43,8 @@ pub(crate) fn insert_in<T: Copy>(
 
 /// Takes an entry out of the run in a block.
 pub(crate) fn remove_in<T: Copy>(pool: &mut Vec<T>, block: usize, len: usize, place: usize)
-    requires block { block * 256 + 256 ≤ length pool.old.items }
-    requires len { len ≤ 256 }
+    requires block { block * 128 + 128 ≤ length pool.old.items }
+    requires len { len ≤ 128 }
     requires place { place < len }
     ensures capacity { vec_capacity pool.new ≡ vec_capacity pool.old }
     ensures run { run_in pool.new.items block (len - 1) ≡ remove (run_in pool.old.items block len) place }
@@ -63,11 +63,11 @@ pub(crate) fn copy_in<T: Copy>(
     to: usize,
     to_len: usize,
 )
-    requires block { block * 256 + 256 ≤ length pool.old.items }
-    requires len { len ≤ 256 }
+    requires block { block * 128 + 128 ≤ length pool.old.items }
+    requires len { len ≤ 128 }
     requires place { place ≤ len }
-    requires to { to * 256 + 256 ≤ length pool.old.items }
-    requires to_len { to_len + (len - place) ≤ 256 }
+    requires to { to * 128 + 128 ≤ length pool.old.items }
+    requires to_len { to_len + (len - place) ≤ 128 }
     ensures capacity { vec_capacity pool.new ≡ vec_capacity pool.old }
     ensures run { run_in pool.new.items to (to_len + (len - place)) ≡ run_in pool.old.items to to_len ++ drop place (run_in pool.old.items block len) }
     ensures others { SameBut pool.old.items pool.new.items to }
@@ -80,10 +80,10 @@ pub(crate) fn copy_in<T: Copy>(
 
 /// One more block.
 pub(crate) fn push_block<T: Copy>(pool: &mut Vec<T>, filler: T)
-    requires room { length pool.old.items + 256 ≤ vec_capacity pool.old }
+    requires room { length pool.old.items + 128 ≤ vec_capacity pool.old }
     ensures capacity { vec_capacity pool.old ≤ vec_capacity pool.new }
-    ensures length { length pool.new.items ≡ length pool.old.items + 256 }
-    ensures runs { (b n : ℕ) → b * 256 + n ≤ length pool.old.items → run_in pool.new.items b n ≡ run_in pool.old.items b n }
+    ensures length { length pool.new.items ≡ length pool.old.items + 128 }
+    ensures runs { (b n : ℕ) → b * 128 + n ≤ length pool.old.items → run_in pool.new.items b n ≡ run_in pool.old.items b n }
 {
     let _ = pool.resize(pool.len() + BLOCK, filler);
 }
@@ -96,8 +96,8 @@ pub(crate) fn take_block<T: Copy>(
     filler: T,
 ) -> u32
     requires small { used < 4294967296 }
-    requires room { length pool.old.items ≡ (used + length free.old.items) * 256 }
-    requires capacity { free.old.items ≡ [] → used * 256 + 256 ≤ vec_capacity pool.old }
+    requires room { length pool.old.items ≡ (used + length free.old.items) * 128 }
+    requires capacity { free.old.items ≡ [] → used * 128 + 128 ≤ vec_capacity pool.old }
     ensures free_capacity { vec_capacity free.new ≡ vec_capacity free.old }
     ensures pool_capacity { vec_capacity pool.old ≤ vec_capacity pool.new }
     ensures taken { TakesBlock used free.old.items free.new.items pool.old.items pool.new.items result }
@@ -119,8 +119,8 @@ pub(crate) fn replace_in<T: Copy>(
     place: usize,
     entry: T,
 )
-    requires block { block * 256 + 256 ≤ length pool.old.items }
-    requires len { len ≤ 256 }
+    requires block { block * 128 + 128 ≤ length pool.old.items }
+    requires len { len ≤ 128 }
     requires place { place < len }
     ensures capacity { vec_capacity pool.new ≡ vec_capacity pool.old }
     ensures run { run_in pool.new.items block len ≡ slice_set (run_in pool.old.items block len) place entry }

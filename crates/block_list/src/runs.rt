@@ -49,7 +49,7 @@ impl<T: Copy> Runs<T> {
         requires { run < length self.now.runs }
         ensures run { result.now ≡ run_at self.now.runs run }
         ensures used { 0 < length result.now }
-        ensures most { length result.now ≤ 256 }
+        ensures most { length result.now ≤ 128 }
         ensures small { length self.now.runs < 4294967296 }
     {
         self.store.run(run)
@@ -68,7 +68,7 @@ impl<T: Copy> Runs<T> {
     pub fn insert(&mut self, run: usize, place: usize, entry: T)
         requires run { run < length self.old.runs }
         requires place { place ≤ length (run_at self.old.runs run) }
-        requires room { length (run_at self.old.runs run) < 256 }
+        requires room { length (run_at self.old.runs run) < 128 }
         ensures { self.new ≡ record self.old { runs = slice_set self.old.runs run (insert (run_at self.old.runs run) place entry) } }
     {
         self.store.put(run, place, entry);
@@ -117,7 +117,7 @@ impl<T: Copy> Runs<T> {
         requires room { length self.old.runs < self.old.most }
         requires some { 0 < at }
         requires at { at < length (run_at self.old.runs run) }
-        requires most { length (run_at self.old.runs run) ≤ 256 }
+        requires most { length (run_at self.old.runs run) ≤ 128 }
         ensures { self.new ≡ record self.old { runs = insert (slice_set self.old.runs run (take at (run_at self.old.runs run))) (run + 1) (drop at (run_at self.old.runs run)) } }
     {
         let filler = self.store.first(run);
@@ -128,7 +128,7 @@ impl<T: Copy> Runs<T> {
     /// Makes one run of two neighbours.
     pub fn join(&mut self, run: usize)
         requires run { run + 1 < length self.old.runs }
-        requires room { length (run_at self.old.runs run) + length (run_at self.old.runs (run + 1)) ≤ 256 }
+        requires room { length (run_at self.old.runs run) + length (run_at self.old.runs (run + 1)) ≤ 128 }
         ensures { self.new ≡ record self.old { runs = remove (slice_set self.old.runs run (run_at self.old.runs run ++ run_at self.old.runs (run + 1))) (run + 1) } }
     {
         self.store.shift(run + 1, 0, run);

@@ -62,7 +62,7 @@ impl<T: Copy> Store<T> {
     pub fn run(&self, run: usize) -> &[T]
         requires { run < length self.now.runs }
         ensures run { result.now ≡ run_at self.now.runs run }
-        ensures most { length result.now ≤ 256 }
+        ensures most { length result.now ≤ 128 }
         ensures small { length self.now.runs < 4294967296 }
     {
         let head = self.heads[run];
@@ -82,7 +82,7 @@ impl<T: Copy> Store<T> {
     pub fn put(&mut self, run: usize, place: usize, entry: T)
         requires run { run < length self.old.runs }
         requires place { place ≤ length (run_at self.old.runs run) }
-        requires room { length (run_at self.old.runs run) < 256 }
+        requires room { length (run_at self.old.runs run) < 128 }
         ensures { self.new ≡ record self.old { runs = slice_set self.old.runs run (insert (run_at self.old.runs run) place entry) } }
     {
         let head = self.heads[run];
@@ -135,7 +135,7 @@ impl<T: Copy> Store<T> {
         requires place { place ≤ length (run_at self.old.runs run) }
         requires to { to < length self.old.runs }
         requires other { run ≢ to }
-        requires room { length (run_at self.old.runs to) + (length (run_at self.old.runs run) - place) ≤ 256 }
+        requires room { length (run_at self.old.runs to) + (length (run_at self.old.runs run) - place) ≤ 128 }
         ensures { self.new ≡ record self.old { runs = slice_set (slice_set self.old.runs to (run_at self.old.runs to ++ drop place (run_at self.old.runs run))) run (take place (run_at self.old.runs run)) } }
     {
         let head = self.heads[run];

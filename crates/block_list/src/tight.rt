@@ -46,11 +46,11 @@ pub(crate) fn put<T: Copy>(runs: &mut Runs<T>, run: usize, place: usize, entry: 
 // Puts an entry after a full run: into the next one, or if that is full too, into a run of its own.
 fn append<T: Copy>(runs: &mut Runs<T>, run: usize, entry: T)
     requires run { run < length runs.old.runs }
-    requires full { length (run_at runs.old.runs run) ≡ 256 }
+    requires full { length (run_at runs.old.runs run) ≡ 128 }
     requires room { length runs.old.runs < runs.old.most }
     requires tight { IsTight runs.old.runs }
     ensures most { runs.new.most ≡ runs.old.most }
-    ensures entries { entries_of runs.new.runs ≡ insert (entries_of runs.old.runs) (length (entries_of (take run runs.old.runs)) + 256) entry }
+    ensures entries { entries_of runs.new.runs ≡ insert (entries_of runs.old.runs) (length (entries_of (take run runs.old.runs)) + 128) entry }
     ensures tight { IsTight runs.new.runs }
 {
     let count = runs.count();
@@ -66,9 +66,9 @@ fn append<T: Copy>(runs: &mut Runs<T>, run: usize, entry: T)
 // first of both. So entries that come in order fill their blocks.
 fn divide<T: Copy>(runs: &mut Runs<T>, run: usize, place: usize, entry: T)
     requires run { run < length runs.old.runs }
-    requires place { place < 256 }
+    requires place { place < 128 }
     requires small { length runs.old.runs < 4294967296 }
-    requires full { length (run_at runs.old.runs run) ≡ 256 }
+    requires full { length (run_at runs.old.runs run) ≡ 128 }
     requires room { length runs.old.runs < runs.old.most }
     requires tight { IsTight runs.old.runs }
     ensures most { runs.new.most ≡ runs.old.most }

@@ -47,6 +47,6 @@ fn runs(alloc: Global) -> Result<(usize, usize), Fail> {
 
 #[test]
 fn runs_are_divided_and_joined(rt: HostRuntime) -> Result<(), Fail> {
-    assert!(rt; runs(rt.alloc())? == (3, 0));
+    assert!(rt; runs(rt.alloc())? == (5, 0));
     Ok(())
 }

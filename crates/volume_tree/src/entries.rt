@@ -69,7 +69,7 @@ impl Order {
     /// How many runs there are.
     pub fn run_count(&self) -> usize
         ensures count { result ≡ length self.now.runs }
-        ensures few { 257 * result ≤ 2 * length (entries_of self.now.runs) + 257 }
+        ensures few { 129 * result ≤ 2 * length (entries_of self.now.runs) + 129 }
         ensures all { start_of self.now.runs result ≡ length (entries_of self.now.runs) }
     {
         self.list.run_count()
@@ -90,7 +90,7 @@ impl Order {
         ensures run { map number_in result.now ≡ run_at self.now.runs run }
         ensures size { length (run_at self.now.runs run) ≡ length result.now }
         ensures some { 0 < length result.now }
-        ensures most { length result.now ≤ 256 }
+        ensures most { length result.now ≤ 128 }
         ensures numbers { (k : ℕ) (d : Entry) → k < length result.now → slice_get (entries_of self.now.runs) (start_of self.now.runs run + k) ≡ Some (get_or result.now k d).node }
         ensures listed { All (Contains self.now.entries) result.now }
         ensures next { start_of self.now.runs (run + 1) ≡ start_of self.now.runs run + length result.now }

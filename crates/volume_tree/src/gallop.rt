@@ -9,7 +9,7 @@ use crate::entries::Entry;
 // to where it came, and among how many entries from there on those of lower folders end.
 fn leap(entries: &[Entry], from: usize, folder: u64) -> (usize, usize)
     requires from { from ≤ length entries.now }
-    requires few { length entries.now ≤ 256 }
+    requires few { length entries.now ≤ 128 }
     ensures least { from ≤ result.0 }
     ensures within { result.0 + result.1 ≤ length entries.now }
     ensures lower { from < result.0 → parent_at entries.now (result.0 - 1) < folder }
@@ -55,7 +55,7 @@ pub fn halve(entries: &[Entry], from: usize, count: usize, folder: u64) -> usize
 /// steps for each doubling of their number.
 pub fn lower_end(entries: &[Entry], from: usize, folder: u64) -> usize
     requires from { from ≤ length entries.now }
-    requires few { length entries.now ≤ 256 }
+    requires few { length entries.now ≤ 128 }
     ensures least { from ≤ result }
     ensures within { result ≤ length entries.now }
     ensures lower { from < result → parent_at entries.now (result - 1) < folder }

@@ -2,7 +2,7 @@
 //!
 //! The entries of all nodes are kept in the order of their places, by folder and folded name, in the runs of a list in
 //! blocks. A search halves the runs' first entries and then one run, and ends where it finds the name: at no more than
-//! 13 and 8 looks. An entry has the folder and the first characters of the name, so that a look seldom reads the node's
+//! 14 and 7 looks. An entry has the folder and the first characters of the name, so that a look seldom reads the node's
 //! row, which stands in the slot of its number. A new node moves the entries of at most two blocks. Which node has a
 //! name in a folder is guessed first, so that most searches take one look, at the node that is guessed. Contracts see a
 //! tree as its capacity and its nodes in the order of their numbers.

@@ -32,7 +32,7 @@ pub fn halved(size: usize, before: bool) -> (usize, usize)
 }
 
 // The run that begins with the node of a name in a folder, or as an `Err` how many runs begin before the place of
-// that name. It takes a look, if there is a run, and no more than 13.
+// that name. It takes a look, if there is a run, and no more than 14.
 fn runs_before<L: Ledger>(
     slots: &NodeTable,
     order: &Order,
@@ -53,7 +53,7 @@ fn runs_before<L: Ledger>(
     ensures floor { IfErr result (λ count. (run : ℕ) → run + 1 ≡ count → IsFloor (rows_of slots.now.slots) (entries_of order.now.runs) folder name.now (start_of order.now.runs run + 1)) }
     ensures beyond { IfErr result (λ count. IsBeyond (rows_of slots.now.slots) (entries_of order.now.runs) folder name.now (start_of order.now.runs count)) }
     ensures some { 0 < length order.now.runs → steps.old + 1 ≤ steps.new }
-    ensures looks { steps.new ≤ steps.old + 13 }
+    ensures looks { steps.new ≤ steps.old + 14 }
 {
     let mut low = 0;
     let mut size = order.run_count();
@@ -70,7 +70,7 @@ fn runs_before<L: Ledger>(
 }
 
 // Where in a run the node of a name stands, or as an `Err` where one is to stand. The run's first node comes before the
-// name, and the name's place isn't past the run's end. It takes no more than 8 looks.
+// name, and the name's place isn't past the run's end. It takes no more than 7 looks.
 fn offset_of<L: Ledger>(
     slots: &NodeTable,
     order: &Order,
@@ -94,7 +94,7 @@ fn offset_of<L: Ledger>(
     ensures floor { IfErr result (λ offset. IsFloor (rows_of slots.now.slots) (entries_of order.now.runs) folder name.now (start_of order.now.runs run + offset)) }
     ensures beyond { IfErr result (λ offset. IsBeyond (rows_of slots.now.slots) (entries_of order.now.runs) folder name.now (start_of order.now.runs run + offset)) }
     ensures least { steps.old ≤ steps.new }
-    ensures looks { steps.new ≤ steps.old + 8 }
+    ensures looks { steps.new ≤ steps.old + 7 }
 {
     let entries = order.run(run);
     let mut low = 1;

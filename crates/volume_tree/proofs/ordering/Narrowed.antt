@@ -25,7 +25,7 @@ pub record AreRunsLeft (nodes : List NodeRow) (runs : List (List ℕ)) (folder :
   pub within : low + size ≤ length runs
   pub floor : (run : ℕ) → run + 1 ≡ low → IsFloor nodes (entries_of runs) folder name (start_of runs run + 1)
   pub beyond : IsBeyond nodes (entries_of runs) folder name (start_of runs (low + size))
-  pub few : IsFew (begun + 13) size looks
+  pub few : IsFew (begun + 14) size looks
   pub least : begun ≤ looks
   pub some : size < length runs → begun + 1 ≤ looks
 
@@ -36,7 +36,7 @@ runs_left nodes runs folder name begun low size looks passed left n true row a o
       within = omega (arith, same, h.within);
       floor = λ run e. run_past nodes runs folder name (low + size / 2) n row a o at found (sym t) run (omega (arith, e, p));
       beyond = subst (λ k. IsBeyond nodes (entries_of runs) folder name (start_of runs k)) same h.beyond;
-      few = few_halved (begun + 13) size looks left true h.few s l;
+      few = few_halved (begun + 14) size looks left true h.few s l;
       least = omega (arith, h.least);
       some = λ _. omega (arith, h.least);
     }
@@ -47,7 +47,7 @@ runs_left nodes runs folder name begun low size looks passed left n false row a 
       floor = λ run e. h.floor run (omega (arith, e, p));
       beyond = subst (λ k. IsBeyond nodes (entries_of runs) folder name (start_of runs k)) same
           (beyond_here nodes (entries_of runs) folder name (start_of runs (low + size / 2)) n row o a at found (sym t) u);
-      few = few_halved (begun + 13) size looks left false h.few s l;
+      few = few_halved (begun + 14) size looks left false h.few s l;
       least = omega (arith, h.least);
       some = λ _. omega (arith, h.least);
     }
@@ -57,7 +57,7 @@ pub record AreEntriesLeft (nodes : List NodeRow) (order : List ℕ) (folder : �
   pub within : low + size ≤ count
   pub floor : IsFloor nodes order folder name (start + low)
   pub beyond : IsBeyond nodes order folder name (start + (low + size))
-  pub few : IsFew (begun + 8) size looks
+  pub few : IsFew (begun + 7) size looks
   pub least : begun ≤ looks
 
 pub entries_left : (nodes : List NodeRow) (order : List ℕ) (folder : ℕ) (name : List ℕ) (start count begun low size looks passed left n : ℕ) (before : Bool) (row : NodeRow) → is_ascending number nodes ≡ true → IsOrder nodes order → AreEntriesLeft nodes order folder name start count begun low size looks → 0 < size → slice_get order (start + (low + size / 2)) ≡ Some n → node_of nodes n ≡ Some row → before ≡ is_before row folder name → is_named row folder name ≡ false → Passes before size passed → Leaves before size left → AreEntriesLeft nodes order folder name start count begun (low + passed) left (looks + 1)
@@ -68,7 +68,7 @@ entries_left nodes order folder name start count begun low size looks passed lef
       within = omega (arith, same, h.within);
       floor = subst (IsFloor nodes order folder name) next (floor_past nodes order folder name (start + (low + size / 2)) n row o a at found (sym t));
       beyond = subst (λ k. IsBeyond nodes order folder name (start + k)) same h.beyond;
-      few = few_halved (begun + 8) size looks left true h.few s l;
+      few = few_halved (begun + 7) size looks left true h.few s l;
       least = omega (arith, h.least);
     }
 entries_left nodes order folder name start count begun low size looks passed left n false row a o h s at found t u p l =
@@ -78,6 +78,6 @@ entries_left nodes order folder name start count begun low size looks passed lef
       within = omega (arith, same, h.within, s);
       floor = subst (λ k. IsFloor nodes order folder name (start + k)) stays h.floor;
       beyond = subst (λ k. IsBeyond nodes order folder name (start + k)) same (beyond_here nodes order folder name (start + (low + size / 2)) n row o a at found (sym t) u);
-      few = few_halved (begun + 8) size looks left false h.few s l;
+      few = few_halved (begun + 7) size looks left false h.few s l;
       least = omega (arith, h.least);
     }

@@ -9,10 +9,10 @@ returns-clause-run g c =
     let a = c.args in
     let pool = a.pool.now.items in
     let lent = c.deref_mut.result.now in
-    let low = a.block * 256 + a.place in
+    let low = a.block * 128 + a.place in
     let same = c.deref_mut.ensures.value in
-    let longer = length-set pool (a.block * 256 + a.len) a.entry in
-    let long = length-take (a.block * 256 + a.len + 1 - low) (drop low lent) in
+    let longer = length-set pool (a.block * 128 + a.len) a.entry in
+    let long = length-take (a.block * 128 + a.len + 1 - low) (drop low lent) in
     run-insert pool _ a.block a.len a.place a.entry c.requires.block c.requires.len c.requires.place
     (turned_by _ lent _ _ low (a.len - a.place) 1 _ _ _ same (omega (arith, longer)) (omega arith) (omega (arith, long, length-drop low lent, ap length same, longer)) (omega (arith, a.pool.now.ok.0, longer)) c.rotate_right.ensures.after)
 
@@ -21,8 +21,8 @@ returns-clause-others g c =
     let a = c.args in
     let pool = a.pool.now.items in
     let lent = c.deref_mut.result.now in
-    let low = a.block * 256 + a.place in
-    let end = a.block * 256 + a.len in
+    let low = a.block * 128 + a.place in
+    let end = a.block * 128 + a.len in
     let same = c.deref_mut.ensures.value in
     let longer = length-set pool end a.entry in
     let long = length-take (end + 1 - low) (drop low lent) in

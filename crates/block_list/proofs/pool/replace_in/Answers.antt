@@ -9,4 +9,4 @@ returns-clause-run g c = run-replace c.args.pool.now.items c.args.block c.args.l
 pub returns-clause-others : goal.returns-clause-others
 returns-clause-others g c =
     let pool = c.args.pool.now.items in
-    same_but-set pool pool c.args.block (c.args.block * 256 + c.args.place) c.args.entry (same_but-refl pool c.args.block) (omega arith) (omega (arith, c.requires.len, c.requires.place))
+    same_but-set pool pool c.args.block (c.args.block * 128 + c.args.place) c.args.entry (same_but-refl pool c.args.block) (omega arith) (omega (arith, c.requires.len, c.requires.place))

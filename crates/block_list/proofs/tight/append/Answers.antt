@@ -28,7 +28,7 @@ returns-clause-entries g c =
     ap (λ (v : Shelf g.row.T.Denot). entries_of v.runs) c.start.ensures ∙ entries-start runs (c.args.run + 1) _ c.args.entry (omega arith) (omega (arith, more, c.requires.full))
 
 -- the next run, if there is one, is full
-next : (g : given.Over) (c : goal.After-start g) → c.args.run + 1 < length c.args.runs.now.runs → length (run_at c.args.runs.now.runs (c.args.run + 1)) ≡ 256
+next : (g : given.Over) (c : goal.After-start g) → c.args.run + 1 < length c.args.runs.now.runs → length (run_at c.args.runs.now.runs (c.args.run + 1)) ≡ 128
 next g c within =
     elim c.else-next-count.branch [
       | else-next-count-via-then-next-count+else-run-lt-BLOCK w ↦ let same = ap length w.run.ensures.run in omega (arith, same, w.run.ensures.most)

@@ -23,7 +23,7 @@ loop-size-init g c =
       within = omega (arith, c.run-entries.ensures.some);
       floor = c.requires.floor;
       beyond = subst (IsBeyond (rows_of c.args.slots.now.slots) (entries_of runs) c.args.folder c.args.name.now) whole c.requires.beyond;
-      few = few_first c.args.steps.now 8 (count - 1) (omega (arith, c.run-entries.ensures.most, c.run-entries.ensures.some));
+      few = few_first c.args.steps.now 7 (count - 1) (omega (arith, c.run-entries.ensures.most, c.run-entries.ensures.some));
       least = omega arith;
     }
 
