@@ -1,5 +1,5 @@
 -- What the quota of a folder tells if it refuses.
-use Rattle.std.proofs.Common.{◌≡◌, ℕ, ◌+◌, ◌-◌, true, false, cond, List, [], Option, Some, None, refl, sym, ◌∙◌, ap}
+use Rattle.std.proofs.Common.{◌≡◌, ℕ, ◌+◌, ◌-◌, ◌≤◌, ◌&&◌, nat_lt, true, false, cond, List, [], Option, Some, None, refl, sym, ◌∙◌, ap}
 use Rattle.std.specs.Option.{option_and_then}
 use Rattle.std.specs.Prelude.{if◌then◌else◌}
 use Rattle.fsrm_model.specs.declared.row.NodeRow.{NodeRow}
@@ -7,8 +7,9 @@ use Rattle.quota_usage.specs.Charge.{is_above}
 use Rattle.quota_usage.specs.declared.change.Change.{Change}
 use Rattle.fsrm_model.specs.declared.row.QuotaRow.{QuotaRow}
 use Rattle.fsrm_base.specs.Keyed.{row_of}
-use Rattle.fsrm_model.specs.Quota.{folder_of, refuses}
+use Rattle.fsrm_model.specs.Quota.{folder_of, counts, refuses}
 use Rattle.fsrm_base.proofs.Look.{found_key}
+use Rattle.fsrm_base.proofs.TestLaws.{and_false, not_lt}
 use Rattle.quota_usage.specs.Climb.{judged, refusal_of, refusal_at, IsNearestTo}
 use Rattle.quota_usage.specs.Counters.{used_in}
 use Rattle.quota_usage.specs.declared.change.Counter.{Counter}
@@ -34,6 +35,18 @@ passed_at quotas counters minus plus folder n less q found used e h =
     sym (counted_is quotas counters minus plus folder n q found used
     ∙ (ap (λ l. cond (refuses q n (l + plus)) (Some (record { folder = q.folder; would = l + plus; limit = q.limit })) None) (sym e)
     ∙ ap (λ b. cond b (Some (record { folder = q.folder; would = less + plus; limit = q.limit })) None) h))
+
+-- bytes that don't rise are not refused
+unrisen : (q : QuotaRow) (before after : ℕ) → after ≤ before → refuses q before after ≡ false
+unrisen q before after h = ap (λ b. (counts q && q.enforce) && (b && nat_lt q.limit after)) (not_lt before after h) ∙ and_false (counts q && q.enforce)
+
+-- a folder with a counter that doesn't come to more, whatever its quota
+pub unrisen_at : (quotas : List QuotaRow) (counters : List Counter) (minus plus folder n less : ℕ) → used_in counters folder ≡ Some n → less ≡ n - minus → less + plus ≤ n → None ≡ refusal_of quotas counters minus plus folder
+unrisen_at quotas counters minus plus folder n less used e h = each (row_of folder_of folder quotas) refl
+  where
+    each : (o : Option QuotaRow) → row_of folder_of folder quotas ≡ o → None ≡ refusal_of quotas counters minus plus folder
+    each None found = sym (ap (option_and_then (λ quota. option_and_then (judged minus plus quota) (used_in counters folder))) found)
+    each (Some q) found = passed_at quotas counters minus plus folder n less q found used e (unrisen q n (less + plus) h)
 
 pub refused_at : (quotas : List QuotaRow) (counters : List Counter) (minus plus folder n less : ℕ) (q : QuotaRow) → row_of folder_of folder quotas ≡ Some q → used_in counters folder ≡ Some n → less ≡ n - minus → refuses q n (less + plus) ≡ true → Some (record { folder = folder; would = less + plus; limit = q.limit }) ≡ refusal_of quotas counters minus plus folder
 refused_at quotas counters minus plus folder n less q found used e h =

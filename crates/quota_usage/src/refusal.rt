@@ -37,10 +37,14 @@ fn judge(
     let Some(before) = counters.used(folder) else {
         return None;
     };
+    // A quota refuses nothing unless its bytes rise, so its row needn't be read.
+    let would = before.saturating_sub(minus) + plus;
+    if would <= before {
+        return None;
+    }
     let Some(quota) = objects.quota(folder) else {
         return None;
     };
-    let would = before.saturating_sub(minus) + plus;
     if !refuses(quota, before, would) {
         return None;
     }
