@@ -12,6 +12,8 @@ pub fn allocated(bytes: u64, cluster: u32) -> u64
     ensures space { result ≡ rounded cluster bytes }
     ensures small { result ≤ longest_file }
 {
-    let cluster = cluster as u64;
-    bytes.div_ceil(cluster) * cluster
+    // A cluster is a power of 2, so nothing is divided.
+    let shift = cluster.trailing_zeros();
+    let last = cluster as u64 - 1;
+    (bytes + last) >> shift << shift
 }

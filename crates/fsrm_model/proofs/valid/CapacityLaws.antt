@@ -1,6 +1,8 @@
 -- How large a store may be, part by part, and what its files may take.
-use Rattle.std.proofs.Common.{◌≡◌, ℕ, zero, suc, ◌+◌, ◌-◌, ◌*◌, ◌/◌, ◌≤◌, true, List, [], ◌∷◌, inl, inr, refl, ap, ◌∙◌, subst, arith}
-use Rattle.std.proofs.Math.Nat.{div-eq_of_lt}
+use Rattle.std.proofs.Common.{◌≡◌, ℕ, zero, suc, ◌+◌, ◌-◌, ◌*◌, ◌/◌, ◌%◌, ◌^◌, ◌<◌, ◌≤◌, true, List, [], ◌∷◌, inl, inr, refl, ap, ◌∙◌, subst, arith}
+use Rattle.std.proofs.Math.Nat.{div-eq_of_lt, mod-eq_of_lt}
+use Rattle.std.specs.Int.{w32, trailing_zeros}
+use Rattle.std.specs.Int.Count.{count_trailing_zeros}
 use Rattle.std.specs.List.{AllByRecursion}
 use Rattle.fsrm_model.specs.declared.row.Capacity.{Capacity}
 use Rattle.fsrm_model.specs.Capacities.{cluster_sizes, is_cluster, is_capacity}
@@ -38,6 +40,22 @@ fits cluster h =
 -- the longest file ends with a cluster, of whatever size
 pub rounded_most : (cluster n : ℕ) → is_cluster cluster ≡ true → n ≤ longest_file → rounded cluster n ≤ longest_file
 rounded_most cluster n h most = fits cluster h n most
+
+-- the zeros at the end of a cluster's size tell which power of 2 it is
+abbrev IsPower : ℕ → Type 0
+IsPower cluster = 2 ^ trailing_zeros w32 cluster ≡ cluster
+
+power : (cluster : ℕ) → is_cluster cluster ≡ true → IsPower cluster
+unfolding count_trailing_zeros
+power cluster h =
+    let at : AllByRecursion IsPower cluster_sizes = (refl, (refl, (refl, (refl, (refl, (refl, (refl, (refl, tt)))))))) in
+    member IsPower cluster_sizes at cluster h
+
+-- so whole clusters are had by shifts, and none of the bits that are shifted up is lost
+pub rounded_shifted : (cluster n : ℕ) → is_cluster cluster ≡ true → n ≤ longest_file → (n + (cluster - 1)) / 2 ^ trailing_zeros w32 cluster * 2 ^ trailing_zeros w32 cluster % 2 ^ 64 ≡ rounded cluster n
+rounded_shifted cluster n h most =
+    let small : rounded cluster n < 2 ^ 64 = omega (arith, rounded_most cluster n h most) in
+    ap (λ p. (n + (cluster - 1)) / p * p % 2 ^ 64) (power cluster h) ∙ mod-eq_of_lt small
 
 -- nothing takes nothing
 pub rounded_none : (cluster : ℕ) → rounded cluster 0 ≡ 0
