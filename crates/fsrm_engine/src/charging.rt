@@ -110,6 +110,10 @@ pub fn raise_above<L: Ledger>(
     ensures noted { Notes crossing.old crossing.new objects.old.quotas (λ quota. is_under tree.now.nodes quota.folder folder && is_crossing usage.now minus plus quota) }
     ensures looks { steps.new ≤ steps.old + length (chain tree.now.nodes folder) }
 {
+    // Without counters no peak rises and nothing is crossed, so there is no need to climb.
+    if usage.is_empty() {
+        return;
+    }
     let mut at = folder;
     loop {
         gain(usage, objects, crossing, at, minus, plus, moment);

@@ -52,7 +52,7 @@ impl Usage {
     }
 
     /// Whether there is none.
-    pub(crate) fn is_empty(&self) -> bool
+    pub fn is_empty(&self) -> bool
         ensures { result ≡ (length self.now == 0) }
     {
         self.counters.is_empty()

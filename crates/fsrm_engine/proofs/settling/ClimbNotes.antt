@@ -1,6 +1,7 @@
 -- What is noted on the way up, and noted no longer.
-use Rattle.std.proofs.Common.{◌≡◌, ℕ, ◌==◌, Bool, true, ◌&&◌, ◌||◌, List, refl, ap, sym, subst}
+use Rattle.std.proofs.Common.{◌≡◌, ℕ, ◌==◌, Bool, true, ◌&&◌, ◌||◌, List, [], refl, ap, sym, ◌∙◌, subst}
 use Rattle.std.specs.Prelude.{if◌then◌else◌}
+use Rattle.fsrm_base.proofs.TestLaws.{and_false}
 use Rattle.fsrm_model.specs.declared.row.NodeRow.{NodeRow}
 use Rattle.fsrm_model.specs.declared.row.QuotaRow.{QuotaRow}
 use Rattle.fsrm_model.specs.Quota.{folder_of}
@@ -9,10 +10,12 @@ use Rattle.fsrm_model.proofs.nodes.ChainLaws.{IsTree, Has}
 use Rattle.fsrm_model.proofs.nodes.ClimbRows.{is_passed, passed_rows}
 use Rattle.number_set.specs.Numbers.{Numbers}
 use Rattle.quota_usage.specs.declared.change.Counter.{Counter}
+use Rattle.quota_usage.specs.Counters.{used_in}
 use Rattle.fsrm_engine.specs.Crossing.{Drops, Notes, is_crossing}
 use Rattle.fsrm_engine.specs.Peaks.{raised}
 use Rattle.fsrm_engine.proofs.settling.NoteLaws.{drops_both, drops_none, either_and, none_passed, notes_both, notes_none, passed_all, passed_next}
 use Rattle.fsrm_engine.proofs.tables.PeakLaws.{raised_case}
+use Rattle.fsrm_engine.proofs.tables.RaiseLaws.{crossing_none}
 
 module _ (nodes : List NodeRow) (start at m : ℕ) (counters : List Counter) (minus plus : ℕ) where
   abbrev here : QuotaRow → Bool
@@ -46,6 +49,14 @@ pub climb_ended : (nodes : List NodeRow) (start at m : ℕ) (counters : List Cou
 climb_ended nodes start at m counters minus plus old mid new quotas now on root passed first second =
     noted_more nodes start at m counters minus plus old mid new quotas now (λ n. is_under nodes n start) passed first second
     (λ n. subst (λ k. (is_passed nodes start k n || (n == k)) ≡ is_under nodes n start) (sym root) (passed_all nodes start (subst (λ k. is_under nodes k start ≡ true) root on) n))
+
+-- without counters nothing is noted
+pub climb_uncounted : (nodes : List NodeRow) (start : ℕ) (counters : List Counter) (minus plus : ℕ) (noted : Numbers) (quotas : List QuotaRow) → counters ≡ [] → Notes noted noted quotas (λ q. is_under nodes q.folder start && is_crossing counters minus plus q)
+climb_uncounted nodes start counters minus plus noted quotas e =
+    notes_none noted quotas (λ q. is_under nodes q.folder start && is_crossing counters minus plus q)
+    (λ place q there.
+    ap (λ b. is_under nodes q.folder start && b) (crossing_none counters minus plus q (ap (λ (cs : List Counter). used_in cs q.folder) e))
+    ∙ and_false (is_under nodes q.folder start))
 
 -- ---- the same of drops
 pub drop_begun : (nodes : List NodeRow) (start : ℕ) (noted : Numbers) (quotas : List QuotaRow) → Drops noted noted quotas (λ q. is_passed nodes start start q.folder)

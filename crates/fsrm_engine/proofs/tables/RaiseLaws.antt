@@ -2,7 +2,7 @@
 use Rattle.std.proofs.Common.{◌≡◌, ℕ, ◌+◌, ◌<◌, ◌≤◌, ◌==◌, Bool, true, false, cond, List, [], ◌∷◌, ◌++◌, length, slice_get, ◌||◌, append_assoc, length-append, Option, Some, None, nat_lt, refl, ap, sym, ◌∙◌, subst, arith}
 use Rattle.std.proofs.lemmas.Bool.Decides.{nat_tests}
 use Rattle.std.proofs.lemmas.Option.{same_Some}
-use Rattle.std.specs.Prelude.{map}
+use Rattle.std.specs.Prelude.{map, if◌then◌else◌}
 use Rattle.std.specs.Option.{option_map_or}
 use Rattle.fsrm_model.specs.declared.row.QuotaRow.{QuotaRow}
 use Rattle.std.proofs.lemmas.List.{length-map, map-append, append-nil}
@@ -83,6 +83,16 @@ none_above nodes place counters m quotas h = stays nodes counters m quotas ∙ a
     stays : (nodes : List NodeRow) (counters : List Counter) (m : ℕ) (quotas : List QuotaRow) → quotas ≡ map (raised_above nodes None counters m) quotas
     stays nodes counters m [] = refl
     stays nodes counters m (q ∷ qs) = ap (λ rs. q ∷ rs) (stays nodes counters m qs)
+
+-- nor without counters
+pub none_counted : (counters : List Counter) (m : ℕ) (on : QuotaRow → Bool) (quotas : List QuotaRow) → counters ≡ [] → quotas ≡ map (λ q. if on q then raised counters m q else q) quotas
+none_counted counters m on [] e = refl
+none_counted counters m on (q ∷ qs) e =
+    ap (λ r. r ∷ qs) (one (on q)) ∙ ap (λ rs. cond (on q) (raised counters m q) q ∷ rs) (none_counted counters m on qs e)
+  where
+    one : (b : Bool) → q ≡ cond b (raised counters m q) q
+    one true = sym (raised_by counters m q None (ap (λ (cs : List Counter). used_in cs q.folder) e))
+    one false = refl
 
 -- the peaks before a place of a table were raised
 pub record RaisedTo (raise : QuotaRow → QuotaRow) (old now : List QuotaRow) (place : ℕ) : Type 0 where

@@ -10,9 +10,21 @@ use Rattle.fsrm_objects.specs.Tables.{Tables}
 use Rattle.fsrm_engine.specs.Peaks.{raised}
 use Rattle.fsrm_model.proofs.nodes.ClimbRows.{passed_rows, passed_none, climbed_step, climbed_root}
 use Rattle.quota_usage.proofs.ClimbLaws.{step_up}
-use Rattle.fsrm_engine.proofs.settling.ClimbNotes.{climb_begun, climb_ended, climb_next}
-use Rattle.fsrm_engine.proofs.tables.RaiseLaws.{raised_keeps, tables_kept, tables_on, up_is}
+use Rattle.quota_usage.proofs.CounterLaws.{no_counters}
+use Rattle.fsrm_engine.proofs.settling.ClimbNotes.{climb_begun, climb_ended, climb_next, climb_uncounted}
+use Rattle.fsrm_engine.proofs.tables.RaiseLaws.{none_counted, raised_keeps, tables_as, tables_kept, tables_on, up_is}
 use Rattle.fsrm_engine.proofs.charging.raise_above.Goals as goal
+
+pub returns-then-is_empty-clause-quotas : goal.returns-then-is_empty-clause-quotas
+returns-then-is_empty-clause-quotas g c =
+    tables_as c.args.objects.now _
+    (none_counted c.args.usage.now c.args.moment (λ q. is_under c.args.tree.now.nodes q.folder c.args.folder) c.args.objects.now.quotas
+    (no_counters c.args.usage.now (sym c.is_empty.ensures ∙ c.if-is_empty.true)))
+
+pub returns-then-is_empty-clause-noted : goal.returns-then-is_empty-clause-noted
+returns-then-is_empty-clause-noted g c =
+    climb_uncounted c.args.tree.now.nodes c.args.folder c.args.usage.now c.args.minus c.args.plus c.args.crossing.now c.args.objects.now.quotas
+    (no_counters c.args.usage.now (sym c.is_empty.ensures ∙ c.if-is_empty.true))
 
 pub loop-at-init : goal.loop-at-init
 loop-at-init g c = record {
