@@ -1,6 +1,6 @@
 //! What the files at and below a node take.
 
-ghost use Rattle.std.specs.Prelude.{◌≡◌, ◌+◌, ◌*◌, ◌≤◌, ◌++◌, true, length, map, IfOk, OnOk, OnErr};
+ghost use Rattle.std.specs.Prelude.{◌≡◌, ◌+◌, ◌*◌, ◌^◌, ◌<◌, ◌≤◌, ◌++◌, [], ◌∷◌, true, length, map, sum_by, IfOk, OnOk};
 ghost use Rattle.fsrm_model.specs.declared.command.Deed.TheVariants.{Usage};
 ghost use Rattle.fsrm_model.specs.Capacities.{is_capacity};
 ghost use Rattle.fsrm_model.specs.Cost.{deed_cost};
@@ -8,7 +8,8 @@ ghost use Rattle.fsrm_base.specs.Keyed.{has_row};
 ghost use Rattle.fsrm_model.specs.Tree.{number as key, children_in_order, usage, under};
 ghost use Rattle.fsrm_model.specs.Valid.{IsVolume};
 ghost use Rattle.fsrm_engine.specs.Machine.{Does, IsIdle, IsWhole, rows_of};
-ghost use Rattle.fsrm_engine.specs.Walk.{usage_of_all, under_all, AreThere};
+ghost use Rattle.fsrm_engine.specs.Walk.{AreThere};
+ghost use Rattle.rescan.specs.Visits.{folders_among, space_of};
 
 use crate::exits::{passing, refused};
 use crate::parts::Parts;
@@ -16,58 +17,89 @@ use fsrm_model::{Answer, Ledger, NoMemory, Outcome, Path, Refusal, Steps};
 use std::alloc::Global;
 use volume_tree::{Children, Finger, Siblings, Tree};
 
-// Puts children after the nodes that are still to be visited. It takes a look for each.
+// Puts a node after the folders that are still to be visited, if it is a folder. What it takes, if it is a file, is
+// answered.
+#[inline]
+fn put_one<L: Ledger>(
+    tree: &Tree,
+    number: u32,
+    pending: &mut Vec<u32>,
+    steps: &mut Steps<L>,
+) -> Result<u64, NoMemory>
+    requires { has_row key number tree.now.nodes ≡ true }
+    ensures sum { IfOk result (λ bytes. bytes ≡ space_of tree.now.size tree.now.nodes number) }
+    ensures folders { OnOk result (pending.new.items ≡ pending.old.items ++ folders_among tree.now.nodes (number ∷ [])) }
+    ensures count { steps.new ≡ steps.old + 1 }
+{
+    let view = tree.node(number, steps);
+    if view.folder {
+        pending.push(number)?;
+        Ok(0)
+    } else {
+        Ok(tree.allocated(view.length))
+    }
+}
+
+// The same of some siblings. What the files among them take is summed up.
+fn put_all<L: Ledger>(
+    tree: &Tree,
+    siblings: &Siblings<'_>,
+    pending: &mut Vec<u32>,
+    steps: &mut Steps<L>,
+) -> Result<u64, NoMemory>
+    requires there { AreThere tree.now.nodes siblings.now }
+    requires small { sum_by (space_of tree.now.size tree.now.nodes) siblings.now < 2 ^ 64 }
+    ensures sum { IfOk result (λ bytes. bytes ≡ sum_by (space_of tree.now.size tree.now.nodes) siblings.now) }
+    ensures folders { OnOk result (pending.new.items ≡ pending.old.items ++ folders_among tree.now.nodes siblings.now) }
+    ensures count { OnOk result (steps.new ≡ steps.old + length siblings.now) }
+    ensures looks { steps.new ≤ steps.old + length siblings.now }
+{
+    let mut bytes = 0u64;
+    for place in 0..siblings.len() {
+        bytes += put_one(tree, siblings.number(place), pending, steps)?;
+    }
+    Ok(bytes)
+}
+
+// The same of all children. It takes two looks for each.
 fn put<L: Ledger>(
+    tree: &Tree,
     children: &mut Children<'_>,
     pending: &mut Vec<u32>,
     steps: &mut Steps<L>,
-) -> Result<(), NoMemory>
-    ensures ok { OnOk result (pending.new.items ≡ pending.old.items ++ children.old) }
-    ensures count { OnOk result (steps.new ≡ steps.old + length children.old) }
-    ensures looks { steps.new ≤ steps.old + length children.old }
+) -> Result<u64, NoMemory>
+    requires there { AreThere tree.now.nodes children.old }
+    requires small { sum_by (space_of tree.now.size tree.now.nodes) children.old < 2 ^ 64 }
+    ensures sum { IfOk result (λ bytes. bytes ≡ sum_by (space_of tree.now.size tree.now.nodes) children.old) }
+    ensures folders { OnOk result (pending.new.items ≡ pending.old.items ++ folders_among tree.now.nodes children.old) }
+    ensures count { OnOk result (steps.new ≡ steps.old + 2 * length children.old) }
+    ensures looks { steps.new ≤ steps.old + 2 * length children.old }
 {
+    let mut bytes = 0u64;
     while let Some(siblings) = children.next(steps) {
-        put_all(&siblings, pending)?;
+        bytes += put_all(tree, &siblings, pending, steps)?;
     }
-    Ok(())
+    Ok(bytes)
 }
 
-// Puts some siblings after the nodes that are still to be visited.
-fn put_all(siblings: &Siblings<'_>, pending: &mut Vec<u32>) -> Result<(), NoMemory>
-    ensures { OnOk result (pending.new.items ≡ pending.old.items ++ siblings.now) }
-{
-    for place in 0..siblings.len() {
-        pending.push(siblings.number(place))?;
-    }
-    Ok(())
-}
-
-// Visits a node: what it takes itself, with its children put after the nodes that are still to be
-// visited.
+// Visits a folder: the folders in it are put after those that are still to be visited, and what the files in it take is
+// summed up.
 fn visit<L: Ledger>(
     tree: &Tree,
-    node: u32,
+    folder: u32,
     finger: &mut Finger,
     pending: &mut Vec<u32>,
     steps: &mut Steps<L>,
 ) -> Result<u64, NoMemory>
     requires volume { IsVolume tree.now.size tree.now.nodes }
-    requires there { has_row key node tree.now.nodes ≡ true }
-    requires pending { AreThere tree.now.nodes pending.old.items }
-    ensures sum { IfOk result (λ bytes. bytes + usage_of_all tree.now.size tree.now.nodes pending.new.items ≡ usage tree.now.size tree.now.nodes node + usage_of_all tree.now.size tree.now.nodes pending.old.items) }
-    ensures left { OnOk result (1 + under_all tree.now.nodes pending.new.items ≡ length (under tree.now.nodes node) + under_all tree.now.nodes pending.old.items) }
-    ensures pending { OnOk result (AreThere tree.now.nodes pending.new.items) }
-    ensures count { OnOk result (steps.new + length pending.old.items ≤ steps.old + (2 + length pending.new.items)) }
-    ensures looks { steps.new ≤ steps.old + (1 + length (under tree.now.nodes node)) }
+    requires legal { is_capacity tree.now.size ≡ true }
+    ensures sum { IfOk result (λ bytes. bytes ≡ sum_by (space_of tree.now.size tree.now.nodes) (map key (children_in_order tree.now.nodes folder))) }
+    ensures folders { OnOk result (pending.new.items ≡ pending.old.items ++ folders_among tree.now.nodes (map key (children_in_order tree.now.nodes folder))) }
+    ensures count { OnOk result (steps.new ≡ steps.old + (1 + 2 * length (map key (children_in_order tree.now.nodes folder)))) }
+    ensures looks { steps.new ≤ steps.old + (1 + 2 * length (map key (children_in_order tree.now.nodes folder))) }
 {
-    let view = tree.node(node, steps);
-    if view.folder {
-        let mut children = tree.children(node, finger, steps);
-        put(&mut children, pending, steps)?;
-        Ok(0)
-    } else {
-        Ok(tree.allocated(view.length))
-    }
+    let mut children = tree.children(folder, finger, steps);
+    put(tree, &mut children, pending, steps)
 }
 
 /// What the files at and below a node take, made afresh.
@@ -84,11 +116,10 @@ pub fn usage_of<L: Ledger>(
     ensures looks { steps.new ≤ steps.old + 3 * length (under tree.now.nodes node) }
 {
     let mut pending = Vec::new(alloc);
-    pending.push(node)?;
-    let mut total = 0u64;
+    let mut total = put_one(tree, node, &mut pending, steps)?;
     let mut finger = Finger::default();
-    while let Some(next) = pending.pop() {
-        total += visit(tree, next, &mut finger, &mut pending, steps)?;
+    while let Some(folder) = pending.pop() {
+        total += visit(tree, folder, &mut finger, &mut pending, steps)?;
     }
     Ok(total)
 }

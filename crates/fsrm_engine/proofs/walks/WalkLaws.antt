@@ -1,8 +1,8 @@
 -- What is at and below the nodes that are still to be visited.
-use Rattle.std.proofs.Common.{◌≡◌, ℕ, suc, ◌+◌, ◌*◌, ◌<◌, ◌≤◌, ◌==◌, Bool, true, false, cond, inl, inr, List, [], ◌∷◌, ◌++◌, length, refl, sym, ◌∙◌, ap, subst, arith, Some, length-append, fold, nat_lt}
+use Rattle.std.proofs.Common.{◌≡◌, ℕ, suc, ◌+◌, ◌*◌, ◌<◌, ◌≤◌, ◌==◌, Bool, true, false, cond, inl, inr, List, [], ◌∷◌, ◌++◌, length, refl, sym, ◌∙◌, ap, arith, Some, fold, nat_lt}
 use Rattle.std.proofs.lemmas.Bool.Decides.{nat_tests}
 use Rattle.std.proofs.lemmas.List.{length-map}
-use Rattle.std.proofs.lemmas.List.Sums.{sum_by-cons, sum_by-append, sum_by_push}
+use Rattle.std.proofs.lemmas.List.Sums.{sum_by-cons, sum_by_push}
 use Rattle.std.specs.Prelude.{map, filter, sum_by, nat_le}
 use Rattle.std.specs.List.{AllByRecursion, list_all}
 use Rattle.fsrm_model.specs.declared.row.Capacity.{Capacity}
@@ -107,26 +107,26 @@ there-back nodes [] ys h = h
 there-back nodes (x ∷ xs) ys h = there-back nodes xs ys h.1
 
 -- a folder takes what its children take, and has one node more
-usage_of_folder : (K : Capacity) (nodes : List NodeRow) (n : ℕ) (r : NodeRow) → IsVolume K nodes → node_of nodes n ≡ Some r → r.folder ≡ true → usage K nodes n ≡ usage_of_all K nodes (map number (children_in_order nodes n))
+pub usage_of_folder : (K : Capacity) (nodes : List NodeRow) (n : ℕ) (r : NodeRow) → IsVolume K nodes → node_of nodes n ≡ Some r → r.folder ≡ true → usage K nodes n ≡ usage_of_all K nodes (map number (children_in_order nodes n))
 usage_of_folder K nodes n r v h e =
     let none : space K r ≡ 0 = ap (λ b. cond b 0 (alloc K r.length)) e in
     let each = sum_by-map (usage K nodes) number (children_in_order nodes n) in
     let order = sum_in_order before (λ c. usage K nodes c.number) (children nodes n) in
     omega (arith, usage_children K nodes n r v h, none, each, order)
 
-count_of_children : (K : Capacity) (nodes : List NodeRow) (n : ℕ) (r : NodeRow) → IsVolume K nodes → node_of nodes n ≡ Some r → length (under nodes n) ≡ 1 + under_all nodes (map number (children_in_order nodes n))
+pub count_of_children : (K : Capacity) (nodes : List NodeRow) (n : ℕ) (r : NodeRow) → IsVolume K nodes → node_of nodes n ≡ Some r → length (under nodes n) ≡ 1 + under_all nodes (map number (children_in_order nodes n))
 count_of_children K nodes n r v h =
     let each = sum_by-map (λ m. length (under nodes m)) number (children_in_order nodes n) in
     let order = sum_in_order before (λ c. length (under nodes c.number)) (children nodes n) in
     omega (arith, count_children K nodes n r v h, each, order)
 
 -- each node is one of those below it
-count_least : (K : Capacity) (nodes : List NodeRow) (n : ℕ) → IsVolume K nodes → has_row number n nodes ≡ true → 1 ≤ length (under nodes n)
+pub count_least : (K : Capacity) (nodes : List NodeRow) (n : ℕ) → IsVolume K nodes → has_row number n nodes ≡ true → 1 ≤ length (under nodes n)
 count_least K nodes n v h =
     let f = has_found number n nodes h in
     omega (arith, count_children K nodes n f.row v f.is)
 
-count_all : (K : Capacity) (nodes : List NodeRow) (numbers : List ℕ) → IsVolume K nodes → AreThere nodes numbers → length numbers ≤ under_all nodes numbers
+pub count_all : (K : Capacity) (nodes : List NodeRow) (numbers : List ℕ) → IsVolume K nodes → AreThere nodes numbers → length numbers ≤ under_all nodes numbers
 count_all K nodes [] v h = omega arith
 count_all K nodes (n ∷ numbers) v h =
     let below : ℕ → ℕ = λ m. length (under nodes m) in
@@ -138,20 +138,7 @@ children_few K nodes n v h =
     let f = has_found number n nodes h in
     omega (arith, count_of_children K nodes n f.row v f.is, count_all K nodes (map number (children_in_order nodes n)) v (children_there nodes n), length-map (children_in_order nodes n) number)
 
--- what a visit leaves
-pub folder_sum : (K : Capacity) (nodes : List NodeRow) (n : ℕ) (view : NodeView) (old new : List ℕ) → IsVolume K nodes → Shows view nodes n → view.folder ≡ true → new ≡ old ++ map number (children_in_order nodes n) → 0 + usage_of_all K nodes new ≡ usage K nodes n + usage_of_all K nodes old
-folder_sum K nodes n view old new v shows e pushed =
-    let own = usage_of_folder K nodes n shows.row v shows.found (sym shows.is.folder ∙ e) in
-    omega (arith, own, ap (usage_of_all K nodes) pushed, sum_by-append (usage K nodes) old (map number (children_in_order nodes n)))
-
-pub visited_count : (K : Capacity) (nodes : List NodeRow) (n : ℕ) (view : NodeView) (old new : List ℕ) → IsVolume K nodes → Shows view nodes n → new ≡ old ++ map number (children_in_order nodes n) → 1 + under_all nodes new ≡ length (under nodes n) + under_all nodes old
-visited_count K nodes n view old new v shows pushed =
-    let below : ℕ → ℕ = λ m. length (under nodes m) in
-    omega (arith, count_of_children K nodes n shows.row v shows.found, ap (under_all nodes) pushed, sum_by-append below old (map number (children_in_order nodes n)))
-
-pub visited_there : (nodes : List NodeRow) (n : ℕ) (old new : List ℕ) → AreThere nodes old → new ≡ old ++ map number (children_in_order nodes n) → AreThere nodes new
-visited_there nodes n old new h pushed = subst (AreThere nodes) (sym pushed) (there-append nodes old (map number (children_in_order nodes n)) h (children_there nodes n))
-
+-- what a file takes
 pub file_sum : (K : Capacity) (nodes : List NodeRow) (n : ℕ) (view : NodeView) → IsVolume K nodes → Shows view nodes n → view.folder ≡ false → usage K nodes n ≡ alloc K view.length
 file_sum K nodes n view v shows e =
     let file : shows.row.folder ≡ false = sym shows.is.folder ∙ e in
@@ -164,13 +151,7 @@ file_count K nodes n view v shows e =
     count_of_file K nodes n shows.row v shows.found (found_folder nodes n shows.row shows.found ∙ sym shows.is.folder ∙ e)
 
 -- a node that is taken from the end
-pub last_there : (nodes : List NodeRow) (numbers rest : List ℕ) (n : ℕ) → numbers ≡ rest ++ n ∷ [] → AreThere nodes numbers → has_row number n nodes ≡ true
-last_there nodes numbers rest n e h = (there-back nodes rest (n ∷ []) (subst (AreThere nodes) e h)).0
-
-pub rest_there : (nodes : List NodeRow) (numbers rest : List ℕ) (n : ℕ) → numbers ≡ rest ++ n ∷ [] → AreThere nodes numbers → AreThere nodes rest
-rest_there nodes numbers rest n e h = there-front nodes rest (n ∷ []) (subst (AreThere nodes) e h)
-
-last_sum : (f : ℕ → ℕ) (numbers rest : List ℕ) (n : ℕ) → numbers ≡ rest ++ n ∷ [] → sum_by f numbers ≡ sum_by f rest + f n
+pub last_sum : (f : ℕ → ℕ) (numbers rest : List ℕ) (n : ℕ) → numbers ≡ rest ++ n ∷ [] → sum_by f numbers ≡ sum_by f rest + f n
 last_sum f numbers rest n e = ap (sum_by f) e ∙ sum_by_push f rest n
 
 -- so many nodes, and no more bytes than the longest files have
@@ -225,12 +206,7 @@ usage_small K nodes n v legal =
     let few : length nodes ≤ 1048576 = omega (arith, few_nodes K nodes v, nodes_most K legal) in
     omega (arith, sum, few)
 
--- what is left to be visited bounds the looks and the sum
-pub looks_at_visit : (K : Capacity) (nodes : List NodeRow) (pending rest : List ℕ) (n now last start whole : ℕ) → IsVolume K nodes → AreThere nodes pending → pending ≡ rest ++ n ∷ [] → now + 3 * under_all nodes pending ≤ start + (3 * whole + length pending) → last ≤ now + (1 + length (under nodes n)) → last ≤ start + 3 * whole
-looks_at_visit K nodes pending rest n now last start whole v h e looks more =
-    let below : ℕ → ℕ = λ m. length (under nodes m) in
-    omega (arith, looks, more, last_sum below pending rest n e, count_all K nodes pending v h, ap length e, length-append rest (n ∷ []))
-
+-- what is left to be visited bounds the sum
 pub sum_at_visit : (K : Capacity) (nodes : List NodeRow) (pending rest new : List ℕ) (n start total bytes : ℕ) → IsVolume K nodes → is_capacity K ≡ true → pending ≡ rest ++ n ∷ [] → total + usage_of_all K nodes pending ≡ usage K nodes start → bytes + usage_of_all K nodes new ≡ usage K nodes n + usage_of_all K nodes rest → total + bytes ≤ 1048576 * longest_file
 sum_at_visit K nodes pending rest new n start total bytes v legal e sum more =
     omega (arith, sum, more, last_sum (usage K nodes) pending rest n e, usage_small K nodes start v legal)

@@ -1,22 +1,61 @@
-use Rattle.std.proofs.Common.{◌+◌, ◌≤◌, ◌*◌, arith}
+use Rattle.std.proofs.Common.{ℕ, ◌+◌, ◌≤◌, ◌*◌, ◌++◌, [], ◌∷◌, ◌∙◌, List, ap, arith}
 use Rattle.fsrm_model.specs.Limits.{longest_file}
-use Rattle.fsrm_engine.proofs.walks.WalkLaws.{last_there, rest_there, looks_at_visit, sum_at_visit}
+use Rattle.rescan.specs.Visits.{folders_among}
+use Rattle.fsrm_engine.proofs.walks.SumLaws.{begun, looks_at_visit, visited_fewer, visited_folders, visited_looks, visited_sum, visited_total}
+use Rattle.fsrm_engine.proofs.walks.WalkLaws.{count_least, sum_at_visit}
 use Rattle.fsrm_engine.proofs.usage.usage_of.Goals as goal
-
-pub visit-requires-clause-there : goal.visit-requires-clause-there
-visit-requires-clause-there g c =
-    last_there c.args.tree.now.nodes c.loop-next.pending.items c.pop.new.self.items c.in-Some.next c.in-Some.ensures.items c.loop-next.invariant.there
-
-pub visit-requires-clause-pending : goal.visit-requires-clause-pending
-visit-requires-clause-pending g c =
-    rest_there c.args.tree.now.nodes c.loop-next.pending.items c.pop.new.self.items c.in-Some.next c.in-Some.ensures.items c.loop-next.invariant.there
 
 pub returns-in_err-total-clause-looks : goal.returns-in_err-total-clause-looks
 returns-in_err-total-clause-looks g c =
-    looks_at_visit c.args.tree.now.size c.args.tree.now.nodes c.loop-next.pending.items c.pop.new.self.items c.in-Some.next _ _ _ _ c.requires.volume c.loop-next.invariant.there c.in-Some.ensures.items c.loop-next.invariant.looks c.in_err-total.ensures.looks
+    omega (arith, c.put_one.ensures.count, count_least c.args.tree.now.size c.args.tree.now.nodes c.args.node c.requires.volume c.requires.there)
+
+pub loop-folder-init : goal.loop-folder-init
+loop-folder-init g c =
+    let put = c.in_ok-total.ensures.folders ∙ ap (λ (ns : List ℕ). ns ++ folders_among c.args.tree.now.nodes (c.args.node ∷ [])) c.new-pending.ensures.items in
+    let b = begun c.args.tree.now.size c.args.tree.now.nodes c.args.node c.put_one.new.pending.items c.requires.volume c.requires.there put in
+    record {
+      folders = b.are;
+      sum = b.sum c.in_ok-total.total c.in_ok-total.ensures.sum;
+      looks = b.looks c.args.steps.now c.put_one.new.steps c.put_one.ensures.count;
+    }
+
+pub returns-in_err-total-2-clause-looks : goal.returns-in_err-total-2-clause-looks
+returns-in_err-total-2-clause-looks g c =
+    looks_at_visit c.args.tree.now.size c.args.tree.now.nodes c.loop-folder.pending.items c.pop.new.self.items c.in-Some.folder c.requires.volume c.loop-folder.invariant.folders c.in-Some.ensures.items
+    c.args.steps.now _ c.loop-folder.steps c.visit.new.steps c.loop-folder.invariant.looks c.visit.ensures.looks
 
 pub overflow_add-total : goal.overflow_add-total
 overflow_add-total g c =
-    let most : c.loop-next.total + c.in_ok-total.field-0 ≤ 1048576 * longest_file =
-    sum_at_visit c.args.tree.now.size c.args.tree.now.nodes c.loop-next.pending.items c.pop.new.self.items c.visit.new.pending.items c.in-Some.next _ _ _ c.requires.volume c.requires.legal c.in-Some.ensures.items c.loop-next.invariant.sum c.in_ok-total.ensures.sum in
+    let K = c.args.tree.now.size in
+    let nodes = c.args.tree.now.nodes in
+    let pending = c.loop-folder.pending.items in
+    let rest = c.pop.new.self.items in
+    let new = c.visit.new.pending.items in
+    let folder = c.in-Some.folder in
+    let sum = visited_sum K nodes pending rest folder c.requires.volume c.loop-folder.invariant.folders c.in-Some.ensures.items new c.in_ok-total-2.ensures.folders c.in_ok-total-2.field-0 c.in_ok-total-2.ensures.sum in
+    let most : c.loop-folder.total + c.in_ok-total-2.field-0 ≤ 1048576 * longest_file =
+    sum_at_visit K nodes pending rest new folder c.args.node c.loop-folder.total c.in_ok-total-2.field-0 c.requires.volume c.requires.legal c.in-Some.ensures.items c.loop-folder.invariant.sum sum in
     omega (arith, most)
+
+pub loop-folder-smaller : goal.loop-folder-smaller
+loop-folder-smaller g c =
+    visited_fewer c.args.tree.now.size c.args.tree.now.nodes c.loop-folder.pending.items c.pop.new.self.items c.in-Some.folder
+    c.requires.volume c.loop-folder.invariant.folders c.in-Some.ensures.items c.visit.new.pending.items c.in_ok-total-2.ensures.folders
+
+pub loop-folder-preserved : goal.loop-folder-preserved
+loop-folder-preserved g c =
+    let K = c.args.tree.now.size in
+    let nodes = c.args.tree.now.nodes in
+    let pending = c.loop-folder.pending.items in
+    let rest = c.pop.new.self.items in
+    let new = c.visit.new.pending.items in
+    let folder = c.in-Some.folder in
+    let v = c.requires.volume in
+    let waits = c.loop-folder.invariant.folders in
+    let last = c.in-Some.ensures.items in
+    let put = c.in_ok-total-2.ensures.folders in
+    record {
+      folders = visited_folders K nodes pending rest folder v waits last new put;
+      sum = visited_total K nodes pending rest folder v waits last new put c.in_ok-total-2.field-0 c.loop-folder.total c.args.node c.in_ok-total-2.ensures.sum c.loop-folder.invariant.sum;
+      looks = visited_looks K nodes pending rest folder v waits last new put c.args.steps.now _ c.loop-folder.steps c.visit.new.steps c.loop-folder.invariant.looks c.in_ok-total-2.ensures.count;
+    }

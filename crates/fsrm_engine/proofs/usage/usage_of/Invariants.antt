@@ -1,15 +1,16 @@
 use Rattle.std.proofs.Common.{◌≡◌, ◌+◌, ◌*◌, ◌≤◌, length}
 use Rattle.fsrm_model.specs.Tree.{under, usage}
-use Rattle.fsrm_engine.specs.Walk.{usage_of_all, under_all, AreThere}
+use Rattle.fsrm_engine.specs.Walk.{usage_of_all, under_all}
+use Rattle.fsrm_engine.proofs.walks.SumLaws.{AreFolders}
 use Rattle.fsrm_engine.proofs.usage.usage_of.Given as goal
 
--- each visit takes 2 looks, and one for each child that it puts after the others
-abbrev pub invariant-loop-next : goal.invariant-loop-next
-invariant-loop-next g l = record {
-  there : AreThere l.tree.nodes l.pending.items;
+-- each node was looked at, and each visit takes a look, and one more for each child
+abbrev pub invariant-loop-folder : goal.invariant-loop-folder
+invariant-loop-folder g l = record {
+  folders : AreFolders l.tree.nodes l.pending.items;
   sum : l.total + usage_of_all l.tree.size l.tree.nodes l.pending.items ≡ usage l.tree.size l.tree.nodes l.node;
-  looks : l.steps + 3 * under_all l.tree.nodes l.pending.items ≤ l.fn.steps + (3 * length (under l.tree.nodes l.node) + length l.pending.items);
+  looks : l.steps + 3 * under_all l.tree.nodes l.pending.items ≤ l.fn.steps + (3 * length (under l.tree.nodes l.node) + 2 * length l.pending.items);
 }
 
-abbrev pub decreases-loop-next : goal.decreases-loop-next
-decreases-loop-next g l = under_all l.tree.nodes l.pending.items
+abbrev pub decreases-loop-folder : goal.decreases-loop-folder
+decreases-loop-folder g l = under_all l.tree.nodes l.pending.items
