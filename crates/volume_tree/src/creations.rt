@@ -17,6 +17,7 @@ use crate::slots;
 use crate::tree::Tree;
 use crate::vacancy::new_place;
 use fsrm_model::{Ledger, Steps};
+use name_rules::fold_prefix;
 use node_table::NodeView;
 
 // What a new node is, beside its place. A folder has no length.
@@ -221,10 +222,15 @@ impl Tree {
         ensures looks { steps.new ≤ steps.old + 23 }
     {
         let near = vacancy.place();
-        let place = new_place(&self.slots, &self.order, folder, name, near, steps);
+        let prefix = fold_prefix(name);
+        let place = new_place(&self.slots, &self.order, folder, prefix, name, near, steps);
         let number = slots::next_number(&self.slots, &self.holes);
         self.hints.enter(&self.slots, folder, name, number);
-        let entry = Entry::at(number, folder, name);
+        let entry = Entry {
+            prefix,
+            parent: folder,
+            node: number,
+        };
         self.slots.put(&new.view(number, folder, name));
         self.holes.remove(number);
         self.order.insert(place, entry);

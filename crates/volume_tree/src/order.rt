@@ -111,12 +111,13 @@ fn offset_of<L: Ledger>(
     Err(low)
 }
 
-// The place in the order of a folder's child of a name, or as an `Err` the place where one is to stand. It takes a
-// look, if there is a run, and no more than 21. The folder may be any number.
-fn place_of<L: Ledger>(
+/// The place in the order of a folder's child of a name, or as an `Err` the place where one is to stand. It takes a
+/// look, if there is a run, and no more than 21. The folder may be any number.
+pub fn place_of<L: Ledger>(
     slots: &NodeTable,
     order: &Order,
     folder: u64,
+    prefix: u64,
     name: &str,
     steps: &mut Steps<L>,
 ) -> Result<Place, Place>
@@ -124,6 +125,7 @@ fn place_of<L: Ledger>(
     requires order { IsOrder (rows_of slots.now.slots) (entries_of order.now.runs) }
     requires entries { AreOwn (rows_of slots.now.slots) order.now }
     requires few { length (entries_of order.now.runs) < most_nodes }
+    requires prefix { prefix ≡ prefix_of name.now }
     ensures entry { IfOk result (λ place. IsEntry order.now.runs place) }
     ensures named { IfOk result (λ place. IsNamed (rows_of slots.now.slots) (entries_of order.now.runs) folder name.now (index_of order.now.runs place)) }
     ensures taken { IfOk result (λ place. IsPlace (rows_of slots.now.slots) (entries_of order.now.runs) folder name.now (index_of order.now.runs place)) }
@@ -133,7 +135,6 @@ fn place_of<L: Ledger>(
     ensures some { 0 < length order.now.runs → steps.old + 1 ≤ steps.new }
     ensures looks { steps.new ≤ steps.old + 21 }
 {
-    let prefix = fold_prefix(name);
     match runs_before(slots, order, folder, prefix, name, steps) {
         Ok(run) => {
             // No run is empty.
@@ -178,7 +179,14 @@ pub fn search<L: Ledger>(
         steps.tick();
         return Err(order.end());
     }
-    place_of(slots, order, u64::from(folder), name, steps)
+    place_of(
+        slots,
+        order,
+        u64::from(folder),
+        fold_prefix(name),
+        name,
+        steps,
+    )
 }
 
 /// The entry that stands at a place, if that isn't the end.
@@ -227,7 +235,7 @@ fn first_from<L: Ledger>(
     ensures looks { steps.new ≤ steps.old + 21 }
 {
     // No name comes before the empty one.
-    match place_of(slots, order, folder, "", steps) {
+    match place_of(slots, order, folder, 0, "", steps) {
         Ok(place) | Err(place) => place,
     }
 }

@@ -10,10 +10,9 @@ ghost use Rattle.volume_tree.specs.Kept.{AreSlots, IsFloor, IsOrder, IsPlace, ro
 
 use crate::compare::is_before;
 use crate::entries::Order;
-use crate::order::{entry_at, search};
+use crate::order::{entry_at, place_of};
 use block_list::Place;
 use fsrm_model::{Ledger, Steps};
-use name_rules::fold_prefix;
 use node_table::NodeTable;
 
 // Whether what stands in front of a place is known to come before a name in a folder. It takes a look at most.
@@ -82,6 +81,7 @@ fn is_place<L: Ledger>(
     slots: &NodeTable,
     order: &Order,
     folder: u32,
+    prefix: u64,
     name: &str,
     place: Place,
     steps: &mut Steps<L>,
@@ -89,11 +89,11 @@ fn is_place<L: Ledger>(
     requires slots { AreSlots 0 slots.now.slots }
     requires order { IsOrder (rows_of slots.now.slots) (entries_of order.now.runs) }
     requires entries { AreOwn (rows_of slots.now.slots) order.now }
+    requires prefix { prefix ≡ prefix_of name.now }
     ensures gap { result ≡ true → IsGap order.now.runs place }
     ensures place { result ≡ true → IsPlace (rows_of slots.now.slots) (entries_of order.now.runs) folder name.now (index_of order.now.runs place) }
     ensures looks { steps.new ≤ steps.old + 2 }
 {
-    let prefix = fold_prefix(name);
     if !is_floor(slots, order, folder, prefix, name, place, steps) {
         return false;
     }
@@ -106,6 +106,7 @@ pub fn new_place<L: Ledger>(
     slots: &NodeTable,
     order: &Order,
     folder: u32,
+    prefix: u64,
     name: &str,
     near: Place,
     steps: &mut Steps<L>,
@@ -114,15 +115,16 @@ pub fn new_place<L: Ledger>(
     requires order { IsOrder (rows_of slots.now.slots) (entries_of order.now.runs) }
     requires entries { AreOwn (rows_of slots.now.slots) order.now }
     requires few { length (entries_of order.now.runs) < most_nodes }
+    requires prefix { prefix ≡ prefix_of name.now }
     ensures gap { IsGap order.now.runs result }
     ensures place { IsPlace (rows_of slots.now.slots) (entries_of order.now.runs) folder name.now (index_of order.now.runs result) }
     ensures looks { steps.new ≤ steps.old + 23 }
 {
-    if is_place(slots, order, folder, name, near, steps) {
+    if is_place(slots, order, folder, prefix, name, near, steps) {
         return near;
     }
     // Other places may have moved since.
-    match search(slots, order, folder, name, steps) {
+    match place_of(slots, order, u64::from(folder), prefix, name, steps) {
         Ok(place) | Err(place) => place,
     }
 }

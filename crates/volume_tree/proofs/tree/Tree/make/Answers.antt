@@ -74,7 +74,7 @@ invariant_of-self g c =
     let fits = may.names in
     let count = h.kept.count_is in
     let used = h.kept.used_is in
-    let entered : c.at-entry.result ≡ entry_of row = c.at-entry.ensures in
+    let entered : record { prefix = c.fold_prefix-prefix.result; parent = c.args.folder; node = n } ≡ entry_of row = ap (λ (p : ℕ). record { prefix = p; parent = c.args.folder; node = n }) c.fold_prefix-prefix.ensures in
     let held = held_made i.size i.count i.used i.holes i.slots i.order c.insert.new.self row at h c.next_number-number.ensures
     (own_new n c.args.folder name new.folder new.length new.owner new.moment c.requires.name c.requires.length c.requires.owner c.requires.moment)
     (ap (λ (v : Volume). is_folder v.nodes c.args.folder) c.self.view_is ∙ c.requires.folder) may.alone (omega (arith, most, count)) (omega (arith, fits, used)) c.new_place-place.ensures.place
