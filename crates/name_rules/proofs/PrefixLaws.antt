@@ -27,7 +27,7 @@ digits_more c n l =
     let most = mul-le-mul_right {m = c + 1} {n = 255} (256 ^ n) (omega arith) in
     omega (arith, most, one_more c (256 ^ n))
 
-some_digits : (n : ℕ) → 0 < 256 ^ n
+pub some_digits : (n : ℕ) → 0 < 256 ^ n
 some_digits zero = omega arith
 some_digits (suc n) = omega (arith, some_digits n, pow-suc 256 n)
 
@@ -119,6 +119,14 @@ digits_fit number place low most = let l = pow-le-pow_right {n = 256} (omega ari
 -- after the last one
 pub past_end : (text : List ℕ) (place : ℕ) → length text ≤ place → folded (drop place text) ≡ []
 past_end text place past = ap (map simple_fold) (ap chars (drop_all place text past) ∙ chars-nil)
+
+-- so nothing is left of a name after as many of its bytes as there are, or eight
+pub nothing_left : (text : List ℕ) (place : ℕ) → min (length text) 8 ≤ place → number_of (8 - place) (folded (drop place text)) ≡ 0
+nothing_left text place l =
+    elim (cases_lt place (length text)) [
+      | inl more ↦ let none : 8 - place ≡ 0 = omega (arith, l, more) in ap (λ n. number_of n (folded (drop place text))) none
+      | inr past ↦ ap (number_of (8 - place)) (past_end text place past) ∙ number_none (8 - place)
+    ]
 
 -- a character of ASCII
 ascii_digit : (c n : ℕ) (cs : List ℕ) → c < 128 → number_of (suc n) (simple_fold c ∷ cs) ≡ to_ascii_lowercase c * 256 ^ n + number_of n cs

@@ -1,6 +1,6 @@
 //! The first characters of names as numbers, by which most names are told apart without being read.
 
-ghost use Rattle.std.specs.Prelude.{◌≡◌, ◌≤◌, nat_lt, min, if◌then◌else◌, drop, slice_index};
+ghost use Rattle.std.specs.Prelude.{◌≡◌, ◌-◌, ◌*◌, ◌^◌, ◌<◌, ◌≤◌, nat_lt, min, if◌then◌else◌, drop, slice_index};
 ghost use Rattle.std.specs.Str.{IsUtf8};
 ghost use Rattle.std.specs.Str.Iter.{chars_rest};
 ghost use Rattle.fsrm_model.specs.Name.{folded};
@@ -9,6 +9,17 @@ ghost use Rattle.name_rules.specs.Prefix.{prefix};
 use std::str::Chars;
 use unicode::case::simple_fold;
 
+// The bytes of ASCII, each in lower case.
+static LOWER: [u8; 128] = *b"\
+    \x00\x01\x02\x03\x04\x05\x06\x07\x08\x09\x0a\x0b\x0c\x0d\x0e\x0f\
+    \x10\x11\x12\x13\x14\x15\x16\x17\x18\x19\x1a\x1b\x1c\x1d\x1e\x1f\
+    \x20!\"#$%&'()*+,-./\
+    0123456789:;<=>?\
+    @abcdefghijklmno\
+    pqrstuvwxyz[\\]^_\
+    `abcdefghijklmno\
+    pqrstuvwxyz{|}~\x7f";
+
 /// The first eight characters of a name, folded, as a number: each is a digit of base 256, and after the last one all
 /// digits are 0; but from the first character on that is 255 or more all are 255. So two names whose numbers differ are
 /// in the order of these.
@@ -16,26 +27,29 @@ pub fn fold_prefix(name: &str) -> u64
     ensures { result ≡ prefix name.now }
 {
     let bytes = name.as_bytes();
+    let count = bytes.len().min(8);
     let mut number = 0;
-    for place in 0..8 {
-        let byte = byte_at(bytes, place);
+    for place in 0..count {
+        let byte = bytes[place];
         if !byte.is_ascii() {
             return prefix_of_characters(name);
         }
-        number = number * 256 + u64::from(byte.to_ascii_lowercase());
+        number = number * 256 + u64::from(LOWER[byte as usize]);
     }
-    number
+    with_zeros(number, 8 - count)
 }
 
-// The byte at a place, or 0 after the last one.
+// A number with so many digits of 0 behind it.
 #[inline]
-fn byte_at(bytes: &[u8], place: usize) -> u8
-    ensures { result ≡ slice_index bytes.now place }
+fn with_zeros(number: u64, zeros: usize) -> u64
+    requires few { zeros ≤ 8 }
+    requires small { number < 256 ^ (8 - zeros) }
+    ensures { result ≡ number * 256 ^ zeros }
 {
-    match bytes.get(place) {
-        Some(byte) => *byte,
-        None => 0,
+    if zeros == 8 {
+        return 0;
     }
+    number << (8 * zeros)
 }
 
 // The same, whatever the characters are.
