@@ -16,19 +16,16 @@ use block_list::Place;
 use fsrm_model::{Ledger, Steps};
 use name_rules::fold_prefix;
 use node_table::{NodeTable, NodeView};
+use std::hint::select_unpredictable;
 
-/// How many of the entries among which a place is sought are passed after a look at the middle one, and how many are
-/// left: those after it if it stands before the place, else those before it. Nobody can foresee which, so it is
-/// computed without a branch.
+// How many of the entries among which a place is sought are passed after a look at the middle one: that one and those
+// before it, if it stands before the place, else none. Half of the entries are left in both cases, so that only the
+// place of the next look waits for this one.
 #[inline]
-pub fn halved(size: usize, before: bool) -> (usize, usize)
-    requires { 0 < size }
-    ensures passed { result.0 ≡ (if before then size / 2 + 1 else 0) }
-    ensures left { result.1 ≡ (if before then size - size / 2 - 1 else size / 2) }
+fn passed(size: usize, before: bool) -> usize
+    ensures { result ≡ (if before then size - size / 2 else 0) }
 {
-    let half = size / 2;
-    let after = usize::from(before);
-    (after * (half + 1), half - after * (2 * half + 1 - size))
+    select_unpredictable(before, size - size / 2, 0)
 }
 
 // The run that begins with the node of a name in a folder, or as an `Err` how many runs begin before the place of
@@ -58,13 +55,12 @@ fn runs_before<L: Ledger>(
     let mut low = 0;
     let mut size = order.run_count();
     while size > 0 {
-        let middle = low + size / 2;
+        let middle = low + (size - 1) / 2;
         let Some(before) = is_before(slots, order.first(middle), folder, prefix, name, steps) else {
             return Ok(middle);
         };
-        let (passed, left) = halved(size, before);
-        low += passed;
-        size = left;
+        low += passed(size, before);
+        size /= 2;
     }
     Err(low)
 }
@@ -100,13 +96,12 @@ fn offset_of<L: Ledger>(
     let mut low = 1;
     let mut size = entries.len() - 1;
     while size > 0 {
-        let middle = low + size / 2;
+        let middle = low + (size - 1) / 2;
         let Some(before) = is_before(slots, entries[middle], folder, prefix, name, steps) else {
             return Ok(middle);
         };
-        let (passed, left) = halved(size, before);
-        low += passed;
-        size = left;
+        low += passed(size, before);
+        size /= 2;
     }
     Err(low)
 }

@@ -1,6 +1,6 @@
 //! Where in the order a folder's children stand.
 
-ghost use Rattle.std.specs.Prelude.{◌≡◌, ℕ, ◌+◌, ◌-◌, ◌<◌, ◌≤◌, true, length};
+ghost use Rattle.std.specs.Prelude.{◌≡◌, ℕ, ◌+◌, ◌-◌, ◌/◌, ◌<◌, ◌≤◌, if◌then◌else◌, true, length};
 ghost use Rattle.fsrm_model.specs.Limits.{most_nodes};
 ghost use Rattle.block_list.specs.Places.{IsGap, index_of};
 ghost use Rattle.block_list.specs.Runs.{entries_of, start_of};
@@ -9,7 +9,7 @@ ghost use Rattle.volume_tree.specs.Entries.{IsFirst, IsLower, IsNotLower};
 use crate::children::entry_from;
 use crate::entries::Order;
 use crate::gallop::{halve, lower_end};
-use crate::order::{entry_at, halved};
+use crate::order::entry_at;
 use block_list::Place;
 
 // Whether what stands in front of a place is known to be of lower folders than this one: at a place in a run, not at
@@ -69,6 +69,20 @@ fn pass_lower(order: &Order, folder: u64, place: Place) -> Place
         run: place.run,
         offset,
     }
+}
+
+// How many of the runs among which a place is sought are passed after a look at the middle one, and how many are left:
+// those after it if it begins before the place, else those before it. Nobody can foresee which, so it is computed
+// without a branch.
+#[inline]
+fn halved(size: usize, before: bool) -> (usize, usize)
+    requires { 0 < size }
+    ensures passed { result.0 ≡ (if before then size / 2 + 1 else 0) }
+    ensures left { result.1 ≡ (if before then size - size / 2 - 1 else size / 2) }
+{
+    let half = size / 2;
+    let after = usize::from(before);
+    (after * (half + 1), half - after * (2 * half + 1 - size))
 }
 
 // How many runs, from the first one on, begin with an entry of a lower folder than this one.

@@ -1,7 +1,6 @@
 -- A search in the order that halves.
 use Rattle.std.proofs.Common.{◌≡◌, ℕ, zero, suc, ◌+◌, ◌-◌, ◌/◌, ◌^◌, ◌<◌, ◌≤◌, ◌==◌, ◌&&◌, ◌||◌, nat_lt, Bool, true, false, List, [], length, refl, sym, ◌∙◌, ap, subst, arith, pow-suc}
 use Rattle.std.proofs.lemmas.Bool.Decides.{nat_tests}
-use Rattle.std.specs.Prelude.{if◌then◌else◌}
 use Rattle.fsrm_model.specs.declared.row.NodeRow.{NodeRow}
 use Rattle.fsrm_model.specs.Fresh.{root_node}
 use Rattle.volume_tree.specs.Kept.{IsOrder, is_before}
@@ -38,9 +37,8 @@ few_more most size more looks h s m =
     let e : most - looks - 1 ≡ most - (looks + 1) = omega arith in
     record { few = omega (arith, less.0); left = subst (λ n. more < 2 ^ n) e less.1 }
 
-pub few_halved : (most size looks left : ℕ) (before : Bool) → IsFew most size looks → 0 < size → left ≡ (if before then size - size / 2 - 1 else size / 2) → IsFew most left (looks + 1)
-few_halved most size looks left true h s e = few_more most size left looks h s (omega (arith, e))
-few_halved most size looks left false h s e = few_more most size left looks h s (omega (arith, e))
+pub few_halved : (most size looks : ℕ) → IsFew most size looks → 0 < size → IsFew most (size / 2) (looks + 1)
+few_halved most size looks h s = few_more most size (size / 2) looks h s (omega arith)
 
 -- and where something is left there may be one more
 pub few_one : (most size looks : ℕ) → IsFew most size looks → 0 < size → looks + 1 ≤ most

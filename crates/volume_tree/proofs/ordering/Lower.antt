@@ -1,7 +1,6 @@
 -- Where the entries of lower folders end.
-use Rattle.std.proofs.Common.{◌≡◌, ℕ, ◌+◌, ◌-◌, ◌/◌, ◌<◌, ◌≤◌, nat_lt, Bool, true, false, Contains, inl, inr, List, [], length, slice_get, Some, None, sym, ◌∙◌, subst, arith}
+use Rattle.std.proofs.Common.{◌≡◌, ℕ, ◌+◌, ◌-◌, ◌<◌, ◌≤◌, true, inl, inr, List, [], length, slice_get, Some, None, sym, ◌∙◌, subst, arith}
 use Rattle.std.proofs.lemmas.Bool.{cases_lt}
-use Rattle.std.proofs.lemmas.Bool.Decides.{nat_tests}
 use Rattle.std.proofs.lemmas.List.Elements.{All-contains}
 use Rattle.std.proofs.lemmas.Option.{slice_get-get_or}
 use Rattle.fsrm_model.specs.declared.row.NodeRow.{NodeRow}
@@ -10,9 +9,7 @@ use Rattle.fsrm_model.specs.Tree.{number}
 use Rattle.block_list.specs.Runs.{entries_of, start_of}
 use Rattle.volume_tree.specs.Entries.{AreOwn, IsFirst, IsLower, IsNotLower, IsOwn, Sequence}
 use Rattle.volume_tree.specs.Kept.{IsFloor, IsOrder, IsPlace}
-use Rattle.volume_tree.specs.declared.entries.Entry.{Entry}
 use Rattle.volume_tree.proofs.ordering.Halving.{lower_before, upper_stays}
-use Rattle.volume_tree.proofs.ordering.Narrowed.{Leaves, Passes}
 use Rattle.volume_tree.proofs.ordering.Spans.{floor_first, floor_past, place_none, place_some}
 
 -- after an entry of a lower folder there is a floor

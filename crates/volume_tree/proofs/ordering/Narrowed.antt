@@ -7,18 +7,11 @@ use Rattle.fsrm_model.specs.Tree.{number, node_of}
 use Rattle.block_list.specs.Runs.{entries_of, start_of}
 use Rattle.volume_tree.specs.Kept.{IsBeyond, IsFloor, IsOrder, is_before, is_named}
 use Rattle.volume_tree.proofs.ordering.Halving.{IsFew, few_halved}
-use Rattle.volume_tree.proofs.ordering.Runs.{run_past}
-use Rattle.volume_tree.proofs.ordering.Spans.{beyond_here, floor_past}
+use Rattle.volume_tree.proofs.ordering.Runs.{run_past, starts_rise}
+use Rattle.volume_tree.proofs.ordering.Spans.{beyond_after, beyond_here, floor_past}
 
 abbrev pub Passes : Bool → ℕ → ℕ → Type 0
-Passes before size passed = passed ≡ (if before then size / 2 + 1 else 0)
-
-abbrev pub Leaves : Bool → ℕ → ℕ → Type 0
-Leaves before size left = left ≡ (if before then size - size / 2 - 1 else size / 2)
-
-pub fewer : (before : Bool) (size left : ℕ) → 0 < size → Leaves before size left → left < size
-fewer true size left s l = omega (arith, l)
-fewer false size left s l = omega (arith, l)
+Passes before size passed = passed ≡ (if before then size - size / 2 else 0)
 
 -- so many runs from one on, in front of which the runs begin before the name's place, and behind which no entry does
 pub record AreRunsLeft (nodes : List NodeRow) (runs : List (List ℕ)) (folder : ℕ) (name : List ℕ) (begun low size looks : ℕ) : Type 0 where
@@ -29,25 +22,30 @@ pub record AreRunsLeft (nodes : List NodeRow) (runs : List (List ℕ)) (folder :
   pub least : begun ≤ looks
   pub some : size < length runs → begun + 1 ≤ looks
 
-pub runs_left : (nodes : List NodeRow) (runs : List (List ℕ)) (folder : ℕ) (name : List ℕ) (begun low size looks passed left n : ℕ) (before : Bool) (row : NodeRow) → is_ascending number nodes ≡ true → IsOrder nodes (entries_of runs) → AreRunsLeft nodes runs folder name begun low size looks → 0 < size → slice_get (entries_of runs) (start_of runs (low + size / 2)) ≡ Some n → node_of nodes n ≡ Some row → before ≡ is_before row folder name → is_named row folder name ≡ false → Passes before size passed → Leaves before size left → AreRunsLeft nodes runs folder name begun (low + passed) left (looks + 1)
-runs_left nodes runs folder name begun low size looks passed left n true row a o h s at found t u p l =
-    let same : low + size ≡ low + passed + left = omega (arith, p, l, s) in
+pub runs_left : (nodes : List NodeRow) (runs : List (List ℕ)) (folder : ℕ) (name : List ℕ) (begun low size looks passed n : ℕ) (before : Bool) (row : NodeRow) → is_ascending number nodes ≡ true → IsOrder nodes (entries_of runs) → AreRunsLeft nodes runs folder name begun low size looks → 0 < size → slice_get (entries_of runs) (start_of runs (low + (size - 1) / 2)) ≡ Some n → node_of nodes n ≡ Some row → before ≡ is_before row folder name → is_named row folder name ≡ false → Passes before size passed → AreRunsLeft nodes runs folder name begun (low + passed) (size / 2) (looks + 1)
+runs_left nodes runs folder name begun low size looks passed n true row a o h s at found t u p =
+    let same : low + size ≡ low + passed + size / 2 = omega (arith, p) in
     record {
       within = omega (arith, same, h.within);
-      floor = λ run e. run_past nodes runs folder name (low + size / 2) n row a o at found (sym t) run (omega (arith, e, p));
+      floor = λ run e. run_past nodes runs folder name (low + (size - 1) / 2) n row a o at found (sym t) run (omega (arith, e, p, s));
       beyond = subst (λ k. IsBeyond nodes (entries_of runs) folder name (start_of runs k)) same h.beyond;
-      few = few_halved (begun + 14) size looks left true h.few s l;
+      few = few_halved (begun + 14) size looks h.few s;
       least = omega (arith, h.least);
       some = λ _. omega (arith, h.least);
     }
-runs_left nodes runs folder name begun low size looks passed left n false row a o h s at found t u p l =
-    let same : low + size / 2 ≡ low + passed + left = omega (arith, p, l) in
+runs_left nodes runs folder name begun low size looks passed n false row a o h s at found t u p =
+    let same : low + size / 2 ≡ low + passed + size / 2 = omega (arith, p) in
+    let middle = low + (size - 1) / 2 in
+    let next = starts_rise runs middle (low + size / 2) (omega (arith, s)) in
+    let end = starts_rise runs (low + size / 2) (low + size) (omega arith) in
+    let whole = h.beyond.within in
     record {
       within = omega (arith, same, h.within, s);
       floor = λ run e. h.floor run (omega (arith, e, p));
       beyond = subst (λ k. IsBeyond nodes (entries_of runs) folder name (start_of runs k)) same
-          (beyond_here nodes (entries_of runs) folder name (start_of runs (low + size / 2)) n row o a at found (sym t) u);
-      few = few_halved (begun + 14) size looks left false h.few s l;
+          (beyond_after nodes (entries_of runs) folder name (start_of runs middle) (start_of runs (low + size / 2)) next (omega (arith, end, whole))
+          (beyond_here nodes (entries_of runs) folder name (start_of runs middle) n row o a at found (sym t) u));
+      few = few_halved (begun + 14) size looks h.few s;
       least = omega (arith, h.least);
       some = λ _. omega (arith, h.least);
     }
@@ -60,24 +58,27 @@ pub record AreEntriesLeft (nodes : List NodeRow) (order : List ℕ) (folder : �
   pub few : IsFew (begun + 7) size looks
   pub least : begun ≤ looks
 
-pub entries_left : (nodes : List NodeRow) (order : List ℕ) (folder : ℕ) (name : List ℕ) (start count begun low size looks passed left n : ℕ) (before : Bool) (row : NodeRow) → is_ascending number nodes ≡ true → IsOrder nodes order → AreEntriesLeft nodes order folder name start count begun low size looks → 0 < size → slice_get order (start + (low + size / 2)) ≡ Some n → node_of nodes n ≡ Some row → before ≡ is_before row folder name → is_named row folder name ≡ false → Passes before size passed → Leaves before size left → AreEntriesLeft nodes order folder name start count begun (low + passed) left (looks + 1)
-entries_left nodes order folder name start count begun low size looks passed left n true row a o h s at found t u p l =
-    let same : low + size ≡ low + passed + left = omega (arith, p, l, s) in
-    let next : start + (low + size / 2) + 1 ≡ start + (low + passed) = omega (arith, p) in
+pub entries_left : (nodes : List NodeRow) (order : List ℕ) (folder : ℕ) (name : List ℕ) (start count begun low size looks passed n : ℕ) (before : Bool) (row : NodeRow) → is_ascending number nodes ≡ true → IsOrder nodes order → AreEntriesLeft nodes order folder name start count begun low size looks → 0 < size → slice_get order (start + (low + (size - 1) / 2)) ≡ Some n → node_of nodes n ≡ Some row → before ≡ is_before row folder name → is_named row folder name ≡ false → Passes before size passed → AreEntriesLeft nodes order folder name start count begun (low + passed) (size / 2) (looks + 1)
+entries_left nodes order folder name start count begun low size looks passed n true row a o h s at found t u p =
+    let same : low + size ≡ low + passed + size / 2 = omega (arith, p) in
+    let next : start + (low + (size - 1) / 2) + 1 ≡ start + (low + passed) = omega (arith, p, s) in
     record {
       within = omega (arith, same, h.within);
-      floor = subst (IsFloor nodes order folder name) next (floor_past nodes order folder name (start + (low + size / 2)) n row o a at found (sym t));
+      floor = subst (IsFloor nodes order folder name) next (floor_past nodes order folder name (start + (low + (size - 1) / 2)) n row o a at found (sym t));
       beyond = subst (λ k. IsBeyond nodes order folder name (start + k)) same h.beyond;
-      few = few_halved (begun + 7) size looks left true h.few s l;
+      few = few_halved (begun + 7) size looks h.few s;
       least = omega (arith, h.least);
     }
-entries_left nodes order folder name start count begun low size looks passed left n false row a o h s at found t u p l =
-    let same : low + size / 2 ≡ low + passed + left = omega (arith, p, l) in
+entries_left nodes order folder name start count begun low size looks passed n false row a o h s at found t u p =
+    let same : low + size / 2 ≡ low + passed + size / 2 = omega (arith, p) in
     let stays : low ≡ low + passed = omega (arith, p) in
+    let middle = start + (low + (size - 1) / 2) in
+    let whole = h.beyond.within in
     record {
       within = omega (arith, same, h.within, s);
       floor = subst (λ k. IsFloor nodes order folder name (start + k)) stays h.floor;
-      beyond = subst (λ k. IsBeyond nodes order folder name (start + k)) same (beyond_here nodes order folder name (start + (low + size / 2)) n row o a at found (sym t) u);
-      few = few_halved (begun + 7) size looks left false h.few s l;
+      beyond = subst (λ k. IsBeyond nodes order folder name (start + k)) same
+          (beyond_after nodes order folder name middle (start + (low + size / 2)) (omega (arith, s)) (omega (arith, whole)) (beyond_here nodes order folder name middle n row o a at found (sym t) u));
+      few = few_halved (begun + 7) size looks h.few s;
       least = omega (arith, h.least);
     }

@@ -83,6 +83,10 @@ later_apart nodes order folder name h i j l m t =
     let before : is_before x folder y.name ≡ true = subst (λ (d : ℕ). is_before x d y.name ≡ true) p.0 (h.ascending i j root_node l m) in
     clash _ (sym (comes_as x.parent x.name folder y.name name p.1) ∙ before) t)
 
+-- nor does anything from a later place on
+pub beyond_after : (nodes : List NodeRow) (order : List ℕ) (folder : ℕ) (name : List ℕ) (k j : ℕ) → k ≤ j → j ≤ length order → IsBeyond nodes order folder name k → IsBeyond nodes order folder name j
+beyond_after nodes order folder name k j l m b = record { within = m; after = λ i n row p. b.after i n row (omega arith); other = λ i n row p. b.other i n row (omega arith) }
+
 pub beyond_here : (nodes : List NodeRow) (order : List ℕ) (folder : ℕ) (name : List ℕ) (k n : ℕ) (row : NodeRow) (h : IsOrder nodes order) → is_ascending number nodes ≡ true → slice_get order k ≡ Some n → node_of nodes n ≡ Some row → is_before row folder name ≡ false → is_named row folder name ≡ false → IsBeyond nodes order folder name k
 beyond_here nodes order folder name k n row h a e f t u =
     let r = read nodes order k n row h a e f in

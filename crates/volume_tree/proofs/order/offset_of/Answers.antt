@@ -29,30 +29,30 @@ loop-size-init g c =
 
 pub is_before-requires-clause-entry : goal.is_before-requires-clause-entry
 is_before-requires-clause-entry g c =
-    let middle = c.loop-size.low + c.loop-size.size / 2 in
+    let middle = c.loop-size.low + (c.loop-size.size - 1) / 2 in
     All-contains (IsOwn (rows_of c.args.slots.now.slots)) c.args.order.now.entries (get_or c.run-entries.result.now middle none) c.requires.entries.each
     (c.run-entries.ensures.listed middle none (omega (arith, c.loop-size.invariant.within, c.loop-size-test.true)))
 
 pub loop-size-preserved : goal.loop-size-preserved
 loop-size-preserved g c =
     let runs = c.args.order.now.runs in
-    let middle = c.loop-size.low + c.loop-size.size / 2 in
+    let middle = c.loop-size.low + (c.loop-size.size - 1) / 2 in
     let at = c.run-entries.ensures.numbers middle none (omega (arith, c.loop-size.invariant.within, c.loop-size-test.true)) in
     let stands = c.in-Some.ensures.stands in
-    subst (AreEntriesLeft (rows_of c.args.slots.now.slots) (entries_of runs) c.args.folder c.args.name.now (start_of runs c.args.run) (length c.run-entries.result.now) c.args.steps.now (c.loop-size.low + c.halved-passed.result.0) c.halved-passed.result.1) (sym c.in-Some.ensures.count)
-    (entries_left (rows_of c.args.slots.now.slots) (entries_of runs) c.args.folder c.args.name.now (start_of runs c.args.run) (length c.run-entries.result.now) c.args.steps.now c.loop-size.low c.loop-size.size c.loop-size.steps c.halved-passed.result.0 c.halved-passed.result.1 (get_or c.run-entries.result.now middle none).node c.in-Some.before stands.row
-    (slots_ascend c.args.slots.now.slots c.requires.slots) c.requires.order c.loop-size.invariant c.loop-size-test.true at stands.found stands.before_is stands.other c.halved-passed.ensures.passed c.halved-passed.ensures.left)
+    subst (AreEntriesLeft (rows_of c.args.slots.now.slots) (entries_of runs) c.args.folder c.args.name.now (start_of runs c.args.run) (length c.run-entries.result.now) c.args.steps.now (c.loop-size.low + c.passed-low.result) (c.loop-size.size / 2)) (sym c.in-Some.ensures.count)
+    (entries_left (rows_of c.args.slots.now.slots) (entries_of runs) c.args.folder c.args.name.now (start_of runs c.args.run) (length c.run-entries.result.now) c.args.steps.now c.loop-size.low c.loop-size.size c.loop-size.steps c.passed-low.result (get_or c.run-entries.result.now middle none).node c.in-Some.before stands.row
+    (slots_ascend c.args.slots.now.slots c.requires.slots) c.requires.order c.loop-size.invariant c.loop-size-test.true at stands.found stands.before_is stands.other c.passed-low.ensures)
 
 pub returns-in_default-clause-named : goal.returns-in_default-clause-named
 returns-in_default-clause-named g c =
-    let middle = c.loop-size.low + c.loop-size.size / 2 in
+    let middle = c.loop-size.low + (c.loop-size.size - 1) / 2 in
     let at = c.run-entries.ensures.numbers middle none (omega (arith, c.loop-size.invariant.within, c.loop-size-test.true)) in
     let stands = c.in_default.ensures.stands in
     record { number = (get_or c.run-entries.result.now middle none).node; row = stands.row; at = at; found = stands.found; named = stands.named }
 
 pub returns-in_default-clause-taken : goal.returns-in_default-clause-taken
 returns-in_default-clause-taken g c =
-    named_place (rows_of c.args.slots.now.slots) (entries_of c.args.order.now.runs) c.args.folder c.args.name.now (start_of c.args.order.now.runs c.args.run + (c.loop-size.low + c.loop-size.size / 2)) c.requires.order (slots_ascend c.args.slots.now.slots c.requires.slots)
+    named_place (rows_of c.args.slots.now.slots) (entries_of c.args.order.now.runs) c.args.folder c.args.name.now (start_of c.args.order.now.runs c.args.run + (c.loop-size.low + (c.loop-size.size - 1) / 2)) c.requires.order (slots_ascend c.args.slots.now.slots c.requires.slots)
     (returns-in_default-clause-named g c)
 
 pub returns-clause-beyond : goal.returns-clause-beyond

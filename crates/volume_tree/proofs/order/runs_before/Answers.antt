@@ -1,4 +1,4 @@
-use Rattle.std.proofs.Common.{◌≡◌, ◌+◌, ◌/◌, sym, subst, arith}
+use Rattle.std.proofs.Common.{◌≡◌, ◌+◌, ◌-◌, ◌/◌, sym, subst, arith}
 use Rattle.block_list.specs.Runs.{entries_of, start_of}
 use Rattle.volume_tree.specs.Kept.{IsBeyond, rows_of}
 use Rattle.volume_tree.proofs.ordering.Narrowed.{AreRunsLeft, runs_left}
@@ -9,14 +9,14 @@ use Rattle.volume_tree.proofs.order.runs_before.Goals as goal
 pub loop-size-preserved : goal.loop-size-preserved
 loop-size-preserved g c =
     let stands = c.in-Some.ensures.stands in
-    subst (AreRunsLeft (rows_of c.args.slots.now.slots) c.args.order.now.runs c.args.folder c.args.name.now c.args.steps.now (c.loop-size.low + c.halved-passed.result.0) c.halved-passed.result.1) (sym c.in-Some.ensures.count)
-    (runs_left (rows_of c.args.slots.now.slots) c.args.order.now.runs c.args.folder c.args.name.now c.args.steps.now c.loop-size.low c.loop-size.size c.loop-size.steps c.halved-passed.result.0 c.halved-passed.result.1 c.first.result.node c.in-Some.before stands.row
-    (slots_ascend c.args.slots.now.slots c.requires.slots) c.requires.order c.loop-size.invariant c.loop-size-test.true c.first.ensures.number stands.found stands.before_is stands.other c.halved-passed.ensures.passed c.halved-passed.ensures.left)
+    subst (AreRunsLeft (rows_of c.args.slots.now.slots) c.args.order.now.runs c.args.folder c.args.name.now c.args.steps.now (c.loop-size.low + c.passed-low.result) (c.loop-size.size / 2)) (sym c.in-Some.ensures.count)
+    (runs_left (rows_of c.args.slots.now.slots) c.args.order.now.runs c.args.folder c.args.name.now c.args.steps.now c.loop-size.low c.loop-size.size c.loop-size.steps c.passed-low.result c.first.result.node c.in-Some.before stands.row
+    (slots_ascend c.args.slots.now.slots c.requires.slots) c.requires.order c.loop-size.invariant c.loop-size-test.true c.first.ensures.number stands.found stands.before_is stands.other c.passed-low.ensures)
 
 pub returns-in_default-clause-taken : goal.returns-in_default-clause-taken
 returns-in_default-clause-taken g c =
     let stands = c.in_default.ensures.stands in
-    named_place (rows_of c.args.slots.now.slots) (entries_of c.args.order.now.runs) c.args.folder c.args.name.now (start_of c.args.order.now.runs (c.loop-size.low + c.loop-size.size / 2)) c.requires.order (slots_ascend c.args.slots.now.slots c.requires.slots)
+    named_place (rows_of c.args.slots.now.slots) (entries_of c.args.order.now.runs) c.args.folder c.args.name.now (start_of c.args.order.now.runs (c.loop-size.low + (c.loop-size.size - 1) / 2)) c.requires.order (slots_ascend c.args.slots.now.slots c.requires.slots)
     (record { number = c.first.result.node; row = stands.row; at = c.first.ensures.number; found = stands.found; named = stands.named })
 
 pub returns-clause-beyond : goal.returns-clause-beyond
