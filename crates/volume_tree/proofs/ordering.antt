@@ -6,6 +6,7 @@ pub mod EntryRows
 pub mod EntryRuns
 pub mod Halving
 pub mod Items
+pub mod Keys
 pub mod Lower
 pub mod Names
 pub mod Narrowed

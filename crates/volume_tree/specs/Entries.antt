@@ -1,5 +1,5 @@
 -- The entries of nodes in the order of their places.
-use Rattle.std.specs.Prelude.{◌≡◌, ℕ, ◌-◌, ◌<◌, ◌≤◌, List, All, Contains, Some, length, map, slice_get}
+use Rattle.std.specs.Prelude.{◌≡◌, ℕ, ◌+◌, ◌-◌, ◌*◌, ◌^◌, ◌<◌, ◌≤◌, List, All, Contains, Some, length, map, slice_get}
 use Rattle.std.specs.List.{slice_index_or}
 use Rattle.fsrm_model.specs.declared.row.NodeRow.{NodeRow}
 use Rattle.fsrm_model.specs.Tree.{node_of}
@@ -24,6 +24,10 @@ pub record Sequence : Type 0 where
 -- the entry of a row: its number, and what tells in most cases where it stands in the order
 abbrev pub entry_of : NodeRow → Entry
 entry_of row = record { prefix = prefix row.name; parent = row.parent; node = row.number }
+
+-- a folder and the prefix of a name in it as one number: the order of these is by folders, and in each by prefixes
+abbrev pub place_key : ℕ → ℕ → ℕ
+place_key folder front = folder * 2 ^ 64 + front
 
 -- an entry is that of its node's row
 pub record IsOwn (nodes : List NodeRow) (entry : Entry) : Type 0 where

@@ -2,7 +2,7 @@
 
 ghost use Rattle.std.specs.Prelude.{◌≡◌, ◌+◌};
 ghost use Rattle.name_rules.specs.Prefix.{prefix as prefix_of};
-ghost use Rattle.volume_tree.specs.Entries.{IsOwn};
+ghost use Rattle.volume_tree.specs.Entries.{IsOwn, place_key};
 ghost use Rattle.volume_tree.specs.Kept.{AreSlots, Stands, rows_of};
 
 use crate::entries::Entry;
@@ -11,6 +11,14 @@ use fsrm_model::{Ledger, Steps};
 use name_rules::fold_cmp;
 use node_table::NodeTable;
 use std::cmp::Ordering;
+
+// A folder and the prefix of a name in it as one number, so that both are compared at once, without a branch.
+#[inline]
+fn place_key(folder: u64, prefix: u64) -> u128
+    ensures { result ≡ place_key folder prefix }
+{
+    u128::from(folder) * 0x1_0000_0000_0000_0000 + u128::from(prefix)
+}
 
 /// Whether an entry stands before the place of a name in a folder, not after it. None if it has the name. Its node's
 /// row is read only if the folder and the first characters are the same. It takes a look, whether or not it reads it.
@@ -30,12 +38,13 @@ pub fn is_before<L: Ledger>(
     ensures count { steps.new ≡ steps.old + 1 }
 {
     steps.tick();
-    let parent = u64::from(entry.parent);
-    if parent == folder && entry.prefix == prefix {
+    let ours = place_key(u64::from(entry.parent), entry.prefix);
+    let sought = place_key(folder, prefix);
+    if ours == sought {
         return match fold_cmp(name_at(slots, entry.node), name) {
             Ordering::Equal => None,
             order => Some(order.is_lt()),
         };
     }
-    Some(parent < folder || parent == folder && entry.prefix < prefix)
+    Some(ours < sought)
 }
