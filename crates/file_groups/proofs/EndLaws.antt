@@ -12,8 +12,8 @@ use Rattle.std.specs.Prelude.{bit_or}
 use Rattle.ucd_case.specs.CaseFolding.{simple_fold}
 use Rattle.fsrm_base.specs.Keyed.{row_of}
 use Rattle.fsrm_base.proofs.EditedTests.{list_any-with_row}
-use Rattle.fsrm_base.proofs.Look.{found_any}
-use Rattle.fsrm_base.proofs.TestLaws.{both, clash, eq_is, eq_test, is_apart, is_or, is_or_not, not_true, or_false}
+use Rattle.fsrm_base.proofs.Look.{found_lacks}
+use Rattle.fsrm_base.proofs.TestLaws.{both, clash, eq_is, eq_test, is_apart, is_or, is_or_not, or_false}
 use Rattle.fsrm_model.specs.declared.row.GroupRow.{GroupRow}
 use Rattle.fsrm_model.specs.Name.{folded}
 use Rattle.fsrm_model.specs.Patterns.{group_number, in_group, in_group_of, with_group}
@@ -70,13 +70,12 @@ with_covered ends bits row groups before its cs c is =
 pub group_covered : (ends : ℕ) (group : GroupRow) → Cover ends (λ name. list_any (pattern_matches_folded name) group.members) → Cover ends (in_group_folded group)
 group_covered ends group cover cs c is = cover cs c (both _ (not (list_any (pattern_matches_folded (cs ++ c ∷ [])) group.non_members)) is).0
 
--- ---- a name that ends otherwise is in no group
+-- ---- a name that is in none of the groups is in that of no number
 not_in : (text : List ℕ) (o : Option GroupRow) → ((group : GroupRow) → o ≡ Some group → in_group group text ≡ false) → option_map_or (λ (group : GroupRow). in_group group text) o false ≡ false
 not_in text None none = refl
 not_in text (Some group) none = none group refl
 
-pub in_none : (ends : ℕ) (groups : List GroupRow) (text cs : List ℕ) (c : ℕ) → Cover ends (in_some_group groups) → folded text ≡ cs ++ c ∷ [] → is_end ends c ≡ false → (number : ℕ) → in_group_of groups number text ≡ false
-in_none ends groups text cs c cover named other number =
+pub in_none : (groups : List GroupRow) (text : List ℕ) → in_some_group groups (folded text) ≡ false → (number : ℕ) → in_group_of groups number text ≡ false
+in_none groups text none number =
     not_in text (row_of group_number number groups)
-    (λ group found. not_true (in_group group text) (λ is.
-    clash (is_end ends c) (cover cs c (found_any group_number (λ (g : GroupRow). in_group_folded g (cs ++ c ∷ [])) number groups group found (ap (in_group_folded group) (sym named) ∙ (sym (group_folded group text) ∙ is)))) other))
+    (λ group found. group_folded group text ∙ found_lacks group_number (λ (g : GroupRow). in_group_folded g (folded text)) number groups group none found)

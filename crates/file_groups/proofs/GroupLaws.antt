@@ -83,6 +83,10 @@ read_found groups n p r at read =
     let is : r ≡ found.row = read ∙ get_or_from_slice_get groups p found.row r found.at in
     sym at.found ∙ (found.at ∙ ap Some (sym is))
 
+-- so is what it lends
+pub read_lent : (groups : List GroupRow) (p : ℕ) (lent r : GroupRow) → lent ≡ r → r ≡ get_or groups p r → lent ≡ get_or groups p lent
+read_lent groups p lent r is read = subst (λ (row : GroupRow). row ≡ get_or groups p row) (sym is) read
+
 -- whether a name is in it is told by the folded name
 pub found_in : (groups rows : List GroupRow) (n p : ℕ) (r : GroupRow) (text : List ℕ) → IsAt group_number n groups p → r ≡ get_or groups p r → groups ≡ rows → in_group_folded r (folded text) ≡ in_group_of rows n text
 found_in groups rows n p r text at read same =

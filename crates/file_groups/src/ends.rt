@@ -2,14 +2,14 @@
 //!
 //! The ends are bits, of which each stands for the characters of one number modulo 64.
 
-ghost use Rattle.std.specs.Prelude.{◌≡◌};
+ghost use Rattle.std.specs.Prelude.{◌≡◌, ℕ, Bool, List as Items, false};
 ghost use Rattle.std.specs.List.{list_any};
-ghost use Rattle.file_groups.specs.Ends.{Cover, in_some_group, is_end};
+ghost use Rattle.file_groups.specs.Ends.{Cover, is_end};
 ghost use Rattle.file_groups.specs.Folded.{pattern_matches_folded};
 
 use crate::folded::fold;
-use crate::matching::{last, meant};
-use fsrm_model::{GroupRow, List, Text};
+use crate::matching::{Rest, last, meant};
+use fsrm_model::{List, Text};
 
 /// Whether a character is one of the ends.
 #[inline]
@@ -19,15 +19,15 @@ pub fn is_end(ends: u64, character: char) -> bool
     ends >> (character as u32 % 64) & 1 == 1
 }
 
-/// The ends of the names that may be in some group.
-pub fn ends_of_groups(groups: &[GroupRow]) -> u64
-    ensures { Cover result (in_some_group groups.now) }
+/// Whether a name may pass a test, told by the ends of those that do. An empty name may.
+#[inline]
+pub fn may_end<N: Rest>(ends: u64, name: N) -> bool
+    ensures { result ≡ false → (test : Items ℕ → Bool) → Cover ends test → test (N.characters name) ≡ false }
 {
-    let mut ends = 0;
-    for group in groups {
-        ends |= ends_of(&group.members);
+    match name.last_folded() {
+        Some((last, _before)) => is_end(ends, last),
+        None => true,
     }
-    ends
 }
 
 /// The ends of the names that may match some pattern.

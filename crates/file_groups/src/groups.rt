@@ -8,12 +8,11 @@ ghost use Rattle.file_groups.specs.Faults.{IsFault, group_fault, new_fault, patt
 ghost use Rattle.file_groups.specs.Kept.{AreGroups, AreMembers, AreNonMembers, group_texts};
 
 use crate::answer::GroupFault;
-use crate::ends::{ends_of, ends_of_groups, is_end};
+use crate::ends::may_end;
 use crate::folded::FoldedName;
-use crate::matching::Rest;
+use crate::held::{ByNumber, HeldGroup};
 use crate::pattern::Pattern;
-use crate::rows;
-use crate::rows::ByNumber;
+use crate::{held, rows};
 use fsrm_base::places::{free_number, gap, search};
 use fsrm_model::limits::MOST_GROUPS;
 use fsrm_model::{GroupRow, List, NoMemory, Text};
@@ -25,7 +24,7 @@ use std::marker::Model;
 #[derive(Drop)]
 pub struct Groups {
     alloc: Global,
-    groups: Vec<GroupRow>,
+    groups: Vec<HeldGroup>,
     // The bytes of all names and patterns.
     texts: u32,
     // Each name that is in a group ends with one of these.
@@ -119,7 +118,7 @@ impl Groups {
         ensures refused { IfErr result (λ fault. new_fault self.now name.now (is_none left) ≡ Some fault) }
         ensures kept { AreGroups self.now }
     {
-        if rows::find(&self.groups, name).is_some() {
+        if held::find(&self.groups, name).is_some() {
             return Err(GroupFault::DuplicateName);
         }
         if self.groups.len() >= MOST_GROUPS {
@@ -142,8 +141,9 @@ impl Groups {
     {
         let place = gap::<ByNumber>(&self.groups, row.number);
         let bytes = rows::texts_of(&row);
-        let ends = ends_of(&row.members);
-        self.groups.insert(place, row)?;
+        let group = HeldGroup::new(row);
+        let ends = group.ends();
+        self.groups.insert(place, group)?;
         self.texts += bytes;
         self.ends |= ends;
         Ok(())
@@ -170,7 +170,7 @@ impl Groups {
         ensures kept { AreGroups self.new }
     {
         let place = search::<ByNumber>(&self.groups, group).unwrap();
-        let old = &self.groups[place];
+        let old = self.groups[place].row();
         let (members, non_members) = (members.as_ref(), non_members.as_ref());
         let replaced = rows::texts_of(old);
         let room = u64::from(room) + u64::from(replaced);
@@ -179,8 +179,8 @@ impl Groups {
         }
         let row = rows::regrouped(self.alloc, old, members, non_members)?;
         self.texts = self.texts - replaced + rows::texts_of(&row);
-        self.groups[place] = row;
-        self.ends = ends_of_groups(&self.groups);
+        self.groups[place] = HeldGroup::new(row);
+        self.ends = held::ends_of_groups(&self.groups);
         Ok(())
     }
 
@@ -191,9 +191,9 @@ impl Groups {
         ensures kept { AreGroups self.new }
     {
         let place = search::<ByNumber>(&self.groups, group).unwrap();
-        self.texts -= rows::texts_of(&self.groups[place]);
+        self.texts -= rows::texts_of(self.groups[place].row());
         self.groups.remove(place);
-        self.ends = ends_of_groups(&self.groups);
+        self.ends = held::ends_of_groups(&self.groups);
     }
 
     /// The number of the group of this name, in any spelling.
@@ -201,7 +201,7 @@ impl Groups {
         ensures found { result ≡ number_named name.now self.now }
         ensures there { IfSome result (λ number. has_row group_number number self.now ≡ true) }
     {
-        rows::find(&self.groups, name)
+        held::find(&self.groups, name)
     }
 
     /// Whether a name is in a group that is there: some member matches it, and no non-member does. It
@@ -211,7 +211,7 @@ impl Groups {
         ensures { result ≡ in_group_of self.now group name.now }
     {
         let place = search::<ByNumber>(&self.groups, group).unwrap();
-        rows::is_in(&self.groups[place], name)
+        self.groups[place].has(name)
     }
 
     /// Whether a name that was folded once is in a group that is there. It takes no memory.
@@ -220,7 +220,7 @@ impl Groups {
         ensures { (text : Items ℕ) → folded text ≡ name.now → result ≡ in_group_of self.now group text }
     {
         let place = search::<ByNumber>(&self.groups, group).unwrap();
-        rows::is_in(&self.groups[place], name.characters())
+        self.groups[place].has(name.characters())
     }
 
     /// Whether a name may be in some group, told by its last character alone. One that may not is in none. It takes no
@@ -228,10 +228,7 @@ impl Groups {
     pub fn may_have(&self, name: &str) -> bool
         ensures { result ≡ false → (number : ℕ) → in_group_of self.now number name.now ≡ false }
     {
-        match name.last_folded() {
-            Some((last, _before)) => is_end(self.ends, last),
-            None => true,
-        }
+        may_end(self.ends, name)
     }
 
     /// The bytes of all names and patterns.
@@ -253,7 +250,7 @@ impl Groups {
         requires { place < length self.now }
         ensures { slice_get self.now place ≡ Some result.now }
     {
-        &self.groups[place as usize]
+        self.groups[place as usize].row()
     }
 
     /// The group of a number that is there.
@@ -263,6 +260,6 @@ impl Groups {
         ensures valid { is_group result.now ≡ true }
     {
         let place = search::<ByNumber>(&self.groups, number).unwrap();
-        &self.groups[place]
+        self.groups[place].row()
     }
 }

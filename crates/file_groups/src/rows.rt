@@ -1,45 +1,18 @@
-//! Rows of groups: where they stand, what they take, and how they are made.
+//! Rows of groups: what is in them, what they take, and how they are made.
 
 ghost use Rattle.std.specs.Prelude.{◌≡◌, ◌+◌, ◌<◌, ◌^◌, true, length, IfOk, IfSome, MatchOption, unwrap_or};
 ghost use Rattle.std.specs.List.{list_all, list_any};
 ghost use Rattle.std.specs.Option.{option_copied};
-ghost use Rattle.fsrm_model.specs.Patterns.{is_group, is_pattern, number_named, regrouped};
+ghost use Rattle.fsrm_model.specs.Patterns.{is_group, is_pattern, regrouped};
 ghost use Rattle.fsrm_model.specs.Texts.{group_bytes, texts_bytes};
 ghost use Rattle.file_groups.specs.Folded.{in_group_folded, pattern_matches_folded};
 ghost use Rattle.file_groups.specs.Kept.{AreMembers, AreNonMembers};
 
 use crate::matching::{Rest, matches};
 use crate::pattern::Pattern;
-use fsrm_base::places::Key;
 use fsrm_base::room::{left_of_text, left_of_texts};
 use fsrm_model::{Duplicate, GroupRow, List, NoMemory, Text};
-use name_rules::same_name;
 use std::alloc::Global;
-
-/// Groups by their numbers.
-pub struct ByNumber;
-
-impl Key for ByNumber {
-    ghost use Rattle.fsrm_model.specs.Patterns.{group_number};
-
-    type Row = GroupRow;
-
-    ghost key = { group_number };
-
-    fn number(group: &GroupRow) -> u32 {
-        group.number
-    }
-}
-
-/// The number of the first group of a name, in any spelling.
-pub fn find(groups: &[GroupRow], name: &str) -> Option<u32>
-    ensures { result ≡ number_named name.now groups.now }
-{
-    groups
-        .iter()
-        .find(|group| same_name(group.name.as_str(), name))
-        .map(|group| group.number)
-}
 
 /// Whether a name is in a group.
 pub fn is_in<N: Rest>(group: &GroupRow, name: N) -> bool

@@ -18,7 +18,7 @@ invariant_of-self c =
     subst (λ (rows : List GroupRow). IsTable rows (c.self.inside.texts - c.texts_of.result) ends) (sym c.remove.ensures.items)
     (record {
       are = less_are groups c.args.group place c.self.invariant.are at;
-      texts_are = omega (arith, sum, c.texts_of.ensures, c.self.invariant.texts_are);
+      texts_are = omega (arith, sum, c.texts_of.ensures, ap group_bytes c.row.ensures, c.self.invariant.texts_are);
       ends_cover = subst (λ (rows : List GroupRow). Cover ends (in_some_group rows)) (c.deref-2.ensures.value ∙ c.remove.ensures.items) c.ends_of_groups-self-inside.ensures;
     })
 

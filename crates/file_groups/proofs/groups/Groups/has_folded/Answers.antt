@@ -9,6 +9,6 @@ returns c = λ text is.
     let place = c.unwrap-place.result in
     let row = c.index.result.now in
     let at = at_place c.deref.result.now groups c.args.group place c.search.result c.deref.ensures.value c.unwrap-place.ensures c.search.ensures.found in
-    c.is_in.ensures
+    c.has.ensures
     ∙ (ap (in_group_folded row) (c.characters.ensures ∙ sym is)
     ∙ found_in groups c.args.self.now c.args.group place row text at c.index.ensures c.self.view_is)

@@ -7,4 +7,4 @@ returns c =
     let groups = c.self.inside.groups.items in
     let place = c.unwrap-place.result in
     let at = at_place c.deref.result.now groups c.args.group place c.search.result c.deref.ensures.value c.unwrap-place.ensures c.search.ensures.found in
-    c.is_in.ensures ∙ found_in groups c.args.self.now c.args.group place c.index.result.now c.args.name.now at c.index.ensures c.self.view_is
+    c.has.ensures ∙ found_in groups c.args.self.now c.args.group place c.index.result.now c.args.name.now at c.index.ensures c.self.view_is

@@ -3,16 +3,13 @@ use Rattle.std.proofs.lemmas.List.{take_all}
 use Rattle.fsrm_model.specs.declared.row.GroupRow.{GroupRow}
 use Rattle.file_groups.specs.Ends.{Cover, in_some_group}
 use Rattle.file_groups.specs.Folded.{in_group_folded}
-use Rattle.file_groups.proofs.EndLaws.{group_covered, more_covered}
-use Rattle.file_groups.proofs.ends.ends_of_groups.Goals as goal
+use Rattle.file_groups.proofs.EndLaws.{more_covered}
+use Rattle.file_groups.proofs.held.ends_of_groups.Goals as goal
 
 pub loop-group-preserved : goal.loop-group-preserved
 loop-group-preserved c =
     let l = c.loop-group in
-    let bits = c.ends_of-ends.result in
-    let group = c.group-item.result in
-    more_covered (λ name (g : GroupRow). in_group_folded g name) l.ends bits l.group-index c.args.groups.now group c.loop-group-test.true c.group-item.is l.invariant
-    (group_covered bits group c.ends_of-ends.ensures)
+    more_covered (λ name (g : GroupRow). in_group_folded g name) l.ends c.ends-ends.result l.group-index c.args.groups.now c.group-item.result c.loop-group-test.true c.group-item.is l.invariant c.ends-ends.ensures
 
 pub returns : goal.returns
 returns c =
