@@ -4,8 +4,7 @@ use Rattle.std.proofs.lemmas.List.{length-set}
 use Rattle.std.proofs.lemmas.List.Edits.{length-insert, length-remove}
 use Rattle.std.proofs.lemmas.Option.{get_or_from_slice_get}
 use Rattle.std.specs.List.{list_all, list_any}
-use Rattle.std.specs.Borrow.{Bor}
-use Rattle.std.specs.Option.{option_copied, option_map_or}
+use Rattle.std.specs.Option.{option_map_or}
 use Rattle.std.specs.Prelude.{IfSome, slice_set, filter, find, option_map}
 use Rattle.fsrm_model.specs.declared.row.GroupRow.{GroupRow}
 use Rattle.fsrm_base.specs.Keyed.{row_of, has_row, is_ascending, with_change, least_free}
@@ -172,8 +171,3 @@ free_absent groups are = (least_free_is group_number groups are.ascending).free
 
 pub free_below : (groups : List GroupRow) → AreGroups groups → length groups < most_groups → least_free group_number groups < most_groups
 free_below groups are room = let most = (least_free_is group_number groups are.ascending).most in omega (arith, most)
-
--- the patterns that are lent are those that are given
-pub lent_patterns : (lent lent' : Option (Bor (List (List ℕ)))) (members non_members : Option (List (List ℕ))) (old : GroupRow) → option_copied lent ≡ members → option_copied lent' ≡ non_members → regrouped (option_copied lent) (option_copied lent') old ≡ regrouped members non_members old
-lent_patterns lent lent' members non_members old is is' =
-    ap (λ (given : Option (List (List ℕ))). regrouped given (option_copied lent') old) is ∙ ap (λ (given : Option (List (List ℕ))). regrouped members given old) is'

@@ -1,6 +1,7 @@
 //! The table of file groups.
 
 ghost use Rattle.std.specs.Prelude.{◌≡◌, ℕ, ◌<◌, ◌≤◌, List as Items, IfOk, IfErr, IfSome, OnOk, OnErr, [], None, Some, true, false, is_none, length, slice_get};
+ghost use Rattle.std.specs.Option.{option_copied};
 ghost use Rattle.fsrm_base.specs.Keyed.{row_of, has_row};
 ghost use Rattle.fsrm_model.specs.Name.{folded};
 ghost use Rattle.fsrm_model.specs.Patterns.{group_number, in_group_of, is_group, is_object_name, new_group, number_named, with_group, with_patterns, without_group};
@@ -156,22 +157,21 @@ impl Groups {
     pub fn modify(
         &mut self,
         group: u32,
-        members: Option<List<Pattern>>,
-        non_members: Option<List<Pattern>>,
+        members: Option<&List<Pattern>>,
+        non_members: Option<&List<Pattern>>,
         room: u32,
     ) -> Result<(), GroupFault>
         requires there { has_row group_number group self.old ≡ true }
-        requires members { IfSome members AreMembers }
-        requires non_members { IfSome non_members AreNonMembers }
-        ensures ok { OnOk result (self.new ≡ with_patterns group members non_members self.old) }
-        ensures may { OnOk result (patterns_fault self.old group members non_members room ≡ None) }
-        ensures refused { IfErr result (λ fault. IsFault fault (patterns_fault self.old group members non_members room)) }
+        requires members { IfSome (option_copied members) AreMembers }
+        requires non_members { IfSome (option_copied non_members) AreNonMembers }
+        ensures ok { OnOk result (self.new ≡ with_patterns group (option_copied members.entry) (option_copied non_members.entry) self.old) }
+        ensures may { OnOk result (patterns_fault self.old group (option_copied members.entry) (option_copied non_members.entry) room ≡ None) }
+        ensures refused { IfErr result (λ fault. IsFault fault (patterns_fault self.old group (option_copied members.entry) (option_copied non_members.entry) room)) }
         ensures err { OnErr result (self.new ≡ self.old) }
         ensures kept { AreGroups self.new }
     {
         let place = search::<ByNumber>(&self.groups, group).unwrap();
         let old = self.groups[place].row();
-        let (members, non_members) = (members.as_ref(), non_members.as_ref());
         let replaced = rows::texts_of(old);
         let room = u64::from(room) + u64::from(replaced);
         if rows::left_of_regrouped(old, members, non_members, room).is_none() {

@@ -141,7 +141,10 @@ impl Parts {
         let members = given_patterns(alloc, members)?;
         let non_members = given_patterns(alloc, non_members)?;
         let room = self.room();
-        match self.groups.modify(group, members, non_members, room) {
+        match self
+            .groups
+            .modify(group, members.as_ref(), non_members.as_ref(), room)
+        {
             Ok(()) => Ok(self.done(moment)),
             Err(fault) => refused_by_groups(fault),
         }

@@ -45,10 +45,9 @@ fn in_office(groups: &Groups, name: &str) -> bool {
 }
 
 fn leave_no_one_out(groups: &mut Groups, alloc: Global) -> bool {
+    let none = List::new(alloc);
     match groups.find("office") {
-        Some(group) => groups
-            .modify(group, None, Some(List::new(alloc)), 0)
-            .is_ok(),
+        Some(group) => groups.modify(group, None, Some(&none), 0).is_ok(),
         None => false,
     }
 }

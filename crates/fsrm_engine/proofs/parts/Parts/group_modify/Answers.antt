@@ -20,20 +20,20 @@ done-requires-clause-counted c = retabled_counted c.args.self.now c.modify.new.s
 pub returns-in-Ok-clause-ok : goal.returns-in-Ok-clause-ok
 returns-in-Ok-clause-ok c =
     let p = c.args.self.now in
-    group_changed p c.args.moment c.args.name.now c.as_str.result.now (option_copied c.args.members) (option_copied c.args.non_members) c.in_ok-members.members c.in_ok-non_members.non_members c.in-Some.group c.room-room.result
-    c.requires.whole c.requires.idle c.requires.after c.as_str.ensures c.in-Some.ensures.found c.in-Some.ensures.there c.in_ok-members.ensures c.in_ok-non_members.ensures c.room-room.ensures
+    group_changed p c.args.moment c.args.name.now c.as_str.result.now (option_copied c.args.members) (option_copied c.args.non_members) (option_copied c.as_ref.result) (option_copied c.as_ref-2.result) c.in-Some.group c.room-room.result
+    c.requires.whole c.requires.idle c.requires.after c.as_str.ensures c.in-Some.ensures.found c.in-Some.ensures.there (c.as_ref.ensures.value ∙ c.in_ok-members.ensures) (c.as_ref-2.ensures.value ∙ c.in_ok-non_members.ensures) c.room-room.ensures
     c.done.new.self c.modify.new.self c.done.result c.in-Ok.ensures.may c.in-Ok.ensures.ok c.done.ensures.ended c.done.ensures.answer
 
 pub returns-in-Ok-clause-sound : goal.returns-in-Ok-clause-sound
 returns-in-Ok-clause-sound c =
     retabled_ended c.args.self.now c.modify.new.self c.args.self.now.objects c.requires.whole refl c.done.new.self c.args.moment c.done.ensures.ended c.done.ensures.counted
 
-pub returns-in-Err-clause-ok : goal.returns-in-Err-clause-ok
-returns-in-Err-clause-ok c =
+pub returns-clause-ok : goal.returns-clause-ok
+returns-clause-ok c =
     let p = c.args.self.now in
-    group_unchanged p c.args.moment c.args.name.now c.as_str.result.now (option_copied c.args.members) (option_copied c.args.non_members) c.in_ok-members.members c.in_ok-non_members.non_members c.in-Some.group c.room-room.result
-    c.requires.whole c.requires.idle c.requires.after c.as_str.ensures c.in-Some.ensures.found c.in-Some.ensures.there c.in_ok-members.ensures c.in_ok-non_members.ensures c.room-room.ensures
+    group_unchanged p c.args.moment c.args.name.now c.as_str.result.now (option_copied c.args.members) (option_copied c.args.non_members) (option_copied c.as_ref.result) (option_copied c.as_ref-2.result) c.in-Some.group c.room-room.result
+    c.requires.whole c.requires.idle c.requires.after c.as_str.ensures c.in-Some.ensures.found c.in-Some.ensures.there (c.as_ref.ensures.value ∙ c.in_ok-members.ensures) (c.as_ref-2.ensures.value ∙ c.in_ok-non_members.ensures) c.room-room.ensures
     c.modify.new.self c.in-Err.fault c.refused_by_groups.result c.in-Err.ensures.refused c.in-Err.ensures.err c.refused_by_groups.ensures.ok
 
-pub returns-in-Err-clause-sound : goal.returns-in-Err-clause-sound
-returns-in-Err-clause-sound c = retabled_sound c.args.self.now c.modify.new.self c.args.self.now.objects c.requires.whole refl
+pub returns-clause-sound : goal.returns-clause-sound
+returns-clause-sound c = retabled_sound c.args.self.now c.modify.new.self c.args.self.now.objects c.requires.whole refl
