@@ -22,7 +22,7 @@ use Rattle.file_groups.specs.Folded.{in_group_folded}
 use Rattle.file_groups.specs.Kept.{AreGroups, group_texts}
 use Rattle.file_groups.proofs.FoldLaws.{group_folded}
 use Rattle.fsrm_base.specs.Places.{IsAt, IsGap}
-use Rattle.fsrm_base.proofs.SortedRows.{row_found, ascending-set, ascending-insert, ascending-remove, insert_row, remove_found, set_found}
+use Rattle.fsrm_base.proofs.SortedRows.{row_found, ascending-set, ascending-insert, ascending-remove, insert_row, remove_found, row_at, set_found, there}
 
 -- ---- names that stay apart
 turned_apart : (a b : List ℕ) → same_name a b ≡ false → same_name b a ≡ false
@@ -164,6 +164,13 @@ module _ (groups : List GroupRow) (n p : ℕ) (old row : GroupRow) (members non_
 pub at_place : (groups rows : List GroupRow) (n p : ℕ) (r : Result ℕ ℕ) → groups ≡ rows → r ≡ Ok p → IfOk r (IsAt group_number n groups) → IsAt group_number n rows p
 at_place groups rows n p r same is found =
     subst (λ (items : List GroupRow). IsAt group_number n items p) same (subst (λ (answer : Result ℕ ℕ). IfOk answer (IsAt group_number n groups)) is found)
+
+-- a group may stand at the place of its own number
+pub at_number : (groups : List GroupRow) (n : ℕ) (r : GroupRow) → is_ascending group_number groups ≡ true → n < length groups → r ≡ get_or groups n r → r.number ≡ n → IsAt group_number n groups n
+at_number groups n r ascending within read number =
+    let found = there groups n within in
+    let is : r ≡ found.row = read ∙ get_or_from_slice_get groups n found.row r found.is in
+    record { within = within; found = found.is ∙ sym (row_at group_number n groups n found.row ascending found.is (ap group_number (sym is) ∙ number)) }
 
 -- a new group's number is free, and one that a group may have
 pub free_absent : (groups : List GroupRow) → AreGroups groups → has_row group_number (least_free group_number groups) groups ≡ false

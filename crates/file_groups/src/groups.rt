@@ -219,7 +219,7 @@ impl Groups {
         requires { has_row group_number group self.now ≡ true }
         ensures { (text : Items ℕ) → folded text ≡ name.now → result ≡ in_group_of self.now group text }
     {
-        let place = search::<ByNumber>(&self.groups, group).unwrap();
+        let place = held::place_of(&self.groups, group);
         self.groups[place].has(name.characters())
     }
 

@@ -1,14 +1,16 @@
 //! Groups as the table holds them.
 
-ghost use Rattle.std.specs.Prelude.{◌≡◌};
-ghost use Rattle.fsrm_model.specs.Patterns.{number_named};
+ghost use Rattle.std.specs.Prelude.{◌≡◌, true};
+ghost use Rattle.fsrm_base.specs.Keyed.{has_row, is_ascending};
+ghost use Rattle.fsrm_base.specs.Places.{IsAt};
+ghost use Rattle.fsrm_model.specs.Patterns.{group_number, number_named};
 ghost use Rattle.file_groups.specs.Ends.{Cover, in_some_group};
 ghost use Rattle.file_groups.specs.Folded.{in_group_folded};
 
 use crate::ends::{ends_of, may_end};
 use crate::matching::Rest;
 use crate::rows::is_in;
-use fsrm_base::places::Key;
+use fsrm_base::places::{Key, search};
 use fsrm_model::GroupRow;
 use name_rules::same_name;
 use std::marker::Model;
@@ -78,6 +80,20 @@ impl Key for ByNumber {
     fn number(group: &HeldGroup) -> u32 {
         group.row().number
     }
+}
+
+/// The place of the group of a number that is there. A new group takes the least number that is free, so mostly the
+/// number is the place.
+pub fn place_of(groups: &[HeldGroup], number: u32) -> usize
+    requires ascending { is_ascending group_number groups.now ≡ true }
+    requires there { has_row group_number number groups.now ≡ true }
+    ensures { IsAt group_number number groups.now result }
+{
+    let place = number as usize;
+    if place < groups.len() && groups[place].row().number == number {
+        return place;
+    }
+    search::<ByNumber>(groups, number).unwrap()
 }
 
 /// The number of the first group of a name, in any spelling.
