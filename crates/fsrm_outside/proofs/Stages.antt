@@ -1,10 +1,10 @@
 -- How a run of disk calls goes on.
-use Rattle.std.proofs.Common.{◌≡◌, ◌↔◌, ⊎_elim, ℕ, ◌≤◌, None, Some, arith, refl, sym, ◌∙◌, subst}
+use Rattle.std.proofs.Common.{◌≡◌, ◌↔◌, ⊎_elim, ℕ, ◌+◌, ◌≤◌, None, Some, arith, refl, sym, ◌∙◌, subst}
 use Rattle.std.specs.Prelude.{Option}
 use Rattle.std.proofs.lemmas.Bool.{cases_lt}
 use Rattle.fsrm_outside.specs.Parts.{Parts}
 use Rattle.fsrm_outside.specs.Changes.{Same, Through}
-use Rattle.fsrm_outside.specs.Told.{Later}
+use Rattle.fsrm_outside.specs.Told.{AtMostOneTick, Later}
 use Rattle.fsrm_outside.specs.Moments.{EachNow, EachImage}
 
 pub some_is : {A : Type 0} {a b : A} → Some a ≡ Some b → a ≡ b
@@ -20,6 +20,12 @@ later_back None None t later told = absurd (cc)
 later_back (Some a) None t later told = absurd (cc)
 later_back None (Some b) t later told = absurd later
 later_back (Some a) (Some b) t later told = (a, refl, subst (λ (k : ℕ). a ≤ k) (some_is told) later)
+
+-- one call comes to no moment but the next
+pub tick_forth : (a b : Option ℕ) (s t : ℕ) → AtMostOneTick a b → a ≡ Some s → b ≡ Some t → t ≤ s + 1
+tick_forth None b s t tick at_a at_b = absurd (cc)
+tick_forth (Some a) None s t tick at_a at_b = absurd (cc)
+tick_forth (Some a) (Some b) s t tick at_a at_b = omega (arith, tick, some_is at_a, some_is at_b)
 
 -- the laws of a disk that a run of calls stands on
 pub record DiskLaws {D : Type 0} (clock : D → Option ℕ) (images : D → ℕ → Parts → Type 0) (by : D → D → Type 0) : Type 0 where

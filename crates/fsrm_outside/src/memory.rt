@@ -311,6 +311,7 @@ impl Sink for MemoryOutside {
     ghost use Rattle.fsrm_outside.specs.MemoryOutside.{ByWrite, plan_of, shown_of, shown_at_of, time_of, write_faults_of};
     ghost use Rattle.fsrm_outside.specs.MemoryLaws.{write_same, write_then, write_later, write_past, shown_now, shown_grows};
     ghost use Rattle.fsrm_outside.specs.Plan.{FailsNext, GoesBy};
+    ghost use Rattle.fsrm_outside.specs.Told.{AtMostOneTick};
 
     ghost shown = { λ o. Some (shown_of o) };
 
@@ -330,6 +331,7 @@ impl Sink for MemoryOutside {
         ensures shown { IfOk result (λ n. shown_of self.new ≡ shown_of self.old ++ take n bytes.now) }
         ensures failed { OnErr result (shown_of self.new ≡ shown_of self.old) }
         ensures by { ByWrite self.old self.new }
+        ensures clock { AtMostOneTick (Some (time_of self.old)) (Some (time_of self.new)) }
         ensures cause { HasCause (write_faults_of self.old) (write_faults_of self.new) result }
 
         ensures told { FailsNext (plan_of self.old) → IsErr result }

@@ -8,7 +8,7 @@ ghost use Rattle.fsrm_outside.specs.Changes.{Same, Through, Torn, Written};
 ghost use Rattle.fsrm_outside.specs.Kept.{KeepsDisk, KeepsSink, KeepsSource};
 ghost use Rattle.fsrm_outside.specs.Parts.{Parts, part_of};
 ghost use Rattle.fsrm_outside.specs.Shown.{IsFront};
-ghost use Rattle.fsrm_outside.specs.Told.{GivesFront, Later};
+ghost use Rattle.fsrm_outside.specs.Told.{AtMostOneTick, GivesFront, Later};
 
 /// A device did not do what it was asked, and counted the call as failed.
 #[derive(Clone, Copy, Debug, PartialEq, Eq)]
@@ -70,7 +70,7 @@ pub trait Sink {
     ghost shown: { Self → Option (List ℕ) };
 
     /// How many calls were made on the device, if it tells what was shown at earlier moments. A
-    /// moment is such a number.
+    /// moment is such a number. One call raises it by at most one.
     ghost sink_clock: { Self → Option ℕ };
 
     /// The bytes taken up to a moment. This says something only if the clock is told and has come to the
@@ -93,6 +93,7 @@ pub trait Sink {
         ensures shown { IfOk result (λ n. shown self.new ≡ append_known (shown self.old) (take n bytes.now)) }
         ensures failed { OnErr result (shown self.new ≡ shown self.old) }
         ensures by { by_write self.old self.new }
+        ensures clock { AtMostOneTick (sink_clock self.old) (sink_clock self.new) }
         ensures cause { HasCause (write_faults self.old) (write_faults self.new) result };
 
     /// If nothing is written, everything stays.
@@ -125,7 +126,8 @@ pub trait Disk {
     /// What a read gives of both parts, if the disk tells it.
     ghost reads: { Self → Option Parts };
 
-    /// How many calls were made on the device, if it tells its images. A moment is such a number.
+    /// How many calls were made on the device, if it tells its images. A moment is such a number. One call raises it
+    /// by at most one, so no moment is skipped.
     ghost disk_clock: { Self → Option ℕ };
 
     /// What a crash at a moment may leave. This says something only if the clock is told and has come to
@@ -145,6 +147,7 @@ pub trait Disk {
         ensures reads { reads self.new ≡ reads self.old }
         ensures crash { Through disk_clock images Same self.old self.new }
         ensures by { by_disk self.old self.new }
+        ensures clock { AtMostOneTick (disk_clock self.old) (disk_clock self.new) }
         ensures cause { HasCause (disk_faults self.old) (disk_faults self.new) result };
 
     /// Fills `into` from a place of a part on, up to the part's end, and answers how many bytes these
@@ -156,6 +159,7 @@ pub trait Disk {
         ensures reads { reads self.new ≡ reads self.old }
         ensures crash { Through disk_clock images Same self.old self.new }
         ensures by { by_disk self.old self.new }
+        ensures clock { AtMostOneTick (disk_clock self.old) (disk_clock self.new) }
         ensures cause { HasCause (disk_faults self.old) (disk_faults self.new) result };
 
     /// Writes the bytes over those of a part from a place on, and past its end. The place is within the
@@ -170,6 +174,7 @@ pub trait Disk {
         ensures failed { OnErr result (ForSome (reads self.old) (λ parts. (torn : Parts) × (reads self.new ≡ Some torn) × Torn part place (length bytes.now) parts torn)) }
         ensures crash { Through disk_clock images (Torn part place (length bytes.now)) self.old self.new }
         ensures by { by_disk self.old self.new }
+        ensures clock { AtMostOneTick (disk_clock self.old) (disk_clock self.new) }
         ensures cause { HasCause (disk_faults self.old) (disk_faults self.new) result };
 
     /// Makes stable what was written. `Failed`: the device failed, and nothing need be stable.
@@ -178,6 +183,7 @@ pub trait Disk {
         ensures reads { reads self.new ≡ reads self.old }
         ensures crash { Through disk_clock images Same self.old self.new }
         ensures by { by_disk self.old self.new }
+        ensures clock { AtMostOneTick (disk_clock self.old) (disk_clock self.new) }
         ensures cause { HasCause (disk_faults self.old) (disk_faults self.new) result };
 
     /// If no call is made, everything stays.

@@ -8,6 +8,7 @@ ghost use Rattle.fsrm_outside.specs.Contents.{parts_in};
 ghost use Rattle.fsrm_outside.specs.History.{Stopped, Wrote};
 ghost use Rattle.fsrm_outside.specs.Parts.{Parts, part_of};
 ghost use Rattle.fsrm_outside.specs.Plan.{FailsNext, GoesBy};
+ghost use Rattle.fsrm_outside.specs.Told.{AtMostOneTick};
 
 use crate::calls::Call;
 use crate::contents::fill_from;
@@ -62,6 +63,7 @@ impl Disk for MemoryOutside {
         ensures reads { parts_of self.new ≡ parts_of self.old }
         ensures crash { Through (λ o. Some (time_of o)) images_of Same self.old self.new }
         ensures by { ByDisk self.old self.new }
+        ensures clock { AtMostOneTick (Some (time_of self.old)) (Some (time_of self.new)) }
         ensures cause { HasCause (disk_faults_of self.old) (disk_faults_of self.new) result }
 
         ensures told { FailsNext (plan_of self.old) → IsErr result }
@@ -85,6 +87,7 @@ impl Disk for MemoryOutside {
         ensures reads { parts_of self.new ≡ parts_of self.old }
         ensures crash { Through (λ o. Some (time_of o)) images_of Same self.old self.new }
         ensures by { ByDisk self.old self.new }
+        ensures clock { AtMostOneTick (Some (time_of self.old)) (Some (time_of self.new)) }
         ensures cause { HasCause (disk_faults_of self.old) (disk_faults_of self.new) result }
 
         ensures told { FailsNext (plan_of self.old) → IsErr result }
@@ -108,6 +111,7 @@ impl Disk for MemoryOutside {
         ensures failed { OnErr result (ForSome (Some (parts_of self.old)) (λ parts. (torn : Parts) × (Some (parts_of self.new) ≡ Some torn) × Torn part place (length bytes.now) parts torn)) }
         ensures crash { Through (λ o. Some (time_of o)) images_of (Torn part place (length bytes.now)) self.old self.new }
         ensures by { ByDisk self.old self.new }
+        ensures clock { AtMostOneTick (Some (time_of self.old)) (Some (time_of self.new)) }
         ensures cause { HasCause (disk_faults_of self.old) (disk_faults_of self.new) result }
 
         ensures told { FailsNext (plan_of self.old) → IsErr result }
@@ -129,6 +133,7 @@ impl Disk for MemoryOutside {
         ensures reads { parts_of self.new ≡ parts_of self.old }
         ensures crash { Through (λ o. Some (time_of o)) images_of Same self.old self.new }
         ensures by { ByDisk self.old self.new }
+        ensures clock { AtMostOneTick (Some (time_of self.old)) (Some (time_of self.new)) }
         ensures cause { HasCause (disk_faults_of self.old) (disk_faults_of self.new) result }
 
         ensures told { FailsNext (plan_of self.old) → IsErr result }
