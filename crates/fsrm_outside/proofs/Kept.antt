@@ -6,7 +6,7 @@ use Rattle.std.proofs.lemmas.List.{take-append-le, take_all}
 use Rattle.fsrm_outside.specs.Changes.{Same, Through, Torn}
 use Rattle.fsrm_outside.specs.Contents.{parts_in}
 use Rattle.fsrm_outside.specs.DiskModel.{IsImage}
-use Rattle.fsrm_outside.specs.History.{images_in, clock_in, Noted, Stopped, Wrote, FailedOrStopped}
+use Rattle.fsrm_outside.specs.History.{images_in, clock_in, Missed, Noted, NotedOrMissed, Stopped, Wrote}
 use Rattle.fsrm_outside.specs.ImageLaws.{now_image, image_back, failed_back, two_parts}
 use Rattle.fsrm_outside.specs.MemoryLaws.{some_same, take_whole}
 use Rattle.fsrm_outside.specs.Parts.{Parts, part_of}
@@ -70,18 +70,18 @@ stopped_through step old new kept still s t m i at_s at_t from to left =
     (i, at_start old s i now (stopped old new kept m i (omega arith) (omega arith) left), still i)
 
 -- a call that leaves the disk as it is, kept or not
-pub quiet_through : (old new : History) (call : Call) → Noted call old new ⊎ Stopped old new
+pub quiet_through : (old new : History) (call : Call) → NotedOrMissed call old new
     → ((cs : List Call) (i : Parts) → IsImage (parts_in old.start) (call ∷ cs) i → IsImage (parts_in old.start) cs i) → Through clock_in images_in Same old new
 quiet_through old new call kept still = ⊎_elim
     (λ is. noted_through Same old new call is.calls is.start is.begun (λ i. refl) (λ i after. (i, still (since old.begun old.calls.items) i after, refl)))
-    (λ lost. stopped_through Same old new lost (λ i. refl))
+    (λ lost. stopped_through Same old new lost.rest (λ i. refl))
     kept
 
 -- a sync, whether it did its work or not
-pub sync_through : (old new : History) (done : Bool) → Noted (Sync done) old new ⊎ Stopped old new → Through clock_in images_in Same old new
+pub sync_through : (old new : History) (done : Bool) → NotedOrMissed (Sync done) old new → Through clock_in images_in Same old new
 sync_through old new done kept = ⊎_elim
     (λ is. noted_through Same old new (Sync done) is.calls is.start is.begun (λ i. refl) (λ i after. (i, back done i after, refl)))
-    (λ lost. stopped_through Same old new lost (λ i. refl))
+    (λ lost. stopped_through Same old new lost.rest (λ i. refl))
     kept
   where
     back : (done : Bool) (i : Parts) → IsImage (parts_in old.start) (Sync done ∷ since old.begun old.calls.items) i → Image old i
@@ -109,28 +109,37 @@ wrote_through old new part place bytes within wrote =
     let was = image_back (parts_in old.start) (since old.begun old.calls.items) part place copy i (within_now old part place within) after in
     (was.0, was.1, subst (λ (k : ℕ). Torn part place k was.0 i) (ap length wrote.calls.1) was.2))
 
-pub failed_through : (old new : History) (part : Part) (place count : ℕ) → place ≤ length (part_of part (parts_in old.parts)) → FailedOrStopped part place count old new
+pub failed_through : (old new : History) (part : Part) (place count : ℕ) → place ≤ length (part_of part (parts_in old.parts)) → NotedOrMissed (FailedAt part place count) old new
     → Through clock_in images_in (Torn part place count) old new
 failed_through old new part place count within = ⊎_elim
     (λ is. noted_through (Torn part place count) old new (FailedAt part place count) is.calls is.start is.begun (torn_same part place count)
     (λ i after. failed_back (parts_in old.start) (since old.begun old.calls.items) part place count i (within_now old part place within) after))
-    (λ lost. stopped_through (Torn part place count) old new lost (torn_same part place count))
+    (λ lost. stopped_through (Torn part place count) old new lost.rest (torn_same part place count))
 
--- nothing was kept, and then a write that failed, or nothing
-pub stopped_failed : (a b c : History) (part : Part) (place count : ℕ) → Stopped a b → FailedOrStopped part place count b c → FailedOrStopped part place count a c
-stopped_failed a b c part place count first = ⊎_elim
+-- nothing was kept, and then a call, or there was no place for it
+pub stopped_then : (a b c : History) (call : Call) → Stopped a b → NotedOrMissed call b c → NotedOrMissed call a c
+stopped_then a b c call first = ⊎_elim
     (λ is. inl (record {
-      calls = is.calls ∙ ap (λ (l : List Call). l ++ FailedAt part place count ∷ []) first.calls;
+      calls = is.calls ∙ ap (λ (l : List Call). l ++ call ∷ []) first.calls;
       start = is.start ∙ first.start;
       begun = is.begun ∙ first.begun;
       parts = is.parts ∙ first.parts;
     }))
-    (λ lost. inr (record { calls = lost.calls ∙ first.calls; start = lost.start ∙ first.start; begun = lost.begun ∙ first.begun; parts = lost.parts ∙ first.parts }))
+    (λ lost. inr (record {
+      full = omega (arith, lost.full, first.room, ap length first.calls);
+      rest = record {
+        calls = lost.rest.calls ∙ first.calls;
+        start = lost.rest.start ∙ first.start;
+        begun = lost.rest.begun ∙ first.begun;
+        parts = lost.rest.parts ∙ first.parts;
+        room = omega (arith, first.room, lost.rest.room);
+      };
+    }))
 
 -- a write that failed leaves what a read gives
-pub failed_same : (old new : History) (part : Part) (place count : ℕ) → FailedOrStopped part place count old new → parts_in new.parts ≡ parts_in old.parts
-failed_same old new part place count = ⊎_elim (λ is. is.parts) (λ lost. lost.parts)
+pub failed_same : (old new : History) (part : Part) (place count : ℕ) → NotedOrMissed (FailedAt part place count) old new → parts_in new.parts ≡ parts_in old.parts
+failed_same old new part place count = ⊎_elim (λ is. is.parts) (λ lost. lost.rest.parts)
 
-pub failed_reads : (old new : History) (part : Part) (place count n : ℕ) → FailedOrStopped part place count old new
+pub failed_reads : (old new : History) (part : Part) (place count n : ℕ) → NotedOrMissed (FailedAt part place count) old new
     → (was : Parts) → Some (parts_in old.parts) ≡ Some was → (torn : Parts) × (Some (parts_in new.parts) ≡ Some torn) × Torn part place n was torn
 failed_reads old new part place count n failed was told = (was, ap (λ (p : Parts). Some p) (failed_same old new part place count failed) ∙ told, torn_same part place n was)

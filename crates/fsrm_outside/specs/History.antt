@@ -1,5 +1,5 @@
 -- How a history goes on.
-use Rattle.std.specs.Prelude.{◌≡◌, ◌⊎◌, ℕ, List, [], ◌∷◌, ◌++◌, length, take, Option, Some, Vec}
+use Rattle.std.specs.Prelude.{◌≡◌, ◌⊎◌, ℕ, ◌≤◌, List, [], ◌∷◌, ◌++◌, length, take, Option, Some, Vec, vec_capacity}
 use Rattle.std.specs.declared.alloc.Global.{Global}
 use Rattle.fsrm_outside.specs.Changes.{Written}
 use Rattle.fsrm_outside.specs.Contents.{parts_in}
@@ -46,10 +46,20 @@ pub record Stopped (old new : History) : Type 0 where
   pub start : parts_in new.start ≡ parts_in old.start
   pub begun : new.begun ≡ old.begun
   pub parts : parts_in new.parts ≡ parts_in old.parts
+  pub room : vec_capacity old.calls ≤ vec_capacity new.calls
 
--- A write that failed was kept, or nothing was.
-abbrev pub FailedOrStopped : Part → ℕ → ℕ → History → History → Type 0
-FailedOrStopped part place count old new = Noted (FailedAt part place count) old new ⊎ Stopped old new
+-- A call wasn't kept: the record was full, and there was no memory for one place more.
+pub record Missed (old new : History) : Type 0 where
+  pub full : vec_capacity old.calls ≤ length old.calls.items
+  pub rest : Stopped old new
+
+-- A call was kept, unless there was no place for it.
+abbrev pub NotedOrMissed : Call → History → History → Type 0
+NotedOrMissed call old new = Noted call old new ⊎ Missed old new
+
+-- so one that failed to show anything
+abbrev pub NotedUnshown : History → History → Type 0
+NotedUnshown old new = NotedShown [] old new ⊎ Missed old new
 
 -- A crash left the image of this pick, which is stable, and the calls stay.
 pub record Crashed (pick : Pick) (old new : History) : Type 0 where

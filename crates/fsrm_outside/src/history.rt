@@ -29,7 +29,8 @@ pub struct History {
 impl History {
     ghost use Rattle.fsrm_outside.specs.Record.{kind_of};
     ghost use Rattle.fsrm_outside.specs.declared.calls.Call.{Call};
-    ghost use Rattle.fsrm_outside.specs.History.{Crashed, FailedOrStopped, Noted, Stopped, Wrote};
+    ghost use Rattle.fsrm_outside.specs.declared.calls.Call.TheVariants.{FailedAt};
+    ghost use Rattle.fsrm_outside.specs.History.{Crashed, Missed, Noted, NotedOrMissed, Stopped, Wrote};
 
     /// No call was made, and the parts are these, stable.
     pub fn begin(alloc: Global, zero: &[u8], one: &[u8]) -> Result<History, AllocError>
@@ -72,7 +73,7 @@ impl History {
     /// nothing is kept.
     pub fn note(&mut self, call: Call) -> bool
         requires { Stays (parts_in self.old.parts) call }
-        ensures { MatchBool result (Noted call self.old self.new) (Stopped self.old self.new) }
+        ensures { MatchBool result (Noted call self.old self.new) (Missed self.old self.new) }
     {
         self.calls.push(call).is_ok()
     }
@@ -117,7 +118,7 @@ impl History {
     /// Keeps a write of so many bytes that failed, if there is memory for it.
     pub fn fail_at(&mut self, part: Part, place: u64, count: usize)
         requires { place ≤ length (part_of part (parts_in self.old.parts)) }
-        ensures { FailedOrStopped part place count self.old self.new }
+        ensures { NotedOrMissed (FailedAt part place count) self.old self.new }
     {
         let _ = self.note(Call::FailedAt(part, place, count));
     }

@@ -2,7 +2,7 @@
 
 ghost use Rattle.std.specs.Prelude.{◌≡◌, ◌⊎◌, ◌+◌, ◌-◌, ◌≤◌, ◌<◌, ◌↔◌, ℕ, List, [], min, true, false, None, Some, IfOk, OnErr, OnOk, IsErr, IsTrue, MatchBool, Contains, take, drop, reverse, length, slice_index_or, ◌++◌, vec_len};
 ghost use Rattle.fsrm_outside.specs.Contents.{parts_in};
-ghost use Rattle.fsrm_outside.specs.History.{Crashed, Noted, NotedShown, Stopped};
+ghost use Rattle.fsrm_outside.specs.History.{Crashed, Missed, Noted, NotedOrMissed, NotedShown, NotedUnshown, Stopped};
 ghost use Rattle.fsrm_outside.specs.Plan.{IsFrom};
 ghost use Rattle.fsrm_outside.specs.Record.{text_of, Stays};
 
@@ -209,13 +209,14 @@ fn is_from(stop: Option<u64>, call: u64) -> bool
     }
 }
 
-// Keeps the call, which leaves what a read gives as it is. False: it is to fail, or there is no memory to keep it.
+// Keeps the call, which leaves what a read gives as it is, also if it is to fail. False: it is to fail, or there is no
+// memory to keep it.
 fn noted(fails: bool, history: &mut History, call: Call) -> bool
     requires { Stays (parts_in history.old.parts) call }
     ensures told { IsTrue fails → result ≡ false }
     ensures done { result ≡ true → Noted call history.old history.new }
-    ensures kept { Noted call history.old history.new ⊎ Stopped history.old history.new }
-    ensures only { result ≡ false → IsTrue fails ⊎ Stopped history.old history.new }
+    ensures kept { NotedOrMissed call history.old history.new }
+    ensures only { result ≡ false → IsTrue fails ⊎ Missed history.old history.new }
 {
     let kept = history.note(call);
     kept && !fails
@@ -286,7 +287,9 @@ impl Source for MemoryOutside {
         ensures cause { HasCause (read_faults_of self.old) (read_faults_of self.new) result }
 
         ensures told { FailsNext (plan_of self.old) → IsErr result }
-        ensures only { OnErr result (FailsNext (plan_of self.old) ⊎ (plan_of self.new ≡ plan_of self.old)) }
+        ensures only { OnErr result (FailsNext (plan_of self.old) ⊎ Missed self.old.history self.new.history) }
+        ensures noted { OnOk result (Noted Call.Read self.old.history self.new.history) }
+        ensures noted_failed { OnErr result (NotedOrMissed Call.Read self.old.history self.new.history) }
         ensures plan { GoesBy (plan_of self.old) (plan_of self.new) }
         ensures counted { read_faults_of self.new ≡ count_after (read_faults_of self.old) result }
         ensures most { IfOk result (λ n.
@@ -335,13 +338,15 @@ impl Sink for MemoryOutside {
         ensures cause { HasCause (write_faults_of self.old) (write_faults_of self.new) result }
 
         ensures told { FailsNext (plan_of self.old) → IsErr result }
+        ensures noted { OnOk result (NotedShown bytes.now self.old.history self.new.history) }
+        ensures noted_failed { OnErr result (NotedUnshown self.old.history self.new.history) }
         ensures plan { GoesBy (plan_of self.old) (plan_of self.new) }
         ensures counted { write_faults_of self.new ≡ count_after (write_faults_of self.old) result }
         ensures all { IfOk result (λ n. n ≡ length bytes.now) }
     {
         let fails = self.fails_next();
         if !show(fails, self.alloc, &mut self.shown, &mut self.history, bytes) {
-            let _ = self.history.note(Call::Write(Vec::new(self.alloc)));
+            let _ = noted(true, &mut self.history, Call::Write(Vec::new(self.alloc)));
             return Err(Failed::counted(&mut self.write_faults));
         }
         Ok(bytes.len())

@@ -5,7 +5,7 @@ ghost use Rattle.std.specs.Option.{ForSome};
 ghost use Rattle.fsrm_outside.specs.Causes.{HasCause, count_after};
 ghost use Rattle.fsrm_outside.specs.Changes.{Same, Through, Torn, Written};
 ghost use Rattle.fsrm_outside.specs.Contents.{parts_in};
-ghost use Rattle.fsrm_outside.specs.History.{Stopped, Wrote};
+ghost use Rattle.fsrm_outside.specs.History.{Missed, Noted, NotedOrMissed, Stopped, Wrote};
 ghost use Rattle.fsrm_outside.specs.Parts.{Parts, part_of};
 ghost use Rattle.fsrm_outside.specs.Plan.{FailsNext, GoesBy};
 ghost use Rattle.fsrm_outside.specs.Told.{AtMostOneTick};
@@ -67,7 +67,9 @@ impl Disk for MemoryOutside {
         ensures cause { HasCause (disk_faults_of self.old) (disk_faults_of self.new) result }
 
         ensures told { FailsNext (plan_of self.old) → IsErr result }
-        ensures only { OnErr result (FailsNext (plan_of self.old) ⊎ (plan_of self.new ≡ plan_of self.old) ⊎ (2 ^ 62 < length (part_of part (parts_of self.old)))) }
+        ensures only { OnErr result (FailsNext (plan_of self.old) ⊎ Missed self.old.history self.new.history ⊎ (2 ^ 62 < length (part_of part (parts_of self.old)))) }
+        ensures noted { OnOk result (Noted Call.Len self.old.history self.new.history) }
+        ensures noted_failed { OnErr result (NotedOrMissed Call.Len self.old.history self.new.history) }
         ensures plan { GoesBy (plan_of self.old) (plan_of self.new) }
         ensures counted { disk_faults_of self.new ≡ count_after (disk_faults_of self.old) result }
     {
@@ -91,7 +93,9 @@ impl Disk for MemoryOutside {
         ensures cause { HasCause (disk_faults_of self.old) (disk_faults_of self.new) result }
 
         ensures told { FailsNext (plan_of self.old) → IsErr result }
-        ensures only { OnErr result (FailsNext (plan_of self.old) ⊎ (plan_of self.new ≡ plan_of self.old)) }
+        ensures only { OnErr result (FailsNext (plan_of self.old) ⊎ Missed self.old.history self.new.history) }
+        ensures noted { OnOk result (Noted Call.ReadAt self.old.history self.new.history) }
+        ensures noted_failed { OnErr result (NotedOrMissed Call.ReadAt self.old.history self.new.history) }
         ensures plan { GoesBy (plan_of self.old) (plan_of self.new) }
         ensures counted { disk_faults_of self.new ≡ count_after (disk_faults_of self.old) result }
     {
@@ -116,6 +120,8 @@ impl Disk for MemoryOutside {
 
         ensures told { FailsNext (plan_of self.old) → IsErr result }
         ensures stays { OnErr result (parts_of self.new ≡ parts_of self.old) }
+        ensures noted { OnOk result (Wrote part place bytes.now self.old.history self.new.history) }
+        ensures noted_failed { OnErr result (NotedOrMissed (Call.FailedAt part place (length bytes.now)) self.old.history self.new.history) }
         ensures plan { GoesBy (plan_of self.old) (plan_of self.new) }
         ensures counted { disk_faults_of self.new ≡ count_after (disk_faults_of self.old) result }
     {
@@ -137,7 +143,9 @@ impl Disk for MemoryOutside {
         ensures cause { HasCause (disk_faults_of self.old) (disk_faults_of self.new) result }
 
         ensures told { FailsNext (plan_of self.old) → IsErr result }
-        ensures only { OnErr result (FailsNext (plan_of self.old) ⊎ (plan_of self.new ≡ plan_of self.old)) }
+        ensures only { OnErr result (FailsNext (plan_of self.old) ⊎ Missed self.old.history self.new.history) }
+        ensures noted { OnOk result (Noted (Call.Sync true) self.old.history self.new.history) }
+        ensures noted_failed { OnErr result (NotedOrMissed (Call.Sync false) self.old.history self.new.history) }
         ensures plan { GoesBy (plan_of self.old) (plan_of self.new) }
         ensures counted { disk_faults_of self.new ≡ count_after (disk_faults_of self.old) result }
     {

@@ -1,6 +1,7 @@
 use Rattle.std.proofs.Common.{refl, length}
 use Rattle.fsrm_outside.specs.MemoryOutside.{parts_of}
-use Rattle.fsrm_outside.proofs.Kept.{wrote_through, failed_through, failed_reads, failed_same, stopped_failed}
+use Rattle.fsrm_outside.specs.declared.calls.Call.TheVariants.{FailedAt}
+use Rattle.fsrm_outside.proofs.Kept.{wrote_through, failed_through, failed_reads, failed_same, stopped_then}
 use Rattle.fsrm_outside.proofs.memory.disk.MemoryOutsideDisk.write_at.Goals as goal
 
 pub returns-clause-crash : goal.returns-clause-crash
@@ -8,15 +9,19 @@ returns-clause-crash c = wrote_through c.args.self.now.history c.written.new.his
 
 pub returns-then-not-written-clause-crash : goal.returns-then-not-written-clause-crash
 returns-then-not-written-clause-crash c =
-    let failed = stopped_failed c.args.self.now.history c.written.new.history c.fail_at.new.self c.args.part c.args.place (length c.args.bytes.now) c.if-not-written.ensures.done c.fail_at.ensures in
+    let failed = stopped_then c.args.self.now.history c.written.new.history c.fail_at.new.self (FailedAt c.args.part c.args.place (length c.args.bytes.now)) c.if-not-written.ensures.done c.fail_at.ensures in
     failed_through c.args.self.now.history c.fail_at.new.self c.args.part c.args.place (length c.args.bytes.now) (c.requires (parts_of c.args.self.now) refl) failed
 
 pub returns-then-not-written-clause-failed : goal.returns-then-not-written-clause-failed
 returns-then-not-written-clause-failed c =
-    let failed = stopped_failed c.args.self.now.history c.written.new.history c.fail_at.new.self c.args.part c.args.place (length c.args.bytes.now) c.if-not-written.ensures.done c.fail_at.ensures in
+    let failed = stopped_then c.args.self.now.history c.written.new.history c.fail_at.new.self (FailedAt c.args.part c.args.place (length c.args.bytes.now)) c.if-not-written.ensures.done c.fail_at.ensures in
     failed_reads c.args.self.now.history c.fail_at.new.self c.args.part c.args.place (length c.args.bytes.now) (length c.args.bytes.now) failed
 
 pub returns-then-not-written-clause-stays : goal.returns-then-not-written-clause-stays
 returns-then-not-written-clause-stays c =
-    let failed = stopped_failed c.args.self.now.history c.written.new.history c.fail_at.new.self c.args.part c.args.place (length c.args.bytes.now) c.if-not-written.ensures.done c.fail_at.ensures in
+    let failed = stopped_then c.args.self.now.history c.written.new.history c.fail_at.new.self (FailedAt c.args.part c.args.place (length c.args.bytes.now)) c.if-not-written.ensures.done c.fail_at.ensures in
     failed_same c.args.self.now.history c.fail_at.new.self c.args.part c.args.place (length c.args.bytes.now) failed
+
+pub returns-then-not-written-clause-noted_failed : goal.returns-then-not-written-clause-noted_failed
+returns-then-not-written-clause-noted_failed c =
+    stopped_then c.args.self.now.history c.written.new.history c.fail_at.new.self (FailedAt c.args.part c.args.place (length c.args.bytes.now)) c.if-not-written.ensures.done c.fail_at.ensures
