@@ -26,6 +26,7 @@ disk_faults_of o = o.disk_faults
 
 -- what reads keep
 pub record ByRead (a b : QuietOutside) : Type 0 where
+  pub room : b.room ≡ a.room
   pub parts : parts_of b ≡ parts_of a
   pub shown : shown_of b ≡ shown_of a
   pub write_faults : b.write_faults ≡ a.write_faults
@@ -33,33 +34,35 @@ pub record ByRead (a b : QuietOutside) : Type 0 where
 
 -- what writes keep
 pub record ByWrite (a b : QuietOutside) : Type 0 where
+  pub room : b.room ≡ a.room
   pub parts : parts_of b ≡ parts_of a
   pub left : left_of b ≡ left_of a
   pub disk_faults : b.disk_faults ≡ a.disk_faults
 
 -- what calls of the disk keep
 pub record ByDisk (a b : QuietOutside) : Type 0 where
+  pub room : b.room ≡ a.room
   pub shown : shown_of b ≡ shown_of a
   pub left : left_of b ≡ left_of a
   pub write_faults : b.write_faults ≡ a.write_faults
 
 pub read_same : (a : QuietOutside) → ByRead a a
-read_same a = record { parts = refl; shown = refl; write_faults = refl; disk_faults = refl }
+read_same a = record { room = refl; parts = refl; shown = refl; write_faults = refl; disk_faults = refl }
 
 pub read_then : (a b c : QuietOutside) → ByRead a b → ByRead b c → ByRead a c
-read_then a b c p q = record { parts = q.parts ∙ p.parts; shown = q.shown ∙ p.shown; write_faults = q.write_faults ∙ p.write_faults; disk_faults = q.disk_faults ∙ p.disk_faults }
+read_then a b c p q = record { room = q.room ∙ p.room; parts = q.parts ∙ p.parts; shown = q.shown ∙ p.shown; write_faults = q.write_faults ∙ p.write_faults; disk_faults = q.disk_faults ∙ p.disk_faults }
 
 pub write_same : (a : QuietOutside) → ByWrite a a
-write_same a = record { parts = refl; left = refl; disk_faults = refl }
+write_same a = record { room = refl; parts = refl; left = refl; disk_faults = refl }
 
 pub write_then : (a b c : QuietOutside) → ByWrite a b → ByWrite b c → ByWrite a c
-write_then a b c p q = record { parts = q.parts ∙ p.parts; left = q.left ∙ p.left; disk_faults = q.disk_faults ∙ p.disk_faults }
+write_then a b c p q = record { room = q.room ∙ p.room; parts = q.parts ∙ p.parts; left = q.left ∙ p.left; disk_faults = q.disk_faults ∙ p.disk_faults }
 
 pub disk_same : (a : QuietOutside) → ByDisk a a
-disk_same a = record { shown = refl; left = refl; write_faults = refl }
+disk_same a = record { room = refl; shown = refl; left = refl; write_faults = refl }
 
 pub disk_then : (a b c : QuietOutside) → ByDisk a b → ByDisk b c → ByDisk a c
-disk_then a b c p q = record { shown = q.shown ∙ p.shown; left = q.left ∙ p.left; write_faults = q.write_faults ∙ p.write_faults }
+disk_then a b c p q = record { room = q.room ∙ p.room; shown = q.shown ∙ p.shown; left = q.left ∙ p.left; write_faults = q.write_faults ∙ p.write_faults }
 
 -- no clock is told
 pub untold : (t : ℕ) (P : Type 0) → None ≡ Some t → P

@@ -31,6 +31,7 @@ pub struct QuietOutside {
     ghost room_output: { room ≤ vec_capacity output },
     ghost room_zero: { room ≤ room_of Zero contents },
     ghost room_one: { room ≤ room_of One contents },
+    ghost fits_output: { length output.items ≤ room },
     ghost fits_zero: { length (parts_in contents).zero ≤ room },
     ghost fits_one: { length (parts_in contents).one ≤ room },
     ghost few: { room ≤ 2 ^ 62 },
@@ -110,7 +111,8 @@ impl Sink for QuietOutside {
         ensures cause { HasCause (write_faults_of self.old) (write_faults_of self.new) result }
 
         ensures full { OnErr result (self.old.room < length (shown_of self.old) + length bytes.now) }
-        ensures room { self.new.room ≡ self.old.room }
+        ensures within { IfOk result (λ _. length (shown_of self.old) + length bytes.now ≤ self.old.room) }
+        ensures counted { write_faults_of self.new ≡ count_after (write_faults_of self.old) result }
         ensures all { IfOk result (λ n. n ≡ length bytes.now) }
     {
         if bytes.len() > self.room.saturating_sub(self.output.len()) {
@@ -136,6 +138,11 @@ impl Sink for QuietOutside {
 }
 
 impl Disk for QuietOutside {
+    ghost use Rattle.std.specs.Prelude.{IsOk};
+    ghost use Rattle.std.specs.Option.{ForSome};
+    ghost use Rattle.fsrm_outside.specs.Causes.{HasCause, count_after};
+    ghost use Rattle.fsrm_outside.specs.Changes.{Torn, Written};
+    ghost use Rattle.fsrm_outside.specs.Parts.{Parts, part_of};
     ghost use Rattle.fsrm_outside.specs.QuietOutside.{ByDisk, disk_faults_of, disk_same, disk_then, parts_of, untold};
 
     ghost reads = { λ o. Some (parts_of o) };
@@ -148,15 +155,46 @@ impl Disk for QuietOutside {
 
     ghost by_disk = { ByDisk };
 
-    fn len(&mut self, part: Part) -> Result<u64, Failed> {
+    /// Never fails.
+    fn len(&mut self, part: Part) -> Result<u64, Failed>
+        ensures length { IfOk result (λ n. n ≡ length (part_of part (parts_of self.old))) }
+        ensures bound { IfOk result (λ n. n ≤ 2 ^ 62) }
+        ensures reads { parts_of self.new ≡ parts_of self.old }
+        ensures by { ByDisk self.old self.new }
+        ensures cause { HasCause (disk_faults_of self.old) (disk_faults_of self.new) result }
+
+        ensures never_fails { IsOk result }
+    {
         Ok(self.contents.part(part).len() as u64)
     }
 
-    fn read_at(&mut self, part: Part, place: u64, into: &mut [u8]) -> Result<usize, Failed> {
+    /// Never fails.
+    fn read_at(&mut self, part: Part, place: u64, into: &mut [u8]) -> Result<usize, Failed>
+        ensures count { IfOk result (λ n. n ≤ length into.new) }
+        ensures bytes { IfOk result (λ n. take n into.new ≡ take (length into.old) (drop place (part_of part (parts_of self.old)))) }
+        ensures reads { parts_of self.new ≡ parts_of self.old }
+        ensures by { ByDisk self.old self.new }
+        ensures cause { HasCause (disk_faults_of self.old) (disk_faults_of self.new) result }
+
+        ensures never_fails { IsOk result }
+    {
         Ok(fill_from(self.contents.part(part), place, into))
     }
 
-    fn write_at(&mut self, part: Part, place: u64, bytes: &[u8]) -> Result<(), Failed> {
+    /// Fails exactly if the room would be passed. What a read gives then stays.
+    fn write_at(&mut self, part: Part, place: u64, bytes: &[u8]) -> Result<(), Failed>
+        requires { ForSome (Some (parts_of self.old)) (λ parts. place ≤ length (part_of part parts)) }
+        ensures written { OnOk result (parts_of self.new ≡ Written part place bytes.now (parts_of self.old)) }
+        ensures bound { OnOk result (place + length bytes.now ≤ 2 ^ 62) }
+        ensures failed { OnErr result (ForSome (Some (parts_of self.old)) (λ parts. (torn : Parts) × (Some (parts_of self.new) ≡ Some torn) × Torn part place (length bytes.now) parts torn)) }
+        ensures by { ByDisk self.old self.new }
+        ensures cause { HasCause (disk_faults_of self.old) (disk_faults_of self.new) result }
+
+        ensures full { OnErr result (self.old.room < place + length bytes.now) }
+        ensures within { OnOk result (place + length bytes.now ≤ self.old.room) }
+        ensures stays { OnErr result (parts_of self.new ≡ parts_of self.old) }
+        ensures counted { disk_faults_of self.new ≡ count_after (disk_faults_of self.old) result }
+    {
         if bytes.len() > self.room || place as usize > self.room - bytes.len() {
             return Err(Failed::counted(&mut self.disk_faults));
         }
@@ -166,7 +204,14 @@ impl Disk for QuietOutside {
         Ok(())
     }
 
-    fn sync(&mut self) -> Result<(), Failed> {
+    /// Never fails.
+    fn sync(&mut self) -> Result<(), Failed>
+        ensures reads { parts_of self.new ≡ parts_of self.old }
+        ensures by { ByDisk self.old self.new }
+        ensures cause { HasCause (disk_faults_of self.old) (disk_faults_of self.new) result }
+
+        ensures never_fails { IsOk result }
+    {
         Ok(())
     }
 
