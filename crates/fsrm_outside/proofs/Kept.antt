@@ -2,15 +2,15 @@
 use Rattle.std.proofs.Common.{◌≡◌, ◌⊎◌, inl, inr, ⊎_elim, ℕ, ◌≤◌, true, false, Some, List, [], ◌∷◌, ◌++◌, length, take, refl, sym, ◌∙◌, ap, subst, arith, length-append}
 use Rattle.std.specs.Prelude.{Bool}
 use Rattle.std.proofs.lemmas.Bool.{cases_lt}
-use Rattle.std.proofs.lemmas.List.{take-append-le, take_all}
+use Rattle.std.proofs.lemmas.List.{append-nil, take-append-le, take_all}
 use Rattle.fsrm_outside.specs.Changes.{Same, Through, Torn}
 use Rattle.fsrm_outside.specs.Contents.{parts_in}
 use Rattle.fsrm_outside.specs.DiskModel.{IsImage}
-use Rattle.fsrm_outside.specs.History.{images_in, clock_in, Missed, Noted, NotedOrMissed, Stopped, Wrote}
+use Rattle.fsrm_outside.specs.History.{images_in, clock_in, Noted, NotedOrMissed, Stopped, Wrote}
 use Rattle.fsrm_outside.specs.ImageLaws.{now_image, image_back, failed_back, two_parts}
 use Rattle.fsrm_outside.specs.MemoryLaws.{some_same, take_whole}
 use Rattle.fsrm_outside.specs.Parts.{Parts, part_of}
-use Rattle.fsrm_outside.specs.Record.{now_of, since}
+use Rattle.fsrm_outside.specs.Record.{now_of, since, GoesOn}
 use Rattle.fsrm_outside.specs.declared.calls.Call.{Call}
 use Rattle.fsrm_outside.specs.declared.calls.Call.TheVariants.{WriteAt, FailedAt, Sync}
 use Rattle.fsrm_outside.specs.declared.history.History.{History}
@@ -135,6 +135,18 @@ stopped_then a b c call first = ⊎_elim
         room = omega (arith, first.room, lost.rest.room);
       };
     }))
+
+-- the record goes on by that call, or not at all, after the same start and the same crash
+pub noted_goes : (P : Call → Type 0) (old new : History) (call : Call) → P call → NotedOrMissed call old new → GoesOn P old.calls.items new.calls.items
+noted_goes P old new call is = ⊎_elim
+    (λ kept. record { more = call ∷ []; is = kept.calls; kind = (is, tt) })
+    (λ lost. record { more = []; is = lost.rest.calls ∙ sym (append-nil old.calls.items); kind = tt })
+
+pub noted_start : (old new : History) (call : Call) → NotedOrMissed call old new → parts_in new.start ≡ parts_in old.start
+noted_start old new call = ⊎_elim (λ kept. kept.start) (λ lost. lost.rest.start)
+
+pub noted_begun : (old new : History) (call : Call) → NotedOrMissed call old new → new.begun ≡ old.begun
+noted_begun old new call = ⊎_elim (λ kept. kept.begun) (λ lost. lost.rest.begun)
 
 -- a write that failed leaves what a read gives
 pub failed_same : (old new : History) (part : Part) (place count : ℕ) → NotedOrMissed (FailedAt part place count) old new → parts_in new.parts ≡ parts_in old.parts

@@ -10,7 +10,7 @@ use Rattle.fsrm_outside.specs.Record.{now_of, since}
 use Rattle.fsrm_outside.specs.declared.crash.Pick.{Pick}
 use Rattle.fsrm_outside.specs.declared.crash.Pick.TheVariants.{Lost, Taken, Fill}
 use Rattle.fsrm_outside.specs.declared.calls.Call.{Call}
-use Rattle.fsrm_outside.specs.declared.calls.Call.TheVariants.{Write, WriteAt, FailedAt}
+use Rattle.fsrm_outside.specs.declared.calls.Call.TheVariants.{Write, WriteAt}
 use Rattle.fsrm_outside.specs.declared.traits.Part.{Part}
 use Rattle.fsrm_outside.specs.declared.history.History.{History}
 

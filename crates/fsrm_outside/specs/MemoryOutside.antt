@@ -17,7 +17,7 @@ abbrev pub time_of : MemoryOutside → ℕ
 time_of o = length o.history.calls.items
 
 abbrev pub plan_of : MemoryOutside → Plan
-plan_of o = record { fail = o.fail.items; stop = o.stop; calls = time_of o; piece = o.piece }
+plan_of o = record { fail = o.fail.items; stop = o.stop; calls = time_of o; piece = o.piece; lacked = o.lacked }
 
 -- the bytes not yet taken
 abbrev pub left_of : MemoryOutside → List ℕ

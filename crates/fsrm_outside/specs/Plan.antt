@@ -1,5 +1,6 @@
--- What a device in memory is told to do, and how far it has come.
+-- What a device in memory is told to do, how far it has come, and how often it had no memory for it.
 use Rattle.std.specs.Prelude.{◌≡◌, ◌⊎◌, ℕ, ◌+◌, ◌≤◌, min, Option, None, Some, List, length, Contains}
+use Rattle.fsrm_outside.specs.Causes.{Rose}
 
 pub record Plan : Type 0 where
   -- the numbers of the calls that are to fail
@@ -10,6 +11,8 @@ pub record Plan : Type 0 where
   pub calls : ℕ
   -- the most bytes that one read gives
   pub piece : ℕ
+  -- how many writes failed for want of memory
+  pub lacked : ℕ
 
 abbrev pub IsFrom : Option ℕ → ℕ → Type 0
 IsFrom None call = ⊥
@@ -28,3 +31,11 @@ pub record GoesBy (old new : Plan) : Type 0 where
   pub same : record new { calls = old.calls } ≡ old
   pub no_fewer : old.calls ≤ new.calls
   pub at_most : new.calls ≤ old.calls + 1
+
+-- so by a write, which may have lacked memory
+abbrev pub WritesBy : Plan → Plan → Type 0
+WritesBy old new = GoesBy old (record new { lacked = old.lacked })
+
+-- one write more lacked memory
+abbrev pub Lacked : Plan → Plan → Type 0
+Lacked old new = Rose old.lacked new.lacked

@@ -1,6 +1,7 @@
 //! A source, a sink and a disk in memory, which fail when they are told to.
 
 ghost use Rattle.std.specs.Prelude.{◌≡◌, ◌⊎◌, ◌+◌, ◌-◌, ◌≤◌, ◌<◌, ◌↔◌, ℕ, List, [], min, true, false, None, Some, IfOk, OnErr, OnOk, IsErr, IsTrue, MatchBool, Contains, take, drop, reverse, length, slice_index_or, ◌++◌, vec_len};
+ghost use Rattle.fsrm_outside.specs.Causes.{Rose};
 ghost use Rattle.fsrm_outside.specs.Contents.{parts_in};
 ghost use Rattle.fsrm_outside.specs.History.{Crashed, Missed, Noted, NotedOrMissed, NotedShown, NotedUnshown, Stopped};
 ghost use Rattle.fsrm_outside.specs.Plan.{IsFrom};
@@ -17,10 +18,13 @@ mod disk;
 /// A script to read, a record of what was shown, and a disk with what a crash may leave of it.
 ///
 /// Its calls, those of its three traits together, are numbered from 1. A call whose number is among those to
-/// fail fails, and from the call on at which it was told to stop, all do. A call for which there is no memory fails
-/// too; if there is none even for its place in the record, it has no number, and the next call takes it.
-/// So does one on more than 2^62 bytes of a part. Every other call succeeds. Failed reads, writes and calls of the
+/// fail fails, and from the call on at which it was told to stop, all do. So does one on more than 2^62 bytes of a
+/// part, and one for which there is no memory. Every other call succeeds. Failed reads, writes and calls of the
 /// disk are counted, each up to `u64::MAX`.
+///
+/// A call that failed has its number too, but for one: if there is no memory for its place in the record, it is
+/// counted as failed alone, the next call takes its number, and a write leaves the images of the disk as they were.
+/// A write of the disk that failed may have grown the part, so an image may be as long as its range reaches.
 ///
 /// It keeps all that was written: it is made for tests, and grows with every call.
 #[derive(Drop)]
@@ -36,6 +40,7 @@ pub struct MemoryOutside {
     read_faults: u64,
     write_faults: u64,
     disk_faults: u64,
+    lacked: u64,
     ghost within: { place ≤ vec_len script },
     ghost some: { 0 < piece },
     ghost told: { shown.items ≡ text_of (reverse history.calls.items) },
@@ -59,7 +64,7 @@ impl MemoryOutside {
         ensures write_faults { IfOk result (λ o. ⟦<MemoryOutside as Sink>⟧.write_faults o ≡ 0) }
         ensures disk_faults { IfOk result (λ o. o.disk_faults ≡ 0) }
         ensures plan { IfOk result (λ o.
-            plan_of o ≡ record { fail = fail.now; stop = None; calls = 0; piece = usize.MAX }) }
+            plan_of o ≡ record { fail = fail.now; stop = None; calls = 0; piece = usize.MAX; lacked = 0 }) }
     {
         MemoryOutside::with_parts(alloc, [].as_slice(), [].as_slice(), script, fail)
     }
@@ -80,7 +85,7 @@ impl MemoryOutside {
         ensures write_faults { IfOk result (λ o. ⟦<MemoryOutside as Sink>⟧.write_faults o ≡ 0) }
         ensures disk_faults { IfOk result (λ o. o.disk_faults ≡ 0) }
         ensures plan { IfOk result (λ o.
-            plan_of o ≡ record { fail = fail.now; stop = None; calls = 0; piece = usize.MAX }) }
+            plan_of o ≡ record { fail = fail.now; stop = None; calls = 0; piece = usize.MAX; lacked = 0 }) }
     {
         Ok(MemoryOutside {
             alloc,
@@ -94,6 +99,7 @@ impl MemoryOutside {
             read_faults: 0,
             write_faults: 0,
             disk_faults: 0,
+            lacked: 0,
         })
     }
 
@@ -185,6 +191,14 @@ impl MemoryOutside {
         self.history.kind((call - 1) as usize)
     }
 
+    /// How many writes, of the output and of the disk, were not told to fail and failed for want of memory, up to
+    /// `u64::MAX`.
+    pub fn lacked(&self) -> u64
+        ensures { result ≡ (plan_of self.now).lacked }
+    {
+        self.lacked
+    }
+
     // Whether the next call is to fail.
     fn fails_next(&self) -> bool
         ensures { IsTrue result ↔ FailsNext (plan_of self.now) }
@@ -251,6 +265,16 @@ fn show(
     true
 }
 
+// Counts a write that failed as one for want of memory, unless it was to fail.
+fn count_lacked(fails: bool, lacked: &mut u64)
+    ensures told { IsTrue fails → lacked.new ≡ lacked.old }
+    ensures only { IsTrue fails ⊎ Rose lacked.old lacked.new }
+{
+    if !fails {
+        *lacked = lacked.saturating_add(1);
+    }
+}
+
 // Copies the front of what is left into the buffer, and answers how much.
 fn copy_front(rest: &[u8], into: &mut [u8], most: usize) -> usize
     requires { 0 < most }
@@ -313,7 +337,7 @@ impl Sink for MemoryOutside {
     ghost use Rattle.fsrm_outside.specs.Causes.{HasCause, count_after};
     ghost use Rattle.fsrm_outside.specs.MemoryOutside.{ByWrite, plan_of, shown_of, shown_at_of, time_of, write_faults_of};
     ghost use Rattle.fsrm_outside.specs.MemoryLaws.{write_same, write_then, write_later, write_past, shown_now, shown_grows};
-    ghost use Rattle.fsrm_outside.specs.Plan.{FailsNext, GoesBy};
+    ghost use Rattle.fsrm_outside.specs.Plan.{FailsNext, Lacked, WritesBy};
     ghost use Rattle.fsrm_outside.specs.Told.{AtMostOneTick};
 
     ghost shown = { λ o. Some (shown_of o) };
@@ -338,15 +362,19 @@ impl Sink for MemoryOutside {
         ensures cause { HasCause (write_faults_of self.old) (write_faults_of self.new) result }
 
         ensures told { FailsNext (plan_of self.old) → IsErr result }
+        ensures only { OnErr result (FailsNext (plan_of self.old) ⊎ Lacked (plan_of self.old) (plan_of self.new)) }
+        ensures enough { IfOk result (λ _. (plan_of self.new).lacked ≡ (plan_of self.old).lacked) }
+        ensures told_enough { FailsNext (plan_of self.old) → (plan_of self.new).lacked ≡ (plan_of self.old).lacked }
         ensures noted { OnOk result (NotedShown bytes.now self.old.history self.new.history) }
         ensures noted_failed { OnErr result (NotedUnshown self.old.history self.new.history) }
-        ensures plan { GoesBy (plan_of self.old) (plan_of self.new) }
+        ensures plan { WritesBy (plan_of self.old) (plan_of self.new) }
         ensures counted { write_faults_of self.new ≡ count_after (write_faults_of self.old) result }
         ensures all { IfOk result (λ n. n ≡ length bytes.now) }
     {
         let fails = self.fails_next();
         if !show(fails, self.alloc, &mut self.shown, &mut self.history, bytes) {
             let _ = noted(true, &mut self.history, Call::Write(Vec::new(self.alloc)));
+            count_lacked(fails, &mut self.lacked);
             return Err(Failed::counted(&mut self.write_faults));
         }
         Ok(bytes.len())

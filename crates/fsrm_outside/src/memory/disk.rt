@@ -7,21 +7,35 @@ ghost use Rattle.fsrm_outside.specs.Changes.{Same, Through, Torn, Written};
 ghost use Rattle.fsrm_outside.specs.Contents.{parts_in};
 ghost use Rattle.fsrm_outside.specs.History.{Missed, Noted, NotedOrMissed, Stopped, Wrote};
 ghost use Rattle.fsrm_outside.specs.Parts.{Parts, part_of};
-ghost use Rattle.fsrm_outside.specs.Plan.{FailsNext, GoesBy};
+ghost use Rattle.fsrm_outside.specs.Plan.{FailsNext, GoesBy, Lacked, WritesBy};
 ghost use Rattle.fsrm_outside.specs.Told.{AtMostOneTick};
 
 use crate::calls::Call;
 use crate::contents::fill_from;
 use crate::history::History;
-use crate::memory::{MemoryOutside, noted};
+use crate::memory::{MemoryOutside, count_lacked, noted};
 use crate::traits::{Disk, Failed, Outside, Part};
 use std::alloc::Global;
 
 // The most bytes that a part may have.
 const MOST: u64 = 1 << 62;
 
-// Writes the bytes, and keeps the call. False: it is to fail, there is no memory for it, or the bytes would end past
-// 2^62, and nothing is written or kept.
+impl MemoryOutside {
+    ghost use Rattle.fsrm_outside.specs.MemoryOutside.{plan_of};
+
+    // Whether a write of so many bytes at a place is to fail: it was told to, or they would end past 2^62.
+    fn fails_write(&self, place: u64, count: usize) -> bool
+        ensures told { FailsNext (plan_of self.now) → IsTrue result }
+        ensures only { IsTrue result → FailsNext (plan_of self.now) ⊎ (2 ^ 62 < place + count) }
+        ensures within { result ≡ false → place + count ≤ 2 ^ 62 }
+    {
+        let count = count as u64;
+        self.fails_next() || count > MOST || place > MOST - count
+    }
+}
+
+// Writes the bytes, and keeps the call. False: it is to fail, or there is no memory for it, and nothing is written or
+// kept.
 fn written(
     fails: bool,
     alloc: Global,
@@ -32,14 +46,10 @@ fn written(
 ) -> bool
     requires { place ≤ length (part_of part (parts_in history.old.parts)) }
     ensures told { IsTrue fails → result ≡ false }
-    ensures bound { result ≡ true → place + length bytes.now ≤ 2 ^ 62 }
+    ensures may { result ≡ true → fails ≡ false }
     ensures done { MatchBool result (Wrote part place bytes.now history.old history.new) (Stopped history.old history.new) }
 {
-    let count = bytes.len() as u64;
-    if fails || count > MOST || place > MOST - count {
-        return false;
-    }
-    history.write_at(alloc, part, place, bytes)
+    !fails && history.write_at(alloc, part, place, bytes)
 }
 
 impl Disk for MemoryOutside {
@@ -119,15 +129,19 @@ impl Disk for MemoryOutside {
         ensures cause { HasCause (disk_faults_of self.old) (disk_faults_of self.new) result }
 
         ensures told { FailsNext (plan_of self.old) → IsErr result }
+        ensures only { OnErr result (FailsNext (plan_of self.old) ⊎ (2 ^ 62 < place + length bytes.now) ⊎ Lacked (plan_of self.old) (plan_of self.new)) }
+        ensures enough { OnOk result ((plan_of self.new).lacked ≡ (plan_of self.old).lacked) }
+        ensures told_enough { FailsNext (plan_of self.old) → (plan_of self.new).lacked ≡ (plan_of self.old).lacked }
         ensures stays { OnErr result (parts_of self.new ≡ parts_of self.old) }
         ensures noted { OnOk result (Wrote part place bytes.now self.old.history self.new.history) }
         ensures noted_failed { OnErr result (NotedOrMissed (Call.FailedAt part place (length bytes.now)) self.old.history self.new.history) }
-        ensures plan { GoesBy (plan_of self.old) (plan_of self.new) }
+        ensures plan { WritesBy (plan_of self.old) (plan_of self.new) }
         ensures counted { disk_faults_of self.new ≡ count_after (disk_faults_of self.old) result }
     {
-        let fails = self.fails_next();
+        let fails = self.fails_write(place, bytes.len());
         if !written(fails, self.alloc, &mut self.history, part, place, bytes) {
             self.history.fail_at(part, place, bytes.len());
+            count_lacked(fails, &mut self.lacked);
             return Err(Failed::counted(&mut self.disk_faults));
         }
         Ok(())

@@ -1,7 +1,8 @@
 use Rattle.std.proofs.Common.{refl, length}
 use Rattle.fsrm_outside.specs.MemoryOutside.{parts_of}
+use Rattle.fsrm_outside.specs.Record.{IsDisk}
 use Rattle.fsrm_outside.specs.declared.calls.Call.TheVariants.{FailedAt}
-use Rattle.fsrm_outside.proofs.Kept.{wrote_through, failed_through, failed_reads, failed_same, stopped_then}
+use Rattle.fsrm_outside.proofs.Kept.{wrote_through, failed_through, failed_reads, failed_same, noted_begun, noted_goes, noted_start, stopped_then}
 use Rattle.fsrm_outside.proofs.memory.disk.MemoryOutsideDisk.write_at.Goals as goal
 
 pub returns-clause-crash : goal.returns-clause-crash
@@ -25,3 +26,17 @@ returns-then-not-written-clause-stays c =
 pub returns-then-not-written-clause-noted_failed : goal.returns-then-not-written-clause-noted_failed
 returns-then-not-written-clause-noted_failed c =
     stopped_then c.args.self.now.history c.written.new.history c.fail_at.new.self (FailedAt c.args.part c.args.place (length c.args.bytes.now)) c.if-not-written.ensures.done c.fail_at.ensures
+
+pub returns-then-not-written-clause-by : goal.returns-then-not-written-clause-by
+returns-then-not-written-clause-by c =
+    let call = FailedAt c.args.part c.args.place (length c.args.bytes.now) in
+    let failed = stopped_then c.args.self.now.history c.written.new.history c.fail_at.new.self call c.if-not-written.ensures.done c.fail_at.ensures in
+    record {
+      calls = noted_goes IsDisk c.args.self.now.history c.fail_at.new.self call tt failed;
+      start = noted_start c.args.self.now.history c.fail_at.new.self call failed;
+      begun = noted_begun c.args.self.now.history c.fail_at.new.self call failed;
+      shown = refl;
+      left = refl;
+      read_faults = refl;
+      write_faults = refl;
+    }
