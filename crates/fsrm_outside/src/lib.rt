@@ -16,6 +16,7 @@
 mod calls;
 mod contents;
 mod crash;
+mod files;
 mod history;
 mod memory;
 mod quiet;

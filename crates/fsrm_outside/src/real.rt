@@ -2,22 +2,17 @@
 
 ghost use Rattle.std.specs.Prelude.{◌≡◌, ◌≤◌, ◌<◌, length, IfOk, IfSome};
 
+use crate::files::Files;
 use crate::{Disk, Failed, Outside, Part, Sink, Source};
 use fsrm_base::NoMemory;
 use std::alloc::Global;
-use std::fs::{File, OpenOptions};
 use std::io::{ErrorKind, Read, Stdin, Stdout, Write};
-use std::os::unix::fs::FileExt;
 
 // How often one call is made if a signal cuts each attempt short.
 const ATTEMPTS: usize = 64;
 
 // The most bytes that a part may have.
 const MOST: u64 = 1 << 62;
-
-const FILE_OF_ZERO: &str = "fsrm.store.0";
-
-const FILE_OF_ONE: &str = "fsrm.store.1";
 
 /// Standard input and standard output, without a buffer, and the files `fsrm.store.0` and
 /// `fsrm.store.1` of the current folder.
@@ -28,15 +23,15 @@ const FILE_OF_ONE: &str = "fsrm.store.1";
 /// the disk are counted, each up to `u64::MAX`.
 ///
 /// The first call of the disk opens both files, and makes those that are missing. So nothing is left
-/// in the folder by a process that keeps nothing. If a file can't be opened, the call has failed,
-/// and the next one tries again. A sync also syncs the folder, which the names of new files are kept in.
+/// in the folder by a process that keeps nothing. If one of them can't be opened, this call has failed, and so has
+/// each later call of the disk: neither file is used. A sync syncs the files that were written since the last one
+/// that succeeded. The first also syncs what was there before, and the folder, which the names of new files are kept in.
 #[derive(Drop)]
 pub struct RealOutside {
     system: HostRuntime,
     input: Stdin,
     output: Stdout,
-    zero: Option<File>,
-    one: Option<File>,
+    files: Files,
     read_faults: u64,
     write_faults: u64,
     disk_faults: u64,
@@ -54,43 +49,12 @@ impl RealOutside {
             system: *rt,
             input: rt.stdin(),
             output: rt.stdout(),
-            zero: None,
-            one: None,
+            files: Files::new(),
             read_faults: 0,
             write_faults: 0,
             disk_faults: 0,
         })
     }
-
-    // Opens the files that aren't open yet.
-    fn open_files(&mut self)
-        ensures read_faults { self.new.read_faults ≡ self.old.read_faults }
-        ensures write_faults { self.new.write_faults ≡ self.old.write_faults }
-        ensures disk_faults { self.new.disk_faults ≡ self.old.disk_faults }
-    {
-        if self.zero.is_none() {
-            self.zero = opened(&self.system, FILE_OF_ZERO);
-        }
-        if self.one.is_none() {
-            self.one = opened(&self.system, FILE_OF_ONE);
-        }
-    }
-
-    fn file(&self, part: Part) -> Option<&File> {
-        match part {
-            Part::Zero => self.zero.as_ref(),
-            Part::One => self.one.as_ref(),
-        }
-    }
-}
-
-fn opened(rt: &HostRuntime, path: &str) -> Option<File> {
-    OpenOptions::new()
-        .read(true)
-        .write(true)
-        .create(true)
-        .open(rt, path)
-        .ok()
 }
 
 // One read, made again if a signal cut it short.
@@ -120,56 +84,6 @@ fn write_some(output: &mut Stdout, bytes: &[u8]) -> Option<usize>
         }
     }
     None
-}
-
-// How long the file is.
-fn length_of(file: Option<&File>) -> Option<u64> {
-    match file?.metadata() {
-        Ok(data) => Some(data.len()),
-        Err(_) => None,
-    }
-}
-
-// Fills the buffer from a place on, up to the file's end, however little one read gives.
-fn filled(file: Option<&File>, place: u64, into: &mut [u8]) -> Option<usize>
-    ensures { IfSome result (λ n. n ≤ length into.new) }
-{
-    let file = file?;
-    let mut done = 0;
-    for _ in 0..u64::MAX {
-        if done >= into.len() {
-            return Some(done);
-        }
-        match file.read_at(&mut into[done..], place.wrapping_add(done as u64)) {
-            Ok(0) => return Some(done),
-            Ok(count) => done += count,
-            Err(error) if error.kind() == ErrorKind::Interrupted => {}
-            Err(_) => return None,
-        }
-    }
-    None
-}
-
-fn is_written(file: Option<&File>, place: u64, bytes: &[u8]) -> bool {
-    match file {
-        Some(file) => file.write_all_at(bytes, place).is_ok(),
-        None => false,
-    }
-}
-
-fn is_synced(file: Option<&File>) -> bool {
-    match file {
-        Some(file) => file.sync_all().is_ok(),
-        None => false,
-    }
-}
-
-// Makes stable which files the folder has.
-fn is_folder_synced(rt: &HostRuntime) -> bool {
-    match File::open(rt, ".") {
-        Ok(folder) => folder.sync_all().is_ok(),
-        Err(_) => false,
-    }
 }
 
 impl Source for RealOutside {
@@ -256,35 +170,34 @@ impl Disk for RealOutside {
     ghost by_disk = { ByDisk };
 
     fn len(&mut self, part: Part) -> Result<u64, Failed> {
-        self.open_files();
-        match length_of(self.file(part)) {
+        self.files.open_once(&self.system);
+        match self.files.len(part) {
             Some(length) if length <= MOST => Ok(length),
             _ => Err(Failed::counted(&mut self.disk_faults)),
         }
     }
 
     fn read_at(&mut self, part: Part, place: u64, into: &mut [u8]) -> Result<usize, Failed> {
-        self.open_files();
-        match filled(self.file(part), place, into) {
+        self.files.open_once(&self.system);
+        match self.files.read_at(part, place, into) {
             Some(count) => Ok(count),
             None => Err(Failed::counted(&mut self.disk_faults)),
         }
     }
 
     fn write_at(&mut self, part: Part, place: u64, bytes: &[u8]) -> Result<(), Failed> {
-        self.open_files();
+        self.files.open_once(&self.system);
         let count = bytes.len() as u64;
         let fits = count <= MOST && place <= MOST - count;
-        if !fits || !is_written(self.file(part), place, bytes) {
+        if !fits || !self.files.write_at(part, place, bytes) {
             return Err(Failed::counted(&mut self.disk_faults));
         }
         Ok(())
     }
 
     fn sync(&mut self) -> Result<(), Failed> {
-        self.open_files();
-        let files = is_synced(self.zero.as_ref()) && is_synced(self.one.as_ref());
-        if !files || !is_folder_synced(&self.system) {
+        self.files.open_once(&self.system);
+        if !self.files.sync(&self.system) {
             return Err(Failed::counted(&mut self.disk_faults));
         }
         Ok(())
