@@ -30,6 +30,7 @@ fn writes_that_are_told_to_fail_do(rt: HostRuntime) -> Result<(), Fail> {
     let mut outside = MemoryOutside::new(rt.alloc(), &[], [2].as_slice())?;
     assert!(rt; write_all(&mut outside, b"de".as_slice()) == Ok(()));
     assert!(rt; write_all(&mut outside, b"fg".as_slice()) == Err(Failed));
+    assert!(rt; outside.lacked() == 0);
     assert!(rt; outside.shown() == b"de".as_slice());
     Ok(())
 }

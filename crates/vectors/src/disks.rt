@@ -3,6 +3,7 @@
 use fsrm_outside::{
     CallKind, Disk, Failed, MemoryOutside, Part, Pick, QuietOutside, RealOutside, Sink,
 };
+use std::fs;
 use std::test::Fail;
 
 // Whether a crash leaves these bytes of a part that held `ab`, after `xyz` was written over it and before a sync.
@@ -71,8 +72,19 @@ fn a_quiet_disk_has_its_room(rt: HostRuntime) -> Result<(), Fail> {
     Ok(())
 }
 
+// Whether the disk fails while one of its files can't be opened, as a folder has its name, and from then on.
+fn stays_refused(rt: &HostRuntime) -> Result<bool, Fail> {
+    let _ = fs::remove_file(rt, "fsrm.store.1");
+    let made = fs::create_dir(rt, "fsrm.store.1").is_ok();
+    let mut disk = RealOutside::new(rt, rt.alloc())?;
+    let failed = disk.len(Part::Zero) == Err(Failed);
+    let removed = fs::remove_dir(rt, "fsrm.store.1").is_ok();
+    Ok(made && failed && removed && disk.len(Part::Zero) == Err(Failed))
+}
+
 #[test]
 fn files_keep_what_is_written(rt: HostRuntime) -> Result<(), Fail> {
+    assert!(rt; stays_refused(&rt)?);
     let mut disk = RealOutside::new(&rt, rt.alloc())?;
     assert!(rt; disk.write_at(Part::One, 0, b"abc".as_slice()) == Ok(()));
     assert!(rt; disk.sync() == Ok(()));
