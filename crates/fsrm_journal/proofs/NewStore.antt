@@ -4,9 +4,10 @@ use Rattle.std.specs.Prelude.{Option, Some, Result, Err, ◌||◌, slice_index}
 use Rattle.std.proofs.lemmas.Bool.{cases_lt}
 use Rattle.fsrm_outside.specs.Changes.{Same, Torn, Through, Written}
 use Rattle.fsrm_outside.specs.Parts.{Parts}
+use Rattle.fsrm_outside.specs.Told.{AtMostOneTick}
 use Rattle.fsrm_outside.specs.declared.traits.Part.{Part}
 use Rattle.fsrm_outside.specs.declared.traits.Part.TheVariants.{Zero, One}
-use Rattle.fsrm_outside.proofs.Stages.{DiskLaws, later_forth, later_back, some_is}
+use Rattle.fsrm_outside.proofs.Stages.{DiskLaws, later_forth, later_back, some_is, tick_forth}
 use Rattle.fsrm_journal.specs.Formatted.{IsMade, SameButGates, NoneOrFresh, Formats}
 use Rattle.fsrm_journal.specs.Halves.{IsLegal, head_tail, AllButGate, Beside, Shut, Until}
 use Rattle.fsrm_journal.specs.Heads.{head_of, is_open, half_fault, judged, ruling, unless_damaged}
@@ -95,37 +96,94 @@ made head image rest was now legal whole split beside =
       beside = beside;
     }
 
--- until the gates are stable
-pub formats_before : {D : Type 0} {clock : D → Option ℕ} {images : D → ℕ → Parts → Type 0} (head : Head) (image : List ℕ) {old new : D} → Through clock images SameButGates old new → Formats clock images head image old new
+-- a run of at most n calls
+abbrev pub AtMostTicks : {D : Type 0} → (D → Option ℕ) → ℕ → D → D → Type 0
+AtMostTicks clock n old new = (s t : ℕ) → clock old ≡ Some s → clock new ≡ Some t → t ≤ s + n
+
+-- one call more
+pub ticks_then : {D : Type 0} {clock : D → Option ℕ} {images : D → ℕ → Parts → Type 0} {by : D → D → Type 0} → DiskLaws clock images by → (n : ℕ) (old mid new : D) → by old mid → AtMostTicks clock n old mid → AtMostOneTick (clock mid) (clock new) → AtMostTicks clock (n + 1) old new
+ticks_then {clock = clock} laws n old mid new first few tick s t at_old at_new =
+    let u = later_forth (clock old) (clock mid) s (laws.later old mid first) at_old in
+    omega (arith, few s u.0 at_old u.1, tick_forth (clock mid) (clock new) u.0 t tick u.1 at_new)
+
+-- none is written
+pub formats_never : {D : Type 0} {clock : D → Option ℕ} {images : D → ℕ → Parts → Type 0} (head : Head) (image : List ℕ) {old new : D} → Through clock images Same old new → Formats clock images head image old new
 unfolding after_clock
-formats_before {clock = clock} head image {old} {new} by_step = record {
+formats_never {clock = clock} {images = images} head image {old} {new} by_step =
+    let same : (s t m : ℕ) (left : Parts) → clock old ≡ Some s → clock new ≡ Some t → s ≤ m → m ≤ t → images new m left → images old s left =
+    λ s t m left at_old at_new from to i.
+    let was = by_step s t m left at_old at_new from to i in
+    subst (images old s) (sym was.2) was.1 in
+    record {
+      begun = after_clock (clock new);
+      closed = after_clock (clock new);
+      whole = after_clock (clock new);
+      rest = [];
+      beside = [];
+      quiet = λ s t m i at_old at_new from to early left. same s t m i at_old at_new from to left;
+      soon = λ t at_new. inl (omega arith);
+      before = λ s t m i at_old at_new from to less left. (i, same s t m i at_old at_new from to left, gates_stay i i refl);
+      shut = λ t m i at_new from to less left. absurd (omega (arith, ap after_clock at_new, from, to));
+      after = λ t m i at_new from to whole left. absurd (omega (arith, ap after_clock at_new, from, to));
+    }
+
+-- up to a moment a crash leaves what it might have left at entry
+quiet_until : {D : Type 0} {clock : D → Option ℕ} {images : D → ℕ → Parts → Type 0} {by : D → D → Type 0} → DiskLaws clock images by → (old mid new : D) → by old mid → by mid new → Through clock images Same old mid
+    → (s t m : ℕ) (left : Parts) → clock old ≡ Some s → clock new ≡ Some t → s ≤ m → m ≤ t → m ≤ at_clock (clock mid) → images new m left → images old s left
+unfolding at_clock
+quiet_until {clock = clock} {images = images} laws old mid new first second by_step s t m i at_old at_new from to early left =
+    let u = later_forth (clock old) (clock mid) s (laws.later old mid first) at_old in
+    let within : m ≤ u.0 = omega (arith, early, ap at_clock u.1) in
+    let was = by_step s u.0 m i at_old u.1 from within ((laws.past mid new u.0 m i second u.1 within).0 left) in
+    subst (images old s) (sym was.2) was.1
+
+-- the gates aren't stable yet
+pub formats_before : {D : Type 0} {clock : D → Option ℕ} {images : D → ℕ → Parts → Type 0} {by : D → D → Type 0} → DiskLaws clock images by → (head : Head) (image : List ℕ) {old mid new : D}
+    → by old mid → by mid new → Through clock images Same old mid → Through clock images SameButGates mid new → AtMostTicks clock 3 mid new → Formats clock images head image old new
+unfolding at_clock after_clock
+formats_before {clock = clock} {images = images} laws head image {old} {mid} {new} first second quietly by_step few = record {
+  begun = at_clock (clock mid);
   closed = after_clock (clock new);
   whole = after_clock (clock new);
   rest = [];
   beside = [];
-  before = λ s t m i at_old at_new from to less left. by_step s t m i at_old at_new from to left;
+  quiet = quiet_until laws old mid new first second quietly;
+  soon = λ t at_new.
+      let u = later_back (clock mid) (clock new) t (laws.later mid new second) at_new in
+      inr (omega (arith, few u.0 t u.1 at_new, ap at_clock u.1));
+  before = λ s t m i at_old at_new from to less left. gates_then laws old mid new first second (through_as clock images old mid Same SameButGates gates_stay quietly) by_step s t m i at_old at_new from to left;
   shut = λ t m i at_new from to less left. absurd (omega (arith, ap after_clock at_new, from, to));
   after = λ t m i at_new from to whole left. absurd (omega (arith, ap after_clock at_new, from, to));
 }
 
 -- and then
-pub formats_then : {D : Type 0} {clock : D → Option ℕ} {images : D → ℕ → Parts → Type 0} {by : D → D → Type 0} → DiskLaws clock images by → (head : Head) (image one : List ℕ) → IsLegal head → head.image ≡ length image → {old mid new : D}
-    → by old mid → by mid new → Through clock images SameButGates old mid → (rest : List ℕ) × Until clock images (Shut One (0 ∷ one)) (AllButGate One (0 ∷ one) head image rest) mid new → Formats clock images head image old new
+pub formats_then : {D : Type 0} {clock : D → Option ℕ} {images : D → ℕ → Parts → Type 0} {by : D → D → Type 0} → DiskLaws clock images by → (head : Head) (image one : List ℕ) → IsLegal head → head.image ≡ length image → {old mid shut new : D}
+    → by old mid → by mid shut → by shut new → Through clock images Same old mid → Through clock images SameButGates mid shut → AtMostTicks clock 3 mid shut
+    → (rest : List ℕ) × Until clock images (Shut One (0 ∷ one)) (AllButGate One (0 ∷ one) head image rest) shut new → Formats clock images head image old new
 unfolding at_clock
-formats_then {clock = clock} laws head image one legal is_whole {old} {mid} {new} first second by_step u = record {
-  closed = at_clock (clock mid);
-  whole = u.1.since;
-  rest = u.0;
-  beside = 0 ∷ one;
-  before = λ s t m i at_old at_new from to less left.
-      let v = later_forth (clock old) (clock mid) s (laws.later old mid first) at_old in
-      let within : m ≤ v.0 = omega (arith, less, ap at_clock v.1) in
-      by_step s v.0 m i at_old v.1 from within ((laws.past mid new v.0 m i second v.1 within).0 left);
-  shut = λ t m i at_new from to less left.
-      let v = later_back (clock mid) (clock new) t (laws.later mid new second) at_new in
-      shut_none one i (u.1.before v.0 t m i v.1 at_new (omega (arith, from, ap at_clock v.1)) to less left);
-  after = λ t m i at_new from to whole left.
-      let v = later_back (clock mid) (clock new) t (laws.later mid new second) at_new in
-      let a = u.1.after v.0 t m i v.1 at_new (omega (arith, from, ap at_clock v.1)) to whole left in
-      (none_or_fresh head image one i legal is_whole (shut_or_open One (0 ∷ one) head image u.0 i a), a);
-}
+formats_then {clock = clock} {images = images} laws head image one legal is_whole {old} {mid} {shut} {new} first second third quietly by_step few u =
+    let begin = laws.then_by old mid shut first second in
+    let gates = gates_then laws old mid shut first second (through_as clock images old mid Same SameButGates gates_stay quietly) by_step in
+    record {
+      begun = at_clock (clock mid);
+      closed = at_clock (clock shut);
+      whole = u.1.since;
+      rest = u.0;
+      beside = 0 ∷ one;
+      quiet = quiet_until laws old mid new first (laws.then_by mid shut new second third) quietly;
+      soon = λ t at_new.
+          let v = later_back (clock shut) (clock new) t (laws.later shut new third) at_new in
+          let w = later_back (clock mid) (clock shut) v.0 (laws.later mid shut second) v.1 in
+          inl (omega (arith, few w.0 v.0 w.1 v.1, ap at_clock w.1, ap at_clock v.1));
+      before = λ s t m i at_old at_new from to less left.
+          let v = later_forth (clock old) (clock shut) s (laws.later old shut begin) at_old in
+          let within : m ≤ v.0 = omega (arith, less, ap at_clock v.1) in
+          gates s v.0 m i at_old v.1 from within ((laws.past shut new v.0 m i third v.1 within).0 left);
+      shut = λ t m i at_new from to less left.
+          let v = later_back (clock shut) (clock new) t (laws.later shut new third) at_new in
+          shut_none one i (u.1.before v.0 t m i v.1 at_new (omega (arith, from, ap at_clock v.1)) to less left);
+      after = λ t m i at_new from to whole left.
+          let v = later_back (clock shut) (clock new) t (laws.later shut new third) at_new in
+          let a = u.1.after v.0 t m i v.1 at_new (omega (arith, from, ap at_clock v.1)) to whole left in
+          (none_or_fresh head image one i legal is_whole (shut_or_open One (0 ∷ one) head image u.0 i a), a);
+    }

@@ -37,13 +37,18 @@ pub record SameButGates (was now : Parts) : Type 0 where
 abbrev pub NoneOrFresh : Head → List ℕ → Parts → Type 0
 NoneOrFresh head image parts = (judged_parts parts ≡ Err NoStore) ⊎ Fresh Zero head image parts
 
--- What a crash leaves: first what was there, but for the gates; once they are closed, no store; and once the new one is
--- there whole, it or no store, and from then on nothing but its gate is written.
+-- What a crash leaves: up to the moment `begun` what it might have left at entry; then that, but for the gates; once they
+-- are closed, no store; and once the new one is there whole, it or no store, and from then on nothing but its gate is
+-- written. Three calls close the gates, so no gate that was closed is opened again: by the third moment after `begun`
+-- they are closed, or the call has ended.
 pub record Formats {D : Type 0} (clock : D → Option ℕ) (images : D → ℕ → Parts → Type 0) (head : Head) (image : List ℕ) (old new : D) : Type 0 where
+  pub begun : ℕ
   pub closed : ℕ
   pub whole : ℕ
   pub rest : List ℕ
   pub beside : List ℕ
+  pub quiet : (s t m : ℕ) (left : Parts) → clock old ≡ Some s → clock new ≡ Some t → s ≤ m → m ≤ t → m ≤ begun → images new m left → images old s left
+  pub soon : (t : ℕ) → clock new ≡ Some t → (closed ≤ begun + 3) ⊎ (t ≤ begun + 3)
   pub before : (s t m : ℕ) (left : Parts) → clock old ≡ Some s → clock new ≡ Some t → s ≤ m → m ≤ t → m < closed → images new m left → (was : Parts) × images old s was × SameButGates was left
   pub shut : (t m : ℕ) (left : Parts) → clock new ≡ Some t → closed ≤ m → m ≤ t → m < whole → images new m left → judged_parts left ≡ Err NoStore
   pub after : (t m : ℕ) (left : Parts) → clock new ≡ Some t → closed ≤ m → m ≤ t → whole ≤ m → images new m left → NoneOrFresh head image left × AllButGate One beside head image rest left

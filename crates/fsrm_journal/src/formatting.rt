@@ -1,6 +1,6 @@
 //! The steps by which a store is made.
 
-ghost use Rattle.std.specs.Prelude.{◌≡◌, ◌≤◌, [], ◌∷◌, ◌++◌, drop, length, List, ℕ, IfOk, OnOk};
+ghost use Rattle.std.specs.Prelude.{◌≡◌, ◌≤◌, ◌+◌, Some, [], ◌∷◌, ◌++◌, drop, length, List, ℕ, IfOk, OnOk};
 ghost use Rattle.std.specs.Option.{ForSome};
 ghost use Rattle.fsrm_outside.specs.Causes.{HasCause};
 ghost use Rattle.fsrm_outside.specs.Changes.{Same, Through};
@@ -42,11 +42,12 @@ pub fn has_store<D: Disk>(disk: &mut D) -> Result<bool, Failed>
     Ok(zero || one)
 }
 
-/// Closes both gates, and makes that stable. Before, a crash may leave any gates.
+/// Closes both gates, and makes that stable, by three calls. Before, a crash may leave any gates.
 pub fn close_both<D: Disk>(disk: &mut D) -> Result<(), Failed>
     ensures closed { ForSome (D.reads disk.old) (λ parts. OnOk result (Beside D.reads D.disk_clock D.images One (0 ∷ drop 1 parts.one) [] disk.new)) }
     ensures ready { OnOk result (ForSome (D.reads disk.new) (λ parts. 1 ≤ length parts.zero)) }
     ensures crash { Through D.disk_clock D.images SameButGates disk.old disk.new }
+    ensures soon { (s t : ℕ) → D.disk_clock disk.old ≡ Some s → D.disk_clock disk.new ≡ Some t → t ≤ s + 3 }
     ensures by { D.by_disk disk.old disk.new }
     ensures cause { HasCause (D.disk_faults disk.old) (D.disk_faults disk.new) result }
 {

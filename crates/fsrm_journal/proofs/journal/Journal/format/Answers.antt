@@ -1,40 +1,35 @@
 use Rattle.std.proofs.Common.{◌∙◌, ◌∷◌, drop}
 use Rattle.fsrm_outside.proofs.Stages.{DiskLaws}
-use Rattle.fsrm_journal.specs.Formatted.{SameButGates}
-use Rattle.fsrm_journal.proofs.NewStore.{gates_stay, through_as, gates_then, made, formats_before, formats_then}
+use Rattle.fsrm_journal.proofs.NewStore.{made, formats_never, formats_before, formats_then}
 use Rattle.fsrm_journal.proofs.journal.Journal.format.Goals as goal
 
 pub returns-in_err-has_store-clause-any_moment : goal.returns-in_err-has_store-clause-any_moment
-returns-in_err-has_store-clause-any_moment g c parts told = formats_before c.args.head.now c.args.image.now (through_as g.D.Disk.disk_clock g.D.Disk.images _ _ _ SameButGates gates_stay c.has_store.ensures.crash)
+returns-in_err-has_store-clause-any_moment g c parts told = formats_never c.args.head.now c.args.image.now c.has_store.ensures.crash
 
 pub returns-then-branch-clause-any_moment : goal.returns-then-branch-clause-any_moment
-returns-then-branch-clause-any_moment g c parts told = formats_before c.args.head.now c.args.image.now (through_as g.D.Disk.disk_clock g.D.Disk.images _ _ _ SameButGates gates_stay c.has_store.ensures.crash)
+returns-then-branch-clause-any_moment g c parts told = formats_never c.args.head.now c.args.image.now c.has_store.ensures.crash
 
 pub returns-in_err-close_both-clause-any_moment : goal.returns-in_err-close_both-clause-any_moment
 returns-in_err-close_both-clause-any_moment g c parts told =
     let M = g.met.D.Disk in
     let laws : DiskLaws g.D.Disk.disk_clock g.D.Disk.images g.D.Disk.by_disk = record { same = M.disk_same; then_by = M.disk_then; later = M.disk_later; past = M.disk_past } in
-    formats_before c.args.head.now c.args.image.now (gates_then laws _ _ _ c.has_store.ensures.by c.close_both.ensures.by (through_as g.D.Disk.disk_clock g.D.Disk.images _ _ _ SameButGates gates_stay c.has_store.ensures.crash) c.close_both.ensures.crash)
+    formats_before laws c.args.head.now c.args.image.now c.has_store.ensures.by c.close_both.ensures.by c.has_store.ensures.crash c.close_both.ensures.crash c.close_both.ensures.soon
 
 pub returns-in_err-write_half-clause-any_moment : goal.returns-in_err-write_half-clause-any_moment
 returns-in_err-write_half-clause-any_moment g c parts told =
     let M = g.met.D.Disk in
     let laws : DiskLaws g.D.Disk.disk_clock g.D.Disk.images g.D.Disk.by_disk = record { same = M.disk_same; then_by = M.disk_then; later = M.disk_later; past = M.disk_past } in
-    let head = c.args.head.now in
-    let image = c.args.image.now in
-    let gates = gates_then laws _ _ _ c.has_store.ensures.by c.close_both.ensures.by (through_as g.D.Disk.disk_clock g.D.Disk.images _ _ _ SameButGates gates_stay c.has_store.ensures.crash) c.close_both.ensures.crash in
     let b = c.in_ok-close_both.ensures.closed parts (c.has_store.ensures.reads ∙ told) in
-    formats_then laws head image (drop 1 parts.one) c.requires.legal c.requires.whole (M.disk_then _ _ _ c.has_store.ensures.by c.close_both.ensures.by) c.write_half.ensures.by gates (c.write_half.ensures.any_moment (0 ∷ drop 1 parts.one) b)
+    formats_then laws c.args.head.now c.args.image.now (drop 1 parts.one) c.requires.legal c.requires.whole c.has_store.ensures.by c.close_both.ensures.by c.write_half.ensures.by
+    c.has_store.ensures.crash c.close_both.ensures.crash c.close_both.ensures.soon (c.write_half.ensures.any_moment (0 ∷ drop 1 parts.one) b)
 
 pub returns-clause-any_moment : goal.returns-clause-any_moment
 returns-clause-any_moment g c parts told =
     let M = g.met.D.Disk in
     let laws : DiskLaws g.D.Disk.disk_clock g.D.Disk.images g.D.Disk.by_disk = record { same = M.disk_same; then_by = M.disk_then; later = M.disk_later; past = M.disk_past } in
-    let head = c.args.head.now in
-    let image = c.args.image.now in
-    let gates = gates_then laws _ _ _ c.has_store.ensures.by c.close_both.ensures.by (through_as g.D.Disk.disk_clock g.D.Disk.images _ _ _ SameButGates gates_stay c.has_store.ensures.crash) c.close_both.ensures.crash in
     let b = c.in_ok-close_both.ensures.closed parts (c.has_store.ensures.reads ∙ told) in
-    formats_then laws head image (drop 1 parts.one) c.requires.legal c.requires.whole (M.disk_then _ _ _ c.has_store.ensures.by c.close_both.ensures.by) c.write_half.ensures.by gates (c.write_half.ensures.any_moment (0 ∷ drop 1 parts.one) b)
+    formats_then laws c.args.head.now c.args.image.now (drop 1 parts.one) c.requires.legal c.requires.whole c.has_store.ensures.by c.close_both.ensures.by c.write_half.ensures.by
+    c.has_store.ensures.crash c.close_both.ensures.crash c.close_both.ensures.soon (c.write_half.ensures.any_moment (0 ∷ drop 1 parts.one) b)
 
 pub returns-clause-formatted : goal.returns-clause-formatted
 returns-clause-formatted g c parts told =
