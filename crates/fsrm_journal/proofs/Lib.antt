@@ -1,5 +1,6 @@
 pub mod Besides
 pub mod Files
+pub mod Gates
 pub mod HeadBytes
 pub mod HeadLaws
 pub mod NextLaws

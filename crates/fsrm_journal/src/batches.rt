@@ -1,6 +1,6 @@
 //! The two steps by which records become stable.
 
-ghost use Rattle.std.specs.Prelude.{◌≡◌, ◌≤◌, ◌<◌, ◌+◌, ◌^◌, ℕ, List, [], ◌∷◌, ◌++◌, length, IfOk, OnOk};
+ghost use Rattle.std.specs.Prelude.{◌≡◌, ◌≤◌, ◌<◌, ◌+◌, ◌^◌, ℕ, List, [], ◌∷◌, ◌++◌, length, slice_index, IfOk, OnOk};
 ghost use Rattle.std.specs.Option.{ForSome};
 ghost use Rattle.fsrm_outside.specs.Causes.{HasCause};
 ghost use Rattle.fsrm_outside.specs.Moments.{EachImage};
@@ -9,13 +9,16 @@ ghost use Rattle.fsrm_journal.specs.Records.{batch, Holds, HoldsAllOrNone, Log, 
 
 use fsrm_outside::{Disk, Failed, Part};
 
-// Writes a batch and a closed gate after the gate, makes them stable, and answers the place of the closed gate.
+// Writes a batch and a closed gate after the gate, makes them stable, and answers the place of the closed gate. The gate
+// before the batch stays as it was.
 pub fn stage<D: Disk>(disk: &mut D, ruling: Part, gate: u64, closed: &[u8]) -> Result<u64, Failed>
     requires bound { gate ≤ 2 ^ 62 }
     requires some { 0 < length closed.now }
     requires place { ForSome (D.reads disk.old) (λ parts. gate < length (part_of ruling parts)) }
 
     ensures next { IfOk result (λ n. (n ≡ gate + length closed.now) × (n ≤ 2 ^ 62)) }
+    ensures gate { (bytes : List ℕ) → closed.now ≡ bytes ++ 0 ∷ [] → IfOk result (λ n. ForSome (D.reads disk.new) (λ parts. slice_index (part_of ruling parts) n ≡ 0)) }
+    ensures first { ForSome (D.reads disk.old) (λ was. OnOk result (ForSome (D.reads disk.new) (λ parts. slice_index (part_of ruling parts) gate ≡ slice_index (part_of ruling was) gate))) }
     ensures longer { IfOk result (λ n. ForSome (D.reads disk.new) (λ parts. n < length (part_of ruling parts))) }
     ensures beside { (n : ℕ) → ForSome (D.reads disk.old) (λ parts. n ≤ length (part_of (other ruling) parts)) → OnOk result (ForSome (D.reads disk.new) (λ parts. n ≤ length (part_of (other ruling) parts))) }
     ensures staged { (log : Log) (bodies : List (List ℕ)) (bytes : List ℕ) → closed.now ≡ bytes ++ 0 ∷ []
@@ -38,6 +41,7 @@ pub fn open_gate<D: Disk>(disk: &mut D, ruling: Part, gate: u64) -> Result<(), F
     ensures opened { (log : Log) (bodies : List (List ℕ)) (body : List ℕ) (more : List (List ℕ)) → ruling ≡ log.ruling
         → Staged D.reads D.disk_clock D.images log bodies (batch (body ∷ more)) gate disk.old
         → OnOk result (Settled D.reads D.disk_clock D.images log (bodies ++ body ∷ more) ruling (gate + 1 + length (batch (body ∷ more))) disk.new) }
+    ensures after { (n byte : ℕ) → gate < n → ForSome (D.reads disk.old) (λ parts. slice_index (part_of ruling parts) n ≡ byte) → OnOk result (ForSome (D.reads disk.new) (λ parts. slice_index (part_of ruling parts) n ≡ byte)) }
     ensures longer { (n : ℕ) → ForSome (D.reads disk.old) (λ parts. n < length (part_of ruling parts)) → OnOk result (ForSome (D.reads disk.new) (λ parts. n < length (part_of ruling parts))) }
     ensures beside { (n : ℕ) → ForSome (D.reads disk.old) (λ parts. n ≤ length (part_of (other ruling) parts)) → OnOk result (ForSome (D.reads disk.new) (λ parts. n ≤ length (part_of (other ruling) parts))) }
     ensures any_moment { (log : Log) (bodies : List (List ℕ)) (body : List ℕ) (more : List (List ℕ)) → ruling ≡ log.ruling

@@ -1,6 +1,6 @@
 //! The journal: where its first closed gate stands, and the records that are held.
 
-ghost use Rattle.std.specs.Prelude.{◌≡◌, ◌≢◌, ◌⊎◌, ◌≤◌, ◌<◌, ◌+◌, ◌-◌, ◌*◌, ◌^◌, ℕ, List, [], ◌∷◌, ◌++◌, length, take, drop, vec_capacity, true, false, Err, None, Some, IfOk, IfSome, IfErr, IsErrOf, OnOk, OnErr};
+ghost use Rattle.std.specs.Prelude.{◌≡◌, ◌≢◌, ◌⊎◌, ◌≤◌, ◌<◌, ◌+◌, ◌-◌, ◌*◌, ◌^◌, ℕ, List, [], ◌∷◌, ◌++◌, length, take, drop, slice_index, vec_capacity, true, false, Err, None, Some, IfOk, IfSome, IfErr, IsErrOf, OnOk, OnErr};
 ghost use Rattle.byteorder.specs.Endian.{little_bytes};
 ghost use Rattle.std.specs.Option.{ForSome};
 ghost use Rattle.fsrm_outside.specs.Causes.{HasCause, Rose};
@@ -279,7 +279,7 @@ impl Journal {
         self.held += 1;
     }
 
-    /// Makes the records that are held stable: all of them or, if a crash comes between, none.
+    /// Makes the records that are held stable: all of them or, if a crash comes between, none. The gate after them is 0.
     pub fn flush<D: Disk>(&mut self, disk: &mut D) -> Result<(), JournalFault>
         requires place { ForSome (D.reads disk.old) (λ parts. self.old.end < length (part_of self.old.ruling parts)) }
 
@@ -289,6 +289,7 @@ impl Journal {
         ensures any_moment { (log : Log) (bodies held : List (List ℕ)) → length held ≡ self.old.held → self.old.bytes.items ≡ batch held
             → Settled D.reads D.disk_clock D.images log bodies self.old.ruling self.old.end disk.old
             → EachImage D.disk_clock D.images (HoldsAllOrNone log bodies held) disk.old disk.new }
+        ensures gate { 0 < self.old.held → OnOk result (ForSome (D.reads disk.new) (λ parts. slice_index (part_of self.new.ruling parts) self.new.end ≡ 0)) }
         ensures none { OnOk result (self.new.held ≡ 0) }
         ensures empty { OnOk result (self.new.bytes.items ≡ []) }
         ensures group { self.new.group ≡ self.old.group }
@@ -314,7 +315,7 @@ impl Journal {
         Ok(())
     }
 
-    /// Makes a record stable.
+    /// Makes a record stable. The gate after it is 0.
     pub fn append<D: Disk>(&mut self, disk: &mut D, body: &[u8]) -> Result<(), JournalFault>
         requires some { 1 ≤ length body.now }
         requires most { length body.now ≤ 131072 }
@@ -326,6 +327,7 @@ impl Journal {
             → OnOk result (Settled D.reads D.disk_clock D.images log (bodies ++ body.now ∷ []) self.new.ruling self.new.end disk.new) }
         ensures any_moment { (log : Log) (bodies : List (List ℕ)) → Settled D.reads D.disk_clock D.images log bodies self.old.ruling self.old.end disk.old
             → EachImage D.disk_clock D.images (HoldsAllOrNone log bodies (body.now ∷ [])) disk.old disk.new }
+        ensures gate { OnOk result (ForSome (D.reads disk.new) (λ parts. slice_index (part_of self.new.ruling parts) self.new.end ≡ 0)) }
         ensures none { OnOk result (self.new.held ≡ 0) }
         ensures group { self.new.group ≡ self.old.group }
         ensures stands { StandsOn self.old self.new }

@@ -1,7 +1,8 @@
-use Rattle.std.proofs.Common.{[], ◌∷◌, length, ap, sym, ◌∙◌, arith}
+use Rattle.std.proofs.Common.{List, ℕ, [], ◌∷◌, length, get_or, ap, sym, ◌∙◌, arith}
 use Rattle.fsrm_outside.specs.Parts.{Parts, part_of, other}
 use Rattle.fsrm_outside.proofs.Stages.{DiskLaws, stayed}
 use Rattle.fsrm_journal.proofs.Files.{told_back, told_forth, written_here, written_there, length-over-old}
+use Rattle.fsrm_journal.proofs.Gates.{over_after}
 use Rattle.fsrm_journal.proofs.Staging.{opens, makes_settled}
 use Rattle.fsrm_journal.proofs.batches.open_gate.Goals as goal
 
@@ -43,3 +44,10 @@ returns-clause-beside g c n long x told =
     let b = told_back _ _ x (sym c.in_ok-write_at.ensures.written ∙ (sym c.sync.ensures.reads ∙ told)) in
     let r = c.args.ruling in
     omega (arith, long b.0 b.1, ap (λ (p : Parts). length (part_of (other r) p)) b.2, ap length (written_there r c.args.gate (1 ∷ []) b.0))
+
+pub returns-clause-after : goal.returns-clause-after
+returns-clause-after g c n byte after was x told =
+    let b = told_back _ _ x (sym c.in_ok-write_at.ensures.written ∙ (sym c.sync.ensures.reads ∙ told)) in
+    let r = c.args.ruling in
+    ap (λ (p : Parts). get_or (part_of r p) n 0) b.2 ∙ ap (λ (l : List ℕ). get_or l n 0) (written_here r c.args.gate (1 ∷ []) b.0)
+    ∙ over_after c.args.gate (1 ∷ []) (part_of r b.0) n (omega (arith, c.requires b.0 b.1)) (omega (arith, after)) ∙ was b.0 b.1

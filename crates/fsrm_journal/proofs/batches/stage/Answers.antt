@@ -1,7 +1,9 @@
-use Rattle.std.proofs.Common.{◌+◌, length, ap, sym, ◌∙◌, arith}
+use Rattle.std.proofs.Common.{◌≡◌, ℕ, ◌+◌, List, [], ◌∷◌, ◌++◌, length, get_or, length-append, ap, sym, ◌∙◌, arith}
+use Rattle.fsrm_outside.specs.Changes.{over}
 use Rattle.fsrm_outside.specs.Parts.{Parts, part_of, other}
-use Rattle.fsrm_outside.proofs.Stages.{DiskLaws, stayed}
-use Rattle.fsrm_journal.proofs.Files.{told_back, told_forth, front_holds, written_there}
+use Rattle.fsrm_outside.proofs.Stages.{DiskLaws, some_is, stayed}
+use Rattle.fsrm_journal.proofs.Files.{told_back, told_forth, front_holds, written_here, written_there}
+use Rattle.fsrm_journal.proofs.Gates.{over_before, over_last}
 use Rattle.fsrm_journal.proofs.Staging.{begins, writes, makes_staged}
 use Rattle.fsrm_journal.proofs.batches.stage.Goals as goal
 
@@ -37,3 +39,25 @@ returns-clause-beside g c n long x told =
     let b = told_back _ _ x (sym c.in_ok-write_at.ensures.written ∙ (sym c.sync.ensures.reads ∙ told)) in
     let r = c.args.ruling in
     omega (arith, long b.0 b.1, ap (λ (p : Parts). length (part_of (other r) p)) b.2, ap length (written_there r (c.args.gate + 1) c.args.closed.now b.0))
+
+pub returns-clause-gate : goal.returns-clause-gate
+returns-clause-gate g c bytes is x told =
+    let b = told_back _ _ x (sym c.in_ok-write_at.ensures.written ∙ (sym c.sync.ensures.reads ∙ told)) in
+    let r = c.args.ruling in
+    let place = c.args.gate + 1 in
+    let closed = c.args.closed.now in
+    let n = c.args.gate + length closed in
+    let half = part_of r b.0 in
+    let at : n ≡ place + length bytes = omega (arith, ap length is, length-append bytes (0 ∷ [])) in
+    ap (λ (p : Parts). get_or (part_of r p) n 0) b.2 ∙ ap (λ (l : List ℕ). get_or l n 0) (written_here r place closed b.0)
+    ∙ ap (λ (l : List ℕ). get_or (over place l half) n 0) is ∙ ap (λ (k : ℕ). get_or (over place (bytes ++ 0 ∷ []) half) k 0) at
+    ∙ over_last place bytes half 0 (omega (arith, c.requires.place b.0 b.1))
+
+pub returns-clause-first : goal.returns-clause-first
+returns-clause-first g c was at x told =
+    let b = told_back _ _ x (sym c.in_ok-write_at.ensures.written ∙ (sym c.sync.ensures.reads ∙ told)) in
+    let r = c.args.ruling in
+    let place = c.args.gate + 1 in
+    ap (λ (p : Parts). get_or (part_of r p) c.args.gate 0) b.2 ∙ ap (λ (l : List ℕ). get_or l c.args.gate 0) (written_here r place c.args.closed.now b.0)
+    ∙ over_before place c.args.closed.now (part_of r b.0) c.args.gate (omega (arith, c.requires.place b.0 b.1)) (omega arith)
+    ∙ ap (λ (p : Parts). get_or (part_of r p) c.args.gate 0) (some_is (sym b.1 ∙ at))

@@ -34,3 +34,6 @@ returns-clause-stands g c = stands_then _ _ _ c.hold.ensures.stands c.flush.ensu
 pub returns-clause-beside : goal.returns-clause-beside
 returns-clause-beside g c n long =
     c.flush.ensures.beside n (λ x told. subst (λ (r : Part). n ≤ length (part_of (other r) x)) (sym c.hold.ensures.ruling) (long x told))
+
+pub returns-clause-gate : goal.returns-clause-gate
+returns-clause-gate g c = c.flush.ensures.gate (omega (arith, c.hold.ensures.count))

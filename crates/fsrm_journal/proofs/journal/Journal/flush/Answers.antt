@@ -47,3 +47,9 @@ returns-clause-ready g c = c.in_ok-open_gate.ensures.longer c.in_ok-next.next c.
 
 pub returns-clause-beside : goal.returns-clause-beside
 returns-clause-beside g c n long = c.in_ok-open_gate.ensures.beside n (c.in_ok-next.ensures.beside n long)
+
+pub returns-clause-gate : goal.returns-clause-gate
+returns-clause-gate g c some =
+    let closed = c.deref.ensures.value ∙ c.close_last.ensures.bytes in
+    let next = c.in_ok-next.ensures.next.0 in
+    c.in_ok-open_gate.ensures.after c.in_ok-next.next 0 (omega (arith, next, ap length closed, length-append c.args.self.now.bytes.items (0 ∷ []))) (c.in_ok-next.ensures.gate c.args.self.now.bytes.items closed)
