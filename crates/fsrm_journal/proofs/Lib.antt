@@ -1,6 +1,7 @@
 pub mod Besides
 pub mod Files
 pub mod Gates
+pub mod GivenUp
 pub mod HeadBytes
 pub mod HeadLaws
 pub mod NextLaws

@@ -1,6 +1,6 @@
 -- After a switch.
 use Rattle.std.proofs.Common.{◌≡◌, inl, inr, ℕ, ◌+◌, ◌≤◌, Bool, Some, List, ◌∷◌, ◌++◌, length, take, refl, sym, ◌∙◌, ap, subst, arith, append_assoc, length-append}
-use Rattle.std.specs.Prelude.{Option, None, Ok}
+use Rattle.std.specs.Prelude.{Option, None, Ok, slice_index}
 use Rattle.std.proofs.lemmas.List.{take-append-le}
 use Rattle.fsrm_outside.specs.Parts.{Parts, part_of, other}
 use Rattle.fsrm_outside.specs.declared.traits.Part.{Part}
@@ -12,7 +12,7 @@ use Rattle.fsrm_journal.specs.Records.{records, Log, Holds}
 use Rattle.fsrm_journal.specs.declared.heads.Head.{Head}
 use Rattle.fsrm_journal.specs.declared.journal.Journal.{Journal}
 use Rattle.fsrm_journal.proofs.HeadBytes.{spelled, generation_back}
-use Rattle.fsrm_journal.proofs.NextLaws.{closed_next}
+use Rattle.fsrm_journal.proofs.NextLaws.{closed_next, gate_at}
 use Rattle.fsrm_journal.proofs.Walks.{settled_at}
 use Rattle.fsrm_journal.proofs.Turns.{back, fresh_is, judged_same}
 
@@ -47,6 +47,7 @@ switched_now reads clock images {r} {half} {image} {head} {still} {now} disk gen
       fresh = fresh_is j head image ruled.rest now f.legal whole split is;
       retired = subst (λ (l : List ℕ). IsRetired half l) (sym (back r now) ∙ ap (λ (x : Part). part_of (other x) now) (sym rules)) ruled.retired;
       at = end;
+      gate = ap (λ (l : List ℕ). slice_index l journal.end) split ∙ ap (λ (k : ℕ). slice_index (front ++ 0 ∷ ruled.rest) k) (sym long) ∙ gate_at front ruled.rest 0;
       settled = settled_at reads clock images disk j journal.end now certain.told (λ t i told left. certain.told ∙ ap (λ (p : Parts). Some p) (sym (certain.only t i told left))) none;
     }
 

@@ -1,5 +1,5 @@
 -- Writing the half that is to rule next, and the change from one half to the other.
-use Rattle.std.specs.Prelude.{◌≡◌, ◌≢◌, ◌⊎◌, ℕ, ◌+◌, ◌-◌, ◌^◌, ◌≤◌, ◌<◌, Bool, true, Option, None, Some, Ok, List, [], ◌∷◌, ◌++◌, length, take, drop}
+use Rattle.std.specs.Prelude.{◌≡◌, ◌≢◌, ◌⊎◌, ℕ, ◌+◌, ◌-◌, ◌^◌, ◌≤◌, ◌<◌, Bool, true, false, Option, None, Some, Ok, List, [], ◌∷◌, ◌++◌, length, take, drop, slice_index}
 use Rattle.byteorder.specs.Endian.{little_bytes}
 use Rattle.fsrm_model.specs.Capacities.{is_capacity}
 use Rattle.fsrm_outside.specs.Parts.{Parts, part_of, other}
@@ -117,14 +117,17 @@ pub record Knows (parts : Parts) (journal : Journal) : Type 0 where
   pub generation : journal.generation ≡ generation_at (head_of (part_of journal.ruling parts))
   pub beside : journal.beside_open ≡ is_open (head_of (part_of (other journal.ruling) parts))
 
--- The half with these bytes rules, and after the other one's closed gate stand this head and the front of its image.
+-- The half with these bytes rules, and after the other one's closed gate, which the journal knows as closed, stand this
+-- head and the front of its image.
 pub record Filling {D : Type 0} (reads : D → Option Parts) (clock : D → Option ℕ) (images : D → ℕ → Parts → Type 0) (half : List ℕ) (head : Head) (front : List ℕ) (journal : Journal) (disk : D) : Type 0 where
   pub follows : Follows half head
   pub generation : journal.generation ≡ generation_at (head_of half)
+  pub shut : journal.beside_open ≡ false
   pub beside : Beside reads clock images journal.ruling half (head_tail head ++ front) disk
   pub at : journal.written ≡ 48 + length front
 
--- The other half rules, with this head and this image, and records may be added to it. The half that ruled is left.
+-- The other half rules, with this head and this image, and records may be added to it: their first gate is 0. The half
+-- that ruled is left.
 pub record Switched {D : Type 0} (reads : D → Option Parts) (clock : D → Option ℕ) (images : D → ℕ → Parts → Type 0) (half : List ℕ) (head : Head) (image : List ℕ) (journal : Journal) (disk : D) : Type 0 where
   pub parts : Parts
   pub certain : Certain reads clock images parts disk
@@ -132,4 +135,5 @@ pub record Switched {D : Type 0} (reads : D → Option Parts) (clock : D → Opt
   pub fresh : Fresh journal.ruling head image parts
   pub retired : IsRetired half (part_of (other journal.ruling) parts)
   pub at : journal.end ≡ 48 + length image
+  pub gate : slice_index (part_of journal.ruling parts) journal.end ≡ 0
   pub settled : Settled reads clock images (log_at journal.ruling journal.end parts) [] journal.ruling journal.end disk

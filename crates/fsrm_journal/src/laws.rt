@@ -1,14 +1,16 @@
 //! What the definitions of the journal say together.
 
 ghost use Rattle.std.specs.Prelude.{◌≡◌, ◌≤◌, ◌+◌, ℕ, List, [], ◌∷◌, ◌++◌, All, Ok, Some, None, length};
-ghost use Rattle.fsrm_outside.specs.Parts.{Parts, part_of};
+ghost use Rattle.fsrm_outside.specs.Parts.{Parts, part_of, other};
 ghost use Rattle.fsrm_journal.specs.Next.{record_at};
-ghost use Rattle.fsrm_journal.specs.Halves.{Knows};
+ghost use Rattle.fsrm_journal.specs.Halves.{Certain, Filling, Knows};
 ghost use Rattle.fsrm_journal.specs.Opened.{IsOpened, ReadsOn, StandsOn};
 ghost use Rattle.fsrm_journal.specs.Reading.{IsBody, Comes, Read};
 ghost use Rattle.fsrm_journal.specs.declared.heads.Head.{Head};
 ghost use Rattle.fsrm_journal.specs.declared.journal.Journal.{Journal};
-ghost use Rattle.fsrm_journal.specs.Records.{records, Holds, Log};
+ghost use Rattle.fsrm_journal.specs.Records.{records, Holds, Log, Settled};
+
+use fsrm_outside::Disk;
 
 /// A reader that begins after the lead comes to each record that the parts hold, in order, and stops after the last
 /// one.
@@ -39,4 +41,17 @@ pub fn what_is_known()
     ensures read { (parts : Parts) (before after : Journal) → ReadsOn before after → Knows parts before → Knows parts after }
     ensures added { (log : Log) (bodies more : List (List ℕ)) (old new : Parts) (before after : Journal) → Holds log bodies old → Holds log more new → 48 ≤ length log.lead
         → before.ruling ≡ log.ruling → StandsOn before after → Knows old before → Knows new after }
+{}
+
+/// A change to the other half may be given up before it comes to rule. The journal knows what it has to of what a read
+/// gives; so once that is synced, another half may be begun. And the half that rules holds the records that it held, up to
+/// the same end; so then records may be added.
+pub fn a_change_may_be_given_up<D: Disk>()
+    ensures known { (half front : List ℕ) (head : Head) (journal : Journal) (disk : D) (parts : Parts) → Filling D.reads D.disk_clock D.images half head front journal disk
+        → D.reads disk ≡ Some parts → Knows parts journal }
+    ensures settled { (half front : List ℕ) (head : Head) (journal : Journal) (disk synced : D) (log now : Log) (bodies : List (List ℕ)) (old parts : Parts)
+        → Filling D.reads D.disk_clock D.images half head front journal disk → Certain D.reads D.disk_clock D.images parts synced → D.reads synced ≡ D.reads disk
+        → Holds log bodies old → part_of log.ruling old ≡ half → journal.ruling ≡ log.ruling → journal.end ≡ length (log.lead ++ records bodies)
+        → now.ruling ≡ log.ruling → now.lead ≡ log.lead → now.beside ≡ part_of (other log.ruling) parts
+        → Settled D.reads D.disk_clock D.images now bodies journal.ruling journal.end synced }
 {}

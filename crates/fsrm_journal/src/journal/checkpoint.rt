@@ -18,7 +18,7 @@ use fsrm_outside::Disk;
 
 impl Journal {
     ghost use Rattle.fsrm_journal.specs.Halves.{Certain, Filling, IsLegal, IsNext, Knows, Stays, StaysOrFresh, Switched};
-    ghost use Rattle.fsrm_journal.specs.Opened.{HoldsOn};
+    ghost use Rattle.fsrm_journal.specs.Opened.{HoldsOn, StandsOn};
 
     /// The generation that the next half has.
     pub fn next_generation(&self) -> u64
@@ -28,7 +28,9 @@ impl Journal {
     }
 
     /// Begins the half that is to rule next: its gate is closed, and its head is written. Then `put_image` has to be
-    /// given `head.image` bytes in all, and then comes `switch`. No record may be added between these.
+    /// given `head.image` bytes in all, and then comes `switch`. No record may be added between these. Up to `switch` the
+    /// change may be given up, since the half that rules and its end stay: the disk is synced, and then records may be
+    /// added, or a half begun anew.
     pub fn begin_half<D: Disk>(&mut self, disk: &mut D, head: &Head) -> Result<(), JournalFault>
         requires legal { IsLegal head.now }
         requires next { IsNext self.old.generation head.now.generation }
@@ -39,6 +41,8 @@ impl Journal {
             → OnOk result (Filling D.reads D.disk_clock D.images (part_of self.old.ruling parts) head.now [] self.new disk.new) }
         ensures held { HoldsOn self.old self.new }
         ensures ruling { self.new.ruling ≡ self.old.ruling }
+        ensures generation { self.new.generation ≡ self.old.generation }
+        ensures end { self.new.end ≡ self.old.end }
         ensures here { (n : ℕ) → ForSome (D.reads disk.old) (λ parts. n ≤ length (part_of self.old.ruling parts)) → OnOk result (ForSome (D.reads disk.new) (λ parts. n ≤ length (part_of self.new.ruling parts))) }
         ensures ready { OnOk result (ForSome (D.reads disk.new) (λ parts. self.new.written ≤ length (part_of (other self.new.ruling) parts))) }
         ensures by { D.by_disk disk.old disk.new }
@@ -62,6 +66,8 @@ impl Journal {
             → OnOk result (Filling D.reads D.disk_clock D.images half head (front ++ piece.now) self.new disk.new) }
         ensures held { HoldsOn self.old self.new }
         ensures ruling { self.new.ruling ≡ self.old.ruling }
+        ensures stands { StandsOn self.old self.new }
+        ensures end { self.new.end ≡ self.old.end }
         ensures here { (n : ℕ) → ForSome (D.reads disk.old) (λ parts. n ≤ length (part_of self.old.ruling parts)) → OnOk result (ForSome (D.reads disk.new) (λ parts. n ≤ length (part_of self.new.ruling parts))) }
         ensures ready { OnOk result (ForSome (D.reads disk.new) (λ parts. self.new.written ≤ length (part_of (other self.new.ruling) parts))) }
         ensures by { D.by_disk disk.old disk.new }

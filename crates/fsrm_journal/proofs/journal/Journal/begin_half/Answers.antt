@@ -44,6 +44,7 @@ returns-clause-begun g c parts certain k =
     record {
       follows = record { opened = w.opened; sound = w.sound; legal = c.requires.legal; next = subst (λ (n : ℕ). IsNext n c.args.head.now.generation) k.generation c.requires.next };
       generation = k.generation;
+      shut = refl;
       beside = subst (λ (l : List ℕ). Beside M.reads M.disk_clock M.images r half l c.write_beside.new.disk) bytes (c.in_ok-write_beside.ensures.written half [] refl b);
       at = refl;
     }

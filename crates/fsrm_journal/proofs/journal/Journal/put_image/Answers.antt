@@ -19,6 +19,7 @@ pub returns-clause-put : goal.returns-clause-put
 returns-clause-put g c half front head f = record {
   follows = f.follows;
   generation = f.generation;
+  shut = f.shut;
   beside = c.in_ok-write_beside.ensures.written half (head_tail head ++ front) (place_after head front c.args.self.now.written f.at) f.beside;
   at = omega (arith, f.at, length-append front c.args.piece.now);
 }
