@@ -1,6 +1,6 @@
 //! The steps by which the half that doesn't rule is written, and comes to rule.
 
-ghost use Rattle.std.specs.Prelude.{◌≡◌, ◌≤◌, ◌<◌, ◌+◌, ◌-◌, ◌^◌, ℕ, List, [], ◌∷◌, ◌++◌, length, drop, Ok, IfOk, OnOk};
+ghost use Rattle.std.specs.Prelude.{◌≡◌, ◌≤◌, ◌<◌, ◌+◌, ◌-◌, ◌^◌, ℕ, List, [], ◌∷◌, ◌++◌, length, drop, slice_index, true, Ok, IfOk, OnOk};
 ghost use Rattle.byteorder.specs.Endian.{little_bytes};
 ghost use Rattle.std.specs.Option.{ForSome};
 ghost use Rattle.fsrm_outside.specs.Causes.{HasCause};
@@ -83,6 +83,7 @@ pub fn close_beside<D: Disk>(disk: &mut D, ruling: Part, gate_is_open: bool) -> 
         → EachImage D.disk_clock D.images (Stays ruling (part_of ruling parts)) disk.old disk.new }
     ensures closed { (parts : Parts) → Certain D.reads D.disk_clock D.images parts disk.old → judged_parts parts ≡ Ok ruling → gate_is_open ≡ is_open (head_of (part_of (other ruling) parts))
         → OnOk result (Beside D.reads D.disk_clock D.images ruling (part_of ruling parts) [] disk.new) }
+    ensures gate { gate_is_open ≡ true → OnOk result (ForSome (D.reads disk.new) (λ parts. slice_index (part_of (other ruling) parts) 0 ≡ 0)) }
     ensures longer { (n : ℕ) → ForSome (D.reads disk.old) (λ parts. n ≤ length (part_of (other ruling) parts)) → OnOk result (ForSome (D.reads disk.new) (λ parts. n ≤ length (part_of (other ruling) parts))) }
     ensures here { (n : ℕ) → ForSome (D.reads disk.old) (λ parts. n ≤ length (part_of ruling parts)) → OnOk result (ForSome (D.reads disk.new) (λ parts. n ≤ length (part_of ruling parts))) }
     ensures by { D.by_disk disk.old disk.new }
@@ -108,6 +109,7 @@ pub fn write_beside<D: Disk>(
         → EachImage D.disk_clock D.images (Shut ruling half) disk.old disk.new }
     ensures written { (half front : List ℕ) → place ≡ 1 + length front → Beside D.reads D.disk_clock D.images ruling half front disk.old
         → OnOk result (Beside D.reads D.disk_clock D.images ruling half (front ++ bytes.now) disk.new) }
+    ensures gate { (byte : ℕ) → 0 < place → ForSome (D.reads disk.old) (λ parts. slice_index (part_of (other ruling) parts) 0 ≡ byte) → OnOk result (ForSome (D.reads disk.new) (λ parts. slice_index (part_of (other ruling) parts) 0 ≡ byte)) }
     ensures longer { OnOk result (ForSome (D.reads disk.new) (λ parts. place + length bytes.now ≤ length (part_of (other ruling) parts))) }
     ensures here { (n : ℕ) → ForSome (D.reads disk.old) (λ parts. n ≤ length (part_of ruling parts)) → OnOk result (ForSome (D.reads disk.new) (λ parts. n ≤ length (part_of ruling parts))) }
     ensures bound { OnOk result (place + length bytes.now ≤ 2 ^ 62) }

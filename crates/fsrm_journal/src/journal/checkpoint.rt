@@ -1,6 +1,6 @@
 //! The change to the other half: its gate is closed, its head and its image are written, and then it is made to rule.
 
-ghost use Rattle.std.specs.Prelude.{◌≡◌, ◌≤◌, ◌<◌, ◌+◌, ◌^◌, ℕ, List, [], ◌++◌, length, Err, OnOk, OnErr};
+ghost use Rattle.std.specs.Prelude.{◌≡◌, ◌≤◌, ◌<◌, ◌+◌, ◌^◌, ℕ, List, [], ◌++◌, length, slice_index, true, Err, OnOk, OnErr};
 ghost use Rattle.std.specs.Option.{ForSome};
 ghost use Rattle.fsrm_outside.specs.Causes.{HasCause};
 ghost use Rattle.fsrm_outside.specs.Moments.{EachImage};
@@ -27,7 +27,7 @@ impl Journal {
         next_generation(self.generation)
     }
 
-    /// Begins the half that is to rule next: its gate is closed, and its head is written. Then `put_image` has to be
+    /// Begins the half that is to rule next: its gate is closed, by 0 if it was open, and its head is written. Then `put_image` has to be
     /// given `head.image` bytes in all, and then comes `switch`. No record may be added between these. Up to `switch` the
     /// change may be given up, since the half that rules and its end stay: the disk is synced, and then records may be
     /// added, or a half begun anew.
@@ -39,6 +39,7 @@ impl Journal {
             → EachImage D.disk_clock D.images (Stays self.old.ruling (part_of self.old.ruling parts)) disk.old disk.new }
         ensures begun { (parts : Parts) → Certain D.reads D.disk_clock D.images parts disk.old → Knows parts self.old
             → OnOk result (Filling D.reads D.disk_clock D.images (part_of self.old.ruling parts) head.now [] self.new disk.new) }
+        ensures gate { self.old.beside_open ≡ true → OnOk result (ForSome (D.reads disk.new) (λ parts. slice_index (part_of (other self.new.ruling) parts) 0 ≡ 0)) }
         ensures held { HoldsOn self.old self.new }
         ensures ruling { self.new.ruling ≡ self.old.ruling }
         ensures generation { self.new.generation ≡ self.old.generation }
@@ -57,7 +58,7 @@ impl Journal {
         Ok(())
     }
 
-    /// Writes the next piece of the image.
+    /// Writes the next piece of the image. After an error the place of the next one is as it was.
     pub fn put_image<D: Disk>(&mut self, disk: &mut D, piece: &[u8]) -> Result<(), JournalFault>
         requires place { ForSome (D.reads disk.old) (λ parts. self.old.written ≤ length (part_of (other self.old.ruling) parts)) }
         ensures any_moment { (half front : List ℕ) (head : Head) → Filling D.reads D.disk_clock D.images half head front self.old disk.old
@@ -68,6 +69,7 @@ impl Journal {
         ensures ruling { self.new.ruling ≡ self.old.ruling }
         ensures stands { StandsOn self.old self.new }
         ensures end { self.new.end ≡ self.old.end }
+        ensures err { OnErr result (self.new.written ≡ self.old.written) }
         ensures here { (n : ℕ) → ForSome (D.reads disk.old) (λ parts. n ≤ length (part_of self.old.ruling parts)) → OnOk result (ForSome (D.reads disk.new) (λ parts. n ≤ length (part_of self.new.ruling parts))) }
         ensures ready { OnOk result (ForSome (D.reads disk.new) (λ parts. self.new.written ≤ length (part_of (other self.new.ruling) parts))) }
         ensures by { D.by_disk disk.old disk.new }

@@ -1,4 +1,4 @@
-use Rattle.std.proofs.Common.{[], ◌∷◌, length, ap, refl, sym, ◌∙◌, arith}
+use Rattle.std.proofs.Common.{List, ℕ, [], ◌∷◌, length, get_or, ap, refl, sym, ◌∙◌, arith}
 use Rattle.fsrm_outside.specs.Changes.{Written}
 use Rattle.fsrm_outside.specs.Parts.{Parts, part_of, other}
 use Rattle.fsrm_outside.specs.declared.traits.Part.{Part}
@@ -53,3 +53,9 @@ returns-clause-here g c n long x told =
     let b = told_back _ _ x (sym c.in_ok-write_at.ensures.written ∙ (sym c.sync.ensures.reads ∙ told)) in
     let r = c.args.ruling in
     omega (arith, long b.0 b.1, ap (λ (p : Parts). length (part_of r p)) b.2, ap length (written_beside r c.other.result 0 (0 ∷ []) b.0 c.other.ensures))
+
+pub returns-clause-gate : goal.returns-clause-gate
+returns-clause-gate g c opened x told =
+    let b = told_back _ _ x (sym c.in_ok-write_at.ensures.written ∙ (sym c.sync.ensures.reads ∙ told)) in
+    let o = c.other.result in
+    ap (λ (r : Part). get_or (part_of r x) 0 0) (sym c.other.ensures) ∙ ap (λ (p : Parts). get_or (part_of o p) 0 0) b.2 ∙ ap (λ (l : List ℕ). get_or l 0 0) (written_here o 0 (0 ∷ []) b.0)

@@ -1,10 +1,11 @@
-use Rattle.std.proofs.Common.{◌≤◌, length, ap, sym, ◌∙◌, arith}
+use Rattle.std.proofs.Common.{List, ℕ, ◌≤◌, length, get_or, ap, sym, ◌∙◌, arith}
 use Rattle.fsrm_outside.specs.Changes.{Written}
 use Rattle.fsrm_outside.specs.Parts.{Parts, part_of, other}
 use Rattle.fsrm_outside.specs.declared.traits.Part.{Part}
 use Rattle.fsrm_outside.proofs.Stages.{DiskLaws}
 use Rattle.fsrm_journal.proofs.Besides.{writes_beside, wrote_beside}
 use Rattle.fsrm_journal.proofs.Files.{told_back, told_forth, written_here, written_beside, length-over}
+use Rattle.fsrm_journal.proofs.Gates.{over_before}
 use Rattle.fsrm_journal.proofs.halves.write_beside.Goals as goal
 
 pub returns-in_err-write_at-clause-any_moment : goal.returns-in_err-write_at-clause-any_moment
@@ -33,3 +34,14 @@ returns-clause-here g c n long x told =
     let b = told_back _ _ x (sym c.in_ok-write_at.ensures.written ∙ told) in
     let r = c.args.ruling in
     omega (arith, long b.0 b.1, ap (λ (p : Parts). length (part_of r p)) b.2, ap length (written_beside r c.other.result c.args.place c.args.bytes.now b.0 c.other.ensures))
+
+pub returns-clause-gate : goal.returns-clause-gate
+returns-clause-gate g c byte after was x told =
+    let b = told_back _ _ x (sym c.in_ok-write_at.ensures.written ∙ told) in
+    let o = c.other.result in
+    let place = c.args.place in
+    let bytes = c.args.bytes.now in
+    let within : place ≤ length (part_of (other c.args.ruling) b.0) = c.requires b.0 b.1 in
+    ap (λ (r : Part). get_or (part_of r x) 0 0) (sym c.other.ensures) ∙ ap (λ (p : Parts). get_or (part_of o p) 0 0) b.2 ∙ ap (λ (l : List ℕ). get_or l 0 0) (written_here o place bytes b.0)
+    ∙ over_before place bytes (part_of o b.0) 0 (omega (arith, within, ap (λ (r : Part). length (part_of r b.0)) c.other.ensures)) (omega (arith, after))
+    ∙ ap (λ (r : Part). get_or (part_of r b.0) 0 0) c.other.ensures ∙ was b.0 b.1

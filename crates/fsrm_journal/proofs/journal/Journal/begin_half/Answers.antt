@@ -56,3 +56,6 @@ returns-clause-ready g c x told =
 
 pub returns-clause-here : goal.returns-clause-here
 returns-clause-here g c n long = c.in_ok-write_beside.ensures.here n (c.in_ok-close_beside.ensures.here n long)
+
+pub returns-clause-gate : goal.returns-clause-gate
+returns-clause-gate g c opened = c.in_ok-write_beside.ensures.gate 0 (omega arith) (c.in_ok-close_beside.ensures.gate opened)
