@@ -1,10 +1,10 @@
 //! The table of places.
 
 ghost use Rattle.std.specs.Prelude.{◌≡◌, ◌<◌, ◌≤◌, [], IfOk, OnOk, OnErr, MatchOption, true, false, length};
-ghost use Rattle.fsrm_base.specs.Numbers.{is_in, itself, with_number, without_number};
+ghost use Rattle.fsrm_base.specs.Numbers.{is_in, is_set, itself, with_number, without_number};
 ghost use Rattle.fsrm_base.specs.Places.{IsAt, IsGap};
 
-use crate::entries::{cover, forget, renumber};
+use crate::entries::{cover, forget, note, right_of};
 use fsrm_base::NoMemory;
 use fsrm_base::places::{Key, gap, search};
 use std::alloc::Global;
@@ -20,6 +20,10 @@ const TABLED: u32 = 1_048_576;
 pub struct PlaceTable {
     numbers: Vec<u32>,
     entries: Vec<u16>,
+    // How many edits there were since all entries were right.
+    waiting: u16,
+    // So many entries are right: all, or none while edits wait.
+    right: usize,
     room: u16,
 }
 
@@ -31,7 +35,7 @@ impl Model for PlaceTable {
 
     ghost view = { λ t. record { numbers = t.numbers.items; room = t.room } };
 
-    ghost invariant = { λ t. IsKeptTable t.numbers t.entries tabled t.room };
+    ghost invariant = { λ t. IsKeptTable t.numbers t.entries tabled t.waiting t.right t.room };
 }
 
 // Each number is its own key.
@@ -49,6 +53,25 @@ impl Key for Itself {
     }
 }
 
+// The place of a number, by halves.
+fn searched(numbers: &[u32], number: u32) -> Option<usize>
+    requires { is_set numbers.now ≡ true }
+    ensures { MatchOption result (is_in numbers.now number ≡ false) (IsAt itself number numbers.now) }
+{
+    search::<Itself>(numbers, number).ok()
+}
+
+// The same, if it isn't where it is looked for first.
+fn place_near(numbers: &[u32], number: u32, guess: usize) -> Option<usize>
+    requires { is_set numbers.now ≡ true }
+    ensures { MatchOption result (is_in numbers.now number ≡ false) (IsAt itself number numbers.now) }
+{
+    if guess < numbers.len() && numbers[guess] == number {
+        return Some(guess);
+    }
+    searched(numbers, number)
+}
+
 impl PlaceTable {
     /// A table without numbers. It takes no memory.
     pub fn new(alloc: Global) -> PlaceTable
@@ -57,6 +80,8 @@ impl PlaceTable {
         PlaceTable {
             numbers: Vec::new(alloc),
             entries: Vec::new(alloc),
+            waiting: 0,
+            right: 0,
             room: 0,
         }
     }
@@ -70,6 +95,8 @@ impl PlaceTable {
         Ok(PlaceTable {
             numbers,
             entries,
+            waiting: 0,
+            right: 0,
             room,
         })
     }
@@ -90,13 +117,28 @@ impl PlaceTable {
     }
 
     /// The place of a number, from 0.
+    #[inline(always)]
     pub fn place(&self, number: u32) -> Option<usize>
         ensures { MatchOption result (is_in self.now.numbers number ≡ false) (IsAt itself number self.now.numbers) }
     {
+        if (number as usize) < self.right {
+            return (self.entries[number as usize] as usize).checked_sub(1);
+        }
+        if self.entries.len() <= number as usize && number < TABLED {
+            return None;
+        }
+        self.place_apart(number)
+    }
+
+    // The same while edits wait, and of numbers without an entry.
+    #[inline(never)]
+    fn place_apart(&self, number: u32) -> Option<usize>
+        ensures { MatchOption result (is_in self.now.numbers number ≡ false) (IsAt itself number self.now.numbers) }
+    {
         match self.entries.get(number as usize) {
-            Some(entry) => (*entry as usize).checked_sub(1),
-            None if number < TABLED => None,
-            None => search::<Itself>(&self.numbers, number).ok(),
+            Some(0) => None,
+            Some(entry) => place_near(&self.numbers, number, *entry as usize - 1),
+            None => searched(&self.numbers, number),
         }
     }
 
@@ -113,7 +155,14 @@ impl PlaceTable {
         cover(&mut self.entries, number, TABLED)?;
         let place = gap::<Itself>(&self.numbers, number);
         self.numbers.insert(place, number)?;
-        renumber(&mut self.entries, &self.numbers, place);
+        self.waiting = note(
+            &mut self.entries,
+            &self.numbers,
+            number,
+            place,
+            self.waiting,
+        );
+        self.right = right_of(self.waiting, self.entries.len());
         Ok(place)
     }
 
@@ -124,7 +173,14 @@ impl PlaceTable {
     {
         if let Some(place) = self.place(number) {
             self.numbers.remove(place);
-            forget(&mut self.entries, &self.numbers, number, place);
+            self.waiting = forget(
+                &mut self.entries,
+                &self.numbers,
+                number,
+                place,
+                self.waiting,
+            );
+            self.right = right_of(self.waiting, self.entries.len());
         }
     }
 }
