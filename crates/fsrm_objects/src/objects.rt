@@ -20,6 +20,7 @@ use fsrm_model::limits::MOST_QUOTAS;
 use fsrm_model::{ExceptRow, NoMemory, QuotaRow, QuotaState, ScreenRow};
 use std::alloc::Global;
 use std::marker::Model;
+use std::mem;
 
 /// The objects of a store. Contracts see the rows of each table, ascending by folder, each folder at most once, and for
 /// how many quotas there is memory in any case: none, or after `make_room` all.
@@ -136,7 +137,7 @@ impl Objects {
     /// It is refused if it has more than 16 thresholds or one of these more than 8 actions, else if its
     /// texts, less those of the quota that it replaces, are longer than `room`. It takes no memory. An `Err`
     /// changes nothing, and the row is dropped.
-    pub fn set_quota(&mut self, row: QuotaRow, room: u32) -> Result<(), ObjectFault>
+    pub fn set_quota(&mut self, mut row: QuotaRow, room: u32) -> Result<(), ObjectFault>
         requires there { has_row folder_of row.folder self.old.quotas ≡ true }
         requires texts { has_short_texts row ≡ true }
         ensures ok { OnOk result (self.new ≡ with_other self.old row) }
@@ -144,12 +145,26 @@ impl Objects {
         ensures refused { IfErr result (λ fault. other_fault self.old row room ≡ Some fault) }
         ensures err { OnErr result (self.new ≡ self.old) }
     {
-        self.may_set(&row, room)?;
+        self.swap_quota(&mut row, room)
+    }
+
+    /// The same with a row that is lent. It becomes the quota that it replaces, or stays as it is at an `Err`.
+    pub fn swap_quota(&mut self, row: &mut QuotaRow, room: u32) -> Result<(), ObjectFault>
+        requires there { has_row folder_of row.old.folder self.old.quotas ≡ true }
+        requires texts { has_short_texts row.old ≡ true }
+        ensures ok { OnOk result (self.new ≡ with_other self.old row.old) }
+        ensures replaced { OnOk result (row_of folder_of row.old.folder self.old.quotas ≡ Some row.new) }
+        ensures may { OnOk result (other_fault self.old row.old room ≡ None) }
+        ensures refused { IfErr result (λ fault. other_fault self.old row.old room ≡ Some fault) }
+        ensures err { OnErr result (self.new ≡ self.old) }
+        ensures stays { OnErr result (row.new ≡ row.old) }
+    {
+        self.may_set(row, room)?;
         let place = self.place(row.folder).unwrap();
         let replaced = threshold_texts(&self.quotas[place].thresholds);
         let bytes = threshold_texts(&row.thresholds);
         self.texts = self.texts - replaced + bytes;
-        self.quotas[place] = row;
+        mem::swap(&mut self.quotas[place], row);
         Ok(())
     }
 
