@@ -2,3 +2,4 @@ pub mod PartLaws
 pub mod HeldLaws
 pub mod FaultLaws
 pub mod UpdateLaws
+pub mod SwapLaws

@@ -1,8 +1,9 @@
 //! Quotas that are derived from a template, and what its change makes of them.
 
-ghost use Rattle.std.specs.Prelude.{◌≡◌, ◌+◌, IfOk, IfErr, OnOk, OnErr, None, Some, true, filter, fold, map, nat_lt, option_map};
+ghost use Rattle.std.specs.Prelude.{◌≡◌, ◌+◌, ◌<◌, IfOk, IfErr, OnOk, OnErr, None, Some, true, filter, fold, length, map, nat_lt, option_map, slice_get, slice_set};
 ghost use Rattle.std.specs.List.{list_all};
-ghost use Rattle.fsrm_base.specs.Keyed.{has_row, is_ascending};
+ghost use Rattle.fsrm_base.specs.Keyed.{has_row, is_ascending, row_of};
+ghost use Rattle.fsrm_model.specs.declared.row.QuotaRow.{QuotaRow};
 ghost use Rattle.fsrm_model.specs.declared.row.TemplateRow.{TemplateRow};
 ghost use Rattle.fsrm_model.specs.Quota.{folder_of};
 ghost use Rattle.fsrm_model.specs.Templates.{as_template, derived, is_reached, is_template, template_name, template_number, template_of, updated};
@@ -113,10 +114,9 @@ fn update(
     if is_long_update(objects, old, new, mode, room) {
         return Err(TemplateFault::TextsFull);
     }
-    let reached = reached_quotas(alloc, objects, old, mode)?;
-    let rows = updated_rows(alloc, new, &reached)?;
-    put_all(objects, rows);
-    Ok(reached)
+    let mut quotas = updated_quotas(alloc, objects, old, new, mode)?;
+    swap_all(objects, &mut quotas);
+    Ok(quotas)
 }
 
 // Whether the texts of a template and of all quotas after its change, less those before it, are longer than the room.
@@ -144,39 +144,25 @@ fn is_long_update(
     after.saturating_sub(before) > room
 }
 
-// Copies of the quotas that a template's change reaches, in the order of their folders.
-fn reached_quotas(
+// What a template's change makes of the quotas that it reaches, in the order of their folders.
+fn updated_quotas(
     alloc: Global,
     objects: &Objects,
     old: &TemplateRow,
+    new: &TemplateRow,
     mode: Update,
 ) -> Result<List<QuotaRow>, NoMemory>
-    ensures reached { IfOk result (λ quotas. quotas ≡ filter (is_reached mode old.now) objects.now.quotas) }
+    ensures made { IfOk result (λ quotas. quotas ≡ map (as_template new.now) (filter (is_reached mode old.now) objects.now.quotas)) }
     ensures ascending { is_ascending folder_of objects.now.quotas ≡ true }
 {
     let mut quotas = List::new(alloc);
     for place in 0..objects.quota_count() {
         let quota = objects.quota_at(place);
         if is_reached(mode, old, quota) {
-            quotas.push(quota.copy(alloc)?)?;
+            quotas.push(as_template(alloc, new, quota)?)?;
         }
     }
     Ok(quotas)
-}
-
-// What a template's change makes of quotas that it reaches.
-fn updated_rows(
-    alloc: Global,
-    template: &TemplateRow,
-    quotas: &List<QuotaRow>,
-) -> Result<Vec<QuotaRow>, NoMemory>
-    ensures { IfOk result (λ rows. rows.items ≡ map (as_template template.now) quotas.now) }
-{
-    let mut rows = Vec::new(alloc);
-    for quota in quotas.as_slice() {
-        rows.push(as_template(alloc, template, quota)?)?;
-    }
-    Ok(rows)
 }
 
 // A quota with the limit, the type and the thresholds of a template.
@@ -199,14 +185,28 @@ fn as_template(
     })
 }
 
-// Puts quotas in the places of those of their folders. It takes no memory.
-fn put_all(objects: &mut Objects, quotas: Vec<QuotaRow>)
-    requires there { list_all (λ row. has_row folder_of row.folder objects.old.quotas) quotas.items ≡ true }
-    requires small { list_all is_small quotas.items ≡ true }
-    ensures { objects.new ≡ record objects.old { quotas = fold with_replaced objects.old.quotas quotas.items } }
+// Puts quotas in the places of those of their folders, and has those in their place. It takes no memory.
+fn swap_all(objects: &mut Objects, quotas: &mut List<QuotaRow>)
+    requires ascending { is_ascending folder_of quotas.old ≡ true }
+    requires there { list_all (λ row. has_row folder_of row.folder objects.old.quotas) quotas.old ≡ true }
+    requires small { list_all is_small quotas.old ≡ true }
+    ensures put { objects.new ≡ record objects.old { quotas = fold with_replaced objects.old.quotas quotas.old } }
+    ensures replaced { map Some quotas.new ≡ map (λ row. row_of folder_of row.folder objects.old.quotas) quotas.old }
 {
-    for quota in quotas {
-        // That the texts of all of them fit was judged at once, before any was put (`is_long_update`).
-        objects.set_quota(quota, u32::MAX).unwrap();
+    for place in 0..quotas.len() {
+        swap_at(objects, quotas, place);
     }
+}
+
+// The same of the quota at a place alone.
+fn swap_at(objects: &mut Objects, quotas: &mut List<QuotaRow>, place: usize)
+    requires within { place < length quotas.old }
+    requires there { (row : QuotaRow) → slice_get quotas.old place ≡ Some row → has_row folder_of row.folder objects.old.quotas ≡ true }
+    requires small { (row : QuotaRow) → slice_get quotas.old place ≡ Some row → is_small row ≡ true }
+    ensures put { (row : QuotaRow) → slice_get quotas.old place ≡ Some row → objects.new ≡ record objects.old { quotas = with_replaced objects.old.quotas row } }
+    ensures replaced { (row : QuotaRow) → slice_get quotas.old place ≡ Some row → map Some quotas.new ≡ slice_set (map Some quotas.old) place (row_of folder_of row.folder objects.old.quotas) }
+{
+    let quota = quotas.get_mut(place).unwrap();
+    // That the texts of all of them fit was judged at once, before any was put (`is_long_update`).
+    objects.swap_quota(quota, u32::MAX).unwrap();
 }
