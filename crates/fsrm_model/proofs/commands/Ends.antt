@@ -1,5 +1,5 @@
 -- What a command that no check refuses answers, and the nodes that it leaves: those of its work.
-use Rattle.std.proofs.Common.{◌≡◌, ℕ, ◌==◌, Bool, true, false, List, [], ◌∷◌, length, refl, ◌∙◌}
+use Rattle.std.proofs.Common.{◌≡◌, ℕ, ◌==◌, Bool, true, false, List, [], ◌∷◌, length, refl}
 use Rattle.std.specs.Prelude.{Option, Some, None, option_map, unwrap_or, if◌then◌else◌}
 use Rattle.fsrm_model.specs.declared.command.Act.{Act}
 use Rattle.fsrm_model.specs.declared.command.FileOp.{FileOp}
@@ -11,7 +11,7 @@ use Rattle.fsrm_model.specs.declared.row.Capacity.{Capacity}
 use Rattle.fsrm_model.specs.declared.row.QuotaState.TheVariants.{Complete}
 use Rattle.fsrm_model.specs.declared.row.Rows.{Rows}
 use Rattle.fsrm_model.specs.FileOps.{plain}
-use Rattle.fsrm_model.specs.FileWork.{file_effect, file_work}
+use Rattle.fsrm_model.specs.FileWork.{file_effect}
 use Rattle.fsrm_model.specs.QuotaStates.{followed, with_state, head}
 use Rattle.fsrm_model.specs.Scan.{visits}
 use Rattle.fsrm_model.specs.ScanWork.{step_work}
