@@ -333,12 +333,12 @@ impl Parts {
             Deed::File(op) => self.operate(alloc, op, moment, steps),
             Deed::Usage { path } => self.sum(alloc, path, moment, steps),
             Deed::Step { n } => Ok(self.go_on(*n, moment, steps)),
-            Deed::Quota(deed) => self.on_quotas(alloc, deed, moment, steps),
-            Deed::Template(deed) => self.on_templates(alloc, deed, moment),
-            Deed::Autoquota(deed) => self.on_autos(alloc, deed, moment, steps),
-            Deed::Filegroup(deed) => self.on_groups(alloc, deed, moment),
-            Deed::Screen(deed) => self.on_screens(alloc, deed, moment, steps),
-            Deed::Exception(deed) => self.on_exceptions(alloc, deed, moment, steps),
+            Deed::Quota(deed) => self.on_quotas(alloc, deed.as_ref(), moment, steps),
+            Deed::Template(deed) => self.on_templates(alloc, deed.as_ref(), moment),
+            Deed::Autoquota(deed) => self.on_autos(alloc, deed.as_ref(), moment, steps),
+            Deed::Filegroup(deed) => self.on_groups(alloc, deed.as_ref(), moment),
+            Deed::Screen(deed) => self.on_screens(alloc, deed.as_ref(), moment, steps),
+            Deed::Exception(deed) => self.on_exceptions(alloc, deed.as_ref(), moment, steps),
             Deed::Admin(deed) => Ok(self.on_admin(deed, moment)),
         }
     }

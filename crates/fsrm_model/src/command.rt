@@ -3,6 +3,7 @@
 ghost use Rattle.std.specs.Prelude.{◌≡◌};
 ghost use Rattle.fsrm_model.specs.Acts.{folder_in, percent_in};
 
+use crate::boxed::Boxed;
 use crate::path::Path;
 use crate::row::{Action, ActionKind};
 use fsrm_base::{List, Text};
@@ -286,7 +287,8 @@ pub enum AdminDeed {
 }
 
 /// What a command is to do. Each command has a field for each of its values and options, in the order of `specs/Tools`.
-/// A field that is None wasn't given; what stands for it then is the command's to say.
+/// A field that is None wasn't given; what stands for it then is the command's to say. The families with
+/// large deeds are boxed, since these are rare, and the command of each line is moved several times.
 #[derive(Drop)]
 pub enum Deed {
     File(FileOp),
@@ -294,12 +296,12 @@ pub enum Deed {
     Usage { path: Path },
     /// Goes on with the active scan, for at most so many folders: 1 to 1,000,000.
     Step { n: u32 },
-    Quota(QuotaDeed),
-    Template(TemplateDeed),
-    Autoquota(AutoquotaDeed),
-    Filegroup(FilegroupDeed),
-    Screen(ScreenDeed),
-    Exception(ExceptionDeed),
+    Quota(Boxed<QuotaDeed>),
+    Template(Boxed<TemplateDeed>),
+    Autoquota(Boxed<AutoquotaDeed>),
+    Filegroup(Boxed<FilegroupDeed>),
+    Screen(Boxed<ScreenDeed>),
+    Exception(Boxed<ExceptionDeed>),
     Admin(AdminDeed),
 }
 

@@ -5,6 +5,7 @@
 //! definitions, so that the gate proves them.
 #![tactic(auto)]
 
+pub mod boxed;
 pub mod command;
 pub mod copies;
 pub mod laws;
@@ -14,6 +15,7 @@ pub mod report;
 pub mod row;
 pub mod space;
 
+pub use boxed::Boxed;
 pub use command::{
     Act, Added, AdminDeed, Answer, Ask, AutoquotaDeed, Command, Deed, ExceptionDeed, FileOp,
     FilegroupDeed, Outcome, QuotaDeed, Refusal, ScreenDeed, Subject, TemplateDeed, Update,

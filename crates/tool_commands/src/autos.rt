@@ -14,7 +14,7 @@ use crate::reading::LineFault;
 use crate::values::{is_named, read_name, read_object_name, read_path_word};
 use crate::words::Words;
 use fsrm_model::limits::MOST_EXCLUDED;
-use fsrm_model::{AutoquotaDeed, Deed, List, Path, Refusal, Text};
+use fsrm_model::{AutoquotaDeed, Boxed, Deed, List, Path, Refusal, Text};
 use std::alloc::Global;
 
 /// An option of an auto-apply quota.
@@ -97,11 +97,12 @@ fn add(alloc: Global, words: &mut Words<'_>) -> Result<Deed, LineFault>
     let missing = LineFault::bad_line(words.end());
     let path = given.path.ok_or(missing)?;
     let source_template = given.source.ok_or(missing)?;
-    Ok(Deed::Autoquota(AutoquotaDeed::Add {
+    let deed = AutoquotaDeed::Add {
         path,
         source_template,
         exclude: given.excluded,
-    }))
+    };
+    Ok(Deed::Autoquota(Boxed::new(alloc, deed)?))
 }
 
 /// What the words after `dirquota autoquota` spell.
@@ -115,11 +116,11 @@ pub fn autoquota(alloc: Global, words: &mut Words<'_>) -> Result<Deed, LineFault
     }
     if is_named("delete", word) {
         let path = path_alone(alloc, words)?;
-        return Ok(Deed::Autoquota(AutoquotaDeed::Delete { path }));
+        return Ok(Deed::Autoquota(Boxed::new(alloc, AutoquotaDeed::Delete { path })?));
     }
     if is_named("list", word) {
         words.finish()?;
-        return Ok(Deed::Autoquota(AutoquotaDeed::List));
+        return Ok(Deed::Autoquota(Boxed::new(alloc, AutoquotaDeed::List)?));
     }
     Err(LineFault::bad_line(name.column))
 }

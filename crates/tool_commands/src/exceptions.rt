@@ -12,7 +12,7 @@ use crate::reading::LineFault;
 use crate::screens::{ScreenKey, ScreenOptions};
 use crate::values::is_named;
 use crate::words::Words;
-use fsrm_model::{Deed, ExceptionDeed};
+use fsrm_model::{Boxed, Deed, ExceptionDeed};
 use std::alloc::Global;
 
 /// What may be given of an exception.
@@ -27,10 +27,11 @@ fn add(alloc: Global, words: &mut Words<'_>) -> Result<Deed, LineFault>
     if given.added_groups.is_empty() {
         return Err(missing);
     }
-    Ok(Deed::Exception(ExceptionDeed::Add {
+    let deed = ExceptionDeed::Add {
         path,
         add_filegroup: given.added_groups,
-    }))
+    };
+    Ok(Deed::Exception(Boxed::new(alloc, deed)?))
 }
 
 /// What the words after `filescrn exception` spell.
@@ -44,11 +45,11 @@ pub fn exception(alloc: Global, words: &mut Words<'_>) -> Result<Deed, LineFault
     }
     if is_named("delete", word) {
         let path = path_alone(alloc, words)?;
-        return Ok(Deed::Exception(ExceptionDeed::Delete { path }));
+        return Ok(Deed::Exception(Boxed::new(alloc, ExceptionDeed::Delete { path })?));
     }
     if is_named("list", word) {
         words.finish()?;
-        return Ok(Deed::Exception(ExceptionDeed::List));
+        return Ok(Deed::Exception(Boxed::new(alloc, ExceptionDeed::List)?));
     }
     Err(LineFault::bad_line(name.column))
 }

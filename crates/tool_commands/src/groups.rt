@@ -12,7 +12,7 @@ use crate::patterns::{read_non_members, read_patterns};
 use crate::reading::LineFault;
 use crate::values::{is_named, read_object_name};
 use crate::words::Words;
-use fsrm_model::{Deed, FilegroupDeed, List, Text};
+use fsrm_model::{Boxed, Deed, FilegroupDeed, List, Text};
 use std::alloc::Global;
 
 /// An option of a file group.
@@ -88,11 +88,12 @@ fn add(alloc: Global, words: &mut Words<'_>) -> Result<Deed, LineFault>
     let missing = LineFault::bad_line(words.end());
     let filegroup = given.name.ok_or(missing)?;
     let members = given.members.ok_or(missing)?;
-    Ok(Deed::Filegroup(FilegroupDeed::Add {
+    let deed = FilegroupDeed::Add {
         filegroup,
         members,
         non_members: given.non_members.unwrap_or(List::new(alloc)),
-    }))
+    };
+    Ok(Deed::Filegroup(Boxed::new(alloc, deed)?))
 }
 
 fn modify(alloc: Global, words: &mut Words<'_>) -> Result<Deed, LineFault>
@@ -100,11 +101,12 @@ fn modify(alloc: Global, words: &mut Words<'_>) -> Result<Deed, LineFault>
 {
     let given: GroupOptions = read_options(alloc, &KEYS, words)?;
     let filegroup = given.name.ok_or(LineFault::bad_line(words.end()))?;
-    Ok(Deed::Filegroup(FilegroupDeed::Modify {
+    let deed = FilegroupDeed::Modify {
         filegroup,
         members: given.members,
         non_members: given.non_members,
-    }))
+    };
+    Ok(Deed::Filegroup(Boxed::new(alloc, deed)?))
 }
 
 fn delete(alloc: Global, words: &mut Words<'_>) -> Result<Deed, LineFault>
@@ -112,7 +114,7 @@ fn delete(alloc: Global, words: &mut Words<'_>) -> Result<Deed, LineFault>
 {
     let given: GroupOptions = read_options(alloc, &[GroupKey::Name], words)?;
     let filegroup = given.name.ok_or(LineFault::bad_line(words.end()))?;
-    Ok(Deed::Filegroup(FilegroupDeed::Delete { filegroup }))
+    Ok(Deed::Filegroup(Boxed::new(alloc, FilegroupDeed::Delete { filegroup })?))
 }
 
 /// What the words after `filescrn filegroup` spell.
@@ -132,7 +134,7 @@ pub fn filegroup(alloc: Global, words: &mut Words<'_>) -> Result<Deed, LineFault
     }
     if is_named("list", word) {
         words.finish()?;
-        return Ok(Deed::Filegroup(FilegroupDeed::List));
+        return Ok(Deed::Filegroup(Boxed::new(alloc, FilegroupDeed::List)?));
     }
     Err(LineFault::bad_line(name.column))
 }

@@ -13,7 +13,7 @@ use crate::paths::{PathKey, PathOption, path_alone};
 use crate::reading::LineFault;
 use crate::values::{is_named, read_choice, read_object_name, read_path_word};
 use crate::words::Words;
-use fsrm_model::{Deed, Path, QuotaDeed, Text};
+use fsrm_model::{Boxed, Deed, Path, QuotaDeed, Text};
 use std::alloc::Global;
 
 /// An option of a quota.
@@ -107,43 +107,47 @@ fn add(alloc: Global, words: &mut Words<'_>) -> Result<Deed, LineFault>
     ensures { Reads result (option_words quota_add (end words.old) (left words.old)) }
 {
     let given: QuotaOptions = read_options(alloc, &ADD_KEYS, words)?;
+    let base = given.base;
     let missing = LineFault::bad_line(words.end());
     let path = given.path.ok_or(missing)?;
-    if given.base.limit.is_none() && given.source.is_none() {
+    if base.limit.is_none() && given.source.is_none() {
         return Err(missing);
     }
-    Ok(Deed::Quota(QuotaDeed::Add {
+    let deed = QuotaDeed::Add {
         path,
-        limit: given.base.limit,
-        enforce: given.base.enforce,
+        limit: base.limit,
+        enforce: base.enforce,
         enabled: given.enabled.unwrap_or(true),
         source_template: given.source,
-        add_threshold: given.base.added,
-        add_notification: given.base.notices,
-    }))
+        add_threshold: base.added,
+        add_notification: base.notices,
+    };
+    Ok(Deed::Quota(Boxed::new(alloc, deed)?))
 }
 
 fn modify(alloc: Global, words: &mut Words<'_>) -> Result<Deed, LineFault>
     ensures { Reads result (option_words quota_modify (end words.old) (left words.old)) }
 {
     let given: QuotaOptions = read_options(alloc, &MODIFY_KEYS, words)?;
+    let base = given.base;
     let path = given.path.ok_or(LineFault::bad_line(words.end()))?;
-    Ok(Deed::Quota(QuotaDeed::Modify {
+    let deed = QuotaDeed::Modify {
         path,
-        limit: given.base.limit,
-        enforce: given.base.enforce,
+        limit: base.limit,
+        enforce: base.enforce,
         enabled: given.enabled,
-        remove_threshold: given.base.removed,
-        add_threshold: given.base.added,
-        add_notification: given.base.notices,
-    }))
+        remove_threshold: base.removed,
+        add_threshold: base.added,
+        add_notification: base.notices,
+    };
+    Ok(Deed::Quota(Boxed::new(alloc, deed)?))
 }
 
 fn list(alloc: Global, words: &mut Words<'_>) -> Result<Deed, LineFault>
     ensures { Reads result (option_words quota_list (end words.old) (left words.old)) }
 {
     let given: PathOption = read_options(alloc, &[PathKey], words)?;
-    Ok(Deed::Quota(QuotaDeed::List { path: given.path }))
+    Ok(Deed::Quota(Boxed::new(alloc, QuotaDeed::List { path: given.path })?))
 }
 
 /// What the words after `dirquota quota` spell.
@@ -160,15 +164,15 @@ pub fn quota(alloc: Global, words: &mut Words<'_>) -> Result<Deed, LineFault>
     }
     if is_named("delete", word) {
         let path = path_alone(alloc, words)?;
-        return Ok(Deed::Quota(QuotaDeed::Delete { path }));
+        return Ok(Deed::Quota(Boxed::new(alloc, QuotaDeed::Delete { path })?));
     }
     if is_named("scan", word) {
         let path = path_alone(alloc, words)?;
-        return Ok(Deed::Quota(QuotaDeed::Scan { path }));
+        return Ok(Deed::Quota(Boxed::new(alloc, QuotaDeed::Scan { path })?));
     }
     if is_named("resetpeak", word) {
         let path = path_alone(alloc, words)?;
-        return Ok(Deed::Quota(QuotaDeed::Resetpeak { path }));
+        return Ok(Deed::Quota(Boxed::new(alloc, QuotaDeed::Resetpeak { path })?));
     }
     if is_named("list", word) {
         return list(alloc, words);

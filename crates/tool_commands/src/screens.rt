@@ -13,7 +13,7 @@ use crate::paths::path_alone;
 use crate::reading::LineFault;
 use crate::values::{is_named, read_choice, read_object_name, read_path_word};
 use crate::words::Words;
-use fsrm_model::{Action, Deed, List, Path, ScreenDeed, Text};
+use fsrm_model::{Action, Boxed, Deed, List, Path, ScreenDeed, Text};
 use std::alloc::Global;
 
 /// An option of a screen. An exception has two of them, the path and the groups that are to come.
@@ -116,12 +116,13 @@ fn add(alloc: Global, words: &mut Words<'_>) -> Result<Deed, LineFault>
     if given.added_groups.is_empty() {
         return Err(missing);
     }
-    Ok(Deed::Screen(ScreenDeed::Add {
+    let deed = ScreenDeed::Add {
         path,
         active: given.active.unwrap_or(true),
         add_filegroup: given.added_groups,
         add_notification: given.actions,
-    }))
+    };
+    Ok(Deed::Screen(Boxed::new(alloc, deed)?))
 }
 
 fn modify(alloc: Global, words: &mut Words<'_>) -> Result<Deed, LineFault>
@@ -129,12 +130,13 @@ fn modify(alloc: Global, words: &mut Words<'_>) -> Result<Deed, LineFault>
 {
     let given: ScreenOptions = read_options(alloc, &MODIFY_KEYS, words)?;
     let path = given.path.ok_or(LineFault::bad_line(words.end()))?;
-    Ok(Deed::Screen(ScreenDeed::Modify {
+    let deed = ScreenDeed::Modify {
         path,
         active: given.active,
         remove_filegroup: given.removed_groups,
         add_filegroup: given.added_groups,
-    }))
+    };
+    Ok(Deed::Screen(Boxed::new(alloc, deed)?))
 }
 
 /// What the words after `filescrn screen` spell.
@@ -151,11 +153,11 @@ pub fn screen(alloc: Global, words: &mut Words<'_>) -> Result<Deed, LineFault>
     }
     if is_named("delete", word) {
         let path = path_alone(alloc, words)?;
-        return Ok(Deed::Screen(ScreenDeed::Delete { path }));
+        return Ok(Deed::Screen(Boxed::new(alloc, ScreenDeed::Delete { path })?));
     }
     if is_named("list", word) {
         words.finish()?;
-        return Ok(Deed::Screen(ScreenDeed::List));
+        return Ok(Deed::Screen(Boxed::new(alloc, ScreenDeed::List)?));
     }
     Err(LineFault::bad_line(name.column))
 }

@@ -12,7 +12,7 @@ use crate::options::{OptionKey, Values, once, read_options};
 use crate::reading::LineFault;
 use crate::values::{is_named, read_object_name, read_update};
 use crate::words::Words;
-use fsrm_model::{Deed, TemplateDeed, Text, Update};
+use fsrm_model::{Boxed, Deed, TemplateDeed, Text, Update};
 use std::alloc::Global;
 
 /// An option of a template.
@@ -96,32 +96,36 @@ fn add(alloc: Global, words: &mut Words<'_>) -> Result<Deed, LineFault>
     ensures { Reads result (option_words template_add (end words.old) (left words.old)) }
 {
     let given: TemplateOptions = read_options(alloc, &ADD_KEYS, words)?;
+    let base = given.base;
     let missing = LineFault::bad_line(words.end());
     let template = given.name.ok_or(missing)?;
-    let limit = given.base.limit.ok_or(missing)?;
-    Ok(Deed::Template(TemplateDeed::Add {
+    let limit = base.limit.ok_or(missing)?;
+    let deed = TemplateDeed::Add {
         template,
         limit,
-        enforce: given.base.enforce.unwrap_or(true),
-        add_threshold: given.base.added,
-        add_notification: given.base.notices,
-    }))
+        enforce: base.enforce.unwrap_or(true),
+        add_threshold: base.added,
+        add_notification: base.notices,
+    };
+    Ok(Deed::Template(Boxed::new(alloc, deed)?))
 }
 
 fn modify(alloc: Global, words: &mut Words<'_>) -> Result<Deed, LineFault>
     ensures { Reads result (option_words template_modify (end words.old) (left words.old)) }
 {
     let given: TemplateOptions = read_options(alloc, &MODIFY_KEYS, words)?;
+    let base = given.base;
     let template = given.name.ok_or(LineFault::bad_line(words.end()))?;
-    Ok(Deed::Template(TemplateDeed::Modify {
+    let deed = TemplateDeed::Modify {
         template,
-        limit: given.base.limit,
-        enforce: given.base.enforce,
-        remove_threshold: given.base.removed,
-        add_threshold: given.base.added,
-        add_notification: given.base.notices,
+        limit: base.limit,
+        enforce: base.enforce,
+        remove_threshold: base.removed,
+        add_threshold: base.added,
+        add_notification: base.notices,
         update_derived: given.update.unwrap_or(Update::Keep),
-    }))
+    };
+    Ok(Deed::Template(Boxed::new(alloc, deed)?))
 }
 
 fn delete(alloc: Global, words: &mut Words<'_>) -> Result<Deed, LineFault>
@@ -129,7 +133,7 @@ fn delete(alloc: Global, words: &mut Words<'_>) -> Result<Deed, LineFault>
 {
     let given: TemplateOptions = read_options(alloc, &[TemplateKey::Name], words)?;
     let template = given.name.ok_or(LineFault::bad_line(words.end()))?;
-    Ok(Deed::Template(TemplateDeed::Delete { template }))
+    Ok(Deed::Template(Boxed::new(alloc, TemplateDeed::Delete { template })?))
 }
 
 /// What the words after `dirquota template` spell.
@@ -149,7 +153,7 @@ pub fn template(alloc: Global, words: &mut Words<'_>) -> Result<Deed, LineFault>
     }
     if is_named("list", word) {
         words.finish()?;
-        return Ok(Deed::Template(TemplateDeed::List));
+        return Ok(Deed::Template(Boxed::new(alloc, TemplateDeed::List)?));
     }
     Err(LineFault::bad_line(name.column))
 }
