@@ -13,6 +13,8 @@ mod acts;
 #[cfg(test)]
 mod audits;
 #[cfg(test)]
+mod chances;
+#[cfg(test)]
 mod crashes;
 #[cfg(test)]
 mod devices;
@@ -29,6 +31,8 @@ mod lists;
 #[cfg(test)]
 mod names;
 #[cfg(test)]
+mod plain_tree;
+#[cfg(test)]
 mod quota_templates;
 #[cfg(test)]
 mod quotas;
@@ -42,5 +46,7 @@ mod runs;
 mod scans;
 #[cfg(test)]
 mod trees;
+#[cfg(test)]
+mod two_trees;
 #[cfg(test)]
 mod values;
