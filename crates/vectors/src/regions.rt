@@ -65,6 +65,71 @@ fn many_texts_come_and_go(rt: HostRuntime) -> Result<(), Fail> {
     Ok(())
 }
 
+// As many names of 255 bytes as a region of some 16 MiB has bytes for.
+const MANY: u32 = 65_536;
+
+// How many are stored in all.
+const ALL: u32 = 400_000;
+
+// A name of 255 bytes.
+fn long_name(alloc: Global, number: u32) -> Result<String, Fail> {
+    Ok(format!(in alloc; "{number:0>255}")?)
+}
+
+fn fill(region: &mut Region, alloc: Global) -> Result<Vec<u32>, Fail> {
+    let mut keys = Vec::new(alloc);
+    for number in 0..MANY {
+        let name = long_name(alloc, number)?;
+        keys.push(region.store(&name)?)?;
+    }
+    Ok(keys)
+}
+
+// Whether a name is refused until the one of this key goes. The key becomes its own.
+fn replaces(region: &mut Region, name: &str, key: &mut u32) -> Result<bool, RegionFault> {
+    let is_full = region.store(name) == Err(RegionFault::Full);
+    give_back(region, *key);
+    *key = region.store(name)?;
+    Ok(is_full)
+}
+
+// Whether each name takes the place of the oldest one. All others have to slide down for its bytes, some forty times.
+fn are_replaced(region: &mut Region, alloc: Global, keys: &mut [u32]) -> Result<bool, Fail> {
+    for number in MANY..ALL {
+        let name = long_name(alloc, number)?;
+        let Some(key) = keys.get_mut((number % MANY) as usize) else {
+            return Ok(false);
+        };
+        if !replaces(region, &name, key)? {
+            return Ok(false);
+        }
+    }
+    Ok(true)
+}
+
+fn are_kept(region: &Region, alloc: Global, keys: &[u32]) -> Result<bool, Fail> {
+    for number in ALL - MANY..ALL {
+        let name = long_name(alloc, number)?;
+        let key = keys.get((number % MANY) as usize).copied();
+        if !key.is_some_and(|key| holds(region, key, &name)) {
+            return Ok(false);
+        }
+    }
+    Ok(true)
+}
+
+fn renews_names(region: &mut Region, alloc: Global) -> Result<bool, Fail> {
+    let mut keys = fill(region, alloc)?;
+    Ok(are_replaced(region, alloc, &mut keys)? && are_kept(region, alloc, &keys)?)
+}
+
+#[test]
+fn the_oldest_name_makes_room_for_the_next(rt: HostRuntime) -> Result<(), Fail> {
+    let mut region = Region::reserve(rt.alloc(), 255 * MANY, MANY)?;
+    assert!(rt; renews_names(&mut region, rt.alloc())?);
+    Ok(())
+}
+
 fn leasts(alloc: Global) -> Result<(Option<u32>, Option<u32>), Fail> {
     let mut set = NumberSet::reserve(alloc, 5_000)?;
     set.insert(4_999);
