@@ -29,6 +29,8 @@ mod journals;
 #[cfg(test)]
 mod lists;
 #[cfg(test)]
+mod many_files;
+#[cfg(test)]
 mod names;
 #[cfg(test)]
 mod plain_tree;
