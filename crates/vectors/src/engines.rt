@@ -17,18 +17,34 @@ use std::sync::ledger::{Blank, Ledger as Named};
 use std::test::Fail;
 use tool_commands::read_line;
 
-fn is_done<L: Ledger>(
+fn outcome_of<L: Ledger>(
     engine: &mut Engine,
     alloc: Global,
     command: &Command,
     steps: &mut Steps<L>,
-) -> bool
+) -> Option<Outcome>
     requires valid { is_command command.now ≡ true }
     requires idle { engine.old.waiting ≡ [] }
 {
     match engine.apply(alloc, command, steps) {
-        Ok(answer) => matches!(answer.outcome, Outcome::Done { .. }),
-        Err(_) => false,
+        Ok(answer) => Some(answer.outcome),
+        Err(_) => None,
+    }
+}
+
+/// What the command comes to that a line spells, if it spells one.
+pub fn outcome<L: Ledger>(
+    engine: &mut Engine,
+    alloc: Global,
+    line: &[u8],
+    steps: &mut Steps<L>,
+) -> Option<Outcome>
+    requires { engine.old.waiting ≡ [] }
+{
+    match read_line(alloc, line) {
+        Ok(Some(command)) => outcome_of(engine, alloc, &command, steps),
+        Ok(None) => None,
+        Err(_) => None,
     }
 }
 
@@ -41,11 +57,10 @@ pub fn does<L: Ledger>(
 ) -> bool
     requires { engine.old.waiting ≡ [] }
 {
-    match read_line(alloc, line) {
-        Ok(Some(command)) => is_done(engine, alloc, &command, steps),
-        Ok(None) => false,
-        Err(_) => false,
-    }
+    matches!(
+        outcome(engine, alloc, line, steps),
+        Some(Outcome::Done { .. })
+    )
 }
 
 /// The same, and that no action runs.

@@ -1,12 +1,12 @@
 //! Many files, in a volume that is larger than that of a script, below a quota that counts what they take.
 
-ghost use Rattle.std.specs.Prelude.{◌≡◌, [], true};
-ghost use Rattle.fsrm_model.specs.Valued.{is_command, is_op};
+ghost use Rattle.std.specs.Prelude.{◌≡◌, true};
+ghost use Rattle.fsrm_model.specs.Valued.{is_op};
 
 use crate::chances::{below, chances};
-use crate::engines::does;
+use crate::engines::{does, outcome};
 use fsrm_engine::Engine;
-use fsrm_model::{Capacity, Command, FileOp, Ledger, Outcome, Path, Steps, Weightless};
+use fsrm_model::{Capacity, FileOp, Ledger, Outcome, Path, Steps, Weightless};
 use name_rules::read_path;
 use rand_core::Rng;
 use std::alloc::Global;
@@ -14,7 +14,6 @@ use std::marker::Brand;
 use std::process::Abort;
 use std::sync::ledger::{Blank, Ledger as Named};
 use std::test::Fail;
-use tool_commands::read_line;
 
 const SIZE: Capacity = Capacity {
     nodes: 131_072,
@@ -150,22 +149,6 @@ fn taken(lengths: &[u32]) -> u64 {
     bytes
 }
 
-fn is_sum<L: Ledger>(
-    engine: &mut Engine,
-    alloc: Global,
-    command: &Command,
-    taken: u64,
-    steps: &mut Steps<L>,
-) -> bool
-    requires valid { is_command command.now ≡ true }
-    requires idle { engine.old.waiting ≡ [] }
-{
-    match engine.apply(alloc, command, steps) {
-        Ok(answer) => matches!(answer.outcome, Outcome::Sum { node: 0, bytes } if bytes == taken),
-        Err(_) => false,
-    }
-}
-
 // Whether so many bytes are told to be taken.
 fn tells<L: Ledger>(
     engine: &mut Engine,
@@ -175,10 +158,9 @@ fn tells<L: Ledger>(
     steps: &mut Steps<L>,
 ) -> bool {
     assert!(end; engine.next_act().is_none());
-    match read_line(alloc, USAGE) {
-        Ok(Some(command)) => is_sum(engine, alloc, &command, taken, steps),
-        Ok(None) => false,
-        Err(_) => false,
+    match outcome(engine, alloc, USAGE, steps) {
+        Some(Outcome::Sum { node, bytes }) => node == 0 && bytes == taken,
+        _ => false,
     }
 }
 
