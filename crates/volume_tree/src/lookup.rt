@@ -41,6 +41,7 @@ fn guessed<L: Ledger>(
     hints: &Hints,
     folder: u32,
     name: &str,
+    goes_on: bool,
     steps: &mut Steps<L>,
 ) -> Option<u32>
     requires { AreSlots 0 slots.now.slots }
@@ -49,7 +50,7 @@ fn guessed<L: Ledger>(
     ensures least { steps.old ≤ steps.new }
     ensures looks { steps.new ≤ steps.old + 1 }
 {
-    let number = hints.guess(folder, name)?;
+    let number = hints.guess(folder, name, goes_on)?;
     if has_name(slots, number, folder, name, steps) {
         Some(number)
     } else {
@@ -64,6 +65,7 @@ pub fn child<L: Ledger>(
     hints: &Hints,
     folder: u32,
     name: &str,
+    goes_on: bool,
     steps: &mut Steps<L>,
 ) -> Option<u32>
     requires slots { AreSlots 0 slots.now.slots }
@@ -74,7 +76,7 @@ pub fn child<L: Ledger>(
     ensures some { steps.old + 1 ≤ steps.new }
     ensures looks { steps.new ≤ steps.old + 22 }
 {
-    if let Some(number) = guessed(slots, hints, folder, name, steps) {
+    if let Some(number) = guessed(slots, hints, folder, name, goes_on, steps) {
         return Some(number);
     }
     match search(slots, order, folder, name, steps) {

@@ -121,8 +121,7 @@ impl Tree {
         let entry = Entry::at(node, folder, name);
         reorder(&self.slots, &mut self.order, entry, found, steps);
         let bytes = name.len() as u32;
-        self.hints.forget(&self.slots, node);
-        self.hints.enter(&self.slots, folder, name, node);
+        self.hints.follow(&self.slots, node, folder, name);
         let old_bytes = slots::name_length(&self.slots, node, steps);
         self.slots.set_place(node, folder, name);
         self.used = self.used - old_bytes + bytes;

@@ -125,7 +125,15 @@ impl Tree {
         ensures some { steps.old + 1 ≤ steps.new }
         ensures looks { steps.new ≤ steps.old + 22 }
     {
-        lookup::child(&self.slots, &self.order, &self.hints, folder, name, steps)
+        lookup::child(
+            &self.slots,
+            &self.order,
+            &self.hints,
+            folder,
+            name,
+            false,
+            steps,
+        )
     }
 
     /// The node that the next names of a path lead to, so many of them, which are taken. It takes no more
@@ -146,9 +154,18 @@ impl Tree {
         // A look at the root.
         steps.tick();
         let mut at = 0;
-        for _place in 0..count {
+        for place in 0..count {
             let name = names.next()?;
-            match lookup::child(&self.slots, &self.order, &self.hints, at, name, steps) {
+            let goes_on = place + 1 < count;
+            match lookup::child(
+                &self.slots,
+                &self.order,
+                &self.hints,
+                at,
+                name,
+                goes_on,
+                steps,
+            ) {
                 Some(child) => at = child,
                 None => return None,
             }
