@@ -23,7 +23,9 @@ fn refuses(quota: &QuotaRow, before: u64, after: u64) -> bool
     quota.state.counts() && quota.enforce && before < after && quota.limit < after
 }
 
-// The refusal by the quota of a folder, if it refuses that its counter loses bytes and then gains others.
+// The refusal by the quota of a folder, if it refuses that its counter loses bytes and then gains others. A climb asks
+// each folder; so the answer stays where it is computed, and isn't copied.
+#[inline(always)]
 fn judge(
     counters: &Usage,
     objects: &Objects,
