@@ -146,8 +146,8 @@ fn climb<L: Ledger>(
     }
 }
 
-// The same of a name, which is folded once for all patterns. It isn't inlined, since a function clears the room of all that it
-// may need when it begins, and a folded name takes a KiB.
+// The same of a name, which is folded once for all patterns. It isn't inlined, since a function clears the room of all
+// that it may need when it begins, and a folded name takes a KiB.
 #[inline(never)]
 fn climb_with<L: Ledger>(
     tree: &Tree,

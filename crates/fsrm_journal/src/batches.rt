@@ -9,8 +9,8 @@ ghost use Rattle.fsrm_journal.specs.Records.{batch, Holds, HoldsAllOrNone, Log, 
 
 use fsrm_outside::{Disk, Failed, Part};
 
-// Writes a batch and a closed gate after the gate, makes them stable, and answers the place of the closed gate. The gate
-// before the batch stays as it was.
+// Writes a batch and a closed gate after the gate, makes them stable, and answers the place of the closed gate. The
+// gate before the batch stays as it was.
 pub fn stage<D: Disk>(disk: &mut D, ruling: Part, gate: u64, closed: &[u8]) -> Result<u64, Failed>
     requires bound { gate ≤ 2 ^ 62 }
     requires some { 0 < length closed.now }

@@ -279,7 +279,8 @@ impl Journal {
         self.held += 1;
     }
 
-    /// Makes the records that are held stable: all of them or, if a crash comes between, none. The gate after them is 0.
+    /// Makes the records that are held stable: all of them or, if a crash comes between, none. The gate after them is
+    /// 0.
     pub fn flush<D: Disk>(&mut self, disk: &mut D) -> Result<(), JournalFault>
         requires place { ForSome (D.reads disk.old) (λ parts. self.old.end < length (part_of self.old.ruling parts)) }
 

@@ -44,8 +44,8 @@ pub fn what_is_known()
 {}
 
 /// A change to the other half may be given up before it comes to rule. The journal knows what it has to of what a read
-/// gives; so once that is synced, another half may be begun. And the half that rules holds the records that it held, up to
-/// the same end; so then records may be added.
+/// gives; so once that is synced, another half may be begun. And the half that rules holds the records that it held, up
+/// to the same end; so then records may be added.
 pub fn a_change_may_be_given_up<D: Disk>()
     ensures known { (half front : List ℕ) (head : Head) (journal : Journal) (disk : D) (parts : Parts) → Filling D.reads D.disk_clock D.images half head front journal disk
         → D.reads disk ≡ Some parts → Knows parts journal }

@@ -6,7 +6,8 @@ use fsrm_base::NoMemory;
 use std::alloc::Global;
 use std::marker::Model;
 
-/// A value that lies on the heap, so that what has it takes the room of a pointer for it. Contracts see it as the value.
+/// A value that lies on the heap, so that what has it takes the room of a pointer for it. Contracts see it as the
+/// value.
 #[derive(Drop)]
 pub struct Boxed<T> {
     inner: Box<T>,

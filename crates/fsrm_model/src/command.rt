@@ -287,8 +287,8 @@ pub enum AdminDeed {
 }
 
 /// What a command is to do. Each command has a field for each of its values and options, in the order of `specs/Tools`.
-/// A field that is None wasn't given; what stands for it then is the command's to say. The families with
-/// large deeds are boxed, since these are rare, and the command of each line is moved several times.
+/// A field that is None wasn't given; what stands for it then is the command's to say. The families with large deeds are
+/// boxed, since these are rare, and the command of each line is moved several times.
 #[derive(Drop)]
 pub enum Deed {
     File(FileOp),

@@ -1,5 +1,5 @@
-//! The entries of a table of places: 0 for a number that isn't there, else one more than the place where it is looked for
-//! first. It stands there or, after edits before it, not far from there.
+//! The entries of a table of places: 0 for a number that isn't there, else one more than the place where it is looked
+//! for first. It stands there or, after edits before it, not far from there.
 
 ghost use Rattle.std.specs.Prelude.{◌≡◌, ◌≤◌, ◌<◌, ◌+◌, max, true, length, slice_set, OnOk, OnErr, vec_capacity};
 ghost use Rattle.fsrm_base.specs.Numbers.{is_set};
@@ -70,8 +70,8 @@ fn settle(entries: &mut [u16], numbers: &[u32], from: usize, waiting: u16) -> u1
     0
 }
 
-/// Writes the entry of a number that came to a place. Those of the numbers behind it may wait: so many edits did before,
-/// and the answer is how many do now.
+/// Writes the entry of a number that came to a place. Those of the numbers behind it may wait: so many edits did
+/// before, and the answer is how many do now.
 pub(crate) fn note(
     entries: &mut [u16],
     numbers: &[u32],

@@ -151,8 +151,8 @@ impl Hints {
         hints
     }
 
-    // The least entry of a bucket of folders, without the hash's bits. An entry that has these is then the number alone,
-    // and every other one is greater; so it is found without a branch.
+    // The least entry of a bucket of folders, without the hash's bits. An entry that has these is then the number
+    // alone, and every other one is greater; so it is found without a branch.
     #[inline]
     fn least_folder(&self, hash: u32) -> u32 {
         let mut least = FREE;
@@ -207,8 +207,8 @@ impl Hints {
         }
     }
 
-    // Sees that there is a bucket for each folder. If there isn't, it takes two for each, and notes all folders anew; if
-    // there is no memory for them, the table stays as it is.
+    // Sees that there is a bucket for each folder. If there isn't, it takes two for each, and notes all folders anew;
+    // if there is no memory for them, the table stays as it is.
     fn fit_folders(&mut self, nodes: &NodeTable) {
         if self.entered as usize <= self.folders.len() {
             return;

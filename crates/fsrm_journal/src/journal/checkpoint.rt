@@ -27,10 +27,10 @@ impl Journal {
         next_generation(self.generation)
     }
 
-    /// Begins the half that is to rule next: its gate is closed, by 0 if it was open, and its head is written. Then `put_image` has to be
-    /// given `head.image` bytes in all, and then comes `switch`. No record may be added between these. Up to `switch` the
-    /// change may be given up, since the half that rules and its end stay: the disk is synced, and then records may be
-    /// added, or a half begun anew.
+    /// Begins the half that is to rule next: its gate is closed, by 0 if it was open, and its head is written. Then
+    /// `put_image` has to be given `head.image` bytes in all, and then comes `switch`. No record may be added between
+    /// these. Up to `switch` the change may be given up, since the half that rules and its end stay: the disk is
+    /// synced, and then records may be added, or a half begun anew.
     pub fn begin_half<D: Disk>(&mut self, disk: &mut D, head: &Head) -> Result<(), JournalFault>
         requires legal { IsLegal head.now }
         requires next { IsNext self.old.generation head.now.generation }

@@ -17,8 +17,9 @@ impl Journal {
     ghost use Rattle.fsrm_journal.specs.Formatted.{has_store, Formats, IsFormatted, IsMade};
     ghost use Rattle.fsrm_journal.specs.Halves.{Certain, IsLegal};
 
-    /// Makes a store that holds this image and no record, in part 0. Of part 1 only the gate is written, so an empty one
-    /// is then one byte 0. `AlreadyStore` exactly if a gate is open; then nothing is ever written, also if a call fails.
+    /// Makes a store that holds this image and no record, in part 0. Of part 1 only the gate is written, so an empty
+    /// one is then one byte 0. `AlreadyStore` exactly if a gate is open; then nothing is ever written, also if a call
+    /// fails.
     pub fn format<D: Disk>(disk: &mut D, head: &Head, image: &[u8]) -> Result<(), JournalFault>
         requires legal { IsLegal head.now }
         requires whole { head.now.image ≡ length image.now }
