@@ -22,9 +22,9 @@ mod disk;
 /// part, and one for which there is no memory. Every other call succeeds. Failed reads, writes and calls of the
 /// disk are counted, each up to `u64::MAX`.
 ///
-/// A call that failed has its number too, but for one: if there is no memory for its place in the record, it is
-/// counted as failed alone, the next call takes its number, and a write leaves the images of the disk as they were.
-/// A write of the disk that failed may have grown the part, so an image may be as long as its range reaches.
+/// A call that failed has a number too. Only if there is no memory for its place in the record, it has none: it is
+/// counted as failed alone, the next call takes the number, and the images of the disk stay as they were. An image may
+/// be as long as the range of a failed write reaches, since that may have grown the part.
 ///
 /// It keeps all that was written: it is made for tests, and grows with every call.
 #[derive(Drop)]
