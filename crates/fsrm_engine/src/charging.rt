@@ -64,6 +64,7 @@ fn note_if(crossing: &mut NumberSet, place: u32, crosses: bool)
 
 // Raises the peak of a folder's quota to what is used, if that is more, and notes the quota's place if it crosses a
 // threshold. The folder lost `minus` bytes, and then gained `plus`.
+#[inline(always)]
 fn gain(
     usage: &Usage,
     objects: &mut Objects,
