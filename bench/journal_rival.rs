@@ -28,24 +28,20 @@ fn head() -> Vec<u8> {
 impl Store {
     fn made() -> Result<Store> {
         let store = Store { zero: opened("fsrm.store.0")?, one: opened("fsrm.store.1")?, end: 48, bytes: Vec::new() };
-        store.sync()?;
+        // An earlier process may have left what isn't stable.
+        store.zero.sync_all()?;
+        store.one.sync_all()?;
+        File::open(".")?.sync_all()?;
         store.zero.write_all_at(&[0], 0)?;
         store.one.write_all_at(&[0], 0)?;
-        store.sync()?;
+        store.zero.sync_all()?;
+        store.one.sync_all()?;
         store.zero.write_all_at(&head()[1..], 1)?;
         store.zero.write_all_at(&[0], 48)?;
-        store.sync()?;
+        store.zero.sync_all()?;
         store.zero.write_all_at(&[1], 0)?;
-        store.sync()?;
-        // the journal is opened
-        store.sync()?;
+        store.zero.sync_all()?;
         Ok(store)
-    }
-
-    fn sync(&self) -> Result<()> {
-        self.zero.sync_all()?;
-        self.one.sync_all()?;
-        File::open(".")?.sync_all()
     }
 
     fn hold(&mut self, body: &[u8]) {
@@ -59,9 +55,9 @@ impl Store {
     fn flush(&mut self) -> Result<()> {
         self.bytes.push(0);
         self.zero.write_all_at(&self.bytes, self.end + 1)?;
-        self.sync()?;
+        self.zero.sync_all()?;
         self.zero.write_all_at(&[1], self.end)?;
-        self.sync()?;
+        self.zero.sync_all()?;
         self.end += self.bytes.len() as u64;
         self.bytes.clear();
         Ok(())
