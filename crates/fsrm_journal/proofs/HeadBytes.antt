@@ -12,7 +12,8 @@ use Rattle.byteorder.specs.Endian.{little_number, little_bytes}
 use Rattle.byteorder.specs.Numbers.{little_number-reads_back}
 use Rattle.fsrm_journal.specs.Heads.{first_failed, half_fault, magic, has_zeros, has_magic, has_generation, has_version, has_nodes, has_names, has_cluster, has_image, is_version, is_cluster, generation_at, version_at, nodes_at, names_at, cluster_at, image_at}
 use Rattle.fsrm_journal.specs.HeadSays.{head_says}
-use Rattle.fsrm_journal.specs.Halves.{IsLegal, head_tail}
+use Rattle.fsrm_journal.specs.Halves.{head_tail}
+use Rattle.fsrm_journal.specs.Legal.{IsLegal}
 use Rattle.fsrm_journal.specs.declared.heads.Head.{Head}
 
 -- with an open gate

@@ -1,9 +1,14 @@
 -- What a half without a fault has.
-use Rattle.std.proofs.Common.{◌≡◌, ℕ, zero, suc, ◌≤◌, Bool, true, false, List, [], ◌∷◌, length, get_or, refl, sym, ◌∙◌, ap}
-use Rattle.std.specs.Prelude.{None, Some, cond, nat_eq, nat_le}
-use Rattle.std.proofs.lemmas.Bool.{cond-true, cond-false, leb-true}
-use Rattle.fsrm_base.proofs.TestLaws.{both}
-use Rattle.fsrm_journal.specs.Heads.{first_failed, head_tests, head_fault, half_fault, is_open, has_generation, has_image, generation_at}
+use Rattle.std.proofs.Common.{◌≡◌, ⊎_elim, ℕ, zero, suc, ◌^◌, ◌≤◌, ◌<◌, Bool, true, false, List, [], ◌∷◌, length, get_or, nat_eq, refl, sym, ◌∙◌, ap, subst}
+use Rattle.std.specs.Prelude.{None, Some, cond, ◌&&◌, nat_le}
+use Rattle.std.proofs.lemmas.Bool.{cond-true, cond-false, eqb-true, leb-true}
+use Rattle.fsrm_base.proofs.TestLaws.{both, both_true, is_or}
+use Rattle.fsrm_model.specs.Capacities.{is_capacity, is_cluster as is_cluster_size}
+use Rattle.fsrm_model.specs.Limits.{most_nodes, most_names}
+use Rattle.fsrm_journal.specs.Heads.{first_failed, head_tests, head_fault, half_fault, is_open, is_version, is_cluster, has_generation, has_version, has_nodes, has_names, has_cluster, has_image, generation_at, version_at, nodes_at, names_at, cluster_at, image_at}
+use Rattle.fsrm_journal.specs.HeadSays.{head_says}
+use Rattle.fsrm_journal.specs.Legal.{IsLegal}
+use Rattle.fsrm_journal.specs.declared.heads.Head.{Head}
 
 -- where tests choose
 pub ruleset chosen = (cond-true, cond-false)
@@ -41,3 +46,49 @@ open_long head none open' = long_generation head (open_holds head none open' 2)
 -- and is whole
 pub open_whole : (head : List ℕ) → half_fault head ≡ None → is_open head ≡ true → 48 ≤ length head
 open_whole head none open' = long_image head (open_holds head none open' 7)
+
+-- each field that is there is legal
+legal_generation : (head : List ℕ) → has_generation head ≡ true → 1 ≤ generation_at head
+unfolding has_generation
+legal_generation head is = leb-true 1 (generation_at head) (both (nat_le 24 (length head)) (nat_le 1 (generation_at head)) is).1
+
+legal_version : (head : List ℕ) → has_version head ≡ true → is_version (version_at head) ≡ true
+unfolding has_version
+legal_version head is = (both (nat_le 28 (length head)) (is_version (version_at head)) is).1
+
+legal_cluster : (head : List ℕ) → has_cluster head ≡ true → is_cluster (version_at head) (cluster_at head) ≡ true
+unfolding has_cluster
+legal_cluster head is = (both (nat_le 40 (length head)) (is_cluster (version_at head) (cluster_at head)) is).1
+
+-- in each version a cluster has the size of one
+cluster_size : (version cluster : ℕ) → is_cluster version cluster ≡ true → is_cluster_size cluster ≡ true
+cluster_size version cluster is = ⊎_elim
+    (λ first. ap is_cluster_size (eqb-true cluster 4096 first))
+    (λ second. (both (nat_eq version 2) (is_cluster_size cluster) second).1)
+    (is_or (nat_eq cluster 4096) (nat_eq version 2 && is_cluster_size cluster) is)
+
+legal_size : (head : List ℕ) → has_nodes head ≡ true → has_names head ≡ true → has_cluster head ≡ true → is_capacity (head_says head).size ≡ true
+unfolding has_nodes has_names
+legal_size head nodes names cluster =
+    let few_nodes = nat_le 2 (nodes_at head) && nat_le (nodes_at head) most_nodes in
+    let few_names = nat_le 256 (names_at head) && nat_le (names_at head) most_names in
+    both_true few_nodes (few_names && is_cluster_size (cluster_at head)) (both (nat_le 32 (length head)) few_nodes nodes).1
+    (both_true few_names (is_cluster_size (cluster_at head)) (both (nat_le 36 (length head)) few_names names).1
+    (cluster_size (version_at head) (cluster_at head) (legal_cluster head cluster)))
+
+open_legal : (head : List ℕ) → half_fault head ≡ None → is_open head ≡ true → generation_at head < 2 ^ 64 → image_at head < 2 ^ 64 → IsLegal (head_says head)
+open_legal head none open' generation image =
+    let holds = open_holds head none open' in
+    record {
+      generation = legal_generation head (holds 2);
+      version = legal_version head (holds 3);
+      size = legal_size head (holds 4) (holds 5) (holds 6);
+      cluster = legal_cluster head (holds 6);
+      generation_fits = generation;
+      image_fits = image;
+    }
+
+-- and says what is legal; its numbers fit, since they were read into a `Head`
+pub says_legal : (head : List ℕ) (says : Head) → says ≡ head_says head → half_fault head ≡ None → is_open head ≡ true → says.generation < 2 ^ 64 → says.image < 2 ^ 64 → IsLegal says
+says_legal head says is none open' generation image =
+    subst IsLegal (sym is) (open_legal head none open' (subst (λ (h : Head). h.generation < 2 ^ 64) is generation) (subst (λ (h : Head). h.image < 2 ^ 64) is image))

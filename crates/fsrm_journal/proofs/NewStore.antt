@@ -9,7 +9,8 @@ use Rattle.fsrm_outside.specs.declared.traits.Part.{Part}
 use Rattle.fsrm_outside.specs.declared.traits.Part.TheVariants.{Zero, One}
 use Rattle.fsrm_outside.proofs.Stages.{DiskLaws, later_forth, later_back, some_is, tick_forth}
 use Rattle.fsrm_journal.specs.Formatted.{IsMade, SameButGates, NoneOrFresh, Formats}
-use Rattle.fsrm_journal.specs.Halves.{IsLegal, head_tail, AllButGate, Beside, Shut, Until}
+use Rattle.fsrm_journal.specs.Halves.{head_tail, AllButGate, Beside, Shut, Until}
+use Rattle.fsrm_journal.specs.Legal.{IsLegal}
 use Rattle.fsrm_journal.specs.Heads.{head_of, is_open, half_fault, judged, ruling, unless_damaged}
 use Rattle.fsrm_journal.specs.Opened.{judged_parts}
 use Rattle.fsrm_journal.specs.declared.fault.JournalFault.{JournalFault}

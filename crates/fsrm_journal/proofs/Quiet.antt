@@ -14,7 +14,8 @@ use Rattle.fsrm_journal.specs.declared.heads.Head.{Head}
 use Rattle.fsrm_journal.specs.declared.journal.Journal.{Journal}
 use Rattle.fsrm_outside.specs.Changes.{Same, Through}
 use Rattle.fsrm_outside.specs.Parts.{Parts, part_of, other}
-use Rattle.fsrm_outside.proofs.Stages.{DiskLaws, later_back}
+use Rattle.fsrm_outside.specs.Told.{AtMostOneTick}
+use Rattle.fsrm_outside.proofs.Stages.{DiskLaws, later_back, later_forth, tick_forth}
 
 pub still_stable : {D : Type 0} (reads : D → Option Parts) {clock : D → Option ℕ} {images : D → ℕ → Parts → Type 0} {by : D → D → Type 0} → DiskLaws clock images by → (old new : D)
     → by old new → Through clock images Same old new → reads new ≡ reads old
@@ -34,20 +35,21 @@ unfoldable pub after_clock : Option ℕ → ℕ
 after_clock None = 0
 after_clock (Some t) = t + 1
 
--- a sync failed
-pub settles_never : {D : Type 0} {reads : D → Option Parts} {clock : D → Option ℕ} {images : D → ℕ → Parts → Type 0} {failed : Type 0} (disk : D) → failed → Settles reads clock images failed disk
+-- the first sync failed
+pub settles_never : {D : Type 0} {reads : D → Option Parts} {clock : D → Option ℕ} {images : D → ℕ → Parts → Type 0} {failed : Type 0} (old disk : D) → failed → AtMostOneTick (clock old) (clock disk) → Settles reads clock images failed old disk
 unfolding after_clock
-settles_never {clock = clock} disk fails = record {
+settles_never {clock = clock} old disk fails tick = record {
   since = after_clock (clock disk);
   after = λ t m i at from to left. absurd (omega (arith, ap after_clock at, from, to));
   comes = λ t at. inr fails;
+  soon = λ s t at_old at. inr (tick_forth (clock old) (clock disk) s t tick at_old at);
 }
 
--- a sync made stable what a read gives, and then there were reads alone
-pub settles_from : {D : Type 0} {reads : D → Option Parts} {clock : D → Option ℕ} {images : D → ℕ → Parts → Type 0} {by : D → D → Type 0} {failed : Type 0} → DiskLaws clock images by → (mid new : D)
-    → by mid new → Through clock images Same mid new → reads new ≡ reads mid → ((t : ℕ) (i : Parts) → clock mid ≡ Some t → images mid t i → reads mid ≡ Some i) → Settles reads clock images failed new
+-- the first sync made stable what a read gives, and then there were reads alone
+pub settles_from : {D : Type 0} {reads : D → Option Parts} {clock : D → Option ℕ} {images : D → ℕ → Parts → Type 0} {by : D → D → Type 0} {failed : Type 0} → DiskLaws clock images by → (old mid new : D) → by old mid → AtMostOneTick (clock old) (clock mid)
+    → by mid new → Through clock images Same mid new → reads new ≡ reads mid → ((t : ℕ) (i : Parts) → clock mid ≡ Some t → images mid t i → reads mid ≡ Some i) → Settles reads clock images failed old new
 unfolding at_clock
-settles_from {reads = reads} {clock = clock} laws mid new ran same same_reads durable = record {
+settles_from {reads = reads} {clock = clock} laws old mid new synced tick ran same same_reads durable = record {
   since = at_clock (clock mid);
   after = λ t m i at from to left.
       let s = later_back (clock mid) (clock new) t (laws.later mid new ran) at in
@@ -56,12 +58,15 @@ settles_from {reads = reads} {clock = clock} laws mid new ran same same_reads du
   comes = λ t at.
       let s = later_back (clock mid) (clock new) t (laws.later mid new ran) at in
       inl (omega (arith, s.2, ap at_clock s.1));
+  soon = λ s t at_old at.
+      let u = later_forth (clock old) (clock mid) s (laws.later old mid synced) at_old in
+      inl (omega (arith, ap at_clock u.1, tick_forth (clock old) (clock mid) s u.0 tick at_old u.1));
 }
 
--- reads leave it so
-pub settles_then : {D : Type 0} {reads : D → Option Parts} {clock : D → Option ℕ} {images : D → ℕ → Parts → Type 0} {by : D → D → Type 0} {failed fails : Type 0} → DiskLaws clock images by → (mid new : D)
-    → by mid new → Through clock images Same mid new → reads new ≡ reads mid → (failed → ⊥) → Settles reads clock images failed mid → Settles reads clock images fails new
-settles_then {clock = clock} laws mid new ran same same_reads never s = record {
+-- further reads leave it so
+pub settles_then : {D : Type 0} {reads : D → Option Parts} {clock : D → Option ℕ} {images : D → ℕ → Parts → Type 0} {by : D → D → Type 0} {failed fails : Type 0} → DiskLaws clock images by → (old mid new : D)
+    → by old mid → by mid new → Through clock images Same mid new → reads new ≡ reads mid → (failed → ⊥) → Settles reads clock images failed old mid → Settles reads clock images fails old new
+settles_then {clock = clock} laws old mid new before ran same same_reads never s = record {
   since = s.since;
   after = λ t m i at from to left.
       let u = later_back (clock mid) (clock new) t (laws.later mid new ran) at in
@@ -75,10 +80,15 @@ settles_then {clock = clock} laws mid new ran same same_reads never s = record {
   comes = λ t at.
       let u = later_back (clock mid) (clock new) t (laws.later mid new ran) at in
       inl (⊎_elim (λ less. omega (arith, less, u.2)) (λ fails. absurd (never fails)) (s.comes u.0 u.1));
+  soon = λ a t at_old at.
+      let u = later_back (clock mid) (clock new) t (laws.later mid new ran) at in
+      let reached : s.since ≤ u.0 = ⊎_elim (λ less. less) (λ fails. absurd (never fails)) (s.comes u.0 u.1) in
+      inl (⊎_elim (λ few. few) (λ early. omega (arith, early, reached)) (s.soon a u.0 at_old u.1));
 }
 
-pub settles_as : {D : Type 0} {reads : D → Option Parts} {clock : D → Option ℕ} {images : D → ℕ → Parts → Type 0} {failed fails : Type 0} (disk : D) → (failed → fails) → Settles reads clock images failed disk → Settles reads clock images fails disk
-settles_as disk weak s = record { since = s.since; after = s.after; comes = λ t at. ⊎_elim (λ less. inl less) (λ so. inr (weak so)) (s.comes t at) }
+-- a weaker word for how the call failed
+pub settles_as : {D : Type 0} {reads : D → Option Parts} {clock : D → Option ℕ} {images : D → ℕ → Parts → Type 0} {failed fails : Type 0} (old disk : D) → (failed → fails) → Settles reads clock images failed old disk → Settles reads clock images fails old disk
+settles_as old disk weak s = record { since = s.since; after = s.after; comes = λ t at. ⊎_elim (λ less. inl less) (λ so. inr (weak so)) (s.comes t at); soon = s.soon }
 
 -- the heads that were read are those of the parts
 pub judged_read : (parts : Parts) (zero one : List ℕ) (r : Result Part JournalFault) → r ≡ judged zero one → zero ≡ head_of parts.zero → one ≡ head_of parts.one → judged_parts parts ≡ r

@@ -9,7 +9,8 @@ use Rattle.fsrm_outside.specs.declared.traits.Part.{Part}
 use Rattle.fsrm_outside.specs.declared.traits.Part.TheVariants.{Zero, One}
 use Rattle.fsrm_journal.specs.Heads.{head_of, head_fault, half_fault, is_open, generation_at, judged, unless_damaged}
 use Rattle.fsrm_journal.specs.HeadSays.{head_says}
-use Rattle.fsrm_journal.specs.Halves.{IsLegal, head_tail, AllButGate, Stays, Fresh, StaysOrFresh, Shut, Follows, OpenBeside}
+use Rattle.fsrm_journal.specs.Halves.{head_tail, AllButGate, Stays, Fresh, StaysOrFresh, Shut, Follows, OpenBeside}
+use Rattle.fsrm_journal.specs.Legal.{IsLegal}
 use Rattle.fsrm_journal.specs.Next.{record_at}
 use Rattle.fsrm_journal.specs.Opened.{judged_parts}
 use Rattle.fsrm_journal.specs.declared.fault.JournalFault.{JournalFault}
@@ -100,6 +101,17 @@ judge_one true false None None same less is = absurd (cc)
 judge_one true true None None true less is = absurd (cc)
 judge_one true true None None false true is = (refl, refl, refl, inr refl)
 judge_one true true None None false false is = absurd (cc)
+
+-- the gate of the half that rules is open, and its head is as it should be
+pub zero_judged : (zero one : List ℕ) → judged zero one ≡ Ok Zero → (half_fault zero ≡ None) × (is_open zero ≡ true)
+zero_judged zero one is =
+    let t = judge_zero (is_open zero) (is_open one) (half_fault zero) (half_fault one) (nat_eq (generation_at zero) (generation_at one)) (nat_lt (generation_at zero) (generation_at one)) is in
+    (t.0, t.2)
+
+pub one_judged : (zero one : List ℕ) → judged zero one ≡ Ok One → (half_fault one ≡ None) × (is_open one ≡ true)
+one_judged zero one is =
+    let t = judge_one (is_open zero) (is_open one) (half_fault zero) (half_fault one) (nat_eq (generation_at zero) (generation_at one)) (nat_lt (generation_at zero) (generation_at one)) is in
+    (t.1, t.2)
 
 below : (m n : ℕ) → nat_eq m n ≡ false → nat_lt m n ≡ false → n < m
 below m n differ no_less = ⊎_elim (λ less. less) (λ more. absurd (eqb-false m n differ (omega (arith, more, ltb-false m n no_less)))) (cases_lt n m)

@@ -1,26 +1,17 @@
 -- Writing the half that is to rule next, and the change from one half to the other.
 use Rattle.std.specs.Prelude.{◌≡◌, ◌≢◌, ◌⊎◌, ℕ, ◌+◌, ◌-◌, ◌^◌, ◌≤◌, ◌<◌, Bool, true, false, Option, None, Some, Ok, List, [], ◌∷◌, ◌++◌, length, take, drop, slice_index}
 use Rattle.byteorder.specs.Endian.{little_bytes}
-use Rattle.fsrm_model.specs.Capacities.{is_capacity}
 use Rattle.fsrm_outside.specs.Parts.{Parts, part_of, other}
 use Rattle.fsrm_outside.specs.declared.traits.Part.{Part}
-use Rattle.fsrm_journal.specs.Heads.{head_of, half_fault, is_open, is_version, is_cluster, generation_at, magic}
+use Rattle.fsrm_journal.specs.Heads.{head_of, half_fault, is_open, generation_at, magic}
 use Rattle.fsrm_journal.specs.HeadSays.{head_says}
+use Rattle.fsrm_journal.specs.Legal.{IsLegal}
 use Rattle.fsrm_journal.specs.Next.{record_at}
 use Rattle.fsrm_journal.specs.Opened.{judged_parts}
 use Rattle.fsrm_journal.specs.Reading.{log_at}
 use Rattle.fsrm_journal.specs.Records.{Settled}
 use Rattle.fsrm_journal.specs.declared.heads.Head.{Head}
 use Rattle.fsrm_journal.specs.declared.journal.Journal.{Journal}
-
--- a head that a half may have, with room for its numbers
-pub record IsLegal (head : Head) : Type 0 where
-  pub generation : 1 ≤ head.generation
-  pub version : is_version head.version ≡ true
-  pub size : is_capacity head.size ≡ true
-  pub cluster : is_cluster head.version head.size.cluster ≡ true
-  pub generation_fits : head.generation < 2 ^ 64
-  pub image_fits : head.image < 2 ^ 64
 
 -- the generation after another one: one more, but 1 after the greatest
 abbrev pub IsNext : ℕ → ℕ → Type 0

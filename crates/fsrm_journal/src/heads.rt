@@ -1,7 +1,6 @@
 //! Heads of halves, and which half rules.
 
-ghost use Rattle.std.specs.Prelude.{◌≡◌, ◌≢◌, ◌≤◌, length, drop, IsTrue, Ok, Err, true, false};
-ghost use Rattle.fsrm_outside.specs.declared.traits.Part.TheVariants.{Zero, One};
+ghost use Rattle.std.specs.Prelude.{◌≡◌, ◌≢◌, ◌≤◌, length, drop, IsTrue, Err};
 ghost use Rattle.byteorder.specs.Endian.{little_number};
 ghost use Rattle.fsrm_model.specs.Capacities.{is_cluster as is_cluster_size};
 ghost use Rattle.fsrm_journal.specs.HeadSays.{head_says};
@@ -195,10 +194,7 @@ fn half_fault(head: &[u8]) -> Option<u64>
 fn ruling(zero: &[u8], one: &[u8]) -> Result<Part, JournalFault>
     requires zero { IsTrue (is_open zero.now) → 24 ≤ length zero.now }
     requires one { IsTrue (is_open one.now) → 24 ≤ length one.now }
-    requires some { is_open zero.now ≡ false → is_open one.now ≡ true }
     ensures ruling { result ≡ ruling zero.now one.now }
-    ensures zero { result ≡ Ok Zero → is_open zero.now ≡ true }
-    ensures one { result ≡ Ok One → is_open one.now ≡ true }
     ensures only { result ≢ Err AlreadyStore }
 {
     if !is_open(one) {
@@ -223,8 +219,6 @@ fn ruling(zero: &[u8], one: &[u8]) -> Result<Part, JournalFault>
 /// Which half rules by the heads of both, or why none does.
 pub fn judged(zero: &[u8], one: &[u8]) -> Result<Part, JournalFault>
     ensures judged { result ≡ judged zero.now one.now }
-    ensures zero { result ≡ Ok Zero → 48 ≤ length zero.now }
-    ensures one { result ≡ Ok One → 48 ≤ length one.now }
     ensures only { result ≢ Err AlreadyStore }
 {
     if !is_open(zero) && !is_open(one) {

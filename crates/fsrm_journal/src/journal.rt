@@ -1,12 +1,13 @@
 //! The journal: where its first closed gate stands, and the records that are held.
 
-ghost use Rattle.std.specs.Prelude.{◌≡◌, ◌≢◌, ◌⊎◌, ◌≤◌, ◌<◌, ◌+◌, ◌-◌, ◌*◌, ◌^◌, ℕ, List, [], ◌∷◌, ◌++◌, length, take, drop, slice_index, vec_capacity, true, false, Err, None, Some, IfOk, IfSome, IfErr, IsErrOf, OnOk, OnErr};
+ghost use Rattle.std.specs.Prelude.{◌≡◌, ◌≢◌, ◌⊎◌, ◌≤◌, ◌<◌, ◌+◌, ◌-◌, ◌*◌, ◌^◌, ℕ, List, [], ◌∷◌, ◌++◌, length, take, drop, slice_index, vec_capacity, true, false, Ok, Err, None, Some, IfOk, IfSome, IfErr, IsErrOf, OnOk, OnErr};
 ghost use Rattle.byteorder.specs.Endian.{little_bytes};
 ghost use Rattle.std.specs.Option.{ForSome};
 ghost use Rattle.fsrm_outside.specs.Causes.{HasCause, Rose};
 ghost use Rattle.fsrm_outside.specs.Changes.{Same, Through};
 ghost use Rattle.fsrm_journal.specs.HeadSays.{head_says};
-ghost use Rattle.fsrm_journal.specs.Heads.{head_of, is_open};
+ghost use Rattle.fsrm_journal.specs.Heads.{head_of, is_open, judged};
+ghost use Rattle.fsrm_journal.specs.Legal.{IsLegal};
 ghost use Rattle.fsrm_outside.specs.declared.traits.Part.TheVariants.{Zero, One};
 ghost use Rattle.fsrm_outside.specs.Moments.{EachImage};
 ghost use Rattle.fsrm_outside.specs.Parts.{Parts, part_of, other};
@@ -40,8 +41,9 @@ pub struct Journal {
     beside_open: bool,
     // Up to where it was read; after all is read, the place of the first closed gate.
     end: u64,
-    // Where the image ends, and how many bytes the half had when it was opened.
+    // Where the image ends.
     image_end: u64,
+    // How many bytes the half had when it was opened.
     len: u64,
     // Where the next piece comes in the half that is being written.
     written: u64,
@@ -68,7 +70,8 @@ fn spelled(len: usize) -> [u8; 4]
     bytes
 }
 
-// Makes what is read stable, and reads the heads of both halves.
+// Reads the heads of both halves. The first call of the disk is a sync, which makes stable what is read, also if a
+// later call fails.
 fn read_heads<D: Disk>(
     disk: &mut D,
     zero: &mut [u8],
@@ -82,7 +85,7 @@ fn read_heads<D: Disk>(
     ensures one { ForSome (D.reads disk.old) (λ parts. IfOk result (λ n. take n.1 one.new ≡ head_of parts.one)) }
     ensures reads { D.reads disk.new ≡ D.reads disk.old }
     ensures stable { (t : ℕ) (image : Parts) → OnOk result (D.disk_clock disk.new ≡ Some t → D.images disk.new t image → D.reads disk.new ≡ Some image) }
-    ensures any_moment { Settles D.reads D.disk_clock D.images ((failed : Failed) × (result ≡ Err failed)) disk.new }
+    ensures any_moment { Settles D.reads D.disk_clock D.images ((failed : Failed) × (result ≡ Err failed)) disk.old disk.new }
     ensures crash { Through D.disk_clock D.images Same disk.old disk.new }
     ensures by { D.by_disk disk.old disk.new }
     ensures cause { HasCause (D.disk_faults disk.old) (D.disk_faults disk.new) result }
@@ -93,12 +96,12 @@ fn read_heads<D: Disk>(
     Ok((zero_len, one_len))
 }
 
-// The head of the half that rules.
+// The head of the half that rules, which is whole and legal.
 fn head_ruling(ruling: Part, zero: &[u8], one: &[u8]) -> Head
-    requires zero { ruling ≡ Zero → 48 ≤ length zero.now }
-    requires one { ruling ≡ One → 48 ≤ length one.now }
+    requires { judged zero.now one.now ≡ Ok ruling }
     ensures zero { ruling ≡ Zero → result ≡ head_says zero.now }
     ensures one { ruling ≡ One → result ≡ head_says one.now }
+    ensures legal { IsLegal result }
 {
     match ruling {
         Part::Zero => head_says(zero),
@@ -122,25 +125,29 @@ impl Journal {
     ghost use Rattle.fsrm_journal.specs.Next.{record_at, Tells};
     ghost use Rattle.fsrm_journal.specs.Reading.{log_at, Stable};
 
-    /// Finds the half that rules, and reads its head. The image comes next, and then the records. What is read is first
-    /// made stable, and nothing is written: a crash leaves it, or before that what it might have left already.
+    /// Finds the half that rules, and reads its head, which is legal. The image comes next, and then the records. The
+    /// first call of the disk makes stable what is read, and nothing is written: from then on a crash leaves what is
+    /// read, also if a later call fails, and before that what it might have left already.
     ///
     /// `NoStore` exactly if neither gate is 1; `Damaged` exactly at the first field of a head that is missing or isn't
-    /// legal, or at the generation of part 1 if both have the same. `NoMemory`: there is no memory to hold a record.
+    /// legal, or at the generation of part 1 if both have the same; `DiskFault` exactly if a call of the disk failed.
+    /// `NoMemory`: there is no memory to hold a record.
     pub fn open_at<D: Disk>(alloc: Global, disk: &mut D) -> Result<(Journal, Head), JournalFault>
         ensures opened { ForSome (D.reads disk.old) (λ parts. IfOk result (λ opened. IsOpened parts opened.0 opened.1)) }
         ensures beside { ForSome (D.reads disk.old) (λ parts. IfOk result (λ opened. 0 < length (part_of (other opened.0.ruling) parts))) }
+        ensures legal { IfOk result (λ opened. IsLegal opened.1) }
         ensures none { IfOk result (λ opened. opened.0.held ≡ 0) }
         ensures group { IfOk result (λ opened. opened.0.group ≡ 1) }
         ensures refused { ForSome (D.reads disk.old) (λ parts. IfErr result (λ fault. IsRefused parts fault)) }
         ensures only { result ≢ Err AlreadyStore }
         ensures reads { D.reads disk.new ≡ D.reads disk.old }
         ensures stable { (t : ℕ) (image : Parts) → OnOk result (D.disk_clock disk.new ≡ Some t → D.images disk.new t image → D.reads disk.new ≡ Some image) }
-        ensures any_moment { Settles D.reads D.disk_clock D.images (IsErrOf result DiskFault) disk.new }
+        ensures any_moment { Settles D.reads D.disk_clock D.images (IsErrOf result DiskFault) disk.old disk.new }
         ensures crash { Through D.disk_clock D.images Same disk.old disk.new }
         ensures by { D.by_disk disk.old disk.new }
         ensures later { D.disk_faults disk.old ≤ D.disk_faults disk.new }
         ensures failed { IsErrOf result DiskFault → Rose (D.disk_faults disk.old) (D.disk_faults disk.new) }
+        ensures counted { IsErrOf result DiskFault ⊎ (D.disk_faults disk.new ≡ D.disk_faults disk.old) }
     {
         let mut zero = [0; 48];
         let mut one = [0; 48];
@@ -193,9 +200,12 @@ impl Journal {
         Ok(count)
     }
 
-    /// The place and the length of the next record's body, with which `into` then begins. `None` exactly at the first
-    /// closed gate: from then on records may be added there. `Damaged` exactly at a gate that is missing, at a length
-    /// that isn't there or isn't legal, or at a body that isn't there whole.
+    /// The place and the length of the next record's body, with which `into` then begins. The place is 5 after that up
+    /// to which was read, since a gate and a length come before a body. `None` exactly at the first closed gate: from
+    /// then on records may be added there.
+    ///
+    /// `Damaged` exactly at a gate that is missing, at a length that isn't there or isn't legal, or at a body that
+    /// isn't there whole; `DiskFault` exactly if a call of the disk failed.
     pub fn next<D: Disk>(
         &mut self,
         disk: &mut D,
@@ -208,6 +218,7 @@ impl Journal {
         ensures body { ForSome (D.reads disk.old) (λ parts. self.old.len ≡ length (part_of self.old.ruling parts)
             → IfOk result (λ found. IfSome found (λ at. take at.1 into.new ≡ take at.1 (drop at.0 (part_of self.old.ruling parts))))) }
         ensures size { IfOk result (λ found. IfSome found (λ at. (1 ≤ at.1) × (at.1 ≤ 131072))) }
+        ensures place { IfOk result (λ found. IfSome found (λ at. at.0 ≡ self.old.end + 5)) }
         ensures end { IfOk result (λ found. IfSome found (λ at. self.new.end ≡ at.0 + at.1)) }
         ensures stays { IfOk result (λ found. found ≡ None → self.new.end ≡ self.old.end) }
         ensures settled { ForSome (D.reads disk.old) (λ parts. self.old.len ≡ length (part_of self.old.ruling parts) → Stable D.reads D.disk_clock D.images disk.old
@@ -220,6 +231,7 @@ impl Journal {
         ensures by { D.by_disk disk.old disk.new }
         ensures later { D.disk_faults disk.old ≤ D.disk_faults disk.new }
         ensures failed { IsErrOf result DiskFault → Rose (D.disk_faults disk.old) (D.disk_faults disk.new) }
+        ensures counted { IsErrOf result DiskFault ⊎ (D.disk_faults disk.new ≡ D.disk_faults disk.old) }
     {
         let Some(size) = next_length(disk, self.ruling, self.len, self.end)? else {
             return Ok(None);
@@ -235,6 +247,13 @@ impl Journal {
         }
         self.end = place + size as u64;
         Ok(Some((place, size)))
+    }
+
+    /// How many bytes the records have that were read or added so far, in the half that rules.
+    pub fn tail(&self) -> u64
+        ensures { result ≡ self.now.end - self.now.image_end }
+    {
+        self.end.saturating_sub(self.image_end)
     }
 
     /// How many records are held.
@@ -255,6 +274,7 @@ impl Journal {
         ensures end { self.new.end ≡ self.old.end }
         ensures held { self.new.held ≡ 0 }
         ensures bytes { self.new.bytes.items ≡ self.old.bytes.items }
+        ensures image { self.new.image_end ≡ self.old.image_end }
         ensures stands { StandsOn self.old self.new }
     {
         self.bytes.try_reserve(n as usize * MOST_RECORD)?;
@@ -272,6 +292,7 @@ impl Journal {
         ensures group { self.new.group ≡ self.old.group }
         ensures ruling { self.new.ruling ≡ self.old.ruling }
         ensures end { self.new.end ≡ self.old.end }
+        ensures image { self.new.image_end ≡ self.old.image_end }
         ensures stands { StandsOn self.old self.new }
     {
         let first = self.held == 0;
@@ -294,6 +315,7 @@ impl Journal {
         ensures none { OnOk result (self.new.held ≡ 0) }
         ensures empty { OnOk result (self.new.bytes.items ≡ []) }
         ensures group { self.new.group ≡ self.old.group }
+        ensures image { self.new.image_end ≡ self.old.image_end }
         ensures stands { StandsOn self.old self.new }
         ensures ready { OnOk result (ForSome (D.reads disk.new) (λ parts. self.new.end < length (part_of self.new.ruling parts))) }
         ensures beside { (n : ℕ) → ForSome (D.reads disk.old) (λ parts. n ≤ length (part_of (other self.old.ruling) parts)) → OnOk result (ForSome (D.reads disk.new) (λ parts. n ≤ length (part_of (other self.new.ruling) parts))) }
@@ -331,6 +353,7 @@ impl Journal {
         ensures gate { OnOk result (ForSome (D.reads disk.new) (λ parts. slice_index (part_of self.new.ruling parts) self.new.end ≡ 0)) }
         ensures none { OnOk result (self.new.held ≡ 0) }
         ensures group { self.new.group ≡ self.old.group }
+        ensures image { self.new.image_end ≡ self.old.image_end }
         ensures stands { StandsOn self.old self.new }
         ensures ready { OnOk result (ForSome (D.reads disk.new) (λ parts. self.new.end < length (part_of self.new.ruling parts))) }
         ensures beside { (n : ℕ) → ForSome (D.reads disk.old) (λ parts. n ≤ length (part_of (other self.old.ruling) parts)) → OnOk result (ForSome (D.reads disk.new) (λ parts. n ≤ length (part_of (other self.new.ruling) parts))) }

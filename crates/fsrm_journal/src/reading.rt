@@ -56,6 +56,7 @@ pub fn next_length<D: Disk>(
     ensures by { D.by_disk disk.old disk.new }
     ensures later { D.disk_faults disk.old ≤ D.disk_faults disk.new }
     ensures failed { IsErrOf result DiskFault → Rose (D.disk_faults disk.old) (D.disk_faults disk.new) }
+    ensures counted { IsErrOf result DiskFault ⊎ (D.disk_faults disk.new ≡ D.disk_faults disk.old) }
 {
     if place >= len {
         return Err(damaged(ruling, place));

@@ -5,6 +5,7 @@ ghost use Rattle.std.specs.Option.{ForSome};
 ghost use Rattle.fsrm_outside.specs.Causes.{HasCause};
 ghost use Rattle.fsrm_outside.specs.Moments.{EachImage};
 ghost use Rattle.fsrm_outside.specs.Parts.{Parts, part_of, other};
+ghost use Rattle.fsrm_journal.specs.Legal.{IsLegal};
 ghost use Rattle.fsrm_journal.specs.declared.fault.JournalFault.TheVariants.{DiskFault};
 ghost use Rattle.fsrm_journal.specs.declared.heads.Head.{Head};
 
@@ -17,7 +18,7 @@ use crate::journal::Journal;
 use fsrm_outside::Disk;
 
 impl Journal {
-    ghost use Rattle.fsrm_journal.specs.Halves.{Certain, Filling, IsLegal, IsNext, Knows, Stays, StaysOrFresh, Switched};
+    ghost use Rattle.fsrm_journal.specs.Halves.{Certain, Filling, IsNext, Knows, Stays, StaysOrFresh, Switched};
     ghost use Rattle.fsrm_journal.specs.Opened.{HoldsOn, StandsOn};
 
     /// The generation that the next half has.
@@ -43,6 +44,7 @@ impl Journal {
         ensures held { HoldsOn self.old self.new }
         ensures ruling { self.new.ruling ≡ self.old.ruling }
         ensures generation { self.new.generation ≡ self.old.generation }
+        ensures image { self.new.image_end ≡ self.old.image_end }
         ensures end { self.new.end ≡ self.old.end }
         ensures here { (n : ℕ) → ForSome (D.reads disk.old) (λ parts. n ≤ length (part_of self.old.ruling parts)) → OnOk result (ForSome (D.reads disk.new) (λ parts. n ≤ length (part_of self.new.ruling parts))) }
         ensures ready { OnOk result (ForSome (D.reads disk.new) (λ parts. self.new.written ≤ length (part_of (other self.new.ruling) parts))) }
@@ -68,6 +70,7 @@ impl Journal {
         ensures held { HoldsOn self.old self.new }
         ensures ruling { self.new.ruling ≡ self.old.ruling }
         ensures stands { StandsOn self.old self.new }
+        ensures image { self.new.image_end ≡ self.old.image_end }
         ensures end { self.new.end ≡ self.old.end }
         ensures err { OnErr result (self.new.written ≡ self.old.written) }
         ensures here { (n : ℕ) → ForSome (D.reads disk.old) (λ parts. n ≤ length (part_of self.old.ruling parts)) → OnOk result (ForSome (D.reads disk.new) (λ parts. n ≤ length (part_of self.new.ruling parts))) }
@@ -91,6 +94,7 @@ impl Journal {
             → OnOk result (Switched D.reads D.disk_clock D.images half head image self.new disk.new) }
         ensures held { HoldsOn self.old self.new }
         ensures ruling { OnOk result (self.new.ruling ≡ other self.old.ruling) }
+        ensures none { OnOk result (self.new.image_end ≡ self.new.end) }
         ensures beside { (n : ℕ) → ForSome (D.reads disk.old) (λ parts. n ≤ length (part_of self.old.ruling parts)) → OnOk result (ForSome (D.reads disk.new) (λ parts. n ≤ length (part_of (other self.new.ruling) parts))) }
         ensures ready { OnOk result (ForSome (D.reads disk.new) (λ parts. self.new.end < length (part_of self.new.ruling parts))) }
         ensures by { D.by_disk disk.old disk.new }
@@ -103,6 +107,7 @@ impl Journal {
         self.beside_open = still_open;
         self.ruling = other(self.ruling);
         self.generation = next_generation(self.generation);
+        self.image_end = self.written;
         self.end = self.written;
         Ok(())
     }

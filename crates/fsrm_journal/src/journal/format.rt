@@ -5,6 +5,7 @@ ghost use Rattle.std.specs.Option.{ForSome};
 ghost use Rattle.fsrm_outside.specs.Causes.{Rose};
 ghost use Rattle.fsrm_outside.specs.Changes.{Same, Through};
 ghost use Rattle.fsrm_outside.specs.Parts.{Parts};
+ghost use Rattle.fsrm_journal.specs.Legal.{IsLegal};
 ghost use Rattle.fsrm_journal.specs.declared.fault.JournalFault.TheVariants.{AlreadyStore, DiskFault};
 
 use crate::fault::JournalFault;
@@ -15,11 +16,11 @@ use fsrm_outside::{Disk, Part};
 
 impl Journal {
     ghost use Rattle.fsrm_journal.specs.Formatted.{has_store, Formats, IsFormatted, IsMade};
-    ghost use Rattle.fsrm_journal.specs.Halves.{Certain, IsLegal};
+    ghost use Rattle.fsrm_journal.specs.Halves.{Certain};
 
     /// Makes a store that holds this image and no record, in part 0. Of part 1 only the gate is written, so an empty
     /// one is then one byte 0. `AlreadyStore` exactly if a gate is open; then nothing is ever written, also if a call
-    /// fails.
+    /// fails. `DiskFault` exactly if a call of the disk failed.
     pub fn format<D: Disk>(disk: &mut D, head: &Head, image: &[u8]) -> Result<(), JournalFault>
         requires legal { IsLegal head.now }
         requires whole { head.now.image ≡ length image.now }
@@ -32,6 +33,7 @@ impl Journal {
         ensures by { D.by_disk disk.old disk.new }
         ensures later { D.disk_faults disk.old ≤ D.disk_faults disk.new }
         ensures failed { IsErrOf result DiskFault → Rose (D.disk_faults disk.old) (D.disk_faults disk.new) }
+        ensures counted { IsErrOf result DiskFault ⊎ (D.disk_faults disk.new ≡ D.disk_faults disk.old) }
     {
         if has_store(disk)? {
             return Err(JournalFault::AlreadyStore);

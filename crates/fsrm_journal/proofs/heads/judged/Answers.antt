@@ -1,5 +1,5 @@
 use Rattle.std.proofs.Common.{sym, ◌∙◌}
-use Rattle.fsrm_journal.proofs.HeadLaws.{open_long, open_whole}
+use Rattle.fsrm_journal.proofs.HeadLaws.{open_long}
 use Rattle.fsrm_journal.proofs.heads.judged.Goals as goal
 
 pub ruling-requires-clause-zero : goal.ruling-requires-clause-zero
@@ -7,9 +7,3 @@ ruling-requires-clause-zero c = λ is. open_long c.args.zero.now (sym c.half_fau
 
 pub ruling-requires-clause-one : goal.ruling-requires-clause-one
 ruling-requires-clause-one c = λ is. open_long c.args.one.now (sym c.half_fault-2.ensures ∙ c.in_default-half_fault.is) is
-
-pub returns-clause-zero : goal.returns-clause-zero
-returns-clause-zero c = λ is. open_whole c.args.zero.now (sym c.half_fault.ensures ∙ c.in_default.is) (c.ruling.ensures.zero is)
-
-pub returns-clause-one : goal.returns-clause-one
-returns-clause-one c = λ is. open_whole c.args.one.now (sym c.half_fault-2.ensures ∙ c.in_default-half_fault.is) (c.ruling.ensures.one is)

@@ -43,13 +43,13 @@ returns-clause-one g c parts told =
 pub returns-in_err-sync-clause-any_moment : goal.returns-in_err-sync-clause-any_moment
 returns-in_err-sync-clause-any_moment g c =
     let p = err_from_is_err_and c.from_residual.result c.from_residual.ensures.1 in
-    settles_never _ (p.0, p.1)
+    settles_never _ _ (p.0, p.1) c.sync.ensures.clock
 
 pub returns-in_err-zero_len-clause-any_moment : goal.returns-in_err-zero_len-clause-any_moment
 returns-in_err-zero_len-clause-any_moment g c =
     let M = g.met.D.Disk in
     let laws : DiskLaws g.D.Disk.disk_clock g.D.Disk.images g.D.Disk.by_disk = record { same = M.disk_same; then_by = M.disk_then; later = M.disk_later; past = M.disk_past } in
-    settles_from laws _ _ c.read_at.ensures.by c.read_at.ensures.crash c.read_at.ensures.reads c.in_ok-sync.ensures.durable
+    settles_from laws _ _ _ c.sync.ensures.by c.sync.ensures.clock c.read_at.ensures.by c.read_at.ensures.crash c.read_at.ensures.reads c.in_ok-sync.ensures.durable
 
 pub returns-in_err-one_len-clause-any_moment : goal.returns-in_err-one_len-clause-any_moment
 returns-in_err-one_len-clause-any_moment g c =
@@ -57,7 +57,7 @@ returns-in_err-one_len-clause-any_moment g c =
     let laws : DiskLaws g.D.Disk.disk_clock g.D.Disk.images g.D.Disk.by_disk = record { same = M.disk_same; then_by = M.disk_then; later = M.disk_later; past = M.disk_past } in
     let ran = M.disk_then _ _ _ c.read_at.ensures.by c.read_at-2.ensures.by in
     let two = quiet_then laws _ _ _ c.read_at.ensures.by c.read_at-2.ensures.by c.read_at.ensures.crash c.read_at-2.ensures.crash in
-    settles_from laws _ _ ran two (c.read_at-2.ensures.reads ∙ c.read_at.ensures.reads) c.in_ok-sync.ensures.durable
+    settles_from laws _ _ _ c.sync.ensures.by c.sync.ensures.clock ran two (c.read_at-2.ensures.reads ∙ c.read_at.ensures.reads) c.in_ok-sync.ensures.durable
 
 pub returns-clause-any_moment : goal.returns-clause-any_moment
 returns-clause-any_moment g c =
@@ -65,4 +65,4 @@ returns-clause-any_moment g c =
     let laws : DiskLaws g.D.Disk.disk_clock g.D.Disk.images g.D.Disk.by_disk = record { same = M.disk_same; then_by = M.disk_then; later = M.disk_later; past = M.disk_past } in
     let ran = M.disk_then _ _ _ c.read_at.ensures.by c.read_at-2.ensures.by in
     let two = quiet_then laws _ _ _ c.read_at.ensures.by c.read_at-2.ensures.by c.read_at.ensures.crash c.read_at-2.ensures.crash in
-    settles_from laws _ _ ran two (c.read_at-2.ensures.reads ∙ c.read_at.ensures.reads) c.in_ok-sync.ensures.durable
+    settles_from laws _ _ _ c.sync.ensures.by c.sync.ensures.clock ran two (c.read_at-2.ensures.reads ∙ c.read_at.ensures.reads) c.in_ok-sync.ensures.durable

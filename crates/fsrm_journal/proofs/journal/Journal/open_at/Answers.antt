@@ -69,22 +69,22 @@ returns-clause-beside g c parts told =
 
 pub returns-in_err-ruling-clause-any_moment : goal.returns-in_err-ruling-clause-any_moment
 returns-in_err-ruling-clause-any_moment g c =
-    settles_as _ (λ err. absurd (cc (err.1))) c.in_ok-zero_len.ensures.any_moment
+    settles_as _ _ (λ err. absurd (cc (err.1))) c.in_ok-zero_len.ensures.any_moment
 
 pub returns-in_err-len-clause-any_moment : goal.returns-in_err-len-clause-any_moment
 returns-in_err-len-clause-any_moment g c =
     let M = g.met.D.Disk in
     let laws : DiskLaws g.D.Disk.disk_clock g.D.Disk.images g.D.Disk.by_disk = record { same = M.disk_same; then_by = M.disk_then; later = M.disk_later; past = M.disk_past } in
-    settles_then laws _ _ c.len.ensures.by c.len.ensures.crash c.len.ensures.reads (λ err. absurd (cc (err.1))) c.in_ok-zero_len.ensures.any_moment
+    settles_then laws _ _ _ c.read_heads.ensures.by c.len.ensures.by c.len.ensures.crash c.len.ensures.reads (λ err. absurd (cc (err.1))) c.in_ok-zero_len.ensures.any_moment
 
 pub returns-in_default-clause-any_moment : goal.returns-in_default-clause-any_moment
 returns-in_default-clause-any_moment g c =
     let M = g.met.D.Disk in
     let laws : DiskLaws g.D.Disk.disk_clock g.D.Disk.images g.D.Disk.by_disk = record { same = M.disk_same; then_by = M.disk_then; later = M.disk_later; past = M.disk_past } in
-    settles_then laws _ _ c.len.ensures.by c.len.ensures.crash c.len.ensures.reads (λ err. absurd (cc (err.1))) c.in_ok-zero_len.ensures.any_moment
+    settles_then laws _ _ _ c.read_heads.ensures.by c.len.ensures.by c.len.ensures.crash c.len.ensures.reads (λ err. absurd (cc (err.1))) c.in_ok-zero_len.ensures.any_moment
 
 pub returns-clause-any_moment : goal.returns-clause-any_moment
 returns-clause-any_moment g c =
     let M = g.met.D.Disk in
     let laws : DiskLaws g.D.Disk.disk_clock g.D.Disk.images g.D.Disk.by_disk = record { same = M.disk_same; then_by = M.disk_then; later = M.disk_later; past = M.disk_past } in
-    settles_then laws _ _ c.len.ensures.by c.len.ensures.crash c.len.ensures.reads (λ err. absurd (cc (err.1))) c.in_ok-zero_len.ensures.any_moment
+    settles_then laws _ _ _ c.read_heads.ensures.by c.len.ensures.by c.len.ensures.crash c.len.ensures.reads (λ err. absurd (cc (err.1))) c.in_ok-zero_len.ensures.any_moment
