@@ -1,23 +1,24 @@
 -- Which screen is found to judge a name, from one folder to the next.
-use Rattle.std.proofs.Common.{◌≡◌, ℕ, Bool, true, false, cond, not, ◌&&◌, ◌||◌, ◌⊎◌, inl, inr, List, [], ◌∷◌, length, Option, Some, None, refl, sym, ◌∙◌, ap, subst}
+use Rattle.std.proofs.Common.{◌≡◌, ℕ, Bool, true, false, cond, not, ◌&&◌, ◌||◌, List, [], ◌∷◌, length, Option, Some, None, refl, sym, ◌∙◌, ap, subst}
 use Rattle.std.specs.Prelude.{filter, filter_map, find, option_map, if◌then◌else◌}
 use Rattle.std.specs.List.{cons_option, list_any}
 use Rattle.std.specs.Option.{option_or}
 use Rattle.fsrm_base.proofs.TestLaws.{clash}
+use Rattle.fsrm_base.specs.Numbers.{is_in}
+use Rattle.fsrm_objects.specs.Tables.{Tables}
 use Rattle.fsrm_model.specs.declared.row.GroupRow.{GroupRow}
 use Rattle.fsrm_model.specs.declared.row.Rows.{Rows}
 use Rattle.fsrm_model.specs.declared.row.ScreenRow.{ScreenRow}
 use Rattle.fsrm_model.specs.Patterns.{in_group_of}
 use Rattle.fsrm_model.specs.Screens.{applies, applying, in_groups, is_excepted, judging, nearer, screen_of}
-use Rattle.fsrm_model.specs.Tree.{chain, parent_of}
-use Rattle.fsrm_model.proofs.nodes.ChainLaws.{IsTree, Has}
+use Rattle.fsrm_model.specs.Tree.{chain}
 use Rattle.file_screens.specs.declared.answer.Blocked.{Blocked}
-use Rattle.file_screens.specs.Blocked.{told}
-use Rattle.file_screens.specs.Way.{is_active, screen_with}
+use Rattle.file_screens.specs.Blocked.{screened_rows, told}
+use Rattle.file_screens.specs.Way.{applying_on, is_active, lets_pass, screen_with}
 use Rattle.file_screens.proofs.FolderLaws.{empty, none_found}
-use Rattle.file_screens.proofs.WayLaws.{IsWay, way}
+use Rattle.file_screens.proofs.WayLaws.{first_folder}
 
--- the screen that judges of those that are left, if this passive one was found before: the first active one, else that passive one,
+-- of the screens that are left, if this passive one was found before: the first active one, else that passive one,
 -- else the first one
 abbrev pub judged_by : Option Blocked → List ScreenRow → Option Blocked
 judged_by passive [] = passive
@@ -51,13 +52,11 @@ judged_from : (passive : Option Blocked) (screens : List ScreenRow) → judged_b
 judged_from passive [] = sym (or_none passive)
 judged_from passive (screen ∷ screens) = judged_at passive screen screens screen.active (judged_from (option_or passive (Some (told screen))) screens)
 
-pub judged_is : (R : Rows) (folder : ℕ) (name : List ℕ) → judged_by None (applying R folder name) ≡ option_map told (judging R folder name)
-judged_is R folder name =
-    let screens = applying R folder name in
-    judged_from None screens ∙ sym (told_or (active screens) (idle screens))
+pub judged_all : (screens : List ScreenRow) → judged_by None screens ≡ option_map told (option_or (active screens) (idle screens))
+judged_all screens = judged_from None screens ∙ sym (told_or (active screens) (idle screens))
 
 pub none_judges : (R : Rows) (folder : ℕ) (name : List ℕ) → applying R folder name ≡ [] → None ≡ option_map told (judging R folder name)
-none_judges R folder name none = sym (ap (judged_by None) none) ∙ judged_is R folder name
+none_judges R folder name none = sym (ap (judged_by None) none) ∙ judged_all (applying R folder name)
 
 pub none_apply : (R : Rows) → length R.screens ≡ 0 → (folder : ℕ) (name : List ℕ) → applying R folder name ≡ []
 none_apply R none folder name = ap (filter (applies R (chain R.nodes folder) name)) (none_found R (empty R.screens none) (chain R.nodes folder))
@@ -79,8 +78,8 @@ unnamed_apply R folder name none =
     none_passed R (chain R.nodes folder) name (in_no_groups R.groups name none) (filter_map (screen_of R) (chain R.nodes folder))
 
 -- where the same screens apply the same one judges
-pub alike_judge : (R : Rows) (folder other : ℕ) (name : List ℕ) (found : Option Blocked) → applying R other name ≡ applying R folder name → found ≡ option_map told (judging R other name) → found ≡ option_map told (judging R folder name)
-alike_judge R folder other name found alike is = is ∙ (sym (judged_is R other name) ∙ (ap (judged_by None) alike ∙ judged_is R folder name))
+pub alike_judge : (R : Rows) (folder : ℕ) (name : List ℕ) (screens : List ScreenRow) (found : Option Blocked) → screens ≡ applying R folder name → found ≡ option_map told (option_or (active screens) (idle screens)) → found ≡ option_map told (judging R folder name)
+alike_judge R folder name screens found alike is = is ∙ ap (λ (screens : List ScreenRow). option_map told (option_or (active screens) (idle screens))) alike
 
 -- ---- what one folder's screen decides
 active_judges : (passive found : Option Blocked) (o : Option ScreenRow) (screens : List ScreenRow) → found ≡ option_map told o → is_active found ≡ true → judged_by passive (cons_option o screens) ≡ found
@@ -96,29 +95,29 @@ passive_kept passive found (Some screen) screens is h =
     ∙ ap (λ (f : Option Blocked). judged_by (option_or passive f) screens) (sym is)
 
 -- ---- the climb: what was found so far, and what is left, judge as all do
-module _ (R : Rows) (tree : IsTree R.nodes) (name : List ℕ) (start at : ℕ) (there : Has R.nodes at) (passive found : Option Blocked) (is : found ≡ option_map told (screen_with R.groups R.screens name at)) (so_far : judged_by passive (applying R at name) ≡ judged_by None (applying R start name)) (is_found : Bool) (found_is : is_found ≡ is_active found) where
-  pub stops_active : is_found ≡ true → found ≡ option_map told (judging R start name)
-  stops_active h =
-      let on = way R tree name at there in
-      sym (ap (judged_by passive) on.all ∙ active_judges passive found (screen_with R.groups R.screens name at) on.rest is (sym found_is ∙ h))
-      ∙ (so_far ∙ judged_is R start name)
+module _ (groups : List GroupRow) (tables : Tables) (name : List ℕ) (at : ℕ) (above : List ℕ) (lacks : is_in above at ≡ false) (whole passive found : Option Blocked) (is : found ≡ option_map told (screen_with groups tables.screens name at)) (so_far : judged_by passive (applying_on groups tables (at ∷ above) name) ≡ whole) (is_found : Bool) (found_is : is_found ≡ is_active found) where
+  abbrev own : Option ScreenRow
+  own = screen_with groups tables.screens name at
 
-  left : (on : IsWay R name at) (next : Option Blocked) → is_found ≡ false → next ≡ option_or passive found → judged_by next on.rest ≡ judged_by None (applying R start name)
-  left on next h n =
-      ap (λ (p : Option Blocked). judged_by p on.rest) n
-      ∙ (sym (ap (judged_by passive) on.all ∙ passive_kept passive found (screen_with R.groups R.screens name at) on.rest is (sym found_is ∙ h)) ∙ so_far)
+  -- after the folder's own screen
+  abbrev rest : Bool → List ScreenRow
+  rest excepted = cond excepted [] (applying_on groups tables above name)
 
-  stops : (on : IsWay R name at) (next : Option Blocked) → is_found ≡ false → next ≡ option_or passive found → on.rest ≡ [] → next ≡ option_map told (judging R start name)
-  stops on next h n last = sym (ap (judged_by next) last) ∙ (left on next h n ∙ judged_is R start name)
+  all : judged_by passive (cons_option own (rest (lets_pass groups tables.excepts name at))) ≡ whole
+  all = sym (ap (judged_by passive) (first_folder (screened_rows [] groups tables) name at above lacks)) ∙ so_far
 
-  pub stops_passive : (next : Option Blocked) (excepted : Bool) → is_found ≡ false → next ≡ option_or passive found → excepted ≡ is_excepted R name at → (excepted ≡ true) ⊎ (at ≡ 0) → next ≡ option_map told (judging R start name)
-  stops_passive next excepted h n x last =
-      let on = way R tree name at there in
-      stops on next h n (elim last [ inl e ↦ on.excepted (sym x ∙ e) | inr z ↦ on.root z ])
+  pub stops_active : is_found ≡ true → found ≡ whole
+  stops_active h = sym (active_judges passive found own (rest (lets_pass groups tables.excepts name at)) is (sym found_is ∙ h)) ∙ all
 
-  goes : (on : IsWay R name at) (next : Option Blocked) (up : ℕ) → is_found ≡ false → next ≡ option_or passive found → (at ≡ 0 → ⊥) → is_excepted R name at ≡ false → up ≡ parent_of R.nodes at → judged_by next (applying R up name) ≡ judged_by None (applying R start name)
-  goes on next up h n inner x u =
-      ap (λ n. judged_by next (applying R n name)) u ∙ (sym (ap (judged_by next) (on.up inner x)) ∙ left on next h n)
+  left : (next : Option Blocked) (excepted b : Bool) → is_found ≡ false → next ≡ option_or passive found → excepted ≡ lets_pass groups tables.excepts name at → excepted ≡ b → judged_by next (rest b) ≡ whole
+  left next excepted b h n x e =
+      ap (λ (p : Option Blocked). judged_by p (rest b)) n
+      ∙ (sym (passive_kept passive found own (rest b) is (sym found_is ∙ h))
+      ∙ (ap (λ b. judged_by passive (cons_option own (rest b))) (sym e ∙ x) ∙ all))
 
-  pub goes_up : (next : Option Blocked) (excepted : Bool) (up : ℕ) → is_found ≡ false → next ≡ option_or passive found → excepted ≡ is_excepted R name at → excepted ≡ false → (at ≡ 0 → ⊥) → up ≡ parent_of R.nodes at → judged_by next (applying R up name) ≡ judged_by None (applying R start name)
-  goes_up next excepted up h n x e inner u = goes (way R tree name at there) next up h n inner (sym x ∙ e) u
+  -- an exception ends it, and so does the end of the way; else what is above is left
+  pub stops_excepted : (next : Option Blocked) (excepted : Bool) → is_found ≡ false → next ≡ option_or passive found → excepted ≡ lets_pass groups tables.excepts name at → excepted ≡ true → next ≡ whole
+  stops_excepted next excepted h n x e = left next excepted true h n x e
+
+  pub goes_up : (next : Option Blocked) (excepted : Bool) → is_found ≡ false → next ≡ option_or passive found → excepted ≡ lets_pass groups tables.excepts name at → excepted ≡ false → judged_by next (applying_on groups tables above name) ≡ whole
+  goes_up next excepted h n x e = left next excepted false h n x e

@@ -1,21 +1,19 @@
--- The screens that apply to a name, folder by folder on the way up: that of the folder, and unless its exception has the name, those
--- that apply in its parent.
-use Rattle.std.proofs.Common.{◌≡◌, ℕ, zero, suc, ◌+◌, ◌==◌, Bool, true, false, cond, not, ◌&&◌, ◌||◌, List, [], ◌∷◌, length, take, Option, Some, None, refl, sym, ◌∙◌, ap, subst, arith}
+-- The screens that apply to a name, folder by folder on the way up: that of the folder, and unless its exception has
+-- the name, those that apply above it.
+use Rattle.std.proofs.Common.{◌≡◌, ℕ, suc, ◌+◌, ◌==◌, Bool, true, false, cond, not, ◌&&◌, ◌||◌, List, [], ◌∷◌, take, Option, Some, None, refl, sym, ◌∙◌, ap, subst, arith}
 use Rattle.std.specs.Prelude.{filter, filter_map, option_and_then}
 use Rattle.std.specs.List.{list_any, prefix_len, cons_option}
 use Rattle.fsrm_base.specs.Keyed.{row_of}
 use Rattle.fsrm_base.specs.Numbers.{is_in}
 use Rattle.fsrm_base.proofs.Look.{found_key}
 use Rattle.fsrm_base.proofs.TestLaws.{and_false, eq_test, eq_turned, neither}
-use Rattle.fsrm_model.specs.declared.row.NodeRow.{NodeRow}
+use Rattle.fsrm_model.specs.declared.row.GroupRow.{GroupRow}
 use Rattle.fsrm_model.specs.declared.row.Rows.{Rows}
 use Rattle.fsrm_model.specs.declared.row.ScreenRow.{ScreenRow}
-use Rattle.fsrm_model.specs.Screens.{applies, applying, except_folder, in_groups, is_excepted, nearer, screen_folder, screen_of}
-use Rattle.fsrm_model.specs.Tree.{chain, parent_of}
-use Rattle.fsrm_model.proofs.nodes.ChainLaws.{IsTree, Has}
-use Rattle.fsrm_model.proofs.nodes.Climbs.{climb}
-use Rattle.fsrm_model.proofs.nodes.UsageLaws.{parent_lacks}
-use Rattle.file_screens.specs.Way.{if_named, screen_with}
+use Rattle.fsrm_objects.specs.Tables.{Tables}
+use Rattle.fsrm_model.specs.Screens.{applies, except_folder, in_groups, is_excepted, nearer, screen_folder, screen_of}
+use Rattle.file_screens.specs.Blocked.{screened_rows}
+use Rattle.file_screens.specs.Way.{applying_on, if_named, lets_pass, screen_with}
 use Rattle.file_screens.proofs.FolderLaws.{no_screen, no_except}
 
 -- ---- the folders that are nearer than a screen's
@@ -90,65 +88,15 @@ module _ (R : Rows) (name : List ℕ) (f : ℕ) (above : List ℕ) where
       chosen kept false = refl
 
   -- the screens that apply on the way from the folder
-  first_folder : is_in above f ≡ false → filter here (filter_map (screen_of R) (f ∷ above)) ≡ cons_option (screen_with R.groups R.screens name f) (cond (is_excepted R name f) [] (filter (applies R above name) (filter_map (screen_of R) above)))
+  pub first_folder : is_in above f ≡ false → filter here (filter_map (screen_of R) (f ∷ above)) ≡ cons_option (screen_with R.groups R.screens name f) (cond (is_excepted R name f) [] (filter (applies R above name) (filter_map (screen_of R) above)))
   first_folder h =
       own_found (filter_map (screen_of R) above) (screen_of R f) refl
       ∙ ap (λ (screens : List ScreenRow). cons_option (screen_with R.groups R.screens name f) screens) (uppers above h)
 
--- ---- in a tree
--- what is left of the screens that apply to a name in a folder, after the folder's own
-pub record IsWay (R : Rows) (name : List ℕ) (n : ℕ) : Type 0 where
-  pub rest : List ScreenRow
-  pub all : applying R n name ≡ cons_option (screen_with R.groups R.screens name n) rest
-  pub root : n ≡ 0 → rest ≡ []
-  pub excepted : is_excepted R name n ≡ true → rest ≡ []
-  pub up : (n ≡ 0 → ⊥) → is_excepted R name n ≡ false → rest ≡ applying R (parent_of R.nodes n) name
-
-root_chain : (nodes : List NodeRow) → chain nodes 0 ≡ 0 ∷ []
-root_chain [] = refl
-root_chain (x ∷ nodes) = refl
-
-pub way : (R : Rows) → IsTree R.nodes → (name : List ℕ) (n : ℕ) → Has R.nodes n → IsWay R name n
-way R t name zero h = record {
-  rest = [];
-  all =
-      ap (λ (folders : List ℕ). filter (applies R folders name) (filter_map (screen_of R) folders)) (root_chain R.nodes)
-      ∙ (first_folder R name 0 [] refl ∙ ap (λ (screens : List ScreenRow). cons_option (screen_with R.groups R.screens name 0) screens) (either_way (is_excepted R name 0) []));
-  root = λ z. refl;
-  excepted = λ x. refl;
-  up = λ inner x. absurd (inner refl);
-}
-way R t name (suc n) h =
-    let more = applying R (parent_of R.nodes (suc n)) name in
-    record {
-      rest = cond (is_excepted R name (suc n)) [] more;
-      all =
-          ap (λ (folders : List ℕ). filter (applies R folders name) (filter_map (screen_of R) folders)) (climb R.nodes t (suc n) h (λ z. absurd (omega (arith, z))))
-          ∙ first_folder R name (suc n) (chain R.nodes (parent_of R.nodes (suc n))) (parent_lacks R.nodes t n h);
-      root = λ z. absurd (omega (arith, z));
-      excepted = λ x. ap (λ b. cond b [] more) x;
-      up = λ inner x. ap (λ b. cond b [] more) x;
-    }
-
--- each step up is one folder less
-pub shorter_up : (nodes : List NodeRow) → IsTree nodes → (at up : ℕ) → Has nodes at → (at ≡ 0 → ⊥) → up ≡ parent_of nodes at → length (chain nodes at) ≡ length (chain nodes up) + 1
-shorter_up nodes t at up h inner is =
-    let e = ap length (climb nodes t at h inner) in
-    let same : length (chain nodes up) ≡ length (chain nodes (parent_of nodes at)) = ap (λ n. length (chain nodes n)) is in
-    omega (arith, e, same)
-
--- ---- a folder without a screen, in which the same screens apply as where the way begins
-module _ (R : Rows) (tree : IsTree R.nodes) (name : List ℕ) (start n : ℕ) (there : Has R.nodes n) (bare : row_of screen_folder n R.screens ≡ None) (alike : applying R n name ≡ applying R start name) where
-  bare_is : (on : IsWay R name n) → on.rest ≡ applying R start name
-  bare_is on = sym (on.all ∙ ap (λ (o : Option ScreenRow). cons_option o on.rest) (no_screen R.groups R.screens name n bare)) ∙ alike
-
-  pub bare_root : n ≡ 0 → applying R start name ≡ []
-  bare_root z = let on = way R tree name n there in sym (bare_is on) ∙ on.root z
-
-  bare_on : (on : IsWay R name n) (up : ℕ) → row_of except_folder n R.excepts ≡ None → (n ≡ 0 → ⊥) → up ≡ parent_of R.nodes n → applying R up name ≡ applying R start name
-  bare_on on up plain inner u =
-      ap (λ j. applying R j name) u ∙ (sym (on.up inner (no_except R.groups R.excepts name n plain)) ∙ bare_is on)
-
-  -- and without an exception
-  pub bare_up : (up : ℕ) → row_of except_folder n R.excepts ≡ None → (n ≡ 0 → ⊥) → up ≡ parent_of R.nodes n → applying R up name ≡ applying R start name
-  bare_up up plain inner u = bare_on (way R tree name n there) up plain inner u
+-- a folder with neither a screen nor an exception plays no part
+pub bare : (groups : List GroupRow) (tables : Tables) (name : List ℕ) (f : ℕ) (above : List ℕ) → is_in above f ≡ false → row_of screen_folder f tables.screens ≡ None → row_of except_folder f tables.excepts ≡ None → applying_on groups tables above name ≡ applying_on groups tables (f ∷ above) name
+bare groups tables name f above lacks screenless plain =
+    sym
+    (first_folder (screened_rows [] groups tables) name f above lacks
+    ∙ (ap (λ (o : Option ScreenRow). cons_option o (cond (lets_pass groups tables.excepts name f) [] (applying_on groups tables above name))) (no_screen groups tables.screens name f screenless)
+    ∙ ap (λ b. cond b [] (applying_on groups tables above name)) (no_except groups tables.excepts name f plain)))

@@ -1,12 +1,11 @@
 -- What folders on the way up say of a name.
-use Rattle.std.specs.Prelude.{◌≡◌, ℕ, ◌||◌, Bool, false, List, [], Option, Some, None, is_some, option_and_then, if◌then◌else◌}
-use Rattle.std.specs.Option.{option_map_or}
+use Rattle.std.specs.Prelude.{◌≡◌, ℕ, ◌||◌, not, Bool, false, List, [], filter, filter_map, find, Option, Some, None, is_some, option_and_then, if◌then◌else◌}
+use Rattle.std.specs.Option.{option_map_or, option_or}
 use Rattle.fsrm_base.specs.Keyed.{row_of}
 use Rattle.fsrm_model.specs.declared.row.ExceptRow.{ExceptRow}
 use Rattle.fsrm_model.specs.declared.row.GroupRow.{GroupRow}
-use Rattle.fsrm_model.specs.declared.row.NodeRow.{NodeRow}
 use Rattle.fsrm_model.specs.declared.row.ScreenRow.{ScreenRow}
-use Rattle.fsrm_model.specs.Screens.{applying, except_folder, in_groups, screen_folder}
+use Rattle.fsrm_model.specs.Screens.{applies, except_folder, in_groups, screen_folder, screen_of}
 use Rattle.fsrm_objects.specs.Tables.{Tables}
 use Rattle.file_screens.specs.Blocked.{screened_rows}
 use Rattle.file_screens.specs.declared.answer.Blocked.{Blocked}
@@ -33,12 +32,22 @@ abbrev pub is_asked : Tables → ℕ → Bool
 is_asked tables folder =
     is_some (row_of screen_folder folder tables.screens) || is_some (row_of except_folder folder tables.excepts)
 
--- whatever the groups are, no screen applies to a name in a folder
-abbrev pub NoneApply : List NodeRow → Tables → ℕ → Type 0
-NoneApply nodes tables folder =
-    (groups : List GroupRow) (name : List ℕ) → applying (screened_rows nodes groups tables) folder name ≡ []
+-- the screens that apply to a name on a way up, the nearest first
+abbrev pub applying_on : List GroupRow → Tables → List ℕ → List ℕ → List ScreenRow
+applying_on groups tables way name =
+    let R = screened_rows [] groups tables in
+    filter (applies R way name) (filter_map (screen_of R) way)
 
--- the same screens apply to it in another folder
-abbrev pub ApplyAlike : List NodeRow → Tables → ℕ → ℕ → Type 0
-ApplyAlike nodes tables folder other =
-    (groups : List GroupRow) (name : List ℕ) → applying (screened_rows nodes groups tables) other name ≡ applying (screened_rows nodes groups tables) folder name
+-- the one that judges it: the nearest active one that applies, and if there is none the nearest passive one
+abbrev pub judging_on : List GroupRow → Tables → List ℕ → List ℕ → Option ScreenRow
+judging_on groups tables way name =
+    let screens = applying_on groups tables way name in
+    option_or (find (λ screen. screen.active) screens) (find (λ screen. not screen.active) screens)
+
+-- whatever the groups are, none applies on a way; the same ones apply on another way
+abbrev pub NoneApply : Tables → List ℕ → Type 0
+NoneApply tables way = (groups : List GroupRow) (name : List ℕ) → applying_on groups tables way name ≡ []
+
+abbrev pub ApplyAlike : Tables → List ℕ → List ℕ → Type 0
+ApplyAlike tables way other =
+    (groups : List GroupRow) (name : List ℕ) → applying_on groups tables other name ≡ applying_on groups tables way name

@@ -1,22 +1,22 @@
-//! The way up to the root, on which screens and exceptions are asked.
+//! Which screen judges a name: the screens and exceptions on the way up to the root are asked.
 
-ghost use Rattle.std.specs.Prelude.{◌≡◌, ℕ, ◌+◌, ◌*◌, ◌≤◌, List as Items, IfSome, MatchOption, true, length, option_map};
+ghost use Rattle.std.specs.Prelude.{◌≡◌, ℕ, ◌+◌, ◌∷◌, ◌≤◌, List as Items, IfSome, MatchOption, true, false, length, option_map};
 ghost use Rattle.std.specs.List.{list_all};
 ghost use Rattle.fsrm_base.specs.Keyed.{has_row};
-ghost use Rattle.fsrm_model.proofs.nodes.ChainLaws.{IsTree};
+ghost use Rattle.fsrm_base.specs.Numbers.{is_in};
 ghost use Rattle.fsrm_model.specs.Name.{folded, is_name};
 ghost use Rattle.fsrm_model.specs.Patterns.{group_number};
 ghost use Rattle.fsrm_model.specs.Screens.{in_groups, judging};
-ghost use Rattle.fsrm_model.specs.Tree.{number as key, chain, is_folder, parent_of};
+ghost use Rattle.fsrm_model.specs.Tree.{chain, is_folder};
 ghost use Rattle.fsrm_model.specs.Valid.{IsVolume};
 ghost use Rattle.file_screens.specs.Blocked.{are_known, screened_rows, told};
-ghost use Rattle.file_screens.specs.Way.{ApplyAlike, NoneApply, is_active, is_asked, lets_pass, screen_with};
+ghost use Rattle.file_screens.specs.Way.{ApplyAlike, NoneApply, is_active, is_asked, judging_on, lets_pass, screen_with};
 
 use crate::answer::Blocked;
 use file_groups::{FoldedName, Groups};
 use fsrm_model::{Ledger, List, Steps};
 use fsrm_objects::Objects;
-use volume_tree::Tree;
+use volume_tree::{Tree, WayUp};
 
 // Whether a name is in one of the groups of these numbers.
 fn is_in_some(groups: &Groups, numbers: &List<u32>, name: &FoldedName) -> bool
@@ -73,15 +73,6 @@ fn is_active(found: Option<Blocked>) -> bool
     }
 }
 
-// The parent of a node that there is. It takes one look.
-fn parent<L: Ledger>(tree: &Tree, node: u32, steps: &mut Steps<L>) -> u32
-    requires { has_row key node tree.now.nodes ≡ true }
-    ensures value { result ≡ parent_of tree.now.nodes node }
-    ensures count { steps.new ≡ steps.old + 1 }
-{
-    tree.node(node, steps).parent
-}
-
 // Whether a folder has a screen or an exception.
 fn is_asked(objects: &Objects, folder: u32) -> bool
     ensures { result ≡ is_asked objects.now folder }
@@ -89,45 +80,39 @@ fn is_asked(objects: &Objects, folder: u32) -> bool
     objects.screen(folder).is_some() || objects.except(folder).is_some()
 }
 
-// The first folder on the way up from a node that has a screen or an exception. It takes a look for each node that it
-// leaves behind.
+// The first folder on a way up that has a screen or an exception; what is left of the way is what is above it. It takes
+// a look for each folder on the way up to that one.
 fn first_asked<L: Ledger>(
-    tree: &Tree,
+    way: &mut WayUp<'_>,
     objects: &Objects,
-    start: u32,
     steps: &mut Steps<L>,
 ) -> Option<u32>
-    requires tree { IsTree tree.now.nodes }
-    requires there { has_row key start tree.now.nodes ≡ true }
-    ensures there { IfSome result (λ folder. has_row key folder tree.now.nodes ≡ true) }
-    ensures alike { MatchOption result (NoneApply tree.now.nodes objects.now start) (ApplyAlike tree.now.nodes objects.now start) }
-    ensures left { IfSome result (λ folder. steps.new + length (chain tree.now.nodes folder) ≤ steps.old + length (chain tree.now.nodes start)) }
-    ensures looks { steps.new ≤ steps.old + length (chain tree.now.nodes start) }
+    ensures apart { IfSome result (λ folder. is_in way.new folder ≡ false) }
+    ensures alike { MatchOption result (NoneApply objects.now way.old) (λ folder. ApplyAlike objects.now way.old (folder ∷ way.new)) }
+    ensures looks { steps.new + length way.new ≡ steps.old + length way.old }
 {
-    let mut at = start;
-    while !is_asked(objects, at) {
-        if at == 0 {
-            return None;
+    while let Some(folder) = way.next(steps) {
+        if is_asked(objects, folder) {
+            return Some(folder);
         }
-        at = parent(tree, at, steps);
     }
-    Some(at)
+    None
 }
 
-// The screen that judges a name, found on the way up from a node. It takes a look for each node but the root.
+// The screen that judges a name, on a way up of which the first folder was lent already: that one is asked, and then
+// what is left of the way. It takes a look for each folder that it comes to after the first.
 fn climb<L: Ledger>(
-    tree: &Tree,
+    start: u32,
+    way: &mut WayUp<'_>,
     objects: &Objects,
     groups: &Groups,
-    start: u32,
     name: &FoldedName,
     steps: &mut Steps<L>,
 ) -> Option<Blocked>
-    requires tree { IsTree tree.now.nodes }
-    requires there { has_row key start tree.now.nodes ≡ true }
+    requires apart { is_in way.old start ≡ false }
     requires known { are_known groups.now objects.now ≡ true }
-    ensures judged { (text : Items ℕ) → folded text ≡ name.now → result ≡ option_map told (judging (screened_rows tree.now.nodes groups.now objects.now) start text) }
-    ensures looks { steps.new ≤ steps.old + length (chain tree.now.nodes start) }
+    ensures judged { (text : Items ℕ) → folded text ≡ name.now → result ≡ option_map told (judging_on groups.now objects.now (start ∷ way.old) text) }
+    ensures looks { steps.new ≤ steps.old + length way.old }
 {
     let mut at = start;
     // The nearest passive screen that applies.
@@ -139,10 +124,13 @@ fn climb<L: Ledger>(
         }
         passive = passive.or(found);
         // An exception says nothing of its own folder's screen, and takes the name from all screens above.
-        if is_excepted(objects, groups, at, name) || at == 0 {
+        if is_excepted(objects, groups, at, name) {
             return passive;
         }
-        at = parent(tree, at, steps);
+        match way.next(steps) {
+            Some(up) => at = up,
+            None => return passive,
+        }
     }
 }
 
@@ -150,22 +138,21 @@ fn climb<L: Ledger>(
 // that it may need when it begins, and a folded name takes a KiB.
 #[inline(never)]
 fn climb_with<L: Ledger>(
-    tree: &Tree,
+    start: u32,
+    way: &mut WayUp<'_>,
     objects: &Objects,
     groups: &Groups,
-    start: u32,
     name: &str,
     steps: &mut Steps<L>,
 ) -> Option<Blocked>
-    requires tree { IsTree tree.now.nodes }
-    requires there { has_row key start tree.now.nodes ≡ true }
+    requires apart { is_in way.old start ≡ false }
     requires named { is_name name.now ≡ true }
     requires known { are_known groups.now objects.now ≡ true }
-    ensures judged { result ≡ option_map told (judging (screened_rows tree.now.nodes groups.now objects.now) start name.now) }
-    ensures looks { steps.new ≤ steps.old + length (chain tree.now.nodes start) }
+    ensures judged { result ≡ option_map told (judging_on groups.now objects.now (start ∷ way.old) name.now) }
+    ensures looks { steps.new ≤ steps.old + length way.old }
 {
     let name = FoldedName::of(name);
-    climb(tree, objects, groups, start, &name, steps)
+    climb(start, way, objects, groups, &name, steps)
 }
 
 /// The screen that judges a name which a file is given in a folder: the nearest active one that applies, else the
@@ -194,8 +181,9 @@ pub fn blocked<L: Ledger>(
     if !groups.may_have(name) {
         return None;
     }
-    let Some(start) = first_asked(tree, objects, folder, steps) else {
+    let mut way = tree.way_up(folder);
+    let Some(start) = first_asked(&mut way, objects, steps) else {
         return None;
     };
-    climb_with(tree, objects, groups, start, name, steps)
+    climb_with(start, &mut way, objects, groups, name, steps)
 }

@@ -2,6 +2,7 @@ pub mod TestLaws
 pub mod EditedRows
 pub mod EditedTests
 pub mod Look
+pub mod ChangedRows
 pub mod Order
 pub mod Members
 pub mod Sums

@@ -115,13 +115,9 @@ pub fn raise_above<L: Ledger>(
     if usage.is_empty() {
         return;
     }
-    let mut at = folder;
-    loop {
+    let mut way = tree.way_up(folder);
+    while let Some(at) = way.next(steps) {
         gain(usage, objects, crossing, at, minus, plus, moment);
-        if at == 0 {
-            return;
-        }
-        at = tree.node(at, steps).parent;
     }
 }
 
@@ -150,13 +146,9 @@ pub fn drop_above<L: Ledger>(
     ensures dropped { Drops crossing.old crossing.new objects.now.quotas (λ quota. is_under tree.now.nodes quota.folder folder) }
     ensures looks { steps.new ≤ steps.old + length (chain tree.now.nodes folder) }
 {
-    let mut at = folder;
-    loop {
+    let mut way = tree.way_up(folder);
+    while let Some(at) = way.next(steps) {
         drop_noted(objects, crossing, at);
-        if at == 0 {
-            return;
-        }
-        at = tree.node(at, steps).parent;
     }
 }
 

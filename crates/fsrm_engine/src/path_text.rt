@@ -17,8 +17,9 @@ use volume_tree::Tree;
 // Most paths have no more bytes than this.
 const USUAL_PATH: usize = 128;
 
-// The way from a node up to the root, without the root.
-fn way_up<L: Ledger>(
+// The nodes on the way up from a node that have a name: all but the root. It takes a look for each, and one for the
+// root.
+fn named_nodes<L: Ledger>(
     tree: &Tree,
     alloc: Global,
     node: u32,
@@ -26,17 +27,19 @@ fn way_up<L: Ledger>(
 ) -> Result<Vec<u32>, NoMemory>
     requires volume { IsVolume tree.now.size tree.now.nodes }
     requires there { has_row key node tree.now.nodes ≡ true }
-    ensures there { IfOk result (λ way. AreThere tree.now.nodes way.items) }
-    ensures way { IfOk result (λ way. chain tree.now.nodes node ≡ way.items ++ 0 ∷ []) }
-    ensures looks { steps.new ≤ steps.old + length (path_of tree.now.nodes node) }
+    ensures there { IfOk result (λ nodes. AreThere tree.now.nodes nodes.items) }
+    ensures way { IfOk result (λ nodes. chain tree.now.nodes node ≡ nodes.items ++ 0 ∷ []) }
+    ensures looks { steps.new ≤ steps.old + (length (path_of tree.now.nodes node) + 1) }
 {
-    let mut way = Vec::new(alloc);
-    let mut at = node;
-    while at != 0 {
-        way.push(at)?;
-        at = tree.node(at, steps).parent;
+    let mut nodes = Vec::new(alloc);
+    let mut way = tree.way_up(node);
+    while let Some(at) = way.next(steps) {
+        if at == 0 {
+            continue;
+        }
+        nodes.push(at)?;
     }
-    Ok(way)
+    Ok(nodes)
 }
 
 // A text that begins so, with room for most paths.
@@ -82,8 +85,8 @@ impl Engine {
         ensures text { IfOk result (λ text. text ≡ path_text self.now.rows.nodes node) }
         ensures looks { steps.new ≤ steps.old + 4 * (length (path_of self.now.rows.nodes node) + 1) }
     {
-        let way = way_up(&self.parts.tree, alloc, node, steps)?;
-        let text = joined(&self.parts.tree, alloc, &way, steps)?;
+        let nodes = named_nodes(&self.parts.tree, alloc, node, steps)?;
+        let text = joined(&self.parts.tree, alloc, &nodes, steps)?;
         Ok(Text::from_string(text))
     }
 }

@@ -2,7 +2,6 @@ pub mod Below
 pub mod ChainLaws
 pub mod ChangeLaws
 pub mod Climbs
-pub mod ClimbRows
 pub mod DepthLaws
 pub mod Files
 pub mod Keeps

@@ -62,6 +62,10 @@ chain_in (suc steps) nodes (suc n) = suc n ∷ chain_in steps nodes (parent_of n
 abbrev pub chain : List NodeRow → ℕ → List ℕ
 chain nodes n = chain_in (length nodes) nodes n
 
+-- the nodes above a node: its parent and so on up to the root
+abbrev pub above : List NodeRow → ℕ → List ℕ
+above nodes n = drop 1 (chain nodes n)
+
 -- whether a node is at or below a folder
 abbrev pub is_under : List NodeRow → ℕ → ℕ → Bool
 is_under nodes folder n = list_any (λ k. k == folder) (chain nodes n)

@@ -1,17 +1,17 @@
 -- Steps of the way up.
-use Rattle.std.proofs.Common.{◌≡◌, ℕ, zero, suc, ◌+◌, ◌<◌, ◌≤◌, ◌^◌, ◌==◌, Bool, true, false, cond, not, ◌&&◌, inl, inr, List, [], ◌∷◌, length, Option, Some, None, refl, sym, ◌∙◌, ap, subst, arith}
-use Rattle.std.specs.Prelude.{option_map, if◌then◌else◌}
+use Rattle.std.proofs.Common.{◌≡◌, ℕ, zero, suc, ◌+◌, ◌<◌, ◌≤◌, ◌^◌, ◌==◌, Bool, true, false, cond, ◌||◌, inl, inr, List, [], ◌∷◌, length, Option, Some, None, refl, sym, ◌∙◌, ap, subst, arith}
+use Rattle.std.specs.Prelude.{drop, is_some, option_map, if◌then◌else◌}
+use Rattle.std.specs.Option.{option_or}
 use Rattle.fsrm_model.specs.declared.row.NodeRow.{NodeRow}
 use Rattle.fsrm_base.specs.Keyed.{row_of, with_change}
-use Rattle.fsrm_model.specs.Tree.{parent_of, chain_in, chain, is_under}
-use Rattle.fsrm_base.proofs.TestLaws.{is_or_not, eq_is, eq_same, or_later, clash}
+use Rattle.fsrm_model.specs.Tree.{above, parent_of, chain_in, chain, is_under}
+use Rattle.fsrm_base.proofs.TestLaws.{is_or, is_or_not, eq_is, eq_same, or_later, clash, not_true}
 use Rattle.fsrm_model.proofs.nodes.ChainLaws.{IsTree, Has}
 use Rattle.fsrm_base.specs.Numbers.{is_in}
-use Rattle.fsrm_model.proofs.nodes.Below.{above_all, chain_root}
-use Rattle.fsrm_model.proofs.nodes.Climbs.{climb, under_up, under_own}
-use Rattle.fsrm_model.proofs.nodes.ClimbRows.{is_passed, passed_rows, climbed_step, climbed_root}
-use Rattle.fsrm_base.proofs.Look.{found_key, find-map}
-use Rattle.quota_usage.specs.Climb.{amended, amended_counter, climbed, FitsAbove, IsFirst, IsNearest}
+use Rattle.fsrm_model.proofs.nodes.Below.{above_all}
+use Rattle.fsrm_model.proofs.nodes.Climbs.{above_root, along, climb, own_then_above, under_own, under_up}
+use Rattle.fsrm_base.proofs.Look.{found_key, row_of-change}
+use Rattle.quota_usage.specs.Climb.{amended, amended_counter, IsFirst, IsNearest}
 use Rattle.quota_usage.specs.Counters.{counted, used_in}
 use Rattle.quota_usage.specs.declared.change.Counter.{Counter}
 use Rattle.quota_usage.specs.declared.change.Exceeded.{Exceeded}
@@ -57,48 +57,45 @@ step_up nodes t at up h i is =
     subst (λ (n : ℕ). IsStep nodes at n) (sym is)
     (record { there = t.closed at h; lower = height_up nodes t at h i; on = λ start hs on. on_up nodes t start at hs h i on })
 
--- counters on the way
+-- a changed counter is of the same folder
 pub own_key : (minus plus : ℕ) (b : Bool) (r : Counter) → counted (cond b (amended_counter minus plus r) r) ≡ counted r
 own_key minus plus true r = refl
 own_key minus plus false r = refl
 
--- the counter of the node that the climb has come to is as it was
-not_passed : (a b : Bool) → b ≡ true → (a && not b) ≡ false
-not_passed true b h = ap not h
-not_passed false b h = refl
+-- no counter of these folders passes 2^64 - 1
+pub record FitAll (counters : List Counter) (ns : List ℕ) (minus plus : ℕ) : Type 0 where
+  pub fits : (folder bytes : ℕ) → is_in ns folder ≡ true → used_in counters folder ≡ Some bytes → amended minus plus bytes < 2 ^ 64
 
-used_passed : (nodes : List NodeRow) (start at minus plus : ℕ) (old : List Counter) → used_in (passed_rows counted nodes start at (amended_counter minus plus) old) at ≡ used_in old at
-used_passed nodes start at minus plus old =
-    ap (option_map (λ (counter : Counter). counter.bytes)) (find-map (λ (r : Counter). counted r == at) g (λ r. ap (λ j. j == at) (own_key minus plus (is_passed nodes start at (counted r)) r)) old)
-    ∙ same (row_of counted at old) refl
-  where
-    g : Counter → Counter
-    g r = if is_passed nodes start at (counted r) then amended_counter minus plus r else r
+pub fits_first : (counters : List Counter) (way rest : List ℕ) (at minus plus : ℕ) → way ≡ at ∷ rest → FitAll counters way minus plus → (bytes : ℕ) → used_in counters at ≡ Some bytes → amended minus plus bytes < 2 ^ 64
+fits_first counters way rest at minus plus is f bytes used =
+    f.fits at bytes (ap (λ (ns : List ℕ). is_in ns at) is ∙ ap (λ b. b || is_in rest at) (eq_same at)) used
 
-    same : (o : Option Counter) → row_of counted at old ≡ o → option_map (λ (counter : Counter). counter.bytes) (option_map g o) ≡ option_map (λ (counter : Counter). counter.bytes) o
-    same None e = refl
-    same (Some r) e =
-        let here : is_passed nodes start at (counted r) ≡ false = ap (is_passed nodes start at) (found_key counted at old r e) ∙ not_passed (is_under nodes at start) (is_under nodes at at) (under_own nodes at) in
-        ap (λ b. Some (cond b (amended_counter minus plus r) r).bytes) here
+pub fits_later : (counters : List Counter) (way rest : List ℕ) (at minus plus : ℕ) → way ≡ at ∷ rest → FitAll counters way minus plus → FitAll counters rest minus plus
+fits_later counters way rest at minus plus is f = record {
+  fits = λ folder bytes on used. f.fits folder bytes (ap (λ (ns : List ℕ). is_in ns folder) is ∙ or_later (at == folder) _ on) used;
+}
 
-pub passed_fits : (nodes : List NodeRow) (start at minus plus : ℕ) (old now : List Counter) → now ≡ passed_rows counted nodes start at (amended_counter minus plus) old → is_under nodes at start ≡ true → FitsAbove nodes old start minus plus → (bytes : ℕ) → used_in now at ≡ Some bytes → amended minus plus bytes < 2 ^ 64
-passed_fits nodes start at minus plus old now e on f bytes h =
-    f.fits at bytes on (sym (ap (λ (counters : List Counter). used_in counters at) e ∙ used_passed nodes start at minus plus old) ∙ h)
+-- the counter of another folder is as it was
+other_at : (minus plus n m : ℕ) → (m == n) ≡ false → (counters : List Counter) (o : Option Counter) → row_of counted m counters ≡ o → option_map (λ (r : Counter). if counted r == n then amended_counter minus plus r else r) o ≡ o
+other_at minus plus n m apart counters None found = refl
+other_at minus plus n m apart counters (Some r) found =
+    ap (λ b. Some (cond b (amended_counter minus plus r) r)) (ap (λ k. k == n) (found_key counted m counters r found) ∙ apart)
 
--- a step of the climb, and its last
-pub passed_up : (nodes : List NodeRow) → IsTree nodes → (start at up minus plus : ℕ) (old now new : List Counter) → Has nodes at → is_under nodes at start ≡ true → (at ≡ 0 → ⊥) → up ≡ parent_of nodes at → now ≡ passed_rows counted nodes start at (amended_counter minus plus) old → new ≡ with_change counted at (amended_counter minus plus) now → new ≡ passed_rows counted nodes start up (amended_counter minus plus) old
-passed_up nodes t start at up minus plus old now new h on i u e made =
-    made
-    ∙ (ap (λ (counters : List Counter). with_change counted at (amended_counter minus plus) counters) e
-    ∙ (climbed_step counted nodes start at (amended_counter minus plus) t (λ r. refl) h on i old
-    ∙ ap (λ j. passed_rows counted nodes start j (amended_counter minus plus) old) (sym u)))
+used_other : (minus plus n m : ℕ) → (m == n) ≡ false → (counters : List Counter) → used_in (with_change counted n (amended_counter minus plus) counters) m ≡ used_in counters m
+used_other minus plus n m apart counters =
+    ap (option_map (λ (r : Counter). r.bytes))
+    (row_of-change counted n (amended_counter minus plus) (λ r. refl) m counters
+    ∙ other_at minus plus n m apart counters (row_of counted m counters) refl)
 
-pub passed_all : (nodes : List NodeRow) (start at minus plus : ℕ) (old now new : List Counter) → is_under nodes at start ≡ true → at ≡ 0 → now ≡ passed_rows counted nodes start at (amended_counter minus plus) old → new ≡ with_change counted at (amended_counter minus plus) now → new ≡ climbed nodes start minus plus old
-passed_all nodes start at minus plus old now new on z e made =
-    made
-    ∙ (ap (λ (counters : List Counter). with_change counted at (amended_counter minus plus) counters) e
-    ∙ (ap (λ j. with_change counted j (amended_counter minus plus) (passed_rows counted nodes start j (amended_counter minus plus) old)) z
-    ∙ climbed_root counted nodes start (amended_counter minus plus) (λ r. refl) (subst (λ j. is_under nodes j start ≡ true) z on) old))
+apart_from : (n m : ℕ) (ns : List ℕ) → is_in ns n ≡ false → is_in ns m ≡ true → (m == n) ≡ false
+apart_from n m ns lacks has = not_true _ (λ e. clash (is_in ns n) (subst (λ k. is_in ns k ≡ true) (eq_is m n e) has) lacks)
+
+pub fits_rest : (counters new : List Counter) (way rest : List ℕ) (at minus plus : ℕ) → way ≡ at ∷ rest → is_in rest at ≡ false → new ≡ with_change counted at (amended_counter minus plus) counters → FitAll counters way minus plus → FitAll new rest minus plus
+fits_rest counters new way rest at minus plus is lacks made f = record {
+  fits = λ folder bytes on used.
+      f.fits folder bytes (ap (λ (ns : List ℕ). is_in ns folder) is ∙ or_later (at == folder) _ on)
+      (sym (ap (λ (now : List Counter). used_in now folder) made ∙ used_other minus plus at folder (apart_from at folder rest lacks on) counters) ∙ used);
+}
 
 -- what is refused on the way
 pub passes_up : (nodes : List NodeRow) → IsTree nodes → (refusal : ℕ → Option Exceeded) (start at up : ℕ) → Has nodes at → (at ≡ 0 → ⊥) → up ≡ parent_of nodes at → refusal at ≡ None → ((f : ℕ) → is_under nodes f start ≡ true → is_under nodes f at ≡ false → refusal f ≡ None) → (f : ℕ) → is_under nodes f start ≡ true → is_under nodes f up ≡ false → refusal f ≡ None
@@ -114,16 +111,52 @@ passes_up nodes t refusal start at up h i u here below f on off =
 pub first_here : (nodes : List NodeRow) (refusal : ℕ → Option Exceeded) (start at : ℕ) (e : Exceeded) → Some e ≡ refusal at → is_under nodes at start ≡ true → ((f : ℕ) → is_under nodes f start ≡ true → is_under nodes f at ≡ false → refusal f ≡ None) → IsFirst nodes refusal start e
 first_here nodes refusal start at e is on below = record { place = at; on = on; refused = sym is; below = below }
 
-pub none_on_way : (nodes : List NodeRow) (refusal : ℕ → Option Exceeded) (start at : ℕ) → None ≡ refusal at → at ≡ 0 → ((f : ℕ) → is_under nodes f start ≡ true → is_under nodes f at ≡ false → refusal f ≡ None) → (f : ℕ) → is_under nodes f start ≡ true → refusal f ≡ None
-none_on_way nodes refusal start at is z below f on =
-    elim (is_or_not (is_under nodes f at)) [
-      | inl e ↦
-          let root : 0 ≡ f = eq_is 0 f (sym (chain_root nodes f) ∙ subst (λ j. is_under nodes f j ≡ true) z e) in
-          ap refusal (sym (z ∙ root)) ∙ sym is
-      | inr e ↦ below f on e
-    ]
+-- the first refusal in a list of folders
+abbrev pub first_in : (ℕ → Option Exceeded) → List ℕ → Option Exceeded
+first_in refusal [] = None
+first_in refusal (n ∷ ns) = option_or (refusal n) (first_in refusal ns)
 
--- where the climb of refusals stops
-pub nearest_here : (nodes : List NodeRow) (refusal : ℕ → Option Exceeded) (start at : ℕ) (o : Option Exceeded) → o ≡ refusal at → is_under nodes at start ≡ true → (o ≡ None → at ≡ 0) → ((f : ℕ) → is_under nodes f start ≡ true → is_under nodes f at ≡ false → refusal f ≡ None) → IsNearest nodes refusal start o
-nearest_here nodes refusal start at None is on stop below = none_on_way nodes refusal start at is (stop refl) below
-nearest_here nodes refusal start at (Some e) is on stop below = first_here nodes refusal start at e is on below
+pub first_stops : (refusal : ℕ → Option Exceeded) (way rest : List ℕ) (at : ℕ) (o whole : Option Exceeded) → way ≡ at ∷ rest → o ≡ refusal at → is_some o ≡ true → first_in refusal way ≡ whole → o ≡ whole
+first_stops refusal way rest at None whole is here some left = cc
+first_stops refusal way rest at (Some e) whole is here some left = sym (ap (first_in refusal) is ∙ ap (λ o. option_or o (first_in refusal rest)) (sym here)) ∙ left
+
+pub first_goes : (refusal : ℕ → Option Exceeded) (way rest : List ℕ) (at : ℕ) (o whole : Option Exceeded) → way ≡ at ∷ rest → o ≡ refusal at → is_some o ≡ false → first_in refusal way ≡ whole → first_in refusal rest ≡ whole
+first_goes refusal way rest at None whole is here none left = sym (ap (first_in refusal) is ∙ ap (λ o. option_or o (first_in refusal rest)) (sym here)) ∙ left
+first_goes refusal way rest at (Some e) whole is here none left = cc
+
+-- on the way up from a node, that is the refusal of the nearest one that refuses
+none_at : (refusal : ℕ → Option Exceeded) (n : ℕ) (ns : List ℕ) (folder : ℕ) (o : Option Exceeded) → refusal n ≡ o → option_or o (first_in refusal ns) ≡ None → is_in (n ∷ ns) folder ≡ true → (first_in refusal ns ≡ None → is_in ns folder ≡ true → refusal folder ≡ None) → refusal folder ≡ None
+none_at refusal n ns folder None here none on later = elim (is_or _ _ on) [ inl e ↦ ap refusal (sym (eq_is n folder e)) ∙ here | inr on ↦ later none on ]
+none_at refusal n ns folder (Some e) here none on later = cc
+
+none_refuse : (refusal : ℕ → Option Exceeded) (ns : List ℕ) → first_in refusal ns ≡ None → (folder : ℕ) → is_in ns folder ≡ true → refusal folder ≡ None
+none_refuse refusal [] none folder on = cc
+none_refuse refusal (n ∷ ns) none folder on = none_at refusal n ns folder (refusal n) refl none on (λ none on. none_refuse refusal ns none folder on)
+
+pub first_found : (nodes : List NodeRow) → IsTree nodes → (refusal : ℕ → Option Exceeded) (exceeded : Exceeded) (start : ℕ) → Has nodes start → first_in refusal (chain nodes start) ≡ Some exceeded → IsFirst nodes refusal start exceeded
+first_found nodes t refusal exceeded =
+    along (λ n. first_in refusal (chain nodes n) ≡ Some exceeded → IsFirst nodes refusal n exceeded) nodes t
+    (λ found. here 0 (refusal 0) refl (sym (ap (first_in refusal) (own_then_above nodes 0)) ∙ found) (λ none. let nothing : first_in refusal (above nodes 0) ≡ None = ap (first_in refusal) (above_root nodes) in cc))
+    (λ n h inner up found.
+    let step = climb nodes t n h inner in
+    here n (refusal n) refl (sym (ap (first_in refusal) (own_then_above nodes n)) ∙ found)
+    (λ none.
+    let first = up (ap (first_in refusal) (sym (ap (drop 1) step)) ∙ none.1) in
+    record {
+      place = first.place;
+      on = ap (λ (ns : List ℕ). is_in ns first.place) step ∙ or_later (n == first.place) _ first.on;
+      refused = first.refused;
+      below = λ f on off.
+          elim (is_or _ _ (sym (ap (λ (ns : List ℕ). is_in ns f) step) ∙ on)) [
+            | inl e ↦ ap refusal (sym (eq_is n f e)) ∙ none.0
+            | inr later ↦ first.below f later off
+          ];
+    }))
+  where
+    here : (n : ℕ) (o : Option Exceeded) → refusal n ≡ o → option_or o (first_in refusal (above nodes n)) ≡ Some exceeded → ((refusal n ≡ None) × (first_in refusal (above nodes n) ≡ Some exceeded) → IsFirst nodes refusal n exceeded) → IsFirst nodes refusal n exceeded
+    here n (Some e) is found above = record { place = n; on = under_own nodes n; refused = is ∙ found; below = λ f on off. absurd (clash _ on off) }
+    here n None is found above = above (is, found)
+
+pub nearest : (nodes : List NodeRow) → IsTree nodes → (refusal : ℕ → Option Exceeded) (start : ℕ) (o : Option Exceeded) → Has nodes start → first_in refusal (chain nodes start) ≡ o → IsNearest nodes refusal start o
+nearest nodes t refusal start None h is = none_refuse refusal (chain nodes start) is
+nearest nodes t refusal start (Some e) h is = first_found nodes t refusal e start h is

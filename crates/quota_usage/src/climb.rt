@@ -30,10 +30,9 @@ pub fn height<L: Ledger>(tree: &Tree, node: u32, steps: &mut Steps<L>) -> u64
     ensures looks { steps.new ≤ steps.old + length (chain tree.now.nodes node) }
 {
     let count = tree.count() as u64;
-    let mut at = node;
-    let mut height = 1;
-    while at != 0 {
-        at = parent(tree, at, steps);
+    let mut way = tree.way_up(node);
+    let mut height = 0;
+    while let Some(_at) = way.next(steps) {
         // No way up passes more nodes than there are.
         prove!(height <= count);
         height += 1;
@@ -57,13 +56,9 @@ pub fn climb<L: Ledger>(
     ensures made { counters.new ≡ climbed tree.now.nodes start minus plus counters.old }
     ensures looks { steps.new ≤ steps.old + length (chain tree.now.nodes start) }
 {
-    let mut at = start;
-    loop {
+    let mut way = tree.way_up(start);
+    while let Some(at) = way.next(steps) {
         counters.amend(at, minus, plus);
-        if at == 0 {
-            return;
-        }
-        at = parent(tree, at, steps);
     }
 }
 

@@ -74,14 +74,14 @@ fn first_refusal<L: Ledger>(
     ensures nearest { IsNearest tree.now.nodes (refusal_of objects.now.quotas counters.now minus plus) start result }
     ensures looks { steps.new ≤ steps.old + length (chain tree.now.nodes start) }
 {
-    let mut at = start;
-    loop {
+    let mut way = tree.way_up(start);
+    while let Some(at) = way.next(steps) {
         let refusal = judge(counters, objects, at, minus, plus);
-        if refusal.is_some() || at == 0 {
+        if refusal.is_some() {
             return refusal;
         }
-        at = parent(tree, at, steps);
     }
+    None
 }
 
 // Climbs from two nodes to the one where their ways up meet. Below that it judges the quotas on the way from `to`: none

@@ -36,18 +36,15 @@ impl Frontier {
         ensures value { result ≡ standing tree.now.nodes self.now node }
         ensures looks { steps.new ≤ steps.old + length (chain tree.now.nodes node) }
     {
-        let mut at = node;
-        loop {
+        let mut way = tree.way_up(node);
+        while let Some(at) = way.next(steps) {
             if self.tops.contains(at) {
                 return Standing::Unvisited;
             }
             if self.folder == Some(at) {
                 return Standing::Visited;
             }
-            if at == 0 {
-                return Standing::Outside;
-            }
-            at = tree.node(at, steps).parent;
         }
+        Standing::Outside
     }
 }

@@ -3,3 +3,4 @@ pub mod FromRows
 pub mod HoleLaws
 pub mod SlotLaws
 pub mod SlotRows
+pub mod WayLaws

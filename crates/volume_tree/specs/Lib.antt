@@ -4,3 +4,4 @@ pub mod Looks
 pub mod Sound
 pub mod Volume
 pub mod Shift
+pub mod Ways

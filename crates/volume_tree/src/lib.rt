@@ -31,6 +31,7 @@ mod segment;
 mod slots;
 mod tree;
 mod vacancy;
+mod way_up;
 
 pub use answer::{RowsFault, TreeFault};
 pub use children::{Children, Siblings};
@@ -38,3 +39,4 @@ pub use finger::Finger;
 pub use moves::ReadyMove;
 pub use node_table::NodeView;
 pub use tree::Tree;
+pub use way_up::WayUp;

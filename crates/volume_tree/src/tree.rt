@@ -21,6 +21,7 @@ use crate::entries::Order;
 use crate::entry::own_place;
 use crate::finger::Finger;
 use crate::hints::Hints;
+use crate::way_up::WayUp;
 use crate::{lookup, order, reads, rows, segment, slots};
 use fsrm_model::{Capacity, Ledger, List, Names, NoMemory, NodeRow, Path, Steps, allocated};
 use node_table::{NodeTable, NodeView};
@@ -193,6 +194,15 @@ impl Tree {
         ensures count { steps.new ≡ steps.old + 1 }
     {
         reads::node(&self.slots, node, steps)
+    }
+
+    /// The way from a node that there is up to the root, the node itself first. This call takes no look: `WayUp::next`
+    /// takes one for each node that it lends.
+    pub fn way_up(&self, node: u32) -> WayUp<'_>
+        requires { has_row key node self.now.nodes ≡ true }
+        ensures { result ≡ chain self.now.nodes node }
+    {
+        WayUp::from(&self.slots, node)
     }
 
     /// Whether a node is another one or stands below it. It takes a look for each node from it up to that

@@ -1,5 +1,5 @@
 -- Places of quotas that are noted, and noted no longer, on the way up.
-use Rattle.std.proofs.Common.{◌≡◌, ℕ, zero, suc, ◌==◌, Bool, true, false, ◌&&◌, ◌||◌, not, List, Option, Some, None, nat_lt, slice_get, refl, ap, sym, ◌∙◌, subst, arith}
+use Rattle.std.proofs.Common.{◌≡◌, ℕ, ◌==◌, Bool, true, false, ◌&&◌, ◌||◌, not, List, Option, Some, None, nat_lt, slice_get, refl, ap, sym, ◌∙◌, subst, arith}
 use Rattle.std.proofs.lemmas.Option.{same_Some, slice_get-map}
 use Rattle.std.specs.Prelude.{map, option_map, if◌then◌else◌}
 use Rattle.std.specs.Option.{option_map_or}
@@ -9,16 +9,9 @@ use Rattle.fsrm_base.specs.Places.{IsAt}
 use Rattle.fsrm_base.proofs.Look.{found_has, found_key}
 use Rattle.fsrm_base.proofs.NumberLaws.{in_with, in_without, set_with, set_without}
 use Rattle.fsrm_base.proofs.SortedRows.{row_at, there}
-use Rattle.fsrm_base.proofs.TestLaws.{clash, eq_is, eq_test, eq_turned, ge_is, is_apart, lt_is}
-use Rattle.fsrm_model.specs.declared.row.NodeRow.{NodeRow}
+use Rattle.fsrm_base.proofs.TestLaws.{clash, eq_is, eq_test, ge_is, is_apart, lt_is}
 use Rattle.fsrm_model.specs.declared.row.QuotaRow.{QuotaRow}
 use Rattle.fsrm_model.specs.Quota.{folder_of}
-use Rattle.fsrm_model.specs.Tree.{is_under, parent_of}
-use Rattle.fsrm_model.proofs.nodes.Below.{chain_root}
-use Rattle.fsrm_model.proofs.nodes.ChainLaws.{IsTree, Has}
-use Rattle.fsrm_model.proofs.nodes.ClimbRows.{is_passed}
-use Rattle.fsrm_model.proofs.nodes.Climbs.{climb}
-use Rattle.fsrm_model.proofs.nodes.UsageLaws.{parent_lacks}
 use Rattle.number_set.specs.Numbers.{Numbers}
 use Rattle.thresholds.proofs.Decoded.{earlier}
 use Rattle.fsrm_engine.specs.Crossing.{Drops, Notes}
@@ -219,47 +212,6 @@ drops_both old mid new quotas one other whole first second both_are =
           ∙ (and_both (is_in old.members i) (passes_at one quotas i) (passes_at other quotas i)
           ∙ ap (λ b. is_in old.members i && not b) (either_at one other quotas i ∙ same_at (λ q. one q || other q) whole quotas i both_are)));
     }
-
--- ---- the way up
-here_first : (a : Bool) → (a || true) ≡ true
-here_first true = refl
-here_first false = refl
-
--- none was passed at the start
-pub none_passed : (nodes : List NodeRow) (start n : ℕ) → is_passed nodes start start n ≡ false
-none_passed nodes start n = at (is_under nodes n start)
-  where
-    at : (b : Bool) → (b && not b) ≡ false
-    at true = refl
-    at false = refl
-
--- a step up
-pub passed_next : (nodes : List NodeRow) (start at : ℕ) → IsTree nodes → Has nodes at → is_under nodes at start ≡ true → (at ≡ 0 → ⊥) → (n : ℕ) → (is_passed nodes start at n || (n == at)) ≡ is_passed nodes start (parent_of nodes at) n
-passed_next nodes start zero t h on inner n = absurd (inner refl)
-passed_next nodes start (suc k) t h on inner n = by (n == suc k) refl
-  where
-    up : is_under nodes n (suc k) ≡ ((suc k == n) || is_under nodes n (parent_of nodes (suc k)))
-    up = ap (λ ns. is_in ns n) (climb nodes t (suc k) h inner)
-
-    by : (b : Bool) → (n == suc k) ≡ b → (is_passed nodes start (suc k) n || b) ≡ is_passed nodes start (parent_of nodes (suc k)) n
-    by true e =
-        let same : n ≡ suc k = eq_is n (suc k) e in
-        here_first (is_passed nodes start (suc k) n)
-        ∙ sym (ap (λ b. b && not (is_under nodes n (parent_of nodes (suc k)))) (subst (λ j. is_under nodes j start ≡ true) (sym same) on)
-        ∙ ap not (subst (λ j. is_under nodes j (parent_of nodes (suc k)) ≡ false) (sym same) (parent_lacks nodes t k h)))
-    by false e =
-        sym (alone (is_passed nodes start (suc k) n))
-        ∙ ap (λ b. is_under nodes n start && not b) (up ∙ ap (λ b. b || is_under nodes n (parent_of nodes (suc k))) (eq_turned n (suc k) e))
-
--- at the root all were passed but its own
-pub passed_all : (nodes : List NodeRow) (start : ℕ) → is_under nodes 0 start ≡ true → (n : ℕ) → (is_passed nodes start 0 n || (n == 0)) ≡ is_under nodes n start
-passed_all nodes start on n = by (n == 0) refl
-  where
-    by : (b : Bool) → (n == 0) ≡ b → (is_passed nodes start 0 n || b) ≡ is_under nodes n start
-    by true e = here_first (is_passed nodes start 0 n) ∙ sym (subst (λ j. is_under nodes j start ≡ true) (sym (eq_is n 0 e)) on)
-    by false e =
-        sym (alone (is_passed nodes start 0 n))
-        ∙ (ap (λ b. is_under nodes n start && not b) (chain_root nodes n ∙ eq_turned n 0 e) ∙ sym (keeps_all (is_under nodes n start)))
 
 -- the same of quotas that pass a test
 pub either_and : (a b x whole : Bool) → (a || b) ≡ whole → ((a && x) || (b && x)) ≡ (whole && x)

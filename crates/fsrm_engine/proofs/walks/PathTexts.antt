@@ -1,53 +1,57 @@
 -- The way up from a node, and its path's text.
-use Rattle.std.proofs.Common.{◌≡◌, ℕ, ◌+◌, ◌<◌, ◌≤◌, true, List, [], ◌∷◌, ◌++◌, length, get_or, sym, ◌∙◌, ap, subst, arith, length-append, append_assoc, append-nil, ◌==◌, false, zero, suc, ◌⊎◌, inl, inr}
+use Rattle.std.proofs.Common.{◌≡◌, ℕ, ◌<◌, true, List, [], ◌∷◌, ◌++◌, length, get_or, sym, ◌∙◌, ap, subst, arith, append_assoc, append-nil, ◌==◌, false, not, cond, refl, zero, suc, ◌⊎◌, inl, inr}
 use Rattle.std.proofs.lemmas.Bool.Decides.{nat_tests}
 use Rattle.std.proofs.lemmas.List.{map-append, reverse-append, length-map, length-reverse}
-use Rattle.std.specs.Prelude.{map, reverse, codes}
+use Rattle.std.specs.Prelude.{filter, map, reverse, codes}
 use Rattle.std.specs.List.{join_with_byte}
-use Rattle.fsrm_model.specs.declared.row.Capacity.{Capacity}
 use Rattle.fsrm_model.specs.declared.row.NodeRow.{NodeRow}
 use Rattle.fsrm_base.specs.Keyed.{has_row}
-use Rattle.fsrm_model.specs.Tree.{number, name_of, chain, path_of}
-use Rattle.fsrm_model.specs.Valid.{IsVolume}
-use Rattle.fsrm_base.proofs.TestLaws.{eq_is}
-use Rattle.fsrm_model.proofs.nodes.DepthLaws.{some_member}
-use Rattle.fsrm_model.proofs.nodes.Keeps.{tree_of}
+use Rattle.fsrm_model.specs.Tree.{number, name_of, chain, parent_of}
+use Rattle.fsrm_base.proofs.TestLaws.{eq_is, is_apart}
+use Rattle.fsrm_model.proofs.nodes.ChainLaws.{IsTree}
 use Rattle.fsrm_model.proofs.nodes.Walks.{found_name}
-use Rattle.fsrm_model.proofs.nodes.Climbs.{climb, shorter}
-use Rattle.fsrm_model.proofs.nodes.Resolves.{path_length}
+use Rattle.fsrm_model.proofs.nodes.Climbs.{along, climb, root_alone}
 use Rattle.node_table.specs.declared.view.NodeView.{NodeView}
 use Rattle.volume_tree.specs.Volume.{Shows}
 use Rattle.fsrm_engine.specs.Walk.{AreThere}
 use Rattle.fsrm_engine.proofs.walks.WalkLaws.{there-append}
-use Rattle.fsrm_engine.proofs.tables.RaiseLaws.{up_is}
 
--- a node's parent, as it is lent
+-- each node on the way up is there, and the last one is the root
+pub way_there : (nodes : List NodeRow) → IsTree nodes → (n : ℕ) → has_row number n nodes ≡ true → AreThere nodes (chain nodes n)
+way_there nodes t n h =
+    along (λ n. AreThere nodes (chain nodes n)) nodes t
+    (subst (AreThere nodes) (sym (root_alone nodes)) (t.root, tt))
+    (λ n h inner up. subst (AreThere nodes) (sym (climb nodes t n h inner)) (h, up))
+    n h
 
-pub up_there : (K : Capacity) (nodes : List NodeRow) (n : ℕ) (view : NodeView) → IsVolume K nodes → has_row number n nodes ≡ true → Shows view nodes n → has_row number view.parent nodes ≡ true
-up_there K nodes n view v h shows = subst (λ (m : ℕ). has_row number m nodes ≡ true) (up_is nodes n view shows) ((tree_of K nodes v).closed n h)
+-- the nodes of a way that have a name: all but the root
+abbrev pub named : List ℕ → List ℕ
+named ns = filter (λ n. not (n == 0)) ns
 
-pub up_way : (K : Capacity) (nodes : List NodeRow) (start n : ℕ) (view : NodeView) (old new : List ℕ) → IsVolume K nodes → has_row number n nodes ≡ true → (n ≡ 0 → ⊥) → Shows view nodes n → new ≡ old ++ n ∷ [] → chain nodes start ≡ old ++ chain nodes n → chain nodes start ≡ new ++ chain nodes view.parent
-up_way K nodes start n view old new v h inner shows push way =
-    let up = chain nodes view.parent in
-    way
-    ∙ (ap (λ (ns : List ℕ). old ++ ns) (climb nodes (tree_of K nodes v) n h inner)
-    ∙ (ap (λ (m : ℕ). old ++ n ∷ chain nodes m) (up_is nodes n view shows)
-    ∙ (sym (append_assoc old (n ∷ []) up) ∙ ap (λ (ns : List ℕ). ns ++ up) (sym push))))
+pub way_named : (nodes : List NodeRow) → IsTree nodes → (n : ℕ) → has_row number n nodes ≡ true → chain nodes n ≡ named (chain nodes n) ++ 0 ∷ []
+way_named nodes t n h =
+    along (λ n. chain nodes n ≡ named (chain nodes n) ++ 0 ∷ []) nodes t
+    (subst (λ (ns : List ℕ). ns ≡ named ns ++ 0 ∷ []) (sym (root_alone nodes)) refl)
+    (λ n h inner up.
+    subst (λ (ns : List ℕ). ns ≡ named ns ++ 0 ∷ []) (sym (climb nodes t n h inner))
+    (ap (λ (ns : List ℕ). n ∷ ns) up
+    ∙ ap (λ b. cond (not b) (n ∷ named (chain nodes (parent_of nodes n))) (named (chain nodes (parent_of nodes n))) ++ 0 ∷ []) (sym (is_apart n 0 inner))))
+    n h
 
-pub up_smaller : (K : Capacity) (nodes : List NodeRow) (n : ℕ) (view : NodeView) → IsVolume K nodes → has_row number n nodes ≡ true → (n ≡ 0 → ⊥) → Shows view nodes n → length (chain nodes view.parent) < length (chain nodes n)
-up_smaller K nodes n view v h inner shows =
-    subst (λ (m : ℕ). length (chain nodes m) < length (chain nodes n)) (up_is nodes n view shows) (shorter nodes (tree_of K nodes v) n h inner)
+-- what is kept of the first node of what is left: itself, or nothing of the root
+pub named_first : (at : ℕ) (rest way before after all : List ℕ) → way ≡ at ∷ rest → (at ≡ 0 → ⊥) → after ≡ before ++ at ∷ [] → before ++ named way ≡ all → after ++ named rest ≡ all
+named_first at rest way before after all is inner push so_far =
+    ap (λ (ns : List ℕ). ns ++ named rest) push
+    ∙ (append_assoc before (at ∷ []) (named rest)
+    ∙ (ap (λ b. before ++ cond (not b) (at ∷ named rest) (named rest)) (sym (is_apart at 0 inner))
+    ∙ (ap (λ (ns : List ℕ). before ++ named ns) (sym is) ∙ so_far)))
 
-pub up_there_more : (nodes : List NodeRow) (n : ℕ) (old new : List ℕ) → AreThere nodes old → has_row number n nodes ≡ true → new ≡ old ++ n ∷ [] → AreThere nodes new
-up_there_more nodes n old new each h push = subst (AreThere nodes) (sym push) (there-append nodes old (n ∷ []) each (h, tt))
+pub unnamed_first : (at : ℕ) (rest way before all : List ℕ) → way ≡ at ∷ rest → at ≡ 0 → before ++ named way ≡ all → before ++ named rest ≡ all
+unnamed_first at rest way before all is root so_far =
+    ap (λ b. before ++ cond (not b) (at ∷ named rest) (named rest)) (sym (ap (λ n. n == 0) root)) ∙ (ap (λ (ns : List ℕ). before ++ named ns) (sym is) ∙ so_far)
 
-pub up_length : (n : ℕ) (old new : List ℕ) → new ≡ old ++ n ∷ [] → length new ≡ length old + 1
-up_length n old new push = omega (arith, ap length push, length-append old (n ∷ []))
-
--- the way up has no more nodes than the path has names
-pub way_short : (nodes : List NodeRow) (start n : ℕ) (way : List ℕ) → chain nodes start ≡ way ++ chain nodes n → length way ≤ length (path_of nodes start)
-way_short nodes start n way e =
-    omega (arith, path_length nodes start, ap length e, length-append way (chain nodes n), some_member (length nodes) nodes n)
+pub there_push : (nodes : List NodeRow) (n : ℕ) (old new : List ℕ) → AreThere nodes old → has_row number n nodes ≡ true → new ≡ old ++ n ∷ [] → AreThere nodes new
+there_push nodes n old new each h push = subst (AreThere nodes) (sym push) (there-append nodes old (n ∷ []) each (h, tt))
 
 -- read backwards it is the path
 pub turned_there : (nodes : List NodeRow) (way : List ℕ) → AreThere nodes way → AreThere nodes (reverse way)

@@ -1,21 +1,22 @@
 -- Where a node stands in a scan, from the way up to the root.
-use Rattle.std.proofs.Common.{◌≡◌, ℕ, ◌==◌, Bool, true, false, cond, ◌||◌, List, Option, Some, None, refl, sym, ◌∙◌, ap, subst, inl, inr, eqb}
+use Rattle.std.proofs.Common.{◌≡◌, ℕ, ◌==◌, Bool, true, false, cond, ◌||◌, List, ◌∷◌, Option, Some, None, refl, sym, ◌∙◌, ap, subst, inl, inr, eqb}
 use Rattle.fsrm_model.specs.declared.row.NodeRow.{NodeRow}
 use Rattle.fsrm_base.specs.Numbers.{is_in}
-use Rattle.fsrm_model.specs.Tree.{parent_of, is_under}
-use Rattle.fsrm_base.proofs.TestLaws.{is_or_not, clash, not_true, eq_is, eq_same}
+use Rattle.fsrm_model.specs.Tree.{is_under}
+use Rattle.fsrm_base.proofs.TestLaws.{is_apart, is_or_not, clash, not_true, eq_is, eq_same}
 use Rattle.fsrm_model.proofs.nodes.ChainLaws.{IsTree, Has}
 use Rattle.fsrm_model.proofs.nodes.Below.{chain_root, each_above}
 use Rattle.std.specs.Prelude.{unwrap_or}
 use Rattle.std.specs.Option.{option_eq}
-use Rattle.fsrm_model.proofs.nodes.Climbs.{under_own, under_up}
+use Rattle.std.specs.List.{list_any}
+use Rattle.fsrm_model.proofs.nodes.Climbs.{under_own}
 use Rattle.fsrm_model.proofs.valid.ValidLaws.{folder_has}
 use Rattle.rescan.specs.declared.standing.Standing.{Standing}
 use Rattle.rescan.specs.declared.standing.Standing.TheVariants.{Outside, Visited, Unvisited}
 use Rattle.rescan.specs.Frontiers.{Front, scanned, has_above}
 use Rattle.rescan.specs.Standings.{standing}
 use Rattle.rescan.specs.Tops.{AreTops}
-use Rattle.rescan.proofs.unvisited.Tops.{above_own, above_of, above_root, above_child}
+use Rattle.rescan.proofs.unvisited.Tops.{above_own, above_of}
 use Rattle.fsrm_base.proofs.Look.{unwrapped}
 
 -- the standing, from its two tests
@@ -55,21 +56,18 @@ at_scanned nodes f t a n at above below lacks is =
     let here : is_under nodes (scanned f) at ≡ true = ap (λ j. is_under nodes j at) same ∙ under_own nodes at in
     sym (at_tests _ _ false true (above ∙ none) (below ∙ here))
 
-pub at_root : (nodes : List NodeRow) (f : Front) → AreTops nodes f → (n at : ℕ) → has_above nodes f.tops n ≡ has_above nodes f.tops at → is_under nodes (scanned f) n ≡ is_under nodes (scanned f) at → is_in f.tops at ≡ false → (f.folder ≡ Some at → ⊥) → at ≡ 0 → Outside ≡ standing nodes f n
-at_root nodes f a n at above below lacks other root =
-    let none : has_above nodes f.tops at ≡ false = ap (has_above nodes f.tops) root ∙ (above_root nodes f.tops ∙ (ap (is_in f.tops) (sym root) ∙ lacks)) in
-    let apart : is_under nodes (scanned f) at ≡ false = not_true _ (λ h.
-    let is : 0 ≡ scanned f = eq_is 0 (scanned f) (sym (chain_root nodes (scanned f)) ∙ (ap (is_under nodes (scanned f)) (sym root) ∙ h)) in
-    other (unwrapped f.folder a.active ∙ ap (λ j. Some j) (sym is ∙ sym root))) in
-    sym (at_tests _ _ false false (above ∙ none) (below ∙ apart))
+-- at the end of the way neither was met
+pub at_end : (nodes : List NodeRow) (f : Front) (n : ℕ) → has_above nodes f.tops n ≡ false → is_under nodes (scanned f) n ≡ false → Outside ≡ standing nodes f n
+at_end nodes f n above below = sym (at_tests _ _ false false above below)
 
--- the tests of a node that is neither a top nor the scanned folder are those of its parent
-pub above_up : (nodes : List NodeRow) (f : Front) → IsTree nodes → (at : ℕ) → Has nodes at → (at ≡ 0 → ⊥) → is_in f.tops at ≡ false → has_above nodes f.tops at ≡ has_above nodes f.tops (parent_of nodes at)
-above_up nodes f t at h i lacks = above_child nodes f.tops t at h i ∙ ap (λ b. b || has_above nodes f.tops (parent_of nodes at)) lacks
+-- what is neither a top nor the scanned folder says nothing of what is left of the way
+pub above_left : (tops : List ℕ) (at : ℕ) (rest way : List ℕ) → way ≡ at ∷ rest → is_in tops at ≡ false → list_any (is_in tops) way ≡ list_any (is_in tops) rest
+above_left tops at rest way is lacks = ap (list_any (is_in tops)) is ∙ ap (λ b. b || list_any (is_in tops) rest) lacks
 
-pub below_up : (nodes : List NodeRow) (f : Front) → IsTree nodes → AreTops nodes f → (at : ℕ) → Has nodes at → (at ≡ 0 → ⊥) → (f.folder ≡ Some at → ⊥) → is_under nodes (scanned f) at ≡ is_under nodes (scanned f) (parent_of nodes at)
-below_up nodes f t a at h i other =
-    under_up nodes t (scanned f) at h i (λ e. other (unwrapped f.folder a.active ∙ ap (λ j. Some j) (sym e)))
+pub below_left : (nodes : List NodeRow) (f : Front) → AreTops nodes f → (at : ℕ) (rest way : List ℕ) → way ≡ at ∷ rest → (f.folder ≡ Some at → ⊥) → is_in way (scanned f) ≡ is_in rest (scanned f)
+below_left nodes f a at rest way is other =
+    ap (λ (ns : List ℕ). is_in ns (scanned f)) is
+    ∙ ap (λ b. b || is_in rest (scanned f)) (is_apart at (scanned f) (λ e. other (unwrapped f.folder a.active ∙ ap (λ j. Some j) (sym e))))
 
 -- the scanned folder, as it is compared
 pub same_folder : (o : Option ℕ) (n : ℕ) → option_eq eqb o (Some n) ≡ true → o ≡ Some n

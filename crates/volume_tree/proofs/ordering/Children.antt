@@ -3,19 +3,18 @@ use Rattle.std.proofs.Common.{◌≡◌, ℕ, zero, suc, ◌+◌, ◌-◌, ◌<�
 use Rattle.std.specs.List.{Contains}
 use Rattle.std.proofs.lemmas.Bool.{cases_lt}
 use Rattle.std.proofs.lemmas.Bool.Decides.{nat_tests}
-use Rattle.std.proofs.lemmas.List.{get_or-map, length-map}
+use Rattle.std.proofs.lemmas.List.{length-map}
 use Rattle.std.proofs.lemmas.List.Edits.{length-between, get_or-between}
-use Rattle.std.proofs.lemmas.List.Elements.{All-filter}
-use Rattle.std.proofs.lemmas.List.Sorted.{All-permutation, length_permutation}
+use Rattle.std.proofs.lemmas.List.Sorted.{length_permutation}
 use Rattle.std.proofs.lemmas.Option.{same_Some, slice_get-get_or}
 use Rattle.fsrm_model.specs.declared.row.NodeRow.{NodeRow}
 use Rattle.fsrm_model.specs.Fresh.{root_node}
 use Rattle.fsrm_base.specs.Keyed.{is_ascending}
 use Rattle.fsrm_model.specs.Name.{name_before}
-use Rattle.fsrm_model.specs.Tree.{number, node_of, is_child, children, children_in_order}
+use Rattle.fsrm_model.specs.Tree.{number, node_of, children, children_in_order}
 use Rattle.volume_tree.specs.Kept.{IsOrder, IsPlace}
 use Rattle.volume_tree.specs.Volume.{IsChildAt}
-use Rattle.volume_tree.proofs.ordering.Entries.{at, number_there, node_there, length-order_entries, rows_found}
+use Rattle.volume_tree.proofs.ordering.Entries.{at, number_there, node_there, length-order_entries}
 use Rattle.volume_tree.proofs.ordering.Items.{contains_head, in_order_moves}
 use Rattle.volume_tree.proofs.ordering.Names.{comes_is}
 use Rattle.volume_tree.proofs.ordering.Segments.{Ends, place_ends, ends_ordered, segment, entry_of_child, child_of_entry, children_are_segment, length-children}

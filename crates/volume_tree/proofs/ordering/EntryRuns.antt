@@ -1,7 +1,7 @@
 -- Runs of entries, and the runs of the numbers in them.
-use Rattle.std.proofs.Common.{◌≡◌, ℕ, zero, suc, ◌+◌, ◌<◌, All, Contains, List, [], ◌∷◌, ◌++◌, length, get_or, map, take, drop, insert, remove, slice_get, Some, refl, sym, ◌∙◌, ap, arith}
+use Rattle.std.proofs.Common.{◌≡◌, ℕ, zero, suc, ◌+◌, ◌<◌, All, Contains, List, [], ◌∷◌, ◌++◌, length, get_or, map, take, insert, remove, slice_get, Some, refl, sym, ◌∙◌, ap, arith}
 use Rattle.std.specs.Prelude.{option_map}
-use Rattle.std.proofs.lemmas.List.{length-map, map-append, take-map, drop-map}
+use Rattle.std.proofs.lemmas.List.{length-map, map-append, take-map}
 use Rattle.std.proofs.lemmas.Option.{slice_get-map, slice_get-get_or, slice_get_within, get_or_from_slice_get}
 use Rattle.block_list.specs.declared.place.Place.{Place}
 use Rattle.block_list.specs.Places.{IsEntry, IsGap, index_of}

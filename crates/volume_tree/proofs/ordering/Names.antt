@@ -1,13 +1,13 @@
 -- The order of names, and of the places of nodes.
 use Rattle.std.proofs.Common.{◌≡◌, ℕ, ◌<◌, ◌==◌, ◌&&◌, ◌||◌, nat_lt, Bool, true, false, ◌⊎◌, inl, inr, List, [], ◌∷◌, refl, sym, ◌∙◌, ap, subst, arith, Ordering, Less, Equal, Greater, nat_cmp, is_lt}
 use Rattle.std.proofs.lemmas.Bool.Decides.{nat_tests}
-use Rattle.std.proofs.lemmas.Cmp.{nat_cmp_total, nat_list_cmp_total, tied_itself}
+use Rattle.std.proofs.lemmas.Cmp.{nat_list_cmp_total, tied_itself}
 use Rattle.std.proofs.lemmas.Slice.Eq.{bytes_eq-Decides}
 use Rattle.std.specs.Cmp.Lexicographic.{slice_cmp, texts_ties}
 use Rattle.std.specs.Ordering.{ordering_reverse, is_eq}
 use Rattle.std.specs.Str.{chars}
-use Rattle.fsrm_model.specs.Name.{folded, same_name, name_before, name_cmp}
-use Rattle.fsrm_base.proofs.TestLaws.{not_true, eq_is, lt_is, is_apart}
+use Rattle.fsrm_model.specs.Name.{folded, same_name, name_before}
+use Rattle.fsrm_base.proofs.TestLaws.{not_true, eq_is, lt_is}
 
 -- names that are one have one folding
 pub same_folded : (a b : List ℕ) → same_name a b ≡ true → folded a ≡ folded b

@@ -8,7 +8,7 @@ use Rattle.fsrm_model.specs.declared.row.NodeRow.{NodeRow}
 use Rattle.fsrm_base.specs.Keyed.{is_ascending}
 use Rattle.fsrm_model.specs.Tree.{number, node_of, children}
 use Rattle.block_list.specs.declared.place.Place.{Place}
-use Rattle.block_list.specs.Places.{IsEntry, IsGap, index_of}
+use Rattle.block_list.specs.Places.{index_of}
 use Rattle.block_list.specs.Runs.{entries_of, run_at, start_of}
 use Rattle.block_list.proofs.Joined.{run_within}
 use Rattle.volume_tree.specs.Kept.{IsOrder, IsPlace, IsFloor, IsLeft, is_before, numbers_from}

@@ -1,39 +1,41 @@
-use Rattle.std.proofs.Common.{sym, arith}
-use Rattle.fsrm_model.proofs.nodes.ClimbRows.{passed_none}
-use Rattle.fsrm_model.proofs.nodes.Climbs.{under_own}
+use Rattle.std.proofs.Common.{ℕ, List, length, refl, sym, ◌∙◌, ap, arith}
+use Rattle.fsrm_base.specs.Numbers.{is_in}
+use Rattle.fsrm_base.proofs.ChangedRows.{changed_rows, changed_none, changed_first}
 use Rattle.quota_usage.specs.Climb.{amended_counter}
 use Rattle.quota_usage.specs.Counters.{counted}
-use Rattle.quota_usage.proofs.ClimbLaws.{step_up, passed_fits, passed_up, passed_all}
+use Rattle.quota_usage.proofs.ClimbLaws.{fits_first, fits_rest}
 use Rattle.quota_usage.proofs.climb.climb.Goals as goal
 
 pub loop-at-init : goal.loop-at-init
-loop-at-init g c = record {
-  there = c.requires.there;
-  on = under_own c.args.tree.now.nodes c.args.start;
-  made = sym (passed_none counted c.args.tree.now.nodes c.args.start (amended_counter c.args.minus c.args.plus) c.args.counters.now);
-  looks = omega arith;
-}
+loop-at-init g c =
+    let is = c.way_up-way.ensures in
+    record {
+      fits = record { fits = λ folder bytes on used. c.requires.fits.fits folder bytes (sym (ap (λ (ns : List ℕ). is_in ns folder) is) ∙ on) used };
+      made = ap (λ (ns : List ℕ). changed_rows counted (amended_counter c.args.minus c.args.plus) ns c.args.counters.now) is;
+      looks = omega (arith, ap length is);
+    }
 
 pub amend-requires : goal.amend-requires
 amend-requires g c =
-    passed_fits c.args.tree.now.nodes c.args.start c.loop-at.at c.args.minus c.args.plus c.args.counters.now c.loop-at.counters c.loop-at.invariant.made c.loop-at.invariant.on c.requires.fits
-
-pub returns-then-at-eq0-clause-made : goal.returns-then-at-eq0-clause-made
-returns-then-at-eq0-clause-made g c =
-    passed_all c.args.tree.now.nodes c.args.start c.loop-at.at c.args.minus c.args.plus c.args.counters.now c.loop-at.counters _ c.loop-at.invariant.on c.if-at-eq0.true c.loop-at.invariant.made c.amend.ensures
-
-pub loop-at-smaller : goal.loop-at-smaller
-loop-at-smaller g c =
-    let step = step_up c.args.tree.now.nodes c.requires.tree c.loop-at.at c.parent-at.result c.loop-at.invariant.there c.if-at-eq0.false c.parent-at.ensures.value in
-    omega (arith, step.lower)
+    fits_first c.loop-at.counters c.loop-at.way c.next.new.self c.in-Some.at c.args.minus c.args.plus c.in-Some.ensures.some c.loop-at.invariant.fits
 
 pub loop-at-preserved : goal.loop-at-preserved
 loop-at-preserved g c =
-    let nodes = c.args.tree.now.nodes in
-    let step = step_up nodes c.requires.tree c.loop-at.at c.parent-at.result c.loop-at.invariant.there c.if-at-eq0.false c.parent-at.ensures.value in
+    let l = c.loop-at in
+    let rest = c.next.new.self in
+    let is = c.in-Some.ensures.some in
+    let change = amended_counter c.args.minus c.args.plus in
     record {
-      there = step.there;
-      on = step.on c.args.start c.requires.there c.loop-at.invariant.on;
-      made = passed_up nodes c.requires.tree c.args.start c.loop-at.at c.parent-at.result c.args.minus c.args.plus c.args.counters.now c.loop-at.counters _ c.loop-at.invariant.there c.loop-at.invariant.on c.if-at-eq0.false c.parent-at.ensures.value c.loop-at.invariant.made c.amend.ensures;
-      looks = omega (arith, step.lower, c.loop-at.invariant.looks, c.parent-at.ensures.count);
+      fits = fits_rest l.counters c.amend.new.self l.way rest c.in-Some.at c.args.minus c.args.plus is c.in-Some.ensures.apart c.amend.ensures l.invariant.fits;
+      made =
+          ap (changed_rows counted change rest) c.amend.ensures
+          ∙ (changed_first counted change (λ r. refl) c.in-Some.at rest c.in-Some.ensures.apart l.counters
+          ∙ (sym (ap (λ (ns : List ℕ). changed_rows counted change ns l.counters) is) ∙ l.invariant.made));
+      looks = omega (arith, c.in-Some.ensures.count, l.invariant.looks);
     }
+
+pub returns-clause-made : goal.returns-clause-made
+returns-clause-made g c =
+    let l = c.loop-at in
+    let change = amended_counter c.args.minus c.args.plus in
+    sym (ap (λ (ns : List ℕ). changed_rows counted change ns l.counters) c.in_default.ensures.none ∙ changed_none counted change l.counters) ∙ l.invariant.made

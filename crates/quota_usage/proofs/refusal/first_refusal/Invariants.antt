@@ -1,16 +1,16 @@
-use Rattle.std.proofs.Common.{◌≡◌, ℕ, ◌+◌, ◌≤◌, length, true, false, None}
-use Rattle.fsrm_base.specs.Keyed.{has_row}
-use Rattle.fsrm_model.specs.Tree.{number, chain, is_under}
+use Rattle.std.proofs.Common.{◌≡◌, ◌+◌, length}
+use Rattle.fsrm_model.specs.Tree.{chain}
 use Rattle.quota_usage.specs.Climb.{refusal_of}
+use Rattle.quota_usage.proofs.ClimbLaws.{FitAll, first_in}
 use Rattle.quota_usage.proofs.refusal.first_refusal.Given as goal
 
-abbrev pub invariant-loop-refusal : goal.invariant-loop-refusal
-invariant-loop-refusal g l = record {
-  there : has_row number l.at l.tree.nodes ≡ true;
-  on : is_under l.tree.nodes l.at l.start ≡ true;
-  below : (f : ℕ) → is_under l.tree.nodes f l.start ≡ true → is_under l.tree.nodes f l.at ≡ false → refusal_of l.objects.quotas l.counters l.minus l.plus f ≡ None;
-  looks : l.steps + length (chain l.tree.nodes l.at) ≤ l.fn.steps + length (chain l.tree.nodes l.start);
+-- the first refusal on what is left of the way is that on all of it
+abbrev pub invariant-loop-at : goal.invariant-loop-at
+invariant-loop-at g l = record {
+  fits : FitAll l.counters l.way l.minus l.plus;
+  first : first_in (refusal_of l.objects.quotas l.counters l.minus l.plus) l.way ≡ first_in (refusal_of l.objects.quotas l.counters l.minus l.plus) (chain l.tree.nodes l.start);
+  looks : l.steps + length l.way ≡ l.fn.steps + length (chain l.tree.nodes l.start);
 }
 
-abbrev pub decreases-loop-refusal : goal.decreases-loop-refusal
-decreases-loop-refusal g l = length (chain l.tree.nodes l.at)
+abbrev pub decreases-loop-at : goal.decreases-loop-at
+decreases-loop-at g l = length l.way
