@@ -56,6 +56,7 @@ pub mod PathNames
 pub mod Words
 pub mod GroupWords
 pub mod TemplateWords
+pub mod ValueForms
 pub mod Options
 pub mod Tools
 pub mod Line

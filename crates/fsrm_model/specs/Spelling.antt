@@ -1,5 +1,5 @@
 -- Which lines spell which commands, apart from any reader.
-use Rattle.std.specs.Prelude.{◌≡◌, ℕ, ◌*◌, ◌≤◌, ◌<◌, ◌⊎◌, List, [], ◌∷◌, ◌++◌, codes, count_by, length, Bool, true, false, ℤ, pos, negsuc, Some, None}
+use Rattle.std.specs.Prelude.{◌≡◌, ℕ, ◌*◌, ◌≤◌, ◌<◌, ◌⊎◌, List, [], ◌∷◌, ◌++◌, codes, length, Bool, true, false, ℤ, pos, negsuc, Some, None}
 use Rattle.std.specs.Char.{is_ascii_digit}
 use Rattle.std.specs.List.{list_all, list_any, join_with_byte}
 use Rattle.std.specs.Str.{is_utf8, str_eq_ignore_ascii_case}
@@ -12,9 +12,10 @@ use Rattle.fsrm_model.specs.declared.command.FileOp.{FileOp}
 use Rattle.fsrm_model.specs.declared.command.FileOp.TheVariants.{Mkdir, Create, Resize, Touch, Move, Remove}
 use Rattle.fsrm_model.specs.declared.row.Action.{Action}
 use Rattle.fsrm_model.specs.ActionWords.{kind_word}
-use Rattle.fsrm_model.specs.Limits.{latest_moment, longest_file, longest_line, last_owner, most_visits, greatest_percent, most_excluded, most_minutes, most_patterns}
+use Rattle.fsrm_model.specs.Limits.{latest_moment, longest_file, longest_line, last_owner, most_visits, greatest_percent, most_minutes, most_patterns}
 use Rattle.fsrm_model.specs.Name.{is_name}
-use Rattle.fsrm_model.specs.Options.{Key, TheExclusion, Given, PathIs, LimitIs, TypeIs, StatusIs, RemovalIs, PercentIs, NoticeIs, TemplateIs, SourceIs, UpdateIs, ExclusionIs, RunLimitIs, GroupIs, MembersAre, NonMembersAre, ModeIs, GroupRemovalIs, GroupAdditionIs, ScreenNoticeIs, key_of, may_repeat, is_of, is_colon, key_named}
+use Rattle.fsrm_model.specs.ValueForms.{ValueForm, PathForm, LimitForm, NumberForm, ChoiceForm, UpdateForm, ObjectForm, NameForm, MembersForm, NonMembersForm, NoticeForm, ActionForm, Value, PathValue, NumberValue, ChoiceValue, UpdateValue, TextValue, TextsValue, NoticeValue, ActionValue}
+use Rattle.fsrm_model.specs.Options.{Times, Once, Repeated, AtMost, Key, Given, times_in, is_colon, key_named}
 use Rattle.fsrm_model.specs.Patterns.{is_object_name, is_pattern}
 use Rattle.fsrm_model.specs.Quota.{is_limit}
 use Rattle.fsrm_model.specs.Reading.{is_number, unit_bytes}
@@ -79,7 +80,9 @@ pub record WritesPath (text : List ℕ) (path : List (List ℕ)) : Type 0 where
   pub each : list_all is_name path ≡ true
   pub volume : List ℕ
   pub volume_is : (volume ≡ codes "D:\\") ⊎ (volume ≡ codes "d:\\")
-  pub names : (text ≡ volume ++ join_with_byte 92 path) ⊎ ((0 < length path) × (text ≡ volume ++ (join_with_byte 92 path ++ 92 ∷ [])))
+  pub names :
+      (text ≡ volume ++ join_with_byte 92 path)
+      ⊎ ((0 < length path) × (text ≡ volume ++ (join_with_byte 92 path ++ 92 ∷ [])))
 
 -- a name, in letters of either case
 abbrev pub IsNamed : List ℕ → List ℕ → Type 0
@@ -97,15 +100,10 @@ pub record WritesLimit (text : List ℕ) (limit : ℕ) : Type 0 where
   pub value : digits_value 10 digits * bytes ≡ limit
   pub legal : is_limit limit ≡ true
 
--- hard, or soft
-abbrev pub WritesType : List ℕ → Bool → Type 0
-WritesType text true = IsNamed (codes "hard") text
-WritesType text false = IsNamed (codes "soft") text
-
--- enabled, or disabled
-abbrev pub WritesStatus : List ℕ → Bool → Type 0
-WritesStatus text true = IsNamed (codes "enabled") text
-WritesStatus text false = IsNamed (codes "disabled") text
+-- one of two words, in letters of either case
+abbrev pub WritesChoice : List ℕ → List ℕ → List ℕ → Bool → Type 0
+WritesChoice first second text true = IsNamed first text
+WritesChoice first second text false = (str_eq_ignore_ascii_case first text ≡ false) × IsNamed second text
 
 -- a number of minutes, or -1
 abbrev pub WritesMinutes : List ℕ → ℤ → Type 0
@@ -147,38 +145,26 @@ pub record WritesPatterns (least : ℕ) (text : List ℕ) (patterns : List (List
   pub some : least ≤ length patterns
   pub few : length patterns ≤ most_patterns
 
--- active or passive
-abbrev pub WritesMode : List ℕ → Bool → Type 0
-WritesMode text true = IsNamed (codes "active") text
-WritesMode text false = IsNamed (codes "passive") text
-
--- a text writes an option's value
-abbrev pub WritesValue : List ℕ → Given → Type 0
-WritesValue text (PathIs path) = WritesPath text path
-WritesValue text (LimitIs limit) = WritesLimit text limit
-WritesValue text (TypeIs enforce) = WritesType text enforce
-WritesValue text (StatusIs enabled) = WritesStatus text enabled
-WritesValue text (RemovalIs percent) = Writes 1 greatest_percent text percent
-WritesValue text (PercentIs percent) = Writes 1 greatest_percent text percent
-WritesValue text (NoticeIs notice) = WritesNotice text notice
-WritesValue text (TemplateIs name) = WritesObject text name
-WritesValue text (SourceIs name) = WritesObject text name
-WritesValue text (UpdateIs update) = IsNamed (update_word update) text
-WritesValue text (ExclusionIs name) = WritesName text name
-WritesValue text (RunLimitIs minutes) = Writes 0 most_minutes text minutes
-WritesValue text (GroupIs name) = WritesObject text name
-WritesValue text (MembersAre patterns) = WritesPatterns 1 text patterns
-WritesValue text (NonMembersAre patterns) = WritesPatterns 0 text patterns
-WritesValue text (ModeIs active) = WritesMode text active
-WritesValue text (GroupRemovalIs name) = WritesObject text name
-WritesValue text (GroupAdditionIs name) = WritesObject text name
-WritesValue text (ScreenNoticeIs action) = WritesAction text action
+-- a text writes a value of a form
+abbrev pub WritesValue : ValueForm → List ℕ → Value → Type 0
+WritesValue PathForm text (PathValue path) = WritesPath text path
+WritesValue LimitForm text (NumberValue limit) = WritesLimit text limit
+WritesValue (NumberForm low high) text (NumberValue n) = Writes low high text n
+WritesValue (ChoiceForm first second) text (ChoiceValue picked) = WritesChoice first second text picked
+WritesValue UpdateForm text (UpdateValue update) = IsNamed (update_word update) text
+WritesValue ObjectForm text (TextValue name) = WritesObject text name
+WritesValue NameForm text (TextValue name) = WritesName text name
+WritesValue MembersForm text (TextsValue patterns) = WritesPatterns 1 text patterns
+WritesValue NonMembersForm text (TextsValue patterns) = WritesPatterns 0 text patterns
+WritesValue NoticeForm text (NoticeValue notice) = WritesNotice text notice
+WritesValue ActionForm text (ActionValue action) = WritesAction text action
+WritesValue form text other = ⊥
 
 -- a word is the name of an option that a command takes, a colon, and the option's value
 abbrev pub SpellsOption : List Key → List ℕ → Given → Type 0
 SpellsOption keys word given =
-    (name value : List ℕ) × (list_any is_colon name ≡ false) × (word ≡ name ++ 58 ∷ value) × (key_named keys name ≡ Some (key_of given))
-    × WritesValue value given
+    (name value : List ℕ) × (list_any is_colon name ≡ false) × (word ≡ name ++ 58 ∷ value)
+    × (key_named keys name ≡ Some given.key) × WritesValue given.key.form value given.value
 
 abbrev pub SpellsEach : List Key → List (List ℕ) → List Given → Type 0
 SpellsEach keys [] [] = Unit {0}
@@ -186,15 +172,18 @@ SpellsEach keys (word ∷ words) (given ∷ more) = SpellsOption keys word given
 SpellsEach keys [] (given ∷ more) = ⊥
 SpellsEach keys (word ∷ words) [] = ⊥
 
--- no option is given more than once, unless it may repeat
-abbrev pub AreOnce : List Given → Type 0
-AreOnce given = (key : Key) → may_repeat key ≡ false → count_by (is_of key) given ≤ 1
+-- no option is given more often than it may be
+abbrev pub IsAllowed : Times → ℕ → Type 0
+IsAllowed Once n = n ≤ 1
+IsAllowed Repeated n = Unit {0}
+IsAllowed (AtMost most) n = n ≤ most
 
--- and names are excluded 32 times at most
+abbrev pub AreAllowed : List Given → Type 0
+AreAllowed given = (key : Key) → IsAllowed key.times (times_in key given)
+
 pub record SpellsOptions (keys : List Key) (words : List (List ℕ)) (given : List Given) : Type 0 where
   pub each : SpellsEach keys words given
-  pub once : AreOnce given
-  pub few : count_by (is_of TheExclusion) given ≤ most_excluded
+  pub allowed : AreAllowed given
 
 -- words are the names of a tool, of what it manages and of a command, and the command's options, which ask for a deed
 pub record SpellsTool (words : List (List ℕ)) (deed : Deed) : Type 0 where
@@ -216,21 +205,28 @@ pub record SpellsTool (words : List (List ℕ)) (deed : Deed) : Type 0 where
 -- these words are a name and so many values
 abbrev pub SpellsOp : List (List ℕ) → FileOp → Type 0
 SpellsOp words (Mkdir path owner) =
-    (name a b : List ℕ) × (words ≡ name ∷ a ∷ b ∷ []) × IsNamed (codes "mkdir") name × WritesPath a path × Writes 1 last_owner b owner
+    (name a b : List ℕ) × (words ≡ name ∷ a ∷ b ∷ []) × IsNamed (codes "mkdir") name
+    × WritesPath a path × Writes 1 last_owner b owner
 SpellsOp words (Create path bytes owner) =
     (name a b c : List ℕ) × (words ≡ name ∷ a ∷ b ∷ c ∷ []) × IsNamed (codes "create") name × WritesPath a path
     × Writes 0 longest_file b bytes × Writes 1 last_owner c owner
 SpellsOp words (Resize path bytes) =
-    (name a b : List ℕ) × (words ≡ name ∷ a ∷ b ∷ []) × IsNamed (codes "resize") name × WritesPath a path × Writes 0 longest_file b bytes
-SpellsOp words (Touch path) = (name a : List ℕ) × (words ≡ name ∷ a ∷ []) × IsNamed (codes "touch") name × WritesPath a path
+    (name a b : List ℕ) × (words ≡ name ∷ a ∷ b ∷ []) × IsNamed (codes "resize") name
+    × WritesPath a path × Writes 0 longest_file b bytes
+SpellsOp words (Touch path) =
+    (name a : List ℕ) × (words ≡ name ∷ a ∷ []) × IsNamed (codes "touch") name × WritesPath a path
 SpellsOp words (Move from to) =
-    (name a b : List ℕ) × (words ≡ name ∷ a ∷ b ∷ []) × IsNamed (codes "move") name × WritesPath a from × WritesPath b to
-SpellsOp words (Remove path) = (name a : List ℕ) × (words ≡ name ∷ a ∷ []) × IsNamed (codes "remove") name × WritesPath a path
+    (name a b : List ℕ) × (words ≡ name ∷ a ∷ b ∷ []) × IsNamed (codes "move") name
+    × WritesPath a from × WritesPath b to
+SpellsOp words (Remove path) =
+    (name a : List ℕ) × (words ≡ name ∷ a ∷ []) × IsNamed (codes "remove") name × WritesPath a path
 
 abbrev pub SpellsPlaced : List (List ℕ) → Deed → Type 0
 SpellsPlaced words (File op) = SpellsOp words op
-SpellsPlaced words (Usage path) = (name a : List ℕ) × (words ≡ name ∷ a ∷ []) × IsNamed (codes "usage") name × WritesPath a path
-SpellsPlaced words (Step n) = (name a : List ℕ) × (words ≡ name ∷ a ∷ []) × IsNamed (codes "step") name × Writes 1 most_visits a n
+SpellsPlaced words (Usage path) =
+    (name a : List ℕ) × (words ≡ name ∷ a ∷ []) × IsNamed (codes "usage") name × WritesPath a path
+SpellsPlaced words (Step n) =
+    (name a : List ℕ) × (words ≡ name ∷ a ∷ []) × IsNamed (codes "step") name × Writes 1 most_visits a n
 SpellsPlaced words other = ⊥
 
 -- words have their places, or are those of a tool

@@ -8,15 +8,8 @@ pub mod QuoteCounts
 pub mod Lines
 pub mod LimitWords
 pub mod OptionLaws
-pub mod PathOption
-pub mod BaseOptions
-pub mod QuotaOptions
-pub mod TemplateOptions
-pub mod AutoOptions
-pub mod RunLimitOption
-pub mod GroupOptions
 pub mod NamedWords
 pub mod Taken
 pub mod CommaLaws
 pub mod PatternLaws
-pub mod ScreenOptions
+pub mod NeededOptions

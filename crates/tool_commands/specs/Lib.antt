@@ -2,13 +2,7 @@ pub mod LineFaults
 pub mod Lengths
 pub mod Taking
 pub mod OptionWords
+pub mod KeptLaws
 pub mod PathOption
-pub mod BaseOptions
-pub mod QuotaOptions
-pub mod TemplateOptions
-pub mod AutoOptions
-pub mod RunLimitOption
-pub mod GroupOptions
-pub mod ScreenOptions
 pub mod ActionParts
 pub mod Numerals

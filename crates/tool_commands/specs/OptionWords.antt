@@ -1,37 +1,44 @@
 -- What options come to, as lines have them.
-use Rattle.std.specs.Prelude.{◌≡◌, ℕ, nat_le, Bool, true, false, List, [], ◌∷◌, ◌++◌, length, Option, Some, None, Result, Ok, Err}
-use Rattle.std.specs.List.{after_first}
-use Rattle.fsrm_model.specs.declared.command.Refusal.TheVariants.{BadLine, OutOfRange}
-use Rattle.fsrm_model.specs.Limits.{most_excluded}
-use Rattle.fsrm_model.specs.Options.{Key, Given, word_key, is_colon, with_option}
+use Rattle.std.specs.Prelude.{◌≡◌, ℕ, ◌==◌, Bool, true, false, List, length, Option, Some, None, is_none, Result, Ok, Err}
+use Rattle.std.specs.List.{list_any, after_first}
+use Rattle.fsrm_model.specs.declared.command.Refusal.TheVariants.{BadLine}
+use Rattle.fsrm_model.specs.ValueForms.{Value}
+use Rattle.fsrm_model.specs.Options.{Key, Given, is_same, one, each_of, times_in, key_named, word_key, is_colon, with_option}
 use Rattle.fsrm_model.specs.Reading.{Read, ◌>>=◌, known}
 use Rattle.fsrm_model.specs.Words.{Word as LineWord}
 use Rattle.tool_commands.specs.declared.reading.LineFault.{LineFault}
-use Rattle.tool_commands.specs.declared.reading.LineFault.TheVariants.{Refused, NoMemory}
+use Rattle.tool_commands.specs.declared.reading.LineFault.TheVariants.{Refused}
 use Rattle.tool_commands.specs.LineFaults.{Reads}
 
--- a value is kept if none was kept before, and else refused before it is judged
-abbrev pub KeepsOnce : {X : Type 0} → Result (Unit {0}) LineFault → Option X → Option X → ℕ → Result X LineFault → Type 0
-KeepsOnce result (Some old) new column value = result ≡ Err (Refused (BadLine column))
-KeepsOnce result None new column (Ok x) = (result ≡ Ok tt) × (new ≡ Some x)
-KeepsOnce result None new column (Err fault) = result ≡ Err fault
+-- whether an option is one of these
+abbrev pub in_keys : List Key → Key → Bool
+in_keys keys key = list_any (λ (other : Key). is_same other key) keys
 
--- one more value is kept, after those that were
-abbrev pub KeepsMore : {X : Type 0} → Result (Unit {0}) LineFault → List X → List X → Result X LineFault → Type 0
-KeepsMore (Ok done) old new (Ok x) = new ≡ old ++ x ∷ []
-KeepsMore (Ok done) old new (Err fault) = ⊥
-KeepsMore (Err fault) old new (Ok x) = fault ≡ NoMemory
-KeepsMore (Err fault) old new (Err other) = fault ≡ other
+-- a value of a form is read, unless memory runs out
+abbrev pub ReadsValue : {X : Type 0} → (Value → Option X) → Result X LineFault → Read Value → Type 0
+ReadsValue of (Ok x) read = (value : Value) × (read ≡ Ok value) × (of value ≡ Some x)
+ReadsValue of (Err fault) read = Reads {X = Value} (Err fault) read
 
--- the same; if the list is full the value is refused
-abbrev pub KeepsRoom : {X : Type 0} → Bool → Result (Unit {0}) LineFault → List X → List X → X → Type 0
-KeepsRoom true result old new x = result ≡ Err (Refused OutOfRange)
-KeepsRoom false result old new x = KeepsMore result old new (Ok x)
+-- the value that is held of an option that may be given once
+pub record HoldsOnce {X : Type 0} (of : Value → Option X) (key : Key) (held : Option X) (given : List Given) : Type 0 where
+  pub value : held ≡ one of key given
+  pub none : is_none held ≡ (times_in key given == 0)
 
--- one more value is kept, of 32 at most. That there are too many is judged after the value
-abbrev pub KeepsFew : {X : Type 0} → Result (Unit {0}) LineFault → List X → List X → Result X LineFault → Type 0
-KeepsFew result old new (Ok x) = KeepsRoom (nat_le most_excluded (length old)) result old new x
-KeepsFew result old new (Err fault) = result ≡ Err fault
+-- the values of one that may be given more often
+pub record HoldsEach {X : Type 0} (of : Value → Option X) (key : Key) (held : List X) (given : List Given) : Type 0 where
+  pub values : held ≡ each_of of key given
+  pub count : length held ≡ times_in key given
+
+-- What a word of this name, column and value adds to the values that are held: one more of these options, unless memory
+-- runs out, or nothing if it is none of them
+abbrev pub Adds : {V : Type 0} → (V → List Given → Type 0) → Result Bool LineFault → V → V → List Key → List ℕ → ℕ → List ℕ
+    → List Given → Type 0
+Adds holds (Ok true) old new keys name column text given =
+    (key : Key) × (more : List Given) × (key_named keys name ≡ Some key)
+    × (with_option key column text given ≡ Ok more) × holds new more
+Adds holds (Ok false) old new keys name column text given = (key_named keys name ≡ None) × (new ≡ old)
+Adds holds (Err fault) old new keys name column text given =
+    (key : Key) × (key_named keys name ≡ Some key) × Reads {X = List Given} (Err fault) (with_option key column text given)
 
 -- one more option, of those that a command takes
 abbrev pub option_word : List Key → LineWord → List Given → Read (List Given)
@@ -39,12 +46,18 @@ option_word keys word given = do
   key ← known (BadLine word.column) (word_key keys word.text)
   with_option key word.column (after_first is_colon word.text) given
 
--- what is given then, unless memory runs out. What holds the values is of the family that the command belongs to
-abbrev pub Adds : {V : Type 0} → (V → List Given → Type 0) → Result (Unit {0}) LineFault → V → Read (List Given) → Type 0
-Adds holds (Ok done) new read = (given : List Given) × (read ≡ Ok given) × holds new given
-Adds holds (Err fault) new read = Reads {X = List Given} (Err fault) read
+-- what is held after it, unless memory runs out
+abbrev pub AddsWord : {V : Type 0} → (V → List Given → Type 0) → Result (Unit {0}) LineFault → V → Read (List Given)
+    → Type 0
+AddsWord holds (Ok done) new read = (given : List Given) × (read ≡ Ok given) × holds new given
+AddsWord holds (Err fault) new read = Reads {X = List Given} (Err fault) read
 
--- what is given in all, unless memory runs out
+-- what is held in the end, unless memory runs out
 abbrev pub ReadsGiven : {V : Type 0} → (V → List Given → Type 0) → Result V LineFault → Read (List Given) → Type 0
 ReadsGiven holds (Ok held) read = (given : List Given) × (read ≡ Ok given) × holds held given
 ReadsGiven holds (Err fault) read = Reads {X = List Given} (Err fault) read
+
+-- a value that is there, or the refusal of a line that ends before this column
+abbrev pub IsRequired : {X : Type 0} → Result X LineFault → Option X → ℕ → Type 0
+IsRequired (Ok x) value end = value ≡ Some x
+IsRequired (Err fault) value end = (value ≡ None) × (fault ≡ Refused (BadLine end))

@@ -2,16 +2,10 @@
 use Rattle.std.specs.Prelude.{◌≡◌, ℕ, List, Result, Ok, Err}
 use Rattle.fsrm_model.specs.declared.command.Deed.{Deed}
 use Rattle.fsrm_model.specs.Line.{option_words}
-use Rattle.fsrm_model.specs.Options.{Given, path_in, one}
 use Rattle.fsrm_model.specs.Tools.{of_path}
 use Rattle.fsrm_model.specs.Words.{Word}
 use Rattle.tool_commands.specs.declared.reading.LineFault.{LineFault}
 use Rattle.tool_commands.specs.LineFaults.{Reads}
-use Rattle.tool_commands.specs.declared.paths.PathOption.{PathOption}
-
--- the value of the option, if it was given
-pub record HoldsPath (held : PathOption) (given : List Given) : Type 0 where
-  pub path : held.path ≡ one path_in given
 
 -- words give a path, of which a command may make any deed that takes a path and nothing else
 abbrev pub ReadsPath : Result (List (List ℕ)) LineFault → ℕ → List Word → Type 0

@@ -6,30 +6,26 @@ ghost use Rattle.fsrm_model.specs.Tools.{except_add, except_commands};
 ghost use Rattle.tool_commands.specs.LineFaults.{Reads};
 ghost use Rattle.tool_commands.specs.Taking.{left, end};
 
-use crate::options::read_options;
+use crate::keys::{ADD_FILEGROUP, PATH};
+use crate::options::{read_options, required};
 use crate::paths::path_alone;
 use crate::reading::LineFault;
-use crate::screens::{ScreenKey, ScreenOptions};
 use crate::values::is_named;
 use crate::words::Words;
 use fsrm_model::{Boxed, Deed, ExceptionDeed};
 use std::alloc::Global;
 
-/// What may be given of an exception.
-const ADD_KEYS: [ScreenKey; 2] = [ScreenKey::Path, ScreenKey::AddGroup];
-
 fn add(alloc: Global, words: &mut Words<'_>) -> Result<Deed, LineFault>
     ensures { Reads result (option_words except_add (end words.old) (left words.old)) }
 {
-    let given: ScreenOptions = read_options(alloc, &ADD_KEYS, words)?;
-    let missing = LineFault::bad_line(words.end());
-    let path = given.path.ok_or(missing)?;
-    if given.added_groups.is_empty() {
-        return Err(missing);
+    let (path, add_filegroup) = read_options(alloc, (PATH, ADD_FILEGROUP), words)?;
+    let path = required(path, words)?;
+    if add_filegroup.is_empty() {
+        return Err(LineFault::bad_line(words.end()));
     }
     let deed = ExceptionDeed::Add {
         path,
-        add_filegroup: given.added_groups,
+        add_filegroup,
     };
     Ok(Deed::Exception(Boxed::new(alloc, deed)?))
 }

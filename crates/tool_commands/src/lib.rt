@@ -7,10 +7,11 @@
 mod actions;
 mod admin;
 mod autos;
-mod base;
 mod commands;
 mod exceptions;
+mod forms;
 mod groups;
+mod keys;
 mod limits;
 mod options;
 mod paths;

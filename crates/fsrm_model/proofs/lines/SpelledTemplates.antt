@@ -1,6 +1,6 @@
 -- A line that spells a command of templates or of auto-apply quotas spells a valid one.
-use Rattle.std.proofs.Common.{◌≡◌, ℕ, ◌+◌, ◌≤◌, List, [], ◌∷◌, true, length, refl, sym, ◌∙◌, ap, subst, arith}
-use Rattle.std.specs.Prelude.{◌&&◌, cond, count_by, is_some, codes, sum_by, nat_le, unwrap_or, Option, Some, None}
+use Rattle.std.proofs.Common.{◌≡◌, ℕ, ◌+◌, ◌≤◌, List, [], ◌∷◌, Bool, true, false, length, refl, ap, subst, arith}
+use Rattle.std.specs.Prelude.{◌&&◌, cond, if◌then◌else◌, codes, sum_by, nat_le, unwrap_or, Option, Some, None}
 use Rattle.std.specs.List.{AllByRecursion, cons_option, list_all}
 use Rattle.std.specs.Option.{option_map_or}
 use Rattle.std.proofs.lemmas.Bool.{le-leb}
@@ -13,66 +13,81 @@ use Rattle.fsrm_model.specs.declared.command.Update.TheVariants.{Keep}
 use Rattle.fsrm_model.specs.Entry.{number_bytes, text_bytes, notice_bytes, choice_bytes}
 use Rattle.fsrm_model.specs.Limits.{most_excluded}
 use Rattle.fsrm_model.specs.Name.{is_name}
-use Rattle.fsrm_model.specs.Options.{TheExclusion, Given, TemplateIs, ExclusionIs, path_in, limit_in, removal_in, percent_in, notice_in, template_in, source_in, exclusion_in, is_of, one, each_of, type_in, update_in}
+use Rattle.fsrm_model.specs.ValueForms.{Value, path_of, number_of, choice_of, update_of, text_of, notice_of}
+use Rattle.fsrm_model.specs.Options.{Key, path_key, limit_key, quota_type_key, remove_threshold_key, add_threshold_key, add_notification_key, template_key, source_template_key, update_derived_key, exclude_key, Given, is_of, one, each_of, times_in}
 use Rattle.fsrm_model.specs.Patterns.{is_object_name}
 use Rattle.fsrm_model.specs.Quota.{is_limit}
 use Rattle.fsrm_model.specs.Tools.{needs, template_add, template_modify, template_delete, template_commands, auto_add, auto_commands}
 use Rattle.fsrm_model.specs.Thresholds.{is_percent, is_notice}
 use Rattle.fsrm_model.specs.Valued.{is_path}
 use Rattle.fsrm_base.proofs.TestLaws.{both_true}
-use Rattle.fsrm_model.proofs.lines.SpelledOptions.{Path, IsSound, one_true, IsSoundGiven, AreSound, one_sound, each_of_sound, all_weights, has_path, given_limit, given_removals, given_percents, given_notices, limit_or, given_source, needed, IsSoundCommand, path_sound_command, alone_sound, optional_fits}
+use Rattle.fsrm_model.proofs.lines.SoundValues.{Path, IsSoundGiven}
+use Rattle.fsrm_model.proofs.lines.GivenOptions.{AreSound, text_kind, one_sound, each_of_sound, shares_fit, one_fits, each_fits, text_weighs, number_weighs, notice_weighs}
+use Rattle.fsrm_model.proofs.lines.SpelledOptions.{IsSound, one_true, has_path, given_limit, given_removals, given_percents, given_notices, limit_or, given_source, needed, IsSoundCommand, path_sound_command, alone_sound, optional_fits}
 
 -- a template's name, and the bytes that are left for its thresholds
 record HasTemplate (L : ℕ) (given : List Given) (name : List ℕ) : Type 0 where
   named : is_object_name name ≡ true
-  bytes : text_bytes name + (sum_by (λ (n : ℕ). number_bytes) (each_of removal_in given) + (sum_by (λ (n : ℕ). number_bytes) (each_of percent_in given) + sum_by notice_bytes (each_of notice_in given))) ≤ L
+  bytes : text_bytes name + (sum_by (λ (n : ℕ). number_bytes) (each_of number_of remove_threshold_key given) + (sum_by (λ (n : ℕ). number_bytes) (each_of number_of add_threshold_key given) + sum_by notice_bytes (each_of notice_of add_notification_key given))) ≤ L
 
-has_template : (L : ℕ) (given : List Given) (name : List ℕ) → AreSound L given → one template_in given ≡ Some name → HasTemplate L given name
+has_template : (L : ℕ) (given : List Given) (name : List ℕ) → AreSound L given
+    → one text_of template_key given ≡ Some name → HasTemplate L given name
 has_template L given name s e =
-    let own : option_map_or text_bytes (one template_in given) 0 ≡ text_bytes name = ap (λ (o : Option (List ℕ)). option_map_or text_bytes o 0) e in
-    record { named = one_sound (λ (name : List ℕ). is_object_name name ≡ true) template_in by given name s.each e; bytes = omega (arith, all_weights given, own, s.bytes) }
-  where
-    by : (g : Given) (name : List ℕ) → IsSoundGiven g → template_in g ≡ Some name → is_object_name name ≡ true
-    by (TemplateIs own) name s e = let same : own ≡ name = cc e in subst (λ (n : List ℕ). is_object_name n ≡ true) same s
-    by other name s e = absurd (cc e)
+    let own : option_map_or text_bytes (one text_of template_key given) 0 ≡ text_bytes name = ap (λ (o : Option (List ℕ)). option_map_or text_bytes o 0) e in
+    record {
+      named = one_sound text_of text_kind template_key given name s.each e;
+      bytes =
+          omega (
+            arith,
+            own,
+            s.bytes,
+            shares_fit (template_key ∷ remove_threshold_key ∷ add_threshold_key ∷ add_notification_key ∷ []) given refl,
+            one_fits text_of template_key text_bytes (text_weighs template_key refl) given,
+            each_fits number_of remove_threshold_key (λ n. number_bytes) (number_weighs remove_threshold_key refl) given,
+            each_fits number_of add_threshold_key (λ n. number_bytes) (number_weighs add_threshold_key refl) given,
+            each_fits notice_of add_notification_key notice_bytes (notice_weighs add_notification_key refl) given,
+          );
+    }
 
 -- names that are excluded
-given_excluded : (given : List Given) → AllByRecursion IsSoundGiven given → list_all is_name (each_of exclusion_in given) ≡ true
-given_excluded given s = each_of_sound is_name exclusion_in by given s
+given_excluded : (given : List Given) → AllByRecursion IsSoundGiven given
+    → list_all is_name (each_of text_of exclude_key given) ≡ true
+given_excluded given s = each_of_sound is_name text_of text_kind exclude_key (λ x h. h) given s
+
+each_length : {X : Type 0} (of : Value → Option X) (key : Key) (given : List Given)
+    → length (each_of of key given) ≤ times_in key given
+each_length of key [] = omega arith
+each_length {X} of key (g ∷ given) =
+    omega (arith, sum_by-cons (λ (g : Given). cond (is_of key g) 1 0) g given, at (is_of key g) (of g.value) (each_length of key given))
   where
-    by : (g : Given) (name : List ℕ) → IsSoundGiven g → exclusion_in g ≡ Some name → is_name name ≡ true
-    by (ExclusionIs own) name s e = let same : own ≡ name = cc e in subst (λ (n : List ℕ). is_name n ≡ true) same s
-    by other name s e = absurd (cc e)
+    at : (b : Bool) (o : Option X) → length (each_of of key given) ≤ times_in key given
+        → length (cons_option (if b then o else None) (each_of of key given)) ≤ cond b 1 0 + times_in key given
+    at true None rest = omega (arith, rest)
+    at true (Some x) rest = omega (arith, rest)
+    at false o rest = omega (arith, rest)
 
-longer : {X : Type 0} (o : Option X) (xs : List X) → length (cons_option o xs) ≡ cond (is_some o) 1 0 + length xs
-longer None xs = omega arith
-longer (Some x) xs = omega arith
-
-excluded_length : (given : List Given) → length (each_of exclusion_in given) ≡ count_by (is_of TheExclusion) given
-excluded_length [] = refl
-excluded_length (g ∷ given) =
-    longer (exclusion_in g) (each_of exclusion_in given)
-    ∙ (ap (λ n. cond (is_of TheExclusion g) 1 0 + n) (excluded_length given) ∙ sym (sum_by-cons (λ (g : Given). cond (is_of TheExclusion g) 1 0) g given))
-
-excluded_few : (L : ℕ) (given : List Given) → AreSound L given → nat_le (length (each_of exclusion_in given)) most_excluded ≡ true
-excluded_few L given s = let few = s.few in le-leb (length (each_of exclusion_in given)) most_excluded (omega (arith, few, excluded_length given))
+excluded_few : (L : ℕ) (given : List Given) → AreSound L given
+    → nat_le (length (each_of text_of exclude_key given)) most_excluded ≡ true
+excluded_few L given s =
+    let few : times_in exclude_key given ≤ most_excluded = s.allowed exclude_key in
+    le-leb (length (each_of text_of exclude_key given)) most_excluded (omega (arith, few, each_length text_of exclude_key given))
 
 -- templates
 template_add_sound : IsSoundCommand (codes "add", template_add)
 template_add_sound =
     record {
       sound = λ L given d s h.
-          let percents = each_of percent_in given in
-          let notices = each_of notice_in given in
-          let make : List ℕ → ℕ → Deed = λ name limit. Template (TemplateAdd name limit (unwrap_or (one type_in given) true) percents notices) in
-          let name = needed template_in given (λ name. needs limit_in given (λ limit. Some (make name limit))) d h in
-          let limit = needed limit_in given (λ limit. Some (make name.0 limit)) d name.2 in
+          let percents = each_of number_of add_threshold_key given in
+          let notices = each_of notice_of add_notification_key given in
+          let make : List ℕ → ℕ → Deed = λ name limit. Template (TemplateAdd name limit (unwrap_or (one choice_of quota_type_key given) true) percents notices) in
+          let name = needed text_of template_key given (λ name. needs number_of limit_key given (λ limit. Some (make name limit))) d h in
+          let limit = needed number_of limit_key given (λ limit. Some (make name.0 limit)) d name.2 in
           let made : make name.0 limit.0 ≡ d = cc limit.2 in
           let t = has_template L given name.0 s name.1 in
           let marks = list_all is_percent percents && list_all is_notice notices in
           subst (IsSound L) made (record {
             valued = both_true (is_object_name name.0) (is_limit limit.0 && marks) t.named
-                (both_true (is_limit limit.0) marks (given_limit L given limit.0 s limit.1)
+                (both_true (is_limit limit.0) marks (given_limit given limit.0 s.each limit.1)
                 (both_true (list_all is_percent percents) (list_all is_notice notices) (given_percents given s.each) (given_notices given s.each)));
             bytes = omega (arith, t.bytes);
           });
@@ -82,21 +97,21 @@ template_modify_sound : IsSoundCommand (codes "modify", template_modify)
 template_modify_sound =
     record {
       sound = λ L given d s h.
-          let removed = each_of removal_in given in
-          let percents = each_of percent_in given in
-          let notices = each_of notice_in given in
-          let make : List ℕ → Deed = λ name. Template (TemplateModify name (one limit_in given) (one type_in given) removed percents notices (unwrap_or (one update_in given) Keep)) in
-          let name = needed template_in given (λ name. Some (make name)) d h in
+          let removed = each_of number_of remove_threshold_key given in
+          let percents = each_of number_of add_threshold_key given in
+          let notices = each_of notice_of add_notification_key given in
+          let make : List ℕ → Deed = λ name. Template (TemplateModify name (one number_of limit_key given) (one choice_of quota_type_key given) removed percents notices (unwrap_or (one update_of update_derived_key given) Keep)) in
+          let name = needed text_of template_key given (λ name. Some (make name)) d h in
           let made : make name.0 ≡ d = cc name.2 in
           let t = has_template L given name.0 s name.1 in
-          let size = option_map_or is_limit (one limit_in given) true in
+          let size = option_map_or is_limit (one number_of limit_key given) true in
           let marks = list_all is_percent percents && list_all is_notice notices in
           subst (IsSound L) made (record {
             valued = both_true (is_object_name name.0) (size && (list_all is_percent removed && marks)) t.named
-                (both_true size (list_all is_percent removed && marks) (limit_or L given (one limit_in given) s refl)
+                (both_true size (list_all is_percent removed && marks) (limit_or given s.each)
                 (both_true (list_all is_percent removed) marks (given_removals given s.each)
                 (both_true (list_all is_percent percents) (list_all is_notice notices) (given_percents given s.each) (given_notices given s.each))));
-            bytes = omega (arith, t.bytes, optional_fits number_bytes (one limit_in given), optional_fits choice_bytes (one type_in given));
+            bytes = omega (arith, t.bytes, optional_fits number_bytes (one number_of limit_key given), optional_fits choice_bytes (one choice_of quota_type_key given));
           });
     }
 
@@ -104,30 +119,32 @@ template_delete_sound : IsSoundCommand (codes "delete", template_delete)
 template_delete_sound =
     record {
       sound = λ L given d s h.
-          let name = needed template_in given (λ name. Some (Template (TemplateDelete name))) d h in
+          let name = needed text_of template_key given (λ name. Some (Template (TemplateDelete name))) d h in
           let made : Template (TemplateDelete name.0) ≡ d = cc name.2 in
           let t = has_template L given name.0 s name.1 in
           subst (IsSound L) made (record { valued = t.named; bytes = omega (arith, t.bytes) });
     }
 
 pub template_commands_sound : AllByRecursion IsSoundCommand template_commands
-template_commands_sound = (template_add_sound, (template_modify_sound, (template_delete_sound, (alone_sound (codes "list") (Template TemplateList) refl refl refl, tt))))
+template_commands_sound =
+    (template_add_sound, (template_modify_sound, (template_delete_sound, (alone_sound (codes "list") (Template TemplateList) refl refl refl, tt))))
 
 -- auto-apply quotas
 auto_add_sound : IsSoundCommand (codes "add", auto_add)
 auto_add_sound =
     record {
       sound = λ L given d s h.
-          let excluded = each_of exclusion_in given in
+          let excluded = each_of text_of exclude_key given in
           let make : Path → List ℕ → Deed = λ path name. Autoquota (AutoquotaAdd path name excluded) in
-          let path = needed path_in given (λ path. needs source_in given (λ name. Some (make path name))) d h in
-          let name = needed source_in given (λ name. Some (make path.0 name)) d path.2 in
+          let path = needed path_of path_key given (λ path. needs text_of source_template_key given (λ name. Some (make path name))) d h in
+          let name = needed text_of source_template_key given (λ name. Some (make path.0 name)) d path.2 in
           let made : make path.0 name.0 ≡ d = cc name.2 in
           let p = has_path L given path.0 s path.1 in
-          let own : option_map_or text_bytes (one source_in given) 0 ≡ text_bytes name.0 = ap (λ (o : Option (List ℕ)). option_map_or text_bytes o 0) name.1 in
+          let own : option_map_or text_bytes (one text_of source_template_key given) 0 ≡ text_bytes name.0 = ap (λ (o : Option (List ℕ)). option_map_or text_bytes o 0) name.1 in
           let few = nat_le (length excluded) most_excluded in
           subst (IsSound L) made (record {
-            valued = both_true (is_path path.0 && true) (is_object_name name.0 && (few && list_all is_name excluded)) (one_true (is_path path.0) p.named)
+            valued =
+                both_true (is_path path.0 && true) (is_object_name name.0 && (few && list_all is_name excluded)) (one_true (is_path path.0) p.named)
                 (both_true (is_object_name name.0) (few && list_all is_name excluded) (given_source given name.0 s.each name.1)
                 (both_true few (list_all is_name excluded) (excluded_few L given s) (given_excluded given s.each)));
             bytes = omega (arith, p.bytes, own);

@@ -1,4 +1,5 @@
--- A line spells only valid commands: their values have their forms and ranges, and an entry has few more bytes than the line.
+-- A line spells only valid commands: their values have their forms and ranges, and an entry has few more bytes than
+-- the line.
 use Rattle.std.proofs.Common.{◌≡◌, ℕ, ◌+◌, ◌≤◌, List, [], ◌∷◌, ◌++◌, Bool, true, false, length, refl, sym, ap, subst, inl, inr, arith}
 use Rattle.std.specs.Prelude.{◌&&◌, ◌||◌, is_some, if◌then◌else◌, codes, sum_by, nat_le, unwrap_or, Option, Some, None, option_map}
 use Rattle.std.specs.List.{AllByRecursion, list_all}
@@ -15,7 +16,8 @@ use Rattle.fsrm_model.specs.declared.command.QuotaDeed.TheVariants.{Add as Quota
 use Rattle.fsrm_model.specs.Commands.{paths, is_owner, is_length, kind, more_bytes}
 use Rattle.fsrm_model.specs.Entry.{number_bytes, choice_bytes, text_bytes, path_bytes, optional}
 use Rattle.fsrm_model.specs.Limits.{latest_moment, longest_line, longest_file, longest_entry, last_owner, most_visits, most_minutes}
-use Rattle.fsrm_model.specs.Options.{Given, RunLimitIs, path_in, limit_in, type_in, status_in, removal_in, percent_in, notice_in, run_limit_in, one, each_of, source_in}
+use Rattle.fsrm_model.specs.ValueForms.{path_of, number_of, choice_of, text_of, notice_of}
+use Rattle.fsrm_model.specs.Options.{path_key, limit_key, quota_type_key, status_key, remove_threshold_key, add_threshold_key, add_notification_key, source_template_key, run_limit_key, Given, one, each_of}
 use Rattle.fsrm_model.specs.Patterns.{is_object_name}
 use Rattle.fsrm_model.specs.Quota.{is_limit}
 use Rattle.fsrm_model.specs.Spelling.{Piece, Plain, Quoted, spelled_pieces, text_of_pieces, SpellsWords, SpellsTool, SpellsPlaced, SpellsDeed, Spells}
@@ -24,8 +26,10 @@ use Rattle.fsrm_model.specs.Thresholds.{is_percent, is_notice}
 use Rattle.fsrm_model.specs.Valued.{is_path, is_deed, is_short, is_command}
 use Rattle.fsrm_model.specs.Valid.{is_moment}
 use Rattle.fsrm_model.proofs.lines.CommandLaws.{named_each}
-use Rattle.fsrm_base.proofs.TestLaws.{both_true}
-use Rattle.fsrm_model.proofs.lines.SpelledOptions.{Path, IsSound, path_sound, within, one_true, alone, IsSoundGiven, AreSound, each_sound, one_sound, has_path, given_path, given_limit, given_removals, given_percents, given_notices, limit_or, given_source, needed, IsSoundCommand, path_sound_command, alone_sound, optional_fits, AreSoundCommands}
+use Rattle.fsrm_base.proofs.TestLaws.{both, both_true}
+use Rattle.fsrm_model.proofs.lines.SoundValues.{Path, path_sound, within, IsSoundGiven}
+use Rattle.fsrm_model.proofs.lines.GivenOptions.{AreSound, each_sound, numbers_kind, one_sound, maybe_sound}
+use Rattle.fsrm_model.proofs.lines.SpelledOptions.{IsSound, one_true, alone, has_path, given_path, given_limit, given_removals, given_percents, given_notices, limit_or, given_source, needed, IsSoundCommand, path_sound_command, alone_sound, optional_fits, AreSoundCommands}
 use Rattle.fsrm_model.proofs.lines.SpelledScreens.{filescrn_sound}
 use Rattle.fsrm_model.proofs.lines.SpelledTemplates.{template_commands_sound, auto_commands_sound}
 
@@ -76,25 +80,26 @@ placed_sound words (Usage path) s =
 placed_sound words (Step n) s = record { valued = within 1 most_visits s.1 n s.4; bytes = omega arith }
 placed_sound words other s = absurd s
 
-given_run_limit : (L : ℕ) (given : List Given) (minutes : ℕ) → AreSound L given → one run_limit_in given ≡ Some minutes → nat_le minutes most_minutes ≡ true
-given_run_limit L given minutes s e = one_sound (λ (n : ℕ). nat_le n most_minutes ≡ true) run_limit_in by given minutes s.each e
-  where
-    by : (g : Given) (minutes : ℕ) → IsSoundGiven g → run_limit_in g ≡ Some minutes → nat_le minutes most_minutes ≡ true
-    by (RunLimitIs own) minutes s e = let same : own ≡ minutes = cc e in subst (λ (n : ℕ). nat_le n most_minutes ≡ true) same s
-    by other minutes s e = absurd (cc e)
+given_run_limit : (given : List Given) (minutes : ℕ) → AllByRecursion IsSoundGiven given
+    → one number_of run_limit_key given ≡ Some minutes → nat_le minutes most_minutes ≡ true
+given_run_limit given minutes s e =
+    (both (nat_le 0 minutes) (nat_le minutes most_minutes) (one_sound number_of numbers_kind run_limit_key given minutes s e)).1
 
-source_or : (given : List Given) (o : Option (List ℕ)) → AllByRecursion IsSoundGiven given → one source_in given ≡ o → option_map_or is_object_name o true ≡ true
-source_or given None s e = refl
-source_or given (Some name) s e = given_source given name s e
+source_or : (given : List Given) → AllByRecursion IsSoundGiven given
+    → option_map_or is_object_name (one text_of source_template_key given) true ≡ true
+source_or given s =
+    maybe_sound is_object_name (one text_of source_template_key given) (λ name e. given_source given name s e)
 
 source_fits : (o : Option (List ℕ)) → optional text_bytes o ≤ 1 + option_map_or text_bytes o 0
 source_fits None = omega arith
 source_fits (Some name) = omega arith
 
 -- a limit that may be left out where a template is given
-limit_or_source : (L : ℕ) (given : List Given) (o : Option ℕ) (source : Option (List ℕ)) → AreSound L given → one limit_in given ≡ o → (is_some o || is_some source) ≡ true → option_map_or is_limit o (is_some source) ≡ true
-limit_or_source L given None source s e h = h
-limit_or_source L given (Some limit) source s e h = given_limit L given limit s e
+limit_or_source : (given : List Given) (o : Option ℕ) (source : Option (List ℕ)) → AllByRecursion IsSoundGiven given
+    → one number_of limit_key given ≡ o → (is_some o || is_some source) ≡ true
+    → option_map_or is_limit o (is_some source) ≡ true
+limit_or_source given None source s e h = h
+limit_or_source given (Some limit) source s e h = given_limit given limit s e
 
 chosen : (test : Bool) (o : Option Deed) (d : Deed) → (if test then o else None) ≡ Some d → (test ≡ true) × (o ≡ Some d)
 chosen true o d h = (refl, h)
@@ -104,12 +109,12 @@ add_sound : IsSoundCommand (codes "add", quota_add)
 add_sound =
     record {
       sound = λ L given d s h.
-          let limit = one limit_in given in
-          let source = one source_in given in
-          let percents = each_of percent_in given in
-          let notices = each_of notice_in given in
-          let make : Path → Deed = λ path. Quota (QuotaAdd path limit (one type_in given) (unwrap_or (one status_in given) true) source percents notices) in
-          let path = needed path_in given (λ path. if has_limit given then Some (make path) else None) d h in
+          let limit = one number_of limit_key given in
+          let source = one text_of source_template_key given in
+          let percents = each_of number_of add_threshold_key given in
+          let notices = each_of notice_of add_notification_key given in
+          let make : Path → Deed = λ path. Quota (QuotaAdd path limit (one choice_of quota_type_key given) (unwrap_or (one choice_of status_key given) true) source percents notices) in
+          let path = needed path_of path_key given (λ path. if has_limit given then Some (make path) else None) d h in
           let picked = chosen (has_limit given) (Some (make path.0)) d path.2 in
           let made : make path.0 ≡ d = cc picked.1 in
           let p = has_path L given path.0 s path.1 in
@@ -118,9 +123,9 @@ add_sound =
           let marks = list_all is_percent percents && list_all is_notice notices in
           subst (IsSound L) made (record {
             valued = both_true (is_path path.0 && true) ((size && named) && marks) (one_true (is_path path.0) p.named)
-                (both_true (size && named) marks (both_true size named (limit_or_source L given limit source s refl picked.0) (source_or given source s.each refl))
+                (both_true (size && named) marks (both_true size named (limit_or_source given limit source s.each refl picked.0) (source_or given s.each))
                 (both_true (list_all is_percent percents) (list_all is_notice notices) (given_percents given s.each) (given_notices given s.each)));
-            bytes = omega (arith, p.bytes, optional_fits number_bytes limit, optional_fits choice_bytes (one type_in given), source_fits source);
+            bytes = omega (arith, p.bytes, optional_fits number_bytes limit, optional_fits choice_bytes (one choice_of quota_type_key given), source_fits source);
           });
     }
 
@@ -128,20 +133,21 @@ modify_sound : IsSoundCommand (codes "modify", quota_modify)
 modify_sound =
     record {
       sound = λ L given d s h.
-          let removed = each_of removal_in given in
-          let percents = each_of percent_in given in
-          let notices = each_of notice_in given in
-          let make : Path → Deed = λ path. Quota (QuotaModify path (one limit_in given) (one type_in given) (one status_in given) removed percents notices) in
-          let path = needed path_in given (λ path. Some (make path)) d h in
+          let removed = each_of number_of remove_threshold_key given in
+          let percents = each_of number_of add_threshold_key given in
+          let notices = each_of notice_of add_notification_key given in
+          let make : Path → Deed = λ path. Quota (QuotaModify path (one number_of limit_key given) (one choice_of quota_type_key given) (one choice_of status_key given) removed percents notices) in
+          let path = needed path_of path_key given (λ path. Some (make path)) d h in
           let made : make path.0 ≡ d = cc path.2 in
           let p = has_path L given path.0 s path.1 in
-          let size = option_map_or is_limit (one limit_in given) true in
+          let size = option_map_or is_limit (one number_of limit_key given) true in
           subst (IsSound L) made (record {
-            valued = both_true (is_path path.0 && true) (size && (list_all is_percent removed && (list_all is_percent percents && list_all is_notice notices))) (one_true (is_path path.0) p.named)
-                (both_true size (list_all is_percent removed && (list_all is_percent percents && list_all is_notice notices)) (limit_or L given (one limit_in given) s refl)
+            valued =
+                both_true (is_path path.0 && true) (size && (list_all is_percent removed && (list_all is_percent percents && list_all is_notice notices))) (one_true (is_path path.0) p.named)
+                (both_true size (list_all is_percent removed && (list_all is_percent percents && list_all is_notice notices)) (limit_or given s.each)
                 (both_true (list_all is_percent removed) (list_all is_percent percents && list_all is_notice notices) (given_removals given s.each)
                 (both_true (list_all is_percent percents) (list_all is_notice notices) (given_percents given s.each) (given_notices given s.each))));
-            bytes = omega (arith, p.bytes, optional_fits number_bytes (one limit_in given), optional_fits choice_bytes (one type_in given), optional_fits choice_bytes (one status_in given));
+            bytes = omega (arith, p.bytes, optional_fits number_bytes (one number_of limit_key given), optional_fits choice_bytes (one choice_of quota_type_key given), optional_fits choice_bytes (one choice_of status_key given));
           });
     }
 
@@ -149,20 +155,22 @@ options_sound : IsSoundCommand (codes "options", admin_options)
 options_sound =
     record {
       sound = λ L given d s h.
-          let minutes = needed run_limit_in given (λ minutes. Some (Admin (AdminOptions minutes))) d h in
+          let minutes = needed number_of run_limit_key given (λ minutes. Some (Admin (AdminOptions minutes))) d h in
           let made : Admin (AdminOptions minutes.0) ≡ d = cc minutes.2 in
-          subst (IsSound L) made (record { valued = given_run_limit L given minutes.0 s minutes.1; bytes = omega arith });
+          subst (IsSound L) made (record { valued = given_run_limit given minutes.0 s.each minutes.1; bytes = omega arith });
     }
 
 list_sound : IsSoundCommand (codes "list", quota_list)
 list_sound =
     record {
-      sound = λ L given d s h. let made : Quota (QuotaList (one path_in given)) ≡ d = cc h in subst (IsSound L) made (by L given s (one path_in given) refl);
+      sound = λ L given d s h. let made : Quota (QuotaList (one path_of path_key given)) ≡ d = cc h in subst (IsSound L) made (by L given s (one path_of path_key given) refl);
     }
   where
-    by : (L : ℕ) (given : List Given) → AreSound L given → (o : Option Path) → one path_in given ≡ o → IsSound L (Quota (QuotaList o))
+    by : (L : ℕ) (given : List Given) → AreSound L given → (o : Option Path) → one path_of path_key given ≡ o
+        → IsSound L (Quota (QuotaList o))
     by L given s None e = record { valued = refl; bytes = omega arith }
-    by L given s (Some path) e = alone (Quota (QuotaList (Some path))) path L refl refl refl (given_path L given path s e)
+    by L given s (Some path) e =
+        alone (Quota (QuotaList (Some path))) path L refl refl refl (given_path L given path s e)
 
 quota_commands_sound : AllByRecursion IsSoundCommand quota_commands
 quota_commands_sound = (
@@ -183,7 +191,8 @@ quota_commands_sound = (
 )
 
 admin_commands_sound : AllByRecursion IsSoundCommand admin_commands
-admin_commands_sound = (options_sound, (alone_sound (codes "list") (Admin AdminList) refl refl refl, (alone_sound (codes "log") (Admin AdminLog) refl refl refl, tt)))
+admin_commands_sound =
+    (options_sound, (alone_sound (codes "list") (Admin AdminList) refl refl refl, (alone_sound (codes "log") (Admin AdminLog) refl refl refl, tt)))
 
 abbrev IsSoundTool : List ℕ × Names (Names ToolCommand) → Type 0
 IsSoundTool tool = AllByRecursion AreSoundCommands tool.1
@@ -204,7 +213,7 @@ tool_sound words d s =
     let first = sum_by-cons length s.tool (s.object ∷ s.command ∷ s.rest) in
     let second = sum_by-cons length s.object (s.command ∷ s.rest) in
     let third = sum_by-cons length s.command s.rest in
-    let given = each_sound L s.own.keys s.rest s.given s.options_are.each (omega (arith, size, first, second, third)) s.options_are.few in
+    let given = each_sound L s.own.keys s.rest s.given s.options_are (omega (arith, size, first, second, third)) in
     command.2.sound L s.given d given s.deed_is
 
 deed_sound : (words : List (List ℕ)) (d : Deed) → SpellsDeed words d → IsSound (sum_by length words) d

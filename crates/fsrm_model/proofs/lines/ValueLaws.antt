@@ -1,6 +1,6 @@
 -- Limits, types and states are read exactly as they are written, and a word is parted at its first colon.
 use Rattle.std.proofs.Common.{◌≡◌, ℕ, ◌+◌, ◌<◌, List, [], ◌∷◌, ◌++◌, Bool, true, false, length, take, drop, refl, sym, ◌∙◌, ap, subst, inl, inr, arith}
-use Rattle.std.specs.Prelude.{Ok, Err, ◌*◌, ◌==◌, ◌||◌, not, nat_lt, codes, Option, Some, None, find, option_map, if◌then◌else◌}
+use Rattle.std.specs.Prelude.{Ok, Err, ◌*◌, ◌==◌, ◌||◌, not, nat_lt, Option, Some, None, find, option_map, if◌then◌else◌}
 use Rattle.std.specs.Char.{is_ascii_digit, to_ascii_lowercase}
 use Rattle.std.specs.List.{list_all, list_any, prefix_len, position_or_len, before_first, after_first, take_while}
 use Rattle.std.specs.Str.{str_eq_ignore_ascii_case, str_to_ascii_lowercase, bytes_eq}
@@ -17,7 +17,7 @@ use Rattle.fsrm_model.specs.declared.command.Refusal.TheVariants.{BadLine, Inval
 use Rattle.fsrm_model.specs.Options.{is_colon}
 use Rattle.fsrm_model.specs.Quota.{is_limit}
 use Rattle.fsrm_model.specs.Reading.{Read, ◌>>=◌, guarded, known, units, unit_bytes, digits_of, limit_from, choice_from}
-use Rattle.fsrm_model.specs.Spelling.{IsNamed, WritesLimit, WritesType, WritesStatus, WritesMode}
+use Rattle.fsrm_model.specs.Spelling.{IsNamed, WritesLimit, WritesChoice}
 use Rattle.fsrm_model.proofs.lines.ReadLaws.{both_ok, guarded_ok, guarded_then, guarded_from}
 
 -- two spellings of one name
@@ -178,47 +178,16 @@ limit_reads column text limit w =
     ∙ guarded_from (is_limit limit) InvalidLimit limit w.legal
 
 -- one of two words
-abbrev Picks : List ℕ → List ℕ → List ℕ → Bool → Type 0
-Picks first second text true = IsNamed first text
-Picks first second text false = IsNamed second text
-
-choice_writes : (first second : List ℕ) (column : ℕ) (text : List ℕ) (pick : Bool) → choice_from first second column text ≡ Ok pick → Picks first second text pick
+pub choice_writes : (first second : List ℕ) (column : ℕ) (text : List ℕ) (pick : Bool) → choice_from first second column text ≡ Ok pick → WritesChoice first second text pick
 choice_writes first second column text pick h = by (str_eq_ignore_ascii_case first text) (str_eq_ignore_ascii_case second text) refl refl h
   where
-    by : (one other : Bool) → str_eq_ignore_ascii_case first text ≡ one → str_eq_ignore_ascii_case second text ≡ other → (if one then Ok true else if other then Ok false else Err (BadLine column)) ≡ Ok pick → Picks first second text pick
-    by true other is_first is_second e = let same : true ≡ pick = cc e in subst (Picks first second text) same is_first
-    by false true is_first is_second e = let same : false ≡ pick = cc e in subst (Picks first second text) same is_second
+    by : (one other : Bool) → str_eq_ignore_ascii_case first text ≡ one → str_eq_ignore_ascii_case second text ≡ other → (if one then Ok true else if other then Ok false else Err (BadLine column)) ≡ Ok pick → WritesChoice first second text pick
+    by true other is_first is_second e = let same : true ≡ pick = cc e in subst (WritesChoice first second text) same is_first
+    by false true is_first is_second e = let same : false ≡ pick = cc e in subst (WritesChoice first second text) same (is_first, is_second)
     by false false is_first is_second e = absurd (cc e)
 
-choice_reads : (first second : List ℕ) → str_eq_ignore_ascii_case first second ≡ false → (column : ℕ) (text : List ℕ) (pick : Bool) → Picks first second text pick → choice_from first second column text ≡ Ok pick
-choice_reads first second apart column text true w = ap (λ (one : Bool). if one then Ok true else if str_eq_ignore_ascii_case second text then Ok false else Err (BadLine column)) w
-choice_reads first second apart column text false w =
-    ap (λ (one : Bool). if one then Ok true else if str_eq_ignore_ascii_case second text then Ok false else Err (BadLine column)) (name_same first second text w ∙ apart)
-    ∙ ap (λ (other : Bool). if other then Ok false else Err (BadLine column)) w
-
--- a type
-pub type_writes : (column : ℕ) (text : List ℕ) (enforce : Bool) → choice_from (codes "hard") (codes "soft") column text ≡ Ok enforce → WritesType text enforce
-type_writes column text true h = choice_writes (codes "hard") (codes "soft") column text true h
-type_writes column text false h = choice_writes (codes "hard") (codes "soft") column text false h
-
-pub type_reads : (column : ℕ) (text : List ℕ) (enforce : Bool) → WritesType text enforce → choice_from (codes "hard") (codes "soft") column text ≡ Ok enforce
-type_reads column text true w = choice_reads (codes "hard") (codes "soft") refl column text true w
-type_reads column text false w = choice_reads (codes "hard") (codes "soft") refl column text false w
-
--- a status
-pub status_writes : (column : ℕ) (text : List ℕ) (enabled : Bool) → choice_from (codes "enabled") (codes "disabled") column text ≡ Ok enabled → WritesStatus text enabled
-status_writes column text true h = choice_writes (codes "enabled") (codes "disabled") column text true h
-status_writes column text false h = choice_writes (codes "enabled") (codes "disabled") column text false h
-
-pub status_reads : (column : ℕ) (text : List ℕ) (enabled : Bool) → WritesStatus text enabled → choice_from (codes "enabled") (codes "disabled") column text ≡ Ok enabled
-status_reads column text true w = choice_reads (codes "enabled") (codes "disabled") refl column text true w
-status_reads column text false w = choice_reads (codes "enabled") (codes "disabled") refl column text false w
-
--- what a screen does
-pub mode_writes : (column : ℕ) (text : List ℕ) (active : Bool) → choice_from (codes "active") (codes "passive") column text ≡ Ok active → WritesMode text active
-mode_writes column text true h = choice_writes (codes "active") (codes "passive") column text true h
-mode_writes column text false h = choice_writes (codes "active") (codes "passive") column text false h
-
-pub mode_reads : (column : ℕ) (text : List ℕ) (active : Bool) → WritesMode text active → choice_from (codes "active") (codes "passive") column text ≡ Ok active
-mode_reads column text true w = choice_reads (codes "active") (codes "passive") refl column text true w
-mode_reads column text false w = choice_reads (codes "active") (codes "passive") refl column text false w
+pub choice_reads : (first second : List ℕ) (column : ℕ) (text : List ℕ) (pick : Bool) → WritesChoice first second text pick → choice_from first second column text ≡ Ok pick
+choice_reads first second column text true w = ap (λ (one : Bool). if one then Ok true else if str_eq_ignore_ascii_case second text then Ok false else Err (BadLine column)) w
+choice_reads first second column text false w =
+    ap (λ (one : Bool). if one then Ok true else if str_eq_ignore_ascii_case second text then Ok false else Err (BadLine column)) w.0
+    ∙ ap (λ (other : Bool). if other then Ok false else Err (BadLine column)) w.1

@@ -1,5 +1,4 @@
 use Rattle.std.proofs.Common.{Ok, Option, [], ◌∙◌, subst}
-use Rattle.std.specs.Prelude.{map}
 use Rattle.fsrm_model.specs.Options.{options}
 use Rattle.tool_commands.specs.declared.words.Word.{Word}
 use Rattle.tool_commands.specs.Taking.{left, line_word, TakesLeft}
@@ -8,7 +7,7 @@ use Rattle.tool_commands.proofs.options.read_options.Goals as goal
 
 pub loop-given-preserved-in_ok-add_word : goal.loop-given-preserved-in_ok-add_word
 loop-given-preserved-in_ok-add_word g c =
-    let keys = map g.V.Key.OptionKey.line_key c.args.keys.now in
+    let keys = g.O.Options.keys c.args.options in
     let before = c.loop-given.invariant in
     let took = subst (λ (next : Option Word). TakesLeft (Ok next) c.loop-given.words c.next_left.new.self) c.in-Some.is c.in_ok-word.ensures in
     let added = c.in_ok-add_word.ensures before.given before.holds in
@@ -21,7 +20,7 @@ loop-given-preserved-in_ok-add_word g c =
 
 pub loop-given-preserved : goal.loop-given-preserved
 loop-given-preserved g c =
-    let keys = map g.V.Key.OptionKey.line_key c.args.keys.now in
+    let keys = g.O.Options.keys c.args.options in
     let before = c.loop-given.invariant in
     let took = subst (λ (next : Option Word). TakesLeft (Ok next) c.loop-given.words c.next_left.new.self) c.in-Some.is c.in_ok-word.ensures in
     let added = c.in_ok-add_word.ensures before.given before.holds in

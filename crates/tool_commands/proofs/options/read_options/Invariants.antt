@@ -1,16 +1,16 @@
 use Rattle.std.proofs.Common.{◌≡◌, length}
-use Rattle.std.specs.Prelude.{List, [], map}
+use Rattle.std.specs.Prelude.{List, []}
 use Rattle.fsrm_model.specs.Options.{Given, options}
 use Rattle.tool_commands.specs.Taking.{left, end}
 use Rattle.tool_commands.proofs.options.read_options.Given as goal
 
 abbrev pub invariant-loop-given : goal.invariant-loop-given
 invariant-loop-given g l =
-    let line_key = g.V.Key.OptionKey.line_key in
+    let keys = g.O.Options.keys l.options in
     record {
       given : List Given;
-      holds : g.V.Values.holds l.given given;
-      read : options (map line_key l.keys) (left l.words) given ≡ options (map line_key l.keys) (left l.initial.words) [];
+      holds : g.O.Options.holds l.options l.given given;
+      read : options keys (left l.words) given ≡ options keys (left l.initial.words) [];
       end : end l.words ≡ end l.initial.words;
     }
 

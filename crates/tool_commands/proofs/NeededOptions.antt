@@ -1,0 +1,103 @@
+-- What options that are required ask for, and what is asked for without them.
+use Rattle.std.proofs.Common.{◌≡◌, ℕ, ◌==◌, Bool, true, false, List, [], ◌∷◌, length, Some, None, refl, sym, ◌∙◌, ap, subst}
+use Rattle.std.specs.Prelude.{◌||◌, Option, Ok, Err, is_some, option_and_then, unwrap_or, if◌then◌else◌}
+use Rattle.std.specs.List.{cons_option}
+use Rattle.std.specs.Option.{option_or}
+use Rattle.fsrm_base.proofs.TestLaws.{clash, eq_same, suc_apart}
+use Rattle.fsrm_model.specs.declared.command.Deed.{Deed}
+use Rattle.fsrm_model.specs.declared.command.Added.{Added}
+use Rattle.fsrm_model.specs.declared.command.Deed.TheVariants.{Quota}
+use Rattle.fsrm_model.specs.declared.command.QuotaDeed.TheVariants.{Add as QuotaAdd}
+use Rattle.fsrm_model.specs.declared.command.Refusal.TheVariants.{BadLine}
+use Rattle.fsrm_model.specs.ValueForms.{Value, path_of, number_of, choice_of, text_of, notice_of}
+use Rattle.fsrm_model.specs.Line.{option_words}
+use Rattle.fsrm_model.specs.Options.{Key, path_key, limit_key, quota_type_key, status_key, source_template_key, add_threshold_key, add_notification_key, Given, its, one, each_of, options}
+use Rattle.fsrm_model.specs.Reading.{Read, ◌>>=◌, known}
+use Rattle.fsrm_model.specs.Tools.{ToolCommand, needs, quota_add, has_limit}
+use Rattle.fsrm_model.specs.Words.{Word}
+use Rattle.tool_commands.specs.declared.reading.LineFault.{LineFault}
+use Rattle.tool_commands.specs.declared.reading.LineFault.TheVariants.{Refused}
+use Rattle.tool_commands.specs.LineFaults.{Reads}
+
+-- ---- the first value of an option is the first of all its values
+abbrev first_of : {X : Type 0} → List X → Option X
+first_of [] = None
+first_of (x ∷ xs) = Some x
+
+one_first : {X : Type 0} (of : Value → Option X) (key : Key) (given : List Given)
+    → one of key given ≡ first_of (each_of of key given)
+one_first of key [] = refl
+one_first {X} of key (first ∷ given) = at (its of key first) (one_first of key given)
+  where
+    at : (o : Option X) → one of key given ≡ first_of (each_of of key given)
+        → option_or o (one of key given) ≡ first_of (cons_option o (each_of of key given))
+    at None h = h
+    at (Some x) h = refl
+
+-- so there is one exactly if there are some
+pub none_given : {X : Type 0} (of : Value → Option X) (key : Key) (held : List X) (given : List Given)
+    → held ≡ each_of of key given → (length held == 0) ≡ true → one of key given ≡ None
+none_given {X} of key held given is e = one_first of key given ∙ (ap first_of (sym is) ∙ at held e)
+  where
+    at : (xs : List X) → (length xs == 0) ≡ true → first_of xs ≡ None
+    at [] e = refl
+    at (x ∷ xs) e = absurd (clash _ e (suc_apart (length xs)))
+
+pub some_given : {X : Type 0} (of : Value → Option X) (key : Key) (held : List X) (given : List Given)
+    → held ≡ each_of of key given → (length held == 0) ≡ false → (x : X) × (one of key given ≡ Some x)
+some_given {X} of key held given is e =
+    let found : (x : X) × (first_of held ≡ Some x) = at held e in
+    (found.0, one_first of key given ∙ (ap first_of (sym is) ∙ found.1))
+  where
+    at : (xs : List X) → (length xs == 0) ≡ false → (x : X) × (first_of xs ≡ Some x)
+    at [] e = absurd (clash _ (eq_same 0) e)
+    at (x ∷ xs) e = (x, refl)
+
+-- ---- a value that is required
+pub needs_none : {X : Type 0} (of : Value → Option X) (key : Key) (given : List Given) (deed : X → Option Deed)
+    → one of key given ≡ None → needs of key given deed ≡ None
+needs_none of key given deed none = ap (option_and_then deed) none
+
+pub needs_some : {X : Type 0} (of : Value → Option X) (key : Key) (given : List Given) (deed : X → Option Deed)
+    (x : X) → one of key given ≡ Some x → needs of key given deed ≡ deed x
+needs_some of key given deed x some = ap (option_and_then deed) some
+
+-- what is asked for, or refused since something is missing
+pub missing : (command : ToolCommand) (last : ℕ) (words : List Word) (given : List Given)
+    → options command.keys words [] ≡ Ok given → command.deed given ≡ None
+    → option_words command last words ≡ Err (BadLine last)
+missing command last words given read none =
+    ap (λ (r : Read (List Given)). r >>= λ given. known (BadLine last) (command.deed given)) read
+    ∙ ap (known (BadLine last)) none
+
+pub asked : (command : ToolCommand) (last : ℕ) (words : List Word) (given : List Given) (deed : Deed)
+    → options command.keys words [] ≡ Ok given → command.deed given ≡ Some deed
+    → option_words command last words ≡ Ok deed
+asked command last words given deed read is =
+    ap (λ (r : Read (List Given)). r >>= λ given. known (BadLine last) (command.deed given)) read
+    ∙ ap (known (BadLine last)) is
+
+pub lacking : {X : Type 0} (command : ToolCommand) (of : Value → Option X) (key : Key) (deed : X → Option Deed)
+    (last now : ℕ) (words : List Word) (given : List Given) (held : Option X) (fault : LineFault) → now ≡ last
+    → options command.keys words [] ≡ Ok given → command.deed given ≡ needs of key given deed
+    → held ≡ one of key given → (held ≡ None) × (fault ≡ Refused (BadLine now))
+    → Reads {X = Deed} (Err fault) (option_words command last words)
+lacking command of key deed last now words given held fault same read is own none =
+    let due = missing command last words given read (is ∙ needs_none of key given deed (sym own ∙ none.0)) in
+    subst (λ (f : LineFault). Reads {X = Deed} (Err f) (option_words command last words)) (sym none.1) (due ∙ ap (λ (n : ℕ). Err (BadLine n)) (sym same))
+
+-- a new quota
+pub quota_read : (last : ℕ) (words : List Word) (given : List Given) (path : List (List ℕ)) (limit : Option ℕ)
+    (enforce enabled : Option Bool) (source : Option (List ℕ)) (percents : List ℕ) (notices : List Added) (on : Bool)
+    → options quota_add.keys words [] ≡ Ok given → one path_of path_key given ≡ Some path
+    → limit ≡ one number_of limit_key given → enforce ≡ one choice_of quota_type_key given
+    → enabled ≡ one choice_of status_key given → source ≡ one text_of source_template_key given
+    → percents ≡ each_of number_of add_threshold_key given → notices ≡ each_of notice_of add_notification_key given
+    → on ≡ unwrap_or enabled true → (is_some limit || is_some source) ≡ true
+    → option_words quota_add last words ≡ Ok (Quota (QuotaAdd path limit enforce on source percents notices))
+quota_read last words given path limit enforce enabled source percents notices on read path_is limit_is enforce_is enabled_is source_is percents_are notices_are on_is picked =
+    let some : has_limit given ≡ true = ap (λ (o : Option ℕ). is_some o || is_some (one text_of source_template_key given)) (sym limit_is) ∙ (ap (λ (o : Option (List ℕ)). is_some limit || is_some o) (sym source_is) ∙ picked) in
+    let make : List (List ℕ) → Option Deed = λ path. Some (Quota (QuotaAdd path (one number_of limit_key given) (one choice_of quota_type_key given) (unwrap_or (one choice_of status_key given) true) (one text_of source_template_key given) (each_of number_of add_threshold_key given) (each_of notice_of add_notification_key given))) in
+    let made : make path ≡ Some (Quota (QuotaAdd path limit enforce on source percents notices)) = rw (on_is, limit_is, enforce_is, enabled_is, source_is, percents_are, notices_are) refl in
+    asked quota_add last words given (Quota (QuotaAdd path limit enforce on source percents notices)) read
+    (needs_some path_of path_key given (λ path. if has_limit given then make path else None) path path_is ∙ (ap (λ (b : Bool). if b then make path else None) some ∙ made))

@@ -1,0 +1,209 @@
+//! The forms of the values that options have, each with the reader of its values.
+
+ghost use Rattle.std.specs.Prelude.{◌≡◌};
+ghost use Rattle.fsrm_model.specs.ValueForms.{PathForm, LimitForm, NumberForm, ChoiceForm, UpdateForm, ObjectForm, NameForm, MembersForm, NonMembersForm, NoticeForm, ActionForm, path_of, number_of, choice_of, update_of, text_of, texts_of, notice_of, action_of};
+ghost use Rattle.fsrm_model.specs.Limits.{greatest_percent, most_minutes};
+
+use crate::actions::{read_notice, read_percent, read_run_limit, read_screen_action};
+use crate::limits::read_limit;
+use crate::options::Form;
+use crate::patterns::{read_non_members, read_patterns};
+use crate::reading::LineFault;
+use crate::values::{read_choice, read_name, read_object_name, read_path_word, read_update};
+use fsrm_model::{Action, Added, List, Path, Text, Update};
+use std::alloc::Global;
+
+/// A path from the volume on.
+#[derive(Clone, Copy)]
+pub struct AbsolutePath;
+
+impl Form for AbsolutePath {
+    type Value = Path;
+
+    ghost form = { λ _. PathForm };
+
+    ghost of = { path_of };
+
+    fn read(self, alloc: Global, _column: usize, text: &str) -> Result<Path, LineFault> {
+        read_path_word(alloc, text)
+    }
+}
+
+/// A limit, in bytes.
+#[derive(Clone, Copy)]
+pub struct Limit;
+
+impl Form for Limit {
+    type Value = u64;
+
+    ghost form = { λ _. LimitForm };
+
+    ghost of = { number_of };
+
+    fn read(self, _alloc: Global, column: usize, text: &str) -> Result<u64, LineFault> {
+        read_limit(text, column)
+    }
+}
+
+/// A percentage of a limit.
+#[derive(Clone, Copy)]
+pub struct Percent;
+
+impl Form for Percent {
+    type Value = u16;
+
+    ghost form = { λ _. NumberForm 1 greatest_percent };
+
+    ghost of = { number_of };
+
+    fn read(self, _alloc: Global, column: usize, text: &str) -> Result<u16, LineFault> {
+        read_percent(text, column)
+    }
+}
+
+/// A run limit, in minutes.
+#[derive(Clone, Copy)]
+pub struct RunLimit;
+
+impl Form for RunLimit {
+    type Value = u32;
+
+    ghost form = { λ _. NumberForm 0 most_minutes };
+
+    ghost of = { number_of };
+
+    fn read(self, _alloc: Global, column: usize, text: &str) -> Result<u32, LineFault> {
+        read_run_limit(text, column)
+    }
+}
+
+/// One of two words, in letters of either case. Its value is whether it is the first.
+#[derive(Clone, Copy)]
+pub struct Choice {
+    pub first: &'static str,
+    pub second: &'static str,
+}
+
+impl Form for Choice {
+    type Value = bool;
+
+    ghost form = { λ choice. ChoiceForm choice.first.now choice.second.now };
+
+    ghost of = { choice_of };
+
+    fn read(self, _alloc: Global, column: usize, text: &str) -> Result<bool, LineFault> {
+        read_choice(self.first, self.second, text, column)
+    }
+}
+
+/// Which derived quotas a change reaches.
+#[derive(Clone, Copy)]
+pub struct UpdateMode;
+
+impl Form for UpdateMode {
+    type Value = Update;
+
+    ghost form = { λ _. UpdateForm };
+
+    ghost of = { update_of };
+
+    fn read(self, _alloc: Global, column: usize, text: &str) -> Result<Update, LineFault> {
+        read_update(text, column)
+    }
+}
+
+/// The name of a file group or a template.
+#[derive(Clone, Copy)]
+pub struct ObjectName;
+
+impl Form for ObjectName {
+    type Value = Text;
+
+    ghost form = { λ _. ObjectForm };
+
+    ghost of = { text_of };
+
+    fn read(self, alloc: Global, _column: usize, text: &str) -> Result<Text, LineFault> {
+        read_object_name(alloc, text)
+    }
+}
+
+/// The name of a folder.
+#[derive(Clone, Copy)]
+pub struct FolderName;
+
+impl Form for FolderName {
+    type Value = Text;
+
+    ghost form = { λ _. NameForm };
+
+    ghost of = { text_of };
+
+    fn read(self, alloc: Global, _column: usize, text: &str) -> Result<Text, LineFault> {
+        read_name(alloc, text)
+    }
+}
+
+/// The members of a file group: patterns, one at least.
+#[derive(Clone, Copy)]
+pub struct Members;
+
+impl Form for Members {
+    type Value = List<Text>;
+
+    ghost form = { λ _. MembersForm };
+
+    ghost of = { texts_of };
+
+    fn read(self, alloc: Global, _column: usize, text: &str) -> Result<List<Text>, LineFault> {
+        read_patterns(alloc, text)
+    }
+}
+
+/// The non-members of a file group: patterns, or none.
+#[derive(Clone, Copy)]
+pub struct NonMembers;
+
+impl Form for NonMembers {
+    type Value = List<Text>;
+
+    ghost form = { λ _. NonMembersForm };
+
+    ghost of = { texts_of };
+
+    fn read(self, alloc: Global, _column: usize, text: &str) -> Result<List<Text>, LineFault> {
+        read_non_members(alloc, text)
+    }
+}
+
+/// A threshold with an action.
+#[derive(Clone, Copy)]
+pub struct Notice;
+
+impl Form for Notice {
+    type Value = Added;
+
+    ghost form = { λ _. NoticeForm };
+
+    ghost of = { notice_of };
+
+    fn read(self, alloc: Global, column: usize, text: &str) -> Result<Added, LineFault> {
+        read_notice(alloc, text, column)
+    }
+}
+
+/// An action of a screen.
+#[derive(Clone, Copy)]
+pub struct ScreenAction;
+
+impl Form for ScreenAction {
+    type Value = Action;
+
+    ghost form = { λ _. ActionForm };
+
+    ghost of = { action_of };
+
+    fn read(self, alloc: Global, column: usize, text: &str) -> Result<Action, LineFault> {
+        read_screen_action(alloc, text, column)
+    }
+}

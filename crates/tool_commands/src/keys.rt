@@ -1,0 +1,117 @@
+//! All options of the tools' commands, a row each. The definitions have the same rows, and a command whose options had
+//! others would not be proved.
+
+use crate::forms::{
+    AbsolutePath, Choice, FolderName, Limit, Members, NonMembers, Notice, ObjectName, Percent,
+    RunLimit, ScreenAction, UpdateMode,
+};
+use crate::options::{AtMost, Once, Repeated};
+use fsrm_model::limits::MOST_EXCLUDED;
+
+pub const PATH: Once<AbsolutePath> = Once {
+    name: "/Path",
+    form: AbsolutePath,
+};
+
+pub const LIMIT: Once<Limit> = Once {
+    name: "/Limit",
+    form: Limit,
+};
+
+/// Whether a quota is hard.
+pub const QUOTA_TYPE: Once<Choice> = Once {
+    name: "/Type",
+    form: Choice {
+        first: "hard",
+        second: "soft",
+    },
+};
+
+pub const STATUS: Once<Choice> = Once {
+    name: "/Status",
+    form: Choice {
+        first: "enabled",
+        second: "disabled",
+    },
+};
+
+pub const REMOVE_THRESHOLD: Repeated<Percent> = Repeated {
+    name: "/Remove-Threshold",
+    form: Percent,
+};
+
+pub const ADD_THRESHOLD: Repeated<Percent> = Repeated {
+    name: "/Add-Threshold",
+    form: Percent,
+};
+
+pub const ADD_NOTIFICATION: Repeated<Notice> = Repeated {
+    name: "/Add-Notification",
+    form: Notice,
+};
+
+pub const TEMPLATE: Once<ObjectName> = Once {
+    name: "/Template",
+    form: ObjectName,
+};
+
+pub const SOURCE_TEMPLATE: Once<ObjectName> = Once {
+    name: "/SourceTemplate",
+    form: ObjectName,
+};
+
+pub const UPDATE_DERIVED: Once<UpdateMode> = Once {
+    name: "/UpdateDerived",
+    form: UpdateMode,
+};
+
+pub const EXCLUDE: AtMost<FolderName> = AtMost {
+    name: "/Exclude",
+    most: MOST_EXCLUDED,
+    form: FolderName,
+};
+
+pub const RUN_LIMIT: Once<RunLimit> = Once {
+    name: "/RunLimitInterval",
+    form: RunLimit,
+};
+
+pub const FILEGROUP: Once<ObjectName> = Once {
+    name: "/Filegroup",
+    form: ObjectName,
+};
+
+pub const MEMBERS: Once<Members> = Once {
+    name: "/Members",
+    form: Members,
+};
+
+pub const NON_MEMBERS: Once<NonMembers> = Once {
+    name: "/NonMembers",
+    form: NonMembers,
+};
+
+/// Whether a screen is active.
+pub const SCREEN_TYPE: Once<Choice> = Once {
+    name: "/Type",
+    form: Choice {
+        first: "active",
+        second: "passive",
+    },
+};
+
+pub const REMOVE_FILEGROUP: Repeated<ObjectName> = Repeated {
+    name: "/Remove-Filegroup",
+    form: ObjectName,
+};
+
+pub const ADD_FILEGROUP: Repeated<ObjectName> = Repeated {
+    name: "/Add-Filegroup",
+    form: ObjectName,
+};
+
+/// An action of a screen.
+pub const SCREEN_NOTIFICATION: Repeated<ScreenAction> = Repeated {
+    name: "/Add-Notification",
+    form: ScreenAction,
+};
