@@ -1,21 +1,28 @@
--- What there is to say of each command by itself: its paths and its other values, its entry in a journal, its work, and the
--- looks that it may take.
+-- What there is to say of each command by itself, as one row.
 use Rattle.std.specs.Prelude.{ℕ, ◌+◌, ◌*◌, ◌&&◌, nat_lt, nat_le, Bool, true, false, List, [], ◌∷◌, length, sum_by, Option, Some, None, option_map, option_to_list, is_some, if◌then◌else◌}
 use Rattle.std.specs.List.{list_all}
 use Rattle.std.specs.Option.{option_map_or}
 use Rattle.fsrm_model.specs.declared.row.Capacity.{Capacity}
 use Rattle.fsrm_model.specs.declared.row.NodeRow.{NodeRow}
 use Rattle.fsrm_model.specs.declared.row.Rows.{Rows}
+use Rattle.fsrm_model.specs.declared.command.Added.{Added}
+use Rattle.fsrm_model.specs.declared.command.AdminDeed.{AdminDeed}
 use Rattle.fsrm_model.specs.declared.command.AdminDeed.TheVariants.{Options as AdminOptions, List as AdminList, Log as AdminLog}
+use Rattle.fsrm_model.specs.declared.command.AutoquotaDeed.{AutoquotaDeed}
 use Rattle.fsrm_model.specs.declared.command.AutoquotaDeed.TheVariants.{Add as AutoquotaAdd, Delete as AutoquotaDelete, List as AutoquotaList}
 use Rattle.fsrm_model.specs.declared.command.Deed.{Deed}
 use Rattle.fsrm_model.specs.declared.command.Deed.TheVariants.{File, Usage, Step, Quota, Template, Autoquota, Filegroup, Screen, Exception, Admin}
+use Rattle.fsrm_model.specs.declared.command.ExceptionDeed.{ExceptionDeed}
 use Rattle.fsrm_model.specs.declared.command.ExceptionDeed.TheVariants.{Add as ExceptionAdd, Delete as ExceptionDelete, List as ExceptionList}
 use Rattle.fsrm_model.specs.declared.command.FileOp.{FileOp}
 use Rattle.fsrm_model.specs.declared.command.FileOp.TheVariants.{Mkdir, Create, Resize, Touch, Move, Remove}
+use Rattle.fsrm_model.specs.declared.command.FilegroupDeed.{FilegroupDeed}
 use Rattle.fsrm_model.specs.declared.command.FilegroupDeed.TheVariants.{Add as FilegroupAdd, Modify as FilegroupModify, Delete as FilegroupDelete, List as FilegroupList}
+use Rattle.fsrm_model.specs.declared.command.QuotaDeed.{QuotaDeed}
 use Rattle.fsrm_model.specs.declared.command.QuotaDeed.TheVariants.{Add as QuotaAdd, Modify as QuotaModify, Delete as QuotaDelete, Scan as QuotaScan, Resetpeak as QuotaResetpeak, List as QuotaList}
+use Rattle.fsrm_model.specs.declared.command.ScreenDeed.{ScreenDeed}
 use Rattle.fsrm_model.specs.declared.command.ScreenDeed.TheVariants.{Add as ScreenAdd, Modify as ScreenModify, Delete as ScreenDelete, List as ScreenList}
+use Rattle.fsrm_model.specs.declared.command.TemplateDeed.{TemplateDeed}
 use Rattle.fsrm_model.specs.declared.command.TemplateDeed.TheVariants.{Add as TemplateAdd, Modify as TemplateModify, Delete as TemplateDelete, List as TemplateList}
 use Rattle.fsrm_model.specs.declared.command.Update.TheVariants.{Keep}
 use Rattle.fsrm_model.specs.AdminWork.{options_work, settings_work, log_work}
@@ -23,6 +30,7 @@ use Rattle.fsrm_model.specs.AutoWork.{auto_add_work, auto_delete_work, auto_list
 use Rattle.fsrm_model.specs.Entry.{Path, number_bytes, choice_bytes, text_bytes, path_bytes, optional, counted, notice_bytes, screen_notice_bytes}
 use Rattle.fsrm_model.specs.FileOps.{target}
 use Rattle.fsrm_model.specs.FileWork.{file_work, usage_work}
+use Rattle.fsrm_model.specs.CommandForm.{CommandForm, EntryForm, keeps, on_path, shows}
 use Rattle.fsrm_model.specs.GroupWork.{group_add_work, group_modify_work, group_delete_work, group_list_work}
 use Rattle.fsrm_model.specs.Leads.{leads, leads_to_folder}
 use Rattle.fsrm_model.specs.Limits.{longest_file, last_owner, most_visits, most_minutes, most_excluded}
@@ -37,314 +45,263 @@ use Rattle.fsrm_model.specs.Thresholds.{is_percent, is_new_action, is_notice}
 use Rattle.fsrm_model.specs.Tree.{children, under}
 use Rattle.fsrm_model.specs.Work.{Work}
 
--- the paths of a command
-abbrev pub paths_of_op : FileOp → List Path
-paths_of_op (Mkdir path owner) = path ∷ []
-paths_of_op (Create path size owner) = path ∷ []
-paths_of_op (Resize path size) = path ∷ []
-paths_of_op (Touch path) = path ∷ []
-paths_of_op (Move from to) = from ∷ to ∷ []
-paths_of_op (Remove path) = path ∷ []
-
-abbrev pub paths : Deed → List Path
-paths (File op) = paths_of_op op
-paths (Usage path) = path ∷ []
-paths (Step n) = []
-paths (Quota (QuotaAdd path limit enforce enabled template percents notices)) = path ∷ []
-paths (Quota (QuotaModify path limit enforce enabled removed percents notices)) = path ∷ []
-paths (Quota (QuotaDelete path)) = path ∷ []
-paths (Quota (QuotaScan path)) = path ∷ []
-paths (Quota (QuotaResetpeak path)) = path ∷ []
-paths (Quota (QuotaList path)) = option_to_list path
-paths (Template (TemplateAdd name limit enforce percents notices)) = []
-paths (Template (TemplateModify name limit enforce removed percents notices mode)) = []
-paths (Template (TemplateDelete name)) = []
-paths (Template TemplateList) = []
-paths (Autoquota (AutoquotaAdd path name excluded)) = path ∷ []
-paths (Autoquota (AutoquotaDelete path)) = path ∷ []
-paths (Autoquota AutoquotaList) = []
-paths (Admin (AdminOptions minutes)) = []
-paths (Admin AdminList) = []
-paths (Admin AdminLog) = []
-paths (Filegroup (FilegroupAdd name members non_members)) = []
-paths (Filegroup (FilegroupModify name members non_members)) = []
-paths (Filegroup (FilegroupDelete name)) = []
-paths (Filegroup FilegroupList) = []
-paths (Screen (ScreenAdd path active groups actions)) = path ∷ []
-paths (Screen (ScreenModify path active removed groups)) = path ∷ []
-paths (Screen (ScreenDelete path)) = path ∷ []
-paths (Screen ScreenList) = []
-paths (Exception (ExceptionAdd path groups)) = path ∷ []
-paths (Exception (ExceptionDelete path)) = path ∷ []
-paths (Exception ExceptionList) = []
-
+-- ---- values
 abbrev pub is_owner : ℕ → Bool
 is_owner owner = nat_le 1 owner && nat_le owner last_owner
 
 abbrev pub is_length : ℕ → Bool
 is_length length = nat_le length longest_file
 
--- whether all values but the paths are in their ranges
-abbrev pub has_values_of_op : FileOp → Bool
-has_values_of_op (Mkdir path owner) = is_owner owner
-has_values_of_op (Create path length owner) = is_length length && is_owner owner
-has_values_of_op (Resize path length) = is_length length
-has_values_of_op (Touch path) = true
-has_values_of_op (Move from to) = true
-has_values_of_op (Remove path) = true
-
 -- one name of a group at least
 abbrev pub are_some_names : List (List ℕ) → Bool
 are_some_names names = nat_lt 0 (length names) && list_all is_object_name names
 
--- a new quota must have a limit or a template. A new screen and a new exception must have a group
-abbrev pub has_values : Deed → Bool
-has_values (File op) = has_values_of_op op
-has_values (Usage path) = true
-has_values (Step n) = nat_le 1 n && nat_le n most_visits
-has_values (Quota (QuotaAdd path limit enforce enabled template percents notices)) =
-    (option_map_or is_limit limit (is_some template) && option_map_or is_object_name template true)
-    && (list_all is_percent percents && list_all is_notice notices)
-has_values (Quota (QuotaModify path limit enforce enabled removed percents notices)) =
-    option_map_or is_limit limit true && (list_all is_percent removed && (list_all is_percent percents && list_all is_notice notices))
-has_values (Quota (QuotaDelete path)) = true
-has_values (Quota (QuotaScan path)) = true
-has_values (Quota (QuotaResetpeak path)) = true
-has_values (Quota (QuotaList path)) = true
-has_values (Template (TemplateAdd name limit enforce percents notices)) =
-    is_object_name name && (is_limit limit && (list_all is_percent percents && list_all is_notice notices))
-has_values (Template (TemplateModify name limit enforce removed percents notices mode)) =
-    is_object_name name && (option_map_or is_limit limit true && (list_all is_percent removed && (list_all is_percent percents && list_all is_notice notices)))
-has_values (Template (TemplateDelete name)) = is_object_name name
-has_values (Template TemplateList) = true
-has_values (Autoquota (AutoquotaAdd path name excluded)) = is_object_name name && (nat_le (length excluded) most_excluded && list_all is_name excluded)
-has_values (Autoquota (AutoquotaDelete path)) = true
-has_values (Autoquota AutoquotaList) = true
-has_values (Admin (AdminOptions minutes)) = nat_le minutes most_minutes
-has_values (Admin AdminList) = true
-has_values (Admin AdminLog) = true
-has_values (Filegroup (FilegroupAdd name members non_members)) = is_object_name name && (are_members members && are_non_members non_members)
-has_values (Filegroup (FilegroupModify name members non_members)) = is_object_name name && (option_map_or are_members members true && option_map_or are_non_members non_members true)
-has_values (Filegroup (FilegroupDelete name)) = is_object_name name
-has_values (Filegroup FilegroupList) = true
-has_values (Screen (ScreenAdd path active groups actions)) = are_some_names groups && list_all is_new_action actions
-has_values (Screen (ScreenModify path active removed groups)) = list_all is_object_name removed && list_all is_object_name groups
-has_values (Screen (ScreenDelete path)) = true
-has_values (Screen ScreenList) = true
-has_values (Exception (ExceptionAdd path groups)) = are_some_names groups
-has_values (Exception (ExceptionDelete path)) = true
-has_values (Exception ExceptionList) = true
+abbrev pub may_be_added : List ℕ → List Added → Bool
+may_be_added percents notices = list_all is_percent percents && list_all is_notice notices
 
--- a command without its values: two deeds are of the same command if they are the same but for these
-abbrev pub emptied_op : FileOp → FileOp
-emptied_op (Mkdir path owner) = Mkdir [] 0
-emptied_op (Create path size owner) = Create [] 0 0
-emptied_op (Resize path size) = Resize [] 0
-emptied_op (Touch path) = Touch []
-emptied_op (Move from to) = Move [] []
-emptied_op (Remove path) = Remove []
+abbrev pub limit_bytes : Option ℕ → ℕ
+limit_bytes limit = optional (λ n. number_bytes) limit
+
+abbrev pub option_bytes : Option Bool → ℕ
+option_bytes choice = optional (λ b. choice_bytes) choice
+
+abbrev pub percent_bytes : List ℕ → ℕ
+percent_bytes percents = counted (λ n. number_bytes) percents
+
+-- ---- file operations
+-- What there is to say of a file operation but its work, which `form` adds: so the work of any operation computes
+-- to `file_work`
+pub record OpForm : Type 0 where
+  pub emptied : FileOp
+  pub paths : List Path
+  pub legal : Bool
+  pub entry : EntryForm
+  pub looks : List NodeRow → ℕ
+
+abbrev pub keeps_op : ℕ → FileOp → List Path → Bool → ℕ → OpForm
+keeps_op kind emptied paths legal bytes =
+    record {
+      emptied = emptied;
+      paths = paths;
+      legal = legal;
+      entry = record { kind = kind; bytes = bytes };
+      looks = λ nodes. 0;
+    }
+
+-- a folder that moves is looked through up to 8 times
+abbrev pub form_of_op : FileOp → OpForm
+form_of_op (Mkdir path owner) = keeps_op 1 (Mkdir [] 0) (path ∷ []) (is_owner owner) number_bytes
+form_of_op (Create path size owner) =
+    keeps_op 2 (Create [] 0 0) (path ∷ []) (is_length size && is_owner owner) (number_bytes + number_bytes)
+form_of_op (Resize path size) = keeps_op 3 (Resize [] 0) (path ∷ []) (is_length size) number_bytes
+form_of_op (Touch path) = keeps_op 4 (Touch []) (path ∷ []) true 0
+form_of_op (Move from to) =
+    record (keeps_op 5 (Move [] []) (from ∷ to ∷ []) true 0) {
+      looks = λ nodes. if leads_to_folder nodes from then 8 * length (under nodes (target nodes from)) else 0;
+    }
+form_of_op (Remove path) = keeps_op 6 (Remove []) (path ∷ []) true 0
+
+abbrev pub paths_of_op : FileOp → List Path
+paths_of_op op = (form_of_op op).paths
+
+abbrev pub has_values_of_op : FileOp → Bool
+has_values_of_op op = (form_of_op op).legal
+
+abbrev pub op_cost : List NodeRow → FileOp → ℕ
+op_cost nodes op = (form_of_op op).looks nodes
+
+-- ---- all commands
+-- a new quota must have a limit or a template
+abbrev pub form_of_quota : QuotaDeed → CommandForm
+form_of_quota (QuotaAdd path limit enforce enabled template percents notices) =
+    record {
+      emptied = Quota (QuotaAdd [] None None false None [] []);
+      paths = path ∷ [];
+      legal =
+          (option_map_or is_limit limit (is_some template) && option_map_or is_object_name template true)
+          && may_be_added percents notices;
+      entry = Some (record {
+        kind = 10;
+        bytes =
+            limit_bytes limit
+            + (option_bytes enforce
+            + (choice_bytes
+            + (optional text_bytes template + (percent_bytes percents + counted notice_bytes notices))));
+      });
+      work = λ K R moment. add_work R moment path limit enforce enabled template percents notices;
+      looks = λ nodes. 0;
+    }
+form_of_quota (QuotaModify path limit enforce enabled removed percents notices) =
+    record {
+      emptied = Quota (QuotaModify [] None None None [] [] []);
+      paths = path ∷ [];
+      legal = option_map_or is_limit limit true && (list_all is_percent removed && may_be_added percents notices);
+      entry = Some (record {
+        kind = 11;
+        bytes =
+            limit_bytes limit
+            + (option_bytes enforce
+            + (option_bytes enabled
+            + (percent_bytes removed + (percent_bytes percents + counted notice_bytes notices))));
+      });
+      work = λ K R moment. modify_work R path limit enforce enabled removed percents notices;
+      looks = λ nodes. 0;
+    }
+form_of_quota (QuotaDelete path) = on_path 12 (λ p. Quota (QuotaDelete p)) path (λ K R moment. delete_work R path)
+form_of_quota (QuotaScan path) = on_path 13 (λ p. Quota (QuotaScan p)) path (λ K R moment. scan_work R path)
+form_of_quota (QuotaResetpeak path) =
+    on_path 14 (λ p. Quota (QuotaResetpeak p)) path (λ K R moment. reset_work K R moment path)
+form_of_quota (QuotaList path) = shows (Quota (QuotaList None)) (option_to_list path) (λ K R moment. list_work R path)
+
+abbrev pub form_of_template : TemplateDeed → CommandForm
+form_of_template (TemplateAdd name limit enforce percents notices) =
+    record {
+      emptied = Template (TemplateAdd [] 0 false [] []);
+      paths = [];
+      legal = is_object_name name && (is_limit limit && may_be_added percents notices);
+      entry = Some (record {
+        kind = 20;
+        bytes =
+            text_bytes name
+            + (number_bytes + (choice_bytes + (percent_bytes percents + counted notice_bytes notices)));
+      });
+      work = λ K R moment. template_add_work R name limit enforce percents notices;
+      looks = λ nodes. 0;
+    }
+form_of_template (TemplateModify name limit enforce removed percents notices mode) =
+    record {
+      emptied = Template (TemplateModify [] None None [] [] [] Keep);
+      paths = [];
+      legal =
+          is_object_name name
+          && (option_map_or is_limit limit true && (list_all is_percent removed && may_be_added percents notices));
+      entry = Some (record {
+        kind = 21;
+        bytes =
+            text_bytes name
+            + (limit_bytes limit
+            + (option_bytes enforce
+            + (percent_bytes removed + (percent_bytes percents + (counted notice_bytes notices + choice_bytes)))));
+      });
+      work = λ K R moment. template_modify_work R name limit enforce removed percents notices mode;
+      looks = λ nodes. 0;
+    }
+form_of_template (TemplateDelete name) =
+    keeps 22 (Template (TemplateDelete [])) [] (is_object_name name) (text_bytes name)
+    (λ K R moment. template_delete_work R name)
+form_of_template TemplateList = shows (Template TemplateList) [] (λ K R moment. template_list_work R)
+
+-- each child of a folder that gets an auto-apply quota is looked at up to 4 times
+abbrev pub form_of_autoquota : AutoquotaDeed → CommandForm
+form_of_autoquota (AutoquotaAdd path name excluded) =
+    record {
+      emptied = Autoquota (AutoquotaAdd [] [] []);
+      paths = path ∷ [];
+      legal = is_object_name name && (nat_le (length excluded) most_excluded && list_all is_name excluded);
+      entry = Some (record { kind = 30; bytes = text_bytes name + counted text_bytes excluded });
+      work = λ K R moment. auto_add_work R moment path name excluded;
+      looks = λ nodes. if leads_to_folder nodes path then 4 * length (children nodes (target nodes path)) else 0;
+    }
+form_of_autoquota (AutoquotaDelete path) =
+    on_path 31 (λ p. Autoquota (AutoquotaDelete p)) path (λ K R moment. auto_delete_work R path)
+form_of_autoquota AutoquotaList = shows (Autoquota AutoquotaList) [] (λ K R moment. auto_list_work R)
+
+abbrev pub form_of_admin : AdminDeed → CommandForm
+form_of_admin (AdminOptions minutes) =
+    keeps 35 (Admin (AdminOptions 0)) [] (nat_le minutes most_minutes) number_bytes
+    (λ K R moment. options_work R minutes)
+form_of_admin AdminList = shows (Admin AdminList) [] (λ K R moment. settings_work R)
+form_of_admin AdminLog = shows (Admin AdminLog) [] (λ K R moment. log_work R)
+
+abbrev pub form_of_filegroup : FilegroupDeed → CommandForm
+form_of_filegroup (FilegroupAdd name members non_members) =
+    keeps 40 (Filegroup (FilegroupAdd [] [] [])) []
+    (is_object_name name && (are_members members && are_non_members non_members))
+    (text_bytes name + (counted text_bytes members + counted text_bytes non_members))
+    (λ K R moment. group_add_work R name members non_members)
+form_of_filegroup (FilegroupModify name members non_members) =
+    keeps 41 (Filegroup (FilegroupModify [] None None)) []
+    (is_object_name name && (option_map_or are_members members true && option_map_or are_non_members non_members true))
+    (text_bytes name + (optional (counted text_bytes) members + optional (counted text_bytes) non_members))
+    (λ K R moment. group_modify_work R name members non_members)
+form_of_filegroup (FilegroupDelete name) =
+    keeps 42 (Filegroup (FilegroupDelete [])) [] (is_object_name name) (text_bytes name)
+    (λ K R moment. group_delete_work R name)
+form_of_filegroup FilegroupList = shows (Filegroup FilegroupList) [] (λ K R moment. group_list_work R)
+
+-- a new screen and a new exception must have a group
+abbrev pub form_of_screen : ScreenDeed → CommandForm
+form_of_screen (ScreenAdd path active groups actions) =
+    keeps 50 (Screen (ScreenAdd [] false [] [])) (path ∷ [])
+    (are_some_names groups && list_all is_new_action actions)
+    (choice_bytes + (counted text_bytes groups + counted screen_notice_bytes actions))
+    (λ K R moment. screen_add_work R path active groups actions)
+form_of_screen (ScreenModify path active removed groups) =
+    keeps 51 (Screen (ScreenModify [] None [] [])) (path ∷ [])
+    (list_all is_object_name removed && list_all is_object_name groups)
+    (option_bytes active + (counted text_bytes removed + counted text_bytes groups))
+    (λ K R moment. screen_modify_work R path active removed groups)
+form_of_screen (ScreenDelete path) =
+    on_path 52 (λ p. Screen (ScreenDelete p)) path (λ K R moment. screen_delete_work R path)
+form_of_screen ScreenList = shows (Screen ScreenList) [] (λ K R moment. screen_list_work R)
+
+abbrev pub form_of_exception : ExceptionDeed → CommandForm
+form_of_exception (ExceptionAdd path groups) =
+    keeps 60 (Exception (ExceptionAdd [] [])) (path ∷ []) (are_some_names groups) (counted text_bytes groups)
+    (λ K R moment. except_add_work R path groups)
+form_of_exception (ExceptionDelete path) =
+    on_path 61 (λ p. Exception (ExceptionDelete p)) path (λ K R moment. except_delete_work R path)
+form_of_exception ExceptionList = shows (Exception ExceptionList) [] (λ K R moment. except_list_work R)
+
+-- a node that is summed is looked at up to 4 times
+abbrev pub form : Deed → CommandForm
+form (File op) =
+    let own = form_of_op op in
+    record {
+      emptied = File own.emptied;
+      paths = own.paths;
+      legal = own.legal;
+      entry = Some own.entry;
+      work = λ K R moment. file_work K R op moment;
+      looks = own.looks;
+    }
+form (Usage path) =
+    record (shows (Usage []) (path ∷ []) (λ K R moment. usage_work K R path)) {
+      looks = λ nodes. if leads nodes path then 4 * length (under nodes (target nodes path)) else 0;
+    }
+form (Step n) =
+    record (shows (Step 0) [] (λ K R moment. step_work K R n)) { legal = nat_le 1 n && nat_le n most_visits }
+form (Quota deed) = form_of_quota deed
+form (Template deed) = form_of_template deed
+form (Autoquota deed) = form_of_autoquota deed
+form (Admin deed) = form_of_admin deed
+form (Filegroup deed) = form_of_filegroup deed
+form (Screen deed) = form_of_screen deed
+form (Exception deed) = form_of_exception deed
+
+-- ---- the parts of a row, by their names
+abbrev pub paths : Deed → List Path
+paths deed = (form deed).paths
+
+abbrev pub has_values : Deed → Bool
+has_values deed = (form deed).legal
 
 abbrev pub emptied : Deed → Deed
-emptied (File op) = File (emptied_op op)
-emptied (Usage path) = Usage []
-emptied (Step n) = Step 0
-emptied (Quota (QuotaAdd path limit enforce enabled template percents notices)) = Quota (QuotaAdd [] None None false None [] [])
-emptied (Quota (QuotaModify path limit enforce enabled removed percents notices)) = Quota (QuotaModify [] None None None [] [] [])
-emptied (Quota (QuotaDelete path)) = Quota (QuotaDelete [])
-emptied (Quota (QuotaScan path)) = Quota (QuotaScan [])
-emptied (Quota (QuotaResetpeak path)) = Quota (QuotaResetpeak [])
-emptied (Quota (QuotaList path)) = Quota (QuotaList None)
-emptied (Template (TemplateAdd name limit enforce percents notices)) = Template (TemplateAdd [] 0 false [] [])
-emptied (Template (TemplateModify name limit enforce removed percents notices mode)) = Template (TemplateModify [] None None [] [] [] Keep)
-emptied (Template (TemplateDelete name)) = Template (TemplateDelete [])
-emptied (Template TemplateList) = Template TemplateList
-emptied (Autoquota (AutoquotaAdd path name excluded)) = Autoquota (AutoquotaAdd [] [] [])
-emptied (Autoquota (AutoquotaDelete path)) = Autoquota (AutoquotaDelete [])
-emptied (Autoquota AutoquotaList) = Autoquota AutoquotaList
-emptied (Admin (AdminOptions minutes)) = Admin (AdminOptions 0)
-emptied (Admin AdminList) = Admin AdminList
-emptied (Admin AdminLog) = Admin AdminLog
-emptied (Filegroup (FilegroupAdd name members non_members)) = Filegroup (FilegroupAdd [] [] [])
-emptied (Filegroup (FilegroupModify name members non_members)) = Filegroup (FilegroupModify [] None None)
-emptied (Filegroup (FilegroupDelete name)) = Filegroup (FilegroupDelete [])
-emptied (Filegroup FilegroupList) = Filegroup FilegroupList
-emptied (Screen (ScreenAdd path active groups actions)) = Screen (ScreenAdd [] false [] [])
-emptied (Screen (ScreenModify path active removed groups)) = Screen (ScreenModify [] None [] [])
-emptied (Screen (ScreenDelete path)) = Screen (ScreenDelete [])
-emptied (Screen ScreenList) = Screen ScreenList
-emptied (Exception (ExceptionAdd path groups)) = Exception (ExceptionAdd [] [])
-emptied (Exception (ExceptionDelete path)) = Exception (ExceptionDelete [])
-emptied (Exception ExceptionList) = Exception ExceptionList
-
--- The kind of a command's entry, by which a reader of the journal knows the command: no two commands have the same one. A
--- command that never lasts has none, nor has a step of a scan: what is kept of it is that the scan was finished
-abbrev pub kind_of_op : FileOp → ℕ
-kind_of_op (Mkdir path owner) = 1
-kind_of_op (Create path size owner) = 2
-kind_of_op (Resize path size) = 3
-kind_of_op (Touch path) = 4
-kind_of_op (Move from to) = 5
-kind_of_op (Remove path) = 6
+emptied deed = (form deed).emptied
 
 abbrev pub kind : Deed → Option ℕ
-kind (File op) = Some (kind_of_op op)
-kind (Usage path) = None
-kind (Step n) = None
-kind (Quota (QuotaAdd path limit enforce enabled template percents notices)) = Some 10
-kind (Quota (QuotaModify path limit enforce enabled removed percents notices)) = Some 11
-kind (Quota (QuotaDelete path)) = Some 12
-kind (Quota (QuotaScan path)) = Some 13
-kind (Quota (QuotaResetpeak path)) = Some 14
-kind (Quota (QuotaList path)) = None
-kind (Template (TemplateAdd name limit enforce percents notices)) = Some 20
-kind (Template (TemplateModify name limit enforce removed percents notices mode)) = Some 21
-kind (Template (TemplateDelete name)) = Some 22
-kind (Template TemplateList) = None
-kind (Autoquota (AutoquotaAdd path name excluded)) = Some 30
-kind (Autoquota (AutoquotaDelete path)) = Some 31
-kind (Autoquota AutoquotaList) = None
-kind (Admin (AdminOptions minutes)) = Some 35
-kind (Admin AdminList) = None
-kind (Admin AdminLog) = None
-kind (Filegroup (FilegroupAdd name members non_members)) = Some 40
-kind (Filegroup (FilegroupModify name members non_members)) = Some 41
-kind (Filegroup (FilegroupDelete name)) = Some 42
-kind (Filegroup FilegroupList) = None
-kind (Screen (ScreenAdd path active groups actions)) = Some 50
-kind (Screen (ScreenModify path active removed groups)) = Some 51
-kind (Screen (ScreenDelete path)) = Some 52
-kind (Screen ScreenList) = None
-kind (Exception (ExceptionAdd path groups)) = Some 60
-kind (Exception (ExceptionDelete path)) = Some 61
-kind (Exception ExceptionList) = None
-
--- all values of a command but its paths
-abbrev pub more_bytes_of_op : FileOp → ℕ
-more_bytes_of_op (Mkdir path owner) = number_bytes
-more_bytes_of_op (Create path size owner) = number_bytes + number_bytes
-more_bytes_of_op (Resize path size) = number_bytes
-more_bytes_of_op (Touch path) = 0
-more_bytes_of_op (Move from to) = 0
-more_bytes_of_op (Remove path) = 0
+kind deed = option_map (λ entry. entry.kind) (form deed).entry
 
 abbrev pub more_bytes : Deed → ℕ
-more_bytes (File op) = more_bytes_of_op op
-more_bytes (Usage path) = 0
-more_bytes (Step n) = 0
-more_bytes (Quota (QuotaAdd path limit enforce enabled template percents notices)) =
-    optional (λ n. number_bytes) limit + (optional (λ b. choice_bytes) enforce + (choice_bytes + (optional text_bytes template
-    + (counted (λ n. number_bytes) percents + counted notice_bytes notices))))
-more_bytes (Quota (QuotaModify path limit enforce enabled removed percents notices)) =
-    optional (λ n. number_bytes) limit + (optional (λ b. choice_bytes) enforce + (optional (λ b. choice_bytes) enabled
-    + (counted (λ n. number_bytes) removed + (counted (λ n. number_bytes) percents + counted notice_bytes notices))))
-more_bytes (Quota (QuotaDelete path)) = 0
-more_bytes (Quota (QuotaScan path)) = 0
-more_bytes (Quota (QuotaResetpeak path)) = 0
-more_bytes (Quota (QuotaList path)) = 0
-more_bytes (Template (TemplateAdd name limit enforce percents notices)) =
-    text_bytes name + (number_bytes + (choice_bytes + (counted (λ n. number_bytes) percents + counted notice_bytes notices)))
-more_bytes (Template (TemplateModify name limit enforce removed percents notices mode)) =
-    text_bytes name + (optional (λ n. number_bytes) limit + (optional (λ b. choice_bytes) enforce
-    + (counted (λ n. number_bytes) removed + (counted (λ n. number_bytes) percents + (counted notice_bytes notices + choice_bytes)))))
-more_bytes (Template (TemplateDelete name)) = text_bytes name
-more_bytes (Template TemplateList) = 0
-more_bytes (Autoquota (AutoquotaAdd path name excluded)) = text_bytes name + counted text_bytes excluded
-more_bytes (Autoquota (AutoquotaDelete path)) = 0
-more_bytes (Autoquota AutoquotaList) = 0
-more_bytes (Admin (AdminOptions minutes)) = number_bytes
-more_bytes (Admin AdminList) = 0
-more_bytes (Admin AdminLog) = 0
-more_bytes (Filegroup (FilegroupAdd name members non_members)) = text_bytes name + (counted text_bytes members + counted text_bytes non_members)
-more_bytes (Filegroup (FilegroupModify name members non_members)) = text_bytes name + (optional (counted text_bytes) members + optional (counted text_bytes) non_members)
-more_bytes (Filegroup (FilegroupDelete name)) = text_bytes name
-more_bytes (Filegroup FilegroupList) = 0
-more_bytes (Screen (ScreenAdd path active groups actions)) = choice_bytes + (counted text_bytes groups + counted screen_notice_bytes actions)
-more_bytes (Screen (ScreenModify path active removed groups)) = optional (λ b. choice_bytes) active + (counted text_bytes removed + counted text_bytes groups)
-more_bytes (Screen (ScreenDelete path)) = 0
-more_bytes (Screen ScreenList) = 0
-more_bytes (Exception (ExceptionAdd path groups)) = counted text_bytes groups
-more_bytes (Exception (ExceptionDelete path)) = 0
-more_bytes (Exception ExceptionList) = 0
+more_bytes deed = option_map_or (λ entry. entry.bytes) (form deed).entry 0
 
 -- how many bytes the entry of a command has, if it has one
 abbrev pub entry_bytes : Deed → Option ℕ
-entry_bytes deed = option_map (λ k. number_bytes + (choice_bytes + (sum_by path_bytes (paths deed) + more_bytes deed))) (kind deed)
+entry_bytes deed =
+    option_map (λ k. number_bytes + (choice_bytes + (sum_by path_bytes (paths deed) + more_bytes deed))) (kind deed)
 
--- its work, family by family
 abbrev pub work : Capacity → Rows → ℕ → Deed → Work
-work K R moment (File op) = file_work K R op moment
-work K R moment (Usage path) = usage_work K R path
-work K R moment (Step n) = step_work K R n
-work K R moment (Quota (QuotaAdd path limit enforce enabled template percents notices)) =
-    add_work R moment path limit enforce enabled template percents notices
-work K R moment (Quota (QuotaModify path limit enforce enabled removed percents notices)) =
-    modify_work R path limit enforce enabled removed percents notices
-work K R moment (Quota (QuotaDelete path)) = delete_work R path
-work K R moment (Quota (QuotaScan path)) = scan_work R path
-work K R moment (Quota (QuotaResetpeak path)) = reset_work K R moment path
-work K R moment (Quota (QuotaList path)) = list_work R path
-work K R moment (Template (TemplateAdd name limit enforce percents notices)) = template_add_work R name limit enforce percents notices
-work K R moment (Template (TemplateModify name limit enforce removed percents notices mode)) =
-    template_modify_work R name limit enforce removed percents notices mode
-work K R moment (Template (TemplateDelete name)) = template_delete_work R name
-work K R moment (Template TemplateList) = template_list_work R
-work K R moment (Autoquota (AutoquotaAdd path name excluded)) = auto_add_work R moment path name excluded
-work K R moment (Autoquota (AutoquotaDelete path)) = auto_delete_work R path
-work K R moment (Autoquota AutoquotaList) = auto_list_work R
-work K R moment (Admin (AdminOptions minutes)) = options_work R minutes
-work K R moment (Admin AdminList) = settings_work R
-work K R moment (Admin AdminLog) = log_work R
-work K R moment (Filegroup (FilegroupAdd name members non_members)) = group_add_work R name members non_members
-work K R moment (Filegroup (FilegroupModify name members non_members)) = group_modify_work R name members non_members
-work K R moment (Filegroup (FilegroupDelete name)) = group_delete_work R name
-work K R moment (Filegroup FilegroupList) = group_list_work R
-work K R moment (Screen (ScreenAdd path active groups actions)) = screen_add_work R path active groups actions
-work K R moment (Screen (ScreenModify path active removed groups)) = screen_modify_work R path active removed groups
-work K R moment (Screen (ScreenDelete path)) = screen_delete_work R path
-work K R moment (Screen ScreenList) = screen_list_work R
-work K R moment (Exception (ExceptionAdd path groups)) = except_add_work R path groups
-work K R moment (Exception (ExceptionDelete path)) = except_delete_work R path
-work K R moment (Exception ExceptionList) = except_list_work R
+work K R moment deed = (form deed).work K R moment
 
--- a folder that moves is looked through up to 8 times, a node that is summed up to 4 times, and each child of a folder that gets an
--- auto-apply quota up to 4 times
-abbrev pub op_cost : List NodeRow → FileOp → ℕ
-op_cost nodes (Mkdir path owner) = 0
-op_cost nodes (Create path length owner) = 0
-op_cost nodes (Resize path length) = 0
-op_cost nodes (Touch path) = 0
-op_cost nodes (Move from to) = if leads_to_folder nodes from then 8 * length (under nodes (target nodes from)) else 0
-op_cost nodes (Remove path) = 0
-
--- the looks of a command beside those for the names of its paths
 abbrev pub more_cost : List NodeRow → Deed → ℕ
-more_cost nodes (File op) = op_cost nodes op
-more_cost nodes (Usage path) = if leads nodes path then 4 * length (under nodes (target nodes path)) else 0
-more_cost nodes (Step n) = 0
-more_cost nodes (Quota (QuotaAdd path limit enforce enabled template percents notices)) = 0
-more_cost nodes (Quota (QuotaModify path limit enforce enabled removed percents notices)) = 0
-more_cost nodes (Quota (QuotaDelete path)) = 0
-more_cost nodes (Quota (QuotaScan path)) = 0
-more_cost nodes (Quota (QuotaResetpeak path)) = 0
-more_cost nodes (Quota (QuotaList path)) = 0
-more_cost nodes (Template (TemplateAdd name limit enforce percents notices)) = 0
-more_cost nodes (Template (TemplateModify name limit enforce removed percents notices mode)) = 0
-more_cost nodes (Template (TemplateDelete name)) = 0
-more_cost nodes (Template TemplateList) = 0
-more_cost nodes (Autoquota (AutoquotaAdd path name excluded)) = if leads_to_folder nodes path then 4 * length (children nodes (target nodes path)) else 0
-more_cost nodes (Autoquota (AutoquotaDelete path)) = 0
-more_cost nodes (Autoquota AutoquotaList) = 0
-more_cost nodes (Admin (AdminOptions minutes)) = 0
-more_cost nodes (Admin AdminList) = 0
-more_cost nodes (Admin AdminLog) = 0
-more_cost nodes (Filegroup (FilegroupAdd name members non_members)) = 0
-more_cost nodes (Filegroup (FilegroupModify name members non_members)) = 0
-more_cost nodes (Filegroup (FilegroupDelete name)) = 0
-more_cost nodes (Filegroup FilegroupList) = 0
-more_cost nodes (Screen (ScreenAdd path active groups actions)) = 0
-more_cost nodes (Screen (ScreenModify path active removed groups)) = 0
-more_cost nodes (Screen (ScreenDelete path)) = 0
-more_cost nodes (Screen ScreenList) = 0
-more_cost nodes (Exception (ExceptionAdd path groups)) = 0
-more_cost nodes (Exception (ExceptionDelete path)) = 0
-more_cost nodes (Exception ExceptionList) = 0
+more_cost nodes deed = (form deed).looks nodes

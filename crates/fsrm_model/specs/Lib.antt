@@ -38,6 +38,7 @@ pub mod DueActions
 pub mod Runs
 pub mod Audits
 pub mod Raises
+pub mod CommandForm
 pub mod Commands
 pub mod Step
 pub mod Exceptions
