@@ -7,3 +7,4 @@ pub mod screens
 pub mod templates
 pub mod valid
 pub mod FirstNames
+pub mod journal

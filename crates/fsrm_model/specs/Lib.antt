@@ -69,3 +69,6 @@ pub mod WorkedScreens
 pub mod WorkedTemplates
 pub mod ValidRows
 pub mod Lasting
+pub mod Replays
+pub mod OldReplays
+pub mod WorkedReplays

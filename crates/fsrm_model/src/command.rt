@@ -312,6 +312,16 @@ pub struct Command {
     pub deed: Deed,
 }
 
+/// What a journal keeps of a command that lasts. From such entries a store recovers its rows.
+#[derive(Drop)]
+pub enum Entry {
+    /// The command itself, which is done again. It is no step of a scan.
+    Order(Command),
+    /// A step finished the scan of the folder with this number, at this moment, in seconds since 1970-01-01 00:00:00
+    /// UTC. What the scan visited isn't kept, so the folder's quota is counted afresh.
+    Finish { moment: u64, folder: u32 },
+}
+
 /// What is listed.
 #[derive(Clone, Copy, Debug, PartialEq, Eq)]
 pub enum Ask {

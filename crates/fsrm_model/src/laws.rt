@@ -1,13 +1,14 @@
 //! Laws of the definitions, and worked examples.
 
-ghost use Rattle.std.specs.Prelude.{◌≡◌, ◌↔◌, ℕ, ◌+◌, ◌*◌, ◌<◌, ◌≤◌, ◌==◌, ◌&&◌, ◌||◌, not, nat_le, List, [], ◌∷◌, ◌++◌, ◌⊎◌, true, false, Option, Some, None, Ok, Err, if◌then◌else◌, filter, length, option_map, slice_get, sum_by, pos};
+ghost use Rattle.std.specs.Prelude.{◌≡◌, ◌↔◌, ℕ, ◌+◌, ◌*◌, ◌<◌, ◌≤◌, ◌==◌, ◌&&◌, ◌||◌, not, nat_le, List, [], ◌∷◌, ◌++◌, ◌⊎◌, true, false, Option, Some, None, Ok, Err, if◌then◌else◌, filter, is_some, length, option_map, slice_get, sum_by, pos, unwrap_or};
 ghost use Rattle.std.specs.List.{list_all, list_any, AllByRecursion};
 ghost use Rattle.jiff_core.specs.Calendar.{days_from_civil};
 ghost use Rattle.fsrm_model.specs.declared.command.Act.{Act};
 ghost use Rattle.fsrm_model.specs.declared.command.Added.{Added};
 ghost use Rattle.fsrm_model.specs.declared.command.Command.{Command};
 ghost use Rattle.fsrm_model.specs.declared.command.Deed.{Deed};
-ghost use Rattle.fsrm_model.specs.declared.command.Deed.TheVariants.{File};
+ghost use Rattle.fsrm_model.specs.declared.command.Deed.TheVariants.{File, Step};
+ghost use Rattle.fsrm_model.specs.declared.command.Entry.{Entry};
 ghost use Rattle.fsrm_model.specs.declared.command.FileOp.{FileOp};
 ghost use Rattle.fsrm_model.specs.declared.command.Outcome.TheVariants.{Done, Refused, Sum};
 ghost use Rattle.fsrm_model.specs.declared.command.Refusal.{Refusal};
@@ -40,13 +41,17 @@ ghost use Rattle.fsrm_model.specs.Fresh.{new_rows};
 ghost use Rattle.fsrm_base.specs.Keyed.{has_row, is_ascending};
 ghost use Rattle.fsrm_base.specs.Numbers.{is_in};
 ghost use Rattle.fsrm_model.specs.Lasting.{lasting};
-ghost use Rattle.fsrm_model.specs.Limits.{most_entries};
+ghost use Rattle.fsrm_model.specs.Limits.{latest_moment, most_entries};
 ghost use Rattle.fsrm_model.specs.Line.{read_line, is_line_refusal};
 ghost use Rattle.fsrm_model.specs.Quota.{folder_of, quota_of, counts, exceeded};
 ghost use Rattle.fsrm_model.specs.Raises.{are_ascending, Raises, RaisesRefused, RunsOfScreen};
 ghost use Rattle.fsrm_model.specs.Reached.{reached, IsReached, crossed};
+ghost use Rattle.fsrm_model.specs.OldReplays.{AreOldEntries, old_replayed};
+ghost use Rattle.fsrm_model.specs.QuotaStates.{head};
+ghost use Rattle.fsrm_model.specs.Replays.{finish, after_entry, replayed, recovered, is_scan_step, lasts, journal_entry, command_entries, entries_from, is_valid_entry, none_rebuilding, IsJournaled};
 ghost use Rattle.fsrm_model.specs.Runs.{run_quota, last_entries, ran};
-ghost use Rattle.fsrm_model.specs.Script.{is_end, lines, spelled_lines, AreLines, without_cr, replied, text, text_from};
+ghost use Rattle.fsrm_model.specs.Scan.{visits};
+ghost use Rattle.fsrm_model.specs.Script.{fold_from, is_end, lines, spelled_lines, AreLines, without_cr, replied, text, text_from};
 ghost use Rattle.fsrm_model.specs.Judges.{Applies, Judges};
 ghost use Rattle.fsrm_model.specs.Screens.{judging};
 ghost use Rattle.fsrm_model.specs.Space.{space};
@@ -62,6 +67,7 @@ ghost use Rattle.fsrm_model.specs.Valued.{is_command};
 ghost use Rattle.fsrm_model.specs.ValidScans.{is_queue, IsQueue, are_left, AreLeft};
 ghost use Rattle.fsrm_model.specs.WorkedThresholds.{run_limit, scan_ends_above, refused_writes, refused_below, refused_above, refused_move, acts_in_order, changed_quotas, run_limit_setting, threshold_options, threshold_values, long_lists, refused_then};
 ghost use Rattle.fsrm_model.specs.Work.{Judged};
+ghost use Rattle.fsrm_model.specs.WorkedReplays.{unfinished_scan, finished_scan, refused_write};
 ghost use Rattle.fsrm_model.specs.WorkedScreens.{members_and_others, blocked_entry, exceptions, exception_above, beside_quotas, nearest_screens, screens_and_quotas, reported_entries, moves_judged, move_entries, groups_and_lists, screens_gone, screen_words, many_patterns, folded_patterns};
 ghost use Rattle.fsrm_model.specs.WorkedTemplates.{auto_apply, template_update, derived_quotas, matching, matching_again, runs_forgotten, update_acts, templates_gone, auto_folders, auto_moves, auto_spelled, auto_and_quotas, auto_scans, templates_and_lists, crowded_templates, template_words};
 ghost use Rattle.fsrm_model.specs.WorkedRows.{nothing_done, first_files, clock, moves, bad_lines, words_apart, root_and_places, few_nodes, few_name_bytes, folded_names, rounded_usage, large_clusters, small_clusters, nested_quotas, up_to_the_limit, above_the_limit, move_below_a_quota, scan_in_steps, visited_again, out_and_back, out_for_good, scan_refusals, scans_in_turn, quota_options, quota_limits, quota_peaks, quotas_gone};
@@ -151,6 +157,13 @@ pub fn worked_templates()
     ensures lists { templates_and_lists }
     ensures crowded { crowded_templates }
     ensures words { template_words }
+{}
+
+/// The plain machine's text of worked scripts over what is recovered.
+pub fn worked_replays()
+    ensures unfinished { unfinished_scan }
+    ensures finished { finished_scan }
+    ensures refused { refused_write }
 {}
 
 /// Which screen judges a name that a file is given in a folder, which one blocks or reports it, what that leaves in the
@@ -314,6 +327,43 @@ pub fn valid()
     ensures new { (K : Capacity) → 0 < K.nodes → IsValid K new_rows }
     // A command whose values are in their ranges leaves valid rows, whatever it answers.
     ensures kept { (K : Capacity) (R : Rows) (c : Command) → IsValid K R → is_command c ≡ true → IsValid K (step K R c).rows }
+{}
+
+/// Which commands last, and that from what a store kept of its rows and the entries of the commands since then its rows
+/// are recovered, as far as they are kept.
+pub fn journal()
+    // What is kept of rows is itself kept as it is. It is valid if they are.
+    ensures twice { (R : Rows) → lasting (lasting R) ≡ lasting R }
+    ensures valid { (K : Capacity) (R : Rows) → IsValid K R → IsValid K (lasting R) }
+    // Valid rows are kept as they are exactly if no quota is rebuilding.
+    ensures whole { (K : Capacity) (R : Rows) → IsValid K R → (none_rebuilding R.quotas ≡ true) ↔ (lasting R ≡ R) }
+    // Which commands last. Each of them has a kind of entry, unless it is a step of a scan.
+    ensures lasts { (K : Capacity) (R : Rows) (c : Command) → (step K R c).lasting ≡ lasts K R c }
+    ensures kinds { (K : Capacity) (R : Rows) (c : Command) → IsValid K R → is_scan_step c.deed ≡ false → (step K R c).lasting ≡ true → is_some (kind c.deed) ≡ true }
+    // If the same is kept of two rows, the same is kept of what a command leaves of either. It answers the same, lasts
+    // with both or with neither, and has the same actions run. Only a step of a scan doesn't: what is visited isn't kept.
+    ensures same_rows { (K : Capacity) (R Q : Rows) (c : Command) → is_scan_step c.deed ≡ false → lasting Q ≡ lasting R → lasting (step K Q c).rows ≡ lasting (step K R c).rows }
+    ensures same_answer { (K : Capacity) (R Q : Rows) (c : Command) → is_scan_step c.deed ≡ false → lasting Q ≡ lasting R → ((step K Q c).lasting ≡ (step K R c).lasting) × ((step K Q c).outcome ≡ (step K R c).outcome) × ((step K Q c).acts ≡ (step K R c).acts) }
+    // The same is kept of what a finish leaves of either, too. It leaves valid rows.
+    ensures same_finish { (K : Capacity) (R Q : Rows) (moment folder : ℕ) → lasting Q ≡ lasting R → lasting (finish K Q moment folder) ≡ lasting (finish K R moment folder) }
+    ensures valid_finish { (K : Capacity) (R : Rows) (moment folder : ℕ) → IsValid K R → moment ≤ latest_moment → IsValid K (finish K R moment folder) }
+    // A step that finishes a scan is its visits, and then a finish of the folder at the head of the queue. So that
+    // finish alone does the same, as far as it is kept.
+    ensures visits { (K : Capacity) (R : Rows) (moment n : ℕ) → IsValid K R → (step K R (record { moment = moment; deed = Step n })).lasting ≡ true → (step K R (record { moment = moment; deed = Step n })).rows ≡ finish K (record R { unvisited = visits n R.nodes R.unvisited }) moment (unwrap_or (head R.queue) 0) }
+    ensures finishes { (K : Capacity) (R Q : Rows) (moment n : ℕ) → IsValid K R → lasting Q ≡ lasting R → (step K R (record { moment = moment; deed = Step n })).lasting ≡ true → lasting (finish K Q moment (unwrap_or (head R.queue) 0)) ≡ lasting (step K R (record { moment = moment; deed = Step n })).rows }
+    // The entry of a command that lasts does what the command did, as far as it is kept. It is valid if the command is,
+    // and valid entries leave valid rows.
+    ensures entry { (K : Capacity) (R Q : Rows) (c : Command) → IsValid K R → lasting Q ≡ lasting R → (step K R c).lasting ≡ true → lasting (after_entry K Q (journal_entry R c)) ≡ lasting (step K R c).rows }
+    ensures valid_entry { (R : Rows) (c : Command) → is_command c ≡ true → is_valid_entry (journal_entry R c) ≡ true }
+    ensures valid_rows { (K : Capacity) (R : Rows) (entry : Entry) → IsValid K R → is_valid_entry entry ≡ true → IsValid K (after_entry K R entry) }
+    // Rows are journaled when a store writes what is kept of them, when it has recovered them, and after each command
+    // and each script's lines, by the entries of these.
+    ensures new { (K : Capacity) (R : Rows) → IsValid K R → IsJournaled K (lasting R) [] R }
+    ensures again { (K : Capacity) (base : Rows) (entries : List Entry) → IsValid K base → list_all is_valid_entry entries ≡ true → IsJournaled K base entries (recovered K base entries) }
+    ensures next { (K : Capacity) (base : Rows) (entries : List Entry) (R : Rows) (c : Command) → IsJournaled K base entries R → is_command c ≡ true → IsJournaled K base (entries ++ command_entries K R c) (step K R c).rows }
+    ensures lines { (K : Capacity) (base : Rows) (entries : List Entry) (R : Rows) (n : ℕ) (lines : List (List ℕ)) → IsJournaled K base entries R → IsJournaled K base (entries ++ entries_from K R n lines) (fold_from K R n lines) }
+    // Entries of commands that lasted before a refusal for a quota had actions run come to the same.
+    ensures old { (K : Capacity) (R : Rows) (entries : List Entry) → AreOldEntries K R entries → old_replayed K R entries ≡ replayed K R entries }
 {}
 
 /// In a journal the kind of an entry tells the command. Two deeds whose entries have the same kind are of the same

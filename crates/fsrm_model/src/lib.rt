@@ -17,7 +17,7 @@ pub mod space;
 
 pub use boxed::Boxed;
 pub use command::{
-    Act, Added, AdminDeed, Answer, Ask, AutoquotaDeed, Command, Deed, ExceptionDeed, FileOp,
+    Act, Added, AdminDeed, Answer, Ask, AutoquotaDeed, Command, Deed, Entry, ExceptionDeed, FileOp,
     FilegroupDeed, Outcome, QuotaDeed, Refusal, ScreenDeed, Subject, TemplateDeed, Update,
 };
 pub use fsrm_base::{Duplicate, Ledger, List, NoMemory, Steps, Text, Weightless, WeightlessPage};

@@ -1,11 +1,11 @@
 -- The commands on auto-apply quotas: each one's work is orderly, and leaves the rows of a store if no check refuses.
-use Rattle.std.proofs.Common.{◌≡◌, ℕ, ◌≤◌, ◌==◌, nat_lt, nat_le, true, false, not, ◌&&◌, List, [], ◌∷◌, length, Option, Some, None, refl, sym, ◌∙◌, arith}
-use Rattle.std.specs.Prelude.{filter_map, fold, is_none, is_some, sum_by}
+use Rattle.std.proofs.Common.{◌≡◌, ℕ, ◌≤◌, ◌==◌, nat_lt, nat_le, true, false, not, ◌&&◌, List, [], ◌∷◌, length, Option, Some, None, refl, sym, ◌∙◌, arith, Bool, ap}
+use Rattle.std.specs.Prelude.{filter_map, fold, is_none, is_some, sum_by, if◌then◌else◌, option_map}
 use Rattle.std.specs.List.{list_all}
 use Rattle.fsrm_base.specs.Keyed.{has_row, is_ascending, with_row, without_row}
 use Rattle.fsrm_base.proofs.Look.{found_has, found_own, is_some-find}
 use Rattle.fsrm_base.proofs.TestLaws.{ge_is}
-use Rattle.fsrm_model.specs.AutoApply.{auto_folder, auto_of, applied, quotas_with, queue_with, with_quotas, subfolders}
+use Rattle.fsrm_model.specs.AutoApply.{auto_folder, auto_of, applied, quotas_with, queue_with, with_quotas, subfolders, template_for, without_auto}
 use Rattle.fsrm_model.specs.AutoWork.{new_auto, auto_add_work, auto_delete_work, auto_list_work}
 use Rattle.fsrm_model.specs.declared.command.Refusal.TheVariants.{PathNotFound, AlreadyExists, NotFound, TableFull, TextsFull}
 use Rattle.fsrm_model.specs.declared.row.AutoRow.{AutoRow}
@@ -17,7 +17,7 @@ use Rattle.fsrm_model.specs.FileOps.{target}
 use Rattle.fsrm_model.specs.Leads.{leads_to_folder}
 use Rattle.fsrm_model.specs.Limits.{latest_moment, most_autos, most_excluded, most_quotas, most_templates, most_text_bytes}
 use Rattle.fsrm_model.specs.Name.{is_name, is_named}
-use Rattle.fsrm_model.specs.Templates.{template_number, template_name, template_named, is_template}
+use Rattle.fsrm_model.specs.Templates.{template_number, template_name, template_named, is_template, derived, template_of}
 use Rattle.fsrm_model.specs.TemplateWork.{number_in}
 use Rattle.fsrm_model.specs.Texts.{auto_bytes, object_texts}
 use Rattle.fsrm_model.proofs.commands.FileParts.{folder_at}
@@ -27,6 +27,14 @@ use Rattle.fsrm_model.proofs.valid.ComingQuotas.{coming_subfolders}
 use Rattle.fsrm_model.proofs.valid.NamesApart.{named_parts}
 use Rattle.fsrm_model.proofs.valid.RowsKept.{nothing_followed, templates_followed}
 use Rattle.fsrm_model.proofs.valid.TemplatesKept.{autos-new, autos-gone, quotas-coming, sources-coming, queue-coming}
+use Rattle.fsrm_model.specs.declared.row.QuotaRow.{QuotaRow}
+use Rattle.fsrm_model.proofs.journal.Alike.{RowsAlike, WorksAlike, alike, lasting_alike, quotas_alike, table_same, texts_same}
+use Rattle.fsrm_model.proofs.journal.KeptQuotas.{kept, kept_twice, same_coming}
+use Rattle.fsrm_model.specs.Lasting.{lasting}
+use Rattle.fsrm_model.specs.Tree.{name_of, parent_of}
+use Rattle.std.specs.Option.{option_and_then}
+use Rattle.fsrm_model.proofs.journal.KeptEnds.{some_lasting}
+use Rattle.fsrm_model.specs.QuotaStates.{start}
 
 pub auto_add_still : (K : Capacity) (R : Rows) (moment : ℕ) (path : List (List ℕ)) (name : List ℕ) (excluded : List (List ℕ)) → IsStill K R (auto_add_work R moment path name excluded)
 auto_add_still K R moment path name excluded =
@@ -100,3 +108,35 @@ auto_delete_kept K R path s h =
 -- a list leaves them as they are
 pub auto_list_kept : (K : Capacity) (R : Rows) → KeepsValid K R (auto_list_work R)
 auto_list_kept K R s h = nothing_followed K R s
+
+-- ---- over rows and over what is kept of them
+-- a folder's quota is asked for only to see that there is none
+pub applied_lasting : (R : Rows) (moment folder : ℕ) → applied (lasting R) moment folder ≡ applied R moment folder
+applied_lasting R moment folder =
+    ap (λ (b : Bool). if b then None else option_map (λ template. derived template folder (start R.nodes folder) moment)
+    (option_and_then (template_of R.templates) (template_for R.autos (parent_of R.nodes folder) (name_of R.nodes folder)))) (some_lasting R folder)
+
+given_lasting : (R : Rows) (moment : ℕ) (folders : List ℕ) → filter_map (applied (lasting R) moment) folders ≡ filter_map (applied R moment) folders
+given_lasting R moment folders = ap (λ (f : ℕ → Option QuotaRow). filter_map f folders) same
+  where
+    same : applied (lasting R) moment ≡ applied R moment
+    same = λ i folder. applied_lasting R moment folder i
+
+-- quotas that come, the same to both
+pub coming_alike : (E : Rows) (coming coming' : List QuotaRow) → coming' ≡ coming → RowsAlike (with_quotas E coming) (with_quotas (lasting E) coming')
+coming_alike E coming coming' e =
+    quotas_alike E (fold quotas_with E.quotas coming) (fold quotas_with (kept E.quotas) coming') (fold queue_with E.queue coming) (fold queue_with [] coming') E.unvisited []
+    (ap (λ (more : List QuotaRow). kept (fold quotas_with (kept E.quotas) more)) e ∙ same_coming coming (kept E.quotas) E.quotas (kept_twice E.quotas))
+
+pub auto_add_alike : (R : Rows) (moment : ℕ) (path : List (List ℕ)) (name : List ℕ) (excluded : List (List ℕ)) → WorksAlike (auto_add_work R moment path name excluded) (auto_add_work (lasting R) moment path name excluded)
+auto_add_alike R moment path name excluded =
+    let folder = target R.nodes path in
+    let ruled : Rows = record R { autos = with_row auto_folder (new_auto folder (number_in (template_named R.templates name)) excluded) R.autos } in
+    let are = coming_alike ruled (filter_map (applied ruled moment) (subfolders R.nodes folder)) (filter_map (applied (lasting ruled) moment) (subfolders R.nodes folder)) (given_lasting ruled moment (subfolders R.nodes folder)) in
+    alike are (refl, (refl, (refl, (refl, (table_same are, (texts_same are, tt))))))
+
+pub auto_delete_alike : (R : Rows) (path : List (List ℕ)) → WorksAlike (auto_delete_work R path) (auto_delete_work (lasting R) path)
+auto_delete_alike R path = alike (lasting_alike (without_auto R (target R.nodes path))) (refl, (refl, tt))
+
+pub auto_list_alike : (R : Rows) → WorksAlike (auto_list_work R) (auto_list_work (lasting R))
+auto_list_alike R = alike (lasting_alike R) tt

@@ -1,6 +1,6 @@
 -- Each command's work is orderly, and the kind of its entry is its own. Here alone the laws over all commands go
 -- through them, one by one.
-use Rattle.std.proofs.Common.{◌≡◌, ℕ, ◌<◌, ◌≤◌, ◌⊎◌, inl, inr, true, List, false, refl, sym, ap, ◌∙◌, Some, None, Option, nat_lt, subst}
+use Rattle.std.proofs.Common.{◌≡◌, ℕ, ◌<◌, ◌≤◌, ◌⊎◌, inl, inr, true, List, Bool, false, refl, sym, ap, ◌∙◌, Some, None, Option, nat_lt, subst}
 use Rattle.fsrm_model.specs.declared.command.AdminDeed.TheVariants.{Options as AdminOptions, List as AdminList, Log as AdminLog}
 use Rattle.fsrm_model.specs.declared.command.AutoquotaDeed.TheVariants.{Add as AutoquotaAdd, Delete as AutoquotaDelete, List as AutoquotaList}
 use Rattle.fsrm_model.specs.declared.command.Command.{Command}
@@ -10,6 +10,7 @@ use Rattle.fsrm_model.specs.declared.command.ExceptionDeed.TheVariants.{Add as E
 use Rattle.fsrm_model.specs.declared.command.FileOp.{FileOp}
 use Rattle.fsrm_model.specs.declared.command.FileOp.TheVariants.{Mkdir, Create, Resize, Touch, Move, Remove}
 use Rattle.fsrm_model.specs.declared.command.FilegroupDeed.TheVariants.{Add as FilegroupAdd, Modify as FilegroupModify, Delete as FilegroupDelete, List as FilegroupList}
+use Rattle.fsrm_model.specs.declared.command.Outcome.{Outcome}
 use Rattle.fsrm_model.specs.declared.command.Outcome.TheVariants.{Refused}
 use Rattle.fsrm_model.specs.declared.command.Refusal.{Refusal}
 use Rattle.fsrm_model.specs.declared.command.Refusal.TheVariants.{ScreenBlocked, QuotaExceeded}
@@ -19,7 +20,7 @@ use Rattle.fsrm_model.specs.declared.command.ScreenDeed.TheVariants.{Add as Scre
 use Rattle.fsrm_model.specs.declared.command.TemplateDeed.TheVariants.{Add as TemplateAdd, Modify as TemplateModify, Delete as TemplateDelete, List as TemplateList}
 use Rattle.fsrm_model.specs.declared.command.Update.TheVariants.{Keep}
 use Rattle.std.specs.List.{list_all}
-use Rattle.std.specs.Prelude.{◌&&◌, ◌==◌, [], ◌∷◌, find, is_some, length, nat_le, sum_by}
+use Rattle.std.specs.Prelude.{◌&&◌, ◌==◌, [], ◌∷◌, find, is_some, length, nat_le, sum_by, if◌then◌else◌}
 use Rattle.std.specs.Option.{option_map_or}
 use Rattle.std.proofs.lemmas.Option.{same_Some}
 use Rattle.fsrm_model.specs.declared.row.Capacity.{Capacity}
@@ -36,7 +37,7 @@ use Rattle.fsrm_model.specs.Limits.{latest_moment, most_excluded}
 use Rattle.fsrm_model.specs.Name.{is_name}
 use Rattle.fsrm_model.specs.Quota.{quota_of, counts, is_limit}
 use Rattle.fsrm_model.specs.Space.{space}
-use Rattle.fsrm_model.specs.Step.{step, work}
+use Rattle.fsrm_model.specs.Step.{decided, lasted, screened, step, unlasting, work}
 use Rattle.fsrm_model.specs.Tree.{usage, under}
 use Rattle.fsrm_model.specs.Valid.{is_moment, IsValid}
 use Rattle.fsrm_model.specs.Valued.{is_path, is_deed, is_short, is_command}
@@ -44,20 +45,24 @@ use Rattle.fsrm_model.specs.Work.{Work, Judged}
 use Rattle.fsrm_model.specs.FileWork.{judged_name}
 use Rattle.fsrm_model.specs.Patterns.{is_object_name, are_members, are_non_members}
 use Rattle.fsrm_model.specs.Thresholds.{is_percent, is_new_action, is_notice}
-use Rattle.fsrm_model.proofs.commands.AdminCommands.{options_still, options_kept, settings_still, log_still}
-use Rattle.fsrm_model.proofs.commands.AutoCommands.{auto_add_still, auto_delete_still, auto_list_still, auto_add_kept, auto_delete_kept, auto_list_kept}
-use Rattle.fsrm_model.proofs.commands.Ends.{effect_nodes}
-use Rattle.fsrm_model.proofs.commands.FileCommands.{file_orderly, file_limits, file_names, usage_still, file_kept}
-use Rattle.fsrm_model.proofs.commands.GroupCommands.{group_add_still, group_modify_still, group_delete_still, group_list_still, group_add_kept, group_modify_kept, group_delete_kept, group_list_kept}
-use Rattle.fsrm_model.proofs.commands.ScreenCommands.{screen_add_still, screen_modify_still, screen_delete_still, screen_list_still, screen_add_kept, screen_modify_kept, screen_delete_kept, screen_list_kept, except_add_still, except_delete_still, except_list_still, except_add_kept, except_delete_kept, except_list_kept}
-use Rattle.fsrm_model.proofs.commands.Orderly.{IsOrderly, IsStill, KeepsLimits, KeepsValid, NamesJudged, still_limits, unjudged_named}
-use Rattle.fsrm_model.proofs.commands.OrderlyLaws.{LeavesRuns, verdict, refused_kept, same_or_left, refused_by, sum_afresh, refusal_exceeds, refusal_blocks, still_unexceeded, limits_hold, outcome_named, unlasting_kept, valid_kept}
-use Rattle.fsrm_model.proofs.commands.QuotaCommands.{add_kept, modify_kept, delete_kept, reset_kept, list_kept, add_still, modify_still, delete_still, reset_still, list_still}
+use Rattle.fsrm_model.proofs.commands.AdminCommands.{options_still, options_kept, settings_still, log_still, log_alike, options_alike, settings_alike}
+use Rattle.fsrm_model.proofs.commands.AutoCommands.{auto_add_still, auto_delete_still, auto_list_still, auto_add_kept, auto_delete_kept, auto_list_kept, auto_add_alike, auto_delete_alike, auto_list_alike}
+use Rattle.fsrm_model.proofs.commands.Ends.{effect_nodes, outcome_kept}
+use Rattle.fsrm_model.proofs.commands.FileCommands.{file_orderly, file_limits, file_names, usage_still, file_kept, file_alike, usage_alike}
+use Rattle.fsrm_model.proofs.commands.GroupCommands.{group_add_still, group_modify_still, group_delete_still, group_list_still, group_add_kept, group_modify_kept, group_delete_kept, group_list_kept, group_add_alike, group_delete_alike, group_list_alike, group_modify_alike}
+use Rattle.fsrm_model.proofs.commands.ScreenCommands.{screen_add_still, screen_modify_still, screen_delete_still, screen_list_still, screen_add_kept, screen_modify_kept, screen_delete_kept, screen_list_kept, except_add_still, except_delete_still, except_list_still, except_add_kept, except_delete_kept, except_list_kept, except_add_alike, except_delete_alike, except_list_alike, screen_add_alike, screen_delete_alike, screen_list_alike, screen_modify_alike}
+use Rattle.fsrm_model.proofs.commands.Orderly.{IsAnswer, IsOrderly, IsStill, KeepsLimits, KeepsValid, NamesJudged, still_limits, unjudged_named}
+use Rattle.fsrm_model.proofs.commands.OrderlyLaws.{LeavesRuns, verdict, refused_kept, same_or_left, refused_by, sum_afresh, refusal_exceeds, refusal_blocks, still_unexceeded, limits_hold, outcome_named, unlasting_kept, valid_kept, refused_outcome}
+use Rattle.fsrm_model.proofs.commands.QuotaCommands.{add_kept, modify_kept, delete_kept, reset_kept, list_kept, add_still, modify_still, delete_still, reset_still, list_still, add_alike, delete_alike, list_alike, modify_alike, reset_alike, list_lasts}
 use Rattle.fsrm_model.proofs.commands.StepActs.{AreActs, decided_acts}
-use Rattle.fsrm_model.proofs.commands.TemplateCommands.{template_add_still, template_modify_still, template_delete_still, template_list_still, template_add_kept, template_modify_kept, template_delete_kept, template_list_kept}
+use Rattle.fsrm_model.proofs.commands.TemplateCommands.{template_add_still, template_modify_still, template_delete_still, template_list_still, template_add_kept, template_modify_kept, template_delete_kept, template_list_kept, template_add_alike, template_delete_alike, template_list_alike, template_modify_alike}
 use Rattle.fsrm_model.proofs.valid.RowsKept.{nothing_followed}
-use Rattle.fsrm_model.proofs.commands.ScanCommands.{scan_kept, step_kept, scan_still, step_still}
+use Rattle.fsrm_model.proofs.commands.ScanCommands.{scan_kept, step_kept, scan_still, step_still, scan_alike, step_lasts}
 use Rattle.fsrm_base.proofs.TestLaws.{both, le_is}
+use Rattle.fsrm_model.specs.QuotaStates.{followed}
+use Rattle.fsrm_model.specs.Replays.{is_scan_step, accepted_lasts, lasts_by, lasts}
+use Rattle.fsrm_model.proofs.journal.Alike.{WorksAlike}
+use Rattle.fsrm_model.proofs.journal.AlikeSteps.{StepsAlike, step_alike}
 
 -- the nodes that a file operation makes
 record IsFileWork (R : Rows) (moment : ℕ) (deed : Deed) (nodes : List NodeRow) : Type 0 where
@@ -71,6 +76,10 @@ record IsNameWork (R : Rows) (deed : Deed) (judged : Option Judged) : Type 0 whe
   is : deed ≡ File op
   made : judged ≡ judged_name R op
 
+-- a command does the same to rows and to what is kept of them. A step of a scan doesn't: there is none to go on with
+abbrev IsAlike : Capacity → Rows → ℕ → Deed → Work → Type 0
+IsAlike K R moment deed w = is_scan_step deed ≡ false → WorksAlike w (work K (lasting R) moment deed)
+
 -- a work is orderly and keeps limits, only a file operation makes other nodes and gives a file a name, and of a command whose
 -- values are in their ranges it leaves the rows of a store, and what a screen judges is a name
 record IsCertified (K : Capacity) (R : Rows) (moment : ℕ) (deed : Deed) (w : Work) : Type 0 where
@@ -80,9 +89,11 @@ record IsCertified (K : Capacity) (R : Rows) (moment : ℕ) (deed : Deed) (w : W
   judges : (w.judged ≡ None) ⊎ IsNameWork R deed w.judged
   names : is_deed deed ≡ true → NamesJudged K R w
   kept : moment ≤ latest_moment → is_deed deed ≡ true → KeepsValid K R w
+  alike : IsAlike K R moment deed w
+  lasts : w.lasts ≡ accepted_lasts R deed w.outcome
 
-still : {K : Capacity} {R : Rows} {moment : ℕ} {deed : Deed} {w : Work} → IsStill K R w → (moment ≤ latest_moment → is_deed deed ≡ true → KeepsValid K R w) → IsCertified K R moment deed w
-still {K} {R} {moment} {deed} {w} s kept = record { orderly = s.orderly; limits = still_limits K R w s.same; nodes = inl s.same; judges = inl s.unjudged; names = λ legal. unjudged_named K R w s.unjudged; kept = kept }
+still : {K : Capacity} {R : Rows} {moment : ℕ} {deed : Deed} {w : Work} → IsStill K R w → (moment ≤ latest_moment → is_deed deed ≡ true → KeepsValid K R w) → IsAlike K R moment deed w → w.lasts ≡ accepted_lasts R deed w.outcome → IsCertified K R moment deed w
+still {K} {R} {moment} {deed} {w} s kept alike lasts = record { orderly = s.orderly; limits = still_limits K R w s.same; nodes = inl s.same; judges = inl s.unjudged; names = λ legal. unjudged_named K R w s.unjudged; kept = kept; alike = alike; lasts = lasts }
 
 certified : (K : Capacity) (R : Rows) (moment : ℕ) (deed : Deed) → IsCertified K R moment deed (work K R moment deed)
 certified K R moment (File op) =
@@ -93,78 +104,80 @@ certified K R moment (File op) =
       judges = inr (record { op = op; is = refl; made = refl });
       names = file_names K R op moment;
       kept = λ late legal. file_kept K R op moment legal late;
+      alike = λ other. file_alike K R op moment;
+      lasts = refl;
     }
-certified K R moment (Usage path) = still (usage_still K R path) (λ late legal store h. nothing_followed K R store)
-certified K R moment (Step n) = still (step_still K R n) (λ late legal. step_kept K R n)
+certified K R moment (Usage path) = still (usage_still K R path) (λ late legal store h. nothing_followed K R store) (λ other. usage_alike K R path) refl
+certified K R moment (Step n) = still (step_still K R n) (λ late legal. step_kept K R n) (λ other. absurd (cc other)) (step_lasts K R n)
 certified K R moment (Quota (QuotaAdd path limit enforce enabled template percents notices)) =
     still (add_still K R moment path limit enforce enabled template percents notices) (λ late legal.
     let values : (list_all is_path (path ∷ []) ≡ true) × (((option_map_or is_limit limit (is_some template) && option_map_or is_object_name template true) && (list_all is_percent percents && list_all is_notice notices)) ≡ true) = both _ _ legal in
     let parts : ((option_map_or is_limit limit (is_some template) && option_map_or is_object_name template true) ≡ true) × ((list_all is_percent percents && list_all is_notice notices) ≡ true) = both _ _ values.1 in
     let size : (option_map_or is_limit limit (is_some template) ≡ true) × (option_map_or is_object_name template true ≡ true) = both _ _ parts.0 in
     let marks : (list_all is_percent percents ≡ true) × (list_all is_notice notices ≡ true) = both _ _ parts.1 in
-    add_kept K R moment path limit enforce enabled template percents notices size.0 marks.0 marks.1 late)
+    add_kept K R moment path limit enforce enabled template percents notices size.0 marks.0 marks.1 late) (λ other. add_alike R moment path limit enforce enabled template percents notices) refl
 certified K R moment (Quota (QuotaModify path limit enforce enabled removed percents notices)) =
     still (modify_still K R path limit enforce enabled removed percents notices) (λ late legal.
     let values : (list_all is_path (path ∷ []) ≡ true) × ((option_map_or is_limit limit true && (list_all is_percent removed && (list_all is_percent percents && list_all is_notice notices))) ≡ true) = both _ _ legal in
     let size : (option_map_or is_limit limit true ≡ true) × ((list_all is_percent removed && (list_all is_percent percents && list_all is_notice notices)) ≡ true) = both _ _ values.1 in
     let gone : (list_all is_percent removed ≡ true) × ((list_all is_percent percents && list_all is_notice notices) ≡ true) = both _ _ size.1 in
     let marks : (list_all is_percent percents ≡ true) × (list_all is_notice notices ≡ true) = both _ _ gone.1 in
-    modify_kept K R path limit enforce enabled removed percents notices size.0 marks.0 marks.1)
-certified K R moment (Quota (QuotaDelete path)) = still (delete_still K R path) (λ late legal. delete_kept K R path)
-certified K R moment (Quota (QuotaScan path)) = still (scan_still K R path) (λ late legal. scan_kept K R path)
-certified K R moment (Quota (QuotaResetpeak path)) = still (reset_still K R moment path) (λ late legal. reset_kept K R moment path late)
-certified K R moment (Quota (QuotaList path)) = still (list_still K R path) (λ late legal. list_kept K R path)
+    modify_kept K R path limit enforce enabled removed percents notices size.0 marks.0 marks.1) (λ other. modify_alike R path limit enforce enabled removed percents notices) refl
+certified K R moment (Quota (QuotaDelete path)) = still (delete_still K R path) (λ late legal. delete_kept K R path) (λ other. delete_alike R path) refl
+certified K R moment (Quota (QuotaScan path)) = still (scan_still K R path) (λ late legal. scan_kept K R path) (λ other. scan_alike R path) refl
+certified K R moment (Quota (QuotaResetpeak path)) = still (reset_still K R moment path) (λ late legal. reset_kept K R moment path late) (λ other. reset_alike K R moment path) refl
+certified K R moment (Quota (QuotaList path)) = still (list_still K R path) (λ late legal. list_kept K R path) (λ other. list_alike R path) (list_lasts R path)
 certified K R moment (Template (TemplateAdd name limit enforce percents notices)) =
     still (template_add_still K R name limit enforce percents notices) (λ late legal.
     let values : (is_object_name name ≡ true) × ((is_limit limit && (list_all is_percent percents && list_all is_notice notices)) ≡ true) = both _ _ legal in
     let size : (is_limit limit ≡ true) × ((list_all is_percent percents && list_all is_notice notices) ≡ true) = both _ _ values.1 in
     let marks : (list_all is_percent percents ≡ true) × (list_all is_notice notices ≡ true) = both _ _ size.1 in
-    template_add_kept K R name limit enforce percents notices values.0 size.0 marks.0 marks.1)
+    template_add_kept K R name limit enforce percents notices values.0 size.0 marks.0 marks.1) (λ other. template_add_alike R name limit enforce percents notices) refl
 certified K R moment (Template (TemplateModify name limit enforce removed percents notices mode)) =
     still (template_modify_still K R name limit enforce removed percents notices mode) (λ late legal.
     let values : (is_object_name name ≡ true) × ((option_map_or is_limit limit true && (list_all is_percent removed && (list_all is_percent percents && list_all is_notice notices))) ≡ true) = both _ _ legal in
     let size : (option_map_or is_limit limit true ≡ true) × ((list_all is_percent removed && (list_all is_percent percents && list_all is_notice notices)) ≡ true) = both _ _ values.1 in
     let gone : (list_all is_percent removed ≡ true) × ((list_all is_percent percents && list_all is_notice notices) ≡ true) = both _ _ size.1 in
     let marks : (list_all is_percent percents ≡ true) × (list_all is_notice notices ≡ true) = both _ _ gone.1 in
-    template_modify_kept K R name limit enforce removed percents notices mode size.0 marks.0 marks.1)
-certified K R moment (Template (TemplateDelete name)) = still (template_delete_still K R name) (λ late legal. template_delete_kept K R name)
-certified K R moment (Template TemplateList) = still (template_list_still K R) (λ late legal. template_list_kept K R)
+    template_modify_kept K R name limit enforce removed percents notices mode size.0 marks.0 marks.1) (λ other. template_modify_alike R name limit enforce removed percents notices mode) refl
+certified K R moment (Template (TemplateDelete name)) = still (template_delete_still K R name) (λ late legal. template_delete_kept K R name) (λ other. template_delete_alike R name) refl
+certified K R moment (Template TemplateList) = still (template_list_still K R) (λ late legal. template_list_kept K R) (λ other. template_list_alike R) refl
 certified K R moment (Autoquota (AutoquotaAdd path name excluded)) =
     still (auto_add_still K R moment path name excluded) (λ late legal.
     let values : (list_all is_path (path ∷ []) ≡ true) × ((is_object_name name && (nat_le (length excluded) most_excluded && list_all is_name excluded)) ≡ true) = both _ _ legal in
     let names : (is_object_name name ≡ true) × ((nat_le (length excluded) most_excluded && list_all is_name excluded) ≡ true) = both _ _ values.1 in
-    auto_add_kept K R moment path name excluded names.1 late)
-certified K R moment (Autoquota (AutoquotaDelete path)) = still (auto_delete_still K R path) (λ late legal. auto_delete_kept K R path)
-certified K R moment (Autoquota AutoquotaList) = still (auto_list_still K R) (λ late legal. auto_list_kept K R)
-certified K R moment (Admin (AdminOptions minutes)) = still (options_still K R minutes) (λ late legal. options_kept K R minutes legal)
-certified K R moment (Admin AdminList) = still (settings_still K R) (λ late legal store h. nothing_followed K R store)
-certified K R moment (Admin AdminLog) = still (log_still K R) (λ late legal store h. nothing_followed K R store)
+    auto_add_kept K R moment path name excluded names.1 late) (λ other. auto_add_alike R moment path name excluded) refl
+certified K R moment (Autoquota (AutoquotaDelete path)) = still (auto_delete_still K R path) (λ late legal. auto_delete_kept K R path) (λ other. auto_delete_alike R path) refl
+certified K R moment (Autoquota AutoquotaList) = still (auto_list_still K R) (λ late legal. auto_list_kept K R) (λ other. auto_list_alike R) refl
+certified K R moment (Admin (AdminOptions minutes)) = still (options_still K R minutes) (λ late legal. options_kept K R minutes legal) (λ other. options_alike R minutes) refl
+certified K R moment (Admin AdminList) = still (settings_still K R) (λ late legal store h. nothing_followed K R store) (λ other. settings_alike R) refl
+certified K R moment (Admin AdminLog) = still (log_still K R) (λ late legal store h. nothing_followed K R store) (λ other. log_alike R) refl
 certified K R moment (Filegroup (FilegroupAdd name members non_members)) =
     still (group_add_still K R name members non_members) (λ late legal.
     let values : (is_object_name name ≡ true) × ((are_members members && are_non_members non_members) ≡ true) = both _ _ legal in
     let patterns : (are_members members ≡ true) × (are_non_members non_members ≡ true) = both _ _ values.1 in
-    group_add_kept K R name members non_members values.0 patterns.0 patterns.1)
+    group_add_kept K R name members non_members values.0 patterns.0 patterns.1) (λ other. group_add_alike R name members non_members) refl
 certified K R moment (Filegroup (FilegroupModify name members non_members)) =
     still (group_modify_still K R name members non_members) (λ late legal.
     let values : (is_object_name name ≡ true) × ((option_map_or are_members members true && option_map_or are_non_members non_members true) ≡ true) = both _ _ legal in
     let patterns : (option_map_or are_members members true ≡ true) × (option_map_or are_non_members non_members true ≡ true) = both _ _ values.1 in
-    group_modify_kept K R name members non_members patterns.0 patterns.1)
-certified K R moment (Filegroup (FilegroupDelete name)) = still (group_delete_still K R name) (λ late legal. group_delete_kept K R name)
-certified K R moment (Filegroup FilegroupList) = still (group_list_still K R) (λ late legal. group_list_kept K R)
+    group_modify_kept K R name members non_members patterns.0 patterns.1) (λ other. group_modify_alike R name members non_members) refl
+certified K R moment (Filegroup (FilegroupDelete name)) = still (group_delete_still K R name) (λ late legal. group_delete_kept K R name) (λ other. group_delete_alike R name) refl
+certified K R moment (Filegroup FilegroupList) = still (group_list_still K R) (λ late legal. group_list_kept K R) (λ other. group_list_alike R) refl
 certified K R moment (Screen (ScreenAdd path active groups actions)) =
     still (screen_add_still K R path active groups actions) (λ late legal.
     let values : (list_all is_path (path ∷ []) ≡ true) × ((are_some_names groups && list_all is_new_action actions) ≡ true) = both _ _ legal in
     let lists : (are_some_names groups ≡ true) × (list_all is_new_action actions ≡ true) = both _ _ values.1 in
-    screen_add_kept K R path active groups actions lists.0 lists.1)
-certified K R moment (Screen (ScreenModify path active removed groups)) = still (screen_modify_still K R path active removed groups) (λ late legal. screen_modify_kept K R path active removed groups)
-certified K R moment (Screen (ScreenDelete path)) = still (screen_delete_still K R path) (λ late legal. screen_delete_kept K R path)
-certified K R moment (Screen ScreenList) = still (screen_list_still K R) (λ late legal. screen_list_kept K R)
+    screen_add_kept K R path active groups actions lists.0 lists.1) (λ other. screen_add_alike R path active groups actions) refl
+certified K R moment (Screen (ScreenModify path active removed groups)) = still (screen_modify_still K R path active removed groups) (λ late legal. screen_modify_kept K R path active removed groups) (λ other. screen_modify_alike R path active removed groups) refl
+certified K R moment (Screen (ScreenDelete path)) = still (screen_delete_still K R path) (λ late legal. screen_delete_kept K R path) (λ other. screen_delete_alike R path) refl
+certified K R moment (Screen ScreenList) = still (screen_list_still K R) (λ late legal. screen_list_kept K R) (λ other. screen_list_alike R) refl
 certified K R moment (Exception (ExceptionAdd path groups)) =
     still (except_add_still K R path groups) (λ late legal.
     let values : (list_all is_path (path ∷ []) ≡ true) × (are_some_names groups ≡ true) = both _ _ legal in
-    except_add_kept K R path groups values.1)
-certified K R moment (Exception (ExceptionDelete path)) = still (except_delete_still K R path) (λ late legal. except_delete_kept K R path)
-certified K R moment (Exception ExceptionList) = still (except_list_still K R) (λ late legal. except_list_kept K R)
+    except_add_kept K R path groups values.1) (λ other. except_add_alike R path groups) refl
+certified K R moment (Exception (ExceptionDelete path)) = still (except_delete_still K R path) (λ late legal. except_delete_kept K R path) (λ other. except_delete_alike R path) refl
+certified K R moment (Exception ExceptionList) = still (except_list_still K R) (λ late legal. except_list_kept K R) (λ other. except_list_alike R) refl
 
 pub orderly : (K : Capacity) (R : Rows) (moment : ℕ) (deed : Deed) → IsOrderly K R (work K R moment deed)
 orderly K R moment deed = (certified K R moment deed).orderly
@@ -331,3 +344,62 @@ of_kind_is (Exception ExceptionList) k h = absurd (cc h)
 -- so the kind tells the command
 pub same_kind : (one other : Deed) (k : ℕ) → kind one ≡ Some k → kind other ≡ Some k → emptied one ≡ emptied other
 same_kind one other k h g = same_Some _ _ (sym (of_kind_is one k h) ∙ of_kind_is other k g)
+
+-- a command that isn't a step of a scan leaves rows of which the same is kept, whether it is done to rows or to what is kept of
+-- them, and it answers, lasts and has actions run in the same way
+pub kept_alike : (K : Capacity) (R : Rows) (c : Command) → is_scan_step c.deed ≡ false → StepsAlike (step K R c) (step K (lasting R) c)
+kept_alike K R c other = step_alike K R c ((certified K R c.moment c.deed).alike other)
+
+-- ---- which commands last
+-- a command that no check refuses
+unrefused_lasts : (K : Capacity) (R : Rows) (moment : ℕ) (w : Work) → (decided K R moment w None).lasting ≡ w.lasts
+unrefused_lasts K R moment w = at w.lasts
+  where
+    at : (b : Bool) → (if b then lasted K R (screened (followed R w.effect) moment w.judged) moment w.outcome else unlasting (followed R w.effect) w.outcome).lasting ≡ b
+    at true = refl
+    at false = refl
+
+answer_lasts : (K : Capacity) (R : Rows) (c : Command) (outcome : Outcome) → IsAnswer K R outcome → lasts_by K R c outcome ≡ accepted_lasts R c.deed outcome
+answer_lasts K R c (Refused refusal) h = absurd h
+answer_lasts K R c other h = refl
+
+-- and one that a check refuses
+refusal_lasts : (K : Capacity) (R : Rows) (c : Command) (refusal : Refusal) → verdict (nat_lt c.moment R.last_moment) (work K R c.moment c.deed) ≡ Some refusal → may_leave K R c.moment (work K R c.moment c.deed) refusal ≡ lasts_by K R c (Refused refusal)
+refusal_lasts K R c (ScreenBlocked screen) h =
+    ap is_some (refusal_blocks K R (nat_lt c.moment R.last_moment) (work K R c.moment c.deed) (orderly K R c.moment c.deed) screen h).is
+refusal_lasts K R c (QuotaExceeded folder would limit) h = refl
+refusal_lasts K R c other h = refl
+
+pub lasts_is : (K : Capacity) (R : Rows) (c : Command) → (step K R c).lasting ≡ lasts K R c
+lasts_is K R c = by (verdict (nat_lt c.moment R.last_moment) w) refl
+  where
+    w : Work
+    w = work K R c.moment c.deed
+
+    by : (o : Option Refusal) → verdict (nat_lt c.moment R.last_moment) w ≡ o → (decided K R c.moment w o).lasting ≡ lasts_by K R c (decided K R c.moment w o).outcome
+    by (Some refusal) e =
+        (refused_kept K R c.moment w (orderly K R c.moment c.deed) (Some refusal) refusal (refused_outcome K R c.moment w refusal)).lasts
+        ∙ (refusal_lasts K R c refusal e ∙ ap (lasts_by K R c) (sym (refused_outcome K R c.moment w refusal)))
+    by None e =
+        unrefused_lasts K R c.moment w
+        ∙ ((certified K R c.moment c.deed).lasts
+        ∙ (sym (answer_lasts K R c w.outcome (orderly K R c.moment c.deed).answer)
+        ∙ ap (lasts_by K R c) (sym (outcome_kept K R c.moment w))))
+
+-- what lasts, and isn't a step, has an entry
+unlasting_kind : (R : Rows) (deed : Deed) (outcome : Outcome) → is_scan_step deed ≡ false → accepted_lasts R deed outcome ≡ true → is_some (kind deed) ≡ true
+unlasting_kind R (Step n) outcome other h = absurd (cc other)
+unlasting_kind R (Quota (QuotaScan path)) outcome other h = refl
+unlasting_kind R deed outcome other h = h
+
+file_kind : (deed : Deed) (op : FileOp) → deed ≡ File op → is_some (kind deed) ≡ true
+file_kind deed op is = ap (λ d. is_some (kind d)) is
+
+pub lasting_kind : (K : Capacity) (R : Rows) (c : Command) → IsValid K R → is_scan_step c.deed ≡ false → (step K R c).lasting ≡ true → is_some (kind c.deed) ≡ true
+lasting_kind K R c store other l = by (step K R c).outcome refl (sym (lasts_is K R c) ∙ l)
+  where
+    by : (outcome : Outcome) → (step K R c).outcome ≡ outcome → lasts_by K R c outcome ≡ true → is_some (kind c.deed) ≡ true
+    by (Refused (ScreenBlocked screen)) e h = let found = screen_refuses K R c screen e in file_kind c.deed found.0 found.2
+    by (Refused (QuotaExceeded folder would limit)) e h = let found = quota_refuses K R c folder would limit store e in file_kind c.deed found.0 found.1
+    by (Refused refusal) e h = absurd (cc h)
+    by outcome e h = unlasting_kind R c.deed outcome other h

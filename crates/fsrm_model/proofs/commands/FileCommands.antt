@@ -14,14 +14,14 @@ use Rattle.fsrm_model.specs.declared.row.Rows.{Rows}
 use Rattle.fsrm_model.specs.declared.row.ScreenRow.{ScreenRow}
 use Rattle.fsrm_model.specs.AutoApply.{auto_folder, applied, quotas_with, queue_with, with_quotas}
 use Rattle.fsrm_model.specs.Check.{Check, first, ◌when◌, volume_full, names_full, table_full, texts_full}
-use Rattle.fsrm_model.specs.FileWork.{judged_by, judged_name, blocked, reported, file_checks, file_effect, file_work, usage_work}
+use Rattle.fsrm_model.specs.FileWork.{judged_by, judged_name, blocked, reported, file_checks, file_effect, file_work, usage_work, objects_after, unvisited_after}
 use Rattle.fsrm_base.specs.Keyed.{has_row, with_row, with_change, without_row}
 use Rattle.fsrm_model.specs.Leads.{is_root, leads, leads_to_folder, leads_to_file, leads_to_other}
 use Rattle.fsrm_model.specs.Name.{is_name}
 use Rattle.fsrm_model.specs.Named.{IsNamed}
 use Rattle.fsrm_model.specs.Screens.{screen_folder, screen_of, judging}
 use Rattle.fsrm_model.specs.Work.{Judged}
-use Rattle.fsrm_model.specs.Tree.{number, resolve, node_of, is_folder, is_under, owner_of, folder_part, last_name, name_of, name_bytes}
+use Rattle.fsrm_model.specs.Tree.{number, resolve, node_of, is_folder, is_under, owner_of, folder_part, last_name, name_of, name_bytes, fresh}
 use Rattle.fsrm_model.specs.Valid.{IsVolume, is_own, are_templates, AreTables, IsValid}
 use Rattle.fsrm_model.proofs.commands.Ends.{effect_nodes}
 use Rattle.fsrm_model.proofs.commands.HardLimits.{op_within}
@@ -29,7 +29,7 @@ use Rattle.fsrm_model.proofs.commands.Orderly.{AreChecks, IsJudged, IsOrderly, I
 use Rattle.fsrm_model.proofs.nodes.Resolves.{resolved}
 use Rattle.std.specs.Option.{option_map_or}
 use Rattle.std.specs.List.{list_all}
-use Rattle.fsrm_model.specs.FileOps.{target, target_folder, new_node, resized, touched, placed}
+use Rattle.fsrm_model.specs.FileOps.{target, target_folder, new_node, resized, touched, placed, plain}
 use Rattle.fsrm_model.specs.Limits.{latest_moment, longest_file, last_owner, most_quotas, most_text_bytes}
 use Rattle.fsrm_base.specs.Numbers.{without_number}
 use Rattle.fsrm_model.specs.Quota.{folder_of, exceeded}
@@ -59,6 +59,11 @@ use Rattle.fsrm_model.proofs.nodes.Sizes.{name_bytes-new, name_bytes-placed}
 use Rattle.fsrm_base.proofs.TestLaws.{both, not_true, clash, eq_is, eq_same, le_is, le_test, lt_test}
 use Rattle.fsrm_model.proofs.valid.UnvisitedKept.{unvisited-new, unvisited-change, unvisited-moved, unvisited-removed}
 use Rattle.fsrm_model.proofs.nodes.Walks.{found_name}
+use Rattle.fsrm_model.proofs.journal.Alike.{AreSame, RowsAlike, WorksAlike, alike, lasting_alike, quotas_alike, table_same, texts_same}
+use Rattle.fsrm_model.proofs.commands.AutoCommands.{applied_lasting, coming_alike}
+use Rattle.fsrm_model.proofs.journal.KeptEnds.{exceeded_lasting}
+use Rattle.fsrm_model.proofs.journal.KeptQuotas.{kept, kept_twice, kept_without}
+use Rattle.fsrm_model.specs.Lasting.{lasting}
 
 file_are : (K : Capacity) (R : Rows) (op : FileOp) (after : Rows) → AreChecks K R after.nodes (judged_name R op) (file_checks K R op after)
 file_are K R (Mkdir path owner) after =
@@ -426,3 +431,46 @@ file_kept K R (Resize path length) moment legal late = resize_kept K R path leng
 file_kept K R (Touch path) moment legal late = touch_kept K R path moment late
 file_kept K R (Move from to) moment legal late = move_kept K R from to moment legal late
 file_kept K R (Remove path) moment legal late = remove_kept K R path moment
+
+-- ---- over rows and over what is kept of them
+pub usage_alike : (K : Capacity) (R : Rows) (path : List (List ℕ)) → WorksAlike (usage_work K R path) (usage_work K (lasting R) path)
+usage_alike K R path = alike (lasting_alike R) (refl, tt)
+
+-- the rows that an operation leaves before a quota comes
+abbrev before_quotas : Rows → FileOp → ℕ → Rows
+before_quotas R op moment =
+    let nodes = plain R.nodes op moment in
+    objects_after op R (record R { nodes = nodes; unvisited = unvisited_after R nodes op })
+
+file_same : (K : Capacity) (R : Rows) (op : FileOp) (moment : ℕ) → RowsAlike (file_effect R op moment) (file_effect (lasting R) op moment) → AreSame (file_checks K (lasting R) op (file_effect (lasting R) op moment)) (file_checks K R op (file_effect R op moment)) → judged_name (lasting R) op ≡ judged_name R op → WorksAlike (file_work K R op moment) (file_work K (lasting R) op moment)
+file_same K R op moment are checks judged =
+    record { checks = checks; effect = are; outcome = ap (λ j. Done (reported j)) judged; lasts = refl; judged = judged }
+
+pub file_alike : (K : Capacity) (R : Rows) (op : FileOp) (moment : ℕ) → WorksAlike (file_work K R op moment) (file_work K (lasting R) op moment)
+file_alike K R (Mkdir path owner) moment =
+    let E : Rows = before_quotas R (Mkdir path owner) moment in
+    let node = fresh R.nodes in
+    let are = coming_alike E (option_to_list (applied E moment node)) (option_to_list (applied (lasting E) moment node)) (ap option_to_list (applied_lasting E moment node)) in
+    file_same K R (Mkdir path owner) moment are (refl, (refl, (refl, (refl, (refl, (table_same are, (texts_same are, tt))))))) refl
+file_alike K R (Create path bytes owner) moment =
+    let E : Rows = before_quotas R (Create path bytes owner) moment in
+    file_same K R (Create path bytes owner) moment (coming_alike E [] [] refl) (refl, (refl, (refl, (refl, (refl, (refl, (exceeded_lasting K R E.nodes, tt))))))) refl
+file_alike K R (Resize path bytes) moment =
+    let E : Rows = before_quotas R (Resize path bytes) moment in
+    file_same K R (Resize path bytes) moment (coming_alike E [] [] refl) (refl, (exceeded_lasting K R E.nodes, tt)) refl
+file_alike K R (Touch path) moment =
+    file_same K R (Touch path) moment (coming_alike (before_quotas R (Touch path) moment) [] [] refl) (refl, tt) refl
+file_alike K R (Move from to) moment =
+    let E : Rows = before_quotas R (Move from to) moment in
+    let node = target R.nodes from in
+    let is = leads_to_folder R.nodes from in
+    let are = coming_alike E (if is then option_to_list (applied E moment node) else []) (if is then option_to_list (applied (lasting E) moment node) else []) (ap (λ o. if is then option_to_list o else []) (applied_lasting E moment node)) in
+    file_same K R (Move from to) moment are
+    (refl, (refl, (refl, (refl, (refl, (refl, (refl, (table_same are, (texts_same are, (refl, (exceeded_lasting K R E.nodes, tt)))))))))))
+    refl
+file_alike K R (Remove path) moment =
+    let x = target R.nodes path in
+    let E : Rows = before_quotas R (Remove path) moment in
+    file_same K R (Remove path) moment
+    (quotas_alike E (without_row folder_of x R.quotas) (without_row folder_of x (kept R.quotas)) E.queue [] E.unvisited [] (ap kept (kept_without x R.quotas) ∙ kept_twice (without_row folder_of x R.quotas)))
+    (refl, (refl, (refl, tt))) refl

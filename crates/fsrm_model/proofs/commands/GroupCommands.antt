@@ -25,6 +25,8 @@ use Rattle.fsrm_model.proofs.thresholds.KeptLaws.{sum_by-less}
 use Rattle.fsrm_model.proofs.valid.NamesApart.{named_parts, named-new, named-change, named-without, there-with_row}
 use Rattle.fsrm_model.proofs.valid.RowsKept.{all_stay, nothing_followed, screens_followed}
 use Rattle.fsrm_model.proofs.valid.ScreensKept.{HasAll, screen_parts, screen_joined, screens_stay, excepts_stay, table_apart, numbers_without}
+use Rattle.fsrm_model.proofs.journal.Alike.{WorksAlike, alike, lasting_alike, texts_same}
+use Rattle.fsrm_model.specs.Lasting.{lasting}
 
 -- a group of these values
 is_group_of : (number : ℕ) (name : List ℕ) (members non_members : List (List ℕ)) → number < most_groups → is_object_name name ≡ true → are_members members ≡ true → are_non_members non_members ≡ true → is_group (record { number = number; name = name; members = members; non_members = non_members }) ≡ true
@@ -126,3 +128,20 @@ group_delete_kept K R name s h =
 
 pub group_list_kept : (K : Capacity) (R : Rows) → KeepsValid K R (group_list_work R)
 group_list_kept K R s h = nothing_followed K R s
+
+-- ---- over rows and over what is kept of them
+pub group_add_alike : (R : Rows) (name : List ℕ) (members non_members : List (List ℕ)) → WorksAlike (group_add_work R name members non_members) (group_add_work (lasting R) name members non_members)
+group_add_alike R name members non_members =
+    let E : Rows = record R { groups = with_group (new_group R.groups name members non_members) R.groups } in
+    alike (lasting_alike E) (refl, (refl, (texts_same (lasting_alike E), tt)))
+
+pub group_modify_alike : (R : Rows) (name : List ℕ) (members non_members : Option (List (List ℕ))) → WorksAlike (group_modify_work R name members non_members) (group_modify_work (lasting R) name members non_members)
+group_modify_alike R name members non_members =
+    let E : Rows = record R { groups = with_patterns (group_at R name) members non_members R.groups } in
+    alike (lasting_alike E) (refl, (texts_same (lasting_alike E), tt))
+
+pub group_delete_alike : (R : Rows) (name : List ℕ) → WorksAlike (group_delete_work R name) (group_delete_work (lasting R) name)
+group_delete_alike R name = alike (lasting_alike (record R { groups = without_group (group_at R name) R.groups })) (refl, (refl, tt))
+
+pub group_list_alike : (R : Rows) → WorksAlike (group_list_work R) (group_list_work (lasting R))
+group_list_alike R = alike (lasting_alike R) tt

@@ -1,5 +1,5 @@
 -- A quota that counts and is enforced lets no usage rise above its limit.
-use Rattle.std.proofs.Common.{◌≡◌, ℕ, zero, suc, ◌+◌, ◌<◌, ◌≤◌, ◌==◌, Bool, true, false, cond, not, ◌||◌, ◌&&◌, ◌⊎◌, inl, inr, List, [], ◌∷◌, length, refl, sym, ◌∙◌, ap, subst, arith, Some, None, Option}
+use Rattle.std.proofs.Common.{◌≡◌, ℕ, ◌+◌, ◌<◌, ◌≤◌, ◌==◌, Bool, true, false, cond, not, ◌&&◌, ◌⊎◌, inl, inr, List, [], ◌∷◌, length, refl, sym, ◌∙◌, ap, subst, arith, Some, None, Option}
 use Rattle.std.specs.Prelude.{nat_lt, filter, is_some, option_map}
 use Rattle.std.specs.List.{AllByRecursion, list_all, list_any}
 use Rattle.std.proofs.lemmas.Bool.{and_parts, and_from, ltb-false, cases_Bool}
@@ -18,18 +18,17 @@ use Rattle.fsrm_base.specs.Keyed.{has_row, with_row}
 use Rattle.fsrm_model.specs.Leads.{leads_to_file}
 use Rattle.fsrm_model.specs.Quota.{folder_of, quota_of, counts, refuses, over, deepest, exceeded}
 use Rattle.fsrm_model.specs.Space.{space}
-use Rattle.fsrm_model.specs.Tree.{number, parent_of, is_folder, chain, is_under, usage, last_name, fresh}
+use Rattle.fsrm_model.specs.Tree.{number, is_folder, chain, is_under, usage, last_name, fresh}
 use Rattle.fsrm_model.specs.Valid.{IsValid}
 use Rattle.fsrm_base.proofs.TestLaws.{is_or_not, lt_is, clash, or_later, eq_is}
-use Rattle.fsrm_model.proofs.nodes.ChainLaws.{IsTree, Has, chain_step, chain-new_other, usage-new}
+use Rattle.fsrm_model.proofs.nodes.ChainLaws.{IsTree, Has, chain-new_other, usage-new}
 use Rattle.fsrm_base.specs.Numbers.{is_in}
 use Rattle.fsrm_base.proofs.EditedRows.{all_rows}
 use Rattle.fsrm_model.proofs.nodes.ChangeLaws.{KeepsPlace, chain-change, usage-change}
-use Rattle.fsrm_model.proofs.nodes.DepthLaws.{some_member}
 use Rattle.fsrm_model.proofs.nodes.MoveLaws.{KeepsSpace, usage-moved, under_other}
 use Rattle.fsrm_model.proofs.nodes.RemoveLaws.{usage-removed}
-use Rattle.fsrm_model.proofs.nodes.Below.{chain_root, above_all, usage-moved_below}
-use Rattle.fsrm_model.proofs.nodes.Climbs.{under_own}
+use Rattle.fsrm_model.proofs.nodes.Below.{above_all, usage-moved_below}
+use Rattle.fsrm_model.proofs.nodes.Climbs.{one_is_above, under_own}
 use Rattle.fsrm_model.proofs.commands.FileParts.{NewChecks, new_parts, file_at, may_go, move_parts}
 use Rattle.fsrm_model.proofs.nodes.Keeps.{tree_of, zero_apart, as_suc, moves_at, removes_of}
 use Rattle.fsrm_base.proofs.Look.{found_key, has_found, found_any, is_some-find}
@@ -76,28 +75,6 @@ lowest_of above Good o x (y ∷ ys) each =
       }
     ]
 
--- of two nodes above a third one is above the other
-second : (a b : Bool) → (a || b) ≡ true → a ≡ false → b ≡ true
-second true b h e = absurd (clash true refl e)
-second false b h e = h
-
-comparable : (nodes : List NodeRow) → IsTree nodes → (most t a b : ℕ) → Has nodes t → length (chain nodes t) ≤ most → is_under nodes a t ≡ true → is_under nodes b t ≡ true → (is_under nodes a b ≡ true) ⊎ (is_under nodes b a ≡ true)
-comparable nodes t zero n a b h l ha hb = absurd (omega (arith, some_member (length nodes) nodes n))
-comparable nodes t (suc most) zero a b h l ha hb =
-    inl (subst (λ (j : ℕ). is_under nodes a j ≡ true) (eq_is 0 b (sym (chain_root nodes b) ∙ hb)) ha)
-comparable nodes t (suc most) (suc n) a b h l ha hb =
-    let up = parent_of nodes (suc n) in
-    let step : chain nodes (suc n) ≡ suc n ∷ chain nodes up = chain_step nodes n (t.rooted (suc n) h) in
-    elim (is_or_not (suc n == a)) [
-      | inl e ↦ inr (subst (λ (j : ℕ). is_under nodes b j ≡ true) (eq_is (suc n) a e) hb)
-      | inr e ↦ elim (is_or_not (suc n == b)) [
-        | inl f ↦ inl (subst (λ (j : ℕ). is_under nodes a j ≡ true) (eq_is (suc n) b f) ha)
-        | inr f ↦ comparable nodes t most up a b (t.closed (suc n) h) (omega (arith, ap length step))
-            (second (suc n == a) (is_in (chain nodes up) a) (sym (ap (λ ns. is_in ns a) step) ∙ ha) e)
-            (second (suc n == b) (is_in (chain nodes up) b) (sym (ap (λ ns. is_in ns b) step) ∙ hb) f)
-      ]
-    ]
-
 under_joined : (nodes : List NodeRow) → IsTree nodes → (a b c : ℕ) → Has nodes b → Has nodes c → is_under nodes a b ≡ true → is_under nodes b c ≡ true → is_under nodes a c ≡ true
 under_joined nodes t a b c hb hc f g =
     elim (is_or_not (a == 0)) [
@@ -117,7 +94,7 @@ GoodQuota old new t quota = Stays old new t quota.folder
 order_of : (old new : List NodeRow) → IsTree old → (t : ℕ) → Has old t → IsOrder (λ a b. is_under new a.folder b.folder) (GoodQuota old new t)
 order_of old new tree t h = record {
   itself = λ a. under_own new a.folder;
-  total = λ a b ga gb. elim (comparable old tree (length (chain old t)) t a.folder b.folder h (omega arith) ga.under gb.under) [
+  total = λ a b ga gb. elim (one_is_above old tree t a.folder b.folder h ga.under gb.under) [
     | inl e ↦ inl (ap (λ ns. is_in ns a.folder) gb.same ∙ e)
     | inr e ↦ inr (ap (λ ns. is_in ns b.folder) ga.same ∙ e)
   ];

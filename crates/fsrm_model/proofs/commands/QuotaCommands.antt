@@ -1,6 +1,6 @@
 -- The commands on quotas: each one's work is orderly, and leaves the rows of a store if no check refuses.
 use Rattle.std.proofs.Common.{◌≡◌, ℕ, ◌==◌, Bool, true, false, not, ◌&&◌, List, [], ◌∷◌, ◌++◌, refl, sym, ◌∙◌, ap, subst, cond, Some, None, Option, ◌≤◌, length, arith, nat_lt}
-use Rattle.std.specs.Prelude.{is_some, is_none, unwrap_or, if◌then◌else◌}
+use Rattle.std.specs.Prelude.{is_some, is_none, unwrap_or, if◌then◌else◌, option_map}
 use Rattle.std.specs.List.{list_all}
 use Rattle.fsrm_model.specs.declared.command.Added.{Added}
 use Rattle.fsrm_model.specs.declared.command.Refusal.TheVariants.{PathNotFound, NotFound, AlreadyExists, OutOfRange, TableFull, TextsFull}
@@ -13,7 +13,7 @@ use Rattle.fsrm_model.specs.Check.{first, ◌when◌, table_full, texts_full}
 use Rattle.fsrm_model.specs.FileOps.{target}
 use Rattle.fsrm_base.specs.Keyed.{has_row, with_row, with_change, without_row}
 use Rattle.fsrm_model.specs.Leads.{leads_to_folder}
-use Rattle.fsrm_model.specs.Quota.{folder_of, quota_of, is_limit}
+use Rattle.fsrm_model.specs.Quota.{folder_of, quota_of, is_limit, counts}
 use Rattle.fsrm_model.specs.QuotaWork.{quota_checks, first_quota, source_of, add_work, modify_work, delete_work, reset_work, list_work, modified, remarked, thresholds_of, reset}
 use Rattle.fsrm_base.proofs.Look.{found_has, found_own, is_some-find, has_row-change}
 use Rattle.fsrm_base.proofs.Members.{all_found}
@@ -26,11 +26,11 @@ use Rattle.fsrm_model.specs.Name.{is_named}
 use Rattle.fsrm_model.specs.Templates.{template_number, template_name, is_template}
 use Rattle.fsrm_model.specs.Texts.{quota_bytes, object_texts}
 use Rattle.fsrm_model.specs.Thresholds.{is_percent, is_notice, are_thresholds, are_too_many, may_be_removed, changed_thresholds}
-use Rattle.fsrm_model.specs.Tree.{is_folder}
+use Rattle.fsrm_model.specs.Tree.{is_folder, usage}
 use Rattle.fsrm_model.proofs.thresholds.KeptLaws.{fewer_texts, same_texts, sum_by-same, sum_by-less}
 use Rattle.fsrm_model.proofs.thresholds.ThresholdLaws.{changed_kept}
 use Rattle.fsrm_base.specs.Numbers.{without_number}
-use Rattle.fsrm_model.specs.QuotaStates.{start, state_after, queued, in_state, with_quota}
+use Rattle.fsrm_model.specs.QuotaStates.{start, state_after, queued, in_state, with_quota, is_disabled, state_of, without_quota}
 use Rattle.fsrm_model.specs.Valid.{is_moment, has_source, are_templates, AreQuotas}
 use Rattle.fsrm_model.proofs.commands.FileParts.{folder_at}
 use Rattle.fsrm_base.proofs.Order.{length-with_row}
@@ -40,6 +40,10 @@ use Rattle.fsrm_model.proofs.valid.NamesApart.{named_parts}
 use Rattle.fsrm_model.proofs.valid.RowsKept.{quotas_followed, nothing_followed}
 use Rattle.fsrm_model.proofs.valid.TemplatesKept.{template_parts, sources-new, sources-change, sources-without}
 use Rattle.fsrm_base.proofs.TestLaws.{ge_is, le_test}
+use Rattle.fsrm_model.proofs.journal.KeptQuotas.{Keeps, counts_flagged, flagged_twice, kept, kept_change, kept_twice, kept_with, kept_without}
+use Rattle.fsrm_model.proofs.journal.Alike.{RowsAlike, WorksAlike, alike, lasting_alike, quotas_alike, table_same, texts_same, with_state_alike}
+use Rattle.fsrm_model.proofs.journal.KeptEnds.{disabled_lasting, none_lasting, quota_lasting, some_lasting, state_lasting}
+use Rattle.fsrm_model.specs.Lasting.{flagged, flagged_quota, lasting}
 
 pub add_still : (K : Capacity) (R : Rows) (moment : ℕ) (path : List (List ℕ)) (limit : Option ℕ) (enforce : Option Bool) (enabled : Bool) (template : Option (List ℕ)) (percents : List ℕ) (notices : List Added) → IsStill K R (add_work R moment path limit enforce enabled template percents notices)
 add_still K R moment path limit enforce enabled template percents notices =
@@ -234,3 +238,90 @@ reset_kept K R moment path late s h =
 pub list_kept : (K : Capacity) (R : Rows) (path : Option (List (List ℕ))) → KeepsValid K R (list_work R path)
 list_kept K R None s h = nothing_followed K R s
 list_kept K R (Some path) s h = nothing_followed K R s
+
+-- ---- over rows and over what is kept of them
+pub quota_alike : (R : Rows) (path : List (List ℕ)) → (NotFound when is_none (quota_of (lasting R) (target R.nodes path))) ≡ (NotFound when is_none (quota_of R (target R.nodes path)))
+quota_alike R path = ap (λ b. NotFound when b) (none_lasting R (target R.nodes path))
+
+pub add_alike : (R : Rows) (moment : ℕ) (path : List (List ℕ)) (limit : Option ℕ) (enforce : Option Bool) (enabled : Bool) (template : Option (List ℕ)) (percents : List ℕ) (notices : List Added) → WorksAlike (add_work R moment path limit enforce enabled template percents notices) (add_work (lasting R) moment path limit enforce enabled template percents notices)
+add_alike R moment path limit enforce enabled template percents notices =
+    let folder = target R.nodes path in
+    let state = if enabled then start R.nodes folder else Disabled in
+    let quota = remarked [] percents notices (modified limit enforce (first_quota (source_of R template) folder state moment)) in
+    let are = quotas_alike R (with_row folder_of quota R.quotas) (with_row folder_of quota (kept R.quotas)) (queued R.queue quota.folder quota.state) (queued [] quota.folder quota.state) R.unvisited [] (kept_with quota R.quotas) in
+    alike are (refl, (ap (λ b. AlreadyExists when b) (some_lasting R folder), (refl, (refl, (table_same are, (texts_same are, tt))))))
+
+without_quota_alike : (R : Rows) (folder : ℕ) → RowsAlike (without_quota R folder) (without_quota (lasting R) folder)
+without_quota_alike R folder =
+    quotas_alike R (without_row folder_of folder R.quotas) (without_row folder_of folder (kept R.quotas)) _ _ R.unvisited [] (ap kept (kept_without folder R.quotas) ∙ kept_twice (without_row folder_of folder R.quotas))
+
+pub delete_alike : (R : Rows) (path : List (List ℕ)) → WorksAlike (delete_work R path) (delete_work (lasting R) path)
+delete_alike R path = alike (without_quota_alike R (target R.nodes path)) (refl, (quota_alike R path, tt))
+
+-- a peak that is reset
+reset_keeps : (K : Capacity) (R : Rows) (moment : ℕ) → Keeps (reset K R moment)
+reset_keeps K R moment q =
+    ap (λ (b : Bool). record q { peak = if b then usage K R.nodes q.folder else 0; peak_at = moment; state = flagged (flagged q.state) }) (counts_flagged q)
+    ∙ ap (λ (state : QuotaState). record q { peak = if counts q then usage K R.nodes q.folder else 0; peak_at = moment; state = state }) (flagged_twice q.state)
+
+pub reset_alike : (K : Capacity) (R : Rows) (moment : ℕ) (path : List (List ℕ)) → WorksAlike (reset_work K R moment path) (reset_work K (lasting R) moment path)
+reset_alike K R moment path =
+    let folder = target R.nodes path in
+    alike (quotas_alike R (with_change folder_of folder (reset K R moment) R.quotas) (with_change folder_of folder (reset K R moment) (kept R.quotas)) R.queue [] R.unvisited [] (kept_change folder (reset K R moment) (reset_keeps K R moment) R.quotas))
+    (refl, (quota_alike R path, tt))
+
+pub list_alike : (R : Rows) (path : Option (List (List ℕ))) → WorksAlike (list_work R path) (list_work (lasting R) path)
+list_alike R None = alike (lasting_alike R) tt
+list_alike R (Some path) = alike (lasting_alike R) (refl, (quota_alike R path, tt))
+
+-- the state that a status asks for
+after_alike : (R : Rows) (folder : ℕ) (enabled : Option Bool) → flagged (state_after (lasting R) folder enabled) ≡ flagged (state_after R folder enabled)
+after_alike R folder None = ap flagged (state_lasting R folder) ∙ flagged_twice (state_of R folder)
+after_alike R folder (Some false) = refl
+after_alike R folder (Some true) =
+    ap (λ b. flagged (cond b (start R.nodes folder) (state_of (lasting R) folder))) (disabled_lasting R folder)
+    ∙ (ap (λ state. flagged (cond (is_disabled (state_of R folder)) (start R.nodes folder) state)) (state_lasting R folder)
+    ∙ at (is_disabled (state_of R folder)))
+  where
+    at : (b : Bool) → flagged (cond b (start R.nodes folder) (flagged (state_of R folder))) ≡ flagged (cond b (start R.nodes folder) (state_of R folder))
+    at true = refl
+    at false = flagged_twice (state_of R folder)
+
+thresholds_lasting : (R : Rows) (folder : ℕ) → thresholds_of (lasting R) folder ≡ thresholds_of R folder
+thresholds_lasting R folder = ap (λ o. option_map_or (λ (q : QuotaRow). q.thresholds) o []) (quota_lasting R folder) ∙ at (quota_of R folder)
+  where
+    at : (o : Option QuotaRow) → option_map_or (λ (q : QuotaRow). q.thresholds) (option_map flagged_quota o) [] ≡ option_map_or (λ (q : QuotaRow). q.thresholds) o []
+    at None = refl
+    at (Some q) = refl
+
+remarked_keeps : (limit : Option ℕ) (enforce : Option Bool) (removed percents : List ℕ) (notices : List Added) → Keeps (λ q. remarked removed percents notices (modified limit enforce q))
+remarked_keeps limit enforce removed percents notices q =
+    ap (λ (state : QuotaState). record (remarked removed percents notices (modified limit enforce q)) { state = state }) (flagged_twice q.state)
+
+pub modify_alike : (R : Rows) (path : List (List ℕ)) (limit : Option ℕ) (enforce enabled : Option Bool) (removed percents : List ℕ) (notices : List Added) → WorksAlike (modify_work R path limit enforce enabled removed percents notices) (modify_work (lasting R) path limit enforce enabled removed percents notices)
+modify_alike R path limit enforce enabled removed percents notices =
+    let folder = target R.nodes path in
+    let change : QuotaRow → QuotaRow = λ q. remarked removed percents notices (modified limit enforce q) in
+    let are = with_state_alike R folder (state_after R folder enabled) (state_after (lasting R) folder enabled) (after_alike R folder enabled)
+    (with_change folder_of folder change R.quotas) (with_change folder_of folder change (kept R.quotas)) (kept_change folder change (remarked_keeps limit enforce removed percents notices) R.quotas) in
+    alike are (
+      refl,
+      (
+        quota_alike R path,
+        (
+          ap (λ thresholds. NotFound when not (may_be_removed removed thresholds)) (thresholds_lasting R folder),
+          (
+            ap (λ thresholds. OutOfRange when are_too_many (changed_thresholds removed percents notices thresholds)) (thresholds_lasting R folder),
+            (
+              texts_same are,
+              tt,
+            ),
+          ),
+        ),
+      ),
+    )
+
+-- ---- whether they last
+pub list_lasts : (R : Rows) (path : Option (List (List ℕ))) → (list_work R path).lasts ≡ false
+list_lasts R None = refl
+list_lasts R (Some path) = refl

@@ -1,6 +1,6 @@
 -- The commands on scans: each one's work is orderly, and leaves the rows of a store if no check refuses.
 use Rattle.std.proofs.Common.{◌≡◌, ℕ, ◌==◌, Bool, true, false, not, List, [], ◌∷◌, length, refl, sym, ap, ◌∙◌, Some, None, Option, subst}
-use Rattle.std.specs.Prelude.{◌||◌, is_some, is_none, map, unwrap_or, if◌then◌else◌}
+use Rattle.std.specs.Prelude.{◌||◌, ◌-◌, is_some, is_none, map, unwrap_or, if◌then◌else◌}
 use Rattle.std.specs.Option.{option_map_or}
 use Rattle.std.proofs.lemmas.Option.{same_Some}
 use Rattle.fsrm_model.specs.declared.command.Refusal.TheVariants.{PathNotFound, NotFound, InvalidCombination, NothingToScan}
@@ -19,7 +19,9 @@ use Rattle.fsrm_model.specs.Quota.{folder_of, quota_of, counts, is_complete}
 use Rattle.fsrm_model.specs.QuotaStates.{head, in_state, is_disabled, state_of, with_state, same_head, scan_begun, queued, followed}
 use Rattle.fsrm_model.specs.Scan.{visits}
 use Rattle.fsrm_model.specs.ScanWork.{scan_work, step_work}
-use Rattle.fsrm_model.specs.Tree.{number}
+use Rattle.fsrm_model.specs.declared.command.Outcome.TheVariants.{Scanned}
+use Rattle.fsrm_model.specs.Tree.{number, usage}
+use Rattle.fsrm_model.specs.Replays.{is_finished_scan}
 use Rattle.fsrm_model.specs.Valid.{AreQuotas, IsValid}
 use Rattle.fsrm_model.proofs.commands.Ends.{step_nodes}
 use Rattle.fsrm_base.proofs.Look.{eq_same, is_some-find}
@@ -28,20 +30,12 @@ use Rattle.fsrm_base.proofs.RowLaws.{change_same, change_none}
 use Rattle.fsrm_model.proofs.valid.ValidLaws.{folder_has}
 use Rattle.fsrm_model.specs.ValidScans.{AreLeft}
 use Rattle.fsrm_model.proofs.valid.QueueKept.{queue_changed}
-use Rattle.fsrm_model.proofs.commands.QuotaCommands.{state_quotas, state_texts, quota_there}
+use Rattle.fsrm_model.proofs.commands.QuotaCommands.{state_quotas, state_texts, quota_there, quota_alike}
 use Rattle.fsrm_model.proofs.valid.RowsKept.{valid_with, all_stay, same_heads, left_followed, left_visits, quotas_followed, head_in}
 use Rattle.fsrm_model.proofs.valid.TemplatesKept.{sources-change}
-
--- what is kept of quotas, if the state of one became another that is kept as the same
-flag_change : (a b : QuotaState) → flagged a ≡ flagged b → (folder : ℕ) (quotas : List QuotaRow) → map flagged_quota (with_change folder_of folder (in_state a) quotas) ≡ map flagged_quota (with_change folder_of folder (in_state b) quotas)
-flag_change a b e folder [] = refl
-flag_change a b e folder (quota ∷ quotas) =
-    ap (λ q. q ∷ map flagged_quota (with_change folder_of folder (in_state a) quotas)) (at (quota.folder == folder))
-    ∙ ap (λ qs. flagged_quota (if quota.folder == folder then in_state b quota else quota) ∷ qs) (flag_change a b e folder quotas)
-  where
-    at : (c : Bool) → flagged_quota (if c then in_state a quota else quota) ≡ flagged_quota (if c then in_state b quota else quota)
-    at true = ap (λ (state : QuotaState). record quota { state = state }) e
-    at false = refl
+use Rattle.fsrm_model.proofs.journal.Alike.{WorksAlike, with_state_alike}
+use Rattle.fsrm_model.proofs.journal.KeptQuotas.{counts_found, kept, kept_twice, state_kept}
+use Rattle.fsrm_model.proofs.journal.KeptEnds.{disabled_lasting, quota_lasting}
 
 -- a state that a quota has already changes nothing
 own_state : (R : Rows) (folder : ℕ) (quota : QuotaRow) → is_ascending folder_of R.quotas ≡ true → quota_of R folder ≡ Some quota → with_change folder_of folder (in_state quota.state) R.quotas ≡ R.quotas
@@ -60,7 +54,7 @@ scan_quiet : (R : Rows) (folder : ℕ) (o : Option QuotaRow) → is_ascending fo
 scan_quiet R folder None asc found d c = absurd (cc d)
 scan_quiet R folder (Some quota) asc found d c =
     ap (λ quotas. record R { quotas = quotas; queue = []; unvisited = [] })
-    (flag_change Rebuilding quota.state (waiting_kept quota.state d c) folder R.quotas ∙ ap (map flagged_quota) (own_state R folder quota asc found))
+    (state_kept Rebuilding quota.state (waiting_kept quota.state d c) folder R.quotas ∙ ap (map flagged_quota) (own_state R folder quota asc found))
 
 -- the last check of a scan
 scan_enabled : (R : Rows) (path : List (List ℕ)) → first (scan_work R path).checks ≡ None → is_disabled (state_of R (target R.nodes path)) ≡ false
@@ -131,17 +125,20 @@ scan_there R path h =
     let b = first_none none last a.1 in
     quota_there R path (rw (a.0, b.0) refl)
 
+-- the rows once a quota is in another state
+pub state_followed : (K : Capacity) (R : Rows) (folder : ℕ) (state : QuotaState) → IsValid K R → has_row folder_of folder R.quotas ≡ true → IsValid K (followed R (with_state R folder state))
+state_followed K R folder state s there =
+    quotas_followed K R (with_change folder_of folder (in_state state) R.quotas) (queued R.queue folder state) s
+    (state_quotas K R folder state R.quotas s.quotas)
+    (sources-change R.templates folder (in_state state) R.quotas (λ q is. is) s.tables.sources)
+    (state_texts R folder state s.texts)
+    (queue_changed R.quotas R.queue folder state (in_state state) s.queue there (λ q. refl) (λ q. refl))
+
 pub scan_kept : (K : Capacity) (R : Rows) (path : List (List ℕ)) → KeepsValid K R (scan_work R path)
-scan_kept K R path s h =
-    let folder = target R.nodes path in
-    quotas_followed K R (with_change folder_of folder (in_state Rebuilding) R.quotas) (queued R.queue folder Rebuilding) s
-    (state_quotas K R folder Rebuilding R.quotas s.quotas)
-    (sources-change R.templates folder (in_state Rebuilding) R.quotas (λ q is. is) s.tables.sources)
-    (state_texts R folder Rebuilding s.texts)
-    (queue_changed R.quotas R.queue folder Rebuilding (in_state Rebuilding) s.queue (scan_there R path h) (λ q. refl) (λ q. refl))
+scan_kept K R path s h = state_followed K R (target R.nodes path) Rebuilding s (scan_there R path h)
 
 -- if scans wait, one is the first
-some_head : (queue : List ℕ) → (length queue == 0) ≡ false → head queue ≡ Some (unwrap_or (head queue) 0)
+pub some_head : (queue : List ℕ) → (length queue == 0) ≡ false → head queue ≡ Some (unwrap_or (head queue) 0)
 some_head [] h = absurd (cc h)
 some_head (n ∷ queue) h = refl
 
@@ -179,3 +176,29 @@ step_kept K R n s h =
         valid_with K R R.nodes R.quotas R.queue (if same_head R.queue R.queue then left else scan_begun R.nodes R.queue) R.last_moment s s.volume (all_stay R.nodes) s.quotas s.tables.sources s.texts s.queue
         (left_followed K R.nodes R.queue R.queue left s.volume (still R.queue))
         s.last_moment
+
+-- ---- over rows and over what is kept of them
+pub scan_alike : (R : Rows) (path : List (List ℕ)) → WorksAlike (scan_work R path) (scan_work (lasting R) path)
+scan_alike R path =
+    let folder = target R.nodes path in
+    record {
+      checks = (refl, (quota_alike R path, (ap (λ b. InvalidCombination when b) (disabled_lasting R folder), tt)));
+      effect = with_state_alike R folder Rebuilding Rebuilding refl R.quotas (kept R.quotas) (kept_twice R.quotas);
+      outcome = refl;
+      lasts = ap (λ o. option_map_or counts o false) (quota_lasting R folder) ∙ counts_found (quota_of R folder);
+      judged = refl;
+    }
+
+-- ---- a step lasts if it finishes the scan
+pub step_lasts : (K : Capacity) (R : Rows) (n : ℕ) → (step_work K R n).lasts ≡ is_finished_scan (step_work K R n).outcome
+step_lasts K R n = at (length left == 0)
+  where
+    left : List ℕ
+    left = visits n R.nodes R.unvisited
+
+    scanned : ℕ
+    scanned = unwrap_or (head R.queue) 0
+
+    at : (b : Bool) → b ≡ is_finished_scan (Scanned scanned (length R.unvisited - length left) (if b then Some (usage K R.nodes scanned) else None))
+    at true = refl
+    at false = refl

@@ -36,6 +36,8 @@ use Rattle.fsrm_model.proofs.thresholds.ThresholdLaws.{kept_by_all}
 use Rattle.fsrm_model.proofs.valid.QueueKept.{once_more}
 use Rattle.fsrm_model.proofs.valid.RowsKept.{nothing_followed, screens_followed}
 use Rattle.fsrm_model.proofs.valid.ScreensKept.{all_weaker, number_parts, numbers_joined, screen_at, screen_parts, screen_joined, table-new, table-change, table-without, table_apart, table_stays}
+use Rattle.fsrm_model.proofs.journal.Alike.{WorksAlike, alike, lasting_alike, texts_same}
+use Rattle.fsrm_model.specs.Lasting.{lasting}
 
 -- ---- the groups that are named
 -- a group that has a name is there
@@ -336,3 +338,32 @@ except_delete_kept K R path s h =
 
 pub except_list_kept : (K : Capacity) (R : Rows) → KeepsValid K R (except_list_work R)
 except_list_kept K R s h = nothing_followed K R s
+
+-- ---- over rows and over what is kept of them
+pub screen_add_alike : (R : Rows) (path : List (List ℕ)) (active : Bool) (names : List (List ℕ)) (actions : List Action) → WorksAlike (screen_add_work R path active names actions) (screen_add_work (lasting R) path active names actions)
+screen_add_alike R path active names actions =
+    let E : Rows = record R { screens = with_row screen_folder (new_screen (target R.nodes path) active (changed_groups [] (numbers_named R.groups names) []) actions) R.screens } in
+    alike (lasting_alike E) (refl, (refl, (refl, (refl, (refl, (refl, (texts_same (lasting_alike E), tt)))))))
+
+pub screen_modify_alike : (R : Rows) (path : List (List ℕ)) (active : Option Bool) (removed added : List (List ℕ)) → WorksAlike (screen_modify_work R path active removed added) (screen_modify_work (lasting R) path active removed added)
+screen_modify_alike R path active removed added =
+    let folder = target R.nodes path in
+    let groups = changed_groups (numbers_named R.groups removed) (numbers_named R.groups added) (groups_of R folder) in
+    alike (lasting_alike (record R { screens = with_change screen_folder folder (rescreened active groups) R.screens })) (refl, (refl, (refl, (refl, (refl, (refl, tt))))))
+
+pub screen_delete_alike : (R : Rows) (path : List (List ℕ)) → WorksAlike (screen_delete_work R path) (screen_delete_work (lasting R) path)
+screen_delete_alike R path = alike (lasting_alike (record R { screens = without_row screen_folder (target R.nodes path) R.screens })) (refl, (refl, tt))
+
+pub screen_list_alike : (R : Rows) → WorksAlike (screen_list_work R) (screen_list_work (lasting R))
+screen_list_alike R = alike (lasting_alike R) tt
+
+pub except_add_alike : (R : Rows) (path : List (List ℕ)) (names : List (List ℕ)) → WorksAlike (except_add_work R path names) (except_add_work (lasting R) path names)
+except_add_alike R path names =
+    alike (lasting_alike (record R { excepts = with_row except_folder (new_except (target R.nodes path) (changed_groups [] (numbers_named R.groups names) [])) R.excepts }))
+    (refl, (refl, (refl, (refl, (refl, (refl, tt))))))
+
+pub except_delete_alike : (R : Rows) (path : List (List ℕ)) → WorksAlike (except_delete_work R path) (except_delete_work (lasting R) path)
+except_delete_alike R path = alike (lasting_alike (record R { excepts = without_row except_folder (target R.nodes path) R.excepts })) (refl, (refl, tt))
+
+pub except_list_alike : (R : Rows) → WorksAlike (except_list_work R) (except_list_work (lasting R))
+except_list_alike R = alike (lasting_alike R) tt

@@ -147,7 +147,7 @@ kept_there K moment R more acts h =
     (λ act is. act_at (ran moment more (peaks K R moment)) moment act (act_ran moment more (peaks K R moment) act (act_peaked K R moment act is))) acts h
 
 -- a command that lasts, after acts of a screen
-lasted_acts : (K : Capacity) (R : Rows) (moment : ℕ) (after : Acted) (outcome : Outcome) → IsValid K after.rows → moment ≤ latest_moment → AllByRecursion IsOfScreen after.acts → are_in_order after.acts ≡ true → AllByRecursion (IsAct after.rows) after.acts → AreActs (lasted K R after moment outcome)
+pub lasted_acts : (K : Capacity) (R : Rows) (moment : ℕ) (after : Acted) (outcome : Outcome) → IsValid K after.rows → moment ≤ latest_moment → AllByRecursion IsOfScreen after.acts → are_in_order after.acts ≡ true → AllByRecursion (IsAct after.rows) after.acts → AreActs (lasted K R after moment outcome)
 lasted_acts K R moment after outcome s late own places there =
     let peaked = peaks K after.rows moment in
     let acts = due K R peaked moment in

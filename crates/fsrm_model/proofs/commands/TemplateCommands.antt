@@ -1,5 +1,5 @@
 -- The commands on quota templates: each one's work is orderly, and leaves the rows of a store if no check refuses.
-use Rattle.std.proofs.Common.{◌≡◌, ℕ, ◌≤◌, ◌==◌, nat_lt, Bool, true, false, cond, not, List, [], ◌∷◌, length, Option, Some, None, refl, sym, ◌∙◌, subst, arith}
+use Rattle.std.proofs.Common.{◌≡◌, ℕ, ◌≤◌, ◌==◌, nat_lt, Bool, true, false, cond, not, List, [], ◌∷◌, length, Option, Some, None, refl, sym, ◌∙◌, subst, arith, ap}
 use Rattle.std.proofs.lemmas.Option.{same_Some}
 use Rattle.std.specs.Prelude.{is_none, is_some, map, sum_by}
 use Rattle.std.specs.List.{list_all, list_any}
@@ -37,6 +37,10 @@ use Rattle.fsrm_model.proofs.valid.QueueKept.{queue_mapped}
 use Rattle.fsrm_model.proofs.valid.QuotasKept.{IsQuota, quotas-map}
 use Rattle.fsrm_model.proofs.valid.RowsKept.{all_stay, nothing_followed, templates_followed}
 use Rattle.fsrm_model.proofs.valid.TemplatesKept.{HasTemplates, template_parts, template_joined, sources_stay, sources-gone, sources-updated, autos_stay, autos_unnamed}
+use Rattle.fsrm_model.specs.declared.command.Update.TheVariants.{All, Keep, Matching}
+use Rattle.fsrm_model.proofs.journal.KeptQuotas.{Keeps, SameKept, kept, kept_map, kept_twice, quota_twice}
+use Rattle.fsrm_model.proofs.journal.Alike.{WorksAlike, alike, lasting_alike, quotas_alike, texts_same}
+use Rattle.fsrm_model.specs.Lasting.{flagged_quota, lasting}
 
 pub template_add_still : (K : Capacity) (R : Rows) (name : List ℕ) (limit : ℕ) (enforce : Bool) (percents : List ℕ) (notices : List Added) → IsStill K R (template_add_work R name limit enforce percents notices)
 template_add_still K R name limit enforce percents notices =
@@ -216,3 +220,51 @@ template_delete_kept K R name s h =
 -- a list leaves them as they are
 pub template_list_kept : (K : Capacity) (R : Rows) → KeepsValid K R (template_list_work R)
 template_list_kept K R s h = nothing_followed K R s
+
+-- ---- over rows and over what is kept of them
+pub template_add_alike : (R : Rows) (name : List ℕ) (limit : ℕ) (enforce : Bool) (percents : List ℕ) (notices : List Added) → WorksAlike (template_add_work R name limit enforce percents notices) (template_add_work (lasting R) name limit enforce percents notices)
+template_add_alike R name limit enforce percents notices =
+    let E : Rows = record R { templates = with_row template_number (new_template R.templates name limit enforce (changed_thresholds [] percents notices [])) R.templates } in
+    alike (lasting_alike E) (refl, (refl, (refl, (texts_same (lasting_alike E), tt))))
+
+reached_flagged : (mode : Update) (old : TemplateRow) (q : QuotaRow) → is_reached mode old (flagged_quota q) ≡ is_reached mode old q
+reached_flagged Keep old q = refl
+reached_flagged Matching old q = refl
+reached_flagged All old q = refl
+
+updated_keeps : (mode : Update) (old new : TemplateRow) → Keeps (updated mode old new)
+updated_keeps mode old new q =
+    ap (λ b. flagged_quota (cond b (as_template new (flagged_quota q)) (flagged_quota q))) (reached_flagged mode old q) ∙ at (is_reached mode old q)
+  where
+    at : (b : Bool) → flagged_quota (cond b (as_template new (flagged_quota q)) (flagged_quota q)) ≡ flagged_quota (cond b (as_template new q) q)
+    at true = quota_twice (as_template new q)
+    at false = quota_twice q
+
+updated_kept : (mode : Update) (o : Option TemplateRow) (change : TemplateRow → TemplateRow) (qs : List QuotaRow) → SameKept (updated_quotas mode o change (kept qs)) (updated_quotas mode o change qs)
+updated_kept mode None change qs = kept_twice qs
+updated_kept mode (Some template) change qs = kept_map (updated mode template (change template)) (updated_keeps mode template (change template)) qs
+
+pub template_modify_alike : (R : Rows) (name : List ℕ) (limit : Option ℕ) (enforce : Option Bool) (removed percents : List ℕ) (notices : List Added) (mode : Update) → WorksAlike (template_modify_work R name limit enforce removed percents notices mode) (template_modify_work (lasting R) name limit enforce removed percents notices mode)
+template_modify_alike R name limit enforce removed percents notices mode =
+    let old = template_named R.templates name in
+    let change : TemplateRow → TemplateRow = retemplated limit enforce removed percents notices in
+    let base : Rows = record R { templates = with_change template_number (number_in old) change R.templates } in
+    let are = quotas_alike base (updated_quotas mode old change R.quotas) (updated_quotas mode old change (kept R.quotas)) R.queue [] R.unvisited [] (updated_kept mode old change R.quotas) in
+    alike are (refl, (refl, (refl, (texts_same are, tt))))
+
+source_keeps : (number : ℕ) → Keeps (without_source number)
+source_keeps number q = at (is_derived number q)
+  where
+    at : (b : Bool) → flagged_quota (cond b (record (flagged_quota q) { template = None }) (flagged_quota q)) ≡ flagged_quota (cond b (record q { template = None }) q)
+    at true = quota_twice (record q { template = None })
+    at false = quota_twice q
+
+pub template_delete_alike : (R : Rows) (name : List ℕ) → WorksAlike (template_delete_work R name) (template_delete_work (lasting R) name)
+template_delete_alike R name =
+    let number = number_in (template_named R.templates name) in
+    let base : Rows = record R { templates = without_row template_number number R.templates } in
+    alike (quotas_alike base (map (without_source number) R.quotas) (map (without_source number) (kept R.quotas)) R.queue [] R.unvisited [] (kept_map (without_source number) (source_keeps number) R.quotas))
+    (refl, (refl, tt))
+
+pub template_list_alike : (R : Rows) → WorksAlike (template_list_work R) (template_list_work (lasting R))
+template_list_alike R = alike (lasting_alike R) tt

@@ -14,7 +14,7 @@ use Rattle.fsrm_base.proofs.Look.{find-map}
 use Rattle.fsrm_base.proofs.TestLaws.{both, both_true, is_false, not_true, clash, le_is, le_test}
 
 -- what a folder with this quota has reached
-abbrev by_quota : Capacity → Rows → ℕ → ℕ → Option QuotaRow → Bool
+abbrev pub by_quota : Capacity → Rows → ℕ → ℕ → Option QuotaRow → Bool
 by_quota K R folder percent o =
     option_map_or (λ quota. has_reached quota percent (option_and_then (λ q. if counts q then Some (usage K R.nodes folder) else None) o)) o false
 
