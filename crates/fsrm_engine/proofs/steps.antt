@@ -3,3 +3,5 @@ pub mod WholeLaws
 pub mod ActLaws
 pub mod PlaceLaws
 pub mod ScanSteps
+pub mod FinishLaws
+pub mod FlaggedParts

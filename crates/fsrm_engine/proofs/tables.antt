@@ -16,3 +16,5 @@ pub mod ScreenLaws
 pub mod SourceLaws
 pub mod TemplateLaws
 pub mod UpdateLaws
+pub mod FlagLaws
+pub mod FillLaws

@@ -1,16 +1,19 @@
 //! The machine that takes commands.
 
-ghost use Rattle.std.specs.Prelude.{◌≡◌, ◌+◌, ◌≤◌, [], ◌∷◌, None, true, length, IfOk, IfSome, MatchOption, OnErr};
+ghost use Rattle.std.specs.Prelude.{◌≡◌, ◌+◌, ◌*◌, ◌≤◌, [], ◌∷◌, None, true, length, IfOk, IfSome, MatchOption, OnErr};
 ghost use Rattle.fsrm_model.specs.declared.command.Deed.TheVariants.{File, Step};
 ghost use Rattle.fsrm_model.specs.ActText.{text_of};
 ghost use Rattle.fsrm_model.specs.Acts.{IsAct};
 ghost use Rattle.fsrm_model.specs.Capacities.{is_capacity};
 ghost use Rattle.fsrm_model.specs.Cost.{cost};
 ghost use Rattle.fsrm_model.specs.Fresh.{new_rows};
+ghost use Rattle.fsrm_model.specs.Lasting.{lasting};
 ghost use Rattle.fsrm_model.specs.Limits.{latest_moment};
 ghost use Rattle.fsrm_model.specs.Named.{IsNamed};
 ghost use Rattle.fsrm_model.specs.Quota.{used_of};
+ghost use Rattle.fsrm_model.specs.Replays.{finish, finish_acts};
 ghost use Rattle.fsrm_model.specs.Step.{step};
+ghost use Rattle.fsrm_model.specs.Tree.{under};
 ghost use Rattle.fsrm_model.specs.Valid.{IsVolume, IsValid};
 ghost use Rattle.fsrm_model.specs.Valued.{is_op, is_command};
 ghost use Rattle.fsrm_engine.specs.Machine.{Takes};
@@ -230,5 +233,29 @@ impl Engine {
             return refused(Refusal::ClockBack);
         }
         self.parts.go_on(n, moment, steps)
+    }
+
+    /// Finishes the scan of a folder at once, when no act waits, at a moment in seconds since 1970-01-01 00:00:00 UTC,
+    /// which may be before that of the last command. If the folder has a quota that is rebuilding or incomplete, it is
+    /// complete from then on and counts what the folder uses. Its scan leaves the queue, and peaks, actions and the
+    /// last moment follow as after a command that lasts. Else nothing changes. Another folder's scan stays as it is. It
+    /// takes no memory, and at most 3 looks for each node at and below the folder: what is below a folder whose quota
+    /// counts isn't looked at again.
+    pub fn finish_fresh<L: Ledger>(&mut self, folder: u32, moment: u64, steps: &mut Steps<L>)
+        requires moment { moment ≤ latest_moment }
+        requires idle { self.old.waiting ≡ [] }
+        ensures ok { self.new ≡ record self.old { rows = finish self.old.size self.old.rows moment folder; waiting = finish_acts self.old.size self.old.rows moment folder } }
+        ensures kept { IsValid self.new.size self.new.rows }
+        ensures looks { steps.new ≤ steps.old + 3 * length (under self.old.rows.nodes folder) }
+    {
+        self.parts.finish_fresh(folder, moment, steps);
+    }
+
+    /// Gives all scans up: quotas that are rebuilding are incomplete from then on, and nothing is left to visit. All
+    /// else stays, and so do the acts that wait. It looks at no node, and takes no memory.
+    pub fn flag_unfinished(&mut self)
+        ensures { self.new ≡ record self.old { rows = lasting self.old.rows } }
+    {
+        self.parts.flag_unfinished();
     }
 }

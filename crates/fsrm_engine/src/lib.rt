@@ -10,6 +10,9 @@
 //! A command may leave acts that wait: actions of a screen and of thresholds that ran. `next_act` hands them out one by
 //! one, and the next command is taken once none waits.
 //!
+//! `finish_fresh` and `flag_unfinished` are no commands: a journal tells that a scan finished, and a store gives up the
+//! scans that did not. Neither refuses, or takes memory.
+//!
 //! In every command what can refuse and what takes memory come before the first change, and then what can't fail. Only
 //! two undo a first step if memory runs out in the second: a folder is made and gets a quota, and an auto-apply quota
 //! gives quotas.
@@ -28,6 +31,9 @@ mod creations;
 mod due;
 mod engine;
 mod exits;
+mod filling;
+mod finishing;
+mod flagging;
 mod group_lists;
 mod groups;
 mod moves;

@@ -7,3 +7,4 @@ pub mod MovedSums
 pub mod MovedTops
 pub mod MovedWhole
 pub mod Opening
+pub mod Summing

@@ -7,3 +7,4 @@ pub mod Visits
 pub mod Beginnings
 pub mod Courses
 pub mod KeptQueue
+pub mod Sums

@@ -8,6 +8,8 @@
 //! sum. `Stands` says what it stands for over the nodes of a volume: that the folders at and below these are the
 //! unvisited ones of the definition, and that the sum is what the definition counts. Each call's clause `follows` says
 //! that it stands so again after its step. `finish` gives the fresh sum of the scanned folder (`fresh`).
+//!
+//! `sum_below` makes a folder's sum at once, beside the active scan, which stays as it is (`kept`).
 #![tactic(auto)]
 
 mod active;
@@ -17,6 +19,7 @@ mod frontier;
 mod moves;
 mod queue;
 mod standing;
+mod sums;
 mod visits;
 
 pub use frontier::Frontier;

@@ -98,6 +98,14 @@ impl Scans {
         }
     }
 
+    /// Gives all scans up.
+    pub fn clear(&mut self)
+        ensures { self.new ≡ record { queue = []; front = idle self.old.front.room } }
+    {
+        self.queue.clear();
+        self.frontier.drop_scan();
+    }
+
     // Whether a scan is active. Without one nothing is unvisited.
     pub(crate) fn is_scanning(&self) -> bool
         ensures active { result ≡ is_some (first self.now.queue) }

@@ -15,9 +15,8 @@ use Rattle.fsrm_base.specs.Keyed.{row_of, with_change, without_row}
 use Rattle.fsrm_model.specs.Limits.{longest_file}
 use Rattle.fsrm_model.specs.Quota.{folder_of, counts}
 use Rattle.fsrm_model.specs.Space.{space}
-use Rattle.fsrm_model.specs.Tree.{number, is_under, usage}
+use Rattle.fsrm_model.specs.Tree.{number, usage}
 use Rattle.fsrm_model.specs.Valid.{IsVolume, AreQuotas}
-use Rattle.fsrm_model.proofs.nodes.ChainLaws.{share, usage_is}
 use Rattle.fsrm_base.proofs.Look.{found_key, has_found}
 use Rattle.fsrm_base.proofs.EditedRows.{sum_by-without_row}
 use Rattle.fsrm_model.proofs.nodes.Sizes.{length-removed}
@@ -31,7 +30,7 @@ use Rattle.fsrm_base.proofs.RowLaws.{each, each_found, all_filter}
 use Rattle.fsrm_engine.proofs.tables.SumLaws.{shown_of, used_sums}
 use Rattle.fsrm_engine.proofs.operations.ChangeLaws.{Changes}
 use Rattle.fsrm_engine.proofs.walks.WalkLaws.{row_space, nodes_few}
-use Rattle.rescan.proofs.counted.FitLaws.{sum_most, root_empty, sum_le}
+use Rattle.rescan.proofs.counted.FitLaws.{sum_most, root_empty, usage_total}
 
 -- the space of all files, and of one more, is less than 2^64
 pub total_small : (K : Capacity) (nodes : List NodeRow) → IsVolume K nodes → is_capacity K ≡ true → sum_by (space K) nodes + longest_file < 2 ^ 64
@@ -48,13 +47,6 @@ total_small K nodes v legal =
   where
     bound : (n rest whole : ℕ) → rest ≤ n * longest_file → whole ≡ rest → n + 1 ≤ 1048576 → whole + longest_file < 2 ^ 64
     bound n rest whole h e few = omega (arith, mul-le-mul_right longest_file few)
-
-pub usage_total : (K : Capacity) (nodes : List NodeRow) (f : ℕ) → usage K nodes f ≤ sum_by (space K) nodes
-usage_total K nodes f = omega (arith, usage_is K nodes f, sum_le (share K nodes f) (space K) nodes (λ r. at (is_under nodes f r.number) (space K r)))
-  where
-    at : (b : Bool) (s : ℕ) → cond b s 0 ≤ s
-    at true s = omega arith
-    at false s = omega arith
 
 moved_total : (K : Capacity) (x d : ℕ) (name : List ℕ) (nodes : List NodeRow) → sum_by (space K) (with_change number x (placed d name) nodes) ≡ sum_by (space K) nodes
 moved_total K x d name [] = refl

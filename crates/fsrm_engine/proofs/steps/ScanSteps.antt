@@ -15,6 +15,7 @@ use Rattle.fsrm_base.specs.Keyed.{has_row, row_of}
 use Rattle.fsrm_base.specs.Numbers.{without_number}
 use Rattle.fsrm_model.specs.Quota.{folder_of, counts, is_complete, peaked}
 use Rattle.fsrm_model.specs.QuotaStates.{followed, is_rebuilding, in_state, queued, head, same_head, scan_begun, with_state}
+use Rattle.fsrm_model.specs.Replays.{completed}
 use Rattle.fsrm_model.specs.Scan.{visits}
 use Rattle.fsrm_model.specs.ScanWork.{step_work}
 use Rattle.fsrm_model.specs.Tree.{usage}
@@ -32,7 +33,7 @@ use Rattle.fsrm_engine.specs.Peaks.{raised}
 use Rattle.fsrm_engine.proofs.settling.ChangedDue.{due_begun}
 use Rattle.fsrm_engine.proofs.settling.EndLaws.{due_of}
 use Rattle.fsrm_engine.proofs.settling.TurnedCalm.{others_same}
-use Rattle.fsrm_engine.proofs.steps.StepLaws.{Accepts, done_with, passing_as, same_own}
+use Rattle.fsrm_engine.proofs.steps.StepLaws.{Accepts, Ends, done_with, ends_with, passing_as, same_own}
 use Rattle.fsrm_engine.proofs.tables.RaiseLaws.{raised_keeps}
 use Rattle.fsrm_engine.proofs.tables.RanLaws.{sound_run}
 
@@ -133,6 +134,19 @@ module _ (p new : Parts) (s : Course) (m n : ℕ) (f : Finishes (record p { scan
       ap (λ (t : Tables). row_of folder_of folder t.quotas) f.completes.objects_are
       ∙ (others_same (raised counting.usage m) n complete (raised_keeps counting.usage m) folder e ∙ others_same (in_state Complete) n p.objects.quotas (λ r. refl) folder e)
 
+  finished_raised : map (peaked p.tree.size counting.tree.nodes m) counting.objects.quotas ≡ map (peaked p.tree.size counting.tree.nodes m) complete
+  finished_raised =
+      ap (λ (ns : List NodeRow). map (peaked p.tree.size ns m) counting.objects.quotas) (ap (λ (q : Parts). q.tree.nodes) f.completes.parts_are)
+      ∙ (f.completes.peaks_are ∙ ap (λ (ns : List NodeRow). map (peaked p.tree.size ns m) complete) (sym (ap (λ (q : Parts). q.tree.nodes) f.completes.parts_are)))
+
+  finished_idle : IsIdle p → IsIdle counting
+  finished_idle idle =
+      record {
+        numbers = ap (λ (q : Parts). q.marks.numbers) f.completes.parts_are ∙ idle.numbers;
+        places = ap (λ (q : Parts). q.marks.places) f.completes.parts_are ∙ idle.places;
+        crossing = ap (λ (q : Parts). q.crossing) f.completes.parts_are ∙ idle.crossing;
+      }
+
   pub finished_due : (old : QuotaRow) → row_of folder_of n p.objects.quotas ≡ Some old → counts old ≡ false → due_in counting.objects None None (used_in counting.usage n) p.run_limit m n ≡ due_of p counting m
   finished_due old found uncounted =
       ap (λ limit. due_in counting.objects None None (used_in counting.usage n) limit m n) (sym (ap (λ (q : Parts). q.run_limit) f.completes.parts_are))
@@ -147,17 +161,11 @@ module _ (p new : Parts) (s : Course) (m n : ℕ) (f : Finishes (record p { scan
         none = step_checks R n h;
         lasts = ends;
         size = ap (λ (q : Parts). q.tree.size) f.completes.parts_are;
-        idle = record {
-          numbers = ap (λ (q : Parts). q.marks.numbers) f.completes.parts_are ∙ idle.numbers;
-          places = ap (λ (q : Parts). q.marks.places) f.completes.parts_are ∙ idle.places;
-          crossing = ap (λ (q : Parts). q.crossing) f.completes.parts_are ∙ idle.crossing;
-        };
+        idle = finished_idle idle;
         made =
             ap (followed R) (ap (λ b. if b then with_state (visited_rows R k) (unwrap_or (head R.queue) 0) Complete else visited_rows R k) ends ∙ ap (λ o. with_state (visited_rows R k) (unwrap_or o 0) Complete) h)
             ∙ (ap (λ (S : Rows). followed S (with_state S n Complete)) (sym is) ∙ sym finished_rows);
-        raised =
-            ap (λ (ns : List NodeRow). map (peaked p.tree.size ns m) counting.objects.quotas) (ap (λ (q : Parts). q.tree.nodes) f.completes.parts_are)
-            ∙ (f.completes.peaks_are ∙ ap (λ (ns : List NodeRow). map (peaked p.tree.size ns m) complete) (sym (ap (λ (q : Parts). q.tree.nodes) f.completes.parts_are)));
+        raised = finished_raised;
       }
 
 pub step_ending : (p new : Parts) (s : Course) (k m n count used : ℕ) (old : QuotaRow) → Finishes (record p { scans = s }) new n m → IsIdle p → p.last_moment ≤ m → head p.scans.queue ≡ Some n → row_of folder_of n p.objects.quotas ≡ Some old → counts old ≡ false → rows_of (record p { scans = s }) ≡ visited_rows (rows_of p) k → count ≡ length (rows_of p).unvisited - length (left p.tree.nodes s) → (length (left p.tree.nodes s) == 0) ≡ true → used ≡ usage p.tree.size p.tree.nodes n → Does p new m (Step k) (record { outcome = Scanned n count (Some used); lasting = true })
@@ -173,3 +181,14 @@ pub finished_sound : (old new : Parts) (n m : ℕ) → Finishes old new n m → 
 finished_sound old new n m f counted =
     sound_run f.completes.counting f.completes.run new m _ f.completes.ran f.completes.ends counted
     (subst (λ (q : Parts). Scanning q.tree q.scans) (sym f.completes.parts_are) f.turns.scanning)
+
+-- a scan that a journal tells to finish
+pub finish_ends : (p new : Parts) (m n : ℕ) (old : QuotaRow) → Finishes p new n m → IsIdle p → row_of folder_of n p.objects.quotas ≡ Some old → counts old ≡ false → Ends p new (completed p.tree.size (rows_of p) m n)
+finish_ends p new m n old f idle found uncounted =
+    let mid = f.completes.counting in
+    let complete : List QuotaRow = with_complete n p.objects.quotas in
+    ends_with p mid f.completes.run new m (followed (rows_of p) (with_state (rows_of p) n Complete)) complete _
+    (ap (λ (q : Parts). q.tree.size) f.completes.parts_are)
+    (finished_idle p new p.scans m n f idle)
+    (sym (finished_rows p new p.scans m n f)) (finished_raised p new p.scans m n f)
+    f.completes.ran (finished_due p new p.scans m n f old found uncounted) f.completes.ends

@@ -26,7 +26,7 @@ use Rattle.fsrm_model.specs.Limits.{most_entries}
 use Rattle.fsrm_model.specs.Quota.{peaked, peaks}
 use Rattle.fsrm_model.specs.QuotaStates.{followed, same_head, scan_begun}
 use Rattle.fsrm_model.specs.Runs.{ran}
-use Rattle.fsrm_model.specs.Step.{Stepped, work, decided, accepted, acted, lasted, left_by, ran_if_any, refused_leaving, screened, unacted, unlasting}
+use Rattle.fsrm_model.specs.Step.{Acted, Stepped, work, concluded, decided, accepted, acted, lasted, left_by, ran_if_any, refused_leaving, screened, unacted, unlasting}
 use Rattle.fsrm_model.specs.Text.{is_bare}
 use Rattle.fsrm_model.specs.Work.{Work}
 use Rattle.fsrm_model.proofs.commands.OrderlyLaws.{left_is, acts_left, itself_same}
@@ -162,6 +162,33 @@ pub record Accepts (p mid : Parts) (m : ℕ) (deed : Deed) : Type 0 where
 pub accepted_by : (K : Capacity) (R : Rows) (m : ℕ) (w : Work) (b : Bool) → w.lasts ≡ b → accepted K R m w ≡ (if b then lasted K R (screened (followed R w.effect) m w.judged) m w.outcome else unlasting (followed R w.effect) w.outcome)
 accepted_by K R m w b h = ap (λ b. if b then lasted K R (screened (followed R w.effect) m w.judged) m w.outcome else unlasting (followed R w.effect) w.outcome) h
 
+-- what an effect and the end of a command that lasts leave of parts
+pub record Ends (old new : Parts) (acted : Acted) : Type 0 where
+  pub size_is : new.tree.size ≡ old.tree.size
+  pub rows_are : rows_of new ≡ acted.rows
+  pub acts_are : AreMarked new acted.acts
+
+-- after these rows before the end, and the acts that ran
+pub ends_with : (p mid run new : Parts) (m : ℕ) (E : Rows) (quotas : List QuotaRow) (acts : List Act) → mid.tree.size ≡ p.tree.size → IsIdle mid → E ≡ record (rows_of mid) { quotas = quotas } → map (peaked p.tree.size mid.tree.nodes m) mid.objects.quotas ≡ map (peaked p.tree.size mid.tree.nodes m) quotas
+    → Ran mid run m acts → acts ≡ due_of p mid m → new ≡ ended run m → Ends p new (concluded p.tree.size (rows_of p) (unacted E) m)
+ends_with p mid run new m E quotas acts size idle made raised_is r due_is ends =
+    let K = p.tree.size in
+    let R = rows_of p in
+    let D = due_acts K R (peaks K E m) m in
+    let raised : map (peaked mid.tree.size mid.tree.nodes m) mid.objects.quotas ≡ map (peaked mid.tree.size mid.tree.nodes m) quotas =
+    subst (λ (K : Capacity). map (peaked K mid.tree.nodes m) mid.objects.quotas ≡ map (peaked K mid.tree.nodes m) quotas) (sym size) raised_is in
+    let own : AllByRecursion IsOfQuota acts = subst (AllByRecursion IsOfQuota) (sym due_is) (of_quota_due K R (rows_of mid) m) in
+    let are : acts ≡ D = due_is ∙ sym (due_made p mid E quotas m made raised_is) in
+    let after : Capacity → Rows → List Act → Rows = λ K E acts. record (ran m acts (peaks K E m)) { last_moment = m } in
+    record {
+      size_is = ap (λ (q : Parts). q.tree.size) ends ∙ (ap (λ (q : Parts). q.tree.size) r.parts_are ∙ size);
+      rows_are = ap rows_of ends
+          ∙ (ended_rows mid run m acts quotas own r raised
+          ∙ (ap (λ (K : Capacity). after K (record (rows_of mid) { quotas = quotas }) acts) size
+          ∙ (ap (λ (E : Rows). after K E acts) (sym made) ∙ ap (after K E) are)));
+      acts_are = subst (λ (q : Parts). AreMarked q D) (sym ends) (subst (AreMarked (ended run m)) are (marked_ended mid run m acts own idle r));
+    }
+
 -- the answer to a command that was done, and whose acts ran
 pub done_with : (p mid run new : Parts) (m : ℕ) (deed : Deed) (answer : Answer) (acts : List Act) → Accepts p mid m deed → (asked p m deed).judged ≡ None → Ran mid run m acts → acts ≡ due_of p mid m → new ≡ ended run m → answer ≡ record { outcome = (asked p m deed).outcome; lasting = true } → Does p new m deed answer
 done_with p mid run new m deed answer acts a unjudged r due_is ends e =
@@ -169,22 +196,11 @@ done_with p mid run new m deed answer acts a unjudged r due_is ends e =
     let R = rows_of p in
     let w = asked p m deed in
     let E = followed R w.effect in
-    let D = due_acts K R (peaks K E m) m in
-    let raised : map (peaked mid.tree.size mid.tree.nodes m) mid.objects.quotas ≡ map (peaked mid.tree.size mid.tree.nodes m) a.quotas =
-    subst (λ (K : Capacity). map (peaked K mid.tree.nodes m) mid.objects.quotas ≡ map (peaked K mid.tree.nodes m) a.quotas) (sym a.size) a.raised in
-    let own : AllByRecursion IsOfQuota acts = subst (AllByRecursion IsOfQuota) (sym due_is) (of_quota_due K R (rows_of mid) m) in
-    let are : acts ≡ D = due_is ∙ sym (due_made p mid E a.quotas m a.made a.raised) in
-    let after : Capacity → Rows → List Act → Rows = λ K E acts. record (ran m acts (peaks K E m)) { last_moment = m } in
+    let end = ends_with p mid run new m E a.quotas acts a.size a.idle a.made a.raised r due_is ends in
     does_by p new m deed answer (lasted K R (unacted E) m w.outcome)
     (step_by p m deed None a.after a.none
     ∙ (accepted_by K R m w true a.lasts ∙ ap (λ o. lasted K R (screened E m o) m w.outcome) unjudged))
-    (ap (λ (q : Parts). q.tree.size) ends ∙ (ap (λ (q : Parts). q.tree.size) r.parts_are ∙ a.size))
-    (ap rows_of ends
-    ∙ (ended_rows mid run m acts a.quotas own r raised
-    ∙ (ap (λ (K : Capacity). after K (record (rows_of mid) { quotas = a.quotas }) acts) a.size
-    ∙ (ap (λ (E : Rows). after K E acts) (sym a.made) ∙ ap (after K E) are))))
-    (subst (λ (q : Parts). AreMarked q D) (sym ends) (subst (AreMarked (ended run m)) are (marked_ended mid run m acts own a.idle r)))
-    e
+    end.size_is end.rows_are end.acts_are e
 
 -- the same if no act is due
 pub done_as : (p mid new : Parts) (m : ℕ) (deed : Deed) (answer : Answer) → Accepts p mid m deed → (asked p m deed).judged ≡ None → length mid.marks.log ≤ most_entries → due_of p mid m ≡ [] → new ≡ ended mid m → answer ≡ record { outcome = (asked p m deed).outcome; lasting = true } → Does p new m deed answer

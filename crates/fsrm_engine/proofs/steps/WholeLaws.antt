@@ -13,7 +13,7 @@ use Rattle.fsrm_model.specs.declared.row.Rows.{Rows}
 use Rattle.fsrm_model.specs.Acts.{IsAct, is_of_quota, of_quotas, of_screens}
 use Rattle.fsrm_model.specs.Cost.{cost, deed_cost}
 use Rattle.fsrm_model.specs.Named.{IsNamed}
-use Rattle.fsrm_model.specs.Step.{step}
+use Rattle.fsrm_model.specs.Step.{Stepped, step}
 use Rattle.fsrm_model.specs.Valid.{AreQuotas, IsValid}
 use Rattle.fsrm_model.proofs.commands.EachCommand.{named}
 use Rattle.fsrm_model.proofs.commands.StepActs.{AreActs}
@@ -21,7 +21,7 @@ use Rattle.fsrm_model.proofs.thresholds.DueLaws.{also}
 use Rattle.rescan.specs.Courses.{Scanning}
 use Rattle.thresholds.specs.Marked.{waiting}
 use Rattle.fsrm_engine.specs.declared.parts.Parts.{Parts}
-use Rattle.fsrm_engine.specs.Machine.{Machine, Takes, Does, IsIdle, IsSound, IsWhole, AreCounted, machine_of, rows_of, step_of, ended}
+use Rattle.fsrm_engine.specs.Machine.{AreMarked, Machine, Takes, Does, IsIdle, IsSound, IsWhole, AreCounted, machine_of, rows_of, step_of, ended}
 use Rattle.fsrm_engine.proofs.settling.MarkLaws.{idle_whole}
 use Rattle.fsrm_engine.proofs.settling.OrderedActs.{waits_as}
 use Rattle.fsrm_engine.proofs.settling.OrderlyQuotas.{quotas_orderly}
@@ -53,17 +53,20 @@ some_there : (R : Rows) (test : Act → Bool) (acts : List Act) → AllByRecursi
 some_there R test acts there = all_filter test (IsAct R) acts (also (IsAct R) (λ act. test act ≡ true → IsAct R act) (λ act is passes. is) acts there)
 
 -- the acts that wait are the step's
+pub waits_acts : (new : Parts) (s : Stepped) → rows_of new ≡ s.rows → AreMarked new s.acts → AreQuotas new.tree.nodes new.objects.quotas → AreActs s → (machine_of new).waiting ≡ s.acts
+waits_acts new s rows marked quotas acts =
+    ap (λ first. first ++ waiting new.objects.quotas new.marks.numbers) marked.screens
+    ∙ (ap (λ more. of_screens s.acts ++ more)
+    (waits_as (rows_of new) new.marks.numbers (of_quotas s.acts) (quotas_orderly new.tree.nodes new.objects.quotas quotas) marked.set acts.in_order
+    (some_there (rows_of new) (λ act. is_of_quota act.subject) s.acts (subst (λ (R : Rows). AllByRecursion (IsAct R) s.acts) (sym rows) acts.there)) marked.are)
+    ∙ sym acts.first)
+
 pub takes : (old new : Parts) (m : ℕ) (deed : Deed) (answer : Answer) → Does old new m deed answer → AreQuotas new.tree.nodes new.objects.quotas → AreActs (step_of old m deed) → Takes (machine_of old) (machine_of new) (step_of old m deed) answer
 takes old new m deed answer does quotas acts =
-    let stepped : List Act = (step_of old m deed).acts in
     record {
       size_is = does.size_is;
       rows_are = does.rows_are;
-      acts_are = ap (λ first. first ++ waiting new.objects.quotas new.marks.numbers) does.acts_are.screens
-          ∙ (ap (λ more. of_screens stepped ++ more)
-          (waits_as (rows_of new) new.marks.numbers (of_quotas stepped) (quotas_orderly new.tree.nodes new.objects.quotas quotas) does.acts_are.set acts.in_order
-          (some_there (rows_of new) (λ act. is_of_quota act.subject) stepped (subst (λ (R : Rows). AllByRecursion (IsAct R) stepped) (sym does.rows_are) acts.there)) does.acts_are.are)
-          ∙ sym acts.first);
+      acts_are = waits_acts new (step_of old m deed) does.rows_are does.acts_are quotas acts;
       outcome_is = does.outcome_is;
       lasting_is = does.lasting_is;
     }

@@ -9,11 +9,8 @@ use Rattle.std.proofs.lemmas.List.{length-map, map-append, append-nil}
 use Rattle.fsrm_base.specs.Keyed.{row_of, has_row, is_ascending, with_change}
 use Rattle.fsrm_model.specs.Quota.{folder_of}
 use Rattle.fsrm_model.specs.declared.row.NodeRow.{NodeRow}
-use Rattle.fsrm_model.specs.Tree.{parent_of}
 use Rattle.fsrm_base.proofs.EditedRows.{change_absent, absent_later, ascending_tail}
 use Rattle.fsrm_base.proofs.TestLaws.{clash, eq_is, eq_same, not_true, or_later}
-use Rattle.node_table.specs.declared.view.NodeView.{NodeView}
-use Rattle.volume_tree.specs.Volume.{Shows}
 use Rattle.fsrm_base.proofs.Look.{found_key}
 use Rattle.fsrm_objects.specs.Tables.{Tables, peaked_at}
 use Rattle.quota_usage.specs.declared.change.Counter.{Counter}
@@ -22,7 +19,7 @@ use Rattle.thresholds.specs.Settled.{crosses_any}
 use Rattle.fsrm_engine.specs.Crossing.{is_crossing, used_before}
 use Rattle.fsrm_engine.specs.Peaks.{raised, raised_above, raised_to}
 use Rattle.fsrm_base.proofs.RowLaws.{change_same, change_none}
-use Rattle.fsrm_model.proofs.valid.ValidLaws.{found_parent}
+use Rattle.fsrm_engine.proofs.tables.FillLaws.{row_after}
 
 raised_by : (counters : List Counter) (m : ℕ) (q : QuotaRow) (o : Option ℕ) → used_in counters q.folder ≡ o → raised counters m q ≡ option_map_or (λ used. raised_to used m q) o q
 raised_by counters m q o h = ap (λ o. option_map_or (λ used. raised_to used m q) o q) h
@@ -71,10 +68,6 @@ raised_keeps_at q m (Some used) = at (nat_lt q.peak used)
 
 pub raised_keeps : (counters : List Counter) (m : ℕ) (q : QuotaRow) → (raised counters m q).folder ≡ q.folder
 raised_keeps counters m q = raised_keeps_at q m (used_in counters q.folder)
-
--- one step up
-pub up_is : (nodes : List NodeRow) (n : ℕ) (view : NodeView) → Shows view nodes n → parent_of nodes n ≡ view.parent
-up_is nodes n view s = found_parent nodes n s.row s.found ∙ sym s.is.parent
 
 -- where nothing gains, no peak is raised
 pub none_above : (nodes : List NodeRow) (place : Option ℕ) (counters : List Counter) (m : ℕ) (quotas : List QuotaRow) → place ≡ None → quotas ≡ map (raised_above nodes place counters m) quotas
@@ -128,18 +121,11 @@ change_there key c (x ∷ before) q after asc =
     has_it [] = ap (λ b. b || has_row key (key q) after) (eq_same (key q))
     has_it (r ∷ rows) = or_later (key r == key q) (has_row key (key q) (rows ++ q ∷ after)) (has_it rows)
 
--- the row at a place
-row_at : {X : Type 0} (before ahead : List X) (x : X) → slice_get (before ++ ahead) (length before) ≡ Some x → (rest : List X) × (ahead ≡ x ∷ rest)
-row_at [] [] x h = cc
-row_at [] (y ∷ ahead) x h = (ahead, ap (λ z. z ∷ ahead) (same_Some y x h))
-row_at (b ∷ before) ahead x h = row_at before ahead x h
-
-pub raised_next : (counters : List Counter) (m : ℕ) (old now : List QuotaRow) (place : ℕ) (q : QuotaRow) → is_ascending folder_of now ≡ true → slice_get now place ≡ Some q → RaisedTo (raised counters m) old now place → RaisedTo (raised counters m) old (with_change folder_of q.folder (raised counters m) now) (place + 1)
-raised_next counters m old now place q asc at r =
-    let raise = raised counters m in
+pub changed_next : (raise : QuotaRow → QuotaRow) (old now : List QuotaRow) (place : ℕ) (q : QuotaRow) → is_ascending folder_of now ≡ true → slice_get now place ≡ Some q → RaisedTo raise old now place → RaisedTo raise old (with_change folder_of q.folder raise now) (place + 1)
+changed_next raise old now place q asc at r =
     let len : length (map raise r.passed) ≡ place = length-map r.passed raise ∙ r.count in
     let there : slice_get (map raise r.passed ++ r.ahead) (length (map raise r.passed)) ≡ Some q = ap (slice_get (map raise r.passed ++ r.ahead)) len ∙ (ap (λ rows. slice_get rows place) (sym r.now_is) ∙ at) in
-    let w = row_at (map raise r.passed) r.ahead q there in
+    let w = row_after (map raise r.passed) r.ahead q there in
     let now_is : now ≡ map raise r.passed ++ q ∷ w.0 = r.now_is ∙ ap (λ rows. map raise r.passed ++ rows) w.1 in
     record {
       passed = r.passed ++ q ∷ [];
@@ -151,6 +137,9 @@ raised_next counters m old now place q asc at r =
           ∙ (change_there folder_of raise (map raise r.passed) q w.0 (ap (is_ascending folder_of) (sym now_is) ∙ asc)
           ∙ sym (ap (λ rows. rows ++ w.0) (map-append raise r.passed (q ∷ [])) ∙ append_assoc (map raise r.passed) (raise q ∷ []) w.0));
     }
+
+pub raised_next : (counters : List Counter) (m : ℕ) (old now : List QuotaRow) (place : ℕ) (q : QuotaRow) → is_ascending folder_of now ≡ true → slice_get now place ≡ Some q → RaisedTo (raised counters m) old now place → RaisedTo (raised counters m) old (with_change folder_of q.folder (raised counters m) now) (place + 1)
+raised_next counters m = changed_next (raised counters m)
 
 pub raised_whole : (raise : QuotaRow → QuotaRow) (old now : List QuotaRow) (place : ℕ) → length old ≤ place → RaisedTo raise old now place → now ≡ map raise old
 raised_whole raise old now place end r =

@@ -11,8 +11,9 @@ use Rattle.fsrm_base.specs.Keyed.{is_ascending}
 use Rattle.fsrm_model.specs.Limits.{longest_file}
 use Rattle.fsrm_model.specs.Scan.{counted}
 use Rattle.fsrm_model.specs.Space.{alloc, space}
-use Rattle.fsrm_model.specs.Tree.{number, node_of}
+use Rattle.fsrm_model.specs.Tree.{number, node_of, is_under, usage}
 use Rattle.fsrm_model.specs.Valid.{IsVolume}
+use Rattle.fsrm_model.proofs.nodes.ChainLaws.{share, usage_is}
 use Rattle.fsrm_model.proofs.valid.CapacityLaws.{nodes_most, alloc_most}
 use Rattle.fsrm_base.proofs.Order.{parts}
 use Rattle.fsrm_base.proofs.TestLaws.{is_or_not, both, eq_is, lt_is, le_is}
@@ -70,9 +71,16 @@ pub sum_le : (f g : NodeRow → ℕ) (rows : List NodeRow) → ((r : NodeRow) �
 sum_le f g [] h = omega arith
 sum_le f g (r ∷ rows) h = omega (arith, sum_by-cons f r rows, sum_by-cons g r rows, h r, sum_le f g rows h)
 
+-- a part of a number is no more than it
+part_le : (b : Bool) (s : ℕ) → cond b s 0 ≤ s
+part_le true s = omega arith
+part_le false s = omega arith
+
 pub counted_small : (K : Capacity) (nodes : List NodeRow) (f : Front) → IsVolume K nodes → counted K nodes (scanned f) (unvisited nodes f) ≤ sum_by (space K) nodes
-counted_small K nodes f v = omega (arith, counted_is K nodes v f, sum_le (part K nodes f) (space K) nodes (λ r. at (is_counted nodes f r.parent) (space K r)))
-  where
-    at : (b : Bool) (s : ℕ) → cond b s 0 ≤ s
-    at true s = omega arith
-    at false s = omega arith
+counted_small K nodes f v = omega (arith, counted_is K nodes v f, sum_le (part K nodes f) (space K) nodes (λ r. part_le (is_counted nodes f r.parent) (space K r)))
+
+pub usage_total : (K : Capacity) (nodes : List NodeRow) (f : ℕ) → usage K nodes f ≤ sum_by (space K) nodes
+usage_total K nodes f = omega (arith, usage_is K nodes f, sum_le (share K nodes f) (space K) nodes (λ r. part_le (is_under nodes f r.number) (space K r)))
+
+pub usage_small : (K : Capacity) (nodes : List NodeRow) (f : ℕ) → IsVolume K nodes → is_capacity K ≡ true → usage K nodes f < 2 ^ 64
+usage_small K nodes f v legal = omega (arith, usage_total K nodes f, total_small K nodes v legal)

@@ -1,9 +1,8 @@
 -- The children of a folder, taken up one by one.
 use Rattle.std.proofs.Common.{◌≡◌, ℕ, ◌+◌, ◌<◌, ◌≤◌, ◌==◌, Bool, true, false, cond, not, ◌||◌, ◌&&◌, List, [], ◌∷◌, ◌++◌, length, take, Option, Some, None, refl, sym, ◌∙◌, ap, arith}
-use Rattle.std.proofs.lemmas.List.{take_more, take_all, map-append}
-use Rattle.std.proofs.lemmas.List.Elements.{filter-append}
+use Rattle.std.proofs.lemmas.List.{take_more, take_all}
 use Rattle.std.proofs.lemmas.List.Sorted.{sum_by-IsPermutation, list_any-IsPermutation}
-use Rattle.std.proofs.lemmas.List.Sums.{sum_by-cons, sum_by_push, sum_by-take-le}
+use Rattle.std.proofs.lemmas.List.Sums.{sum_by-cons}
 use Rattle.std.proofs.lemmas.Option.{slice_get_within, get_or_from_slice_get, same_Some}
 use Rattle.std.specs.Prelude.{map, filter, sum_by}
 use Rattle.std.specs.Option.{option_map_or}
@@ -13,10 +12,9 @@ use Rattle.fsrm_model.specs.declared.row.NodeRow.{NodeRow}
 use Rattle.fsrm_base.specs.Keyed.{is_ascending}
 use Rattle.fsrm_model.specs.Name.{name_before}
 use Rattle.fsrm_base.specs.Numbers.{is_in, with_number, with_numbers}
-use Rattle.fsrm_model.specs.Space.{alloc, space}
+use Rattle.fsrm_model.specs.Space.{space}
 use Rattle.fsrm_model.specs.Tree.{number, node_of, parent_of, is_folder, is_child, children, children_in_order}
-use Rattle.fsrm_model.specs.Valid.{IsVolume}
-use Rattle.fsrm_base.proofs.TestLaws.{both, eq_is, is_false, lt_is}
+use Rattle.fsrm_base.proofs.TestLaws.{both, eq_is, is_false}
 use Rattle.fsrm_model.proofs.nodes.Keeps.{folder_found, found_folder, is_child_test}
 use Rattle.fsrm_base.proofs.Look.{found_key}
 use Rattle.node_table.specs.declared.view.NodeView.{NodeView}
