@@ -1,0 +1,11 @@
+pub mod FollowedLaws
+pub mod ItemLoops
+pub mod ListLaws
+pub mod NumberLaws
+pub mod OptionalLaws
+pub mod ReadLaws
+pub mod Reaching
+pub mod StandingLaws
+pub mod TextChecks
+pub mod TextLaws
+pub mod WriterLaws

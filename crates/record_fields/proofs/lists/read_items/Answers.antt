@@ -1,0 +1,20 @@
+use Rattle.std.proofs.lemmas.Result.{err_from_is_err_and}
+use Rattle.record_fields.specs.Formats.{items_at}
+use Rattle.record_fields.proofs.ItemLoops.{goes_on, fails, ends}
+use Rattle.record_fields.proofs.lists.read_items.Goals as goal
+
+pub returns-in_err-read : goal.returns-in_err-read
+returns-in_err-read g c =
+    let f = g.F.Field.format in
+    let p = err_from_is_err_and c.from_residual.result c.from_residual.ensures.1 in
+    rw (p.1, p.2) (fails f c.in_err-read.field-0.0 c.loop.items c.args.count c.loop.counter c.loop.reader (items_at f c.args.count c.args.reader.now) c.loop-test.true c.in_err-read.ensures c.loop.invariant)
+
+pub loop-preserved : goal.loop-preserved
+loop-preserved g c =
+    let f = g.F.Field.format in
+    rw c.in_ok-push.ensures.ok (goes_on f c.loop.items c.args.count c.loop.counter c.loop.reader c.in_ok-read.field-0 c.read.new.reader (items_at f c.args.count c.args.reader.now) c.loop-test.true c.in_ok-read.ensures c.loop.invariant)
+
+pub returns : goal.returns
+returns g c =
+    let f = g.F.Field.format in
+    ends f c.loop.items c.args.count c.loop.counter c.loop.reader (items_at f c.args.count c.args.reader.now) c.loop-test.false c.loop.invariant
