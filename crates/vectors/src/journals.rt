@@ -44,7 +44,8 @@ fn is_read(alloc: Global, journal: &mut Journal, disk: &mut MemoryOutside) -> Re
         image(journal, disk)? == 3
             && image(journal, disk)? == 0
             && record_is_read(alloc, journal, disk)?
-            && is_at_its_end(alloc, journal, disk)?,
+            && is_at_its_end(alloc, journal, disk)?
+            && journal.tail() == 7,
     )
 }
 

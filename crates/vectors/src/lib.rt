@@ -23,6 +23,8 @@ mod disks;
 #[cfg(test)]
 mod engines;
 #[cfg(test)]
+mod fields;
+#[cfg(test)]
 mod groups;
 #[cfg(test)]
 mod journals;

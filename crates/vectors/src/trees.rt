@@ -121,6 +121,16 @@ fn nodes_move<L: Ledger>(
     Ok(())
 }
 
+// From file 1, which was moved into folder 2, up to the root.
+fn goes_up<L: Ledger>(tree: &Tree, end: &impl Abort, steps: &mut Steps<L>) -> bool {
+    assert!(end; tree.live(1));
+    let mut way = tree.way_up(1);
+    let three = way.next(steps) == Some(1)
+        && way.next(steps) == Some(2)
+        && way.next(steps) == Some(0);
+    three && way.next(steps).is_none() && way.next(steps).is_none()
+}
+
 fn fault(alloc: Global, rows: &List<NodeRow>, size: Capacity) -> Option<RowsFault>
     requires { is_capacity size ≡ true }
 {
@@ -154,6 +164,7 @@ fn changes<L: Ledger>(
     assert!(end; is_changed(tree, end, steps));
     assert!(end; are_ordered(tree, alloc, steps)?);
     nodes_move(tree, end, steps)?;
+    assert!(end; goes_up(tree, end, steps));
     assert!(end; rows_go_round(tree, alloc, steps)?);
     Ok(())
 }
