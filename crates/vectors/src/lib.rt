@@ -25,6 +25,8 @@ mod engines;
 #[cfg(test)]
 mod fields;
 #[cfg(test)]
+mod finishes;
+#[cfg(test)]
 mod groups;
 #[cfg(test)]
 mod journals;
