@@ -13,7 +13,7 @@ use Rattle.fsrm_model.specs.Capacities.{is_capacity}
 use Rattle.fsrm_model.specs.Fresh.{rows_of_nodes}
 use Rattle.fsrm_base.specs.Keyed.{row_of}
 use Rattle.fsrm_base.specs.Numbers.{is_set}
-use Rattle.fsrm_model.specs.Limits.{most_quotas}
+use Rattle.fsrm_model.specs.Limits.{latest_moment, most_quotas}
 use Rattle.fsrm_model.specs.Quota.{folder_of, counts, peaked}
 use Rattle.fsrm_model.specs.Step.{Stepped, step}
 use Rattle.fsrm_model.specs.Tree.{usage}
@@ -136,6 +136,13 @@ pub record IsWhole (parts : Parts) : Type 0 where
   pub there : are_there parts.objects.quotas parts.marks.numbers ≡ true
   pub screens : are_screen_acts parts.objects.screens parts.marks ≡ true
   pub crossing : parts.crossing ≡ no_numbers most_quotas
+
+-- the parts are whole, no action waits, and the moment may be that of a command
+pub record IsReady (parts : Parts) (moment : ℕ) : Type 0 where
+  pub whole : IsWhole parts
+  pub idle : IsIdle parts
+  pub in_range : moment ≤ latest_moment
+  pub after : parts.last_moment ≤ moment
 
 -- ---- what is done with them
 -- the plain machine's step at a deed of this moment

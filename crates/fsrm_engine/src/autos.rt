@@ -7,6 +7,7 @@ ghost use Rattle.fsrm_model.specs.declared.command.AutoquotaDeed.TheVariants.{Ad
 ghost use Rattle.fsrm_model.specs.declared.command.Deed.TheVariants.{Autoquota};
 ghost use Rattle.fsrm_model.specs.AutoApply.{auto_folder, is_auto, queue_with, quotas_with};
 ghost use Rattle.fsrm_model.specs.AutoWork.{new_auto};
+ghost use Rattle.fsrm_model.specs.Commands.{is_new_autoquota};
 ghost use Rattle.fsrm_model.specs.Cost.{deed_cost};
 ghost use Rattle.fsrm_model.specs.Limits.{latest_moment, most_excluded};
 ghost use Rattle.fsrm_model.specs.Name.{is_name};
@@ -25,7 +26,8 @@ use crate::places::folder_at;
 use fsrm_base::room::left_of_texts;
 use fsrm_model::limits::MOST_AUTOS;
 use fsrm_model::{
-    Answer, Ask, AutoRow, Duplicate, Ledger, List, NoMemory, Path, QuotaRow, Refusal, Steps, Text,
+    Answer, Ask, AutoRow, Duplicate, Ledger, List, NewAutoquota, NoMemory, Path, QuotaRow, Refusal,
+    Steps, Text,
 };
 use fsrm_objects::Objects;
 use std::alloc::Global;
@@ -205,32 +207,30 @@ impl Parts {
     pub(crate) fn auto_add<L: Ledger>(
         &mut self,
         alloc: Global,
-        path: &Path,
-        name: &Text,
-        excluded: &List<Text>,
+        auto: &NewAutoquota,
         moment: u64,
         steps: &mut Steps<L>,
     ) -> Result<Answer, NoMemory>
         requires whole { IsWhole self.old }
         requires idle { IsIdle self.old }
-        requires excluded { (nat_le (length excluded.now) most_excluded && list_all is_name excluded.now) ≡ true }
+        requires valid { is_new_autoquota auto.now ≡ true }
         requires moment { moment ≤ latest_moment }
         requires after { self.old.last_moment ≤ moment }
-        ensures ok { IfOk result (λ answer. Does self.old self.new moment (Autoquota (AutoquotaAdd path.now name.now excluded.now)) answer) }
+        ensures ok { IfOk result (λ answer. Does self.old self.new moment (Autoquota (AutoquotaAdd auto.now)) answer) }
         ensures err { OnErr result (self.new ≡ self.old) }
         ensures sound { IsSound self.new }
-        ensures looks { steps.new ≤ steps.old + deed_cost (rows_of self.old) (Autoquota (AutoquotaAdd path.now name.now excluded.now)) }
+        ensures looks { steps.new ≤ steps.old + deed_cost (rows_of self.old) (Autoquota (AutoquotaAdd auto.now)) }
     {
-        let Some(folder) = folder_at(&self.tree, path, steps) else {
+        let Some(folder) = folder_at(&self.tree, &auto.path, steps) else {
             return Ok(refused(Refusal::PathNotFound));
         };
         if self.templates.auto(folder).is_some() {
             return Ok(refused(Refusal::AlreadyExists));
         }
-        let Some(template) = self.templates.find(name.as_str()) else {
+        let Some(template) = self.templates.find(auto.template.as_str()) else {
             return Ok(refused(Refusal::NotFound));
         };
-        let row = new_auto(alloc, folder, template, excluded)?;
+        let row = new_auto(alloc, folder, template, &auto.excluded)?;
         match self.given_rows(alloc, &row, moment, steps)? {
             Ok(rows) => {
                 self.apply_auto(row, rows)?;

@@ -5,11 +5,10 @@ ghost use Rattle.fsrm_model.specs.declared.command.Deed.TheVariants.{File, Quota
 ghost use Rattle.fsrm_model.specs.Cost.{deed_cost};
 ghost use Rattle.fsrm_model.specs.Limits.{latest_moment};
 ghost use Rattle.fsrm_model.specs.Valued.{is_op, is_deed, is_command};
-ghost use Rattle.fsrm_engine.specs.Machine.{Does, IsIdle, IsSound, IsWhole, rows_of};
+ghost use Rattle.fsrm_engine.specs.Machine.{Does, IsIdle, IsReady, IsSound, IsWhole, rows_of};
 ghost use Rattle.fsrm_engine.specs.Memory.{may_want_memory};
 
 use crate::parts::Parts;
-use crate::threshold_lists::ThresholdChange;
 use fsrm_model::{
     AdminDeed, Answer, AutoquotaDeed, Command, Deed, ExceptionDeed, FileOp, FilegroupDeed, Ledger,
     NoMemory, QuotaDeed, ScreenDeed, Steps, TemplateDeed,
@@ -91,35 +90,8 @@ impl Parts {
         ensures looks { steps.new ≤ steps.old + deed_cost (rows_of self.old) (Quota deed.now) }
     {
         match deed {
-            QuotaDeed::Add {
-                path,
-                limit,
-                enforce,
-                enabled,
-                source_template: source,
-                add_threshold: percents,
-                add_notification: notices,
-            } => {
-                let change = ThresholdChange::adding(percents, notices);
-                let source = source.as_ref();
-                self.quota_add(
-                    alloc, path, *limit, *enforce, *enabled, source, &change, moment, steps,
-                )
-            }
-            QuotaDeed::Modify {
-                path,
-                limit,
-                enforce,
-                enabled,
-                remove_threshold: removed,
-                add_threshold: percents,
-                add_notification: notices,
-            } => {
-                let change = ThresholdChange::new(removed, percents, notices);
-                self.quota_modify(
-                    alloc, path, *limit, *enforce, *enabled, &change, moment, steps,
-                )
-            }
+            QuotaDeed::Add(quota) => self.quota_add(alloc, quota, moment, steps),
+            QuotaDeed::Modify(change) => self.quota_modify(alloc, change, moment, steps),
             QuotaDeed::Delete { path } => Ok(self.quota_delete(path, moment, steps)),
             QuotaDeed::Scan { path } => Ok(self.quota_scan(path, moment, steps)),
             QuotaDeed::Resetpeak { path } => Ok(self.quota_resetpeak(path, moment, steps)),
@@ -144,29 +116,9 @@ impl Parts {
         ensures sound { IsSound self.new }
     {
         match deed {
-            TemplateDeed::Add {
-                template: name,
-                limit,
-                enforce,
-                add_threshold: percents,
-                add_notification: notices,
-            } => {
-                let change = ThresholdChange::adding(percents, notices);
-                self.template_add(alloc, name, *limit, *enforce, &change, moment)
-            }
-            TemplateDeed::Modify {
-                template: name,
-                limit,
-                enforce,
-                remove_threshold: removed,
-                add_threshold: percents,
-                add_notification: notices,
-                update_derived: mode,
-            } => {
-                let change = ThresholdChange::new(removed, percents, notices);
-                self.template_modify(alloc, name, *limit, *enforce, &change, *mode, moment)
-            }
-            TemplateDeed::Delete { template: name } => Ok(self.template_delete(name, moment)),
+            TemplateDeed::Add(template) => self.template_add(alloc, template, moment),
+            TemplateDeed::Modify(change) => self.template_modify(alloc, change, moment),
+            TemplateDeed::Delete { name } => Ok(self.template_delete(name, moment)),
             TemplateDeed::List => Ok(self.list_templates(moment)),
         }
     }
@@ -190,11 +142,7 @@ impl Parts {
         ensures looks { steps.new ≤ steps.old + deed_cost (rows_of self.old) (Autoquota deed.now) }
     {
         match deed {
-            AutoquotaDeed::Add {
-                path,
-                source_template: name,
-                exclude: excluded,
-            } => self.auto_add(alloc, path, name, excluded, moment, steps),
+            AutoquotaDeed::Add(auto) => self.auto_add(alloc, auto, moment, steps),
             AutoquotaDeed::Delete { path } => Ok(self.auto_delete(path, moment, steps)),
             AutoquotaDeed::List => Ok(self.list_autos(moment)),
         }
@@ -217,17 +165,9 @@ impl Parts {
         ensures sound { IsSound self.new }
     {
         match deed {
-            FilegroupDeed::Add {
-                filegroup: name,
-                members,
-                non_members: others,
-            } => self.group_add(alloc, name, members, others, moment),
-            FilegroupDeed::Modify {
-                filegroup: name,
-                members,
-                non_members: others,
-            } => self.group_modify(alloc, name, members.as_ref(), others.as_ref(), moment),
-            FilegroupDeed::Delete { filegroup: name } => Ok(self.group_delete(name, moment)),
+            FilegroupDeed::Add(group) => self.group_add(alloc, group, moment),
+            FilegroupDeed::Modify(change) => self.group_modify(alloc, change, moment),
+            FilegroupDeed::Delete { name } => Ok(self.group_delete(name, moment)),
             FilegroupDeed::List => Ok(self.list_groups(moment)),
         }
     }
@@ -240,29 +180,16 @@ impl Parts {
         moment: u64,
         steps: &mut Steps<L>,
     ) -> Result<Answer, NoMemory>
-        requires whole { IsWhole self.old }
-        requires idle { IsIdle self.old }
+        requires ready { IsReady self.old moment }
         requires valid { is_deed (Screen deed.now) ≡ true }
-        requires moment { moment ≤ latest_moment }
-        requires after { self.old.last_moment ≤ moment }
         ensures ok { IfOk result (λ answer. Does self.old self.new moment (Screen deed.now) answer) }
         ensures err { OnErr result (self.new ≡ self.old) }
         ensures sound { IsSound self.new }
         ensures looks { steps.new ≤ steps.old + deed_cost (rows_of self.old) (Screen deed.now) }
     {
         match deed {
-            ScreenDeed::Add {
-                path,
-                active,
-                add_filegroup: names,
-                add_notification: actions,
-            } => self.screen_add(alloc, path, *active, names, actions, moment, steps),
-            ScreenDeed::Modify {
-                path,
-                active,
-                remove_filegroup: removed,
-                add_filegroup: added,
-            } => self.screen_modify(alloc, path, *active, removed, added, moment, steps),
+            ScreenDeed::Add(screen) => self.screen_add(alloc, screen, moment, steps),
+            ScreenDeed::Modify(change) => self.screen_modify(alloc, change, moment, steps),
             ScreenDeed::Delete { path } => Ok(self.screen_delete(path, moment, steps)),
             ScreenDeed::List => Ok(self.list_screens(moment)),
         }
@@ -276,21 +203,15 @@ impl Parts {
         moment: u64,
         steps: &mut Steps<L>,
     ) -> Result<Answer, NoMemory>
-        requires whole { IsWhole self.old }
-        requires idle { IsIdle self.old }
+        requires ready { IsReady self.old moment }
         requires valid { is_deed (Exception deed.now) ≡ true }
-        requires moment { moment ≤ latest_moment }
-        requires after { self.old.last_moment ≤ moment }
         ensures ok { IfOk result (λ answer. Does self.old self.new moment (Exception deed.now) answer) }
         ensures err { OnErr result (self.new ≡ self.old) }
         ensures sound { IsSound self.new }
         ensures looks { steps.new ≤ steps.old + deed_cost (rows_of self.old) (Exception deed.now) }
     {
         match deed {
-            ExceptionDeed::Add {
-                path,
-                add_filegroup: names,
-            } => self.except_add(alloc, path, names, moment, steps),
+            ExceptionDeed::Add(except) => self.except_add(alloc, except, moment, steps),
             ExceptionDeed::Delete { path } => Ok(self.except_delete(path, moment, steps)),
             ExceptionDeed::List => Ok(self.list_excepts(moment)),
         }

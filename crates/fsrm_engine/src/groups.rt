@@ -2,19 +2,20 @@
 
 ghost use Rattle.std.specs.Prelude.{◌≡◌, ◌≤◌, true, IfOk, OnErr};
 ghost use Rattle.std.specs.List.{list_all, list_any};
-ghost use Rattle.std.specs.Option.{option_copied, option_map_or};
+ghost use Rattle.std.specs.Option.{option_map_or};
 ghost use Rattle.fsrm_base.specs.Numbers.{is_in};
 ghost use Rattle.fsrm_model.specs.declared.command.Deed.TheVariants.{Filegroup};
 ghost use Rattle.fsrm_model.specs.declared.command.FilegroupDeed.TheVariants.{Add as FilegroupAdd, Modify as FilegroupModify, Delete as FilegroupDelete, List as FilegroupList};
+ghost use Rattle.fsrm_model.specs.Commands.{is_new_filegroup, is_filegroup_change};
 ghost use Rattle.fsrm_model.specs.GroupWork.{is_used};
 ghost use Rattle.fsrm_model.specs.Limits.{latest_moment};
-ghost use Rattle.fsrm_model.specs.Patterns.{is_object_name, is_pattern, are_members, are_non_members};
+ghost use Rattle.fsrm_model.specs.Patterns.{is_pattern};
 ghost use Rattle.fsrm_engine.specs.Machine.{Does, IsIdle, IsSound, IsWhole, rows_of};
 
 use crate::exits::{listing, refused, refused_by_groups};
 use crate::parts::Parts;
 use file_groups::Pattern;
-use fsrm_model::{Answer, Ask, List, NoMemory, Refusal, Text};
+use fsrm_model::{Answer, Ask, FilegroupChange, List, NewFilegroup, NoMemory, Refusal, Text};
 use fsrm_objects::Objects;
 use std::alloc::Global;
 
@@ -44,10 +45,10 @@ fn patterns_of(alloc: Global, texts: &List<Text>) -> Result<List<Pattern>, NoMem
 // The same of texts that may be given.
 fn given_patterns(
     alloc: Global,
-    texts: Option<&List<Text>>,
+    texts: &Option<List<Text>>,
 ) -> Result<Option<List<Pattern>>, NoMemory>
-    requires { option_map_or (list_all is_pattern) (option_copied texts) true ≡ true }
-    ensures { IfOk result (λ patterns. patterns ≡ option_copied texts.entry) }
+    requires { option_map_or (list_all is_pattern) texts.now true ≡ true }
+    ensures { IfOk result (λ patterns. patterns ≡ texts.now) }
 {
     match texts {
         Some(texts) => Ok(Some(patterns_of(alloc, texts)?)),
@@ -91,26 +92,25 @@ impl Parts {
     pub(crate) fn group_add(
         &mut self,
         alloc: Global,
-        name: &Text,
-        members: &List<Text>,
-        non_members: &List<Text>,
+        group: &NewFilegroup,
         moment: u64,
     ) -> Result<Answer, NoMemory>
         requires whole { IsWhole self.old }
         requires idle { IsIdle self.old }
-        requires name { is_object_name name.now ≡ true }
-        requires members { are_members members.now ≡ true }
-        requires others { are_non_members non_members.now ≡ true }
+        requires valid { is_new_filegroup group.now ≡ true }
         requires moment { moment ≤ latest_moment }
         requires after { self.old.last_moment ≤ moment }
-        ensures ok { IfOk result (λ answer. Does self.old self.new moment (Filegroup (FilegroupAdd name.now members.now non_members.now)) answer) }
+        ensures ok { IfOk result (λ answer. Does self.old self.new moment (Filegroup (FilegroupAdd group.now)) answer) }
         ensures err { OnErr result (self.new ≡ self.old) }
         ensures sound { IsSound self.new }
     {
-        let members = patterns_of(alloc, members)?;
-        let non_members = patterns_of(alloc, non_members)?;
+        let members = patterns_of(alloc, &group.members)?;
+        let non_members = patterns_of(alloc, &group.non_members)?;
         let room = self.room();
-        match self.groups.add(name.as_str(), members, non_members, room) {
+        match self
+            .groups
+            .add(group.name.as_str(), members, non_members, room)
+        {
             Ok(_) => Ok(self.done(moment)),
             Err(fault) => refused_by_groups(fault),
         }
@@ -120,26 +120,23 @@ impl Parts {
     pub(crate) fn group_modify(
         &mut self,
         alloc: Global,
-        name: &Text,
-        members: Option<&List<Text>>,
-        non_members: Option<&List<Text>>,
+        change: &FilegroupChange,
         moment: u64,
     ) -> Result<Answer, NoMemory>
         requires whole { IsWhole self.old }
         requires idle { IsIdle self.old }
-        requires members { option_map_or are_members (option_copied members) true ≡ true }
-        requires others { option_map_or are_non_members (option_copied non_members) true ≡ true }
+        requires valid { is_filegroup_change change.now ≡ true }
         requires moment { moment ≤ latest_moment }
         requires after { self.old.last_moment ≤ moment }
-        ensures ok { IfOk result (λ answer. Does self.old self.new moment (Filegroup (FilegroupModify name.now (option_copied members.entry) (option_copied non_members.entry))) answer) }
+        ensures ok { IfOk result (λ answer. Does self.old self.new moment (Filegroup (FilegroupModify change.now)) answer) }
         ensures err { OnErr result (self.new ≡ self.old) }
         ensures sound { IsSound self.new }
     {
-        let Some(group) = self.groups.find(name.as_str()) else {
+        let Some(group) = self.groups.find(change.name.as_str()) else {
             return Ok(refused(Refusal::NotFound));
         };
-        let members = given_patterns(alloc, members)?;
-        let non_members = given_patterns(alloc, non_members)?;
+        let members = given_patterns(alloc, &change.members)?;
+        let non_members = given_patterns(alloc, &change.non_members)?;
         let room = self.room();
         match self
             .groups

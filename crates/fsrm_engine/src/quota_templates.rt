@@ -1,24 +1,23 @@
 //! The commands on quota templates.
 
-ghost use Rattle.std.specs.Prelude.{◌≡◌, ◌≤◌, [], true, IfOk, OnErr};
-ghost use Rattle.std.specs.List.{list_all};
-ghost use Rattle.std.specs.Option.{option_copied, option_map_or};
+ghost use Rattle.std.specs.Prelude.{◌≡◌, ◌≤◌, true, IfOk, OnErr};
+ghost use Rattle.std.specs.Option.{option_copied};
 ghost use Rattle.fsrm_base.specs.Keyed.{is_ascending};
 ghost use Rattle.fsrm_model.specs.declared.command.Deed.TheVariants.{Template};
 ghost use Rattle.fsrm_model.specs.declared.command.TemplateDeed.TheVariants.{Add as TemplateAdd, Modify as TemplateModify, Delete as TemplateDelete, List as TemplateList};
+ghost use Rattle.fsrm_model.specs.Commands.{is_new_template, is_template_change};
 ghost use Rattle.fsrm_model.specs.Limits.{latest_moment};
-ghost use Rattle.fsrm_model.specs.Patterns.{is_object_name};
-ghost use Rattle.fsrm_model.specs.Quota.{is_limit};
 ghost use Rattle.fsrm_model.specs.Templates.{template_named};
 ghost use Rattle.fsrm_model.specs.TemplateWork.{retemplated};
-ghost use Rattle.fsrm_model.specs.Thresholds.{is_notice, is_percent, percent_of};
+ghost use Rattle.fsrm_model.specs.Thresholds.{percent_of};
 ghost use Rattle.fsrm_engine.specs.Machine.{Does, IsIdle, IsSound, IsWhole};
 
 use crate::exits::{listing, refused, refused_by_templates};
 use crate::parts::Parts;
 use crate::threshold_lists::{ThresholdChange, may_be_removed};
 use fsrm_model::{
-    Answer, Ask, Duplicate, List, NoMemory, Refusal, TemplateRow, Text, Threshold, Update,
+    Answer, Ask, Duplicate, List, NewTemplate, NoMemory, Refusal, TemplateChange, TemplateRow,
+    Text, Threshold,
 };
 use fsrm_objects::are_too_many;
 use std::alloc::Global;
@@ -46,19 +45,19 @@ fn new_template(
 fn retemplated(
     alloc: Global,
     template: &TemplateRow,
-    limit: Option<u64>,
-    enforce: Option<bool>,
-    change: &ThresholdChange<'_>,
+    change: &TemplateChange,
 ) -> Result<TemplateRow, NoMemory>
     requires { is_ascending percent_of template.now.thresholds ≡ true }
-    ensures { IfOk result (λ row. row ≡ retemplated limit enforce change.now.removed.now change.now.percents.now change.now.notices.now template.now) }
+    ensures { IfOk result (λ row. row ≡ retemplated change.now template.now) }
 {
+    let coming = &change.thresholds;
+    let thresholds = ThresholdChange::new(&change.removed, &coming.percents, &coming.notices);
     Ok(TemplateRow {
         number: template.number,
         name: template.name.copy(alloc)?,
-        limit: limit.unwrap_or(template.limit),
-        enforce: enforce.unwrap_or(template.enforce),
-        thresholds: change.changed(alloc, &template.thresholds)?,
+        limit: change.limit.unwrap_or(template.limit),
+        enforce: change.enforce.unwrap_or(template.enforce),
+        thresholds: thresholds.changed(alloc, &template.thresholds)?,
     })
 }
 
@@ -76,33 +75,34 @@ impl Parts {
     pub(crate) fn template_add(
         &mut self,
         alloc: Global,
-        name: &Text,
-        limit: u64,
-        enforce: bool,
-        change: &ThresholdChange<'_>,
+        template: &NewTemplate,
         moment: u64,
     ) -> Result<Answer, NoMemory>
         requires whole { IsWhole self.old }
         requires idle { IsIdle self.old }
-        requires name { is_object_name name.now ≡ true }
-        requires limit { is_limit limit ≡ true }
-        requires removed { change.now.removed.now ≡ [] }
-        requires percents { list_all is_percent change.now.percents.now ≡ true }
-        requires notices { list_all is_notice change.now.notices.now ≡ true }
+        requires valid { is_new_template template.now ≡ true }
         requires moment { moment ≤ latest_moment }
         requires after { self.old.last_moment ≤ moment }
-        ensures ok { IfOk result (λ answer. Does self.old self.new moment (Template (TemplateAdd name.now limit enforce change.now.percents.now change.now.notices.now)) answer) }
+        ensures ok { IfOk result (λ answer. Does self.old self.new moment (Template (TemplateAdd template.now)) answer) }
         ensures err { OnErr result (self.new ≡ self.old) }
         ensures sound { IsSound self.new }
     {
-        if self.template_named(name).is_some() {
+        if self.template_named(&template.name).is_some() {
             return Ok(refused(Refusal::DuplicateName));
         }
+        let coming = &template.thresholds;
+        let change = ThresholdChange::adding(&coming.percents, &coming.notices);
         let thresholds = change.changed(alloc, &List::new(alloc))?;
         if are_too_many(&thresholds) {
             return Ok(refused(Refusal::OutOfRange));
         }
-        let row = new_template(alloc, name, limit, enforce, thresholds)?;
+        let row = new_template(
+            alloc,
+            &template.name,
+            template.limit,
+            template.enforce,
+            thresholds,
+        )?;
         let room = self.room();
         match self.templates.add(row, room) {
             Ok(_) => Ok(self.done(moment)),
@@ -115,38 +115,32 @@ impl Parts {
     pub(crate) fn template_modify(
         &mut self,
         alloc: Global,
-        name: &Text,
-        limit: Option<u64>,
-        enforce: Option<bool>,
-        change: &ThresholdChange<'_>,
-        mode: Update,
+        change: &TemplateChange,
         moment: u64,
     ) -> Result<Answer, NoMemory>
         requires whole { IsWhole self.old }
         requires idle { IsIdle self.old }
-        requires limit { option_map_or is_limit limit true ≡ true }
-        requires percents { list_all is_percent change.now.percents.now ≡ true }
-        requires notices { list_all is_notice change.now.notices.now ≡ true }
+        requires valid { is_template_change change.now ≡ true }
         requires moment { moment ≤ latest_moment }
         requires after { self.old.last_moment ≤ moment }
-        ensures ok { IfOk result (λ answer. Does self.old self.new moment (Template (TemplateModify name.now limit enforce change.now.removed.now change.now.percents.now change.now.notices.now mode)) answer) }
+        ensures ok { IfOk result (λ answer. Does self.old self.new moment (Template (TemplateModify change.now)) answer) }
         ensures err { OnErr result (self.new ≡ self.old) }
         ensures sound { IsSound self.new }
     {
-        let Some(template) = self.template_named(name) else {
+        let Some(template) = self.template_named(&change.name) else {
             return Ok(refused(Refusal::NotFound));
         };
-        if !may_be_removed(change.removed, template.thresholds.as_slice()) {
+        if !may_be_removed(change.removed.as_slice(), template.thresholds.as_slice()) {
             return Ok(refused(Refusal::NotFound));
         }
-        let row = retemplated(alloc, template, limit, enforce, change)?;
+        let row = retemplated(alloc, template, change)?;
         if are_too_many(&row.thresholds) {
             return Ok(refused(Refusal::OutOfRange));
         }
         let room = self.room();
         match self
             .templates
-            .modify(alloc, &mut self.objects, row, mode, room)
+            .modify(alloc, &mut self.objects, row, change.update, room)
         {
             Ok(reached) => {
                 self.settle_reached(&reached, moment);

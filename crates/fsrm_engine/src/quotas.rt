@@ -1,17 +1,15 @@
 //! The commands on quotas.
 
-ghost use Rattle.std.specs.Prelude.{◌≡◌, ◌+◌, ◌*◌, ◌≤◌, [], true, false, length, is_some, IfOk, OnErr, Some, None};
-ghost use Rattle.std.specs.List.{list_all};
-ghost use Rattle.std.specs.Option.{option_copied, option_map_or};
+ghost use Rattle.std.specs.Prelude.{◌≡◌, ◌+◌, ◌*◌, ◌≤◌, true, false, length, IfOk, OnErr, Some, None};
 ghost use Rattle.fsrm_base.specs.Keyed.{is_ascending};
 ghost use Rattle.fsrm_model.specs.declared.command.Deed.TheVariants.{Quota};
 ghost use Rattle.fsrm_model.specs.declared.command.QuotaDeed.TheVariants.{Add as QuotaAdd, Modify as QuotaModify, Delete as QuotaDelete, Scan as QuotaScan, Resetpeak as QuotaResetpeak, List as QuotaList};
+ghost use Rattle.fsrm_model.specs.Commands.{is_new_quota, is_quota_change};
 ghost use Rattle.fsrm_model.specs.Cost.{deed_cost};
 ghost use Rattle.fsrm_model.specs.Limits.{latest_moment};
-ghost use Rattle.fsrm_model.specs.Quota.{is_limit};
 ghost use Rattle.fsrm_model.specs.QuotaStates.{is_disabled};
 ghost use Rattle.fsrm_model.specs.QuotaWork.{new_quota, modified, remarked};
-ghost use Rattle.fsrm_model.specs.Thresholds.{is_notice, is_percent, percent_of};
+ghost use Rattle.fsrm_model.specs.Thresholds.{percent_of};
 ghost use Rattle.fsrm_engine.specs.Machine.{Does, IsIdle, IsSound, IsWhole, rows_of};
 ghost use Rattle.fsrm_engine.specs.Sources.{IsFirst};
 
@@ -21,8 +19,8 @@ use crate::places::folder_at;
 use crate::states::first_state;
 use crate::threshold_lists::{ThresholdChange, may_be_removed};
 use fsrm_model::{
-    Answer, Ask, Duplicate, Ledger, List, NoMemory, Outcome, Path, QuotaRow, QuotaState, Refusal,
-    Steps, Text,
+    Answer, Ask, Duplicate, Ledger, List, NewQuota, NewThresholds, NoMemory, Outcome, Path,
+    QuotaChange, QuotaRow, QuotaState, Refusal, Steps, Text,
 };
 use std::alloc::Global;
 
@@ -49,17 +47,20 @@ fn is_disabled(state: QuotaState) -> bool
     state == QuotaState::Disabled
 }
 
-// A quota with another limit, or of another type, if these are given, and with changed thresholds.
+// A quota with another limit, or of another type, if these are given; of its thresholds some are removed, and then some
+// are added.
 fn modified(
     alloc: Global,
     quota: &QuotaRow,
     limit: Option<u64>,
     enforce: Option<bool>,
-    change: &ThresholdChange<'_>,
+    removed: &List<u16>,
+    added: &NewThresholds,
 ) -> Result<QuotaRow, NoMemory>
     requires { is_ascending percent_of quota.now.thresholds ≡ true }
-    ensures { IfOk result (λ row. row ≡ remarked change.now.removed.now change.now.percents.now change.now.notices.now (modified limit enforce quota.now)) }
+    ensures { IfOk result (λ row. row ≡ remarked removed.now added.now (modified limit enforce quota.now)) }
 {
+    let change = ThresholdChange::new(removed, &added.percents, &added.notices);
     Ok(QuotaRow {
         folder: quota.folder,
         limit: limit.unwrap_or(quota.limit),
@@ -78,13 +79,13 @@ impl Parts {
     fn first_quota(
         &self,
         alloc: Global,
-        source: Option<&Text>,
+        source: &Option<Text>,
         folder: u32,
         state: QuotaState,
         moment: u64,
     ) -> Result<Option<QuotaRow>, NoMemory>
         requires { IsWhole self.now }
-        ensures { IfOk result (λ first. IsFirst (rows_of self.now) (option_copied source.entry) folder state moment first) }
+        ensures { IfOk result (λ first. IsFirst (rows_of self.now) source.now folder state moment first) }
     {
         let Some(name) = source else {
             return Ok(Some(new_quota(alloc, folder, state, moment)));
@@ -101,39 +102,39 @@ impl Parts {
     pub(crate) fn quota_add<L: Ledger>(
         &mut self,
         alloc: Global,
-        path: &Path,
-        limit: Option<u64>,
-        enforce: Option<bool>,
-        enabled: bool,
-        source: Option<&Text>,
-        change: &ThresholdChange<'_>,
+        quota: &NewQuota,
         moment: u64,
         steps: &mut Steps<L>,
     ) -> Result<Answer, NoMemory>
         requires whole { IsWhole self.old }
         requires idle { IsIdle self.old }
-        requires limit { option_map_or is_limit limit (is_some (option_copied source)) ≡ true }
-        requires removed { change.now.removed.now ≡ [] }
-        requires percents { list_all is_percent change.now.percents.now ≡ true }
-        requires notices { list_all is_notice change.now.notices.now ≡ true }
+        requires valid { is_new_quota quota.now ≡ true }
         requires moment { moment ≤ latest_moment }
         requires after { self.old.last_moment ≤ moment }
-        ensures ok { IfOk result (λ answer. Does self.old self.new moment (Quota (QuotaAdd path.now limit enforce enabled (option_copied source.entry) change.now.percents.now change.now.notices.now)) answer) }
+        ensures ok { IfOk result (λ answer. Does self.old self.new moment (Quota (QuotaAdd quota.now)) answer) }
         ensures err { OnErr result (self.new ≡ self.old) }
         ensures sound { IsSound self.new }
-        ensures looks { steps.new ≤ steps.old + deed_cost (rows_of self.old) (Quota (QuotaAdd path.now limit enforce enabled (option_copied source.entry) change.now.percents.now change.now.notices.now)) }
+        ensures looks { steps.new ≤ steps.old + deed_cost (rows_of self.old) (Quota (QuotaAdd quota.now)) }
     {
-        let Some(folder) = folder_at(&self.tree, path, steps) else {
+        let Some(folder) = folder_at(&self.tree, &quota.path, steps) else {
             return Ok(refused(Refusal::PathNotFound));
         };
         if self.objects.quota(folder).is_some() {
             return Ok(refused(Refusal::AlreadyExists));
         }
-        let state = first_state(&self.tree, folder, enabled, steps);
-        let Some(first) = self.first_quota(alloc, source, folder, state, moment)? else {
+        let state = first_state(&self.tree, folder, quota.enabled, steps);
+        let Some(first) = self.first_quota(alloc, &quota.template, folder, state, moment)? else {
             return Ok(refused(Refusal::NotFound));
         };
-        let row = modified(alloc, &first, limit, enforce, change)?;
+        let none = List::new(alloc);
+        let row = modified(
+            alloc,
+            &first,
+            quota.limit,
+            quota.enforce,
+            &none,
+            &quota.thresholds,
+        )?;
         match self.enlist(row) {
             Ok(()) => Ok(self.done(moment)),
             Err(fault) => refused_for(fault),
@@ -144,36 +145,37 @@ impl Parts {
     pub(crate) fn quota_modify<L: Ledger>(
         &mut self,
         alloc: Global,
-        path: &Path,
-        limit: Option<u64>,
-        enforce: Option<bool>,
-        enabled: Option<bool>,
-        change: &ThresholdChange<'_>,
+        change: &QuotaChange,
         moment: u64,
         steps: &mut Steps<L>,
     ) -> Result<Answer, NoMemory>
         requires whole { IsWhole self.old }
         requires idle { IsIdle self.old }
-        requires limit { option_map_or is_limit limit true ≡ true }
-        requires percents { list_all is_percent change.now.percents.now ≡ true }
-        requires notices { list_all is_notice change.now.notices.now ≡ true }
+        requires valid { is_quota_change change.now ≡ true }
         requires moment { moment ≤ latest_moment }
         requires after { self.old.last_moment ≤ moment }
-        ensures ok { IfOk result (λ answer. Does self.old self.new moment (Quota (QuotaModify path.now limit enforce enabled change.now.removed.now change.now.percents.now change.now.notices.now)) answer) }
+        ensures ok { IfOk result (λ answer. Does self.old self.new moment (Quota (QuotaModify change.now)) answer) }
         ensures err { OnErr result (self.new ≡ self.old) }
         ensures sound { IsSound self.new }
-        ensures looks { steps.new ≤ steps.old + deed_cost (rows_of self.old) (Quota (QuotaModify path.now limit enforce enabled change.now.removed.now change.now.percents.now change.now.notices.now)) }
+        ensures looks { steps.new ≤ steps.old + deed_cost (rows_of self.old) (Quota (QuotaModify change.now)) }
     {
-        let quota = match self.quota_at(path, steps) {
+        let quota = match self.quota_at(&change.path, steps) {
             Ok(quota) => quota,
             Err(refusal) => return Ok(refused(refusal)),
         };
-        if !may_be_removed(change.removed, quota.thresholds.as_slice()) {
+        if !may_be_removed(change.removed.as_slice(), quota.thresholds.as_slice()) {
             return Ok(refused(Refusal::NotFound));
         }
         let before = quota.copy(alloc)?;
-        let mut row = modified(alloc, &before, limit, enforce, change)?;
-        row.state = self.state_after(before.folder, before.state, enabled, steps);
+        let mut row = modified(
+            alloc,
+            &before,
+            change.limit,
+            change.enforce,
+            &change.removed,
+            &change.thresholds,
+        )?;
+        row.state = self.state_after(before.folder, before.state, change.enabled, steps);
         if let Err(fault) = self.may_put(&row) {
             return refused_for(fault);
         }

@@ -1,20 +1,17 @@
 //! The commands on screens and exceptions.
 
 ghost use Rattle.std.specs.Prelude.{◌≡◌, ◌+◌, ◌*◌, ◌≤◌, true, length, IfOk, IfErr, OnErr, Some};
-ghost use Rattle.std.specs.List.{list_all};
 ghost use Rattle.fsrm_base.specs.Keyed.{row_of};
 ghost use Rattle.fsrm_model.specs.declared.command.Deed.TheVariants.{Screen, Exception};
 ghost use Rattle.fsrm_model.specs.declared.command.ExceptionDeed.TheVariants.{Add as ExceptionAdd, Delete as ExceptionDelete, List as ExceptionList};
 ghost use Rattle.fsrm_model.specs.declared.command.ScreenDeed.TheVariants.{Add as ScreenAdd, Modify as ScreenModify, Delete as ScreenDelete, List as ScreenList};
 ghost use Rattle.fsrm_model.specs.Check.{first};
-ghost use Rattle.fsrm_model.specs.Commands.{are_some_names};
+ghost use Rattle.fsrm_model.specs.Commands.{is_new_screen, is_new_exception};
 ghost use Rattle.fsrm_model.specs.Cost.{deed_cost};
-ghost use Rattle.fsrm_model.specs.Limits.{latest_moment};
 ghost use Rattle.fsrm_model.specs.Screens.{screen_folder};
 ghost use Rattle.fsrm_model.specs.ScreenWork.{new_screen, rescreened, screen_checks};
-ghost use Rattle.fsrm_model.specs.Thresholds.{is_new_action};
 ghost use Rattle.fsrm_model.specs.Valid.{IsVolume};
-ghost use Rattle.fsrm_engine.specs.Machine.{Does, IsIdle, IsSound, IsWhole, rows_of};
+ghost use Rattle.fsrm_engine.specs.Machine.{Does, IsReady, IsSound, rows_of};
 ghost use Rattle.fsrm_engine.specs.Places.{IsFolder};
 
 use crate::exits::{listing, refused, refused_for};
@@ -22,8 +19,8 @@ use crate::group_lists::{changed_groups, groups_with};
 use crate::parts::Parts;
 use crate::places::folder_at;
 use fsrm_model::{
-    Action, Answer, Ask, Duplicate, ExceptRow, Ledger, List, NoMemory, Path, Refusal, ScreenRow,
-    Steps, Text,
+    Action, Answer, Ask, Duplicate, ExceptRow, Ledger, List, NewException, NewScreen, NoMemory,
+    Path, Refusal, ScreenChange, ScreenRow, Steps,
 };
 use std::alloc::Global;
 
@@ -84,25 +81,18 @@ impl Parts {
     pub(crate) fn screen_add<L: Ledger>(
         &mut self,
         alloc: Global,
-        path: &Path,
-        active: bool,
-        names: &List<Text>,
-        actions: &List<Action>,
+        screen: &NewScreen,
         moment: u64,
         steps: &mut Steps<L>,
     ) -> Result<Answer, NoMemory>
-        requires whole { IsWhole self.old }
-        requires idle { IsIdle self.old }
-        requires names { are_some_names names.now ≡ true }
-        requires actions { list_all is_new_action actions.now ≡ true }
-        requires moment { moment ≤ latest_moment }
-        requires after { self.old.last_moment ≤ moment }
-        ensures ok { IfOk result (λ answer. Does self.old self.new moment (Screen (ScreenAdd path.now active names.now actions.now)) answer) }
+        requires ready { IsReady self.old moment }
+        requires valid { is_new_screen screen.now ≡ true }
+        ensures ok { IfOk result (λ answer. Does self.old self.new moment (Screen (ScreenAdd screen.now)) answer) }
         ensures err { OnErr result (self.new ≡ self.old) }
         ensures sound { IsSound self.new }
-        ensures looks { steps.new ≤ steps.old + deed_cost (rows_of self.old) (Screen (ScreenAdd path.now active names.now actions.now)) }
+        ensures looks { steps.new ≤ steps.old + deed_cost (rows_of self.old) (Screen (ScreenAdd screen.now)) }
     {
-        let Some(folder) = folder_at(&self.tree, path, steps) else {
+        let Some(folder) = folder_at(&self.tree, &screen.path, steps) else {
             return Ok(refused(Refusal::PathNotFound));
         };
         if self.objects.screen(folder).is_some() {
@@ -111,10 +101,11 @@ impl Parts {
         if self.objects.except(folder).is_some() {
             return Ok(refused(Refusal::InvalidCombination));
         }
-        let Some(groups) = groups_with(alloc, &self.groups, List::new(alloc), names)? else {
+        let Some(groups) = groups_with(alloc, &self.groups, List::new(alloc), &screen.groups)?
+        else {
             return Ok(refused(Refusal::NotFound));
         };
-        let row = new_screen(alloc, folder, active, groups, actions)?;
+        let row = new_screen(alloc, folder, screen.active, groups, &screen.actions)?;
         let room = self.room();
         match self.objects.add_screen(row, room) {
             Ok(()) => Ok(self.done(moment)),
@@ -126,31 +117,31 @@ impl Parts {
     pub(crate) fn screen_modify<L: Ledger>(
         &mut self,
         alloc: Global,
-        path: &Path,
-        active: Option<bool>,
-        removed: &List<Text>,
-        added: &List<Text>,
+        change: &ScreenChange,
         moment: u64,
         steps: &mut Steps<L>,
     ) -> Result<Answer, NoMemory>
-        requires whole { IsWhole self.old }
-        requires idle { IsIdle self.old }
-        requires moment { moment ≤ latest_moment }
-        requires after { self.old.last_moment ≤ moment }
-        ensures ok { IfOk result (λ answer. Does self.old self.new moment (Screen (ScreenModify path.now active removed.now added.now)) answer) }
+        requires ready { IsReady self.old moment }
+        ensures ok { IfOk result (λ answer. Does self.old self.new moment (Screen (ScreenModify change.now)) answer) }
         ensures err { OnErr result (self.new ≡ self.old) }
         ensures sound { IsSound self.new }
-        ensures looks { steps.new ≤ steps.old + deed_cost (rows_of self.old) (Screen (ScreenModify path.now active removed.now added.now)) }
+        ensures looks { steps.new ≤ steps.old + deed_cost (rows_of self.old) (Screen (ScreenModify change.now)) }
     {
-        let screen = match self.screen_at(path, steps) {
+        let screen = match self.screen_at(&change.path, steps) {
             Ok(screen) => screen,
             Err(refusal) => return Ok(refused(refusal)),
         };
-        let Some(groups) = changed_groups(alloc, &self.groups, &screen.groups, removed, added)?
+        let Some(groups) = changed_groups(
+            alloc,
+            &self.groups,
+            &screen.groups,
+            &change.removed,
+            &change.groups,
+        )?
         else {
             return Ok(refused(Refusal::NotFound));
         };
-        let row = rescreened(alloc, screen, active, groups)?;
+        let row = rescreened(alloc, screen, change.active, groups)?;
         let room = self.room();
         match self.objects.set_screen(row, room) {
             Ok(()) => Ok(self.done(moment)),
@@ -165,10 +156,7 @@ impl Parts {
         moment: u64,
         steps: &mut Steps<L>,
     ) -> Answer
-        requires whole { IsWhole self.old }
-        requires idle { IsIdle self.old }
-        requires moment { moment ≤ latest_moment }
-        requires after { self.old.last_moment ≤ moment }
+        requires ready { IsReady self.old moment }
         ensures ok { Does self.old self.new moment (Screen (ScreenDelete path.now)) result }
         ensures sound { IsSound self.new }
         ensures looks { steps.new ≤ steps.old + deed_cost (rows_of self.old) (Screen (ScreenDelete path.now)) }
@@ -183,8 +171,7 @@ impl Parts {
 
     /// Lists all screens.
     pub(crate) fn list_screens(&self, moment: u64) -> Answer
-        requires idle { IsIdle self.now }
-        requires after { self.now.last_moment ≤ moment }
+        requires ready { IsReady self.now moment }
         ensures { Does self.now self.now moment (Screen ScreenList) result }
     {
         listing(Ask::Screens)
@@ -194,22 +181,18 @@ impl Parts {
     pub(crate) fn except_add<L: Ledger>(
         &mut self,
         alloc: Global,
-        path: &Path,
-        names: &List<Text>,
+        except: &NewException,
         moment: u64,
         steps: &mut Steps<L>,
     ) -> Result<Answer, NoMemory>
-        requires whole { IsWhole self.old }
-        requires idle { IsIdle self.old }
-        requires names { are_some_names names.now ≡ true }
-        requires moment { moment ≤ latest_moment }
-        requires after { self.old.last_moment ≤ moment }
-        ensures ok { IfOk result (λ answer. Does self.old self.new moment (Exception (ExceptionAdd path.now names.now)) answer) }
+        requires ready { IsReady self.old moment }
+        requires valid { is_new_exception except.now ≡ true }
+        ensures ok { IfOk result (λ answer. Does self.old self.new moment (Exception (ExceptionAdd except.now)) answer) }
         ensures err { OnErr result (self.new ≡ self.old) }
         ensures sound { IsSound self.new }
-        ensures looks { steps.new ≤ steps.old + deed_cost (rows_of self.old) (Exception (ExceptionAdd path.now names.now)) }
+        ensures looks { steps.new ≤ steps.old + deed_cost (rows_of self.old) (Exception (ExceptionAdd except.now)) }
     {
-        let Some(folder) = folder_at(&self.tree, path, steps) else {
+        let Some(folder) = folder_at(&self.tree, &except.path, steps) else {
             return Ok(refused(Refusal::PathNotFound));
         };
         if self.objects.except(folder).is_some() {
@@ -218,7 +201,8 @@ impl Parts {
         if self.objects.screen(folder).is_some() {
             return Ok(refused(Refusal::InvalidCombination));
         }
-        let Some(groups) = groups_with(alloc, &self.groups, List::new(alloc), names)? else {
+        let Some(groups) = groups_with(alloc, &self.groups, List::new(alloc), &except.groups)?
+        else {
             return Ok(refused(Refusal::NotFound));
         };
         match self.objects.add_except(ExceptRow { folder, groups }) {
@@ -234,10 +218,7 @@ impl Parts {
         moment: u64,
         steps: &mut Steps<L>,
     ) -> Answer
-        requires whole { IsWhole self.old }
-        requires idle { IsIdle self.old }
-        requires moment { moment ≤ latest_moment }
-        requires after { self.old.last_moment ≤ moment }
+        requires ready { IsReady self.old moment }
         ensures ok { Does self.old self.new moment (Exception (ExceptionDelete path.now)) result }
         ensures sound { IsSound self.new }
         ensures looks { steps.new ≤ steps.old + deed_cost (rows_of self.old) (Exception (ExceptionDelete path.now)) }
@@ -254,8 +235,7 @@ impl Parts {
 
     /// Lists all exceptions.
     pub(crate) fn list_excepts(&self, moment: u64) -> Answer
-        requires idle { IsIdle self.now }
-        requires after { self.now.last_moment ≤ moment }
+        requires ready { IsReady self.now moment }
         ensures { Does self.now self.now moment (Exception ExceptionList) result }
     {
         listing(Ask::Excepts)

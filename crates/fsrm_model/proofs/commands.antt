@@ -14,3 +14,4 @@ pub mod QuotaLaws
 pub mod ScanCommands
 pub mod StepActs
 pub mod TemplateCommands
+pub mod ValueParts

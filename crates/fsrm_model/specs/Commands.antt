@@ -5,7 +5,6 @@ use Rattle.std.specs.Option.{option_map_or}
 use Rattle.fsrm_model.specs.declared.row.Capacity.{Capacity}
 use Rattle.fsrm_model.specs.declared.row.NodeRow.{NodeRow}
 use Rattle.fsrm_model.specs.declared.row.Rows.{Rows}
-use Rattle.fsrm_model.specs.declared.command.Added.{Added}
 use Rattle.fsrm_model.specs.declared.command.AdminDeed.{AdminDeed}
 use Rattle.fsrm_model.specs.declared.command.AdminDeed.TheVariants.{Options as AdminOptions, List as AdminList, Log as AdminLog}
 use Rattle.fsrm_model.specs.declared.command.AutoquotaDeed.{AutoquotaDeed}
@@ -16,12 +15,23 @@ use Rattle.fsrm_model.specs.declared.command.ExceptionDeed.{ExceptionDeed}
 use Rattle.fsrm_model.specs.declared.command.ExceptionDeed.TheVariants.{Add as ExceptionAdd, Delete as ExceptionDelete, List as ExceptionList}
 use Rattle.fsrm_model.specs.declared.command.FileOp.{FileOp}
 use Rattle.fsrm_model.specs.declared.command.FileOp.TheVariants.{Mkdir, Create, Resize, Touch, Move, Remove}
+use Rattle.fsrm_model.specs.declared.command.FilegroupChange.{FilegroupChange}
 use Rattle.fsrm_model.specs.declared.command.FilegroupDeed.{FilegroupDeed}
 use Rattle.fsrm_model.specs.declared.command.FilegroupDeed.TheVariants.{Add as FilegroupAdd, Modify as FilegroupModify, Delete as FilegroupDelete, List as FilegroupList}
+use Rattle.fsrm_model.specs.declared.command.NewAutoquota.{NewAutoquota}
+use Rattle.fsrm_model.specs.declared.command.NewException.{NewException}
+use Rattle.fsrm_model.specs.declared.command.NewFilegroup.{NewFilegroup}
+use Rattle.fsrm_model.specs.declared.command.NewQuota.{NewQuota}
+use Rattle.fsrm_model.specs.declared.command.NewScreen.{NewScreen}
+use Rattle.fsrm_model.specs.declared.command.NewTemplate.{NewTemplate}
+use Rattle.fsrm_model.specs.declared.command.NewThresholds.{NewThresholds}
+use Rattle.fsrm_model.specs.declared.command.QuotaChange.{QuotaChange}
 use Rattle.fsrm_model.specs.declared.command.QuotaDeed.{QuotaDeed}
 use Rattle.fsrm_model.specs.declared.command.QuotaDeed.TheVariants.{Add as QuotaAdd, Modify as QuotaModify, Delete as QuotaDelete, Scan as QuotaScan, Resetpeak as QuotaResetpeak, List as QuotaList}
+use Rattle.fsrm_model.specs.declared.command.ScreenChange.{ScreenChange}
 use Rattle.fsrm_model.specs.declared.command.ScreenDeed.{ScreenDeed}
 use Rattle.fsrm_model.specs.declared.command.ScreenDeed.TheVariants.{Add as ScreenAdd, Modify as ScreenModify, Delete as ScreenDelete, List as ScreenList}
+use Rattle.fsrm_model.specs.declared.command.TemplateChange.{TemplateChange}
 use Rattle.fsrm_model.specs.declared.command.TemplateDeed.{TemplateDeed}
 use Rattle.fsrm_model.specs.declared.command.TemplateDeed.TheVariants.{Add as TemplateAdd, Modify as TemplateModify, Delete as TemplateDelete, List as TemplateList}
 use Rattle.fsrm_model.specs.declared.command.Update.TheVariants.{Keep}
@@ -56,9 +66,52 @@ is_length length = nat_le length longest_file
 abbrev pub are_some_names : List (List ℕ) → Bool
 are_some_names names = nat_lt 0 (length names) && list_all is_object_name names
 
-abbrev pub may_be_added : List ℕ → List Added → Bool
-may_be_added percents notices = list_all is_percent percents && list_all is_notice notices
+abbrev pub are_new_thresholds : NewThresholds → Bool
+are_new_thresholds new = list_all is_percent new.percents && list_all is_notice new.notices
 
+-- a new quota must have a limit or a template
+abbrev pub is_new_quota : NewQuota → Bool
+is_new_quota new =
+    (option_map_or is_limit new.limit (is_some new.template) && option_map_or is_object_name new.template true)
+    && are_new_thresholds new.thresholds
+
+abbrev pub is_quota_change : QuotaChange → Bool
+is_quota_change change =
+    option_map_or is_limit change.limit true
+    && (list_all is_percent change.removed && are_new_thresholds change.thresholds)
+
+abbrev pub is_new_template : NewTemplate → Bool
+is_new_template new = is_object_name new.name && (is_limit new.limit && are_new_thresholds new.thresholds)
+
+abbrev pub is_template_change : TemplateChange → Bool
+is_template_change change =
+    is_object_name change.name
+    && (option_map_or is_limit change.limit true
+    && (list_all is_percent change.removed && are_new_thresholds change.thresholds))
+
+abbrev pub is_new_autoquota : NewAutoquota → Bool
+is_new_autoquota new =
+    is_object_name new.template && (nat_le (length new.excluded) most_excluded && list_all is_name new.excluded)
+
+abbrev pub is_new_filegroup : NewFilegroup → Bool
+is_new_filegroup new = is_object_name new.name && (are_members new.members && are_non_members new.non_members)
+
+abbrev pub is_filegroup_change : FilegroupChange → Bool
+is_filegroup_change change =
+    is_object_name change.name
+    && (option_map_or are_members change.members true && option_map_or are_non_members change.non_members true)
+
+-- a new screen and a new exception must have a group
+abbrev pub is_new_screen : NewScreen → Bool
+is_new_screen new = are_some_names new.groups && list_all is_new_action new.actions
+
+abbrev pub is_screen_change : ScreenChange → Bool
+is_screen_change change = list_all is_object_name change.removed && list_all is_object_name change.groups
+
+abbrev pub is_new_exception : NewException → Bool
+is_new_exception new = are_some_names new.groups
+
+-- ---- their bytes in the entry of a command, but for those of its paths
 abbrev pub limit_bytes : Option ℕ → ℕ
 limit_bytes limit = optional (λ n. number_bytes) limit
 
@@ -67,6 +120,67 @@ option_bytes choice = optional (λ b. choice_bytes) choice
 
 abbrev pub percent_bytes : List ℕ → ℕ
 percent_bytes percents = counted (λ n. number_bytes) percents
+
+abbrev pub new_threshold_bytes : NewThresholds → ℕ
+new_threshold_bytes new = percent_bytes new.percents + counted notice_bytes new.notices
+
+-- ---- commands without their values
+abbrev empty_thresholds : NewThresholds
+empty_thresholds = record { percents = []; notices = [] }
+
+abbrev pub empty_quota : NewQuota
+empty_quota =
+    record {
+      path = [];
+      limit = None;
+      enforce = None;
+      enabled = false;
+      template = None;
+      thresholds = empty_thresholds;
+    }
+
+abbrev pub empty_quota_change : QuotaChange
+empty_quota_change =
+    record {
+      path = [];
+      limit = None;
+      enforce = None;
+      enabled = None;
+      removed = [];
+      thresholds = empty_thresholds;
+    }
+
+abbrev pub empty_template : NewTemplate
+empty_template = record { name = []; limit = 0; enforce = false; thresholds = empty_thresholds }
+
+abbrev pub empty_template_change : TemplateChange
+empty_template_change =
+    record {
+      name = [];
+      limit = None;
+      enforce = None;
+      removed = [];
+      thresholds = empty_thresholds;
+      update = Keep;
+    }
+
+abbrev pub empty_autoquota : NewAutoquota
+empty_autoquota = record { path = []; template = []; excluded = [] }
+
+abbrev pub empty_filegroup : NewFilegroup
+empty_filegroup = record { name = []; members = []; non_members = [] }
+
+abbrev pub empty_filegroup_change : FilegroupChange
+empty_filegroup_change = record { name = []; members = None; non_members = None }
+
+abbrev pub empty_screen : NewScreen
+empty_screen = record { path = []; active = false; groups = []; actions = [] }
+
+abbrev pub empty_screen_change : ScreenChange
+empty_screen_change = record { path = []; active = None; removed = []; groups = [] }
+
+abbrev pub empty_exception : NewException
+empty_exception = record { path = []; groups = [] }
 
 -- ---- file operations
 -- What there is to say of a file operation but its work, which `form` adds: so the work of any operation computes
@@ -111,42 +225,19 @@ abbrev pub op_cost : List NodeRow → FileOp → ℕ
 op_cost nodes op = (form_of_op op).looks nodes
 
 -- ---- all commands
--- a new quota must have a limit or a template
 abbrev pub form_of_quota : QuotaDeed → CommandForm
-form_of_quota (QuotaAdd path limit enforce enabled template percents notices) =
-    record {
-      emptied = Quota (QuotaAdd [] None None false None [] []);
-      paths = path ∷ [];
-      legal =
-          (option_map_or is_limit limit (is_some template) && option_map_or is_object_name template true)
-          && may_be_added percents notices;
-      entry = Some (record {
-        kind = 10;
-        bytes =
-            limit_bytes limit
-            + (option_bytes enforce
-            + (choice_bytes
-            + (optional text_bytes template + (percent_bytes percents + counted notice_bytes notices))));
-      });
-      work = λ K R moment. add_work R moment path limit enforce enabled template percents notices;
-      looks = λ nodes. 0;
-    }
-form_of_quota (QuotaModify path limit enforce enabled removed percents notices) =
-    record {
-      emptied = Quota (QuotaModify [] None None None [] [] []);
-      paths = path ∷ [];
-      legal = option_map_or is_limit limit true && (list_all is_percent removed && may_be_added percents notices);
-      entry = Some (record {
-        kind = 11;
-        bytes =
-            limit_bytes limit
-            + (option_bytes enforce
-            + (option_bytes enabled
-            + (percent_bytes removed + (percent_bytes percents + counted notice_bytes notices))));
-      });
-      work = λ K R moment. modify_work R path limit enforce enabled removed percents notices;
-      looks = λ nodes. 0;
-    }
+form_of_quota (QuotaAdd new) =
+    keeps 10 (Quota (QuotaAdd empty_quota)) (new.path ∷ []) (is_new_quota new)
+    (limit_bytes new.limit
+    + (option_bytes new.enforce
+    + (choice_bytes + (optional text_bytes new.template + new_threshold_bytes new.thresholds))))
+    (λ K R moment. add_work R moment new)
+form_of_quota (QuotaModify change) =
+    keeps 11 (Quota (QuotaModify empty_quota_change)) (change.path ∷ []) (is_quota_change change)
+    (limit_bytes change.limit
+    + (option_bytes change.enforce
+    + (option_bytes change.enabled + (percent_bytes change.removed + new_threshold_bytes change.thresholds))))
+    (λ K R moment. modify_work R change)
 form_of_quota (QuotaDelete path) = on_path 12 (λ p. Quota (QuotaDelete p)) path (λ K R moment. delete_work R path)
 form_of_quota (QuotaScan path) = on_path 13 (λ p. Quota (QuotaScan p)) path (λ K R moment. scan_work R path)
 form_of_quota (QuotaResetpeak path) =
@@ -154,38 +245,17 @@ form_of_quota (QuotaResetpeak path) =
 form_of_quota (QuotaList path) = shows (Quota (QuotaList None)) (option_to_list path) (λ K R moment. list_work R path)
 
 abbrev pub form_of_template : TemplateDeed → CommandForm
-form_of_template (TemplateAdd name limit enforce percents notices) =
-    record {
-      emptied = Template (TemplateAdd [] 0 false [] []);
-      paths = [];
-      legal = is_object_name name && (is_limit limit && may_be_added percents notices);
-      entry = Some (record {
-        kind = 20;
-        bytes =
-            text_bytes name
-            + (number_bytes + (choice_bytes + (percent_bytes percents + counted notice_bytes notices)));
-      });
-      work = λ K R moment. template_add_work R name limit enforce percents notices;
-      looks = λ nodes. 0;
-    }
-form_of_template (TemplateModify name limit enforce removed percents notices mode) =
-    record {
-      emptied = Template (TemplateModify [] None None [] [] [] Keep);
-      paths = [];
-      legal =
-          is_object_name name
-          && (option_map_or is_limit limit true && (list_all is_percent removed && may_be_added percents notices));
-      entry = Some (record {
-        kind = 21;
-        bytes =
-            text_bytes name
-            + (limit_bytes limit
-            + (option_bytes enforce
-            + (percent_bytes removed + (percent_bytes percents + (counted notice_bytes notices + choice_bytes)))));
-      });
-      work = λ K R moment. template_modify_work R name limit enforce removed percents notices mode;
-      looks = λ nodes. 0;
-    }
+form_of_template (TemplateAdd new) =
+    keeps 20 (Template (TemplateAdd empty_template)) [] (is_new_template new)
+    (text_bytes new.name + (number_bytes + (choice_bytes + new_threshold_bytes new.thresholds)))
+    (λ K R moment. template_add_work R new)
+form_of_template (TemplateModify change) =
+    keeps 21 (Template (TemplateModify empty_template_change)) [] (is_template_change change)
+    (text_bytes change.name
+    + (limit_bytes change.limit
+    + (option_bytes change.enforce
+    + (percent_bytes change.removed + (new_threshold_bytes change.thresholds + choice_bytes)))))
+    (λ K R moment. template_modify_work R change)
 form_of_template (TemplateDelete name) =
     keeps 22 (Template (TemplateDelete [])) [] (is_object_name name) (text_bytes name)
     (λ K R moment. template_delete_work R name)
@@ -193,14 +263,10 @@ form_of_template TemplateList = shows (Template TemplateList) [] (λ K R moment.
 
 -- each child of a folder that gets an auto-apply quota is looked at up to 4 times
 abbrev pub form_of_autoquota : AutoquotaDeed → CommandForm
-form_of_autoquota (AutoquotaAdd path name excluded) =
-    record {
-      emptied = Autoquota (AutoquotaAdd [] [] []);
-      paths = path ∷ [];
-      legal = is_object_name name && (nat_le (length excluded) most_excluded && list_all is_name excluded);
-      entry = Some (record { kind = 30; bytes = text_bytes name + counted text_bytes excluded });
-      work = λ K R moment. auto_add_work R moment path name excluded;
-      looks = λ nodes. if leads_to_folder nodes path then 4 * length (children nodes (target nodes path)) else 0;
+form_of_autoquota (AutoquotaAdd new) =
+    record (keeps 30 (Autoquota (AutoquotaAdd empty_autoquota)) (new.path ∷ []) (is_new_autoquota new)
+    (text_bytes new.template + counted text_bytes new.excluded) (λ K R moment. auto_add_work R moment new)) {
+      looks = λ nodes. if leads_to_folder nodes new.path then 4 * length (children nodes (target nodes new.path)) else 0;
     }
 form_of_autoquota (AutoquotaDelete path) =
     on_path 31 (λ p. Autoquota (AutoquotaDelete p)) path (λ K R moment. auto_delete_work R path)
@@ -214,41 +280,37 @@ form_of_admin AdminList = shows (Admin AdminList) [] (λ K R moment. settings_wo
 form_of_admin AdminLog = shows (Admin AdminLog) [] (λ K R moment. log_work R)
 
 abbrev pub form_of_filegroup : FilegroupDeed → CommandForm
-form_of_filegroup (FilegroupAdd name members non_members) =
-    keeps 40 (Filegroup (FilegroupAdd [] [] [])) []
-    (is_object_name name && (are_members members && are_non_members non_members))
-    (text_bytes name + (counted text_bytes members + counted text_bytes non_members))
-    (λ K R moment. group_add_work R name members non_members)
-form_of_filegroup (FilegroupModify name members non_members) =
-    keeps 41 (Filegroup (FilegroupModify [] None None)) []
-    (is_object_name name && (option_map_or are_members members true && option_map_or are_non_members non_members true))
-    (text_bytes name + (optional (counted text_bytes) members + optional (counted text_bytes) non_members))
-    (λ K R moment. group_modify_work R name members non_members)
+form_of_filegroup (FilegroupAdd new) =
+    keeps 40 (Filegroup (FilegroupAdd empty_filegroup)) [] (is_new_filegroup new)
+    (text_bytes new.name + (counted text_bytes new.members + counted text_bytes new.non_members))
+    (λ K R moment. group_add_work R new)
+form_of_filegroup (FilegroupModify change) =
+    keeps 41 (Filegroup (FilegroupModify empty_filegroup_change)) [] (is_filegroup_change change)
+    (text_bytes change.name
+    + (optional (counted text_bytes) change.members + optional (counted text_bytes) change.non_members))
+    (λ K R moment. group_modify_work R change)
 form_of_filegroup (FilegroupDelete name) =
     keeps 42 (Filegroup (FilegroupDelete [])) [] (is_object_name name) (text_bytes name)
     (λ K R moment. group_delete_work R name)
 form_of_filegroup FilegroupList = shows (Filegroup FilegroupList) [] (λ K R moment. group_list_work R)
 
--- a new screen and a new exception must have a group
 abbrev pub form_of_screen : ScreenDeed → CommandForm
-form_of_screen (ScreenAdd path active groups actions) =
-    keeps 50 (Screen (ScreenAdd [] false [] [])) (path ∷ [])
-    (are_some_names groups && list_all is_new_action actions)
-    (choice_bytes + (counted text_bytes groups + counted screen_notice_bytes actions))
-    (λ K R moment. screen_add_work R path active groups actions)
-form_of_screen (ScreenModify path active removed groups) =
-    keeps 51 (Screen (ScreenModify [] None [] [])) (path ∷ [])
-    (list_all is_object_name removed && list_all is_object_name groups)
-    (option_bytes active + (counted text_bytes removed + counted text_bytes groups))
-    (λ K R moment. screen_modify_work R path active removed groups)
+form_of_screen (ScreenAdd new) =
+    keeps 50 (Screen (ScreenAdd empty_screen)) (new.path ∷ []) (is_new_screen new)
+    (choice_bytes + (counted text_bytes new.groups + counted screen_notice_bytes new.actions))
+    (λ K R moment. screen_add_work R new)
+form_of_screen (ScreenModify change) =
+    keeps 51 (Screen (ScreenModify empty_screen_change)) (change.path ∷ []) (is_screen_change change)
+    (option_bytes change.active + (counted text_bytes change.removed + counted text_bytes change.groups))
+    (λ K R moment. screen_modify_work R change)
 form_of_screen (ScreenDelete path) =
     on_path 52 (λ p. Screen (ScreenDelete p)) path (λ K R moment. screen_delete_work R path)
 form_of_screen ScreenList = shows (Screen ScreenList) [] (λ K R moment. screen_list_work R)
 
 abbrev pub form_of_exception : ExceptionDeed → CommandForm
-form_of_exception (ExceptionAdd path groups) =
-    keeps 60 (Exception (ExceptionAdd [] [])) (path ∷ []) (are_some_names groups) (counted text_bytes groups)
-    (λ K R moment. except_add_work R path groups)
+form_of_exception (ExceptionAdd new) =
+    keeps 60 (Exception (ExceptionAdd empty_exception)) (new.path ∷ []) (is_new_exception new)
+    (counted text_bytes new.groups) (λ K R moment. except_add_work R new)
 form_of_exception (ExceptionDelete path) =
     on_path 61 (λ p. Exception (ExceptionDelete p)) path (λ K R moment. except_delete_work R path)
 form_of_exception ExceptionList = shows (Exception ExceptionList) [] (λ K R moment. except_list_work R)

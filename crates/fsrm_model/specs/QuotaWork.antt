@@ -1,9 +1,11 @@
 -- The commands on quotas: their refusals in order, and what they do.
 use Rattle.std.specs.Prelude.{ℕ, ◌&&◌, Bool, true, false, not, is_some, is_none, List, [], ◌∷◌, ◌++◌, Option, Some, None, unwrap_or, if◌then◌else◌}
 use Rattle.std.specs.Option.{option_map_or, option_and_then}
-use Rattle.fsrm_model.specs.declared.command.Added.{Added}
 use Rattle.fsrm_model.specs.declared.command.Ask.TheVariants.{Quotas}
+use Rattle.fsrm_model.specs.declared.command.NewQuota.{NewQuota}
+use Rattle.fsrm_model.specs.declared.command.NewThresholds.{NewThresholds}
 use Rattle.fsrm_model.specs.declared.command.Outcome.TheVariants.{Done, Listing}
+use Rattle.fsrm_model.specs.declared.command.QuotaChange.{QuotaChange}
 use Rattle.fsrm_model.specs.declared.command.Refusal.TheVariants.{PathNotFound, NotFound, AlreadyExists, OutOfRange}
 use Rattle.fsrm_model.specs.declared.row.Capacity.{Capacity}
 use Rattle.fsrm_model.specs.declared.row.QuotaRow.{QuotaRow}
@@ -43,8 +45,9 @@ new_quota folder limit enforce state moment =
     }
 
 -- a quota with other thresholds
-abbrev pub remarked : List ℕ → List ℕ → List Added → QuotaRow → QuotaRow
-remarked removed percents notices quota = record quota { thresholds = changed_thresholds removed percents notices quota.thresholds }
+abbrev pub remarked : List ℕ → NewThresholds → QuotaRow → QuotaRow
+remarked removed new quota =
+    record quota { thresholds = changed_thresholds removed new.percents new.notices quota.thresholds }
 
 -- a quota with another limit, or of another type, if these are given. All else of it stays
 abbrev pub modified : Option ℕ → Option Bool → QuotaRow → QuotaRow
@@ -61,16 +64,16 @@ source_of R template = option_and_then (template_named R.templates) template
 
 -- a valid command gives a limit or a template. What it gives beside a template overrides its limit and its type, and adds to its
 -- thresholds
-abbrev pub add_work : Rows → ℕ → List (List ℕ) → Option ℕ → Option Bool → Bool → Option (List ℕ) → List ℕ → List Added → Work
-add_work R moment path limit enforce enabled template percents notices =
-    let folder = target R.nodes path in
-    let state = if enabled then start R.nodes folder else Disabled in
-    let source = source_of R template in
-    let quota = remarked [] percents notices (modified limit enforce (first_quota source folder state moment)) in
+abbrev pub add_work : Rows → ℕ → NewQuota → Work
+add_work R moment new =
+    let folder = target R.nodes new.path in
+    let state = if new.enabled then start R.nodes folder else Disabled in
+    let source = source_of R new.template in
+    let quota = remarked [] new.thresholds (modified new.limit new.enforce (first_quota source folder state moment)) in
     let after = with_quota R quota in
     asks
-    ((PathNotFound when not (leads_to_folder R.nodes path)) ∷ (AlreadyExists when is_some (quota_of R folder))
-    ∷ (NotFound when (is_some template && is_none source))
+    ((PathNotFound when not (leads_to_folder R.nodes new.path)) ∷ (AlreadyExists when is_some (quota_of R folder))
+    ∷ (NotFound when (is_some new.template && is_none source))
     ∷ (OutOfRange when are_too_many quota.thresholds) ∷ table_full after ∷ texts_full after ∷ [])
     after (Done None) true
 
@@ -78,16 +81,22 @@ add_work R moment path limit enforce enabled template percents notices =
 abbrev pub thresholds_of : Rows → ℕ → List Threshold
 thresholds_of R folder = option_map_or (λ quota. quota.thresholds) (quota_of R folder) []
 
+-- a quota that is changed so, but for its state
+abbrev pub changed_by : QuotaChange → QuotaRow → QuotaRow
+changed_by change quota = remarked change.removed change.thresholds (modified change.limit change.enforce quota)
+
 -- the limit first, then the type, then the thresholds, then the status
-abbrev pub modify_work : Rows → List (List ℕ) → Option ℕ → Option Bool → Option Bool → List ℕ → List ℕ → List Added → Work
-modify_work R path limit enforce enabled removed percents notices =
-    let folder = target R.nodes path in
+abbrev pub modify_work : Rows → QuotaChange → Work
+modify_work R change =
+    let folder = target R.nodes change.path in
     let thresholds = thresholds_of R folder in
-    let changed = record R { quotas = with_change folder_of folder (λ quota. remarked removed percents notices (modified limit enforce quota)) R.quotas } in
-    let after = with_state changed folder (state_after R folder enabled) in
+    let coming = change.thresholds in
+    let changed = record R { quotas = with_change folder_of folder (changed_by change) R.quotas } in
+    let after = with_state changed folder (state_after R folder change.enabled) in
     asks
-    (quota_checks R path ++ (NotFound when not (may_be_removed removed thresholds))
-    ∷ (OutOfRange when are_too_many (changed_thresholds removed percents notices thresholds)) ∷ texts_full after ∷ [])
+    (quota_checks R change.path ++ (NotFound when not (may_be_removed change.removed thresholds))
+    ∷ (OutOfRange when are_too_many (changed_thresholds change.removed coming.percents coming.notices thresholds))
+    ∷ texts_full after ∷ [])
     after (Done None) true
 
 abbrev pub delete_work : Rows → List (List ℕ) → Work

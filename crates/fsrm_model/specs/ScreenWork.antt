@@ -5,8 +5,11 @@ use Rattle.std.specs.Option.{option_map_or}
 use Rattle.fsrm_base.specs.Keyed.{with_row, with_change, without_row}
 use Rattle.fsrm_base.specs.Numbers.{is_in, each_once, without_numbers}
 use Rattle.fsrm_model.specs.declared.command.Ask.TheVariants.{Screens, Excepts}
+use Rattle.fsrm_model.specs.declared.command.NewException.{NewException}
+use Rattle.fsrm_model.specs.declared.command.NewScreen.{NewScreen}
 use Rattle.fsrm_model.specs.declared.command.Outcome.TheVariants.{Done, Listing}
 use Rattle.fsrm_model.specs.declared.command.Refusal.TheVariants.{PathNotFound, NotFound, AlreadyExists, InvalidCombination, OutOfRange}
+use Rattle.fsrm_model.specs.declared.command.ScreenChange.{ScreenChange}
 use Rattle.fsrm_model.specs.declared.row.Action.{Action}
 use Rattle.fsrm_model.specs.declared.row.ExceptRow.{ExceptRow}
 use Rattle.fsrm_model.specs.declared.row.GroupRow.{GroupRow}
@@ -52,15 +55,17 @@ screen_checks R path =
 abbrev pub new_screen : ℕ → Bool → List ℕ → List Action → ScreenRow
 new_screen folder active groups actions = record { folder = folder; active = active; groups = groups; actions = actions }
 
-abbrev pub screen_add_work : Rows → List (List ℕ) → Bool → List (List ℕ) → List Action → Work
-screen_add_work R path active names actions =
-    let folder = target R.nodes path in
-    let groups = changed_groups [] (numbers_named R.groups names) [] in
-    let after = record R { screens = with_row screen_folder (new_screen folder active groups actions) R.screens } in
+abbrev pub screen_add_work : Rows → NewScreen → Work
+screen_add_work R new =
+    let folder = target R.nodes new.path in
+    let groups = changed_groups [] (numbers_named R.groups new.groups) [] in
+    let screen = new_screen folder new.active groups new.actions in
+    let after = record R { screens = with_row screen_folder screen R.screens } in
     asks
-    ((PathNotFound when not (leads_to_folder R.nodes path)) ∷ (AlreadyExists when is_some (screen_of R folder))
-    ∷ (InvalidCombination when is_some (except_of R folder)) ∷ (NotFound when not (are_named R.groups names))
-    ∷ (OutOfRange when (are_many_groups groups || nat_lt most_actions (length actions))) ∷ screens_full after ∷ texts_full after ∷ [])
+    ((PathNotFound when not (leads_to_folder R.nodes new.path)) ∷ (AlreadyExists when is_some (screen_of R folder))
+    ∷ (InvalidCombination when is_some (except_of R folder)) ∷ (NotFound when not (are_named R.groups new.groups))
+    ∷ (OutOfRange when (are_many_groups groups || nat_lt most_actions (length new.actions)))
+    ∷ screens_full after ∷ texts_full after ∷ [])
     after (Done None) true
 
 -- a screen with these groups, and active or passive if that is given. Its actions stay, with their last runs
@@ -71,17 +76,18 @@ rescreened active groups screen = record screen { active = unwrap_or active scre
 abbrev pub groups_of : Rows → ℕ → List ℕ
 groups_of R folder = option_map_or (λ screen. screen.groups) (screen_of R folder) []
 
-abbrev pub screen_modify_work : Rows → List (List ℕ) → Option Bool → List (List ℕ) → List (List ℕ) → Work
-screen_modify_work R path active removed added =
-    let folder = target R.nodes path in
+abbrev pub screen_modify_work : Rows → ScreenChange → Work
+screen_modify_work R change =
+    let folder = target R.nodes change.path in
     let before = groups_of R folder in
-    let gone = numbers_named R.groups removed in
-    let groups = changed_groups gone (numbers_named R.groups added) before in
+    let gone = numbers_named R.groups change.removed in
+    let groups = changed_groups gone (numbers_named R.groups change.groups) before in
+    let are_known = are_named R.groups change.removed && are_named R.groups change.groups in
     asks
-    (screen_checks R path ++ (NotFound when not (are_named R.groups removed && are_named R.groups added))
-    ∷ (NotFound when not (may_be_taken gone before)) ∷ (InvalidCombination when (length groups == 0))
-    ∷ (OutOfRange when are_many_groups groups) ∷ [])
-    (record R { screens = with_change screen_folder folder (rescreened active groups) R.screens }) (Done None) true
+    (screen_checks R change.path ++ (NotFound when not are_known) ∷ (NotFound when not (may_be_taken gone before))
+    ∷ (InvalidCombination when (length groups == 0)) ∷ (OutOfRange when are_many_groups groups) ∷ [])
+    (record R { screens = with_change screen_folder folder (rescreened change.active groups) R.screens })
+    (Done None) true
 
 abbrev pub screen_delete_work : Rows → List (List ℕ) → Work
 screen_delete_work R path =
@@ -95,14 +101,14 @@ screen_list_work R = asks [] R (Listing Screens) false
 abbrev pub new_except : ℕ → List ℕ → ExceptRow
 new_except folder groups = record { folder = folder; groups = groups }
 
-abbrev pub except_add_work : Rows → List (List ℕ) → List (List ℕ) → Work
-except_add_work R path names =
-    let folder = target R.nodes path in
-    let groups = changed_groups [] (numbers_named R.groups names) [] in
+abbrev pub except_add_work : Rows → NewException → Work
+except_add_work R new =
+    let folder = target R.nodes new.path in
+    let groups = changed_groups [] (numbers_named R.groups new.groups) [] in
     let after = record R { excepts = with_row except_folder (new_except folder groups) R.excepts } in
     asks
-    ((PathNotFound when not (leads_to_folder R.nodes path)) ∷ (AlreadyExists when is_some (except_of R folder))
-    ∷ (InvalidCombination when is_some (screen_of R folder)) ∷ (NotFound when not (are_named R.groups names))
+    ((PathNotFound when not (leads_to_folder R.nodes new.path)) ∷ (AlreadyExists when is_some (except_of R folder))
+    ∷ (InvalidCombination when is_some (screen_of R folder)) ∷ (NotFound when not (are_named R.groups new.groups))
     ∷ (OutOfRange when are_many_groups groups) ∷ excepts_full after ∷ [])
     after (Done None) true
 

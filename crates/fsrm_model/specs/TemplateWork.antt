@@ -3,10 +3,11 @@ use Rattle.std.specs.Prelude.{ℕ, ◌==◌, Bool, true, false, not, is_some, is
 use Rattle.std.specs.List.{list_any}
 use Rattle.std.specs.Option.{option_map_or}
 use Rattle.fsrm_base.specs.Keyed.{with_row, with_change, without_row, least_free}
-use Rattle.fsrm_model.specs.declared.command.Added.{Added}
 use Rattle.fsrm_model.specs.declared.command.Ask.TheVariants.{Templates}
+use Rattle.fsrm_model.specs.declared.command.NewTemplate.{NewTemplate}
 use Rattle.fsrm_model.specs.declared.command.Outcome.TheVariants.{Done, Listing}
 use Rattle.fsrm_model.specs.declared.command.Refusal.TheVariants.{DuplicateName, NotFound, InUse, OutOfRange}
+use Rattle.fsrm_model.specs.declared.command.TemplateChange.{TemplateChange}
 use Rattle.fsrm_model.specs.declared.command.Update.{Update}
 use Rattle.fsrm_model.specs.declared.row.QuotaRow.{QuotaRow}
 use Rattle.fsrm_model.specs.declared.row.Rows.{Rows}
@@ -25,26 +26,33 @@ abbrev pub thresholds_in : Option TemplateRow → List Threshold
 thresholds_in template = option_map_or (λ t. t.thresholds) template []
 
 -- a new template takes the least number that is free
-abbrev pub new_template : List TemplateRow → List ℕ → ℕ → Bool → List Threshold → TemplateRow
-new_template templates name limit enforce thresholds =
-    record { number = least_free template_number templates; name = name; limit = limit; enforce = enforce; thresholds = thresholds }
+abbrev pub new_template : List TemplateRow → NewTemplate → TemplateRow
+new_template templates new =
+    record {
+      number = least_free template_number templates;
+      name = new.name;
+      limit = new.limit;
+      enforce = new.enforce;
+      thresholds = changed_thresholds [] new.thresholds.percents new.thresholds.notices [];
+    }
 
-abbrev pub template_add_work : Rows → List ℕ → ℕ → Bool → List ℕ → List Added → Work
-template_add_work R name limit enforce percents notices =
-    let thresholds = changed_thresholds [] percents notices [] in
-    let after = record R { templates = with_row template_number (new_template R.templates name limit enforce thresholds) R.templates } in
+abbrev pub template_add_work : Rows → NewTemplate → Work
+template_add_work R new =
+    let template = new_template R.templates new in
+    let after = record R { templates = with_row template_number template R.templates } in
     asks
-    ((DuplicateName when is_some (template_named R.templates name)) ∷ (OutOfRange when are_too_many thresholds)
-    ∷ templates_full after ∷ texts_full after ∷ [])
+    ((DuplicateName when is_some (template_named R.templates new.name))
+    ∷ (OutOfRange when are_too_many template.thresholds) ∷ templates_full after ∷ texts_full after ∷ [])
     after (Done None) true
 
 -- a template with another limit, or of another type, if these are given, and with other thresholds
-abbrev pub retemplated : Option ℕ → Option Bool → List ℕ → List ℕ → List Added → TemplateRow → TemplateRow
-retemplated limit enforce removed percents notices template =
+abbrev pub retemplated : TemplateChange → TemplateRow → TemplateRow
+retemplated change template =
+    let coming = change.thresholds in
     record template {
-      limit = unwrap_or limit template.limit;
-      enforce = unwrap_or enforce template.enforce;
-      thresholds = changed_thresholds removed percents notices template.thresholds;
+      limit = unwrap_or change.limit template.limit;
+      enforce = unwrap_or change.enforce template.enforce;
+      thresholds = changed_thresholds change.removed coming.percents coming.notices template.thresholds;
     }
 
 -- the quotas after a change of a template
@@ -53,17 +61,19 @@ updated_quotas mode old change quotas = option_map_or (λ template. map (updated
 
 -- the template changes as a quota does, and then the quotas that were derived from it. Which of them match is judged by the
 -- template as it was
-abbrev pub template_modify_work : Rows → List ℕ → Option ℕ → Option Bool → List ℕ → List ℕ → List Added → Update → Work
-template_modify_work R name limit enforce removed percents notices mode =
-    let old = template_named R.templates name in
-    let change = retemplated limit enforce removed percents notices in
+abbrev pub template_modify_work : Rows → TemplateChange → Work
+template_modify_work R change =
+    let old = template_named R.templates change.name in
+    let thresholds = thresholds_in old in
+    let coming = change.thresholds in
     let after = record R {
-      templates = with_change template_number (number_in old) change R.templates;
-      quotas = updated_quotas mode old change R.quotas;
+      templates = with_change template_number (number_in old) (retemplated change) R.templates;
+      quotas = updated_quotas change.update old (retemplated change) R.quotas;
     } in
     asks
-    ((NotFound when is_none old) ∷ (NotFound when not (may_be_removed removed (thresholds_in old)))
-    ∷ (OutOfRange when are_too_many (changed_thresholds removed percents notices (thresholds_in old))) ∷ texts_full after ∷ [])
+    ((NotFound when is_none old) ∷ (NotFound when not (may_be_removed change.removed thresholds))
+    ∷ (OutOfRange when are_too_many (changed_thresholds change.removed coming.percents coming.notices thresholds))
+    ∷ texts_full after ∷ [])
     after (Done None) true
 
 -- whether an auto-apply quota names a template

@@ -7,6 +7,7 @@ use Rattle.fsrm_model.specs.declared.command.Deed.{Deed}
 use Rattle.fsrm_model.specs.declared.command.Deed.TheVariants.{Quota, Template, Autoquota, Filegroup, Screen, Exception, Admin}
 use Rattle.fsrm_model.specs.declared.command.ExceptionDeed.TheVariants.{Add as ExceptionAdd, Delete as ExceptionDelete, List as ExceptionList}
 use Rattle.fsrm_model.specs.declared.command.FilegroupDeed.TheVariants.{Add as FilegroupAdd, Modify as FilegroupModify, Delete as FilegroupDelete, List as FilegroupList}
+use Rattle.fsrm_model.specs.declared.command.NewThresholds.{NewThresholds}
 use Rattle.fsrm_model.specs.declared.command.QuotaDeed.TheVariants.{Add as QuotaAdd, Modify as QuotaModify, Delete as QuotaDelete, Scan as QuotaScan, Resetpeak as QuotaResetpeak, List as QuotaList}
 use Rattle.fsrm_model.specs.declared.command.ScreenDeed.TheVariants.{Add as ScreenAdd, Modify as ScreenModify, Delete as ScreenDelete, List as ScreenList}
 use Rattle.fsrm_model.specs.declared.command.TemplateDeed.TheVariants.{Add as TemplateAdd, Modify as TemplateModify, Delete as TemplateDelete, List as TemplateList}
@@ -43,6 +44,10 @@ alone deed = record { keys = []; deed = λ given. Some deed }
 abbrev pub has_limit : List Given → Bool
 has_limit given = is_some (one number_of limit_key given) || is_some (one text_of source_template_key given)
 
+abbrev pub new_thresholds : List Given → NewThresholds
+new_thresholds given =
+    record { percents = each_of number_of add_threshold_key given; notices = each_of notice_of add_notification_key given }
+
 abbrev pub quota_add : ToolCommand
 quota_add =
     record {
@@ -52,10 +57,14 @@ quota_add =
       deed = λ given.
           needs path_of path_key given (λ path.
           if has_limit given
-          then Some (Quota (QuotaAdd path
-          (one number_of limit_key given) (one choice_of quota_type_key given)
-          (unwrap_or (one choice_of status_key given) true) (one text_of source_template_key given)
-          (each_of number_of add_threshold_key given) (each_of notice_of add_notification_key given)))
+          then Some (Quota (QuotaAdd (record {
+            path = path;
+            limit = one number_of limit_key given;
+            enforce = one choice_of quota_type_key given;
+            enabled = unwrap_or (one choice_of status_key given) true;
+            template = one text_of source_template_key given;
+            thresholds = new_thresholds given;
+          })))
           else None);
     }
 
@@ -67,10 +76,14 @@ quota_modify =
           ∷ add_notification_key ∷ [];
       deed = λ given.
           needs path_of path_key given (λ path.
-          Some (Quota (QuotaModify path
-          (one number_of limit_key given) (one choice_of quota_type_key given) (one choice_of status_key given)
-          (each_of number_of remove_threshold_key given) (each_of number_of add_threshold_key given)
-          (each_of notice_of add_notification_key given))));
+          Some (Quota (QuotaModify (record {
+            path = path;
+            limit = one number_of limit_key given;
+            enforce = one choice_of quota_type_key given;
+            enabled = one choice_of status_key given;
+            removed = each_of number_of remove_threshold_key given;
+            thresholds = new_thresholds given;
+          }))));
     }
 
 -- of one quota, or of all
@@ -93,9 +106,12 @@ template_add =
       deed = λ given.
           needs text_of template_key given (λ name.
           needs number_of limit_key given (λ limit.
-          Some (Template (TemplateAdd name limit
-          (unwrap_or (one choice_of quota_type_key given) true) (each_of number_of add_threshold_key given)
-          (each_of notice_of add_notification_key given)))));
+          Some (Template (TemplateAdd (record {
+            name = name;
+            limit = limit;
+            enforce = unwrap_or (one choice_of quota_type_key given) true;
+            thresholds = new_thresholds given;
+          })))));
     }
 
 -- its change reaches no derived quota if nothing else is given
@@ -107,11 +123,14 @@ template_modify =
           ∷ update_derived_key ∷ [];
       deed = λ given.
           needs text_of template_key given (λ name.
-          Some (Template (TemplateModify name
-          (one number_of limit_key given) (one choice_of quota_type_key given)
-          (each_of number_of remove_threshold_key given) (each_of number_of add_threshold_key given)
-          (each_of notice_of add_notification_key given)
-          (unwrap_or (one update_of update_derived_key given) Keep))));
+          Some (Template (TemplateModify (record {
+            name = name;
+            limit = one number_of limit_key given;
+            enforce = one choice_of quota_type_key given;
+            removed = each_of number_of remove_threshold_key given;
+            thresholds = new_thresholds given;
+            update = unwrap_or (one update_of update_derived_key given) Keep;
+          }))));
     }
 
 abbrev pub template_delete : ToolCommand
@@ -132,8 +151,12 @@ auto_add =
       keys = path_key ∷ source_template_key ∷ exclude_key ∷ [];
       deed = λ given.
           needs path_of path_key given (λ path.
-          needs text_of source_template_key given (λ name.
-          Some (Autoquota (AutoquotaAdd path name (each_of text_of exclude_key given)))));
+          needs text_of source_template_key given (λ template.
+          Some (Autoquota (AutoquotaAdd (record {
+            path = path;
+            template = template;
+            excluded = each_of text_of exclude_key given;
+          })))));
     }
 
 abbrev pub auto_commands : Names ToolCommand
@@ -163,7 +186,11 @@ group_add =
       deed = λ given.
           needs text_of filegroup_key given (λ name.
           needs texts_of members_key given (λ members.
-          Some (Filegroup (FilegroupAdd name members (unwrap_or (one texts_of non_members_key given) [])))));
+          Some (Filegroup (FilegroupAdd (record {
+            name = name;
+            members = members;
+            non_members = unwrap_or (one texts_of non_members_key given) [];
+          })))));
     }
 
 abbrev pub group_modify : ToolCommand
@@ -172,8 +199,11 @@ group_modify =
       keys = filegroup_key ∷ members_key ∷ non_members_key ∷ [];
       deed = λ given.
           needs text_of filegroup_key given (λ name.
-          Some (Filegroup (FilegroupModify name
-          (one texts_of members_key given) (one texts_of non_members_key given))));
+          Some (Filegroup (FilegroupModify (record {
+            name = name;
+            members = one texts_of members_key given;
+            non_members = one texts_of non_members_key given;
+          }))));
     }
 
 abbrev pub group_delete : ToolCommand
@@ -196,9 +226,12 @@ screen_add =
       deed = λ given.
           needs path_of path_key given (λ path.
           needs text_of add_filegroup_key given (λ first.
-          Some (Screen (ScreenAdd path
-          (unwrap_or (one choice_of screen_type_key given) true) (each_of text_of add_filegroup_key given)
-          (each_of action_of screen_notification_key given)))));
+          Some (Screen (ScreenAdd (record {
+            path = path;
+            active = unwrap_or (one choice_of screen_type_key given) true;
+            groups = each_of text_of add_filegroup_key given;
+            actions = each_of action_of screen_notification_key given;
+          })))));
     }
 
 abbrev pub screen_modify : ToolCommand
@@ -207,9 +240,12 @@ screen_modify =
       keys = path_key ∷ screen_type_key ∷ remove_filegroup_key ∷ add_filegroup_key ∷ [];
       deed = λ given.
           needs path_of path_key given (λ path.
-          Some (Screen (ScreenModify path
-          (one choice_of screen_type_key given) (each_of text_of remove_filegroup_key given)
-          (each_of text_of add_filegroup_key given))));
+          Some (Screen (ScreenModify (record {
+            path = path;
+            active = one choice_of screen_type_key given;
+            removed = each_of text_of remove_filegroup_key given;
+            groups = each_of text_of add_filegroup_key given;
+          }))));
     }
 
 abbrev pub screen_commands : Names ToolCommand
@@ -224,8 +260,7 @@ except_add =
       deed = λ given.
           needs path_of path_key given (λ path.
           needs text_of add_filegroup_key given (λ first.
-          Some (Exception (ExceptionAdd path
-          (each_of text_of add_filegroup_key given)))));
+          Some (Exception (ExceptionAdd (record { path = path; groups = each_of text_of add_filegroup_key given })))));
     }
 
 abbrev pub except_commands : Names ToolCommand

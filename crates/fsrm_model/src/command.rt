@@ -109,82 +109,101 @@ pub enum Update {
     All,
 }
 
+/// Thresholds that a quota or a template gets: percentages, each 1 to 250, and then actions of percentages, both in the
+/// order in which they were given.
+#[derive(Drop)]
+pub struct NewThresholds {
+    pub percents: List<u16>,
+    pub notices: List<Added>,
+}
+
+/// A quota that is to be made. Its limit, its type and its thresholds are those of its template, if one is given;
+/// without one it is hard and has no thresholds. A limit and a type that are given count in place of these. Its
+/// thresholds get those that are given.
+#[derive(Drop)]
+pub struct NewQuota {
+    pub path: Path,
+    pub limit: Option<u64>,
+    pub enforce: Option<bool>,
+    pub enabled: bool,
+    pub template: Option<Text>,
+    pub thresholds: NewThresholds,
+}
+
+/// What a quota gets in place of what it has. Of its thresholds some are removed, and then others come.
+#[derive(Drop)]
+pub struct QuotaChange {
+    pub path: Path,
+    pub limit: Option<u64>,
+    pub enforce: Option<bool>,
+    pub enabled: Option<bool>,
+    pub removed: List<u16>,
+    pub thresholds: NewThresholds,
+}
+
 /// What a command on a quota is to do.
 #[derive(Drop)]
 pub enum QuotaDeed {
     /// Limits what the files at and below a folder take, in bytes (MS-FSRM, IFsrmQuota). A hard quota is enforced, a
-    /// soft one only watches. Its limit, its type and its thresholds are those of its template, if one is given;
-    /// without one it is hard and has no thresholds. A limit and a type that are given count in place of these. To its
-    /// thresholds come the percentages that are added, and those that are given an action.
-    Add {
-        path: Path,
-        limit: Option<u64>,
-        enforce: Option<bool>,
-        enabled: bool,
-        source_template: Option<Text>,
-        add_threshold: List<u16>,
-        add_notification: List<Added>,
-    },
-    /// Gives a quota another limit, makes it hard or soft, enables or disables it. Of its thresholds some are removed,
-    /// then percentages are added, and then actions. Its template stays.
-    Modify {
-        path: Path,
-        limit: Option<u64>,
-        enforce: Option<bool>,
-        enabled: Option<bool>,
-        remove_threshold: List<u16>,
-        add_threshold: List<u16>,
-        add_notification: List<Added>,
-    },
+    /// soft one only watches.
+    Add(NewQuota),
+    /// Gives a quota another limit, makes it hard or soft, enables or disables it, or changes its thresholds. Its
+    /// template stays.
+    Modify(QuotaChange),
     /// Takes a folder's quota away.
-    Delete {
-        path: Path,
-    },
+    Delete { path: Path },
     /// Has what a folder's files take counted afresh, by a scan that waits for its turn (MS-FSRM, IFsrmQuotaManager,
     /// Scan).
-    Scan {
-        path: Path,
-    },
+    Scan { path: Path },
     /// Makes what is used now the peak, or 0 if the quota doesn't count (MS-FSRM, ResetPeakUsage).
-    Resetpeak {
-        path: Path,
-    },
+    Resetpeak { path: Path },
     /// Lists the quota of a folder, or all quotas.
-    List {
-        path: Option<Path>,
-    },
+    List { path: Option<Path> },
+}
+
+/// A template that is to be made.
+#[derive(Drop)]
+pub struct NewTemplate {
+    pub name: Text,
+    pub limit: u64,
+    pub enforce: bool,
+    pub thresholds: NewThresholds,
+}
+
+/// What a template gets in place of what it has, as a quota does, and which of the quotas that were derived from it are
+/// changed.
+#[derive(Drop)]
+pub struct TemplateChange {
+    pub name: Text,
+    pub limit: Option<u64>,
+    pub enforce: Option<bool>,
+    pub removed: List<u16>,
+    pub thresholds: NewThresholds,
+    pub update: Update,
 }
 
 /// What a command on a template of quotas is to do.
 #[derive(Drop)]
 pub enum TemplateDeed {
-    /// Makes a template of quotas (MS-FSRM, IFsrmQuotaTemplate). Its thresholds are the percentages that are added, and
-    /// those that are given an action.
-    Add {
-        template: Text,
-        limit: u64,
-        enforce: bool,
-        add_threshold: List<u16>,
-        add_notification: List<Added>,
-    },
+    /// Makes a template of quotas (MS-FSRM, IFsrmQuotaTemplate).
+    Add(NewTemplate),
     /// Changes a template as a quota is changed, and then the quotas that were derived from it, as far as the update
     /// reaches them (MS-FSRM, IFsrmQuotaTemplate, CommitAndUpdateDerived).
-    Modify {
-        template: Text,
-        limit: Option<u64>,
-        enforce: Option<bool>,
-        remove_threshold: List<u16>,
-        add_threshold: List<u16>,
-        add_notification: List<Added>,
-        update_derived: Update,
-    },
+    Modify(TemplateChange),
     /// Takes a template away that no auto-apply quota names. The quotas that were derived from it stay, without a
     /// template.
-    Delete {
-        template: Text,
-    },
+    Delete { name: Text },
     /// Lists all templates.
     List,
+}
+
+/// An auto-apply quota that is to be made: for the folders in this one, of this template, but for those with an excluded
+/// name.
+#[derive(Drop)]
+pub struct NewAutoquota {
+    pub path: Path,
+    pub template: Text,
+    pub excluded: List<Text>,
 }
 
 /// What a command on an auto-apply quota is to do.
@@ -192,84 +211,92 @@ pub enum TemplateDeed {
 pub enum AutoquotaDeed {
     /// Gives each folder in a folder a quota of a template, and each that is made in it or moved into it later
     /// (MS-FSRM, IFsrmAutoApplyQuota). Folders with an excluded name get none, nor does one that has a quota.
-    Add {
-        path: Path,
-        source_template: Text,
-        exclude: List<Text>,
-    },
+    Add(NewAutoquota),
     /// Takes a folder's auto-apply quota away. The quotas that it gave stay.
-    Delete {
-        path: Path,
-    },
+    Delete { path: Path },
     /// Lists all auto-apply quotas.
     List,
+}
+
+/// A file group that is to be made. It has 1 to 64 members and at most 64 non-members.
+#[derive(Drop)]
+pub struct NewFilegroup {
+    pub name: Text,
+    pub members: List<Text>,
+    pub non_members: List<Text>,
+}
+
+/// What a file group gets in place of what it has.
+#[derive(Drop)]
+pub struct FilegroupChange {
+    pub name: Text,
+    pub members: Option<List<Text>>,
+    pub non_members: Option<List<Text>>,
 }
 
 /// What a command on a file group is to do.
 #[derive(Drop)]
 pub enum FilegroupDeed {
     /// Makes a file group: the names that match one of its members and none of its non-members (MS-FSRM,
-    /// IFsrmFileGroup). It has 1 to 64 members and at most 64 non-members.
-    Add {
-        filegroup: Text,
-        members: List<Text>,
-        non_members: List<Text>,
-    },
+    /// IFsrmFileGroup).
+    Add(NewFilegroup),
     /// Gives a file group other members, other non-members, or both.
-    Modify {
-        filegroup: Text,
-        members: Option<List<Text>>,
-        non_members: Option<List<Text>>,
-    },
+    Modify(FilegroupChange),
     /// Takes a file group away that no screen and no exception names.
-    Delete {
-        filegroup: Text,
-    },
+    Delete { name: Text },
     /// Lists all file groups.
     List,
+}
+
+/// A screen that is to be made. Its groups are named, and one that is named twice is kept once. It has 1 to 16 groups and
+/// at most 8 actions.
+#[derive(Drop)]
+pub struct NewScreen {
+    pub path: Path,
+    pub active: bool,
+    pub groups: List<Text>,
+    pub actions: List<Action>,
+}
+
+/// What a screen gets in place of what it has. Of its groups some are removed, and then others come. A group that is
+/// removed must be the screen's, and named once.
+#[derive(Drop)]
+pub struct ScreenChange {
+    pub path: Path,
+    pub active: Option<bool>,
+    pub removed: List<Text>,
+    pub groups: List<Text>,
 }
 
 /// What a command on a screen is to do.
 #[derive(Drop)]
 pub enum ScreenDeed {
     /// Keeps the names of file groups out of a folder and of all that is below it (MS-FSRM, IFsrmFileScreen). An active
-    /// screen blocks them, a passive one reports them. A group that is named twice is kept once. The screen has 1 to 16
-    /// groups and at most 8 actions, and its folder no exception.
-    Add {
-        path: Path,
-        active: bool,
-        add_filegroup: List<Text>,
-        add_notification: List<Action>,
-    },
-    /// Makes a screen active or passive. Of its groups some are removed, and then groups are added. A group that is
-    /// removed must be the screen's, and named once. The screen's actions stay.
-    Modify {
-        path: Path,
-        active: Option<bool>,
-        remove_filegroup: List<Text>,
-        add_filegroup: List<Text>,
-    },
+    /// screen blocks them, a passive one reports them. Its folder has no exception.
+    Add(NewScreen),
+    /// Makes a screen active or passive, or changes its groups. The screen's actions stay.
+    Modify(ScreenChange),
     /// Takes a folder's screen away.
-    Delete {
-        path: Path,
-    },
+    Delete { path: Path },
     /// Lists all screens.
     List,
+}
+
+/// An exception that is to be made, for 1 to 16 groups, which are named.
+#[derive(Drop)]
+pub struct NewException {
+    pub path: Path,
+    pub groups: List<Text>,
 }
 
 /// What a command on an exception from screens is to do.
 #[derive(Drop)]
 pub enum ExceptionDeed {
     /// Lets the names of file groups pass the screens of the folders above this one, in it and in all that is below it
-    /// (MS-FSRM, IFsrmFileScreenException). It has 1 to 16 groups, and its folder no screen.
-    Add {
-        path: Path,
-        add_filegroup: List<Text>,
-    },
+    /// (MS-FSRM, IFsrmFileScreenException). Its folder has no screen.
+    Add(NewException),
     /// Takes a folder's exception away.
-    Delete {
-        path: Path,
-    },
+    Delete { path: Path },
     /// Lists all exceptions.
     List,
 }
@@ -286,8 +313,8 @@ pub enum AdminDeed {
     Log,
 }
 
-/// What a command is to do. Each command has a field for each of its values and options, in the order of `specs/Tools`.
-/// A field that is None wasn't given; what stands for it then is the command's to say. The families with large deeds are
+/// What a command is to do. Each command has a field for each of its values and options, if there are more than two in a
+/// struct of its own. A field that is None wasn't given; what stands for it then is the command's to say. The families with large deeds are
 /// boxed, since these are rare, and the command of each line is moved several times.
 #[derive(Drop)]
 pub enum Deed {

@@ -18,7 +18,9 @@ pub mod space;
 pub use boxed::Boxed;
 pub use command::{
     Act, Added, AdminDeed, Answer, Ask, AutoquotaDeed, Command, Deed, Entry, ExceptionDeed, FileOp,
-    FilegroupDeed, Outcome, QuotaDeed, Refusal, ScreenDeed, Subject, TemplateDeed, Update,
+    FilegroupChange, FilegroupDeed, NewAutoquota, NewException, NewFilegroup, NewQuota, NewScreen,
+    NewTemplate, NewThresholds, Outcome, QuotaChange, QuotaDeed, Refusal, ScreenChange, ScreenDeed,
+    Subject, TemplateChange, TemplateDeed, Update,
 };
 pub use fsrm_base::{Duplicate, Ledger, List, NoMemory, Steps, Text, Weightless, WeightlessPage};
 pub use path::{Names, Path};

@@ -13,7 +13,7 @@ use Rattle.fsrm_model.specs.ValueForms.{Value, path_of, number_of, choice_of, te
 use Rattle.fsrm_model.specs.Line.{option_words}
 use Rattle.fsrm_model.specs.Options.{Key, path_key, limit_key, quota_type_key, status_key, source_template_key, add_threshold_key, add_notification_key, Given, its, one, each_of, options}
 use Rattle.fsrm_model.specs.Reading.{Read, ◌>>=◌, known}
-use Rattle.fsrm_model.specs.Tools.{ToolCommand, needs, quota_add, has_limit}
+use Rattle.fsrm_model.specs.Tools.{ToolCommand, needs, quota_add, has_limit, new_thresholds}
 use Rattle.fsrm_model.specs.Words.{Word}
 use Rattle.tool_commands.specs.declared.reading.LineFault.{LineFault}
 use Rattle.tool_commands.specs.declared.reading.LineFault.TheVariants.{Refused}
@@ -94,10 +94,33 @@ pub quota_read : (last : ℕ) (words : List Word) (given : List Given) (path : L
     → enabled ≡ one choice_of status_key given → source ≡ one text_of source_template_key given
     → percents ≡ each_of number_of add_threshold_key given → notices ≡ each_of notice_of add_notification_key given
     → on ≡ unwrap_or enabled true → (is_some limit || is_some source) ≡ true
-    → option_words quota_add last words ≡ Ok (Quota (QuotaAdd path limit enforce on source percents notices))
+    → option_words quota_add last words ≡ Ok (Quota (QuotaAdd (record {
+      path = path;
+      limit = limit;
+      enforce = enforce;
+      enabled = on;
+      template = source;
+      thresholds = record { percents = percents; notices = notices };
+    })))
 quota_read last words given path limit enforce enabled source percents notices on read path_is limit_is enforce_is enabled_is source_is percents_are notices_are on_is picked =
     let some : has_limit given ≡ true = ap (λ (o : Option ℕ). is_some o || is_some (one text_of source_template_key given)) (sym limit_is) ∙ (ap (λ (o : Option (List ℕ)). is_some limit || is_some o) (sym source_is) ∙ picked) in
-    let make : List (List ℕ) → Option Deed = λ path. Some (Quota (QuotaAdd path (one number_of limit_key given) (one choice_of quota_type_key given) (unwrap_or (one choice_of status_key given) true) (one text_of source_template_key given) (each_of number_of add_threshold_key given) (each_of notice_of add_notification_key given))) in
-    let made : make path ≡ Some (Quota (QuotaAdd path limit enforce on source percents notices)) = rw (on_is, limit_is, enforce_is, enabled_is, source_is, percents_are, notices_are) refl in
-    asked quota_add last words given (Quota (QuotaAdd path limit enforce on source percents notices)) read
+    let make : List (List ℕ) → Option Deed = λ path.
+    Some (Quota (QuotaAdd (record {
+      path = path;
+      limit = one number_of limit_key given;
+      enforce = one choice_of quota_type_key given;
+      enabled = unwrap_or (one choice_of status_key given) true;
+      template = one text_of source_template_key given;
+      thresholds = new_thresholds given;
+    }))) in
+    let due : Deed = Quota (QuotaAdd (record {
+      path = path;
+      limit = limit;
+      enforce = enforce;
+      enabled = on;
+      template = source;
+      thresholds = record { percents = percents; notices = notices };
+    })) in
+    let made : make path ≡ Some due = rw (on_is, limit_is, enforce_is, enabled_is, source_is, percents_are, notices_are) refl in
+    asked quota_add last words given due read
     (needs_some path_of path_key given (λ path. if has_limit given then make path else None) path path_is ∙ (ap (λ (b : Bool). if b then make path else None) some ∙ made))

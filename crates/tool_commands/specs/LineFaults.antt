@@ -19,6 +19,11 @@ Reads (Ok x) read = read ≡ Ok x
 Reads (Err (Refused refusal)) read = read ≡ Err refusal
 Reads (Err NoMemory) read = Unit {0}
 
+-- the same of a part that gives a deed of one family
+abbrev pub ReadsIn : {X : Type 0} → (X → Deed) → Result X LineFault → Read Deed → Type 0
+ReadsIn deed (Ok x) read = read ≡ Ok (deed x)
+ReadsIn deed (Err fault) read = Reads {X = Deed} (Err fault) read
+
 -- a line that isn't skipped gives the command that its words read as, unless memory runs out
 abbrev pub ReadsWords : Result (Option Command) LineFault → Read Command → Type 0
 ReadsWords (Ok None) read = ⊥

@@ -1,9 +1,10 @@
 //! The commands on auto-apply quotas, each read from the options after its name.
 
 ghost use Rattle.std.specs.Prelude.{◌≡◌};
+ghost use Rattle.fsrm_model.specs.declared.command.Deed.TheVariants.{Autoquota};
 ghost use Rattle.fsrm_model.specs.Line.{option_words, named_word};
 ghost use Rattle.fsrm_model.specs.Tools.{auto_add, auto_commands};
-ghost use Rattle.tool_commands.specs.LineFaults.{Reads};
+ghost use Rattle.tool_commands.specs.LineFaults.{ReadsIn};
 ghost use Rattle.tool_commands.specs.Taking.{left, end};
 
 use crate::keys::{EXCLUDE, PATH, SOURCE_TEMPLATE};
@@ -12,27 +13,26 @@ use crate::paths::path_alone;
 use crate::reading::LineFault;
 use crate::values::is_named;
 use crate::words::Words;
-use fsrm_model::{AutoquotaDeed, Boxed, Deed};
+use fsrm_model::{AutoquotaDeed, NewAutoquota};
 use std::alloc::Global;
 
-fn add(alloc: Global, words: &mut Words<'_>) -> Result<Deed, LineFault>
-    ensures { Reads result (option_words auto_add (end words.old) (left words.old)) }
+fn add(alloc: Global, words: &mut Words<'_>) -> Result<AutoquotaDeed, LineFault>
+    ensures { ReadsIn (λ deed. Autoquota deed) result (option_words auto_add (end words.old) (left words.old)) }
 {
     let options = (PATH, (SOURCE_TEMPLATE, EXCLUDE));
-    let (path, (source_template, exclude)) = read_options(alloc, options, words)?;
+    let (path, (template, excluded)) = read_options(alloc, options, words)?;
     let path = required(path, words)?;
-    let source_template = required(source_template, words)?;
-    let deed = AutoquotaDeed::Add {
+    let template = required(template, words)?;
+    Ok(AutoquotaDeed::Add(NewAutoquota {
         path,
-        source_template,
-        exclude,
-    };
-    Ok(Deed::Autoquota(Boxed::new(alloc, deed)?))
+        template,
+        excluded,
+    }))
 }
 
 /// What the words after `dirquota autoquota` spell.
-pub fn autoquota(alloc: Global, words: &mut Words<'_>) -> Result<Deed, LineFault>
-    ensures { Reads result (named_word auto_commands (end words.old) (left words.old) (λ command more. option_words command (end words.old) more)) }
+pub fn autoquota(alloc: Global, words: &mut Words<'_>) -> Result<AutoquotaDeed, LineFault>
+    ensures { ReadsIn (λ deed. Autoquota deed) result (named_word auto_commands (end words.old) (left words.old) (λ command more. option_words command (end words.old) more)) }
 {
     let name = words.next(alloc)?;
     let word = name.text.as_str();
@@ -41,11 +41,11 @@ pub fn autoquota(alloc: Global, words: &mut Words<'_>) -> Result<Deed, LineFault
     }
     if is_named("delete", word) {
         let path = path_alone(alloc, words)?;
-        return Ok(Deed::Autoquota(Boxed::new(alloc, AutoquotaDeed::Delete { path })?));
+        return Ok(AutoquotaDeed::Delete { path });
     }
     if is_named("list", word) {
         words.finish()?;
-        return Ok(Deed::Autoquota(Boxed::new(alloc, AutoquotaDeed::List)?));
+        return Ok(AutoquotaDeed::List);
     }
     Err(LineFault::bad_line(name.column))
 }

@@ -1,9 +1,10 @@
 //! The commands on exceptions, each read from the options after its name.
 
 ghost use Rattle.std.specs.Prelude.{◌≡◌};
+ghost use Rattle.fsrm_model.specs.declared.command.Deed.TheVariants.{Exception};
 ghost use Rattle.fsrm_model.specs.Line.{option_words, named_word};
 ghost use Rattle.fsrm_model.specs.Tools.{except_add, except_commands};
-ghost use Rattle.tool_commands.specs.LineFaults.{Reads};
+ghost use Rattle.tool_commands.specs.LineFaults.{ReadsIn};
 ghost use Rattle.tool_commands.specs.Taking.{left, end};
 
 use crate::keys::{ADD_FILEGROUP, PATH};
@@ -12,27 +13,23 @@ use crate::paths::path_alone;
 use crate::reading::LineFault;
 use crate::values::is_named;
 use crate::words::Words;
-use fsrm_model::{Boxed, Deed, ExceptionDeed};
+use fsrm_model::{ExceptionDeed, NewException};
 use std::alloc::Global;
 
-fn add(alloc: Global, words: &mut Words<'_>) -> Result<Deed, LineFault>
-    ensures { Reads result (option_words except_add (end words.old) (left words.old)) }
+fn add(alloc: Global, words: &mut Words<'_>) -> Result<ExceptionDeed, LineFault>
+    ensures { ReadsIn (λ deed. Exception deed) result (option_words except_add (end words.old) (left words.old)) }
 {
-    let (path, add_filegroup) = read_options(alloc, (PATH, ADD_FILEGROUP), words)?;
+    let (path, groups) = read_options(alloc, (PATH, ADD_FILEGROUP), words)?;
     let path = required(path, words)?;
-    if add_filegroup.is_empty() {
+    if groups.is_empty() {
         return Err(LineFault::bad_line(words.end()));
     }
-    let deed = ExceptionDeed::Add {
-        path,
-        add_filegroup,
-    };
-    Ok(Deed::Exception(Boxed::new(alloc, deed)?))
+    Ok(ExceptionDeed::Add(NewException { path, groups }))
 }
 
 /// What the words after `filescrn exception` spell.
-pub fn exception(alloc: Global, words: &mut Words<'_>) -> Result<Deed, LineFault>
-    ensures { Reads result (named_word except_commands (end words.old) (left words.old) (λ command more. option_words command (end words.old) more)) }
+pub fn exception(alloc: Global, words: &mut Words<'_>) -> Result<ExceptionDeed, LineFault>
+    ensures { ReadsIn (λ deed. Exception deed) result (named_word except_commands (end words.old) (left words.old) (λ command more. option_words command (end words.old) more)) }
 {
     let name = words.next(alloc)?;
     let word = name.text.as_str();
@@ -41,11 +38,11 @@ pub fn exception(alloc: Global, words: &mut Words<'_>) -> Result<Deed, LineFault
     }
     if is_named("delete", word) {
         let path = path_alone(alloc, words)?;
-        return Ok(Deed::Exception(Boxed::new(alloc, ExceptionDeed::Delete { path })?));
+        return Ok(ExceptionDeed::Delete { path });
     }
     if is_named("list", word) {
         words.finish()?;
-        return Ok(Deed::Exception(Boxed::new(alloc, ExceptionDeed::List)?));
+        return Ok(ExceptionDeed::List);
     }
     Err(LineFault::bad_line(name.column))
 }

@@ -1,9 +1,10 @@
 //! The commands on quotas, each read from the options after its name.
 
 ghost use Rattle.std.specs.Prelude.{◌≡◌};
+ghost use Rattle.fsrm_model.specs.declared.command.Deed.TheVariants.{Quota};
 ghost use Rattle.fsrm_model.specs.Line.{option_words, named_word};
 ghost use Rattle.fsrm_model.specs.Tools.{quota_add, quota_modify, quota_list, quota_commands};
-ghost use Rattle.tool_commands.specs.LineFaults.{Reads};
+ghost use Rattle.tool_commands.specs.LineFaults.{ReadsIn};
 ghost use Rattle.tool_commands.specs.Taking.{left, end};
 
 use crate::keys::{
@@ -15,67 +16,65 @@ use crate::paths::path_alone;
 use crate::reading::LineFault;
 use crate::values::is_named;
 use crate::words::Words;
-use fsrm_model::{Boxed, Deed, QuotaDeed};
+use fsrm_model::{NewQuota, NewThresholds, QuotaChange, QuotaDeed};
 use std::alloc::Global;
 
-fn add(alloc: Global, words: &mut Words<'_>) -> Result<Deed, LineFault>
-    ensures { Reads result (option_words quota_add (end words.old) (left words.old)) }
+fn add(alloc: Global, words: &mut Words<'_>) -> Result<QuotaDeed, LineFault>
+    ensures { ReadsIn (λ deed. Quota deed) result (option_words quota_add (end words.old) (left words.old)) }
 {
     let thresholds = (ADD_THRESHOLD, ADD_NOTIFICATION);
     let options = (
         PATH,
         (LIMIT, (QUOTA_TYPE, (STATUS, (SOURCE_TEMPLATE, thresholds)))),
     );
-    let (path, (limit, (enforce, (enabled, (source_template, thresholds))))) = read_options(
+    let (path, (limit, (enforce, (enabled, (template, thresholds))))) = read_options(
         alloc, options, words,
     )?;
-    let (add_threshold, add_notification) = thresholds;
+    let (percents, notices) = thresholds;
     let path = required(path, words)?;
-    if limit.is_none() && source_template.is_none() {
+    if limit.is_none() && template.is_none() {
         return Err(LineFault::bad_line(words.end()));
     }
-    let deed = QuotaDeed::Add {
+    let thresholds = NewThresholds { percents, notices };
+    Ok(QuotaDeed::Add(NewQuota {
         path,
         limit,
         enforce,
         enabled: enabled.unwrap_or(true),
-        source_template,
-        add_threshold,
-        add_notification,
-    };
-    Ok(Deed::Quota(Boxed::new(alloc, deed)?))
+        template,
+        thresholds,
+    }))
 }
 
-fn modify(alloc: Global, words: &mut Words<'_>) -> Result<Deed, LineFault>
-    ensures { Reads result (option_words quota_modify (end words.old) (left words.old)) }
+fn modify(alloc: Global, words: &mut Words<'_>) -> Result<QuotaDeed, LineFault>
+    ensures { ReadsIn (λ deed. Quota deed) result (option_words quota_modify (end words.old) (left words.old)) }
 {
     let thresholds = (REMOVE_THRESHOLD, (ADD_THRESHOLD, ADD_NOTIFICATION));
     let options = (PATH, (LIMIT, (QUOTA_TYPE, (STATUS, thresholds))));
     let (path, (limit, (enforce, (enabled, thresholds)))) = read_options(alloc, options, words)?;
-    let (remove_threshold, (add_threshold, add_notification)) = thresholds;
+    let (removed, (percents, notices)) = thresholds;
     let path = required(path, words)?;
-    let deed = QuotaDeed::Modify {
+    let thresholds = NewThresholds { percents, notices };
+    Ok(QuotaDeed::Modify(QuotaChange {
         path,
         limit,
         enforce,
         enabled,
-        remove_threshold,
-        add_threshold,
-        add_notification,
-    };
-    Ok(Deed::Quota(Boxed::new(alloc, deed)?))
+        removed,
+        thresholds,
+    }))
 }
 
-fn list(alloc: Global, words: &mut Words<'_>) -> Result<Deed, LineFault>
-    ensures { Reads result (option_words quota_list (end words.old) (left words.old)) }
+fn list(alloc: Global, words: &mut Words<'_>) -> Result<QuotaDeed, LineFault>
+    ensures { ReadsIn (λ deed. Quota deed) result (option_words quota_list (end words.old) (left words.old)) }
 {
     let path = read_options(alloc, PATH, words)?;
-    Ok(Deed::Quota(Boxed::new(alloc, QuotaDeed::List { path })?))
+    Ok(QuotaDeed::List { path })
 }
 
 /// What the words after `dirquota quota` spell.
-pub fn quota(alloc: Global, words: &mut Words<'_>) -> Result<Deed, LineFault>
-    ensures { Reads result (named_word quota_commands (end words.old) (left words.old) (λ command more. option_words command (end words.old) more)) }
+pub fn quota(alloc: Global, words: &mut Words<'_>) -> Result<QuotaDeed, LineFault>
+    ensures { ReadsIn (λ deed. Quota deed) result (named_word quota_commands (end words.old) (left words.old) (λ command more. option_words command (end words.old) more)) }
 {
     let name = words.next(alloc)?;
     let word = name.text.as_str();
@@ -87,15 +86,15 @@ pub fn quota(alloc: Global, words: &mut Words<'_>) -> Result<Deed, LineFault>
     }
     if is_named("delete", word) {
         let path = path_alone(alloc, words)?;
-        return Ok(Deed::Quota(Boxed::new(alloc, QuotaDeed::Delete { path })?));
+        return Ok(QuotaDeed::Delete { path });
     }
     if is_named("scan", word) {
         let path = path_alone(alloc, words)?;
-        return Ok(Deed::Quota(Boxed::new(alloc, QuotaDeed::Scan { path })?));
+        return Ok(QuotaDeed::Scan { path });
     }
     if is_named("resetpeak", word) {
         let path = path_alone(alloc, words)?;
-        return Ok(Deed::Quota(Boxed::new(alloc, QuotaDeed::Resetpeak { path })?));
+        return Ok(QuotaDeed::Resetpeak { path });
     }
     if is_named("list", word) {
         return list(alloc, words);

@@ -1,9 +1,10 @@
 //! The commands on screens, each read from the options after its name.
 
 ghost use Rattle.std.specs.Prelude.{◌≡◌};
+ghost use Rattle.fsrm_model.specs.declared.command.Deed.TheVariants.{Screen};
 ghost use Rattle.fsrm_model.specs.Line.{option_words, named_word};
 ghost use Rattle.fsrm_model.specs.Tools.{screen_add, screen_commands, screen_modify};
-ghost use Rattle.tool_commands.specs.LineFaults.{Reads};
+ghost use Rattle.tool_commands.specs.LineFaults.{ReadsIn};
 ghost use Rattle.tool_commands.specs.Taking.{left, end};
 
 use crate::keys::{ADD_FILEGROUP, PATH, REMOVE_FILEGROUP, SCREEN_NOTIFICATION, SCREEN_TYPE};
@@ -12,45 +13,43 @@ use crate::paths::path_alone;
 use crate::reading::LineFault;
 use crate::values::is_named;
 use crate::words::Words;
-use fsrm_model::{Boxed, Deed, ScreenDeed};
+use fsrm_model::{NewScreen, ScreenChange, ScreenDeed};
 use std::alloc::Global;
 
-fn add(alloc: Global, words: &mut Words<'_>) -> Result<Deed, LineFault>
-    ensures { Reads result (option_words screen_add (end words.old) (left words.old)) }
+fn add(alloc: Global, words: &mut Words<'_>) -> Result<ScreenDeed, LineFault>
+    ensures { ReadsIn (λ deed. Screen deed) result (option_words screen_add (end words.old) (left words.old)) }
 {
     let options = (PATH, (SCREEN_TYPE, (ADD_FILEGROUP, SCREEN_NOTIFICATION)));
-    let (path, (active, (add_filegroup, add_notification))) = read_options(alloc, options, words)?;
+    let (path, (active, (groups, actions))) = read_options(alloc, options, words)?;
     let path = required(path, words)?;
-    if add_filegroup.is_empty() {
+    if groups.is_empty() {
         return Err(LineFault::bad_line(words.end()));
     }
-    let deed = ScreenDeed::Add {
+    Ok(ScreenDeed::Add(NewScreen {
         path,
         active: active.unwrap_or(true),
-        add_filegroup,
-        add_notification,
-    };
-    Ok(Deed::Screen(Boxed::new(alloc, deed)?))
+        groups,
+        actions,
+    }))
 }
 
-fn modify(alloc: Global, words: &mut Words<'_>) -> Result<Deed, LineFault>
-    ensures { Reads result (option_words screen_modify (end words.old) (left words.old)) }
+fn modify(alloc: Global, words: &mut Words<'_>) -> Result<ScreenDeed, LineFault>
+    ensures { ReadsIn (λ deed. Screen deed) result (option_words screen_modify (end words.old) (left words.old)) }
 {
     let options = (PATH, (SCREEN_TYPE, (REMOVE_FILEGROUP, ADD_FILEGROUP)));
-    let (path, (active, (remove_filegroup, add_filegroup))) = read_options(alloc, options, words)?;
+    let (path, (active, (removed, groups))) = read_options(alloc, options, words)?;
     let path = required(path, words)?;
-    let deed = ScreenDeed::Modify {
+    Ok(ScreenDeed::Modify(ScreenChange {
         path,
         active,
-        remove_filegroup,
-        add_filegroup,
-    };
-    Ok(Deed::Screen(Boxed::new(alloc, deed)?))
+        removed,
+        groups,
+    }))
 }
 
 /// What the words after `filescrn screen` spell.
-pub fn screen(alloc: Global, words: &mut Words<'_>) -> Result<Deed, LineFault>
-    ensures { Reads result (named_word screen_commands (end words.old) (left words.old) (λ command more. option_words command (end words.old) more)) }
+pub fn screen(alloc: Global, words: &mut Words<'_>) -> Result<ScreenDeed, LineFault>
+    ensures { ReadsIn (λ deed. Screen deed) result (named_word screen_commands (end words.old) (left words.old) (λ command more. option_words command (end words.old) more)) }
 {
     let name = words.next(alloc)?;
     let word = name.text.as_str();
@@ -62,11 +61,11 @@ pub fn screen(alloc: Global, words: &mut Words<'_>) -> Result<Deed, LineFault>
     }
     if is_named("delete", word) {
         let path = path_alone(alloc, words)?;
-        return Ok(Deed::Screen(Boxed::new(alloc, ScreenDeed::Delete { path })?));
+        return Ok(ScreenDeed::Delete { path });
     }
     if is_named("list", word) {
         words.finish()?;
-        return Ok(Deed::Screen(Boxed::new(alloc, ScreenDeed::List)?));
+        return Ok(ScreenDeed::List);
     }
     Err(LineFault::bad_line(name.column))
 }

@@ -15,7 +15,7 @@ use crate::screens::screen;
 use crate::templates::template;
 use crate::values::is_named;
 use crate::words::Words;
-use fsrm_model::Deed;
+use fsrm_model::{Boxed, Deed};
 use std::alloc::Global;
 
 /// What the words after `dirquota` spell.
@@ -26,13 +26,16 @@ pub fn dirquota(alloc: Global, words: &mut Words<'_>) -> Result<Deed, LineFault>
     let name = words.next(alloc)?;
     let word = name.text.as_str();
     if is_named("quota", word) {
-        return quota(alloc, words);
+        let deed = quota(alloc, words)?;
+        return Ok(Deed::Quota(Boxed::new(alloc, deed)?));
     }
     if is_named("template", word) {
-        return template(alloc, words);
+        let deed = template(alloc, words)?;
+        return Ok(Deed::Template(Boxed::new(alloc, deed)?));
     }
     if is_named("autoquota", word) {
-        return autoquota(alloc, words);
+        let deed = autoquota(alloc, words)?;
+        return Ok(Deed::Autoquota(Boxed::new(alloc, deed)?));
     }
     if is_named("admin", word) {
         return admin(alloc, words);
@@ -48,13 +51,16 @@ pub fn filescrn(alloc: Global, words: &mut Words<'_>) -> Result<Deed, LineFault>
     let name = words.next(alloc)?;
     let word = name.text.as_str();
     if is_named("filegroup", word) {
-        return filegroup(alloc, words);
+        let deed = filegroup(alloc, words)?;
+        return Ok(Deed::Filegroup(Boxed::new(alloc, deed)?));
     }
     if is_named("screen", word) {
-        return screen(alloc, words);
+        let deed = screen(alloc, words)?;
+        return Ok(Deed::Screen(Boxed::new(alloc, deed)?));
     }
     if is_named("exception", word) {
-        return exception(alloc, words);
+        let deed = exception(alloc, words)?;
+        return Ok(Deed::Exception(Boxed::new(alloc, deed)?));
     }
     Err(LineFault::bad_line(name.column))
 }

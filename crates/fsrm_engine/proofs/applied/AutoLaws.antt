@@ -14,6 +14,7 @@ use Rattle.fsrm_model.specs.declared.command.Answer.{Answer}
 use Rattle.fsrm_model.specs.declared.command.AutoquotaDeed.TheVariants.{Add as AutoquotaAdd, Delete as AutoquotaDelete}
 use Rattle.fsrm_model.specs.declared.command.Deed.{Deed}
 use Rattle.fsrm_model.specs.declared.command.Deed.TheVariants.{Autoquota}
+use Rattle.fsrm_model.specs.declared.command.NewAutoquota.{NewAutoquota}
 use Rattle.fsrm_model.specs.declared.command.Outcome.TheVariants.{Done}
 use Rattle.fsrm_model.specs.declared.command.Refusal.{Refusal}
 use Rattle.fsrm_model.specs.declared.command.Refusal.TheVariants as refusal
@@ -168,13 +169,13 @@ applies_none p row count h =
     record { few = ge_is _ _ parts.0; short = ge_is _ _ parts.1 }
 
 -- ---- a new auto-apply quota
-module _ (p : Parts) (m : ℕ) (path : List (List ℕ)) (name : List ℕ) (excluded : List (List ℕ)) where
+module _ (p : Parts) (m : ℕ) (values : NewAutoquota) where
   abbrev deed : Deed
-  deed = Autoquota (AutoquotaAdd path name excluded)
+  deed = Autoquota (AutoquotaAdd values)
 
   -- the rows with it, and the quotas that it gives
   abbrev with_it : ℕ → ℕ → Rows
-  with_it n template = rows_of (ruled p (with_auto p.templates (new_auto n template excluded)))
+  with_it n template = rows_of (ruled p (with_auto p.templates (new_auto n template values.excluded)))
 
   abbrev after : ℕ → ℕ → List QuotaRow → Rows
   after n template coming = with_quotas (with_it n template) coming
@@ -188,29 +189,29 @@ module _ (p : Parts) (m : ℕ) (path : List (List ℕ)) (name : List ℕ) (exclu
   abbrev later : ℕ → List Check
   later n =
       (refusal.AlreadyExists when is_some (auto_of (rows_of p) n))
-      ∷ (refusal.NotFound when is_none (template_named p.templates.templates name))
-      ∷ checks n (number_in (template_named p.templates.templates name)) (coming n (number_in (template_named p.templates.templates name)))
+      ∷ (refusal.NotFound when is_none (template_named p.templates.templates values.template))
+      ∷ checks n (number_in (template_named p.templates.templates values.template)) (coming n (number_in (template_named p.templates.templates values.template)))
 
-  on_it : (n : ℕ) → IsFolder p.tree.nodes path n → due p m deed ≡ first (later n)
-  on_it n at = on_folder (rows_of p) path n later at
+  on_it : (n : ℕ) → IsFolder p.tree.nodes values.path n → due p m deed ≡ first (later n)
+  on_it n at = on_folder (rows_of p) values.path n later at
 
-  pub auto_missing : leads_to_folder p.tree.nodes path ≡ false → due p m deed ≡ Some refusal.PathNotFound
-  auto_missing h = missing p.tree.nodes path (later (target p.tree.nodes path)) h
+  pub auto_missing : leads_to_folder p.tree.nodes values.path ≡ false → due p m deed ≡ Some refusal.PathNotFound
+  auto_missing h = missing p.tree.nodes values.path (later (target p.tree.nodes values.path)) h
 
-  pub auto_taken : (n : ℕ) → IsFolder p.tree.nodes path n → is_some (auto_of (rows_of p) n) ≡ true → due p m deed ≡ Some refusal.AlreadyExists
+  pub auto_taken : (n : ℕ) → IsFolder p.tree.nodes values.path n → is_some (auto_of (rows_of p) n) ≡ true → due p m deed ≡ Some refusal.AlreadyExists
   auto_taken n at taken =
       on_it n at
-      ∙ ap (λ b. first ((refusal.AlreadyExists when b) ∷ (refusal.NotFound when is_none (template_named p.templates.templates name)) ∷ checks n (number_in (template_named p.templates.templates name)) (coming n (number_in (template_named p.templates.templates name))))) taken
+      ∙ ap (λ b. first ((refusal.AlreadyExists when b) ∷ (refusal.NotFound when is_none (template_named p.templates.templates values.template)) ∷ checks n (number_in (template_named p.templates.templates values.template)) (coming n (number_in (template_named p.templates.templates values.template))))) taken
 
-  pub auto_unknown : (n : ℕ) → IsFolder p.tree.nodes path n → is_some (auto_of (rows_of p) n) ≡ false → template_named p.templates.templates name ≡ None → due p m deed ≡ Some refusal.NotFound
+  pub auto_unknown : (n : ℕ) → IsFolder p.tree.nodes values.path n → is_some (auto_of (rows_of p) n) ≡ false → template_named p.templates.templates values.template ≡ None → due p m deed ≡ Some refusal.NotFound
   auto_unknown n at free unknown =
       on_it n at
-      ∙ (ap (λ b. first ((refusal.AlreadyExists when b) ∷ (refusal.NotFound when is_none (template_named p.templates.templates name)) ∷ checks n (number_in (template_named p.templates.templates name)) (coming n (number_in (template_named p.templates.templates name))))) free
+      ∙ (ap (λ b. first ((refusal.AlreadyExists when b) ∷ (refusal.NotFound when is_none (template_named p.templates.templates values.template)) ∷ checks n (number_in (template_named p.templates.templates values.template)) (coming n (number_in (template_named p.templates.templates values.template))))) free
       ∙ ap (λ (o : Option TemplateRow). first ((refusal.NotFound when is_none o) ∷ checks n (number_in o) (coming n (number_in o)))) unknown)
 
-  module _ (n : ℕ) (t : TemplateRow) (w : IsWhole p) (at : IsFolder p.tree.nodes path n) (free : is_some (auto_of (rows_of p) n) ≡ false) (named : template_named p.templates.templates name ≡ Some t) (source : template_of p.templates.templates t.number ≡ Some t) where
+  module _ (n : ℕ) (t : TemplateRow) (w : IsWhole p) (at : IsFolder p.tree.nodes values.path n) (free : is_some (auto_of (rows_of p) n) ≡ false) (named : template_named p.templates.templates values.template ≡ Some t) (source : template_of p.templates.templates t.number ≡ Some t) where
     abbrev row : AutoRow
-    row = new_auto n t.number excluded
+    row = new_auto n t.number values.excluded
 
     abbrev folders : List ℕ
     folders = given_folders p.tree.nodes p.objects.quotas row
@@ -257,7 +258,7 @@ module _ (p : Parts) (m : ℕ) (path : List (List ℕ)) (name : List ℕ) (exclu
     pub auto_due : due p m deed ≡ apply_refusal p row (length folders)
     auto_due =
         on_it n at
-        ∙ (ap (λ b. first ((refusal.AlreadyExists when b) ∷ (refusal.NotFound when is_none (template_named p.templates.templates name)) ∷ checks n (number_in (template_named p.templates.templates name)) (coming n (number_in (template_named p.templates.templates name))))) free
+        ∙ (ap (λ b. first ((refusal.AlreadyExists when b) ∷ (refusal.NotFound when is_none (template_named p.templates.templates values.template)) ∷ checks n (number_in (template_named p.templates.templates values.template)) (coming n (number_in (template_named p.templates.templates values.template))))) free
         ∙ (ap (λ (o : Option TemplateRow). first ((refusal.NotFound when is_none o) ∷ checks n (number_in o) (coming n (number_in o)))) named
         ∙ (ap (λ (quotas : List QuotaRow). first (checks n t.number quotas)) coming_are
         ∙ (ap (λ a. three a (nat_lt most_quotas (length (fold quotas_with p.objects.quotas rows))) (nat_lt most_text_bytes (object_texts (after n t.number rows)))) autos
@@ -267,7 +268,7 @@ module _ (p : Parts) (m : ℕ) (path : List (List ℕ)) (name : List ℕ) (exclu
 
     made : (asked p m deed).effect ≡ after n t.number rows
     made =
-        ap (λ k. after k (number_in (template_named p.templates.templates name)) (coming k (number_in (template_named p.templates.templates name)))) (target_is p.tree.nodes path n at.resolved)
+        ap (λ k. after k (number_in (template_named p.templates.templates values.template)) (coming k (number_in (template_named p.templates.templates values.template)))) (target_is p.tree.nodes values.path n at.resolved)
         ∙ (ap (λ (o : Option TemplateRow). after n (number_in o) (coming n (number_in o))) named
         ∙ ap (after n t.number) coming_are)
 
@@ -300,19 +301,19 @@ module _ (p : Parts) (m : ℕ) (path : List (List ℕ)) (name : List ℕ) (exclu
         short h = omega (arith, h, sum_by-with_row auto_folder auto_bytes row p.templates.autos)
 
 -- by the row that was made, its folders and its quotas
-module _ (p : Parts) (m : ℕ) (path : List (List ℕ)) (name : List ℕ) (excluded : List (List ℕ)) (n number : ℕ) (w : IsWhole p) (at : IsFolder p.tree.nodes path n) (free : is_some (auto_of (rows_of p) n) ≡ false) (source : IsSource p name number) (row : AutoRow) (row_is : row ≡ new_auto n number excluded) (folders : List ℕ) (folders_are : folders ≡ given_folders p.tree.nodes p.objects.quotas row) where
+module _ (p : Parts) (m : ℕ) (values : NewAutoquota) (n number : ℕ) (w : IsWhole p) (at : IsFolder p.tree.nodes values.path n) (free : is_some (auto_of (rows_of p) n) ≡ false) (source : IsSource p values.template number) (row : AutoRow) (row_is : row ≡ new_auto n number values.excluded) (folders : List ℕ) (folders_are : folders ≡ given_folders p.tree.nodes p.objects.quotas row) where
   abbrev own : AutoRow
-  own = new_auto n source.row.number excluded
+  own = new_auto n source.row.number values.excluded
 
   same_row : row ≡ own
-  same_row = row_is ∙ ap (λ k. new_auto n k excluded) source.number_is
+  same_row = row_is ∙ ap (λ k. new_auto n k values.excluded) source.number_is
 
   same_folders : folders ≡ given_folders p.tree.nodes p.objects.quotas own
   same_folders = folders_are ∙ ap (given_folders p.tree.nodes p.objects.quotas) same_row
 
-  pub row_due : due p m (Autoquota (AutoquotaAdd path name excluded)) ≡ apply_refusal p row (length folders)
+  pub row_due : due p m (Autoquota (AutoquotaAdd values)) ≡ apply_refusal p row (length folders)
   row_due =
-      auto_due p m path name excluded n source.row w at free source.named source.found
+      auto_due p m values n source.row w at free source.named source.found
       ∙ (ap (λ (fs : List ℕ). apply_refusal p own (length fs)) (sym same_folders)
       ∙ ap (λ (r : AutoRow). apply_refusal p r (length folders)) (sym same_row))
 
@@ -337,12 +338,12 @@ module _ (p : Parts) (m : ℕ) (path : List (List ℕ)) (name : List ℕ) (exclu
       fits.few
       (omega (arith, fits.short, bytes, sum_by-with_row auto_folder auto_bytes row p.templates.autos))
 
-  pub row_added : (mid new : Parts) (answer : Answer) (rows : List QuotaRow) (room : ℕ) → IsIdle p → p.last_moment ≤ m → m ≤ latest_moment → apply_refusal p row (length folders) ≡ None → rows ≡ derived_rows p.tree.nodes source.row m folders → Turned (record (ruled p (with_auto p.templates row)) { objects = record p.objects { room = room } }) mid (fold quotas_with p.objects.quotas rows) (fold queue_with p.scans.queue rows) → new ≡ ended mid m → answer ≡ record { outcome = Done None; lasting = true } → Does p new m (Autoquota (AutoquotaAdd path name excluded)) answer
+  pub row_added : (mid new : Parts) (answer : Answer) (rows : List QuotaRow) (room : ℕ) → IsIdle p → p.last_moment ≤ m → m ≤ latest_moment → apply_refusal p row (length folders) ≡ None → rows ≡ derived_rows p.tree.nodes source.row m folders → Turned (record (ruled p (with_auto p.templates row)) { objects = record p.objects { room = room } }) mid (fold quotas_with p.objects.quotas rows) (fold queue_with p.scans.queue rows) → new ≡ ended mid m → answer ≡ record { outcome = Done None; lasting = true } → Does p new m (Autoquota (AutoquotaAdd values)) answer
   row_added mid new answer rows room idle after late may rows_are t ends e =
       let nodes = p.tree.nodes in
       let same : rows ≡ derived_rows nodes source.row m (given_folders nodes p.objects.quotas own) = rows_are ∙ ap (derived_rows nodes source.row m) same_folders in
-      auto_added p m path name excluded n source.row w at free source.named source.found mid new answer room idle after
-      (sym (auto_due p m path name excluded n source.row w at free source.named source.found) ∙ (row_due ∙ may))
+      auto_added p m values n source.row w at free source.named source.found mid new answer room idle after
+      (sym (auto_due p m values n source.row w at free source.named source.found) ∙ (row_due ∙ may))
       (subst (λ (r : AutoRow). AreComing (ruled p (with_auto p.templates r)) (derived_rows nodes source.row m (given_folders nodes p.objects.quotas own))) same_row
       (subst (λ (fs : List ℕ). AreComing (ruled p (with_auto p.templates row)) (derived_rows nodes source.row m fs)) same_folders (row_coming late may)))
       (subst (λ (r : AutoRow). Turned (record (ruled p (with_auto p.templates r)) { objects = record p.objects { room = room } }) mid (fold quotas_with p.objects.quotas (derived_rows nodes source.row m (given_folders nodes p.objects.quotas own))) (fold queue_with p.scans.queue (derived_rows nodes source.row m (given_folders nodes p.objects.quotas own)))) same_row

@@ -17,7 +17,9 @@ use Rattle.fsrm_base.proofs.TestLaws.{both}
 use Rattle.fsrm_model.specs.declared.command.Answer.{Answer}
 use Rattle.fsrm_model.specs.declared.command.Deed.{Deed}
 use Rattle.fsrm_model.specs.declared.command.Deed.TheVariants.{Filegroup}
+use Rattle.fsrm_model.specs.declared.command.FilegroupChange.{FilegroupChange}
 use Rattle.fsrm_model.specs.declared.command.FilegroupDeed.TheVariants.{Add as FilegroupAdd, Modify as FilegroupModify, Delete as FilegroupDelete}
+use Rattle.fsrm_model.specs.declared.command.NewFilegroup.{NewFilegroup}
 use Rattle.fsrm_model.specs.declared.command.Outcome.TheVariants.{Done}
 use Rattle.fsrm_model.specs.declared.command.Refusal.{Refusal}
 use Rattle.fsrm_model.specs.declared.command.Refusal.TheVariants as refusal
@@ -111,37 +113,37 @@ three false true c = refl
 three false false true = refl
 three false false false = refl
 
-add_due : (p : Parts) (m : ℕ) (name : List ℕ) (members non_members : List (List ℕ)) → IsWhole p → due p m (Filegroup (FilegroupAdd name members non_members)) ≡ option_and_then group_refusal (group_fault p.groups (new_group p.groups name members non_members) (text_room p))
-add_due p m name members non_members w =
+add_due : (p : Parts) (m : ℕ) (values : NewFilegroup) → IsWhole p → due p m (Filegroup (FilegroupAdd values)) ≡ option_and_then group_refusal (group_fault p.groups (new_group p.groups values.name values.members values.non_members) (text_room p))
+add_due p m values w =
     let groups = p.groups in
-    let row = new_group groups name members non_members in
+    let row = new_group groups values.name values.members values.non_members in
     let grown = with_group row groups in
     let test : Bool → Bool → Bool → Option Refusal =
     λ a b c. first ((refusal.DuplicateName when a) ∷ (refusal.TableFull when b) ∷ (refusal.TextsFull when c) ∷ []) in
     let long = nat_lt most_text_bytes (object_texts (record (rows_of p) { groups = grown })) in
-    let taken : is_group_named (rows_of p) name ≡ list_any (has_name name) groups = is_some-mapped group_number (find (has_name name) groups) ∙ is_some-find (has_name name) groups in
+    let taken : is_group_named (rows_of p) values.name ≡ list_any (has_name values.name) groups = is_some-mapped group_number (find (has_name values.name) groups) ∙ is_some-find (has_name values.name) groups in
     let full : nat_lt most_groups (length grown) ≡ nat_le most_groups (length groups) = full_test most_groups (length groups) (length grown) (length-with_row group_number row groups) in
     let whole = all_texts p grown in
     let sum : group_texts grown ≡ group_bytes row + group_texts groups = sum_by-with_row group_number group_bytes row groups in
     let bytes : long ≡ nat_lt (text_room p) (group_bytes row) = room_test most_text_bytes (texts_of p) (group_bytes row) (object_texts (record (rows_of p) { groups = grown })) (few_texts p w) (omega (arith, whole, sum)) in
     ap (λ a. test a (nat_lt most_groups (length grown)) long) taken
-    ∙ (ap (λ b. test (list_any (has_name name) groups) b long) full
-    ∙ (ap (test (list_any (has_name name) groups) (nat_le most_groups (length groups))) bytes
-    ∙ three (list_any (has_name name) groups) (nat_le most_groups (length groups)) (nat_lt (text_room p) (group_bytes row))))
+    ∙ (ap (λ b. test (list_any (has_name values.name) groups) b long) full
+    ∙ (ap (test (list_any (has_name values.name) groups) (nat_le most_groups (length groups))) bytes
+    ∙ three (list_any (has_name values.name) groups) (nat_le most_groups (length groups)) (nat_lt (text_room p) (group_bytes row))))
 
 -- by the values that were given to the table
-module _ (p : Parts) (m : ℕ) (name lent : List ℕ) (members non_members given others : List (List ℕ)) (room : ℕ) (w : IsWhole p) (idle : IsIdle p) (after : p.last_moment ≤ m) (name_is : lent ≡ name) (given_is : given ≡ members) (others_are : others ≡ non_members) (room_is : room ≡ text_room p) where
+module _ (p : Parts) (m : ℕ) (values : NewFilegroup) (lent : List ℕ) (given others : List (List ℕ)) (room : ℕ) (w : IsWhole p) (idle : IsIdle p) (after : p.last_moment ≤ m) (name_is : lent ≡ values.name) (given_is : given ≡ values.members) (others_are : others ≡ values.non_members) (room_is : room ≡ text_room p) where
   abbrev deed : Deed
-  deed = Filegroup (FilegroupAdd name members non_members)
+  deed = Filegroup (FilegroupAdd values)
 
-  same_row : new_group p.groups lent given others ≡ new_group p.groups name members non_members
+  same_row : new_group p.groups lent given others ≡ new_group p.groups values.name values.members values.non_members
   same_row =
       ap (λ n. new_group p.groups n given others) name_is
-      ∙ (ap (λ texts. new_group p.groups name texts others) given_is ∙ ap (new_group p.groups name members) others_are)
+      ∙ (ap (λ texts. new_group p.groups values.name texts others) given_is ∙ ap (new_group p.groups values.name values.members) others_are)
 
   add_is : due p m deed ≡ option_and_then group_refusal (group_fault p.groups (new_group p.groups lent given others) room)
   add_is =
-      add_due p m name members non_members w
+      add_due p m values w
       ∙ (ap (λ row. option_and_then group_refusal (group_fault p.groups row (text_room p))) (sym same_row)
       ∙ ap (λ r. option_and_then group_refusal (group_fault p.groups (new_group p.groups lent given others) r)) (sym room_is))
 
@@ -154,9 +156,9 @@ module _ (p : Parts) (m : ℕ) (name lent : List ℕ) (members non_members given
   group_unadded groups fault result is same told = refused_by p m deed groups fault _ result idle after add_is is same told
 
 -- ---- a group by its name
-pub group_missing : (p : Parts) (m : ℕ) (name : List ℕ) (members non_members : Option (List (List ℕ))) → number_named name p.groups ≡ None → due p m (Filegroup (FilegroupModify name members non_members)) ≡ Some refusal.NotFound
-group_missing p m name members non_members h =
-    ap (λ o. first ((refusal.NotFound when not (is_some o)) ∷ texts_full (record (rows_of p) { groups = with_patterns (unwrap_or o 0) members non_members p.groups }) ∷ [])) h
+pub group_missing : (p : Parts) (m : ℕ) (values : FilegroupChange) → number_named values.name p.groups ≡ None → due p m (Filegroup (FilegroupModify values)) ≡ Some refusal.NotFound
+group_missing p m values h =
+    ap (λ o. first ((refusal.NotFound when not (is_some o)) ∷ texts_full (record (rows_of p) { groups = with_patterns (unwrap_or o 0) values.members values.non_members p.groups }) ∷ [])) h
 
 pub group_gone : (p : Parts) (m : ℕ) (name : List ℕ) → number_named name p.groups ≡ None → due p m (Filegroup (FilegroupDelete name)) ≡ Some refusal.NotFound
 group_gone p m name h = ap (λ o. first ((refusal.NotFound when not (is_some o)) ∷ (refusal.InUse when is_used (rows_of p) (unwrap_or o 0)) ∷ [])) h
@@ -166,33 +168,33 @@ one : (b : Bool) → first ((refusal.TextsFull when b) ∷ []) ≡ option_and_th
 one true = refl
 one false = refl
 
-modify_due : (p : Parts) (m : ℕ) (name : List ℕ) (members non_members : Option (List (List ℕ))) (n : ℕ) → IsWhole p → number_named name p.groups ≡ Some n → has_row group_number n p.groups ≡ true → due p m (Filegroup (FilegroupModify name members non_members)) ≡ option_and_then group_refusal (patterns_fault p.groups n members non_members (text_room p))
-modify_due p m name members non_members n w h has =
+modify_due : (p : Parts) (m : ℕ) (values : FilegroupChange) (n : ℕ) → IsWhole p → number_named values.name p.groups ≡ Some n → has_row group_number n p.groups ≡ true → due p m (Filegroup (FilegroupModify values)) ≡ option_and_then group_refusal (patterns_fault p.groups n values.members values.non_members (text_room p))
+modify_due p m values n w h has =
     let groups = p.groups in
     let f = has_found group_number n groups has in
     let old = f.row in
-    let row = regrouped members non_members old in
-    let changed = with_patterns n members non_members groups in
+    let row = regrouped values.members values.non_members old in
+    let changed = with_patterns n values.members values.non_members groups in
     let whole = all_texts p changed in
-    let sum : group_texts changed + group_bytes old ≡ group_texts groups + group_bytes row = sum_by-with_change group_number group_bytes n (regrouped members non_members) old groups (groups_ascend p w) f.is in
+    let sum : group_texts changed + group_bytes old ≡ group_texts groups + group_bytes row = sum_by-with_change group_number group_bytes n (regrouped values.members values.non_members) old groups (groups_ascend p w) f.is in
     let bytes : nat_lt most_text_bytes (object_texts (record (rows_of p) { groups = changed })) ≡ nat_lt (text_room p + group_bytes old) (group_bytes row) =
     room_other most_text_bytes (texts_of p) (group_bytes old) (group_bytes row) (object_texts (record (rows_of p) { groups = changed })) (few_texts p w) (omega (arith, whole, sum)) in
-    ap (λ o. first ((refusal.NotFound when not (is_some o)) ∷ texts_full (record (rows_of p) { groups = with_patterns (unwrap_or o 0) members non_members groups }) ∷ [])) h
+    ap (λ o. first ((refusal.NotFound when not (is_some o)) ∷ texts_full (record (rows_of p) { groups = with_patterns (unwrap_or o 0) values.members values.non_members groups }) ∷ [])) h
     ∙ (ap (λ b. first ((refusal.TextsFull when b) ∷ [])) bytes
     ∙ (one (nat_lt (text_room p + group_bytes old) (group_bytes row))
-    ∙ ap (λ o. option_and_then group_refusal (option_map_or (λ (g : GroupRow). group.TextsFull when nat_lt (text_room p + group_bytes g) (group_bytes (regrouped members non_members g))) o None)) (sym f.is)))
+    ∙ ap (λ o. option_and_then group_refusal (option_map_or (λ (g : GroupRow). group.TextsFull when nat_lt (text_room p + group_bytes g) (group_bytes (regrouped values.members values.non_members g))) o None)) (sym f.is)))
 
-module _ (p : Parts) (m : ℕ) (name lent : List ℕ) (members non_members given others : Option (List (List ℕ))) (n room : ℕ) (w : IsWhole p) (idle : IsIdle p) (after : p.last_moment ≤ m) (name_is : lent ≡ name) (found : Some n ≡ number_named lent p.groups) (has : has_row group_number n p.groups ≡ true) (given_is : given ≡ members) (others_are : others ≡ non_members) (room_is : room ≡ text_room p) where
+module _ (p : Parts) (m : ℕ) (values : FilegroupChange) (lent : List ℕ) (given others : Option (List (List ℕ))) (n room : ℕ) (w : IsWhole p) (idle : IsIdle p) (after : p.last_moment ≤ m) (name_is : lent ≡ values.name) (found : Some n ≡ number_named lent p.groups) (has : has_row group_number n p.groups ≡ true) (given_is : given ≡ values.members) (others_are : others ≡ values.non_members) (room_is : room ≡ text_room p) where
   abbrev change : Deed
-  change = Filegroup (FilegroupModify name members non_members)
+  change = Filegroup (FilegroupModify values)
 
-  named : number_named name p.groups ≡ Some n
+  named : number_named values.name p.groups ≡ Some n
   named = ap (λ k. number_named k p.groups) (sym name_is) ∙ sym found
 
   modify_is : due p m change ≡ option_and_then group_refusal (patterns_fault p.groups n given others room)
   modify_is =
-      modify_due p m name members non_members n w named has
-      ∙ (ap (λ texts. option_and_then group_refusal (patterns_fault p.groups n texts non_members (text_room p))) (sym given_is)
+      modify_due p m values n w named has
+      ∙ (ap (λ texts. option_and_then group_refusal (patterns_fault p.groups n texts values.non_members (text_room p))) (sym given_is)
       ∙ (ap (λ texts. option_and_then group_refusal (patterns_fault p.groups n given texts (text_room p))) (sym others_are)
       ∙ ap (λ r. option_and_then group_refusal (patterns_fault p.groups n given others r)) (sym room_is)))
 
@@ -200,8 +202,8 @@ module _ (p : Parts) (m : ℕ) (name lent : List ℕ) (members non_members given
   group_changed new groups answer may is ends e =
       retabled_as p groups p.objects w refl new m change answer idle after (modify_is ∙ ap (option_and_then group_refusal) may)
       (ap (λ gs. record (rows_of p) { groups = gs })
-      (ap (λ o. with_patterns (unwrap_or o 0) members non_members p.groups) named
-      ∙ (ap (λ texts. with_patterns n texts non_members p.groups) (sym given_is)
+      (ap (λ o. with_patterns (unwrap_or o 0) values.members values.non_members p.groups) named
+      ∙ (ap (λ texts. with_patterns n texts values.non_members p.groups) (sym given_is)
       ∙ (ap (λ texts. with_patterns n given texts p.groups) (sym others_are) ∙ sym is)))) refl refl ends e
 
   pub group_unchanged : (groups : List GroupRow) (fault : GroupFault) (result : Result Answer Wanting) → IsFault fault (patterns_fault p.groups n given others room) → groups ≡ p.groups → IfOk result (λ answer. group_answer fault ≡ Some answer) → IfOk result (λ answer. Does p (record p { groups = groups }) m change answer)

@@ -12,10 +12,10 @@ use Rattle.fsrm_base.proofs.EditedRows.{sum_by-with_row, sum_by-with_change}
 use Rattle.fsrm_base.proofs.Look.{is_some-find}
 use Rattle.fsrm_base.proofs.Order.{length-with_row}
 use Rattle.fsrm_base.proofs.TestLaws.{both, both_true}
-use Rattle.fsrm_model.specs.declared.command.Added.{Added}
 use Rattle.fsrm_model.specs.declared.command.Answer.{Answer}
 use Rattle.fsrm_model.specs.declared.command.Deed.{Deed}
 use Rattle.fsrm_model.specs.declared.command.Deed.TheVariants.{Quota}
+use Rattle.fsrm_model.specs.declared.command.QuotaChange.{QuotaChange}
 use Rattle.fsrm_model.specs.declared.command.QuotaDeed.TheVariants.{Modify as QuotaModify}
 use Rattle.fsrm_model.specs.declared.command.Refusal.{Refusal}
 use Rattle.fsrm_model.specs.declared.command.Refusal.TheVariants as refusal
@@ -28,7 +28,7 @@ use Rattle.fsrm_model.specs.Check.{Check, table_full, texts_full}
 use Rattle.fsrm_model.specs.Limits.{most_quotas, most_text_bytes, longest_action_text}
 use Rattle.fsrm_model.specs.Quota.{folder_of, quota_of}
 use Rattle.fsrm_model.specs.QuotaStates.{in_state, state_after, with_quota, with_state}
-use Rattle.fsrm_model.specs.QuotaWork.{modified, remarked, thresholds_of}
+use Rattle.fsrm_model.specs.QuotaWork.{changed_by, thresholds_of}
 use Rattle.fsrm_model.specs.Text.{is_bare}
 use Rattle.fsrm_model.specs.Texts.{object_texts, quota_bytes}
 use Rattle.fsrm_model.specs.Thresholds.{are_minutes, are_thresholds, are_too_many, changed_thresholds, is_action, is_action_text, is_kept_action, is_percent, is_printing, is_threshold, may_be_removed, percent_of}
@@ -144,29 +144,32 @@ abbrev other_checks : List ℕ → List Threshold → List Threshold → Rows �
 other_checks removed thresholds changed after =
     (refusal.NotFound when not (may_be_removed removed thresholds)) ∷ (refusal.OutOfRange when are_too_many changed) ∷ texts_full after ∷ []
 
-module _ (p : Parts) (m : ℕ) (path : List (List ℕ)) (limit : Option ℕ) (enforce enabled : Option Bool) (removed percents : List ℕ) (notices : List Added) (q : QuotaRow) (at : IsQuotaAt p.tree.nodes p.objects.quotas path q) where
+module _ (p : Parts) (m : ℕ) (given : QuotaChange) (q : QuotaRow) (at : IsQuotaAt p.tree.nodes p.objects.quotas given.path q) where
   abbrev change : QuotaRow → QuotaRow
-  change quota = remarked removed percents notices (modified limit enforce quota)
+  change = changed_by given
+
+  abbrev marked : List Threshold → List Threshold
+  marked = changed_thresholds given.removed given.thresholds.percents given.thresholds.notices
 
   abbrev after : ℕ → Rows
-  after k = with_state (record (rows_of p) { quotas = with_change folder_of k change p.objects.quotas }) k (state_after (rows_of p) k enabled)
+  after k = with_state (record (rows_of p) { quotas = with_change folder_of k change p.objects.quotas }) k (state_after (rows_of p) k given.enabled)
 
-  own : due p m (Quota (QuotaModify path limit enforce enabled removed percents notices)) ≡ first (other_checks removed q.thresholds (changed_thresholds removed percents notices q.thresholds) (after q.folder))
+  own : due p m (Quota (QuotaModify given)) ≡ first (other_checks given.removed q.thresholds (marked q.thresholds) (after q.folder))
   own =
-      checked (rows_of p) path q.folder false (λ k. other_checks removed (thresholds_of (rows_of p) k) (changed_thresholds removed percents notices (thresholds_of (rows_of p) k)) (after k)) at.at (ap is_none at.found)
-      ∙ ap (λ o. first (other_checks removed (option_map_or (λ (r : QuotaRow). r.thresholds) o []) (changed_thresholds removed percents notices (option_map_or (λ (r : QuotaRow). r.thresholds) o [])) (after q.folder))) at.found
+      checked (rows_of p) given.path q.folder false (λ k. other_checks given.removed (thresholds_of (rows_of p) k) (marked (thresholds_of (rows_of p) k)) (after k)) at.at (ap is_none at.found)
+      ∙ ap (λ o. first (other_checks given.removed (option_map_or (λ (r : QuotaRow). r.thresholds) o []) (marked (option_map_or (λ (r : QuotaRow). r.thresholds) o [])) (after q.folder))) at.found
 
-  pub modify_missing : may_be_removed removed q.thresholds ≡ false → due p m (Quota (QuotaModify path limit enforce enabled removed percents notices)) ≡ Some refusal.NotFound
+  pub modify_missing : may_be_removed given.removed q.thresholds ≡ false → due p m (Quota (QuotaModify given)) ≡ Some refusal.NotFound
   modify_missing h =
-      own ∙ ap (λ b. first ((refusal.NotFound when not b) ∷ (refusal.OutOfRange when are_too_many (changed_thresholds removed percents notices q.thresholds)) ∷ texts_full (after q.folder) ∷ [])) h
+      own ∙ ap (λ b. first ((refusal.NotFound when not b) ∷ (refusal.OutOfRange when are_too_many (marked q.thresholds)) ∷ texts_full (after q.folder) ∷ [])) h
 
-  pub modify_due : (state : QuotaState) (row : QuotaRow) → IsWhole p → may_be_removed removed q.thresholds ≡ true → state ≡ state_after (rows_of p) q.folder enabled → row ≡ in_state state (change q) → due p m (Quota (QuotaModify path limit enforce enabled removed percents notices)) ≡ option_and_then table_refusal (other_fault p.objects row (text_room p))
+  pub modify_due : (state : QuotaState) (row : QuotaRow) → IsWhole p → may_be_removed given.removed q.thresholds ≡ true → state ≡ state_after (rows_of p) q.folder given.enabled → row ≡ in_state state (change q) → due p m (Quota (QuotaModify given)) ≡ option_and_then table_refusal (other_fault p.objects row (text_room p))
   modify_due state row w may state_is is =
       let n = q.folder in
       let quotas = p.objects.quotas in
       let asc = w.sound.counted.are_quotas.ascending in
       let b = q.thresholds in
-      let changed = changed_thresholds removed percents notices b in
+      let changed = marked b in
       let test : Bool → Option Refusal = λ c. first ((refusal.OutOfRange when are_too_many changed) ∷ (refusal.TextsFull when c) ∷ []) in
       let put : List QuotaRow = with_change folder_of n (λ old. in_state state (change q)) quotas in
       let put_is : (after n).quotas ≡ put =

@@ -21,9 +21,12 @@ use Rattle.fsrm_model.specs.declared.command.Answer.{Answer}
 use Rattle.fsrm_model.specs.declared.command.Deed.{Deed}
 use Rattle.fsrm_model.specs.declared.command.Deed.TheVariants.{Screen, Exception}
 use Rattle.fsrm_model.specs.declared.command.ExceptionDeed.TheVariants.{Add as ExceptionAdd, Delete as ExceptionDelete}
+use Rattle.fsrm_model.specs.declared.command.NewException.{NewException}
+use Rattle.fsrm_model.specs.declared.command.NewScreen.{NewScreen}
 use Rattle.fsrm_model.specs.declared.command.Outcome.TheVariants.{Done}
 use Rattle.fsrm_model.specs.declared.command.Refusal.{Refusal}
 use Rattle.fsrm_model.specs.declared.command.Refusal.TheVariants as refusal
+use Rattle.fsrm_model.specs.declared.command.ScreenChange.{ScreenChange}
 use Rattle.fsrm_model.specs.declared.command.ScreenDeed.TheVariants.{Add as ScreenAdd, Modify as ScreenModify, Delete as ScreenDelete}
 use Rattle.fsrm_model.specs.declared.row.Action.{Action}
 use Rattle.fsrm_model.specs.declared.row.ExceptRow.{ExceptRow}
@@ -178,30 +181,30 @@ passed a b more h g =
     ∙ ap (λ b. first ((object.InvalidCombination when b) ∷ more)) g
 
 -- ---- a new screen
-module _ (p : Parts) (m : ℕ) (path : List (List ℕ)) (active : Bool) (names : List (List ℕ)) (actions : List Action) (n : ℕ) (at : IsFolder p.tree.nodes path n) where
+module _ (p : Parts) (m : ℕ) (values : NewScreen) (n : ℕ) (at : IsFolder p.tree.nodes values.path n) where
   abbrev deed : Deed
-  deed = Screen (ScreenAdd path active names actions)
+  deed = Screen (ScreenAdd values)
 
   abbrev groups : List ℕ
-  groups = fold with_last [] (numbers_named p.groups names)
+  groups = fold with_last [] (numbers_named p.groups values.groups)
 
   abbrev row_at : ℕ → ScreenRow
-  row_at k = new_screen k active groups actions
+  row_at k = new_screen k values.active groups values.actions
 
   abbrev after : ℕ → Rows
   after k = record (rows_of p) { screens = with_row screen_folder (row_at k) p.objects.screens }
 
   abbrev late : ℕ → List Check
-  late k = (refusal.OutOfRange when (are_many_groups groups || nat_lt most_actions (length actions))) ∷ screens_full (after k) ∷ texts_full (after k) ∷ []
+  late k = (refusal.OutOfRange when (are_many_groups groups || nat_lt most_actions (length values.actions))) ∷ screens_full (after k) ∷ texts_full (after k) ∷ []
 
   abbrev later : ℕ → List Check
-  later k = (refusal.NotFound when not (are_named p.groups names)) ∷ late k
+  later k = (refusal.NotFound when not (are_named p.groups values.groups)) ∷ late k
 
   abbrev checks : ℕ → List Check
   checks k = (refusal.AlreadyExists when is_some (screen_of (rows_of p) k)) ∷ (refusal.InvalidCombination when is_some (except_of (rows_of p) k)) ∷ later k
 
   own : due p m deed ≡ first (checks n)
-  own = on_folder (rows_of p) path n checks at
+  own = on_folder (rows_of p) values.path n checks at
 
   pub screen_taken : is_some (screen_of (rows_of p) n) ≡ true → due p m deed ≡ Some refusal.AlreadyExists
   screen_taken h = own ∙ ap (λ b. first ((refusal.AlreadyExists when b) ∷ (refusal.InvalidCombination when is_some (except_of (rows_of p) n)) ∷ later n)) h
@@ -217,9 +220,9 @@ module _ (p : Parts) (m : ℕ) (path : List (List ℕ)) (active : Bool) (names :
       unexcepted : due p m deed ≡ first (later n)
       unexcepted = unscreened ∙ ap (λ b. first ((refusal.InvalidCombination when b) ∷ later n)) bare
 
-      module _ (w : IsWhole p) (some : are_some_names names ≡ true) (named : are_named p.groups names ≡ true) (row : ScreenRow) (is : row ≡ row_at n) (room : ℕ) (room_is : room ≡ text_room p) where
+      module _ (w : IsWhole p) (some : are_some_names values.groups ≡ true) (named : are_named p.groups values.groups ≡ true) (row : ScreenRow) (is : row ≡ row_at n) (room : ℕ) (room_is : room ≡ text_room p) where
         abbrev test : Bool → Bool → Option Refusal
-        test d e = first ((refusal.OutOfRange when (are_many_groups groups || nat_lt most_actions (length actions))) ∷ (refusal.TableFull when d) ∷ (refusal.TextsFull when e) ∷ [])
+        test d e = first ((refusal.OutOfRange when (are_many_groups groups || nat_lt most_actions (length values.actions))) ∷ (refusal.TableFull when d) ∷ (refusal.TextsFull when e) ∷ [])
 
         full : nat_lt most_screens (length (after n).screens) ≡ nat_le most_screens (length p.objects.screens)
         full = full_test most_screens (length p.objects.screens) (length (after n).screens) (length-with_row screen_folder (row_at n) p.objects.screens)
@@ -236,7 +239,7 @@ module _ (p : Parts) (m : ℕ) (path : List (List ℕ)) (active : Bool) (names :
         unfilled : (has_row except_folder n p.objects.excepts || (length groups == 0)) ≡ false
         unfilled =
             nor (has_row except_folder n p.objects.excepts) (length groups == 0) (sym (is_some-find (λ e. except_folder e == n) p.objects.excepts) ∙ bare)
-            (some_groups p.groups names some named)
+            (some_groups p.groups values.groups some named)
 
         left : due p m deed ≡ option_and_then table_refusal (screen_fault p.objects (row_at n) (text_room p))
         left =
@@ -244,7 +247,7 @@ module _ (p : Parts) (m : ℕ) (path : List (List ℕ)) (active : Bool) (names :
             ∙ (ap (λ b. first ((refusal.NotFound when not b) ∷ late n)) named
             ∙ (ap (λ d. test d (nat_lt most_text_bytes (object_texts (after n)))) full
             ∙ (ap (test (nat_le most_screens (length p.objects.screens))) bytes
-            ∙ (five (are_many_groups groups || nat_lt most_actions (length actions)) (nat_le most_screens (length p.objects.screens)) (nat_lt (text_room p) (screen_bytes (row_at n)))
+            ∙ (five (are_many_groups groups || nat_lt most_actions (length values.actions)) (nat_le most_screens (length p.objects.screens)) (nat_lt (text_room p) (screen_bytes (row_at n)))
             ∙ ap (option_and_then table_refusal)
             (sym (passed (has_row screen_folder n p.objects.screens) (has_row except_folder n p.objects.excepts || (length groups == 0)) _ (sym (is_some-find (λ s. screen_folder s == n) p.objects.screens) ∙ free) unfilled))))))
 
@@ -258,7 +261,7 @@ module _ (p : Parts) (m : ℕ) (path : List (List ℕ)) (active : Bool) (names :
           pub screen_added : (new : Parts) (answer : Answer) → screen_fault p.objects row room ≡ None → (made : tables ≡ with_screen p.objects row) → new ≡ ended (record p { objects = tables }) m → answer ≡ record { outcome = Done None; lasting = true } → Does p new m deed answer
           screen_added new answer may made ends e =
               retabled_as p p.groups tables w (ap (λ (t : Tables). t.quotas) made) new m deed answer idle in_time (add_is ∙ ap (option_and_then table_refusal) may)
-              (ap after (target_is p.tree.nodes path n at.resolved)
+              (ap after (target_is p.tree.nodes values.path n at.resolved)
               ∙ (ap (λ (r : ScreenRow). record (rows_of p) { screens = with_row screen_folder r p.objects.screens }) (sym is)
               ∙ ap (λ (t : Tables). record (rows_of p) { screens = t.screens; excepts = t.excepts }) (sym made))) refl refl ends e
 
@@ -266,31 +269,31 @@ module _ (p : Parts) (m : ℕ) (path : List (List ℕ)) (active : Bool) (names :
           screen_unadded fault result due_is same told = refused_by p m deed tables fault _ result idle in_time add_is due_is same told
 
 -- ---- a changed one
-module _ (p : Parts) (m : ℕ) (path : List (List ℕ)) (active : Option Bool) (removed added : List (List ℕ)) (old : ScreenRow) (at : IsFolder p.tree.nodes path old.folder) (found : row_of screen_folder old.folder p.objects.screens ≡ Some old) where
+module _ (p : Parts) (m : ℕ) (values : ScreenChange) (old : ScreenRow) (at : IsFolder p.tree.nodes values.path old.folder) (found : row_of screen_folder old.folder p.objects.screens ≡ Some old) where
   abbrev change : Deed
-  change = Screen (ScreenModify path active removed added)
+  change = Screen (ScreenModify values)
 
   abbrev gone : List ℕ
-  gone = numbers_named p.groups removed
+  gone = numbers_named p.groups values.removed
 
   abbrev changed : List ℕ → List ℕ
-  changed before = changed_groups gone (numbers_named p.groups added) before
+  changed before = changed_groups gone (numbers_named p.groups values.groups) before
 
   abbrev sized : List ℕ → List Check
   sized groups = (refusal.InvalidCombination when (length groups == 0)) ∷ (refusal.OutOfRange when are_many_groups groups) ∷ []
 
   abbrev all_named : Bool
-  all_named = are_named p.groups removed && are_named p.groups added
+  all_named = are_named p.groups values.removed && are_named p.groups values.groups
 
   abbrev asked_of : List ℕ → List Check
   asked_of before = (refusal.NotFound when not all_named) ∷ (refusal.NotFound when not (may_be_taken gone before)) ∷ sized (changed before)
 
   own_change : due p m change ≡ first (asked_of old.groups)
   own_change =
-      on_folder (rows_of p) path old.folder (λ k. (refusal.NotFound when is_none (screen_of (rows_of p) k)) ∷ asked_of (groups_of (rows_of p) k)) at
+      on_folder (rows_of p) values.path old.folder (λ k. (refusal.NotFound when is_none (screen_of (rows_of p) k)) ∷ asked_of (groups_of (rows_of p) k)) at
       ∙ ap (λ o. first ((refusal.NotFound when is_none o) ∷ asked_of (option_map_or (λ (screen : ScreenRow). screen.groups) o []))) found
 
-  module _ (w : IsWhole p) (may : (all_named && may_be_taken gone old.groups) ≡ true) (row : ScreenRow) (is : row ≡ rescreened active (changed old.groups) old) (room : ℕ) where
+  module _ (w : IsWhole p) (may : (all_named && may_be_taken gone old.groups) ≡ true) (row : ScreenRow) (is : row ≡ rescreened values.active (changed old.groups) old) (room : ℕ) where
     sound : IsScreen p.tree.nodes p.groups p.objects.excepts old
     sound = screen_at p.tree.nodes p.groups p.objects.excepts p.objects.screens old.folder old w.valid.tables.screens found
 
@@ -328,20 +331,20 @@ module _ (p : Parts) (m : ℕ) (path : List (List ℕ)) (active : Option Bool) (
         ∙ (two (length (changed old.groups) == 0) (are_many_groups (changed old.groups)) (nat_lt most_actions (length old.actions)) (nat_lt (room + screen_texts_at p.objects old.folder) (screen_bytes old)) few fits
         ∙ ap (λ r. option_and_then table_refusal (other_screen_fault p.objects r room)) (sym is)))
 
-    put_is : with_change screen_folder row.folder (λ r. row) p.objects.screens ≡ with_change screen_folder old.folder (rescreened active (changed old.groups)) p.objects.screens
+    put_is : with_change screen_folder row.folder (λ r. row) p.objects.screens ≡ with_change screen_folder old.folder (rescreened values.active (changed old.groups)) p.objects.screens
     put_is =
         ap (λ (r : ScreenRow). with_change screen_folder r.folder (λ o. r) p.objects.screens) is
-        ∙ change_same screen_folder old.folder (λ r. rescreened active (changed old.groups) old) (rescreened active (changed old.groups)) p.objects.screens
+        ∙ change_same screen_folder old.folder (λ r. rescreened values.active (changed old.groups) old) (rescreened values.active (changed old.groups)) p.objects.screens
         (table_parts screen_folder most_screens (is_sound_screen p.tree.nodes p.groups p.objects.excepts) p.objects.screens w.valid.tables.screens).ascending
-        (λ r h. ap (rescreened active (changed old.groups)) (same_Some old r (sym found ∙ h)))
+        (λ r h. ap (rescreened values.active (changed old.groups)) (same_Some old r (sym found ∙ h)))
 
     module _ (idle : IsIdle p) (in_time : p.last_moment ≤ m) (tables : Tables) where
       pub screen_changed : (new : Parts) (answer : Answer) → other_screen_fault p.objects row room ≡ None → tables ≡ with_other_screen p.objects row → new ≡ ended (record p { objects = tables }) m → answer ≡ record { outcome = Done None; lasting = true } → Does p new m change answer
       screen_changed new answer none made ends e =
           let R = rows_of p in
           retabled_as p p.groups tables w (ap (λ (t : Tables). t.quotas) made) new m change answer idle in_time (change_is ∙ ap (option_and_then table_refusal) none)
-          (ap (λ k. record R { screens = with_change screen_folder k (rescreened active (changed (groups_of R k))) R.screens }) (target_is p.tree.nodes path old.folder at.resolved)
-          ∙ (ap (λ o. record R { screens = with_change screen_folder old.folder (rescreened active (changed (option_map_or (λ (screen : ScreenRow). screen.groups) o []))) R.screens }) found
+          (ap (λ k. record R { screens = with_change screen_folder k (rescreened values.active (changed (groups_of R k))) R.screens }) (target_is p.tree.nodes values.path old.folder at.resolved)
+          ∙ (ap (λ o. record R { screens = with_change screen_folder old.folder (rescreened values.active (changed (option_map_or (λ (screen : ScreenRow). screen.groups) o []))) R.screens }) found
           ∙ (ap (λ (screens : List ScreenRow). record R { screens = screens }) (sym put_is)
           ∙ ap (λ (t : Tables). record R { screens = t.screens; excepts = t.excepts }) (sym made)))) refl refl ends e
 
@@ -359,12 +362,12 @@ screen_deleted p new m path screen tables answer w idle after at found made ends
     ∙ ap (λ (t : Tables). record R { screens = t.screens; excepts = t.excepts }) (sym made)) refl refl ends e
 
 -- ---- a new exception
-module _ (p : Parts) (m : ℕ) (path : List (List ℕ)) (names : List (List ℕ)) (n : ℕ) (at : IsFolder p.tree.nodes path n) where
+module _ (p : Parts) (m : ℕ) (values : NewException) (n : ℕ) (at : IsFolder p.tree.nodes values.path n) where
   abbrev adding : Deed
-  adding = Exception (ExceptionAdd path names)
+  adding = Exception (ExceptionAdd values)
 
   abbrev passing_groups : List ℕ
-  passing_groups = fold with_last [] (numbers_named p.groups names)
+  passing_groups = fold with_last [] (numbers_named p.groups values.groups)
 
   abbrev except_at : ℕ → ExceptRow
   except_at k = new_except k passing_groups
@@ -376,10 +379,10 @@ module _ (p : Parts) (m : ℕ) (path : List (List ℕ)) (names : List (List ℕ)
   last k = (refusal.OutOfRange when are_many_groups passing_groups) ∷ excepts_full (excepted k) ∷ []
 
   abbrev named_last : ℕ → List Check
-  named_last k = (refusal.NotFound when not (are_named p.groups names)) ∷ last k
+  named_last k = (refusal.NotFound when not (are_named p.groups values.groups)) ∷ last k
 
   own_except : due p m adding ≡ first ((refusal.AlreadyExists when is_some (except_of (rows_of p) n)) ∷ (refusal.InvalidCombination when is_some (screen_of (rows_of p) n)) ∷ named_last n)
-  own_except = on_folder (rows_of p) path n (λ k. (refusal.AlreadyExists when is_some (except_of (rows_of p) k)) ∷ (refusal.InvalidCombination when is_some (screen_of (rows_of p) k)) ∷ named_last k) at
+  own_except = on_folder (rows_of p) values.path n (λ k. (refusal.AlreadyExists when is_some (except_of (rows_of p) k)) ∷ (refusal.InvalidCombination when is_some (screen_of (rows_of p) k)) ∷ named_last k) at
 
   module _ (free : is_some (except_of (rows_of p) n) ≡ false) where
     untaken : due p m adding ≡ first ((refusal.InvalidCombination when is_some (screen_of (rows_of p) n)) ∷ named_last n)
@@ -389,14 +392,14 @@ module _ (p : Parts) (m : ℕ) (path : List (List ℕ)) (names : List (List ℕ)
       unmet : due p m adding ≡ first (named_last n)
       unmet = untaken ∙ ap (λ b. first ((refusal.InvalidCombination when b) ∷ named_last n)) bare
 
-      module _ (some : are_some_names names ≡ true) (named : are_named p.groups names ≡ true) (row : ExceptRow) (is : row ≡ except_at n) where
+      module _ (some : are_some_names values.groups ≡ true) (named : are_named p.groups values.groups ≡ true) (row : ExceptRow) (is : row ≡ except_at n) where
         grown : nat_lt most_excepts (length (excepted n).excepts) ≡ nat_le most_excepts (length p.objects.excepts)
         grown = full_test most_excepts (length p.objects.excepts) (length (excepted n).excepts) (length-with_row except_folder (except_at n) p.objects.excepts)
 
         filled : (has_row screen_folder n p.objects.screens || (length passing_groups == 0)) ≡ false
         filled =
             nor (has_row screen_folder n p.objects.screens) (length passing_groups == 0) (sym (is_some-find (λ s. screen_folder s == n) p.objects.screens) ∙ bare)
-            (some_groups p.groups names some named)
+            (some_groups p.groups values.groups some named)
 
         adding_is : due p m adding ≡ option_and_then table_refusal (except_fault p.objects row)
         adding_is =
@@ -412,7 +415,7 @@ module _ (p : Parts) (m : ℕ) (path : List (List ℕ)) (names : List (List ℕ)
           pub except_added : (new : Parts) (answer : Answer) → except_fault p.objects row ≡ None → tables ≡ with_except p.objects row → new ≡ ended (record p { objects = tables }) m → answer ≡ record { outcome = Done None; lasting = true } → Does p new m adding answer
           except_added new answer may made ends e =
               retabled_as p p.groups tables w (ap (λ (t : Tables). t.quotas) made) new m adding answer idle in_time (adding_is ∙ ap (option_and_then table_refusal) may)
-              (ap excepted (target_is p.tree.nodes path n at.resolved)
+              (ap excepted (target_is p.tree.nodes values.path n at.resolved)
               ∙ (ap (λ (r : ExceptRow). record (rows_of p) { excepts = with_row except_folder r p.objects.excepts }) (sym is)
               ∙ ap (λ (t : Tables). record (rows_of p) { screens = t.screens; excepts = t.excepts }) (sym made))) refl refl ends e
 

@@ -10,10 +10,10 @@ use Rattle.fsrm_base.proofs.EditedRows.{sum_by-with_row}
 use Rattle.fsrm_base.proofs.Look.{is_some-find}
 use Rattle.fsrm_base.proofs.Order.{length-with_row}
 use Rattle.file_groups.specs.Kept.{group_texts}
-use Rattle.fsrm_model.specs.declared.command.Added.{Added}
 use Rattle.fsrm_model.specs.declared.command.Answer.{Answer}
 use Rattle.fsrm_model.specs.declared.command.Deed.{Deed}
 use Rattle.fsrm_model.specs.declared.command.Deed.TheVariants.{Template}
+use Rattle.fsrm_model.specs.declared.command.NewTemplate.{NewTemplate}
 use Rattle.fsrm_model.specs.declared.command.Outcome.TheVariants.{Done}
 use Rattle.fsrm_model.specs.declared.command.Refusal.{Refusal}
 use Rattle.fsrm_model.specs.declared.command.Refusal.TheVariants as refusal
@@ -34,6 +34,7 @@ use Rattle.fsrm_model.specs.Text.{is_bare}
 use Rattle.fsrm_model.specs.Texts.{auto_bytes, object_texts, template_bytes}
 use Rattle.fsrm_model.specs.Thresholds.{are_too_many, changed_thresholds, is_notice, is_percent}
 use Rattle.fsrm_model.specs.Tree.{usage}
+use Rattle.fsrm_model.proofs.commands.ValueParts.{IsNewTemplate}
 use Rattle.fsrm_model.proofs.thresholds.ThresholdLaws.{changed_kept}
 use Rattle.fsrm_model.proofs.thresholds.UnrunKept.{changed_unrun}
 use Rattle.fsrm_model.proofs.valid.QuotasKept.{IsQuota, quotas-map}
@@ -141,15 +142,15 @@ all_texts p templates quotas = omega arith
 abbrev pub blank : List ℕ → ℕ → Bool → List Threshold → TemplateRow
 blank name limit enforce thresholds = record { number = 0; name = name; limit = limit; enforce = enforce; thresholds = thresholds }
 
-pub blank_legal : (name : List ℕ) (limit : ℕ) (enforce : Bool) (percents : List ℕ) (notices : List Added) (thresholds : List Threshold) → is_object_name name ≡ true → is_limit limit ≡ true → list_all is_percent percents ≡ true → list_all is_notice notices ≡ true → thresholds ≡ changed_thresholds [] percents notices [] → are_too_many thresholds ≡ false → is_template (blank name limit enforce thresholds) ≡ true
-blank_legal name limit enforce percents notices thresholds named legal percents_are notices_are is few =
-    subst (λ (ts : List Threshold). is_template (blank name limit enforce ts) ≡ true) (sym is)
-    (template_joined (blank name limit enforce (changed_thresholds [] percents notices [])) (record {
+pub blank_legal : (values : NewTemplate) (thresholds : List Threshold) → IsNewTemplate values → thresholds ≡ changed_thresholds [] values.thresholds.percents values.thresholds.notices [] → are_too_many thresholds ≡ false → is_template (blank values.name values.limit values.enforce thresholds) ≡ true
+blank_legal values thresholds legal is few =
+    subst (λ (ts : List Threshold). is_template (blank values.name values.limit values.enforce ts) ≡ true) (sym is)
+    (template_joined (blank values.name values.limit values.enforce (changed_thresholds [] values.thresholds.percents values.thresholds.notices [])) (record {
       below = refl;
-      named = named;
-      limit = legal;
-      thresholds = changed_kept [] percents notices [] refl percents_are notices_are (sym (ap are_too_many is) ∙ few);
-      unrun = changed_unrun [] percents notices [] notices_are refl;
+      named = legal.name;
+      limit = legal.limit;
+      thresholds = changed_kept [] values.thresholds.percents values.thresholds.notices [] refl legal.thresholds.percents legal.thresholds.notices (sym (ap are_too_many is) ∙ few);
+      unrun = changed_unrun [] values.thresholds.percents values.thresholds.notices [] legal.thresholds.notices refl;
     }))
 
 three : (a c d : Bool) → first ((refusal.DuplicateName when a) ∷ (refusal.OutOfRange when false) ∷ (refusal.TableFull when c) ∷ (refusal.TextsFull when d) ∷ []) ≡ option_and_then template_refusal (first ((template.DuplicateName when a) ∷ (template.TableFull when c) ∷ (template.TextsFull when d) ∷ []))
@@ -158,12 +159,12 @@ three false true d = refl
 three false false true = refl
 three false false false = refl
 
-module _ (p : Parts) (m : ℕ) (name : List ℕ) (limit : ℕ) (enforce : Bool) (percents : List ℕ) (notices : List Added) (w : IsWhole p) where
+module _ (p : Parts) (m : ℕ) (values : NewTemplate) (w : IsWhole p) where
   abbrev marks : List Threshold
-  marks = changed_thresholds [] percents notices []
+  marks = changed_thresholds [] values.thresholds.percents values.thresholds.notices []
 
   abbrev grown : List TemplateRow
-  grown = with_row template_number (new_template p.templates.templates name limit enforce (changed_thresholds [] percents notices [])) p.templates.templates
+  grown = with_row template_number (new_template p.templates.templates values) p.templates.templates
 
   abbrev test : Bool → Bool → Bool → Bool → Option Refusal
   test a b c d = first ((refusal.DuplicateName when a) ∷ (refusal.OutOfRange when b) ∷ (refusal.TableFull when c) ∷ (refusal.TextsFull when d) ∷ [])
@@ -174,33 +175,33 @@ module _ (p : Parts) (m : ℕ) (name : List ℕ) (limit : ℕ) (enforce : Bool) 
   abbrev long : Bool
   long = nat_lt most_text_bytes (object_texts (record (rows_of p) { templates = grown }))
 
-  due_blank : are_too_many marks ≡ false → due p m (Template (TemplateAdd name limit enforce percents notices)) ≡ option_and_then template_refusal (template_fault p.templates (blank name limit enforce (changed_thresholds [] percents notices [])) (text_room p))
+  due_blank : are_too_many marks ≡ false → due p m (Template (TemplateAdd values)) ≡ option_and_then template_refusal (template_fault p.templates (blank values.name values.limit values.enforce (changed_thresholds [] values.thresholds.percents values.thresholds.notices [])) (text_room p))
   due_blank few =
       let ts = p.templates.templates in
-      let row = new_template ts name limit enforce (changed_thresholds [] percents notices []) in
-      let known = list_any (is_named template_name name) ts in
+      let row = new_template ts values in
+      let known = list_any (is_named template_name values.name) ts in
       let whole : object_texts (record (rows_of p) { templates = grown }) ≡ (quota_texts p.objects.quotas + sum_by template_bytes grown) + rest_texts p = all_texts p grown p.objects.quotas in
       let sum : sum_by template_bytes grown ≡ template_bytes row + sum_by template_bytes ts = sum_by-with_row template_number template_bytes row ts in
       let bytes : long ≡ nat_lt (text_room p) (template_bytes row) =
       room_test most_text_bytes (texts_of p) (template_bytes row) (object_texts (record (rows_of p) { templates = grown })) (few_texts p w) (omega (arith, whole, sum)) in
-      ap (λ a. test a (are_too_many marks) full long) (is_some-find (is_named template_name name) ts)
+      ap (λ a. test a (are_too_many marks) full long) (is_some-find (is_named template_name values.name) ts)
       ∙ (ap (λ b. test known b full long) few
       ∙ (ap (λ c. test known false c long) (full_test most_templates (length ts) (length grown) (length-with_row template_number row ts))
       ∙ (ap (test known false (nat_le most_templates (length ts))) bytes
       ∙ three known (nat_le most_templates (length ts)) (nat_lt (text_room p) (template_bytes row)))))
 
   -- by the row that was given to the table
-  pub add_due : (row : TemplateRow) (thresholds : List Threshold) (room : ℕ) → row ≡ blank name limit enforce thresholds → thresholds ≡ changed_thresholds [] percents notices [] → room ≡ text_room p → are_too_many thresholds ≡ false → due p m (Template (TemplateAdd name limit enforce percents notices)) ≡ option_and_then template_refusal (template_fault p.templates row room)
+  pub add_due : (row : TemplateRow) (thresholds : List Threshold) (room : ℕ) → row ≡ blank values.name values.limit values.enforce thresholds → thresholds ≡ changed_thresholds [] values.thresholds.percents values.thresholds.notices [] → room ≡ text_room p → are_too_many thresholds ≡ false → due p m (Template (TemplateAdd values)) ≡ option_and_then template_refusal (template_fault p.templates row room)
   add_due row thresholds room is are room_is few =
       due_blank (sym (ap are_too_many are) ∙ few)
-      ∙ (ap (λ (r : TemplateRow). option_and_then template_refusal (template_fault p.templates r (text_room p))) (sym (is ∙ ap (blank name limit enforce) are))
+      ∙ (ap (λ (r : TemplateRow). option_and_then template_refusal (template_fault p.templates r (text_room p))) (sym (is ∙ ap (blank values.name values.limit values.enforce) are))
       ∙ ap (λ k. option_and_then template_refusal (template_fault p.templates row k)) (sym room_is))
 
-  pub template_added : (new : Parts) (held : Held) (row : TemplateRow) (thresholds : List Threshold) (room : ℕ) (answer : Answer) → row ≡ blank name limit enforce thresholds → thresholds ≡ changed_thresholds [] percents notices [] → room ≡ text_room p → are_too_many thresholds ≡ false → IsIdle p → p.last_moment ≤ m → template_fault p.templates row room ≡ None → held ≡ with_template p.templates (numbered p.templates.templates row) → new ≡ ended (record p { templates = held }) m → answer ≡ record { outcome = Done None; lasting = true } → Does p new m (Template (TemplateAdd name limit enforce percents notices)) answer
+  pub template_added : (new : Parts) (held : Held) (row : TemplateRow) (thresholds : List Threshold) (room : ℕ) (answer : Answer) → row ≡ blank values.name values.limit values.enforce thresholds → thresholds ≡ changed_thresholds [] values.thresholds.percents values.thresholds.notices [] → room ≡ text_room p → are_too_many thresholds ≡ false → IsIdle p → p.last_moment ≤ m → template_fault p.templates row room ≡ None → held ≡ with_template p.templates (numbered p.templates.templates row) → new ≡ ended (record p { templates = held }) m → answer ≡ record { outcome = Done None; lasting = true } → Does p new m (Template (TemplateAdd values)) answer
   template_added new held row thresholds room answer is are room_is few idle after may held_is ends e =
-      let own : held ≡ with_template p.templates (numbered p.templates.templates (blank name limit enforce (changed_thresholds [] percents notices []))) =
-      held_is ∙ ap (λ (r : TemplateRow). with_template p.templates (numbered p.templates.templates r)) (is ∙ ap (blank name limit enforce) are) in
-      rewritten_as p held p.objects.quotas w w.sound.counted new m (Template (TemplateAdd name limit enforce percents notices)) answer idle after
+      let own : held ≡ with_template p.templates (numbered p.templates.templates (blank values.name values.limit values.enforce (changed_thresholds [] values.thresholds.percents values.thresholds.notices []))) =
+      held_is ∙ ap (λ (r : TemplateRow). with_template p.templates (numbered p.templates.templates r)) (is ∙ ap (blank values.name values.limit values.enforce) are) in
+      rewritten_as p held p.objects.quotas w w.sound.counted new m (Template (TemplateAdd values)) answer idle after
       (add_due row thresholds room is are room_is few ∙ ap (option_and_then template_refusal) may)
       (ap (λ (h : Held). record (rows_of p) { templates = h.templates; autos = h.autos }) (sym own)) refl refl
       (calm_same p (rewritten p held p.objects.quotas) m w.sound.counted w.sound.counted refl refl refl) ends e

@@ -13,12 +13,12 @@ use Rattle.fsrm_base.proofs.Members.{all_pass}
 use Rattle.fsrm_base.proofs.Order.{ascending-filter}
 use Rattle.fsrm_base.proofs.RowLaws.{change_same}
 use Rattle.fsrm_model.specs.declared.command.Act.{Act}
-use Rattle.fsrm_model.specs.declared.command.Added.{Added}
 use Rattle.fsrm_model.specs.declared.command.Answer.{Answer}
 use Rattle.fsrm_model.specs.declared.command.Deed.TheVariants.{Template}
 use Rattle.fsrm_model.specs.declared.command.Outcome.TheVariants.{Done}
 use Rattle.fsrm_model.specs.declared.command.Refusal.{Refusal}
 use Rattle.fsrm_model.specs.declared.command.Refusal.TheVariants as refusal
+use Rattle.fsrm_model.specs.declared.command.TemplateChange.{TemplateChange}
 use Rattle.fsrm_model.specs.declared.command.TemplateDeed.TheVariants.{Modify as TemplateModify}
 use Rattle.fsrm_model.specs.declared.command.Update.{Update}
 use Rattle.fsrm_model.specs.declared.row.QuotaRow.{QuotaRow}
@@ -31,6 +31,7 @@ use Rattle.fsrm_model.specs.TemplateWork.{number_in, retemplated, thresholds_in,
 use Rattle.fsrm_model.specs.Texts.{object_texts, template_bytes}
 use Rattle.fsrm_model.specs.Thresholds.{are_too_many, changed_thresholds, is_notice, is_percent, may_be_removed}
 use Rattle.fsrm_model.proofs.commands.QuotaCommands.{limit_kept}
+use Rattle.fsrm_model.proofs.commands.ValueParts.{IsTemplateChange}
 use Rattle.fsrm_model.proofs.thresholds.ThresholdLaws.{changed_kept}
 use Rattle.fsrm_model.proofs.thresholds.UnrunKept.{changed_unrun}
 use Rattle.fsrm_model.proofs.valid.QuotasKept.{IsQuota}
@@ -51,16 +52,17 @@ use Rattle.fsrm_engine.proofs.tables.SourceLaws.{named_found, templates_are}
 use Rattle.fsrm_engine.proofs.tables.TemplateLaws.{IsEdit, all_texts, counted_edited, rest_texts, rewritten, rewritten_accepts}
 
 -- ---- the template that a change makes
-pub retemplated_legal : (limit : Option ℕ) (enforce : Option Bool) (removed percents : List ℕ) (notices : List Added) (t row : TemplateRow) → option_map_or is_limit limit true ≡ true → list_all is_percent percents ≡ true → list_all is_notice notices ≡ true → row ≡ retemplated limit enforce removed percents notices t → are_too_many row.thresholds ≡ false → is_template t ≡ true → is_template row ≡ true
-retemplated_legal limit enforce removed percents notices t row legal percents_are notices_are made few is =
+pub retemplated_legal : (values : TemplateChange) (t row : TemplateRow) → IsTemplateChange values → row ≡ retemplated values t → are_too_many row.thresholds ≡ false → is_template t ≡ true → is_template row ≡ true
+retemplated_legal values t row legal made few is =
     let p = template_parts t is in
+    let coming = values.thresholds in
     ap is_template made
-    ∙ template_joined (retemplated limit enforce removed percents notices t) (record {
+    ∙ template_joined (retemplated values t) (record {
       below = p.below;
       named = p.named;
-      limit = limit_kept limit t.limit legal p.limit;
-      thresholds = changed_kept removed percents notices t.thresholds p.thresholds percents_are notices_are (sym (ap (λ (r : TemplateRow). are_too_many r.thresholds) made) ∙ few);
-      unrun = changed_unrun removed percents notices t.thresholds notices_are p.unrun;
+      limit = limit_kept values.limit t.limit legal.limit p.limit;
+      thresholds = changed_kept values.removed coming.percents coming.notices t.thresholds p.thresholds legal.thresholds.percents legal.thresholds.notices (sym (ap (λ (r : TemplateRow). are_too_many r.thresholds) made) ∙ few);
+      unrun = changed_unrun values.removed coming.percents coming.notices t.thresholds legal.thresholds.notices p.unrun;
     })
 
 -- ---- the quotas
@@ -112,14 +114,14 @@ long_test : (most texts lost gained all : ℕ) → texts ≤ most → all + lost
 long_test most texts lost gained all few is = grind (arith, nat_tests)
 
 -- ---- which refusal is due
-module _ (p : Parts) (m : ℕ) (name : List ℕ) (limit : Option ℕ) (enforce : Option Bool) (removed percents : List ℕ) (notices : List Added) (mode : Update) where
+module _ (p : Parts) (m : ℕ) (values : TemplateChange) where
   abbrev change : TemplateRow → TemplateRow
-  change = retemplated limit enforce removed percents notices
+  change = retemplated values
 
   abbrev after : Option TemplateRow → Rows
   after o = record (rows_of p) {
     templates = with_change template_number (number_in o) change p.templates.templates;
-    quotas = updated_quotas mode o change p.objects.quotas;
+    quotas = updated_quotas values.update o change p.objects.quotas;
   }
 
   abbrev tests : Bool → Bool → Bool → Bool → Option Refusal
@@ -127,16 +129,16 @@ module _ (p : Parts) (m : ℕ) (name : List ℕ) (limit : Option ℕ) (enforce :
 
   abbrev result : Option TemplateRow → Option Refusal
   result o =
-      tests (is_none o) (not (may_be_removed removed (thresholds_in o))) (are_too_many (changed_thresholds removed percents notices (thresholds_in o))) (nat_lt most_text_bytes (object_texts (after o)))
+      tests (is_none o) (not (may_be_removed values.removed (thresholds_in o))) (are_too_many (changed_thresholds values.removed values.thresholds.percents values.thresholds.notices (thresholds_in o))) (nat_lt most_text_bytes (object_texts (after o)))
 
-  pub modify_missing : template_named p.templates.templates name ≡ None → due p m (Template (TemplateModify name limit enforce removed percents notices mode)) ≡ Some refusal.NotFound
+  pub modify_missing : template_named p.templates.templates values.name ≡ None → due p m (Template (TemplateModify values)) ≡ Some refusal.NotFound
   modify_missing h = ap result h
 
-  module _ (t : TemplateRow) (is : template_named p.templates.templates name ≡ Some t) where
+  module _ (t : TemplateRow) (is : template_named p.templates.templates values.name ≡ Some t) where
     abbrev long : Bool
     long = nat_lt most_text_bytes (object_texts (after (Some t)))
 
-    own : due p m (Template (TemplateModify name limit enforce removed percents notices mode)) ≡ tests false (not (may_be_removed removed t.thresholds)) (are_too_many (changed_thresholds removed percents notices t.thresholds)) long
+    own : due p m (Template (TemplateModify values)) ≡ tests false (not (may_be_removed values.removed t.thresholds)) (are_too_many (changed_thresholds values.removed values.thresholds.percents values.thresholds.notices t.thresholds)) long
     own = ap result is
 
     last : (d : Bool) → tests false false false d ≡ option_and_then template_refusal (template.TextsFull when d)
@@ -146,22 +148,22 @@ module _ (p : Parts) (m : ℕ) (name : List ℕ) (limit : Option ℕ) (enforce :
     module _ (w : IsWhole p) (row : TemplateRow) (made : row ≡ change t) where
       -- the template of the row's number is that one, and has the row's name
       pub row_found : template_of p.templates.templates row.number ≡ Some t
-      row_found = ap (λ (r : TemplateRow). template_of p.templates.templates r.number) made ∙ named_found p name t w is
+      row_found = ap (λ (r : TemplateRow). template_of p.templates.templates r.number) made ∙ named_found p values.name t w is
 
       pub row_named : option_map template_name (template_of p.templates.templates row.number) ≡ Some row.name
       row_named = ap (option_map template_name) row_found ∙ ap (λ (r : TemplateRow). Some r.name) (sym made)
 
-      pub reached_is : reached_by p.templates row mode p.objects.quotas ≡ filter (is_reached mode t) p.objects.quotas
-      reached_is = ap (λ o. option_map_or (λ old. filter (is_reached mode old) p.objects.quotas) o []) row_found
+      pub reached_is : reached_by p.templates row values.update p.objects.quotas ≡ filter (is_reached values.update t) p.objects.quotas
+      reached_is = ap (λ o. option_map_or (λ old. filter (is_reached values.update old) p.objects.quotas) o []) row_found
 
-      pub updated_is : updated_by p.templates row mode p.objects.quotas ≡ map (updated mode t row) p.objects.quotas
-      updated_is = ap (λ o. updated_quotas mode o (λ old. row) p.objects.quotas) row_found
+      pub updated_is : updated_by p.templates row values.update p.objects.quotas ≡ map (updated values.update t row) p.objects.quotas
+      updated_is = ap (λ o. updated_quotas values.update o (λ old. row) p.objects.quotas) row_found
 
       -- what the command makes is what the tables make of the row
       abbrev made_rows : Rows
       made_rows = record (rows_of p) {
         templates = (with_other p.templates row).templates;
-        quotas = updated_by p.templates row mode p.objects.quotas;
+        quotas = updated_by p.templates row values.update p.objects.quotas;
       }
 
       effect_is : after (Some t) ≡ made_rows
@@ -169,58 +171,58 @@ module _ (p : Parts) (m : ℕ) (name : List ℕ) (limit : Option ℕ) (enforce :
           let ts = p.templates.templates in
           let tables : with_change template_number t.number change ts ≡ (with_other p.templates row).templates =
           change_same template_number t.number change (λ r. row) ts (templates_are p w).ascending
-          (λ r found. ap change (same_Some r t (sym found ∙ named_found p name t w is)) ∙ sym made)
+          (λ r found. ap change (same_Some r t (sym found ∙ named_found p values.name t w is)) ∙ sym made)
           ∙ ap (λ k. with_change template_number k (λ r. row) ts) (sym (ap (λ (r : TemplateRow). r.number) made)) in
-          ap (λ (rows : List TemplateRow). record (rows_of p) { templates = rows; quotas = map (updated mode t (change t)) p.objects.quotas }) tables
+          ap (λ (rows : List TemplateRow). record (rows_of p) { templates = rows; quotas = map (updated values.update t (change t)) p.objects.quotas }) tables
           ∙ ap (λ (rows : List QuotaRow). record (rows_of p) { templates = (with_other p.templates row).templates; quotas = rows })
-          (ap (λ (r : TemplateRow). map (updated mode t r) p.objects.quotas) (sym made) ∙ sym updated_is)
+          (ap (λ (r : TemplateRow). map (updated values.update t r) p.objects.quotas) (sym made) ∙ sym updated_is)
 
-      long_is : long ≡ nat_lt (text_room p + (template_texts p.templates + quota_texts p.objects.quotas)) (template_texts (with_other p.templates row) + quota_texts (updated_by p.templates row mode p.objects.quotas))
+      long_is : long ≡ nat_lt (text_room p + (template_texts p.templates + quota_texts p.objects.quotas)) (template_texts (with_other p.templates row) + quota_texts (updated_by p.templates row values.update p.objects.quotas))
       long_is =
           let whole : object_texts made_rows ≡ (quota_texts made_rows.quotas + sum_by template_bytes made_rows.templates) + rest_texts p = all_texts p made_rows.templates made_rows.quotas in
           ap (λ (R : Rows). nat_lt most_text_bytes (object_texts R)) effect_is
           ∙ long_test most_text_bytes (texts_of p) (template_texts p.templates + quota_texts p.objects.quotas) (template_texts (with_other p.templates row) + quota_texts made_rows.quotas) (object_texts made_rows) (few_texts p w) (omega (arith, whole))
 
-      pub modify_due : (room : ℕ) → room ≡ text_room p → may_be_removed removed t.thresholds ≡ true → are_too_many row.thresholds ≡ false → due p m (Template (TemplateModify name limit enforce removed percents notices mode)) ≡ option_and_then template_refusal (modify_fault p.templates p.objects.quotas row mode room)
+      pub modify_due : (room : ℕ) → room ≡ text_room p → may_be_removed values.removed t.thresholds ≡ true → are_too_many row.thresholds ≡ false → due p m (Template (TemplateModify values)) ≡ option_and_then template_refusal (modify_fault p.templates p.objects.quotas row values.update room)
       modify_due room room_is may few =
           own
-          ∙ (ap (λ x. tests false (not x) (are_too_many (changed_thresholds removed percents notices t.thresholds)) long) may
+          ∙ (ap (λ x. tests false (not x) (are_too_many (changed_thresholds values.removed values.thresholds.percents values.thresholds.notices t.thresholds)) long) may
           ∙ (ap (λ x. tests false false x long) (sym (ap (λ (r : TemplateRow). are_too_many r.thresholds) made) ∙ few)
           ∙ (ap (tests false false false) long_is
           ∙ (last (nat_lt (text_room p + (template_texts p.templates + quota_texts p.objects.quotas)) (template_texts (with_other p.templates row) + quota_texts made_rows.quotas))
-          ∙ ap (λ k. option_and_then template_refusal (modify_fault p.templates p.objects.quotas row mode k)) (sym room_is)))))
+          ∙ ap (λ k. option_and_then template_refusal (modify_fault p.templates p.objects.quotas row values.update k)) (sym room_is)))))
 
       -- ---- what is left
       abbrev pub own_mid : Parts
-      own_mid = rewritten p (with_other p.templates row) (updated_by p.templates row mode p.objects.quotas)
+      own_mid = rewritten p (with_other p.templates row) (updated_by p.templates row values.update p.objects.quotas)
 
-      pub mid_is : (held : Held) (objects : Tables) → held ≡ with_other p.templates row → objects ≡ record p.objects { quotas = updated_by p.templates row mode p.objects.quotas } → record p { templates = held; objects = objects } ≡ own_mid
+      pub mid_is : (held : Held) (objects : Tables) → held ≡ with_other p.templates row → objects ≡ record p.objects { quotas = updated_by p.templates row values.update p.objects.quotas } → record p { templates = held; objects = objects } ≡ own_mid
       mid_is held objects held_is objects_are =
           ap (λ (h : Held). record p { templates = h; objects = objects }) held_is ∙ ap (λ (t : Tables). record p { templates = with_other p.templates row; objects = t }) objects_are
 
-      pub modified_counted : is_template row ≡ true → IsCounted p.tree.size p.tree.nodes (updated_by p.templates row mode p.objects.quotas) p.usage p.level
+      pub modified_counted : is_template row ≡ true → IsCounted p.tree.size p.tree.nodes (updated_by p.templates row values.update p.objects.quotas) p.usage p.level
       modified_counted legal =
-          subst (λ (quotas : List QuotaRow). IsCounted p.tree.size p.tree.nodes quotas p.usage p.level) (sym updated_is) (update_counted p mode t row w.sound.counted legal)
+          subst (λ (quotas : List QuotaRow). IsCounted p.tree.size p.tree.nodes quotas p.usage p.level) (sym updated_is) (update_counted p values.update t row w.sound.counted legal)
 
       -- those that were reached are there
-      pub reached_rows : (rows : List QuotaRow) → rows ≡ reached_by p.templates row mode p.objects.quotas → ReachedRows rows (updated_by p.templates row mode p.objects.quotas)
+      pub reached_rows : (rows : List QuotaRow) → rows ≡ reached_by p.templates row values.update p.objects.quotas → ReachedRows rows (updated_by p.templates row values.update p.objects.quotas)
       reached_rows rows are =
           let asc = w.sound.counted.are_quotas.ascending in
-          subst (λ (rows : List QuotaRow). ReachedRows rows (updated_by p.templates row mode p.objects.quotas)) (sym (are ∙ reached_is))
-          (subst (ReachedRows (filter (is_reached mode t) p.objects.quotas)) (sym updated_is) (record {
-            there = reached_there mode t row p.objects.quotas asc;
-            ascending = ascending-filter folder_of (is_reached mode t) p.objects.quotas asc;
+          subst (λ (rows : List QuotaRow). ReachedRows rows (updated_by p.templates row values.update p.objects.quotas)) (sym (are ∙ reached_is))
+          (subst (ReachedRows (filter (is_reached values.update t) p.objects.quotas)) (sym updated_is) (record {
+            there = reached_there values.update t row p.objects.quotas asc;
+            ascending = ascending-filter folder_of (is_reached values.update t) p.objects.quotas asc;
           }))
 
-      pub template_modified : (run new : Parts) (rows : List QuotaRow) (answer : Answer) → IsIdle p → p.last_moment ≤ m → is_template row ≡ true → due p m (Template (TemplateModify name limit enforce removed percents notices mode)) ≡ None → rows ≡ reached_by p.templates row mode p.objects.quotas → Ran own_mid run m (flat_map (updated_acts own_mid.objects p.usage p.run_limit m) rows) → new ≡ ended run m → answer ≡ record { outcome = Done None; lasting = true } → Does p new m (Template (TemplateModify name limit enforce removed percents notices mode)) answer
+      pub template_modified : (run new : Parts) (rows : List QuotaRow) (answer : Answer) → IsIdle p → p.last_moment ≤ m → is_template row ≡ true → due p m (Template (TemplateModify values)) ≡ None → rows ≡ reached_by p.templates row values.update p.objects.quotas → Ran own_mid run m (flat_map (updated_acts own_mid.objects p.usage p.run_limit m) rows) → new ≡ ended run m → answer ≡ record { outcome = Done None; lasting = true } → Does p new m (Template (TemplateModify values)) answer
       template_modified run new rows answer idle after_last legal none are ran ends e =
           let acts : List QuotaRow → List QuotaRow → List Act = λ rows quotas. flat_map (updated_acts (record p.objects { quotas = quotas }) p.usage p.run_limit m) rows in
           let counted = modified_counted legal in
           let all : acts rows own_mid.objects.quotas ≡ due_of p own_mid m =
           ap (λ (rows : List QuotaRow). acts rows own_mid.objects.quotas) (are ∙ reached_is)
-          ∙ (ap (acts (filter (is_reached mode t) p.objects.quotas)) updated_is
-          ∙ (due_updated p (with_other p.templates row) m mode t row w.sound.counted (update_counted p mode t row w.sound.counted legal)
+          ∙ (ap (acts (filter (is_reached values.update t) p.objects.quotas)) updated_is
+          ∙ (due_updated p (with_other p.templates row) m values.update t row w.sound.counted (update_counted p values.update t row w.sound.counted legal)
           ∙ ap (λ (quotas : List QuotaRow). due_of p (rewritten p (with_other p.templates row) quotas) m) (sym updated_is))) in
-          done_with p own_mid run new m (Template (TemplateModify name limit enforce removed percents notices mode)) answer (acts rows own_mid.objects.quotas)
-          (rewritten_accepts p (with_other p.templates row) own_mid.objects.quotas w counted m (Template (TemplateModify name limit enforce removed percents notices mode)) idle after_last none (ap after is ∙ effect_is) refl)
+          done_with p own_mid run new m (Template (TemplateModify values)) answer (acts rows own_mid.objects.quotas)
+          (rewritten_accepts p (with_other p.templates row) own_mid.objects.quotas w counted m (Template (TemplateModify values)) idle after_last none (ap after is ∙ effect_is) refl)
           refl ran all ends e

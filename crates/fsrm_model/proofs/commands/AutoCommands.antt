@@ -1,27 +1,29 @@
 -- The commands on auto-apply quotas: each one's work is orderly, and leaves the rows of a store if no check refuses.
-use Rattle.std.proofs.Common.{◌≡◌, ℕ, ◌≤◌, ◌==◌, nat_lt, nat_le, true, false, not, ◌&&◌, List, [], ◌∷◌, length, Option, Some, None, refl, sym, ◌∙◌, arith, Bool, ap}
+use Rattle.std.proofs.Common.{◌≡◌, ℕ, ◌≤◌, ◌==◌, nat_lt, true, false, not, List, [], ◌∷◌, length, Option, Some, None, refl, sym, ◌∙◌, arith, Bool, ap}
 use Rattle.std.specs.Prelude.{filter_map, fold, is_none, is_some, sum_by, if◌then◌else◌, option_map}
-use Rattle.std.specs.List.{list_all}
 use Rattle.fsrm_base.specs.Keyed.{has_row, is_ascending, with_row, without_row}
 use Rattle.fsrm_base.proofs.Look.{found_has, found_own, is_some-find}
 use Rattle.fsrm_base.proofs.TestLaws.{ge_is}
 use Rattle.fsrm_model.specs.AutoApply.{auto_folder, auto_of, applied, quotas_with, queue_with, with_quotas, subfolders, template_for, without_auto}
 use Rattle.fsrm_model.specs.AutoWork.{new_auto, auto_add_work, auto_delete_work, auto_list_work}
+use Rattle.fsrm_model.specs.declared.command.NewAutoquota.{NewAutoquota}
 use Rattle.fsrm_model.specs.declared.command.Refusal.TheVariants.{PathNotFound, AlreadyExists, NotFound, TableFull, TextsFull}
 use Rattle.fsrm_model.specs.declared.row.AutoRow.{AutoRow}
 use Rattle.fsrm_model.specs.declared.row.Capacity.{Capacity}
 use Rattle.fsrm_model.specs.declared.row.Rows.{Rows}
 use Rattle.fsrm_model.specs.declared.row.TemplateRow.{TemplateRow}
+use Rattle.fsrm_model.specs.Commands.{is_new_autoquota}
 use Rattle.fsrm_model.specs.Check.{◌when◌, autos_full, table_full, texts_full}
 use Rattle.fsrm_model.specs.FileOps.{target}
 use Rattle.fsrm_model.specs.Leads.{leads_to_folder}
-use Rattle.fsrm_model.specs.Limits.{latest_moment, most_autos, most_excluded, most_quotas, most_templates, most_text_bytes}
-use Rattle.fsrm_model.specs.Name.{is_name, is_named}
+use Rattle.fsrm_model.specs.Limits.{latest_moment, most_autos, most_quotas, most_templates, most_text_bytes}
+use Rattle.fsrm_model.specs.Name.{is_named}
 use Rattle.fsrm_model.specs.Templates.{template_number, template_name, template_named, is_template, derived, template_of}
 use Rattle.fsrm_model.specs.TemplateWork.{number_in}
 use Rattle.fsrm_model.specs.Texts.{auto_bytes, object_texts}
 use Rattle.fsrm_model.proofs.commands.FileParts.{folder_at}
 use Rattle.fsrm_model.proofs.commands.Orderly.{IsStill, KeepsValid, change_still, show_still, bare, first_none, when_none}
+use Rattle.fsrm_model.proofs.commands.ValueParts.{new_autoquota_parts}
 use Rattle.fsrm_model.proofs.thresholds.KeptLaws.{sum_by-less}
 use Rattle.fsrm_model.proofs.valid.ComingQuotas.{coming_subfolders}
 use Rattle.fsrm_model.proofs.valid.NamesApart.{named_parts}
@@ -36,8 +38,8 @@ use Rattle.std.specs.Option.{option_and_then}
 use Rattle.fsrm_model.proofs.journal.KeptEnds.{some_lasting}
 use Rattle.fsrm_model.specs.QuotaStates.{start}
 
-pub auto_add_still : (K : Capacity) (R : Rows) (moment : ℕ) (path : List (List ℕ)) (name : List ℕ) (excluded : List (List ℕ)) → IsStill K R (auto_add_work R moment path name excluded)
-auto_add_still K R moment path name excluded =
+pub auto_add_still : (K : Capacity) (R : Rows) (moment : ℕ) (new : NewAutoquota) → IsStill K R (auto_add_work R moment new)
+auto_add_still K R moment new =
     change_still K R _ _ (bare _ _ refl, (bare _ _ refl, (bare _ _ refl, (bare _ _ refl, (bare _ _ refl, (bare _ _ refl, tt)))))) refl
 
 pub auto_delete_still : (K : Capacity) (R : Rows) (path : List (List ℕ)) → IsStill K R (auto_delete_work R path)
@@ -52,11 +54,11 @@ found_there templates name None t e some = absurd (cc some)
 found_there templates name (Some template) t e some =
     found_has template_number template.number templates template (found_own template_number (is_named template_name name) templates template t e)
 
-pub auto_add_kept : (K : Capacity) (R : Rows) (moment : ℕ) (path : List (List ℕ)) (name : List ℕ) (excluded : List (List ℕ)) → (nat_le (length excluded) most_excluded && list_all is_name excluded) ≡ true → moment ≤ latest_moment → KeepsValid K R (auto_add_work R moment path name excluded)
-auto_add_kept K R moment path name excluded legal late s h =
-    let folder = target R.nodes path in
-    let template = template_named R.templates name in
-    let row : AutoRow = new_auto folder (number_in template) excluded in
+pub auto_add_kept : (K : Capacity) (R : Rows) (moment : ℕ) (new : NewAutoquota) → is_new_autoquota new ≡ true → moment ≤ latest_moment → KeepsValid K R (auto_add_work R moment new)
+auto_add_kept K R moment new legal late s h =
+    let folder = target R.nodes new.path in
+    let template = template_named R.templates new.template in
+    let row : AutoRow = new_auto folder (number_in template) new.excluded in
     let autos = with_row auto_folder row R.autos in
     let ruled : Rows = record R { autos = autos } in
     let coming = filter_map (applied ruled moment) (subfolders R.nodes folder) in
@@ -69,7 +71,7 @@ auto_add_kept K R moment path name excluded legal late s h =
     let rows = autos_full after in
     let full = table_full after in
     let long = texts_full after in
-    let a = first_none (PathNotFound when not (leads_to_folder R.nodes path)) (known ∷ missing ∷ rows ∷ full ∷ long ∷ []) h in
+    let a = first_none (PathNotFound when not (leads_to_folder R.nodes new.path)) (known ∷ missing ∷ rows ∷ full ∷ long ∷ []) h in
     let b = first_none known (missing ∷ rows ∷ full ∷ long ∷ []) a.1 in
     let c = first_none missing (rows ∷ full ∷ long ∷ []) b.1 in
     let d = first_none rows (full ∷ long ∷ []) c.1 in
@@ -82,9 +84,9 @@ auto_add_kept K R moment path name excluded legal late s h =
     let come = coming_subfolders ruled moment folder s.tables.templates late s.volume.ascending in
     templates_followed K R R.templates autos quotas queue s s.tables.templates
     (autos-new R.nodes R.templates row R.autos s.tables.autos absent few_autos (record {
-      folder = folder_at R.nodes path a.0;
-      there = found_there R.templates name template t.ascending refl (when_none NotFound (is_none template) c.0);
-      own = legal;
+      folder = folder_at R.nodes new.path a.0;
+      there = found_there R.templates new.template template t.ascending refl (when_none NotFound (is_none template) c.0);
+      own = (new_autoquota_parts new legal).excluded;
     }))
     (quotas-coming R.nodes R.templates R.quotas coming s.quotas come few)
     (sources-coming R.nodes R.templates R.quotas coming come s.tables.sources)
@@ -128,10 +130,10 @@ coming_alike E coming coming' e =
     quotas_alike E (fold quotas_with E.quotas coming) (fold quotas_with (kept E.quotas) coming') (fold queue_with E.queue coming) (fold queue_with [] coming') E.unvisited []
     (ap (λ (more : List QuotaRow). kept (fold quotas_with (kept E.quotas) more)) e ∙ same_coming coming (kept E.quotas) E.quotas (kept_twice E.quotas))
 
-pub auto_add_alike : (R : Rows) (moment : ℕ) (path : List (List ℕ)) (name : List ℕ) (excluded : List (List ℕ)) → WorksAlike (auto_add_work R moment path name excluded) (auto_add_work (lasting R) moment path name excluded)
-auto_add_alike R moment path name excluded =
-    let folder = target R.nodes path in
-    let ruled : Rows = record R { autos = with_row auto_folder (new_auto folder (number_in (template_named R.templates name)) excluded) R.autos } in
+pub auto_add_alike : (R : Rows) (moment : ℕ) (new : NewAutoquota) → WorksAlike (auto_add_work R moment new) (auto_add_work (lasting R) moment new)
+auto_add_alike R moment new =
+    let folder = target R.nodes new.path in
+    let ruled : Rows = record R { autos = with_row auto_folder (new_auto folder (number_in (template_named R.templates new.template)) new.excluded) R.autos } in
     let are = coming_alike ruled (filter_map (applied ruled moment) (subfolders R.nodes folder)) (filter_map (applied (lasting ruled) moment) (subfolders R.nodes folder)) (given_lasting ruled moment (subfolders R.nodes folder)) in
     alike are (refl, (refl, (refl, (refl, (table_same are, (texts_same are, tt))))))
 

@@ -18,33 +18,28 @@ use Rattle.fsrm_model.specs.declared.command.Outcome.TheVariants.{Sum}
 use Rattle.fsrm_model.specs.declared.command.QuotaDeed.TheVariants.{Add as QuotaAdd, Modify as QuotaModify, Delete as QuotaDelete, Scan as QuotaScan, Resetpeak as QuotaResetpeak, List as QuotaList}
 use Rattle.fsrm_model.specs.declared.command.ScreenDeed.TheVariants.{Add as ScreenAdd, Modify as ScreenModify, Delete as ScreenDelete, List as ScreenList}
 use Rattle.fsrm_model.specs.declared.command.TemplateDeed.TheVariants.{Add as TemplateAdd, Modify as TemplateModify, Delete as TemplateDelete, List as TemplateList}
-use Rattle.fsrm_model.specs.declared.command.Update.TheVariants.{Keep}
-use Rattle.std.specs.List.{list_all}
-use Rattle.std.specs.Prelude.{◌&&◌, ◌==◌, [], ◌∷◌, find, is_some, length, nat_le, sum_by, if◌then◌else◌}
+use Rattle.std.specs.Prelude.{◌&&◌, ◌==◌, [], ◌∷◌, find, is_some, sum_by, if◌then◌else◌}
 use Rattle.std.specs.Option.{option_map_or}
 use Rattle.std.proofs.lemmas.Option.{same_Some}
 use Rattle.fsrm_model.specs.declared.row.Capacity.{Capacity}
 use Rattle.fsrm_model.specs.declared.row.NodeRow.{NodeRow}
 use Rattle.fsrm_model.specs.declared.row.QuotaRow.{QuotaRow}
 use Rattle.fsrm_model.specs.declared.row.Rows.{Rows}
-use Rattle.fsrm_model.specs.Commands.{are_some_names, emptied, kind}
+use Rattle.fsrm_model.specs.Commands.{emptied, empty_autoquota, empty_exception, empty_filegroup, empty_filegroup_change, empty_quota, empty_quota_change, empty_screen, empty_screen_change, empty_template, empty_template_change, kind}
 use Rattle.fsrm_model.specs.Exceeds.{Exceeds}
 use Rattle.fsrm_model.specs.Exceptions.{may_leave}
 use Rattle.fsrm_model.specs.FileOps.{plain}
 use Rattle.fsrm_model.specs.Lasting.{lasting}
 use Rattle.fsrm_model.specs.Named.{IsNamed}
-use Rattle.fsrm_model.specs.Limits.{latest_moment, most_excluded}
-use Rattle.fsrm_model.specs.Name.{is_name}
-use Rattle.fsrm_model.specs.Quota.{quota_of, counts, is_limit}
+use Rattle.fsrm_model.specs.Limits.{latest_moment}
+use Rattle.fsrm_model.specs.Quota.{quota_of, counts}
 use Rattle.fsrm_model.specs.Space.{space}
 use Rattle.fsrm_model.specs.Step.{decided, lasted, screened, step, unlasting, work}
 use Rattle.fsrm_model.specs.Tree.{usage, under}
 use Rattle.fsrm_model.specs.Valid.{is_moment, IsValid}
-use Rattle.fsrm_model.specs.Valued.{is_path, is_deed, is_short, is_command}
+use Rattle.fsrm_model.specs.Valued.{is_deed, is_short, is_command}
 use Rattle.fsrm_model.specs.Work.{Work, Judged}
 use Rattle.fsrm_model.specs.FileWork.{judged_name}
-use Rattle.fsrm_model.specs.Patterns.{is_object_name, are_members, are_non_members}
-use Rattle.fsrm_model.specs.Thresholds.{is_percent, is_new_action, is_notice}
 use Rattle.fsrm_model.proofs.commands.AdminCommands.{options_still, options_kept, settings_still, log_still, log_alike, options_alike, settings_alike}
 use Rattle.fsrm_model.proofs.commands.AutoCommands.{auto_add_still, auto_delete_still, auto_list_still, auto_add_kept, auto_delete_kept, auto_list_kept, auto_add_alike, auto_delete_alike, auto_list_alike}
 use Rattle.fsrm_model.proofs.commands.Ends.{effect_nodes, outcome_kept}
@@ -109,73 +104,31 @@ certified K R moment (File op) =
     }
 certified K R moment (Usage path) = still (usage_still K R path) (λ late legal store h. nothing_followed K R store) (λ other. usage_alike K R path) refl
 certified K R moment (Step n) = still (step_still K R n) (λ late legal. step_kept K R n) (λ other. absurd (cc other)) (step_lasts K R n)
-certified K R moment (Quota (QuotaAdd path limit enforce enabled template percents notices)) =
-    still (add_still K R moment path limit enforce enabled template percents notices) (λ late legal.
-    let values : (list_all is_path (path ∷ []) ≡ true) × (((option_map_or is_limit limit (is_some template) && option_map_or is_object_name template true) && (list_all is_percent percents && list_all is_notice notices)) ≡ true) = both _ _ legal in
-    let parts : ((option_map_or is_limit limit (is_some template) && option_map_or is_object_name template true) ≡ true) × ((list_all is_percent percents && list_all is_notice notices) ≡ true) = both _ _ values.1 in
-    let size : (option_map_or is_limit limit (is_some template) ≡ true) × (option_map_or is_object_name template true ≡ true) = both _ _ parts.0 in
-    let marks : (list_all is_percent percents ≡ true) × (list_all is_notice notices ≡ true) = both _ _ parts.1 in
-    add_kept K R moment path limit enforce enabled template percents notices size.0 marks.0 marks.1 late) (λ other. add_alike R moment path limit enforce enabled template percents notices) refl
-certified K R moment (Quota (QuotaModify path limit enforce enabled removed percents notices)) =
-    still (modify_still K R path limit enforce enabled removed percents notices) (λ late legal.
-    let values : (list_all is_path (path ∷ []) ≡ true) × ((option_map_or is_limit limit true && (list_all is_percent removed && (list_all is_percent percents && list_all is_notice notices))) ≡ true) = both _ _ legal in
-    let size : (option_map_or is_limit limit true ≡ true) × ((list_all is_percent removed && (list_all is_percent percents && list_all is_notice notices)) ≡ true) = both _ _ values.1 in
-    let gone : (list_all is_percent removed ≡ true) × ((list_all is_percent percents && list_all is_notice notices) ≡ true) = both _ _ size.1 in
-    let marks : (list_all is_percent percents ≡ true) × (list_all is_notice notices ≡ true) = both _ _ gone.1 in
-    modify_kept K R path limit enforce enabled removed percents notices size.0 marks.0 marks.1) (λ other. modify_alike R path limit enforce enabled removed percents notices) refl
+certified K R moment (Quota (QuotaAdd new)) = still (add_still K R moment new) (λ late legal. add_kept K R moment new (both _ _ legal).1 late) (λ other. add_alike R moment new) refl
+certified K R moment (Quota (QuotaModify change)) = still (modify_still K R change) (λ late legal. modify_kept K R change (both _ _ legal).1) (λ other. modify_alike R change) refl
 certified K R moment (Quota (QuotaDelete path)) = still (delete_still K R path) (λ late legal. delete_kept K R path) (λ other. delete_alike R path) refl
 certified K R moment (Quota (QuotaScan path)) = still (scan_still K R path) (λ late legal. scan_kept K R path) (λ other. scan_alike R path) refl
 certified K R moment (Quota (QuotaResetpeak path)) = still (reset_still K R moment path) (λ late legal. reset_kept K R moment path late) (λ other. reset_alike K R moment path) refl
 certified K R moment (Quota (QuotaList path)) = still (list_still K R path) (λ late legal. list_kept K R path) (λ other. list_alike R path) (list_lasts R path)
-certified K R moment (Template (TemplateAdd name limit enforce percents notices)) =
-    still (template_add_still K R name limit enforce percents notices) (λ late legal.
-    let values : (is_object_name name ≡ true) × ((is_limit limit && (list_all is_percent percents && list_all is_notice notices)) ≡ true) = both _ _ legal in
-    let size : (is_limit limit ≡ true) × ((list_all is_percent percents && list_all is_notice notices) ≡ true) = both _ _ values.1 in
-    let marks : (list_all is_percent percents ≡ true) × (list_all is_notice notices ≡ true) = both _ _ size.1 in
-    template_add_kept K R name limit enforce percents notices values.0 size.0 marks.0 marks.1) (λ other. template_add_alike R name limit enforce percents notices) refl
-certified K R moment (Template (TemplateModify name limit enforce removed percents notices mode)) =
-    still (template_modify_still K R name limit enforce removed percents notices mode) (λ late legal.
-    let values : (is_object_name name ≡ true) × ((option_map_or is_limit limit true && (list_all is_percent removed && (list_all is_percent percents && list_all is_notice notices))) ≡ true) = both _ _ legal in
-    let size : (option_map_or is_limit limit true ≡ true) × ((list_all is_percent removed && (list_all is_percent percents && list_all is_notice notices)) ≡ true) = both _ _ values.1 in
-    let gone : (list_all is_percent removed ≡ true) × ((list_all is_percent percents && list_all is_notice notices) ≡ true) = both _ _ size.1 in
-    let marks : (list_all is_percent percents ≡ true) × (list_all is_notice notices ≡ true) = both _ _ gone.1 in
-    template_modify_kept K R name limit enforce removed percents notices mode size.0 marks.0 marks.1) (λ other. template_modify_alike R name limit enforce removed percents notices mode) refl
+certified K R moment (Template (TemplateAdd new)) = still (template_add_still K R new) (λ late legal. template_add_kept K R new legal) (λ other. template_add_alike R new) refl
+certified K R moment (Template (TemplateModify change)) = still (template_modify_still K R change) (λ late legal. template_modify_kept K R change legal) (λ other. template_modify_alike R change) refl
 certified K R moment (Template (TemplateDelete name)) = still (template_delete_still K R name) (λ late legal. template_delete_kept K R name) (λ other. template_delete_alike R name) refl
 certified K R moment (Template TemplateList) = still (template_list_still K R) (λ late legal. template_list_kept K R) (λ other. template_list_alike R) refl
-certified K R moment (Autoquota (AutoquotaAdd path name excluded)) =
-    still (auto_add_still K R moment path name excluded) (λ late legal.
-    let values : (list_all is_path (path ∷ []) ≡ true) × ((is_object_name name && (nat_le (length excluded) most_excluded && list_all is_name excluded)) ≡ true) = both _ _ legal in
-    let names : (is_object_name name ≡ true) × ((nat_le (length excluded) most_excluded && list_all is_name excluded) ≡ true) = both _ _ values.1 in
-    auto_add_kept K R moment path name excluded names.1 late) (λ other. auto_add_alike R moment path name excluded) refl
+certified K R moment (Autoquota (AutoquotaAdd new)) = still (auto_add_still K R moment new) (λ late legal. auto_add_kept K R moment new (both _ _ legal).1 late) (λ other. auto_add_alike R moment new) refl
 certified K R moment (Autoquota (AutoquotaDelete path)) = still (auto_delete_still K R path) (λ late legal. auto_delete_kept K R path) (λ other. auto_delete_alike R path) refl
 certified K R moment (Autoquota AutoquotaList) = still (auto_list_still K R) (λ late legal. auto_list_kept K R) (λ other. auto_list_alike R) refl
 certified K R moment (Admin (AdminOptions minutes)) = still (options_still K R minutes) (λ late legal. options_kept K R minutes legal) (λ other. options_alike R minutes) refl
 certified K R moment (Admin AdminList) = still (settings_still K R) (λ late legal store h. nothing_followed K R store) (λ other. settings_alike R) refl
 certified K R moment (Admin AdminLog) = still (log_still K R) (λ late legal store h. nothing_followed K R store) (λ other. log_alike R) refl
-certified K R moment (Filegroup (FilegroupAdd name members non_members)) =
-    still (group_add_still K R name members non_members) (λ late legal.
-    let values : (is_object_name name ≡ true) × ((are_members members && are_non_members non_members) ≡ true) = both _ _ legal in
-    let patterns : (are_members members ≡ true) × (are_non_members non_members ≡ true) = both _ _ values.1 in
-    group_add_kept K R name members non_members values.0 patterns.0 patterns.1) (λ other. group_add_alike R name members non_members) refl
-certified K R moment (Filegroup (FilegroupModify name members non_members)) =
-    still (group_modify_still K R name members non_members) (λ late legal.
-    let values : (is_object_name name ≡ true) × ((option_map_or are_members members true && option_map_or are_non_members non_members true) ≡ true) = both _ _ legal in
-    let patterns : (option_map_or are_members members true ≡ true) × (option_map_or are_non_members non_members true ≡ true) = both _ _ values.1 in
-    group_modify_kept K R name members non_members patterns.0 patterns.1) (λ other. group_modify_alike R name members non_members) refl
+certified K R moment (Filegroup (FilegroupAdd new)) = still (group_add_still K R new) (λ late legal. group_add_kept K R new legal) (λ other. group_add_alike R new) refl
+certified K R moment (Filegroup (FilegroupModify change)) = still (group_modify_still K R change) (λ late legal. group_modify_kept K R change legal) (λ other. group_modify_alike R change) refl
 certified K R moment (Filegroup (FilegroupDelete name)) = still (group_delete_still K R name) (λ late legal. group_delete_kept K R name) (λ other. group_delete_alike R name) refl
 certified K R moment (Filegroup FilegroupList) = still (group_list_still K R) (λ late legal. group_list_kept K R) (λ other. group_list_alike R) refl
-certified K R moment (Screen (ScreenAdd path active groups actions)) =
-    still (screen_add_still K R path active groups actions) (λ late legal.
-    let values : (list_all is_path (path ∷ []) ≡ true) × ((are_some_names groups && list_all is_new_action actions) ≡ true) = both _ _ legal in
-    let lists : (are_some_names groups ≡ true) × (list_all is_new_action actions ≡ true) = both _ _ values.1 in
-    screen_add_kept K R path active groups actions lists.0 lists.1) (λ other. screen_add_alike R path active groups actions) refl
-certified K R moment (Screen (ScreenModify path active removed groups)) = still (screen_modify_still K R path active removed groups) (λ late legal. screen_modify_kept K R path active removed groups) (λ other. screen_modify_alike R path active removed groups) refl
+certified K R moment (Screen (ScreenAdd new)) = still (screen_add_still K R new) (λ late legal. screen_add_kept K R new (both _ _ legal).1) (λ other. screen_add_alike R new) refl
+certified K R moment (Screen (ScreenModify change)) = still (screen_modify_still K R change) (λ late legal. screen_modify_kept K R change) (λ other. screen_modify_alike R change) refl
 certified K R moment (Screen (ScreenDelete path)) = still (screen_delete_still K R path) (λ late legal. screen_delete_kept K R path) (λ other. screen_delete_alike R path) refl
 certified K R moment (Screen ScreenList) = still (screen_list_still K R) (λ late legal. screen_list_kept K R) (λ other. screen_list_alike R) refl
-certified K R moment (Exception (ExceptionAdd path groups)) =
-    still (except_add_still K R path groups) (λ late legal.
-    let values : (list_all is_path (path ∷ []) ≡ true) × (are_some_names groups ≡ true) = both _ _ legal in
-    except_add_kept K R path groups values.1) (λ other. except_add_alike R path groups) refl
+certified K R moment (Exception (ExceptionAdd new)) = still (except_add_still K R new) (λ late legal. except_add_kept K R new (both _ _ legal).1) (λ other. except_add_alike R new) refl
 certified K R moment (Exception (ExceptionDelete path)) = still (except_delete_still K R path) (λ late legal. except_delete_kept K R path) (λ other. except_delete_alike R path) refl
 certified K R moment (Exception ExceptionList) = still (except_list_still K R) (λ late legal. except_list_kept K R) (λ other. except_list_alike R) refl
 
@@ -291,14 +244,14 @@ step_acts K R c store legal =
 abbrev kinds : List Deed
 kinds =
     File (Mkdir [] 0) ∷ File (Create [] 0 0) ∷ File (Resize [] 0) ∷ File (Touch []) ∷ File (Move [] []) ∷ File (Remove [])
-    ∷ Quota (QuotaAdd [] None None false None [] []) ∷ Quota (QuotaModify [] None None None [] [] []) ∷ Quota (QuotaDelete [])
+    ∷ Quota (QuotaAdd empty_quota) ∷ Quota (QuotaModify empty_quota_change) ∷ Quota (QuotaDelete [])
     ∷ Quota (QuotaScan []) ∷ Quota (QuotaResetpeak [])
-    ∷ Template (TemplateAdd [] 0 false [] []) ∷ Template (TemplateModify [] None None [] [] [] Keep) ∷ Template (TemplateDelete [])
-    ∷ Autoquota (AutoquotaAdd [] [] []) ∷ Autoquota (AutoquotaDelete [])
+    ∷ Template (TemplateAdd empty_template) ∷ Template (TemplateModify empty_template_change) ∷ Template (TemplateDelete [])
+    ∷ Autoquota (AutoquotaAdd empty_autoquota) ∷ Autoquota (AutoquotaDelete [])
     ∷ Admin (AdminOptions 0)
-    ∷ Filegroup (FilegroupAdd [] [] []) ∷ Filegroup (FilegroupModify [] None None) ∷ Filegroup (FilegroupDelete [])
-    ∷ Screen (ScreenAdd [] false [] []) ∷ Screen (ScreenModify [] None [] []) ∷ Screen (ScreenDelete [])
-    ∷ Exception (ExceptionAdd [] []) ∷ Exception (ExceptionDelete []) ∷ []
+    ∷ Filegroup (FilegroupAdd empty_filegroup) ∷ Filegroup (FilegroupModify empty_filegroup_change) ∷ Filegroup (FilegroupDelete [])
+    ∷ Screen (ScreenAdd empty_screen) ∷ Screen (ScreenModify empty_screen_change) ∷ Screen (ScreenDelete [])
+    ∷ Exception (ExceptionAdd empty_exception) ∷ Exception (ExceptionDelete []) ∷ []
 
 -- the first of them that has this kind
 abbrev of_kind : ℕ → Option Deed
@@ -313,31 +266,31 @@ of_kind_is (File (Move from to)) k h = ap of_kind (sym (same_Some _ _ h))
 of_kind_is (File (Remove path)) k h = ap of_kind (sym (same_Some _ _ h))
 of_kind_is (Usage path) k h = absurd (cc h)
 of_kind_is (Step n) k h = absurd (cc h)
-of_kind_is (Quota (QuotaAdd path limit enforce enabled template percents notices)) k h = ap of_kind (sym (same_Some _ _ h))
-of_kind_is (Quota (QuotaModify path limit enforce enabled removed percents notices)) k h = ap of_kind (sym (same_Some _ _ h))
+of_kind_is (Quota (QuotaAdd new)) k h = ap of_kind (sym (same_Some _ _ h))
+of_kind_is (Quota (QuotaModify change)) k h = ap of_kind (sym (same_Some _ _ h))
 of_kind_is (Quota (QuotaDelete path)) k h = ap of_kind (sym (same_Some _ _ h))
 of_kind_is (Quota (QuotaScan path)) k h = ap of_kind (sym (same_Some _ _ h))
 of_kind_is (Quota (QuotaResetpeak path)) k h = ap of_kind (sym (same_Some _ _ h))
 of_kind_is (Quota (QuotaList path)) k h = absurd (cc h)
-of_kind_is (Template (TemplateAdd name limit enforce percents notices)) k h = ap of_kind (sym (same_Some _ _ h))
-of_kind_is (Template (TemplateModify name limit enforce removed percents notices mode)) k h = ap of_kind (sym (same_Some _ _ h))
+of_kind_is (Template (TemplateAdd new)) k h = ap of_kind (sym (same_Some _ _ h))
+of_kind_is (Template (TemplateModify change)) k h = ap of_kind (sym (same_Some _ _ h))
 of_kind_is (Template (TemplateDelete name)) k h = ap of_kind (sym (same_Some _ _ h))
 of_kind_is (Template TemplateList) k h = absurd (cc h)
-of_kind_is (Autoquota (AutoquotaAdd path name excluded)) k h = ap of_kind (sym (same_Some _ _ h))
+of_kind_is (Autoquota (AutoquotaAdd new)) k h = ap of_kind (sym (same_Some _ _ h))
 of_kind_is (Autoquota (AutoquotaDelete path)) k h = ap of_kind (sym (same_Some _ _ h))
 of_kind_is (Autoquota AutoquotaList) k h = absurd (cc h)
 of_kind_is (Admin (AdminOptions minutes)) k h = ap of_kind (sym (same_Some _ _ h))
 of_kind_is (Admin AdminList) k h = absurd (cc h)
 of_kind_is (Admin AdminLog) k h = absurd (cc h)
-of_kind_is (Filegroup (FilegroupAdd name members non_members)) k h = ap of_kind (sym (same_Some _ _ h))
-of_kind_is (Filegroup (FilegroupModify name members non_members)) k h = ap of_kind (sym (same_Some _ _ h))
+of_kind_is (Filegroup (FilegroupAdd new)) k h = ap of_kind (sym (same_Some _ _ h))
+of_kind_is (Filegroup (FilegroupModify change)) k h = ap of_kind (sym (same_Some _ _ h))
 of_kind_is (Filegroup (FilegroupDelete name)) k h = ap of_kind (sym (same_Some _ _ h))
 of_kind_is (Filegroup FilegroupList) k h = absurd (cc h)
-of_kind_is (Screen (ScreenAdd path active groups actions)) k h = ap of_kind (sym (same_Some _ _ h))
-of_kind_is (Screen (ScreenModify path active removed groups)) k h = ap of_kind (sym (same_Some _ _ h))
+of_kind_is (Screen (ScreenAdd new)) k h = ap of_kind (sym (same_Some _ _ h))
+of_kind_is (Screen (ScreenModify change)) k h = ap of_kind (sym (same_Some _ _ h))
 of_kind_is (Screen (ScreenDelete path)) k h = ap of_kind (sym (same_Some _ _ h))
 of_kind_is (Screen ScreenList) k h = absurd (cc h)
-of_kind_is (Exception (ExceptionAdd path groups)) k h = ap of_kind (sym (same_Some _ _ h))
+of_kind_is (Exception (ExceptionAdd new)) k h = ap of_kind (sym (same_Some _ _ h))
 of_kind_is (Exception (ExceptionDelete path)) k h = ap of_kind (sym (same_Some _ _ h))
 of_kind_is (Exception ExceptionList) k h = absurd (cc h)
 

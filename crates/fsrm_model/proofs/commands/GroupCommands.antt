@@ -8,10 +8,13 @@ use Rattle.fsrm_base.specs.Numbers.{is_in}
 use Rattle.fsrm_base.proofs.Look.{is_some-find, is_some-mapped, has_row-change}
 use Rattle.fsrm_base.proofs.Order.{least_free_is, length-with_row}
 use Rattle.fsrm_base.proofs.TestLaws.{both, both_true, neither, ge_is, lt_test}
+use Rattle.fsrm_model.specs.declared.command.FilegroupChange.{FilegroupChange}
+use Rattle.fsrm_model.specs.declared.command.NewFilegroup.{NewFilegroup}
 use Rattle.fsrm_model.specs.declared.command.Refusal.TheVariants.{DuplicateName, NotFound, InUse, TableFull, TextsFull}
 use Rattle.fsrm_model.specs.declared.row.Capacity.{Capacity}
 use Rattle.fsrm_model.specs.declared.row.GroupRow.{GroupRow}
 use Rattle.fsrm_model.specs.declared.row.Rows.{Rows}
+use Rattle.fsrm_model.specs.Commands.{is_new_filegroup, is_filegroup_change}
 use Rattle.fsrm_model.specs.Check.{◌when◌, groups_full, texts_full}
 use Rattle.fsrm_model.specs.GroupWork.{is_group_named, group_at, is_used, group_add_work, group_modify_work, group_delete_work, group_list_work}
 use Rattle.fsrm_model.specs.Limits.{most_excepts, most_groups, most_screens, most_text_bytes}
@@ -21,6 +24,7 @@ use Rattle.fsrm_model.specs.Texts.{group_bytes, object_texts}
 use Rattle.fsrm_model.specs.Tree.{is_folder}
 use Rattle.fsrm_model.specs.Valid.{are_group_numbers, are_groups, is_sound_screen, is_sound_except}
 use Rattle.fsrm_model.proofs.commands.Orderly.{IsStill, KeepsValid, change_still, show_still, bare, first_none, when_none}
+use Rattle.fsrm_model.proofs.commands.ValueParts.{new_filegroup_parts, filegroup_change_parts}
 use Rattle.fsrm_model.proofs.thresholds.KeptLaws.{sum_by-less}
 use Rattle.fsrm_model.proofs.valid.NamesApart.{named_parts, named-new, named-change, named-without, there-with_row}
 use Rattle.fsrm_model.proofs.valid.RowsKept.{all_stay, nothing_followed, screens_followed}
@@ -40,11 +44,11 @@ unnamed : (R : Rows) (name : List ℕ) → is_group_named R name ≡ false → l
 unnamed R name h = sym (is_some-find (has_name name) R.groups) ∙ (sym (is_some-mapped group_number (find (has_name name) R.groups)) ∙ h)
 
 -- ---- the commands
-pub group_add_still : (K : Capacity) (R : Rows) (name : List ℕ) (members non_members : List (List ℕ)) → IsStill K R (group_add_work R name members non_members)
-group_add_still K R name members non_members = change_still K R _ _ (bare _ _ refl, (bare _ _ refl, (bare _ _ refl, tt))) refl
+pub group_add_still : (K : Capacity) (R : Rows) (new : NewFilegroup) → IsStill K R (group_add_work R new)
+group_add_still K R new = change_still K R _ _ (bare _ _ refl, (bare _ _ refl, (bare _ _ refl, tt))) refl
 
-pub group_modify_still : (K : Capacity) (R : Rows) (name : List ℕ) (members non_members : Option (List (List ℕ))) → IsStill K R (group_modify_work R name members non_members)
-group_modify_still K R name members non_members = change_still K R _ _ (bare _ _ refl, (bare _ _ refl, tt)) refl
+pub group_modify_still : (K : Capacity) (R : Rows) (given : FilegroupChange) → IsStill K R (group_modify_work R given)
+group_modify_still K R given = change_still K R _ _ (bare _ _ refl, (bare _ _ refl, tt)) refl
 
 pub group_delete_still : (K : Capacity) (R : Rows) (name : List ℕ) → IsStill K R (group_delete_work R name)
 group_delete_still K R name = change_still K R _ _ (bare _ _ refl, (bare _ _ refl, tt)) refl
@@ -52,22 +56,23 @@ group_delete_still K R name = change_still K R _ _ (bare _ _ refl, (bare _ _ ref
 pub group_list_still : (K : Capacity) (R : Rows) → IsStill K R (group_list_work R)
 group_list_still K R = show_still K R [] _ tt tt (λ store h. tt)
 
-pub group_add_kept : (K : Capacity) (R : Rows) (name : List ℕ) (members non_members : List (List ℕ)) → is_object_name name ≡ true → are_members members ≡ true → are_non_members non_members ≡ true → KeepsValid K R (group_add_work R name members non_members)
-group_add_kept K R name members non_members named some more s h =
-    let row = new_group R.groups name members non_members in
+pub group_add_kept : (K : Capacity) (R : Rows) (new : NewFilegroup) → is_new_filegroup new ≡ true → KeepsValid K R (group_add_work R new)
+group_add_kept K R new legal s h =
+    let its = new_filegroup_parts new legal in
+    let row = new_group R.groups new.name new.members new.non_members in
     let groups = with_group row R.groups in
     let after = record R { groups = groups } in
     let full = groups_full after in
     let long = texts_full after in
-    let a = first_none (DuplicateName when is_group_named R name) (full ∷ long ∷ []) h in
+    let a = first_none (DuplicateName when is_group_named R new.name) (full ∷ long ∷ []) h in
     let b = first_none full (long ∷ []) a.1 in
     let c = first_none long [] b.1 in
     let t = named_parts group_number group_name most_groups is_group R.groups s.tables.groups in
     let free = least_free_is group_number R.groups t.ascending in
     let most = free.most in
     let few : length groups ≤ most_groups = ge_is _ _ (when_none TableFull (nat_lt most_groups (length groups)) b.0) in
-    let none : list_any (has_name name) R.groups ≡ false = unnamed R name (when_none DuplicateName (is_group_named R name) a.0) in
-    let is : is_group row ≡ true = is_group_of (least_free group_number R.groups) name members non_members (omega (arith, most, few, length-with_row group_number row R.groups)) named some more in
+    let none : list_any (has_name new.name) R.groups ≡ false = unnamed R new.name (when_none DuplicateName (is_group_named R new.name) a.0) in
+    let is : is_group row ≡ true = is_group_of (least_free group_number R.groups) new.name new.members new.non_members (omega (arith, most, few, length-with_row group_number row R.groups)) its.name its.members its.non_members in
     let are : are_groups groups ≡ true = named-new group_number group_name most_groups is_group row R.groups s.tables.groups free.free none few is in
     screens_followed K R groups R.screens R.excepts s are
     (screens_stay R.nodes R.nodes R.groups groups R.excepts R.screens (all_stay R.nodes) (there-with_row group_number row R.groups free.free) s.tables.screens)
@@ -87,17 +92,18 @@ regrouped_is members non_members group some more is =
     (both_true (are_members (unwrap_or members group.members)) (are_non_members (unwrap_or non_members group.non_members))
     (members_or members group.members are_members some lists.0) (members_or non_members group.non_members are_non_members more lists.1))
 
-pub group_modify_kept : (K : Capacity) (R : Rows) (name : List ℕ) (members non_members : Option (List (List ℕ))) → option_map_or are_members members true ≡ true → option_map_or are_non_members non_members true ≡ true → KeepsValid K R (group_modify_work R name members non_members)
-group_modify_kept K R name members non_members some more s h =
-    let n = group_at R name in
-    let change : GroupRow → GroupRow = regrouped members non_members in
-    let groups = with_patterns n members non_members R.groups in
+pub group_modify_kept : (K : Capacity) (R : Rows) (given : FilegroupChange) → is_filegroup_change given ≡ true → KeepsValid K R (group_modify_work R given)
+group_modify_kept K R given legal s h =
+    let its = filegroup_change_parts given legal in
+    let n = group_at R given.name in
+    let change : GroupRow → GroupRow = regrouped given.members given.non_members in
+    let groups = with_patterns n given.members given.non_members R.groups in
     let after = record R { groups = groups } in
     let long = texts_full after in
-    let missing = (NotFound when not (is_group_named R name)) in
+    let missing = (NotFound when not (is_group_named R given.name)) in
     let a = first_none missing (long ∷ []) h in
     let b = first_none long [] a.1 in
-    let are : are_groups groups ≡ true = named-change group_number group_name most_groups is_group n change R.groups s.tables.groups (λ g. refl) (λ g. refl) (λ g found is. regrouped_is members non_members g some more is) in
+    let are : are_groups groups ≡ true = named-change group_number group_name most_groups is_group n change R.groups s.tables.groups (λ g. refl) (λ g. refl) (λ g found is. regrouped_is given.members given.non_members g its.members its.non_members is) in
     let all : HasAll R.groups groups = λ k there. has_row-change group_number n change (λ g. refl) k R.groups ∙ there in
     screens_followed K R groups R.screens R.excepts s are
     (screens_stay R.nodes R.nodes R.groups groups R.excepts R.screens (all_stay R.nodes) all s.tables.screens)
@@ -130,14 +136,14 @@ pub group_list_kept : (K : Capacity) (R : Rows) → KeepsValid K R (group_list_w
 group_list_kept K R s h = nothing_followed K R s
 
 -- ---- over rows and over what is kept of them
-pub group_add_alike : (R : Rows) (name : List ℕ) (members non_members : List (List ℕ)) → WorksAlike (group_add_work R name members non_members) (group_add_work (lasting R) name members non_members)
-group_add_alike R name members non_members =
-    let E : Rows = record R { groups = with_group (new_group R.groups name members non_members) R.groups } in
+pub group_add_alike : (R : Rows) (new : NewFilegroup) → WorksAlike (group_add_work R new) (group_add_work (lasting R) new)
+group_add_alike R new =
+    let E : Rows = record R { groups = with_group (new_group R.groups new.name new.members new.non_members) R.groups } in
     alike (lasting_alike E) (refl, (refl, (texts_same (lasting_alike E), tt)))
 
-pub group_modify_alike : (R : Rows) (name : List ℕ) (members non_members : Option (List (List ℕ))) → WorksAlike (group_modify_work R name members non_members) (group_modify_work (lasting R) name members non_members)
-group_modify_alike R name members non_members =
-    let E : Rows = record R { groups = with_patterns (group_at R name) members non_members R.groups } in
+pub group_modify_alike : (R : Rows) (given : FilegroupChange) → WorksAlike (group_modify_work R given) (group_modify_work (lasting R) given)
+group_modify_alike R given =
+    let E : Rows = record R { groups = with_patterns (group_at R given.name) given.members given.non_members R.groups } in
     alike (lasting_alike E) (refl, (texts_same (lasting_alike E), tt))
 
 pub group_delete_alike : (R : Rows) (name : List ℕ) → WorksAlike (group_delete_work R name) (group_delete_work (lasting R) name)

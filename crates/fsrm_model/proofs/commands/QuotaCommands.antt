@@ -1,20 +1,21 @@
 -- The commands on quotas: each one's work is orderly, and leaves the rows of a store if no check refuses.
 use Rattle.std.proofs.Common.{◌≡◌, ℕ, ◌==◌, Bool, true, false, not, ◌&&◌, List, [], ◌∷◌, ◌++◌, refl, sym, ◌∙◌, ap, subst, cond, Some, None, Option, ◌≤◌, length, arith, nat_lt}
 use Rattle.std.specs.Prelude.{is_some, is_none, unwrap_or, if◌then◌else◌, option_map}
-use Rattle.std.specs.List.{list_all}
-use Rattle.fsrm_model.specs.declared.command.Added.{Added}
+use Rattle.fsrm_model.specs.declared.command.NewQuota.{NewQuota}
+use Rattle.fsrm_model.specs.declared.command.QuotaChange.{QuotaChange}
 use Rattle.fsrm_model.specs.declared.command.Refusal.TheVariants.{PathNotFound, NotFound, AlreadyExists, OutOfRange, TableFull, TextsFull}
 use Rattle.fsrm_model.specs.declared.row.Capacity.{Capacity}
 use Rattle.fsrm_model.specs.declared.row.QuotaRow.{QuotaRow}
 use Rattle.fsrm_model.specs.declared.row.Rows.{Rows}
 use Rattle.fsrm_model.specs.declared.row.TemplateRow.{TemplateRow}
 use Rattle.fsrm_model.specs.declared.row.Threshold.{Threshold}
+use Rattle.fsrm_model.specs.Commands.{is_new_quota, is_quota_change}
 use Rattle.fsrm_model.specs.Check.{first, ◌when◌, table_full, texts_full}
 use Rattle.fsrm_model.specs.FileOps.{target}
 use Rattle.fsrm_base.specs.Keyed.{has_row, with_row, with_change, without_row}
 use Rattle.fsrm_model.specs.Leads.{leads_to_folder}
 use Rattle.fsrm_model.specs.Quota.{folder_of, quota_of, is_limit, counts}
-use Rattle.fsrm_model.specs.QuotaWork.{quota_checks, first_quota, source_of, add_work, modify_work, delete_work, reset_work, list_work, modified, remarked, thresholds_of, reset}
+use Rattle.fsrm_model.specs.QuotaWork.{quota_checks, first_quota, source_of, add_work, modify_work, delete_work, reset_work, list_work, modified, remarked, changed_by, thresholds_of, reset}
 use Rattle.fsrm_base.proofs.Look.{found_has, found_own, is_some-find, has_row-change}
 use Rattle.fsrm_base.proofs.Members.{all_found}
 use Rattle.fsrm_model.proofs.commands.Orderly.{IsStill, change_still, show_still, bare, first_none, when_none, KeepsValid}
@@ -25,7 +26,7 @@ use Rattle.fsrm_model.specs.Limits.{latest_moment, most_quotas, most_templates, 
 use Rattle.fsrm_model.specs.Name.{is_named}
 use Rattle.fsrm_model.specs.Templates.{template_number, template_name, is_template}
 use Rattle.fsrm_model.specs.Texts.{quota_bytes, object_texts}
-use Rattle.fsrm_model.specs.Thresholds.{is_percent, is_notice, are_thresholds, are_too_many, may_be_removed, changed_thresholds}
+use Rattle.fsrm_model.specs.Thresholds.{are_thresholds, are_too_many, may_be_removed, changed_thresholds}
 use Rattle.fsrm_model.specs.Tree.{is_folder, usage}
 use Rattle.fsrm_model.proofs.thresholds.KeptLaws.{fewer_texts, same_texts, sum_by-same, sum_by-less}
 use Rattle.fsrm_model.proofs.thresholds.ThresholdLaws.{changed_kept}
@@ -33,6 +34,7 @@ use Rattle.fsrm_base.specs.Numbers.{without_number}
 use Rattle.fsrm_model.specs.QuotaStates.{start, state_after, queued, in_state, with_quota, is_disabled, state_of, without_quota}
 use Rattle.fsrm_model.specs.Valid.{is_moment, has_source, are_templates, AreQuotas}
 use Rattle.fsrm_model.proofs.commands.FileParts.{folder_at}
+use Rattle.fsrm_model.proofs.commands.ValueParts.{new_quota_parts, quota_change_parts}
 use Rattle.fsrm_base.proofs.Order.{length-with_row}
 use Rattle.fsrm_model.proofs.valid.QueueKept.{queue_added, queue_changed, queue_same, queue_without}
 use Rattle.fsrm_model.proofs.valid.QuotasKept.{quota_at, quotas-new, quotas-change, quotas-without}
@@ -45,12 +47,12 @@ use Rattle.fsrm_model.proofs.journal.Alike.{RowsAlike, WorksAlike, alike, lastin
 use Rattle.fsrm_model.proofs.journal.KeptEnds.{disabled_lasting, none_lasting, quota_lasting, some_lasting, state_lasting}
 use Rattle.fsrm_model.specs.Lasting.{flagged, flagged_quota, lasting}
 
-pub add_still : (K : Capacity) (R : Rows) (moment : ℕ) (path : List (List ℕ)) (limit : Option ℕ) (enforce : Option Bool) (enabled : Bool) (template : Option (List ℕ)) (percents : List ℕ) (notices : List Added) → IsStill K R (add_work R moment path limit enforce enabled template percents notices)
-add_still K R moment path limit enforce enabled template percents notices =
+pub add_still : (K : Capacity) (R : Rows) (moment : ℕ) (new : NewQuota) → IsStill K R (add_work R moment new)
+add_still K R moment new =
     change_still K R _ _ (bare _ _ refl, (bare _ _ refl, (bare _ _ refl, (bare _ _ refl, (bare _ _ refl, (bare _ _ refl, tt)))))) refl
 
-pub modify_still : (K : Capacity) (R : Rows) (path : List (List ℕ)) (limit : Option ℕ) (enforce enabled : Option Bool) (removed percents : List ℕ) (notices : List Added) → IsStill K R (modify_work R path limit enforce enabled removed percents notices)
-modify_still K R path limit enforce enabled removed percents notices =
+pub modify_still : (K : Capacity) (R : Rows) (change : QuotaChange) → IsStill K R (modify_work R change)
+modify_still K R change =
     change_still K R _ _ (bare _ _ refl, (bare _ _ refl, (bare _ _ refl, (bare _ _ refl, (bare _ _ refl, tt))))) refl
 
 pub delete_still : (K : Capacity) (R : Rows) (path : List (List ℕ)) → IsStill K R (delete_work R path)
@@ -109,36 +111,37 @@ first_is R limit (Some name) (Some template) folder state moment named e known l
       source = found_has template_number template.number R.templates template (found_own template_number (is_named template_name name) R.templates template t.ascending e);
     }
 
-pub add_kept : (K : Capacity) (R : Rows) (moment : ℕ) (path : List (List ℕ)) (limit : Option ℕ) (enforce : Option Bool) (enabled : Bool) (template : Option (List ℕ)) (percents : List ℕ) (notices : List Added) → option_map_or is_limit limit (is_some template) ≡ true → list_all is_percent percents ≡ true → list_all is_notice notices ≡ true → moment ≤ latest_moment → KeepsValid K R (add_work R moment path limit enforce enabled template percents notices)
-add_kept K R moment path limit enforce enabled template percents notices legal legal_percents legal_notices late s h =
-    let folder = target R.nodes path in
-    let state = if enabled then start R.nodes folder else Disabled in
-    let source = source_of R template in
+pub add_kept : (K : Capacity) (R : Rows) (moment : ℕ) (new : NewQuota) → is_new_quota new ≡ true → moment ≤ latest_moment → KeepsValid K R (add_work R moment new)
+add_kept K R moment new legal late s h =
+    let given = new_quota_parts new legal in
+    let folder = target R.nodes new.path in
+    let state = if new.enabled then start R.nodes folder else Disabled in
+    let source = source_of R new.template in
     let before = first_quota source folder state moment in
-    let quota = remarked [] percents notices (modified limit enforce before) in
+    let quota = remarked [] new.thresholds (modified new.limit new.enforce before) in
     let quotas = with_row folder_of quota R.quotas in
-    let unknown = is_some template && is_none source in
+    let unknown = is_some new.template && is_none source in
     let missing = (NotFound when unknown) in
     let many = OutOfRange when are_too_many quota.thresholds in
     let full = table_full (with_quota R quota) in
     let long = texts_full (with_quota R quota) in
     let taken = is_some (quota_of R folder) in
-    let a = first_none (PathNotFound when not (leads_to_folder R.nodes path)) ((AlreadyExists when taken) ∷ missing ∷ many ∷ full ∷ long ∷ []) h in
+    let a = first_none (PathNotFound when not (leads_to_folder R.nodes new.path)) ((AlreadyExists when taken) ∷ missing ∷ many ∷ full ∷ long ∷ []) h in
     let b = first_none (AlreadyExists when taken) (missing ∷ many ∷ full ∷ long ∷ []) a.1 in
     let u = first_none missing (many ∷ full ∷ long ∷ []) b.1 in
     let c = first_none many (full ∷ long ∷ []) u.1 in
     let d = first_none full (long ∷ []) c.1 in
     let e = first_none long [] d.1 in
-    let is = first_is R limit template source folder state moment s.tables.templates refl (when_none NotFound unknown u.0) legal in
+    let is = first_is R new.limit new.template source folder state moment s.tables.templates refl (when_none NotFound unknown u.0) given.limit in
     let free : has_row folder_of folder R.quotas ≡ false = sym (is_some-find (λ q. folder_of q == folder) R.quotas) ∙ when_none AlreadyExists taken b.0 in
     let absent : has_row folder_of quota.folder R.quotas ≡ false = ap (λ n. has_row folder_of n R.quotas) is.on ∙ free in
     let few : length quotas ≤ most_quotas = ge_is _ _ (when_none TableFull (nat_lt most_quotas (length quotas)) d.0) in
     let texts : object_texts (record R { quotas = quotas }) ≤ most_text_bytes = ge_is _ _ (when_none TextsFull (nat_lt most_text_bytes (object_texts (record R { quotas = quotas }))) e.0) in
     quotas_followed K R quotas (queued R.queue quota.folder quota.state) s
-    (quotas-new R.nodes R.quotas quota s.quotas absent (omega (arith, length-with_row folder_of quota R.quotas, few)) (ap (is_folder R.nodes) is.on ∙ folder_at R.nodes path a.0)
+    (quotas-new R.nodes R.quotas quota s.quotas absent (omega (arith, length-with_row folder_of quota R.quotas, few)) (ap (is_folder R.nodes) is.on ∙ folder_at R.nodes new.path a.0)
     (record {
       limit = is.size;
-      thresholds = changed_kept [] percents notices before.thresholds is.marks legal_percents legal_notices (when_none OutOfRange (are_too_many quota.thresholds) c.0);
+      thresholds = changed_kept [] new.thresholds.percents new.thresholds.notices before.thresholds is.marks given.thresholds.percents given.thresholds.notices (when_none OutOfRange (are_too_many quota.thresholds) c.0);
       moment = ap is_moment is.made ∙ le_test moment latest_moment late;
     }))
     (sources-new R.templates quota R.quotas is.source s.tables.sources)
@@ -194,19 +197,21 @@ unrefused R path missing thresholds after h =
       short = ge_is _ _ (when_none TextsFull (nat_lt most_text_bytes (object_texts after)) e.0);
     }
 
-pub modify_kept : (K : Capacity) (R : Rows) (path : List (List ℕ)) (limit : Option ℕ) (enforce enabled : Option Bool) (removed percents : List ℕ) (notices : List Added) → option_map_or is_limit limit true ≡ true → list_all is_percent percents ≡ true → list_all is_notice notices ≡ true → KeepsValid K R (modify_work R path limit enforce enabled removed percents notices)
-modify_kept K R path limit enforce enabled removed percents notices legal legal_percents legal_notices s h =
-    let folder = target R.nodes path in
-    let change : QuotaRow → QuotaRow = λ quota. remarked removed percents notices (modified limit enforce quota) in
+pub modify_kept : (K : Capacity) (R : Rows) (given : QuotaChange) → is_quota_change given ≡ true → KeepsValid K R (modify_work R given)
+modify_kept K R given legal s h =
+    let its = quota_change_parts given legal in
+    let folder = target R.nodes given.path in
+    let change : QuotaRow → QuotaRow = changed_by given in
+    let marked : List Threshold → List Threshold = changed_thresholds given.removed given.thresholds.percents given.thresholds.notices in
     let quotas = with_change folder_of folder change R.quotas in
-    let state = state_after R folder enabled in
+    let state = state_after R folder given.enabled in
     let new = with_change folder_of folder (in_state state) quotas in
-    let u = unrefused R path (not (may_be_removed removed (thresholds_of R folder))) (changed_thresholds removed percents notices (thresholds_of R folder)) (record R { quotas = new; queue = queued R.queue folder state }) h in
+    let u = unrefused R given.path (not (may_be_removed given.removed (thresholds_of R folder))) (marked (thresholds_of R folder)) (record R { quotas = new; queue = queued R.queue folder state }) h in
     let are = quotas-change R.nodes R.quotas folder change s.quotas (λ q. refl) (λ q found.
     let is = quota_at R.nodes R.quotas folder q s.quotas found in
     record {
-      limit = limit_kept limit q.limit legal is.limit;
-      thresholds = changed_kept removed percents notices q.thresholds is.thresholds legal_percents legal_notices (subst (λ ts. are_too_many (changed_thresholds removed percents notices ts) ≡ false) (own_thresholds R folder q found) u.few);
+      limit = limit_kept given.limit q.limit its.limit is.limit;
+      thresholds = changed_kept given.removed given.thresholds.percents given.thresholds.notices q.thresholds is.thresholds its.thresholds.percents its.thresholds.notices (subst (λ ts. are_too_many (marked ts) ≡ false) (own_thresholds R folder q found) u.few);
       moment = is.moment;
     }) in
     quotas_followed K R new (queued R.queue folder state) s
@@ -243,11 +248,11 @@ list_kept K R (Some path) s h = nothing_followed K R s
 pub quota_alike : (R : Rows) (path : List (List ℕ)) → (NotFound when is_none (quota_of (lasting R) (target R.nodes path))) ≡ (NotFound when is_none (quota_of R (target R.nodes path)))
 quota_alike R path = ap (λ b. NotFound when b) (none_lasting R (target R.nodes path))
 
-pub add_alike : (R : Rows) (moment : ℕ) (path : List (List ℕ)) (limit : Option ℕ) (enforce : Option Bool) (enabled : Bool) (template : Option (List ℕ)) (percents : List ℕ) (notices : List Added) → WorksAlike (add_work R moment path limit enforce enabled template percents notices) (add_work (lasting R) moment path limit enforce enabled template percents notices)
-add_alike R moment path limit enforce enabled template percents notices =
-    let folder = target R.nodes path in
-    let state = if enabled then start R.nodes folder else Disabled in
-    let quota = remarked [] percents notices (modified limit enforce (first_quota (source_of R template) folder state moment)) in
+pub add_alike : (R : Rows) (moment : ℕ) (new : NewQuota) → WorksAlike (add_work R moment new) (add_work (lasting R) moment new)
+add_alike R moment new =
+    let folder = target R.nodes new.path in
+    let state = if new.enabled then start R.nodes folder else Disabled in
+    let quota = remarked [] new.thresholds (modified new.limit new.enforce (first_quota (source_of R new.template) folder state moment)) in
     let are = quotas_alike R (with_row folder_of quota R.quotas) (with_row folder_of quota (kept R.quotas)) (queued R.queue quota.folder quota.state) (queued [] quota.folder quota.state) R.unvisited [] (kept_with quota R.quotas) in
     alike are (refl, (ap (λ b. AlreadyExists when b) (some_lasting R folder), (refl, (refl, (table_same are, (texts_same are, tt))))))
 
@@ -294,24 +299,22 @@ thresholds_lasting R folder = ap (λ o. option_map_or (λ (q : QuotaRow). q.thre
     at None = refl
     at (Some q) = refl
 
-remarked_keeps : (limit : Option ℕ) (enforce : Option Bool) (removed percents : List ℕ) (notices : List Added) → Keeps (λ q. remarked removed percents notices (modified limit enforce q))
-remarked_keeps limit enforce removed percents notices q =
-    ap (λ (state : QuotaState). record (remarked removed percents notices (modified limit enforce q)) { state = state }) (flagged_twice q.state)
+changed_keeps : (change : QuotaChange) → Keeps (changed_by change)
+changed_keeps change q = ap (λ (state : QuotaState). record (changed_by change q) { state = state }) (flagged_twice q.state)
 
-pub modify_alike : (R : Rows) (path : List (List ℕ)) (limit : Option ℕ) (enforce enabled : Option Bool) (removed percents : List ℕ) (notices : List Added) → WorksAlike (modify_work R path limit enforce enabled removed percents notices) (modify_work (lasting R) path limit enforce enabled removed percents notices)
-modify_alike R path limit enforce enabled removed percents notices =
-    let folder = target R.nodes path in
-    let change : QuotaRow → QuotaRow = λ q. remarked removed percents notices (modified limit enforce q) in
-    let are = with_state_alike R folder (state_after R folder enabled) (state_after (lasting R) folder enabled) (after_alike R folder enabled)
-    (with_change folder_of folder change R.quotas) (with_change folder_of folder change (kept R.quotas)) (kept_change folder change (remarked_keeps limit enforce removed percents notices) R.quotas) in
+pub modify_alike : (R : Rows) (change : QuotaChange) → WorksAlike (modify_work R change) (modify_work (lasting R) change)
+modify_alike R change =
+    let folder = target R.nodes change.path in
+    let are = with_state_alike R folder (state_after R folder change.enabled) (state_after (lasting R) folder change.enabled) (after_alike R folder change.enabled)
+    (with_change folder_of folder (changed_by change) R.quotas) (with_change folder_of folder (changed_by change) (kept R.quotas)) (kept_change folder (changed_by change) (changed_keeps change) R.quotas) in
     alike are (
       refl,
       (
-        quota_alike R path,
+        quota_alike R change.path,
         (
-          ap (λ thresholds. NotFound when not (may_be_removed removed thresholds)) (thresholds_lasting R folder),
+          ap (λ thresholds. NotFound when not (may_be_removed change.removed thresholds)) (thresholds_lasting R folder),
           (
-            ap (λ thresholds. OutOfRange when are_too_many (changed_thresholds removed percents notices thresholds)) (thresholds_lasting R folder),
+            ap (λ thresholds. OutOfRange when are_too_many (changed_thresholds change.removed change.thresholds.percents change.thresholds.notices thresholds)) (thresholds_lasting R folder),
             (
               texts_same are,
               tt,

@@ -10,7 +10,10 @@ use Rattle.fsrm_base.proofs.EditedTests.{list_all-filter, list_any-filter}
 use Rattle.fsrm_base.proofs.Look.{is_some-find, found_has, found_own, has_row-new_other}
 use Rattle.fsrm_base.proofs.NumberLaws.{in_filter}
 use Rattle.fsrm_base.proofs.TestLaws.{both, both_true, and_false, is_false, neither, ge_is, lt_test, le_test}
+use Rattle.fsrm_model.specs.declared.command.NewException.{NewException}
+use Rattle.fsrm_model.specs.declared.command.NewScreen.{NewScreen}
 use Rattle.fsrm_model.specs.declared.command.Refusal.TheVariants.{PathNotFound, NotFound, AlreadyExists, InvalidCombination, OutOfRange, TableFull, TextsFull}
+use Rattle.fsrm_model.specs.declared.command.ScreenChange.{ScreenChange}
 use Rattle.fsrm_model.specs.declared.row.Action.{Action}
 use Rattle.fsrm_model.specs.declared.row.Capacity.{Capacity}
 use Rattle.fsrm_model.specs.declared.row.ExceptRow.{ExceptRow}
@@ -18,7 +21,7 @@ use Rattle.fsrm_model.specs.declared.row.GroupRow.{GroupRow}
 use Rattle.fsrm_model.specs.declared.row.Rows.{Rows}
 use Rattle.fsrm_model.specs.declared.row.ScreenRow.{ScreenRow}
 use Rattle.fsrm_model.specs.Check.{◌when◌, screens_full, excepts_full, texts_full}
-use Rattle.fsrm_model.specs.Commands.{are_some_names}
+use Rattle.fsrm_model.specs.Commands.{are_some_names, is_new_screen, is_new_exception}
 use Rattle.fsrm_model.specs.FileOps.{target}
 use Rattle.fsrm_model.specs.Leads.{leads_to_folder}
 use Rattle.fsrm_model.specs.Limits.{latest_moment, most_actions, most_excepts, most_groups, most_screen_groups, most_screens, most_text_bytes}
@@ -31,6 +34,7 @@ use Rattle.fsrm_model.specs.Tree.{is_folder}
 use Rattle.fsrm_model.specs.Valid.{are_groups, are_group_numbers, is_sound_screen, is_sound_except, are_screens}
 use Rattle.fsrm_model.proofs.commands.FileParts.{folder_at}
 use Rattle.fsrm_model.proofs.commands.Orderly.{IsStill, KeepsValid, change_still, show_still, bare, first_none, when_none, not_false}
+use Rattle.fsrm_model.proofs.commands.ValueParts.{new_screen_parts}
 use Rattle.fsrm_model.proofs.thresholds.KeptLaws.{sum_by-less, sum_by-same}
 use Rattle.fsrm_model.proofs.thresholds.ThresholdLaws.{kept_by_all}
 use Rattle.fsrm_model.proofs.valid.QueueKept.{once_more}
@@ -156,12 +160,12 @@ new_kept action h = at action.last_run h
     at (Some run) h = absurd (cc (both (is_action action) false h).1)
 
 -- ---- screens
-pub screen_add_still : (K : Capacity) (R : Rows) (path : List (List ℕ)) (active : Bool) (names : List (List ℕ)) (actions : List Action) → IsStill K R (screen_add_work R path active names actions)
-screen_add_still K R path active names actions =
+pub screen_add_still : (K : Capacity) (R : Rows) (new : NewScreen) → IsStill K R (screen_add_work R new)
+screen_add_still K R new =
     change_still K R _ _ (bare _ _ refl, (bare _ _ refl, (bare _ _ refl, (bare _ _ refl, (bare _ _ refl, (bare _ _ refl, (bare _ _ refl, tt))))))) refl
 
-pub screen_modify_still : (K : Capacity) (R : Rows) (path : List (List ℕ)) (active : Option Bool) (removed added : List (List ℕ)) → IsStill K R (screen_modify_work R path active removed added)
-screen_modify_still K R path active removed added =
+pub screen_modify_still : (K : Capacity) (R : Rows) (given : ScreenChange) → IsStill K R (screen_modify_work R given)
+screen_modify_still K R given =
     change_still K R _ _ (bare _ _ refl, (bare _ _ refl, (bare _ _ refl, (bare _ _ refl, (bare _ _ refl, (bare _ _ refl, tt)))))) refl
 
 pub screen_delete_still : (K : Capacity) (R : Rows) (path : List (List ℕ)) → IsStill K R (screen_delete_work R path)
@@ -170,20 +174,21 @@ screen_delete_still K R path = change_still K R _ _ (bare _ _ refl, (bare _ _ re
 pub screen_list_still : (K : Capacity) (R : Rows) → IsStill K R (screen_list_work R)
 screen_list_still K R = show_still K R [] _ tt tt (λ store h. tt)
 
-pub screen_add_kept : (K : Capacity) (R : Rows) (path : List (List ℕ)) (active : Bool) (names : List (List ℕ)) (actions : List Action) → are_some_names names ≡ true → list_all is_new_action actions ≡ true → KeepsValid K R (screen_add_work R path active names actions)
-screen_add_kept K R path active names actions legal fresh s h =
-    let folder = target R.nodes path in
-    let groups = changed_groups [] (numbers_named R.groups names) [] in
-    let row = new_screen folder active groups actions in
+pub screen_add_kept : (K : Capacity) (R : Rows) (new : NewScreen) → is_new_screen new ≡ true → KeepsValid K R (screen_add_work R new)
+screen_add_kept K R new legal s h =
+    let its = new_screen_parts new legal in
+    let folder = target R.nodes new.path in
+    let groups = changed_groups [] (numbers_named R.groups new.groups) [] in
+    let row = new_screen folder new.active groups new.actions in
     let screens = with_row screen_folder row R.screens in
     let after = record R { screens = screens } in
     let long = texts_full after in
     let full = screens_full after in
-    let many = (OutOfRange when (are_many_groups groups || nat_lt most_actions (length actions))) in
-    let missing = (NotFound when not (are_named R.groups names)) in
+    let many = (OutOfRange when (are_many_groups groups || nat_lt most_actions (length new.actions))) in
+    let missing = (NotFound when not (are_named R.groups new.groups)) in
     let both_there = (InvalidCombination when is_some (except_of R folder)) in
     let taken = (AlreadyExists when is_some (screen_of R folder)) in
-    let a = first_none (PathNotFound when not (leads_to_folder R.nodes path)) (taken ∷ both_there ∷ missing ∷ many ∷ full ∷ long ∷ []) h in
+    let a = first_none (PathNotFound when not (leads_to_folder R.nodes new.path)) (taken ∷ both_there ∷ missing ∷ many ∷ full ∷ long ∷ []) h in
     let b = first_none taken (both_there ∷ missing ∷ many ∷ full ∷ long ∷ []) a.1 in
     let c = first_none both_there (missing ∷ many ∷ full ∷ long ∷ []) b.1 in
     let d = first_none missing (many ∷ full ∷ long ∷ []) c.1 in
@@ -192,14 +197,14 @@ screen_add_kept K R path active names actions legal fresh s h =
     let g = first_none long [] f.1 in
     let absent : has_row screen_folder folder R.screens ≡ false = sym (is_some-find (λ s. screen_folder s == folder) R.screens) ∙ when_none AlreadyExists (is_some (screen_of R folder)) b.0 in
     let unexcepted : has_row except_folder folder R.excepts ≡ false = sym (is_some-find (λ e. except_folder e == folder) R.excepts) ∙ when_none InvalidCombination (is_some (except_of R folder)) c.0 in
-    let named = not_false (are_named R.groups names) (when_none NotFound (not (are_named R.groups names)) d.0) in
-    let few = neither (are_many_groups groups) (nat_lt most_actions (length actions)) (when_none OutOfRange (are_many_groups groups || nat_lt most_actions (length actions)) e.0) in
+    let named = not_false (are_named R.groups new.groups) (when_none NotFound (not (are_named R.groups new.groups)) d.0) in
+    let few = neither (are_many_groups groups) (nat_lt most_actions (length new.actions)) (when_none OutOfRange (are_many_groups groups || nat_lt most_actions (length new.actions)) e.0) in
     let room : length screens ≤ most_screens = ge_is _ _ (when_none TableFull (nat_lt most_screens (length screens)) f.0) in
     let sound : is_sound_screen R.nodes R.groups R.excepts row ≡ true = screen_joined R.nodes R.groups R.excepts row (record {
-      folder = folder_at R.nodes path a.0;
+      folder = folder_at R.nodes new.path a.0;
       unexcepted = unexcepted;
-      numbers = named_are R names s.tables.groups legal named few.0;
-      actions = both_true (nat_le (length actions) most_actions) (list_all is_kept_action actions) (le_test (length actions) most_actions (ge_is most_actions (length actions) few.1)) (all_weaker is_new_action is_kept_action actions new_kept fresh);
+      numbers = named_are R new.groups s.tables.groups its.groups named few.0;
+      actions = both_true (nat_le (length new.actions) most_actions) (list_all is_kept_action new.actions) (le_test (length new.actions) most_actions (ge_is most_actions (length new.actions) few.1)) (all_weaker is_new_action is_kept_action new.actions new_kept its.actions);
     }) in
     screens_followed K R R.groups screens R.excepts s s.tables.groups
     (table-new screen_folder most_screens (is_sound_screen R.nodes R.groups R.excepts) row R.screens s.tables.screens absent room sound)
@@ -235,15 +240,15 @@ some_length : (numbers : List ℕ) → (length numbers == 0) ≡ false → 0 < l
 some_length [] h = absurd (cc h)
 some_length (n ∷ ns) h = omega arith
 
-pub screen_modify_kept : (K : Capacity) (R : Rows) (path : List (List ℕ)) (active : Option Bool) (removed added : List (List ℕ)) → KeepsValid K R (screen_modify_work R path active removed added)
-screen_modify_kept K R path active removed added s h =
-    let folder = target R.nodes path in
+pub screen_modify_kept : (K : Capacity) (R : Rows) (given : ScreenChange) → KeepsValid K R (screen_modify_work R given)
+screen_modify_kept K R given s h =
+    let folder = target R.nodes given.path in
     let before = groups_of R folder in
-    let gone = numbers_named R.groups removed in
-    let groups = changed_groups gone (numbers_named R.groups added) before in
-    let lost = (PathNotFound when not (leads_to_folder R.nodes path)) in
+    let gone = numbers_named R.groups given.removed in
+    let groups = changed_groups gone (numbers_named R.groups given.groups) before in
+    let lost = (PathNotFound when not (leads_to_folder R.nodes given.path)) in
     let none = (NotFound when is_none (screen_of R folder)) in
-    let unknown = (NotFound when not (are_named R.groups removed && are_named R.groups added)) in
+    let unknown = (NotFound when not (are_named R.groups given.removed && are_named R.groups given.groups)) in
     let other = (NotFound when not (may_be_taken gone before)) in
     let empty = (InvalidCombination when (length groups == 0)) in
     let many = (OutOfRange when are_many_groups groups) in
@@ -255,14 +260,14 @@ screen_modify_kept K R path active removed added s h =
     let f = first_none many [] e.1 in
     let old = old_groups R folder s.tables.screens in
     let numbers : are_group_numbers R.groups groups ≡ true = numbers_are R.groups groups (some_length groups (when_none InvalidCombination (length groups == 0) e.0)) (when_none OutOfRange (are_many_groups groups) f.0)
-    (changed_once gone (numbers_named R.groups added) before old.once)
-    (changed_all (λ n. has_row group_number n R.groups) gone (numbers_named R.groups added) before (numbers_there R.groups added (groups_ascend R.groups s.tables.groups)) old.there) in
-    screens_followed K R R.groups (with_change screen_folder folder (rescreened active groups) R.screens) R.excepts s s.tables.groups
-    (table-change screen_folder most_screens (is_sound_screen R.nodes R.groups R.excepts) folder (rescreened active groups) R.screens s.tables.screens (λ x. refl) (λ x is.
+    (changed_once gone (numbers_named R.groups given.groups) before old.once)
+    (changed_all (λ n. has_row group_number n R.groups) gone (numbers_named R.groups given.groups) before (numbers_there R.groups given.groups (groups_ascend R.groups s.tables.groups)) old.there) in
+    screens_followed K R R.groups (with_change screen_folder folder (rescreened given.active groups) R.screens) R.excepts s s.tables.groups
+    (table-change screen_folder most_screens (is_sound_screen R.nodes R.groups R.excepts) folder (rescreened given.active groups) R.screens s.tables.screens (λ x. refl) (λ x is.
     let p = screen_parts R.nodes R.groups R.excepts x is in
-    screen_joined R.nodes R.groups R.excepts (rescreened active groups x) (record { folder = p.folder; unexcepted = p.unexcepted; numbers = numbers; actions = p.actions })))
+    screen_joined R.nodes R.groups R.excepts (rescreened given.active groups x) (record { folder = p.folder; unexcepted = p.unexcepted; numbers = numbers; actions = p.actions })))
     s.tables.excepts
-    (changed_texts R folder active groups s.texts)
+    (changed_texts R folder given.active groups s.texts)
 
 -- texts of fewer screens
 fewer_screens : (R : Rows) (p : ScreenRow → Bool) → object_texts R ≤ most_text_bytes → object_texts (record R { screens = filter p R.screens }) ≤ most_text_bytes
@@ -283,8 +288,8 @@ pub screen_list_kept : (K : Capacity) (R : Rows) → KeepsValid K R (screen_list
 screen_list_kept K R s h = nothing_followed K R s
 
 -- ---- exceptions
-pub except_add_still : (K : Capacity) (R : Rows) (path : List (List ℕ)) (names : List (List ℕ)) → IsStill K R (except_add_work R path names)
-except_add_still K R path names =
+pub except_add_still : (K : Capacity) (R : Rows) (new : NewException) → IsStill K R (except_add_work R new)
+except_add_still K R new =
     change_still K R _ _ (bare _ _ refl, (bare _ _ refl, (bare _ _ refl, (bare _ _ refl, (bare _ _ refl, (bare _ _ refl, tt)))))) refl
 
 pub except_delete_still : (K : Capacity) (R : Rows) (path : List (List ℕ)) → IsStill K R (except_delete_work R path)
@@ -293,19 +298,19 @@ except_delete_still K R path = change_still K R _ _ (bare _ _ refl, (bare _ _ re
 pub except_list_still : (K : Capacity) (R : Rows) → IsStill K R (except_list_work R)
 except_list_still K R = show_still K R [] _ tt tt (λ store h. tt)
 
-pub except_add_kept : (K : Capacity) (R : Rows) (path : List (List ℕ)) (names : List (List ℕ)) → are_some_names names ≡ true → KeepsValid K R (except_add_work R path names)
-except_add_kept K R path names legal s h =
-    let folder = target R.nodes path in
-    let groups = changed_groups [] (numbers_named R.groups names) [] in
+pub except_add_kept : (K : Capacity) (R : Rows) (new : NewException) → is_new_exception new ≡ true → KeepsValid K R (except_add_work R new)
+except_add_kept K R new legal s h =
+    let folder = target R.nodes new.path in
+    let groups = changed_groups [] (numbers_named R.groups new.groups) [] in
     let row = new_except folder groups in
     let excepts = with_row except_folder row R.excepts in
     let after = record R { excepts = excepts } in
     let full = excepts_full after in
     let many = (OutOfRange when are_many_groups groups) in
-    let missing = (NotFound when not (are_named R.groups names)) in
+    let missing = (NotFound when not (are_named R.groups new.groups)) in
     let both_there = (InvalidCombination when is_some (screen_of R folder)) in
     let taken = (AlreadyExists when is_some (except_of R folder)) in
-    let a = first_none (PathNotFound when not (leads_to_folder R.nodes path)) (taken ∷ both_there ∷ missing ∷ many ∷ full ∷ []) h in
+    let a = first_none (PathNotFound when not (leads_to_folder R.nodes new.path)) (taken ∷ both_there ∷ missing ∷ many ∷ full ∷ []) h in
     let b = first_none taken (both_there ∷ missing ∷ many ∷ full ∷ []) a.1 in
     let c = first_none both_there (missing ∷ many ∷ full ∷ []) b.1 in
     let d = first_none missing (many ∷ full ∷ []) c.1 in
@@ -313,10 +318,10 @@ except_add_kept K R path names legal s h =
     let f = first_none full [] e.1 in
     let absent : has_row except_folder folder R.excepts ≡ false = sym (is_some-find (λ e. except_folder e == folder) R.excepts) ∙ when_none AlreadyExists (is_some (except_of R folder)) b.0 in
     let unscreened : list_any (λ screen. screen_folder screen == folder) R.screens ≡ false = sym (is_some-find (λ screen. screen_folder screen == folder) R.screens) ∙ when_none InvalidCombination (is_some (screen_of R folder)) c.0 in
-    let named = not_false (are_named R.groups names) (when_none NotFound (not (are_named R.groups names)) d.0) in
+    let named = not_false (are_named R.groups new.groups) (when_none NotFound (not (are_named R.groups new.groups)) d.0) in
     let few = when_none OutOfRange (are_many_groups groups) e.0 in
     let room : length excepts ≤ most_excepts = ge_is _ _ (when_none TableFull (nat_lt most_excepts (length excepts)) f.0) in
-    let sound : is_sound_except R.nodes R.groups row ≡ true = both_true (is_folder R.nodes folder) (are_group_numbers R.groups groups) (folder_at R.nodes path a.0) (named_are R names s.tables.groups legal named few) in
+    let sound : is_sound_except R.nodes R.groups row ≡ true = both_true (is_folder R.nodes folder) (are_group_numbers R.groups groups) (folder_at R.nodes new.path a.0) (named_are R new.groups s.tables.groups legal named few) in
     screens_followed K R R.groups R.screens excepts s s.tables.groups
     (table_apart screen_folder most_screens (λ screen. screen_folder screen == folder) (is_sound_screen R.nodes R.groups R.excepts) (is_sound_screen R.nodes R.groups excepts) R.screens s.tables.screens unscreened (λ x apart is.
     let p = screen_parts R.nodes R.groups R.excepts x is in
@@ -340,16 +345,16 @@ pub except_list_kept : (K : Capacity) (R : Rows) → KeepsValid K R (except_list
 except_list_kept K R s h = nothing_followed K R s
 
 -- ---- over rows and over what is kept of them
-pub screen_add_alike : (R : Rows) (path : List (List ℕ)) (active : Bool) (names : List (List ℕ)) (actions : List Action) → WorksAlike (screen_add_work R path active names actions) (screen_add_work (lasting R) path active names actions)
-screen_add_alike R path active names actions =
-    let E : Rows = record R { screens = with_row screen_folder (new_screen (target R.nodes path) active (changed_groups [] (numbers_named R.groups names) []) actions) R.screens } in
+pub screen_add_alike : (R : Rows) (new : NewScreen) → WorksAlike (screen_add_work R new) (screen_add_work (lasting R) new)
+screen_add_alike R new =
+    let E : Rows = record R { screens = with_row screen_folder (new_screen (target R.nodes new.path) new.active (changed_groups [] (numbers_named R.groups new.groups) []) new.actions) R.screens } in
     alike (lasting_alike E) (refl, (refl, (refl, (refl, (refl, (refl, (texts_same (lasting_alike E), tt)))))))
 
-pub screen_modify_alike : (R : Rows) (path : List (List ℕ)) (active : Option Bool) (removed added : List (List ℕ)) → WorksAlike (screen_modify_work R path active removed added) (screen_modify_work (lasting R) path active removed added)
-screen_modify_alike R path active removed added =
-    let folder = target R.nodes path in
-    let groups = changed_groups (numbers_named R.groups removed) (numbers_named R.groups added) (groups_of R folder) in
-    alike (lasting_alike (record R { screens = with_change screen_folder folder (rescreened active groups) R.screens })) (refl, (refl, (refl, (refl, (refl, (refl, tt))))))
+pub screen_modify_alike : (R : Rows) (given : ScreenChange) → WorksAlike (screen_modify_work R given) (screen_modify_work (lasting R) given)
+screen_modify_alike R given =
+    let folder = target R.nodes given.path in
+    let groups = changed_groups (numbers_named R.groups given.removed) (numbers_named R.groups given.groups) (groups_of R folder) in
+    alike (lasting_alike (record R { screens = with_change screen_folder folder (rescreened given.active groups) R.screens })) (refl, (refl, (refl, (refl, (refl, (refl, tt))))))
 
 pub screen_delete_alike : (R : Rows) (path : List (List ℕ)) → WorksAlike (screen_delete_work R path) (screen_delete_work (lasting R) path)
 screen_delete_alike R path = alike (lasting_alike (record R { screens = without_row screen_folder (target R.nodes path) R.screens })) (refl, (refl, tt))
@@ -357,9 +362,9 @@ screen_delete_alike R path = alike (lasting_alike (record R { screens = without_
 pub screen_list_alike : (R : Rows) → WorksAlike (screen_list_work R) (screen_list_work (lasting R))
 screen_list_alike R = alike (lasting_alike R) tt
 
-pub except_add_alike : (R : Rows) (path : List (List ℕ)) (names : List (List ℕ)) → WorksAlike (except_add_work R path names) (except_add_work (lasting R) path names)
-except_add_alike R path names =
-    alike (lasting_alike (record R { excepts = with_row except_folder (new_except (target R.nodes path) (changed_groups [] (numbers_named R.groups names) [])) R.excepts }))
+pub except_add_alike : (R : Rows) (new : NewException) → WorksAlike (except_add_work R new) (except_add_work (lasting R) new)
+except_add_alike R new =
+    alike (lasting_alike (record R { excepts = with_row except_folder (new_except (target R.nodes new.path) (changed_groups [] (numbers_named R.groups new.groups) [])) R.excepts }))
     (refl, (refl, (refl, (refl, (refl, (refl, tt))))))
 
 pub except_delete_alike : (R : Rows) (path : List (List ℕ)) → WorksAlike (except_delete_work R path) (except_delete_work (lasting R) path)

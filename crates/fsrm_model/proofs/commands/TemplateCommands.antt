@@ -2,33 +2,34 @@
 use Rattle.std.proofs.Common.{◌≡◌, ℕ, ◌≤◌, ◌==◌, nat_lt, Bool, true, false, cond, not, List, [], ◌∷◌, length, Option, Some, None, refl, sym, ◌∙◌, subst, arith, ap}
 use Rattle.std.proofs.lemmas.Option.{same_Some}
 use Rattle.std.specs.Prelude.{is_none, is_some, map, sum_by}
-use Rattle.std.specs.List.{list_all, list_any}
-use Rattle.std.specs.Option.{option_map_or}
+use Rattle.std.specs.List.{list_any}
 use Rattle.fsrm_base.specs.Keyed.{row_of, with_row, with_change, without_row, least_free}
 use Rattle.fsrm_base.proofs.Look.{found_own, has_row-change, is_some-find}
 use Rattle.fsrm_base.proofs.Members.{all_found}
 use Rattle.fsrm_base.proofs.Order.{least_free_is, length-with_row}
 use Rattle.fsrm_base.proofs.TestLaws.{ge_is, lt_test}
-use Rattle.fsrm_model.specs.declared.command.Added.{Added}
+use Rattle.fsrm_model.specs.declared.command.NewTemplate.{NewTemplate}
 use Rattle.fsrm_model.specs.declared.command.Refusal.TheVariants.{DuplicateName, NotFound, InUse, OutOfRange, TableFull, TextsFull}
+use Rattle.fsrm_model.specs.declared.command.TemplateChange.{TemplateChange}
 use Rattle.fsrm_model.specs.declared.command.Update.{Update}
 use Rattle.fsrm_model.specs.declared.row.Capacity.{Capacity}
 use Rattle.fsrm_model.specs.declared.row.QuotaRow.{QuotaRow}
 use Rattle.fsrm_model.specs.declared.row.Rows.{Rows}
 use Rattle.fsrm_model.specs.declared.row.TemplateRow.{TemplateRow}
+use Rattle.fsrm_model.specs.Commands.{is_new_template, is_template_change}
 use Rattle.fsrm_model.specs.Check.{◌when◌, templates_full, texts_full}
 use Rattle.fsrm_model.specs.Limits.{most_templates, most_text_bytes}
 use Rattle.fsrm_model.specs.Name.{is_named}
-use Rattle.fsrm_model.specs.Patterns.{is_object_name}
-use Rattle.fsrm_model.specs.Quota.{folder_of, is_limit}
+use Rattle.fsrm_model.specs.Quota.{folder_of}
 use Rattle.fsrm_model.specs.QuotaStates.{followed}
 use Rattle.fsrm_model.specs.Templates.{template_number, template_name, template_named, is_template, is_derived, without_source, is_reached, as_template, updated}
 use Rattle.fsrm_model.specs.TemplateWork.{number_in, thresholds_in, new_template, template_add_work, retemplated, updated_quotas, template_modify_work, is_applied, template_delete_work, template_list_work}
 use Rattle.fsrm_model.specs.Texts.{quota_bytes, template_bytes, object_texts}
-use Rattle.fsrm_model.specs.Thresholds.{is_percent, is_notice, are_too_many, may_be_removed, changed_thresholds}
+use Rattle.fsrm_model.specs.Thresholds.{are_too_many, may_be_removed, changed_thresholds}
 use Rattle.fsrm_model.specs.Valid.{IsValid}
 use Rattle.fsrm_model.proofs.commands.Orderly.{IsStill, KeepsValid, change_still, show_still, bare, first_none, when_none}
 use Rattle.fsrm_model.proofs.commands.QuotaCommands.{limit_kept}
+use Rattle.fsrm_model.proofs.commands.ValueParts.{IsTemplateChange, new_template_parts, template_change_parts}
 use Rattle.fsrm_model.proofs.thresholds.KeptLaws.{sum_by-less, sum_by-same}
 use Rattle.fsrm_model.proofs.thresholds.ThresholdLaws.{changed_kept}
 use Rattle.fsrm_model.proofs.thresholds.UnrunKept.{changed_unrun}
@@ -42,12 +43,12 @@ use Rattle.fsrm_model.proofs.journal.KeptQuotas.{Keeps, SameKept, kept, kept_map
 use Rattle.fsrm_model.proofs.journal.Alike.{WorksAlike, alike, lasting_alike, quotas_alike, texts_same}
 use Rattle.fsrm_model.specs.Lasting.{flagged_quota, lasting}
 
-pub template_add_still : (K : Capacity) (R : Rows) (name : List ℕ) (limit : ℕ) (enforce : Bool) (percents : List ℕ) (notices : List Added) → IsStill K R (template_add_work R name limit enforce percents notices)
-template_add_still K R name limit enforce percents notices =
+pub template_add_still : (K : Capacity) (R : Rows) (new : NewTemplate) → IsStill K R (template_add_work R new)
+template_add_still K R new =
     change_still K R _ _ (bare _ _ refl, (bare _ _ refl, (bare _ _ refl, (bare _ _ refl, tt)))) refl
 
-pub template_modify_still : (K : Capacity) (R : Rows) (name : List ℕ) (limit : Option ℕ) (enforce : Option Bool) (removed percents : List ℕ) (notices : List Added) (mode : Update) → IsStill K R (template_modify_work R name limit enforce removed percents notices mode)
-template_modify_still K R name limit enforce removed percents notices mode =
+pub template_modify_still : (K : Capacity) (R : Rows) (given : TemplateChange) → IsStill K R (template_modify_work R given)
+template_modify_still K R given =
     change_still K R _ _ (bare _ _ refl, (bare _ _ refl, (bare _ _ refl, (bare _ _ refl, tt)))) refl
 
 pub template_delete_still : (K : Capacity) (R : Rows) (name : List ℕ) → IsStill K R (template_delete_work R name)
@@ -56,14 +57,14 @@ template_delete_still K R name = change_still K R _ _ (bare _ _ refl, (bare _ _ 
 pub template_list_still : (K : Capacity) (R : Rows) → IsStill K R (template_list_work R)
 template_list_still K R = show_still K R [] _ tt tt (λ store h. tt)
 
-pub template_add_kept : (K : Capacity) (R : Rows) (name : List ℕ) (limit : ℕ) (enforce : Bool) (percents : List ℕ) (notices : List Added) → is_object_name name ≡ true → is_limit limit ≡ true → list_all is_percent percents ≡ true → list_all is_notice notices ≡ true → KeepsValid K R (template_add_work R name limit enforce percents notices)
-template_add_kept K R name limit enforce percents notices named legal legal_percents legal_notices s h =
-    let thresholds = changed_thresholds [] percents notices [] in
-    let row = new_template R.templates name limit enforce thresholds in
+pub template_add_kept : (K : Capacity) (R : Rows) (new : NewTemplate) → is_new_template new ≡ true → KeepsValid K R (template_add_work R new)
+template_add_kept K R new legal s h =
+    let its = new_template_parts new legal in
+    let row = new_template R.templates new in
     let templates = with_row template_number row R.templates in
     let after = record R { templates = templates } in
-    let known = is_some (template_named R.templates name) in
-    let many = (OutOfRange when are_too_many thresholds) in
+    let known = is_some (template_named R.templates new.name) in
+    let many = (OutOfRange when are_too_many row.thresholds) in
     let full = templates_full after in
     let long = texts_full after in
     let a = first_none (DuplicateName when known) (many ∷ full ∷ long ∷ []) h in
@@ -74,13 +75,13 @@ template_add_kept K R name limit enforce percents notices named legal legal_perc
     let free = least_free_is template_number R.templates t.ascending in
     let most = free.most in
     let few : length templates ≤ most_templates = ge_is _ _ (when_none TableFull (nat_lt most_templates (length templates)) c.0) in
-    let none : list_any (is_named template_name name) R.templates ≡ false = sym (is_some-find (is_named template_name name) R.templates) ∙ when_none DuplicateName known a.0 in
+    let none : list_any (is_named template_name new.name) R.templates ≡ false = sym (is_some-find (is_named template_name new.name) R.templates) ∙ when_none DuplicateName known a.0 in
     let is : is_template row ≡ true = template_joined row (record {
       below = lt_test (least_free template_number R.templates) most_templates (omega (arith, most, few, length-with_row template_number row R.templates));
-      named = named;
-      limit = legal;
-      thresholds = changed_kept [] percents notices [] refl legal_percents legal_notices (when_none OutOfRange (are_too_many thresholds) b.0);
-      unrun = changed_unrun [] percents notices [] legal_notices refl;
+      named = its.name;
+      limit = its.limit;
+      thresholds = changed_kept [] new.thresholds.percents new.thresholds.notices [] refl its.thresholds.percents its.thresholds.notices (when_none OutOfRange (are_too_many row.thresholds) b.0);
+      unrun = changed_unrun [] new.thresholds.percents new.thresholds.notices [] its.thresholds.notices refl;
     }) in
     let all = there-with_row template_number row R.templates free.free in
     templates_followed K R templates R.autos R.quotas R.queue s
@@ -92,15 +93,16 @@ template_add_kept K R name limit enforce percents notices named legal legal_perc
     s.queue
 
 -- what is changed in form is a template
-retemplated_is : (limit : Option ℕ) (enforce : Option Bool) (removed percents : List ℕ) (notices : List Added) (template : TemplateRow) → option_map_or is_limit limit true ≡ true → list_all is_percent percents ≡ true → list_all is_notice notices ≡ true → are_too_many (changed_thresholds removed percents notices template.thresholds) ≡ false → is_template template ≡ true → is_template (retemplated limit enforce removed percents notices template) ≡ true
-retemplated_is limit enforce removed percents notices template legal legal_percents legal_notices few is =
+retemplated_is : (change : TemplateChange) (template : TemplateRow) → IsTemplateChange change → are_too_many (retemplated change template).thresholds ≡ false → is_template template ≡ true → is_template (retemplated change template) ≡ true
+retemplated_is change template legal few is =
     let p = template_parts template is in
-    template_joined (retemplated limit enforce removed percents notices template) (record {
+    let coming = change.thresholds in
+    template_joined (retemplated change template) (record {
       below = p.below;
       named = p.named;
-      limit = limit_kept limit template.limit legal p.limit;
-      thresholds = changed_kept removed percents notices template.thresholds p.thresholds legal_percents legal_notices few;
-      unrun = changed_unrun removed percents notices template.thresholds legal_notices p.unrun;
+      limit = limit_kept change.limit template.limit legal.limit p.limit;
+      thresholds = changed_kept change.removed coming.percents coming.notices template.thresholds p.thresholds legal.thresholds.percents legal.thresholds.notices few;
+      unrun = changed_unrun change.removed coming.percents coming.notices template.thresholds legal.thresholds.notices p.unrun;
     })
 
 -- what it reaches has its values, and all else of a quota stays
@@ -126,18 +128,20 @@ updated_state mode old new quota = at (is_reached mode old quota)
     at false = refl
 
 -- a template that is there changes, and the quotas that this reaches
-modified_kept : (K : Capacity) (R : Rows) (name : List ℕ) (limit : Option ℕ) (enforce : Option Bool) (removed percents : List ℕ) (notices : List Added) (mode : Update) (o : Option TemplateRow) → template_named R.templates name ≡ o → is_none o ≡ false → option_map_or is_limit limit true ≡ true → list_all is_percent percents ≡ true → list_all is_notice notices ≡ true → are_too_many (changed_thresholds removed percents notices (thresholds_in o)) ≡ false → object_texts (record R { templates = with_change template_number (number_in o) (retemplated limit enforce removed percents notices) R.templates; quotas = updated_quotas mode o (retemplated limit enforce removed percents notices) R.quotas }) ≤ most_text_bytes → IsValid K R → IsValid K (followed R (record R { templates = with_change template_number (number_in o) (retemplated limit enforce removed percents notices) R.templates; quotas = updated_quotas mode o (retemplated limit enforce removed percents notices) R.quotas }))
-modified_kept K R name limit enforce removed percents notices mode None e there legal legal_percents legal_notices few short s = absurd (cc there)
-modified_kept K R name limit enforce removed percents notices mode (Some template) e there legal legal_percents legal_notices few short s =
-    let change : TemplateRow → TemplateRow = retemplated limit enforce removed percents notices in
+modified_kept : (K : Capacity) (R : Rows) (given : TemplateChange) (o : Option TemplateRow) → template_named R.templates given.name ≡ o → is_none o ≡ false → IsTemplateChange given → are_too_many (changed_thresholds given.removed given.thresholds.percents given.thresholds.notices (thresholds_in o)) ≡ false → object_texts (record R { templates = with_change template_number (number_in o) (retemplated given) R.templates; quotas = updated_quotas given.update o (retemplated given) R.quotas }) ≤ most_text_bytes → IsValid K R → IsValid K (followed R (record R { templates = with_change template_number (number_in o) (retemplated given) R.templates; quotas = updated_quotas given.update o (retemplated given) R.quotas }))
+modified_kept K R given None e there legal few short s = absurd (cc there)
+modified_kept K R given (Some template) e there legal few short s =
+    let name = given.name in
+    let mode = given.update in
+    let change : TemplateRow → TemplateRow = retemplated given in
     let n = template.number in
     let new = change template in
     let templates = with_change template_number n change R.templates in
     let t = named_parts template_number template_name most_templates is_template R.templates s.tables.templates in
     let own : row_of template_number n R.templates ≡ Some template = found_own template_number (is_named template_name name) R.templates template t.ascending e in
     let form : (x : TemplateRow) → row_of template_number n R.templates ≡ Some x → is_template x ≡ true → is_template (change x) ≡ true = λ x found is.
-    retemplated_is limit enforce removed percents notices x legal legal_percents legal_notices
-    (subst (λ (t : TemplateRow). are_too_many (changed_thresholds removed percents notices t.thresholds) ≡ false) (same_Some template x (sym own ∙ found)) few) is in
+    retemplated_is given x legal
+    (subst (λ (t : TemplateRow). are_too_many (change t).thresholds ≡ false) (same_Some template x (sym own ∙ found)) few) is in
     let is : is_template new ≡ true = form template own (all_found is_template (is_named template_name name) R.templates template t.each e) in
     let all : HasTemplates R.templates templates = λ k there. has_row-change template_number n change (λ t. refl) k R.templates ∙ there in
     templates_followed K R templates R.autos (map (updated mode template new) R.quotas) R.queue s
@@ -148,14 +152,14 @@ modified_kept K R name limit enforce removed percents notices mode (Some templat
     short
     (queue_mapped (updated mode template new) R.quotas R.queue (updated_folder mode template new) (updated_state mode template new) s.queue)
 
-pub template_modify_kept : (K : Capacity) (R : Rows) (name : List ℕ) (limit : Option ℕ) (enforce : Option Bool) (removed percents : List ℕ) (notices : List Added) (mode : Update) → option_map_or is_limit limit true ≡ true → list_all is_percent percents ≡ true → list_all is_notice notices ≡ true → KeepsValid K R (template_modify_work R name limit enforce removed percents notices mode)
-template_modify_kept K R name limit enforce removed percents notices mode legal legal_percents legal_notices s h =
-    let old = template_named R.templates name in
-    let change : TemplateRow → TemplateRow = retemplated limit enforce removed percents notices in
-    let after = record R { templates = with_change template_number (number_in old) change R.templates; quotas = updated_quotas mode old change R.quotas } in
+pub template_modify_kept : (K : Capacity) (R : Rows) (given : TemplateChange) → is_template_change given ≡ true → KeepsValid K R (template_modify_work R given)
+template_modify_kept K R given legal s h =
+    let old = template_named R.templates given.name in
+    let change : TemplateRow → TemplateRow = retemplated given in
+    let after = record R { templates = with_change template_number (number_in old) change R.templates; quotas = updated_quotas given.update old change R.quotas } in
     let thresholds = thresholds_in old in
-    let stays = not (may_be_removed removed thresholds) in
-    let crowded = are_too_many (changed_thresholds removed percents notices thresholds) in
+    let stays = not (may_be_removed given.removed thresholds) in
+    let crowded = are_too_many (changed_thresholds given.removed given.thresholds.percents given.thresholds.notices thresholds) in
     let missing = (NotFound when is_none old) in
     let gone = (NotFound when stays) in
     let many = (OutOfRange when crowded) in
@@ -164,7 +168,7 @@ template_modify_kept K R name limit enforce removed percents notices mode legal 
     let b = first_none gone (many ∷ long ∷ []) a.1 in
     let c = first_none many (long ∷ []) b.1 in
     let d = first_none long [] c.1 in
-    modified_kept K R name limit enforce removed percents notices mode old refl (when_none NotFound (is_none old) a.0) legal legal_percents legal_notices
+    modified_kept K R given old refl (when_none NotFound (is_none old) a.0) (template_change_parts given legal)
     (when_none OutOfRange crowded c.0) (ge_is _ _ (when_none TextsFull (nat_lt most_text_bytes (object_texts after)) d.0)) s
 
 -- a quota without a template that is gone is as it was otherwise
@@ -222,9 +226,9 @@ pub template_list_kept : (K : Capacity) (R : Rows) → KeepsValid K R (template_
 template_list_kept K R s h = nothing_followed K R s
 
 -- ---- over rows and over what is kept of them
-pub template_add_alike : (R : Rows) (name : List ℕ) (limit : ℕ) (enforce : Bool) (percents : List ℕ) (notices : List Added) → WorksAlike (template_add_work R name limit enforce percents notices) (template_add_work (lasting R) name limit enforce percents notices)
-template_add_alike R name limit enforce percents notices =
-    let E : Rows = record R { templates = with_row template_number (new_template R.templates name limit enforce (changed_thresholds [] percents notices [])) R.templates } in
+pub template_add_alike : (R : Rows) (new : NewTemplate) → WorksAlike (template_add_work R new) (template_add_work (lasting R) new)
+template_add_alike R new =
+    let E : Rows = record R { templates = with_row template_number (new_template R.templates new) R.templates } in
     alike (lasting_alike E) (refl, (refl, (refl, (texts_same (lasting_alike E), tt))))
 
 reached_flagged : (mode : Update) (old : TemplateRow) (q : QuotaRow) → is_reached mode old (flagged_quota q) ≡ is_reached mode old q
@@ -244,12 +248,12 @@ updated_kept : (mode : Update) (o : Option TemplateRow) (change : TemplateRow �
 updated_kept mode None change qs = kept_twice qs
 updated_kept mode (Some template) change qs = kept_map (updated mode template (change template)) (updated_keeps mode template (change template)) qs
 
-pub template_modify_alike : (R : Rows) (name : List ℕ) (limit : Option ℕ) (enforce : Option Bool) (removed percents : List ℕ) (notices : List Added) (mode : Update) → WorksAlike (template_modify_work R name limit enforce removed percents notices mode) (template_modify_work (lasting R) name limit enforce removed percents notices mode)
-template_modify_alike R name limit enforce removed percents notices mode =
-    let old = template_named R.templates name in
-    let change : TemplateRow → TemplateRow = retemplated limit enforce removed percents notices in
+pub template_modify_alike : (R : Rows) (given : TemplateChange) → WorksAlike (template_modify_work R given) (template_modify_work (lasting R) given)
+template_modify_alike R given =
+    let old = template_named R.templates given.name in
+    let change : TemplateRow → TemplateRow = retemplated given in
     let base : Rows = record R { templates = with_change template_number (number_in old) change R.templates } in
-    let are = quotas_alike base (updated_quotas mode old change R.quotas) (updated_quotas mode old change (kept R.quotas)) R.queue [] R.unvisited [] (updated_kept mode old change R.quotas) in
+    let are = quotas_alike base (updated_quotas given.update old change R.quotas) (updated_quotas given.update old change (kept R.quotas)) R.queue [] R.unvisited [] (updated_kept given.update old change R.quotas) in
     alike are (refl, (refl, (refl, (texts_same are, tt))))
 
 source_keeps : (number : ℕ) → Keeps (without_source number)

@@ -155,7 +155,7 @@ group_add_sound =
     record {
       sound = λ L given d s h.
           let others = unwrap_or (one texts_of non_members_key given) [] in
-          let make : List ℕ → List (List ℕ) → Deed = λ name members. Filegroup (FilegroupAdd name members others) in
+          let make : List ℕ → List (List ℕ) → Deed = λ name members. Filegroup (FilegroupAdd (record { name = name; members = members; non_members = others })) in
           let name = needed text_of filegroup_key given (λ name. needs texts_of members_key given (λ members. Some (make name members))) d h in
           let members = needed texts_of members_key given (λ members. Some (make name.0 members)) d name.2 in
           let made : make name.0 members.0 ≡ d = cc members.2 in
@@ -175,7 +175,7 @@ group_modify_sound =
       sound = λ L given d s h.
           let members = one texts_of members_key given in
           let others = one texts_of non_members_key given in
-          let make : List ℕ → Deed = λ name. Filegroup (FilegroupModify name members others) in
+          let make : List ℕ → Deed = λ name. Filegroup (FilegroupModify (record { name = name; members = members; non_members = others })) in
           let name = needed text_of filegroup_key given (λ name. Some (make name)) d h in
           let made : make name.0 ≡ d = cc name.2 in
           let g = has_group L given name.0 s name.1 in
@@ -210,7 +210,13 @@ screen_add_sound =
       sound = λ L given d s h.
           let groups = each_of text_of add_filegroup_key given in
           let actions = each_of action_of screen_notification_key given in
-          let make : Path → Deed = λ path. Screen (ScreenAdd path (unwrap_or (one choice_of screen_type_key given) true) groups actions) in
+          let make : Path → Deed = λ path.
+          Screen (ScreenAdd (record {
+            path = path;
+            active = unwrap_or (one choice_of screen_type_key given) true;
+            groups = groups;
+            actions = actions;
+          })) in
           let path = needed path_of path_key given (λ path. needs text_of add_filegroup_key given (λ first. Some (make path))) d h in
           let first = needed text_of add_filegroup_key given (λ first. Some (make path.0)) d path.2 in
           let made : make path.0 ≡ d = cc first.2 in
@@ -229,7 +235,13 @@ screen_modify_sound =
       sound = λ L given d s h.
           let removed = each_of text_of remove_filegroup_key given in
           let groups = each_of text_of add_filegroup_key given in
-          let make : Path → Deed = λ path. Screen (ScreenModify path (one choice_of screen_type_key given) removed groups) in
+          let make : Path → Deed = λ path.
+          Screen (ScreenModify (record {
+            path = path;
+            active = one choice_of screen_type_key given;
+            removed = removed;
+            groups = groups;
+          })) in
           let path = needed path_of path_key given (λ path. Some (make path)) d h in
           let made : make path.0 ≡ d = cc path.2 in
           let p = has_screen L given path.0 s path.1 in
@@ -256,7 +268,7 @@ except_add_sound =
     record {
       sound = λ L given d s h.
           let groups = each_of text_of add_filegroup_key given in
-          let make : Path → Deed = λ path. Exception (ExceptionAdd path groups) in
+          let make : Path → Deed = λ path. Exception (ExceptionAdd (record { path = path; groups = groups })) in
           let path = needed path_of path_key given (λ path. needs text_of add_filegroup_key given (λ first. Some (make path))) d h in
           let first = needed text_of add_filegroup_key given (λ first. Some (make path.0)) d path.2 in
           let made : make path.0 ≡ d = cc first.2 in

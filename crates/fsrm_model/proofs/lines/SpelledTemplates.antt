@@ -17,7 +17,7 @@ use Rattle.fsrm_model.specs.ValueForms.{Value, path_of, number_of, choice_of, up
 use Rattle.fsrm_model.specs.Options.{Key, path_key, limit_key, quota_type_key, remove_threshold_key, add_threshold_key, add_notification_key, template_key, source_template_key, update_derived_key, exclude_key, Given, is_of, one, each_of, times_in}
 use Rattle.fsrm_model.specs.Patterns.{is_object_name}
 use Rattle.fsrm_model.specs.Quota.{is_limit}
-use Rattle.fsrm_model.specs.Tools.{needs, template_add, template_modify, template_delete, template_commands, auto_add, auto_commands}
+use Rattle.fsrm_model.specs.Tools.{needs, new_thresholds, template_add, template_modify, template_delete, template_commands, auto_add, auto_commands}
 use Rattle.fsrm_model.specs.Thresholds.{is_percent, is_notice}
 use Rattle.fsrm_model.specs.Valued.{is_path}
 use Rattle.fsrm_base.proofs.TestLaws.{both_true}
@@ -79,7 +79,13 @@ template_add_sound =
       sound = λ L given d s h.
           let percents = each_of number_of add_threshold_key given in
           let notices = each_of notice_of add_notification_key given in
-          let make : List ℕ → ℕ → Deed = λ name limit. Template (TemplateAdd name limit (unwrap_or (one choice_of quota_type_key given) true) percents notices) in
+          let make : List ℕ → ℕ → Deed = λ name limit.
+          Template (TemplateAdd (record {
+            name = name;
+            limit = limit;
+            enforce = unwrap_or (one choice_of quota_type_key given) true;
+            thresholds = new_thresholds given;
+          })) in
           let name = needed text_of template_key given (λ name. needs number_of limit_key given (λ limit. Some (make name limit))) d h in
           let limit = needed number_of limit_key given (λ limit. Some (make name.0 limit)) d name.2 in
           let made : make name.0 limit.0 ≡ d = cc limit.2 in
@@ -100,7 +106,15 @@ template_modify_sound =
           let removed = each_of number_of remove_threshold_key given in
           let percents = each_of number_of add_threshold_key given in
           let notices = each_of notice_of add_notification_key given in
-          let make : List ℕ → Deed = λ name. Template (TemplateModify name (one number_of limit_key given) (one choice_of quota_type_key given) removed percents notices (unwrap_or (one update_of update_derived_key given) Keep)) in
+          let make : List ℕ → Deed = λ name.
+          Template (TemplateModify (record {
+            name = name;
+            limit = one number_of limit_key given;
+            enforce = one choice_of quota_type_key given;
+            removed = removed;
+            thresholds = new_thresholds given;
+            update = unwrap_or (one update_of update_derived_key given) Keep;
+          })) in
           let name = needed text_of template_key given (λ name. Some (make name)) d h in
           let made : make name.0 ≡ d = cc name.2 in
           let t = has_template L given name.0 s name.1 in
@@ -135,7 +149,7 @@ auto_add_sound =
     record {
       sound = λ L given d s h.
           let excluded = each_of text_of exclude_key given in
-          let make : Path → List ℕ → Deed = λ path name. Autoquota (AutoquotaAdd path name excluded) in
+          let make : Path → List ℕ → Deed = λ path name. Autoquota (AutoquotaAdd (record { path = path; template = name; excluded = excluded })) in
           let path = needed path_of path_key given (λ path. needs text_of source_template_key given (λ name. Some (make path name))) d h in
           let name = needed text_of source_template_key given (λ name. Some (make path.0 name)) d path.2 in
           let made : make path.0 name.0 ≡ d = cc name.2 in

@@ -21,7 +21,7 @@ use Rattle.fsrm_model.specs.Options.{path_key, limit_key, quota_type_key, status
 use Rattle.fsrm_model.specs.Patterns.{is_object_name}
 use Rattle.fsrm_model.specs.Quota.{is_limit}
 use Rattle.fsrm_model.specs.Spelling.{Piece, Plain, Quoted, spelled_pieces, text_of_pieces, SpellsWords, SpellsTool, SpellsPlaced, SpellsDeed, Spells}
-use Rattle.fsrm_model.specs.Tools.{Names, ToolCommand, quota_add, quota_modify, quota_list, quota_commands, has_limit, admin_options, admin_commands, dirquota, tools}
+use Rattle.fsrm_model.specs.Tools.{Names, ToolCommand, quota_add, quota_modify, quota_list, quota_commands, has_limit, new_thresholds, admin_options, admin_commands, dirquota, tools}
 use Rattle.fsrm_model.specs.Thresholds.{is_percent, is_notice}
 use Rattle.fsrm_model.specs.Valued.{is_path, is_deed, is_short, is_command}
 use Rattle.fsrm_model.specs.Valid.{is_moment}
@@ -113,7 +113,15 @@ add_sound =
           let source = one text_of source_template_key given in
           let percents = each_of number_of add_threshold_key given in
           let notices = each_of notice_of add_notification_key given in
-          let make : Path → Deed = λ path. Quota (QuotaAdd path limit (one choice_of quota_type_key given) (unwrap_or (one choice_of status_key given) true) source percents notices) in
+          let make : Path → Deed = λ path.
+          Quota (QuotaAdd (record {
+            path = path;
+            limit = limit;
+            enforce = one choice_of quota_type_key given;
+            enabled = unwrap_or (one choice_of status_key given) true;
+            template = source;
+            thresholds = new_thresholds given;
+          })) in
           let path = needed path_of path_key given (λ path. if has_limit given then Some (make path) else None) d h in
           let picked = chosen (has_limit given) (Some (make path.0)) d path.2 in
           let made : make path.0 ≡ d = cc picked.1 in
@@ -136,7 +144,15 @@ modify_sound =
           let removed = each_of number_of remove_threshold_key given in
           let percents = each_of number_of add_threshold_key given in
           let notices = each_of notice_of add_notification_key given in
-          let make : Path → Deed = λ path. Quota (QuotaModify path (one number_of limit_key given) (one choice_of quota_type_key given) (one choice_of status_key given) removed percents notices) in
+          let make : Path → Deed = λ path.
+          Quota (QuotaModify (record {
+            path = path;
+            limit = one number_of limit_key given;
+            enforce = one choice_of quota_type_key given;
+            enabled = one choice_of status_key given;
+            removed = removed;
+            thresholds = new_thresholds given;
+          })) in
           let path = needed path_of path_key given (λ path. Some (make path)) d h in
           let made : make path.0 ≡ d = cc path.2 in
           let p = has_path L given path.0 s path.1 in

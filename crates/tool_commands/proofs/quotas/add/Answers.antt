@@ -1,4 +1,4 @@
-use Rattle.std.proofs.Common.{◌≡◌, true, Ok, sym, ◌∙◌, ap, refl}
+use Rattle.std.proofs.Common.{◌≡◌, true, sym, ◌∙◌, ap, refl}
 use Rattle.std.proofs.lemmas.Result.{err_from_is_err_and}
 use Rattle.fsrm_base.proofs.TestLaws.{or_later}
 use Rattle.fsrm_model.specs.ValueForms.{path_of}
@@ -6,7 +6,6 @@ use Rattle.fsrm_model.specs.Options.{path_key}
 use Rattle.fsrm_model.specs.Tools.{quota_add}
 use Rattle.tool_commands.specs.Taking.{left, end}
 use Rattle.std.specs.Prelude.{is_some, ◌||◌}
-use Rattle.fsrm_model.specs.declared.command.Deed.TheVariants.{Quota}
 use Rattle.tool_commands.proofs.NeededOptions.{lacking, quota_read}
 use Rattle.tool_commands.proofs.quotas.add.Goals as goal
 use Rattle.tool_commands.proofs.quotas.add.Goals.{else-is_none-via-then-is_none+else-is_none-2, else-is_none-via-else-is_none}
@@ -22,9 +21,9 @@ returns c =
     let is = c.in_ok-path.ensures in
     let given = is.read.0 in
     let held = is.read.2 in
-    let picked : (is_some c.in_ok-path.limit || is_some c.in_ok-path.source_template) ≡ true = elim c.else-is_none.branch [
-      | else-is_none-via-then-is_none+else-is_none-2 w ↦ or_later (is_some c.in_ok-path.limit) (is_some c.in_ok-path.source_template) w.if-is_none-2.ensures
-      | else-is_none-via-else-is_none w ↦ ap (λ some. some || is_some c.in_ok-path.source_template) w.if-is_none.ensures
+    let picked : (is_some c.in_ok-path.limit || is_some c.in_ok-path.template) ≡ true = elim c.else-is_none.branch [
+      | else-is_none-via-then-is_none+else-is_none-2 w ↦ or_later (is_some c.in_ok-path.limit) (is_some c.in_ok-path.template) w.if-is_none-2.ensures
+      | else-is_none-via-else-is_none w ↦ ap (λ some. some || is_some c.in_ok-path.template) w.if-is_none.ensures
     ] in
-    quota_read (end c.args.words.now) (left c.args.words.now) given c.in_ok-path-2.path c.in_ok-path.limit c.in_ok-path.enforce c.in_ok-path.enabled c.in_ok-path.source_template c.in_ok-path.thresholds.0 c.in_ok-path.thresholds.1 c.unwrap_or.result is.read.1 (sym held.0.value ∙ c.in_ok-path-2.ensures)
-    held.1.0.value held.1.1.0.value held.1.1.1.0.value held.1.1.1.1.0.value held.1.1.1.1.1.0.values held.1.1.1.1.1.1.values c.unwrap_or.ensures picked ∙ ap (λ deed. Ok (Quota deed)) (sym c.in_ok-new.ensures)
+    quota_read (end c.args.words.now) (left c.args.words.now) given c.in_ok-path-2.path c.in_ok-path.limit c.in_ok-path.enforce c.in_ok-path.enabled c.in_ok-path.template c.in_ok-path.thresholds.0 c.in_ok-path.thresholds.1 c.unwrap_or.result is.read.1 (sym held.0.value ∙ c.in_ok-path-2.ensures)
+    held.1.0.value held.1.1.0.value held.1.1.1.0.value held.1.1.1.1.0.value held.1.1.1.1.1.0.values held.1.1.1.1.1.1.values c.unwrap_or.ensures picked

@@ -18,25 +18,25 @@ use Rattle.fsrm_engine.proofs.parts.Parts.auto_add.Goals as goal
 pub returns-in_default-clause-ok : goal.returns-in_default-clause-ok
 returns-in_default-clause-ok g c =
     let p = c.args.self.now in
-    refused_as p c.args.moment (Autoquota (AutoquotaAdd c.args.path.now c.args.name.now c.args.excluded.now)) c.refused.result _ c.requires.idle c.requires.after
-    (auto_missing p c.args.moment c.args.path.now c.args.name.now c.args.excluded.now c.in_default.ensures.folder) refl c.refused.ensures
+    refused_as p c.args.moment (Autoquota (AutoquotaAdd c.args.auto.now)) c.refused.result _ c.requires.idle c.requires.after
+    (auto_missing p c.args.moment c.args.auto.now c.in_default.ensures.folder) refl c.refused.ensures
 
 pub returns-then-is_some-clause-ok : goal.returns-then-is_some-clause-ok
 returns-then-is_some-clause-ok g c =
     let p = c.args.self.now in
     let n = c.in-Some.folder in
-    refused_as p c.args.moment (Autoquota (AutoquotaAdd c.args.path.now c.args.name.now c.args.excluded.now)) c.refused-then-is_some.result _ c.requires.idle c.requires.after
-    (auto_taken p c.args.moment c.args.path.now c.args.name.now c.args.excluded.now n c.in-Some.ensures.folder
+    refused_as p c.args.moment (Autoquota (AutoquotaAdd c.args.auto.now)) c.refused-then-is_some.result _ c.requires.idle c.requires.after
+    (auto_taken p c.args.moment c.args.auto.now n c.in-Some.ensures.folder
     (lent_some c.auto.result (auto_of (rows_of p) n) c.is_some.result _ c.auto.ensures.found c.is_some.ensures c.if-is_some.true)) refl c.refused-then-is_some.ensures
 
 pub returns-in_default-find-clause-ok : goal.returns-in_default-find-clause-ok
 returns-in_default-find-clause-ok g c =
     let p = c.args.self.now in
     let n = c.in-Some.folder in
-    refused_as p c.args.moment (Autoquota (AutoquotaAdd c.args.path.now c.args.name.now c.args.excluded.now)) c.refused-in_default-find.result _ c.requires.idle c.requires.after
-    (auto_unknown p c.args.moment c.args.path.now c.args.name.now c.args.excluded.now n c.in-Some.ensures.folder
+    refused_as p c.args.moment (Autoquota (AutoquotaAdd c.args.auto.now)) c.refused-in_default-find.result _ c.requires.idle c.requires.after
+    (auto_unknown p c.args.moment c.args.auto.now n c.in-Some.ensures.folder
     (lent_some c.auto.result (auto_of (rows_of p) n) c.is_some.result _ c.auto.ensures.found c.is_some.ensures c.if-is_some.false)
-    (source_none p c.args.name.now c.as_str.result.now c.as_str.ensures c.in_default-find.ensures.found)) refl c.refused-in_default-find.ensures
+    (source_none p c.args.auto.now.template c.as_str.result.now c.as_str.ensures c.in_default-find.ensures.found)) refl c.refused-in_default-find.ensures
 
 pub apply_auto-requires-clause-absent : goal.apply_auto-requires-clause-absent
 apply_auto-requires-clause-absent g c =
@@ -50,38 +50,34 @@ pub apply_auto-requires-clause-coming : goal.apply_auto-requires-clause-coming
 apply_auto-requires-clause-coming g c =
     let p = c.args.self.now in
     let m = c.args.moment in
-    let path = c.args.path.now in
-    let name = c.args.name.now in
-    let excluded = c.args.excluded.now in
+    let values = c.args.auto.now in
     let n = c.in-Some.folder in
     let number = c.in-Some-find.template in
     let row = c.in_ok-row.row in
     let at = c.in-Some.ensures.folder in
     let free = lent_some c.auto.result (auto_of (rows_of p) n) c.is_some.result _ c.auto.ensures.found c.is_some.ensures c.if-is_some.false in
-    let source = source_found p name c.as_str.result.now number c.requires.whole c.as_str.ensures c.in-Some-find.ensures.found in
+    let source = source_found p values.template c.as_str.result.now number c.requires.whole c.as_str.ensures c.in-Some-find.ensures.found in
     let folders = given_folders p.tree.nodes p.objects.quotas row in
     let given = when_given (λ (rows : Vec QuotaRow). IsGiven p row m rows.items) (λ refusal. apply_refusal p row (length folders) ≡ Some refusal) c.in_ok-rows.field-0 c.in-Ok.rows c.in-Ok.is c.in_ok-rows.ensures.given in
-    let rows_are = given.rows_are source.row (row_source p m path name excluded n number c.requires.whole at free source row c.in_ok-row.ensures folders refl) in
+    let rows_are = given.rows_are source.row (row_source p m values n number c.requires.whole at free source row c.in_ok-row.ensures folders refl) in
     subst (AreComing (ruled p (with_auto p.templates row))) (sym rows_are)
-    (row_coming p m path name excluded n number c.requires.whole at free source row c.in_ok-row.ensures folders refl c.requires.moment given.may)
+    (row_coming p m values n number c.requires.whole at free source row c.in_ok-row.ensures folders refl c.requires.moment given.may)
 
 pub returns-in_ok-apply_auto-in-Ok-clause-ok : goal.returns-in_ok-apply_auto-in-Ok-clause-ok
 returns-in_ok-apply_auto-in-Ok-clause-ok g c =
     let p = c.args.self.now in
     let m = c.args.moment in
-    let path = c.args.path.now in
-    let name = c.args.name.now in
-    let excluded = c.args.excluded.now in
+    let values = c.args.auto.now in
     let n = c.in-Some.folder in
     let number = c.in-Some-find.template in
     let row = c.in_ok-row.row in
     let at = c.in-Some.ensures.folder in
     let free = lent_some c.auto.result (auto_of (rows_of p) n) c.is_some.result _ c.auto.ensures.found c.is_some.ensures c.if-is_some.false in
-    let source = source_found p name c.as_str.result.now number c.requires.whole c.as_str.ensures c.in-Some-find.ensures.found in
+    let source = source_found p values.template c.as_str.result.now number c.requires.whole c.as_str.ensures c.in-Some-find.ensures.found in
     let folders = given_folders p.tree.nodes p.objects.quotas row in
     let given = when_given (λ (rows : Vec QuotaRow). IsGiven p row m rows.items) (λ refusal. apply_refusal p row (length folders) ≡ Some refusal) c.in_ok-rows.field-0 c.in-Ok.rows c.in-Ok.is c.in_ok-rows.ensures.given in
-    let rows_are = given.rows_are source.row (row_source p m path name excluded n number c.requires.whole at free source row c.in_ok-row.ensures folders refl) in
-    row_added p m path name excluded n number c.requires.whole at free source row c.in_ok-row.ensures folders refl
+    let rows_are = given.rows_are source.row (row_source p m values n number c.requires.whole at free source row c.in_ok-row.ensures folders refl) in
+    row_added p m values n number c.requires.whole at free source row c.in_ok-row.ensures folders refl
     c.apply_auto.new.self c.done.new.self c.done.result c.in-Ok.rows.items c.apply_auto.new.self.objects.room c.requires.idle c.requires.after c.requires.moment given.may rows_are
     c.in_ok-apply_auto-in-Ok.ensures.applied c.done.ensures.ended c.done.ensures.answer
 
@@ -89,18 +85,16 @@ pub returns-in-Err-clause-ok : goal.returns-in-Err-clause-ok
 returns-in-Err-clause-ok g c =
     let p = c.args.self.now in
     let m = c.args.moment in
-    let path = c.args.path.now in
-    let name = c.args.name.now in
-    let excluded = c.args.excluded.now in
+    let values = c.args.auto.now in
     let n = c.in-Some.folder in
     let number = c.in-Some-find.template in
     let row = c.in_ok-row.row in
     let at = c.in-Some.ensures.folder in
     let free = lent_some c.auto.result (auto_of (rows_of p) n) c.is_some.result _ c.auto.ensures.found c.is_some.ensures c.if-is_some.false in
-    let source = source_found p name c.as_str.result.now number c.requires.whole c.as_str.ensures c.in-Some-find.ensures.found in
+    let source = source_found p values.template c.as_str.result.now number c.requires.whole c.as_str.ensures c.in-Some-find.ensures.found in
     let folders = given_folders p.tree.nodes p.objects.quotas row in
     let refusal = c.in-Err.refusal in
     let due = when_refused (λ (rows : Vec QuotaRow). IsGiven p row m rows.items) (λ refusal. apply_refusal p row (length folders) ≡ Some refusal) c.in_ok-rows.field-0 refusal c.in-Err.is c.in_ok-rows.ensures.given in
-    refused_as p m (Autoquota (AutoquotaAdd path name excluded)) c.refused-in-Err.result refusal c.requires.idle c.requires.after
-    (row_due p m path name excluded n number c.requires.whole at free source row c.in_ok-row.ensures folders refl ∙ due)
+    refused_as p m (Autoquota (AutoquotaAdd values)) c.refused-in-Err.result refusal c.requires.idle c.requires.after
+    (row_due p m values n number c.requires.whole at free source row c.in_ok-row.ensures folders refl ∙ due)
     (apply_bare p row (length folders) refusal due) c.refused-in-Err.ensures

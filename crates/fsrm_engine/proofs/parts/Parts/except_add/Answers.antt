@@ -10,38 +10,38 @@ use Rattle.fsrm_engine.proofs.parts.Parts.except_add.Goals as goal
 
 pub done-requires-clause-counted : goal.done-requires-clause-counted
 done-requires-clause-counted g c =
-    retabled_counted c.args.self.now c.args.self.now.groups c.add_except.new.self c.requires.whole (ap (λ (t : Tables). t.quotas) c.in-Ok.ensures.ok)
+    retabled_counted c.args.self.now c.args.self.now.groups c.add_except.new.self c.requires.ready.whole (ap (λ (t : Tables). t.quotas) c.in-Ok.ensures.ok)
 
 pub returns-in-Ok-clause-ok : goal.returns-in-Ok-clause-ok
 returns-in-Ok-clause-ok g c =
     let p = c.args.self.now in
     let n = c.in-Some.folder in
-    let names = c.args.names.now in
+    let names = c.args.except.now.groups in
     let f = found_groups (are_named p.groups names) (fold with_last c.new.result (numbers_named p.groups names)) c.in-Some-2.groups c.in_ok-groups.field-0 c.in-Some-2.is c.in_ok-groups.ensures in
-    except_added p c.args.moment c.args.path.now names n c.in-Some.ensures.folder
+    except_added p c.args.moment c.args.except.now n c.in-Some.ensures.folder
     (lent_some c.except.result (except_of (rows_of p) n) c.is_some.result _ c.except.ensures c.is_some.ensures c.if-is_some.false)
     (lent_some c.screen.result (screen_of (rows_of p) n) c.is_some-2.result _ c.screen.ensures c.is_some-2.ensures c.if-is_some-2.false)
-    c.requires.names f.0 (new_except n c.in-Some-2.groups)
+    c.requires.valid f.0 (new_except n c.in-Some-2.groups)
     (ap (new_except n) (f.1 ∙ ap (λ (there : List ℕ). fold with_last there (numbers_named p.groups names)) c.new.ensures))
-    c.requires.whole c.requires.idle c.requires.after c.add_except.new.self c.done.new.self c.done.result c.in-Ok.ensures.may c.in-Ok.ensures.ok c.done.ensures.ended c.done.ensures.answer
+    c.requires.ready.whole c.requires.ready.idle c.requires.ready.after c.add_except.new.self c.done.new.self c.done.result c.in-Ok.ensures.may c.in-Ok.ensures.ok c.done.ensures.ended c.done.ensures.answer
 
 pub returns-in-Ok-clause-sound : goal.returns-in-Ok-clause-sound
 returns-in-Ok-clause-sound g c =
-    retabled_ended c.args.self.now c.args.self.now.groups c.add_except.new.self c.requires.whole (ap (λ (t : Tables). t.quotas) c.in-Ok.ensures.ok) c.done.new.self c.args.moment c.done.ensures.ended c.done.ensures.counted
+    retabled_ended c.args.self.now c.args.self.now.groups c.add_except.new.self c.requires.ready.whole (ap (λ (t : Tables). t.quotas) c.in-Ok.ensures.ok) c.done.new.self c.args.moment c.done.ensures.ended c.done.ensures.counted
 
 pub returns-in-Err-clause-ok : goal.returns-in-Err-clause-ok
 returns-in-Err-clause-ok g c =
     let p = c.args.self.now in
     let n = c.in-Some.folder in
-    let names = c.args.names.now in
+    let names = c.args.except.now.groups in
     let f = found_groups (are_named p.groups names) (fold with_last c.new.result (numbers_named p.groups names)) c.in-Some-2.groups c.in_ok-groups.field-0 c.in-Some-2.is c.in_ok-groups.ensures in
-    except_unadded p c.args.moment c.args.path.now names n c.in-Some.ensures.folder
+    except_unadded p c.args.moment c.args.except.now n c.in-Some.ensures.folder
     (lent_some c.except.result (except_of (rows_of p) n) c.is_some.result _ c.except.ensures c.is_some.ensures c.if-is_some.false)
     (lent_some c.screen.result (screen_of (rows_of p) n) c.is_some-2.result _ c.screen.ensures c.is_some-2.ensures c.if-is_some-2.false)
-    c.requires.names f.0 (new_except n c.in-Some-2.groups)
+    c.requires.valid f.0 (new_except n c.in-Some-2.groups)
     (ap (new_except n) (f.1 ∙ ap (λ (there : List ℕ). fold with_last there (numbers_named p.groups names)) c.new.ensures))
-    c.requires.whole c.requires.idle c.requires.after c.add_except.new.self c.in-Err.fault c.refused_for.result c.in-Err.ensures.refused c.in-Err.ensures.err c.refused_for.ensures.ok
+    c.requires.ready.whole c.requires.ready.idle c.requires.ready.after c.add_except.new.self c.in-Err.fault c.refused_for.result c.in-Err.ensures.refused c.in-Err.ensures.err c.refused_for.ensures.ok
 
 pub returns-in-Err-clause-sound : goal.returns-in-Err-clause-sound
 returns-in-Err-clause-sound g c =
-    retabled_sound c.args.self.now c.args.self.now.groups c.add_except.new.self c.requires.whole (ap (λ (t : Tables). t.quotas) c.in-Err.ensures.err)
+    retabled_sound c.args.self.now c.args.self.now.groups c.add_except.new.self c.requires.ready.whole (ap (λ (t : Tables). t.quotas) c.in-Err.ensures.err)

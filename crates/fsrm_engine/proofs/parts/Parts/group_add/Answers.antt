@@ -8,7 +8,7 @@ done-requires-clause-counted c = retabled_counted c.args.self.now c.add.new.self
 pub returns-in-Ok-clause-ok : goal.returns-in-Ok-clause-ok
 returns-in-Ok-clause-ok c =
     let p = c.args.self.now in
-    group_added p c.args.moment c.args.name.now c.as_str.result.now c.args.members.now c.args.non_members.now c.in_ok-members.members c.in_ok-non_members.non_members c.room-room.result
+    group_added p c.args.moment c.args.group.now c.as_str.result.now c.in_ok-members.members c.in_ok-non_members.non_members c.room-room.result
     c.requires.whole c.requires.idle c.requires.after c.as_str.ensures c.in_ok-members.ensures c.in_ok-non_members.ensures c.room-room.ensures
     c.done.new.self c.add.new.self c.done.result c.in-Ok.ensures.may c.in-Ok.ensures.ok c.done.ensures.ended c.done.ensures.answer
 
@@ -18,7 +18,7 @@ returns-in-Ok-clause-sound c =
 
 pub returns-in-Err-clause-ok : goal.returns-in-Err-clause-ok
 returns-in-Err-clause-ok c =
-    group_unadded c.args.self.now c.args.moment c.args.name.now c.as_str.result.now c.args.members.now c.args.non_members.now c.in_ok-members.members c.in_ok-non_members.non_members c.room-room.result
+    group_unadded c.args.self.now c.args.moment c.args.group.now c.as_str.result.now c.in_ok-members.members c.in_ok-non_members.non_members c.room-room.result
     c.requires.whole c.requires.idle c.requires.after c.as_str.ensures c.in_ok-members.ensures c.in_ok-non_members.ensures c.room-room.ensures
     c.add.new.self c.in-Err.fault c.refused_by_groups.result c.in-Err.ensures.refused c.in-Err.ensures.err c.refused_by_groups.ensures.ok
 

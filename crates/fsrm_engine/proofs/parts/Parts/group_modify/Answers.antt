@@ -10,8 +10,8 @@ use Rattle.fsrm_engine.proofs.parts.Parts.group_modify.Goals as goal
 pub returns-in_default-clause-ok : goal.returns-in_default-clause-ok
 returns-in_default-clause-ok c =
     let p = c.args.self.now in
-    refused_as p c.args.moment (Filegroup (FilegroupModify c.args.name.now (option_copied c.args.members) (option_copied c.args.non_members))) c.refused.result _ c.requires.idle c.requires.after
-    (group_missing p c.args.moment c.args.name.now (option_copied c.args.members) (option_copied c.args.non_members)
+    refused_as p c.args.moment (Filegroup (FilegroupModify c.args.change.now)) c.refused.result _ c.requires.idle c.requires.after
+    (group_missing p c.args.moment c.args.change.now
     (ap (λ n. number_named n p.groups) (sym c.as_str.ensures) ∙ (sym c.find.ensures.found ∙ c.in_default.is))) refl c.refused.ensures
 
 pub done-requires-clause-counted : goal.done-requires-clause-counted
@@ -20,7 +20,7 @@ done-requires-clause-counted c = retabled_counted c.args.self.now c.modify.new.s
 pub returns-in-Ok-clause-ok : goal.returns-in-Ok-clause-ok
 returns-in-Ok-clause-ok c =
     let p = c.args.self.now in
-    group_changed p c.args.moment c.args.name.now c.as_str.result.now (option_copied c.args.members) (option_copied c.args.non_members) (option_copied c.as_ref.result) (option_copied c.as_ref-2.result) c.in-Some.group c.room-room.result
+    group_changed p c.args.moment c.args.change.now c.as_str.result.now (option_copied c.as_ref.result) (option_copied c.as_ref-2.result) c.in-Some.group c.room-room.result
     c.requires.whole c.requires.idle c.requires.after c.as_str.ensures c.in-Some.ensures.found c.in-Some.ensures.there (c.as_ref.ensures.value ∙ c.in_ok-members.ensures) (c.as_ref-2.ensures.value ∙ c.in_ok-non_members.ensures) c.room-room.ensures
     c.done.new.self c.modify.new.self c.done.result c.in-Ok.ensures.may c.in-Ok.ensures.ok c.done.ensures.ended c.done.ensures.answer
 
@@ -31,7 +31,7 @@ returns-in-Ok-clause-sound c =
 pub returns-clause-ok : goal.returns-clause-ok
 returns-clause-ok c =
     let p = c.args.self.now in
-    group_unchanged p c.args.moment c.args.name.now c.as_str.result.now (option_copied c.args.members) (option_copied c.args.non_members) (option_copied c.as_ref.result) (option_copied c.as_ref-2.result) c.in-Some.group c.room-room.result
+    group_unchanged p c.args.moment c.args.change.now c.as_str.result.now (option_copied c.as_ref.result) (option_copied c.as_ref-2.result) c.in-Some.group c.room-room.result
     c.requires.whole c.requires.idle c.requires.after c.as_str.ensures c.in-Some.ensures.found c.in-Some.ensures.there (c.as_ref.ensures.value ∙ c.in_ok-members.ensures) (c.as_ref-2.ensures.value ∙ c.in_ok-non_members.ensures) c.room-room.ensures
     c.modify.new.self c.in-Err.fault c.refused_by_groups.result c.in-Err.ensures.refused c.in-Err.ensures.err c.refused_by_groups.ensures.ok
 

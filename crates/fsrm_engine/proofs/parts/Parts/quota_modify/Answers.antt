@@ -1,11 +1,13 @@
-use Rattle.std.proofs.Common.{◌≡◌, true, ap, sym, ◌∙◌}
+use Rattle.std.proofs.Common.{◌≡◌, ℕ, List, true, ap, sym, ◌∙◌}
 use Rattle.std.specs.Option.{option_and_then}
 use Rattle.fsrm_base.specs.Keyed.{is_ascending}
 use Rattle.fsrm_model.specs.declared.command.Deed.TheVariants.{Quota}
 use Rattle.fsrm_model.specs.declared.command.QuotaDeed.TheVariants.{Modify as QuotaModify}
 use Rattle.fsrm_model.specs.declared.row.QuotaRow.{QuotaRow}
+use Rattle.fsrm_model.specs.declared.row.Threshold.{Threshold}
 use Rattle.fsrm_model.specs.QuotaStates.{in_state, state_after}
 use Rattle.fsrm_model.specs.Thresholds.{may_be_removed, percent_of}
+use Rattle.fsrm_model.proofs.commands.ValueParts.{quota_change_parts}
 use Rattle.fsrm_engine.specs.Faults.{table_refusal, text_room}
 use Rattle.fsrm_engine.specs.Machine.{rows_of}
 use Rattle.fsrm_engine.proofs.steps.StepLaws.{refused_as}
@@ -16,11 +18,15 @@ use Rattle.fsrm_engine.proofs.tables.RoomLaws.{modify_due, percents_ascend, refu
 use Rattle.fsrm_engine.proofs.tables.StateLaws.{quota_first}
 use Rattle.fsrm_engine.proofs.parts.Parts.quota_modify.Goals as goal
 
+-- what was lent is the lists
+may_is : (lent removed : List ℕ) (held thresholds : List Threshold) → lent ≡ removed → held ≡ thresholds → may_be_removed removed thresholds ≡ may_be_removed lent held
+may_is lent removed held thresholds e f = sym (ap (λ ns. may_be_removed ns held) e ∙ ap (may_be_removed removed) f)
+
 pub returns-in-Err-clause-ok : goal.returns-in-Err-clause-ok
 returns-in-Err-clause-ok g c =
     let R = rows_of c.args.self.now in
-    refused_as c.args.self.now c.args.moment (Quota (QuotaModify c.args.path.now c.args.limit c.args.enforce c.args.enabled c.args.change.now.removed.now c.args.change.now.percents.now c.args.change.now.notices.now)) c.refused.result _ c.requires.idle c.requires.after
-    (quota_first R c.args.path.now _ _ c.in-Err.ensures.err) (first_bare R c.args.path.now _ c.in-Err.ensures.err) c.refused.ensures
+    refused_as c.args.self.now c.args.moment (Quota (QuotaModify c.args.change.now)) c.refused.result _ c.requires.idle c.requires.after
+    (quota_first R c.args.change.now.path _ _ c.in-Err.ensures.err) (first_bare R c.args.change.now.path _ c.in-Err.ensures.err) c.refused.ensures
 
 pub modified-requires : goal.modified-requires
 modified-requires g c =
@@ -31,14 +37,15 @@ modified-requires g c =
 pub may_put-requires-clause-there : goal.may_put-requires-clause-there
 may_put-requires-clause-there g c =
     let change = c.args.change.now in
-    changed_there change.removed.now change.percents.now change.notices.now c.args.limit c.args.enforce c.in-Ok.quota.now c.in_ok-before.before c.in_ok-row.row c.in_ok-before.ensures c.in_ok-row.ensures c.args.self.now.objects.quotas c.in-Ok.ensures.ok.found
+    changed_there change c.in-Ok.quota.now c.in_ok-before.before c.in_ok-row.row c.in_ok-before.ensures c.in_ok-row.ensures c.args.self.now.objects.quotas c.in-Ok.ensures.ok.found
 
 pub may_put-requires-clause-thresholds : goal.may_put-requires-clause-thresholds
 may_put-requires-clause-thresholds g c =
     let change = c.args.change.now in
+    let legal = quota_change_parts change c.requires.valid in
     let q = c.in-Ok.quota.now in
-    changed_legal change.removed.now change.percents.now change.notices.now c.args.limit c.args.enforce q c.in_ok-before.before c.in_ok-row.row c.in_ok-before.ensures c.in_ok-row.ensures
-    (c.requires.whole.sound.counted.are_quotas.thresholds q.folder q c.in-Ok.ensures.ok.found) c.requires.percents c.requires.notices
+    changed_legal change q c.in_ok-before.before c.in_ok-row.row c.in_ok-before.ensures c.in_ok-row.ensures
+    (c.requires.whole.sound.counted.are_quotas.thresholds q.folder q c.in-Ok.ensures.ok.found) legal.thresholds
 
 pub returns-in-Err-may_put-clause-ok : goal.returns-in-Err-may_put-clause-ok
 returns-in-Err-may_put-clause-ok g c =
@@ -46,17 +53,17 @@ returns-in-Err-may_put-clause-ok g c =
     let change = c.args.change.now in
     let q = c.in-Ok.quota.now in
     let state = c.state_after-row.result in
-    let may : may_be_removed change.removed.now q.thresholds ≡ true = ap (may_be_removed change.removed.now) (sym c.as_slice.ensures) ∙ (sym c.may_be_removed.ensures ∙ c.if-not-may_be_removed.false) in
-    refused_for_as p c.args.moment (Quota (QuotaModify c.args.path.now c.args.limit c.args.enforce c.args.enabled change.removed.now change.percents.now change.notices.now)) c.in-Err-may_put.fault c.refused_for.result c.requires.idle c.requires.after
-    (modify_due p c.args.moment c.args.path.now c.args.limit c.args.enforce c.args.enabled change.removed.now change.percents.now change.notices.now q c.in-Ok.ensures.ok state (in_state state c.in_ok-row.row) c.requires.whole may
-    (c.state_after-row.ensures.state ∙ ap (λ (r : QuotaRow). state_after (rows_of p) r.folder c.args.enabled) c.in_ok-before.ensures)
-    (changed_row change.removed.now change.percents.now change.notices.now c.args.limit c.args.enforce q c.in_ok-before.before c.in_ok-row.row c.in_ok-before.ensures c.in_ok-row.ensures state)
+    let may : may_be_removed change.removed q.thresholds ≡ true = may_is c.as_slice.result.now change.removed c.as_slice-2.result.now q.thresholds c.as_slice.ensures c.as_slice-2.ensures ∙ (sym c.may_be_removed.ensures ∙ c.if-not-may_be_removed.false) in
+    refused_for_as p c.args.moment (Quota (QuotaModify change)) c.in-Err-may_put.fault c.refused_for.result c.requires.idle c.requires.after
+    (modify_due p c.args.moment change q c.in-Ok.ensures.ok state (in_state state c.in_ok-row.row) c.requires.whole may
+    (c.state_after-row.ensures.state ∙ ap (λ (r : QuotaRow). state_after (rows_of p) r.folder change.enabled) c.in_ok-before.ensures)
+    (changed_row change q c.in_ok-before.before c.in_ok-row.row c.in_ok-before.ensures c.in_ok-row.ensures state)
     ∙ ap (option_and_then table_refusal) c.in-Err-may_put.ensures.refused) c.refused_for.ensures.ok
 
 pub replace-requires-clause-there : goal.replace-requires-clause-there
 replace-requires-clause-there g c =
     let change = c.args.change.now in
-    changed_there change.removed.now change.percents.now change.notices.now c.args.limit c.args.enforce c.in-Ok.quota.now c.in_ok-before.before c.in_ok-row.row c.in_ok-before.ensures c.in_ok-row.ensures c.args.self.now.objects.quotas c.in-Ok.ensures.ok.found
+    changed_there change c.in-Ok.quota.now c.in_ok-before.before c.in_ok-row.row c.in_ok-before.ensures c.in_ok-row.ensures c.args.self.now.objects.quotas c.in-Ok.ensures.ok.found
 
 pub replace-requires-clause-few : goal.replace-requires-clause-few
 replace-requires-clause-few g c =
@@ -67,23 +74,24 @@ pub replace-requires-clause-thresholds : goal.replace-requires-clause-thresholds
 replace-requires-clause-thresholds g c =
     let p = c.args.self.now in
     let change = c.args.change.now in
+    let legal = quota_change_parts change c.requires.valid in
     let q = c.in-Ok.quota.now in
-    changed_whole change.removed.now change.percents.now change.notices.now c.args.limit c.args.enforce q c.in_ok-before.before c.in_ok-row.row c.in_ok-before.ensures c.in_ok-row.ensures
-    p.objects (text_room p) c.state_after-row.result (c.requires.whole.sound.counted.are_quotas.thresholds q.folder q c.in-Ok.ensures.ok.found) c.requires.percents c.requires.notices c.in_default.ensures.may
+    changed_whole change q c.in_ok-before.before c.in_ok-row.row c.in_ok-before.ensures c.in_ok-row.ensures
+    p.objects (text_room p) c.state_after-row.result (c.requires.whole.sound.counted.are_quotas.thresholds q.folder q c.in-Ok.ensures.ok.found) legal.thresholds c.in_default.ensures.may
 
 pub replace-requires-clause-nothing : goal.replace-requires-clause-nothing
 replace-requires-clause-nothing g c old found was t =
     let p = c.args.self.now in
     let change = c.args.change.now in
-    changed_unused change.removed.now change.percents.now change.notices.now c.args.limit c.args.enforce c.in-Ok.quota.now c.in_ok-before.before c.in_ok-row.row c.in_ok-before.ensures c.in_ok-row.ensures
-    p c.state_after-row.result c.args.enabled old c.requires.whole.sound.counted.volume c.in-Ok.ensures.ok.at.folder
-    (c.state_after-row.ensures.state ∙ ap (λ (r : QuotaRow). state_after (rows_of p) r.folder c.args.enabled) c.in_ok-before.ensures) found was t
+    changed_unused change c.in-Ok.quota.now c.in_ok-before.before c.in_ok-row.row c.in_ok-before.ensures c.in_ok-row.ensures
+    p c.state_after-row.result change.enabled old c.requires.whole.sound.counted.volume c.in-Ok.ensures.ok.at.folder
+    (c.state_after-row.ensures.state ∙ ap (λ (r : QuotaRow). state_after (rows_of p) r.folder change.enabled) c.in_ok-before.ensures) found was t
 
 pub settle_quota-requires-clause-there : goal.settle_quota-requires-clause-there
 settle_quota-requires-clause-there g c =
     let p = c.args.self.now in
     let change = c.args.change.now in
-    changed_still change.removed.now change.percents.now change.notices.now c.args.limit c.args.enforce c.in-Ok.quota.now c.in_ok-before.before c.in_ok-row.row c.in_ok-before.ensures c.in_ok-row.ensures
+    changed_still change c.in-Ok.quota.now c.in_ok-before.before c.in_ok-row.row c.in_ok-before.ensures c.in_ok-row.ensures
     p c.replace.new.self c.state_after-row.result _ c.replace.ensures.replaced c.requires.whole.sound.counted.are_quotas.ascending c.in-Ok.ensures.ok.found
 
 pub returns-clause-ok : goal.returns-clause-ok
@@ -93,9 +101,9 @@ returns-clause-ok g c =
     let change = c.args.change.now in
     let q = c.in-Ok.quota.now in
     let state = c.state_after-row.result in
-    let may : may_be_removed change.removed.now q.thresholds ≡ true = ap (may_be_removed change.removed.now) (sym c.as_slice.ensures) ∙ (sym c.may_be_removed.ensures ∙ c.if-not-may_be_removed.false) in
-    modified_as p mid c.settle_quota.new.self c.done.new.self c.args.moment c.args.path.now c.args.limit c.args.enforce c.args.enabled change.removed.now change.percents.now change.notices.now q (in_state state c.in_ok-row.row) state c.in-Ok.ensures.ok c.done.result
-    (changed_row change.removed.now change.percents.now change.notices.now c.args.limit c.args.enforce q c.in_ok-before.before c.in_ok-row.row c.in_ok-before.ensures c.in_ok-row.ensures state)
-    (c.state_after-row.ensures.state ∙ ap (λ (r : QuotaRow). state_after (rows_of p) r.folder c.args.enabled) c.in_ok-before.ensures)
+    let may : may_be_removed change.removed q.thresholds ≡ true = may_is c.as_slice.result.now change.removed c.as_slice-2.result.now q.thresholds c.as_slice.ensures c.as_slice-2.ensures ∙ (sym c.may_be_removed.ensures ∙ c.if-not-may_be_removed.false) in
+    modified_as p mid c.settle_quota.new.self c.done.new.self c.args.moment change q (in_state state c.in_ok-row.row) state c.in-Ok.ensures.ok c.done.result
+    (changed_row change q c.in_ok-before.before c.in_ok-row.row c.in_ok-before.ensures c.in_ok-row.ensures state)
+    (c.state_after-row.ensures.state ∙ ap (λ (r : QuotaRow). state_after (rows_of p) r.folder change.enabled) c.in_ok-before.ensures)
     may c.requires.whole c.requires.idle c.requires.after c.in_default.ensures.may c.replace.ensures.replaced c.replace.ensures.sound.counted
     (ran_by p mid c.settle_quota.new.self c.args.moment q c.in_ok-before.before c.used-used.result c.in_ok-before.ensures c.used-used.ensures c.settle_quota.ensures.settled) c.done.ensures.ended c.done.ensures.answer

@@ -13,7 +13,7 @@ use Rattle.fsrm_engine.proofs.parts.Parts.screen_delete.Goals as goal
 pub returns-in-Err-clause-ok : goal.returns-in-Err-clause-ok
 returns-in-Err-clause-ok g c =
     let p = c.args.self.now in
-    refused_as p c.args.moment (Screen (ScreenDelete c.args.path.now)) c.refused.result _ c.requires.idle c.requires.after c.in-Err.ensures.err (screen_bare (rows_of p) c.args.path.now _ c.in-Err.ensures.err) c.refused.ensures
+    refused_as p c.args.moment (Screen (ScreenDelete c.args.path.now)) c.refused.result _ c.requires.ready.idle c.requires.ready.after c.in-Err.ensures.err (screen_bare (rows_of p) c.args.path.now _ c.in-Err.ensures.err) c.refused.ensures
 
 pub drop_screen-requires : goal.drop_screen-requires
 drop_screen-requires g c =
@@ -22,13 +22,13 @@ drop_screen-requires g c =
 
 pub done-requires-clause-counted : goal.done-requires-clause-counted
 done-requires-clause-counted g c =
-    retabled_counted c.args.self.now c.args.self.now.groups c.drop_screen.new.self c.requires.whole (ap (λ (t : Tables). t.quotas) c.drop_screen.ensures)
+    retabled_counted c.args.self.now c.args.self.now.groups c.drop_screen.new.self c.requires.ready.whole (ap (λ (t : Tables). t.quotas) c.drop_screen.ensures)
 
 pub returns-clause-ok : goal.returns-clause-ok
 returns-clause-ok g c =
-    screen_deleted c.args.self.now c.done.new.self c.args.moment c.args.path.now c.in-Ok.screen.now c.drop_screen.new.self c.done.result c.requires.whole c.requires.idle c.requires.after c.in-Ok.ensures.at c.in-Ok.ensures.found
+    screen_deleted c.args.self.now c.done.new.self c.args.moment c.args.path.now c.in-Ok.screen.now c.drop_screen.new.self c.done.result c.requires.ready.whole c.requires.ready.idle c.requires.ready.after c.in-Ok.ensures.at c.in-Ok.ensures.found
     c.drop_screen.ensures c.done.ensures.ended c.done.ensures.answer
 
 pub returns-clause-sound : goal.returns-clause-sound
 returns-clause-sound g c =
-    retabled_ended c.args.self.now c.args.self.now.groups c.drop_screen.new.self c.requires.whole (ap (λ (t : Tables). t.quotas) c.drop_screen.ensures) c.done.new.self c.args.moment c.done.ensures.ended c.done.ensures.counted
+    retabled_ended c.args.self.now c.args.self.now.groups c.drop_screen.new.self c.requires.ready.whole (ap (λ (t : Tables). t.quotas) c.drop_screen.ensures) c.done.new.self c.args.moment c.done.ensures.ended c.done.ensures.counted

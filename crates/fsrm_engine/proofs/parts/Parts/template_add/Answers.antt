@@ -1,24 +1,34 @@
-use Rattle.std.proofs.Common.{◌≡◌, [], ap, sym, ◌∙◌}
+use Rattle.std.proofs.Common.{◌≡◌, List, [], ap, sym, ◌∙◌}
+use Rattle.fsrm_model.specs.declared.command.NewThresholds.{NewThresholds}
 use Rattle.fsrm_model.specs.declared.command.Deed.TheVariants.{Template}
 use Rattle.fsrm_model.specs.declared.command.TemplateDeed.TheVariants.{Add as TemplateAdd}
 use Rattle.fsrm_model.specs.declared.row.TemplateRow.{TemplateRow}
 use Rattle.fsrm_model.specs.Templates.{is_template}
 use Rattle.fsrm_model.specs.Thresholds.{changed_thresholds}
 use Rattle.templates.specs.Faults.{template_fault}
+use Rattle.fsrm_model.specs.declared.row.Threshold.{Threshold}
+use Rattle.fsrm_model.proofs.commands.ValueParts.{new_template_parts}
+use Rattle.fsrm_engine.specs.declared.threshold_lists.ThresholdChange.{ThresholdChange}
 use Rattle.fsrm_engine.proofs.tables.TemplateLaws.{add_due, blank_legal, refused_by, rewritten_ended, rewritten_sound, template_added}
 use Rattle.fsrm_engine.proofs.parts.Parts.template_add.Goals as goal
 
+-- thresholds that come where there are none
+made_of : (coming : NewThresholds) (change : ThresholdChange) (none made : List Threshold) → change.removed.now ≡ [] → change.percents.now ≡ coming.percents → change.notices.now ≡ coming.notices → none ≡ [] → made ≡ changed_thresholds change.removed.now change.percents.now change.notices.now none → made ≡ changed_thresholds [] coming.percents coming.notices []
+made_of coming change none made removed percents notices empty is =
+    is
+    ∙ (ap (λ ns. changed_thresholds ns change.percents.now change.notices.now none) removed
+    ∙ (ap (λ ns. changed_thresholds [] ns change.notices.now none) percents
+    ∙ (ap (λ ns. changed_thresholds [] coming.percents ns none) notices ∙ ap (changed_thresholds [] coming.percents coming.notices) empty)))
+
 pub add-requires : goal.add-requires
 add-requires c =
-    let change = c.args.change.now in
+    let coming = c.args.template.now.thresholds in
     let ts = c.in_ok-thresholds.thresholds in
-    let are : ts ≡ changed_thresholds [] change.percents.now change.notices.now [] =
-    c.in_ok-thresholds.ensures
-    ∙ (ap (λ removed. changed_thresholds removed change.percents.now change.notices.now c.new.result) c.requires.removed
-    ∙ ap (changed_thresholds [] change.percents.now change.notices.now) c.new.ensures) in
+    let are : ts ≡ changed_thresholds [] coming.percents coming.notices [] =
+    made_of coming (c.adding-change.result) c.new.result ts c.adding-change.ensures.removed c.adding-change.ensures.percents c.adding-change.ensures.notices c.new.ensures c.in_ok-thresholds.ensures in
     record {
       valid = ap (λ (r : TemplateRow). is_template (record r { number = 0 })) c.in_ok-row.ensures
-          ∙ blank_legal c.args.name.now c.args.limit c.args.enforce change.percents.now change.notices.now ts c.requires.name c.requires.limit c.requires.percents c.requires.notices are (sym c.are_too_many.ensures ∙ c.if-are_too_many.false);
+          ∙ blank_legal c.args.template.now ts (new_template_parts c.args.template.now c.requires.valid) are (sym c.are_too_many.ensures ∙ c.if-are_too_many.false);
     }
 
 pub done-requires-clause-counted : goal.done-requires-clause-counted
@@ -27,13 +37,11 @@ done-requires-clause-counted c = c.requires.whole.sound.counted
 pub returns-in-Ok-clause-ok : goal.returns-in-Ok-clause-ok
 returns-in-Ok-clause-ok c =
     let p = c.args.self.now in
-    let change = c.args.change.now in
+    let coming = c.args.template.now.thresholds in
     let ts = c.in_ok-thresholds.thresholds in
-    let are : ts ≡ changed_thresholds [] change.percents.now change.notices.now [] =
-    c.in_ok-thresholds.ensures
-    ∙ (ap (λ removed. changed_thresholds removed change.percents.now change.notices.now c.new.result) c.requires.removed
-    ∙ ap (changed_thresholds [] change.percents.now change.notices.now) c.new.ensures) in
-    template_added p c.args.moment c.args.name.now c.args.limit c.args.enforce change.percents.now change.notices.now c.requires.whole c.done.new.self c.add.new.self c.in_ok-row.row ts c.room-room.result c.done.result
+    let are : ts ≡ changed_thresholds [] coming.percents coming.notices [] =
+    made_of coming (c.adding-change.result) c.new.result ts c.adding-change.ensures.removed c.adding-change.ensures.percents c.adding-change.ensures.notices c.new.ensures c.in_ok-thresholds.ensures in
+    template_added p c.args.moment c.args.template.now c.requires.whole c.done.new.self c.add.new.self c.in_ok-row.row ts c.room-room.result c.done.result
     c.in_ok-row.ensures are c.room-room.ensures (sym c.are_too_many.ensures ∙ c.if-are_too_many.false) c.requires.idle c.requires.after c.in-Ok.ensures.may c.in-Ok.ensures.ok c.done.ensures.ended c.done.ensures.answer
 
 pub returns-in-Ok-clause-sound : goal.returns-in-Ok-clause-sound
@@ -44,14 +52,12 @@ returns-in-Ok-clause-sound c =
 pub returns-in-Err-clause-ok : goal.returns-in-Err-clause-ok
 returns-in-Err-clause-ok c =
     let p = c.args.self.now in
-    let change = c.args.change.now in
+    let coming = c.args.template.now.thresholds in
     let ts = c.in_ok-thresholds.thresholds in
-    let are : ts ≡ changed_thresholds [] change.percents.now change.notices.now [] =
-    c.in_ok-thresholds.ensures
-    ∙ (ap (λ removed. changed_thresholds removed change.percents.now change.notices.now c.new.result) c.requires.removed
-    ∙ ap (changed_thresholds [] change.percents.now change.notices.now) c.new.ensures) in
-    refused_by p c.args.moment (Template (TemplateAdd c.args.name.now c.args.limit c.args.enforce change.percents.now change.notices.now)) c.add.new.self c.in-Err.fault (template_fault p.templates c.in_ok-row.row c.room-room.result) c.refused_by_templates.result c.requires.idle c.requires.after
-    (add_due p c.args.moment c.args.name.now c.args.limit c.args.enforce change.percents.now change.notices.now c.requires.whole c.in_ok-row.row ts c.room-room.result c.in_ok-row.ensures are c.room-room.ensures (sym c.are_too_many.ensures ∙ c.if-are_too_many.false))
+    let are : ts ≡ changed_thresholds [] coming.percents coming.notices [] =
+    made_of coming (c.adding-change.result) c.new.result ts c.adding-change.ensures.removed c.adding-change.ensures.percents c.adding-change.ensures.notices c.new.ensures c.in_ok-thresholds.ensures in
+    refused_by p c.args.moment (Template (TemplateAdd c.args.template.now)) c.add.new.self c.in-Err.fault (template_fault p.templates c.in_ok-row.row c.room-room.result) c.refused_by_templates.result c.requires.idle c.requires.after
+    (add_due p c.args.moment c.args.template.now c.requires.whole c.in_ok-row.row ts c.room-room.result c.in_ok-row.ensures are c.room-room.ensures (sym c.are_too_many.ensures ∙ c.if-are_too_many.false))
     c.in-Err.ensures.refused c.in-Err.ensures.err c.refused_by_templates.ensures.ok
 
 pub returns-in-Err-clause-sound : goal.returns-in-Err-clause-sound

@@ -1,14 +1,16 @@
-use Rattle.std.proofs.Common.{◌≡◌, Some, true, false, refl, ap, sym, ◌∙◌, subst}
+use Rattle.std.proofs.Common.{◌≡◌, ℕ, List, Some, true, false, refl, ap, sym, ◌∙◌, subst}
 use Rattle.std.specs.Prelude.{IfOk, flat_map}
 use Rattle.std.specs.Option.{option_and_then, option_copied}
 use Rattle.fsrm_model.specs.declared.command.Answer.{Answer}
 use Rattle.fsrm_model.specs.declared.command.Deed.TheVariants.{Template}
 use Rattle.fsrm_model.specs.declared.command.TemplateDeed.TheVariants.{Modify as TemplateModify}
+use Rattle.fsrm_model.specs.declared.row.Threshold.{Threshold}
 use Rattle.fsrm_model.specs.Templates.{template_named}
 use Rattle.fsrm_model.specs.Thresholds.{are_too_many, may_be_removed}
 use Rattle.fsrm_model.proofs.valid.TemplatesKept.{template_parts}
 use Rattle.fsrm_objects.specs.Tables.{Tables}
 use Rattle.templates.specs.Faults.{modify_fault}
+use Rattle.fsrm_model.proofs.commands.ValueParts.{template_change_parts}
 use Rattle.fsrm_engine.specs.declared.parts.Parts.{Parts}
 use Rattle.fsrm_engine.specs.Due.{updated_acts}
 use Rattle.fsrm_engine.specs.Faults.{template_refusal}
@@ -22,36 +24,40 @@ use Rattle.fsrm_engine.proofs.tables.TemplateLaws.{refused_by, rewritten_sound}
 use Rattle.fsrm_engine.proofs.tables.UpdateLaws.{ReachedRows, mid_is, modified_counted, modify_due, modify_missing, reached_rows, retemplated_legal, row_named, template_modified}
 use Rattle.fsrm_engine.proofs.parts.Parts.template_modify.Goals as goal
 
+-- what was lent is the lists
+may_is : (lent removed : List ℕ) (held thresholds : List Threshold) → lent ≡ removed → held ≡ thresholds → may_be_removed removed thresholds ≡ may_be_removed lent held
+may_is lent removed held thresholds e f = sym (ap (λ ns. may_be_removed ns held) e ∙ ap (may_be_removed removed) f)
+
 pub returns-in_default-clause-ok : goal.returns-in_default-clause-ok
 returns-in_default-clause-ok c =
     let p = c.args.self.now in
     let change = c.args.change.now in
-    refused_as p c.args.moment (Template (TemplateModify c.args.name.now c.args.limit c.args.enforce change.removed.now change.percents.now change.notices.now c.args.mode)) c.refused.result _ c.requires.idle c.requires.after
-    (modify_missing p c.args.moment c.args.name.now c.args.limit c.args.enforce change.removed.now change.percents.now change.notices.now c.args.mode (sym c.template_named.ensures ∙ ap option_copied c.in_default.is)) refl c.refused.ensures
+    refused_as p c.args.moment (Template (TemplateModify change)) c.refused.result _ c.requires.idle c.requires.after
+    (modify_missing p c.args.moment change (sym c.template_named.ensures ∙ ap option_copied c.in_default.is)) refl c.refused.ensures
 
 pub retemplated-requires : goal.retemplated-requires
 retemplated-requires c =
     let p = c.args.self.now in
     let t = c.in-Some.template.now in
-    let is : template_named p.templates.templates c.args.name.now ≡ Some t = sym c.template_named.ensures ∙ ap option_copied c.in-Some.is in
-    percents_ascend t.thresholds (template_parts t (named_legal p c.args.name.now t c.requires.whole is)).thresholds
+    let is : template_named p.templates.templates c.args.change.now.name ≡ Some t = sym c.template_named.ensures ∙ ap option_copied c.in-Some.is in
+    percents_ascend t.thresholds (template_parts t (named_legal p c.args.change.now.name t c.requires.whole is)).thresholds
 
 pub modify-requires-clause-named : goal.modify-requires-clause-named
 modify-requires-clause-named c =
     let p = c.args.self.now in
     let t = c.in-Some.template.now in
     let change = c.args.change.now in
-    let is : template_named p.templates.templates c.args.name.now ≡ Some t = sym c.template_named.ensures ∙ ap option_copied c.in-Some.is in
-    row_named p c.args.moment c.args.name.now c.args.limit c.args.enforce change.removed.now change.percents.now change.notices.now c.args.mode t is c.requires.whole c.in_ok-row.row c.in_ok-row.ensures
+    let is : template_named p.templates.templates c.args.change.now.name ≡ Some t = sym c.template_named.ensures ∙ ap option_copied c.in-Some.is in
+    row_named p c.args.moment change t is c.requires.whole c.in_ok-row.row c.in_ok-row.ensures
 
 pub modify-requires-clause-valid : goal.modify-requires-clause-valid
 modify-requires-clause-valid c =
     let p = c.args.self.now in
     let t = c.in-Some.template.now in
     let change = c.args.change.now in
-    let is : template_named p.templates.templates c.args.name.now ≡ Some t = sym c.template_named.ensures ∙ ap option_copied c.in-Some.is in
+    let is : template_named p.templates.templates c.args.change.now.name ≡ Some t = sym c.template_named.ensures ∙ ap option_copied c.in-Some.is in
     let few : are_too_many c.in_ok-row.row.thresholds ≡ false = sym c.are_too_many.ensures ∙ c.if-are_too_many.false in
-    retemplated_legal c.args.limit c.args.enforce change.removed.now change.percents.now change.notices.now t c.in_ok-row.row c.requires.limit c.requires.percents c.requires.notices c.in_ok-row.ensures few (named_legal p c.args.name.now t c.requires.whole is)
+    retemplated_legal change t c.in_ok-row.row (template_change_parts change c.requires.valid) c.in_ok-row.ensures few (named_legal p c.args.change.now.name t c.requires.whole is)
 
 pub settle_reached-requires : goal.settle_reached-requires
 settle_reached-requires c =
@@ -60,13 +66,13 @@ settle_reached-requires c =
     let w = c.requires.whole in
     let change = c.args.change.now in
     let row = c.in_ok-row.row in
-    let is : template_named p.templates.templates c.args.name.now ≡ Some t = sym c.template_named.ensures ∙ ap option_copied c.in-Some.is in
+    let is : template_named p.templates.templates c.args.change.now.name ≡ Some t = sym c.template_named.ensures ∙ ap option_copied c.in-Some.is in
     let few : are_too_many row.thresholds ≡ false = sym c.are_too_many.ensures ∙ c.if-are_too_many.false in
-    let legal = retemplated_legal c.args.limit c.args.enforce change.removed.now change.percents.now change.notices.now t row c.requires.limit c.requires.percents c.requires.notices c.in_ok-row.ensures few (named_legal p c.args.name.now t w is) in
-    let mid = mid_is p c.args.moment c.args.name.now c.args.limit c.args.enforce change.removed.now change.percents.now change.notices.now c.args.mode t is w row c.in_ok-row.ensures c.modify.new.self c.modify.new.objects c.in-Ok.ensures.ok c.in-Ok.ensures.quotas in
-    let are = reached_rows p c.args.moment c.args.name.now c.args.limit c.args.enforce change.removed.now change.percents.now change.notices.now c.args.mode t is w row c.in_ok-row.ensures c.in-Ok.reached c.in-Ok.ensures.reached in
+    let legal = retemplated_legal change t row (template_change_parts change c.requires.valid) c.in_ok-row.ensures few (named_legal p c.args.change.now.name t w is) in
+    let mid = mid_is p c.args.moment change t is w row c.in_ok-row.ensures c.modify.new.self c.modify.new.objects c.in-Ok.ensures.ok c.in-Ok.ensures.quotas in
+    let are = reached_rows p c.args.moment change t is w row c.in_ok-row.ensures c.in-Ok.reached c.in-Ok.ensures.reached in
     record {
-      counted = subst AreCounted (sym mid) (modified_counted p c.args.moment c.args.name.now c.args.limit c.args.enforce change.removed.now change.percents.now change.notices.now c.args.mode t is w row c.in_ok-row.ensures legal);
+      counted = subst AreCounted (sym mid) (modified_counted p c.args.moment change t is w row c.in_ok-row.ensures legal);
       idle = subst IsIdle (sym mid) (record { numbers = c.requires.idle.numbers; places = c.requires.idle.places; crossing = c.requires.idle.crossing });
       log = few_log p w;
       moment = c.requires.moment;
@@ -81,13 +87,13 @@ returns-in-Ok-clause-ok c =
     let w = c.requires.whole in
     let change = c.args.change.now in
     let row = c.in_ok-row.row in
-    let is : template_named p.templates.templates c.args.name.now ≡ Some t = sym c.template_named.ensures ∙ ap option_copied c.in-Some.is in
+    let is : template_named p.templates.templates c.args.change.now.name ≡ Some t = sym c.template_named.ensures ∙ ap option_copied c.in-Some.is in
     let few : are_too_many row.thresholds ≡ false = sym c.are_too_many.ensures ∙ c.if-are_too_many.false in
-    let legal = retemplated_legal c.args.limit c.args.enforce change.removed.now change.percents.now change.notices.now t row c.requires.limit c.requires.percents c.requires.notices c.in_ok-row.ensures few (named_legal p c.args.name.now t w is) in
-    let may : may_be_removed change.removed.now t.thresholds ≡ true = ap (may_be_removed change.removed.now) (sym c.as_slice.ensures) ∙ (sym c.may_be_removed.ensures ∙ c.if-not-may_be_removed.false) in
-    let due_is = modify_due p c.args.moment c.args.name.now c.args.limit c.args.enforce change.removed.now change.percents.now change.notices.now c.args.mode t is w row c.in_ok-row.ensures c.room-room.result c.room-room.ensures may few in
-    let mid = mid_is p c.args.moment c.args.name.now c.args.limit c.args.enforce change.removed.now change.percents.now change.notices.now c.args.mode t is w row c.in_ok-row.ensures c.modify.new.self c.modify.new.objects c.in-Ok.ensures.ok c.in-Ok.ensures.quotas in
-    template_modified p c.args.moment c.args.name.now c.args.limit c.args.enforce change.removed.now change.percents.now change.notices.now c.args.mode t is w row c.in_ok-row.ensures
+    let legal = retemplated_legal change t row (template_change_parts change c.requires.valid) c.in_ok-row.ensures few (named_legal p c.args.change.now.name t w is) in
+    let may : may_be_removed change.removed t.thresholds ≡ true = may_is c.as_slice.result.now change.removed c.as_slice-2.result.now t.thresholds c.as_slice.ensures c.as_slice-2.ensures ∙ (sym c.may_be_removed.ensures ∙ c.if-not-may_be_removed.false) in
+    let due_is = modify_due p c.args.moment change t is w row c.in_ok-row.ensures c.room-room.result c.room-room.ensures may few in
+    let mid = mid_is p c.args.moment change t is w row c.in_ok-row.ensures c.modify.new.self c.modify.new.objects c.in-Ok.ensures.ok c.in-Ok.ensures.quotas in
+    template_modified p c.args.moment change t is w row c.in_ok-row.ensures
     c.settle_reached.new.self c.done.new.self c.in-Ok.reached c.done.result c.requires.idle c.requires.after legal (due_is ∙ ap (option_and_then template_refusal) c.in-Ok.ensures.may) c.in-Ok.ensures.reached
     (subst (λ (q : Parts). Ran q c.settle_reached.new.self c.args.moment (flat_map (updated_acts q.objects q.usage q.run_limit c.args.moment) c.in-Ok.reached)) mid c.settle_reached.ensures.settled)
     c.done.ensures.ended c.done.ensures.answer
@@ -103,13 +109,13 @@ returns-in-Err-clause-ok c =
     let w = c.requires.whole in
     let change = c.args.change.now in
     let row = c.in_ok-row.row in
-    let deed = Template (TemplateModify c.args.name.now c.args.limit c.args.enforce change.removed.now change.percents.now change.notices.now c.args.mode) in
-    let is : template_named p.templates.templates c.args.name.now ≡ Some t = sym c.template_named.ensures ∙ ap option_copied c.in-Some.is in
+    let deed = Template (TemplateModify change) in
+    let is : template_named p.templates.templates c.args.change.now.name ≡ Some t = sym c.template_named.ensures ∙ ap option_copied c.in-Some.is in
     let few : are_too_many row.thresholds ≡ false = sym c.are_too_many.ensures ∙ c.if-are_too_many.false in
-    let may : may_be_removed change.removed.now t.thresholds ≡ true = ap (may_be_removed change.removed.now) (sym c.as_slice.ensures) ∙ (sym c.may_be_removed.ensures ∙ c.if-not-may_be_removed.false) in
+    let may : may_be_removed change.removed t.thresholds ≡ true = may_is c.as_slice.result.now change.removed c.as_slice-2.result.now t.thresholds c.as_slice.ensures c.as_slice-2.ensures ∙ (sym c.may_be_removed.ensures ∙ c.if-not-may_be_removed.false) in
     subst (λ (objects : Tables). IfOk c.refused_by_templates.result (λ (answer : Answer). Does p (record p { templates = c.modify.new.self; objects = objects }) c.args.moment deed answer)) (sym c.in-Err.ensures.kept)
-    (refused_by p c.args.moment deed c.modify.new.self c.in-Err.fault (modify_fault p.templates p.objects.quotas row c.args.mode c.room-room.result) c.refused_by_templates.result c.requires.idle c.requires.after
-    (modify_due p c.args.moment c.args.name.now c.args.limit c.args.enforce change.removed.now change.percents.now change.notices.now c.args.mode t is w row c.in_ok-row.ensures c.room-room.result c.room-room.ensures may few)
+    (refused_by p c.args.moment deed c.modify.new.self c.in-Err.fault (modify_fault p.templates p.objects.quotas row c.args.change.now.update c.room-room.result) c.refused_by_templates.result c.requires.idle c.requires.after
+    (modify_due p c.args.moment change t is w row c.in_ok-row.ensures c.room-room.result c.room-room.ensures may few)
     c.in-Err.ensures.refused c.in-Err.ensures.err c.refused_by_templates.ensures.ok)
 
 pub returns-in-Err-clause-sound : goal.returns-in-Err-clause-sound
