@@ -4,7 +4,8 @@ use Rattle.fsrm_model.specs.declared.command.Deed.{Deed}
 use Rattle.fsrm_model.specs.declared.row.Capacity.{Capacity}
 use Rattle.fsrm_model.specs.declared.row.NodeRow.{NodeRow}
 use Rattle.fsrm_model.specs.declared.row.Rows.{Rows}
-use Rattle.fsrm_model.specs.Entry.{Path}
+use Rattle.fsrm_model.specs.Entry.{Path, text_bytes}
+use Rattle.fsrm_model.specs.Patterns.{is_object_name}
 use Rattle.fsrm_model.specs.Work.{Work}
 
 -- The entry of a command in a journal: its kind, by which a reader of the journal knows the command, so that no two
@@ -25,22 +26,50 @@ pub record CommandForm : Type 0 where
   -- the looks beside those for the names of its paths
   pub looks : List NodeRow → ℕ
 
--- A command that a journal keeps, and that takes no looks beside those for the names of its paths: its kind, the
--- command without its values, its paths, whether its other values are in their ranges, their bytes, and its work
-abbrev pub keeps : ℕ → Deed → List Path → Bool → ℕ → (Capacity → Rows → ℕ → Work) → CommandForm
-keeps kind emptied paths legal bytes work =
+-- What there is to say of a command that a journal keeps, and that takes no looks beside those for the names of its
+-- paths: the kind of its entry, and how many bytes the entry has for all values but the paths
+pub record KeptForm : Type 0 where
+  pub kind : ℕ
+  pub emptied : Deed
+  pub paths : List Path
+  pub legal : Bool
+  pub bytes : ℕ
+  pub work : Capacity → Rows → ℕ → Work
+
+abbrev pub kept : KeptForm → CommandForm
+kept form =
     record {
-      emptied = emptied;
-      paths = paths;
-      legal = legal;
-      entry = Some (record { kind = kind; bytes = bytes });
-      work = work;
+      emptied = form.emptied;
+      paths = form.paths;
+      legal = form.legal;
+      entry = Some (record { kind = form.kind; bytes = form.bytes });
+      work = form.work;
       looks = λ nodes. 0;
     }
 
 -- one that has a path and no other value
 abbrev pub on_path : ℕ → (Path → Deed) → Path → (Capacity → Rows → ℕ → Work) → CommandForm
-on_path kind deed path work = keeps kind (deed []) (path ∷ []) true 0 work
+on_path kind deed path work =
+    kept (record {
+      kind = kind;
+      emptied = deed [];
+      paths = path ∷ [];
+      legal = true;
+      bytes = 0;
+      work = work;
+    })
+
+-- one that has the name of a group or of a template and no other value
+abbrev pub on_name : ℕ → (List ℕ → Deed) → List ℕ → (Capacity → Rows → ℕ → Work) → CommandForm
+on_name kind deed name work =
+    kept (record {
+      kind = kind;
+      emptied = deed [];
+      paths = [];
+      legal = is_object_name name;
+      bytes = text_bytes name;
+      work = work;
+    })
 
 -- a command that never lasts: the command without its values, its paths, and its work
 abbrev pub shows : Deed → List Path → (Capacity → Rows → ℕ → Work) → CommandForm

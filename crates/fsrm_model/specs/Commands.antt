@@ -40,7 +40,7 @@ use Rattle.fsrm_model.specs.AutoWork.{auto_add_work, auto_delete_work, auto_list
 use Rattle.fsrm_model.specs.Entry.{Path, number_bytes, choice_bytes, text_bytes, path_bytes, optional, counted, notice_bytes, screen_notice_bytes}
 use Rattle.fsrm_model.specs.FileOps.{target}
 use Rattle.fsrm_model.specs.FileWork.{file_work, usage_work}
-use Rattle.fsrm_model.specs.CommandForm.{CommandForm, EntryForm, keeps, on_path, shows}
+use Rattle.fsrm_model.specs.CommandForm.{CommandForm, EntryForm, kept, on_path, on_name, shows}
 use Rattle.fsrm_model.specs.GroupWork.{group_add_work, group_modify_work, group_delete_work, group_list_work}
 use Rattle.fsrm_model.specs.Leads.{leads, leads_to_folder}
 use Rattle.fsrm_model.specs.Limits.{longest_file, last_owner, most_visits, most_minutes, most_excluded}
@@ -227,17 +227,33 @@ op_cost nodes op = (form_of_op op).looks nodes
 -- ---- all commands
 abbrev pub form_of_quota : QuotaDeed → CommandForm
 form_of_quota (QuotaAdd new) =
-    keeps 10 (Quota (QuotaAdd empty_quota)) (new.path ∷ []) (is_new_quota new)
-    (limit_bytes new.limit
-    + (option_bytes new.enforce
-    + (choice_bytes + (optional text_bytes new.template + new_threshold_bytes new.thresholds))))
-    (λ K R moment. add_work R moment new)
+    kept (record {
+      kind = 10;
+      emptied = Quota (QuotaAdd empty_quota);
+      paths = new.path ∷ [];
+      legal = is_new_quota new;
+      bytes =
+          limit_bytes new.limit
+          + (option_bytes new.enforce
+          + (choice_bytes
+          + (optional text_bytes new.template
+          + new_threshold_bytes new.thresholds)));
+      work = λ K R moment. add_work R moment new;
+    })
 form_of_quota (QuotaModify change) =
-    keeps 11 (Quota (QuotaModify empty_quota_change)) (change.path ∷ []) (is_quota_change change)
-    (limit_bytes change.limit
-    + (option_bytes change.enforce
-    + (option_bytes change.enabled + (percent_bytes change.removed + new_threshold_bytes change.thresholds))))
-    (λ K R moment. modify_work R change)
+    kept (record {
+      kind = 11;
+      emptied = Quota (QuotaModify empty_quota_change);
+      paths = change.path ∷ [];
+      legal = is_quota_change change;
+      bytes =
+          limit_bytes change.limit
+          + (option_bytes change.enforce
+          + (option_bytes change.enabled
+          + (percent_bytes change.removed
+          + new_threshold_bytes change.thresholds)));
+      work = λ K R moment. modify_work R change;
+    })
 form_of_quota (QuotaDelete path) = on_path 12 (λ p. Quota (QuotaDelete p)) path (λ K R moment. delete_work R path)
 form_of_quota (QuotaScan path) = on_path 13 (λ p. Quota (QuotaScan p)) path (λ K R moment. scan_work R path)
 form_of_quota (QuotaResetpeak path) =
@@ -246,26 +262,44 @@ form_of_quota (QuotaList path) = shows (Quota (QuotaList None)) (option_to_list 
 
 abbrev pub form_of_template : TemplateDeed → CommandForm
 form_of_template (TemplateAdd new) =
-    keeps 20 (Template (TemplateAdd empty_template)) [] (is_new_template new)
-    (text_bytes new.name + (number_bytes + (choice_bytes + new_threshold_bytes new.thresholds)))
-    (λ K R moment. template_add_work R new)
+    kept (record {
+      kind = 20;
+      emptied = Template (TemplateAdd empty_template);
+      paths = [];
+      legal = is_new_template new;
+      bytes = text_bytes new.name + (number_bytes + (choice_bytes + new_threshold_bytes new.thresholds));
+      work = λ K R moment. template_add_work R new;
+    })
 form_of_template (TemplateModify change) =
-    keeps 21 (Template (TemplateModify empty_template_change)) [] (is_template_change change)
-    (text_bytes change.name
-    + (limit_bytes change.limit
-    + (option_bytes change.enforce
-    + (percent_bytes change.removed + (new_threshold_bytes change.thresholds + choice_bytes)))))
-    (λ K R moment. template_modify_work R change)
+    kept (record {
+      kind = 21;
+      emptied = Template (TemplateModify empty_template_change);
+      paths = [];
+      legal = is_template_change change;
+      bytes =
+          text_bytes change.name
+          + (limit_bytes change.limit
+          + (option_bytes change.enforce
+          + (percent_bytes change.removed
+          + (new_threshold_bytes change.thresholds
+          + choice_bytes))));
+      work = λ K R moment. template_modify_work R change;
+    })
 form_of_template (TemplateDelete name) =
-    keeps 22 (Template (TemplateDelete [])) [] (is_object_name name) (text_bytes name)
-    (λ K R moment. template_delete_work R name)
+    on_name 22 (λ n. Template (TemplateDelete n)) name (λ K R moment. template_delete_work R name)
 form_of_template TemplateList = shows (Template TemplateList) [] (λ K R moment. template_list_work R)
 
 -- each child of a folder that gets an auto-apply quota is looked at up to 4 times
 abbrev pub form_of_autoquota : AutoquotaDeed → CommandForm
 form_of_autoquota (AutoquotaAdd new) =
-    record (keeps 30 (Autoquota (AutoquotaAdd empty_autoquota)) (new.path ∷ []) (is_new_autoquota new)
-    (text_bytes new.template + counted text_bytes new.excluded) (λ K R moment. auto_add_work R moment new)) {
+    record (kept (record {
+      kind = 30;
+      emptied = Autoquota (AutoquotaAdd empty_autoquota);
+      paths = new.path ∷ [];
+      legal = is_new_autoquota new;
+      bytes = text_bytes new.template + counted text_bytes new.excluded;
+      work = λ K R moment. auto_add_work R moment new;
+    })) {
       looks = λ nodes. if leads_to_folder nodes new.path then 4 * length (children nodes (target nodes new.path)) else 0;
     }
 form_of_autoquota (AutoquotaDelete path) =
@@ -274,43 +308,76 @@ form_of_autoquota AutoquotaList = shows (Autoquota AutoquotaList) [] (λ K R mom
 
 abbrev pub form_of_admin : AdminDeed → CommandForm
 form_of_admin (AdminOptions minutes) =
-    keeps 35 (Admin (AdminOptions 0)) [] (nat_le minutes most_minutes) number_bytes
-    (λ K R moment. options_work R minutes)
+    kept (record {
+      kind = 35;
+      emptied = Admin (AdminOptions 0);
+      paths = [];
+      legal = nat_le minutes most_minutes;
+      bytes = number_bytes;
+      work = λ K R moment. options_work R minutes;
+    })
 form_of_admin AdminList = shows (Admin AdminList) [] (λ K R moment. settings_work R)
 form_of_admin AdminLog = shows (Admin AdminLog) [] (λ K R moment. log_work R)
 
 abbrev pub form_of_filegroup : FilegroupDeed → CommandForm
 form_of_filegroup (FilegroupAdd new) =
-    keeps 40 (Filegroup (FilegroupAdd empty_filegroup)) [] (is_new_filegroup new)
-    (text_bytes new.name + (counted text_bytes new.members + counted text_bytes new.non_members))
-    (λ K R moment. group_add_work R new)
+    kept (record {
+      kind = 40;
+      emptied = Filegroup (FilegroupAdd empty_filegroup);
+      paths = [];
+      legal = is_new_filegroup new;
+      bytes = text_bytes new.name + (counted text_bytes new.members + counted text_bytes new.non_members);
+      work = λ K R moment. group_add_work R new;
+    })
 form_of_filegroup (FilegroupModify change) =
-    keeps 41 (Filegroup (FilegroupModify empty_filegroup_change)) [] (is_filegroup_change change)
-    (text_bytes change.name
-    + (optional (counted text_bytes) change.members + optional (counted text_bytes) change.non_members))
-    (λ K R moment. group_modify_work R change)
+    kept (record {
+      kind = 41;
+      emptied = Filegroup (FilegroupModify empty_filegroup_change);
+      paths = [];
+      legal = is_filegroup_change change;
+      bytes =
+          text_bytes change.name
+          + (optional (counted text_bytes) change.members
+          + optional (counted text_bytes) change.non_members);
+      work = λ K R moment. group_modify_work R change;
+    })
 form_of_filegroup (FilegroupDelete name) =
-    keeps 42 (Filegroup (FilegroupDelete [])) [] (is_object_name name) (text_bytes name)
-    (λ K R moment. group_delete_work R name)
+    on_name 42 (λ n. Filegroup (FilegroupDelete n)) name (λ K R moment. group_delete_work R name)
 form_of_filegroup FilegroupList = shows (Filegroup FilegroupList) [] (λ K R moment. group_list_work R)
 
 abbrev pub form_of_screen : ScreenDeed → CommandForm
 form_of_screen (ScreenAdd new) =
-    keeps 50 (Screen (ScreenAdd empty_screen)) (new.path ∷ []) (is_new_screen new)
-    (choice_bytes + (counted text_bytes new.groups + counted screen_notice_bytes new.actions))
-    (λ K R moment. screen_add_work R new)
+    kept (record {
+      kind = 50;
+      emptied = Screen (ScreenAdd empty_screen);
+      paths = new.path ∷ [];
+      legal = is_new_screen new;
+      bytes = choice_bytes + (counted text_bytes new.groups + counted screen_notice_bytes new.actions);
+      work = λ K R moment. screen_add_work R new;
+    })
 form_of_screen (ScreenModify change) =
-    keeps 51 (Screen (ScreenModify empty_screen_change)) (change.path ∷ []) (is_screen_change change)
-    (option_bytes change.active + (counted text_bytes change.removed + counted text_bytes change.groups))
-    (λ K R moment. screen_modify_work R change)
+    kept (record {
+      kind = 51;
+      emptied = Screen (ScreenModify empty_screen_change);
+      paths = change.path ∷ [];
+      legal = is_screen_change change;
+      bytes = option_bytes change.active + (counted text_bytes change.removed + counted text_bytes change.groups);
+      work = λ K R moment. screen_modify_work R change;
+    })
 form_of_screen (ScreenDelete path) =
     on_path 52 (λ p. Screen (ScreenDelete p)) path (λ K R moment. screen_delete_work R path)
 form_of_screen ScreenList = shows (Screen ScreenList) [] (λ K R moment. screen_list_work R)
 
 abbrev pub form_of_exception : ExceptionDeed → CommandForm
 form_of_exception (ExceptionAdd new) =
-    keeps 60 (Exception (ExceptionAdd empty_exception)) (new.path ∷ []) (is_new_exception new)
-    (counted text_bytes new.groups) (λ K R moment. except_add_work R new)
+    kept (record {
+      kind = 60;
+      emptied = Exception (ExceptionAdd empty_exception);
+      paths = new.path ∷ [];
+      legal = is_new_exception new;
+      bytes = counted text_bytes new.groups;
+      work = λ K R moment. except_add_work R new;
+    })
 form_of_exception (ExceptionDelete path) =
     on_path 61 (λ p. Exception (ExceptionDelete p)) path (λ K R moment. except_delete_work R path)
 form_of_exception ExceptionList = shows (Exception ExceptionList) [] (λ K R moment. except_list_work R)
