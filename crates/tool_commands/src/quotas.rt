@@ -22,14 +22,11 @@ use std::alloc::Global;
 fn add(alloc: Global, words: &mut Words<'_>) -> Result<QuotaDeed, LineFault>
     ensures { ReadsIn (λ deed. Quota deed) result (option_words quota_add (end words.old) (left words.old)) }
 {
+    let kind = (QUOTA_TYPE, STATUS);
     let thresholds = (ADD_THRESHOLD, ADD_NOTIFICATION);
-    let options = (
-        PATH,
-        (LIMIT, (QUOTA_TYPE, (STATUS, (SOURCE_TEMPLATE, thresholds)))),
-    );
-    let (path, (limit, (enforce, (enabled, (template, thresholds))))) = read_options(
-        alloc, options, words,
-    )?;
+    let options = ((PATH, LIMIT), (kind, (SOURCE_TEMPLATE, thresholds)));
+    let ((path, limit), (kind, (template, thresholds))) = read_options(alloc, options, words)?;
+    let (enforce, enabled) = kind;
     let (percents, notices) = thresholds;
     let path = required(path, words)?;
     if limit.is_none() && template.is_none() {
@@ -49,10 +46,12 @@ fn add(alloc: Global, words: &mut Words<'_>) -> Result<QuotaDeed, LineFault>
 fn modify(alloc: Global, words: &mut Words<'_>) -> Result<QuotaDeed, LineFault>
     ensures { ReadsIn (λ deed. Quota deed) result (option_words quota_modify (end words.old) (left words.old)) }
 {
-    let thresholds = (REMOVE_THRESHOLD, (ADD_THRESHOLD, ADD_NOTIFICATION));
-    let options = (PATH, (LIMIT, (QUOTA_TYPE, (STATUS, thresholds))));
-    let (path, (limit, (enforce, (enabled, thresholds)))) = read_options(alloc, options, words)?;
-    let (removed, (percents, notices)) = thresholds;
+    let kind = (QUOTA_TYPE, STATUS);
+    let thresholds = (ADD_THRESHOLD, ADD_NOTIFICATION);
+    let options = ((PATH, LIMIT), (kind, (REMOVE_THRESHOLD, thresholds)));
+    let ((path, limit), (kind, (removed, thresholds))) = read_options(alloc, options, words)?;
+    let (enforce, enabled) = kind;
+    let (percents, notices) = thresholds;
     let path = required(path, words)?;
     let thresholds = NewThresholds { percents, notices };
     Ok(QuotaDeed::Modify(QuotaChange {

@@ -20,11 +20,10 @@ use std::alloc::Global;
 fn add(alloc: Global, words: &mut Words<'_>) -> Result<TemplateDeed, LineFault>
     ensures { ReadsIn (λ deed. Template deed) result (option_words template_add (end words.old) (left words.old)) }
 {
-    let options = (
-        TEMPLATE,
-        (LIMIT, (QUOTA_TYPE, (ADD_THRESHOLD, ADD_NOTIFICATION))),
-    );
-    let (name, (limit, (enforce, (percents, notices)))) = read_options(alloc, options, words)?;
+    let thresholds = (ADD_THRESHOLD, ADD_NOTIFICATION);
+    let options = ((TEMPLATE, LIMIT), (QUOTA_TYPE, thresholds));
+    let ((name, limit), (enforce, thresholds)) = read_options(alloc, options, words)?;
+    let (percents, notices) = thresholds;
     let name = required(name, words)?;
     let limit = required(limit, words)?;
     let thresholds = NewThresholds { percents, notices };
@@ -41,10 +40,10 @@ fn modify(alloc: Global, words: &mut Words<'_>) -> Result<TemplateDeed, LineFaul
 {
     let thresholds = (REMOVE_THRESHOLD, (ADD_THRESHOLD, ADD_NOTIFICATION));
     let options = (
-        TEMPLATE,
-        (LIMIT, (QUOTA_TYPE, (thresholds, UPDATE_DERIVED))),
+        (TEMPLATE, LIMIT),
+        (QUOTA_TYPE, (thresholds, UPDATE_DERIVED)),
     );
-    let (name, (limit, (enforce, (thresholds, update)))) = read_options(alloc, options, words)?;
+    let ((name, limit), (enforce, (thresholds, update))) = read_options(alloc, options, words)?;
     let (removed, (percents, notices)) = thresholds;
     let name = required(name, words)?;
     let thresholds = NewThresholds { percents, notices };
