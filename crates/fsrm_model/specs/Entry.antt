@@ -19,9 +19,12 @@ choice_bytes = 1
 abbrev pub text_bytes : List ℕ → ℕ
 text_bytes text = 2 + length text
 
--- a path is spelled with its volume, as a text
+-- a path is spelled as a text: its volume, and its names, parted by backslashes
+abbrev pub path_length : Path → ℕ
+path_length path = 3 + length (join_with_byte 92 path)
+
 abbrev pub path_bytes : Path → ℕ
-path_bytes path = 2 + (3 + length (join_with_byte 92 path))
+path_bytes path = 2 + path_length path
 
 -- a value that may be left out: a byte says whether it is there, and then comes the value
 abbrev pub optional : {X : Type 0} → (X → ℕ) → Option X → ℕ

@@ -17,6 +17,10 @@ last_owner = 2 ^ 32 - 1
 abbrev pub longest_line : ℕ
 longest_line = 65536
 
+-- the bytes of the longest path as a text, with its volume
+abbrev pub longest_path : ℕ
+longest_path = 65535
+
 -- the bytes of the longest entry of a journal
 abbrev pub longest_entry : ℕ
 longest_entry = 131072

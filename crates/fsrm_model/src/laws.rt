@@ -31,7 +31,7 @@ ghost use Rattle.fsrm_model.specs.Derives.{Matches, Gets};
 ghost use Rattle.fsrm_model.specs.Templates.{is_derived, without_source, matches_template, is_reached, updated};
 ghost use Rattle.fsrm_model.specs.Audits.{audit_of, with_audit, tells_of_screen};
 ghost use Rattle.fsrm_model.specs.Date.{date_of};
-ghost use Rattle.fsrm_model.specs.Commands.{kind, emptied};
+ghost use Rattle.fsrm_model.specs.Commands.{paths, kind, emptied, entry_bytes};
 ghost use Rattle.fsrm_model.specs.DueActions.{minutes_of, ready, quota_acts, due, due_refused, due_screen};
 ghost use Rattle.fsrm_model.specs.Exceeds.{Exceeds};
 ghost use Rattle.fsrm_model.specs.Exceptions.{may_leave, run_by_refusal, left_after};
@@ -41,7 +41,8 @@ ghost use Rattle.fsrm_model.specs.Fresh.{new_rows};
 ghost use Rattle.fsrm_base.specs.Keyed.{has_row, is_ascending};
 ghost use Rattle.fsrm_base.specs.Numbers.{is_in};
 ghost use Rattle.fsrm_model.specs.Lasting.{lasting};
-ghost use Rattle.fsrm_model.specs.Limits.{latest_moment, most_entries};
+ghost use Rattle.fsrm_model.specs.Entry.{path_length};
+ghost use Rattle.fsrm_model.specs.Limits.{latest_moment, longest_path, longest_entry, most_entries};
 ghost use Rattle.fsrm_model.specs.Line.{read_line, is_line_refusal};
 ghost use Rattle.fsrm_model.specs.Quota.{folder_of, quota_of, counts, exceeded};
 ghost use Rattle.fsrm_model.specs.Raises.{are_ascending, Raises, RaisesRefused, RunsOfScreen};
@@ -367,9 +368,12 @@ pub fn journal()
 {}
 
 /// In a journal the kind of an entry tells the command. Two deeds whose entries have the same kind are of the same
-/// command: they are the same but for their values.
+/// command: they are the same but for their values. Each valid command's entry can be spelled.
 pub fn entries()
     ensures kinds { (one other : Deed) (k : ℕ) → kind one ≡ Some k → kind other ≡ Some k → emptied one ≡ emptied other }
+    // Two bytes tell the length of a path's text, and a record holds the entry.
+    ensures paths { (c : Command) → is_command c ≡ true → AllByRecursion (λ path. path_length path ≤ longest_path) (paths c.deed) }
+    ensures bytes { (c : Command) (n : ℕ) → is_command c ≡ true → entry_bytes c.deed ≡ Some n → n ≤ longest_entry }
 {}
 
 /// Rows that are those of a store, and rows in which one thing is wrong.

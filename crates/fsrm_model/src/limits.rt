@@ -2,7 +2,7 @@
 //! definitions.
 
 ghost use Rattle.std.specs.Prelude.{◌≡◌};
-ghost use Rattle.fsrm_model.specs.Limits.{latest_moment, longest_file, last_owner, longest_line, longest_entry, longest_script, longest_name, most_nodes, most_names, least_limit, greatest_limit, most_quotas, greatest_percent, most_thresholds, most_actions, longest_action_text, most_minutes, most_entries, most_templates, most_autos, most_excluded, most_groups, most_patterns, most_screens, most_excepts, most_screen_groups, most_text_bytes, most_visits};
+ghost use Rattle.fsrm_model.specs.Limits.{latest_moment, longest_file, last_owner, longest_line, longest_path, longest_entry, longest_script, longest_name, most_nodes, most_names, least_limit, greatest_limit, most_quotas, greatest_percent, most_thresholds, most_actions, longest_action_text, most_minutes, most_entries, most_templates, most_autos, most_excluded, most_groups, most_patterns, most_screens, most_excepts, most_screen_groups, most_text_bytes, most_visits};
 
 /// The greatest moment: 2099-12-31 23:59:59 UTC, in seconds since 1970-01-01 00:00:00 UTC.
 pub const LATEST_MOMENT: u64 = 4_102_444_799;
@@ -15,6 +15,9 @@ pub const LAST_OWNER: u32 = 4_294_967_295;
 
 /// The bytes of the longest line that is read, its end not counted.
 pub const LONGEST_LINE: usize = 65_536;
+
+/// The bytes of the longest path as a text, with its volume.
+pub const LONGEST_PATH: usize = 65_535;
 
 /// The bytes of the longest entry of a journal.
 pub const LONGEST_ENTRY: usize = 131_072;
@@ -94,6 +97,7 @@ pub fn limits()
     ensures longest_file { LONGEST_FILE ≡ longest_file }
     ensures last_owner { LAST_OWNER ≡ last_owner }
     ensures longest_line { LONGEST_LINE ≡ longest_line }
+    ensures longest_path { LONGEST_PATH ≡ longest_path }
     ensures longest_entry { LONGEST_ENTRY ≡ longest_entry }
     ensures longest_script { LONGEST_SCRIPT ≡ longest_script }
     ensures longest_name { LONGEST_NAME ≡ longest_name }

@@ -1,7 +1,8 @@
 -- What the entries of a journal make of rows is what the machine made of them, as far as it is kept.
 use Rattle.std.proofs.Common.{◌≡◌, ℕ, ◌+◌, ◌&&◌, Bool, true, false, List, [], ◌∷◌, ◌++◌, refl, sym, ◌∙◌, ap, subst, Some, None, Option}
-use Rattle.std.specs.Prelude.{Err, Ok, unwrap_or, if◌then◌else◌}
-use Rattle.std.specs.List.{list_all}
+use Rattle.std.specs.Prelude.{◌≤◌, nat_le, Err, Ok, unwrap_or, if◌then◌else◌}
+use Rattle.std.specs.List.{AllByRecursion, list_all}
+use Rattle.std.specs.Option.{option_map_or}
 use Rattle.fsrm_base.proofs.TestLaws.{both, le_is}
 use Rattle.fsrm_model.specs.declared.command.Command.{Command}
 use Rattle.fsrm_model.specs.declared.command.Deed.{Deed}
@@ -10,8 +11,10 @@ use Rattle.fsrm_model.specs.declared.command.Entry.{Entry}
 use Rattle.fsrm_model.specs.declared.command.Entry.TheVariants.{Order, Finish}
 use Rattle.fsrm_model.specs.declared.row.Capacity.{Capacity}
 use Rattle.fsrm_model.specs.declared.row.Rows.{Rows}
+use Rattle.fsrm_model.specs.Commands.{paths, entry_bytes}
+use Rattle.fsrm_model.specs.Entry.{path_length}
 use Rattle.fsrm_model.specs.Lasting.{lasting}
-use Rattle.fsrm_model.specs.Limits.{latest_moment}
+use Rattle.fsrm_model.specs.Limits.{latest_moment, longest_path, longest_entry}
 use Rattle.fsrm_model.specs.Line.{read_line}
 use Rattle.fsrm_model.specs.QuotaStates.{head}
 use Rattle.fsrm_model.specs.Reading.{Read}
@@ -19,7 +22,7 @@ use Rattle.fsrm_model.specs.Replays.{finish, after_entry, replayed, recovered, i
 use Rattle.fsrm_model.specs.Script.{Replied, replied, replied_to, fold_from, without_cr}
 use Rattle.fsrm_model.specs.Step.{step}
 use Rattle.fsrm_model.specs.Valid.{is_moment, IsValid}
-use Rattle.fsrm_model.specs.Valued.{is_deed, is_short, is_command}
+use Rattle.fsrm_model.specs.Valued.{is_deed, is_short_path, is_short, is_command}
 use Rattle.fsrm_model.proofs.commands.EachCommand.{kept_alike, lasting_kept, step_valid}
 use Rattle.fsrm_model.proofs.journal.AlikeSteps.{StepsAlike}
 use Rattle.fsrm_model.proofs.journal.FinishLaws.{lasting_valid, finish_alike, finish_valid, step_finishes}
@@ -146,3 +149,24 @@ pub journaled_lines : (K : Capacity) (base : Rows) (entries : List Entry) (R : R
 journaled_lines K base entries R n lines is =
     journaled_more K base entries (entries_from K R n lines) (fold_from K R n lines)
     (lines_journaled K (replayed K base entries) R n lines (record { recovers = is.recovers; valid = is.valid }))
+
+-- ---- an entry that can be spelled
+-- what is known of the sizes of a valid command
+has_sizes : (c : Command) → is_command c ≡ true → (list_all is_short_path (paths c.deed) ≡ true) × (option_map_or (λ n. nat_le n longest_entry) (entry_bytes c.deed) true ≡ true)
+has_sizes c legal =
+    let values : (is_moment c.moment ≡ true) × ((is_deed c.deed && is_short c.deed) ≡ true) = both _ _ legal in
+    let own : (is_deed c.deed ≡ true) × (is_short c.deed ≡ true) = both _ _ values.1 in
+    both (list_all is_short_path (paths c.deed)) (option_map_or (λ n. nat_le n longest_entry) (entry_bytes c.deed) true) own.1
+
+each_short : (paths : List (List (List ℕ))) → list_all is_short_path paths ≡ true → AllByRecursion (λ path. path_length path ≤ longest_path) paths
+each_short [] h = tt
+each_short (path ∷ paths) h =
+    let parts = both (is_short_path path) (list_all is_short_path paths) h in
+    (le_is (path_length path) longest_path parts.0, each_short paths parts.1)
+
+pub paths_short : (c : Command) → is_command c ≡ true → AllByRecursion (λ path. path_length path ≤ longest_path) (paths c.deed)
+paths_short c legal = each_short (paths c.deed) (has_sizes c legal).0
+
+pub entry_short : (c : Command) (n : ℕ) → is_command c ≡ true → entry_bytes c.deed ≡ Some n → n ≤ longest_entry
+entry_short c n legal is =
+    le_is n longest_entry (ap (λ (o : Option ℕ). option_map_or (λ n. nat_le n longest_entry) o true) (sym is) ∙ (has_sizes c legal).1)

@@ -8,6 +8,7 @@ use Rattle.std.proofs.lemmas.List.Sums.{sum_by-cons}
 use Rattle.fsrm_model.specs.declared.command.Added.{Added}
 use Rattle.fsrm_model.specs.declared.row.Action.{Action}
 use Rattle.fsrm_model.specs.Entry.{number_bytes, text_bytes, path_bytes, notice_bytes, screen_notice_bytes}
+use Rattle.fsrm_model.specs.Limits.{longest_path}
 use Rattle.fsrm_model.specs.ValueForms.{Value, PathValue, NumberValue, TextValue, TextsValue, NoticeValue, ActionValue, path_of, number_of, text_of, texts_of, notice_of, action_of}
 use Rattle.fsrm_model.specs.Options.{Key, path_key, Given, is_same, is_of, are_apart, its, one, each_of}
 use Rattle.fsrm_model.specs.Spelling.{SpellsEach, AreAllowed, SpellsOptions}
@@ -22,18 +23,20 @@ pub record AreSound (L : ℕ) (given : List Given) : Type 0 where
   pub allowed : AreAllowed given
 
 pub each_sound : (L : ℕ) (keys : List Key) (words : List (List ℕ)) (given : List Given)
-    → SpellsOptions keys words given → sum_by length words ≤ L → AreSound L given
-each_sound L keys words given s fits =
+    → SpellsOptions keys words given → sum_by length words ≤ L → L ≤ longest_path → AreSound L given
+each_sound L keys words given s fits short =
     let f = weights keys words given s.each in
-    record { each = values keys words given s.each; bytes = omega (arith, f, fits); allowed = s.allowed }
+    record { each = values keys words given (omega (arith, fits, short)) s.each; bytes = omega (arith, f, fits); allowed = s.allowed }
   where
-    values : (keys : List Key) (words : List (List ℕ)) (given : List Given) → SpellsEach keys words given
-        → AllByRecursion IsSoundGiven given
-    values keys [] [] s = tt
-    values keys [] (next ∷ given) s = absurd s
-    values keys (word ∷ words) [] s = absurd s
-    values keys (word ∷ words) (next ∷ given) s =
-        (value_sound next.key.form s.0.1 next.value s.0.5, values keys words given s.1)
+    values : (keys : List Key) (words : List (List ℕ)) (given : List Given) → sum_by length words ≤ longest_path
+        → SpellsEach keys words given → AllByRecursion IsSoundGiven given
+    values keys [] [] few s = tt
+    values keys [] (next ∷ given) few s = absurd s
+    values keys (word ∷ words) [] few s = absurd s
+    values keys (word ∷ words) (next ∷ given) few s =
+        let o = s.0 in
+        let size = sum_by-cons length word words in
+        (value_sound next.key.form o.1 next.value (omega (arith, few, size, ap length o.3, length-append o.0 (58 ∷ o.1))) o.5, values keys words given (omega (arith, few, size)) s.1)
 
     weights : (keys : List Key) (words : List (List ℕ)) (given : List Given) → SpellsEach keys words given
         → sum_by weigh given ≤ sum_by length words

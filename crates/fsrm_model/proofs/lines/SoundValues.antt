@@ -1,5 +1,5 @@
 -- A value that is written is valid, and has hardly more bytes in an entry than its option has in the line.
-use Rattle.std.proofs.Common.{◌≡◌, ℕ, ◌+◌, ◌≤◌, ℤ, pos, negsuc, ◌==◌, List, [], ◌∷◌, ◌++◌, true, length, sym, ◌∙◌, ap, inl, inr, arith}
+use Rattle.std.proofs.Common.{◌≡◌, ℕ, ◌+◌, ◌≤◌, ℤ, pos, negsuc, ◌==◌, List, [], ◌∷◌, ◌++◌, Bool, true, length, sym, ◌∙◌, ap, inl, inr, arith}
 use Rattle.std.specs.Prelude.{◌&&◌, ◌⊎◌, ◌<◌, codes, sum_by, nat_lt, nat_le, is_none, Some, min}
 use Rattle.std.specs.Char.{to_ascii_lowercase}
 use Rattle.std.specs.List.{join_with_byte, list_all}
@@ -10,8 +10,8 @@ use Rattle.std.proofs.lemmas.List.Sums.{sum_by-cons}
 use Rattle.std.proofs.Math.Nat.{min-le_right}
 use Rattle.fsrm_model.specs.declared.command.Added.{Added}
 use Rattle.fsrm_model.specs.declared.row.Action.{Action}
-use Rattle.fsrm_model.specs.Entry.{path_bytes}
-use Rattle.fsrm_model.specs.Limits.{greatest_percent, most_minutes, most_patterns}
+use Rattle.fsrm_model.specs.Entry.{path_length, path_bytes}
+use Rattle.fsrm_model.specs.Limits.{longest_path, greatest_percent, most_minutes, most_patterns}
 use Rattle.fsrm_model.specs.Name.{is_name}
 use Rattle.fsrm_model.specs.ValueForms.{ValueForm, PathForm, LimitForm, NumberForm, ChoiceForm, UpdateForm, ObjectForm, NameForm, MembersForm, NonMembersForm, NoticeForm, ActionForm, Value, PathValue, NumberValue, ChoiceValue, UpdateValue, TextValue, TextsValue, NoticeValue, ActionValue}
 use Rattle.fsrm_model.specs.Options.{Key, Given, key_named}
@@ -19,7 +19,7 @@ use Rattle.fsrm_model.specs.Patterns.{is_object_name, is_pattern, are_members, a
 use Rattle.fsrm_model.specs.Quota.{is_limit}
 use Rattle.fsrm_model.specs.Spelling.{Writes, WritesPath, WritesMinutes, WritesAction, WritesNotice, WritesPatterns, WritesValue}
 use Rattle.fsrm_model.specs.Thresholds.{is_percent, are_minutes, is_action_text, is_action, is_new_action, is_notice}
-use Rattle.fsrm_model.specs.Valued.{is_path}
+use Rattle.fsrm_model.specs.Valued.{is_path, is_short_path}
 use Rattle.fsrm_base.proofs.Look.{found_passes}
 use Rattle.fsrm_base.proofs.TestLaws.{both_true}
 use Rattle.fsrm_model.proofs.lines.ValueLaws.{named_lower}
@@ -27,14 +27,17 @@ use Rattle.fsrm_model.proofs.lines.ValueLaws.{named_lower}
 abbrev pub Path : Type 0
 Path = List (List ℕ)
 
+-- a path that a valid command may carry
+abbrev pub is_sound_path : Path → Bool
+is_sound_path path = is_path path && is_short_path path
+
 -- what is known of a path that so many bytes spell
 pub record IsSoundPath (L : ℕ) (path : Path) : Type 0 where
-  pub named : is_path path ≡ true
+  pub named : is_sound_path path ≡ true
   pub bytes : path_bytes path ≤ L + 2
 
-pub path_sound : (L : ℕ) (text : List ℕ) (path : Path) → length text ≤ L → WritesPath text path → IsSoundPath L path
-path_sound L text path fits w =
-    record { named = w.each; bytes = bound (volume_length w.volume_is) w.names }
+path_fits : (L : ℕ) (text : List ℕ) (path : Path) → length text ≤ L → WritesPath text path → path_bytes path ≤ L + 2
+path_fits L text path fits w = bound (volume_length w.volume_is) w.names
   where
     volume_length : {volume : List ℕ} → (volume ≡ codes "D:\\") ⊎ (volume ≡ codes "d:\\") → length volume ≡ 3
     volume_length (inl e) = ap length e
@@ -47,12 +50,21 @@ path_sound L text path fits w =
     bound three (inr e) =
         omega (arith, fits, three, ap length e.1, length-append w.volume (join_with_byte 92 path ++ 92 ∷ []), length-append (join_with_byte 92 path) (92 ∷ []))
 
+pub path_sound : (L : ℕ) (text : List ℕ) (path : Path) → length text ≤ L → L ≤ longest_path → WritesPath text path
+    → IsSoundPath L path
+path_sound L text path fits short w =
+    let bytes = path_fits L text path fits w in
+    record {
+      named = both_true (is_path path) (is_short_path path) w.each (le-leb (path_length path) longest_path (omega (arith, bytes, short)));
+      bytes = bytes;
+    }
+
 pub within : (low high : ℕ) (text : List ℕ) (n : ℕ) → Writes low high text n → (nat_le low n && nat_le n high) ≡ true
 within low high text n w = both_true (nat_le low n) (nat_le n high) (le-leb low n w.least) (le-leb n high w.most)
 
 -- what is known of a value of a form
 abbrev pub IsSoundValue : ValueForm → Value → Type 0
-IsSoundValue PathForm (PathValue path) = is_path path ≡ true
+IsSoundValue PathForm (PathValue path) = is_sound_path path ≡ true
 IsSoundValue LimitForm (NumberValue limit) = is_limit limit ≡ true
 IsSoundValue (NumberForm low high) (NumberValue n) = (nat_le low n && nat_le n high) ≡ true
 IsSoundValue (ChoiceForm first second) (ChoiceValue picked) = Unit {0}
@@ -116,19 +128,20 @@ members_sound text patterns w =
     both_true (nat_lt 0 (length patterns) && nat_le (length patterns) most_patterns) (list_all is_pattern patterns)
     (both_true (nat_lt 0 (length patterns)) (nat_le (length patterns) most_patterns) (lt-ltb 0 (length patterns) (omega (arith, w.some))) (le-leb (length patterns) most_patterns w.few)) w.each
 
-pub value_sound : (form : ValueForm) (text : List ℕ) (value : Value) → WritesValue form text value → IsSoundValue form value
-value_sound PathForm text (PathValue path) w = (path_sound (length text) text path (omega arith) w).named
-value_sound LimitForm text (NumberValue limit) w = w.legal
-value_sound (NumberForm low high) text (NumberValue n) w = within low high text n w
-value_sound (ChoiceForm first second) text (ChoiceValue picked) w = tt
-value_sound UpdateForm text (UpdateValue update) w = tt
-value_sound ObjectForm text (TextValue name) w = w.legal
-value_sound NameForm text (TextValue name) w = w.legal
-value_sound MembersForm text (TextsValue patterns) w = members_sound text patterns w
-value_sound NonMembersForm text (TextsValue patterns) w = patterns_sound 0 text patterns w
-value_sound NoticeForm text (NoticeValue notice) w = notice_sound text notice w
-value_sound ActionForm text (ActionValue action) w = action_sound text action w
-value_sound form text value w = absurd w
+pub value_sound : (form : ValueForm) (text : List ℕ) (value : Value) → length text ≤ longest_path → WritesValue form text value
+    → IsSoundValue form value
+value_sound PathForm text (PathValue path) short w = (path_sound (length text) text path (omega arith) short w).named
+value_sound LimitForm text (NumberValue limit) short w = w.legal
+value_sound (NumberForm low high) text (NumberValue n) short w = within low high text n w
+value_sound (ChoiceForm first second) text (ChoiceValue picked) short w = tt
+value_sound UpdateForm text (UpdateValue update) short w = tt
+value_sound ObjectForm text (TextValue name) short w = w.legal
+value_sound NameForm text (TextValue name) short w = w.legal
+value_sound MembersForm text (TextsValue patterns) short w = members_sound text patterns w
+value_sound NonMembersForm text (TextsValue patterns) short w = patterns_sound 0 text patterns w
+value_sound NoticeForm text (NoticeValue notice) short w = notice_sound text notice w
+value_sound ActionForm text (ActionValue action) short w = action_sound text action w
+value_sound form text value short w = absurd w
 
 -- the name of an option has as many bytes, however it is spelled
 pub name_length : (keys : List Key) (name : List ℕ) (key : Key) → key_named keys name ≡ Some key
@@ -163,7 +176,7 @@ value_fits key text value w = by key.form value w
     by : (form : ValueForm) (value : Value) → WritesValue form text value
         → weight key value ≤ length text + length key.name + 1
     by PathForm (PathValue path) w =
-        let p = path_sound (length text) text path (omega arith) w in omega (arith, p.bytes, most 2)
+        omega (arith, path_fits (length text) text path (omega arith) w, most 2)
     by LimitForm (NumberValue limit) w = omega (arith, most 8)
     by (NumberForm low high) (NumberValue n) w = omega (arith, most 8)
     by (ChoiceForm first second) (ChoiceValue picked) w = omega arith

@@ -12,14 +12,13 @@ use Rattle.fsrm_model.specs.Patterns.{is_object_name}
 use Rattle.fsrm_model.specs.Quota.{is_limit}
 use Rattle.fsrm_model.specs.Tools.{Names, ToolCommand, needs, of_path, alone as without_options}
 use Rattle.fsrm_model.specs.Thresholds.{is_percent, is_notice}
-use Rattle.fsrm_model.specs.Valued.{is_path, is_deed}
 use Rattle.fsrm_base.proofs.TestLaws.{both_true}
-use Rattle.fsrm_model.proofs.lines.SoundValues.{Path, IsSoundPath, IsSoundGiven, weigh}
+use Rattle.fsrm_model.proofs.lines.SoundValues.{Path, is_sound_path, IsSoundPath, IsSoundGiven, weigh}
 use Rattle.fsrm_model.proofs.lines.GivenOptions.{AreSound, paths_kind, numbers_kind, text_kind, notices_kind, one_sound, each_of_sound, maybe_sound, shares_fit, one_fits, each_fits, path_weighs, text_weighs, number_weighs, notice_weighs}
 
 -- what is known of a deed whose words have so many bytes
 pub record IsSound (L : ℕ) (deed : Deed) : Type 0 where
-  pub valued : is_deed deed ≡ true
+  pub valued : (list_all is_sound_path (paths deed) && has_values deed) ≡ true
   pub bytes : sum_by path_bytes (paths deed) + more_bytes deed ≤ L + 512
 
 pub one_true : (a : Bool) → a ≡ true → (a && true) ≡ true
@@ -30,8 +29,8 @@ pub alone : (d : Deed) (path : Path) (L : ℕ) → paths d ≡ path ∷ [] → h
     → IsSoundPath L path → IsSound L d
 alone d path L own valued none p =
     let size : sum_by path_bytes (paths d) ≡ 0 + path_bytes path = ap (sum_by path_bytes) own in
-    let named : list_all is_path (paths d) ≡ true = ap (list_all is_path) own ∙ one_true (is_path path) p.named in
-    record { valued = both_true (list_all is_path (paths d)) (has_values d) named valued; bytes = omega (arith, size, none, p.bytes) }
+    let named : list_all is_sound_path (paths d) ≡ true = ap (list_all is_sound_path) own ∙ one_true (is_sound_path path) p.named in
+    record { valued = both_true (list_all is_sound_path (paths d)) (has_values d) named valued; bytes = omega (arith, size, none, p.bytes) }
 
 -- the bytes of a path that was given, of a template, of excluded names, and of all thresholds
 all_weights : (given : List Given)
@@ -50,7 +49,7 @@ all_weights given =
 
 -- a command's path, and the bytes that are left for its thresholds
 pub record HasPath (L : ℕ) (given : List Given) (path : Path) : Type 0 where
-  pub named : is_path path ≡ true
+  pub named : is_sound_path path ≡ true
   pub bytes : path_bytes path + (option_map_or text_bytes (one text_of source_template_key given) 0 + (sum_by text_bytes (each_of text_of exclude_key given) + (sum_by (λ (n : ℕ). number_bytes) (each_of number_of remove_threshold_key given) + (sum_by (λ (n : ℕ). number_bytes) (each_of number_of add_threshold_key given) + sum_by notice_bytes (each_of notice_of add_notification_key given))))) ≤ L
 
 pub has_path : (L : ℕ) (given : List Given) (path : Path) → AreSound L given → one path_of path_key given ≡ Some path
@@ -120,8 +119,8 @@ alone_sound name deed none valued bytes =
       sound = λ L given d s h.
           let made : deed ≡ d = cc h in
           let size : sum_by path_bytes (paths deed) ≡ 0 = ap (sum_by path_bytes) none in
-          let named : list_all is_path (paths deed) ≡ true = ap (list_all is_path) none in
-          subst (IsSound L) made (record { valued = both_true (list_all is_path (paths deed)) (has_values deed) named valued; bytes = omega (arith, size, bytes) });
+          let named : list_all is_sound_path (paths deed) ≡ true = ap (list_all is_sound_path) none in
+          subst (IsSound L) made (record { valued = both_true (list_all is_sound_path (paths deed)) (has_values deed) named valued; bytes = omega (arith, size, bytes) });
     }
 
 pub optional_fits : {X : Type 0} (n : ℕ) (o : Option X) → optional (λ x. n) o ≤ 1 + n

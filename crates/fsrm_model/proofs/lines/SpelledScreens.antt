@@ -18,9 +18,8 @@ use Rattle.fsrm_model.specs.Options.{Key, path_key, filegroup_key, members_key, 
 use Rattle.fsrm_model.specs.Patterns.{is_object_name, is_pattern, are_members, are_non_members}
 use Rattle.fsrm_model.specs.Tools.{needs, group_add, group_modify, group_delete, group_commands, screen_add, screen_modify, screen_commands, except_add, except_commands, filescrn}
 use Rattle.fsrm_model.specs.Thresholds.{is_new_action}
-use Rattle.fsrm_model.specs.Valued.{is_path}
 use Rattle.fsrm_base.proofs.TestLaws.{both_true}
-use Rattle.fsrm_model.proofs.lines.SoundValues.{Path, IsSoundGiven, lengths}
+use Rattle.fsrm_model.proofs.lines.SoundValues.{Path, is_sound_path, IsSoundGiven, lengths}
 use Rattle.fsrm_model.proofs.lines.GivenOptions.{AreSound, paths_kind, text_kind, texts_kind, actions_kind, one_sound, each_of_sound, maybe_sound, shares_fit, one_fits, each_fits, path_weighs, text_weighs, texts_weigh, action_weighs}
 use Rattle.fsrm_model.proofs.lines.SpelledOptions.{IsSound, one_true, needed, IsSoundCommand, path_sound_command, alone_sound, optional_fits, AreSoundCommands}
 
@@ -98,7 +97,7 @@ maybe_others_fit (Some patterns) h = omega (arith, others_fit patterns h)
 
 -- a screen's path, and the bytes that are left for its groups and its actions
 record HasScreen (L : ℕ) (given : List Given) (path : Path) : Type 0 where
-  named : is_path path ≡ true
+  named : is_sound_path path ≡ true
   bytes : path_bytes path + (sum_by text_bytes (each_of text_of remove_filegroup_key given) + (sum_by text_bytes (each_of text_of add_filegroup_key given) + sum_by screen_notice_bytes (each_of action_of screen_notification_key given))) ≤ L
 
 has_screen : (L : ℕ) (given : List Given) (path : Path) → AreSound L given → one path_of path_key given ≡ Some path
@@ -223,7 +222,7 @@ screen_add_sound =
           let p = has_screen L given path.0 s path.1 in
           subst (IsSound L) made (record {
             valued =
-                both_true (is_path path.0 && true) (are_some_names groups && list_all is_new_action actions) (one_true (is_path path.0) p.named)
+                both_true (is_sound_path path.0 && true) (are_some_names groups && list_all is_new_action actions) (one_true (is_sound_path path.0) p.named)
                 (both_true (are_some_names groups) (list_all is_new_action actions) (some_groups given first.0 s.each first.1) (given_actions given s.each));
             bytes = omega (arith, p.bytes);
           });
@@ -247,7 +246,7 @@ screen_modify_sound =
           let p = has_screen L given path.0 s path.1 in
           subst (IsSound L) made (record {
             valued =
-                both_true (is_path path.0 && true) (list_all is_object_name removed && list_all is_object_name groups) (one_true (is_path path.0) p.named)
+                both_true (is_sound_path path.0 && true) (list_all is_object_name removed && list_all is_object_name groups) (one_true (is_sound_path path.0) p.named)
                 (both_true (list_all is_object_name removed) (list_all is_object_name groups) (given_removed_groups given s.each) (given_groups given s.each));
             bytes = omega (arith, p.bytes, optional_fits choice_bytes (one choice_of screen_type_key given));
           });
@@ -274,7 +273,7 @@ except_add_sound =
           let made : make path.0 ≡ d = cc first.2 in
           let p = has_screen L given path.0 s path.1 in
           subst (IsSound L) made (record {
-            valued = both_true (is_path path.0 && true) (are_some_names groups) (one_true (is_path path.0) p.named) (some_groups given first.0 s.each first.1);
+            valued = both_true (is_sound_path path.0 && true) (are_some_names groups) (one_true (is_sound_path path.0) p.named) (some_groups given first.0 s.each first.1);
             bytes = omega (arith, p.bytes);
           });
     }

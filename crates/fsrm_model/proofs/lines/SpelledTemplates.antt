@@ -19,9 +19,8 @@ use Rattle.fsrm_model.specs.Patterns.{is_object_name}
 use Rattle.fsrm_model.specs.Quota.{is_limit}
 use Rattle.fsrm_model.specs.Tools.{needs, new_thresholds, template_add, template_modify, template_delete, template_commands, auto_add, auto_commands}
 use Rattle.fsrm_model.specs.Thresholds.{is_percent, is_notice}
-use Rattle.fsrm_model.specs.Valued.{is_path}
 use Rattle.fsrm_base.proofs.TestLaws.{both_true}
-use Rattle.fsrm_model.proofs.lines.SoundValues.{Path, IsSoundGiven}
+use Rattle.fsrm_model.proofs.lines.SoundValues.{Path, is_sound_path, IsSoundGiven}
 use Rattle.fsrm_model.proofs.lines.GivenOptions.{AreSound, text_kind, one_sound, each_of_sound, shares_fit, one_fits, each_fits, text_weighs, number_weighs, notice_weighs}
 use Rattle.fsrm_model.proofs.lines.SpelledOptions.{IsSound, one_true, has_path, given_limit, given_removals, given_percents, given_notices, limit_or, given_source, needed, IsSoundCommand, path_sound_command, alone_sound, optional_fits}
 
@@ -158,7 +157,7 @@ auto_add_sound =
           let few = nat_le (length excluded) most_excluded in
           subst (IsSound L) made (record {
             valued =
-                both_true (is_path path.0 && true) (is_object_name name.0 && (few && list_all is_name excluded)) (one_true (is_path path.0) p.named)
+                both_true (is_sound_path path.0 && true) (is_object_name name.0 && (few && list_all is_name excluded)) (one_true (is_sound_path path.0) p.named)
                 (both_true (is_object_name name.0) (few && list_all is_name excluded) (given_source given name.0 s.each name.1)
                 (both_true few (list_all is_name excluded) (excluded_few L given s) (given_excluded given s.each)));
             bytes = omega (arith, p.bytes, own);

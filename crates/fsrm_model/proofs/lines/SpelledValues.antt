@@ -1,7 +1,8 @@
 -- A line spells only valid commands: their values have their forms and ranges, and an entry has few more bytes than
 -- the line.
-use Rattle.std.proofs.Common.{◌≡◌, ℕ, ◌+◌, ◌≤◌, List, [], ◌∷◌, ◌++◌, Bool, true, false, length, refl, sym, ap, subst, inl, inr, arith}
-use Rattle.std.specs.Prelude.{◌&&◌, ◌||◌, is_some, if◌then◌else◌, codes, sum_by, nat_le, unwrap_or, Option, Some, None, option_map}
+use Rattle.std.proofs.Common.{◌≡◌, ℕ, ◌+◌, ◌≤◌, ◌<◌, List, [], ◌∷◌, ◌++◌, Bool, true, false, length, refl, sym, ap, subst, inl, inr, arith}
+use Rattle.std.specs.Prelude.{◌&&◌, ◌||◌, is_some, if◌then◌else◌, codes, sum_by, nat_lt, nat_le, unwrap_or, Option, Some, None, option_map}
+use Rattle.std.specs.Char.{is_ascii_digit}
 use Rattle.std.specs.List.{AllByRecursion, list_all}
 use Rattle.std.specs.Option.{option_map_or}
 use Rattle.std.proofs.lemmas.Bool.{le-leb}
@@ -13,21 +14,21 @@ use Rattle.fsrm_model.specs.declared.command.Deed.{Deed}
 use Rattle.fsrm_model.specs.declared.command.Deed.TheVariants.{File, Usage, Step, Quota, Admin}
 use Rattle.fsrm_model.specs.declared.command.FileOp.TheVariants.{Mkdir, Create, Resize, Touch, Move, Remove}
 use Rattle.fsrm_model.specs.declared.command.QuotaDeed.TheVariants.{Add as QuotaAdd, Modify as QuotaModify, Delete as QuotaDelete, Scan as QuotaScan, Resetpeak as QuotaResetpeak, List as QuotaList}
-use Rattle.fsrm_model.specs.Commands.{paths, is_owner, is_length, kind, more_bytes}
+use Rattle.fsrm_model.specs.Commands.{paths, has_values, entry_bytes, is_owner, is_length, kind, more_bytes}
 use Rattle.fsrm_model.specs.Entry.{number_bytes, choice_bytes, text_bytes, path_bytes, optional}
-use Rattle.fsrm_model.specs.Limits.{latest_moment, longest_line, longest_file, longest_entry, last_owner, most_visits, most_minutes}
+use Rattle.fsrm_model.specs.Limits.{latest_moment, longest_file, longest_path, longest_entry, last_owner, most_visits, most_minutes}
 use Rattle.fsrm_model.specs.ValueForms.{path_of, number_of, choice_of, text_of, notice_of}
 use Rattle.fsrm_model.specs.Options.{path_key, limit_key, quota_type_key, status_key, remove_threshold_key, add_threshold_key, add_notification_key, source_template_key, run_limit_key, Given, one, each_of}
 use Rattle.fsrm_model.specs.Patterns.{is_object_name}
 use Rattle.fsrm_model.specs.Quota.{is_limit}
-use Rattle.fsrm_model.specs.Spelling.{Piece, Plain, Quoted, spelled_pieces, text_of_pieces, SpellsWords, SpellsTool, SpellsPlaced, SpellsDeed, Spells}
+use Rattle.fsrm_model.specs.Spelling.{Piece, Plain, Quoted, spelled_pieces, text_of_pieces, Writes, SpellsWords, SpellsTool, SpellsPlaced, SpellsDeed, Spells}
 use Rattle.fsrm_model.specs.Tools.{Names, ToolCommand, quota_add, quota_modify, quota_list, quota_commands, has_limit, new_thresholds, admin_options, admin_commands, dirquota, tools}
 use Rattle.fsrm_model.specs.Thresholds.{is_percent, is_notice}
-use Rattle.fsrm_model.specs.Valued.{is_path, is_deed, is_short, is_command}
+use Rattle.fsrm_model.specs.Valued.{is_path, is_deed, is_short_path, is_short, is_command}
 use Rattle.fsrm_model.specs.Valid.{is_moment}
 use Rattle.fsrm_model.proofs.lines.CommandLaws.{named_each}
-use Rattle.fsrm_base.proofs.TestLaws.{both, both_true}
-use Rattle.fsrm_model.proofs.lines.SoundValues.{Path, path_sound, within, IsSoundGiven}
+use Rattle.fsrm_base.proofs.TestLaws.{both, both_true, lt_is}
+use Rattle.fsrm_model.proofs.lines.SoundValues.{Path, is_sound_path, path_sound, within, IsSoundGiven}
 use Rattle.fsrm_model.proofs.lines.GivenOptions.{AreSound, each_sound, numbers_kind, one_sound, maybe_sound}
 use Rattle.fsrm_model.proofs.lines.SpelledOptions.{IsSound, one_true, alone, has_path, given_path, given_limit, given_removals, given_percents, given_notices, limit_or, given_source, needed, IsSoundCommand, path_sound_command, alone_sound, optional_fits, AreSoundCommands}
 use Rattle.fsrm_model.proofs.lines.SpelledScreens.{filescrn_sound}
@@ -47,38 +48,38 @@ words_fit line (text ∷ texts) s =
     let word : length text ≤ length s.1 = subst (λ (n : ℕ). n ≤ length s.1) (sym (ap length s.5.text_is)) (subst (λ (n : ℕ). length (text_of_pieces s.5.pieces) ≤ n) (sym (ap length s.5.spelling_is)) (pieces_fit s.5.pieces)) in
     omega (arith, whole, word, length-append s.0 (s.1 ++ s.2), length-append s.1 s.2, sum_by-cons length text texts, words_fit s.2 texts s.7)
 
-placed_sound : (words : List (List ℕ)) (d : Deed) → SpellsPlaced words d → IsSound (sum_by length words) d
-placed_sound words (File (Mkdir path owner)) s =
+placed_sound : (words : List (List ℕ)) (d : Deed) → sum_by length words ≤ longest_path → SpellsPlaced words d → IsSound (sum_by length words) d
+placed_sound words (File (Mkdir path owner)) few s =
     let size : sum_by length words ≡ 0 + length s.0 + length s.1 + length s.2 = ap (sum_by length) s.3 in
-    let p = path_sound (length s.1) s.1 path (omega arith) s.5 in
-    record { valued = both_true (is_path path && true) (is_owner owner) (one_true (is_path path) p.named) (within 1 last_owner s.2 owner s.6); bytes = omega (arith, size, p.bytes) }
-placed_sound words (File (Create path bytes owner)) s =
+    let p = path_sound (length s.1) s.1 path (omega arith) (omega (arith, size, few)) s.5 in
+    record { valued = both_true (is_sound_path path && true) (is_owner owner) (one_true (is_sound_path path) p.named) (within 1 last_owner s.2 owner s.6); bytes = omega (arith, size, p.bytes) }
+placed_sound words (File (Create path bytes owner)) few s =
     let size : sum_by length words ≡ 0 + length s.0 + length s.1 + length s.2 + length s.3 = ap (sum_by length) s.4 in
-    let p = path_sound (length s.1) s.1 path (omega arith) s.6 in
+    let p = path_sound (length s.1) s.1 path (omega arith) (omega (arith, size, few)) s.6 in
     record {
-      valued = both_true (is_path path && true) (is_length bytes && is_owner owner) (one_true (is_path path) p.named) (both_true (is_length bytes) (is_owner owner) (le-leb bytes longest_file s.7.most) (within 1 last_owner s.3 owner s.8));
+      valued = both_true (is_sound_path path && true) (is_length bytes && is_owner owner) (one_true (is_sound_path path) p.named) (both_true (is_length bytes) (is_owner owner) (le-leb bytes longest_file s.7.most) (within 1 last_owner s.3 owner s.8));
       bytes = omega (arith, size, p.bytes);
     }
-placed_sound words (File (Resize path bytes)) s =
+placed_sound words (File (Resize path bytes)) few s =
     let size : sum_by length words ≡ 0 + length s.0 + length s.1 + length s.2 = ap (sum_by length) s.3 in
-    let p = path_sound (length s.1) s.1 path (omega arith) s.5 in
-    record { valued = both_true (is_path path && true) (is_length bytes) (one_true (is_path path) p.named) (le-leb bytes longest_file s.6.most); bytes = omega (arith, size, p.bytes) }
-placed_sound words (File (Touch path)) s =
+    let p = path_sound (length s.1) s.1 path (omega arith) (omega (arith, size, few)) s.5 in
+    record { valued = both_true (is_sound_path path && true) (is_length bytes) (one_true (is_sound_path path) p.named) (le-leb bytes longest_file s.6.most); bytes = omega (arith, size, p.bytes) }
+placed_sound words (File (Touch path)) few s =
     let size : sum_by length words ≡ 0 + length s.0 + length s.1 = ap (sum_by length) s.2 in
-    alone (File (Touch path)) path (sum_by length words) refl refl refl (path_sound (sum_by length words) s.1 path (omega (arith, size)) s.4)
-placed_sound words (File (Move from to)) s =
+    alone (File (Touch path)) path (sum_by length words) refl refl refl (path_sound (sum_by length words) s.1 path (omega (arith, size)) few s.4)
+placed_sound words (File (Move from to)) few s =
     let size : sum_by length words ≡ 0 + length s.0 + length s.1 + length s.2 = ap (sum_by length) s.3 in
-    let p = path_sound (length s.1) s.1 from (omega arith) s.5 in
-    let q = path_sound (length s.2) s.2 to (omega arith) s.6 in
-    record { valued = one_true (is_path from && (is_path to && true)) (both_true (is_path from) (is_path to && true) p.named (one_true (is_path to) q.named)); bytes = omega (arith, size, p.bytes, q.bytes) }
-placed_sound words (File (Remove path)) s =
+    let p = path_sound (length s.1) s.1 from (omega arith) (omega (arith, size, few)) s.5 in
+    let q = path_sound (length s.2) s.2 to (omega arith) (omega (arith, size, few)) s.6 in
+    record { valued = one_true (is_sound_path from && (is_sound_path to && true)) (both_true (is_sound_path from) (is_sound_path to && true) p.named (one_true (is_sound_path to) q.named)); bytes = omega (arith, size, p.bytes, q.bytes) }
+placed_sound words (File (Remove path)) few s =
     let size : sum_by length words ≡ 0 + length s.0 + length s.1 = ap (sum_by length) s.2 in
-    alone (File (Remove path)) path (sum_by length words) refl refl refl (path_sound (sum_by length words) s.1 path (omega (arith, size)) s.4)
-placed_sound words (Usage path) s =
+    alone (File (Remove path)) path (sum_by length words) refl refl refl (path_sound (sum_by length words) s.1 path (omega (arith, size)) few s.4)
+placed_sound words (Usage path) few s =
     let size : sum_by length words ≡ 0 + length s.0 + length s.1 = ap (sum_by length) s.2 in
-    alone (Usage path) path (sum_by length words) refl refl refl (path_sound (sum_by length words) s.1 path (omega (arith, size)) s.4)
-placed_sound words (Step n) s = record { valued = within 1 most_visits s.1 n s.4; bytes = omega arith }
-placed_sound words other s = absurd s
+    alone (Usage path) path (sum_by length words) refl refl refl (path_sound (sum_by length words) s.1 path (omega (arith, size)) few s.4)
+placed_sound words (Step n) few s = record { valued = within 1 most_visits s.1 n s.4; bytes = omega arith }
+placed_sound words other few s = absurd s
 
 given_run_limit : (given : List Given) (minutes : ℕ) → AllByRecursion IsSoundGiven given
     → one number_of run_limit_key given ≡ Some minutes → nat_le minutes most_minutes ≡ true
@@ -130,7 +131,7 @@ add_sound =
           let named = option_map_or is_object_name source true in
           let marks = list_all is_percent percents && list_all is_notice notices in
           subst (IsSound L) made (record {
-            valued = both_true (is_path path.0 && true) ((size && named) && marks) (one_true (is_path path.0) p.named)
+            valued = both_true (is_sound_path path.0 && true) ((size && named) && marks) (one_true (is_sound_path path.0) p.named)
                 (both_true (size && named) marks (both_true size named (limit_or_source given limit source s.each refl picked.0) (source_or given s.each))
                 (both_true (list_all is_percent percents) (list_all is_notice notices) (given_percents given s.each) (given_notices given s.each)));
             bytes = omega (arith, p.bytes, optional_fits number_bytes limit, optional_fits choice_bytes (one choice_of quota_type_key given), source_fits source);
@@ -159,7 +160,7 @@ modify_sound =
           let size = option_map_or is_limit (one number_of limit_key given) true in
           subst (IsSound L) made (record {
             valued =
-                both_true (is_path path.0 && true) (size && (list_all is_percent removed && (list_all is_percent percents && list_all is_notice notices))) (one_true (is_path path.0) p.named)
+                both_true (is_sound_path path.0 && true) (size && (list_all is_percent removed && (list_all is_percent percents && list_all is_notice notices))) (one_true (is_sound_path path.0) p.named)
                 (both_true size (list_all is_percent removed && (list_all is_percent percents && list_all is_notice notices)) (limit_or given s.each)
                 (both_true (list_all is_percent removed) (list_all is_percent percents && list_all is_notice notices) (given_removals given s.each)
                 (both_true (list_all is_percent percents) (list_all is_notice notices) (given_percents given s.each) (given_notices given s.each))));
@@ -219,8 +220,8 @@ dirquota_sound = (quota_commands_sound, (template_commands_sound, (auto_commands
 tools_sound : AllByRecursion IsSoundTool tools
 tools_sound = (dirquota_sound, (filescrn_sound, tt))
 
-tool_sound : (words : List (List ℕ)) (d : Deed) → SpellsTool words d → IsSound (sum_by length words) d
-tool_sound words d s =
+tool_sound : (words : List (List ℕ)) (d : Deed) → sum_by length words ≤ longest_path → SpellsTool words d → IsSound (sum_by length words) d
+tool_sound words d few s =
     let L = sum_by length words in
     let tool = named_each IsSoundTool tools s.tool s.objects tools_sound s.tool_is in
     let object = named_each AreSoundCommands s.objects s.object s.commands tool.2 s.object_is in
@@ -229,14 +230,17 @@ tool_sound words d s =
     let first = sum_by-cons length s.tool (s.object ∷ s.command ∷ s.rest) in
     let second = sum_by-cons length s.object (s.command ∷ s.rest) in
     let third = sum_by-cons length s.command s.rest in
-    let given = each_sound L s.own.keys s.rest s.given s.options_are (omega (arith, size, first, second, third)) in
+    let given = each_sound L s.own.keys s.rest s.given s.options_are (omega (arith, size, first, second, third)) few in
     command.2.sound L s.given d given s.deed_is
 
-deed_sound : (words : List (List ℕ)) (d : Deed) → SpellsDeed words d → IsSound (sum_by length words) d
-deed_sound words d (inl s) = placed_sound words d s
-deed_sound words d (inr s) = tool_sound words d s
+deed_sound : (words : List (List ℕ)) (d : Deed) → sum_by length words ≤ longest_path → SpellsDeed words d → IsSound (sum_by length words) d
+deed_sound words d few (inl s) = placed_sound words d few s
+deed_sound words d few (inr s) = tool_sound words d few s
 
-short : (L : ℕ) (d : Deed) → IsSound L d → L ≤ longest_line → is_short d ≡ true
+abbrev has_short_entry : Deed → Bool
+has_short_entry d = option_map_or (λ n. nat_le n longest_entry) (entry_bytes d) true
+
+short : (L : ℕ) (d : Deed) → IsSound L d → L ≤ longest_path → has_short_entry d ≡ true
 short L d s fits = at (kind d)
   where
     bytes : ℕ
@@ -246,11 +250,33 @@ short L d s fits = at (kind d)
     at None = refl
     at (Some k) = le-leb bytes longest_entry (omega (arith, s.bytes, fits))
 
--- a line spells only valid commands
+all_both : {X : Type 0} (p q : X → Bool) (xs : List X) → list_all (λ x. p x && q x) xs ≡ true
+    → (list_all p xs ≡ true) × (list_all q xs ≡ true)
+all_both p q [] h = (refl, refl)
+all_both p q (x ∷ xs) h =
+    let parts = both (p x && q x) (list_all (λ x. p x && q x) xs) h in
+    let own = both (p x) (q x) parts.0 in
+    let more = all_both p q xs parts.1 in
+    (both_true (p x) (list_all p xs) own.0 more.0, both_true (q x) (list_all q xs) own.1 more.1)
+
+-- a number has a digit at least
+some_digits : (low high : ℕ) (digits : List ℕ) (n : ℕ) → Writes low high digits n → 0 < length digits
+some_digits low high digits n w =
+    let size = nat_lt 0 (length digits) && nat_le (length digits) 20 in
+    let parts : (size ≡ true) × (list_all is_ascii_digit digits ≡ true) = both _ _ w.form in
+    lt_is 0 (length digits) (both (nat_lt 0 (length digits)) (nat_le (length digits) 20) parts.0).0
+
+-- A line spells only valid commands. The moment has a byte at least, so what is left of the longest line is no longer than a
+-- path may be
 pub spelled_valid : (line : List ℕ) (c : Command) → Spells line c → is_command c ≡ true
 spelled_valid line c s =
     let L = sum_by length s.words in
-    let sound = deed_sound s.words c.deed s.deed_is in
-    let fits : L ≤ longest_line = omega (arith, words_fit line (s.moment ∷ s.words) s.words_are, sum_by-cons length s.moment s.words, s.is_line.short) in
+    let some = some_digits 0 latest_moment s.moment c.moment s.moment_is in
+    let fits : L ≤ longest_path = omega (arith, words_fit line (s.moment ∷ s.words) s.words_are, sum_by-cons length s.moment s.words, s.is_line.short, some) in
+    let sound = deed_sound s.words c.deed fits s.deed_is in
+    let parts = both (list_all is_sound_path (paths c.deed)) (has_values c.deed) sound.valued in
+    let own = all_both is_path is_short_path (paths c.deed) parts.0 in
     both_true (is_moment c.moment) (is_deed c.deed && is_short c.deed) (le-leb c.moment latest_moment s.moment_is.most)
-    (both_true (is_deed c.deed) (is_short c.deed) sound.valued (short L c.deed sound fits))
+    (both_true (is_deed c.deed) (is_short c.deed)
+    (both_true (list_all is_path (paths c.deed)) (has_values c.deed) own.0 parts.1)
+    (both_true (list_all is_short_path (paths c.deed)) (has_short_entry c.deed) own.1 (short L c.deed sound fits)))
