@@ -1,3 +1,4 @@
+pub mod AcceptedEnds
 pub mod AdminCommands
 pub mod AutoCommands
 pub mod GroupCommands

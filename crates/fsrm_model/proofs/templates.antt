@@ -4,4 +4,5 @@ pub mod EligibleLaws
 pub mod GetsLaws
 pub mod MatchLaws
 pub mod PutLaws
+pub mod ReceivesLaws
 pub mod UpdateDue

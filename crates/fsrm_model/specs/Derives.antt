@@ -1,5 +1,8 @@
--- Which quotas match a template, and which folders get a quota of a template, apart from any computation.
+-- Which quotas match a template, which ones its change reaches, and which folders get a quota of a template, apart from any
+-- computation.
 use Rattle.std.specs.Prelude.{◌≡◌, ℕ, false, map, Some, None}
+use Rattle.fsrm_model.specs.declared.command.Update.{Update}
+use Rattle.fsrm_model.specs.declared.command.Update.TheVariants.{Keep, Matching, All}
 use Rattle.fsrm_model.specs.declared.row.Action.{Action}
 use Rattle.fsrm_model.specs.declared.row.AutoRow.{AutoRow}
 use Rattle.fsrm_model.specs.declared.row.QuotaRow.{QuotaRow}
@@ -24,6 +27,12 @@ pub record Matches (template : TemplateRow) (quota : QuotaRow) : Type 0 where
   pub limit : template.limit ≡ quota.limit
   pub enforce : template.enforce ≡ quota.enforce
   pub thresholds : map unrun_threshold template.thresholds ≡ map unrun_threshold quota.thresholds
+
+-- a template's change reaches no quota, those that were derived from it and match it as it was, or all that were derived from it
+abbrev pub Reaches : Update → TemplateRow → QuotaRow → Type 0
+Reaches Keep old quota = ⊥
+Reaches Matching old quota = (quota.template ≡ Some old.number) × Matches old quota
+Reaches All old quota = quota.template ≡ Some old.number
 
 -- a folder without a quota stands in one with an auto-apply quota, which doesn't exclude its name: the quota is that of the template
 pub record Gets (R : Rows) (moment folder : ℕ) (quota : QuotaRow) : Type 0 where

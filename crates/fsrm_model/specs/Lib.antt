@@ -41,6 +41,7 @@ pub mod Raises
 pub mod CommandForm
 pub mod Commands
 pub mod Step
+pub mod Receives
 pub mod Exceptions
 pub mod Named
 pub mod Cost

@@ -24,6 +24,11 @@ pub record Stepped : Type 0 where
   pub lasting : Bool
   pub acts : List Act
 
+-- whether no refusal is the answer
+abbrev pub is_accepted : Outcome → Bool
+is_accepted (Refused refusal) = false
+is_accepted other = true
+
 -- rows, and the actions that led to them
 pub record Acted : Type 0 where
   pub rows : Rows

@@ -7,14 +7,19 @@ ghost use Rattle.fsrm_model.specs.declared.command.Act.{Act};
 ghost use Rattle.fsrm_model.specs.declared.command.Added.{Added};
 ghost use Rattle.fsrm_model.specs.declared.command.Command.{Command};
 ghost use Rattle.fsrm_model.specs.declared.command.Deed.{Deed};
-ghost use Rattle.fsrm_model.specs.declared.command.Deed.TheVariants.{File, Step};
+ghost use Rattle.fsrm_model.specs.declared.command.AutoquotaDeed.TheVariants.{Add as AutoquotaAdd};
+ghost use Rattle.fsrm_model.specs.declared.command.Deed.TheVariants.{File, Step, Template, Autoquota};
 ghost use Rattle.fsrm_model.specs.declared.command.Entry.{Entry};
 ghost use Rattle.fsrm_model.specs.declared.command.FileOp.{FileOp};
+ghost use Rattle.fsrm_model.specs.declared.command.FileOp.TheVariants.{Mkdir, Move};
+ghost use Rattle.fsrm_model.specs.declared.command.NewAutoquota.{NewAutoquota};
 ghost use Rattle.fsrm_model.specs.declared.command.Outcome.TheVariants.{Done, Refused, Sum};
 ghost use Rattle.fsrm_model.specs.declared.command.Refusal.{Refusal};
 ghost use Rattle.fsrm_model.specs.declared.command.Refusal.TheVariants.{ScreenBlocked, QuotaExceeded};
 ghost use Rattle.fsrm_model.specs.declared.command.Subject.{Subject};
 ghost use Rattle.fsrm_model.specs.declared.command.Subject.TheVariants.{Quota};
+ghost use Rattle.fsrm_model.specs.declared.command.TemplateChange.{TemplateChange};
+ghost use Rattle.fsrm_model.specs.declared.command.TemplateDeed.TheVariants.{Modify as TemplateModify};
 ghost use Rattle.fsrm_model.specs.declared.command.Update.{Update};
 ghost use Rattle.fsrm_model.specs.declared.row.ActRow.{ActRow};
 ghost use Rattle.fsrm_model.specs.declared.row.Action.{Action};
@@ -26,8 +31,8 @@ ghost use Rattle.fsrm_model.specs.declared.row.ScreenRow.{ScreenRow};
 ghost use Rattle.fsrm_model.specs.declared.row.TemplateRow.{TemplateRow};
 ghost use Rattle.fsrm_model.specs.declared.row.Threshold.{Threshold};
 ghost use Rattle.fsrm_model.specs.Acts.{has_act, actions_of, is_of_quota, of_screens, of_quotas, are_in_order, IsAct};
-ghost use Rattle.fsrm_model.specs.AutoApply.{applied};
-ghost use Rattle.fsrm_model.specs.Derives.{Matches, Gets};
+ghost use Rattle.fsrm_model.specs.AutoApply.{applied, subfolders};
+ghost use Rattle.fsrm_model.specs.Derives.{Matches, Reaches, Gets};
 ghost use Rattle.fsrm_model.specs.Templates.{is_derived, without_source, matches_template, is_reached, updated};
 ghost use Rattle.fsrm_model.specs.Audits.{audit_of, with_audit, tells_of_screen};
 ghost use Rattle.fsrm_model.specs.Date.{date_of};
@@ -35,7 +40,7 @@ ghost use Rattle.fsrm_model.specs.Commands.{paths, kind, emptied, entry_bytes};
 ghost use Rattle.fsrm_model.specs.DueActions.{minutes_of, ready, quota_acts, due, due_refused, due_screen};
 ghost use Rattle.fsrm_model.specs.Exceeds.{Exceeds};
 ghost use Rattle.fsrm_model.specs.Exceptions.{may_leave, run_by_refusal, left_after};
-ghost use Rattle.fsrm_model.specs.FileOps.{plain};
+ghost use Rattle.fsrm_model.specs.FileOps.{plain, target};
 ghost use Rattle.fsrm_model.specs.FileWork.{judged_name, reported};
 ghost use Rattle.fsrm_model.specs.Fresh.{new_rows};
 ghost use Rattle.fsrm_base.specs.Keyed.{has_row, is_ascending};
@@ -47,6 +52,7 @@ ghost use Rattle.fsrm_model.specs.Line.{read_line, is_line_refusal};
 ghost use Rattle.fsrm_model.specs.Quota.{folder_of, quota_of, counts, exceeded};
 ghost use Rattle.fsrm_model.specs.Raises.{are_ascending, Raises, RaisesRefused, RunsOfScreen};
 ghost use Rattle.fsrm_model.specs.Reached.{reached, IsReached, crossed};
+ghost use Rattle.fsrm_model.specs.Receives.{Modifies, with_auto, moved_folder, Gives};
 ghost use Rattle.fsrm_model.specs.OldReplays.{AreOldEntries, old_replayed};
 ghost use Rattle.fsrm_model.specs.QuotaStates.{head};
 ghost use Rattle.fsrm_model.specs.Replays.{finish, after_entry, replayed, recovered, is_scan_step, lasts, journal_entry, command_entries, entries_from, is_valid_entry, none_rebuilding, IsJournaled};
@@ -57,11 +63,11 @@ ghost use Rattle.fsrm_model.specs.Judges.{Applies, Judges};
 ghost use Rattle.fsrm_model.specs.Screens.{judging};
 ghost use Rattle.fsrm_model.specs.Space.{space};
 ghost use Rattle.fsrm_model.specs.Spelling.{Spells, Skips};
-ghost use Rattle.fsrm_model.specs.Step.{step, work};
+ghost use Rattle.fsrm_model.specs.Step.{is_accepted, step, work};
 ghost use Rattle.fsrm_model.specs.ActText.{act_lines};
 ghost use Rattle.fsrm_model.specs.Text.{reply};
 ghost use Rattle.fsrm_model.specs.Thresholds.{percent_of, actions_at, is_percent, is_notice, are_too_many, are_thresholds, actions_given, changed_thresholds};
-ghost use Rattle.fsrm_model.specs.Tree.{number, under, usage};
+ghost use Rattle.fsrm_model.specs.Tree.{number, fresh, under, usage};
 ghost use Rattle.fsrm_model.specs.Valid.{is_tree, IsVolume, are_quotas, AreQuotas, are_tables, AreTables, is_empty, is_valid, IsValid};
 ghost use Rattle.fsrm_model.specs.ValidRows.{valid_rows, wrong_nodes, wrong_quotas, valid_thresholds, wrong_thresholds, valid_screens, wrong_screens, valid_templates, wrong_templates, wrong_tables, wrong_queues, wrong_unvisited};
 ghost use Rattle.fsrm_model.specs.Valued.{is_command};
@@ -193,13 +199,22 @@ pub fn screens()
 pub fn templates()
     // A quota matches that has the template's limit, type and thresholds, whenever actions ran.
     ensures matches { (template : TemplateRow) (quota : QuotaRow) → (matches_template template quota ≡ true) ↔ Matches template quota }
-    // A change reaches quotas of the template alone, and they match it from then on.
-    ensures reached { (mode : Update) (old : TemplateRow) (quota : QuotaRow) → is_reached mode old quota ≡ true → quota.template ≡ Some old.number }
+    // A change reaches no quota, the template's own that match it as it was, or all its own, as the command asks for. They
+    // match it from then on, and each other quota stays as it was.
+    ensures reached { (mode : Update) (old : TemplateRow) (quota : QuotaRow) → (is_reached mode old quota ≡ true) ↔ Reaches mode old quota }
     ensures updated { (mode : Update) (old new : TemplateRow) (quota : QuotaRow) → is_reached mode old quota ≡ true → Matches new (updated mode old new quota) }
+    ensures spared { (mode : Update) (old new : TemplateRow) (quota : QuotaRow) → is_reached mode old quota ≡ false → updated mode old new quota ≡ quota }
+    // That is what an accepted change of a template does to the quotas, but for raised peaks and the actions that run.
+    ensures modified { (K : Capacity) (R : Rows) (c : Command) (change : TemplateChange) → c.deed ≡ Template (TemplateModify change) → is_accepted (step K R c).outcome ≡ true → Modifies K R c change }
     // Once a template is gone no quota is derived from it.
     ensures gone { (number : ℕ) (quota : QuotaRow) → is_derived number (without_source number quota) ≡ false }
     // A folder gets a quota exactly if an auto-apply quota on the folder that it stands in gives it one.
     ensures gets { (R : Rows) (moment folder : ℕ) (quota : QuotaRow) → (applied R moment folder ≡ Some quota) ↔ Gets R moment folder quota }
+    // An accepted `mkdir` gives the new folder its quota, a move the folder that moves, and a new auto-apply quota each
+    // folder in its own. No other folder gets one, and no quota goes.
+    ensures made { (K : Capacity) (R : Rows) (c : Command) (path : List (List ℕ)) (owner : ℕ) → c.deed ≡ File (Mkdir path owner) → is_accepted (step K R c).outcome ≡ true → Gives K R (record R { nodes = plain R.nodes (Mkdir path owner) c.moment }) c (fresh R.nodes ∷ []) }
+    ensures moved { (K : Capacity) (R : Rows) (c : Command) (from to : List (List ℕ)) → c.deed ≡ File (Move from to) → is_accepted (step K R c).outcome ≡ true → Gives K R (record R { nodes = plain R.nodes (Move from to) c.moment }) c (moved_folder R.nodes from) }
+    ensures added { (K : Capacity) (R : Rows) (c : Command) (new : NewAutoquota) → IsValid K R → c.deed ≡ Autoquota (AutoquotaAdd new) → is_accepted (step K R c).outcome ≡ true → Gives K R (with_auto R new) c (subfolders R.nodes (target R.nodes new.path)) }
 {}
 
 /// What a line is read as is what it spells, and a line that spells a command is read as it. The command is valid.
@@ -285,6 +300,12 @@ pub fn due_actions()
     // Each names an action that is there, and its kind.
     ensures there { (K : Capacity) (before after : Rows) (moment : ℕ) → are_ascending after.quotas ≡ true → AllByRecursion (IsAct after) (due K before after moment) }
     ensures refused_there { (K : Capacity) (R : Rows) (nodes : List NodeRow) (moment : ℕ) → are_ascending R.quotas ≡ true → AllByRecursion (IsAct R) (due_refused K R nodes moment) }
+    // An accepted command that lasts has exactly those actions of quotas run that are due of the rows before it and those
+    // that its effect leaves. What is reached in these is reached in the rows after it, so an act's threshold is crossed.
+    ensures accepted { (K : Capacity) (R : Rows) (c : Command) → is_accepted (step K R c).outcome ≡ true → (step K R c).lasting ≡ true → of_quotas (step K R c).acts ≡ due K R (work K R c.moment c.deed).effect c.moment }
+    ensures after { (K : Capacity) (R : Rows) (c : Command) (folder percent : ℕ) → is_accepted (step K R c).outcome ≡ true → (step K R c).lasting ≡ true → reached K (step K R c).rows folder percent ≡ reached K (work K R c.moment c.deed).effect folder percent }
+    // A command that doesn't last has none run.
+    ensures passing { (K : Capacity) (R : Rows) (c : Command) → (step K R c).lasting ≡ false → (step K R c).acts ≡ [] }
     // None is due if no threshold is crossed, as when the rows stay.
     ensures none { (K : Capacity) (before after : Rows) (moment : ℕ) → ((folder percent : ℕ) → crossed K before after folder percent ≡ false) → due K before after moment ≡ [] }
     ensures same { (K : Capacity) (R : Rows) (moment : ℕ) → due K R R moment ≡ [] }

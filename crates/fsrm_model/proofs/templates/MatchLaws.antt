@@ -16,7 +16,7 @@ use Rattle.fsrm_model.specs.declared.row.ActionKind.TheVariants.{Event, Mail, Pr
 use Rattle.fsrm_model.specs.declared.row.QuotaRow.{QuotaRow}
 use Rattle.fsrm_model.specs.declared.row.TemplateRow.{TemplateRow}
 use Rattle.fsrm_model.specs.declared.row.Threshold.{Threshold}
-use Rattle.fsrm_model.specs.Derives.{unrun, unrun_threshold, Matches}
+use Rattle.fsrm_model.specs.Derives.{unrun, unrun_threshold, Matches, Reaches}
 use Rattle.fsrm_model.specs.Templates.{is_derived, without_source, same_kind, same_action, same_threshold, matches_template, is_reached, as_template, updated}
 
 -- ---- a test that says that two things are one after a change
@@ -134,10 +134,28 @@ derived_is : (number : ℕ) (o : Option ℕ) → option_map_or (λ n. n == numbe
 derived_is number None h = absurd (cc h)
 derived_is number (Some n) h = ap (λ k. Some k) (eq_is n number h)
 
-pub reached_own : (mode : Update) (old : TemplateRow) (quota : QuotaRow) → is_reached mode old quota ≡ true → quota.template ≡ Some old.number
-reached_own Keep old quota h = absurd (cc h)
-reached_own Matching old quota h = derived_is old.number quota.template (both (is_derived old.number quota) (matches_template old quota) h).0
-reached_own All old quota h = derived_is old.number quota.template h
+derived_test : (number : ℕ) (o : Option ℕ) → o ≡ Some number → option_map_or (λ n. n == number) o false ≡ true
+derived_test number o e = ap (λ o. option_map_or (λ n. n == number) o false) e ∙ eq_test number number refl
+
+-- it reaches those that it is said to reach, and leaves each other as it was
+reached_parts : (mode : Update) (old : TemplateRow) (quota : QuotaRow) → is_reached mode old quota ≡ true → Reaches mode old quota
+reached_parts Keep old quota h = cc h
+reached_parts Matching old quota h =
+    let parts = both (is_derived old.number quota) (matches_template old quota) h in
+    (derived_is old.number quota.template parts.0, (matching old quota).0 parts.1)
+reached_parts All old quota h = derived_is old.number quota.template h
+
+reached_test : (mode : Update) (old : TemplateRow) (quota : QuotaRow) → Reaches mode old quota → is_reached mode old quota ≡ true
+reached_test Keep old quota r = absurd r
+reached_test Matching old quota r =
+    both_true (is_derived old.number quota) (matches_template old quota) (derived_test old.number quota.template r.0) ((matching old quota).1 r.1)
+reached_test All old quota r = derived_test old.number quota.template r
+
+pub reached_is : (mode : Update) (old : TemplateRow) (quota : QuotaRow) → (is_reached mode old quota ≡ true) ↔ Reaches mode old quota
+reached_is mode old quota = (reached_parts mode old quota, reached_test mode old quota)
+
+pub updated_stays : (mode : Update) (old new : TemplateRow) (quota : QuotaRow) → is_reached mode old quota ≡ false → updated mode old new quota ≡ quota
+updated_stays mode old new quota h = ap (λ (b : Bool). cond b (as_template new quota) quota) h
 
 pub updated_match : (mode : Update) (old new : TemplateRow) (quota : QuotaRow) → is_reached mode old quota ≡ true → Matches new (updated mode old new quota)
 updated_match mode old new quota h = at (is_reached mode old quota) h

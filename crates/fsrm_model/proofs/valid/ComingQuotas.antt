@@ -144,9 +144,13 @@ all_folders nodes folder ascending =
     either true b e = e
     either false b e = refl
 
+pub once_subfolders : (nodes : List NodeRow) (folder : ℕ) → is_ascending number nodes ≡ true → each_once (subfolders nodes folder) ≡ true
+once_subfolders nodes folder ascending =
+    once_mapped number (filter (λ node. node.folder) (children nodes folder))
+    (ascending-filter number (λ (node : NodeRow). node.folder) (children nodes folder) (ascending-filter number (is_child folder) nodes ascending))
+
 pub coming_subfolders : (E : Rows) (moment folder : ℕ) → are_templates E.templates ≡ true → moment ≤ latest_moment → is_ascending number E.nodes ≡ true → AreComing E.nodes E.templates E.quotas (filter_map (applied E moment) (subfolders E.nodes folder))
 coming_subfolders E moment folder named late ascending =
     coming_from E moment E.quotas (subfolders E.nodes folder) named late
-    (once_mapped number (filter (λ node. node.folder) (children E.nodes folder))
-    (ascending-filter number (λ (node : NodeRow). node.folder) (children E.nodes folder) (ascending-filter number (is_child folder) E.nodes ascending)))
+    (once_subfolders E.nodes folder ascending)
     (all_folders E.nodes folder ascending) (λ n there. refl)

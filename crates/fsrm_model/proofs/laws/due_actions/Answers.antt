@@ -1,3 +1,4 @@
+use Rattle.fsrm_model.proofs.commands.AcceptedEnds.{step_ended, unlasting_none}
 use Rattle.fsrm_model.proofs.thresholds.ActLaws.{order_due, order_refused, due_there, refused_there, none_due}
 use Rattle.fsrm_model.proofs.thresholds.RaisesLaws.{raised_parts, raised_test, refused_parts, refused_test, screen_parts, screen_test}
 use Rattle.fsrm_model.proofs.thresholds.ReachedLaws.{reached_parts, reached_test, none_crossed}
@@ -32,3 +33,12 @@ returns-clause-same c = λ K R moment. none_due K R R moment (none_crossed K R)
 
 pub returns-clause-screen : goal.returns-clause-screen
 returns-clause-screen c = λ run_limit moment screen subject place. (screen_parts run_limit moment screen subject place, screen_test run_limit moment screen subject place)
+
+pub returns-clause-accepted : goal.returns-clause-accepted
+returns-clause-accepted c = λ K R command told h. (step_ended K R command told h).acts_are
+
+pub returns-clause-after : goal.returns-clause-after
+returns-clause-after c = λ K R command folder percent told h. (step_ended K R command told h).reached_are folder percent
+
+pub returns-clause-passing : goal.returns-clause-passing
+returns-clause-passing c = unlasting_none
