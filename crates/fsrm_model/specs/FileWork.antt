@@ -88,7 +88,7 @@ unvisited_in R nodes (Move from to) scanned =
 unvisited_in R nodes (Remove path) scanned = without_number (target R.nodes path) R.unvisited
 unvisited_in R nodes other scanned = R.unvisited
 
--- the same of the active scan, if there is one
+-- what is unvisited in the active scan, if there is one, after such an operation
 abbrev pub unvisited_after : Rows → List NodeRow → FileOp → List ℕ
 unvisited_after R nodes op = option_map_or (unvisited_in R nodes op) (head R.queue) []
 

@@ -19,7 +19,7 @@ patterns_from text = do
   patterns ← guarded (list_all is_pattern (slice_split is_bar text)) InvalidName (slice_split is_bar text)
   guarded (nat_le (length patterns) most_patterns) OutOfRange patterns
 
--- the same, or none if the text is empty
+-- non-members: such patterns, or none if the text is empty
 abbrev pub non_members_from : List ℕ → Read (List (List ℕ))
 non_members_from [] = Ok []
 non_members_from (b ∷ bs) = patterns_from (b ∷ bs)

@@ -1,4 +1,4 @@
--- Names, compared after simple case folding (The Unicode Standard, section 3.13; CaseFolding.txt, statuses C and S).
+-- Names, compared after simple case folding (The Unicode Standard, Default Case Algorithms; CaseFolding.txt, statuses C and S).
 use Rattle.std.specs.Prelude.{ℕ, ◌==◌, ◌&&◌, ◌||◌, nat_lt, nat_le, not, Bool, true, false, List, [], ◌∷◌, length, map, chars, bytes_eq, codes}
 use Rattle.std.specs.List.{list_all, list_any}
 use Rattle.std.specs.declared.cmp.Ordering.{Ordering}

@@ -40,7 +40,7 @@ abbrev pub IsOldEntry : Capacity → Rows → Entry → Type 0
 IsOldEntry K R (Order c) = (is_scan_step c.deed ≡ false) × ((old_step K R c).lasting ≡ true)
 IsOldEntry K R (Finish moment folder) = Unit {0}
 
--- the same of entries, each at its place
+-- entries that this machine made one after another, each of the rows that those before it leave
 abbrev pub AreOldEntries : Capacity → Rows → List Entry → Type 0
 AreOldEntries K R [] = Unit {0}
 AreOldEntries K R (entry ∷ entries) = IsOldEntry K R entry × AreOldEntries K (after_old_entry K R entry) entries

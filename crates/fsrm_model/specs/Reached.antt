@@ -21,7 +21,7 @@ has_reached quota percent used = has_row percent_of percent quota.thresholds && 
 abbrev pub reached : Capacity → Rows → ℕ → ℕ → Bool
 reached K R folder percent = option_map_or (λ quota. has_reached quota percent (used_of K R folder)) (quota_of R folder) false
 
--- the same, part by part
+-- a folder's quota has reached a percentage: it has that threshold, it counts, and what is used is enough
 pub record IsReached (K : Capacity) (R : Rows) (folder percent : ℕ) : Type 0 where
   pub quota : QuotaRow
   pub is_there : quota_of R folder ≡ Some quota

@@ -46,7 +46,7 @@ completed K R moment folder = concluded K R (unacted (followed R (with_state R f
 abbrev pub finished : Capacity → Rows → ℕ → ℕ → Rows
 finished K R moment folder = (completed K R moment folder).rows
 
--- the same if it was still to be counted, and else nothing
+-- a finish of a folder's scan: if its quota was still to be counted it counts from now on, and else nothing changes
 abbrev pub finish : Capacity → Rows → ℕ → ℕ → Rows
 finish K R moment folder = if is_unfinished (state_of R folder) then finished K R moment folder else R
 

@@ -81,7 +81,7 @@ read_cost K R None = 0
 read_cost K R (Some (Err refusal)) = 0
 read_cost K R (Some (Ok c)) = let s = step K R c in cost R c + (print_cost s.rows s.outcome + acts_cost s.rows.nodes s.acts)
 
--- the same of a line of these bytes
+-- how many looks a line of these bytes may take
 unfoldable pub line_cost : Capacity → Rows → List ℕ → ℕ
 line_cost K R bytes = read_cost K R (read_line (without_cr bytes))
 

@@ -1,4 +1,4 @@
--- The lines of `dirquota admin list`: the run limit, how many scans wait, and how full the store is.
+-- The lines of `dirquota admin list`: the run limit, how many scans wait, and how full the volume is.
 use Rattle.std.specs.Prelude.{ℕ, List, [], ◌∷◌, ◌++◌, length, decimal, codes}
 use Rattle.fsrm_model.specs.declared.row.Capacity.{Capacity}
 use Rattle.fsrm_model.specs.declared.row.Rows.{Rows}

@@ -46,7 +46,7 @@ acted moment acts R = record { rows = ran moment acts R; acts = acts }
 abbrev pub screened_by : Rows → ℕ → Judged → Acted
 screened_by R moment judged = acted moment (due_screen R.run_limit moment judged.screen) (audited moment judged R)
 
--- the same if a screen judges a name, and else nothing
+-- rows, and what a name leaves there that a screen judges, if a command gives one
 abbrev pub screened : Rows → ℕ → Option Judged → Acted
 screened after moment None = unacted after
 screened after moment (Some judged) = screened_by after moment judged

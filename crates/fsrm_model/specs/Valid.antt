@@ -66,7 +66,7 @@ is_tree K nodes =
     (is_ascending number nodes && has_row number 0 nodes)
     && (list_all (is_sound_node K nodes) nodes && nat_le (name_bytes nodes) K.names)
 
--- the same, part by part, of the nodes that are found by their numbers
+-- the nodes of a store of this size, by what holds of each node that is found by its number
 pub record IsVolume (K : Capacity) (nodes : List NodeRow) : Type 0 where
   pub ascending : is_ascending number nodes ≡ true
   pub has_root : has_row number 0 nodes ≡ true
@@ -88,7 +88,7 @@ abbrev pub are_quotas : List NodeRow → List QuotaRow → Bool
 are_quotas nodes quotas =
     (is_ascending folder_of quotas && nat_le (length quotas) most_quotas) && list_all (is_sound_quota nodes) quotas
 
--- the same, part by part, of the quotas that are found by their folders
+-- the quotas of a store with these nodes, by what holds of each quota that is found by its folder
 pub record AreQuotas (nodes : List NodeRow) (quotas : List QuotaRow) : Type 0 where
   pub ascending : is_ascending folder_of quotas ≡ true
   pub few : length quotas ≤ most_quotas

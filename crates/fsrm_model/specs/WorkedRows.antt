@@ -50,7 +50,7 @@ few_nodes =
     text (record { nodes = 2; names = 256; cluster = 4096 }) new_rows (codes "100 mkdir D:\\a 1\n100 mkdir D:\\A 1\n100 mkdir D:\\b 1\n100 remove D:\\a\n100 mkdir D:\\b 1\n")
     ≡ codes "1 ok\n2 refused AlreadyExists\n3 refused VolumeFull\n4 ok\n5 ok\n"
 
--- names that would have more bytes than the store holds; a move gives back the old name's
+-- names that would have more bytes than the volume has room for; a move gives back the old name's
 abbrev pub few_name_bytes : Type 0
 few_name_bytes =
     text (record { nodes = 9; names = 3; cluster = 4096 }) new_rows (codes "100 create D:\\nn 0 1\n100 mkdir D:\\b 1\n100 mkdir D:\\c 1\n100 move D:\\b D:\\c\n100 move D:\\c D:\\cc\n")
@@ -68,7 +68,7 @@ rounded_usage =
     text default_capacity new_rows (codes "100 dirquota quota add /Path:D:\\ /Limit:10kb\n101 create D:\\a 8192 7\n102 create D:\\b 1 7\n")
     ≡ codes "1 ok\n2 ok\n3 refused QuotaExceeded 12288 10240 D:\\\n"
 
--- a byte takes a whole cluster, of whatever size the store has
+-- a byte takes a whole cluster, of whatever size the volume's are
 abbrev pub large_clusters : Type 0
 large_clusters =
     text (record default_capacity { cluster = 65536 }) new_rows (codes "100 create D:\\a 1 1\n100 usage D:\\\n")

@@ -258,8 +258,8 @@ pub fn plain_machine()
     ensures runs { (K : Capacity) (R : Rows) (c : Command) (refusal : Refusal) → (step K R c).outcome ≡ Refused refusal → ((step K R c).acts ≡ run_by_refusal K R c.moment (work K R c.moment c.deed) refusal) × ((step K R c).lasting ≡ may_leave K R c.moment (work K R c.moment c.deed) refusal) }
     // A command that doesn't last leaves all that a store keeps.
     ensures passing { (K : Capacity) (R : Rows) (c : Command) → IsValid K R → (step K R c).lasting ≡ false → lasting (step K R c).rows ≡ lasting R }
-    // A sum is made afresh from the tree: the space of all files at and below the folder.
-    ensures sum { (K : Capacity) (R : Rows) (c : Command) (folder bytes : ℕ) → (step K R c).outcome ≡ Sum folder bytes → bytes ≡ sum_by (space K) (under R.nodes folder) }
+    // A sum is made afresh from the tree: the space of the node itself, if it is a file, or of all files below it.
+    ensures sum { (K : Capacity) (R : Rows) (c : Command) (node bytes : ℕ) → (step K R c).outcome ≡ Sum node bytes → bytes ≡ sum_by (space K) (under R.nodes node) }
 {}
 
 /// Which quota refuses, that limits are kept, and what peaks are.

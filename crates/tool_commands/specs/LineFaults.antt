@@ -19,7 +19,7 @@ Reads (Ok x) read = read ≡ Ok x
 Reads (Err (Refused refusal)) read = read ≡ Err refusal
 Reads (Err NoMemory) read = Unit {0}
 
--- the same of a part that gives a deed of one family
+-- a part that reads a deed of one family gives that deed, unless memory runs out
 abbrev pub ReadsIn : {X : Type 0} → (X → Deed) → Result X LineFault → Read Deed → Type 0
 ReadsIn deed (Ok x) read = read ≡ Ok (deed x)
 ReadsIn deed (Err fault) read = Reads {X = Deed} (Err fault) read

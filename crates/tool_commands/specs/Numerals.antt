@@ -14,7 +14,7 @@ abbrev pub ReadsDigits : Option ℕ → List ℕ → Type 0
 ReadsDigits result text = MatchOption result (list_all is_ascii_digit text ≡ false)
     (λ n. (list_all is_ascii_digit text ≡ true) × (n ≡ min (digits_value 10 text) greatest_number))
 
--- the same of a text of 1 to 20 digits
+-- the number of a text of 1 to 20 digits
 abbrev pub ReadsNumber : Option ℕ → List ℕ → Type 0
 ReadsNumber result text = MatchOption result (is_number text ≡ false)
     (λ n. (is_number text ≡ true) × (n ≡ min (digits_value 10 text) greatest_number))

@@ -25,7 +25,7 @@ end words = words.column + length words.rest.now
 abbrev pub line_word : Word → LineWord
 line_word word = record { column = word.column; text = cow_str_bytes word.text }
 
--- the same of one whose text is lent
+-- a word whose text is lent, as lines have it
 abbrev pub lent_word : LentWord → LineWord
 lent_word word = record { column = word.column; text = word.text.now }
 
