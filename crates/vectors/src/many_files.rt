@@ -1,14 +1,11 @@
-//! Many files, in a volume that is larger than that of a script, below a quota that counts what they take.
+//! Many files in one folder, in a volume that is larger than that of a script, below a quota that counts what they
+//! take.
 
-ghost use Rattle.std.specs.Prelude.{◌≡◌, true};
-ghost use Rattle.fsrm_model.specs.Valued.{is_op};
+ghost use Rattle.std.specs.Prelude.{◌≡◌};
 
-use crate::chances::{below, chances};
-use crate::engines::{does, outcome};
+use crate::engines::does;
 use fsrm_engine::Engine;
-use fsrm_model::{Capacity, FileOp, Ledger, Outcome, Path, Steps, Weightless};
-use name_rules::read_path;
-use rand_core::Rng;
+use fsrm_model::{Capacity, Ledger, Steps, Weightless};
 use std::alloc::Global;
 use std::marker::Brand;
 use std::process::Abort;
@@ -21,87 +18,50 @@ const SIZE: Capacity = Capacity {
     cluster: 4_096,
 };
 
-const FOLDERS: u32 = 100;
-
 const FILES: u32 = 100_000;
 
-const RESIZES: u32 = 1_000_000;
+// How often each file gets another length: at each time a cluster more.
+const ROUNDS: u32 = 10;
 
-// A soft quota of the root: it counts, and refuses nothing.
-const QUOTA: &[u8] = b"7 dirquota quota add /Path:D:\\ /Limit:1kb /Type:soft";
+// What the files take then: 10 clusters each.
+const TAKEN: u64 = 4_096_000_000;
 
-const USAGE: &[u8] = b"7 usage D:\\";
+const QUOTA: &str = "100 dirquota quota add /Path:D:\\ /Limit:1tb";
 
-fn folder_path(alloc: Global, folder: u32) -> Result<Path, Fail> {
-    let text = format!(in alloc; "D:\\d{folder}")?;
-    Ok(read_path(alloc, &text)?)
-}
-
-fn file_path(alloc: Global, file: u32) -> Result<Path, Fail> {
-    let folder = file % FOLDERS;
-    let text = format!(in alloc; "D:\\d{folder}\\f{file}")?;
-    Ok(read_path(alloc, &text)?)
-}
-
-// Has an operation done while no act waits.
-fn operate<L: Ledger>(
+// Has the command done that a line spells, while no act waits.
+fn has_done<L: Ledger>(
     engine: &mut Engine,
     alloc: Global,
     end: &impl Abort,
-    op: &FileOp,
+    line: &str,
     steps: &mut Steps<L>,
-) -> Result<(), Fail>
-    requires { is_op op.now ≡ true }
-{
+) {
     assert!(end; engine.next_act().is_none());
-    let answer = engine.file_op(alloc, op, 7, steps)?;
-    assert!(end; matches!(answer.outcome, Outcome::Done { .. }));
-    Ok(())
+    assert!(end; does(engine, alloc, line.as_bytes(), steps));
 }
 
-fn make_folders<L: Ledger>(
-    engine: &mut Engine,
-    alloc: Global,
-    end: &impl Abort,
-    steps: &mut Steps<L>,
-) -> Result<(), Fail> {
-    for folder in 0..FOLDERS {
-        let path = folder_path(alloc, folder)?;
-        operate(engine, alloc, end, &FileOp::Mkdir { path, owner: 1 }, steps)?;
-    }
-    Ok(())
-}
-
-// Makes an empty file.
-fn make_file<L: Ledger>(
+fn create<L: Ledger>(
     engine: &mut Engine,
     alloc: Global,
     end: &impl Abort,
     file: u32,
     steps: &mut Steps<L>,
 ) -> Result<(), Fail> {
-    let path = file_path(alloc, file)?;
-    let op = FileOp::Create {
-        path,
-        length: 0,
-        owner: 1,
-    };
-    operate(engine, alloc, end, &op, steps)
+    let line = format!(in alloc; "100 create D:\\f{file:06} 1 1")?;
+    has_done(engine, alloc, end, &line, steps);
+    Ok(())
 }
 
-// Makes the files, and gives their lengths.
-fn make_files<L: Ledger>(
+fn create_files<L: Ledger>(
     engine: &mut Engine,
     alloc: Global,
     end: &impl Abort,
     steps: &mut Steps<L>,
-) -> Result<Vec<u32>, Fail> {
-    let mut lengths = Vec::new(alloc);
+) -> Result<(), Fail> {
     for file in 0..FILES {
-        make_file(engine, alloc, end, file, steps)?;
-        lengths.push(0)?;
+        create(engine, alloc, end, file, steps)?;
     }
-    Ok(lengths)
+    Ok(())
 }
 
 fn resize<L: Ledger>(
@@ -112,56 +72,22 @@ fn resize<L: Ledger>(
     length: u32,
     steps: &mut Steps<L>,
 ) -> Result<(), Fail> {
-    let path = file_path(alloc, file)?;
-    let op = FileOp::Resize {
-        path,
-        length: u64::from(length),
-    };
-    operate(engine, alloc, end, &op, steps)
+    let line = format!(in alloc; "100 resize D:\\f{file:06} {length}")?;
+    has_done(engine, alloc, end, &line, steps);
+    Ok(())
 }
 
 fn resize_files<L: Ledger>(
     engine: &mut Engine,
     alloc: Global,
     end: &impl Abort,
-    lengths: &mut [u32],
+    length: u32,
     steps: &mut Steps<L>,
 ) -> Result<(), Fail> {
-    let mut chances = chances();
-    for _ in 0..RESIZES {
-        let file = below(&mut chances, FILES);
-        let length = chances.next_u32();
+    for file in 0..FILES {
         resize(engine, alloc, end, file, length, steps)?;
-        if let Some(place) = lengths.get_mut(file as usize) {
-            *place = length;
-        }
     }
     Ok(())
-}
-
-// The bytes of the clusters of files of these lengths.
-fn taken(lengths: &[u32]) -> u64 {
-    let mut bytes = 0_u64;
-    for length in lengths {
-        let clusters = u64::from(length.div_ceil(SIZE.cluster));
-        bytes = bytes.saturating_add(clusters * u64::from(SIZE.cluster));
-    }
-    bytes
-}
-
-// Whether so many bytes are told to be taken.
-fn tells<L: Ledger>(
-    engine: &mut Engine,
-    alloc: Global,
-    end: &impl Abort,
-    taken: u64,
-    steps: &mut Steps<L>,
-) -> bool {
-    assert!(end; engine.next_act().is_none());
-    match outcome(engine, alloc, USAGE, steps) {
-        Some(Outcome::Sum { node, bytes }) => node == 0 && bytes == taken,
-        _ => false,
-    }
 }
 
 fn counts<L: Ledger>(
@@ -170,14 +96,12 @@ fn counts<L: Ledger>(
     end: &impl Abort,
     steps: &mut Steps<L>,
 ) -> Result<(), Fail> {
-    assert!(end; engine.next_act().is_none());
-    assert!(end; does(engine, alloc, QUOTA, steps));
-    make_folders(engine, alloc, end, steps)?;
-    let mut lengths = make_files(engine, alloc, end, steps)?;
-    resize_files(engine, alloc, end, &mut lengths, steps)?;
-    let taken = taken(&lengths);
-    assert!(end; engine.used(0) == Some(taken));
-    assert!(end; tells(engine, alloc, end, taken, steps));
+    has_done(engine, alloc, end, QUOTA, steps);
+    create_files(engine, alloc, end, steps)?;
+    for round in 0..ROUNDS {
+        resize_files(engine, alloc, end, SIZE.cluster * (round + 1), steps)?;
+    }
+    assert!(end; engine.used(0) == Some(TAKEN));
     Ok(())
 }
 

@@ -48,6 +48,28 @@ fn bytes_are_won_back_from_two_holes(rt: HostRuntime) -> Result<(), Fail> {
     Ok(())
 }
 
+// Whether a text that goes makes room for two others, the second of which fits only beside what is left of all texts;
+// and then for no bytes and the last key.
+fn takes_two_for_one(region: &mut Region) -> Result<bool, RegionFault> {
+    let goes = region.store("abc")?;
+    let stays = region.store("defg")?;
+    let is_full = region.store("hi") == Err(RegionFault::Full);
+    give_back(region, goes);
+    let next = region.store("hi")?;
+    let last = region.store("jk")?;
+    let is_kept = holds(region, stays, "defg") && holds(region, next, "hi");
+    region.store("")?;
+    let is_at_end = region.store("") == Err(RegionFault::NoKey);
+    Ok(is_full && is_kept && is_at_end && holds(region, last, "jk"))
+}
+
+#[test]
+fn one_text_makes_room_for_two(rt: HostRuntime) -> Result<(), Fail> {
+    let mut region = Region::reserve(rt.alloc(), 8, 4)?;
+    assert!(rt; takes_two_for_one(&mut region)?);
+    Ok(())
+}
+
 // The texts are gathered a dozen times.
 fn keeps_what_stays(region: &mut Region) -> Result<bool, RegionFault> {
     let stays = region.store("stays")?;

@@ -90,7 +90,7 @@ impl<'t> Children<'t> {
     }
 
     /// The next children, as many as stand in one run, at least one. None exactly if none is left. It takes a look
-    /// for each.
+    /// for each, as `child_at` does.
     pub fn next<L: Ledger>(&mut self, steps: &mut Steps<L>) -> Option<Siblings<'t>>
         ensures lent { IfSome result (λ siblings. self.old ≡ siblings ++ self.new) }
         ensures some { IfSome result (λ siblings. 0 < length siblings) }

@@ -225,8 +225,7 @@ impl Tree {
         let prefix = fold_prefix(name);
         let place = new_place(&self.slots, &self.order, folder, prefix, name, near, steps);
         let number = slots::next_number(&self.slots, &self.holes);
-        self.hints
-            .enter(&self.slots, folder, name, number, new.folder);
+        self.hints.enter(folder, name, number, new.folder);
         let entry = Entry {
             prefix,
             parent: folder,

@@ -3,15 +3,24 @@
 //!
 //! On a path all names but the last are folders'. So folders have a table of their own: it is small, and each lookup of
 //! a path reads the same few parts of it.
+//!
+//! All memory is taken by `reserve`, and only as much of it is used as there are nodes. A table that grows is doubled
+//! in place, from what it has: no node is read for it.
 
+use fsrm_model::NoMemory;
 use fsrm_model::limits::MOST_NODES;
-use node_table::NodeTable;
+use node_table::{NodeTable, NodeView};
 use std::alloc::Global;
 
 // How many slots a bucket of folders has.
 const SLOTS: usize = 4;
 
-// What stands in a slot that is free. Only an entry of the greatest number can look the same.
+// How many buckets of folders, and how many places of files, there are at first, powers of 2.
+const FEW_BUCKETS: usize = 512;
+
+const FEW_PLACES: usize = 16;
+
+// What stands in a slot or place that is free. Only an entry of the greatest number can look the same.
 const FREE: u32 = u32::MAX;
 
 // 2^64 over the golden ratio, whose bits are as good as random ones.
@@ -23,8 +32,12 @@ const FOLDER_STIR: u64 = 0xd134_2543_de82_ef95;
 // Set in each byte, this bit makes one of the two cases of a letter.
 const BOTH_CASES: u64 = 0x2020_2020_2020_2020;
 
-// The bits of a hash that an entry has. The others tell where it stands.
+// The bits of a hash that an entry has.
 const MARK: u32 = !(MOST_NODES - 1);
+
+// The bit of a hash from which on bits lead to a bucket. Those that lead to the first few buckets end where MARK begins.
+// So an entry has all later ones, and tells where it goes when there are more buckets.
+const LEAD: u32 = 11;
 
 #[inline]
 fn stir(hash: u64, word: u64) -> u64 {
@@ -109,18 +122,19 @@ fn clear(bucket: &mut [u32; SLOTS], entry: u32) {
     }
 }
 
-// How many folders there are.
-fn folder_count(nodes: &NodeTable) -> u32 {
-    let mut count = 0u32;
-    for number in 0..nodes.len() {
-        if let Some(node) = nodes.get(number) {
-            count = count.saturating_add(u32::from(node.folder));
+// Takes the entries that have a bit of the hash into a new bucket.
+fn part(bucket: &mut [u32; SLOTS], bit: usize) -> [u32; SLOTS] {
+    let mut parted = [FREE; SLOTS];
+    for place in 0..SLOTS {
+        if bucket[place] as usize & bit != 0 {
+            parted[place] = bucket[place];
+            bucket[place] = FREE;
         }
     }
-    count
+    parted
 }
 
-/// Tables of nodes by their folders and names. An entry is a part of the hash of both, and the node's number.
+/// Tables of nodes by their folders and names.
 #[derive(Drop)]
 pub struct Hints {
     // The entry of a folder stands in the bucket that the hash leads to, or nowhere.
@@ -133,22 +147,36 @@ pub struct Hints {
 }
 
 impl Hints {
-    /// Tables without entries. They take no memory.
-    pub fn new(alloc: Global) -> Hints {
-        Hints {
-            folders: Vec::new(alloc),
+    /// Tables without entries, for so many nodes. No other call but `of` takes memory.
+    pub fn reserve(alloc: Global, nodes: u32) -> Result<Hints, NoMemory> {
+        let buckets = (nodes as usize / 2).next_power_of_two().max(FEW_BUCKETS);
+        let mut folders = Vec::with_capacity(alloc, buckets)?;
+        folders.resize(FEW_BUCKETS, [FREE; SLOTS])?;
+        let places = (2 * nodes as usize).next_power_of_two().max(FEW_PLACES);
+        let mut files = Vec::with_capacity(alloc, places)?;
+        files.resize(FEW_PLACES, FREE)?;
+        Ok(Hints {
+            folders,
             entered: 0,
-            files: Vec::new(alloc),
-        }
+            files,
+        })
     }
 
-    /// Tables of these nodes.
-    pub fn of(alloc: Global, nodes: &NodeTable) -> Hints {
-        let mut hints = Hints::new(alloc);
-        hints.entered = folder_count(nodes);
-        hints.fit_folders(nodes);
-        hints.fit_files(nodes);
-        hints
+    /// Tables of these nodes, for so many of them at most.
+    pub fn of(alloc: Global, nodes: &NodeTable, most: u32) -> Result<Hints, NoMemory> {
+        let mut hints = Hints::reserve(alloc, most)?;
+        // The greatest numbers come first, so that the table of files is large before many files are in it.
+        for number in (0..nodes.len()).rev() {
+            if let Some(node) = nodes.get(number) {
+                hints.enter(node.parent, node.name, number, node.folder);
+            }
+        }
+        Ok(hints)
+    }
+
+    #[inline]
+    fn bucket_of(&self, hash: u32) -> usize {
+        home(hash >> LEAD, self.folders.len())
     }
 
     // The least entry of a bucket of folders, without the hash's bits. An entry that has these is then the number
@@ -156,7 +184,7 @@ impl Hints {
     #[inline]
     fn least_folder(&self, hash: u32) -> u32 {
         let mut least = FREE;
-        if let Some(bucket) = self.folders.get(home(hash, self.folders.len())) {
+        if let Some(bucket) = self.folders.get(self.bucket_of(hash)) {
             for slot in bucket {
                 least = least.min(*slot ^ hash & MARK);
             }
@@ -168,12 +196,12 @@ impl Hints {
     #[inline]
     fn file_at(&self, hash: u32) -> u32 {
         match self.files.get(home(hash, self.files.len())) {
-            Some(slot) => *slot ^ hash & MARK,
+            Some(entry) => *entry ^ hash & MARK,
             None => FREE,
         }
     }
 
-    /// A number that the child of this name may have: a folder's, if the path goes on behind it.
+    /// A number that the child of this name may have: a folder's, if the path goes on after it.
     #[inline]
     pub fn guess(&self, folder: u32, name: &str, goes_on: bool) -> Option<u32> {
         let hash = hash(folder, name);
@@ -191,109 +219,78 @@ impl Hints {
         None
     }
 
-    fn note_folder(&mut self, folder: u32, name: &str, number: u32) {
+    // Doubles the table of folders if they are more than three fourths of its buckets, and it has room. Each bucket is
+    // parted in two by the next bit of the hash.
+    fn fit_folders(&mut self) {
+        let count = self.folders.len();
+        if 4 * self.entered as usize / 3 <= count || count > self.folders.capacity() / 2 {
+            return;
+        }
+        let bit = count << LEAD;
+        for index in 0..count {
+            if let Some(bucket) = self.folders.get_mut(index) {
+                let parted = part(bucket, bit);
+                let _ = self.folders.push(parted);
+            }
+        }
+    }
+
+    // Doubles the table of files if it has fewer than four places for each number up to this one, and room. An entry
+    // doesn't tell in which half it is sought from then on, so it comes to stand in both, in one of them for nothing; a
+    // file that comes there takes its place.
+    fn fit_files(&mut self, number: u32) {
+        let count = self.files.len();
+        if 4 * number as usize <= count || count > self.files.capacity() / 2 {
+            return;
+        }
+        let _ = self.files.extend_from_within(0..count);
+    }
+
+    fn enter_folder(&mut self, folder: u32, name: &str, number: u32) {
+        self.entered = self.entered.saturating_add(1);
+        self.fit_folders();
         let hash = hash(folder, name);
-        let home = home(hash, self.folders.len());
-        if let Some(bucket) = self.folders.get_mut(home) {
+        let index = self.bucket_of(hash);
+        if let Some(bucket) = self.folders.get_mut(index) {
             put(bucket, entry(hash, number));
         }
     }
 
-    fn note_file(&mut self, folder: u32, name: &str, number: u32) {
+    fn enter_file(&mut self, folder: u32, name: &str, number: u32) {
+        self.fit_files(number);
         let hash = hash(folder, name);
         let home = home(hash, self.files.len());
-        if let Some(slot) = self.files.get_mut(home) {
-            *slot = entry(hash, number);
+        if let Some(place) = self.files.get_mut(home) {
+            *place = entry(hash, number);
         }
     }
 
-    // Sees that there is a bucket for each folder. If there isn't, it takes two for each, and notes all folders anew;
-    // if there is no memory for them, the table stays as it is.
-    fn fit_folders(&mut self, nodes: &NodeTable) {
-        if self.entered as usize <= self.folders.len() {
-            return;
-        }
-        let count = (2 * self.entered as usize).next_power_of_two();
-        let more = count.saturating_sub(self.folders.len());
-        if self.folders.reserve(more).is_err() {
-            return;
-        }
-        self.folders.clear();
-        let _ = self.folders.resize(count, [FREE; SLOTS]);
-        for number in 0..nodes.len() {
-            if let Some(node) = nodes.get(number) {
-                if node.folder {
-                    self.note_folder(node.parent, node.name, number);
-                }
-            }
-        }
-    }
-
-    // Sees that there are two places for each node. If there aren't, it takes eight for each, and notes all files anew;
-    // if there is no memory for them, the table stays as it is.
-    fn fit_files(&mut self, nodes: &NodeTable) {
-        let count = nodes.len() as usize;
-        if 2 * count <= self.files.len() {
-            return;
-        }
-        let places = (5 * count).next_power_of_two();
-        let more = places.saturating_sub(self.files.len());
-        if self.files.reserve(more).is_err() {
-            return;
-        }
-        self.files.clear();
-        let _ = self.files.resize(places, FREE);
-        for number in 0..nodes.len() {
-            if let Some(node) = nodes.get(number) {
-                if !node.folder {
-                    self.note_file(node.parent, node.name, number);
-                }
-            }
-        }
-    }
-
-    /// Enters a node that comes to stand in a folder under a name, beside these nodes.
-    pub fn enter(
-        &mut self,
-        nodes: &NodeTable,
-        folder: u32,
-        name: &str,
-        number: u32,
-        is_folder: bool,
-    ) {
+    /// Enters a node that comes to stand in a folder under a name.
+    pub fn enter(&mut self, folder: u32, name: &str, number: u32, is_folder: bool) {
         if is_folder {
-            self.entered = self.entered.saturating_add(1);
-            self.fit_folders(nodes);
-            self.note_folder(folder, name, number);
+            self.enter_folder(folder, name, number);
         } else {
-            self.fit_files(nodes);
-            self.note_file(folder, name, number);
+            self.enter_file(folder, name, number);
         }
     }
 
     /// Gives up the entry of a folder that is to leave its place. A file's stays until another comes there.
-    pub fn forget(&mut self, nodes: &NodeTable, number: u32) {
-        let Some(node) = nodes.get(number) else {
-            return;
-        };
+    pub fn forget(&mut self, node: &NodeView<'_>) {
         if !node.folder {
             return;
         }
         self.entered = self.entered.saturating_sub(1);
         let hash = hash(node.parent, node.name);
-        let entry = entry(hash, number);
-        let home = home(hash, self.folders.len());
-        if let Some(bucket) = self.folders.get_mut(home) {
+        let entry = entry(hash, node.number);
+        let index = self.bucket_of(hash);
+        if let Some(bucket) = self.folders.get_mut(index) {
             clear(bucket, entry);
         }
     }
 
     /// Enters a node where it goes, to a folder and under a name, and gives up its old entry.
-    pub fn follow(&mut self, nodes: &NodeTable, number: u32, folder: u32, name: &str) {
-        let Some(node) = nodes.get(number) else {
-            return;
-        };
-        self.forget(nodes, number);
-        self.enter(nodes, folder, name, number, node.folder);
+    pub fn follow(&mut self, node: &NodeView<'_>, folder: u32, name: &str) {
+        self.forget(node);
+        self.enter(folder, name, node.number, node.folder);
     }
 }

@@ -7,9 +7,11 @@
 //! name in a folder is guessed first, so that most searches take one look, at the node that is guessed. Contracts see a
 //! tree as its capacity and its nodes in the order of their numbers.
 //!
-//! A call that reads nodes counts them as looks. `children`, `child_count` and `child_at` count one look for the call,
-//! and `Children::next` one for each child that it lends. What these three compare to find where a folder's children
-//! stand in the order isn't counted.
+//! A call counts the nodes that it reads, compares or lends as looks. But `children`, `child_count` and `child_at` count
+//! one look for the call, whatever entries they compare to find where a folder's children stand in the order. No other
+//! call reads a node that it doesn't count, but those that make a tree of rows.
+//!
+//! All memory is taken when a tree is made, and again only for copies of its rows.
 #![tactic(auto)]
 
 mod answer;

@@ -12,7 +12,7 @@ use crate::climb::is_at_or_below;
 use crate::entries::Entry;
 use crate::entry::{is_other, reorder};
 use crate::tree::Tree;
-use crate::{order, slots};
+use crate::{order, reads, slots};
 use fsrm_model::{Ledger, Steps};
 use std::marker::Model;
 
@@ -121,8 +121,9 @@ impl Tree {
         let entry = Entry::at(node, folder, name);
         reorder(&self.slots, &mut self.order, entry, found, steps);
         let bytes = name.len() as u32;
-        self.hints.follow(&self.slots, node, folder, name);
-        let old_bytes = slots::name_length(&self.slots, node, steps);
+        let row = reads::node(&self.slots, node, steps);
+        let old_bytes = row.name.len() as u32;
+        self.hints.follow(&row, folder, name);
         self.slots.set_place(node, folder, name);
         self.used = self.used - old_bytes + bytes;
     }

@@ -31,8 +31,11 @@ use std::marker::Model;
 
 /// A volume's folders and files, in memory of its own. Contracts see its size and its nodes.
 ///
-/// A look is one node that is read, compared or lent; `steps` counts them. A call of `children`, `child_count` or
-/// `child_at` is one look.
+/// `steps` counts looks. A look is one node that a call reads, compares or lends. But `child_count` and `child_at` are
+/// one look each, whatever entries they compare to find where a folder's children stand; `children` counts as
+/// `child_count`, and each child that it lends as one of `child_at`.
+///
+/// All memory is taken by `reserve`, `from_rows` and `to_rows`.
 #[derive(Drop)]
 pub struct Tree {
     pub(crate) size: Capacity,
@@ -71,6 +74,7 @@ impl Tree {
         let slots = slots::root_alone(alloc, size)?;
         let holes = NumberSet::reserve(alloc, size.nodes)?;
         let order = Order::reserve(alloc, size.nodes)?;
+        let hints = Hints::reserve(alloc, size.nodes)?;
         Ok(Tree {
             size,
             count: 1,
@@ -78,7 +82,7 @@ impl Tree {
             slots,
             holes,
             order,
-            hints: Hints::new(alloc),
+            hints,
         })
     }
 
@@ -216,7 +220,7 @@ impl Tree {
         is_at_or_below(&self.slots, top, node, steps)
     }
 
-    /// How many children a folder has.
+    /// How many children a folder has. It is one look, whatever entries it compares.
     pub fn child_count<L: Ledger>(&self, folder: u32, steps: &mut Steps<L>) -> u32
         ensures value { result ≡ length (children self.now.nodes folder) }
         ensures count { steps.new ≡ steps.old + 1 }
@@ -229,7 +233,7 @@ impl Tree {
     }
 
     /// The number of the child that stands at a place, from 0 on, among a folder's children in the
-    /// order of their folded names.
+    /// order of their folded names. It is one look, whatever entries it compares.
     pub fn child_at<L: Ledger>(&self, folder: u32, place: u32, steps: &mut Steps<L>) -> u32
         requires { place < length (children self.now.nodes folder) }
         ensures child { IsChildAt self.now.nodes folder place result }
@@ -241,8 +245,8 @@ impl Tree {
         self.order.get(self.order.place_of(index))
     }
 
-    /// The numbers of a folder's children, in the order of their folded names, to be lent a run at a time. It takes a
-    /// look, and then one for each child that is lent.
+    /// The numbers of a folder's children, in the order of their folded names, to be lent a run at a time. It counts as
+    /// `child_count`: one look, whatever entries it compares. Then `Children::next` counts each child that it lends.
     ///
     /// They are sought first at the finger, which is left after these children, so that those of the next folder
     /// are found at once.
@@ -253,7 +257,7 @@ impl Tree {
         steps: &mut Steps<L>,
     ) -> Children<'_>
         ensures numbers { result ≡ map key (children_in_order self.now.nodes folder) }
-        ensures count { steps.new ≡ steps.old + 1 }
+        ensures as_child_count { steps.new ≡ steps.old + 1 }
     {
         steps.tick();
         let (first, end) = segment::segment(&self.order, folder, finger.place());
@@ -310,7 +314,7 @@ impl Tree {
         }
         let place = own_place(nodes, &self.order, &row, steps);
         let bytes = row.name.len() as u32;
-        self.hints.forget(&self.slots, node);
+        self.hints.forget(&row);
         self.slots.take_away(node);
         self.order.remove(place);
         self.count -= 1;
@@ -348,7 +352,10 @@ impl Tree {
             Ok(parts) => parts,
             Err(fault) => return Err(fault),
         };
-        let hints = Hints::of(alloc, &parts.slots);
+        let hints = match Hints::of(alloc, &parts.slots, size.nodes) {
+            Ok(hints) => hints,
+            Err(NoMemory) => return Err(RowsFault::NoMemory),
+        };
         Ok(Tree {
             size,
             count: parts.count,

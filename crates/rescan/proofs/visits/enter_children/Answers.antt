@@ -15,7 +15,7 @@ loop-siblings-init g c =
     let many = numbers_many nodes c.args.folder c.children-children.result c.children-children.ensures.numbers in
     record {
       parts = ([], c.children-children.ensures.numbers, none_entered c.args.tree.now.size nodes c.args.set.now);
-      looks = omega (arith, c.children-children.ensures.count, many);
+      looks = omega (arith, c.children-children.ensures.as_child_count, many);
     }
 
 pub enter_nodes-bytes-requires-clause-there : goal.enter_nodes-bytes-requires-clause-there

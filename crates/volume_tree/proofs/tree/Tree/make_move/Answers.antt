@@ -1,14 +1,17 @@
 use Rattle.std.proofs.Common.{◌≡◌, ℕ, ◌+◌, ◌-◌, true, false, length, Some, None, refl, sym, ◌∙◌, ap, subst, arith}
 use Rattle.std.specs.Prelude.{◌==◌}
+use Rattle.fsrm_model.specs.declared.row.NodeRow.{NodeRow}
 use Rattle.fsrm_base.specs.Keyed.{has_row}
 use Rattle.fsrm_model.specs.Name.{is_name}
 use Rattle.fsrm_model.specs.Tree.{number, name_of, parent_of, is_folder, child_number}
+use Rattle.fsrm_model.proofs.nodes.Walks.{found_name}
 use Rattle.fsrm_model.proofs.valid.CapacityLaws.{names_most}
 use Rattle.name_rules.specs.Prefix.{prefix}
 use Rattle.fsrm_model.specs.FileOps.{placed}
 use Rattle.fsrm_model.specs.Tree.{name_bytes}
 use Rattle.node_table.specs.Slots.{with_change_at}
 use Rattle.node_table.specs.Table.{Table}
+use Rattle.node_table.specs.Views.{seen}
 use Rattle.volume_tree.specs.Kept.{IsHeld, rows_of}
 use Rattle.volume_tree.proofs.kept.HeldLaws.{volume as volume_of}
 use Rattle.volume_tree.proofs.slotted.SlotLaws.{changed, there_is}
@@ -36,15 +39,17 @@ reorder-requires-clause-own g c =
 pub reorder-requires-clause-room : goal.reorder-requires-clause-room
 reorder-requires-clause-room g c = order_fits _ _ _ _ _ _ c.self.invariant.kept
 
-pub name_length-old_bytes-requires-clause-short : goal.name_length-old_bytes-requires-clause-short
-name_length-old_bytes-requires-clause-short g c =
+pub overflow_cast-old_bytes : goal.overflow_cast-old_bytes
+overflow_cast-old_bytes g c =
     let slots = c.self.inside.slots.slots in
     let m = c.ready.inside in
     let has : has_row number m.node (rows_of slots) ≡ true = ap (λ (move : Move). has_row number move.node (rows_of slots)) c.ready.view_is ∙ (ap (λ (v : Volume). has_row number c.args.ready.node v.nodes) c.self.view_is ∙ c.requires.there) in
+    let row : NodeRow = seen c.node-row.result in
+    let bytes : length row.name ≡ length (name_of (rows_of slots) m.node) = ap length (sym (found_name (rows_of slots) m.node row c.node-row.ensures.node)) in
     let fit = name_fits c.self.inside.size _ m.node c.self.invariant.kept.volume has in
     let names = c.self.invariant.kept.volume.names in
     let most = names_most c.self.inside.size c.self.invariant.kept.size in
-    omega (arith, fit, names, most)
+    omega (arith, fit, bytes, names, most)
 
 pub overflow_sub-self : goal.overflow_sub-self
 overflow_sub-self g c =
@@ -52,7 +57,8 @@ overflow_sub-self g c =
     let m = c.ready.inside in
     let has : has_row number m.node (rows_of slots) ≡ true = ap (λ (move : Move). has_row number move.node (rows_of slots)) c.ready.view_is ∙ (ap (λ (v : Volume). has_row number c.args.ready.node v.nodes) c.self.view_is ∙ c.requires.there) in
     let fit = name_fits c.self.inside.size _ m.node c.self.invariant.kept.volume has in
-    let bytes : c.name_length-old_bytes.result ≡ length (name_of (rows_of slots) m.node) = c.name_length-old_bytes.ensures.bytes in
+    let row : NodeRow = seen c.node-row.result in
+    let bytes : length row.name ≡ length (name_of (rows_of slots) m.node) = ap length (sym (found_name (rows_of slots) m.node row c.node-row.ensures.node)) in
     let used = c.self.invariant.kept.used_is in
     omega (arith, fit, bytes, used)
 
@@ -65,7 +71,8 @@ overflow_add-self g c =
     let has : has_row number m.node (rows_of slots) ≡ true = ap (λ (move : Move). has_row number move.node (rows_of slots)) c.ready.view_is ∙ (ap (λ (v : Volume). has_row number c.args.ready.node v.nodes) c.self.view_is ∙ c.requires.there) in
     let fit = name_fits c.self.inside.size _ m.node c.self.invariant.kept.volume has in
     let room = (may_move held m.node m.folder m.name.now may).room in
-    let bytes : c.name_length-old_bytes.result ≡ length (name_of (rows_of slots) m.node) = c.name_length-old_bytes.ensures.bytes in
+    let row : NodeRow = seen c.node-row.result in
+    let bytes : length row.name ≡ length (name_of (rows_of slots) m.node) = ap length (sym (found_name (rows_of slots) m.node row c.node-row.ensures.node)) in
     let used = c.self.invariant.kept.used_is in
     let most = names_most c.self.inside.size c.self.invariant.kept.size in
     omega (arith, fit, room, bytes, used, most)
@@ -90,16 +97,17 @@ invariant_of-self g c =
     let placed_at = placed_order i.size (rows_of slots) i.order c.reorder.new.order m.node m.folder m.name.now c.at-entry.result c.search-found.result c.self.invariant.kept.volume c.self.invariant.kept.order_is sought search.entry alone (ap (λ (e : Entry). e.node) entry) c.reorder.ensures.ok c.reorder.ensures.err in
     let entries = placed_entries i.size (rows_of slots) i.order c.reorder.new.order m.node m.folder m.name.now c.at-entry.result c.search-found.result c.self.invariant.kept.volume has c.self.invariant.kept.order_is c.self.invariant.kept.entries_are sought search.entry alone entry c.reorder.ensures.ok c.reorder.ensures.err in
     let volume = volume_moved held m.node m.folder m.name.now c.self.invariant.kept.volume has inner folder named may in
-    let bytes : c.name_length-old_bytes.result ≡ length (name_of (rows_of slots) m.node) = c.name_length-old_bytes.ensures.bytes in
+    let row : NodeRow = seen c.node-row.result in
+    let bytes : length row.name ≡ length (name_of (rows_of slots) m.node) = ap length (sym (found_name (rows_of slots) m.node row c.node-row.ensures.node)) in
     let fit = name_fits i.size _ m.node c.self.invariant.kept.volume has in
     let same = c.self.invariant.kept.used_is in
     let h = c.self.invariant in
     let new = changed slots m.node (placed m.folder m.name.now) h.kept.slots_are has (λ r. refl) in
-    let kept = kept_moved i.size i.count i.used (i.used - c.name_length-old_bytes.result + length m.name.now) i.holes slots (with_change_at slots m.node (placed m.folder m.name.now)) i.order c.reorder.new.order m.node m.folder m.name.now h.kept has volume
+    let kept = kept_moved i.size i.count i.used (i.used - length row.name + length m.name.now) i.holes slots (with_change_at slots m.node (placed m.folder m.name.now)) i.order c.reorder.new.order m.node m.folder m.name.now h.kept has volume
     (omega (arith, bytes, fit, same)) new.slots_are new.rows_are new.size placed_at entries c.reorder.ensures.room in
     let table : c.set_place.new.self ≡ record i.slots { slots = with_change_at slots m.node (placed m.folder m.name.now) } =
     c.set_place.ensures in
-    subst (λ (t : Table). IsHeld i.size i.count (i.used - c.name_length-old_bytes.result + length m.name.now) i.holes t c.reorder.new.order) (sym table) (record { nodes_are = h.nodes_are; names_are = h.names_are; kept = kept })
+    subst (λ (t : Table). IsHeld i.size i.count (i.used - length row.name + length m.name.now) i.holes t c.reorder.new.order) (sym table) (record { nodes_are = h.nodes_are; names_are = h.names_are; kept = kept })
 
 pub set_place-requires-clause-taken : goal.set_place-requires-clause-taken
 set_place-requires-clause-taken g c =
