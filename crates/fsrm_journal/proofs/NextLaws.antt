@@ -7,6 +7,7 @@ use Rattle.std.proofs.lemmas.List.{drop_at, get_or-append_right}
 use Rattle.byteorder.specs.Endian.{little_number, little_bytes}
 use Rattle.byteorder.specs.Numbers.{little_number-reads_back}
 use Rattle.fsrm_base.proofs.TestLaws.{both_true}
+use Rattle.fsrm_model.specs.Limits.{longest_entry}
 use Rattle.fsrm_journal.specs.Next.{length_at, has_length, next_length, with_body, record_at}
 use Rattle.fsrm_outside.specs.Parts.{Parts, part_of}
 use Rattle.fsrm_journal.specs.Records.{counted, records, Log, Holds}
@@ -41,7 +42,7 @@ closed_there front rest gate closed =
     (cond (not (has_length half (length front))) (Err (length front + 1)) (Ok (Some (length_at half (length front))))) (there front rest gate) shut)
 
 -- after an open one there is the record that stands there
-pub record_there : (front body rest : List ℕ) → 1 ≤ length body → length body ≤ 131072
+pub record_there : (front body rest : List ℕ) → 1 ≤ length body → length body ≤ longest_entry
     → record_at (front ++ 1 ∷ (counted body ++ rest)) (length front) ≡ Ok (Some (length front + 5, length body))
 record_there front body rest some most =
     let place = length front in
@@ -54,16 +55,16 @@ record_there front body rest some most =
     ap (little_number 4) (after ∙ append_assoc (little_bytes 4 (length body)) body rest) ∙ little_number-reads_back 4 (length body) (body ++ rest) few in
     let size : length half ≡ place + 5 + length body + length rest = omega (arith, length-append front (1 ∷ tail), length-append (counted body) rest) in
     let has : has_length half place ≡ true =
-    both_true (nat_le (place + 5) (length half)) (nat_le 1 (length_at half place) && nat_le (length_at half place) 131072)
+    both_true (nat_le (place + 5) (length half)) (nat_le 1 (length_at half place) && nat_le (length_at half place) longest_entry)
     (le-leb (place + 5) (length half) (omega (arith, size)))
-    (both_true (nat_le 1 (length_at half place)) (nat_le (length_at half place) 131072) (le-leb 1 (length_at half place) (omega (arith, n, some))) (le-leb (length_at half place) 131072 (omega (arith, n, most)))) in
+    (both_true (nat_le 1 (length_at half place)) (nat_le (length_at half place) longest_entry) (le-leb 1 (length_at half place) (omega (arith, n, some))) (le-leb (length_at half place) longest_entry (omega (arith, n, most)))) in
     let next : next_length half place ≡ Ok (Some (length body)) =
     fourth (nat_lt place (length half)) (nat_eq (get_or half place 0) 1) (has_length half place) (Err place) (Ok None) (Err (place + 1)) (Ok (Some (length_at half place)))
     (there front tail 1) (eq-eqb (get_or half place 0) 1 (gate_at front tail 1)) has
     ∙ ap (λ (k : ℕ). Ok (Some k)) n in
     tells_some half place (length body) next (omega (arith, size))
 
-pub held_there : (log : Log) (before after : List (List ℕ)) (body : List ℕ) (parts : Parts) → Holds log (before ++ body ∷ after) parts → 1 ≤ length body → length body ≤ 131072
+pub held_there : (log : Log) (before after : List (List ℕ)) (body : List ℕ) (parts : Parts) → Holds log (before ++ body ∷ after) parts → 1 ≤ length body → length body ≤ longest_entry
     → record_at (part_of log.ruling parts) (length (log.lead ++ records before)) ≡ Ok (Some (length (log.lead ++ records before) + 5, length body))
 held_there log before after body parts h some most =
     let front = log.lead ++ records before in

@@ -5,6 +5,7 @@ use Rattle.std.proofs.lemmas.Bool.{le-leb, lt-ltb, eq-eqb, leb-true, ltb-true, e
 use Rattle.std.proofs.lemmas.List.{append-nil, take_at, drop_at, take-take, drop-take, drop_more, get_or-take}
 use Rattle.byteorder.specs.Endian.{little_number, little_bytes}
 use Rattle.byteorder.specs.Numbers.{little_from-take}
+use Rattle.fsrm_model.specs.Limits.{longest_entry}
 use Rattle.fsrm_journal.specs.Next.{length_at, has_length, next_length, with_body, record_at}
 use Rattle.fsrm_outside.specs.Parts.{Parts, part_of}
 use Rattle.fsrm_outside.specs.declared.traits.Part.{Part}
@@ -20,7 +21,7 @@ pub record Stands (half : List ℕ) (place n : ℕ) : Type 0 where
   pub gate : get_or half place 0 ≡ 1
   pub says : length_at half place ≡ n
   pub some : 1 ≤ n
-  pub most : n ≤ 131072
+  pub most : n ≤ longest_entry
   pub whole : place + 5 + n ≤ length half
 
 next_inv : (half : List ℕ) (place : ℕ) (a b c : Bool) (len p n : ℕ) → with_body half place (cond (not a) (Err place) (cond (not b) (Ok None) (cond (not c) (Err (place + 1)) (Ok (Some len))))) ≡ Ok (Some (p, n))
@@ -54,10 +55,10 @@ pub stands : (half : List ℕ) (place p n : ℕ) → record_at half place ≡ Ok
 stands half place p n is =
     let i = next_inv half place (nat_lt place (length half)) (nat_eq (get_or half place 0) 1) (has_length half place) (length_at half place) p n is in
     let b = body_inv half place (length_at half place) p n (nat_le (place + 5 + length_at half place) (length half)) (with_body half place (Ok (Some (length_at half place)))) refl i.3 in
-    let h = both (nat_le (place + 5) (length half)) (nat_le 1 (length_at half place) && nat_le (length_at half place) 131072) i.2 in
-    let l = both (nat_le 1 (length_at half place)) (nat_le (length_at half place) 131072) h.1 in
+    let h = both (nat_le (place + 5) (length half)) (nat_le 1 (length_at half place) && nat_le (length_at half place) longest_entry) i.2 in
+    let l = both (nat_le 1 (length_at half place)) (nat_le (length_at half place) longest_entry) h.1 in
     let some = leb-true 1 (length_at half place) l.0 in
-    let most = leb-true (length_at half place) 131072 l.1 in
+    let most = leb-true (length_at half place) longest_entry l.1 in
     let whole = leb-true (place + 5 + length_at half place) (length half) b.0 in (
       record { gate = eqb-true (get_or half place 0) 1 i.1; says = b.2; some = omega (arith, some, b.2); most = omega (arith, most, b.2); whole = omega (arith, whole, b.2) },
       b.1,
@@ -67,9 +68,9 @@ stands half place p n is =
 pub there_stands : (half : List ℕ) (place n : ℕ) → Stands half place n → record_at half place ≡ Ok (Some (place + 5, n))
 there_stands half place n s =
     let has : has_length half place ≡ true =
-    both_true (nat_le (place + 5) (length half)) (nat_le 1 (length_at half place) && nat_le (length_at half place) 131072)
+    both_true (nat_le (place + 5) (length half)) (nat_le 1 (length_at half place) && nat_le (length_at half place) longest_entry)
     (le-leb (place + 5) (length half) (omega (arith, s.whole)))
-    (both_true (nat_le 1 (length_at half place)) (nat_le (length_at half place) 131072) (le-leb 1 (length_at half place) (omega (arith, s.says, s.some))) (le-leb (length_at half place) 131072 (omega (arith, s.says, s.most)))) in
+    (both_true (nat_le 1 (length_at half place)) (nat_le (length_at half place) longest_entry) (le-leb 1 (length_at half place) (omega (arith, s.says, s.some))) (le-leb (length_at half place) longest_entry (omega (arith, s.says, s.most)))) in
     let next : next_length half place ≡ Ok (Some n) =
     fourth (nat_lt place (length half)) (nat_eq (get_or half place 0) 1) (has_length half place) (Err place) (Ok None) (Err (place + 1)) (Ok (Some (length_at half place)))
     (lt-ltb place (length half) (omega (arith, s.whole))) (eq-eqb (get_or half place 0) 1 s.gate) has

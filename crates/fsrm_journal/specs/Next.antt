@@ -1,6 +1,7 @@
 -- The record that stands at a place of a half.
 use Rattle.std.specs.Prelude.{◌≡◌, ℕ, ◌+◌, Bool, ◌&&◌, not, if◌then◌else◌, nat_le, nat_lt, nat_eq, Option, None, Some, Result, Ok, Err, List, length, drop, slice_index}
 use Rattle.byteorder.specs.Endian.{little_number}
+use Rattle.fsrm_model.specs.Limits.{longest_entry}
 use Rattle.fsrm_outside.specs.declared.traits.Part.{Part}
 use Rattle.fsrm_journal.specs.declared.fault.JournalFault.{JournalFault}
 use Rattle.fsrm_journal.specs.declared.fault.JournalFault.TheVariants.{NoStore, AlreadyStore, Damaged, DiskFault, NoMemory}
@@ -11,7 +12,7 @@ length_at half place = little_number 4 (drop (place + 1) half)
 
 -- it is there, and legal
 abbrev pub has_length : List ℕ → ℕ → Bool
-has_length half place = nat_le (place + 5) (length half) && (nat_le 1 (length_at half place) && nat_le (length_at half place) 131072)
+has_length half place = nat_le (place + 5) (length half) && (nat_le 1 (length_at half place) && nat_le (length_at half place) longest_entry)
 
 -- the length of the body of the record there, none at a closed gate, or the place of what is damaged
 abbrev pub next_length : List ℕ → ℕ → Result (Option ℕ) ℕ

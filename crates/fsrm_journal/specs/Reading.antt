@@ -1,5 +1,6 @@
 -- What a reader comes to in a half.
 use Rattle.std.specs.Prelude.{◌≡◌, ◌⊎◌, ℕ, ◌+◌, ◌≤◌, Option, None, Some, Ok, List, [], ◌∷◌, length, take, drop}
+use Rattle.fsrm_model.specs.Limits.{longest_entry}
 use Rattle.fsrm_outside.specs.Parts.{Parts, part_of, other}
 use Rattle.fsrm_outside.specs.declared.traits.Part.{Part}
 use Rattle.fsrm_journal.specs.Next.{record_at}
@@ -8,7 +9,7 @@ use Rattle.fsrm_journal.specs.Records.{Log}
 -- a body that a record may have
 pub record IsBody (body : List ℕ) : Type 0 where
   pub some : 1 ≤ length body
-  pub most : length body ≤ 131072
+  pub most : length body ≤ longest_entry
 
 -- a reader that begins at a place comes to these bodies, one after the other, and then stands at the end
 abbrev pub Comes : List ℕ → ℕ → List (List ℕ) → ℕ → Type 0

@@ -1,6 +1,7 @@
 -- Records in a half: each is a gate, the length of its body in four bytes, the body, and then comes the next gate.
-use Rattle.std.specs.Prelude.{◌≡◌, ◌≢◌, ◌⊎◌, ℕ, Option, Some, List, [], ◌∷◌, ◌++◌, length}
+use Rattle.std.specs.Prelude.{◌≡◌, ◌≢◌, ◌⊎◌, ℕ, ◌+◌, Option, Some, List, [], ◌∷◌, ◌++◌, length}
 use Rattle.byteorder.specs.Endian.{little_bytes}
+use Rattle.fsrm_model.specs.Limits.{longest_entry}
 use Rattle.fsrm_outside.specs.Parts.{Parts, part_of, other}
 use Rattle.fsrm_outside.specs.declared.traits.Part.{Part}
 
@@ -17,6 +18,10 @@ records (body ∷ bodies) = 1 ∷ counted body ++ records bodies
 abbrev pub batch : List (List ℕ) → List ℕ
 batch [] = []
 batch (body ∷ bodies) = counted body ++ records bodies
+
+-- the bytes of the longest record: its gate, the length of its body, and the longest body
+abbrev pub longest_record : ℕ
+longest_record = longest_entry + 5
 
 -- Where records stand: the half that rules, what it holds before its records, and what the other half holds.
 pub record Log : Type 0 where

@@ -3,6 +3,7 @@
 ghost use Rattle.std.specs.Prelude.{◌≡◌, ◌≢◌, ◌⊎◌, ◌≤◌, ◌<◌, ◌+◌, ◌-◌, ◌*◌, ◌^◌, ℕ, List, [], ◌∷◌, ◌++◌, length, take, drop, slice_index, vec_capacity, true, false, Ok, Err, None, Some, IfOk, IfSome, IfErr, IsErrOf, OnOk, OnErr};
 ghost use Rattle.byteorder.specs.Endian.{little_bytes};
 ghost use Rattle.std.specs.Option.{ForSome};
+ghost use Rattle.fsrm_model.specs.Limits.{longest_entry};
 ghost use Rattle.fsrm_outside.specs.Causes.{HasCause, Rose};
 ghost use Rattle.fsrm_outside.specs.Changes.{Same, Through};
 ghost use Rattle.fsrm_journal.specs.HeadSays.{head_says};
@@ -12,7 +13,7 @@ ghost use Rattle.fsrm_outside.specs.declared.traits.Part.TheVariants.{Zero, One}
 ghost use Rattle.fsrm_outside.specs.Moments.{EachImage};
 ghost use Rattle.fsrm_outside.specs.Parts.{Parts, part_of, other};
 ghost use Rattle.fsrm_journal.specs.Reading.{Settles};
-ghost use Rattle.fsrm_journal.specs.Records.{batch, counted, Holds, HoldsAllOrNone, Log, Settled};
+ghost use Rattle.fsrm_journal.specs.Records.{batch, counted, longest_record, Holds, HoldsAllOrNone, Log, Settled};
 ghost use Rattle.fsrm_journal.specs.declared.fault.JournalFault.TheVariants.{AlreadyStore, Damaged, DiskFault};
 
 mod checkpoint;
@@ -21,15 +22,12 @@ mod format;
 use crate::batches::{open_gate, stage};
 use crate::fault::JournalFault;
 use crate::heads::{Head, head_says, is_open, judged};
+use crate::limits::LONGEST_RECORD;
 use crate::reading::{damaged, next_length};
 use byteorder::{ByteOrder, LittleEndian};
 use fsrm_base::NoMemory;
-use fsrm_model::limits::LONGEST_ENTRY;
 use fsrm_outside::{Disk, Failed, Part};
 use std::alloc::Global;
-
-/// The most bytes that a record takes: its gate, its length and its body.
-const MOST_RECORD: usize = LONGEST_ENTRY + 5;
 
 /// The records of the half that rules: where they end, those that are held until a flush, and what is known of both
 /// halves for the change to the other one.
@@ -54,15 +52,15 @@ pub struct Journal {
     ghost in_part: { end ≤ 2 ^ 62 },
     ghost in_half: { len ≤ 2 ^ 62 },
     ghost in_beside: { written ≤ 2 ^ 62 },
-    ghost room: { group * 131077 ≤ vec_capacity bytes },
-    ghost fits: { length bytes.items ≤ held * 131077 - 1 },
+    ghost room: { group * longest_record ≤ vec_capacity bytes },
+    ghost fits: { length bytes.items ≤ held * longest_record - 1 },
     ghost few: { held ≤ group },
     ghost groups: { group ≤ 1024 },
 }
 
 // A length as a record spells it.
 fn spelled(len: usize) -> [u8; 4]
-    requires { len ≤ 131072 }
+    requires { len ≤ longest_entry }
     ensures { result ≡ little_bytes 4 len }
 {
     let mut bytes = [0; 4];
@@ -156,7 +154,7 @@ impl Journal {
         let len = disk.len(ruling)?;
         let head = head_ruling(ruling, &zero[..zero_len], &one[..one_len]);
         let beside_open = is_open_beside(ruling, &zero[..zero_len], &one[..one_len]);
-        let Ok(bytes) = Vec::with_capacity(alloc, MOST_RECORD) else {
+        let Ok(bytes) = Vec::with_capacity(alloc, LONGEST_RECORD) else {
             return Err(JournalFault::NoMemory);
         };
         let journal = Journal {
@@ -211,13 +209,13 @@ impl Journal {
         disk: &mut D,
         into: &mut [u8],
     ) -> Result<Option<(u64, usize)>, JournalFault>
-        requires room { 131072 ≤ length into.old }
+        requires room { longest_entry ≤ length into.old }
         ensures tells { ForSome (D.reads disk.old) (λ parts. self.old.len ≡ length (part_of self.old.ruling parts)
             → Tells self.old.ruling (record_at (part_of self.old.ruling parts) self.old.end) result) }
         ensures only { OnErr result ((result ≡ Err DiskFault) ⊎ ((place : ℕ) × (result ≡ Err (Damaged self.old.ruling place)))) }
         ensures body { ForSome (D.reads disk.old) (λ parts. self.old.len ≡ length (part_of self.old.ruling parts)
             → IfOk result (λ found. IfSome found (λ at. take at.1 into.new ≡ take at.1 (drop at.0 (part_of self.old.ruling parts))))) }
-        ensures size { IfOk result (λ found. IfSome found (λ at. (1 ≤ at.1) × (at.1 ≤ 131072))) }
+        ensures size { IfOk result (λ found. IfSome found (λ at. (1 ≤ at.1) × (at.1 ≤ longest_entry))) }
         ensures place { IfOk result (λ found. IfSome found (λ at. at.0 ≡ self.old.end + 5)) }
         ensures end { IfOk result (λ found. IfSome found (λ at. self.new.end ≡ at.0 + at.1)) }
         ensures stays { IfOk result (λ found. found ≡ None → self.new.end ≡ self.old.end) }
@@ -277,7 +275,7 @@ impl Journal {
         ensures image { self.new.image_end ≡ self.old.image_end }
         ensures stands { StandsOn self.old self.new }
     {
-        self.bytes.try_reserve(n as usize * MOST_RECORD)?;
+        self.bytes.try_reserve(n as usize * LONGEST_RECORD)?;
         self.group = n;
         Ok(())
     }
@@ -285,7 +283,7 @@ impl Journal {
     /// Holds a record, for which there is room.
     pub fn hold(&mut self, body: &[u8])
         requires some { 1 ≤ length body.now }
-        requires most { length body.now ≤ 131072 }
+        requires most { length body.now ≤ longest_entry }
         requires room { self.old.held < self.old.group }
         ensures held { (bodies : List (List ℕ)) → length bodies ≡ self.old.held → self.old.bytes.items ≡ batch bodies → self.new.bytes.items ≡ batch (bodies ++ body.now ∷ []) }
         ensures count { self.new.held ≡ self.old.held + 1 }
@@ -341,7 +339,7 @@ impl Journal {
     /// Makes a record stable. The gate after it is 0.
     pub fn append<D: Disk>(&mut self, disk: &mut D, body: &[u8]) -> Result<(), JournalFault>
         requires some { 1 ≤ length body.now }
-        requires most { length body.now ≤ 131072 }
+        requires most { length body.now ≤ longest_entry }
         requires none { self.old.held ≡ 0 }
         requires group { 1 ≤ self.old.group }
         requires place { ForSome (D.reads disk.old) (λ parts. self.old.end < length (part_of self.old.ruling parts)) }
@@ -382,8 +380,8 @@ fn open_between(bytes: &mut Vec<u8>, first: bool)
 
 // Adds a record to those that are held.
 fn append_record(bytes: &mut Vec<u8>, first: bool, body: &[u8])
-    requires most { length body.now ≤ 131072 }
-    requires room { length bytes.old.items + 131077 ≤ vec_capacity bytes.old }
+    requires most { length body.now ≤ longest_entry }
+    requires room { length bytes.old.items + longest_record ≤ vec_capacity bytes.old }
     ensures first { first ≡ true → bytes.new.items ≡ bytes.old.items ++ counted body.now }
     ensures more { first ≡ false → bytes.new.items ≡ bytes.old.items ++ 1 ∷ counted body.now }
     ensures room { vec_capacity bytes.old ≤ vec_capacity bytes.new }

@@ -22,6 +22,7 @@ mod halves;
 mod heads;
 mod journal;
 pub mod laws;
+mod limits;
 mod reading;
 
 pub use fault::JournalFault;

@@ -3,6 +3,7 @@
 ghost use Rattle.std.specs.Prelude.{◌≡◌, ◌⊎◌, ◌≤◌, ◌<◌, ◌+◌, ◌^◌, ℕ, length, drop, slice_index, Err, IfOk, IfSome, IsErrOf, OnErr};
 ghost use Rattle.byteorder.specs.Endian.{little_number};
 ghost use Rattle.std.specs.Option.{ForSome};
+ghost use Rattle.fsrm_model.specs.Limits.{longest_entry};
 ghost use Rattle.fsrm_outside.specs.Causes.{HasCause, Rose};
 ghost use Rattle.fsrm_journal.specs.Next.{next_length, Tells};
 ghost use Rattle.fsrm_journal.specs.declared.fault.JournalFault.TheVariants.{Damaged, DiskFault};
@@ -50,7 +51,7 @@ pub fn next_length<D: Disk>(
     requires { place ≤ 2 ^ 62 }
     ensures tells { ForSome (D.reads disk.old) (λ parts. len ≡ length (part_of ruling parts) → Tells ruling (next_length (part_of ruling parts) place) result) }
     ensures only { OnErr result ((result ≡ Err DiskFault) ⊎ ((at : ℕ) × (result ≡ Err (Damaged ruling at)))) }
-    ensures legal { IfOk result (λ found. IfSome found (λ n. (1 ≤ n) × (n ≤ 131072) × (place + 5 ≤ len))) }
+    ensures legal { IfOk result (λ found. IfSome found (λ n. (1 ≤ n) × (n ≤ longest_entry) × (place + 5 ≤ len))) }
     ensures reads { D.reads disk.new ≡ D.reads disk.old }
     ensures crash { Through D.disk_clock D.images Same disk.old disk.new }
     ensures by { D.by_disk disk.old disk.new }
