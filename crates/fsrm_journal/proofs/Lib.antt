@@ -10,6 +10,7 @@ pub mod Numbers
 pub mod Quiet
 pub mod Staging
 pub mod Switched
+pub mod Tails
 pub mod Turns
 pub mod Untils
 pub mod Walks

@@ -17,7 +17,8 @@ pub enum JournalFault {
     /// A field is missing or isn't legal. It begins at this place, and is the first such one.
     #[error("Damaged")]
     Damaged { part: Part, place: u64 },
-    /// A call of the disk failed, and was counted; no other fault tells of one. The journal has to be opened again.
+    /// A call of the disk failed, and was counted unless the count stands at `u64::MAX`; no other fault tells of one. The
+    /// journal has to be opened again.
     #[error("DiskFault")]
     DiskFault,
     /// There is no memory for the records that are held.

@@ -13,7 +13,7 @@ ghost use Rattle.fsrm_outside.specs.declared.traits.Part.TheVariants.{Zero, One}
 ghost use Rattle.fsrm_outside.specs.Moments.{EachImage};
 ghost use Rattle.fsrm_outside.specs.Parts.{Parts, part_of, other};
 ghost use Rattle.fsrm_journal.specs.Reading.{Settles};
-ghost use Rattle.fsrm_journal.specs.Records.{batch, counted, longest_record, Holds, HoldsAllOrNone, Log, Settled};
+ghost use Rattle.fsrm_journal.specs.Records.{batch, counted, longest_record, records, Holds, HoldsAllOrNone, Log, Settled};
 ghost use Rattle.fsrm_journal.specs.declared.fault.JournalFault.TheVariants.{AlreadyStore, Damaged, DiskFault};
 
 mod checkpoint;
@@ -121,15 +121,16 @@ fn is_open_beside(ruling: Part, zero: &[u8], one: &[u8]) -> bool
 impl Journal {
     ghost use Rattle.fsrm_journal.specs.Opened.{IsOpened, IsRefused, ReadsOn, StandsOn};
     ghost use Rattle.fsrm_journal.specs.Next.{record_at, Tells};
-    ghost use Rattle.fsrm_journal.specs.Reading.{log_at, Stable};
+    ghost use Rattle.fsrm_journal.specs.Reading.{log_at, Comes, Stable};
 
     /// Finds the half that rules, and reads its head, which is legal. The image comes next, and then the records. The
     /// first call of the disk makes stable what is read, and nothing is written: from then on a crash leaves what is
     /// read, also if a later call fails, and before that what it might have left already.
     ///
     /// `NoStore` exactly if neither gate is 1; `Damaged` exactly at the first field of a head that is missing or isn't
-    /// legal, or at the generation of part 1 if both have the same; `DiskFault` exactly if a call of the disk failed.
-    /// `NoMemory`: there is no memory to hold a record.
+    /// legal, or at the generation of part 1 if both have the same; `DiskFault` exactly if the disk counted a failed
+    /// call, and only where its count stands at `u64::MAX` may it come uncounted. `NoMemory`: there is no memory to hold
+    /// a record.
     pub fn open_at<D: Disk>(alloc: Global, disk: &mut D) -> Result<(Journal, Head), JournalFault>
         ensures opened { ForSome (D.reads disk.old) (λ parts. IfOk result (λ opened. IsOpened parts opened.0 opened.1)) }
         ensures beside { ForSome (D.reads disk.old) (λ parts. IfOk result (λ opened. 0 < length (part_of (other opened.0.ruling) parts))) }
@@ -203,7 +204,8 @@ impl Journal {
     /// then on records may be added there.
     ///
     /// `Damaged` exactly at a gate that is missing, at a length that isn't there or isn't legal, or at a body that
-    /// isn't there whole; `DiskFault` exactly if a call of the disk failed.
+    /// isn't there whole; `DiskFault` exactly if the disk counted a failed call, and only where its count stands at
+    /// `u64::MAX` may it come uncounted.
     pub fn next<D: Disk>(
         &mut self,
         disk: &mut D,
@@ -247,9 +249,12 @@ impl Journal {
         Ok(Some((place, size)))
     }
 
-    /// How many bytes the records have that were read or added so far, in the half that rules.
+    /// How many bytes the records have that were read or added so far, in the half that rules: of `before`, which were
+    /// read after the image, and of `bodies`, which were added after them. It is 0 while the image is read.
     pub fn tail(&self) -> u64
-        ensures { result ≡ self.now.end - self.now.image_end }
+        ensures between { result ≡ self.now.end - self.now.image_end }
+        ensures records { (half : List ℕ) (log : Log) (before bodies : List (List ℕ)) → Comes half self.now.image_end before (length log.lead)
+            → self.now.end ≡ length (log.lead ++ records bodies) → result ≡ length (records (before ++ bodies)) }
     {
         self.end.saturating_sub(self.image_end)
     }

@@ -28,6 +28,12 @@ pub fn reading_is_one()
     ensures { (half : List ℕ) (place : ℕ) (first second : List (List ℕ)) → Read half place first → Read half place second → first ≡ second }
 {}
 
+/// A reader that comes to some bodies then stands after their records. So from the end of an image up to the first closed
+/// gate there are as many bytes as the records have.
+pub fn records_have_their_bytes()
+    ensures { (half : List ℕ) (place : ℕ) (bodies : List (List ℕ)) (end : ℕ) → Comes half place bodies end → end ≡ place + length (records bodies) }
+{}
+
 /// Records are added to what was read. A reader came to `before`, and from where it stood on the parts then held no
 /// record. Once they hold `bodies` there, a reader comes to all of both.
 pub fn records_are_added_to_what_was_read()

@@ -20,7 +20,8 @@ impl Journal {
 
     /// Makes a store that holds this image and no record, in part 0. Of part 1 only the gate is written, so an empty
     /// one is then one byte 0. `AlreadyStore` exactly if a gate is open; then nothing is ever written, also if a call
-    /// fails. `DiskFault` exactly if a call of the disk failed.
+    /// fails. `DiskFault` exactly if the disk counted a failed call, and only where its count stands at `u64::MAX` may it
+    /// come uncounted.
     pub fn format<D: Disk>(disk: &mut D, head: &Head, image: &[u8]) -> Result<(), JournalFault>
         requires legal { IsLegal head.now }
         requires whole { head.now.image ≡ length image.now }

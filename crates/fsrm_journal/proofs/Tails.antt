@@ -1,0 +1,22 @@
+-- How many bytes records have.
+use Rattle.std.proofs.Common.{◌≡◌, ℕ, ◌+◌, ◌-◌, List, [], ◌∷◌, ◌++◌, length, ap, arith, length-append}
+use Rattle.fsrm_journal.specs.Reading.{Comes}
+use Rattle.fsrm_journal.specs.Records.{counted, records, Log}
+use Rattle.fsrm_journal.proofs.Files.{records-append}
+
+-- a reader that came to these bodies stands after their records
+pub stands_after : (half : List ℕ) (place : ℕ) (bodies : List (List ℕ)) (end : ℕ) → Comes half place bodies end → end ≡ place + length (records bodies)
+stands_after half place [] end comes = omega (arith, comes)
+stands_after half place (body ∷ bodies) end comes = omega (arith, stands_after half (place + 5 + length body) bodies end comes.2, length-append (counted body) (records bodies))
+
+-- those that were read after the image, and those that were added after them
+pub tail_has : (half : List ℕ) (log : Log) (before bodies : List (List ℕ)) (image end : ℕ) → Comes half image before (length log.lead) → end ≡ length (log.lead ++ records bodies)
+    → end - image ≡ length (records (before ++ bodies))
+tail_has half log before bodies image end comes ends = omega (
+  arith,
+  ends,
+  stands_after half image before (length log.lead) comes,
+  length-append log.lead (records bodies),
+  ap length (records-append before bodies),
+  length-append (records before) (records bodies),
+)
