@@ -6,7 +6,7 @@ use Rattle.record_fields.specs.declared.flaw.Flaw.{Flaw}
 use Rattle.record_fields.specs.Formats.{Format}
 use Rattle.record_fields.specs.Laws.{AreBytes, Exact, IsField, Reaches, Places, joined, left_of}
 
--- ---- lists
+-- ---- general laws of lists; they belong to fsrm_base
 -- what begins a list that is joined of two begins the first, or goes past it
 pub parted : {X : Type 0} (a b front after : List X) → a ++ b ≡ front ++ after → ((d : List X) × (a ≡ front ++ d)) ⊎ ((d : List X) × (front ≡ a ++ d) × (b ≡ d ++ after))
 parted [] b front after e = inr (front, refl, e)

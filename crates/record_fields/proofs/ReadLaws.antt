@@ -20,12 +20,14 @@ done x = Ok x
 pub ok_is : {X : Type 0} (x y : X × List ℕ) → done x ≡ done y → x ≡ y
 ok_is x y e = cc
 
+-- ---- general laws of lists of bytes; they belong to fsrm_base
 pub bytes_drop : (n : ℕ) (bytes : List ℕ) → AreBytes bytes → AreBytes (drop n bytes)
 bytes_drop n bytes h i = rw get_or-drop (h (n + i))
 
 pub bytes_after : (front rest : List ℕ) → AreBytes (front ++ rest) → AreBytes rest
 bytes_after front rest h = subst AreBytes (drop_at front rest (length front) refl) (bytes_drop (length front) (front ++ rest) h)
 
+-- ---- values
 -- what is left after a value is bytes
 pub rest_bytes : {X : Type 0} (f : Format X) → Exact f → (bytes : List ℕ) (x : X) (rest : List ℕ) → AreBytes bytes → f.read bytes ≡ Ok (x, rest) → AreBytes rest
 rest_bytes f law bytes x rest h e = bytes_after (f.spell x) rest (subst AreBytes (law.takes bytes x rest h e).1 h)

@@ -12,6 +12,13 @@ use Rattle.record_fields.proofs.NumberLaws.{IsWidth, width_1, number_exact, numb
 use Rattle.fsrm_base.proofs.TestLaws.{both, both_true}
 use Rattle.record_fields.proofs.ReadLaws.{bind_ok, bind_err, ok_is, ok_more}
 
+-- ---- a general law of tests; it belongs to fsrm_base
+-- which of two a test chose
+pub picked : {X : Type 0} (t : Bool) (y x : X) (r : Option X) → cond t (Some y) r ≡ Some x → ((t ≡ true) × (y ≡ x)) ⊎ ((t ≡ false) × (r ≡ Some x))
+picked true y x r e = inl (refl, cc)
+picked false y x r e = inr (refl, e)
+
+-- ---- values
 judged_ok : {X : Type 0} (bytes rest : List ℕ) (o : Option X) (x : X) (after : List ℕ) → judged bytes rest o ≡ Ok (x, after) → (o ≡ Some x) × (rest ≡ after)
 judged_ok bytes rest (Some y) x after e = let p = ok_is (y, rest) (x, after) e in (ap (λ q. Some q.0) p, ap (λ q. q.1) p)
 judged_ok bytes rest None x after e = absurd cc
@@ -166,11 +173,6 @@ within_places width low high w fits order =
 truth_there : (b : Bool) → true ≡ true → truth_of (truth_code b) ≡ Some b
 truth_there true e = refl
 truth_there false e = refl
-
--- which of two a test chose
-pub picked : {X : Type 0} (t : Bool) (y x : X) (r : Option X) → cond t (Some y) r ≡ Some x → ((t ≡ true) × (y ≡ x)) ⊎ ((t ≡ false) × (r ≡ Some x))
-picked true y x r e = inl (refl, cc)
-picked false y x r e = inr (refl, e)
 
 truth_home : (n : ℕ) (b : Bool) → truth_of n ≡ Some b → (true ≡ true) × (truth_code b ≡ n)
 truth_home n b e =

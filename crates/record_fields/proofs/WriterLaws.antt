@@ -12,6 +12,7 @@ use Rattle.byteorder.proofs.Bytes.{take-bytes_low_first}
 use Rattle.record_fields.specs.Formats.{number_spelled, text_spelled, optional_spelled, listed_spelled}
 use Rattle.record_fields.specs.Writers.{Writes}
 
+-- ---- general laws of lists; they belong to fsrm_base
 -- what has no room is lost once
 take_twice : (n : ℕ) (a b : List ℕ) → take n (take n a ++ b) ≡ take n (a ++ b)
 take_twice n a b =
@@ -28,6 +29,11 @@ drop_further b c m o later same =
     let place : b + (c - b) ≡ c = omega arith in
     ap (λ (k : ℕ). drop k m) (sym place) ∙ sym (drop-drop (c - b) b m) ∙ ap (drop (c - b)) same ∙ drop-drop (c - b) b o ∙ ap (λ (k : ℕ). drop k o) place
 
+take_beyond : (f b : List ℕ) (n : ℕ) → take (length f + n) (f ++ b) ≡ f ++ take n b
+take_beyond [] b n = let e : 0 + n ≡ n = omega arith in rw e refl
+take_beyond (x ∷ f) b n = let e : length (x ∷ f) + n ≡ suc (length f + n) = omega arith in rw e (ap (λ (r : List ℕ). x ∷ r) (take_beyond f b n))
+
+-- ---- writes
 pub writes_then : {o m n : List ℕ} {a b c : ℕ} {x y : List ℕ} → Writes o a m b x → Writes m b n c y → Writes o a n c (x ++ y)
 writes_then {o = o} {m = m} {n = n} {a = a} {b = b} {c = c} {x = x} {y = y} p q = record {
   room = q.room ∙ p.room;
@@ -40,10 +46,6 @@ writes_then {o = o} {m = m} {n = n} {a = a} {b = b} {c = c} {x = x} {y = y} p q 
 
 pub writes_nothing : {o : List ℕ} {a : ℕ} → a ≤ length o → Writes o a o a []
 writes_nothing {o = o} {a = a} h = record { room = refl; within = h; onward = omega arith; beyond = refl; text = sym (ap (take (length o)) (append-nil (take a o)) ∙ take_all (length o) (take a o) (omega (arith, length-take a o))) }
-
-take_beyond : (f b : List ℕ) (n : ℕ) → take (length f + n) (f ++ b) ≡ f ++ take n b
-take_beyond [] b n = let e : 0 + n ≡ n = omega arith in rw e refl
-take_beyond (x ∷ f) b n = let e : length (x ∷ f) + n ≡ suc (length f + n) = omega arith in rw e (ap (λ (r : List ℕ). x ∷ r) (take_beyond f b n))
 
 -- bytes that are put at a place, as many as have room
 pub put_writes : (xs ys bytes : List ℕ) (a count : ℕ) → a ≤ length xs → count ≡ min (length bytes) (length xs - a) → ys ≡ take count bytes → Writes xs a (put_mid a (a + count - a) xs ys) (a + count) bytes
