@@ -51,6 +51,7 @@ pub record ReadsOn (old new : Journal) : Type 0 where
   pub beside : new.beside_open ≡ old.beside_open
   pub image_end : new.image_end ≡ old.image_end
   pub len : new.len ≡ old.len
+  pub written : new.written ≡ old.written
   pub bytes : new.bytes.items ≡ old.bytes.items
   pub held : new.held ≡ old.held
   pub group : new.group ≡ old.group

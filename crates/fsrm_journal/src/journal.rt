@@ -205,7 +205,7 @@ impl Journal {
     ///
     /// `Damaged` exactly at a gate that is missing, at a length that isn't there or isn't legal, or at a body that
     /// isn't there whole; `DiskFault` exactly if the disk counted a failed call, and only where its count stands at
-    /// `u64::MAX` may it come uncounted.
+    /// `u64::MAX` may it come uncounted. After either the place of the next record is as it was.
     pub fn next<D: Disk>(
         &mut self,
         disk: &mut D,
@@ -221,6 +221,7 @@ impl Journal {
         ensures place { IfOk result (λ found. IfSome found (λ at. at.0 ≡ self.old.end + 5)) }
         ensures end { IfOk result (λ found. IfSome found (λ at. self.new.end ≡ at.0 + at.1)) }
         ensures stays { IfOk result (λ found. found ≡ None → self.new.end ≡ self.old.end) }
+        ensures err { OnErr result (self.new.end ≡ self.old.end) }
         ensures settled { ForSome (D.reads disk.old) (λ parts. self.old.len ≡ length (part_of self.old.ruling parts) → Stable D.reads D.disk_clock D.images disk.old
             → IfOk result (λ found. found ≡ None → Settled D.reads D.disk_clock D.images (log_at self.old.ruling self.old.end parts) [] self.new.ruling self.new.end disk.new)) }
         ensures ready { ForSome (D.reads disk.old) (λ parts. self.old.len ≡ length (part_of self.old.ruling parts)
