@@ -1,5 +1,5 @@
--- Which commands are valid: those whose values have their forms and ranges, that have what is required, and whose paths and entry
--- in a journal aren't too long.
+-- Which commands are valid: those whose values have their forms and ranges, that have what is required, and whose entry in a
+-- journal can be spelled and isn't too long.
 use Rattle.std.specs.Prelude.{ℕ, ◌&&◌, nat_le, Bool, true, List}
 use Rattle.std.specs.List.{list_all}
 use Rattle.std.specs.Option.{option_map_or}
@@ -21,14 +21,14 @@ is_op op = list_all is_path (paths_of_op op) && has_values_of_op op
 abbrev pub is_deed : Deed → Bool
 is_deed deed = list_all is_path (paths deed) && has_values deed
 
--- a path's text has at most 65,535 bytes, so that two bytes of an entry can tell how many
+-- a path's text in an entry has at most 65,535 bytes, since two bytes tell how many
 abbrev pub is_short_path : List (List ℕ) → Bool
 is_short_path path = nat_le (path_length path) longest_path
 
--- paths whose texts an entry can have, and an entry that a journal takes, if the command has one
+-- an entry that can be spelled and that a journal takes, if the command has one
 abbrev pub is_short : Deed → Bool
 is_short deed =
-    list_all is_short_path (paths deed) && option_map_or (λ bytes. nat_le bytes longest_entry) (entry_bytes deed) true
+    option_map_or (λ bytes. list_all is_short_path (paths deed) && nat_le bytes longest_entry) (entry_bytes deed) true
 
 abbrev pub is_command : Command → Bool
 is_command c = is_moment c.moment && (is_deed c.deed && is_short c.deed)

@@ -392,8 +392,8 @@ pub fn journal()
 /// command: they are the same but for their values. Each valid command's entry can be spelled.
 pub fn entries()
     ensures kinds { (one other : Deed) (k : ℕ) → kind one ≡ Some k → kind other ≡ Some k → emptied one ≡ emptied other }
-    // Two bytes tell the length of a path's text, and a record holds the entry.
-    ensures paths { (c : Command) → is_command c ≡ true → AllByRecursion (λ path. path_length path ≤ longest_path) (paths c.deed) }
+    // Two bytes tell the length of each path's text in it, and a record holds it.
+    ensures paths { (c : Command) (n : ℕ) → is_command c ≡ true → entry_bytes c.deed ≡ Some n → AllByRecursion (λ path. path_length path ≤ longest_path) (paths c.deed) }
     ensures bytes { (c : Command) (n : ℕ) → is_command c ≡ true → entry_bytes c.deed ≡ Some n → n ≤ longest_entry }
 {}
 

@@ -151,12 +151,13 @@ journaled_lines K base entries R n lines is =
     (lines_journaled K (replayed K base entries) R n lines (record { recovers = is.recovers; valid = is.valid }))
 
 -- ---- an entry that can be spelled
--- what is known of the sizes of a valid command
-has_sizes : (c : Command) → is_command c ≡ true → (list_all is_short_path (paths c.deed) ≡ true) × (option_map_or (λ n. nat_le n longest_entry) (entry_bytes c.deed) true ≡ true)
-has_sizes c legal =
+-- what is known of the sizes of a valid command that has an entry
+has_sizes : (c : Command) (n : ℕ) → is_command c ≡ true → entry_bytes c.deed ≡ Some n → (list_all is_short_path (paths c.deed) ≡ true) × (nat_le n longest_entry ≡ true)
+has_sizes c n legal is =
     let values : (is_moment c.moment ≡ true) × ((is_deed c.deed && is_short c.deed) ≡ true) = both _ _ legal in
     let own : (is_deed c.deed ≡ true) × (is_short c.deed ≡ true) = both _ _ values.1 in
-    both (list_all is_short_path (paths c.deed)) (option_map_or (λ n. nat_le n longest_entry) (entry_bytes c.deed) true) own.1
+    both (list_all is_short_path (paths c.deed)) (nat_le n longest_entry)
+    (ap (λ (o : Option ℕ). option_map_or (λ bytes. list_all is_short_path (paths c.deed) && nat_le bytes longest_entry) o true) (sym is) ∙ own.1)
 
 each_short : (paths : List (List (List ℕ))) → list_all is_short_path paths ≡ true → AllByRecursion (λ path. path_length path ≤ longest_path) paths
 each_short [] h = tt
@@ -164,9 +165,8 @@ each_short (path ∷ paths) h =
     let parts = both (is_short_path path) (list_all is_short_path paths) h in
     (le_is (path_length path) longest_path parts.0, each_short paths parts.1)
 
-pub paths_short : (c : Command) → is_command c ≡ true → AllByRecursion (λ path. path_length path ≤ longest_path) (paths c.deed)
-paths_short c legal = each_short (paths c.deed) (has_sizes c legal).0
+pub paths_short : (c : Command) (n : ℕ) → is_command c ≡ true → entry_bytes c.deed ≡ Some n → AllByRecursion (λ path. path_length path ≤ longest_path) (paths c.deed)
+paths_short c n legal is = each_short (paths c.deed) (has_sizes c n legal is).0
 
 pub entry_short : (c : Command) (n : ℕ) → is_command c ≡ true → entry_bytes c.deed ≡ Some n → n ≤ longest_entry
-entry_short c n legal is =
-    le_is n longest_entry (ap (λ (o : Option ℕ). option_map_or (λ n. nat_le n longest_entry) o true) (sym is) ∙ (has_sizes c legal).1)
+entry_short c n legal is = le_is n longest_entry (has_sizes c n legal is).1

@@ -14,7 +14,7 @@ use Rattle.fsrm_model.specs.declared.command.Deed.{Deed}
 use Rattle.fsrm_model.specs.declared.command.Deed.TheVariants.{File, Usage, Step, Quota, Admin}
 use Rattle.fsrm_model.specs.declared.command.FileOp.TheVariants.{Mkdir, Create, Resize, Touch, Move, Remove}
 use Rattle.fsrm_model.specs.declared.command.QuotaDeed.TheVariants.{Add as QuotaAdd, Modify as QuotaModify, Delete as QuotaDelete, Scan as QuotaScan, Resetpeak as QuotaResetpeak, List as QuotaList}
-use Rattle.fsrm_model.specs.Commands.{paths, has_values, entry_bytes, is_owner, is_length, kind, more_bytes}
+use Rattle.fsrm_model.specs.Commands.{paths, has_values, is_owner, is_length, kind, more_bytes}
 use Rattle.fsrm_model.specs.Entry.{number_bytes, choice_bytes, text_bytes, path_bytes, optional}
 use Rattle.fsrm_model.specs.Limits.{latest_moment, longest_file, longest_path, longest_entry, last_owner, most_visits, most_minutes}
 use Rattle.fsrm_model.specs.ValueForms.{path_of, number_of, choice_of, text_of, notice_of}
@@ -237,18 +237,16 @@ deed_sound : (words : List (List ℕ)) (d : Deed) → sum_by length words ≤ lo
 deed_sound words d few (inl s) = placed_sound words d few s
 deed_sound words d few (inr s) = tool_sound words d few s
 
-abbrev has_short_entry : Deed → Bool
-has_short_entry d = option_map_or (λ n. nat_le n longest_entry) (entry_bytes d) true
-
-short : (L : ℕ) (d : Deed) → IsSound L d → L ≤ longest_path → has_short_entry d ≡ true
-short L d s fits = at (kind d)
+short : (L : ℕ) (d : Deed) → IsSound L d → L ≤ longest_path → list_all is_short_path (paths d) ≡ true → is_short d ≡ true
+short L d s fits each = at (kind d)
   where
     bytes : ℕ
     bytes = number_bytes + (choice_bytes + (sum_by path_bytes (paths d) + more_bytes d))
 
-    at : (k : Option ℕ) → option_map_or (λ n. nat_le n longest_entry) (option_map (λ k. bytes) k) true ≡ true
+    at : (k : Option ℕ) → option_map_or (λ n. list_all is_short_path (paths d) && nat_le n longest_entry) (option_map (λ k. bytes) k) true ≡ true
     at None = refl
-    at (Some k) = le-leb bytes longest_entry (omega (arith, s.bytes, fits))
+    at (Some k) =
+        both_true (list_all is_short_path (paths d)) (nat_le bytes longest_entry) each (le-leb bytes longest_entry (omega (arith, s.bytes, fits)))
 
 all_both : {X : Type 0} (p q : X → Bool) (xs : List X) → list_all (λ x. p x && q x) xs ≡ true
     → (list_all p xs ≡ true) × (list_all q xs ≡ true)
@@ -279,4 +277,4 @@ spelled_valid line c s =
     both_true (is_moment c.moment) (is_deed c.deed && is_short c.deed) (le-leb c.moment latest_moment s.moment_is.most)
     (both_true (is_deed c.deed) (is_short c.deed)
     (both_true (list_all is_path (paths c.deed)) (has_values c.deed) own.0 parts.1)
-    (both_true (list_all is_short_path (paths c.deed)) (has_short_entry c.deed) own.1 (short L c.deed sound fits)))
+    (short L c.deed sound fits own.1))
