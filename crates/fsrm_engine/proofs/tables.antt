@@ -12,6 +12,7 @@ pub mod ModifyLaws
 pub mod ListLaws
 pub mod GroupListLaws
 pub mod GroupLaws
+pub mod PatternLaws
 pub mod ScreenLaws
 pub mod SourceLaws
 pub mod TemplateLaws

@@ -3,8 +3,7 @@
 ghost use Rattle.std.specs.Prelude.{◌≡◌, ◌≤◌};
 ghost use Rattle.fsrm_model.specs.declared.command.AdminDeed.TheVariants.{Options as AdminOptions, List as AdminList, Log as AdminLog};
 ghost use Rattle.fsrm_model.specs.declared.command.Deed.TheVariants.{Admin};
-ghost use Rattle.fsrm_model.specs.Limits.{latest_moment};
-ghost use Rattle.fsrm_engine.specs.Machine.{Does, IsIdle, IsSound, IsWhole};
+ghost use Rattle.fsrm_engine.specs.Machine.{Does, IsReady, IsSound};
 
 use crate::exits::listing;
 use crate::parts::Parts;
@@ -13,10 +12,7 @@ use fsrm_model::{Answer, Ask};
 impl Parts {
     /// Sets how many minutes pass at least between two runs of an action that has none of its own.
     pub(crate) fn set_options(&mut self, run_limit: u32, moment: u64) -> Answer
-        requires whole { IsWhole self.old }
-        requires idle { IsIdle self.old }
-        requires moment { moment ≤ latest_moment }
-        requires after { self.old.last_moment ≤ moment }
+        requires ready { IsReady self.old moment }
         ensures ok { Does self.old self.new moment (Admin (AdminOptions run_limit)) result }
         ensures sound { IsSound self.new }
     {
@@ -26,8 +22,7 @@ impl Parts {
 
     /// Shows the settings.
     pub(crate) fn show_settings(&self, moment: u64) -> Answer
-        requires idle { IsIdle self.now }
-        requires after { self.now.last_moment ≤ moment }
+        requires ready { IsReady self.now moment }
         ensures { Does self.now self.now moment (Admin AdminList) result }
     {
         listing(Ask::Settings)
@@ -35,8 +30,7 @@ impl Parts {
 
     /// Shows the log of actions.
     pub(crate) fn show_log(&self, moment: u64) -> Answer
-        requires idle { IsIdle self.now }
-        requires after { self.now.last_moment ≤ moment }
+        requires ready { IsReady self.now moment }
         ensures { Does self.now self.now moment (Admin AdminLog) result }
     {
         listing(Ask::Acts)

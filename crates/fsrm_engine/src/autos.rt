@@ -9,14 +9,15 @@ ghost use Rattle.fsrm_model.specs.AutoApply.{auto_folder, is_auto, queue_with, q
 ghost use Rattle.fsrm_model.specs.AutoWork.{new_auto};
 ghost use Rattle.fsrm_model.specs.Commands.{is_new_autoquota};
 ghost use Rattle.fsrm_model.specs.Cost.{deed_cost};
-ghost use Rattle.fsrm_model.specs.Limits.{latest_moment, most_excluded};
+ghost use Rattle.fsrm_model.specs.Limits.{most_excluded};
 ghost use Rattle.fsrm_model.specs.Name.{is_name};
 ghost use Rattle.fsrm_model.specs.Templates.{template_number};
 ghost use Rattle.fsrm_model.specs.Tree.{number, children, is_folder};
 ghost use Rattle.fsrm_model.specs.Valid.{IsVolume};
 ghost use Rattle.templates.specs.Held.{with_auto};
 ghost use Rattle.fsrm_engine.specs.Applying.{AreComing, IsGiven, apply_refusal, gets_one, given_folders};
-ghost use Rattle.fsrm_engine.specs.Machine.{Does, IsIdle, IsSound, IsWhole, Turned, rows_of};
+ghost use Rattle.fsrm_engine.specs.Machine.{Does, IsReady, IsSound, IsWhole, Turned, rows_of};
+ghost use Rattle.fsrm_engine.specs.Memory.{may_want_memory};
 ghost use Rattle.fsrm_engine.specs.Walk.{AreThere};
 
 use crate::applying::derived_rows;
@@ -211,12 +212,10 @@ impl Parts {
         moment: u64,
         steps: &mut Steps<L>,
     ) -> Result<Answer, NoMemory>
-        requires whole { IsWhole self.old }
-        requires idle { IsIdle self.old }
+        requires ready { IsReady self.old moment }
         requires valid { is_new_autoquota auto.now ≡ true }
-        requires moment { moment ≤ latest_moment }
-        requires after { self.old.last_moment ≤ moment }
         ensures ok { IfOk result (λ answer. Does self.old self.new moment (Autoquota (AutoquotaAdd auto.now)) answer) }
+        ensures memory { OnErr result (may_want_memory (rows_of self.old) (Autoquota (AutoquotaAdd auto.now)) ≡ true) }
         ensures err { OnErr result (self.new ≡ self.old) }
         ensures sound { IsSound self.new }
         ensures looks { steps.new ≤ steps.old + deed_cost (rows_of self.old) (Autoquota (AutoquotaAdd auto.now)) }
@@ -247,10 +246,7 @@ impl Parts {
         moment: u64,
         steps: &mut Steps<L>,
     ) -> Answer
-        requires whole { IsWhole self.old }
-        requires idle { IsIdle self.old }
-        requires moment { moment ≤ latest_moment }
-        requires after { self.old.last_moment ≤ moment }
+        requires ready { IsReady self.old moment }
         ensures ok { Does self.old self.new moment (Autoquota (AutoquotaDelete path.now)) result }
         ensures sound { IsSound self.new }
         ensures looks { steps.new ≤ steps.old + deed_cost (rows_of self.old) (Autoquota (AutoquotaDelete path.now)) }
@@ -267,8 +263,7 @@ impl Parts {
 
     /// Lists all auto-apply quotas.
     pub(crate) fn list_autos(&self, moment: u64) -> Answer
-        requires idle { IsIdle self.now }
-        requires after { self.now.last_moment ≤ moment }
+        requires ready { IsReady self.now moment }
         ensures { Does self.now self.now moment (Autoquota AutoquotaList) result }
     {
         listing(Ask::Autos)

@@ -4,8 +4,8 @@ ghost use Rattle.std.specs.Prelude.{◌≡◌, ◌+◌, ◌≤◌};
 ghost use Rattle.fsrm_model.specs.declared.command.Deed.TheVariants.{File};
 ghost use Rattle.fsrm_model.specs.declared.command.FileOp.TheVariants.{Resize, Touch};
 ghost use Rattle.fsrm_model.specs.Cost.{deed_cost};
-ghost use Rattle.fsrm_model.specs.Limits.{latest_moment, longest_file};
-ghost use Rattle.fsrm_engine.specs.Machine.{Does, IsIdle, IsSound, IsWhole, rows_of};
+ghost use Rattle.fsrm_model.specs.Limits.{longest_file};
+ghost use Rattle.fsrm_engine.specs.Machine.{Does, IsReady, IsSound, rows_of};
 
 use crate::exits::refused;
 use crate::parts::Parts;
@@ -22,11 +22,8 @@ impl Parts {
         moment: u64,
         steps: &mut Steps<L>,
     ) -> Answer
-        requires whole { IsWhole self.old }
-        requires idle { IsIdle self.old }
+        requires ready { IsReady self.old moment }
         requires length { length ≤ longest_file }
-        requires moment { moment ≤ latest_moment }
-        requires after { self.old.last_moment ≤ moment }
         ensures ok { Does self.old self.new moment (File (Resize path.now length)) result }
         ensures sound { IsSound self.new }
         ensures looks { steps.new ≤ steps.old + deed_cost (rows_of self.old) (File (Resize path.now length)) }
@@ -59,10 +56,7 @@ impl Parts {
         moment: u64,
         steps: &mut Steps<L>,
     ) -> Answer
-        requires whole { IsWhole self.old }
-        requires idle { IsIdle self.old }
-        requires moment { moment ≤ latest_moment }
-        requires after { self.old.last_moment ≤ moment }
+        requires ready { IsReady self.old moment }
         ensures ok { Does self.old self.new moment (File (Touch path.now)) result }
         ensures sound { IsSound self.new }
         ensures looks { steps.new ≤ steps.old + deed_cost (rows_of self.old) (File (Touch path.now)) }

@@ -1,22 +1,29 @@
-//! What file operations do to counters and peaks, and which quotas cross a threshold then.
+//! What file operations do to counters and peaks: which quotas cross a threshold then, and what a quota refuses.
 
-ghost use Rattle.std.specs.Prelude.{◌≡◌, ◌+◌, ◌<◌, ◌≤◌, ◌==◌, ◌&&◌, true, map, length, if◌then◌else◌};
+ghost use Rattle.std.specs.Prelude.{◌≡◌, ◌+◌, ◌*◌, ◌<◌, ◌≤◌, ◌==◌, ◌&&◌, true, map, length, if◌then◌else◌};
 ghost use Rattle.fsrm_base.specs.Numbers.{with_number};
 ghost use Rattle.fsrm_base.specs.Keyed.{has_row, is_ascending, with_change};
 ghost use Rattle.fsrm_base.specs.Places.{IsAt};
-ghost use Rattle.fsrm_model.specs.Limits.{most_quotas};
+ghost use Rattle.fsrm_model.specs.Limits.{latest_moment, most_entries, most_quotas};
 ghost use Rattle.fsrm_model.specs.Quota.{folder_of};
 ghost use Rattle.fsrm_model.specs.Tree.{number as key, chain, is_under};
 ghost use Rattle.fsrm_model.specs.Valid.{IsVolume};
 ghost use Rattle.fsrm_objects.specs.Tables.{without_quota};
+ghost use Rattle.quota_usage.specs.Charge.{IsChange, Fits, height};
 ghost use Rattle.quota_usage.specs.Counters.{without_counter};
-ghost use Rattle.fsrm_engine.specs.Crossing.{is_crossing, used_before, Drops, Notes};
+ghost use Rattle.thresholds.specs.Settled.{are_orderly};
+ghost use Rattle.fsrm_engine.specs.Crossing.{is_crossing, lost_by, used_before, Drops, IsCovered, Notes};
+ghost use Rattle.fsrm_engine.specs.Due.{charged_acts, is_kept, Refuses};
+ghost use Rattle.fsrm_engine.specs.Machine.{charged_parts, AreCounted, IsCalm, IsIdle, Ran};
 ghost use Rattle.fsrm_engine.specs.Peaks.{raised, raised_to};
 
-use fsrm_model::{Ledger, Steps};
+use crate::due::settle_noted;
+use crate::exits::{exceeded_by, refused};
+use crate::parts::Parts;
+use fsrm_model::{Answer, Ledger, Outcome, Steps};
 use fsrm_objects::Objects;
 use number_set::NumberSet;
-use quota_usage::Usage;
+use quota_usage::{Change, Exceeded, Usage};
 use thresholds::crosses_any;
 use volume_tree::Tree;
 
@@ -50,6 +57,16 @@ pub fn used_before(minus: u64, plus: u64, now: u64) -> u64
     ensures { result ≡ used_before minus plus now }
 {
     now.saturating_sub(plus).saturating_add(minus)
+}
+
+// How many bytes a folder lost to which a change gave some.
+fn lost_by(change: &Change, to: u32) -> u64
+    ensures { result ≡ lost_by change.now to }
+{
+    match change.from {
+        Some(from) if from == to => change.minus,
+        _ => 0,
+    }
 }
 
 // Notes a quota's place if it crosses a threshold.
@@ -91,8 +108,8 @@ fn gain(
     raise_to(objects, folder, place, now, moment);
 }
 
-/// The same of a folder and each above it.
-pub fn raise_above<L: Ledger>(
+// The same of a folder and each above it.
+fn raise_above<L: Ledger>(
     tree: &Tree,
     usage: &Usage,
     objects: &mut Objects,
@@ -132,8 +149,8 @@ fn drop_noted(objects: &Objects, crossing: &mut NumberSet, folder: u32)
     crossing.remove(place);
 }
 
-/// The same of a folder's quota and of those above it.
-pub fn drop_above<L: Ledger>(
+// The same of a folder's quota and of those above it.
+fn drop_above<L: Ledger>(
     tree: &Tree,
     objects: &Objects,
     crossing: &mut NumberSet,
@@ -188,4 +205,92 @@ pub fn drop_quota(usage: &mut Usage, objects: &mut Objects, folder: u32)
 {
     end_count(usage, folder);
     drop_row(objects, folder);
+}
+
+impl Parts {
+    // Takes out of the noted quotas those to which a change gives what it takes from them: they use as much as before.
+    fn drop_kept<L: Ledger>(&mut self, change: &Change, to: u32, steps: &mut Steps<L>)
+        requires volume { IsVolume self.old.tree.size self.old.tree.nodes }
+        requires change { IsChange self.old.tree.nodes change.now }
+        requires quotas { are_orderly self.old.objects.quotas ≡ true }
+        ensures kept { self.new ≡ record self.old { crossing = self.new.crossing } }
+        ensures dropped { Drops self.old.crossing self.new.crossing self.old.objects.quotas (is_kept self.old.tree.nodes change.now to) }
+        ensures looks { steps.new ≤ steps.old + height self.old.tree.nodes change.now.from }
+    {
+        if self.crossing.is_empty() {
+            return;
+        }
+        match change.from {
+            Some(from) if from != to => {
+                drop_above(&self.tree, &self.objects, &mut self.crossing, from, steps);
+            }
+            _ => {}
+        }
+    }
+
+    /// Makes a change of the counters, raises the peaks of the folders that gained, and has the actions run that are
+    /// due.
+    pub(crate) fn charge<L: Ledger>(&mut self, change: &Change, moment: u64, steps: &mut Steps<L>)
+        requires volume { IsVolume self.old.tree.size self.old.tree.nodes }
+        requires quotas { are_orderly self.old.objects.quotas ≡ true }
+        requires change { IsChange self.old.tree.nodes change.now }
+        requires fits { Fits self.old.tree.nodes self.old.usage change.now }
+        requires covered { IsCovered self.old.tree.nodes self.old.usage change.now }
+        requires calm { IsCalm self.old }
+        requires log { length self.old.marks.log ≤ most_entries }
+        ensures charged { Ran (charged_parts self.old change.now moment) self.new moment (charged_acts self.old change.now moment) }
+        ensures looks { steps.new ≤ steps.old + 3 * (height self.old.tree.nodes change.now.from + height self.old.tree.nodes change.now.to) }
+    {
+        self.usage.charge(&self.tree, change, steps);
+        let Some(to) = change.to else {
+            return;
+        };
+        let (minus, plus) = (lost_by(change, to), change.plus);
+        raise_above(
+            &self.tree,
+            &self.usage,
+            &mut self.objects,
+            &mut self.crossing,
+            to,
+            minus,
+            plus,
+            moment,
+            steps,
+        );
+        self.drop_kept(change, to, steps);
+        settle_noted(
+            &self.usage,
+            &mut self.objects,
+            &mut self.marks,
+            &mut self.crossing,
+            minus,
+            plus,
+            self.run_limit,
+            moment,
+        );
+    }
+
+    /// The answer to an operation that a quota refuses. If actions are due of the thresholds that the quota would have
+    /// reached they run, and the command lasts; else nothing changes.
+    pub(crate) fn refuse(&mut self, exceeded: Exceeded, moment: u64) -> Answer
+        requires counted { AreCounted self.old }
+        requires there { has_row folder_of exceeded.folder self.old.objects.quotas ≡ true }
+        requires idle { IsIdle self.old }
+        requires log { length self.old.marks.log ≤ most_entries }
+        requires moment { moment ≤ latest_moment }
+        ensures refused { Refuses self.old self.new moment exceeded result }
+        ensures counted { AreCounted self.new }
+    {
+        let used = self.usage.used(exceeded.folder);
+        self.settle_used(exceeded.folder, None, used, Some(exceeded.would), moment);
+        let refusal = exceeded_by(exceeded);
+        if self.marks.is_empty() {
+            return refused(refusal);
+        }
+        self.end(moment);
+        Answer {
+            outcome: Outcome::Refused(refusal),
+            lasting: true,
+        }
+    }
 }

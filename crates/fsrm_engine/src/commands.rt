@@ -3,9 +3,8 @@
 ghost use Rattle.std.specs.Prelude.{◌≡◌, ◌+◌, ◌≤◌, true, IfOk, OnErr};
 ghost use Rattle.fsrm_model.specs.declared.command.Deed.TheVariants.{File, Quota, Template, Autoquota, Filegroup, Screen, Exception, Admin};
 ghost use Rattle.fsrm_model.specs.Cost.{deed_cost};
-ghost use Rattle.fsrm_model.specs.Limits.{latest_moment};
 ghost use Rattle.fsrm_model.specs.Valued.{is_op, is_deed, is_command};
-ghost use Rattle.fsrm_engine.specs.Machine.{Does, IsIdle, IsReady, IsSound, IsWhole, rows_of};
+ghost use Rattle.fsrm_engine.specs.Machine.{Does, IsReady, IsSound, IsWhole, rows_of};
 ghost use Rattle.fsrm_engine.specs.Memory.{may_want_memory};
 
 use crate::parts::Parts;
@@ -24,13 +23,10 @@ impl Parts {
         moment: u64,
         steps: &mut Steps<L>,
     ) -> Result<Answer, NoMemory>
-        requires whole { IsWhole self.old }
-        requires idle { IsIdle self.old }
+        requires ready { IsReady self.old moment }
         requires valid { is_op op.now ≡ true }
-        requires moment { moment ≤ latest_moment }
-        requires after { self.old.last_moment ≤ moment }
         ensures ok { IfOk result (λ answer. Does self.old self.new moment (File op.now) answer) }
-        ensures memory { OnErr result (may_want_memory (rows_of self.old) op.now ≡ true) }
+        ensures memory { OnErr result (may_want_memory (rows_of self.old) (File op.now) ≡ true) }
         ensures err { OnErr result (self.new ≡ self.old) }
         ensures sound { IsSound self.new }
         ensures looks { steps.new ≤ steps.old + deed_cost (rows_of self.old) (File op.now) }
@@ -57,13 +53,10 @@ impl Parts {
         moment: u64,
         steps: &mut Steps<L>,
     ) -> Result<Answer, NoMemory>
-        requires whole { IsWhole self.old }
-        requires idle { IsIdle self.old }
+        requires ready { IsReady self.old moment }
         requires valid { is_op op.now ≡ true }
-        requires moment { moment ≤ latest_moment }
-        requires after { self.old.last_moment ≤ moment }
         ensures ok { IfOk result (λ answer. Does self.old self.new moment (File op.now) answer) }
-        ensures memory { OnErr result (may_want_memory (rows_of self.old) op.now ≡ true) }
+        ensures memory { OnErr result (may_want_memory (rows_of self.old) (File op.now) ≡ true) }
         ensures err { OnErr result (self.new ≡ self.old) }
         ensures whole { IsWhole self.new }
         ensures looks { steps.new ≤ steps.old + deed_cost (rows_of self.old) (File op.now) }
@@ -79,12 +72,10 @@ impl Parts {
         moment: u64,
         steps: &mut Steps<L>,
     ) -> Result<Answer, NoMemory>
-        requires whole { IsWhole self.old }
-        requires idle { IsIdle self.old }
+        requires ready { IsReady self.old moment }
         requires valid { is_deed (Quota deed.now) ≡ true }
-        requires moment { moment ≤ latest_moment }
-        requires after { self.old.last_moment ≤ moment }
         ensures ok { IfOk result (λ answer. Does self.old self.new moment (Quota deed.now) answer) }
+        ensures memory { OnErr result (may_want_memory (rows_of self.old) (Quota deed.now) ≡ true) }
         ensures err { OnErr result (self.new ≡ self.old) }
         ensures sound { IsSound self.new }
         ensures looks { steps.new ≤ steps.old + deed_cost (rows_of self.old) (Quota deed.now) }
@@ -106,12 +97,10 @@ impl Parts {
         deed: &TemplateDeed,
         moment: u64,
     ) -> Result<Answer, NoMemory>
-        requires whole { IsWhole self.old }
-        requires idle { IsIdle self.old }
+        requires ready { IsReady self.old moment }
         requires valid { is_deed (Template deed.now) ≡ true }
-        requires moment { moment ≤ latest_moment }
-        requires after { self.old.last_moment ≤ moment }
         ensures ok { IfOk result (λ answer. Does self.old self.new moment (Template deed.now) answer) }
+        ensures memory { OnErr result (may_want_memory (rows_of self.old) (Template deed.now) ≡ true) }
         ensures err { OnErr result (self.new ≡ self.old) }
         ensures sound { IsSound self.new }
     {
@@ -131,12 +120,10 @@ impl Parts {
         moment: u64,
         steps: &mut Steps<L>,
     ) -> Result<Answer, NoMemory>
-        requires whole { IsWhole self.old }
-        requires idle { IsIdle self.old }
+        requires ready { IsReady self.old moment }
         requires valid { is_deed (Autoquota deed.now) ≡ true }
-        requires moment { moment ≤ latest_moment }
-        requires after { self.old.last_moment ≤ moment }
         ensures ok { IfOk result (λ answer. Does self.old self.new moment (Autoquota deed.now) answer) }
+        ensures memory { OnErr result (may_want_memory (rows_of self.old) (Autoquota deed.now) ≡ true) }
         ensures err { OnErr result (self.new ≡ self.old) }
         ensures sound { IsSound self.new }
         ensures looks { steps.new ≤ steps.old + deed_cost (rows_of self.old) (Autoquota deed.now) }
@@ -155,12 +142,10 @@ impl Parts {
         deed: &FilegroupDeed,
         moment: u64,
     ) -> Result<Answer, NoMemory>
-        requires whole { IsWhole self.old }
-        requires idle { IsIdle self.old }
+        requires ready { IsReady self.old moment }
         requires valid { is_deed (Filegroup deed.now) ≡ true }
-        requires moment { moment ≤ latest_moment }
-        requires after { self.old.last_moment ≤ moment }
         ensures ok { IfOk result (λ answer. Does self.old self.new moment (Filegroup deed.now) answer) }
+        ensures memory { OnErr result (may_want_memory (rows_of self.old) (Filegroup deed.now) ≡ true) }
         ensures err { OnErr result (self.new ≡ self.old) }
         ensures sound { IsSound self.new }
     {
@@ -183,6 +168,7 @@ impl Parts {
         requires ready { IsReady self.old moment }
         requires valid { is_deed (Screen deed.now) ≡ true }
         ensures ok { IfOk result (λ answer. Does self.old self.new moment (Screen deed.now) answer) }
+        ensures memory { OnErr result (may_want_memory (rows_of self.old) (Screen deed.now) ≡ true) }
         ensures err { OnErr result (self.new ≡ self.old) }
         ensures sound { IsSound self.new }
         ensures looks { steps.new ≤ steps.old + deed_cost (rows_of self.old) (Screen deed.now) }
@@ -206,6 +192,7 @@ impl Parts {
         requires ready { IsReady self.old moment }
         requires valid { is_deed (Exception deed.now) ≡ true }
         ensures ok { IfOk result (λ answer. Does self.old self.new moment (Exception deed.now) answer) }
+        ensures memory { OnErr result (may_want_memory (rows_of self.old) (Exception deed.now) ≡ true) }
         ensures err { OnErr result (self.new ≡ self.old) }
         ensures sound { IsSound self.new }
         ensures looks { steps.new ≤ steps.old + deed_cost (rows_of self.old) (Exception deed.now) }
@@ -219,10 +206,7 @@ impl Parts {
 
     // A command on the settings or on the log.
     fn on_admin(&mut self, deed: &AdminDeed, moment: u64) -> Answer
-        requires whole { IsWhole self.old }
-        requires idle { IsIdle self.old }
-        requires moment { moment ≤ latest_moment }
-        requires after { self.old.last_moment ≤ moment }
+        requires ready { IsReady self.old moment }
         ensures ok { Does self.old self.new moment (Admin deed.now) result }
         ensures sound { IsSound self.new }
     {
@@ -240,11 +224,10 @@ impl Parts {
         command: &Command,
         steps: &mut Steps<L>,
     ) -> Result<Answer, NoMemory>
-        requires whole { IsWhole self.old }
-        requires idle { IsIdle self.old }
+        requires ready { IsReady self.old command.now.moment }
         requires valid { is_command command.now ≡ true }
-        requires after { self.old.last_moment ≤ command.now.moment }
         ensures ok { IfOk result (λ answer. Does self.old self.new command.now.moment command.now.deed answer) }
+        ensures memory { OnErr result (may_want_memory (rows_of self.old) command.now.deed ≡ true) }
         ensures err { OnErr result (self.new ≡ self.old) }
         ensures sound { IsSound self.new }
         ensures looks { steps.new ≤ steps.old + deed_cost (rows_of self.old) command.now.deed }
@@ -271,11 +254,10 @@ impl Parts {
         command: &Command,
         steps: &mut Steps<L>,
     ) -> Result<Answer, NoMemory>
-        requires whole { IsWhole self.old }
-        requires idle { IsIdle self.old }
+        requires ready { IsReady self.old command.now.moment }
         requires valid { is_command command.now ≡ true }
-        requires after { self.old.last_moment ≤ command.now.moment }
         ensures ok { IfOk result (λ answer. Does self.old self.new command.now.moment command.now.deed answer) }
+        ensures memory { OnErr result (may_want_memory (rows_of self.old) command.now.deed ≡ true) }
         ensures err { OnErr result (self.new ≡ self.old) }
         ensures whole { IsWhole self.new }
         ensures looks { steps.new ≤ steps.old + deed_cost (rows_of self.old) command.now.deed }

@@ -138,6 +138,6 @@ impl Parts {
         self.usage.begin(folder, used);
         raise_peak(&self.usage, &mut self.objects, folder, moment);
         self.settle_quota(folder, None, None, moment);
-        self.settle(moment);
+        self.end(moment);
     }
 }

@@ -4,10 +4,10 @@ ghost use Rattle.std.specs.Prelude.{◌≡◌, ◌+◌, ◌*◌, ◌≤◌, true
 ghost use Rattle.fsrm_model.specs.declared.command.Deed.TheVariants.{File};
 ghost use Rattle.fsrm_model.specs.declared.command.FileOp.TheVariants.{Mkdir, Create};
 ghost use Rattle.fsrm_model.specs.Cost.{deed_cost};
-ghost use Rattle.fsrm_model.specs.Limits.{latest_moment, longest_file};
+ghost use Rattle.fsrm_model.specs.Limits.{longest_file};
 ghost use Rattle.fsrm_model.specs.Valid.{IsVolume};
 ghost use Rattle.fsrm_engine.specs.Faults.{new_refusal};
-ghost use Rattle.fsrm_engine.specs.Machine.{Does, IsIdle, IsSound, IsWhole, rows_of};
+ghost use Rattle.fsrm_engine.specs.Machine.{Does, IsReady, IsSound, rows_of};
 ghost use Rattle.fsrm_engine.specs.Memory.{may_want_memory};
 ghost use Rattle.fsrm_engine.specs.Places.{IsVacant};
 
@@ -52,13 +52,10 @@ impl Parts {
         moment: u64,
         steps: &mut Steps<L>,
     ) -> Result<Answer, NoMemory>
-        requires whole { IsWhole self.old }
-        requires idle { IsIdle self.old }
+        requires ready { IsReady self.old moment }
         requires owner { 1 ≤ owner }
-        requires moment { moment ≤ latest_moment }
-        requires after { self.old.last_moment ≤ moment }
         ensures ok { IfOk result (λ answer. Does self.old self.new moment (File (Mkdir path.now owner)) answer) }
-        ensures memory { OnErr result (may_want_memory (rows_of self.old) (Mkdir path.now owner) ≡ true) }
+        ensures memory { OnErr result (may_want_memory (rows_of self.old) (File (Mkdir path.now owner)) ≡ true) }
         ensures err { OnErr result (self.new ≡ self.old) }
         ensures sound { IsSound self.new }
         ensures looks { steps.new ≤ steps.old + deed_cost (rows_of self.old) (File (Mkdir path.now owner)) }
@@ -85,12 +82,9 @@ impl Parts {
         moment: u64,
         steps: &mut Steps<L>,
     ) -> Answer
-        requires whole { IsWhole self.old }
-        requires idle { IsIdle self.old }
+        requires ready { IsReady self.old moment }
         requires length { length ≤ longest_file }
         requires owner { 1 ≤ owner }
-        requires moment { moment ≤ latest_moment }
-        requires after { self.old.last_moment ≤ moment }
         ensures ok { Does self.old self.new moment (File (Create path.now length owner)) result }
         ensures sound { IsSound self.new }
         ensures looks { steps.new ≤ steps.old + deed_cost (rows_of self.old) (File (Create path.now length owner)) }

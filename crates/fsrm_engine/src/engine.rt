@@ -170,7 +170,9 @@ impl Engine {
     }
 
     /// Takes a command, when no act waits: the answer is the plain machine's, and so are the rows that are left and
-    /// the acts that wait then. What it names is there. An `Err` changes nothing.
+    /// the acts that wait then. What it names is there. An `Err` changes nothing, and says that memory ran out: that can be
+    /// only if a folder is summed up, an object is made or changed, or the command is a file operation that may run out of
+    /// memory.
     pub fn apply<L: Ledger>(
         &mut self,
         alloc: Global,
@@ -180,6 +182,7 @@ impl Engine {
         requires valid { is_command command.now ≡ true }
         requires idle { self.old.waiting ≡ [] }
         ensures ok { IfOk result (λ answer. Takes self.old self.new (step self.old.size self.old.rows command.now) answer) }
+        ensures memory { OnErr result (may_want_memory self.old.rows command.now.deed ≡ true) }
         ensures named { IfOk result (λ answer. IsNamed self.new.rows answer.outcome) }
         ensures err { OnErr result (self.new ≡ self.old) }
         ensures kept { IsValid self.new.size self.new.rows }
@@ -205,7 +208,7 @@ impl Engine {
         requires moment { moment ≤ latest_moment }
         requires idle { self.old.waiting ≡ [] }
         ensures ok { IfOk result (λ answer. Takes self.old self.new (step self.old.size self.old.rows (record { moment = moment; deed = File op.now })) answer) }
-        ensures memory { OnErr result (may_want_memory self.old.rows op.now ≡ true) }
+        ensures memory { OnErr result (may_want_memory self.old.rows (File op.now) ≡ true) }
         ensures named { IfOk result (λ answer. IsNamed self.new.rows answer.outcome) }
         ensures err { OnErr result (self.new ≡ self.old) }
         ensures kept { IsValid self.new.size self.new.rows }

@@ -8,9 +8,8 @@ ghost use Rattle.fsrm_model.specs.declared.command.Deed.TheVariants.{Filegroup};
 ghost use Rattle.fsrm_model.specs.declared.command.FilegroupDeed.TheVariants.{Add as FilegroupAdd, Modify as FilegroupModify, Delete as FilegroupDelete, List as FilegroupList};
 ghost use Rattle.fsrm_model.specs.Commands.{is_new_filegroup, is_filegroup_change};
 ghost use Rattle.fsrm_model.specs.GroupWork.{is_used};
-ghost use Rattle.fsrm_model.specs.Limits.{latest_moment};
 ghost use Rattle.fsrm_model.specs.Patterns.{is_pattern};
-ghost use Rattle.fsrm_engine.specs.Machine.{Does, IsIdle, IsSound, IsWhole, rows_of};
+ghost use Rattle.fsrm_engine.specs.Machine.{Does, IsReady, IsSound, rows_of};
 
 use crate::exits::{listing, refused, refused_by_groups};
 use crate::parts::Parts;
@@ -95,11 +94,8 @@ impl Parts {
         group: &NewFilegroup,
         moment: u64,
     ) -> Result<Answer, NoMemory>
-        requires whole { IsWhole self.old }
-        requires idle { IsIdle self.old }
+        requires ready { IsReady self.old moment }
         requires valid { is_new_filegroup group.now ≡ true }
-        requires moment { moment ≤ latest_moment }
-        requires after { self.old.last_moment ≤ moment }
         ensures ok { IfOk result (λ answer. Does self.old self.new moment (Filegroup (FilegroupAdd group.now)) answer) }
         ensures err { OnErr result (self.new ≡ self.old) }
         ensures sound { IsSound self.new }
@@ -123,11 +119,8 @@ impl Parts {
         change: &FilegroupChange,
         moment: u64,
     ) -> Result<Answer, NoMemory>
-        requires whole { IsWhole self.old }
-        requires idle { IsIdle self.old }
+        requires ready { IsReady self.old moment }
         requires valid { is_filegroup_change change.now ≡ true }
-        requires moment { moment ≤ latest_moment }
-        requires after { self.old.last_moment ≤ moment }
         ensures ok { IfOk result (λ answer. Does self.old self.new moment (Filegroup (FilegroupModify change.now)) answer) }
         ensures err { OnErr result (self.new ≡ self.old) }
         ensures sound { IsSound self.new }
@@ -149,10 +142,7 @@ impl Parts {
 
     /// Takes a file group away, if no screen and no exception names it.
     pub(crate) fn group_delete(&mut self, name: &Text, moment: u64) -> Answer
-        requires whole { IsWhole self.old }
-        requires idle { IsIdle self.old }
-        requires moment { moment ≤ latest_moment }
-        requires after { self.old.last_moment ≤ moment }
+        requires ready { IsReady self.old moment }
         ensures ok { Does self.old self.new moment (Filegroup (FilegroupDelete name.now)) result }
         ensures sound { IsSound self.new }
     {
@@ -168,8 +158,7 @@ impl Parts {
 
     /// Lists all file groups.
     pub(crate) fn list_groups(&self, moment: u64) -> Answer
-        requires idle { IsIdle self.now }
-        requires after { self.now.last_moment ≤ moment }
+        requires ready { IsReady self.now moment }
         ensures { Does self.now self.now moment (Filegroup FilegroupList) result }
     {
         listing(Ask::Groups)

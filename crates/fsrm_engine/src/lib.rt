@@ -2,10 +2,11 @@
 //! templates, auto-apply quotas and the log of judged names.
 //!
 //! `Engine::apply` and `Engine::file_op` have one clause for all commands, `ok`: the answer is the plain machine's, and
-//! so are the rows that are left and the acts that wait. `err` says that nothing has changed if memory ran out, `kept`
-//! that the rows are valid, `named` that what the answer names is there, and `looks` how many nodes were looked at, at
-//! most. `scan_step` is the step of a scan alone, under the same clauses but `err`: it takes no memory. `used` is what
-//! a counting quota's counter holds, and its clause says that this is the sum over the tree.
+//! so are the rows that are left and the acts that wait. `err` says that nothing has changed if memory ran out, `memory`
+//! which commands can come to that, `kept` that the rows are valid, `named` that what the answer names is there, and
+//! `looks` how many nodes were looked at, at most. `scan_step` is the step of a scan alone, under the same clauses but
+//! `err` and `memory`: it takes none. `used` is what a counting quota's counter holds, and its clause says that this is
+//! the sum over the tree.
 //!
 //! A command may leave acts that wait: actions of a screen and of thresholds that ran. `next_act` hands them out one by
 //! one, and the next command is taken once none waits.

@@ -7,12 +7,11 @@ ghost use Rattle.fsrm_model.specs.declared.command.FileOp.TheVariants.{Move};
 ghost use Rattle.fsrm_model.specs.Check.{first};
 ghost use Rattle.fsrm_model.specs.Cost.{deed_cost};
 ghost use Rattle.fsrm_model.specs.FileWork.{file_effect, move_checks};
-ghost use Rattle.fsrm_model.specs.Limits.{latest_moment};
 ghost use Rattle.fsrm_model.specs.Text.{is_bare};
 ghost use Rattle.fsrm_base.specs.Keyed.{has_row};
 ghost use Rattle.fsrm_model.specs.Tree.{number as key, is_folder, under};
 ghost use Rattle.fsrm_model.specs.Valid.{IsVolume};
-ghost use Rattle.fsrm_engine.specs.Machine.{AreCounted, Does, IsIdle, IsSound, IsWhole, rows_of};
+ghost use Rattle.fsrm_engine.specs.Machine.{AreCounted, Does, IsReady, IsSound, rows_of};
 ghost use Rattle.fsrm_engine.specs.Memory.{may_want_memory};
 ghost use Rattle.fsrm_engine.specs.Moves.{AreMoved, IsMove, IsSourceOfMove, MayMove, change_of};
 
@@ -130,12 +129,9 @@ impl Parts {
         moment: u64,
         steps: &mut Steps<L>,
     ) -> Result<Answer, NoMemory>
-        requires whole { IsWhole self.old }
-        requires idle { IsIdle self.old }
-        requires moment { moment ≤ latest_moment }
-        requires after { self.old.last_moment ≤ moment }
+        requires ready { IsReady self.old moment }
         ensures ok { IfOk result (λ answer. Does self.old self.new moment (File (Move from.now to.now)) answer) }
-        ensures memory { OnErr result (may_want_memory (rows_of self.old) (Move from.now to.now) ≡ true) }
+        ensures memory { OnErr result (may_want_memory (rows_of self.old) (File (Move from.now to.now)) ≡ true) }
         ensures err { OnErr result (self.new ≡ self.old) }
         ensures sound { IsSound self.new }
         ensures looks { steps.new ≤ steps.old + deed_cost (rows_of self.old) (File (Move from.now to.now)) }
@@ -182,13 +178,10 @@ impl Parts {
         moment: u64,
         steps: &mut Steps<L>,
     ) -> Result<Answer, NoMemory>
-        requires whole { IsWhole self.old }
-        requires idle { IsIdle self.old }
-        requires moment { moment ≤ latest_moment }
-        requires after { self.old.last_moment ≤ moment }
+        requires ready { IsReady self.old moment }
         requires may { MayMove self.old from.now to.now moving.now source judged change.now.minus }
         requires change { change.now ≡ change_of moving.now change.now.minus }
-        requires ready { ready ≡ record { node = moving.now.node; folder = moving.now.place.folder; name = moving.now.place.name.now } }
+        requires ready_move { ready ≡ record { node = moving.now.node; folder = moving.now.place.folder; name = moving.now.place.name.now } }
         ensures ok { IfOk result (λ answer. Does self.old self.new moment (File (Move from.now to.now)) answer) }
         ensures memory { OnErr result (moving.now.folder ≡ true) }
         ensures err { OnErr result (self.new ≡ self.old) }

@@ -129,7 +129,7 @@ impl Parts {
     }
 
     /// Ends a command of this moment that lasts.
-    pub(crate) fn settle(&mut self, moment: u64)
+    pub(crate) fn end(&mut self, moment: u64)
         requires counted { AreCounted self.old }
         requires moment { moment ≤ latest_moment }
         ensures ended { self.new ≡ ended self.old moment }
@@ -147,7 +147,7 @@ impl Parts {
         ensures counted { AreCounted self.new }
         ensures answer { result ≡ record { outcome = Done (option_map (λ judged. judged.screen) judged); lasting = true } }
     {
-        self.settle(moment);
+        self.end(moment);
         Answer {
             outcome: Outcome::Done {
                 passive: judged.map(|judged| judged.screen),

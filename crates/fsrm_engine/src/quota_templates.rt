@@ -6,15 +6,14 @@ ghost use Rattle.fsrm_base.specs.Keyed.{is_ascending};
 ghost use Rattle.fsrm_model.specs.declared.command.Deed.TheVariants.{Template};
 ghost use Rattle.fsrm_model.specs.declared.command.TemplateDeed.TheVariants.{Add as TemplateAdd, Modify as TemplateModify, Delete as TemplateDelete, List as TemplateList};
 ghost use Rattle.fsrm_model.specs.Commands.{is_new_template, is_template_change};
-ghost use Rattle.fsrm_model.specs.Limits.{latest_moment};
 ghost use Rattle.fsrm_model.specs.Templates.{template_named};
 ghost use Rattle.fsrm_model.specs.TemplateWork.{retemplated};
 ghost use Rattle.fsrm_model.specs.Thresholds.{percent_of};
-ghost use Rattle.fsrm_engine.specs.Machine.{Does, IsIdle, IsSound, IsWhole};
+ghost use Rattle.fsrm_engine.specs.Machine.{Does, IsReady, IsSound, IsWhole};
 
 use crate::exits::{listing, refused, refused_by_templates};
 use crate::parts::Parts;
-use crate::threshold_lists::{ThresholdChange, may_be_removed};
+use crate::threshold_lists::{changed_thresholds, may_be_removed};
 use fsrm_model::{
     Answer, Ask, Duplicate, List, NewTemplate, NoMemory, Refusal, TemplateChange, TemplateRow,
     Text, Threshold,
@@ -50,14 +49,17 @@ fn retemplated(
     requires { is_ascending percent_of template.now.thresholds ≡ true }
     ensures { IfOk result (λ row. row ≡ retemplated change.now template.now) }
 {
-    let coming = &change.thresholds;
-    let thresholds = ThresholdChange::new(&change.removed, &coming.percents, &coming.notices);
     Ok(TemplateRow {
         number: template.number,
         name: template.name.copy(alloc)?,
         limit: change.limit.unwrap_or(template.limit),
         enforce: change.enforce.unwrap_or(template.enforce),
-        thresholds: thresholds.changed(alloc, &template.thresholds)?,
+        thresholds: changed_thresholds(
+            alloc,
+            &change.removed,
+            &change.thresholds,
+            &template.thresholds,
+        )?,
     })
 }
 
@@ -78,11 +80,8 @@ impl Parts {
         template: &NewTemplate,
         moment: u64,
     ) -> Result<Answer, NoMemory>
-        requires whole { IsWhole self.old }
-        requires idle { IsIdle self.old }
+        requires ready { IsReady self.old moment }
         requires valid { is_new_template template.now ≡ true }
-        requires moment { moment ≤ latest_moment }
-        requires after { self.old.last_moment ≤ moment }
         ensures ok { IfOk result (λ answer. Does self.old self.new moment (Template (TemplateAdd template.now)) answer) }
         ensures err { OnErr result (self.new ≡ self.old) }
         ensures sound { IsSound self.new }
@@ -90,9 +89,9 @@ impl Parts {
         if self.template_named(&template.name).is_some() {
             return Ok(refused(Refusal::DuplicateName));
         }
-        let coming = &template.thresholds;
-        let change = ThresholdChange::adding(&coming.percents, &coming.notices);
-        let thresholds = change.changed(alloc, &List::new(alloc))?;
+        let removed = List::new(alloc);
+        let begun = List::new(alloc);
+        let thresholds = changed_thresholds(alloc, &removed, &template.thresholds, &begun)?;
         if are_too_many(&thresholds) {
             return Ok(refused(Refusal::OutOfRange));
         }
@@ -118,11 +117,8 @@ impl Parts {
         change: &TemplateChange,
         moment: u64,
     ) -> Result<Answer, NoMemory>
-        requires whole { IsWhole self.old }
-        requires idle { IsIdle self.old }
+        requires ready { IsReady self.old moment }
         requires valid { is_template_change change.now ≡ true }
-        requires moment { moment ≤ latest_moment }
-        requires after { self.old.last_moment ≤ moment }
         ensures ok { IfOk result (λ answer. Does self.old self.new moment (Template (TemplateModify change.now)) answer) }
         ensures err { OnErr result (self.new ≡ self.old) }
         ensures sound { IsSound self.new }
@@ -153,10 +149,7 @@ impl Parts {
     /// Takes a template away, if no auto-apply quota names it. The quotas that were derived from it stay, without a
     /// template.
     pub(crate) fn template_delete(&mut self, name: &Text, moment: u64) -> Answer
-        requires whole { IsWhole self.old }
-        requires idle { IsIdle self.old }
-        requires moment { moment ≤ latest_moment }
-        requires after { self.old.last_moment ≤ moment }
+        requires ready { IsReady self.old moment }
         ensures ok { Does self.old self.new moment (Template (TemplateDelete name.now)) result }
         ensures sound { IsSound self.new }
     {
@@ -174,8 +167,7 @@ impl Parts {
 
     /// Lists all templates.
     pub(crate) fn list_templates(&self, moment: u64) -> Answer
-        requires idle { IsIdle self.now }
-        requires after { self.now.last_moment ≤ moment }
+        requires ready { IsReady self.now moment }
         ensures { Does self.now self.now moment (Template TemplateList) result }
     {
         listing(Ask::Templates)

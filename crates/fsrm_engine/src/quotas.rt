@@ -6,18 +6,18 @@ ghost use Rattle.fsrm_model.specs.declared.command.Deed.TheVariants.{Quota};
 ghost use Rattle.fsrm_model.specs.declared.command.QuotaDeed.TheVariants.{Add as QuotaAdd, Modify as QuotaModify, Delete as QuotaDelete, Scan as QuotaScan, Resetpeak as QuotaResetpeak, List as QuotaList};
 ghost use Rattle.fsrm_model.specs.Commands.{is_new_quota, is_quota_change};
 ghost use Rattle.fsrm_model.specs.Cost.{deed_cost};
-ghost use Rattle.fsrm_model.specs.Limits.{latest_moment};
 ghost use Rattle.fsrm_model.specs.QuotaStates.{is_disabled};
 ghost use Rattle.fsrm_model.specs.QuotaWork.{new_quota, modified, remarked};
 ghost use Rattle.fsrm_model.specs.Thresholds.{percent_of};
-ghost use Rattle.fsrm_engine.specs.Machine.{Does, IsIdle, IsSound, IsWhole, rows_of};
+ghost use Rattle.fsrm_engine.specs.Machine.{Does, IsReady, IsSound, IsWhole, rows_of};
+ghost use Rattle.fsrm_engine.specs.Memory.{may_want_memory};
 ghost use Rattle.fsrm_engine.specs.Sources.{IsFirst};
 
 use crate::exits::{listing, passing, refused, refused_for};
 use crate::parts::Parts;
 use crate::places::folder_at;
 use crate::states::first_state;
-use crate::threshold_lists::{ThresholdChange, may_be_removed};
+use crate::threshold_lists::{changed_thresholds, may_be_removed};
 use fsrm_model::{
     Answer, Ask, Duplicate, Ledger, List, NewQuota, NewThresholds, NoMemory, Outcome, Path,
     QuotaChange, QuotaRow, QuotaState, Refusal, Steps, Text,
@@ -60,13 +60,12 @@ fn modified(
     requires { is_ascending percent_of quota.now.thresholds ≡ true }
     ensures { IfOk result (λ row. row ≡ remarked removed.now added.now (modified limit enforce quota.now)) }
 {
-    let change = ThresholdChange::new(removed, &added.percents, &added.notices);
     Ok(QuotaRow {
         folder: quota.folder,
         limit: limit.unwrap_or(quota.limit),
         enforce: enforce.unwrap_or(quota.enforce),
         state: quota.state,
-        thresholds: change.changed(alloc, &quota.thresholds)?,
+        thresholds: changed_thresholds(alloc, removed, added, &quota.thresholds)?,
         template: quota.template,
         peak: quota.peak,
         peak_at: quota.peak_at,
@@ -106,12 +105,10 @@ impl Parts {
         moment: u64,
         steps: &mut Steps<L>,
     ) -> Result<Answer, NoMemory>
-        requires whole { IsWhole self.old }
-        requires idle { IsIdle self.old }
+        requires ready { IsReady self.old moment }
         requires valid { is_new_quota quota.now ≡ true }
-        requires moment { moment ≤ latest_moment }
-        requires after { self.old.last_moment ≤ moment }
         ensures ok { IfOk result (λ answer. Does self.old self.new moment (Quota (QuotaAdd quota.now)) answer) }
+        ensures memory { OnErr result (may_want_memory (rows_of self.old) (Quota (QuotaAdd quota.now)) ≡ true) }
         ensures err { OnErr result (self.new ≡ self.old) }
         ensures sound { IsSound self.new }
         ensures looks { steps.new ≤ steps.old + deed_cost (rows_of self.old) (Quota (QuotaAdd quota.now)) }
@@ -149,12 +146,10 @@ impl Parts {
         moment: u64,
         steps: &mut Steps<L>,
     ) -> Result<Answer, NoMemory>
-        requires whole { IsWhole self.old }
-        requires idle { IsIdle self.old }
+        requires ready { IsReady self.old moment }
         requires valid { is_quota_change change.now ≡ true }
-        requires moment { moment ≤ latest_moment }
-        requires after { self.old.last_moment ≤ moment }
         ensures ok { IfOk result (λ answer. Does self.old self.new moment (Quota (QuotaModify change.now)) answer) }
+        ensures memory { OnErr result (may_want_memory (rows_of self.old) (Quota (QuotaModify change.now)) ≡ true) }
         ensures err { OnErr result (self.new ≡ self.old) }
         ensures sound { IsSound self.new }
         ensures looks { steps.new ≤ steps.old + deed_cost (rows_of self.old) (Quota (QuotaModify change.now)) }
@@ -192,10 +187,7 @@ impl Parts {
         moment: u64,
         steps: &mut Steps<L>,
     ) -> Answer
-        requires whole { IsWhole self.old }
-        requires idle { IsIdle self.old }
-        requires moment { moment ≤ latest_moment }
-        requires after { self.old.last_moment ≤ moment }
+        requires ready { IsReady self.old moment }
         ensures ok { Does self.old self.new moment (Quota (QuotaDelete path.now)) result }
         ensures sound { IsSound self.new }
         ensures looks { steps.new ≤ steps.old + deed_cost (rows_of self.old) (Quota (QuotaDelete path.now)) }
@@ -216,10 +208,7 @@ impl Parts {
         moment: u64,
         steps: &mut Steps<L>,
     ) -> Answer
-        requires whole { IsWhole self.old }
-        requires idle { IsIdle self.old }
-        requires moment { moment ≤ latest_moment }
-        requires after { self.old.last_moment ≤ moment }
+        requires ready { IsReady self.old moment }
         ensures ok { Does self.old self.new moment (Quota (QuotaScan path.now)) result }
         ensures sound { IsSound self.new }
         ensures looks { steps.new ≤ steps.old + deed_cost (rows_of self.old) (Quota (QuotaScan path.now)) }
@@ -247,10 +236,7 @@ impl Parts {
         moment: u64,
         steps: &mut Steps<L>,
     ) -> Answer
-        requires whole { IsWhole self.old }
-        requires idle { IsIdle self.old }
-        requires moment { moment ≤ latest_moment }
-        requires after { self.old.last_moment ≤ moment }
+        requires ready { IsReady self.old moment }
         ensures ok { Does self.old self.new moment (Quota (QuotaResetpeak path.now)) result }
         ensures sound { IsSound self.new }
         ensures looks { steps.new ≤ steps.old + deed_cost (rows_of self.old) (Quota (QuotaResetpeak path.now)) }
@@ -266,9 +252,7 @@ impl Parts {
 
     // Lists a folder's quota.
     fn list_one<L: Ledger>(&self, path: &Path, moment: u64, steps: &mut Steps<L>) -> Answer
-        requires whole { IsWhole self.now }
-        requires idle { IsIdle self.now }
-        requires after { self.now.last_moment ≤ moment }
+        requires ready { IsReady self.now moment }
         ensures ok { Does self.now self.now moment (Quota (QuotaList (Some path.now))) result }
         ensures looks { steps.new ≤ steps.old + (22 * length path.now + 2) }
     {
@@ -286,9 +270,7 @@ impl Parts {
         moment: u64,
         steps: &mut Steps<L>,
     ) -> Answer
-        requires whole { IsWhole self.now }
-        requires idle { IsIdle self.now }
-        requires after { self.now.last_moment ≤ moment }
+        requires ready { IsReady self.now moment }
         ensures ok { Does self.now self.now moment (Quota (QuotaList path.now)) result }
         ensures looks { steps.new ≤ steps.old + deed_cost (rows_of self.now) (Quota (QuotaList path.now)) }
     {

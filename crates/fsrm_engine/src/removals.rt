@@ -4,11 +4,10 @@ ghost use Rattle.std.specs.Prelude.{◌≡◌, ◌+◌, ◌*◌, ◌≤◌, ◌=
 ghost use Rattle.fsrm_model.specs.declared.command.Deed.TheVariants.{File};
 ghost use Rattle.fsrm_model.specs.declared.command.FileOp.TheVariants.{Remove};
 ghost use Rattle.fsrm_model.specs.Cost.{deed_cost};
-ghost use Rattle.fsrm_model.specs.Limits.{latest_moment};
 ghost use Rattle.fsrm_model.specs.Tree.{resolve, is_folder};
 ghost use Rattle.fsrm_objects.specs.Tables.{without_except, without_screen};
 ghost use Rattle.templates.specs.Held.{without_auto};
-ghost use Rattle.fsrm_engine.specs.Machine.{Does, IsIdle, IsSound, IsWhole, rows_of};
+ghost use Rattle.fsrm_engine.specs.Machine.{Does, IsReady, IsSound, rows_of};
 
 use crate::charging::drop_quota;
 use crate::exits::refused;
@@ -61,10 +60,7 @@ impl Parts {
         moment: u64,
         steps: &mut Steps<L>,
     ) -> Answer
-        requires whole { IsWhole self.old }
-        requires idle { IsIdle self.old }
-        requires moment { moment ≤ latest_moment }
-        requires after { self.old.last_moment ≤ moment }
+        requires ready { IsReady self.old moment }
         ensures ok { Does self.old self.new moment (File (Remove path.now)) result }
         ensures sound { IsSound self.new }
         ensures looks { steps.new ≤ steps.old + deed_cost (rows_of self.old) (File (Remove path.now)) }
@@ -102,10 +98,7 @@ impl Parts {
         moment: u64,
         steps: &mut Steps<L>,
     ) -> Answer
-        requires whole { IsWhole self.old }
-        requires idle { IsIdle self.old }
-        requires moment { moment ≤ latest_moment }
-        requires after { self.old.last_moment ≤ moment }
+        requires ready { IsReady self.old moment }
         requires resolved { resolve self.old.tree.nodes path.now ≡ Some node }
         requires inner { (node == 0) ≡ false }
         requires kind { is_folder self.old.tree.nodes node ≡ true }

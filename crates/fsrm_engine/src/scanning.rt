@@ -8,7 +8,7 @@ ghost use Rattle.fsrm_model.specs.QuotaStates.{head};
 ghost use Rattle.fsrm_model.specs.Scan.{visits};
 ghost use Rattle.fsrm_model.specs.Tree.{usage};
 ghost use Rattle.fsrm_engine.specs.Due.{Finishes};
-ghost use Rattle.fsrm_engine.specs.Machine.{Does, IsIdle, IsSound, IsWhole, rows_of};
+ghost use Rattle.fsrm_engine.specs.Machine.{Does, IsIdle, IsReady, IsSound, IsWhole, rows_of};
 
 use crate::exits::{passing, refused};
 use crate::parts::Parts;
@@ -17,10 +17,7 @@ use fsrm_model::{Answer, Ledger, Outcome, Refusal, Steps};
 impl Parts {
     /// Goes on with the active scan, at a moment that isn't before the last one.
     pub(crate) fn go_on<L: Ledger>(&mut self, n: u32, moment: u64, steps: &mut Steps<L>) -> Answer
-        requires whole { IsWhole self.old }
-        requires idle { IsIdle self.old }
-        requires moment { moment ≤ latest_moment }
-        requires after { self.old.last_moment ≤ moment }
+        requires ready { IsReady self.old moment }
         ensures ok { Does self.old self.new moment (Step n) result }
         ensures sound { IsSound self.new }
         ensures looks { steps.new ≤ steps.old + deed_cost (rows_of self.old) (Step n) }

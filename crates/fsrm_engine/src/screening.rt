@@ -149,7 +149,7 @@ impl Parts {
         ensures counted { AreCounted self.new }
     {
         self.note(judged, owner, folder, name, moment);
-        self.settle(moment);
+        self.end(moment);
         Answer {
             outcome: Outcome::Refused(Refusal::ScreenBlocked {
                 screen: judged.screen,

@@ -12,6 +12,7 @@ ghost use Rattle.fsrm_model.specs.Screens.{screen_folder};
 ghost use Rattle.fsrm_model.specs.ScreenWork.{new_screen, rescreened, screen_checks};
 ghost use Rattle.fsrm_model.specs.Valid.{IsVolume};
 ghost use Rattle.fsrm_engine.specs.Machine.{Does, IsReady, IsSound, rows_of};
+ghost use Rattle.fsrm_engine.specs.Memory.{may_want_memory};
 ghost use Rattle.fsrm_engine.specs.Places.{IsFolder};
 
 use crate::exits::{listing, refused, refused_for};
@@ -88,6 +89,7 @@ impl Parts {
         requires ready { IsReady self.old moment }
         requires valid { is_new_screen screen.now ≡ true }
         ensures ok { IfOk result (λ answer. Does self.old self.new moment (Screen (ScreenAdd screen.now)) answer) }
+        ensures memory { OnErr result (may_want_memory (rows_of self.old) (Screen (ScreenAdd screen.now)) ≡ true) }
         ensures err { OnErr result (self.new ≡ self.old) }
         ensures sound { IsSound self.new }
         ensures looks { steps.new ≤ steps.old + deed_cost (rows_of self.old) (Screen (ScreenAdd screen.now)) }
@@ -123,6 +125,7 @@ impl Parts {
     ) -> Result<Answer, NoMemory>
         requires ready { IsReady self.old moment }
         ensures ok { IfOk result (λ answer. Does self.old self.new moment (Screen (ScreenModify change.now)) answer) }
+        ensures memory { OnErr result (may_want_memory (rows_of self.old) (Screen (ScreenModify change.now)) ≡ true) }
         ensures err { OnErr result (self.new ≡ self.old) }
         ensures sound { IsSound self.new }
         ensures looks { steps.new ≤ steps.old + deed_cost (rows_of self.old) (Screen (ScreenModify change.now)) }
@@ -188,6 +191,7 @@ impl Parts {
         requires ready { IsReady self.old moment }
         requires valid { is_new_exception except.now ≡ true }
         ensures ok { IfOk result (λ answer. Does self.old self.new moment (Exception (ExceptionAdd except.now)) answer) }
+        ensures memory { OnErr result (may_want_memory (rows_of self.old) (Exception (ExceptionAdd except.now)) ≡ true) }
         ensures err { OnErr result (self.new ≡ self.old) }
         ensures sound { IsSound self.new }
         ensures looks { steps.new ≤ steps.old + deed_cost (rows_of self.old) (Exception (ExceptionAdd except.now)) }

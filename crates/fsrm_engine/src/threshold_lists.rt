@@ -7,7 +7,7 @@ ghost use Rattle.fsrm_base.specs.Numbers.{each_once};
 ghost use Rattle.fsrm_base.specs.Places.{IsAt};
 ghost use Rattle.fsrm_model.specs.Thresholds.{changed_thresholds, may_be_removed, percent_of, with_notice, with_threshold, without_thresholds};
 
-use fsrm_model::{Action, Added, Duplicate, List, NoMemory, Threshold};
+use fsrm_model::{Action, Added, Duplicate, List, NewThresholds, NoMemory, Threshold};
 use fsrm_objects::threshold_place;
 use std::alloc::Global;
 use thresholds::has_percent;
@@ -130,53 +130,19 @@ fn add_notices(
     Ok(())
 }
 
-/// What a command does to the thresholds of a quota or a template: some percentages are removed, then some are added,
-/// and then some are given an action each.
-#[derive(Clone, Copy)]
-pub struct ThresholdChange<'a> {
-    pub removed: &'a [u16],
-    pub percents: &'a [u16],
-    pub notices: &'a [Added],
-}
-
-impl<'a> ThresholdChange<'a> {
-    pub fn new(removed: &'a List<u16>, percents: &'a List<u16>, notices: &'a List<Added>) -> Self
-        ensures removed { result.removed.now ≡ removed.now }
-        ensures percents { result.percents.now ≡ percents.now }
-        ensures notices { result.notices.now ≡ notices.now }
-    {
-        ThresholdChange {
-            removed: removed.as_slice(),
-            percents: percents.as_slice(),
-            notices: notices.as_slice(),
-        }
-    }
-
-    /// One that removes nothing.
-    pub fn adding(percents: &'a List<u16>, notices: &'a List<Added>) -> Self
-        ensures removed { result.removed.now ≡ [] }
-        ensures percents { result.percents.now ≡ percents.now }
-        ensures notices { result.notices.now ≡ notices.now }
-    {
-        ThresholdChange {
-            removed: &[],
-            percents: percents.as_slice(),
-            notices: notices.as_slice(),
-        }
-    }
-
-    /// What it makes of thresholds.
-    pub fn changed(
-        &self,
-        alloc: Global,
-        thresholds: &List<Threshold>,
-    ) -> Result<List<Threshold>, NoMemory>
-        requires { is_ascending percent_of thresholds.now ≡ true }
-        ensures { IfOk result (λ changed. changed ≡ changed_thresholds self.now.removed.now self.now.percents.now self.now.notices.now thresholds.now) }
-    {
-        let mut changed = without(alloc, self.removed, thresholds.as_slice())?;
-        add_percents(alloc, &mut changed, self.percents)?;
-        add_notices(alloc, &mut changed, self.notices)?;
-        Ok(changed)
-    }
+/// What a command makes of the thresholds of a quota or a template: some percentages are removed, then some are added, and
+/// then some are given an action each.
+pub fn changed_thresholds(
+    alloc: Global,
+    removed: &List<u16>,
+    added: &NewThresholds,
+    thresholds: &List<Threshold>,
+) -> Result<List<Threshold>, NoMemory>
+    requires { is_ascending percent_of thresholds.now ≡ true }
+    ensures { IfOk result (λ changed. changed ≡ changed_thresholds removed.now added.now.percents added.now.notices thresholds.now) }
+{
+    let mut changed = without(alloc, removed.as_slice(), thresholds.as_slice())?;
+    add_percents(alloc, &mut changed, added.percents.as_slice())?;
+    add_notices(alloc, &mut changed, added.notices.as_slice())?;
+    Ok(changed)
 }

@@ -1,13 +1,14 @@
 //! What the files at and below a node take.
 
-ghost use Rattle.std.specs.Prelude.{◌≡◌, ◌+◌, ◌*◌, ◌^◌, ◌<◌, ◌≤◌, ◌++◌, [], ◌∷◌, true, length, map, sum_by, IfOk, OnOk};
+ghost use Rattle.std.specs.Prelude.{◌≡◌, ◌+◌, ◌*◌, ◌^◌, ◌<◌, ◌≤◌, ◌++◌, [], ◌∷◌, true, length, map, sum_by, IfOk, OnErr, OnOk};
 ghost use Rattle.fsrm_model.specs.declared.command.Deed.TheVariants.{Usage};
 ghost use Rattle.fsrm_model.specs.Capacities.{is_capacity};
 ghost use Rattle.fsrm_model.specs.Cost.{deed_cost};
 ghost use Rattle.fsrm_base.specs.Keyed.{has_row};
-ghost use Rattle.fsrm_model.specs.Tree.{number as key, children_in_order, usage, under};
+ghost use Rattle.fsrm_model.specs.Tree.{number as key, children_in_order, is_folder, usage, under};
 ghost use Rattle.fsrm_model.specs.Valid.{IsVolume};
-ghost use Rattle.fsrm_engine.specs.Machine.{Does, IsIdle, IsWhole, rows_of};
+ghost use Rattle.fsrm_engine.specs.Machine.{Does, IsReady, rows_of};
+ghost use Rattle.fsrm_engine.specs.Memory.{may_want_memory};
 ghost use Rattle.fsrm_engine.specs.Walk.{AreThere};
 ghost use Rattle.rescan.specs.Visits.{folders_among, space_of};
 
@@ -29,6 +30,7 @@ fn put_one<L: Ledger>(
     requires { has_row key number tree.now.nodes ≡ true }
     ensures sum { IfOk result (λ bytes. bytes ≡ space_of tree.now.size tree.now.nodes number) }
     ensures folders { OnOk result (pending.new.items ≡ pending.old.items ++ folders_among tree.now.nodes (number ∷ [])) }
+    ensures memory { OnErr result (is_folder tree.now.nodes number ≡ true) }
     ensures count { steps.new ≡ steps.old + 1 }
 {
     let view = tree.node(number, steps);
@@ -102,7 +104,7 @@ fn visit<L: Ledger>(
     put(tree, &mut children, pending, steps)
 }
 
-/// What the files at and below a node take, made afresh.
+/// What the files at and below a node take, made afresh. Memory can run out only for a folder.
 pub fn usage_of<L: Ledger>(
     tree: &Tree,
     alloc: Global,
@@ -113,6 +115,7 @@ pub fn usage_of<L: Ledger>(
     requires legal { is_capacity tree.now.size ≡ true }
     requires there { has_row key node tree.now.nodes ≡ true }
     ensures sum { IfOk result (λ bytes. bytes ≡ usage tree.now.size tree.now.nodes node) }
+    ensures memory { OnErr result (is_folder tree.now.nodes node ≡ true) }
     ensures looks { steps.new ≤ steps.old + 3 * length (under tree.now.nodes node) }
 {
     let mut pending = Vec::new(alloc);
@@ -133,10 +136,9 @@ impl Parts {
         moment: u64,
         steps: &mut Steps<L>,
     ) -> Result<Answer, NoMemory>
-        requires whole { IsWhole self.now }
-        requires idle { IsIdle self.now }
-        requires after { self.now.last_moment ≤ moment }
+        requires ready { IsReady self.now moment }
         ensures ok { IfOk result (λ answer. Does self.now self.now moment (Usage path.now) answer) }
+        ensures memory { OnErr result (may_want_memory (rows_of self.now) (Usage path.now) ≡ true) }
         ensures looks { steps.new ≤ steps.old + deed_cost (rows_of self.now) (Usage path.now) }
     {
         let Some(node) = self.tree.resolve(path, steps) else {

@@ -23,7 +23,6 @@ use Rattle.fsrm_model.specs.declared.row.TemplateRow.{TemplateRow}
 use Rattle.fsrm_model.specs.Check.{Check, table_full, texts_full}
 use Rattle.fsrm_model.specs.Limits.{latest_moment, most_templates}
 use Rattle.fsrm_model.specs.Name.{is_named}
-use Rattle.fsrm_model.specs.Patterns.{is_object_name}
 use Rattle.fsrm_model.specs.Quota.{folder_of, counts, is_complete, is_limit, quota_of}
 use Rattle.fsrm_model.specs.QuotaStates.{queued, start, with_quota}
 use Rattle.fsrm_model.specs.QuotaWork.{changed_by, first_quota, source_of}

@@ -1,7 +1,7 @@
 -- Commands on templates: parts whose templates, auto-apply quotas and quotas are others, and what the tables refuse.
 use Rattle.std.proofs.Common.{◌≡◌, ℕ, ◌+◌, ◌≤◌, Bool, true, false, cond, List, [], ◌∷◌, length, Option, Some, None, nat_lt, nat_le, refl, ap, sym, ◌∙◌, subst, arith}
 use Rattle.std.specs.Prelude.{is_none, map, sum_by, Result, Ok, Err, IfOk}
-use Rattle.std.specs.List.{list_all, list_any}
+use Rattle.std.specs.List.{list_any}
 use Rattle.std.specs.Option.{option_and_then}
 use Rattle.fsrm_base.specs.declared.memory.NoMemory.{NoMemory as Wanting}
 use Rattle.fsrm_base.specs.Causes.{◌when◌, first}
@@ -25,14 +25,13 @@ use Rattle.fsrm_model.specs.declared.row.TemplateRow.{TemplateRow}
 use Rattle.fsrm_model.specs.declared.row.Threshold.{Threshold}
 use Rattle.fsrm_model.specs.Limits.{most_templates, most_text_bytes}
 use Rattle.fsrm_model.specs.Name.{is_named}
-use Rattle.fsrm_model.specs.Patterns.{is_object_name}
-use Rattle.fsrm_model.specs.Quota.{counts, is_complete, is_limit}
+use Rattle.fsrm_model.specs.Quota.{counts, is_complete}
 use Rattle.fsrm_model.specs.QuotaStates.{followed}
 use Rattle.fsrm_model.specs.Templates.{is_derived, is_template, template_name, template_named, template_number, without_source}
 use Rattle.fsrm_model.specs.TemplateWork.{is_applied, new_template, number_in}
 use Rattle.fsrm_model.specs.Text.{is_bare}
 use Rattle.fsrm_model.specs.Texts.{auto_bytes, object_texts, template_bytes}
-use Rattle.fsrm_model.specs.Thresholds.{are_too_many, changed_thresholds, is_notice, is_percent}
+use Rattle.fsrm_model.specs.Thresholds.{are_too_many, changed_thresholds}
 use Rattle.fsrm_model.specs.Tree.{usage}
 use Rattle.fsrm_model.proofs.commands.ValueParts.{IsNewTemplate}
 use Rattle.fsrm_model.proofs.thresholds.ThresholdLaws.{changed_kept}

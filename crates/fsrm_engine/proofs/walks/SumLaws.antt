@@ -173,3 +173,18 @@ module _ (K : Capacity) (nodes : List NodeRow) (pending rest : List ℕ) (n : �
           ap length put,
           length-append rest (folders_among nodes (inside nodes n)),
         )
+
+-- ---- a file has no folder that waits
+pub none_waits : (nodes : List NodeRow) (n : ℕ) (pending : List ℕ) → pending ≡ folders_among nodes (n ∷ []) → is_folder nodes n ≡ false → pending ≡ []
+none_waits nodes n pending put file = put ∙ ap (λ b. cond b (n ∷ []) []) file
+
+pub some_wait : (pending rest : List ℕ) (n : ℕ) → pending ≡ rest ++ n ∷ [] → pending ≡ [] → ⊥
+some_wait pending [] n last none = cc
+some_wait pending (k ∷ rest) n last none = cc
+
+true_unless : (b : Bool) → (b ≡ false → ⊥) → b ≡ true
+true_unless true h = refl
+true_unless false h = absurd (h refl)
+
+pub waits_below : (nodes : List NodeRow) (n : ℕ) (pending rest : List ℕ) (folder : ℕ) → (is_folder nodes n ≡ false → pending ≡ []) → pending ≡ rest ++ folder ∷ [] → is_folder nodes n ≡ true
+waits_below nodes n pending rest folder none last = true_unless (is_folder nodes n) (λ file. some_wait pending rest folder last (none file))

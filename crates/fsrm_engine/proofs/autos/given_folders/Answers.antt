@@ -29,8 +29,8 @@ returns-clause-folders g c =
 
 pub returns-in_err-put_all_given-clause-looks : goal.returns-in_err-put_all_given-clause-looks
 returns-in_err-put_all_given-clause-looks g c =
-    omega (arith, c.children-children.ensures.count, c.put_all_given.ensures.looks, numbers_many c.args.tree.now.nodes c.args.row.now.folder c.children-children.result c.children-children.ensures.numbers)
+    omega (arith, c.children-children.ensures.as_child_count, c.put_all_given.ensures.looks, numbers_many c.args.tree.now.nodes c.args.row.now.folder c.children-children.result c.children-children.ensures.numbers)
 
 pub returns-clause-looks : goal.returns-clause-looks
 returns-clause-looks g c =
-    omega (arith, c.children-children.ensures.count, c.put_all_given.ensures.looks, numbers_many c.args.tree.now.nodes c.args.row.now.folder c.children-children.result c.children-children.ensures.numbers)
+    omega (arith, c.children-children.ensures.as_child_count, c.put_all_given.ensures.looks, numbers_many c.args.tree.now.nodes c.args.row.now.folder c.children-children.result c.children-children.ensures.numbers)

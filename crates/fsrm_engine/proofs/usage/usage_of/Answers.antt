@@ -1,7 +1,8 @@
 use Rattle.std.proofs.Common.{ℕ, ◌+◌, ◌≤◌, ◌*◌, ◌++◌, [], ◌∷◌, ◌∙◌, List, ap, arith}
 use Rattle.fsrm_model.specs.Limits.{longest_file}
 use Rattle.rescan.specs.Visits.{folders_among}
-use Rattle.fsrm_engine.proofs.walks.SumLaws.{begun, looks_at_visit, visited_fewer, visited_folders, visited_looks, visited_sum, visited_total}
+use Rattle.fsrm_engine.proofs.coming.MemoryLaws.{on_err}
+use Rattle.fsrm_engine.proofs.walks.SumLaws.{begun, looks_at_visit, none_waits, some_wait, visited_fewer, visited_folders, visited_looks, visited_sum, visited_total, waits_below}
 use Rattle.fsrm_engine.proofs.walks.WalkLaws.{count_least, sum_at_visit}
 use Rattle.fsrm_engine.proofs.usage.usage_of.Goals as goal
 
@@ -15,6 +16,7 @@ loop-folder-init g c =
     let b = begun c.args.tree.now.size c.args.tree.now.nodes c.args.node c.put_one.new.pending.items c.requires.volume c.requires.there put in
     record {
       folders = b.are;
+      none = λ file. none_waits c.args.tree.now.nodes c.args.node c.put_one.new.pending.items put file;
       sum = b.sum c.in_ok-total.total c.in_ok-total.ensures.sum;
       looks = b.looks c.args.steps.now c.put_one.new.steps c.put_one.ensures.count;
     }
@@ -23,6 +25,10 @@ pub returns-in_err-total-2-clause-looks : goal.returns-in_err-total-2-clause-loo
 returns-in_err-total-2-clause-looks g c =
     looks_at_visit c.args.tree.now.size c.args.tree.now.nodes c.loop-folder.pending.items c.pop.new.self.items c.in-Some.folder c.requires.volume c.loop-folder.invariant.folders c.in-Some.ensures.items
     c.args.steps.now _ c.loop-folder.steps c.visit.new.steps c.loop-folder.invariant.looks c.visit.ensures.looks
+
+pub returns-in_err-total-2-clause-memory : goal.returns-in_err-total-2-clause-memory
+returns-in_err-total-2-clause-memory g c =
+    on_err c.from_residual-in_err-total-2.result (waits_below c.args.tree.now.nodes c.args.node c.loop-folder.pending.items c.pop.new.self.items c.in-Some.folder c.loop-folder.invariant.none c.in-Some.ensures.items)
 
 pub overflow_add-total : goal.overflow_add-total
 overflow_add-total g c =
@@ -56,6 +62,7 @@ loop-folder-preserved g c =
     let put = c.in_ok-total-2.ensures.folders in
     record {
       folders = visited_folders K nodes pending rest folder v waits last new put;
+      none = λ file. absurd (some_wait pending rest folder last (c.loop-folder.invariant.none file));
       sum = visited_total K nodes pending rest folder v waits last new put c.in_ok-total-2.field-0 c.loop-folder.total c.args.node c.in_ok-total-2.ensures.sum c.loop-folder.invariant.sum;
       looks = visited_looks K nodes pending rest folder v waits last new put c.args.steps.now _ c.loop-folder.steps c.visit.new.steps c.loop-folder.invariant.looks c.in_ok-total-2.ensures.count;
     }

@@ -1,11 +1,25 @@
-use Rattle.std.proofs.Common.{refl, arith}
+use Rattle.std.proofs.Common.{◌≡◌, true, refl, subst, arith}
+use Rattle.std.specs.Prelude.{◌&&◌, OnErr}
+use Rattle.fsrm_base.proofs.TestLaws.{both, le_is}
+use Rattle.fsrm_model.specs.Limits.{latest_moment}
+use Rattle.fsrm_model.specs.Valid.{is_moment}
+use Rattle.fsrm_model.specs.Valued.{is_deed, is_short}
 use Rattle.fsrm_model.proofs.commands.EachCommand.{step_acts}
-use Rattle.fsrm_engine.specs.Machine.{machine_of, rows_of}
+use Rattle.fsrm_engine.specs.Machine.{Machine, machine_of, rows_of}
+use Rattle.fsrm_engine.specs.Memory.{may_want_memory}
 use Rattle.fsrm_engine.proofs.steps.WholeLaws.{result_named, seen_cost, seen_err, seen_idle, seen_ok}
 use Rattle.fsrm_engine.proofs.engine.Engine.apply.Goals as goal
 
-pub take-requires-clause-idle : goal.take-requires-clause-idle
-take-requires-clause-idle g c = seen_idle c.self.inside.parts c.args.self.now c.self.invariant c.self.view_is c.requires.idle
+pub take-requires-clause-ready : goal.take-requires-clause-ready
+take-requires-clause-ready g c =
+    let command = c.args.command.now in
+    let legal : (is_moment command.moment ≡ true) × ((is_deed command.deed && is_short command.deed) ≡ true) = both _ _ c.requires.valid in
+    record {
+      whole = c.self.invariant;
+      idle = seen_idle c.self.inside.parts c.args.self.now c.self.invariant c.self.view_is c.requires.idle;
+      in_range = le_is command.moment latest_moment legal.0;
+      after = c.if-command-self.false;
+    }
 
 pub returns-clause-ok : goal.returns-clause-ok
 returns-clause-ok g c =
@@ -19,6 +33,10 @@ returns-clause-named g c =
     result_named (machine_of p) (machine_of c.take.new.self) c.args.command.now c.take.result
     (seen_ok p c.take.new.self (machine_of p) c.args.command.now c.take.result refl c.take.ensures.ok c.take.ensures.whole.valid.quotas
     (step_acts p.tree.size (rows_of p) c.args.command.now c.self.invariant.valid c.requires.valid)) c.self.invariant.valid
+
+pub returns-clause-memory : goal.returns-clause-memory
+returns-clause-memory g c =
+    subst (λ (seen : Machine). OnErr c.take.result (may_want_memory seen.rows c.args.command.now.deed ≡ true)) c.self.view_is c.take.ensures.memory
 
 pub returns-clause-err : goal.returns-clause-err
 returns-clause-err g c = seen_err c.self.inside.parts c.take.new.self c.args.self.now c.take.result c.self.view_is c.take.ensures.err

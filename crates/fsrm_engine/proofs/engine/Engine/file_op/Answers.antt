@@ -8,8 +8,14 @@ use Rattle.fsrm_engine.specs.Memory.{may_want_memory}
 use Rattle.fsrm_engine.proofs.steps.WholeLaws.{result_named, seen_cost, seen_err, seen_idle, seen_ok}
 use Rattle.fsrm_engine.proofs.engine.Engine.file_op.Goals as goal
 
-pub file_op-requires-clause-idle : goal.file_op-requires-clause-idle
-file_op-requires-clause-idle g c = seen_idle c.self.inside.parts c.args.self.now c.self.invariant c.self.view_is c.requires.idle
+pub file_op-requires-clause-ready : goal.file_op-requires-clause-ready
+file_op-requires-clause-ready g c =
+    record {
+      whole = c.self.invariant;
+      idle = seen_idle c.self.inside.parts c.args.self.now c.self.invariant c.self.view_is c.requires.idle;
+      in_range = c.requires.moment;
+      after = c.if-moment-self.false;
+    }
 
 pub returns-clause-ok : goal.returns-clause-ok
 returns-clause-ok g c =
@@ -28,7 +34,7 @@ returns-clause-named g c =
 
 pub returns-clause-memory : goal.returns-clause-memory
 returns-clause-memory g c =
-    subst (λ (seen : Machine). OnErr c.file_op.result (may_want_memory seen.rows c.args.op.now ≡ true)) c.self.view_is c.file_op.ensures.memory
+    subst (λ (seen : Machine). OnErr c.file_op.result (may_want_memory seen.rows (File c.args.op.now) ≡ true)) c.self.view_is c.file_op.ensures.memory
 
 pub returns-clause-err : goal.returns-clause-err
 returns-clause-err g c = seen_err c.self.inside.parts c.file_op.new.self c.args.self.now c.file_op.result c.self.view_is c.file_op.ensures.err

@@ -9,8 +9,16 @@ use Rattle.fsrm_engine.specs.Machine.{machine_of, rows_of}
 use Rattle.fsrm_engine.proofs.steps.WholeLaws.{seen_cost, seen_idle, seen_takes, takes_named, whole_after}
 use Rattle.fsrm_engine.proofs.engine.Engine.scan_step.Goals as goal
 
-pub go_on-requires-clause-idle : goal.go_on-requires-clause-idle
-go_on-requires-clause-idle g c = seen_idle c.self.inside.parts c.args.self.now c.self.invariant c.self.view_is c.requires.idle
+pub go_on-requires : goal.go_on-requires
+go_on-requires g c =
+    record {
+      ready = record {
+        whole = c.self.invariant;
+        idle = seen_idle c.self.inside.parts c.args.self.now c.self.invariant c.self.view_is c.requires.idle;
+        in_range = c.requires.moment;
+        after = c.if-moment-self.false;
+      };
+    }
 
 pub invariant_of-self : goal.invariant_of-self
 invariant_of-self g c =

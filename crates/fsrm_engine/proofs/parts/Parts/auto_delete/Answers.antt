@@ -13,10 +13,10 @@ drop_auto-requires g c =
 pub returns-clause-ok : goal.returns-clause-ok
 returns-clause-ok g c =
     let p = c.args.self.now in
-    auto_deleted p c.args.moment c.in-Some.folder c.args.path.now c.in-Some.ensures.folder c.done.new.self c.drop_auto.new.self c.done.result c.requires.whole c.requires.idle c.requires.after
+    auto_deleted p c.args.moment c.in-Some.folder c.args.path.now c.in-Some.ensures.folder c.done.new.self c.drop_auto.new.self c.done.result c.requires.ready.whole c.requires.ready.idle c.requires.ready.after
     (lent_there c.auto.result (auto_of (rows_of p) c.in-Some.folder) c.is_none.result c.auto.ensures.found c.is_none.ensures c.if-is_none.false)
     c.drop_auto.ensures c.done.ensures.ended c.done.ensures.answer
 
 pub returns-clause-sound : goal.returns-clause-sound
 returns-clause-sound g c =
-    sound_ended (ruled c.args.self.now c.drop_auto.new.self) c.done.new.self c.args.moment c.done.ensures.ended c.done.ensures.counted c.requires.whole.sound.scanning
+    sound_ended (ruled c.args.self.now c.drop_auto.new.self) c.done.new.self c.args.moment c.done.ensures.ended c.done.ensures.counted c.requires.ready.whole.sound.scanning

@@ -7,8 +7,8 @@ use Rattle.fsrm_engine.proofs.judging.JudgedLaws.{told_of, told_same}
 use Rattle.fsrm_engine.proofs.judging.NotedLaws.{counted_noted, noted}
 use Rattle.fsrm_engine.proofs.parts.Parts.block.Goals as goal
 
-pub settle-requires-clause-counted : goal.settle-requires-clause-counted
-settle-requires-clause-counted c =
+pub end-requires-clause-counted : goal.end-requires-clause-counted
+end-requires-clause-counted c =
     let p = c.args.self.now in
     let t = told_of p c.args.judged c.requires.there in
     let judged : Judged = record { screen = t.screen; owner = c.args.owner; folder = c.args.folder; name = c.args.name.now } in
@@ -18,6 +18,6 @@ pub returns-clause-blocked : goal.returns-clause-blocked
 returns-clause-blocked c screen found = record {
   between = c.note.new.self;
   notes = c.note.ensures.noted screen found;
-  ends = c.settle.ensures.ended;
+  ends = c.end.ensures.ended;
   answer_is = ap (λ (j : Blocked). record { outcome = Refused (ScreenBlocked j.screen); lasting = true }) (sym (told_same c.args.self.now c.args.judged screen c.requires.there found));
 }

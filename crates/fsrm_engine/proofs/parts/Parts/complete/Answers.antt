@@ -60,5 +60,5 @@ returns-clause-completed c =
       peaks_are = done.quotas_are;
       counted = done.engine;
       ran = c.settle_quota.ensures.settled;
-      ends = c.settle.ensures.ended;
+      ends = c.end.ensures.ended;
     }

@@ -29,8 +29,8 @@ use Rattle.fsrm_engine.proofs.parts.Parts.create.Goals as goal
 pub returns-in-Err-clause-ok : goal.returns-in-Err-clause-ok
 returns-in-Err-clause-ok g c =
     let p = c.args.self.now in
-    refused_as p c.args.moment (File (Create c.args.path.now c.args.length c.args.owner)) _ c.in-Err.refusal c.requires.idle c.requires.after
-    (create_refused p c.args.moment c.args.path.now c.args.length c.args.owner c.in-Err.refusal c.requires.whole.sound.counted.volume c.in-Err.ensures.err)
+    refused_as p c.args.moment (File (Create c.args.path.now c.args.length c.args.owner)) _ c.in-Err.refusal c.requires.ready.idle c.requires.ready.after
+    (create_refused p c.args.moment c.args.path.now c.args.length c.args.owner c.in-Err.refusal c.requires.ready.whole.sound.counted.volume c.in-Err.ensures.err)
     (new_bare p.tree c.args.path.now c.in-Err.refusal c.in-Err.ensures.err) c.refused.ensures
 
 pub admit-requires-clause-change : goal.admit-requires-clause-change
@@ -39,7 +39,7 @@ admit-requires-clause-change g c = record { from = tt; to = folder_has c.args.se
 pub admit-requires-clause-fits : goal.admit-requires-clause-fits
 admit-requires-clause-fits g c =
     let p = c.args.self.now in
-    let e = c.requires.whole.sound.counted in
+    let e = c.requires.ready.whole.sound.counted in
     fits_plus p.tree.size p.tree.nodes p.tree.nodes p.objects.quotas p.usage _ e.volume e.legal e.are_quotas e.sums c.allocated.ensures.small
 
 pub returns-in-Err-admit-clause-ok : goal.returns-in-Err-admit-clause-ok
@@ -49,10 +49,10 @@ returns-in-Err-admit-clause-ok g c =
     let name = c.in-Ok.found.0.name.now in
     let judged = c.judge-judged.result in
     let j = created_judged p c.args.path.now c.args.length c.args.owner d name judged c.in-Ok.ensures.ok.at c.judge-judged.ensures.judged in
-    let e = c.requires.whole.sound.counted in
+    let e = c.requires.ready.whole.sound.counted in
     let at = c.in-Ok.ensures.ok.at in
     let changes = make_changes p.tree.size p.tree.nodes p.objects.quotas c.in-Ok.found.0.folder c.in-Ok.found.0.name.now c.args.length c.args.owner c.args.moment c.allocated.result e.volume e.are_quotas at.folder_is c.allocated.ensures.space in
-    refused_op p c.refuse.new.self c.args.moment (File (Create c.args.path.now c.args.length c.args.owner)) c.refuse.result _ _ c.in-Err-admit.exceeded e c.requires.idle c.requires.after
+    refused_op p c.refuse.new.self c.args.moment (File (Create c.args.path.now c.args.length c.args.owner)) c.refuse.result _ _ c.in-Err-admit.exceeded e c.requires.ready.idle c.requires.ready.after
     (create_free p c.args.moment c.args.path.now c.args.length c.args.owner d name e.volume c.in-Ok.ensures.ok
     ∙ none_by _ _ (unblocked p (Create c.args.path.now c.args.length c.args.owner) judged c.args.owner d name j c.in_default.ensures))
     (ap (λ (w : Volume). w.nodes) (made_is p.tree c.args.path.now c.in-Ok.found.0.folder c.in-Ok.found.0.name.now false c.args.length c.args.owner c.args.moment at))
@@ -60,36 +60,36 @@ returns-in-Err-admit-clause-ok g c =
 
 pub returns-in-Err-admit-clause-sound : goal.returns-in-Err-admit-clause-sound
 returns-in-Err-admit-clause-sound g c =
-    refused_sound c.args.self.now c.refuse.new.self c.args.moment c.in-Err-admit.exceeded c.refuse.result c.refuse.ensures.refused c.refuse.ensures.counted c.requires.whole.sound.scanning
+    refused_sound c.args.self.now c.refuse.new.self c.args.moment c.in-Err-admit.exceeded c.refuse.result c.refuse.ensures.refused c.refuse.ensures.counted c.requires.ready.whole.sound.scanning
 
 pub refuse-requires-clause-there : goal.refuse-requires-clause-there
 refuse-requires-clause-there g c =
-    refuser_there c.args.self.now (record { from = None; to = Some c.in-Ok.found.0.folder; minus = 0; plus = c.allocated.result }) c.in-Err-admit.exceeded c.requires.whole.sound.counted c.in-Err-admit.ensures.err
+    refuser_there c.args.self.now (record { from = None; to = Some c.in-Ok.found.0.folder; minus = 0; plus = c.allocated.result }) c.in-Err-admit.exceeded c.requires.ready.whole.sound.counted c.in-Err-admit.ensures.err
 
 pub refuse-requires-clause-log : goal.refuse-requires-clause-log
-refuse-requires-clause-log g c = few_log c.args.self.now c.requires.whole
+refuse-requires-clause-log g c = few_log c.args.self.now c.requires.ready.whole
 
 pub returns-in-Err-admit-clause-looks : goal.returns-in-Err-admit-clause-looks
 returns-in-Err-admit-clause-looks g c =
-    omega (arith, c.in-Ok.ensures.looks, c.in-Err-admit.ensures.looks, c.judge-judged.ensures.looks, place_depth _ _ _ _ _ c.requires.whole.sound.counted.volume c.in-Ok.ensures.ok.at)
+    omega (arith, c.in-Ok.ensures.looks, c.in-Err-admit.ensures.looks, c.judge-judged.ensures.looks, place_depth _ _ _ _ _ c.requires.ready.whole.sound.counted.volume c.in-Ok.ensures.ok.at)
 
 pub end_named-requires-clause-change : goal.end_named-requires-clause-change
 end_named-requires-clause-change g c =
-    record { from = tt; to = there_made c.args.self.now.tree c.make_file-node.new.self c.in-Ok.found.0.folder c.in-Ok.found.0.name.now c.args.length c.args.owner c.args.moment c.requires.whole.sound.counted.volume c.in-Ok.ensures.ok.at.folder_is c.make_file-node.ensures.made }
+    record { from = tt; to = there_made c.args.self.now.tree c.make_file-node.new.self c.in-Ok.found.0.folder c.in-Ok.found.0.name.now c.args.length c.args.owner c.args.moment c.requires.ready.whole.sound.counted.volume c.in-Ok.ensures.ok.at.folder_is c.make_file-node.ensures.made }
 
 pub end_named-requires-clause-fits : goal.end_named-requires-clause-fits
 end_named-requires-clause-fits g c =
     let p = c.args.self.now in
-    let e = c.requires.whole.sound.counted in
+    let e = c.requires.ready.whole.sound.counted in
     fits_plus p.tree.size p.tree.nodes c.make_file-node.new.self.nodes p.objects.quotas p.usage _ e.volume e.legal e.are_quotas e.sums c.allocated.ensures.small
 
 pub end_named-requires-clause-quotas : goal.end_named-requires-clause-quotas
-end_named-requires-clause-quotas g c = let p = c.args.self.now in quotas_orderly p.tree.nodes p.objects.quotas c.requires.whole.sound.counted.are_quotas
+end_named-requires-clause-quotas g c = let p = c.args.self.now in quotas_orderly p.tree.nodes p.objects.quotas c.requires.ready.whole.sound.counted.are_quotas
 
 pub end_named-requires-clause-covered : goal.end_named-requires-clause-covered
 end_named-requires-clause-covered g c =
     let p = c.args.self.now in
-    let e = c.requires.whole.sound.counted in
+    let e = c.requires.ready.whole.sound.counted in
     let change : Change = record { from = None; to = Some c.in-Ok.found.0.folder; minus = 0; plus = c.allocated.result } in
     subst (λ (w : Volume). IsCovered w.nodes p.usage change) (sym c.make_file-node.ensures.made)
     (covered_by p _ change e
@@ -97,16 +97,16 @@ end_named-requires-clause-covered g c =
     (λ from to given at other. absurd (cc given)))
 
 pub end_named-requires-clause-idle : goal.end_named-requires-clause-idle
-end_named-requires-clause-idle g c = record { numbers = c.requires.idle.numbers; places = c.requires.idle.places; crossing = c.requires.idle.crossing }
+end_named-requires-clause-idle g c = record { numbers = c.requires.ready.idle.numbers; places = c.requires.ready.idle.places; crossing = c.requires.ready.idle.crossing }
 
 pub end_named-requires-clause-log : goal.end_named-requires-clause-log
-end_named-requires-clause-log g c = few_log c.args.self.now c.requires.whole
+end_named-requires-clause-log g c = few_log c.args.self.now c.requires.ready.whole
 
 pub end_named-requires-clause-counted : goal.end_named-requires-clause-counted
 end_named-requires-clause-counted g c =
     let p = c.args.self.now in
     (make_done p.tree c.make_file-node.new.self p.objects.quotas _ p.usage _ c.in-Ok.found.0.folder c.in-Ok.found.0.name.now c.args.length c.args.owner c.args.moment c.allocated.result
-    c.requires.whole.sound.counted c.in-Ok.ensures.ok.at.folder_is c.allocated.ensures.space c.make_file-node.ensures.made c.make_file-node.ensures.kept c.requires.moment refl refl).engine
+    c.requires.ready.whole.sound.counted c.in-Ok.ensures.ok.at.folder_is c.allocated.ensures.space c.make_file-node.ensures.made c.make_file-node.ensures.kept c.requires.ready.in_range refl refl).engine
 
 pub returns-clause-ok : goal.returns-clause-ok
 returns-clause-ok g c =
@@ -115,7 +115,7 @@ returns-clause-ok g c =
     let name = c.in-Ok.found.0.name.now in
     let judged = c.judge-judged.result in
     let j = created_judged p c.args.path.now c.args.length c.args.owner d name judged c.in-Ok.ensures.ok.at c.judge-judged.ensures.judged in
-    let e = c.requires.whole.sound.counted in
+    let e = c.requires.ready.whole.sound.counted in
     let at = c.in-Ok.ensures.ok.at in
     let w = c.make_file-node.new.self in
     let changes = make_changes p.tree.size p.tree.nodes p.objects.quotas d name c.args.length c.args.owner c.args.moment c.allocated.result e.volume e.are_quotas at.folder_is c.allocated.ensures.space in
@@ -124,38 +124,38 @@ returns-clause-ok g c =
     let mid : Parts = record p { tree = w; scans = c.follow_create.new.self } in
     let charged = charged_parts mid change c.args.moment in
     let done = make_done p.tree w p.objects.quotas charged.objects.quotas p.usage charged.usage d name c.args.length c.args.owner c.args.moment c.allocated.result
-    e at.folder_is c.allocated.ensures.space c.make_file-node.ensures.made c.make_file-node.ensures.kept c.requires.moment refl refl in
+    e at.folder_is c.allocated.ensures.space c.make_file-node.ensures.made c.make_file-node.ensures.kept c.requires.ready.in_range refl refl in
     let size = ap (λ (w : Volume). w.size) c.make_file-node.ensures.made in
     let op = Create c.args.path.now c.args.length c.args.owner in
     let oj = name_under (screen_told p judged) c.args.owner d name in
     done_named p mid c.end_named.new.self c.args.moment (File op) c.end_named.result change oj
     (record {
-      after = c.requires.after;
+      after = c.requires.ready.after;
       none = create_free p c.args.moment c.args.path.now c.args.length c.args.owner d name e.volume c.in-Ok.ensures.ok
           ∙ (none_by _ _ (unblocked p (Create c.args.path.now c.args.length c.args.owner) judged c.args.owner d name j c.in_default.ensures)
           ∙ by_quotas p _ _ _ e changes (ap (option_map exceeded_refusal) c.in_default-admit.ensures.ok));
       lasts = refl;
       judged_is = j.named;
       size = size;
-      idle = record { numbers = c.requires.idle.numbers; places = c.requires.idle.places; crossing = c.requires.idle.crossing };
+      idle = record { numbers = c.requires.ready.idle.numbers; places = c.requires.ready.idle.places; crossing = c.requires.ready.idle.crossing };
       made = op_made p mid c.args.moment op p.objects.quotas _
           (ap (λ (w : Volume). w.nodes) (sym (c.make_file-node.ensures.made ∙ made_is p.tree _ _ _ false c.args.length c.args.owner c.args.moment at)))
           (record { quotas_are = refl; screens_are = refl; excepts_are = refl; autos_are = refl }) refl (λ k. left_back p w c.make_file-node.result made.back)
           c.follow_create.ensures.follows (record { size = size; marks = refl; crossing = refl; groups = refl; templates = refl; audit = refl; run_limit = refl; last_moment = refl });
     })
-    (few_log p c.requires.whole) c.end_named.ensures.ended done.raised_are (charged_due p w c.follow_create.new.self change c.args.moment size e done.engine)
+    (few_log p c.requires.ready.whole) c.end_named.ensures.ended done.raised_are (charged_due p w c.follow_create.new.self change c.args.moment size e done.engine)
     (answers_it p c.args.moment op c.end_named.result judged c.args.owner d name j c.end_named.ensures.answer)
 
 pub returns-clause-sound : goal.returns-clause-sound
 returns-clause-sound g c =
     let p = c.args.self.now in
     let mid : Parts = record p { tree = c.make_file-node.new.self; scans = c.follow_create.new.self } in
-    sound_named mid c.end_named.new.self _ _ c.args.moment c.requires.idle.places (few_log p c.requires.whole) c.end_named.ensures.ended c.end_named.ensures.counted c.follow_create.ensures.follows.scanning
+    sound_named mid c.end_named.new.self _ _ c.args.moment c.requires.ready.idle.places (few_log p c.requires.ready.whole) c.end_named.ensures.ended c.end_named.ensures.counted c.follow_create.ensures.follows.scanning
 
 pub returns-clause-looks : goal.returns-clause-looks
 returns-clause-looks g c =
     let v = c.args.self.now.tree in
-    let k = c.requires.whole.sound.counted.volume in
+    let k = c.requires.ready.whole.sound.counted.volume in
     let at = c.in-Ok.ensures.ok.at in
     omega (
       arith,
@@ -172,27 +172,27 @@ returns-clause-looks g c =
 
 pub follow_create-requires-clause-there : goal.follow_create-requires-clause-there
 follow_create-requires-clause-there g c =
-    (is_made c.args.self.now.tree c.make_file-node.new.self c.make_file-node.result c.in-Ok.found.0.folder c.in-Ok.found.0.name.now false c.args.length c.args.owner c.args.moment c.requires.whole.sound.counted.volume c.make_file-node.ensures.made c.make_file-node.ensures.number).there
+    (is_made c.args.self.now.tree c.make_file-node.new.self c.make_file-node.result c.in-Ok.found.0.folder c.in-Ok.found.0.name.now false c.args.length c.args.owner c.args.moment c.requires.ready.whole.sound.counted.volume c.make_file-node.ensures.made c.make_file-node.ensures.number).there
 
 pub follow_create-requires-clause-file : goal.follow_create-requires-clause-file
 follow_create-requires-clause-file g c =
-    (is_made c.args.self.now.tree c.make_file-node.new.self c.make_file-node.result c.in-Ok.found.0.folder c.in-Ok.found.0.name.now false c.args.length c.args.owner c.args.moment c.requires.whole.sound.counted.volume c.make_file-node.ensures.made c.make_file-node.ensures.number).kind
+    (is_made c.args.self.now.tree c.make_file-node.new.self c.make_file-node.result c.in-Ok.found.0.folder c.in-Ok.found.0.name.now false c.args.length c.args.owner c.args.moment c.requires.ready.whole.sound.counted.volume c.make_file-node.ensures.made c.make_file-node.ensures.number).kind
 
 pub follow_create-requires-clause-own : goal.follow_create-requires-clause-own
 follow_create-requires-clause-own g c = λ row found.
     let v = c.args.self.now.tree in
-    made_length v c.make_file-node.new.self c.make_file-node.result _ row (is_made v c.make_file-node.new.self c.make_file-node.result c.in-Ok.found.0.folder c.in-Ok.found.0.name.now false c.args.length c.args.owner c.args.moment c.requires.whole.sound.counted.volume c.make_file-node.ensures.made c.make_file-node.ensures.number) found
+    made_length v c.make_file-node.new.self c.make_file-node.result _ row (is_made v c.make_file-node.new.self c.make_file-node.result c.in-Ok.found.0.folder c.in-Ok.found.0.name.now false c.args.length c.args.owner c.args.moment c.requires.ready.whole.sound.counted.volume c.make_file-node.ensures.made c.make_file-node.ensures.number) found
 
 pub follow_create-requires-clause-scanning : goal.follow_create-requires-clause-scanning
 follow_create-requires-clause-scanning g c =
     let v = c.args.self.now.tree in
-    back_scans v c.make_file-node.new.self c.make_file-node.result _ (is_made v c.make_file-node.new.self c.make_file-node.result c.in-Ok.found.0.folder c.in-Ok.found.0.name.now false c.args.length c.args.owner c.args.moment c.requires.whole.sound.counted.volume c.make_file-node.ensures.made c.make_file-node.ensures.number).back c.requires.whole.sound.scanning
+    back_scans v c.make_file-node.new.self c.make_file-node.result _ (is_made v c.make_file-node.new.self c.make_file-node.result c.in-Ok.found.0.folder c.in-Ok.found.0.name.now false c.args.length c.args.owner c.args.moment c.requires.ready.whole.sound.counted.volume c.make_file-node.ensures.made c.make_file-node.ensures.number).back c.requires.ready.whole.sound.scanning
 
 pub end_named-requires-clause-there : goal.end_named-requires-clause-there
 end_named-requires-clause-there g c = told_there c.args.self.now c.in-Ok.found.0.folder c.in-Ok.found.0.name.now c.judge-judged.result c.judge-judged.ensures.judged
 
 pub end_named-requires-clause-few : goal.end_named-requires-clause-few
-end_named-requires-clause-few g c = λ screen found. few_told c.args.self.now c.judge-judged.result screen c.requires.whole found
+end_named-requires-clause-few g c = λ screen found. few_told c.args.self.now c.judge-judged.result screen c.requires.ready.whole found
 
 pub block-requires-clause-there : goal.block-requires-clause-there
 block-requires-clause-there g c =
@@ -204,7 +204,7 @@ block-requires-clause-there g c =
     told_one p judged c.in-Some.active j.there c.in-Some.ensures.0
 
 pub block-requires-clause-few : goal.block-requires-clause-few
-block-requires-clause-few g c = λ screen found. few_at c.args.self.now c.in-Some.active.screen screen c.requires.whole found
+block-requires-clause-few g c = λ screen found. few_at c.args.self.now c.in-Some.active.screen screen c.requires.ready.whole found
 
 pub returns-in-Some-clause-ok : goal.returns-in-Some-clause-ok
 returns-in-Some-clause-ok g c =
@@ -213,8 +213,8 @@ returns-in-Some-clause-ok g c =
     let name = c.in-Ok.found.0.name.now in
     let judged = c.judge-judged.result in
     let j = created_judged p c.args.path.now c.args.length c.args.owner d name judged c.in-Ok.ensures.ok.at c.judge-judged.ensures.judged in
-    blocked_op p c.block.new.self c.args.moment (Create c.args.path.now c.args.length c.args.owner) c.block.result judged c.in-Some.active c.args.owner d name c.requires.idle c.requires.after
-    (λ refusal h. create_free p c.args.moment c.args.path.now c.args.length c.args.owner d name c.requires.whole.sound.counted.volume c.in-Ok.ensures.ok
+    blocked_op p c.block.new.self c.args.moment (Create c.args.path.now c.args.length c.args.owner) c.block.result judged c.in-Some.active c.args.owner d name c.requires.ready.idle c.requires.ready.after
+    (λ refusal h. create_free p c.args.moment c.args.path.now c.args.length c.args.owner d name c.requires.ready.whole.sound.counted.volume c.in-Ok.ensures.ok
     ∙ some_by _ _ refusal h)
     j c.in-Some.ensures.0 c.in-Some.ensures.1 c.block.ensures.blocked
 
@@ -225,8 +225,8 @@ returns-in-Some-clause-sound g c =
     let name = c.in-Ok.found.0.name.now in
     let judged = c.judge-judged.result in
     let j = created_judged p c.args.path.now c.args.length c.args.owner d name judged c.in-Ok.ensures.ok.at c.judge-judged.ensures.judged in
-    block_sound p c.block.new.self c.args.moment (Create c.args.path.now c.args.length c.args.owner) c.block.result judged c.in-Some.active c.args.owner d name j c.in-Some.ensures.0 c.block.ensures.blocked c.block.ensures.counted c.requires.whole.sound.scanning
+    block_sound p c.block.new.self c.args.moment (Create c.args.path.now c.args.length c.args.owner) c.block.result judged c.in-Some.active c.args.owner d name j c.in-Some.ensures.0 c.block.ensures.blocked c.block.ensures.counted c.requires.ready.whole.sound.scanning
 
 pub returns-in-Some-clause-looks : goal.returns-in-Some-clause-looks
 returns-in-Some-clause-looks g c =
-    omega (arith, c.in-Ok.ensures.looks, c.judge-judged.ensures.looks, place_depth _ _ _ _ _ c.requires.whole.sound.counted.volume c.in-Ok.ensures.ok.at)
+    omega (arith, c.in-Ok.ensures.looks, c.judge-judged.ensures.looks, place_depth _ _ _ _ _ c.requires.ready.whole.sound.counted.volume c.in-Ok.ensures.ok.at)

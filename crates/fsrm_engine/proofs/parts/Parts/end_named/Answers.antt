@@ -34,8 +34,8 @@ charge-requires-clause-covered g c =
     let name = name_under (screen_told p c.args.judged) c.args.owner c.args.place.folder c.args.place.name.now in
     noted_covered p c.report.new.self name c.args.moment c.requires.idle.places c.requires.log c.report.ensures c.args.change.now c.requires.covered
 
-pub charge-requires-clause-idle : goal.charge-requires-clause-idle
-charge-requires-clause-idle g c =
+pub charge-requires-clause-calm : goal.charge-requires-clause-calm
+charge-requires-clause-calm g c =
     let p = c.args.self.now in
     let name = name_under (screen_told p c.args.judged) c.args.owner c.args.place.folder c.args.place.name.now in
     noted_calm p c.report.new.self name c.args.moment c.requires.idle.places c.requires.log c.report.ensures c.requires.idle.numbers c.requires.idle.crossing

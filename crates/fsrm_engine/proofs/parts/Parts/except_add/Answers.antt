@@ -4,6 +4,7 @@ use Rattle.fsrm_model.specs.Screens.{except_of, screen_of}
 use Rattle.fsrm_model.specs.ScreenWork.{are_named, new_except, numbers_named, with_last}
 use Rattle.fsrm_objects.specs.Tables.{Tables}
 use Rattle.fsrm_engine.specs.Machine.{rows_of}
+use Rattle.fsrm_engine.proofs.coming.MemoryLaws.{folder_wants, on_err}
 use Rattle.fsrm_engine.proofs.tables.GroupLaws.{retabled_counted, retabled_ended, retabled_sound}
 use Rattle.fsrm_engine.proofs.tables.ScreenLaws.{except_added, except_unadded, found_groups, lent_some}
 use Rattle.fsrm_engine.proofs.parts.Parts.except_add.Goals as goal
@@ -45,3 +46,9 @@ returns-in-Err-clause-ok g c =
 pub returns-in-Err-clause-sound : goal.returns-in-Err-clause-sound
 returns-in-Err-clause-sound g c =
     retabled_sound c.args.self.now c.args.self.now.groups c.add_except.new.self c.requires.ready.whole (ap (λ (t : Tables). t.quotas) c.in-Err.ensures.err)
+
+pub returns-in_err-groups-clause-memory : goal.returns-in_err-groups-clause-memory
+returns-in_err-groups-clause-memory g c = on_err _ (folder_wants c.args.self.now.tree.nodes c.args.except.now.path c.in-Some.folder c.in-Some.ensures.folder)
+
+pub returns-in-Err-clause-memory : goal.returns-in-Err-clause-memory
+returns-in-Err-clause-memory g c = on_err c.refused_for.result (folder_wants c.args.self.now.tree.nodes c.args.except.now.path c.in-Some.folder c.in-Some.ensures.folder)

@@ -15,7 +15,7 @@ use Rattle.fsrm_engine.proofs.parts.Parts.go_on.Goals as goal
 pub returns-in_default-clause-ok : goal.returns-in_default-clause-ok
 returns-in_default-clause-ok g c =
     let p = c.args.self.now in
-    refused_as p c.args.moment (Step c.args.n) c.refused.result NothingToScan c.requires.idle c.requires.after (none_checks p.scans.queue (sym c.head.ensures ∙ c.in_default.is)) refl c.refused.ensures
+    refused_as p c.args.moment (Step c.args.n) c.refused.result NothingToScan c.requires.ready.idle c.requires.ready.after (none_checks p.scans.queue (sym c.head.ensures ∙ c.in_default.is)) refl c.refused.ensures
 
 pub returns-then-not-done-clause-ok : goal.returns-then-not-done-clause-ok
 returns-then-not-done-clause-ok g c =
@@ -27,7 +27,7 @@ returns-then-not-done-clause-ok g c =
     let is = visited_left p v.new.self c.args.n v.ensures.kept v.ensures.left in
     subst (λ (answer : Answer). Does p v.new.self c.args.moment (Step c.args.n) answer) (sym c.passing.ensures)
     (subst (λ (q : Parts). Does p q c.args.moment (Step c.args.n) (record { outcome = Scanned n v.result None; lasting = false })) (sym v.ensures.kept)
-    (step_passing p s c.args.n c.args.moment n v.result c.requires.idle c.requires.after h is.rows (v.ensures.visited ∙ is.count)
+    (step_passing p s c.args.n c.args.moment n v.result c.requires.ready.idle c.requires.ready.after h is.rows (v.ensures.visited ∙ is.count)
     (sym (is.done n c.done.result v.ensures.whole.sound h (c.done.ensures v.new.self.tree)) ∙ c.if-not-done.true)))
 
 pub returns-clause-ok : goal.returns-clause-ok
@@ -38,14 +38,14 @@ returns-clause-ok g c =
     let h = sym c.head.ensures ∙ c.in-Some.is in
     let s = v.new.self.scans in
     let is = visited_left p v.new.self c.args.n v.ensures.kept v.ensures.left in
-    let queue = c.requires.whole.valid.queue in
+    let queue = c.requires.ready.whole.valid.queue in
     let f = has_found folder_of n p.objects.quotas (head_quota p.objects.quotas p.scans.queue n queue h) in
     step_ending p c.finish-used.new.self s c.args.n c.args.moment n v.result c.finish-used.result f.row
     (subst (λ (q : Parts). Finishes q c.finish-used.new.self n c.args.moment) v.ensures.kept c.finish-used.ensures.finished)
-    c.requires.idle c.requires.after h f.is (head_uncounted p.objects.quotas p.scans.queue n f.row queue h f.is) is.rows (v.ensures.visited ∙ is.count)
+    c.requires.ready.idle c.requires.ready.after h f.is (head_uncounted p.objects.quotas p.scans.queue n f.row queue h f.is) is.rows (v.ensures.visited ∙ is.count)
     (sym (is.done n c.done.result v.ensures.whole.sound h (c.done.ensures v.new.self.tree)) ∙ c.if-not-done.false)
     (c.finish-used.ensures.used ∙ is.used n)
 
 pub finish-used-requires-clause-idle : goal.finish-used-requires-clause-idle
 finish-used-requires-clause-idle g c =
-    subst IsIdle (sym c.visit-visited.ensures.kept) (record { numbers = c.requires.idle.numbers; places = c.requires.idle.places; crossing = c.requires.idle.crossing })
+    subst IsIdle (sym c.visit-visited.ensures.kept) (record { numbers = c.requires.ready.idle.numbers; places = c.requires.ready.idle.places; crossing = c.requires.ready.idle.crossing })

@@ -5,4 +5,4 @@ use Rattle.fsrm_engine.proofs.steps.StepLaws.{told_as}
 use Rattle.fsrm_engine.proofs.parts.Parts.list_templates.Goals as goal
 
 pub returns : goal.returns
-returns c = told_as c.args.self.now c.args.moment (Template TemplateList) c.listing.result c.requires.idle c.requires.after refl refl refl c.listing.ensures
+returns c = told_as c.args.self.now c.args.moment (Template TemplateList) c.listing.result c.requires.ready.idle c.requires.ready.after refl refl refl c.listing.ensures

@@ -18,7 +18,7 @@ use Rattle.fsrm_engine.proofs.parts.Parts.move_path.Goals as goal
 
 pub returns-in-Err-clause-ok : goal.returns-in-Err-clause-ok
 returns-in-Err-clause-ok g c =
-    refused_as c.args.self.now c.args.moment (File (Move c.args.from.now c.args.to.now)) _ c.in-Err.refusal c.requires.idle c.requires.after (c.in-Err.ensures.err c.args.moment) c.in-Err.ensures.bare c.refused.ensures
+    refused_as c.args.self.now c.args.moment (File (Move c.args.from.now c.args.to.now)) _ c.in-Err.refusal c.requires.ready.idle c.requires.ready.after (c.in-Err.ensures.err c.args.moment) c.in-Err.ensures.bare c.refused.ensures
 
 pub may_come-requires-clause-there : goal.may_come-requires-clause-there
 may_come-requires-clause-there g c = c.moved_source-source.ensures.there
@@ -27,19 +27,19 @@ pub returns-in-Err-may_come-clause-ok : goal.returns-in-Err-may_come-clause-ok
 returns-in-Err-may_come-clause-ok g c =
     let p = c.args.self.now in
     let source = c.moved_source-source.result in
-    refused_as p c.args.moment (File (Move c.args.from.now c.args.to.now)) _ c.in-Err-may_come.refusal c.requires.idle c.requires.after
-    (source_due p c.requires.whole c.args.moment c.args.from.now c.args.to.now c.in-Ok.found.0 c.in-Ok.ensures.ok source c.moved_source-source.ensures c.in-Err-may_come.refusal c.in-Err-may_come.ensures.refused)
+    refused_as p c.args.moment (File (Move c.args.from.now c.args.to.now)) _ c.in-Err-may_come.refusal c.requires.ready.idle c.requires.ready.after
+    (source_due p c.requires.ready.whole c.args.moment c.args.from.now c.args.to.now c.in-Ok.found.0 c.in-Ok.ensures.ok source c.moved_source-source.ensures c.in-Err-may_come.refusal c.in-Err-may_come.ensures.refused)
     (source_bare p source c.in-Err-may_come.refusal c.in-Err-may_come.ensures.refused) c.refused-in-Err-may_come.ensures
 
 pub block-requires-clause-there : goal.block-requires-clause-there
 block-requires-clause-there g c =
     let p = c.args.self.now in
     let judged = c.judge_moved-judged.result in
-    let j = judged_is p c.requires.whole c.args.moment c.args.from.now c.args.to.now c.in-Ok.found.0 c.in-Ok.ensures.ok c.moved_source-source.result c.moved_source-source.ensures judged c.judge_moved-judged.ensures.judged in
+    let j = judged_is p c.requires.ready.whole c.args.moment c.args.from.now c.args.to.now c.in-Ok.found.0 c.in-Ok.ensures.ok c.moved_source-source.result c.moved_source-source.ensures judged c.judge_moved-judged.ensures.judged in
     told_one p judged c.in-Some.active j.there c.in-Some.ensures.0
 
 pub block-requires-clause-few : goal.block-requires-clause-few
-block-requires-clause-few g c = λ screen found. few_at c.args.self.now c.in-Some.active.screen screen c.requires.whole found
+block-requires-clause-few g c = λ screen found. few_at c.args.self.now c.in-Some.active.screen screen c.requires.ready.whole found
 
 pub returns-in-Some-clause-ok : goal.returns-in-Some-clause-ok
 returns-in-Some-clause-ok g c =
@@ -48,9 +48,9 @@ returns-in-Some-clause-ok g c =
     let judged = c.judge_moved-judged.result in
     let source = c.moved_source-source.result in
     let is = c.moved_source-source.ensures in
-    let j = judged_is p c.requires.whole c.args.moment c.args.from.now c.args.to.now v c.in-Ok.ensures.ok source is judged c.judge_moved-judged.ensures.judged in
-    blocked_op p c.block.new.self c.args.moment (Move c.args.from.now c.args.to.now) c.block.result judged c.in-Some.active v.owner v.place.folder v.place.name.now c.requires.idle c.requires.after
-    (λ refusal h. screen_due p c.requires.whole c.args.moment c.args.from.now c.args.to.now v c.in-Ok.ensures.ok source is refusal c.in_default.ensures.may h)
+    let j = judged_is p c.requires.ready.whole c.args.moment c.args.from.now c.args.to.now v c.in-Ok.ensures.ok source is judged c.judge_moved-judged.ensures.judged in
+    blocked_op p c.block.new.self c.args.moment (Move c.args.from.now c.args.to.now) c.block.result judged c.in-Some.active v.owner v.place.folder v.place.name.now c.requires.ready.idle c.requires.ready.after
+    (λ refusal h. screen_due p c.requires.ready.whole c.args.moment c.args.from.now c.args.to.now v c.in-Ok.ensures.ok source is refusal c.in_default.ensures.may h)
     j c.in-Some.ensures.0 c.in-Some.ensures.1 c.block.ensures.blocked
 
 pub returns-in-Some-clause-sound : goal.returns-in-Some-clause-sound
@@ -58,11 +58,11 @@ returns-in-Some-clause-sound g c =
     let p = c.args.self.now in
     let v = c.in-Ok.found.0 in
     let judged = c.judge_moved-judged.result in
-    let j = judged_is p c.requires.whole c.args.moment c.args.from.now c.args.to.now v c.in-Ok.ensures.ok c.moved_source-source.result c.moved_source-source.ensures judged c.judge_moved-judged.ensures.judged in
-    block_sound p c.block.new.self c.args.moment (Move c.args.from.now c.args.to.now) c.block.result judged c.in-Some.active v.owner v.place.folder v.place.name.now j c.in-Some.ensures.0 c.block.ensures.blocked c.block.ensures.counted c.requires.whole.sound.scanning
+    let j = judged_is p c.requires.ready.whole c.args.moment c.args.from.now c.args.to.now v c.in-Ok.ensures.ok c.moved_source-source.result c.moved_source-source.ensures judged c.judge_moved-judged.ensures.judged in
+    block_sound p c.block.new.self c.args.moment (Move c.args.from.now c.args.to.now) c.block.result judged c.in-Some.active v.owner v.place.folder v.place.name.now j c.in-Some.ensures.0 c.block.ensures.blocked c.block.ensures.counted c.requires.ready.whole.sound.scanning
 
 pub moved_bytes-requires-clause-there : goal.moved_bytes-requires-clause-there
-moved_bytes-requires-clause-there g c = has_resolved _ _ _ _ c.requires.whole.sound.counted.volume c.in-Ok.ensures.ok.resolved
+moved_bytes-requires-clause-there g c = has_resolved _ _ _ _ c.requires.ready.whole.sound.counted.volume c.in-Ok.ensures.ok.resolved
 
 pub moved_bytes-requires-clause-kind : goal.moved_bytes-requires-clause-kind
 moved_bytes-requires-clause-kind g c = c.in-Ok.ensures.ok.kind
@@ -76,7 +76,7 @@ pub admit-requires-clause-change : goal.admit-requires-clause-change
 admit-requires-clause-change g c =
     let v = c.args.self.now.tree in
     let is = c.in-Ok.ensures.ok in
-    let k = c.requires.whole.sound.counted.volume in
+    let k = c.requires.ready.whole.sound.counted.volume in
     record { from = parent_there v.size v.nodes c.in-Ok.found.0.node c.in-Ok.found.0.parent k (has_resolved _ _ _ _ k is.resolved) is.parent; to = folder_has v.nodes c.in-Ok.found.0.place.folder is.at.folder_is }
 
 pub admit-requires-clause-fits : goal.admit-requires-clause-fits
@@ -85,16 +85,16 @@ admit-requires-clause-fits g c =
     let v = c.in-Ok.found.0 in
     let source = c.moved_source-source.result in
     let moved = moved_old p v.node source c.in_ok-bytes.bytes c.in_ok-bytes.ensures.moved in
-    move_fits p.tree p.objects.quotas p.usage v.node v.place.folder v.place.name.now v.parent c.in_ok-bytes.bytes c.requires.whole.sound.counted c.in-Ok.ensures.ok.parent
-    (to_it p c.requires.whole c.args.moment c.args.from.now c.args.to.now v c.in-Ok.ensures.ok source c.moved_source-source.ensures) moved
+    move_fits p.tree p.objects.quotas p.usage v.node v.place.folder v.place.name.now v.parent c.in_ok-bytes.bytes c.requires.ready.whole.sound.counted c.in-Ok.ensures.ok.parent
+    (to_it p c.requires.ready.whole c.args.moment c.args.from.now c.args.to.now v c.in-Ok.ensures.ok source c.moved_source-source.ensures) moved
 
 pub refuse-requires-clause-there : goal.refuse-requires-clause-there
 refuse-requires-clause-there g c =
     let v = c.in-Ok.found.0 in
-    refuser_there c.args.self.now (move_change v.parent v.place.folder c.in_ok-bytes.bytes) c.in-Err-admit.exceeded c.requires.whole.sound.counted c.in-Err-admit.ensures.err
+    refuser_there c.args.self.now (move_change v.parent v.place.folder c.in_ok-bytes.bytes) c.in-Err-admit.exceeded c.requires.ready.whole.sound.counted c.in-Err-admit.ensures.err
 
 pub refuse-requires-clause-log : goal.refuse-requires-clause-log
-refuse-requires-clause-log g c = few_log c.args.self.now c.requires.whole
+refuse-requires-clause-log g c = few_log c.args.self.now c.requires.ready.whole
 
 pub returns-in-Err-admit-clause-ok : goal.returns-in-Err-admit-clause-ok
 returns-in-Err-admit-clause-ok g c =
@@ -105,19 +105,19 @@ returns-in-Err-admit-clause-ok g c =
     let source = c.moved_source-source.result in
     let from = c.args.from.now in
     let to = c.args.to.now in
-    let e = c.requires.whole.sound.counted in
+    let e = c.requires.ready.whole.sound.counted in
     let moved = moved_old p v.node source c.in_ok-bytes.bytes c.in_ok-bytes.ensures.moved in
-    let j = judged_is p c.requires.whole c.args.moment from to v is source c.moved_source-source.ensures judged c.judge_moved-judged.ensures.judged in
-    refused_op p c.refuse.new.self c.args.moment (File (Move from to)) c.refuse.result (move_change v.parent v.place.folder c.in_ok-bytes.bytes) _ c.in-Err-admit.exceeded e c.requires.idle c.requires.after
-    (quota_due p c.requires.whole c.args.moment from to v is source c.moved_source-source.ensures judged c.in_default.ensures.may j c.in_default-blocking.ensures)
+    let j = judged_is p c.requires.ready.whole c.args.moment from to v is source c.moved_source-source.ensures judged c.judge_moved-judged.ensures.judged in
+    refused_op p c.refuse.new.self c.args.moment (File (Move from to)) c.refuse.result (move_change v.parent v.place.folder c.in_ok-bytes.bytes) _ c.in-Err-admit.exceeded e c.requires.ready.idle c.requires.ready.after
+    (quota_due p c.requires.ready.whole c.args.moment from to v is source c.moved_source-source.ensures judged c.in_default.ensures.may j c.in_default-blocking.ensures)
     (sym (move_nodes p.tree from to v.node v.place.folder v.place.name.now c.args.moment is.resolved is.at))
     (move_changes p.tree.size p.tree.nodes p.objects.quotas v.node v.place.folder v.place.name.now v.parent c.in_ok-bytes.bytes e.volume e.are_quotas is.parent
-    (to_it p c.requires.whole c.args.moment from to v is source c.moved_source-source.ensures) moved)
+    (to_it p c.requires.ready.whole c.args.moment from to v is source c.moved_source-source.ensures) moved)
     c.in-Err-admit.ensures.err c.refuse.ensures.refused
 
 pub returns-in-Err-admit-clause-sound : goal.returns-in-Err-admit-clause-sound
 returns-in-Err-admit-clause-sound g c =
-    refused_sound c.args.self.now c.refuse.new.self c.args.moment c.in-Err-admit.exceeded c.refuse.result c.refuse.ensures.refused c.refuse.ensures.counted c.requires.whole.sound.scanning
+    refused_sound c.args.self.now c.refuse.new.self c.args.moment c.in-Err-admit.exceeded c.refuse.result c.refuse.ensures.refused c.refuse.ensures.counted c.requires.ready.whole.sound.scanning
 
 pub make_move-requires-clause-may : goal.make_move-requires-clause-may
 make_move-requires-clause-may g c = record {
@@ -132,7 +132,7 @@ make_move-requires-clause-may g c = record {
 
 pub returns-in-Some-clause-looks : goal.returns-in-Some-clause-looks
 returns-in-Some-clause-looks g c =
-    omega (arith, c.in-Ok.ensures.looks, c.judge_moved-judged.ensures.looks, place_depth _ _ _ _ _ c.requires.whole.sound.counted.volume c.in-Ok.ensures.ok.at)
+    omega (arith, c.in-Ok.ensures.looks, c.judge_moved-judged.ensures.looks, place_depth _ _ _ _ _ c.requires.ready.whole.sound.counted.volume c.in-Ok.ensures.ok.at)
 
 pub returns-in_err-bytes-clause-looks : goal.returns-in_err-bytes-clause-looks
 returns-in_err-bytes-clause-looks g c =
@@ -142,14 +142,14 @@ returns-in_err-bytes-clause-looks g c =
       c.in-Ok.ensures.looks,
       c.judge_moved-judged.ensures.looks,
       c.moved_bytes.ensures.looks,
-      place_depth _ _ _ _ _ c.requires.whole.sound.counted.volume c.in-Ok.ensures.ok.at,
-      move_room v.size v.nodes c.args.from.now c.args.to.now c.in-Ok.found.0.node c.requires.whole.sound.counted.volume c.in-Ok.ensures.ok.resolved,
+      place_depth _ _ _ _ _ c.requires.ready.whole.sound.counted.volume c.in-Ok.ensures.ok.at,
+      move_room v.size v.nodes c.args.from.now c.args.to.now c.in-Ok.found.0.node c.requires.ready.whole.sound.counted.volume c.in-Ok.ensures.ok.resolved,
     )
 
 pub returns-in-Err-admit-clause-looks : goal.returns-in-Err-admit-clause-looks
 returns-in-Err-admit-clause-looks g c =
     let v = c.args.self.now.tree in
-    let k = c.requires.whole.sound.counted.volume in
+    let k = c.requires.ready.whole.sound.counted.volume in
     let is = c.in-Ok.ensures.ok in
     omega (
       arith,
@@ -165,7 +165,7 @@ returns-in-Err-admit-clause-looks g c =
 pub returns-clause-looks : goal.returns-clause-looks
 returns-clause-looks g c =
     let v = c.args.self.now.tree in
-    let k = c.requires.whole.sound.counted.volume in
+    let k = c.requires.ready.whole.sound.counted.volume in
     let is = c.in-Ok.ensures.ok in
     omega (
       arith,

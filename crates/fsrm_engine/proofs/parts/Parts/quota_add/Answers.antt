@@ -11,6 +11,7 @@ use Rattle.fsrm_objects.specs.Tables.{quota_fault}
 use Rattle.fsrm_engine.specs.declared.parts.Parts.{Parts}
 use Rattle.fsrm_engine.specs.Faults.{text_room}
 use Rattle.fsrm_engine.specs.Machine.{Does, rows_of}
+use Rattle.fsrm_engine.proofs.coming.MemoryLaws.{folder_wants, on_err}
 use Rattle.fsrm_engine.proofs.steps.WholeLaws.{sound_ended}
 use Rattle.fsrm_engine.proofs.tables.QueueLaws.{few_scans}
 use Rattle.fsrm_engine.proofs.tables.RoomLaws.{fault_refusal, refused_for_as}
@@ -28,7 +29,7 @@ modified-requires g c =
     let n = c.in-Some.folder in
     let state = c.first_state-state.result in
     let f = first_found (rows_of p) new.template n state c.args.moment c.in_ok-first.field-0 c.in-Some-2.first c.in-Some-2.is c.in_ok-first.ensures in
-    begun_percents p new.template n state c.args.moment c.in-Some-2.first c.requires.whole f.1
+    begun_percents p new.template n state c.args.moment c.in-Some-2.first c.requires.ready.whole f.1
 
 pub enlist-requires : goal.enlist-requires
 enlist-requires g c =
@@ -37,7 +38,7 @@ enlist-requires g c =
     let n = c.in-Some.folder in
     let m = c.args.moment in
     let state = c.first_state-state.result in
-    let w = c.requires.whole in
+    let w = c.requires.ready.whole in
     let legal = new_quota_parts new c.requires.valid in
     let begun = c.in-Some-2.first in
     let row = c.in_ok-row.row in
@@ -49,7 +50,7 @@ enlist-requires g c =
       limit = made_limit p m n new state begun row w f.1 is legal.limit f.0;
       ascending = made_percents p m n new state begun row w f.1 is;
       thresholds = made_each p m n new state begun row w f.1 is legal.thresholds;
-      moment = made_moment p m n new state begun row w f.1 is c.requires.moment;
+      moment = made_moment p m n new state begun row w f.1 is c.requires.ready.in_range;
       nothing = made_unused p m n new state begun row w f.1 is c.in-Some.ensures.folder.folder c.first_state-state.ensures.state;
       waits = few_scans p.objects.quotas p.scans.queue w.valid.queue;
     }
@@ -61,7 +62,7 @@ returns-in-Ok-clause-ok g c =
     let n = c.in-Some.folder in
     let m = c.args.moment in
     let state = c.first_state-state.result in
-    let w = c.requires.whole in
+    let w = c.requires.ready.whole in
     let legal = new_quota_parts new c.requires.valid in
     let begun = c.in-Some-2.first in
     let row = c.in_ok-row.row in
@@ -69,7 +70,7 @@ returns-in-Ok-clause-ok g c =
     let f = first_found (rows_of p) new.template n state m c.in_ok-first.field-0 begun c.in-Some-2.is c.in_ok-first.ensures in
     added_as p m new n c.in-Some.ensures.folder c.enlist.new.self c.done.new.self row c.done.result
     (made_is p m n new state begun row w f.1 is _ c.first_state-state.ensures.state)
-    w c.requires.idle c.requires.after f.0 c.in-Ok.ensures.may c.in-Ok.ensures.listed
+    w c.requires.ready.idle c.requires.ready.after f.0 c.in-Ok.ensures.may c.in-Ok.ensures.listed
     (made_thresholds p m n new state begun row w f.1 is legal.thresholds c.in-Ok.ensures.may)
     (made_limit p m n new state begun row w f.1 is legal.limit f.0)
     (made_unused p m n new state begun row w f.1 is c.in-Some.ensures.folder.folder c.first_state-state.ensures.state)
@@ -85,7 +86,7 @@ returns-clause-ok g c =
     let n = c.in-Some.folder in
     let m = c.args.moment in
     let state = c.first_state-state.result in
-    let w = c.requires.whole in
+    let w = c.requires.ready.whole in
     let legal = new_quota_parts new c.requires.valid in
     let begun = c.in-Some-2.first in
     let row = c.in_ok-row.row in
@@ -95,6 +96,15 @@ returns-clause-ok g c =
     let made = made_is p m n new state begun row w f.1 is _ c.first_state-state.ensures.state in
     let deed = Quota (QuotaAdd new) in
     subst (λ (q : Parts). IfOk c.refused_for.result (λ answer. Does p q m deed answer)) (sym c.in-Err.ensures.err)
-    (refused_for_as p m deed fault c.refused_for.result c.requires.idle c.requires.after
+    (refused_for_as p m deed fault c.refused_for.result c.requires.ready.idle c.requires.ready.after
     (add_due p m new n c.in-Some.ensures.folder row w f.0 made
     ∙ fault_refusal fault (quota_fault p.objects row (text_room p)) c.in-Err.ensures.refused) c.refused_for.ensures.ok)
+
+pub returns-in_err-first-clause-memory : goal.returns-in_err-first-clause-memory
+returns-in_err-first-clause-memory g c = on_err _ (folder_wants c.args.self.now.tree.nodes c.args.quota.now.path c.in-Some.folder c.in-Some.ensures.folder)
+
+pub returns-in_err-row-clause-memory : goal.returns-in_err-row-clause-memory
+returns-in_err-row-clause-memory g c = on_err _ (folder_wants c.args.self.now.tree.nodes c.args.quota.now.path c.in-Some.folder c.in-Some.ensures.folder)
+
+pub returns-clause-memory : goal.returns-clause-memory
+returns-clause-memory g c = on_err c.refused_for.result (folder_wants c.args.self.now.tree.nodes c.args.quota.now.path c.in-Some.folder c.in-Some.ensures.folder)

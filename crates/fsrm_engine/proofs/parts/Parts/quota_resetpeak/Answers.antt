@@ -24,29 +24,29 @@ set_peak-requires g c =
 pub done-requires-clause-counted : goal.done-requires-clause-counted
 done-requires-clause-counted g c =
     let p = c.args.self.now in
-    let e = c.requires.whole.sound.counted in
+    let e = c.requires.ready.whole.sound.counted in
     let is = ap (λ (t : Tables). t.quotas) c.set_peak.ensures
     ∙ reset_is p c.args.moment c.in-Ok.quota.now.folder _ e (c.unwrap_or-used.ensures ∙ ap (λ o. unwrap_or o 0) c.used.ensures) in
-    counted_same p.tree.size p.tree.nodes p.usage _ c.set_peak.new.self.quotas is (counted_reset p c.args.moment c.in-Ok.quota.now.folder e c.requires.moment)
+    counted_same p.tree.size p.tree.nodes p.usage _ c.set_peak.new.self.quotas is (counted_reset p c.args.moment c.in-Ok.quota.now.folder e c.requires.ready.in_range)
 
 pub returns-in-Err-clause-ok : goal.returns-in-Err-clause-ok
 returns-in-Err-clause-ok g c =
-    refused_as c.args.self.now c.args.moment (Quota (QuotaResetpeak c.args.path.now)) c.refused.result _ c.requires.idle c.requires.after c.in-Err.ensures.err (first_bare (rows_of c.args.self.now) c.args.path.now _ c.in-Err.ensures.err) c.refused.ensures
+    refused_as c.args.self.now c.args.moment (Quota (QuotaResetpeak c.args.path.now)) c.refused.result _ c.requires.ready.idle c.requires.ready.after c.in-Err.ensures.err (first_bare (rows_of c.args.self.now) c.args.path.now _ c.in-Err.ensures.err) c.refused.ensures
 
 pub returns-clause-ok : goal.returns-clause-ok
 returns-clause-ok g c =
     let p = c.args.self.now in
-    let reset_are = reset_is p c.args.moment c.in-Ok.quota.now.folder _ c.requires.whole.sound.counted (c.unwrap_or-used.ensures ∙ ap (λ o. unwrap_or o 0) c.used.ensures) in
+    let reset_are = reset_is p c.args.moment c.in-Ok.quota.now.folder _ c.requires.ready.whole.sound.counted (c.unwrap_or-used.ensures ∙ ap (λ o. unwrap_or o 0) c.used.ensures) in
     let is = ap (λ (t : Tables). t.quotas) c.set_peak.ensures ∙ reset_are in
     let n = c.in-Ok.quota.now.folder in
     let mid : Parts = record p { objects = c.set_peak.new.self } in
     done_as p mid c.done.new.self c.args.moment (Quota (QuotaResetpeak c.args.path.now)) c.done.result
-    (changed_as p c.args.moment c.in-Ok.quota.now (Quota (QuotaResetpeak c.args.path.now)) c.args.path.now (reset p.tree.size (rows_of p) c.args.moment) c.set_peak.new.self c.requires.idle c.requires.after c.in-Ok.ensures.ok refl (c.set_peak.ensures ∙ ap (λ (qs : List QuotaRow). record p.objects { quotas = qs }) reset_are))
-    refl (few_log p c.requires.whole)
-    (calm_mapped p mid c.args.moment (λ q. if folder_of q == n then reset p.tree.size (rows_of p) c.args.moment q else q) c.requires.whole.sound.counted (counted_same p.tree.size p.tree.nodes p.usage _ c.set_peak.new.self.quotas is (counted_reset p c.args.moment n c.requires.whole.sound.counted c.requires.moment)) refl is refl
+    (changed_as p c.args.moment c.in-Ok.quota.now (Quota (QuotaResetpeak c.args.path.now)) c.args.path.now (reset p.tree.size (rows_of p) c.args.moment) c.set_peak.new.self c.requires.ready.idle c.requires.ready.after c.in-Ok.ensures.ok refl (c.set_peak.ensures ∙ ap (λ (qs : List QuotaRow). record p.objects { quotas = qs }) reset_are))
+    refl (few_log p c.requires.ready.whole)
+    (calm_mapped p mid c.args.moment (λ q. if folder_of q == n then reset p.tree.size (rows_of p) c.args.moment q else q) c.requires.ready.whole.sound.counted (counted_same p.tree.size p.tree.nodes p.usage _ c.set_peak.new.self.quotas is (counted_reset p c.args.moment n c.requires.ready.whole.sound.counted c.requires.ready.in_range)) refl is refl
     (λ q. reset_folder p c.args.moment (folder_of q == n) q) (λ q. reset_limit p c.args.moment (folder_of q == n) q) (λ q. reset_thresholds p c.args.moment (folder_of q == n) q))
     c.done.ensures.ended c.done.ensures.answer
 
 pub returns-clause-sound : goal.returns-clause-sound
 returns-clause-sound g c =
-    sound_ended (record c.args.self.now { objects = c.set_peak.new.self }) c.done.new.self c.args.moment c.done.ensures.ended c.done.ensures.counted c.requires.whole.sound.scanning
+    sound_ended (record c.args.self.now { objects = c.set_peak.new.self }) c.done.new.self c.args.moment c.done.ensures.ended c.done.ensures.counted c.requires.ready.whole.sound.scanning

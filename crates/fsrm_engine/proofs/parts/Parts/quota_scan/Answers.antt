@@ -25,13 +25,13 @@ use Rattle.fsrm_engine.proofs.parts.Parts.quota_scan.Goals as goal
 pub returns-in-Err-clause-ok : goal.returns-in-Err-clause-ok
 returns-in-Err-clause-ok g c =
     let R = rows_of c.args.self.now in
-    refused_as c.args.self.now c.args.moment (Quota (QuotaScan c.args.path.now)) c.refused.result _ c.requires.idle c.requires.after
+    refused_as c.args.self.now c.args.moment (Quota (QuotaScan c.args.path.now)) c.refused.result _ c.requires.ready.idle c.requires.ready.after
     (quota_first R c.args.path.now _ _ c.in-Err.ensures.err) (first_bare R c.args.path.now _ c.in-Err.ensures.err) c.refused.ensures
 
 pub returns-then-is_disabled-clause-ok : goal.returns-then-is_disabled-clause-ok
 returns-then-is_disabled-clause-ok g c =
     let R = rows_of c.args.self.now in
-    refused_as c.args.self.now c.args.moment (Quota (QuotaScan c.args.path.now)) c.refused-then-is_disabled.result InvalidCombination c.requires.idle c.requires.after
+    refused_as c.args.self.now c.args.moment (Quota (QuotaScan c.args.path.now)) c.refused-then-is_disabled.result InvalidCombination c.requires.ready.idle c.requires.ready.after
     (checked R c.args.path.now c.in-Ok.quota.now.folder false (λ k. (InvalidCombination when is_disabled (state_of R k)) ∷ []) c.in-Ok.ensures.ok.at (ap is_none c.in-Ok.ensures.ok.found)
     ∙ ap (λ b. first ((InvalidCombination when b) ∷ [])) (ap (λ o. is_disabled (option_map_or (λ quota. quota.state) o Disabled)) c.in-Ok.ensures.ok.found ∙ (sym c.is_disabled.ensures ∙ c.if-is_disabled.true)))
     refl c.refused-then-is_disabled.ensures
@@ -44,7 +44,7 @@ rebuild-requires-clause-there g c =
 pub rebuild-requires-clause-few : goal.rebuild-requires-clause-few
 rebuild-requires-clause-few g c =
     let p = c.args.self.now in
-    few_waits p.tree.nodes p.objects.quotas p.scans.queue c.in-Ok.quota.now.folder c.requires.whole.sound.counted.are_quotas c.requires.whole.valid.queue (rebuild-requires-clause-there g c)
+    few_waits p.tree.nodes p.objects.quotas p.scans.queue c.in-Ok.quota.now.folder c.requires.ready.whole.sound.counted.are_quotas c.requires.ready.whole.valid.queue (rebuild-requires-clause-there g c)
 
 pub returns-then-counts-clause-ok : goal.returns-then-counts-clause-ok
 returns-then-counts-clause-ok g c =
@@ -57,12 +57,12 @@ returns-then-counts-clause-ok g c =
     let queue = queued p.scans.queue n Rebuilding in
     let t = c.rebuild.ensures.rebuilt in
     done_as p c.rebuild.new.self c.done.new.self c.args.moment (Quota (QuotaScan c.args.path.now)) c.done.result
-    (turned_accepts p c.rebuild.new.self c.args.moment (Quota (QuotaScan c.args.path.now)) after queue c.requires.idle c.requires.after
+    (turned_accepts p c.rebuild.new.self c.args.moment (Quota (QuotaScan c.args.path.now)) after queue c.requires.ready.idle c.requires.ready.after
     (checked R c.args.path.now n false (λ k. (InvalidCombination when is_disabled (state_of R k)) ∷ []) at.at (ap is_none at.found)
     ∙ ap (λ b. first ((InvalidCombination when b) ∷ [])) (ap (λ o. is_disabled (option_map_or (λ quota. quota.state) o Disabled)) c.in-Ok.ensures.ok.found ∙ (sym c.is_disabled.ensures ∙ c.if-is_disabled.false)))
     (ap (λ k. with_state R k Rebuilding) to)
     (ap (λ k. option_map_or counts (quota_of R k) false) to ∙ (ap (λ o. option_map_or counts o false) c.in-Ok.ensures.ok.found ∙ (sym c.counts.ensures ∙ c.if-counts.true))) t)
-    refl (still_few p c.rebuild.new.self (turned_keeps p c.rebuild.new.self after queue t) (few_log p c.requires.whole))
+    refl (still_few p c.rebuild.new.self (turned_keeps p c.rebuild.new.self after queue t) (few_log p c.requires.ready.whole))
     (calm_scanned p c.rebuild.new.self c.args.moment n queue t) c.done.ensures.ended c.done.ensures.answer
 
 pub returns-clause-ok : goal.returns-clause-ok
@@ -76,7 +76,7 @@ returns-clause-ok g c =
     let queue = queued p.scans.queue n Rebuilding in
     let t = c.rebuild.ensures.rebuilt in
     let keeps = turned_keeps p c.rebuild.new.self after queue t in
-    passing_as p c.rebuild.new.self c.args.moment (Quota (QuotaScan c.args.path.now)) _ (with_state R n Rebuilding) (still_idle p c.rebuild.new.self keeps c.requires.idle) c.requires.after
+    passing_as p c.rebuild.new.self c.args.moment (Quota (QuotaScan c.args.path.now)) _ (with_state R n Rebuilding) (still_idle p c.rebuild.new.self keeps c.requires.ready.idle) c.requires.ready.after
     (checked R c.args.path.now n false (λ k. (InvalidCombination when is_disabled (state_of R k)) ∷ []) at.at (ap is_none at.found)
     ∙ ap (λ b. first ((InvalidCombination when b) ∷ [])) (ap (λ o. is_disabled (option_map_or (λ quota. quota.state) o Disabled)) c.in-Ok.ensures.ok.found ∙ (sym c.is_disabled.ensures ∙ c.if-is_disabled.false)))
     (ap (λ k. with_state R k Rebuilding) to)

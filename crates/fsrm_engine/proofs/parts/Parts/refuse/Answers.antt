@@ -29,7 +29,7 @@ returns-clause-refused c =
     record {
       run = run;
       ran = ran;
-      leaves = leaves_some p run c.settle.new.self c.args.moment c.args.exceeded acts _
+      leaves = leaves_some p run c.end.new.self c.args.moment c.args.exceeded acts _
           (some_ran p run c.args.moment acts c.requires.idle ran (numbers_tell p run c.args.moment acts c.is_empty.result c.requires.idle ran c.is_empty.ensures ∙ c.if-is_empty.false))
-          c.settle.ensures.ended (ap (λ refusal. record { outcome = Refused refusal; lasting = true }) c.exceeded_by-refusal.ensures);
+          c.end.ensures.ended (ap (λ refusal. record { outcome = Refused refusal; lasting = true }) c.exceeded_by-refusal.ensures);
     }

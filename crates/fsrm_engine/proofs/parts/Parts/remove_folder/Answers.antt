@@ -17,12 +17,12 @@ use Rattle.fsrm_engine.proofs.steps.WholeLaws.{sound_ended}
 use Rattle.fsrm_engine.proofs.parts.Parts.remove_folder.Goals as goal
 
 pub remove-requires-clause-there : goal.remove-requires-clause-there
-remove-requires-clause-there g c = has_resolved _ _ _ _ c.requires.whole.sound.counted.volume c.requires.resolved
+remove-requires-clause-there g c = has_resolved _ _ _ _ c.requires.ready.whole.sound.counted.volume c.requires.resolved
 
 pub done-requires-clause-counted : goal.done-requires-clause-counted
 done-requires-clause-counted g c =
     let p = c.args.self.now in
-    let e = c.requires.whole.sound.counted in
+    let e = c.requires.ready.whole.sound.counted in
     let may = may_go p.tree c.args.node c.requires.inner (has_resolved _ _ _ _ e.volume c.requires.resolved) (when_ok _ _ c.unwrap.ensures c.remove.ensures.may) in
     let objects : c.drop_screens.new.objects ≡ without_objects p.objects c.args.node = c.drop_screens.ensures ∙ ap (λ (t : Tables). without_except (without_screen t c.args.node) c.args.node) c.drop_quota.ensures.objects in
     idle_gone p.tree c.remove.new.self p.objects.quotas c.drop_screens.new.objects.quotas p.usage c.drop_quota.new.usage c.args.node e may
@@ -31,10 +31,10 @@ done-requires-clause-counted g c =
 pub returns-clause-ok : goal.returns-clause-ok
 returns-clause-ok g c =
     let p = c.args.self.now in
-    let k = c.requires.whole.sound.counted.volume in
+    let k = c.requires.ready.whole.sound.counted.volume in
     let at = c.requires.resolved in
     let made = when_ok _ _ c.unwrap.ensures c.remove.ensures.made in
-    let turns = c.leave.ensures.turns p.tree c.requires.whole.sound.scanning in
+    let turns = c.leave.ensures.turns p.tree c.requires.ready.whole.sound.scanning in
     let goes = goes_to _ _ c.remove.new.self _ _ made (c.follow_rmdir.ensures.follows (volume_is _ _ made c.remove.ensures.kept)) in
     let absent = left_queue c.args.node p.scans.queue c.leave.new.self.queue c.leave.ensures.queue in
     let row = folder_found p.tree.nodes c.args.node c.requires.kind in
@@ -44,12 +44,12 @@ returns-clause-ok g c =
     let objects : c.drop_screens.new.objects ≡ without_objects p.objects c.args.node = c.drop_screens.ensures ∙ ap (λ (t : Tables). without_except (without_screen t c.args.node) c.args.node) c.drop_quota.ensures.objects in
     let quotas = ap (λ (t : Tables). t.quotas) objects in
     done_as p mid c.done.new.self c.args.moment (File (Remove c.args.path.now)) c.done.result
-    (rmdir_accepts p mid c.leave.new.self c.args.moment c.args.path.now c.args.node c.requires.idle c.requires.after
+    (rmdir_accepts p mid c.leave.new.self c.args.moment c.args.path.now c.args.node c.requires.ready.idle c.requires.ready.after
     (remove_due p c.args.moment _ _ k at c.requires.inner ∙ ap (λ o. tree_first o None) (when_ok _ _ c.unwrap.ensures c.remove.ensures.may))
     at made objects c.leave.ensures.queue turns goes
     (next_without p.tree c.remove.new.self c.leave.new.self c.args.node row.row turns.scanning absent made c.remove.ensures.kept row.found row.folder)
     (record { size = size; marks = refl; crossing = refl; groups = refl; templates = c.drop_auto.ensures; audit = refl; run_limit = refl; last_moment = refl }))
-    refl (few_log p c.requires.whole) (calm_without p mid c.args.moment c.args.node c.requires.whole.sound.counted (idle_gone p.tree c.remove.new.self p.objects.quotas c.drop_screens.new.objects.quotas p.usage c.drop_quota.new.usage c.args.node c.requires.whole.sound.counted may c.requires.kind made c.remove.ensures.kept quotas c.drop_quota.ensures.usage) size quotas c.drop_quota.ensures.usage)
+    refl (few_log p c.requires.ready.whole) (calm_without p mid c.args.moment c.args.node c.requires.ready.whole.sound.counted (idle_gone p.tree c.remove.new.self p.objects.quotas c.drop_screens.new.objects.quotas p.usage c.drop_quota.new.usage c.args.node c.requires.ready.whole.sound.counted may c.requires.kind made c.remove.ensures.kept quotas c.drop_quota.ensures.usage) size quotas c.drop_quota.ensures.usage)
     c.done.ensures.ended c.done.ensures.answer
 
 pub returns-clause-sound : goal.returns-clause-sound
@@ -65,16 +65,16 @@ unwrap-requires g c = goes_well c.args.self.now.tree c.args.node c.remove.result
 pub returns-then-child_count-gt0-clause-ok : goal.returns-then-child_count-gt0-clause-ok
 returns-then-child_count-gt0-clause-ok g c =
     let p = c.args.self.now in
-    refused_as p c.args.moment (File (Remove c.args.path.now)) _ _ c.requires.idle c.requires.after
-    (remove_due p c.args.moment _ _ c.requires.whole.sound.counted.volume c.requires.resolved c.requires.inner
+    refused_as p c.args.moment (File (Remove c.args.path.now)) _ _ c.requires.ready.idle c.requires.ready.after
+    (remove_due p c.args.moment _ _ c.requires.ready.whole.sound.counted.volume c.requires.resolved c.requires.inner
     ∙ ap (λ o. tree_first o None) (full_fault p.tree c.args.node c.child_count.result c.child_count.ensures.value c.if-child_count-gt0.true)) refl
     c.refused.ensures
 
 pub follow_rmdir-requires-clause-scanning : goal.follow_rmdir-requires-clause-scanning
-follow_rmdir-requires-clause-scanning g c = (c.leave.ensures.turns c.args.self.now.tree c.requires.whole.sound.scanning).scanning
+follow_rmdir-requires-clause-scanning g c = (c.leave.ensures.turns c.args.self.now.tree c.requires.ready.whole.sound.scanning).scanning
 
 pub follow_rmdir-requires-clause-there : goal.follow_rmdir-requires-clause-there
-follow_rmdir-requires-clause-there g c = has_resolved _ _ _ _ c.requires.whole.sound.counted.volume c.requires.resolved
+follow_rmdir-requires-clause-there g c = has_resolved _ _ _ _ c.requires.ready.whole.sound.counted.volume c.requires.resolved
 
 pub follow_rmdir-requires-clause-leaf : goal.follow_rmdir-requires-clause-leaf
 follow_rmdir-requires-clause-leaf g c = omega (arith, c.child_count.ensures.value, c.if-child_count-gt0.false)

@@ -31,85 +31,85 @@ resize-requires-clause-there g c = c.in-Some.ensures.file.there
 pub admit-requires-clause-change : goal.admit-requires-clause-change
 admit-requires-clause-change g c =
     let v = c.args.self.now.tree in
-    let p = file_parent v.size v.nodes c.args.path.now c.in-Some.file c.requires.whole.sound.counted.volume c.in-Some.ensures.file in
+    let p = file_parent v.size v.nodes c.args.path.now c.in-Some.file c.requires.ready.whole.sound.counted.volume c.in-Some.ensures.file in
     record { from = p; to = p }
 
 pub admit-requires-clause-fits : goal.admit-requires-clause-fits
 admit-requires-clause-fits g c =
     let p = c.args.self.now in
-    let e = c.requires.whole.sound.counted in
+    let e = c.requires.ready.whole.sound.counted in
     fits_plus p.tree.size p.tree.nodes p.tree.nodes p.objects.quotas p.usage _ e.volume e.legal e.are_quotas e.sums c.allocated-2.ensures.small
 
 pub returns-in-Err-clause-ok : goal.returns-in-Err-clause-ok
 returns-in-Err-clause-ok g c =
     let p = c.args.self.now in
-    let e = c.requires.whole.sound.counted in
+    let e = c.requires.ready.whole.sound.counted in
     let f = c.in-Some.ensures.file in
     let changes = resize_changes p.tree.size p.tree.nodes p.objects.quotas c.args.path.now c.in-Some.file c.args.length c.args.moment c.allocated.result c.allocated-2.result e.volume e.are_quotas f c.allocated.ensures.space c.allocated-2.ensures.space in
-    refused_op p c.refuse.new.self c.args.moment (File (Resize c.args.path.now c.args.length)) c.refuse.result _ _ c.in-Err.exceeded e c.requires.idle c.requires.after
+    refused_op p c.refuse.new.self c.args.moment (File (Resize c.args.path.now c.args.length)) c.refuse.result _ _ c.in-Err.exceeded e c.requires.ready.idle c.requires.ready.after
     (resize_due p c.args.moment c.args.path.now c.in-Some.file c.args.length e.volume f)
     (sym (ap (λ n. with_change number n (resized c.args.length c.args.moment) p.tree.nodes) (target_is p.tree.nodes c.args.path.now _ f.resolved)))
     changes c.in-Err.ensures.err c.refuse.ensures.refused
 
 pub returns-in-Err-clause-sound : goal.returns-in-Err-clause-sound
 returns-in-Err-clause-sound g c =
-    refused_sound c.args.self.now c.refuse.new.self c.args.moment c.in-Err.exceeded c.refuse.result c.refuse.ensures.refused c.refuse.ensures.counted c.requires.whole.sound.scanning
+    refused_sound c.args.self.now c.refuse.new.self c.args.moment c.in-Err.exceeded c.refuse.result c.refuse.ensures.refused c.refuse.ensures.counted c.requires.ready.whole.sound.scanning
 
 pub refuse-requires-clause-there : goal.refuse-requires-clause-there
 refuse-requires-clause-there g c =
-    refuser_there c.args.self.now (record { from = Some c.in-Some.file.parent; to = Some c.in-Some.file.parent; minus = c.allocated.result; plus = c.allocated-2.result }) c.in-Err.exceeded c.requires.whole.sound.counted c.in-Err.ensures.err
+    refuser_there c.args.self.now (record { from = Some c.in-Some.file.parent; to = Some c.in-Some.file.parent; minus = c.allocated.result; plus = c.allocated-2.result }) c.in-Err.exceeded c.requires.ready.whole.sound.counted c.in-Err.ensures.err
 
 pub refuse-requires-clause-log : goal.refuse-requires-clause-log
-refuse-requires-clause-log g c = few_log c.args.self.now c.requires.whole
+refuse-requires-clause-log g c = few_log c.args.self.now c.requires.ready.whole
 
 pub returns-in-Err-clause-looks : goal.returns-in-Err-clause-looks
 returns-in-Err-clause-looks g c =
     let v = c.args.self.now.tree in
-    omega (arith, c.in-Some.ensures.looks, c.in-Err.ensures.looks, file_height v.size v.nodes c.args.path.now c.in-Some.file c.requires.whole.sound.counted.volume c.in-Some.ensures.file)
+    omega (arith, c.in-Some.ensures.looks, c.in-Err.ensures.looks, file_height v.size v.nodes c.args.path.now c.in-Some.file c.requires.ready.whole.sound.counted.volume c.in-Some.ensures.file)
 
 pub charge-requires-clause-change : goal.charge-requires-clause-change
 charge-requires-clause-change g c =
     let v = c.args.self.now.tree in
-    let p = there_resized v c.resize.new.self c.in-Some.file.number c.args.length c.args.moment c.in-Some.file.parent c.resize.ensures.made (file_parent v.size v.nodes c.args.path.now c.in-Some.file c.requires.whole.sound.counted.volume c.in-Some.ensures.file) in
+    let p = there_resized v c.resize.new.self c.in-Some.file.number c.args.length c.args.moment c.in-Some.file.parent c.resize.ensures.made (file_parent v.size v.nodes c.args.path.now c.in-Some.file c.requires.ready.whole.sound.counted.volume c.in-Some.ensures.file) in
     record { from = p; to = p }
 
 pub charge-requires-clause-fits : goal.charge-requires-clause-fits
 charge-requires-clause-fits g c =
     let p = c.args.self.now in
-    let e = c.requires.whole.sound.counted in
+    let e = c.requires.ready.whole.sound.counted in
     fits_plus p.tree.size p.tree.nodes c.resize.new.self.nodes p.objects.quotas p.usage _ e.volume e.legal e.are_quotas e.sums c.allocated-2.ensures.small
 
 pub charge-requires-clause-quotas : goal.charge-requires-clause-quotas
-charge-requires-clause-quotas g c = let p = c.args.self.now in quotas_orderly p.tree.nodes p.objects.quotas c.requires.whole.sound.counted.are_quotas
+charge-requires-clause-quotas g c = let p = c.args.self.now in quotas_orderly p.tree.nodes p.objects.quotas c.requires.ready.whole.sound.counted.are_quotas
 
 pub charge-requires-clause-covered : goal.charge-requires-clause-covered
 charge-requires-clause-covered g c =
     let p = c.args.self.now in
-    let e = c.requires.whole.sound.counted in
+    let e = c.requires.ready.whole.sound.counted in
     let change : Change = record { from = Some c.in-Some.file.parent; to = Some c.in-Some.file.parent; minus = c.allocated.result; plus = c.allocated-2.result } in
     subst (λ (w : Volume). IsCovered w.nodes p.usage change) (sym c.resize.ensures.made)
     (covered_by p _ change e
     (resize_changes p.tree.size p.tree.nodes p.objects.quotas c.args.path.now c.in-Some.file c.args.length c.args.moment c.allocated.result c.allocated-2.result e.volume e.are_quotas c.in-Some.ensures.file c.allocated.ensures.space c.allocated-2.ensures.space)
     (λ from to given at other. absurd (clash (from == to) (eq_test from to (sym (same_Some c.in-Some.file.parent from given) ∙ same_Some c.in-Some.file.parent to at)) other)))
 
-pub charge-requires-clause-idle : goal.charge-requires-clause-idle
-charge-requires-clause-idle g c = record { numbers = c.requires.idle.numbers; crossing = c.requires.idle.crossing }
+pub charge-requires-clause-calm : goal.charge-requires-clause-calm
+charge-requires-clause-calm g c = record { numbers = c.requires.ready.idle.numbers; crossing = c.requires.ready.idle.crossing }
 
 pub charge-requires-clause-log : goal.charge-requires-clause-log
-charge-requires-clause-log g c = few_log c.args.self.now c.requires.whole
+charge-requires-clause-log g c = few_log c.args.self.now c.requires.ready.whole
 
 pub done-requires-clause-counted : goal.done-requires-clause-counted
 done-requires-clause-counted g c =
     let p = c.args.self.now in
-    counted_run _ c.charge.new.self c.args.moment _ c.requires.moment
+    counted_run _ c.charge.new.self c.args.moment _ c.requires.ready.in_range
     (resize_done p.tree c.resize.new.self p.objects.quotas _ p.usage _ c.args.path.now c.in-Some.file c.args.length c.args.moment c.allocated.result c.allocated-2.result
-    c.requires.whole.sound.counted c.in-Some.ensures.file c.allocated.ensures.space c.allocated-2.ensures.space c.resize.ensures.made c.resize.ensures.kept c.requires.moment refl refl).engine
+    c.requires.ready.whole.sound.counted c.in-Some.ensures.file c.allocated.ensures.space c.allocated-2.ensures.space c.resize.ensures.made c.resize.ensures.kept c.requires.ready.in_range refl refl).engine
     c.charge.ensures.charged
 
 pub returns-clause-ok : goal.returns-clause-ok
 returns-clause-ok g c =
     let p = c.args.self.now in
-    let e = c.requires.whole.sound.counted in
+    let e = c.requires.ready.whole.sound.counted in
     let f = c.in-Some.ensures.file in
     let w = c.resize.new.self in
     let made = c.resize.ensures.made in
@@ -117,10 +117,10 @@ returns-clause-ok g c =
     let change : Change = record { from = Some c.in-Some.file.parent; to = Some c.in-Some.file.parent; minus = c.allocated.result; plus = c.allocated-2.result } in
     let mid = charged_parts (record p { tree = w; scans = c.follow_resize.new.self }) change c.args.moment in
     let d = resize_done p.tree w p.objects.quotas mid.objects.quotas p.usage mid.usage c.args.path.now c.in-Some.file c.args.length c.args.moment c.allocated.result c.allocated-2.result
-    e f c.allocated.ensures.space c.allocated-2.ensures.space made c.resize.ensures.kept c.requires.moment refl refl in
+    e f c.allocated.ensures.space c.allocated-2.ensures.space made c.resize.ensures.kept c.requires.ready.in_range refl refl in
     let size = ap (λ (u : Volume). u.size) made in
     done_with p mid c.charge.new.self c.done.new.self c.args.moment (File (Resize c.args.path.now c.args.length)) c.done.result _
-    (op_accepts p mid c.args.moment (Resize c.args.path.now c.args.length) p.objects.quotas _ c.requires.idle c.requires.after
+    (op_accepts p mid c.args.moment (Resize c.args.path.now c.args.length) p.objects.quotas _ c.requires.ready.idle c.requires.ready.after
     (resize_due p c.args.moment c.args.path.now c.in-Some.file c.args.length e.volume f ∙ by_quotas p _ _ _ e changes (ap (option_map exceeded_refusal) c.in_default-admit.ensures.ok))
     (ap (λ n. with_change number n (resized c.args.length c.args.moment) p.tree.nodes) (target_is p.tree.nodes c.args.path.now _ f.resolved) ∙ sym (ap (λ (u : Volume). u.nodes) made))
     (record { quotas_are = refl; screens_are = refl; excepts_are = refl; autos_are = refl }) refl (λ k. refl)
@@ -139,7 +139,7 @@ returns-clause-sound g c =
 pub returns-clause-looks : goal.returns-clause-looks
 returns-clause-looks g c =
     let v = c.args.self.now.tree in
-    let k = c.requires.whole.sound.counted.volume in
+    let k = c.requires.ready.whole.sound.counted.volume in
     let f = c.in-Some.ensures.file in
     omega (
       arith,

@@ -7,6 +7,7 @@ use Rattle.fsrm_model.specs.ScreenWork.{are_named, new_screen, numbers_named, wi
 use Rattle.fsrm_model.proofs.commands.ValueParts.{new_screen_parts}
 use Rattle.fsrm_objects.specs.Tables.{Tables, has_short_actions}
 use Rattle.fsrm_engine.specs.Machine.{rows_of}
+use Rattle.fsrm_engine.proofs.coming.MemoryLaws.{folder_wants, on_err}
 use Rattle.fsrm_engine.proofs.steps.StepLaws.{refused_as}
 use Rattle.fsrm_engine.proofs.tables.GroupLaws.{retabled_counted, retabled_ended, retabled_sound}
 use Rattle.fsrm_engine.proofs.tables.ScreenLaws.{found_groups, lent_some, new_short, screen_added, screen_excepted, screen_taken, screen_unadded}
@@ -71,3 +72,12 @@ returns-in-Err-clause-ok g c =
 pub returns-in-Err-clause-sound : goal.returns-in-Err-clause-sound
 returns-in-Err-clause-sound g c =
     retabled_sound c.args.self.now c.args.self.now.groups c.add_screen.new.self c.requires.ready.whole (ap (λ (t : Tables). t.quotas) c.in-Err.ensures.err)
+
+pub returns-in_err-groups-clause-memory : goal.returns-in_err-groups-clause-memory
+returns-in_err-groups-clause-memory g c = on_err _ (folder_wants c.args.self.now.tree.nodes c.args.screen.now.path c.in-Some.folder c.in-Some.ensures.folder)
+
+pub returns-in_err-row-clause-memory : goal.returns-in_err-row-clause-memory
+returns-in_err-row-clause-memory g c = on_err _ (folder_wants c.args.self.now.tree.nodes c.args.screen.now.path c.in-Some.folder c.in-Some.ensures.folder)
+
+pub returns-in-Err-clause-memory : goal.returns-in-Err-clause-memory
+returns-in-Err-clause-memory g c = on_err c.refused_for.result (folder_wants c.args.self.now.tree.nodes c.args.screen.now.path c.in-Some.folder c.in-Some.ensures.folder)

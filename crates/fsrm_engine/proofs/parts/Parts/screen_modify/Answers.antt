@@ -4,6 +4,7 @@ use Rattle.fsrm_model.specs.declared.command.ScreenDeed.TheVariants.{Modify as S
 use Rattle.fsrm_model.specs.ScreenWork.{are_named, changed_groups, may_be_taken, numbers_named, rescreened}
 use Rattle.fsrm_objects.specs.Tables.{Tables}
 use Rattle.fsrm_engine.specs.Machine.{rows_of}
+use Rattle.fsrm_engine.proofs.coming.MemoryLaws.{folder_wants, on_err}
 use Rattle.fsrm_engine.proofs.steps.StepLaws.{refused_as}
 use Rattle.fsrm_engine.proofs.tables.GroupLaws.{retabled_counted, retabled_ended, retabled_sound}
 use Rattle.fsrm_engine.proofs.tables.ScreenLaws.{found_groups, screen_bare, screen_changed, screen_first, screen_unchanged, short_still, there_still}
@@ -72,3 +73,12 @@ returns-in-Err-set_screen-clause-ok g c =
 pub returns-in-Err-set_screen-clause-sound : goal.returns-in-Err-set_screen-clause-sound
 returns-in-Err-set_screen-clause-sound g c =
     retabled_sound c.args.self.now c.args.self.now.groups c.set_screen.new.self c.requires.ready.whole (ap (λ (t : Tables). t.quotas) c.in-Err-set_screen.ensures.err)
+
+pub returns-in_err-groups-clause-memory : goal.returns-in_err-groups-clause-memory
+returns-in_err-groups-clause-memory g c = on_err _ (folder_wants c.args.self.now.tree.nodes c.args.change.now.path c.in-Ok.screen.now.folder c.in-Ok.ensures.at)
+
+pub returns-in_err-row-clause-memory : goal.returns-in_err-row-clause-memory
+returns-in_err-row-clause-memory g c = on_err _ (folder_wants c.args.self.now.tree.nodes c.args.change.now.path c.in-Ok.screen.now.folder c.in-Ok.ensures.at)
+
+pub returns-in-Err-set_screen-clause-memory : goal.returns-in-Err-set_screen-clause-memory
+returns-in-Err-set_screen-clause-memory g c = on_err c.refused_for.result (folder_wants c.args.self.now.tree.nodes c.args.change.now.path c.in-Ok.screen.now.folder c.in-Ok.ensures.at)

@@ -32,7 +32,7 @@ pub returns-in_default-clause-ok : goal.returns-in_default-clause-ok
 returns-in_default-clause-ok c =
     let p = c.args.self.now in
     let change = c.args.change.now in
-    refused_as p c.args.moment (Template (TemplateModify change)) c.refused.result _ c.requires.idle c.requires.after
+    refused_as p c.args.moment (Template (TemplateModify change)) c.refused.result _ c.requires.ready.idle c.requires.ready.after
     (modify_missing p c.args.moment change (sym c.template_named.ensures ∙ ap option_copied c.in_default.is)) refl c.refused.ensures
 
 pub retemplated-requires : goal.retemplated-requires
@@ -40,7 +40,7 @@ retemplated-requires c =
     let p = c.args.self.now in
     let t = c.in-Some.template.now in
     let is : template_named p.templates.templates c.args.change.now.name ≡ Some t = sym c.template_named.ensures ∙ ap option_copied c.in-Some.is in
-    percents_ascend t.thresholds (template_parts t (named_legal p c.args.change.now.name t c.requires.whole is)).thresholds
+    percents_ascend t.thresholds (template_parts t (named_legal p c.args.change.now.name t c.requires.ready.whole is)).thresholds
 
 pub modify-requires-clause-named : goal.modify-requires-clause-named
 modify-requires-clause-named c =
@@ -48,7 +48,7 @@ modify-requires-clause-named c =
     let t = c.in-Some.template.now in
     let change = c.args.change.now in
     let is : template_named p.templates.templates c.args.change.now.name ≡ Some t = sym c.template_named.ensures ∙ ap option_copied c.in-Some.is in
-    row_named p c.args.moment change t is c.requires.whole c.in_ok-row.row c.in_ok-row.ensures
+    row_named p c.args.moment change t is c.requires.ready.whole c.in_ok-row.row c.in_ok-row.ensures
 
 pub modify-requires-clause-valid : goal.modify-requires-clause-valid
 modify-requires-clause-valid c =
@@ -57,13 +57,13 @@ modify-requires-clause-valid c =
     let change = c.args.change.now in
     let is : template_named p.templates.templates c.args.change.now.name ≡ Some t = sym c.template_named.ensures ∙ ap option_copied c.in-Some.is in
     let few : are_too_many c.in_ok-row.row.thresholds ≡ false = sym c.are_too_many.ensures ∙ c.if-are_too_many.false in
-    retemplated_legal change t c.in_ok-row.row (template_change_parts change c.requires.valid) c.in_ok-row.ensures few (named_legal p c.args.change.now.name t c.requires.whole is)
+    retemplated_legal change t c.in_ok-row.row (template_change_parts change c.requires.valid) c.in_ok-row.ensures few (named_legal p c.args.change.now.name t c.requires.ready.whole is)
 
 pub settle_reached-requires : goal.settle_reached-requires
 settle_reached-requires c =
     let p = c.args.self.now in
     let t = c.in-Some.template.now in
-    let w = c.requires.whole in
+    let w = c.requires.ready.whole in
     let change = c.args.change.now in
     let row = c.in_ok-row.row in
     let is : template_named p.templates.templates c.args.change.now.name ≡ Some t = sym c.template_named.ensures ∙ ap option_copied c.in-Some.is in
@@ -73,9 +73,9 @@ settle_reached-requires c =
     let are = reached_rows p c.args.moment change t is w row c.in_ok-row.ensures c.in-Ok.reached c.in-Ok.ensures.reached in
     record {
       counted = subst AreCounted (sym mid) (modified_counted p c.args.moment change t is w row c.in_ok-row.ensures legal);
-      idle = subst IsIdle (sym mid) (record { numbers = c.requires.idle.numbers; places = c.requires.idle.places; crossing = c.requires.idle.crossing });
+      idle = subst IsIdle (sym mid) (record { numbers = c.requires.ready.idle.numbers; places = c.requires.ready.idle.places; crossing = c.requires.ready.idle.crossing });
       log = few_log p w;
-      moment = c.requires.moment;
+      moment = c.requires.ready.in_range;
       there = (subst (λ (q : Parts). ReachedRows c.in-Ok.reached q.objects.quotas) (sym mid) are).there;
       ascending = are.ascending;
     }
@@ -84,7 +84,7 @@ pub returns-in-Ok-clause-ok : goal.returns-in-Ok-clause-ok
 returns-in-Ok-clause-ok c =
     let p = c.args.self.now in
     let t = c.in-Some.template.now in
-    let w = c.requires.whole in
+    let w = c.requires.ready.whole in
     let change = c.args.change.now in
     let row = c.in_ok-row.row in
     let is : template_named p.templates.templates c.args.change.now.name ≡ Some t = sym c.template_named.ensures ∙ ap option_copied c.in-Some.is in
@@ -94,19 +94,19 @@ returns-in-Ok-clause-ok c =
     let due_is = modify_due p c.args.moment change t is w row c.in_ok-row.ensures c.room-room.result c.room-room.ensures may few in
     let mid = mid_is p c.args.moment change t is w row c.in_ok-row.ensures c.modify.new.self c.modify.new.objects c.in-Ok.ensures.ok c.in-Ok.ensures.quotas in
     template_modified p c.args.moment change t is w row c.in_ok-row.ensures
-    c.settle_reached.new.self c.done.new.self c.in-Ok.reached c.done.result c.requires.idle c.requires.after legal (due_is ∙ ap (option_and_then template_refusal) c.in-Ok.ensures.may) c.in-Ok.ensures.reached
+    c.settle_reached.new.self c.done.new.self c.in-Ok.reached c.done.result c.requires.ready.idle c.requires.ready.after legal (due_is ∙ ap (option_and_then template_refusal) c.in-Ok.ensures.may) c.in-Ok.ensures.reached
     (subst (λ (q : Parts). Ran q c.settle_reached.new.self c.args.moment (flat_map (updated_acts q.objects q.usage q.run_limit c.args.moment) c.in-Ok.reached)) mid c.settle_reached.ensures.settled)
     c.done.ensures.ended c.done.ensures.answer
 
 pub returns-in-Ok-clause-sound : goal.returns-in-Ok-clause-sound
 returns-in-Ok-clause-sound c =
-    sound_run _ c.settle_reached.new.self c.done.new.self c.args.moment _ c.settle_reached.ensures.settled c.done.ensures.ended c.done.ensures.counted c.requires.whole.sound.scanning
+    sound_run _ c.settle_reached.new.self c.done.new.self c.args.moment _ c.settle_reached.ensures.settled c.done.ensures.ended c.done.ensures.counted c.requires.ready.whole.sound.scanning
 
 pub returns-in-Err-clause-ok : goal.returns-in-Err-clause-ok
 returns-in-Err-clause-ok c =
     let p = c.args.self.now in
     let t = c.in-Some.template.now in
-    let w = c.requires.whole in
+    let w = c.requires.ready.whole in
     let change = c.args.change.now in
     let row = c.in_ok-row.row in
     let deed = Template (TemplateModify change) in
@@ -114,7 +114,7 @@ returns-in-Err-clause-ok c =
     let few : are_too_many row.thresholds ≡ false = sym c.are_too_many.ensures ∙ c.if-are_too_many.false in
     let may : may_be_removed change.removed t.thresholds ≡ true = may_is c.as_slice.result.now change.removed c.as_slice-2.result.now t.thresholds c.as_slice.ensures c.as_slice-2.ensures ∙ (sym c.may_be_removed.ensures ∙ c.if-not-may_be_removed.false) in
     subst (λ (objects : Tables). IfOk c.refused_by_templates.result (λ (answer : Answer). Does p (record p { templates = c.modify.new.self; objects = objects }) c.args.moment deed answer)) (sym c.in-Err.ensures.kept)
-    (refused_by p c.args.moment deed c.modify.new.self c.in-Err.fault (modify_fault p.templates p.objects.quotas row c.args.change.now.update c.room-room.result) c.refused_by_templates.result c.requires.idle c.requires.after
+    (refused_by p c.args.moment deed c.modify.new.self c.in-Err.fault (modify_fault p.templates p.objects.quotas row c.args.change.now.update c.room-room.result) c.refused_by_templates.result c.requires.ready.idle c.requires.ready.after
     (modify_due p c.args.moment change t is w row c.in_ok-row.ensures c.room-room.result c.room-room.ensures may few)
     c.in-Err.ensures.refused c.in-Err.ensures.err c.refused_by_templates.ensures.ok)
 
@@ -122,4 +122,4 @@ pub returns-in-Err-clause-sound : goal.returns-in-Err-clause-sound
 returns-in-Err-clause-sound c =
     let p = c.args.self.now in
     subst (λ (objects : Tables). IsSound (record p { templates = c.modify.new.self; objects = objects })) (sym c.in-Err.ensures.kept)
-    (rewritten_sound p c.modify.new.self p.objects.quotas c.requires.whole c.requires.whole.sound.counted)
+    (rewritten_sound p c.modify.new.self p.objects.quotas c.requires.ready.whole c.requires.ready.whole.sound.counted)

@@ -3,7 +3,7 @@ use Rattle.fsrm_engine.specs.declared.parts.Parts.{Parts}
 use Rattle.fsrm_engine.specs.Machine.{AreCounted}
 use Rattle.fsrm_engine.proofs.tables.CountingLaws.{is_moment_of}
 use Rattle.fsrm_engine.proofs.tables.PeakLaws.{counted_peaked}
-use Rattle.fsrm_engine.proofs.parts.Parts.settle.Goals as goal
+use Rattle.fsrm_engine.proofs.parts.Parts.end.Goals as goal
 
 pub returns-clause-ended : goal.returns-clause-ended
 returns-clause-ended c = ap (λ (q : Parts). record q { last_moment = c.args.moment }) c.raise_peaks.ensures
